@@ -1,0 +1,9 @@
+pub mod Device
+pub mod Replay
+pub mod ReplayLaws
+pub mod Memory
+pub mod Failing
+pub mod Input
+pub mod MemoryInput
+pub mod Picks
+pub mod Gated

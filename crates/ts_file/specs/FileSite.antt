@@ -1,0 +1,44 @@
+-- What a real file shows: its length and its counts.
+use Rattle.std.specs.Prelude.{◌≡◌, ℕ, false, []}
+use Rattle.ts_disk.specs.Device.{Device, Lawful}
+use Rattle.ts_file.specs.declared.file_site.FileSite.{FileSite}
+
+-- the file's length
+abbrev pub size_of : FileSite → ℕ
+size_of f = f.size
+
+-- how many calls of the volume failed
+abbrev pub faults_of : FileSite → ℕ
+faults_of f = f.faults
+
+-- how many pieces were not said whole
+abbrev pub say_faults_of : FileSite → ℕ
+say_faults_of f = f.say_faults
+
+-- the length and the counts stay
+pub record SameCounts (old new : FileSite) : Type 0 where
+  pub size : new.size ≡ old.size
+  pub faults : new.faults ≡ old.faults
+  pub say_faults : new.say_faults ≡ old.say_faults
+
+-- no image is told, and no moment
+abbrev pub file_device : FileSite → Device
+file_device f = record {
+  size = f.size;
+  held = [];
+  images = λ image. ⊥;
+  clock = 0;
+  syncs = 0;
+  since = λ t image said. ⊥;
+  faults = f.faults;
+  said = [];
+  say_faults = f.say_faults;
+}
+
+pub file_lawful : (f : FileSite) → Lawful false (file_device f)
+file_lawful f = record {
+  held = λ told. cc;
+  size = λ told. cc;
+  counts = λ t image le now. now;
+  only = λ image said left. absurd left;
+}

@@ -1,0 +1,2 @@
+pub mod FileSite
+pub mod StdSource

@@ -1,0 +1,181 @@
+// A real file and standard output.
+ghost use Rattle.std.specs.Prelude.{◌≡◌, ◌+◌, ◌≤◌, ◌<◌, false, length, ◌^◌};
+ghost use Rattle.ts_disk.specs.Device.{Rose};
+
+use std::fs::File;
+use std::io::{self, Stdout, Write};
+use std::os::unix::fs::FileExt;
+use ts_disk::{Failed, SayFailed, Site, Volume};
+
+/// An open file and standard output.
+#[derive(Drop)]
+pub struct FileSite {
+    file: File,
+    output: Stdout,
+    /// The file's length in bytes.
+    size: u64,
+    /// The length changed since the last sync.
+    is_resized: bool,
+    /// A sync failed: what the file holds is not known any more.
+    is_lost: bool,
+    faults: u64,
+    say_faults: u64,
+}
+
+impl FileSite {
+    ghost use Rattle.ts_file.specs.FileSite.{size_of, faults_of, say_faults_of, SameCounts};
+
+    /// The site of a file that was opened for reading and writing and has this length now.
+    pub fn new(file: File, len: u64, output: Stdout) -> FileSite
+        ensures size { size_of result ≡ len }
+        ensures faults { faults_of result ≡ 0 }
+        ensures say_faults { say_faults_of result ≡ 0 }
+    {
+        FileSite {
+            file,
+            output,
+            size: len,
+            is_resized: false,
+            is_lost: false,
+            faults: 0,
+            say_faults: 0,
+        }
+    }
+
+    // No call can be made any more: a sync failed, or no fault more can be counted.
+    fn is_closed(&self) -> bool {
+        self.is_lost || self.faults == u64::MAX
+    }
+
+    // Asks the system to bring what was written to the disk, and the length where it changed.
+    fn flush(&mut self) -> io::Result<()>
+        ensures stays { SameCounts self.old self.new }
+    {
+        if self.is_resized {
+            self.file.sync_all()?;
+            self.is_resized = false;
+            return Ok(());
+        }
+        self.file.sync_data()
+    }
+}
+
+// One failure more, as far as the count goes.
+pub(crate) fn raise(count: &mut u64)
+    ensures rose { Rose count.old count.new }
+    ensures no_less { count.old ≤ count.new }
+{
+    *count = count.saturating_add(1);
+}
+
+// Reads until the buffer is full. The end of the file within it is a failure.
+fn read_all_at(file: &File, at: u64, into: &mut [u8]) -> io::Result<()>
+    requires { at + length into.old < 2 ^ 64 }
+{
+    let mut done = 0;
+    while done < into.len() {
+        let got = file.read_at(&mut into[done..], at + done as u64)?;
+        if got == 0 {
+            return Err(io::ErrorKind::UnexpectedEof.into());
+        }
+        done += got;
+    }
+    Ok(())
+}
+
+// Writes until all bytes are taken.
+fn write_all_at(file: &File, at: u64, from: &[u8]) -> io::Result<()>
+    requires { at + length from.now < 2 ^ 64 }
+{
+    let mut done = 0;
+    while done < from.len() {
+        let put = file.write_at(&from[done..], at + done as u64)?;
+        if put == 0 {
+            return Err(io::ErrorKind::WriteZero.into());
+        }
+        done += put;
+    }
+    Ok(())
+}
+
+// The same to standard output.
+fn write_all(output: &mut Stdout, piece: &[u8]) -> io::Result<()> {
+    let mut done = 0;
+    while done < piece.len() {
+        let put = output.write(&piece[done..])?;
+        if put == 0 {
+            return Err(io::ErrorKind::WriteZero.into());
+        }
+        done += put;
+    }
+    Ok(())
+}
+
+impl Volume for FileSite {
+    ghost use Rattle.ts_file.specs.FileSite.{file_device};
+
+    ghost tells = { false };
+
+    ghost device = { file_device };
+
+    ghost use Rattle.ts_file.specs.FileSite.{file_lawful};
+
+    ghost lawful = { file_lawful };
+
+    fn len(&self) -> u64 {
+        self.size
+    }
+
+    fn faults(&self) -> u64 {
+        self.faults
+    }
+
+    fn resize(&mut self, bytes: u64) -> Result<(), Failed> {
+        if self.is_closed() || self.file.set_len(bytes).is_err() {
+            raise(&mut self.faults);
+            return Err(Failed);
+        }
+        self.size = bytes;
+        self.is_resized = true;
+        Ok(())
+    }
+
+    fn read_at(&mut self, at: u64, into: &mut [u8]) -> Result<(), Failed> {
+        // The range lies within the length, which is a u64.
+        let _size = self.size;
+        if self.is_closed() || read_all_at(&self.file, at, into).is_err() {
+            raise(&mut self.faults);
+            return Err(Failed);
+        }
+        Ok(())
+    }
+
+    fn write_at(&mut self, at: u64, from: &[u8]) -> Result<(), Failed> {
+        // The range lies within the length, which is a u64.
+        let _size = self.size;
+        if self.is_closed() || write_all_at(&self.file, at, from).is_err() {
+            raise(&mut self.faults);
+            return Err(Failed);
+        }
+        Ok(())
+    }
+
+    fn sync(&mut self) -> Result<(), Failed> {
+        if self.is_closed() || self.flush().is_err() {
+            self.is_lost = true;
+            raise(&mut self.faults);
+            return Err(Failed);
+        }
+        Ok(())
+    }
+}
+
+impl Site for FileSite {
+    fn say(&mut self, piece: &[u8]) -> Result<(), SayFailed> {
+        if self.say_faults == u64::MAX || write_all(&mut self.output, piece).is_err() {
+            raise(&mut self.say_faults);
+            return Err(SayFailed);
+        }
+        Ok(())
+    }
+}

@@ -1,0 +1,51 @@
+// Standard input.
+ghost use Rattle.std.specs.Prelude.{◌≡◌, false};
+
+use crate::file_site::raise;
+use std::io::{Read, Stdin};
+use ts_disk::{PullFailed, Source};
+
+/// Standard input. It tells no bytes.
+#[derive(Drop)]
+pub struct StdSource {
+    input: Stdin,
+    pulls: u64,
+    pull_faults: u64,
+}
+
+impl StdSource {
+    ghost use Rattle.ts_file.specs.StdSource.{std_input};
+
+    pub fn new(input: Stdin) -> StdSource
+        ensures pulls { (std_input result).pulls ≡ 0 }
+        ensures faults { (std_input result).pull_faults ≡ 0 }
+    {
+        StdSource {
+            input,
+            pulls: 0,
+            pull_faults: 0,
+        }
+    }
+}
+
+impl Source for StdSource {
+    ghost use Rattle.ts_file.specs.StdSource.{std_input};
+
+    ghost tells = { false };
+
+    ghost input = { std_input };
+
+    fn pull(&mut self, into: &mut [u8]) -> Result<usize, PullFailed> {
+        self.pulls = self.pulls.saturating_add(1);
+        if self.pull_faults == u64::MAX {
+            return Err(PullFailed);
+        }
+        match self.input.read(into) {
+            Ok(count) => Ok(count),
+            Err(_) => {
+                raise(&mut self.pull_faults);
+                Err(PullFailed)
+            }
+        }
+    }
+}
