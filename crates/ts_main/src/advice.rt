@@ -1,0 +1,43 @@
+// One plain line on standard error for each status but 0: what happened, and what to do.
+use std::fmt::Display;
+
+/// Prints a text, and answers with the status.
+pub(crate) fn show(rt: &HostRuntime, text: &str) -> u8 {
+    match println!(rt; "{text}") {
+        Ok(()) => 0,
+        Err(_) => advise(rt, "ts", 4),
+    }
+}
+
+/// Says what a status means for a volume, and answers with it.
+pub(crate) fn advise(rt: &HostRuntime, path: &str, status: u8) -> u8 {
+    if status != 0 {
+        complain(rt, path, advice(status));
+    }
+    status
+}
+
+/// Says a line about a volume. Where standard error is closed, the status alone tells.
+pub(crate) fn complain(rt: &HostRuntime, path: &str, what: impl Display + Drop) {
+    let _said = eprintln!(rt; "ts: {path}: {what}");
+}
+
+fn advice(status: u8) -> &'static str {
+    match status {
+        2 =>
+            "these words name no job; say `ts VOLUME init PAGES` with 1 to 65536 pages, or `ts VOLUME run < SCRIPT`",
+        3 =>
+            "standard input failed while the script was read; nothing was carried out, so run the script again",
+        4 =>
+            "standard output failed; each command whose reply you have is stored, and the one after it may be: run the rest again",
+        5 =>
+            "the file failed; each command whose reply you have is stored: check the disk, then run the rest again",
+        6 =>
+            "this is no store, or its pages are damaged; nothing was changed: take another file, or a copy of this one",
+        7 =>
+            "there is no memory for a run; nothing was changed: free some, then run the script again",
+        8 => "the script has more than 65536 bytes; nothing was carried out: split it",
+        10 => "the file isn't empty; nothing was changed: choose another path for a new store",
+        _ => "the run ended",
+    }
+}

@@ -1,0 +1,78 @@
+// What comes before the top call, and after it.
+use crate::advice::{advise, complain, show};
+use crate::volume_file::{open_volume, sync_folder};
+use std::{env, io};
+use ts_file::FileSite;
+use ts_shell::{Job, read_job};
+
+const HELP: &str = "\
+usage: ts VOLUME init PAGES      makes an empty store with 1 to 65536 element pages
+       ts VOLUME run < SCRIPT    carries out the statements of a script, one reply each
+       ts --help | --version
+
+The status is 0 where all was done; else a line on standard error says what happened and what to do.";
+
+const VERSION: &str = "ts 0.1.0";
+
+/// Whether there is work to do.
+#[derive(Drop)]
+pub(crate) enum Start<'a> {
+    /// It ended with this status.
+    Ended(u8),
+    Opened(Opened<'a>),
+}
+
+/// A job, the volume's path, the words behind it, and the open volume.
+#[derive(Drop)]
+pub(crate) struct Opened<'a> {
+    pub job: Job,
+    pub path: &'a str,
+    pub words: &'a [String],
+    pub site: FileSite,
+}
+
+/// The words behind the program's name.
+pub(crate) fn read_words(rt: &HostRuntime) -> io::Result<Vec<String>> {
+    let mut words = Vec::new(rt.alloc());
+    for word in env::args(rt)?.skip(1) {
+        words.push(word)?;
+    }
+    Ok(words)
+}
+
+/// Opens the volume that the words name, where they name a job.
+pub(crate) fn prepare<'a>(rt: &HostRuntime, words: &'a [String]) -> Start<'a> {
+    let [path, words @ ..] = words else {
+        return Start::Ended(advise(rt, "ts", 2));
+    };
+    let path = path.as_str();
+    if path == "--help" {
+        return Start::Ended(show(rt, HELP));
+    }
+    if path == "--version" {
+        return Start::Ended(show(rt, VERSION));
+    }
+    let Some(job) = read_job(words) else {
+        return Start::Ended(advise(rt, path, 2));
+    };
+    match open_volume(rt, path, job != Job::Run) {
+        Ok((file, len)) => Start::Opened(Opened {
+            job,
+            path,
+            words,
+            site: FileSite::new(file, len, rt.stdout()),
+        }),
+        Err(error) => {
+            complain(rt, path, error);
+            Start::Ended(11)
+        }
+    }
+}
+
+/// Makes a new volume's name last, and says what a status means.
+pub(crate) fn finish(rt: &HostRuntime, job: Job, path: &str, status: u8) -> u8 {
+    if status == 0 && job != Job::Run && sync_folder(rt, path).is_err() {
+        return advise(rt, path, 5);
+    }
+    advise(rt, path, status)
+}

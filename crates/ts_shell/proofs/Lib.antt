@@ -1,0 +1,10 @@
+pub mod NumberLemmas
+pub mod PartsLemmas
+pub mod PageLemmas
+pub mod VolumeLemmas
+pub mod StoreLemmas
+pub mod InsertLemmas
+pub mod RunLemmas
+pub mod RanLemmas
+pub mod PullLemmas
+pub mod TopLemmas

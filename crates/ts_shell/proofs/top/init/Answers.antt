@@ -1,0 +1,41 @@
+use Rattle.std.proofs.Common.{inl, inr, refl, arith}
+use Rattle.ts_shell.proofs.top.init.Goals as goal
+
+pub returns-then-len-ne0 : goal.returns-then-len-ne0
+returns-then-len-ne0 g c = record {
+  made = record {
+    done = λ zero. absurd (omega arith);
+    there = λ ten. omega (arith, c.len.ensures);
+    refused = λ some. refl;
+    kept = λ ten. (refl, refl);
+    disk = λ five. absurd (omega arith);
+    said = refl;
+    statuses = inr (inr refl);
+  };
+}
+
+pub returns-in-Ok : goal.returns-in-Ok
+returns-in-Ok g c = record {
+  made = record {
+    done = λ zero. (c.in-Ok.ensures.size, c.in-Ok.ensures.durable, c.in-Ok.ensures.ok);
+    there = λ ten. absurd (omega arith);
+    refused = λ some. absurd (omega (arith, c.len.ensures));
+    kept = λ ten. absurd (omega arith);
+    disk = λ five. absurd (omega arith);
+    said = c.make.ensures.quiet.said;
+    statuses = inl refl;
+  };
+}
+
+pub returns-in-Err : goal.returns-in-Err
+returns-in-Err g c = record {
+  made = record {
+    done = λ zero. absurd (omega arith);
+    there = λ ten. absurd (omega arith);
+    refused = λ some. absurd (omega (arith, c.len.ensures));
+    kept = λ ten. absurd (omega arith);
+    disk = λ five. c.in-Err.ensures.cause refl;
+    said = c.make.ensures.quiet.said;
+    statuses = inr (inl refl);
+  };
+}

@@ -1,0 +1,105 @@
+use Rattle.std.proofs.Common.{◌≡◌, ◌⊎◌, inl, inr, ℕ, Option, Some, None, refl, sym, ◌∙◌, ap, subst, arith}
+use Rattle.std.specs.Option.{IfSome}
+use Rattle.ts_shell.specs.declared.words.Job.{Job}
+use Rattle.ts_shell.specs.declared.words.Job.TheVariants.{Init, Run}
+use Rattle.ts_shell.specs.Words.{IsJob}
+use Rattle.ts_shell.specs.Top.{Made}
+use Rattle.ts_shell.proofs.top.run_ts.Goals as goal
+
+-- two jobs are told apart
+init_pages : (a b : ℕ) → ◌≡◌ {A = Option Job} (Some (Init a)) (Some (Init b)) → a ≡ b
+init_pages a b e = cc
+
+init_is_none : (a : ℕ) → ◌≡◌ {A = Option Job} (Some (Init a)) None → ⊥
+init_is_none a e = cc
+
+run_is_none : ◌≡◌ {A = Option Job} (Some Run) None → ⊥
+run_is_none e = cc
+
+init_is_run : (a : ℕ) → ◌≡◌ {A = Option Job} (Some (Init a)) (Some Run) → ⊥
+init_is_run a e = cc
+
+-- neither job answers 2
+made_not_two : (s : ℕ) → (s ≡ 0) ⊎ ((s ≡ 5) ⊎ (s ≡ 10)) → s ≡ 2 → ⊥
+made_not_two s (inl e) two = omega arith
+made_not_two s (inr (inl e)) two = omega arith
+made_not_two s (inr (inr e)) two = omega arith
+
+ran_not_two : (s : ℕ) → (s ≡ 0) ⊎ ((s ≡ 3) ⊎ ((s ≡ 4) ⊎ ((s ≡ 5) ⊎ ((s ≡ 6) ⊎ ((s ≡ 7) ⊎ (s ≡ 8)))))) → s ≡ 2 → ⊥
+ran_not_two s (inl e) two = omega arith
+ran_not_two s (inr (inl e)) two = omega arith
+ran_not_two s (inr (inr (inl e))) two = omega arith
+ran_not_two s (inr (inr (inr (inl e)))) two = omega arith
+ran_not_two s (inr (inr (inr (inr (inl e))))) two = omega arith
+ran_not_two s (inr (inr (inr (inr (inr (inl e)))))) two = omega arith
+ran_not_two s (inr (inr (inr (inr (inr (inr e)))))) two = omega arith
+
+pub init-requires-clause-some : goal.init-requires-clause-some
+init-requires-clause-some g c =
+    let is : ◌≡◌ {A = Option Job} c.read_job.result (Some (Init c.in-Some-Init.pages)) = c.in-Some-Init.is ∙ ap Some c.in-Some-Init.field-0-is in
+    let job = sym c.read_job.ensures.job ∙ is in
+    let P : Option Job → Type 0 = λ o. IfSome o IsJob in
+    let pages : IsJob (Init c.in-Some-Init.pages) = subst P is c.read_job.ensures.pages in
+    pages.0
+
+pub init-requires-clause-limit : goal.init-requires-clause-limit
+init-requires-clause-limit g c =
+    let is : ◌≡◌ {A = Option Job} c.read_job.result (Some (Init c.in-Some-Init.pages)) = c.in-Some-Init.is ∙ ap Some c.in-Some-Init.field-0-is in
+    let job = sym c.read_job.ensures.job ∙ is in
+    let P : Option Job → Type 0 = λ o. IfSome o IsJob in
+    let pages : IsJob (Init c.in-Some-Init.pages) = subst P is c.read_job.ensures.pages in
+    pages.1
+
+pub returns-in-None-clause-usage : goal.returns-in-None-clause-usage
+returns-in-None-clause-usage g c = (λ two. sym c.read_job.ensures.job ∙ c.in-None.is, λ none. refl)
+
+pub returns-in-None-clause-refused : goal.returns-in-None-clause-refused
+returns-in-None-clause-refused g c = λ two. refl
+
+pub returns-in-None-clause-init : goal.returns-in-None-clause-init
+returns-in-None-clause-init g c = λ pages e. absurd (init_is_none pages (sym e ∙ sym c.read_job.ensures.job ∙ c.in-None.is))
+
+pub returns-in-None-clause-run : goal.returns-in-None-clause-run
+returns-in-None-clause-run g c = λ e. absurd (run_is_none (sym e ∙ sym c.read_job.ensures.job ∙ c.in-None.is))
+
+pub returns-in-Some-Init-clause-usage : goal.returns-in-Some-Init-clause-usage
+returns-in-Some-Init-clause-usage g c =
+    let is : ◌≡◌ {A = Option Job} c.read_job.result (Some (Init c.in-Some-Init.pages)) = c.in-Some-Init.is ∙ ap Some c.in-Some-Init.field-0-is in
+    let job = sym c.read_job.ensures.job ∙ is in
+    (λ two. absurd (made_not_two c.init.result c.init.ensures.made.statuses two), λ none. absurd (init_is_none c.in-Some-Init.pages (sym job ∙ none)))
+
+pub returns-in-Some-Init-clause-refused : goal.returns-in-Some-Init-clause-refused
+returns-in-Some-Init-clause-refused g c = λ two. absurd (made_not_two c.init.result c.init.ensures.made.statuses two)
+
+pub returns-in-Some-Init-clause-init : goal.returns-in-Some-Init-clause-init
+returns-in-Some-Init-clause-init g c = λ pages e.
+    let is : ◌≡◌ {A = Option Job} c.read_job.result (Some (Init c.in-Some-Init.pages)) = c.in-Some-Init.is ∙ ap Some c.in-Some-Init.field-0-is in
+    let job = sym c.read_job.ensures.job ∙ is in
+    let v = g.S.Volume.device c.args.site.now in
+    let w = g.S.Volume.device c.init.new.site in
+    let P : ℕ → Type 0 = λ n. Made g.S.Volume.tells n c.init.result v w in
+    subst P (init_pages c.in-Some-Init.pages pages (sym job ∙ e)) c.init.ensures.made
+
+pub returns-in-Some-Init-clause-run : goal.returns-in-Some-Init-clause-run
+returns-in-Some-Init-clause-run g c = λ e.
+    let is : ◌≡◌ {A = Option Job} c.read_job.result (Some (Init c.in-Some-Init.pages)) = c.in-Some-Init.is ∙ ap Some c.in-Some-Init.field-0-is in
+    let job = sym c.read_job.ensures.job ∙ is in
+    absurd (init_is_run c.in-Some-Init.pages (sym job ∙ e))
+
+pub returns-in-Some-Run-clause-usage : goal.returns-in-Some-Run-clause-usage
+returns-in-Some-Run-clause-usage g c =
+    let is : ◌≡◌ {A = Option Job} c.read_job.result (Some Run) = c.in-Some-Run.is ∙ ap Some c.in-Some-Run.field-0-is in
+    let job = sym c.read_job.ensures.job ∙ is in
+    (λ two. absurd (ran_not_two c.run.result c.run.ensures.ran.statuses two), λ none. absurd (run_is_none (sym job ∙ none)))
+
+pub returns-in-Some-Run-clause-refused : goal.returns-in-Some-Run-clause-refused
+returns-in-Some-Run-clause-refused g c = λ two. absurd (ran_not_two c.run.result c.run.ensures.ran.statuses two)
+
+pub returns-in-Some-Run-clause-init : goal.returns-in-Some-Run-clause-init
+returns-in-Some-Run-clause-init g c = λ pages e.
+    let is : ◌≡◌ {A = Option Job} c.read_job.result (Some Run) = c.in-Some-Run.is ∙ ap Some c.in-Some-Run.field-0-is in
+    let job = sym c.read_job.ensures.job ∙ is in
+    absurd (init_is_run pages (sym e ∙ job))
+
+pub returns-in-Some-Run-clause-run : goal.returns-in-Some-Run-clause-run
+returns-in-Some-Run-clause-run g c = λ e. c.run.ensures.ran

@@ -1,0 +1,11 @@
+pub mod Readings
+pub mod SeriesPage
+pub mod FirstVolume
+pub mod Words
+pub mod Items
+pub mod Answer
+pub mod Decoding
+pub mod Undisturbed
+pub mod Run
+pub mod Stored
+pub mod Top

@@ -1,0 +1,77 @@
+-- What the top call does, by its words.
+use Rattle.std.specs.Prelude.{◌≡◌, ◌⊎◌, ℕ, ◌+◌, ◌*◌, ◌<◌, ◌≤◌, Bool, IsTrue, List, [], ◌++◌, length, Result, Ok, Err}
+use Rattle.ts_disk.specs.Device.{Device, Only, Rose, FirstSync, LeavesOnly}
+use Rattle.ts_disk.specs.Input.{Input}
+use Rattle.ts_replies.specs.Acknowledged.{AllAnswered}
+use Rattle.ts_shell.specs.declared.reading.Reading.{Reading}
+use Rattle.ts_shell.specs.declared.fault.RunFault.{RunFault}
+use Rattle.ts_shell.specs.declared.fault.RunFault.TheVariants.{Disk, Output}
+use Rattle.ts_shell.specs.FirstVolume.{Means}
+use Rattle.ts_shell.specs.Answer.{answer, lacks}
+use Rattle.ts_shell.specs.Items.{items}
+use Rattle.ts_shell.specs.Run.{Stands, IsGoodRun, SaysFairly}
+
+-- What `init` with a number of pages does.
+pub record Made (tells : Bool) (pages status : ℕ) (v w : Device) : Type 0 where
+  -- at 0 the only image is an empty store of that length
+  pub done : status ≡ 0 → (w.size ≡ 4096 * (930 + pages)) × Only w.held w.images × (IsTrue tells → Means w.held [])
+  -- 10 comes exactly where the volume isn't empty, and then nothing is done
+  pub there : status ≡ 10 → 0 < v.size
+  pub refused : 0 < v.size → status ≡ 10
+  pub kept : status ≡ 10 → (w.held ≡ v.held) × (w.size ≡ v.size)
+  pub disk : status ≡ 5 → Rose v.faults w.faults
+  -- nothing is said
+  pub said : w.said ≡ v.said
+  pub statuses : (status ≡ 0) ⊎ ((status ≡ 5) ⊎ (status ≡ 10))
+
+-- the status of what ended a run
+abbrev pub status_of : Result Unit RunFault → ℕ
+status_of (Ok x) = 0
+status_of (Err Disk) = 5
+status_of (Err Output) = 4
+
+-- all items of the script are answered, and the volume, with nothing pending, means the readings after them
+pub record AllDone (old : List Reading) (v w : Device) (i j : Input) : Type 0 where
+  pub ended : j.left ≡ []
+  pub gained : List ℕ
+  pub last : List Reading
+  pub said : w.said ≡ v.said ++ gained
+  pub answered : AllAnswered answer lacks old (items i.left) gained last
+  pub stands : Stands w last
+
+-- What a script does on an opened volume that stands at the readings `old`.
+pub record OpenedRan (tells told : Bool) (old : List Reading) (status : ℕ) (v w : Device) (i j : Input) : Type 0 where
+  -- what was said is replies to the items of the bytes taken, and each moment is good
+  pub fair : IsTrue tells → IsTrue told → Stands v old → (taken : List ℕ) × (i.left ≡ taken ++ j.left) × SaysFairly (items taken) old v w × LeavesOnly v w (IsGoodRun old (items taken) v.said)
+  pub all : status ≡ 0 → IsTrue tells → IsTrue told → Stands v old → AllDone old v w i j
+  pub pull : status ≡ 3 → Rose i.pull_faults j.pull_faults
+  pub output : status ≡ 4 → Rose v.say_faults w.say_faults
+  pub disk : status ≡ 5 → Rose v.faults w.faults
+  pub too_long : status ≡ 8 → IsTrue told → (taken : List ℕ) × (i.left ≡ taken ++ j.left) × (65536 < length taken)
+  pub short : IsTrue told → (status ≡ 8) ⊎ ((taken : List ℕ) × (i.left ≡ taken ++ j.left) × (length taken ≤ 65536))
+  pub quiet : (status ≡ 3) ⊎ (status ≡ 8) → (w.said ≡ v.said) × (w.held ≡ v.held)
+  pub statuses : (status ≡ 0) ⊎ ((status ≡ 3) ⊎ ((status ≡ 4) ⊎ ((status ≡ 5) ⊎ (status ≡ 8))))
+  pub syncs : IsTrue tells → v.syncs ≤ w.syncs
+  pub faults : v.faults ≤ w.faults
+  pub say_faults : v.say_faults ≤ w.say_faults
+  pub pull_faults : i.pull_faults ≤ j.pull_faults
+
+-- What `run` does.
+pub record ScriptRan (tells told : Bool) (status : ℕ) (v w : Device) (i j : Input) : Type 0 where
+  -- What was said is replies to the items of the bytes taken. From the end of the first sync on each moment is good; before
+  -- it, and in the whole call where no sync answered Ok, each is an image of the entry with nothing said.
+  pub fair : IsTrue tells → IsTrue told → (old : List Reading) → Means v.held old → (taken : List ℕ) × (i.left ≡ taken ++ j.left) × SaysFairly (items taken) old v w × FirstSync v w (IsGoodRun old (items taken) v.said)
+  -- at 0 the script is read to its end and every item has its reply
+  pub all : status ≡ 0 → IsTrue tells → IsTrue told → (old : List Reading) → Means v.held old → AllDone old v w i j
+  pub pull : status ≡ 3 → Rose i.pull_faults j.pull_faults
+  pub output : status ≡ 4 → Rose v.say_faults w.say_faults
+  pub disk : status ≡ 5 → Rose v.faults w.faults
+  -- 6 comes exactly where the volume means no list, but for a fault or want of memory that came first
+  pub no_store : status ≡ 6 → IsTrue tells → (old : List Reading) → Means v.held old → ⊥
+  pub not_a_store : IsTrue tells → ((old : List Reading) → Means v.held old → ⊥) → (status ≡ 5) ⊎ ((status ≡ 6) ⊎ (status ≡ 7))
+  -- 8 comes exactly where a pull gave bytes past the first 65536
+  pub too_long : status ≡ 8 → IsTrue told → (taken : List ℕ) × (i.left ≡ taken ++ j.left) × (65536 < length taken)
+  pub short : IsTrue told → (status ≡ 8) ⊎ ((taken : List ℕ) × (i.left ≡ taken ++ j.left) × (length taken ≤ 65536))
+  -- at 3, 6, 7 and 8 nothing was carried out and nothing said
+  pub quiet : (status ≡ 3) ⊎ ((status ≡ 6) ⊎ ((status ≡ 7) ⊎ (status ≡ 8))) → (w.said ≡ v.said) × (w.held ≡ v.held)
+  pub statuses : (status ≡ 0) ⊎ ((status ≡ 3) ⊎ ((status ≡ 4) ⊎ ((status ≡ 5) ⊎ ((status ≡ 6) ⊎ ((status ≡ 7) ⊎ (status ≡ 8))))))

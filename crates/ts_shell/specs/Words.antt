@@ -1,0 +1,26 @@
+-- The words of the command line.
+use Rattle.std.specs.Prelude.{◌≤◌, ℕ, ◌&&◌, nat_le, if◌then◌else◌, List, [], ◌∷◌, length, Option, Some, None, codes}
+use Rattle.std.specs.Str.{bytes_eq}
+use Rattle.ts_base.specs.StampText.{number_of, all_digits}
+use Rattle.ts_shell.specs.declared.words.Job.{Job}
+use Rattle.ts_shell.specs.declared.words.Job.TheVariants.{Init, Run}
+
+-- the number that 1 to 10 digits write
+abbrev pub decimal : List ℕ → Option ℕ
+decimal text = if nat_le 1 (length text) && nat_le (length text) 10 && all_digits text then Some (number_of text) else None
+
+-- a number of element pages, 1 to 65536
+abbrev pub pages_in : List ℕ → Option ℕ
+pages_in text = elim (decimal text) [ None ↦ None | Some n ↦ (if nat_le 1 n && nat_le n 65536 then Some n else None) ]
+
+-- a number of pages that a volume can have
+abbrev pub IsJob : Job → Type 0
+IsJob (Init pages) = (1 ≤ pages) × (pages ≤ 65536)
+IsJob Run = Unit {0}
+
+-- what the words ask for: `run`, or `init` and a number of pages
+unfoldable pub job_of : List (List ℕ) → Option Job
+job_of (word ∷ []) = if bytes_eq word (codes "run") then Some Run else None
+job_of (word ∷ pages ∷ []) =
+    if bytes_eq word (codes "init") then (elim (pages_in pages) [ None ↦ None | Some n ↦ Some (Init n) ]) else None
+job_of words = None

@@ -1,0 +1,6 @@
+/// What ended a run.
+#[derive(Clone, Copy, Debug, PartialEq, Eq)]
+pub(crate) enum RunFault {
+    Disk,
+    Output,
+}
