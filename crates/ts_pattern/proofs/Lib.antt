@@ -1,0 +1,13 @@
+pub mod RunLemmas
+pub mod JoinLemmas
+pub mod GrowLemmas
+pub mod CursorLemmas
+pub mod TurnLemmas
+pub mod MultipleLemmas
+pub mod AlgebraLemmas
+pub mod WholeLemmas
+pub mod PlanLemmas
+pub mod TokenLemmas
+pub mod GrammarLemmas
+pub mod MergeLemmas
+pub mod PrintLemmas

@@ -1,0 +1,9 @@
+pub mod Plan
+pub mod Runs
+pub mod Units
+pub mod Multiples
+pub mod Algebra
+pub mod Growth
+pub mod Line
+pub mod Tokens
+pub mod Grammar

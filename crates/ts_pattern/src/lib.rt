@@ -1,0 +1,28 @@
+//! Patterns: runs of intervals that are on or off, repeated without end. What contracts see of a pattern is its unit
+//! and its merged runs (`specs/Plan`); NOT, AND, OR and the change to a smaller unit are exact at every interval
+//! (`specs/Algebra`), within 527040 intervals and 512 runs. The code goes from run end to run end and never writes
+//! the flags out. Stands on ts_base alone; knows nothing of dates. Read `specs/Runs.antt`, `specs/Algebra.antt`,
+//! then `pattern.rt`.
+#![tactic(auto)]
+
+mod cursor;
+mod join;
+mod junction;
+mod multiple;
+mod pattern;
+mod read;
+mod run;
+mod runs;
+#[cfg(test)]
+mod tests;
+mod text;
+mod tokens;
+mod units;
+
+pub use junction::Junction;
+pub use pattern::{MOST_INTERVALS, MOST_RUNS, Pattern};
+pub use read::{Misread, WrittenPattern, pattern_in};
+pub use run::Run;
+pub use text::printed_patterns_are_read;
+pub use tokens::{after_sign, split_word, unblanked};
+pub use units::{factor, smaller_unit};

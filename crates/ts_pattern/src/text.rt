@@ -1,0 +1,142 @@
+// Patterns as texts: `{1 off,5 on,1 off},day`.
+ghost use Rattle.std.specs.Prelude.{◌≡◌, ◌≢◌, ℕ, ◌+◌, ◌-◌, ◌*◌, ◌^◌, ◌<◌, ◌≤◌, [], ◌∷◌, ◌++◌, Ok, length, IsTrue, IfOk, OnOk, OnErr};
+ghost use Rattle.std.specs.Fmt.{decimal};
+ghost use Rattle.ts_pattern.specs.Runs.{total, flag_at, runs_of, is_pattern};
+ghost use Rattle.ts_pattern.specs.Algebra.{Answers};
+ghost use Rattle.ts_pattern.specs.Grammar.{are_counts, plan_of_written, read_plan, printed_run, printed_runs, printed_plan};
+ghost use Rattle.ts_pattern.specs.Grammar;
+ghost use Rattle.ts_pattern.specs.Plan.{Plan};
+
+use crate::join::extend;
+use crate::pattern::too_long;
+use crate::read::written_pattern;
+use crate::{MOST_INTERVALS, MOST_RUNS, Misread, Pattern, Run, WrittenPattern};
+use std::alloc::{AllocError, Global};
+use ts_base::{Bytes, Refusal, Trouble, Unit};
+
+impl Pattern {
+    /// The pattern that a text writes.
+    pub fn read(alloc: Global, text: &[u8]) -> Result<Pattern, Trouble>
+        requires { length text.now < 2 ^ 32 }
+        ensures { Answers (read_plan text.now) result }
+    {
+        match written_pattern(alloc, text) {
+            Ok(written) => written.into_pattern(),
+            Err(Misread::Left(left)) => {
+                let place = text.len().saturating_sub(left) as u32;
+                Err(Trouble::Refused(Refusal::BadPattern { place }))
+            }
+            Err(Misread::NoMemory(error)) => Err(Trouble::Memory(error)),
+        }
+    }
+
+    /// Puts the text of the pattern to the end, whole or not at all.
+    pub fn print(&self, out: &mut Bytes) -> Result<(), AllocError>
+        ensures ok { OnOk result (out.new ≡ out.old ++ printed_plan self.now) }
+        ensures err { OnErr result (out.new ≡ out.old) }
+    {
+        let runs = self.runs();
+        let mut text = Bytes::new(self.allocator());
+        text.push(b'{')?;
+        print_runs(runs, &mut text)?;
+        text.extend_from_slice(b"},")?;
+        text.extend_from_slice(unit_name(self.unit()))?;
+        out.extend_from_slice(text.as_slice())
+    }
+}
+
+impl WrittenPattern {
+    /// The pattern with these runs merged.
+    pub fn into_pattern(self) -> Result<Pattern, Trouble>
+        ensures { Answers (plan_of_written (record { unit = self.unit; runs = self.runs.items })) result }
+    {
+        let length = total_length(&self.runs);
+        if length > MOST_INTERVALS as u64 {
+            return Err(too_long(length as u128, 0));
+        }
+        let runs = merged_runs(*self.runs.allocator(), &self.runs)?;
+        if runs.len() > MOST_RUNS {
+            return Err(too_long(length as u128, runs.len() as u32));
+        }
+        match Pattern::of_runs(self.unit, runs) {
+            Some(pattern) => Ok(pattern),
+            None => unreachable!(),
+        }
+    }
+}
+
+fn total_length(runs: &[Run]) -> u64
+    requires { length runs.now < 2 ^ 32 }
+    ensures { result ≡ total runs.now }
+{
+    let mut length: u64 = 0;
+    for run in runs {
+        length += run.count as u64;
+    }
+    length
+}
+
+// The runs with neighbours of one flag merged.
+fn merged_runs(alloc: Global, runs: &[Run]) -> Result<Vec<Run>, AllocError>
+    requires counts { IsTrue (are_counts runs.now) }
+    requires small { total runs.now ≤ 527_040 }
+    ensures { IfOk result (λ v. v.items ≡ runs_of (flag_at runs.now) (total runs.now)) }
+{
+    let mut merged = Vec::new(alloc);
+    for run in runs {
+        extend(&mut merged, run.on, run.count)?;
+    }
+    Ok(merged)
+}
+
+fn unit_name(unit: Unit) -> &'static [u8]
+    ensures { result.now ≡ Grammar.unit_name unit }
+{
+    match unit {
+        Unit::Second => b"second",
+        Unit::Minute => b"minute",
+        Unit::Hour => b"hour",
+        Unit::Day => b"day",
+        Unit::Week => b"week",
+        Unit::Month => b"month",
+        Unit::Year => b"year",
+    }
+}
+
+fn print_runs(runs: &[Run], out: &mut Bytes) -> Result<(), AllocError>
+    ensures { OnOk result (out.new ≡ out.old ++ printed_runs runs.now) }
+{
+    let mut rest = runs;
+    while let [run, more @ ..] = rest {
+        print_run(*run, out)?;
+        if more.len() != 0 {
+            out.push(b',')?;
+        }
+        rest = more;
+    }
+    Ok(())
+}
+
+fn print_run(run: Run, out: &mut Bytes) -> Result<(), AllocError>
+    ensures { OnOk result (out.new ≡ out.old ++ printed_run run) }
+{
+    print_count(run.count, out)?;
+    out.push(b' ')?;
+    out.extend_from_slice(if run.on { b"on" } else { b"off" })
+}
+
+// A number in decimal digits.
+fn print_count(count: u32, out: &mut Bytes) -> Result<(), AllocError>
+    ensures { OnOk result (out.new ≡ out.old ++ decimal count) }
+{
+    if count < 10 {
+        return out.push(b'0' + count as u8);
+    }
+    print_count(count / 10, out)?;
+    out.push(b'0' + (count % 10) as u8)
+}
+
+/// What is printed of a pattern is read as the same pattern.
+pub fn printed_patterns_are_read()
+    ensures { (p : Plan) → IsTrue (is_pattern p.runs) → read_plan (printed_plan p) ≡ Ok p }
+{}

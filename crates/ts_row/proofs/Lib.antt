@@ -1,0 +1,9 @@
+pub mod LiteralLemmas
+pub mod RowTypeLemmas
+pub mod EncodingLemmas
+pub mod RowLemmas
+pub mod PrintLemmas
+pub mod DecodingLemmas
+pub mod ValueBytesLemmas
+pub mod RowBytesLemmas
+pub mod DigitsLemmas

@@ -1,0 +1,5 @@
+pub mod RowType
+pub mod Row
+pub mod Encoding
+pub mod Printed
+pub mod Decoding

@@ -1,0 +1,141 @@
+// The row that bytes are: each function takes the first column and goes on with the others, at most 32 in all.
+ghost use Rattle.std.specs.Prelude.{◌≡◌, ◌+◌, ◌++◌, IsTrue, IfOk, MatchOption, length, true, false};
+ghost use Rattle.std.specs.List.{list_all};
+ghost use Rattle.std.specs.Int.{cast_signed, from_be_bytes, w64};
+ghost use Rattle.ts_row.specs.RowType.{column_width, is_kind};
+ghost use Rattle.ts_row.specs.Decoding.{all_zero, number_in, text_in, filled_in, value_in, row_in};
+
+use crate::{Column, ColumnKind, Row, Value};
+use std::alloc::{AllocError, Global};
+use ts_base::{Bytes, is_text};
+
+/// The row that bytes are, if they are one's.
+pub(crate) fn decode(
+    alloc: Global,
+    columns: &[Column],
+    from: &[u8],
+) -> Result<Option<Row>, AllocError>
+    requires { IsTrue (list_all (λ c. is_kind c.kind) columns.now) }
+    ensures { IfOk result (λ found. found ≡ row_in columns.now from.now) }
+{
+    let mut row = Vec::with_capacity(alloc, columns.len())?;
+    if decode_row(alloc, columns, from, &mut row)? {
+        Ok(Some(Row::of(row)))
+    } else {
+        Ok(None)
+    }
+}
+
+// Puts the values that bytes are to the end of a row, and says whether they are a row's.
+fn decode_row(
+    alloc: Global,
+    columns: &[Column],
+    from: &[u8],
+    row: &mut Vec<Value>,
+) -> Result<bool, AllocError>
+    requires kinds { IsTrue (list_all (λ c. is_kind c.kind) columns.now) }
+    ensures { IfOk result (λ found. MatchOption (row_in columns.now from.now) (found ≡ false)
+        (λ values. (found ≡ true) × (row.new.items ≡ row.old.items ++ values))) }
+{
+    let Some((column, columns)) = columns.split_first() else {
+        return Ok(from.is_empty());
+    };
+    let width = column.kind.width();
+    if from.len() < width {
+        return Ok(false);
+    }
+    let (cell, rest) = from.split_at(width);
+    let Some(value) = decode_value(alloc, column.kind, cell)? else {
+        return Ok(false);
+    };
+    row.push(value)?;
+    decode_row(alloc, columns, rest, row)
+}
+
+// The value that the bytes of a column are.
+fn decode_value(alloc: Global, kind: ColumnKind, cell: &[u8]) -> Result<Option<Value>, AllocError>
+    requires kind { IsTrue (is_kind kind) }
+    requires room { length cell.now ≡ column_width kind }
+    ensures { IfOk result (λ found. found ≡ value_in kind cell.now) }
+{
+    let Some((flag, bytes)) = cell.split_first() else {
+        return Ok(None);
+    };
+    match *flag {
+        0 => Ok(if is_zero(bytes) {
+            Some(Value::Null)
+        } else {
+            None
+        }),
+        1 => decode_filled(alloc, kind, bytes),
+        _ => Ok(None),
+    }
+}
+
+// The value that bytes are, which aren't NULL's.
+fn decode_filled(alloc: Global, kind: ColumnKind, bytes: &[u8]) -> Result<Option<Value>, AllocError>
+    requires kind { IsTrue (is_kind kind) }
+    requires room { length bytes.now + 1 ≡ column_width kind }
+    ensures { IfOk result (λ found. found ≡ filled_in kind bytes.now) }
+{
+    if let ColumnKind::VarChar { length } = kind {
+        return decode_text(alloc, length, bytes);
+    }
+    let number = decode_number(kind, bytes);
+    Ok(if kind.holds_size(number.unsigned_abs()) {
+        Some(Value::Number(number))
+    } else {
+        None
+    })
+}
+
+// The number that bytes are.
+fn decode_number(kind: ColumnKind, bytes: &[u8]) -> i128
+    requires room { length bytes.now + 1 ≡ column_width kind }
+    ensures { result ≡ number_in kind bytes.now }
+{
+    match kind {
+        ColumnKind::SmallInt => i16::from_be_bytes([bytes[0], bytes[1]]) as i128,
+        ColumnKind::Integer => {
+            i32::from_be_bytes([bytes[0], bytes[1], bytes[2], bytes[3]]) as i128
+        }
+        ColumnKind::BigInt | ColumnKind::Decimal { .. } => eight_bytes(bytes) as i128,
+        ColumnKind::VarChar { .. } => 0,
+    }
+}
+
+// The number that eight bytes are.
+fn eight_bytes(bytes: &[u8]) -> i64
+    requires { length bytes.now ≡ 8 }
+    ensures { result ≡ cast_signed w64 (from_be_bytes w64 bytes.now) }
+{
+    i64::from_be_bytes([
+        bytes[0], bytes[1], bytes[2], bytes[3], bytes[4], bytes[5], bytes[6], bytes[7],
+    ])
+}
+
+// The text that a length, bytes and zeros are.
+fn decode_text(alloc: Global, most: u16, bytes: &[u8]) -> Result<Option<Value>, AllocError>
+    requires { length bytes.now ≡ most + 1 }
+    ensures { IfOk result (λ found. found ≡ text_in most bytes.now) }
+{
+    let Some((length, bytes)) = bytes.split_first() else {
+        return Ok(None);
+    };
+    let length = *length as usize;
+    if length > most as usize {
+        return Ok(None);
+    }
+    let (text, padding) = bytes.split_at(length);
+    if !is_zero(padding) || !is_text(text) {
+        return Ok(None);
+    }
+    Ok(Some(Value::Text(Bytes::from_slice(alloc, text)?)))
+}
+
+// Zeros and nothing else.
+fn is_zero(bytes: &[u8]) -> bool
+    ensures { result ≡ all_zero bytes.now }
+{
+    bytes.iter().all(|byte| *byte == 0)
+}

@@ -1,0 +1,24 @@
+//! Row types and rows: the columns that a row type may have, the row that literals give, its bytes and its text.
+//! `make` refuses exactly the first column that breaks a rule (`specs/RowType`), `row_of` exactly the first that
+//! misfits (`specs/Row`). A row that fits has one encoding, and bytes mean that row or none (`specs/Encoding`).
+//! Values are printed as `specs/Printed` says. Stands on ts_base; knows nothing of pages or scripts. Read
+//! `specs/RowType.antt` and `specs/Row.antt`, then `row_type.rt`.
+#![tactic(auto)]
+
+mod decoding;
+mod encoding;
+mod kind;
+mod literal;
+mod print;
+mod row;
+mod row_type;
+mod rules;
+#[cfg(test)]
+mod tests;
+mod value;
+
+pub use kind::{Column, ColumnKind};
+pub use print::print_value;
+pub use row::{Elem, Row, Shelf};
+pub use row_type::RowType;
+pub use value::{Literal, Value};

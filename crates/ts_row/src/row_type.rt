@@ -1,0 +1,144 @@
+ghost use Rattle.std.specs.Prelude.{◌≡◌, ◌≤◌, ◌++◌, IsTrue, IfOk, IfSome, IfErr, OnOk, OnErr, MatchResult, Ok, None, length};
+ghost use Rattle.ts_row.specs.RowType.{is_row_type, width_of, bad_column, IsBadRowType};
+ghost use Rattle.ts_row.specs.Row.{row_of, IsRowTrouble, fits};
+ghost use Rattle.ts_row.specs.Encoding.{row_bytes, IsMeaning};
+ghost use Rattle.ts_row.specs.Printed.{row_text, Extends};
+
+use crate::decoding::decode;
+use crate::encoding::encode_row;
+use crate::literal::read_row;
+use crate::print::print_row;
+use crate::rules::{first_bad, width_of};
+use crate::{Column, Literal, Row};
+use std::alloc::{AllocError, Global};
+use std::marker::Model;
+use ts_base::{Bytes, Name, Refusal, Trouble};
+
+/// The columns of a container's elements: that of the stamp, and the value columns.
+#[derive(Debug, Drop)]
+pub struct RowType {
+    stamp: Name,
+    columns: Vec<Column>,
+    width: usize,
+}
+
+impl Model for RowType {
+    ghost use Rattle.std.specs.Prelude.{◌≡◌, IsTrue};
+    ghost use Rattle.ts_row.specs.RowType.{Heading, is_row_type, width_of};
+
+    ghost Value = { Heading };
+
+    ghost view = { λ r. record { stamp = r.stamp; columns = r.columns.items } };
+
+    ghost invariant = { λ r. IsTrue (is_row_type r.stamp r.columns.items) × (r.width ≡ width_of r.columns.items) };
+}
+
+impl RowType {
+    /// The row type of these columns; else the first that breaks a rule. It takes no memory.
+    #[tactic(auto, using(crate::proofs::RowTypeLemmas::good))]
+    pub fn make(_alloc: Global, stamp: Name, columns: Vec<Column>) -> Result<RowType, Trouble>
+        ensures ok { IfOk result (λ made. made ≡ record { stamp = stamp; columns = columns.items }) }
+        ensures rules { OnOk result (IsTrue (is_row_type stamp columns.items)) }
+        ensures cause { MatchResult result (λ _. bad_column stamp columns.items ≡ None)
+            (IsBadRowType stamp columns.items) }
+    {
+        match first_bad(stamp.as_slice(), columns.as_slice()) {
+            Some(column) => Err(Trouble::Refused(Refusal::BadRowType { column })),
+            None => {
+                let width = width_of(columns.as_slice());
+                Ok(RowType {
+                    stamp,
+                    columns,
+                    width,
+                })
+            }
+        }
+    }
+
+    /// The name of the stamp's column.
+    pub fn stamp(&self) -> &Name
+        ensures { result.now ≡ self.now.stamp }
+    {
+        &self.stamp
+    }
+
+    /// The value columns.
+    pub fn columns(&self) -> &[Column]
+        ensures value { result.now ≡ self.now.columns }
+        ensures rules { IsTrue (is_row_type self.now.stamp self.now.columns) }
+    {
+        self.columns.as_slice()
+    }
+
+    /// The bytes of a row.
+    pub fn width(&self) -> usize
+        ensures value { result ≡ width_of self.now.columns }
+        ensures bound { result ≤ 1000 }
+    {
+        self.width
+    }
+
+    pub fn copy(&self) -> Result<Self, AllocError>
+        ensures { IfOk result (λ made. made ≡ self.now) }
+    {
+        let stamp = self.stamp.copy()?;
+        let columns = copy_columns(*self.columns.allocator(), self.columns.as_slice())?;
+        Ok(RowType {
+            stamp,
+            columns,
+            width: self.width,
+        })
+    }
+
+    /// The row that literals give; else the first column that misfits, is missing or is too many.
+    #[tactic(auto, using(crate::proofs::RowLemmas::fitting))]
+    pub fn row_of(&self, values: &[Literal]) -> Result<Row, Trouble>
+        ensures ok { IfOk result (λ row. row_of self.now.columns values.now ≡ Ok row) }
+        ensures fits { IfOk result (λ row. IsTrue (fits self.now.columns row)) }
+        ensures cause { IfErr result (IsRowTrouble self.now.columns values.now) }
+    {
+        let mut row = Vec::with_capacity(*self.columns.allocator(), self.columns.len())?;
+        read_row(self.columns.as_slice(), values, 1, &mut row)?;
+        Ok(Row::of(row))
+    }
+
+    /// Writes the bytes of a row.
+    pub fn encode(&self, row: &Row, into: &mut [u8])
+        requires fits { IsTrue (fits self.now.columns row.now) }
+        requires room { length into.old ≡ width_of self.now.columns }
+        ensures { into.new ≡ row_bytes self.now.columns row.now }
+    {
+        encode_row(self.columns.as_slice(), row.values(), into);
+    }
+
+    /// The row with these bytes, if they are a row's. No two rows that fit have the same bytes.
+    pub fn decode(&self, from: &[u8]) -> Result<Option<Row>, AllocError>
+        ensures meaning { IfOk result (IsMeaning self.now.columns from.now) }
+        ensures fits { IfOk result (λ found. IfSome found (λ row. IsTrue (fits self.now.columns row))) }
+    {
+        decode(*self.columns.allocator(), self.columns.as_slice(), from)
+    }
+
+    /// Prints the values of a row with commas between them. After an error some of it may stand at the end.
+    pub fn print(&self, row: &Row, out: &mut Bytes) -> Result<(), AllocError>
+        requires { IsTrue (fits self.now.columns row.now) }
+        ensures ok { OnOk result (out.new ≡ out.old ++ row_text self.now.columns row.now) }
+        ensures err { OnErr result (Extends out.old out.new) }
+    {
+        print_row(self.columns.as_slice(), row.values(), out)
+    }
+}
+
+// The same columns once more.
+fn copy_columns(alloc: Global, columns: &[Column]) -> Result<Vec<Column>, AllocError>
+    ensures { IfOk result (λ made. made.items ≡ columns.now) }
+{
+    let mut made = Vec::with_capacity(alloc, columns.len())?;
+    for column in columns {
+        made.push(Column {
+            name: column.name.copy()?,
+            kind: column.kind,
+        })?;
+    }
+    Ok(made)
+}
