@@ -40,5 +40,5 @@ head_of page =
     let count = from_be_bytes w16 (bytes_at 3 2 page) in
     if kind == 0 then Some Free
     else (if (kind == 1) && are_zero (bytes_at 13 19 page)
-          then Some (Regular series count (from_be_bytes w64 (bytes_at 5 8 page)))
-          else (if (kind == 2) && are_zero (bytes_at 5 27 page) then Some (Irregular series count) else None))
+    then Some (Regular series count (from_be_bytes w64 (bytes_at 5 8 page)))
+    else (if (kind == 2) && are_zero (bytes_at 5 27 page) then Some (Irregular series count) else None))
