@@ -1,5 +1,5 @@
 -- What a real file shows: its length and its counts.
-use Rattle.std.specs.Prelude.{◌≡◌, ℕ, false, []}
+use Rattle.std.specs.Prelude.{◌≡◌, ℕ, Bool, false, []}
 use Rattle.ts_disk.specs.Device.{Device, Lawful}
 use Rattle.ts_file.specs.declared.file_site.FileSite.{FileSite}
 
@@ -14,6 +14,10 @@ faults_of f = f.faults
 -- how many pieces were not said whole
 abbrev pub say_faults_of : FileSite → ℕ
 say_faults_of f = f.say_faults
+
+-- a sync failed
+abbrev pub is_lost_of : FileSite → Bool
+is_lost_of f = f.is_lost
 
 -- the length and the counts stay
 pub record SameCounts (old new : FileSite) : Type 0 where

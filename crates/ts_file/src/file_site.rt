@@ -1,6 +1,6 @@
 // A real file and standard output.
-ghost use Rattle.std.specs.Prelude.{◌≡◌, ◌+◌, ◌≤◌, ◌<◌, false, length, ◌^◌};
-ghost use Rattle.ts_disk.specs.Device.{Rose};
+ghost use Rattle.std.specs.Prelude.{◌≡◌, ◌+◌, ◌≤◌, ◌<◌, false, length, ◌^◌, IsTrue, IsErr};
+ghost use Rattle.ts_disk.specs.Device.{Rose, Resized, ReadAt, WrittenAt, Synced};
 
 use std::fs::File;
 use std::io::{self, Stdout, Write};
@@ -23,7 +23,7 @@ pub struct FileSite {
 }
 
 impl FileSite {
-    ghost use Rattle.ts_file.specs.FileSite.{size_of, faults_of, say_faults_of, SameCounts};
+    ghost use Rattle.ts_file.specs.FileSite.{size_of, faults_of, say_faults_of, is_lost_of, SameCounts};
 
     /// The site of a file that was opened for reading and writing and has this length now.
     pub fn new(file: File, len: u64, output: Stdout) -> FileSite
@@ -43,7 +43,9 @@ impl FileSite {
     }
 
     // No call can be made any more: a sync failed, or no fault more can be counted.
-    fn is_closed(&self) -> bool {
+    fn is_closed(&self) -> bool
+        ensures { IsTrue (is_lost_of self.now) → IsTrue result }
+    {
         self.is_lost || self.faults == u64::MAX
     }
 
@@ -112,7 +114,7 @@ fn write_all(output: &mut Stdout, piece: &[u8]) -> io::Result<()> {
 }
 
 impl Volume for FileSite {
-    ghost use Rattle.ts_file.specs.FileSite.{file_device};
+    ghost use Rattle.ts_file.specs.FileSite.{file_device, is_lost_of};
 
     ghost tells = { false };
 
@@ -130,17 +132,27 @@ impl Volume for FileSite {
         self.faults
     }
 
-    fn resize(&mut self, bytes: u64) -> Result<(), Failed> {
+    fn resize(&mut self, bytes: u64) -> Result<(), Failed>
+        requires no_shorter { (file_device self.old).size ≤ bytes }
+        requires limit { bytes ≤ 272244736 }
+        ensures resized { Resized false bytes result (file_device self.old) (file_device self.new) }
+        ensures closed { IsTrue (is_lost_of self.old) → IsErr result }
+    {
+        // A resize that failed may have changed the length too.
+        self.is_resized = true;
         if self.is_closed() || self.file.set_len(bytes).is_err() {
             raise(&mut self.faults);
             return Err(Failed);
         }
         self.size = bytes;
-        self.is_resized = true;
         Ok(())
     }
 
-    fn read_at(&mut self, at: u64, into: &mut [u8]) -> Result<(), Failed> {
+    fn read_at(&mut self, at: u64, into: &mut [u8]) -> Result<(), Failed>
+        requires { at + length into.old ≤ (file_device self.old).size }
+        ensures read { ReadAt false at into.new result (file_device self.old) (file_device self.new) }
+        ensures closed { IsTrue (is_lost_of self.old) → IsErr result }
+    {
         // The range lies within the length, which is a u64.
         let _size = self.size;
         if self.is_closed() || read_all_at(&self.file, at, into).is_err() {
@@ -150,7 +162,11 @@ impl Volume for FileSite {
         Ok(())
     }
 
-    fn write_at(&mut self, at: u64, from: &[u8]) -> Result<(), Failed> {
+    fn write_at(&mut self, at: u64, from: &[u8]) -> Result<(), Failed>
+        requires { at + length from.now ≤ (file_device self.old).size }
+        ensures written { WrittenAt false at from.now result (file_device self.old) (file_device self.new) }
+        ensures closed { IsTrue (is_lost_of self.old) → IsErr result }
+    {
         // The range lies within the length, which is a u64.
         let _size = self.size;
         if self.is_closed() || write_all_at(&self.file, at, from).is_err() {
@@ -160,7 +176,11 @@ impl Volume for FileSite {
         Ok(())
     }
 
-    fn sync(&mut self) -> Result<(), Failed> {
+    fn sync(&mut self) -> Result<(), Failed>
+        ensures synced { Synced false result (file_device self.old) (file_device self.new) }
+        ensures closed { IsTrue (is_lost_of self.old) → IsErr result }
+        ensures lost { IsErr result → IsTrue (is_lost_of self.new) }
+    {
         if self.is_closed() || self.flush().is_err() {
             self.is_lost = true;
             raise(&mut self.faults);

@@ -1,7 +1,7 @@
 //! The real outside: a file with standard output as a site, and standard input as a source. Of their content nothing
 //! is told, so each clause of the traits that speaks of bytes says nothing here; what is promised is the length, and
 //! that each `Err` raised its count (`specs/FileSite`). A read of nothing inside the file and a write that takes
-//! nothing are failures. Once a sync failed, every later call fails, since a kernel may drop what was written and
+//! nothing are failures. Once a sync failed, every later call of the volume fails (`closed`, `lost`), since a kernel may drop what was written and
 //! answer Ok to the next sync. Stands on ts_disk alone.
 #![tactic(auto)]
 

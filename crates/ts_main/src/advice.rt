@@ -5,7 +5,10 @@ use std::fmt::Display;
 pub(crate) fn show(rt: &HostRuntime, text: &str) -> u8 {
     match println!(rt; "{text}") {
         Ok(()) => 0,
-        Err(_) => advise(rt, "ts", 4),
+        Err(_) => {
+            complain(rt, "standard output", "failed");
+            4
+        }
     }
 }
 

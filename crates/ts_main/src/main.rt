@@ -20,8 +20,8 @@ fn main(rt: HostRuntime) -> ExitCode {
         Err(error) => {
             complain(
                 &rt,
-                "ts",
-                format_args!("the command line can't be read: {error}"),
+                "the command line",
+                format_args!("can't be read: {error}"),
             );
             return ExitCode::from(2);
         }

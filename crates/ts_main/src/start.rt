@@ -40,10 +40,10 @@ pub(crate) fn read_words(rt: &HostRuntime) -> io::Result<Vec<String>> {
     Ok(words)
 }
 
-/// Opens the volume that the words name, where they name a job.
+/// Opens the volume that the words name. Only `init` with a right number may make its file.
 pub(crate) fn prepare<'a>(rt: &HostRuntime, words: &'a [String]) -> Start<'a> {
     let [path, words @ ..] = words else {
-        return Start::Ended(advise(rt, "ts", 2));
+        return Start::Ended(advise(rt, "VOLUME", 2));
     };
     let path = path.as_str();
     if path == "--help" {
@@ -52,27 +52,33 @@ pub(crate) fn prepare<'a>(rt: &HostRuntime, words: &'a [String]) -> Start<'a> {
     if path == "--version" {
         return Start::Ended(show(rt, VERSION));
     }
-    let Some(job) = read_job(words) else {
-        return Start::Ended(advise(rt, path, 2));
-    };
-    match open_volume(rt, path, job != Job::Run) {
-        Ok((file, len)) => Start::Opened(Opened {
-            job,
-            path,
-            words,
-            site: FileSite::new(file, len, rt.stdout()),
-        }),
+    let job = read_job(words);
+    match open_volume(rt, path, matches!(job, Some(Job::Init(_)))) {
         Err(error) => {
             complain(rt, path, error);
             Start::Ended(11)
         }
+        Ok((file, len)) => match job {
+            None => Start::Ended(advise(rt, path, 2)),
+            Some(job) => Start::Opened(Opened {
+                job,
+                path,
+                words,
+                site: FileSite::new(file, len, rt.stdout()),
+            }),
+        },
     }
 }
 
 /// Makes a new volume's name last, and says what a status means.
 pub(crate) fn finish(rt: &HostRuntime, job: Job, path: &str, status: u8) -> u8 {
-    if status == 0 && job != Job::Run && sync_folder(rt, path).is_err() {
-        return advise(rt, path, 5);
+    if job == Job::Run {
+        return advise(rt, path, status);
+    }
+    let is_lost = status == 0 && sync_folder(rt, path).is_err();
+    if status == 5 || is_lost {
+        complain(rt, path, "the file failed, so it may be no store; remove it, and run init again");
+        return 5;
     }
     advise(rt, path, status)
 }

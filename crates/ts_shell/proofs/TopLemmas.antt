@@ -15,9 +15,13 @@ use Rattle.ts_shell.specs.Items.{items}
 use Rattle.ts_shell.specs.Answer.{answer, lacks}
 use Rattle.ts_shell.specs.Undisturbed.{Undisturbed}
 use Rattle.ts_shell.specs.Run.{Stands, torn, IsGoodRun, SaysFairly, Ran}
-use Rattle.ts_shell.specs.Top.{OpenedRan, ScriptRan, AllDone, status_of}
+use Rattle.ts_shell.specs.Top.{Untouched, OpenedRan, ScriptRan, AllDone, status_of}
 use Rattle.ts_shell.proofs.RunLemmas.{apart}
 use Rattle.ts_shell.proofs.VolumeLemmas.{rose_on}
+
+-- nothing was done
+pub untouched_now : (v : Device) → Untouched v v
+untouched_now v = record { size = refl; held = refl; no_more = λ image now. now; no_fewer = λ image now. now; clock = refl; syncs = refl; faults = refl; said = refl; say_faults = refl }
 
 -- nothing said is fair, and good where the image means the readings
 pub silent : (old : List Reading) (some : List Item) (v w : Device) → w.said ≡ v.said → SaysFairly some old v w
@@ -91,7 +95,13 @@ unbuffered tells told v i lawful = record {
   too_long = λ eight. absurd (omega arith);
   short = λ s. inr ([], refl, omega arith);
   quiet = λ which. (refl, refl);
+  unread = λ which. refl;
+  untouched = λ seven. untouched_now v;
   statuses = inr (inr (inr (inr (inr (inl refl)))));
+  size = refl;
+  faults = omega arith;
+  say_faults = omega arith;
+  pull_faults = omega arith;
 }
 
 -- a moment in which nothing was done yet
@@ -113,6 +123,7 @@ unpulled tells told old v i j lawful more rose taken = record {
   short = λ s. inr (taken s);
   quiet = λ which. (refl, refl);
   statuses = inr (inl refl);
+  size = refl;
   syncs = λ t. omega arith;
   faults = omega arith;
   say_faults = omega arith;
@@ -131,6 +142,7 @@ overlong tells told old v i j lawful more taken = record {
   short = λ s. inl refl;
   quiet = λ which. (refl, refl);
   statuses = inr (inr (inr (inr refl)));
+  size = refl;
   syncs = λ t. omega arith;
   faults = omega arith;
   say_faults = omega arith;
@@ -158,6 +170,7 @@ module _ (tells told : Bool) (old new : List Reading) (v w : Device) (i j : Inpu
     short = λ s. inr (whole s);
     quiet = λ which. absurd (⊎_elim (λ (e : 0 ≡ 3). omega arith) (λ (e : 0 ≡ 8). omega arith) which);
     statuses = inl refl;
+    size = run.kept.size;
     syncs = run.syncs;
     faults = run.kept.faults;
     say_faults = run.kept.say_faults;
@@ -173,6 +186,7 @@ module _ (tells told : Bool) (old new : List Reading) (v w : Device) (i j : Inpu
     short = λ s. inr (whole s);
     quiet = λ which. absurd (⊎_elim (λ (e : 5 ≡ 3). omega arith) (λ (e : 5 ≡ 8). omega arith) which);
     statuses = inr (inr (inr (inl refl)));
+    size = run.kept.size;
     syncs = run.syncs;
     faults = run.kept.faults;
     say_faults = run.kept.say_faults;
@@ -188,6 +202,7 @@ module _ (tells told : Bool) (old new : List Reading) (v w : Device) (i j : Inpu
     short = λ s. inr (whole s);
     quiet = λ which. absurd (⊎_elim (λ (e : 4 ≡ 3). omega arith) (λ (e : 4 ≡ 8). omega arith) which);
     statuses = inr (inr (inl refl));
+    size = run.kept.size;
     syncs = run.syncs;
     faults = run.kept.faults;
     say_faults = run.kept.say_faults;
@@ -195,7 +210,7 @@ module _ (tells told : Bool) (old new : List Reading) (v w : Device) (i j : Inpu
   }
 
 -- the opening failed, or the volume means nothing
-module _ (tells told : Bool) (v w : Device) (i : Input) (said : w.said ≡ v.said) (held : w.held ≡ v.held) (first : (old : List Reading) → IsTrue tells → Means v.held old → FirstSync v w (IsGoodRun old (items []) v.said)) where
+module _ (tells told : Bool) (v w : Device) (i : Input) (said : w.said ≡ v.said) (held : w.held ≡ v.held) (size : w.size ≡ v.size) (faults : v.faults ≤ w.faults) (say_faults : w.say_faults ≡ v.say_faults) (first : (old : List Reading) → IsTrue tells → Means v.held old → FirstSync v w (IsGoodRun old (items []) v.said)) where
   pub unopened : Rose v.faults w.faults → ScriptRan tells told 5 v w i i
   unopened rose = record {
     fair = λ t s old means. ([], refl, silent old (items []) v w said, first old t means);
@@ -208,7 +223,13 @@ module _ (tells told : Bool) (v w : Device) (i : Input) (said : w.said ≡ v.sai
     too_long = λ eight. absurd (omega arith);
     short = λ s. inr ([], refl, omega arith);
     quiet = λ which. (said, held);
+    unread = λ which. refl;
+    untouched = λ seven. absurd (omega arith);
     statuses = inr (inr (inr (inl refl)));
+    size = size;
+    faults = faults;
+    say_faults = omega (arith, say_faults);
+    pull_faults = omega arith;
   }
 
   pub meaningless : (IsTrue tells → (old : List Reading) → Means v.held old → ⊥) → ScriptRan tells told 6 v w i i
@@ -223,7 +244,13 @@ module _ (tells told : Bool) (v w : Device) (i : Input) (said : w.said ≡ v.sai
     too_long = λ eight. absurd (omega arith);
     short = λ s. inr ([], refl, omega arith);
     quiet = λ which. (said, held);
+    unread = λ which. refl;
+    untouched = λ seven. absurd (omega arith);
     statuses = inr (inr (inr (inr (inl refl))));
+    size = size;
+    faults = faults;
+    say_faults = omega (arith, say_faults);
+    pull_faults = omega arith;
   }
 
 -- after the opening
@@ -285,7 +312,13 @@ module _ {E : Type 0} (tells told : Bool) (v x y w : Device) (i j : Input) (stat
     too_long = run.too_long;
     short = run.short;
     quiet = λ which. quiet_of which;
+    unread = λ which. absurd (⊎_elim (λ six. not_six six run.statuses) (λ seven. not_seven seven run.statuses) which);
+    untouched = λ seven. absurd (not_seven seven run.statuses);
     statuses = all_of run.statuses;
+    size = run.size ∙ reads.size ∙ sync.size;
+    faults = omega (arith, sync.call.faults, reads.faults, run.faults);
+    say_faults = omega (arith, sync.call.say_faults, reads.say_faults, run.say_faults);
+    pull_faults = run.pull_faults;
   } where
     not_six : status ≡ 6 → (status ≡ 0) ⊎ ((status ≡ 3) ⊎ ((status ≡ 4) ⊎ ((status ≡ 5) ⊎ (status ≡ 8)))) → ⊥
     not_six six (inl e) = absurd (omega arith)

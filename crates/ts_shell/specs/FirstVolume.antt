@@ -45,6 +45,10 @@ abbrev pub with_definitions : List ℕ → List ℕ
 with_definitions bytes =
     overwritten (4096 * 834) series_front (overwritten (4096 * 833) container_front (overwritten (4096 * 257) row_type_front bytes))
 
+-- all bytes of an empty volume
+unfoldable pub first_bytes : ℕ → List ℕ
+first_bytes pages = overwritten 0 (header_front pages) (with_definitions (replicate (4096 * (930 + pages)) 0))
+
 -- a volume of 930 pages and 1 to 65536 element pages, of which the first is the series' page
 pub record Means (bytes : List ℕ) (readings : List Reading) : Type 0 where
   pub pages : ℕ

@@ -1,24 +1,36 @@
 -- What the top call does, by its words.
 use Rattle.std.specs.Prelude.{◌≡◌, ◌⊎◌, ℕ, ◌+◌, ◌*◌, ◌<◌, ◌≤◌, Bool, IsTrue, List, [], ◌++◌, length, Result, Ok, Err}
-use Rattle.ts_disk.specs.Device.{Device, Only, Rose, FirstSync, LeavesOnly}
+use Rattle.ts_disk.specs.Device.{Device, Within, Only, Rose, FirstSync, LeavesOnly}
 use Rattle.ts_disk.specs.Input.{Input}
 use Rattle.ts_replies.specs.Acknowledged.{AllAnswered}
 use Rattle.ts_shell.specs.declared.reading.Reading.{Reading}
 use Rattle.ts_shell.specs.declared.fault.RunFault.{RunFault}
 use Rattle.ts_shell.specs.declared.fault.RunFault.TheVariants.{Disk, Output}
-use Rattle.ts_shell.specs.FirstVolume.{Means}
+use Rattle.ts_shell.specs.FirstVolume.{Means, first_bytes}
 use Rattle.ts_shell.specs.Answer.{answer, lacks}
 use Rattle.ts_shell.specs.Items.{items}
 use Rattle.ts_shell.specs.Run.{Stands, IsGoodRun, SaysFairly}
 
+-- no call was made that does anything
+pub record Untouched (v w : Device) : Type 0 where
+  pub size : w.size ≡ v.size
+  pub held : w.held ≡ v.held
+  pub no_more : Within v.images w.images
+  pub no_fewer : Within w.images v.images
+  pub clock : w.clock ≡ v.clock
+  pub syncs : w.syncs ≡ v.syncs
+  pub faults : w.faults ≡ v.faults
+  pub said : w.said ≡ v.said
+  pub say_faults : w.say_faults ≡ v.say_faults
+
 -- What `init` with a number of pages does.
 pub record Made (tells : Bool) (pages status : ℕ) (v w : Device) : Type 0 where
-  -- at 0 the only image is an empty store of that length
-  pub done : status ≡ 0 → (w.size ≡ 4096 * (930 + pages)) × Only w.held w.images × (IsTrue tells → Means w.held [])
+  -- at 0 the only image is an empty store of that length, byte for byte
+  pub done : status ≡ 0 → (w.size ≡ 4096 * (930 + pages)) × Only w.held w.images × (IsTrue tells → (w.held ≡ first_bytes pages) × Means w.held [])
   -- 10 comes exactly where the volume isn't empty, and then nothing is done
   pub there : status ≡ 10 → 0 < v.size
   pub refused : 0 < v.size → status ≡ 10
-  pub kept : status ≡ 10 → (w.held ≡ v.held) × (w.size ≡ v.size)
+  pub kept : status ≡ 10 → Untouched v w
   pub disk : status ≡ 5 → Rose v.faults w.faults
   -- nothing is said
   pub said : w.said ≡ v.said
@@ -51,6 +63,7 @@ pub record OpenedRan (tells told : Bool) (old : List Reading) (status : ℕ) (v 
   pub short : IsTrue told → (status ≡ 8) ⊎ ((taken : List ℕ) × (i.left ≡ taken ++ j.left) × (length taken ≤ 65536))
   pub quiet : (status ≡ 3) ⊎ (status ≡ 8) → (w.said ≡ v.said) × (w.held ≡ v.held)
   pub statuses : (status ≡ 0) ⊎ ((status ≡ 3) ⊎ ((status ≡ 4) ⊎ ((status ≡ 5) ⊎ (status ≡ 8))))
+  pub size : w.size ≡ v.size
   pub syncs : IsTrue tells → v.syncs ≤ w.syncs
   pub faults : v.faults ≤ w.faults
   pub say_faults : v.say_faults ≤ w.say_faults
@@ -74,4 +87,12 @@ pub record ScriptRan (tells told : Bool) (status : ℕ) (v w : Device) (i j : In
   pub short : IsTrue told → (status ≡ 8) ⊎ ((taken : List ℕ) × (i.left ≡ taken ++ j.left) × (length taken ≤ 65536))
   -- at 3, 6, 7 and 8 nothing was carried out and nothing said
   pub quiet : (status ≡ 3) ⊎ ((status ≡ 6) ⊎ ((status ≡ 7) ⊎ (status ≡ 8))) → (w.said ≡ v.said) × (w.held ≡ v.held)
+  -- at 6 and 7 the script wasn't read, and at 7 the volume neither
+  pub unread : (status ≡ 6) ⊎ (status ≡ 7) → j ≡ i
+  pub untouched : status ≡ 7 → Untouched v w
   pub statuses : (status ≡ 0) ⊎ ((status ≡ 3) ⊎ ((status ≡ 4) ⊎ ((status ≡ 5) ⊎ ((status ≡ 6) ⊎ ((status ≡ 7) ⊎ (status ≡ 8))))))
+  -- the length stays, and no fault is forgotten
+  pub size : w.size ≡ v.size
+  pub faults : v.faults ≤ w.faults
+  pub say_faults : v.say_faults ≤ w.say_faults
+  pub pull_faults : i.pull_faults ≤ j.pull_faults

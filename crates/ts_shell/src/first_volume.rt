@@ -2,7 +2,7 @@
 ghost use Rattle.std.specs.Prelude.{◌≡◌, ◌≢◌, ◌+◌, ◌*◌, ◌≤◌, ◌↔◌, [], ℕ, List, length, replicate, vec_capacity, IsTrue, IsErr, OnOk, IfOk, IfSome, IfNone};
 ghost use Rattle.ts_disk.specs.Device.{Only, Rose, overwritten};
 ghost use Rattle.ts_shell.specs.declared.reading.Reading.{Reading};
-ghost use Rattle.ts_shell.specs.FirstVolume.{Means, HasFixedPages, with_definitions, header_front, row_type_front, container_front, series_front, page_with, page_at};
+ghost use Rattle.ts_shell.specs.FirstVolume.{Means, HasFixedPages, first_bytes, with_definitions, header_front, row_type_front, container_front, series_front, page_with, page_at};
 ghost use Rattle.ts_shell.specs.Undisturbed.{Undisturbed, Quiet};
 
 use crate::reading::Reading;
@@ -21,6 +21,7 @@ pub(crate) fn make<S: Site>(site: &mut S, pages: u32) -> Result<(), Failed>
     requires some { 1 ≤ pages }
     requires limit { pages ≤ 65536 }
     ensures ok { OnOk result (IsTrue S.tells → Means (S.device site.new).held []) }
+    ensures bytes { OnOk result (IsTrue S.tells → (S.device site.new).held ≡ first_bytes pages) }
     ensures size { OnOk result ((S.device site.new).size ≡ 4096 * (930 + pages)) }
     ensures durable { OnOk result (Only (S.device site.new).held (S.device site.new).images) }
     ensures quiet { Quiet (S.device site.old) (S.device site.new) }

@@ -1,7 +1,7 @@
 // The top call: what the program does, by its words.
-ghost use Rattle.std.specs.Prelude.{◌≡◌, ◌≤◌, ◌↔◌, ◌*◌, ℕ, [], None, Some, IfOk, IsTrue, length, map, replicate, string_bytes, vec_capacity, vec_len};
+ghost use Rattle.std.specs.Prelude.{◌≡◌, ◌≢◌, ◌≤◌, ◌↔◌, ◌*◌, ℕ, [], None, Some, IfOk, IsTrue, length, map, replicate, string_bytes, vec_capacity, vec_len};
 ghost use Rattle.ts_shell.specs.Words.{job_of};
-ghost use Rattle.ts_shell.specs.Top.{Made, ScriptRan, OpenedRan, status_of};
+ghost use Rattle.ts_shell.specs.Top.{Made, Untouched, ScriptRan, OpenedRan, status_of};
 ghost use Rattle.ts_shell.specs.declared.words.Job.TheVariants.{Init, Run};
 
 use crate::fault::RunFault;
@@ -27,7 +27,9 @@ pub fn run_ts<S: Site, R: Source>(
 ) -> u8
     // Status 2 comes exactly where the words are none of the forms, and then nothing is done.
     ensures usage { (result ≡ 2) ↔ (job_of (map (λ w. string_bytes w) words.now) ≡ None) }
-    ensures refused { result ≡ 2 → (S.device site.new).held ≡ (S.device site.old).held }
+    ensures refused { result ≡ 2 → Untouched (S.device site.old) (S.device site.new) }
+    // Only `run` reads the script.
+    ensures no_pull { job_of (map (λ w. string_bytes w) words.now) ≢ Some Run → R.input source.new ≡ R.input source.old }
     ensures init { (pages : ℕ) → job_of (map (λ w. string_bytes w) words.now) ≡ Some (Init pages) → Made S.tells pages result (S.device site.old) (S.device site.new) }
     ensures run { job_of (map (λ w. string_bytes w) words.now) ≡ Some Run → ScriptRan S.tells R.tells result (S.device site.old) (S.device site.new) (R.input source.old) (R.input source.new) }
 {

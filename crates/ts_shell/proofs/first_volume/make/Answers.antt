@@ -1,12 +1,13 @@
 use Rattle.std.proofs.Common.{◌≡◌, ℕ, ◌+◌, ◌-◌, ◌*◌, List, [], ◌∷◌, ◌++◌, length, replicate, refl, sym, ◌∙◌, ap, arith}
 use Rattle.ts_disk.specs.Device.{overwritten}
-use Rattle.ts_shell.specs.FirstVolume.{with_definitions}
+use Rattle.ts_shell.specs.FirstVolume.{with_definitions, first_bytes}
 use Rattle.ts_shell.specs.Undisturbed.{quiet_then, quiet_call}
 use Rattle.ts_shell.proofs.VolumeLemmas.{rose_on, made}
 use Rattle.ts_shell.proofs.first_volume.make.Goals as goal
 
-pub returns-clause-ok : goal.returns-clause-ok
-returns-clause-ok g c = λ told.
+pub returns-clause-bytes : goal.returns-clause-bytes
+unfolding first_bytes
+returns-clause-bytes g c = λ told.
     let v = g.S.Volume.device c.args.site.now in
     let pages = c.args.pages in
     let size : ℕ = 4096 * (930 + pages) in
@@ -14,13 +15,16 @@ returns-clause-ok g c = λ told.
     let nothing : (l : List ℕ) → length l ≡ 0 → l ≡ [] = λ l e. is_empty l e in
     let grown = c.in_ok-resize.ensures.grown told in
     let zeros = grown ∙ (λ j. nothing v.held none j ++ replicate {A = ℕ} (size - c.requires.empty j) 0) ∙ ap (λ (k : ℕ). replicate {A = ℕ} k 0) (let e : size - 0 ≡ size = omega arith in e) in
-    made pages size (g.S.Volume.device c.sync-2.new.self).held c.requires.some c.requires.limit refl
-    (c.sync-2.ensures.held ∙ c.in_ok-write_front.ensures.written told
-    ∙ (λ j. overwritten (4096 * 0) (c.header.ensures j) ((c.in_ok-write_definitions.ensures.written told ∙ ap with_definitions (c.sync.ensures.held ∙ zeros)) j)))
+    c.sync-2.ensures.held ∙ c.in_ok-write_front.ensures.written told
+    ∙ (λ j. overwritten (4096 * 0) (c.header.ensures j) ((c.in_ok-write_definitions.ensures.written told ∙ ap with_definitions (c.sync.ensures.held ∙ zeros)) j))
   where
     is_empty : (l : List ℕ) → length l ≡ 0 → l ≡ []
     is_empty [] e = refl
     is_empty (x ∷ l) e = absurd (omega arith)
+
+pub returns-clause-ok : goal.returns-clause-ok
+unfolding first_bytes
+returns-clause-ok g c = λ told. made c.args.pages (4096 * (930 + c.args.pages)) (g.S.Volume.device c.sync-2.new.self).held c.requires.some c.requires.limit refl (returns-clause-bytes g c told)
 
 pub returns-clause-size : goal.returns-clause-size
 returns-clause-size g c = c.sync-2.ensures.size ∙ c.write_front.ensures.size ∙ c.write_definitions.ensures.size ∙ c.sync.ensures.size ∙ c.in_ok-resize.ensures.size

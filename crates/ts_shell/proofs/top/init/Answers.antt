@@ -1,4 +1,5 @@
 use Rattle.std.proofs.Common.{inl, inr, refl, arith}
+use Rattle.ts_shell.proofs.TopLemmas.{untouched_now}
 use Rattle.ts_shell.proofs.top.init.Goals as goal
 
 pub returns-then-len-ne0 : goal.returns-then-len-ne0
@@ -7,7 +8,7 @@ returns-then-len-ne0 g c = record {
     done = λ zero. absurd (omega arith);
     there = λ ten. omega (arith, c.len.ensures);
     refused = λ some. refl;
-    kept = λ ten. (refl, refl);
+    kept = λ ten. untouched_now (g.S.Volume.device c.args.site.now);
     disk = λ five. absurd (omega arith);
     said = refl;
     statuses = inr (inr refl);
@@ -17,7 +18,7 @@ returns-then-len-ne0 g c = record {
 pub returns-in-Ok : goal.returns-in-Ok
 returns-in-Ok g c = record {
   made = record {
-    done = λ zero. (c.in-Ok.ensures.size, c.in-Ok.ensures.durable, c.in-Ok.ensures.ok);
+    done = λ zero. (c.in-Ok.ensures.size, c.in-Ok.ensures.durable, λ t. (c.in-Ok.ensures.bytes t, c.in-Ok.ensures.ok t));
     there = λ ten. absurd (omega arith);
     refused = λ some. absurd (omega (arith, c.len.ensures));
     kept = λ ten. absurd (omega arith);

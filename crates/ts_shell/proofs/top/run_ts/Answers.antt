@@ -4,6 +4,7 @@ use Rattle.ts_shell.specs.declared.words.Job.{Job}
 use Rattle.ts_shell.specs.declared.words.Job.TheVariants.{Init, Run}
 use Rattle.ts_shell.specs.Words.{IsJob}
 use Rattle.ts_shell.specs.Top.{Made}
+use Rattle.ts_shell.proofs.TopLemmas.{untouched_now}
 use Rattle.ts_shell.proofs.top.run_ts.Goals as goal
 
 -- two jobs are told apart
@@ -54,7 +55,7 @@ pub returns-in-None-clause-usage : goal.returns-in-None-clause-usage
 returns-in-None-clause-usage g c = (λ two. sym c.read_job.ensures.job ∙ c.in-None.is, λ none. refl)
 
 pub returns-in-None-clause-refused : goal.returns-in-None-clause-refused
-returns-in-None-clause-refused g c = λ two. refl
+returns-in-None-clause-refused g c = λ two. untouched_now (g.S.Volume.device c.args.site.now)
 
 pub returns-in-None-clause-init : goal.returns-in-None-clause-init
 returns-in-None-clause-init g c = λ pages e. absurd (init_is_none pages (sym e ∙ sym c.read_job.ensures.job ∙ c.in-None.is))
@@ -103,3 +104,14 @@ returns-in-Some-Run-clause-init g c = λ pages e.
 
 pub returns-in-Some-Run-clause-run : goal.returns-in-Some-Run-clause-run
 returns-in-Some-Run-clause-run g c = λ e. c.run.ensures.ran
+
+pub returns-in-None-clause-no_pull : goal.returns-in-None-clause-no_pull
+returns-in-None-clause-no_pull g c = λ no. refl
+
+pub returns-in-Some-Init-clause-no_pull : goal.returns-in-Some-Init-clause-no_pull
+returns-in-Some-Init-clause-no_pull g c = λ no. refl
+
+pub returns-in-Some-Run-clause-no_pull : goal.returns-in-Some-Run-clause-no_pull
+returns-in-Some-Run-clause-no_pull g c = λ no.
+    let is : ◌≡◌ {A = Option Job} c.read_job.result (Some Run) = c.in-Some-Run.is ∙ ap Some c.in-Some-Run.field-0-is in
+    absurd (no (sym c.read_job.ensures.job ∙ is))

@@ -1,4 +1,4 @@
-use Rattle.std.proofs.Common.{ℕ, List, [], sym, refl, ◌∙◌, subst}
+use Rattle.std.proofs.Common.{ℕ, List, [], sym, refl, ◌∙◌, subst, arith}
 use Rattle.ts_shell.specs.FirstVolume.{Means}
 use Rattle.ts_shell.specs.Items.{items}
 use Rattle.ts_shell.specs.Run.{IsGoodRun}
@@ -14,7 +14,7 @@ returns-in-Err g c =
     let v = g.S.Volume.device c.args.site.now in
     let x = g.S.Volume.device c.sync.new.self in
     record {
-      ran = unopened tells told v x (g.R.Source.input c.args.source.now) c.sync.ensures.call.said c.sync.ensures.held
+      ran = unopened tells told v x (g.R.Source.input c.args.source.now) c.sync.ensures.call.said c.sync.ensures.held c.sync.ensures.size c.sync.ensures.call.faults c.sync.ensures.call.say_faults
           (λ old t means. sync_fails tells c.in-Err.field-0 v x (IsGoodRun old (items []) v.said) (g.met.S.Volume.lawful c.args.site.now) c.in-Err.ensures)
           (c.in-Err.ensures.call.cause refl);
     }
@@ -30,7 +30,7 @@ returns-in-Err-read_volume g c =
     let later = g.met.S.Volume.lawful c.sync.new.self in
     let reads = c.read_volume.ensures.undisturbed in
     record {
-      ran = unopened tells told v y (g.R.Source.input c.args.source.now) (reads.said ∙ c.sync.ensures.call.said) (reads.held ∙ c.sync.ensures.held)
+      ran = unopened tells told v y (g.R.Source.input c.args.source.now) (reads.said ∙ c.sync.ensures.call.said) (reads.held ∙ c.sync.ensures.held) (reads.size ∙ c.sync.ensures.size) (omega (arith, c.sync.ensures.call.faults, reads.faults)) (reads.say_faults ∙ c.sync.ensures.call.say_faults)
           (λ old t means. read_first tells t v x y old (items []) lawful later c.in-Ok.ensures reads means)
           (rose_on v.faults x.faults y.faults c.sync.ensures.call.faults (c.in-Err-read_volume.ensures.cause refl));
     }
@@ -46,7 +46,7 @@ returns-in-Ok-false g c =
     let later = g.met.S.Volume.lawful c.sync.new.self in
     let reads = c.read_volume.ensures.undisturbed in
     record {
-      ran = meaningless tells told v y (g.R.Source.input c.args.source.now) (reads.said ∙ c.sync.ensures.call.said) (reads.held ∙ c.sync.ensures.held)
+      ran = meaningless tells told v y (g.R.Source.input c.args.source.now) (reads.said ∙ c.sync.ensures.call.said) (reads.held ∙ c.sync.ensures.held) (reads.size ∙ c.sync.ensures.size) (omega (arith, c.sync.ensures.call.faults, reads.faults)) (reads.say_faults ∙ c.sync.ensures.call.say_faults)
           (λ old t means. read_first tells t v x y old (items []) lawful later c.in-Ok.ensures reads means)
           (λ t old means.
           let P : List ℕ → Type 0 = λ l. Means l old in

@@ -1,0 +1,5 @@
+pub mod Plan
+pub mod Intervals
+pub mod Line
+pub mod First
+pub mod Calendar

@@ -1,0 +1,13 @@
+pub mod FeedLemmas
+pub mod ItemLemmas
+pub mod PartsLemmas
+pub mod TokenLemmas
+pub mod NumberLemmas
+pub mod TextLemmas
+pub mod TokenLengths
+pub mod PhraseLemmas
+pub mod FormLemmas
+pub mod TextFormLemmas
+pub mod PlaceLemmas
+pub mod WordLemmas
+pub mod RunLemmas

@@ -1,0 +1,163 @@
+-- How long tokens are, and how many digits a number has.
+use Rattle.std.proofs.Common.{◌≡◌, ℕ, suc, ◌+◌, ◌-◌, ◌<◌, ◌≤◌, ◌==◌, ◌||◌, Bool, false, cond, List, [], ◌∷◌, ◌++◌, length, take, drop, Option, Some, None, ◌∙◌, ap, arith, inl, inr}
+use Rattle.std.proofs.Math.Seq.{take-add}
+use Rattle.std.proofs.lemmas.Bool.{cases_Bool, cases_eq}
+use Rattle.std.proofs.lemmas.Bool.Decides.{nat_tests}
+use Rattle.std.proofs.lemmas.List.{length-take}
+use Rattle.std.proofs.lemmas.List.Sums.{count_by-le-length, sum_by-append}
+use Rattle.std.specs.List.{prefix_len}
+use Rattle.std.specs.Char.{is_ascii_digit}
+use Rattle.ts_base.specs.Name.{begins_word, continues_word}
+use Rattle.ts_command.specs.Tokens.{digits_in_front, with_point, fraction_length, magnitude_length, number_length, signed_length, closing, later, of_kind, front}
+use Rattle.ts_command.specs.Number.{digit_count}
+use Rattle.ts_command.specs.declared.token.TokenKind.{TokenKind}
+use Rattle.ts_command.specs.declared.token.TokenKind.TheVariants.{Word, Number, Text, Sign}
+
+pub prefix_len-le : (p : ℕ → Bool) (s : List ℕ) → prefix_len p s ≤ length s
+prefix_len-le p [] = omega arith
+prefix_len-le p (b ∷ s) = elim (cases_Bool (p b)) [
+  | inl t ↦ rw t (omega (arith, prefix_len-le p s))
+  | inr f ↦ rw f (omega arith)
+]
+
+digits_in_front-le : (room : ℕ) (s : List ℕ) → digits_in_front room s ≤ room
+digits_in_front-le room s = omega (arith, prefix_len-le is_ascii_digit (take room s), length-take room s)
+
+digit_count-take : (n : ℕ) (s : List ℕ) → digit_count (take n s) ≤ n
+digit_count-take n s = omega (arith, count_by-le-length is_ascii_digit (take n s), length-take n s)
+
+digit_count-append : (a b : List ℕ) → digit_count (a ++ b) ≡ digit_count a + digit_count b
+digit_count-append a b = sum_by-append (λ (x : ℕ). cond (is_ascii_digit x) 1 0) a b
+
+-- a point is no digit
+digit_count-point : (n : ℕ) (s : List ℕ) → digit_count (take (1 + n) (46 ∷ s)) ≡ digit_count (take n s)
+digit_count-point n s = let next : 1 + n ≡ suc n = omega arith in rw next (omega arith)
+
+-- so many digits behind a point
+fraction_digits : (room : ℕ) (s : List ℕ) → (digit_count (take (fraction_length room s) s) ≤ room) × (fraction_length room s ≤ room + 1)
+unfolding fraction_length
+fraction_digits room [] = (omega arith, omega arith)
+fraction_digits room (b ∷ s) = elim (cases_eq b 46) [
+  | inl is ↦ rw is (by_count (digits_in_front room s) (digits_in_front-le room s))
+  | inr other ↦ let differs : (b == 46) ≡ false = grind (arith, nat_tests) in rw differs (omega arith, omega arith)
+] where
+  by_count : (n : ℕ) → n ≤ room → (digit_count (take (with_point n) (46 ∷ s)) ≤ room) × (with_point n ≤ room + 1)
+  by_count n le = elim (cases_eq n 0) [
+    | inl none ↦ rw none (omega arith, omega arith)
+    | inr some ↦ let differs : (n == 0) ≡ false = grind (arith, nat_tests) in rw differs (omega (arith, digit_count-point n s, digit_count-take n s), omega arith)
+  ]
+
+magnitude_digits : (s : List ℕ) → (digit_count (take (magnitude_length s) s) ≤ 38) × (magnitude_length s ≤ 39)
+unfolding magnitude_length
+magnitude_digits s = elim (cases_eq (digits_in_front 38 s) 0) [
+  | inl none ↦ rw none (omega arith, omega arith)
+  | inr some ↦
+      let w : ℕ = digits_in_front 38 s in
+      let differs : (w == 0) ≡ false = grind (arith, nat_tests) in
+      let most : w ≤ 38 = digits_in_front-le 38 s in
+      let rest = fraction_digits (38 - w) (drop w s) in
+      let f : ℕ = fraction_length (38 - w) (drop w s) in
+      let split = ap digit_count (take-add w f s) ∙ digit_count-append (take w s) (take f (drop w s)) in
+      rw differs (omega (arith, split, digit_count-take w s, rest), omega (arith, rest))
+]
+
+-- a number has at most 38 digits, and at most 40 bytes
+number_digits : (s : List ℕ) (n : ℕ) → number_length s ≡ Some n → (digit_count (take n s) ≤ 38) × (n ≤ 40)
+unfolding number_length
+number_digits [] n e = absurd (cc)
+number_digits (b ∷ s) n e = elim (cases_eq b 45) [
+  | inl is ↦ signed (magnitude_length s) (magnitude_digits s) (rw is at e) is
+  | inr other ↦ let differs : (b == 45) ≡ false = grind (arith, nat_tests) in unsigned (magnitude_length (b ∷ s)) (magnitude_digits (b ∷ s)) (rw differs at e)
+] where
+  signed : (m : ℕ) → (digit_count (take m s) ≤ 38) × (m ≤ 39) → signed_length 1 m ≡ Some n → b ≡ 45 → (digit_count (take n (b ∷ s)) ≤ 38) × (n ≤ 40)
+  signed m most is sign = elim (cases_eq m 0) [
+    | inl none ↦ absurd (let no = rw none at is in cc)
+    | inr some ↦
+        let differs : (m == 0) ≡ false = grind (arith, nat_tests) in
+        let size = rw differs at is in
+        let same : 1 + m ≡ n = cc in
+        let next : 1 + m ≡ suc m = omega arith in
+        rw (← same, sign, next) (omega (arith, most.0), omega (arith, most.1))
+  ]
+
+  unsigned : (m : ℕ) → (digit_count (take m (b ∷ s)) ≤ 38) × (m ≤ 39) → signed_length 0 m ≡ Some n → (digit_count (take n (b ∷ s)) ≤ 38) × (n ≤ 40)
+  unsigned m most is = elim (cases_eq m 0) [
+    | inl none ↦ absurd (let no = rw none at is in cc)
+    | inr some ↦
+        let differs : (m == 0) ≡ false = grind (arith, nat_tests) in
+        let size = rw differs at is in
+        let same : 0 + m ≡ n = cc in
+        let is_m : m ≡ n = omega (arith, same) in
+        rw (← is_m) (most.0, omega (arith, most.1))
+  ]
+
+-- a token's kind and length
+pub token_is : (kind found : TokenKind) (m n : ℕ) → ◌≡◌ {A = Option (TokenKind × ℕ)} (Some (kind, m)) (Some (found, n)) → (kind ≡ found) × (m ≡ n)
+token_is kind found m n is =
+    let one : TokenKind × ℕ = (kind, m) in
+    let other : TokenKind × ℕ = (found, n) in
+    let pair : one ≡ other = cc in
+    (ap (λ (p : TokenKind × ℕ). p.0) pair, ap (λ (p : TokenKind × ℕ). p.1) pair)
+
+pub of_kind_is : (kind found : TokenKind) (size : Option ℕ) (n : ℕ) → of_kind kind size ≡ Some (found, n) → (kind ≡ found) × (size ≡ Some n)
+of_kind_is kind found None n is = absurd (cc)
+of_kind_is kind found (Some m) n is = let same = token_is kind found m n is in (same.0, ap Some same.1)
+
+-- the number in front
+front_number : (s : List ℕ) (n : ℕ) → front s ≡ Some (Number, n) → number_length s ≡ Some n
+unfolding front
+front_number [] n is = absurd (cc)
+front_number (b ∷ s) n is = elim (cases_Bool (begins_word b)) [
+  | inl t ↦ let no = (token_is Word Number (1 + prefix_len continues_word s) n (rw t at is)).0 in absurd (cc)
+  | inr f1 ↦ elim (cases_Bool (b == 39)) [
+    | inl t ↦ let no = (of_kind_is Text Number (later 1 (closing s)) n (rw (f1, t) at is)).0 in absurd (cc)
+    | inr f2 ↦ elim (cases_Bool (b == 40 || b == 41 || b == 44)) [
+      | inl t ↦ let no = (token_is Sign Number 1 n (rw (f1, f2, t) at is)).0 in absurd (cc)
+      | inr f3 ↦ (of_kind_is Number Number (number_length (b ∷ s)) n (rw (f1, f2, f3) at is)).1
+    ]
+  ]
+]
+
+-- a number token has at most 38 digits, and at most 40 bytes
+pub number_token : (s token : List ℕ) (kind : TokenKind) (n : ℕ) → front s ≡ Some (kind, n) → kind ≡ Number → token ≡ take n s → (digit_count token ≤ 38) × (length token ≤ 40)
+number_token s token kind n is number bytes =
+    let most = number_digits s n (front_number s n (rw number at is)) in
+    rw bytes (most.0, omega (arith, most.1, length-take n s))
+
+-- so many bytes later
+later_past : (i : ℕ) (end : Option ℕ) (n : ℕ) → later i end ≡ Some n → i ≤ n
+later_past i None n is = absurd (cc)
+later_past i (Some end) n is = let same : i + end ≡ n = cc in omega arith
+
+signed_some : (sign m n : ℕ) → signed_length sign m ≡ Some n → 0 < n
+signed_some sign m n is = elim (cases_eq m 0) [
+  | inl none ↦ absurd (let no = rw none at is in cc)
+  | inr some ↦
+      let differs : (m == 0) ≡ false = grind (arith, nat_tests) in
+      let size = rw differs at is in
+      let same : sign + m ≡ n = cc in
+      omega arith
+]
+
+number_some : (s : List ℕ) (n : ℕ) → number_length s ≡ Some n → 0 < n
+unfolding number_length
+number_some [] n is = absurd (cc)
+number_some (b ∷ s) n is = elim (cases_Bool (b == 45)) [
+  | inl t ↦ signed_some 1 (magnitude_length s) n (rw t at is)
+  | inr f ↦ signed_some 0 (magnitude_length (b ∷ s)) n (rw f at is)
+]
+
+-- a token has a byte
+pub front_some : (s : List ℕ) (kind : TokenKind) (n : ℕ) → front s ≡ Some (kind, n) → 0 < n
+unfolding front
+front_some [] kind n is = absurd (cc)
+front_some (b ∷ s) kind n is = elim (cases_Bool (begins_word b)) [
+  | inl t ↦ let same = (token_is Word kind (1 + prefix_len continues_word s) n (rw t at is)).1 in omega arith
+  | inr f1 ↦ elim (cases_Bool (b == 39)) [
+    | inl t ↦ let past = later_past 1 (closing s) n (of_kind_is Text kind (later 1 (closing s)) n (rw (f1, t) at is)).1 in omega arith
+    | inr f2 ↦ elim (cases_Bool (b == 40 || b == 41 || b == 44)) [
+      | inl t ↦ let same = (token_is Sign kind 1 n (rw (f1, f2, t) at is)).1 in omega arith
+      | inr f3 ↦ number_some (b ∷ s) n (of_kind_is Number kind (number_length (b ∷ s)) n (rw (f1, f2, f3) at is)).1
+    ]
+  ]
+]

@@ -1,0 +1,13 @@
+pub mod Items
+pub mod ItemLaws
+pub mod Parts
+pub mod Reader
+pub mod Tokens
+pub mod Number
+pub mod Text
+pub mod Routines
+pub mod Phrase
+pub mod Grammar
+pub mod Misfit
+pub mod Form
+pub mod TextForm

@@ -1,0 +1,77 @@
+-- How phrases of the grammar are read.
+use Rattle.std.specs.Prelude.{ℕ, zero, suc, ◌==◌, if◌then◌else◌, List, [], ◌∷◌, ◌++◌, length, take, drop, slice_index, Option, Some, None, Result, Ok, Err}
+use Rattle.ts_command.specs.Tokens.{unblanked, front}
+use Rattle.ts_command.specs.declared.token.TokenKind.{TokenKind}
+use Rattle.ts_command.specs.declared.token.TokenKind.TheVariants.{Sign}
+
+-- what a phrase is read as, and the bytes behind it; or how many bytes are left from the first that can't stand there
+abbrev pub Read : Type 0 → Type 0
+Read A = Result (A × List ℕ) ℕ
+
+-- a part of the grammar, as it reads the bytes from its place on
+abbrev pub Phrase : Type 0 → Type 0
+Phrase A = List ℕ → Read A
+
+-- what was read, and then the next phrase
+abbrev pub go_on : {A B : Type 0} → Read A → (A → Phrase B) → Read B
+go_on (Ok found) next = next found.0 found.1
+go_on (Err left) next = Err left
+
+infixl 10 ◌>>=◌
+-- one phrase, and then the next
+abbrev pub ◌>>=◌ : {A B : Type 0} → Phrase A → (A → Phrase B) → Phrase B
+first >>= next = λ bytes. go_on (first bytes) next
+
+-- nothing more is read
+abbrev pub give : {A : Type 0} → A → Phrase A
+give found = λ bytes. Ok (found, bytes)
+
+-- a token of so many bytes, taken as this; or it can't stand here
+abbrev pub taken : {A : Type 0} → List ℕ → ℕ → Option A → Read A
+taken here size None = Err (length here)
+taken here size (Some found) = Ok (found, drop size here)
+
+-- the token that stands here, if one does
+abbrev pub taken_front : {A : Type 0} → (TokenKind → List ℕ → Option A) → List ℕ → Option (TokenKind × ℕ) → Read A
+taken_front accept here None = Err (length here)
+taken_front accept here (Some token) = taken here token.1 (accept token.0 (take token.1 here))
+
+-- behind blanks, a token that may stand there, as what it is taken
+abbrev pub token : {A : Type 0} → (TokenKind → List ℕ → Option A) → Phrase A
+token accept = λ bytes. taken_front accept (unblanked bytes) (front (unblanked bytes))
+
+-- this sign
+abbrev pub sign_in : ℕ → TokenKind → List ℕ → Option (Unit {0})
+sign_in wanted Sign sign = if slice_index sign 0 == wanted then Some tt else None
+sign_in wanted kind token = None
+
+unfoldable pub a_sign : ℕ → Phrase (Unit {0})
+a_sign wanted = token (sign_in wanted)
+
+-- a phrase behind a sign
+abbrev pub behind : {A : Type 0} → ℕ → Phrase A → Phrase A
+behind wanted phrase = do
+  sign ← a_sign wanted
+  phrase
+
+-- a list, if a comma stands here, and else none
+abbrev pub if_comma : {A : Type 0} → Read (Unit {0}) → Phrase (List A) → Phrase (List A)
+if_comma (Ok comma) list = λ bytes. list comma.1
+if_comma (Err left) list = λ bytes. Ok ([], bytes)
+
+-- at most so many phrases, each behind a comma
+abbrev pub phrases : {A : Type 0} → Phrase A → ℕ → Phrase (List A)
+phrases phrase zero = give []
+phrases phrase (suc n) = λ bytes. if_comma (a_sign 44 bytes) (do
+  first ← phrase
+  others ← phrases phrase n
+  give (first ∷ others)) bytes
+
+-- as many phrases as commas stand there
+unfoldable pub repeated : {A : Type 0} → Phrase A → Phrase (List A)
+repeated phrase = λ bytes. phrases phrase (length bytes) bytes
+
+-- what was read, behind a list
+abbrev pub onto : {A : Type 0} → List A → Read (List A) → Read (List A)
+onto front (Ok found) = Ok (front ++ found.0, found.1)
+onto front (Err left) = Err left

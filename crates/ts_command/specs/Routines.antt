@@ -1,0 +1,45 @@
+-- The routines and the types of value columns, by their names.
+use Rattle.std.specs.Prelude.{ℕ, List, [], ◌∷◌, codes, find, Option}
+use Rattle.std.specs.Str.{bytes_eq}
+use Rattle.ts_command.specs.declared.routine.Routine.{Routine}
+use Rattle.ts_command.specs.declared.routine.TypeName.{TypeName}
+use Rattle.ts_command.specs.declared.routine.TypeName.TheVariants.{SmallInt, Integer, BigInt, Decimal, VarChar}
+use Rattle.ts_command.specs.declared.routine.Routine.TheVariants.{CreateRowType, DropRowType, TSContainerCreate, TSContainerDestroy, TSContainerUsage, TSCreateIrr, DropSeries, ListSeries, InsElem, GetElem, GetNelems}
+
+-- the name of a routine
+abbrev pub spelling : Routine → List ℕ
+spelling CreateRowType = codes "CreateRowType"
+spelling DropRowType = codes "DropRowType"
+spelling TSContainerCreate = codes "TSContainerCreate"
+spelling TSContainerDestroy = codes "TSContainerDestroy"
+spelling TSContainerUsage = codes "TSContainerUsage"
+spelling TSCreateIrr = codes "TSCreateIrr"
+spelling DropSeries = codes "DropSeries"
+spelling ListSeries = codes "ListSeries"
+spelling InsElem = codes "InsElem"
+spelling GetElem = codes "GetElem"
+spelling GetNelems = codes "GetNelems"
+
+abbrev pub routines : List Routine
+routines =
+    InsElem ∷ GetElem ∷ GetNelems ∷ CreateRowType ∷ DropRowType ∷ TSContainerCreate ∷ TSContainerDestroy ∷ TSContainerUsage ∷
+    TSCreateIrr ∷ DropSeries ∷ ListSeries ∷ []
+
+-- the routine of this name, if there is one
+unfoldable pub routine_of : List ℕ → Option Routine
+routine_of word = find (λ routine. bytes_eq (spelling routine) word) routines
+
+-- the name of a type
+abbrev pub type_spelling : TypeName → List ℕ
+type_spelling SmallInt = codes "smallint"
+type_spelling Integer = codes "integer"
+type_spelling BigInt = codes "bigint"
+type_spelling Decimal = codes "decimal"
+type_spelling VarChar = codes "varchar"
+
+abbrev pub types : List TypeName
+types = SmallInt ∷ Integer ∷ BigInt ∷ Decimal ∷ VarChar ∷ []
+
+-- the type of this name, if there is one
+unfoldable pub type_of : List ℕ → Option TypeName
+type_of word = find (λ type. bytes_eq (type_spelling type) word) types

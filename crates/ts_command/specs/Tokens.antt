@@ -1,0 +1,73 @@
+-- The tokens of a statement, each the longest that stands there.
+use Rattle.std.specs.Prelude.{ℕ, ◌+◌, ◌-◌, ◌==◌, ◌||◌, if◌then◌else◌, List, [], ◌∷◌, length, take, drop, Option, Some, None}
+use Rattle.std.specs.List.{prefix_len}
+use Rattle.std.specs.Char.{is_ascii_digit}
+use Rattle.ts_base.specs.Name.{begins_word, continues_word, is_text_byte}
+use Rattle.ts_command.specs.Items.{is_blank}
+use Rattle.ts_command.specs.declared.token.TokenKind.{TokenKind}
+use Rattle.ts_command.specs.declared.token.TokenKind.TheVariants.{Word, Number, Text, Sign}
+
+-- the bytes without the blanks in front
+abbrev pub unblanked : List ℕ → List ℕ
+unblanked [] = []
+unblanked (b ∷ bytes) = if is_blank b then unblanked bytes else b ∷ bytes
+
+-- how many digits stand in front, of which at most so many count
+abbrev pub digits_in_front : ℕ → List ℕ → ℕ
+digits_in_front room bytes = prefix_len is_ascii_digit (take room bytes)
+
+-- a point and digits, if there is a digit
+abbrev pub with_point : ℕ → ℕ
+with_point count = if count == 0 then 0 else 1 + count
+
+-- the length of a point and at most so many digits in front, or 0
+unfoldable pub fraction_length : ℕ → List ℕ → ℕ
+fraction_length room [] = 0
+fraction_length room (b ∷ bytes) = if b == 46 then with_point (digits_in_front room bytes) else 0
+
+-- the length of a number in front that has no sign: digits, then nothing or a point and digits, 38 digits in all; or 0
+unfoldable pub magnitude_length : List ℕ → ℕ
+magnitude_length bytes =
+    let whole = digits_in_front 38 bytes in
+    if whole == 0 then 0 else whole + fraction_length (38 - whole) (drop whole bytes)
+
+-- so many bytes behind a sign of so many
+abbrev pub signed_length : ℕ → ℕ → Option ℕ
+signed_length sign length = if length == 0 then None else Some (sign + length)
+
+-- the length of the number in front, if one stands there
+unfoldable pub number_length : List ℕ → Option ℕ
+number_length [] = None
+number_length (b ∷ bytes) = if b == 45 then signed_length 1 (magnitude_length bytes) else signed_length 0 (magnitude_length (b ∷ bytes))
+
+-- an end so many bytes later
+abbrev pub later : ℕ → Option ℕ → Option ℕ
+later n None = None
+later n (Some end) = Some (n + end)
+
+-- the later end, or else the one before
+abbrev pub or_before : Option ℕ → Option ℕ → Option ℕ
+or_before before None = before
+or_before before (Some end) = Some end
+
+-- Behind the quote that opens a text: the end of the longest text. A quote may close it; a doubled one may also go on.
+unfoldable pub closing : List ℕ → Option ℕ
+closing [] = None
+closing (b ∷ []) = if b == 39 then Some 1 else None
+closing (b ∷ c ∷ bytes) =
+    if b == 39 then (if c == 39 then or_before (Some 1) (later 2 (closing bytes)) else Some 1)
+    else (if is_text_byte b then later 1 (closing (c ∷ bytes)) else None)
+
+-- the kind and the length of a token, if it has one
+abbrev pub of_kind : TokenKind → Option ℕ → Option (TokenKind × ℕ)
+of_kind kind None = None
+of_kind kind (Some length) = Some (kind, length)
+
+-- the token that stands in front, if one does: its kind and its length
+unfoldable pub front : List ℕ → Option (TokenKind × ℕ)
+front [] = None
+front (b ∷ bytes) =
+    if begins_word b then Some (Word, 1 + prefix_len continues_word bytes)
+    else (if b == 39 then of_kind Text (later 1 (closing bytes))
+    else (if b == 40 || b == 41 || b == 44 then Some (Sign, 1)
+    else of_kind Number (number_length (b ∷ bytes))))

@@ -1,0 +1,130 @@
+ghost use Rattle.std.specs.Prelude.{◌≡◌, [], ◌∷◌, ◌++◌, OnOk, OnErr};
+
+use std::alloc::{AllocError, Global};
+use std::marker::Model;
+use ts_base::{Key, Name, Stamp};
+use ts_row::{Column, Literal};
+
+/// What a statement asks for: a routine and its arguments, in their order.
+#[derive(Debug, Drop)]
+pub enum Command {
+    CreateRowType {
+        name: Name,
+        stamp: Name,
+        columns: Columns,
+    },
+    DropRowType {
+        name: Name,
+    },
+    TSContainerCreate {
+        name: Name,
+        row_type: Name,
+        quota: i64,
+    },
+    TSContainerDestroy {
+        name: Name,
+    },
+    TSContainerUsage {
+        name: Name,
+    },
+    TSCreateIrr {
+        key: Key,
+        container: Name,
+    },
+    DropSeries {
+        key: Key,
+    },
+    ListSeries {
+        container: Name,
+    },
+    InsElem {
+        key: Key,
+        stamp: Stamp,
+        values: Literals,
+    },
+    GetElem {
+        key: Key,
+        stamp: Stamp,
+    },
+    GetNelems {
+        key: Key,
+    },
+}
+
+/// The values that a statement gives, as it writes them.
+#[derive(Debug, Drop)]
+pub struct Literals {
+    items: Vec<Literal>,
+}
+
+impl Model for Literals {
+    ghost use Rattle.std.specs.Prelude.{List};
+    ghost use Rattle.ts_row.specs.declared.value.Literal.{Literal};
+
+    ghost Value = { List Literal };
+
+    ghost view = { λ l. l.items.items };
+}
+
+impl Literals {
+    pub(crate) fn new(alloc: Global) -> Literals
+        ensures { result ≡ [] }
+    {
+        Literals {
+            items: Vec::new(alloc),
+        }
+    }
+
+    pub(crate) fn push(&mut self, value: Literal) -> Result<(), AllocError>
+        ensures ok { OnOk result (self.new ≡ self.old ++ value ∷ []) }
+        ensures err { OnErr result (self.new ≡ self.old) }
+    {
+        self.items.push(value)?;
+        Ok(())
+    }
+
+    pub fn as_slice(&self) -> &[Literal]
+        ensures { result.now ≡ self.now }
+    {
+        self.items.as_slice()
+    }
+}
+
+/// The value columns that a statement lists.
+#[derive(Debug, Drop)]
+pub struct Columns {
+    items: Vec<Column>,
+}
+
+impl Model for Columns {
+    ghost use Rattle.std.specs.Prelude.{List};
+    ghost use Rattle.ts_row.specs.declared.kind.Column.{Column};
+
+    ghost Value = { List Column };
+
+    ghost view = { λ l. l.items.items };
+}
+
+impl Columns {
+    pub(crate) fn new(alloc: Global) -> Columns
+        ensures { result ≡ [] }
+    {
+        Columns {
+            items: Vec::new(alloc),
+        }
+    }
+
+    pub(crate) fn push(&mut self, column: Column) -> Result<(), AllocError>
+        ensures ok { OnOk result (self.new ≡ self.old ++ column ∷ []) }
+        ensures err { OnErr result (self.new ≡ self.old) }
+    {
+        self.items.push(column)?;
+        Ok(())
+    }
+
+    pub fn as_slice(&self) -> &[Column]
+        ensures { result.now ≡ self.now }
+    {
+        self.items.as_slice()
+    }
+}

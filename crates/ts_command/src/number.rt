@@ -1,0 +1,80 @@
+// The number that a token writes.
+ghost use Rattle.std.specs.Prelude.{◌≡◌, ◌^◌, ◌<◌, ◌≤◌, ◌==◌, length, slice_index, position, IfSome};
+ghost use Rattle.std.specs.List.{list_all};
+ghost use Rattle.std.specs.Char.{is_ascii_digit};
+ghost use Rattle.ts_command.specs.Grammar.{small_in};
+ghost use Rattle.ts_command.specs.Number.{digit_count, magnitude_of, units_of, scale_of};
+
+use crate::token::TokenKind;
+
+/// The number without its point.
+pub(crate) fn units(token: &[u8]) -> i128
+    requires { digit_count token.now ≤ 38 }
+    ensures { result ≡ units_of token.now }
+{
+    let magnitude = magnitude(token) as i128;
+    if is_negative(token) {
+        -magnitude
+    } else {
+        magnitude
+    }
+}
+
+/// How many digits stand behind the point.
+pub(crate) fn scale(token: &[u8]) -> usize
+    ensures value { result ≡ scale_of token.now }
+    ensures short { result ≤ length token.now }
+{
+    match point(token) {
+        Some(at) => token.len() - (at + 1),
+        None => 0,
+    }
+}
+
+fn point(token: &[u8]) -> Option<usize>
+    ensures value { result ≡ position (λ b. b == 46) token.now }
+    ensures within { IfSome result (λ at. at < length token.now) }
+{
+    token.iter().position(|byte| *byte == b'.')
+}
+
+fn is_negative(token: &[u8]) -> bool
+    ensures { result ≡ (slice_index token.now 0 == 45) }
+{
+    match token {
+        [first, ..] => *first == b'-',
+        [] => false,
+    }
+}
+
+/// The number of a token of 1 to 3 digits, without sign and point.
+pub(crate) fn small(token: &[u8]) -> Option<u16>
+    ensures { result ≡ small_in TokenKind.Number token.now }
+{
+    if token.len() <= 3 && are_digits(token) {
+        return Some(magnitude(token) as u16);
+    }
+    None
+}
+
+fn are_digits(token: &[u8]) -> bool
+    ensures { result ≡ list_all is_ascii_digit token.now }
+{
+    token.iter().all(|byte| byte.is_ascii_digit())
+}
+
+// The number that the digits write.
+fn magnitude(token: &[u8]) -> u128
+    requires { digit_count token.now ≤ 38 }
+    ensures value { result ≡ magnitude_of token.now }
+    ensures bound { result < 10 ^ digit_count token.now }
+    ensures most { result < 10 ^ 38 }
+{
+    let mut value = 0;
+    for byte in token {
+        if byte.is_ascii_digit() {
+            value = value * 10 + u128::from(*byte - b'0');
+        }
+    }
+    value
+}

@@ -1,0 +1,164 @@
+// The tokens of a statement: words, numbers, texts and signs. Each is the longest that stands there.
+ghost use Rattle.std.specs.Prelude.{◌≡◌, ◌==◌, ◌+◌, ◌<◌, ◌≤◌, IfSome, IsTrue, length, slice_index};
+ghost use Rattle.std.specs.Char.{is_ascii_digit};
+ghost use Rattle.std.specs.List.{prefix_len};
+ghost use Rattle.ts_base.specs.Name.{continues_word};
+ghost use Rattle.ts_command.specs.Tokens.{unblanked, digits_in_front, fraction_length, magnitude_length, number_length, closing, front};
+
+use crate::reader::is_blank;
+use ts_base::{begins_word, continues_word, is_text_byte};
+
+/// The most digits of a number.
+const DIGITS: usize = 38;
+
+#[derive(Clone, Copy, Debug, PartialEq, Eq)]
+pub(crate) enum TokenKind {
+    Word,
+    Number,
+    Text,
+    Sign,
+}
+
+/// The bytes without the blanks in front.
+pub(crate) fn skip_blanks(bytes: &[u8]) -> &[u8]
+    ensures value { result.now ≡ unblanked bytes.now }
+    ensures shorter { length result.now ≤ length bytes.now }
+{
+    let mut rest = bytes;
+    while let [first, more @ ..] = rest {
+        if !is_blank(*first) {
+            break;
+        }
+        rest = more;
+    }
+    rest
+}
+
+/// The token that stands in front, if one does: its kind and its length.
+#[tactic(auto, unfolding(crate::specs::Tokens::front))]
+pub(crate) fn front(bytes: &[u8]) -> Option<(TokenKind, usize)>
+    ensures value { result ≡ front bytes.now }
+    ensures some { IfSome result (λ token. 0 < token.1) }
+    ensures within { IfSome result (λ token. token.1 ≤ length bytes.now) }
+{
+    let [first, rest @ ..] = bytes else {
+        return None;
+    };
+    if begins_word(*first) {
+        return Some((TokenKind::Word, 1 + word_bytes(rest)));
+    }
+    match *first {
+        b'\'' => match closing(rest) {
+            Some(end) => Some((TokenKind::Text, 1 + end)),
+            None => None,
+        },
+        b'(' | b')' | b',' => Some((TokenKind::Sign, 1)),
+        _ => match number_length(bytes) {
+            Some(length) => Some((TokenKind::Number, length)),
+            None => None,
+        },
+    }
+}
+
+// How many bytes in front may go on a word.
+fn word_bytes(bytes: &[u8]) -> usize
+    ensures value { result ≡ prefix_len continues_word bytes.now }
+    ensures within { result ≤ length bytes.now }
+{
+    bytes
+        .iter()
+        .take_while(|byte| continues_word(**byte))
+        .count()
+}
+
+// How many digits stand in front, of which at most so many count.
+fn digits_in_front(room: usize, bytes: &[u8]) -> usize
+    ensures value { result ≡ digits_in_front room bytes.now }
+    ensures within { result ≤ length bytes.now }
+    ensures room { result ≤ room }
+{
+    bytes
+        .iter()
+        .take(room)
+        .take_while(|byte| byte.is_ascii_digit())
+        .count()
+}
+
+// The length of a point and digits in front, or 0.
+#[tactic(auto, unfolding(crate::specs::Tokens::fraction_length))]
+fn fraction_length(room: usize, bytes: &[u8]) -> usize
+    ensures value { result ≡ fraction_length room bytes.now }
+    ensures within { result ≤ length bytes.now }
+{
+    let [first, rest @ ..] = bytes else {
+        return 0;
+    };
+    if *first != b'.' {
+        return 0;
+    }
+    let count = digits_in_front(room, rest);
+    if count == 0 { 0 } else { 1 + count }
+}
+
+// The length of a number without a sign in front, or 0.
+#[tactic(auto, unfolding(crate::specs::Tokens::magnitude_length))]
+fn magnitude_length(bytes: &[u8]) -> usize
+    ensures value { result ≡ magnitude_length bytes.now }
+    ensures within { result ≤ length bytes.now }
+{
+    let whole = digits_in_front(DIGITS, bytes);
+    if whole == 0 {
+        return 0;
+    }
+    whole + fraction_length(DIGITS - whole, &bytes[whole..])
+}
+
+// The length of the number in front, if one stands there.
+#[tactic(auto, unfolding(crate::specs::Tokens::number_length))]
+fn number_length(bytes: &[u8]) -> Option<usize>
+    ensures value { result ≡ number_length bytes.now }
+    ensures some { IfSome result (λ n. 0 < n) }
+    ensures within { IfSome result (λ n. n ≤ length bytes.now) }
+{
+    let [first, rest @ ..] = bytes else {
+        return None;
+    };
+    if *first == b'-' {
+        let length = magnitude_length(rest);
+        return if length == 0 { None } else { Some(1 + length) };
+    }
+    let length = magnitude_length(bytes);
+    if length == 0 { None } else { Some(length) }
+}
+
+// Behind the quote that opens a text: the end of the longest text, if there is one.
+fn closing(bytes: &[u8]) -> Option<usize>
+    ensures value { result ≡ closing bytes.now }
+    ensures within { IfSome result (λ end. end ≤ length bytes.now) }
+{
+    let mut last = None;
+    let mut at = 0;
+    while at < bytes.len() {
+        if bytes[at] == b'\'' {
+            last = Some(at + 1);
+            if !is_doubled(bytes, at) {
+                return last;
+            }
+            at += 2;
+        } else if is_text_byte(bytes[at]) {
+            at += 1;
+        } else {
+            return last;
+        }
+    }
+    last
+}
+
+// Whether a quote stands behind the byte.
+fn is_doubled(bytes: &[u8], at: usize) -> bool
+    requires { at < length bytes.now }
+    ensures value { result ≡ (slice_index bytes.now (at + 1) == 39) }
+    ensures within { IsTrue result → at + 1 < length bytes.now }
+{
+    at + 1 < bytes.len() && bytes[at + 1] == b'\''
+}

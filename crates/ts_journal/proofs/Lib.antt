@@ -1,0 +1,11 @@
+pub mod BatchLemmas
+pub mod RangeLemmas
+pub mod WriteLemmas
+pub mod AppendLemmas
+pub mod ParseLemmas
+pub mod ImageLemmas
+pub mod CommitLemmas
+pub mod HomeLemmas
+pub mod EmptyLemmas
+pub mod OverlayLemmas
+pub mod CheckpointLemmas

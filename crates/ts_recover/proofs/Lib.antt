@@ -1,0 +1,5 @@
+pub mod ReadLemmas
+pub mod EntryLemmas
+pub mod ParsedLemmas
+pub mod JournalLemmas
+pub mod OpenedLemmas

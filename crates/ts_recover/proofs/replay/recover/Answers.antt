@@ -1,0 +1,25 @@
+use Rattle.std.proofs.Common.{◌≡◌, ◌+◌, ◌-◌, ◌*◌, ◌/◌, ◌≤◌, ℕ, None, inr, refl, subst, sym, arith}
+use Rattle.ts_disk.specs.Device.{Device}
+use Rattle.ts_journal.specs.Journal.{IsVolumeSize, page_count}
+use Rattle.ts_journal.specs.Entry.{AreAllowed}
+use Rattle.ts_recover.specs.Reading.{JournalRead}
+use Rattle.ts_recover.proofs.replay.recover.Goals as goal
+
+pub read_journal-requires-clause-size : goal.read_journal-requires-clause-size
+read_journal-requires-clause-size g c =
+    let size = (g.V.Volume.device c.args.vol.now).size in
+    let is = c.len-bytes.ensures in
+    (size / 4096 - 930, omega arith, omega arith, omega arith)
+
+pub returns-in_default-clause-cause : goal.returns-in_default-clause-cause
+returns-in_default-clause-cause g c =
+    let v = g.V.Volume.device c.args.vol.now in
+    let is = c.len-bytes.ensures in
+    let size : IsVolumeSize v.size = (v.size / 4096 - 930, omega arith, omega arith, omega arith) in
+    inr (refl, size, λ told. subst (λ o. JournalRead o v.held c.read_journal.new.overlay.entries) c.in_default.is (c.in_ok-length.ensures.ok told))
+
+pub returns-clause-size : goal.returns-clause-size
+returns-clause-size g c =
+    let size = (g.V.Volume.device c.args.vol.now).size in
+    let is = c.len-bytes.ensures in
+    (size / 4096 - 930, omega arith, omega arith, omega arith)
