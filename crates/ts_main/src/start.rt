@@ -77,7 +77,11 @@ pub(crate) fn finish(rt: &HostRuntime, job: Job, path: &str, status: u8) -> u8 {
     }
     let is_lost = status == 0 && sync_folder(rt, path).is_err();
     if status == 5 || is_lost {
-        complain(rt, path, "the file failed, so it may be no store; remove it, and run init again");
+        complain(
+            rt,
+            path,
+            "the file failed, so it may be no store; remove it, and run init again",
+        );
         return 5;
     }
     advise(rt, path, status)
