@@ -12,22 +12,24 @@ use crate::{Column, Value};
 use std::alloc::{AllocError, Global};
 use ts_base::Bytes;
 
-/// Prints a value, a number as a decimal with this scale. After an error some of it may stand at the end.
+/// Prints a value, a number as a decimal with this scale. Want of memory changes nothing.
 pub fn print_value(
-    _alloc: Global,
+    alloc: Global,
     value: &Value,
     scale: u8,
     out: &mut Bytes,
 ) -> Result<(), AllocError>
     requires { scale ≤ 34 }
     ensures ok { OnOk result (out.new ≡ out.old ++ value_text scale value.now) }
-    ensures err { OnErr result (Extends out.old out.new) }
+    ensures err { OnErr result (out.new ≡ out.old) }
 
     // The digits of a printed number write its size.
     ensures read_again { (z : ℤ) → unsigned_abs z < 2 ^ 128 →
         number_of (filter is_ascii_digit (number_text scale z)) ≡ unsigned_abs z }
 {
-    print_scaled(value, scale as u32, out)
+    let mut made = Bytes::new(alloc);
+    print_scaled(value, scale as u32, &mut made)?;
+    out.extend_from_slice(made.as_slice())
 }
 
 // Prints the values of a row with commas between them.

@@ -2,7 +2,7 @@ ghost use Rattle.std.specs.Prelude.{◌≡◌, ◌≤◌, ◌++◌, IsTrue, IfOk
 ghost use Rattle.ts_row.specs.RowType.{is_row_type, width_of, bad_column, IsBadRowType};
 ghost use Rattle.ts_row.specs.Row.{row_of, IsRowTrouble, fits};
 ghost use Rattle.ts_row.specs.Encoding.{row_bytes, IsMeaning};
-ghost use Rattle.ts_row.specs.Printed.{row_text, Extends};
+ghost use Rattle.ts_row.specs.Printed.{row_text};
 
 use crate::decoding::decode;
 use crate::encoding::encode_row;
@@ -119,13 +119,15 @@ impl RowType {
         decode(*self.columns.allocator(), self.columns.as_slice(), from)
     }
 
-    /// Prints the values of a row with commas between them. After an error some of it may stand at the end.
+    /// Prints the values of a row with commas between them. Want of memory changes nothing.
     pub fn print(&self, row: &Row, out: &mut Bytes) -> Result<(), AllocError>
         requires { IsTrue (fits self.now.columns row.now) }
         ensures ok { OnOk result (out.new ≡ out.old ++ row_text self.now.columns row.now) }
-        ensures err { OnErr result (Extends out.old out.new) }
+        ensures err { OnErr result (out.new ≡ out.old) }
     {
-        print_row(self.columns.as_slice(), row.values(), out)
+        let mut made = Bytes::new(*self.columns.allocator());
+        print_row(self.columns.as_slice(), row.values(), &mut made)?;
+        out.extend_from_slice(made.as_slice())
     }
 }
 

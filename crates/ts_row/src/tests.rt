@@ -376,11 +376,13 @@ fn a_row_type_tells_its_columns(rt: HostRuntime) -> Result<(), Fail> {
 #[test]
 fn the_types_may_go_to_other_threads() {
     goes_to_threads::<Column>();
+    goes_to_threads::<ColumnKind>();
     goes_to_threads::<Value>();
     goes_to_threads::<Literal>();
     goes_to_threads::<Row>();
     goes_to_threads::<RowType>();
     goes_to_threads::<Elem>();
+    goes_to_threads::<Shelf>();
 }
 
 fn goes_to_threads<T: Send + Sync>() {}
