@@ -139,3 +139,42 @@ flag-around rs at j rest r e end inside i h =
     let within : at + i < total rs = omega (arith, total-take-le rs (j + 1)) in
     let same : at + i ≡ total (take j rs) + (r.count - rest + i) = omega arith in
     ap (flag_at rs) (mod_first (at + i) (total rs) within ∙ same) ∙ flag_at-run rs j (r.count - rest + i) r e (omega arith)
+
+-- a pattern of a single run
+
+single-at : (rs : List Run) (j : ℕ) (r : Run) → length rs ≡ 1 → slice_get rs 0 ≡ Some r → j < r.count → flag_at rs j ≡ r.on
+single-at [] j r one e h = absurd (cc)
+single-at (x ∷ rs) j r one e h = let same : x ≡ r = cc in rw (same, lt_yes j r.count h)
+
+-- its length is the count of the run
+pub single-total : (rs : List Run) (r : Run) → length rs ≡ 1 → slice_get rs 0 ≡ Some r → total rs ≡ r.count
+single-total rs r one e = ap total (sym (take-whole rs 1 (sym one))) ∙ omega (arith, total-take-run rs 0 r e)
+
+-- each interval has its flag
+pub single-flag : (rs : List Run) (k : ℕ) (r : Run) → length rs ≡ 1 → slice_get rs 0 ≡ Some r → IsTrue (is_pattern rs) → later_flag rs k ≡ r.on
+single-flag rs k r one e p =
+    let all = single-total rs r one e in
+    let some = (pattern-merged rs p).1 in
+    let within : k % total rs < total rs = mod_lt k (total rs) some in
+    single-at rs (k % total rs) r one e (omega (arith, all, within))
+  where
+    mod_lt : (k t : ℕ) → 0 < t → k % t < t
+    mod_lt k t h = omega arith
+
+-- so all of them have the same one
+pub single-same : (rs : List Run) (j k : ℕ) → length rs ≡ 1 → IsTrue (is_pattern rs) → later_flag rs j ≡ later_flag rs k
+single-same [] j k one p = absurd (omega arith)
+single-same (x ∷ rs) j k one p = single-flag (x ∷ rs) j x one refl p ∙ sym (single-flag (x ∷ rs) k x one refl p)
+
+-- and the run's end is what is left of the round
+pub single-place : (rs : List Run) (at : ℕ) (r : Run) → length rs ≡ 1 → slice_get rs 0 ≡ Some r → IsTrue (is_pattern rs)
+    → (at % r.count < r.count) × (total (take (0 + 1) rs) ≡ at % total rs + (r.count - at % r.count))
+single-place rs at r one e p =
+    let all = single-total rs r one e in
+    let some : 0 < r.count = omega (arith, all, (pattern-merged rs p).1) in
+    let within : at % r.count < r.count = mod_lt at r.count some in
+    let same : at % total rs ≡ at % r.count = ap (λ n. at % n) all in
+    (within, ap total (take-whole rs 1 (sym one)) ∙ omega (arith, all, within, same))
+  where
+    mod_lt : (k t : ℕ) → 0 < t → k % t < t
+    mod_lt k t h = omega arith

@@ -17,6 +17,7 @@ use Rattle.ts_pattern.specs.Units.{size, is_monthly, factor, is_made_of, smaller
 use Rattle.ts_pattern.specs.Algebra.{Answers, plan_of_flags, expanded_flag, expanded_plan, joined_flag, joined_length, joined_in, joined_plan}
 use Rattle.ts_pattern.proofs.RunLemmas.{lt_yes, lt_no}
 use Rattle.ts_pattern.proofs.CursorLemmas.{pattern-merged}
+use Rattle.ts_pattern.proofs.JoinLemmas.{total-runs_from}
 use Rattle.ts_pattern.proofs.MultipleLemmas.{least-positive, least-rounds}
 use Rattle.ts_pattern.proofs.WholeLemmas.{place-early}
 use Rattle.ts_pattern.proofs.AlgebraLemmas.{total-scaled, flag-scaled, flag-joined}
@@ -186,6 +187,15 @@ flags-joined junction a b s t u n (Ok p) pa pb e same h =
     ∙ flag-joined junction u a b s t n (joined_length u a b / (total a.runs * factor a.unit u)) (joined_length u a b / (total b.runs * factor b.unit u)) k
     fa ta la fb tb lb some (same ∙ rounds.0) (same ∙ rounds.1)
     ∙ ap (λ v. joined_flag junction v a s b t k) (sym is.0)
+
+-- and it is as long as their common length
+pub length-joined : (a b : Plan) (u : unit.Unit) (f : ℕ → Bool) (n : ℕ) (r : Result Plan Trouble)
+    → n ≡ joined_length u a b → Answers (plan_of_flags u f n) r → IfOk r (λ (p : Plan). total p.runs ≡ joined_length p.unit a b)
+length-joined a b u f n (Err (Refused why)) same h = tt
+length-joined a b u f n (Err (Memory error)) same h = tt
+length-joined a b u f n (Ok p) same h =
+    let is = plan-is u f n p h in
+    ap total is.1 ∙ total-runs_from f 0 n ∙ same ∙ ap (λ v. joined_length v a b) (sym is.0)
 
 -- the pattern in a smaller unit
 pub expanded-is : (p : Plan) (u : unit.Unit) → IsTrue (is_pattern p.runs) → is_made_of p.unit u ≡ true → total p.runs * factor p.unit u ≤ 527_040

@@ -39,19 +39,58 @@ impl<'a> Cursor<'a> {
         }
     }
 
-    /// Goes on within the run, or to the start of the next one.
+    /// How many of the next intervals are known to have the flag of this one, up to so many: those left of the run,
+    /// or all of them where there is no other run.
+    pub fn steady(&self, most: u32) -> u32
+        requires { 0 < most }
+        ensures some { 0 < result }
+        ensures within { result ≤ most }
+        ensures rest { 1 < length self.now.runs.now → result ≤ self.now.rest }
+        ensures all { length self.now.runs.now ≡ 1 → result ≡ most }
+        ensures flags { (i : ℕ) → i < result → later_flag self.now.runs.now (self.now.at + i) ≡ self.now.on }
+    {
+        if self.runs.len() == 1 {
+            return most;
+        }
+        self.rest.min(most)
+    }
+
+    /// Goes on within the run, or to the start of the next one; any number of rounds where there is no other run.
     pub fn advance(&mut self, step: u32)
-        requires fits { step ≤ self.old.rest }
+        requires fits { 1 < length self.old.runs.now → step ≤ self.old.rest }
         requires room { self.old.at + step < 2 ^ 32 }
         ensures at { self.new.at ≡ self.old.at + step }
         ensures runs { self.new.runs.now ≡ self.old.runs.now }
     {
+        if self.runs.len() == 1 {
+            self.go_round(step);
+            return;
+        }
         if step == self.rest {
             self.next_run();
             return;
         }
         self.rest -= step;
         self.at += step;
+    }
+
+    // Goes on within the only run, round after round.
+    fn go_round(&mut self, step: u32)
+        requires single { length self.old.runs.now ≡ 1 }
+        requires room { self.old.at + step < 2 ^ 32 }
+        ensures at { self.new.at ≡ self.old.at + step }
+        ensures runs { self.new.runs.now ≡ self.old.runs.now }
+    {
+        let runs = self.runs;
+        let at = self.at + step;
+        let run = run_at(runs, 0);
+        *self = Cursor {
+            runs,
+            at,
+            index: 0,
+            on: run.on,
+            rest: run.count - at % run.count,
+        };
     }
 
     // The index of the run after this one.

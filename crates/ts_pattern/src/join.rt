@@ -39,7 +39,8 @@ pub(crate) fn join(
     let mut b = Cursor::new(right.runs, right.from);
     let mut at: u32 = 0;
     while at < length {
-        let step = a.rest.min(b.rest).min(length - at);
+        let most = length - at;
+        let step = a.steady(most).min(b.steady(most));
         extend(&mut runs, joined(junction, a.on, b.on), step)?;
         if runs.len() > MOST_RUNS {
             return Ok(None);
@@ -66,7 +67,8 @@ pub(crate) fn count_joined(junction: Junction, left: Line, right: Line, length: 
     let mut b = Cursor::new(right.runs, right.from);
     let mut at: u32 = 0;
     while at < length {
-        let step = a.rest.min(b.rest).min(length - at);
+        let most = length - at;
+        let step = a.steady(most).min(b.steady(most));
         let on = joined(junction, a.on, b.on);
         if !goes_on(last, on) {
             count += 1;

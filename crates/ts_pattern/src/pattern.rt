@@ -115,6 +115,7 @@ impl Pattern {
     pub fn not_op(&self) -> Result<Pattern, AllocError>
         ensures ok { IfOk result (λ p. p ≡ record { unit = self.now.unit; runs = map turned self.now.runs }) }
         ensures flags { IfOk result (λ p. (k : ℤ) → flag p.runs k ≡ not (flag self.now.runs k)) }
+        ensures length { IfOk result (λ p. total p.runs ≡ total self.now.runs) }
     {
         let runs = turned_runs(*self.runs.allocator(), &self.runs)?;
         Ok(Pattern {
@@ -128,6 +129,7 @@ impl Pattern {
     pub fn expand(&self, unit: Unit) -> Result<Pattern, Trouble>
         ensures answer { Answers (expanded_plan self.now unit) result }
         ensures flags { IfOk result (λ p. (k : ℤ) → flag p.runs k ≡ expanded_flag self.now.runs (factor self.now.unit unit) k) }
+        ensures length { IfOk result (λ p. total p.runs ≡ total self.now.runs * factor self.now.unit unit) }
     {
         if !is_made_of(self.unit, unit) {
             return Err(Trouble::Refused(Refusal::UnitMismatch));
@@ -149,6 +151,7 @@ impl Pattern {
     pub fn and_op(&self, other: &Pattern) -> Result<Pattern, Trouble>
         ensures answer { Answers (joined_plan And self.now (pos 0) other.now (pos 0)) result }
         ensures flags { IfOk result (λ p. (k : ℤ) → flag p.runs k ≡ joined_flag And p.unit self.now (pos 0) other.now (pos 0) k) }
+        ensures length { IfOk result (λ p. total p.runs ≡ joined_length p.unit self.now other.now) }
     {
         self.join_shifted(Junction::And, 0, other, 0)
     }
@@ -157,6 +160,7 @@ impl Pattern {
     pub fn or_op(&self, other: &Pattern) -> Result<Pattern, Trouble>
         ensures answer { Answers (joined_plan Or self.now (pos 0) other.now (pos 0)) result }
         ensures flags { IfOk result (λ p. (k : ℤ) → flag p.runs k ≡ joined_flag Or p.unit self.now (pos 0) other.now (pos 0) k) }
+        ensures length { IfOk result (λ p. total p.runs ≡ joined_length p.unit self.now other.now) }
     {
         self.join_shifted(Junction::Or, 0, other, 0)
     }
@@ -172,6 +176,7 @@ impl Pattern {
     ) -> Result<Pattern, Trouble>
         ensures answer { Answers (joined_plan junction self.now shift other.now other_shift) result }
         ensures flags { IfOk result (λ p. (k : ℤ) → flag p.runs k ≡ joined_flag junction p.unit self.now shift other.now other_shift k) }
+        ensures length { IfOk result (λ p. total p.runs ≡ joined_length p.unit self.now other.now) }
     {
         let Some(unit) = smaller_unit(self.unit, other.unit) else {
             return Err(Trouble::Refused(Refusal::UnitMismatch));

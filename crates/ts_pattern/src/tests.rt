@@ -1,4 +1,4 @@
-use crate::{Junction, Pattern, Run};
+use crate::{Junction, Misread, Pattern, Run, WrittenPattern};
 use std::alloc::Global;
 use std::test::Fail;
 use ts_base::{Bytes, Refusal, Trouble, Unit};
@@ -110,6 +110,28 @@ fn the_length_is_the_least_common_multiple(rt: HostRuntime) -> Result<(), Fail> 
             .length(),
         12
     );
+    Ok(())
+}
+
+#[test]
+fn a_single_run_goes_with_the_runs_of_the_other(rt: HostRuntime) -> Result<(), Fail> {
+    let rows: [(u32, &[u32], &[u32]); 4] = [
+        (1, &[527_040], &[527_040]),
+        (5, &[7], &[35]),
+        (1, &[2, 4, 3], &[2, 4, 3]),
+        (5, &[2, 4, 3], &[2, 4, 5, 4, 5, 4, 5, 4, 5, 4, 3]),
+    ];
+    for (count, counts, want) in rows {
+        let single = pattern(rt.alloc(), Unit::Second, true, &[count])?;
+        let other = pattern(rt.alloc(), Unit::Second, true, counts)?;
+        let want = runs(rt.alloc(), true, want)?;
+        for shift in [0, 3, -7] {
+            let joined = single.join_shifted(Junction::And, shift, &other, 0)?;
+            assert_eq!(rt; joined.runs(), want.as_slice(), "{count} by {shift}");
+            let joined = other.join_shifted(Junction::And, 0, &single, shift)?;
+            assert_eq!(rt; joined.runs(), want.as_slice(), "{count} by {shift}");
+        }
+    }
     Ok(())
 }
 
@@ -323,3 +345,14 @@ fn a_pattern_is_printed_with_merged_runs(rt: HostRuntime) -> Result<(), Fail> {
     }
     Ok(())
 }
+
+#[test]
+fn the_types_may_go_to_other_threads() {
+    goes_to_threads::<Pattern>();
+    goes_to_threads::<Run>();
+    goes_to_threads::<Junction>();
+    goes_to_threads::<WrittenPattern>();
+    goes_to_threads::<Misread>();
+}
+
+fn goes_to_threads<T: Send + Sync>() {}

@@ -29,10 +29,10 @@ loop-at-preserved c =
     let step = c.min-step.result in
     let before = runs_of f c.loop-at.at in
     let grown = join_step c.args.junction c.args.left.runs.now c.args.right.runs.now c.args.left.from c.args.right.from c.loop-at.at
-    a.rest b.rest step a.on b.on
-    (omega (arith, a.some, b.some)) (omega arith) (omega arith)
-    (λ i h. rw (inv.left, inv.left_at) at (a.flags i h))
-    (λ i h. rw (inv.right, inv.right_at) at (b.flags i h)) in
+    c.steady.result c.steady-in-loop-at.result step a.on b.on
+    (omega (arith, c.steady.ensures.some, c.steady-in-loop-at.ensures.some)) (omega arith) (omega arith)
+    (λ i h. rw (inv.left, inv.left_at) at (c.steady.ensures.flags i h))
+    (λ i h. rw (inv.right, inv.right_at) at (c.steady-in-loop-at.ensures.flags i h)) in
     let now : runs_of f (c.loop-at.at + step) ≡ extended before c.joined-on.result step =
     grown ∙ ap (λ on. extended before on step) (sym c.joined-on.ensures) in
     let last = ap last_flag now ∙ last_flag-extended before c.joined-on.result step in
@@ -45,7 +45,7 @@ loop-at-preserved c =
           ∙ sym (length-extended_same before c.joined-on.result step (sym inv.last ∙ w.if-not-goes_on.ensures.0 refl))
     ] in
     let few : c.if-not-goes_on.count ≤ c.loop-at.at + step = elim c.if-not-goes_on.branch [
-      | then-not-goes_on w ↦ omega (arith, a.some, b.some)
+      | then-not-goes_on w ↦ omega (arith, c.steady.ensures.some, c.steady-in-loop-at.ensures.some)
       | else-not-goes_on w ↦ omega arith
     ] in
     record {

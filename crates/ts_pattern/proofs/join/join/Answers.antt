@@ -30,10 +30,10 @@ returns-then-len-gt-MOST_RUNS-clause-fits c =
     let inv = c.loop-at.invariant in
     let step = c.min-step.result in
     let grown = join_step c.args.junction c.args.left.runs.now c.args.right.runs.now c.args.left.from c.args.right.from c.loop-at.at
-    a.rest b.rest step a.on b.on
-    (omega (arith, a.some, b.some)) (omega arith) (omega arith)
-    (λ i h. rw (inv.left, inv.left_at) at (a.flags i h))
-    (λ i h. rw (inv.right, inv.right_at) at (b.flags i h)) in
+    c.steady.result c.steady-in-loop-at.result step a.on b.on
+    (omega (arith, c.steady.ensures.some, c.steady-in-loop-at.ensures.some)) (omega arith) (omega arith)
+    (λ i h. rw (inv.left, inv.left_at) at (c.steady.ensures.flags i h))
+    (λ i h. rw (inv.right, inv.right_at) at (c.steady-in-loop-at.ensures.flags i h)) in
     let items : c.extend.new.runs.items ≡ runs_of f (c.loop-at.at + step) =
     c.in_ok-extend.ensures.ok ∙ ap (λ rs. extended rs c.joined.result step) inv.runs
     ∙ ap (λ on. extended (runs_of f c.loop-at.at) on step) c.joined.ensures ∙ sym grown in
@@ -48,10 +48,10 @@ loop-at-preserved c =
     let inv = c.loop-at.invariant in
     let step = c.min-step.result in
     let grown = join_step c.args.junction c.args.left.runs.now c.args.right.runs.now c.args.left.from c.args.right.from c.loop-at.at
-    a.rest b.rest step a.on b.on
-    (omega (arith, a.some, b.some)) (omega arith) (omega arith)
-    (λ i h. rw (inv.left, inv.left_at) at (a.flags i h))
-    (λ i h. rw (inv.right, inv.right_at) at (b.flags i h)) in
+    c.steady.result c.steady-in-loop-at.result step a.on b.on
+    (omega (arith, c.steady.ensures.some, c.steady-in-loop-at.ensures.some)) (omega arith) (omega arith)
+    (λ i h. rw (inv.left, inv.left_at) at (c.steady.ensures.flags i h))
+    (λ i h. rw (inv.right, inv.right_at) at (c.steady-in-loop-at.ensures.flags i h)) in
     record {
       runs = c.in_ok-extend.ensures.ok ∙ ap (λ rs. extended rs c.joined.result step) inv.runs
           ∙ ap (λ on. extended (runs_of f c.loop-at.at) on step) c.joined.ensures ∙ sym grown;

@@ -44,3 +44,13 @@ returns-clause-flags c =
     c.in_ok-runs.ensures ∙ ap (λ n. map (scaled n) c.deref.result.now) factor_is ∙ ap (map (scaled parts)) same in
     let pattern = ap is_pattern (ap (λ (p : Plan). p.runs) (sym c.self.view_is)) ∙ c.self.invariant.1 in
     λ k. ap (λ rs. flag rs k) items ∙ flag-scaled plan.runs parts k (omega (arith, factor_is, c.factor-parts.ensures.some)) (tested plan.runs pattern).long
+
+pub returns-clause-length : goal.returns-clause-length
+returns-clause-length c =
+    let plan = c.args.self.now in
+    let parts = factor plan.unit c.args.unit in
+    let factor_is : c.factor-parts.result ≡ parts = c.factor-parts.ensures.value ∙ ap (λ (p : Plan). factor p.unit c.args.unit) c.self.view_is in
+    let same : c.deref.result.now ≡ plan.runs = c.deref.ensures.value ∙ ap (λ (p : Plan). p.runs) c.self.view_is in
+    let items : c.in_ok-runs.runs.items ≡ map (scaled parts) plan.runs =
+    c.in_ok-runs.ensures ∙ ap (λ n. map (scaled n) c.deref.result.now) factor_is ∙ ap (map (scaled parts)) same in
+    ap total items ∙ total-scaled plan.runs parts

@@ -3,7 +3,7 @@ use Rattle.ts_pattern.specs.Plan.{Plan}
 use Rattle.ts_pattern.specs.Units.{smaller_unit}
 use Rattle.ts_pattern.specs.Multiples.{least_common_multiple}
 use Rattle.ts_pattern.specs.Algebra.{joined_length}
-use Rattle.ts_pattern.proofs.PlanLemmas.{answer-joined, flags-joined}
+use Rattle.ts_pattern.proofs.PlanLemmas.{answer-joined, flags-joined, length-joined}
 use Rattle.ts_pattern.proofs.pattern.Pattern.join_shifted.Goals as goal
 
 pub returns-clause-answer : goal.returns-clause-answer
@@ -38,3 +38,13 @@ returns-clause-flags c =
     let flags = flags-joined c.args.junction a b shift other_shift u c.common_multiple-length.result c.joined_in.result
     c.length_in.ensures.pattern c.length_in-2.ensures.pattern unit length c.joined_in.ensures.answer in
     rw (to_z-of_z c.ranges.shift, to_z-of_z c.ranges.other_shift) at flags
+
+pub returns-clause-length : goal.returns-clause-length
+returns-clause-length c =
+    let a = c.args.self.now in
+    let b = c.args.other.now in
+    let u = c.in-Some.unit in
+    let length : c.common_multiple-length.result ≡ joined_length u a b =
+    c.common_multiple-length.ensures.value ∙ ap (λ n. least_common_multiple n c.length_in-2.result) c.length_in.ensures.value
+    ∙ ap (least_common_multiple _) c.length_in-2.ensures.value in
+    length-joined a b u _ c.common_multiple-length.result c.joined_in.result length c.joined_in.ensures.answer

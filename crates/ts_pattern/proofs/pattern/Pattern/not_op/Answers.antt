@@ -21,3 +21,10 @@ returns-clause-flags c =
     let same : c.deref.result.now ≡ rs = c.deref.ensures.value ∙ ap (λ (p : Plan). p.runs) c.self.view_is in
     let items : c.in_ok-runs.runs.items ≡ map turned rs = c.in_ok-runs.ensures ∙ ap (map turned) same in
     λ k. ap (λ l. flag l k) items ∙ flag-turned rs k some
+
+pub returns-clause-length : goal.returns-clause-length
+returns-clause-length c =
+    let rs = c.args.self.now.runs in
+    let same : c.deref.result.now ≡ rs = c.deref.ensures.value ∙ ap (λ (p : Plan). p.runs) c.self.view_is in
+    let items : c.in_ok-runs.runs.items ≡ map turned rs = c.in_ok-runs.ensures ∙ ap (map turned) same in
+    ap total items ∙ total-turned rs
