@@ -62,7 +62,7 @@ fn every_cutting_gives_the_same_items(rt: HostRuntime) -> Result<(), Fail> {
         (b" ;; ", b""),
         (b"a;b;", b"<a;<b;"),
         (b" \t\r\n;a ; b;\n", b"<a ;< b;"),
-        (b"InsElem('x','D03',1); GetEl", b"<InsElem('x','D03',1);U"),
+        (b"InsElem('x','day',1); GetEl", b"<InsElem('x','day',1);U"),
         (b"f('a;b');g", b"<f('a;b');U"),
         (b"f('it''s;');", b"<f('it''s;');"),
         (b"f('''');'", b"<f('''');U"),
