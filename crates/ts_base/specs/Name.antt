@@ -24,6 +24,10 @@ is_word (c ∷ rest) = begins_word c && list_all continues_word rest
 abbrev pub is_name : List ℕ → Bool
 is_name s = is_word s && nat_le (length s) 32
 
+-- a blank: a space, a tab, a carriage return or a line feed
+abbrev pub is_blank : ℕ → Bool
+is_blank c = (c == 32) || (c == 9) || (c == 13) || (c == 10)
+
 -- a byte that a text may have: none below 0x20, and not 0x7F
 abbrev pub is_text_byte : ℕ → Bool
 is_text_byte c = nat_le 32 c && not (c == 127)

@@ -9,7 +9,7 @@ use thiserror::Error;
 /// The command is refused, or there is no memory for its answer.
 #[derive(Debug, Drop, Error)]
 pub enum Trouble {
-    #[error("{0}")]
+    #[error("the command is refused")]
     Refused(Refusal),
     #[error("out of memory")]
     Memory(AllocError),
@@ -27,7 +27,7 @@ pub enum StoreFault {
 /// The command is refused, or a page could not be read or kept.
 #[derive(Debug, Drop, Error)]
 pub enum SeriesFault {
-    #[error("{0}")]
+    #[error("the command is refused")]
     Refused(Refusal),
     #[error("the volume failed")]
     Failed,

@@ -1,6 +1,6 @@
 ghost use Rattle.std.specs.Prelude.{◌≡◌, IfOk, IsTrue};
 ghost use Rattle.std.specs.List.{list_all};
-ghost use Rattle.ts_base.specs.Name.{begins_word, continues_word, is_word, is_name, is_text_byte, is_text, is_key, name_if_any, key_if_any};
+ghost use Rattle.ts_base.specs.Name.{begins_word, continues_word, is_word, is_name, is_blank, is_text_byte, is_text, is_key, name_if_any, key_if_any};
 
 use crate::Bytes;
 use std::alloc::{AllocError, Global};
@@ -154,6 +154,13 @@ pub fn is_text(bytes: &[u8]) -> bool
     ensures { result ≡ is_text bytes.now }
 {
     bytes.iter().all(|byte| is_text_byte(*byte))
+}
+
+/// A space, a tab, a carriage return or a line feed.
+pub fn is_blank(byte: u8) -> bool
+    ensures { result ≡ is_blank byte }
+{
+    matches!(byte, b' ' | b'\t' | b'\r' | b'\n')
 }
 
 /// None of the bytes below 0x20, and not 0x7F.

@@ -2,8 +2,6 @@
 ghost use Rattle.std.specs.Prelude.{◌≡◌};
 ghost use Rattle.ts_base.specs.Refusal.{refusal_code, refusal_name};
 
-use std::fmt;
-
 /// Why a command was refused. A refused command changes nothing.
 ///
 /// A column counts from 1. A place is the number of a byte, counted from 0 in the text that was read.
@@ -125,12 +123,5 @@ impl Refusal {
             Refusal::BadExpression { .. } => b"BadExpression",
             Refusal::UnknownColumn => b"UnknownColumn",
         }
-    }
-}
-
-impl fmt::Display for Refusal {
-    fn fmt<W: fmt::Write>(&self, f: &mut fmt::Formatter<W>) -> fmt::Result {
-        let code = self.code();
-        write!(f, "error {code}")
     }
 }

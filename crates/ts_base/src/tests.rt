@@ -1,6 +1,7 @@
 // What no clause says: worked texts and limits, each refusal's line, and each call once with ample memory.
 use crate::{
-    Bytes, Key, Name, Refusal, Reply, SeriesFault, Stamp, StoreFault, Trouble, month_start,
+    Bytes, Key, Name, Refusal, Reply, SeriesFault, Stamp, StoreFault, Trouble, is_blank,
+    month_start,
 };
 use std::alloc::AllocError;
 use std::test::Fail;
@@ -217,6 +218,16 @@ fn keys_are_1_to_64_bytes_of_a_text(rt: HostRuntime) -> Result<(), Fail> {
         assert!(rt; Key::read(rt.alloc(), text)?.is_none(), "at {text:?}");
     }
     Ok(())
+}
+
+#[test]
+fn four_bytes_are_blank(rt: HostRuntime) {
+    for byte in b" \t\r\n" {
+        assert!(rt; is_blank(*byte));
+    }
+    for byte in b"\x0b\x00_;" {
+        assert!(rt; !is_blank(*byte));
+    }
 }
 
 #[test]

@@ -11,3 +11,5 @@ pub mod TokenLemmas
 pub mod GrammarLemmas
 pub mod MergeLemmas
 pub mod PrintLemmas
+pub mod SpellingLemmas
+pub mod PatternTextLemmas

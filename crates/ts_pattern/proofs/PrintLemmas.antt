@@ -10,14 +10,15 @@ use Rattle.std.proofs.Common.{if◌then◌else◌}
 use Rattle.std.proofs.lemmas.Bool.Decides.{nat_tests}
 use Rattle.std.proofs.lemmas.Str.Parse.{IsNumeralModel, numerals_by_fold}
 use Rattle.std.proofs.lemmas.Fmt.{digits_decimal, digits_value-decimal, decimal_nonempty, length-decimal-le}
+use Rattle.ts_base.specs.Name.{is_blank}
 use Rattle.ts_base.specs.StampText.{all_digits, number_of, with_digit}
 use Rattle.ts_base.specs.declared.unit.Unit as unit
 use Rattle.ts_base.specs.declared.unit.Unit.TheVariants.{Second, Minute, Hour, Day, Week, Month, Year}
 use Rattle.ts_pattern.specs.declared.run.Run.{Run}
 use Rattle.ts_pattern.specs.Plan.{Plan}
 use Rattle.ts_pattern.specs.Runs.{total, flag_at, runs_of, are_merged, is_pattern, differs_from}
-use Rattle.ts_pattern.specs.Tokens.{◌>>=◌, is_blank, unblanked, number_at, count_in}
-use Rattle.ts_pattern.specs.Grammar.{are_counts, run_in, runs_in, run_before, unit_in, unit_name, flag_in, pattern_in, written_plan, plan_or_place, read_plan, printed_run, printed_runs, printed_plan}
+use Rattle.ts_pattern.specs.Tokens.{◌>>=◌, unblanked, number_at, count_in}
+use Rattle.ts_pattern.specs.Grammar.{are_counts, run_in, runs_in, run_before, unit_in, unit_name, flag_in, pattern_in, written_plan, plan_of_written, plan_or_place, read_plan, printed_run, printed_runs, printed_plan}
 use Rattle.ts_pattern.proofs.GrammarLemmas.{runs_in-more, runs_in-last}
 use Rattle.ts_pattern.proofs.GrowLemmas.{runs_from-merged}
 use Rattle.ts_pattern.proofs.PlanLemmas.{tested, plan-fits}
@@ -28,18 +29,18 @@ own : IsNumeralModel (λ ds. all_digits ds ≡ true) number_of
 own = numerals_by_fold _ (search rules) (fold with_digit) (search rules)
 
 -- a digit is no blank
-digit-blank : (d : ℕ) → is_ascii_digit d ≡ true → is_blank d ≡ false
+pub digit-blank : (d : ℕ) → is_ascii_digit d ≡ true → is_blank d ≡ false
 digit-blank d h = grind (arith, nat_tests)
 
 -- text that begins with digits has no blank in front
-digits-unblanked : (ds rest : List ℕ) → all_digits ds ≡ true → 0 < length ds → unblanked (ds ++ rest) ≡ ds ++ rest
+pub digits-unblanked : (ds rest : List ℕ) → all_digits ds ≡ true → 0 < length ds → unblanked (ds ++ rest) ≡ ds ++ rest
 digits-unblanked [] rest h some = absurd (omega arith)
 digits-unblanked (d ∷ ds) rest h some =
     let parts = and_parts (is_ascii_digit d) (all_digits ds) h in
     rw (digit-blank d parts.0) refl
 
 -- and its digits end where they end
-digits-len : (ds rest : List ℕ) → all_digits ds ≡ true → prefix_len is_ascii_digit rest ≡ 0 → prefix_len is_ascii_digit (ds ++ rest) ≡ length ds
+pub digits-len : (ds rest : List ℕ) → all_digits ds ≡ true → prefix_len is_ascii_digit rest ≡ 0 → prefix_len is_ascii_digit (ds ++ rest) ≡ length ds
 digits-len [] rest h none = none
 digits-len (d ∷ ds) rest h none =
     let parts = and_parts (is_ascii_digit d) (all_digits ds) h in
@@ -48,7 +49,7 @@ digits-len (d ∷ ds) rest h none =
 le_yes : (a b : ℕ) → a ≤ b → nat_le a b ≡ true
 le_yes a b h = grind (arith, nat_tests)
 
-number-front : (ds rest : List ℕ) (n : ℕ) → 1 ≤ length ds → length ds ≤ 9 → 0 < n → number_of ds ≡ n → number_at (ds ++ rest) (length ds) ≡ Ok (n, rest)
+pub number-front : (ds rest : List ℕ) (n : ℕ) → 1 ≤ length ds → length ds ≤ 9 → 0 < n → number_of ds ≡ n → number_at (ds ++ rest) (length ds) ≡ Ok (n, rest)
 number-front ds rest n some few positive value =
     rw (le_yes 1 (length ds) some, le_yes (length ds) 9 few, take-append_seam ds rest, drop-append_seam ds rest, value, lt_yes 0 n positive) refl
 
@@ -144,12 +145,37 @@ plan-printed p h =
     let inside = printed_runs p.runs ++ 125 ∷ rest in
     rw (runs-printed p.runs rest (length inside) t.some (counts-merged p.runs t.merged t.short) (omega arith), unit-printed p.unit) refl
 
--- what is printed is read as the same pattern
-pub read-printed : (p : Plan) → IsTrue (is_pattern p.runs) → read_plan (printed_plan p) ≡ Ok p
-read-printed p h =
+-- a unit before a closing bracket
+unit-inside : (u : unit.Unit) (rest : List ℕ) → unit_in (unit_name u ++ 41 ∷ rest) ≡ Ok (u, 41 ∷ rest)
+unit-inside Second rest = refl
+unit-inside Minute rest = refl
+unit-inside Hour rest = refl
+unit-inside Day rest = refl
+unit-inside Week rest = refl
+unit-inside Month rest = refl
+unit-inside Year rest = refl
+
+-- a printed pattern in brackets
+pub plan-inside : (p : Plan) (rest : List ℕ) → IsTrue (is_pattern p.runs) → pattern_in (printed_plan p ++ 41 ∷ rest) ≡ Ok (p, 41 ∷ rest)
+unfolding pattern_in
+plan-inside p rest h =
+    let t = tested p.runs h in
+    let behind = 44 ∷ (unit_name p.unit ++ 41 ∷ rest) in
+    let inside = printed_runs p.runs ++ 125 ∷ behind in
+    let regroup : printed_plan p ++ 41 ∷ rest ≡ 123 ∷ inside =
+    ap (λ t. 123 ∷ t) (append_assoc (printed_runs p.runs) (125 ∷ 44 ∷ unit_name p.unit) (41 ∷ rest)) in
+    ap pattern_in regroup
+    ∙ rw (runs-printed p.runs behind (length inside) t.some (counts-merged p.runs t.merged t.short) (omega arith), unit-inside p.unit rest) refl
+
+-- a pattern is the one of its own runs
+pub plan-itself : (p : Plan) → IsTrue (is_pattern p.runs) → plan_of_written p ≡ Ok p
+plan-itself p h =
     let t = tested p.runs h in
     let n = total p.runs in
     let runs : runs_of (flag_at p.runs) n ≡ p.runs = runs_from-merged p.runs (flag_at p.runs) 0 t.merged (λ i lt. let same : 0 + i ≡ i = omega arith in ap (flag_at p.runs) same) in
-    ap (plan_or_place (printed_plan p)) (plan-printed p h)
-    ∙ plan-fits p.unit (flag_at p.runs) n t.short (omega (arith, ap length runs, t.few))
+    plan-fits p.unit (flag_at p.runs) n t.short (omega (arith, ap length runs, t.few))
     ∙ ap (λ (rs : List Run). Ok (record { unit = p.unit; runs = rs })) runs
+
+-- what is printed is read as the same pattern
+pub read-printed : (p : Plan) → IsTrue (is_pattern p.runs) → read_plan (printed_plan p) ≡ Ok p
+read-printed p h = ap (plan_or_place (printed_plan p)) (plan-printed p h) ∙ plan-itself p h

@@ -7,3 +7,4 @@ pub mod Growth
 pub mod Line
 pub mod Tokens
 pub mod Grammar
+pub mod Spelling

@@ -1,9 +1,10 @@
 -- The tokens of texts. What is read is a value and the text behind it, or how many bytes are left from the first
 -- token on that can't stand there, from a byte on that begins no token, or from the end on where more was wanted.
-use Rattle.std.specs.Prelude.{ℕ, suc, ◌==◌, Bool, ◌||◌, ◌&&◌, nat_le, nat_lt, if◌then◌else◌, List, [], ◌∷◌, length, take, drop, Result, Ok, Err}
+use Rattle.std.specs.Prelude.{ℕ, suc, ◌==◌, ◌&&◌, nat_le, nat_lt, if◌then◌else◌, List, [], ◌∷◌, length, take, drop, Result, Ok, Err}
 use Rattle.std.specs.List.{prefix_len}
 use Rattle.std.specs.Char.{is_ascii_digit}
-use Rattle.ts_base.specs.Name.{begins_word, continues_word}
+use Rattle.std.specs.Str.{bytes_eq}
+use Rattle.ts_base.specs.Name.{begins_word, continues_word, is_blank}
 use Rattle.ts_base.specs.StampText.{number_of}
 
 -- one reading after another
@@ -11,10 +12,6 @@ infixl 10 ◌>>=◌
 abbrev pub ◌>>=◌ : {A B : Type 0} → Result A ℕ → (A → Result B ℕ) → Result B ℕ
 (Ok x) >>= f = f x
 (Err left) >>= f = Err left
-
--- space, tab, carriage return and line feed
-abbrev pub is_blank : ℕ → Bool
-is_blank b = (b == 32) || (b == 9) || (b == 13) || (b == 10)
 
 -- the text from its first byte on that is no blank
 abbrev pub unblanked : List ℕ → List ℕ
@@ -38,6 +35,12 @@ word_len (b ∷ text) = if begins_word b then suc (prefix_len continues_word tex
 -- the word that a text begins with, or nothing
 abbrev pub word_of : List ℕ → List ℕ
 word_of text = take (word_len text) text
+
+-- the text behind a certain word
+abbrev pub after_word : List ℕ → List ℕ → Result (List ℕ) ℕ
+after_word word text =
+    if bytes_eq (word_of (unblanked text)) word then Ok (drop (word_len (unblanked text)) (unblanked text))
+    else Err (length (unblanked text))
 
 -- a number of 1 to 9 digits that isn't 0, at the front
 abbrev pub number_at : List ℕ → ℕ → Result (ℕ × List ℕ) ℕ

@@ -23,6 +23,6 @@ pub use junction::Junction;
 pub use pattern::{MOST_INTERVALS, MOST_RUNS, Pattern};
 pub use read::{Misread, WrittenPattern, pattern_in};
 pub use run::Run;
-pub use text::printed_patterns_are_read;
-pub use tokens::{after_sign, split_word, unblanked};
+pub use text::{pattern_texts_are_tokens, printed_patterns_are_read};
+pub use tokens::{after_sign, after_word, split_word, unblanked};
 pub use units::{factor, smaller_unit};

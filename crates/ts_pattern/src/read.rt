@@ -37,6 +37,16 @@ impl<T: Drop> From<AllocFailed<T>> for Misread {
     }
 }
 
+impl From<AllocError> for Misread {
+    ghost use Rattle.ts_pattern.specs.declared.read.Misread.TheVariants.{NoMemory};
+
+    ghost from_gives = { λ error misread. misread ≡ NoMemory error };
+
+    fn from(error: AllocError) -> Misread {
+        Misread::NoMemory(error)
+    }
+}
+
 fn flag_of_word(word: &[u8]) -> Option<bool>
     ensures { result ≡ Grammar.flag_of_word word.now }
 {

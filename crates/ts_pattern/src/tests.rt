@@ -1,4 +1,7 @@
-use crate::{Junction, Misread, Pattern, Run, WrittenPattern};
+use crate::{
+    Junction, Misread, Pattern, Run, WrittenPattern, after_sign, after_word, factor, pattern_in,
+    smaller_unit, split_word, unblanked,
+};
 use std::alloc::Global;
 use std::test::Fail;
 use ts_base::{Bytes, Refusal, Trouble, Unit};
@@ -85,6 +88,11 @@ fn patterns_of_different_units_meet_in_the_smaller(rt: HostRuntime) -> Result<()
         assert_eq!(rt; joined.unit(), Unit::Hour);
         assert_eq!(rt; joined.runs(), want.as_slice());
     }
+    let weeks = pattern(rt.alloc(), Unit::Week, false, &[1, 1])?;
+    let joined = weeks.and_op(&hours)?;
+    assert_eq!(rt; joined.length(), 336);
+    assert_eq!(rt; joined.runs().len(), 15);
+    assert_eq!(rt; joined.runs()[0].count, 176);
     let years = pattern(rt.alloc(), Unit::Year, true, &[1, 1])?;
     let months = pattern(rt.alloc(), Unit::Month, false, &[2, 1])?;
     let want = runs(rt.alloc(), true, &[12, 2, 1, 2, 1, 2, 1, 2, 1])?;
@@ -344,6 +352,30 @@ fn a_pattern_is_printed_with_merged_runs(rt: HostRuntime) -> Result<(), Fail> {
         assert_eq!(rt; out.as_slice(), printed);
     }
     Ok(())
+}
+
+#[test]
+fn tokens_stand_behind_blanks(rt: HostRuntime) -> Result<(), Fail> {
+    let text = b"\t pattern_1 ( {1 on},day )".as_slice();
+    assert_eq!(rt; after_word(text, b"pattern"), Err(24));
+    let rest = after_word(text, b"pattern_1").map_err(|_| "no word")?;
+    assert_eq!(rt; after_sign(rest, b')'), Err(14));
+    let rest = after_sign(rest, b'(').map_err(|_| "no sign")?;
+    let (written, rest) = pattern_in(rt.alloc(), rest).map_err(|_| "no pattern")?;
+    assert_eq!(rt; written.unit, Unit::Day);
+    assert_eq!(rt; unblanked(rest), b")".as_slice());
+    let (word, rest) = split_word(b"ab1 c");
+    assert_eq!(rt; word, b"ab1".as_slice());
+    assert_eq!(rt; rest, b" c".as_slice());
+    Ok(())
+}
+
+#[test]
+fn larger_units_are_made_of_smaller_ones(rt: HostRuntime) {
+    assert_eq!(rt; factor(Unit::Week, Unit::Hour), 168);
+    assert_eq!(rt; smaller_unit(Unit::Hour, Unit::Week), Some(Unit::Hour));
+    assert_eq!(rt; smaller_unit(Unit::Year, Unit::Month), Some(Unit::Month));
+    assert_eq!(rt; smaller_unit(Unit::Month, Unit::Week), None);
 }
 
 #[test]

@@ -1,11 +1,12 @@
 // Patterns as texts: `{1 off,5 on,1 off},day`.
-ghost use Rattle.std.specs.Prelude.{◌≡◌, ◌≢◌, ℕ, ◌+◌, ◌-◌, ◌*◌, ◌^◌, ◌<◌, ◌≤◌, [], ◌∷◌, ◌++◌, Ok, length, IsTrue, IfOk, OnOk, OnErr};
+ghost use Rattle.std.specs.Prelude.{◌≡◌, ◌≢◌, ℕ, ◌+◌, ◌-◌, ◌*◌, ◌^◌, ◌<◌, ◌≤◌, ◌↔◌, List, [], ◌∷◌, ◌++◌, Ok, length, IsTrue, IfOk, OnOk, OnErr};
 ghost use Rattle.std.specs.Fmt.{decimal};
 ghost use Rattle.ts_pattern.specs.Runs.{total, flag_at, runs_of, is_pattern};
 ghost use Rattle.ts_pattern.specs.Algebra.{Answers};
-ghost use Rattle.ts_pattern.specs.Grammar.{are_counts, plan_of_written, read_plan, printed_run, printed_runs, printed_plan};
+ghost use Rattle.ts_pattern.specs.Grammar.{are_counts, plan_of_written, read_plan, written_plan, printed_run, printed_runs, printed_plan};
 ghost use Rattle.ts_pattern.specs.Grammar;
 ghost use Rattle.ts_pattern.specs.Plan.{Plan};
+ghost use Rattle.ts_pattern.specs.Spelling.{IsPatternText};
 
 use crate::join::extend;
 use crate::pattern::too_long;
@@ -139,4 +140,9 @@ fn print_count(count: u32, out: &mut Bytes) -> Result<(), AllocError>
 /// What is printed of a pattern is read as the same pattern.
 pub fn printed_patterns_are_read()
     ensures { (p : Plan) → IsTrue (is_pattern p.runs) → read_plan (printed_plan p) ≡ Ok p }
+{}
+
+/// A text is read as a pattern exactly where it is that pattern's tokens with blanks between them.
+pub fn pattern_texts_are_tokens()
+    ensures { (text : List ℕ) → (p : Plan) → written_plan text ≡ Ok p ↔ IsPatternText p text }
 {}

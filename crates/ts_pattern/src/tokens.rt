@@ -6,7 +6,7 @@ ghost use Rattle.ts_base.specs.Name.{continues_word};
 ghost use Rattle.ts_base.specs.StampText.{all_digits, number_of};
 ghost use Rattle.ts_pattern.specs.Tokens;
 
-use ts_base::{begins_word, continues_word};
+use ts_base::{begins_word, continues_word, is_blank};
 
 /// The text from its first byte on that is no blank.
 pub fn unblanked(text: &[u8]) -> &[u8]
@@ -23,12 +23,6 @@ pub fn unblanked(text: &[u8]) -> &[u8]
     rest
 }
 
-fn is_blank(byte: u8) -> bool
-    ensures { result ≡ Tokens.is_blank byte }
-{
-    byte == b' ' || byte == b'\t' || byte == b'\r' || byte == b'\n'
-}
-
 /// The text behind a sign.
 pub fn after_sign(text: &[u8], sign: u8) -> Result<&[u8], usize>
     ensures value { MatchResult result (λ rest. Tokens.after_sign sign text.now ≡ Ok rest.now)
@@ -39,6 +33,21 @@ pub fn after_sign(text: &[u8], sign: u8) -> Result<&[u8], usize>
     match text {
         [first, rest @ ..] if *first == sign => Ok(rest),
         _ => Err(text.len()),
+    }
+}
+
+/// The text behind a certain word.
+pub fn after_word<'a>(text: &'a [u8], word: &[u8]) -> Result<&'a [u8], usize>
+    ensures value { MatchResult result (λ rest. Tokens.after_word word.now text.now ≡ Ok rest.now)
+        (λ left. Tokens.after_word word.now text.now ≡ Err left) }
+    ensures shorter { IfOk result (λ rest. length rest.now ≤ length text.now) }
+{
+    let text = unblanked(text);
+    let (found, rest) = split_word(text);
+    if found == word {
+        Ok(rest)
+    } else {
+        Err(text.len())
     }
 }
 

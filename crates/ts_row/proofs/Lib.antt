@@ -7,3 +7,4 @@ pub mod DecodingLemmas
 pub mod ValueBytesLemmas
 pub mod RowBytesLemmas
 pub mod DigitsLemmas
+pub mod AgainLemmas

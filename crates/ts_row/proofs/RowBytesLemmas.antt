@@ -1,5 +1,5 @@
 -- Rows and their bytes: what is written is read as the same row, and what is read was written so.
-use Rattle.std.proofs.Common.{◌≡◌, ℕ, ◌+◌, ◌<◌, ◌≤◌, true, false, ◌==◌, nat_le, if◌then◌else◌, Option, Some, None, List, [], ◌∷◌, ◌++◌, length, take, drop, get_or, IsTrue, IfSome, refl, sym, ap, subst, ◌∙◌, arith, lit<, length-append, length-take, inl, inr}
+use Rattle.std.proofs.Common.{◌≡◌, ◌↔◌, ℕ, ◌+◌, ◌<◌, ◌≤◌, is_some, true, false, ◌==◌, nat_le, if◌then◌else◌, Option, Some, None, List, [], ◌∷◌, ◌++◌, length, take, drop, get_or, IsTrue, IfSome, refl, sym, ap, subst, ◌∙◌, arith, lit<, length-append, length-take, inl, inr}
 use Rattle.std.specs.List.{list_all}
 use Rattle.std.proofs.lemmas.Bool.Decides.{nat_tests}
 use Rattle.std.proofs.lemmas.Bool.{cases_lt}
@@ -9,7 +9,7 @@ use Rattle.ts_row.specs.declared.kind.Column.{Column}
 use Rattle.ts_row.specs.declared.value.Value.{Value}
 use Rattle.ts_row.specs.RowType.{is_kind, column_width}
 use Rattle.ts_row.specs.Row.{Values, holds, fits}
-use Rattle.ts_row.specs.Encoding.{value_bytes, row_bytes, IsMeaning}
+use Rattle.ts_row.specs.Encoding.{value_bytes, row_bytes, IsMeaning, AreRowBytes}
 use Rattle.ts_row.specs.Decoding.{value_in, put_first, row_in}
 use Rattle.ts_row.proofs.ValueBytesLemmas.{value_in-value_bytes, length-value_bytes, value_bytes-value_in}
 
@@ -87,3 +87,13 @@ meaning columns bytes found kinds small is row = (
 pub meaning_fits : (columns : List Column) (bytes : List ℕ) (found : Option Values) → IsMeaning columns bytes found → IfSome found (λ row. IsTrue (fits columns row))
 meaning_fits columns bytes None means = tt
 meaning_fits columns bytes (Some row) means = ((means row).0 refl).0
+
+-- bytes that give a row when they are read are those of a row that fits
+pub row_bytes_if_some : (columns : List Column) (bytes : List ℕ) → valid columns → ((i : ℕ) → get_or bytes i 0 < 256) → IsTrue (is_some (row_in columns bytes)) ↔ AreRowBytes columns bytes
+row_bytes_if_some columns bytes kinds small = (
+  (λ some. elim (row_in columns bytes) as (λ o. row_in columns bytes ≡ o → IsTrue (is_some o) → AreRowBytes columns bytes) [
+    | None ↦ λ is none. absurd (cc)
+    | Some row ↦ λ is yes. let both = row_bytes-row_in columns bytes row small is in (row, both.0, both.1)
+  ] refl some),
+  (λ row. ap (λ b. is_some (row_in columns b)) (sym row.2) ∙ ap is_some (row_in-row_bytes columns row.0 kinds row.1)),
+)

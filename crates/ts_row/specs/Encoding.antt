@@ -37,3 +37,7 @@ row_bytes _ _ = []
 abbrev pub IsMeaning : List Column → List ℕ → Option Values → Type 0
 IsMeaning columns bytes found =
     (row : Values) → (found ≡ Some row) ↔ (IsTrue (fits columns row) × (row_bytes columns row ≡ bytes))
+
+-- these are the bytes of a row that fits
+abbrev pub AreRowBytes : List Column → List ℕ → Type 0
+AreRowBytes columns bytes = (row : Values) × IsTrue (fits columns row) × (row_bytes columns row ≡ bytes)

@@ -5,6 +5,8 @@ use Rattle.std.specs.Fmt.{decimal}
 use Rattle.ts_row.specs.declared.kind.Column.{Column}
 use Rattle.ts_row.specs.declared.value.Value.{Value}
 use Rattle.ts_row.specs.declared.value.Value.TheVariants.{Null, Number, Text}
+use Rattle.ts_row.specs.declared.value.Literal.{Literal}
+use Rattle.ts_row.specs.declared.value.Literal.TheVariants.{Null as NullLiteral, Number as NumberLiteral, Text as TextLiteral}
 use Rattle.ts_row.specs.RowType.{scale_of}
 use Rattle.ts_row.specs.Row.{Values}
 
@@ -43,6 +45,17 @@ value_texts _ _ = []
 -- the values of a row with commas between them
 abbrev pub row_text : List Column → Values → List ℕ
 row_text columns row = join_with_byte 44 (value_texts columns row)
+
+-- the literal that the text of a value is
+abbrev pub literal_of : ℕ → Value → Literal
+literal_of scale Null = NullLiteral
+literal_of scale (Number z) = NumberLiteral z scale
+literal_of scale (Text text) = TextLiteral text
+
+-- the literals that the texts of a row's values are
+abbrev pub literals_of : List Column → Values → List Literal
+literals_of (column ∷ columns) (value ∷ values) = literal_of (scale_of column.kind) value ∷ literals_of columns values
+literals_of _ _ = []
 
 -- a text has become longer at its end, if at all
 abbrev pub Extends : List ℕ → List ℕ → Type 0

@@ -89,8 +89,8 @@ fn decode_filled(alloc: Global, kind: ColumnKind, bytes: &[u8]) -> Result<Option
     })
 }
 
-// The number that bytes are.
-fn decode_number(kind: ColumnKind, bytes: &[u8]) -> i128
+/// The number that bytes are.
+pub(crate) fn decode_number(kind: ColumnKind, bytes: &[u8]) -> i128
     requires room { length bytes.now + 1 ≡ column_width kind }
     ensures { result ≡ number_in kind bytes.now }
 {
@@ -133,8 +133,8 @@ fn decode_text(alloc: Global, most: u16, bytes: &[u8]) -> Result<Option<Value>, 
     Ok(Some(Value::Text(Bytes::from_slice(alloc, text)?)))
 }
 
-// Zeros and nothing else.
-fn is_zero(bytes: &[u8]) -> bool
+/// Zeros and nothing else.
+pub(crate) fn is_zero(bytes: &[u8]) -> bool
     ensures { result ≡ all_zero bytes.now }
 {
     bytes.iter().all(|byte| *byte == 0)

@@ -1,13 +1,16 @@
 //! Row types and rows: the columns that a row type may have, the row that literals give, its bytes and its text.
 //! `make` refuses exactly the first column that breaks a rule (`specs/RowType`), `row_of` exactly the first that
 //! misfits (`specs/Row`). A row that fits has one encoding, and bytes mean that row or none (`specs/Encoding`).
-//! Values are printed as `specs/Printed` says. Stands on ts_base; knows nothing of pages or scripts. Read
-//! `specs/RowType.antt` and `specs/Row.antt`, then `row_type.rt`.
+//! Values are printed as `specs/Printed` says, and what is printed fits again and gives the values back (`laws.rt`).
+//! Stands on ts_base; knows nothing of pages or scripts. Read `specs/RowType.antt` and `specs/Row.antt`, then
+//! `row_type.rt`.
 #![tactic(auto)]
 
 mod decoding;
 mod encoding;
+mod judging;
 mod kind;
+mod laws;
 mod literal;
 mod print;
 mod row;
@@ -18,6 +21,7 @@ mod tests;
 mod value;
 
 pub use kind::{Column, ColumnKind};
+pub use laws::{printed_digits_write_the_size, printed_values_fit_again};
 pub use print::print_value;
 pub use row::{Elem, Row, Shelf};
 pub use row_type::RowType;

@@ -1,9 +1,7 @@
 // What is printed of values and rows.
-ghost use Rattle.std.specs.Prelude.{ℤ, unsigned_abs, filter, ◌≡◌, ◌^◌, ◌<◌, ◌≤◌, ◌++◌, IsTrue, OnOk, OnErr};
+ghost use Rattle.std.specs.Prelude.{◌≡◌, ◌≤◌, ◌++◌, IsTrue, OnOk, OnErr};
 ghost use Rattle.std.specs.List.{list_all, flat_map};
 ghost use Rattle.std.specs.Fmt.{decimal};
-ghost use Rattle.std.specs.Char.{is_ascii_digit};
-ghost use Rattle.ts_base.specs.StampText.{number_of};
 ghost use Rattle.ts_row.specs.RowType.{is_kind};
 ghost use Rattle.ts_row.specs.Row.{fits};
 ghost use Rattle.ts_row.specs.Printed.{last_digits, fraction_text, size_text, number_text, quoted, value_text, row_text, Extends};
@@ -22,10 +20,6 @@ pub fn print_value(
     requires { scale ≤ 34 }
     ensures ok { OnOk result (out.new ≡ out.old ++ value_text scale value.now) }
     ensures err { OnErr result (out.new ≡ out.old) }
-
-    // The digits of a printed number write its size.
-    ensures read_again { (z : ℤ) → unsigned_abs z < 2 ^ 128 →
-        number_of (filter is_ascii_digit (number_text scale z)) ≡ unsigned_abs z }
 {
     let mut made = Bytes::new(alloc);
     print_scaled(value, scale as u32, &mut made)?;

@@ -1,11 +1,12 @@
-ghost use Rattle.std.specs.Prelude.{◌≡◌, ◌≤◌, ◌++◌, IsTrue, IfOk, IfSome, IfErr, OnOk, OnErr, MatchResult, Ok, None, length};
+ghost use Rattle.std.specs.Prelude.{◌≡◌, ◌↔◌, ◌≤◌, ◌++◌, IsTrue, IfOk, IfSome, IfErr, OnOk, OnErr, MatchResult, Ok, None, length};
 ghost use Rattle.ts_row.specs.RowType.{is_row_type, width_of, bad_column, IsBadRowType};
 ghost use Rattle.ts_row.specs.Row.{row_of, IsRowTrouble, fits};
-ghost use Rattle.ts_row.specs.Encoding.{row_bytes, IsMeaning};
+ghost use Rattle.ts_row.specs.Encoding.{row_bytes, IsMeaning, AreRowBytes};
 ghost use Rattle.ts_row.specs.Printed.{row_text};
 
 use crate::decoding::decode;
 use crate::encoding::encode_row;
+use crate::judging::is_row;
 use crate::literal::read_row;
 use crate::print::print_row;
 use crate::rules::{first_bad, width_of};
@@ -117,6 +118,13 @@ impl RowType {
         ensures fits { IfOk result (λ found. IfSome found (λ row. IsTrue (fits self.now.columns row))) }
     {
         decode(*self.columns.allocator(), self.columns.as_slice(), from)
+    }
+
+    /// Whether these bytes are a row's, told without taking memory.
+    pub fn is_row(&self, from: &[u8]) -> bool
+        ensures { IsTrue result ↔ AreRowBytes self.now.columns from.now }
+    {
+        is_row(self.columns.as_slice(), from)
     }
 
     /// Prints the values of a row with commas between them. Want of memory changes nothing.

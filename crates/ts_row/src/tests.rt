@@ -71,44 +71,44 @@ fn printed(alloc: Global, kind: ColumnKind, literal: Literal) -> Result<Bytes, F
 }
 
 #[test]
-fn numbers_fit_their_columns_or_are_refused(rt: HostRuntime) -> Result<(), Fail> {
-    let whole = ColumnKind::Decimal {
-        digits: 18,
-        scale: 0,
-    };
-    let part = ColumnKind::Decimal {
-        digits: 18,
-        scale: 18,
-    };
-    let rows: [(ColumnKind, i128, u8, &[u8]); 32] = [
-        (ColumnKind::SmallInt, 32_767, 0, b"32767"),
-        (ColumnKind::SmallInt, -32_767, 0, b"-32767"),
-        (ColumnKind::SmallInt, 32_768, 0, b"refused"),
-        (ColumnKind::SmallInt, -32_768, 0, b"refused"),
-        (ColumnKind::Integer, 2_147_483_647, 0, b"2147483647"),
-        (ColumnKind::Integer, -2_147_483_647, 0, b"-2147483647"),
-        (ColumnKind::Integer, 2_147_483_648, 0, b"refused"),
-        (ColumnKind::Integer, -2_147_483_648, 0, b"refused"),
-        (ColumnKind::Integer, 10, 1, b"refused"),
-        (
-            ColumnKind::BigInt,
-            9_223_372_036_854_775_807,
-            0,
-            b"9223372036854775807",
-        ),
-        (
-            ColumnKind::BigInt,
-            -9_223_372_036_854_775_807,
-            0,
-            b"-9223372036854775807",
-        ),
-        (ColumnKind::BigInt, 9_223_372_036_854_775_808, 0, b"refused"),
-        (
-            ColumnKind::BigInt,
-            -9_223_372_036_854_775_808,
-            0,
-            b"refused",
-        ),
+fn whole_numbers_fit_their_columns_or_are_refused(rt: HostRuntime) -> Result<(), Fail> {
+    let small = ColumnKind::SmallInt;
+    let integer = ColumnKind::Integer;
+    let big = ColumnKind::BigInt;
+    let most = 9_223_372_036_854_775_807;
+    let past = 9_223_372_036_854_775_808;
+    let rows: [(ColumnKind, i128, u8, &[u8]); 14] = [
+        (small, 32_767, 0, b"32767"),
+        (small, -32_767, 0, b"-32767"),
+        (small, 32_768, 0, b"refused"),
+        (small, -32_768, 0, b"refused"),
+        (integer, 2_147_483_647, 0, b"2147483647"),
+        (integer, -2_147_483_647, 0, b"-2147483647"),
+        (integer, 2_147_483_648, 0, b"refused"),
+        (integer, -2_147_483_648, 0, b"refused"),
+        (integer, 10, 1, b"refused"),
+        (big, most, 0, b"9223372036854775807"),
+        (big, -most, 0, b"-9223372036854775807"),
+        (big, past, 0, b"refused"),
+        (big, -past, 0, b"refused"),
+        (FOUR, 1, 0, b"refused"),
+    ];
+    for (kind, units, scale, want) in rows {
+        let out = printed(rt.alloc(), kind, Literal::Number { units, scale })?;
+        assert_eq!(rt; out.as_slice(), want, "at {units} with {scale} digits");
+    }
+    Ok(())
+}
+
+#[test]
+fn decimals_fit_their_columns_or_are_refused(rt: HostRuntime) -> Result<(), Fail> {
+    let decimal = |digits, scale| ColumnKind::Decimal { digits, scale };
+    let whole = decimal(18, 0);
+    let part = decimal(18, 18);
+    let nines = 99_999_999_999_999_999_999_999_999_999_999_999_999;
+    let tenth = 10_000_000_000_000_000_000_000_000_000_000_000_000;
+    let tenth_and_more = 10_000_000_000_000_000_000_000_000_000_000_000_001;
+    let rows: [(ColumnKind, i128, u8, &[u8]); 18] = [
         (DECIMAL, 1_234, 1, b"123.40"),
         (DECIMAL, 1_250, 3, b"1.25"),
         (DECIMAL, 1_255, 3, b"refused"),
@@ -129,25 +129,9 @@ fn numbers_fit_their_columns_or_are_refused(rt: HostRuntime) -> Result<(), Fail>
             20,
             b"999999999999999999",
         ),
-        (
-            whole,
-            99_999_999_999_999_999_999_999_999_999_999_999_999,
-            0,
-            b"refused",
-        ),
-        (
-            part,
-            10_000_000_000_000_000_000_000_000_000_000_000_000,
-            38,
-            b"0.100000000000000000",
-        ),
-        (
-            part,
-            10_000_000_000_000_000_000_000_000_000_000_000_001,
-            38,
-            b"refused",
-        ),
-        (FOUR, 1, 0, b"refused"),
+        (whole, nines, 0, b"refused"),
+        (part, tenth, 38, b"0.100000000000000000"),
+        (part, tenth_and_more, 38, b"refused"),
     ];
     for (kind, units, scale, want) in rows {
         let out = printed(rt.alloc(), kind, Literal::Number { units, scale })?;
@@ -320,6 +304,7 @@ fn bytes_of_no_row_are_refused(rt: HostRuntime) -> Result<(), Fail> {
     for (kind, bytes, want) in rows {
         let row_type = made(alloc, &[kind])?;
         assert_eq!(rt; row_type.decode(bytes)?.is_some(), want, "at {bytes:?}");
+        assert_eq!(rt; row_type.is_row(bytes), want, "at {bytes:?}");
     }
     Ok(())
 }
