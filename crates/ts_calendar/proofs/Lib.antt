@@ -4,3 +4,7 @@ pub mod HeldLemmas
 pub mod FirstLemmas
 pub mod StepLemmas
 pub mod JoinedLemmas
+pub mod StampTextLemmas
+pub mod TextLemmas
+pub mod ValidLemmas
+pub mod PrintLemmas

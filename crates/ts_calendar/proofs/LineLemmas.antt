@@ -1,5 +1,5 @@
 -- The line of interval starts: it rises, and its stamps are the starts.
-use Rattle.std.proofs.Common.{◌≡◌, ℕ, ◌+◌, ◌<◌, ◌≤◌, true, false, refl, sym, ap, ◌∙◌, arith, ℤ, pos, negsuc, ◌+ℤ◌, ◌-ℤ◌, ◌*ℤ◌, ◌≤ℤ◌, ◌<ℤ◌, unsigned_abs, Some, None, Option, IsTrue, subst}
+use Rattle.std.proofs.Common.{◌≡◌, ℕ, ◌+◌, ◌-◌, ◌*◌, ◌<◌, ◌≤◌, true, false, refl, sym, ap, ◌∙◌, arith, ℤ, pos, negsuc, ◌+ℤ◌, ◌-ℤ◌, ◌*ℤ◌, ◌≤ℤ◌, ◌<ℤ◌, unsigned_abs, Some, None, Option, IsTrue, subst}
 use Rattle.std.specs.Int.{int_div_euclid, int_rem_euclid}
 use Rattle.std.proofs.lemmas.Int.{by_lt_z}
 use Rattle.jiff_core.specs.Calendar.{days_from_civil, IsCivilDate}
@@ -172,7 +172,7 @@ month-before s day clock n stamp some few time lt =
     omega (arith, signed_arith, line-mid day clock n from to, rise, date.0, d.whole))
 
 -- the month of a stamp lies within the years
-month-within : (s : ℤ) → IsStamp s → (pos 1 ≤ℤ year_in (month_at s)) × (year_in (month_at s) ≤ℤ pos 9999)
+pub month-within : (s : ℤ) → IsStamp s → (pos 1 ≤ℤ year_in (month_at s)) × (year_in (month_at s) ≤ℤ pos 9999)
 month-within s stamp =
     let d = dated s stamp in
     let year = d.valid.0 in
@@ -265,9 +265,10 @@ months-high t m stamp early h =
     months-line t m stamp early ∙ ap stamp_if_any high
     ∙ stamp-high (month_at t +ℤ m +ℤ pos 25_340_230_079_880_000) (omega (arith, signed_arith)) (omega (arith, signed_arith))
 
--- the day of the month is kept
-pub day-kept : (u : unit.Unit) (first k f : ℤ) → IsStamp first → IsEarly u first → IsTrue (is_monthly u) → start_in u first k ≡ Some f → day_of_month f ≡ day_of_month first
-day-kept u first k f stamp early monthly e =
+-- the day of the month and the time of day are kept, and the month number moves
+pub date-moved : (u : unit.Unit) (first k f : ℤ) → IsStamp first → IsEarly u first → IsTrue (is_monthly u) → start_in u first k ≡ Some f
+    → (day_of_month f ≡ day_of_month first) × (clock_of f ≡ clock_of first) × (month_at f ≡ month_of_interval u first k)
+date-moved u first k f stamp early monthly e =
     let d = dated first stamp in
     let day = day_of_month first in
     let some : 1 ≤ day = omega (arith, d.valid.2.0) in
@@ -284,9 +285,16 @@ day-kept u first k f stamp early monthly e =
     let number = days_from_civil (year_in n) (month_in n) day in
     let whole : f ≡ number *ℤ pos 8_640_000_000 +ℤ pos (clock_of first) = is.0 ∙ line ∙ mid in
     let day_is : day_of f ≡ number = omega (arith, signed_arith, whole, d.clock) in
+    let clock_is : clock_of f ≡ clock_of first = omega (arith, signed_arith, whole, d.clock) in
     let year : year_in n ≡ pos (unsigned_abs (year_in n)) = natural (year_in n) from in
     let valid : IsCivilDate (pos (unsigned_abs (year_in n))) (month_in n) day =
     subst (λ y. IsCivilDate y (month_in n) day) year (early-valid n day from high some (early monthly)) in
     let date = civil_of-days (unsigned_abs (year_in n)) (month_in n) day (omega (arith, signed_arith, year)) valid in
-    ap (λ (c : Civil). c.day) (ap civil_of (day_is ∙ ap (λ y. days_from_civil y (month_in n) day) year) ∙ date))
+    let civil = ap civil_of (day_is ∙ ap (λ y. days_from_civil y (month_in n) day) year) ∙ date in
+    let number_is : pos (unsigned_abs (year_in n) * 12 + (month_in n - 1)) ≡ n = omega (arith, signed_arith, year) in
+    (ap (λ (c : Civil). c.day) civil, clock_is, ap month_of civil ∙ number_is))
     (λ over. let above = line-high day (clock_of first) n from over in absurd (omega (arith, signed_arith, there.1, above))))
+
+-- the day of the month is kept
+pub day-kept : (u : unit.Unit) (first k f : ℤ) → IsStamp first → IsEarly u first → IsTrue (is_monthly u) → start_in u first k ≡ Some f → day_of_month f ≡ day_of_month first
+day-kept u first k f stamp early monthly e = (date-moved u first k f stamp early monthly e).0

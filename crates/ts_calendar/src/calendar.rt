@@ -1,4 +1,4 @@
-ghost use Rattle.std.specs.Prelude.{◌≡◌, ◌≤◌, ◌<◌, ◌↔◌, ℤ, pos, IsTrue, IsSome, IfSome, IfNone, IfOk, Some};
+ghost use Rattle.std.specs.Prelude.{◌≡◌, ◌≤◌, ◌<◌, ◌↔◌, ℤ, pos, neg_ℤ, IsTrue, IsSome, IfSome, IfNone, IfOk, Some, Ok};
 ghost use Rattle.ts_calendar.specs.Calendar.{valid_calendar, joined_calendar, with_pattern};
 ghost use Rattle.ts_calendar.specs.Calendar.{is_late, is_apart};
 ghost use Rattle.ts_calendar.specs.Intervals.{IsEarly, starts_from, is_on};
@@ -37,6 +37,9 @@ impl Model for Calendar {
 
 impl Calendar {
     ghost use Rattle.ts_calendar.specs.Intervals.{start_at, Holds, IsOnStamp};
+    ghost use Rattle.ts_calendar.specs.Line.{IsAround};
+    ghost use Rattle.ts_base.specs.Moment.{IsStamp};
+    ghost use Rattle.jiff_core.specs.Calendar.{IsBetween};
     ghost use Rattle.ts_base.specs.declared.unit.Unit as unit;
     ghost use Rattle.ts_pattern.specs.Algebra.{Answers, joined_plan};
     ghost use Rattle.ts_pattern.specs.Units.{smaller_unit};
@@ -113,6 +116,16 @@ impl Calendar {
         }
     }
 
+    /// The interval that begins at or before a stamp and ends after it, be it beyond the years.
+    pub fn interval_around(&self, stamp: Stamp) -> i64
+        ensures around { IsAround self.now.pattern.unit self.now.patt_start stamp result }
+        ensures stamps { IsStamp self.now.patt_start × IsStamp stamp }
+        ensures early { IsEarly self.now.pattern.unit self.now.patt_start }
+        ensures near { IsBetween (neg_ℤ (pos 400_000_000_000)) (pos 400_000_000_000) result }
+    {
+        interval_around(self.pattern.unit(), self.patt_start, stamp)
+    }
+
     /// Whether an on interval holds a stamp.
     pub fn on(&self, stamp: Stamp) -> bool
         ensures { IsTrue result ↔ IsOnStamp self.now stamp }
@@ -123,8 +136,8 @@ impl Calendar {
         }
     }
 
-    // Whether an interval is on.
-    fn is_on(&self, k: i64) -> bool
+    /// Whether an interval is on.
+    pub fn is_on(&self, k: i64) -> bool
         ensures { result ≡ is_on self.now k }
     {
         starts_from(self.start_of(k), self.start) && flag(&self.pattern, k)
@@ -132,20 +145,23 @@ impl Calendar {
 
     /// The calendar that is on where both are.
     pub fn and_op(&self, other: &Calendar) -> Result<Calendar, Trouble>
-        ensures { Answers (joined_calendar And self.now other.now) result }
+        ensures answer { Answers (joined_calendar And self.now other.now) result }
+        ensures valid { IfOk result (λ c. valid_calendar c ≡ Ok c) }
     {
         self.joined(Junction::And, other)
     }
 
     /// The calendar that is on where one of the two is, or both.
     pub fn or_op(&self, other: &Calendar) -> Result<Calendar, Trouble>
-        ensures { Answers (joined_calendar Or self.now other.now) result }
+        ensures answer { Answers (joined_calendar Or self.now other.now) result }
+        ensures valid { IfOk result (λ c. valid_calendar c ≡ Ok c) }
     {
         self.joined(Junction::Or, other)
     }
 
     fn joined(&self, junction: Junction, other: &Calendar) -> Result<Calendar, Trouble>
-        ensures { Answers (joined_calendar junction self.now other.now) result }
+        ensures answer { Answers (joined_calendar junction self.now other.now) result }
+        ensures valid { IfOk result (λ c. valid_calendar c ≡ Ok c) }
     {
         let Some(unit) = smaller_unit(self.pattern.unit(), other.pattern.unit()) else {
             return Err(Trouble::Refused(Refusal::UnitMismatch));

@@ -1,13 +1,19 @@
 //! Calendars: intervals of one unit on the line of stamps, of which a pattern says which ones are on. Where an interval
 //! starts, which one holds a stamp and which are on is `specs/Intervals`; which calendars are valid, and AND and OR of
-//! two of them, is `specs/Calendar`. All of it is closed arithmetic, by jiff's calendar for months. Stands on
-//! ts_pattern and ts_base; knows nothing of series. Read `specs/Intervals.antt`, then `calendar.rt`.
+//! two of them, is `specs/Calendar`; their texts are `specs/Text`. All of it is closed arithmetic, by jiff's calendar
+//! for months. Stands on ts_pattern and ts_base; knows nothing of series. Read `specs/Intervals.antt`, then
+//! `calendar.rt`.
 #![tactic(auto)]
 
 mod calendar;
 mod civil;
+mod read;
 mod steps;
 #[cfg(test)]
 mod tests;
+mod text;
+#[cfg(test)]
+mod text_tests;
 
 pub use calendar::Calendar;
+pub use text::{CalendarText, PatternPart, calendar_texts_are_tokens, printed_calendars_are_read};

@@ -1,6 +1,7 @@
 use crate::Calendar;
 use std::alloc::Global;
 use std::test::Fail;
+use ts_base::Unit::{Day, Hour, Minute, Month, Second, Week, Year};
 use ts_base::{Refusal, Stamp, Trouble, Unit};
 use ts_pattern::{Pattern, Run};
 
@@ -44,63 +45,18 @@ fn refusal(outcome: Result<Calendar, Trouble>) -> Option<Refusal> {
 #[test]
 fn a_calendar_that_breaks_a_rule_is_refused(rt: HostRuntime) -> Result<(), Fail> {
     let bad = Some(Refusal::BadCalendar { place: 0 });
-    let rows: [(&[u8], &[u8], Unit, bool, Option<Refusal>); 8] = [
-        (
-            b"2011-01-02 00:00:00",
-            b"2011-01-02 00:00:00",
-            Unit::Day,
-            true,
-            None,
-        ),
-        (
-            b"2011-01-02 00:00:00",
-            b"2011-01-08 00:00:00",
-            Unit::Day,
-            true,
-            None,
-        ),
-        (
-            b"2011-01-02 00:00:00",
-            b"2011-01-09 00:00:00",
-            Unit::Day,
-            true,
-            bad,
-        ),
-        (
-            b"2011-01-02 00:00:00",
-            b"2011-01-01 23:59:59",
-            Unit::Day,
-            true,
-            bad,
-        ),
-        (
-            b"2012-01-28 00:00:00",
-            b"2012-01-28 00:00:00",
-            Unit::Month,
-            true,
-            None,
-        ),
-        (
-            b"2012-01-29 00:00:00",
-            b"2012-01-29 00:00:00",
-            Unit::Month,
-            true,
-            bad,
-        ),
-        (
-            b"2012-01-29 00:00:00",
-            b"2012-01-29 00:00:00",
-            Unit::Week,
-            true,
-            None,
-        ),
-        (
-            b"2011-01-02 00:00:00",
-            b"2011-01-02 00:00:00",
-            Unit::Day,
-            false,
-            Some(Refusal::AllOff),
-        ),
+    let off = Some(Refusal::AllOff);
+    let week = b"2011-01-02 00:00:00";
+    let rows: [(&[u8], &[u8], Unit, bool, Option<Refusal>); 9] = [
+        (week, week, Day, true, None),
+        (week, b"2011-01-08 00:00:00", Day, true, None),
+        (week, b"2011-01-09 00:00:00", Day, true, bad),
+        (week, b"2011-01-10 00:00:00", Day, true, bad),
+        (week, b"2011-01-01 23:59:59", Day, true, bad),
+        (week, b"2012-01-28 00:00:00", Year, true, None),
+        (week, b"2012-01-29 00:00:00", Year, true, bad),
+        (week, b"2011-01-29 00:00:00", Month, true, bad),
+        (week, week, Day, false, off),
     ];
     for (start, patt_start, unit, on, why) in rows {
         let made = Calendar::make(
@@ -121,11 +77,7 @@ fn a_calendar_that_breaks_a_rule_is_refused(rt: HostRuntime) -> Result<(), Fail>
 fn a_calendar_tells_its_parts(rt: HostRuntime) -> Result<(), Fail> {
     let start = stamp(b"2011-01-02 00:00:00")?;
     let patt_start = stamp(b"2011-01-04 00:00:00")?;
-    let made = match Calendar::make(
-        start,
-        patt_start,
-        pattern(rt.alloc(), Unit::Day, true, &[3])?,
-    ) {
+    let made = match Calendar::make(start, patt_start, pattern(rt.alloc(), Day, true, &[3])?) {
         Ok(made) => made,
         Err(_) => return Err(Fail::from("no calendar")),
     };
@@ -139,73 +91,23 @@ fn a_calendar_tells_its_parts(rt: HostRuntime) -> Result<(), Fail> {
 #[test]
 fn intervals_move_with_their_unit(rt: HostRuntime) -> Result<(), Fail> {
     let rows: [(Unit, &[u8], i64, &[u8]); 12] = [
+        (Second, b"2011-01-02 00:00:00", -1, b"2011-01-01 23:59:59"),
+        (Minute, b"2011-01-02 00:00:30", 2, b"2011-01-02 00:02:30"),
+        (Hour, b"2011-01-02 00:30:00", 25, b"2011-01-03 01:30:00"),
+        (Day, b"2012-02-28 12:00:00", 2, b"2012-03-01 12:00:00"),
+        (Week, b"2011-01-02 00:00:00", -1, b"2010-12-26 00:00:00"),
+        (Month, b"2012-01-28 10:00:00", 1, b"2012-02-28 10:00:00"),
+        (Month, b"2012-01-28 10:00:00", -1, b"2011-12-28 10:00:00"),
+        (Month, b"2012-01-28 10:00:00", -13, b"2010-12-28 10:00:00"),
         (
-            Unit::Second,
-            b"2011-01-02 00:00:00",
-            -1,
-            b"2011-01-01 23:59:59",
-        ),
-        (
-            Unit::Minute,
-            b"2011-01-02 00:00:30",
-            2,
-            b"2011-01-02 00:02:30",
-        ),
-        (
-            Unit::Hour,
-            b"2011-01-02 00:30:00",
-            25,
-            b"2011-01-03 01:30:00",
-        ),
-        (Unit::Day, b"2012-02-28 12:00:00", 2, b"2012-03-01 12:00:00"),
-        (
-            Unit::Week,
-            b"2011-01-02 00:00:00",
-            -1,
-            b"2010-12-26 00:00:00",
-        ),
-        (
-            Unit::Month,
-            b"2012-01-28 10:00:00",
-            1,
-            b"2012-02-28 10:00:00",
-        ),
-        (
-            Unit::Month,
-            b"2012-01-28 10:00:00",
-            -1,
-            b"2011-12-28 10:00:00",
-        ),
-        (
-            Unit::Month,
-            b"2012-01-28 10:00:00",
-            -13,
-            b"2010-12-28 10:00:00",
-        ),
-        (
-            Unit::Year,
-            b"2012-02-28 10:00:00",
-            1,
-            b"2013-02-28 10:00:00",
-        ),
-        (
-            Unit::Year,
-            b"2012-02-28 10:00:00",
-            -2011,
-            b"0001-02-28 10:00:00",
-        ),
-        (
-            Unit::Year,
-            b"2012-02-28 10:00:00",
-            7987,
-            b"9999-02-28 10:00:00",
-        ),
-        (
-            Unit::Month,
+            Month,
             b"0001-01-01 00:00:00",
             119_987,
             b"9999-12-01 00:00:00",
         ),
+        (Year, b"2012-02-28 10:00:00", 1, b"2013-02-28 10:00:00"),
+        (Year, b"2012-02-28 10:00:00", -2011, b"0001-02-28 10:00:00"),
+        (Year, b"2012-02-28 10:00:00", 7987, b"9999-02-28 10:00:00"),
     ];
     for (unit, first, k, start) in rows {
         let made = calendar(rt.alloc(), first, unit, true, &[1])?;
@@ -220,13 +122,13 @@ fn no_interval_starts_outside_the_years(rt: HostRuntime) -> Result<(), Fail> {
     let last = stamp(b"9999-12-31 23:59:59.99999")?;
     let first = stamp(b"0001-01-01 00:00:00")?;
     let rows: [(Unit, &[u8]); 7] = [
-        (Unit::Second, b"9999-12-31 23:59:59"),
-        (Unit::Minute, b"9999-12-31 23:59:00"),
-        (Unit::Hour, b"9999-12-31 23:00:00"),
-        (Unit::Day, b"9999-12-31 00:00:00"),
-        (Unit::Week, b"9999-12-25 00:00:00"),
-        (Unit::Month, b"9999-12-28 00:00:00"),
-        (Unit::Year, b"9999-02-28 00:00:00"),
+        (Second, b"9999-12-31 23:59:59"),
+        (Minute, b"9999-12-31 23:59:00"),
+        (Hour, b"9999-12-31 23:00:00"),
+        (Day, b"9999-12-31 00:00:00"),
+        (Week, b"9999-12-25 00:00:00"),
+        (Month, b"9999-12-28 00:00:00"),
+        (Year, b"9999-02-28 00:00:00"),
     ];
     for (unit, late) in rows {
         let end = calendar(rt.alloc(), late, unit, true, &[1])?;
@@ -240,8 +142,8 @@ fn no_interval_starts_outside_the_years(rt: HostRuntime) -> Result<(), Fail> {
         assert_eq!(rt; begin.start_of(i64::MIN), None);
         let later = calendar(rt.alloc(), b"0001-01-02 00:00:01", unit, true, &[1])?;
         let held = match unit {
-            Unit::Second | Unit::Minute | Unit::Hour | Unit::Day => true,
-            Unit::Week | Unit::Month | Unit::Year => false,
+            Second | Minute | Hour | Day => true,
+            Week | Month | Year => false,
         };
         assert_eq!(rt;
             later.interval_of(stamp(b"0001-01-01 00:00:59")?).is_some(),
@@ -254,54 +156,29 @@ fn no_interval_starts_outside_the_years(rt: HostRuntime) -> Result<(), Fail> {
 #[test]
 fn an_interval_holds_the_stamps_up_to_the_next(rt: HostRuntime) -> Result<(), Fail> {
     let rows: [(Unit, &[u8], &[u8], i64); 8] = [
+        (Day, b"2011-01-02 06:00:00", b"2011-01-03 05:59:59.99999", 0),
         (
-            Unit::Day,
-            b"2011-01-02 06:00:00",
-            b"2011-01-03 05:59:59.99999",
-            0,
-        ),
-        (
-            Unit::Day,
+            Day,
             b"2011-01-02 06:00:00",
             b"2011-01-02 05:59:59.99999",
             -1,
         ),
         (
-            Unit::Month,
+            Month,
             b"2012-01-28 00:00:00",
             b"2012-02-27 23:59:59.99999",
             0,
         ),
+        (Month, b"2012-01-28 00:00:00", b"2012-02-28 00:00:00", 1),
+        (Month, b"2012-01-28 00:00:00", b"2011-12-27 00:00:00", -2),
         (
-            Unit::Month,
-            b"2012-01-28 00:00:00",
-            b"2012-02-28 00:00:00",
-            1,
-        ),
-        (
-            Unit::Month,
-            b"2012-01-28 00:00:00",
-            b"2011-12-27 00:00:00",
-            -2,
-        ),
-        (
-            Unit::Year,
+            Year,
             b"2012-02-28 12:00:00",
             b"2013-02-28 11:59:59.99999",
             0,
         ),
-        (
-            Unit::Year,
-            b"2012-02-28 12:00:00",
-            b"2013-02-28 12:00:00",
-            1,
-        ),
-        (
-            Unit::Year,
-            b"2012-02-28 12:00:00",
-            b"2011-02-01 00:00:00",
-            -2,
-        ),
+        (Year, b"2012-02-28 12:00:00", b"2013-02-28 12:00:00", 1),
+        (Year, b"2012-02-28 12:00:00", b"2011-02-01 00:00:00", -2),
     ];
     for (unit, first, held, k) in rows {
         let made = calendar(rt.alloc(), first, unit, true, &[1])?;
@@ -312,13 +189,7 @@ fn an_interval_holds_the_stamps_up_to_the_next(rt: HostRuntime) -> Result<(), Fa
 
 #[test]
 fn on_follows_the_pattern_from_the_start(rt: HostRuntime) -> Result<(), Fail> {
-    let week = calendar(
-        rt.alloc(),
-        b"2011-01-02 00:00:00",
-        Unit::Day,
-        false,
-        &[1, 5, 1],
-    )?;
+    let week = calendar(rt.alloc(), b"2011-01-02 00:00:00", Day, false, &[1, 5, 1])?;
     let rows: [(&[u8], bool); 6] = [
         (b"2011-01-02 12:00:00", false),
         (b"2011-01-03 00:00:00", true),
@@ -330,13 +201,7 @@ fn on_follows_the_pattern_from_the_start(rt: HostRuntime) -> Result<(), Fail> {
     for (text, on) in rows {
         assert_eq!(rt; week.on(stamp(text)?), on, "{text:?}");
     }
-    let months = calendar(
-        rt.alloc(),
-        b"2012-01-28 00:00:00",
-        Unit::Month,
-        true,
-        &[1, 1],
-    )?;
+    let months = calendar(rt.alloc(), b"2012-01-28 00:00:00", Month, true, &[1, 1])?;
     assert!(rt; months.on(stamp(b"2012-02-27 00:00:00")?));
     assert!(rt; !months.on(stamp(b"2012-02-28 00:00:00")?));
     assert!(rt; months.on(stamp(b"2012-04-01 00:00:00")?));
@@ -346,50 +211,27 @@ fn on_follows_the_pattern_from_the_start(rt: HostRuntime) -> Result<(), Fail> {
 
 #[test]
 fn calendars_of_different_units_meet_in_the_smaller(rt: HostRuntime) -> Result<(), Fail> {
-    let week = calendar(
-        rt.alloc(),
-        b"2011-01-02 00:00:00",
-        Unit::Day,
-        false,
-        &[1, 5, 1],
-    )?;
-    let hours = calendar(rt.alloc(), b"2011-01-05 06:00:00", Unit::Hour, true, &[1])?;
+    let week = calendar(rt.alloc(), b"2011-01-02 00:00:00", Day, false, &[1, 5, 1])?;
+    let hours = calendar(rt.alloc(), b"2011-01-05 06:00:00", Hour, true, &[1])?;
     let from = stamp(b"2011-01-05 06:00:00")?;
     let both = week.and_op(&hours)?;
     assert_eq!(rt; both.start(), from);
     assert_eq!(rt; both.patt_start(), from);
     assert_eq!(rt;
         both.pattern().runs(),
-        pattern(rt.alloc(), Unit::Hour, true, &[66, 48, 54])?.runs()
+        pattern(rt.alloc(), Hour, true, &[66, 48, 54])?.runs()
     );
     let either = hours.or_op(&week)?;
     assert_eq!(rt; either.start(), from);
     assert_eq!(rt;
         either.pattern().runs(),
-        pattern(rt.alloc(), Unit::Hour, true, &[168])?.runs()
+        pattern(rt.alloc(), Hour, true, &[168])?.runs()
     );
-    let months = calendar(
-        rt.alloc(),
-        b"2012-03-10 00:00:00",
-        Unit::Month,
-        true,
-        &[1, 2],
-    )?;
-    let years = calendar(
-        rt.alloc(),
-        b"2011-01-10 00:00:00",
-        Unit::Year,
-        true,
-        &[1, 1],
-    )?;
+    let months = calendar(rt.alloc(), b"2012-03-10 00:00:00", Month, true, &[1, 2])?;
+    let years = calendar(rt.alloc(), b"2011-01-10 00:00:00", Year, true, &[1, 1])?;
     let quarters = years.and_op(&months)?;
     assert_eq!(rt; quarters.patt_start(), stamp(b"2012-03-10 00:00:00")?);
-    let want = pattern(
-        rt.alloc(),
-        Unit::Month,
-        false,
-        &[12, 1, 2, 1, 2, 1, 2, 1, 2],
-    )?;
+    let want = pattern(rt.alloc(), Month, false, &[12, 1, 2, 1, 2, 1, 2, 1, 2])?;
     assert_eq!(rt; quarters.pattern().runs(), want.runs());
     Ok(())
 }
@@ -398,53 +240,37 @@ fn calendars_of_different_units_meet_in_the_smaller(rt: HostRuntime) -> Result<(
 fn a_pattern_start_may_lie_after_the_result(rt: HostRuntime) -> Result<(), Fail> {
     let start = stamp(b"2011-01-02 00:00:00")?;
     let patt_start = stamp(b"2011-01-08 00:00:00")?;
-    let late = match Calendar::make(
-        start,
-        patt_start,
-        pattern(rt.alloc(), Unit::Day, true, &[1, 6])?,
-    ) {
+    let late = match Calendar::make(start, patt_start, pattern(rt.alloc(), Day, true, &[1, 6])?) {
         Ok(late) => late,
         Err(_) => return Err(Fail::from("no calendar")),
     };
-    let days = calendar(rt.alloc(), b"2011-01-03 00:00:00", Unit::Day, true, &[1])?;
+    let days = calendar(rt.alloc(), b"2011-01-03 00:00:00", Day, true, &[1])?;
     let both = late.and_op(&days)?;
     assert_eq!(rt; both.patt_start(), stamp(b"2011-01-03 00:00:00")?);
     assert_eq!(rt;
         both.pattern().runs(),
-        pattern(rt.alloc(), Unit::Day, false, &[5, 1, 1])?.runs()
+        pattern(rt.alloc(), Day, false, &[5, 1, 1])?.runs()
     );
     Ok(())
 }
 
 #[test]
 fn calendars_that_cannot_meet_are_refused(rt: HostRuntime) -> Result<(), Fail> {
-    let days = calendar(rt.alloc(), b"2011-01-02 00:00:00", Unit::Day, true, &[1, 1])?;
-    let turned = calendar(
-        rt.alloc(),
-        b"2011-01-02 00:00:00",
-        Unit::Day,
-        false,
-        &[1, 1],
-    )?;
-    let months = calendar(rt.alloc(), b"2011-01-02 00:00:00", Unit::Month, true, &[1])?;
-    let halves = calendar(rt.alloc(), b"2011-01-05 06:30:00", Unit::Hour, true, &[1])?;
-    let hours = calendar(rt.alloc(), b"2011-01-05 06:00:00", Unit::Hour, true, &[1])?;
-    let late = calendar(rt.alloc(), b"2011-03-03 00:00:00", Unit::Month, true, &[1])?;
-    let years = calendar(rt.alloc(), b"2012-02-02 00:00:00", Unit::Year, true, &[1])?;
-    let spring = calendar(rt.alloc(), b"2012-03-02 00:00:00", Unit::Year, true, &[1])?;
+    let days = calendar(rt.alloc(), b"2011-01-02 00:00:00", Day, true, &[1, 1])?;
+    let turned = calendar(rt.alloc(), b"2011-01-02 00:00:00", Day, false, &[1, 1])?;
+    let months = calendar(rt.alloc(), b"2011-01-02 00:00:00", Month, true, &[1])?;
+    let halves = calendar(rt.alloc(), b"2011-01-05 06:30:00", Hour, true, &[1])?;
+    let hours = calendar(rt.alloc(), b"2011-01-05 06:00:00", Hour, true, &[1])?;
+    let late = calendar(rt.alloc(), b"2011-03-03 00:00:00", Month, true, &[1])?;
+    let years = calendar(rt.alloc(), b"2012-02-02 00:00:00", Year, true, &[1])?;
+    let spring = calendar(rt.alloc(), b"2012-03-02 00:00:00", Year, true, &[1])?;
     assert_eq!(rt; refusal(days.and_op(&months)), Some(Refusal::UnitMismatch));
     assert_eq!(rt; refusal(halves.or_op(&hours)), Some(Refusal::NotAligned));
     assert_eq!(rt; refusal(months.and_op(&late)), Some(Refusal::NotAligned));
     assert_eq!(rt; refusal(spring.and_op(&years)), Some(Refusal::NotAligned));
     assert_eq!(rt; refusal(days.and_op(&turned)), Some(Refusal::AllOff));
     assert!(rt; days.or_op(&turned).is_ok());
-    let long = calendar(
-        rt.alloc(),
-        b"2011-01-02 00:00:00",
-        Unit::Day,
-        true,
-        &[527_039],
-    )?;
+    let long = calendar(rt.alloc(), b"2011-01-02 00:00:00", Day, true, &[527_039])?;
     let why = Refusal::PatternTooLong {
         length: 1_054_078,
         runs: 0,

@@ -8,6 +8,8 @@ use Rattle.ts_calendar.specs.Intervals.{IsEarly, start_in}
 use Rattle.ts_calendar.specs.Calendar.{first_step, with_pattern, joined_calendar}
 use Rattle.ts_calendar.proofs.LineLemmas.{day-kept}
 use Rattle.ts_calendar.proofs.JoinedLemmas.{joined-reaches, monthly-smaller}
+use Rattle.ts_base.specs.Moment.{IsStamp}
+use Rattle.ts_calendar.proofs.ValidLemmas.{joined-valid, answers-ok}
 use Rattle.ts_calendar.proofs.calendar.Calendar.joined.Goals as goal
 
 pub joined_at-requires : goal.joined_at-requires
@@ -29,8 +31,8 @@ joined_at-requires c = λ u e monthly.
     let kept = day-kept v i.patt_start (to_z w64 (of_z w64 c.in-Some-first_step.shift)) c.in-Some-start_in.patt_start c.steps_between.ensures.stamps.0 early monthly_v start in
     omega (arith, kept, early monthly_v)
 
-pub returns : goal.returns
-returns c =
+pub returns-clause-answer : goal.returns-clause-answer
+returns-clause-answer c =
     let i = c.self.inside in
     let o = c.other.inside in
     let a : CalendarPlan = record { start = i.start; patt_start = i.patt_start; pattern = i.pattern } in
@@ -62,3 +64,13 @@ returns c =
     let here : Answers (joined_calendar j a b) c.joined_at.result = subst (λ x. Answers x c.joined_at.result) (sym whole) c.joined_at.ensures in
     subst (λ (x : CalendarPlan). Answers (joined_calendar j x c.args.other.now) c.joined_at.result) c.self.view_is
     (subst (λ (y : CalendarPlan). Answers (joined_calendar j a y) c.joined_at.result) c.other.view_is here)
+
+pub returns-clause-valid : goal.returns-clause-valid
+returns-clause-valid c =
+    let i = c.self.inside in
+    let a : CalendarPlan = record { start = i.start; patt_start = i.patt_start; pattern = i.pattern } in
+    let stamp : IsStamp c.args.self.now.patt_start = subst (λ (x : CalendarPlan). IsStamp x.patt_start) c.self.view_is c.steps_between.ensures.stamps.0 in
+    let early : IsEarly c.args.self.now.pattern.unit c.args.self.now.patt_start =
+    subst (λ (x : CalendarPlan). IsEarly x.pattern.unit x.patt_start) c.self.view_is c.self.invariant in
+    answers-ok (joined_calendar c.args.junction c.args.self.now c.args.other.now) c.joined_at.result (returns-clause-answer c)
+    (λ x e. joined-valid c.args.junction c.args.self.now c.args.other.now x stamp early e)
