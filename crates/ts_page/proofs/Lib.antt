@@ -1,1 +1,3 @@
 pub mod HeadLemmas
+pub mod PagesLemmas
+mod MemoryLemmas

@@ -1,2 +1,4 @@
 pub mod Head
 pub mod Cell
+pub mod Pages
+pub mod Memory

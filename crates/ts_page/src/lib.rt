@@ -1,11 +1,17 @@
-//! One page of 4096 bytes: its head and its cells. What is written is read again, and every other byte of the page
-//! stays (`specs/Head`, `specs/Cell`). Stands on nothing but bytes; knows nothing of rows, series or disks. Read
-//! `specs/Head.antt`, then `page.rt`.
+//! Pages of 4096 bytes: the head and the cells of one, and the contract of whatever keeps many. Of one page, what is
+//! written is read again, and every other byte stays (`specs/Head`, `specs/Cell`). Of many, each call says what becomes
+//! of the pages by their numbers and of the list of those that can be taken (`specs/Pages`); `MemoryPages` is that
+//! in memory. Stands on ts_base and ts_disk for the words of a fault; knows nothing of rows, series or journals. Read
+//! `specs/Head.antt`, `page.rt`, then `specs/Pages.antt` and `pages.rt`.
 #![tactic(auto)]
 
 mod field;
+mod memory_pages;
 mod page;
+mod pages;
 #[cfg(test)]
 mod tests;
 
+pub use memory_pages::MemoryPages;
 pub use page::{Head, Page};
+pub use pages::Pages;

@@ -1,6 +1,8 @@
-ghost use Rattle.std.specs.Prelude.{◌<◌};
+ghost use Rattle.std.specs.Prelude.{◌≡◌, ◌<◌, ◌∷◌, [], IfOk};
+ghost use Rattle.ts_page.specs.Memory.{memory_contents};
 
 use super::*;
+use std::alloc::{AllocError, Global};
 use std::test::Fail;
 
 /// Regular, of series slot 3 with 2 elements and base 677.
@@ -90,4 +92,38 @@ fn cells_stand_behind_the_head(rt: HostRuntime) {
     page.set_cell(0, &[7; 4064]);
     assert_eq!(rt; page.bytes[4095], 7);
     assert_eq!(rt; page.bytes[31], 0);
+}
+
+// 932 pages, of which the two element pages are free.
+fn two_free(alloc: Global) -> Result<MemoryPages, AllocError>
+    ensures count { IfOk result (λ pages. (memory_contents pages).count ≡ 932) }
+    ensures free { IfOk result (λ pages. (memory_contents pages).free ≡ 930 ∷ 931 ∷ []) }
+{
+    let pages = vec![in alloc; Page::zero(); 932]?;
+    let free = vec![in alloc; 930, 931]?;
+    Ok(MemoryPages::new(pages, free))
+}
+
+#[test]
+fn a_taken_page_is_filled_and_freed(rt: HostRuntime) -> Result<(), Fail> {
+    let mut pages = two_free(rt.alloc())?;
+    assert_eq!(rt; pages.spare(), 2);
+    let taken = pages.take();
+    assert_eq!(rt; taken, 930);
+    assert_eq!(rt; pages.spare(), 1);
+    let mut page = Page::zero();
+    pages.get(taken, &mut page)?;
+    assert!(rt; page == Page::zero());
+    pages.put(taken, &page_with(0, 2))?;
+    pages.get(taken, &mut page)?;
+    assert!(rt; page == page_with(0, 2));
+    pages.free(taken)?;
+    pages.get(taken, &mut page)?;
+    assert!(rt; page == Page::zero());
+    // It is the next that is taken.
+    assert_eq!(rt; pages.spare(), 2);
+    assert_eq!(rt; pages.take(), 930);
+    assert_eq!(rt; pages.take(), 931);
+    assert_eq!(rt; pages.spare(), 0);
+    Ok(())
 }

@@ -1,0 +1,44 @@
+-- Each cell more is judged against the one before it.
+use Rattle.std.proofs.Common.{◌≡◌, ◌≢◌, ◌+◌, ◌-◌, ◌*◌, ◌≤◌, ℕ, List, length, take, drop, refl, sym, ap, subst, ◌∙◌, arith}
+use Rattle.std.proofs.lemmas.Int.{ints}
+use Rattle.std.proofs.lemmas.Bool.Decides.{nat_tests}
+use Rattle.ts_row.specs.declared.kind.Column.{Column}
+use Rattle.ts_row.proofs.RowBytesLemmas.{valid}
+use Rattle.ts_cells.specs.Cell.{Element, IsElement, cell_bytes, cell_size}
+use Rattle.ts_cells.proofs.JudgeLemmas.{cell_in, SoFar, so_far_first, so_far_more, so_far_all, no_cell, not_later, cell_range, first_range}
+use Rattle.ts_cells.proofs.extent.ends_of.Goals as goal
+
+pub returns-in_default-clause-none : goal.returns-in_default-clause-none
+returns-in_default-clause-none c = λ es order count same.
+    let columns : List Column = c.args.kind.now.columns in
+    let first : take c.cell_size-size.result c.args.cells.now ≡ cell_in columns 0 c.args.cells.now =
+    ap (λ (n : ℕ). take n c.args.cells.now) c.cell_size-size.ensures.value ∙ first_range columns c.args.cells.now in
+    no_cell columns c.args.cells.now 0 es order.each (omega arith) same (λ e is cell. c.in_default.ensures.none e is (first ∙ cell))
+
+pub loop-i-init : goal.loop-i-init
+loop-i-init c =
+    let columns : List Column = c.args.kind.now.columns in
+    let found = c.in-Some.ensures.found in
+    so_far_first columns c.args.cells.now (c.in-Some.first, found.0) found.1 (ap (λ (n : ℕ). take n c.args.cells.now) (sym c.cell_size-size.ensures.value) ∙ found.2)
+
+pub returns-in_default-stamp_of_cell-clause-none : goal.returns-in_default-stamp_of_cell-clause-none
+returns-in_default-stamp_of_cell-clause-none c = λ es order count same.
+    let columns : List Column = c.args.kind.now.columns in
+    let range = cell_range columns c.loop-i.i c.cell_size-size.result c.args.cells.now c.cell_size-size.ensures.value in
+    no_cell columns c.args.cells.now c.loop-i.i es order.each (omega arith) same (λ e is cell. c.in_default-stamp_of_cell.ensures.none e is (range ∙ cell))
+
+pub returns-then-units-clause-none : goal.returns-then-units-clause-none
+returns-then-units-clause-none c = λ es order count same.
+    let columns : List Column = c.args.kind.now.columns in
+    let found = c.in-Some-stamp_of_cell.ensures.found in
+    let range = cell_range columns c.loop-i.i c.cell_size-size.result c.args.cells.now c.cell_size-size.ensures.value in
+    let kinds : valid columns = grind (arith, nat_tests, c.columns-columns.ensures.rules) in
+    not_later columns c.args.cells.now c.loop-i.i c.in-Some.first c.loop-i.last (c.in-Some-stamp_of_cell.stamp, found.0) es kinds c.loop-i.invariant found.1 (sym range ∙ found.2)
+    order (omega arith) same (omega (arith, ints))
+
+pub loop-i-preserved : goal.loop-i-preserved
+loop-i-preserved c =
+    let columns : List Column = c.args.kind.now.columns in
+    let found = c.in-Some-stamp_of_cell.ensures.found in
+    let range = cell_range columns c.loop-i.i c.cell_size-size.result c.args.cells.now c.cell_size-size.ensures.value in
+    so_far_more columns c.args.cells.now c.loop-i.i c.in-Some.first c.loop-i.last (c.in-Some-stamp_of_cell.stamp, found.0) c.loop-i.invariant found.1 (sym range ∙ found.2) (omega (arith, ints))

@@ -1,0 +1,76 @@
+-- An irregular page: the elements of a series in the order of their stamps, or a part of them.
+use Rattle.std.specs.Prelude.{◌≡◌, ℕ, ◌-◌, ◌*◌, ◌<◌, ◌≤◌, ◌^◌, ℤ, ◌<ℤ◌, Bool, Option, Some, None, List, [], ◌∷◌, ◌++◌, length, replicate}
+use Rattle.std.specs.List.{flat_map}
+use Rattle.ts_page.specs.Head.{head_bytes}
+use Rattle.ts_page.specs.declared.page.Head.TheVariants.{Free, Regular, Irregular}
+use Rattle.ts_page.specs.declared.page.Head.{Head}
+use Rattle.ts_row.specs.declared.kind.Column.{Column}
+use Rattle.ts_cells.specs.declared.extent.Extent.{Extent}
+use Rattle.ts_cells.specs.Cell.{Element, IsElement, cell_bytes, cell_size, page_room}
+
+-- each of them is an element of a row type with these columns
+abbrev pub AreElements : List Column → List Element → Type 0
+AreElements columns [] = Unit {0}
+AreElements columns (e ∷ es) = IsElement columns e × AreElements columns es
+
+-- each stamp is later than the one before it
+abbrev pub AreRising : List Element → Type 0
+AreRising [] = Unit {0}
+AreRising (e ∷ []) = Unit {0}
+AreRising (e ∷ f ∷ es) = (e.0 <ℤ f.0) × AreRising (f ∷ es)
+
+-- elements of a row type with these columns, each later than the one before it
+pub record AreInOrder (columns : List Column) (es : List Element) : Type 0 where
+  pub each : AreElements columns es
+  pub rising : AreRising es
+
+-- the elements of a page: one at least, and at most as many as it has room for
+pub record FillPage (columns : List Column) (es : List Element) : Type 0 where
+  pub some : 1 ≤ length es
+  pub room : length es ≤ page_room columns
+  pub elements : AreInOrder columns es
+
+-- the cells of elements, one behind the other
+abbrev pub cells_bytes : List Column → List Element → List ℕ
+cells_bytes columns es = flat_map (cell_bytes columns) es
+
+-- what stands behind the head of their page: their cells, and zeros
+abbrev pub behind_head : List Column → List Element → List ℕ
+behind_head columns es = cells_bytes columns es ++ replicate (4064 - cell_size columns * length es) 0
+
+-- the page of these elements of the series in a slot
+unfoldable pub irregular_page : ℕ → List Column → List Element → List ℕ
+irregular_page slot columns es = head_bytes (Irregular slot (length es)) ++ behind_head columns es
+
+-- these bytes are the page of these elements of the series in a slot
+pub record IsIrregularPage (slot : ℕ) (columns : List Column) (es : List Element) (page : List ℕ) : Type 0 where
+  pub number : slot < 2 ^ 16
+  pub fill : FillPage columns es
+  pub bytes : page ≡ irregular_page slot columns es
+
+-- the first and the last stamp
+abbrev pub first_stamp : List Element → Option ℤ
+first_stamp [] = None
+first_stamp (e ∷ es) = Some e.0
+
+abbrev pub last_stamp : List Element → Option ℤ
+last_stamp [] = None
+last_stamp (e ∷ []) = Some e.0
+last_stamp (e ∷ f ∷ es) = last_stamp (f ∷ es)
+
+-- the first and the last stamp are these
+pub record HasEnds (es : List Element) (first last : ℤ) : Type 0 where
+  pub begins : first_stamp es ≡ Some first
+  pub ends : last_stamp es ≡ Some last
+
+-- so many elements, from this first stamp to this last one
+pub record HasExtent (es : List Element) (extent : Extent) : Type 0 where
+  pub count : length es ≡ extent.count
+  pub ends : HasEnds es extent.first extent.last
+
+-- the number of elements that the head of an irregular page tells
+abbrev pub irregular_count : Option Head → Option ℕ
+irregular_count None = None
+irregular_count (Some Free) = None
+irregular_count (Some (Regular series count base)) = None
+irregular_count (Some (Irregular series count)) = Some count

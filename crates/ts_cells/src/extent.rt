@@ -1,0 +1,121 @@
+// A page judged by its bytes: how many elements it has, and from when to when.
+ghost use Rattle.std.specs.Prelude.{◌≡◌, ◌↔◌, ◌*◌, ◌≤◌, IsTrue, IfSome, IfNone, Some, List, ℕ, length};
+ghost use Rattle.ts_page.specs.Head.{are_zero, head_of};
+ghost use Rattle.ts_cells.specs.Cell.{Element, cell_size, page_room};
+ghost use Rattle.ts_cells.specs.IrregularPage.{IsIrregularPage, AreInOrder, HasExtent, HasEnds, cells_bytes, behind_head, irregular_count};
+
+use crate::cell::{cell_size, page_room, stamp_of_cell};
+use ts_base::Stamp;
+use ts_page::{Head, Page};
+use ts_row::RowType;
+
+/// The first byte behind the head of a page.
+const HEAD: usize = 32;
+
+/// How many elements a page has, and the first and the last stamp.
+#[derive(Clone, Copy, Debug, PartialEq, Eq)]
+pub struct Extent {
+    /// At least 1.
+    pub count: u16,
+    pub first: Stamp,
+    pub last: Stamp,
+}
+
+/// The extent of a page, where it is one of elements of this row type.
+pub fn extent_of(kind: &RowType, page: &Page) -> Option<Extent>
+    ensures found { IfSome result (λ extent. (slot : ℕ) × (es : List Element)
+        × IsIrregularPage slot kind.now.columns es page.now.bytes × HasExtent es extent) }
+    ensures none { IfNone result ((slot : ℕ) (es : List Element) → IsIrregularPage slot kind.now.columns es page.now.bytes → ⊥) }
+{
+    let Some(count) = count_of(page) else {
+        return None;
+    };
+    extent_told(kind, count, &page.bytes)
+}
+
+// The extent of a page whose head tells so many elements.
+fn extent_told(kind: &RowType, count: u16, page: &[u8]) -> Option<Extent>
+    requires size { length page.now ≡ 4096 }
+    requires told { irregular_count (head_of page.now) ≡ Some count }
+    ensures found { IfSome result (λ extent. (slot : ℕ) × (es : List Element)
+        × IsIrregularPage slot kind.now.columns es page.now × HasExtent es extent) }
+    ensures none { IfNone result ((slot : ℕ) (es : List Element) → IsIrregularPage slot kind.now.columns es page.now → ⊥) }
+{
+    if !has_room(count, page_room(kind)) {
+        return None;
+    }
+    extent_in(kind, count, &page[HEAD..])
+}
+
+// The number of elements that the head of an irregular page tells.
+fn count_of(page: &Page) -> Option<u16>
+    ensures { result ≡ irregular_count (head_of page.now.bytes) }
+{
+    match page.head() {
+        Some(Head::Irregular { count, .. }) => Some(count),
+        _ => None,
+    }
+}
+
+// One element at least, and no more than there is room for.
+fn has_room(count: u16, room: usize) -> bool
+    ensures { IsTrue result ↔ (1 ≤ count) × (count ≤ room) }
+{
+    count >= 1 && count as usize <= room
+}
+
+// The extent of so many cells with zeros behind them.
+fn extent_in(kind: &RowType, count: u16, behind: &[u8]) -> Option<Extent>
+    requires some { 1 ≤ count }
+    requires room { count ≤ page_room kind.now.columns }
+    requires size { length behind.now ≡ 4064 }
+    ensures found { IfSome result (λ extent. (es : List Element) × AreInOrder kind.now.columns es
+        × HasExtent es extent × (length es ≡ count) × (behind.now ≡ behind_head kind.now.columns es)) }
+    ensures none { IfNone result ((es : List Element) → AreInOrder kind.now.columns es → length es ≡ count
+        → behind.now ≡ behind_head kind.now.columns es → ⊥) }
+{
+    let (cells, rest) = behind.split_at(cell_size(kind) * count as usize);
+    if !are_zero(rest) {
+        return None;
+    }
+    let Some((first, last)) = ends_of(kind, cells, count as usize) else {
+        return None;
+    };
+    Some(Extent { count, first, last })
+}
+
+// The first and the last stamp of so many cells, where they are those of elements whose stamps rise.
+fn ends_of(kind: &RowType, cells: &[u8], count: usize) -> Option<(Stamp, Stamp)>
+    requires some { 1 ≤ count }
+    requires few { count ≤ 451 }
+    requires size { length cells.now ≡ cell_size kind.now.columns * count }
+    ensures found { IfSome result (λ ends. (es : List Element) × AreInOrder kind.now.columns es
+        × (length es ≡ count) × (cells.now ≡ cells_bytes kind.now.columns es) × HasEnds es ends.0 ends.1) }
+    ensures none { IfNone result ((es : List Element) → AreInOrder kind.now.columns es → length es ≡ count
+        → cells.now ≡ cells_bytes kind.now.columns es → ⊥) }
+{
+    let size = cell_size(kind);
+    // Their kinds keep the rules.
+    let _columns = kind.columns();
+    let Some(first) = stamp_of_cell(kind, &cells[..size]) else {
+        return None;
+    };
+    let mut last = first;
+    for i in 1..count {
+        let Some(stamp) = stamp_of_cell(kind, &cells[size * i..size * i + size]) else {
+            return None;
+        };
+        if stamp.units() <= last.units() {
+            return None;
+        }
+        last = stamp;
+    }
+    Some((first, last))
+}
+
+// Zeros and nothing else.
+fn are_zero(bytes: &[u8]) -> bool
+    ensures { result ≡ are_zero bytes.now }
+{
+    bytes.iter().all(|byte| *byte == 0)
+}
