@@ -1,0 +1,151 @@
+-- The lists behind a directory: what a change of one of them leaves.
+use Rattle.std.proofs.Common.{◌≡◌, ℕ, zero, suc, replicate, ◌+◌, ◌-◌, ◌*◌, ◌^◌, ◌<◌, ◌≤◌, List, [], length, get_or, set, map, All, sum_by, vec_len, vec_capacity, Vec, Global, refl, ap, sym, ◌∙◌, arith, subst, length-set}
+use Rattle.std.proofs.lemmas.List.{length-map, get_or-map, get_or-set_same, set-get_or, map-set}
+use Rattle.std.proofs.lemmas.List.Elements.{All-set, All-get_or, All-map}
+use Rattle.std.proofs.lemmas.List.Sums.{sum_by-cons, sum_by-set, sum_by-le, get_or-le-sum_by}
+use Rattle.ts_space.specs.declared.place.Place.{Place}
+use Rattle.ts_space.specs.Place.{IsRising}
+use Rattle.ts_space.specs.Directory.{Directory, IsDirectory, ChangesOnly, places_of, spare_of, capacity_of, used_of}
+
+abbrev pub Lists : Type 0
+Lists = List (Vec Place Global)
+
+abbrev pub items_of : Vec Place Global → List Place
+items_of list = list.items
+
+abbrev pub free_of : Vec Place Global → ℕ
+free_of list = vec_capacity list - vec_len list
+
+-- what contracts see of these lists
+abbrev pub directory : Lists → Directory
+directory vs = record { lists = map items_of vs; spares = map free_of vs }
+
+pub slots : (vs : Lists) (n : ℕ) → IsDirectory (map items_of vs) n → length vs ≡ 4096
+slots vs n is = sym (length-map vs items_of) ∙ is.slots
+
+-- the list of one slot
+pub places_read : (vs : Lists) (i : ℕ) (d : Vec Place Global) → i < length vs → places_of i (directory vs) ≡ (get_or vs i d).items
+places_read vs i d within = get_or-map items_of vs i d [] within
+
+pub spare_read : (vs : Lists) (i : ℕ) (d : Vec Place Global) → i < length vs → spare_of i (directory vs) ≡ free_of (get_or vs i d)
+spare_read vs i d within = get_or-map free_of vs i d 0 within
+
+pub rising_read : (vs : Lists) (i n : ℕ) (d : Vec Place Global) → IsDirectory (map items_of vs) n → i < length vs → IsRising (get_or vs i d).items
+rising_read vs i n d is within =
+    subst IsRising (places_read vs i d within) (All-get_or IsRising (map items_of vs) i [] (omega (arith, within, length-map vs items_of)) is.rising)
+
+-- after a change of it
+pub places_set : (vs : Lists) (i : ℕ) (w : Vec Place Global) → i < length vs → places_of i (directory (set vs i w)) ≡ w.items
+places_set vs i w within = places_read (set vs i w) i w (omega (arith, within, length-set vs i w)) ∙ ap items_of (get_or-set_same vs i w w within)
+
+pub spare_set : (vs : Lists) (i : ℕ) (w : Vec Place Global) → i < length vs → spare_of i (directory (set vs i w)) ≡ free_of w
+spare_set vs i w within = spare_read (set vs i w) i w (omega (arith, within, length-set vs i w)) ∙ ap free_of (get_or-set_same vs i w w within)
+
+-- how many places there are then
+pub used_set : (vs : Lists) (i : ℕ) (w : Vec Place Global) → i < length vs
+    → used_of (directory (set vs i w)) + length (places_of i (directory vs)) ≡ used_of (directory vs) + length (places_of i (directory (set vs i w)))
+used_set vs i w within =
+    let changed = sum_by-set length (map items_of vs) i w.items [] (omega (arith, within, length-map vs items_of)) in
+    let whole : sum_by length (map items_of (set vs i w)) ≡ sum_by length (set (map items_of vs) i w.items) = ap (sum_by length) (map-set items_of vs i w) in
+    let new_count : length (places_of i (directory (set vs i w))) ≡ length w.items = ap length (places_set vs i w within) in
+    omega (arith, changed, whole, new_count)
+
+pub changes_set : (vs : Lists) (i : ℕ) (w : Vec Place Global) → i < length vs → ChangesOnly i (directory vs) (directory (set vs i w))
+changes_set vs i w within = record {
+  used = used_set vs i w within;
+  lists = map-set items_of vs i w ∙ ap (set (map items_of vs) i) (sym (places_set vs i w within));
+  spares = map-set free_of vs i w ∙ ap (set (map free_of vs) i) (sym (spare_set vs i w within));
+}
+
+-- how many places it had is part of the whole
+pub count_read : (vs : Lists) (i n : ℕ) (old : Vec Place Global) → IsDirectory (map items_of vs) n → i < length vs → old ≡ get_or vs i old → vec_len old ≤ n
+count_read vs i n old is within here =
+    let part = get_or-le-sum_by length (map items_of vs) i [] (omega (arith, within, length-map vs items_of)) in
+    let same : length (get_or (map items_of vs) i []) ≡ length old.items = ap length (places_read vs i old within ∙ sym (ap items_of here)) in
+    let total = is.used in
+    let known = old.ok.0 in
+    omega (arith, part, same, total, known)
+
+pub directory_set : (vs : Lists) (i n : ℕ) (old w : Vec Place Global) → IsDirectory (map items_of vs) n → i < length vs → old ≡ get_or vs i old → IsRising w.items
+    → IsDirectory (map items_of (set vs i w)) (n - vec_len old + vec_len w)
+directory_set vs i n old w is within here rising = record {
+  slots = length-map (set vs i w) items_of ∙ length-set vs i w ∙ slots vs n is;
+  rising = subst (All IsRising) (sym (map-set items_of vs i w)) (All-set IsRising (map items_of vs) i w.items rising is.rising);
+  used =
+      let same : length (get_or (map items_of vs) i []) ≡ length old.items = ap length (places_read vs i old within ∙ sym (ap items_of here)) in
+      let changed = sum_by-set length (map items_of vs) i w.items [] (omega (arith, within, length-map vs items_of)) in
+      let whole : sum_by length (map items_of (set vs i w)) ≡ sum_by length (set (map items_of vs) i w.items) = ap (sum_by length) (map-set items_of vs i w) in
+      let total = is.used in
+      let known = old.ok.0 in
+      let also = w.ok.0 in
+      let part = count_read vs i n old is within here in
+      omega (arith, same, changed, whole, total, known, also, part);
+}
+
+-- the whole number of places fits 128 bits
+pub count_fits : (vs : Lists) (n : ℕ) → IsDirectory (map items_of vs) n → n ≤ 4096 * 2 ^ 64
+count_fits vs n is =
+    let each : All (λ (l : List Place). length l ≤ 2 ^ 64) (map items_of vs) = All-map (λ (l : List Place). length l ≤ 2 ^ 64) items_of vs (λ k d within. let v = get_or vs k d in let known = v.ok.0 in let few = v.small in omega (arith, known, few)) in
+    let bound = sum_by-le length (2 ^ 64) (map items_of vs) each in
+    let total = is.used in
+    let many = is.slots in
+    omega (arith, total, subst (λ (k : ℕ). sum_by length (map items_of vs) ≤ k * 2 ^ 64) many bound)
+
+-- its memory stays
+pub capacity_set : (vs : Lists) (i : ℕ) (old w : Vec Place Global) → i < length vs → old ≡ get_or vs i old → vec_capacity w ≡ vec_capacity old
+    → capacity_of i (directory (set vs i w)) ≡ capacity_of i (directory vs)
+capacity_set vs i old w within here same =
+    let new_count : length (places_of i (directory (set vs i w))) ≡ length w.items = ap length (places_set vs i w within) in
+    let old_count : length (places_of i (directory vs)) ≡ length old.items = ap length (places_read vs i old within ∙ sym (ap items_of here)) in
+    let new_spare = spare_set vs i w within in
+    let old_spare : spare_of i (directory vs) ≡ free_of old = spare_read vs i old within ∙ sym (ap free_of here) in
+    let k = w.ok.0 in let l = old.ok.0 in let m = w.small in let n = old.small in
+    omega (arith, new_count, old_count, new_spare, old_spare, k, l, m, n, same)
+
+-- the same at what an index gave
+pub old_rising : (vs : Lists) (i n : ℕ) (old : Vec Place Global) → IsDirectory (map items_of vs) n → i < length vs → old ≡ get_or vs i old → IsRising old.items
+old_rising vs i n old is within here = subst (λ (v : Vec Place Global). IsRising v.items) (sym here) (rising_read vs i n old is within)
+
+pub old_places : (vs : Lists) (i : ℕ) (old : Vec Place Global) → i < length vs → old ≡ get_or vs i old → places_of i (directory vs) ≡ old.items
+old_places vs i old within here = places_read vs i old within ∙ sym (ap items_of here)
+
+pub old_spare : (vs : Lists) (i : ℕ) (old : Vec Place Global) → i < length vs → old ≡ get_or vs i old → spare_of i (directory vs) ≡ free_of old
+old_spare vs i old within here = spare_read vs i old within ∙ sym (ap free_of here)
+
+-- a list with the same places, as after more memory was taken
+pub same_lists : (vs : Lists) (i : ℕ) (old w : Vec Place Global) → i < length vs → old ≡ get_or vs i old → w.items ≡ old.items → map items_of (set vs i w) ≡ map items_of vs
+same_lists vs i old w within here same =
+    map-set items_of vs i w ∙ ap (set (map items_of vs) i) (same ∙ ap items_of here ∙ sym (places_read vs i old within)) ∙ set-get_or (map items_of vs) i []
+
+pub same_spares : (vs : Lists) (i : ℕ) (old w : Vec Place Global) → i < length vs → old ≡ get_or vs i old → free_of w ≡ free_of old → map free_of (set vs i w) ≡ map free_of vs
+same_spares vs i old w within here same =
+    map-set free_of vs i w ∙ ap (set (map free_of vs) i) (same ∙ ap free_of here ∙ sym (spare_read vs i old within)) ∙ set-get_or (map free_of vs) i 0
+
+pub same_directory : (vs ws : Lists) → map items_of ws ≡ map items_of vs → map free_of ws ≡ map free_of vs → directory ws ≡ directory vs
+same_directory vs ws lists spares = λ i. record { lists = lists i; spares = spares i }
+
+-- what is left of the memory, where the memory stays
+pub spare_left : (vs : Lists) (i : ℕ) (old w : Vec Place Global) → i < length vs → old ≡ get_or vs i old → vec_capacity w ≡ vec_capacity old
+    → spare_of i (directory vs) + length old.items ≡ spare_of i (directory (set vs i w)) + length w.items
+spare_left vs i old w within here same =
+    let new_spare = spare_set vs i w within in
+    let before = old_spare vs i old within here in
+    let k = w.ok.0 in let l = old.ok.0 in let m = w.ok.1 in let n = old.ok.1 in
+    omega (arith, new_spare, before, k, l, m, n, same)
+
+-- a directory without places
+pub used_none : (n : ℕ) → sum_by (λ (l : List Place). length l) (replicate n []) ≡ 0
+used_none zero = refl
+used_none (suc n) = omega (arith, sum_by-cons (λ (l : List Place). length l) [] (replicate n []), used_none n)
+
+-- what the number of all places is after a call, from its clauses
+pub used_more : (series : ℕ) (old new : Directory) → ChangesOnly series old new → capacity_of series new ≡ capacity_of series old → spare_of series old ≤ spare_of series new + 1
+    → used_of new ≤ used_of old + 1
+used_more series old new changes capacity spare = let total = changes.used in omega (arith, total, capacity, spare)
+
+pub used_less : (series : ℕ) (old new : Directory) → ChangesOnly series old new → capacity_of series new ≡ capacity_of series old → spare_of series old ≤ spare_of series new
+    → used_of new ≤ used_of old
+used_less series old new changes capacity spare = let total = changes.used in omega (arith, total, capacity, spare)
+
+pub used_same : (old new : Directory) → new.lists ≡ old.lists → used_of new ≡ used_of old
+used_same old new lists = ap (sum_by (λ (l : List Place). length l)) lists

@@ -1,0 +1,4 @@
+pub mod PlaceLemmas
+pub mod DirectoryLemmas
+pub mod PlaceLaws
+pub mod ChargeLemmas

@@ -1,0 +1,54 @@
+use Rattle.std.proofs.Common.{◌<◌, length, set, ap, sym, ◌∙◌, arith, subst}
+use Rattle.ts_space.specs.Place.{IsRising, put_place}
+use Rattle.ts_space.specs.Directory.{Directory, ChangesOnly, places_of, spare_of, capacity_of}
+use Rattle.ts_space.proofs.PlaceLemmas.{put_rising, length_put}
+use Rattle.ts_space.proofs.DirectoryLemmas.{slots, old_rising, old_places, places_set, changes_set, directory_set, count_fits, capacity_set, spare_left, directory}
+use Rattle.ts_space.proofs.space.Space.set.Goals as goal
+
+pub overflow_add-self : goal.overflow_add-self
+overflow_add-self c = let few = count_fits c.self.inside.lists.items c.self.inside.used c.self.invariant in omega (arith, few)
+
+pub invariant_of-self : goal.invariant_of-self
+invariant_of-self c =
+    let vs = c.self.inside.lists.items in
+    let n = c.self.inside.used in
+    let old = c.index_mut-places.result.now in
+    let within : c.args.series < length vs = omega (arith, slots vs n c.self.invariant) in
+    let value = c.index_mut-places.ensures.value in
+    let rising = put_rising old.items c.args.place (old_rising vs c.args.series n old c.self.invariant within value) in
+    rw (c.len-before.ensures, c.len-after.ensures)
+    (directory_set vs c.args.series n old c.put.new.list c.self.invariant within value (subst IsRising (sym c.put.ensures.ok) rising))
+
+pub returns-clause-ok : goal.returns-clause-ok
+returns-clause-ok c =
+    let vs = c.self.inside.lists.items in
+    let old = c.index_mut-places.result.now in
+    let within : c.args.series < length vs = omega (arith, slots vs c.self.inside.used c.self.invariant) in
+    let before = sym (old_places vs c.args.series old within c.index_mut-places.ensures.value) ∙ ap (places_of c.args.series) c.self.view_is in
+    places_set vs c.args.series c.put.new.list within ∙ c.put.ensures.ok ∙ ap (put_place c.args.place) before
+
+pub returns-clause-others : goal.returns-clause-others
+returns-clause-others c =
+    let vs = c.self.inside.lists.items in
+    let within : c.args.series < length vs = omega (arith, slots vs c.self.inside.used c.self.invariant) in
+    let new : Directory = directory (set vs c.args.series c.put.new.list) in
+    subst (λ (old : Directory). ChangesOnly c.args.series old new) c.self.view_is (changes_set vs c.args.series c.put.new.list within)
+
+pub returns-clause-memory : goal.returns-clause-memory
+returns-clause-memory c =
+    let vs = c.self.inside.lists.items in
+    let old = c.index_mut-places.result.now in
+    let within : c.args.series < length vs = omega (arith, slots vs c.self.inside.used c.self.invariant) in
+    capacity_set vs c.args.series old c.put.new.list within c.index_mut-places.ensures.value c.put.ensures.memory
+    ∙ ap (capacity_of c.args.series) c.self.view_is
+
+pub returns-clause-spare : goal.returns-clause-spare
+returns-clause-spare c =
+    let vs = c.self.inside.lists.items in
+    let old = c.index_mut-places.result.now in
+    let within : c.args.series < length vs = omega (arith, slots vs c.self.inside.used c.self.invariant) in
+    let left = spare_left vs c.args.series old c.put.new.list within c.index_mut-places.ensures.value c.put.ensures.memory in
+    let bound = length_put old.items c.args.place (old_rising vs c.args.series c.self.inside.used old c.self.invariant within c.index_mut-places.ensures.value) in
+    let known = ap length c.put.ensures.ok in
+    let before = ap (spare_of c.args.series) c.self.view_is in
+    omega (arith, left, bound, known, before)

@@ -1,0 +1,37 @@
+-- The directory: for each series, by its slot, the list of its places.
+use Rattle.std.specs.Prelude.{◌≡◌, ℕ, ◌+◌, List, [], length, slice_index, slice_index_or, slice_set, All, sum_by}
+use Rattle.ts_space.specs.declared.place.Place.{Place}
+use Rattle.ts_space.specs.Place.{IsRising}
+
+-- what contracts see of a space: the places of each series, and how many more its list takes without memory
+pub record Directory : Type 0 where
+  pub lists : List (List Place)
+  pub spares : List ℕ
+
+-- the places of one series
+abbrev pub places_of : ℕ → Directory → List Place
+places_of series space = slice_index_or space.lists series []
+
+-- how many places more its list takes without memory
+abbrev pub spare_of : ℕ → Directory → ℕ
+spare_of series space = slice_index space.spares series
+
+-- how many places its list takes in all without memory
+abbrev pub capacity_of : ℕ → Directory → ℕ
+capacity_of series space = length (places_of series space) + spare_of series space
+
+-- how many places all series have together
+abbrev pub used_of : Directory → ℕ
+used_of space = sum_by length space.lists
+
+-- one list for each of the 4096 slots, each rising, and their number of places
+pub record IsDirectory (lists : List (List Place)) (total : ℕ) : Type 0 where
+  pub slots : length lists ≡ 4096
+  pub rising : All IsRising lists
+  pub used : total ≡ sum_by length lists
+
+-- the list of no other series changes, nor its memory; and the number of all places as that of the one list
+pub record ChangesOnly (series : ℕ) (old new : Directory) : Type 0 where
+  pub lists : new.lists ≡ slice_set old.lists series (places_of series new)
+  pub spares : new.spares ≡ slice_set old.spares series (spare_of series new)
+  pub used : used_of new + length (places_of series old) ≡ used_of old + length (places_of series new)

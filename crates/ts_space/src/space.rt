@@ -1,0 +1,133 @@
+// The directory.
+ghost use Rattle.std.specs.Prelude.{◌≡◌, ◌+◌, ◌-◌, ◌^◌, ◌<◌, ◌≤◌, [], None, length, replicate, IfOk, OnOk, OnErr, vec_len, vec_capacity};
+ghost use Rattle.ts_space.specs.Place.{IsRising, place_at, put_place, drop_place};
+ghost use Rattle.ts_space.specs.Directory.{Directory, places_of, spare_of, capacity_of, used_of, ChangesOnly};
+
+use crate::place::{Place, drop_at, put};
+use std::alloc::{AllocError, Global};
+use std::marker::Model;
+
+const SLOTS: usize = 4096;
+
+/// For each slot of a series the list of its places, rising in `at`.
+#[derive(Drop)]
+pub struct Space {
+    alloc: Global,
+    lists: Vec<Vec<Place>>,
+    /// How many places all lists have together.
+    used: u128,
+}
+
+impl Model for Space {
+    ghost use Rattle.std.specs.Prelude.{◌-◌, map, vec_len, vec_capacity};
+    ghost use Rattle.ts_space.specs.Directory.{Directory, IsDirectory};
+
+    ghost Value = { Directory };
+
+    ghost view = { λ s. record { lists = map (λ list. list.items) s.lists.items; spares = map (λ list. vec_capacity list - vec_len list) s.lists.items } };
+
+    ghost invariant = { λ s. IsDirectory (map (λ list. list.items) s.lists.items) s.used };
+}
+
+impl Space {
+    /// A directory without places.
+    pub fn new(alloc: Global) -> Result<Space, AllocError>
+        ensures ok { IfOk result (λ space. space.lists ≡ replicate 4096 []) }
+        ensures used { IfOk result (λ space. used_of space ≡ 0) }
+    {
+        let mut lists = Vec::with_capacity(alloc, SLOTS)?;
+        for _slot in 0..SLOTS {
+            lists.push(Vec::new(alloc))?;
+        }
+        Ok(Space {
+            alloc,
+            lists,
+            used: 0,
+        })
+    }
+
+    /// The places of a series, rising in `at`.
+    pub fn places(&self, series: u16) -> &[Place]
+        requires { series < 4096 }
+        ensures ok { result.now ≡ places_of series self.now }
+        ensures rising { IsRising result.now }
+        ensures slots { length self.now.lists ≡ 4096 }
+    {
+        &self.lists[series as usize]
+    }
+
+    /// Takes memory for so many places more of a series.
+    pub fn reserve(&mut self, series: u16, more: usize) -> Result<(), AllocError>
+        requires { series < 4096 }
+        ensures ok { OnOk result (more ≤ spare_of series self.new) }
+        ensures err { OnErr result (self.new ≡ self.old) }
+        ensures places { self.new.lists ≡ self.old.lists }
+        ensures spare { spare_of series self.old ≤ spare_of series self.new }
+        ensures others { ChangesOnly series self.old self.new }
+    {
+        self.lists[series as usize].reserve(more)
+    }
+
+    /// Sets a place of a series, in place of the one that begins there.
+    pub fn set(&mut self, series: u16, place: Place)
+        requires slot { series < 4096 }
+        requires room { place_at place.at (places_of series self.old) ≡ None → 1 ≤ spare_of series self.old }
+        ensures ok { places_of series self.new ≡ put_place place (places_of series self.old) }
+        ensures others { ChangesOnly series self.old self.new }
+        ensures memory { capacity_of series self.new ≡ capacity_of series self.old }
+        ensures spare { spare_of series self.old ≤ spare_of series self.new + 1 }
+    {
+        let places = &mut self.lists[series as usize];
+        let before = places.len();
+        put(places, place);
+        let after = places.len();
+        self.used = self.used - before as u128 + after as u128;
+    }
+
+    /// Drops the place of a series that begins at `at`, if one does.
+    pub fn clear(&mut self, series: u16, at: i64)
+        requires { series < 4096 }
+        ensures ok { places_of series self.new ≡ drop_place at (places_of series self.old) }
+        ensures others { ChangesOnly series self.old self.new }
+        ensures memory { capacity_of series self.new ≡ capacity_of series self.old }
+        ensures spare { spare_of series self.old ≤ spare_of series self.new }
+    {
+        let list = &mut self.lists[series as usize];
+        let before = list.len();
+        drop_at(list, at);
+        let after = list.len();
+        self.used = self.used - before as u128 + after as u128;
+    }
+
+    /// How many places all series have together.
+    pub fn used(&self) -> u32
+        requires { used_of self.now < 2 ^ 32 }
+        ensures { result ≡ used_of self.now }
+    {
+        self.used as u32
+    }
+
+    /// A copy of the places of a series.
+    pub fn saved(&self, series: u16) -> Result<Vec<Place>, AllocError>
+        requires { series < 4096 }
+        ensures ok { IfOk result (λ places. places.items ≡ places_of series self.now) }
+        ensures rising { IfOk result (λ places. IsRising places.items) }
+    {
+        Vec::from_slice(self.alloc, self.places(series))
+    }
+
+    /// Makes these the places of a series.
+    pub fn restore(&mut self, series: u16, places: Vec<Place>)
+        requires slot { series < 4096 }
+        requires rising { IsRising places.items }
+        ensures ok { places_of series self.new ≡ places.items }
+        ensures spare { spare_of series self.new ≡ vec_capacity places - vec_len places }
+        ensures others { ChangesOnly series self.old self.new }
+    {
+        let kept = &mut self.lists[series as usize];
+        let before = kept.len();
+        let after = places.len();
+        *kept = places;
+        self.used = self.used - before as u128 + after as u128;
+    }
+}
