@@ -86,6 +86,13 @@ impl Batch {
         total
     }
 
+    /// How many entries it has.
+    pub fn len(&self) -> usize
+        ensures { result ≡ length self.now.entries }
+    {
+        self.entries.len()
+    }
+
     /// Takes memory for so many entries more.
     pub fn reserve(&mut self, more: usize) -> Result<(), AllocError>
         ensures ok { OnOk result (more ≤ self.new.spare) }
@@ -110,7 +117,8 @@ impl Batch {
 
     /// Drops all changes and keeps the memory.
     pub fn clear(&mut self)
-        ensures { self.new.entries ≡ [] }
+        ensures ok { self.new.entries ≡ [] }
+        ensures spare { self.old.spare + length self.old.entries ≤ self.new.spare }
     {
         self.entries.clear();
     }

@@ -19,6 +19,7 @@ fn a_batch_has_one_change_for_each_page(rt: HostRuntime) -> Result<(), Fail> {
     batch.set(930, Change::Free)?;
     // An image has 4101 bytes in a record, a freed page 5.
     assert_eq!(rt; batch.bytes(), 4111);
+    assert_eq!(rt; batch.len(), 3);
     assert!(rt; batch.find(0) == Some(&image(7)));
     assert!(rt; batch.find(930) == Some(&Change::Free));
     assert!(rt; batch.find(931).is_none());

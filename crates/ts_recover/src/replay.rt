@@ -1,5 +1,5 @@
 // What an opening reads of the journal, and the settling.
-ghost use Rattle.std.specs.Prelude.{◌≡◌, ◌+◌, ◌*◌, ◌≤◌, ◌<◌, [], IsTrue, IsErr, IfOk, OnOk, OnErr};
+ghost use Rattle.std.specs.Prelude.{◌≡◌, ◌+◌, ◌*◌, ◌≤◌, ◌<◌, [], length, IsTrue, IsErr, IfOk, OnOk, OnErr};
 ghost use Rattle.ts_disk.specs.Device.{Only, LeavesOnly, Rose};
 ghost use Rattle.ts_journal.specs.Entry.{AreAllowed};
 ghost use Rattle.ts_journal.specs.Journal.{IsVolumeSize, page_count, StandsAt, StandsOver, ReadsButFreed, pages};
@@ -93,6 +93,8 @@ pub fn settle<V: Volume>(replayed: &mut Replayed, vol: &mut V) -> Result<(), Fai
     ensures stands { OnOk result (IsTrue V.tells → StandsAt 0 [] (V.device vol.new).held) }
     ensures emptied { OnOk result (replayed.new.journal ≡ 0) }
     ensures overlay { OnOk result (replayed.new.overlay.entries ≡ []) }
+    // The memory of the overlay's entries is free for others.
+    ensures spare { OnOk result (replayed.old.overlay.spare + length replayed.old.overlay.entries ≤ replayed.new.overlay.spare) }
     ensures durable { OnOk result (Only (V.device vol.new).held (V.device vol.new).images) }
     ensures err { OnErr result (replayed.new ≡ replayed.old) }
     ensures pages { replayed.new.pages ≡ replayed.old.pages }

@@ -1,0 +1,91 @@
+-- What a caller needs between the calls of a store.
+use Rattle.std.proofs.Common.{◌≡◌, ℕ, ◌*◌, ◌<◌, Bool, IsTrue, List, [], length, ap, sym, ◌∙◌, subst, arith}
+use Rattle.ts_disk.specs.Device.{Device, Only}
+use Rattle.ts_page.specs.Pages.{IsLawful, SameButFreed}
+use Rattle.ts_page.proofs.PagesLemmas.{lawful_same, same_trans, same_from_equal}
+use Rattle.ts_journal.specs.Entry.{Entry, AreAllowed}
+use Rattle.ts_journal.specs.Journal.{IsVolumeSize, page_count, pages, StandsOver, ReadsButFreed}
+use Rattle.ts_journal.specs.Moment.{OnlyReads}
+use Rattle.ts_recover.proofs.OpenedLemmas.{still_only}
+use Rattle.ts_store.specs.OpenBatch.{State, IsOver, IsIdle, IsFresh, Closes, read_pages, contents_over}
+use Rattle.ts_store.specs.Undisturbed.{Undisturbed}
+use Rattle.ts_store.proofs.ReadLemmas.{read_closed, same_but_freed}
+use Rattle.ts_store.proofs.CommitLemmas.{counted}
+
+-- a store whose journal was just read is over its volume
+pub over_fresh : (tells : Bool) (count position : ℕ) (entries : List Entry) (s : State) (d : Device) → IsFresh count position entries s → d.size ≡ 4096 * count → IsVolumeSize d.size → Only d.held d.images
+    → (IsTrue tells → StandsOver position entries d.held) → AreAllowed count entries → IsOver tells s d
+over_fresh tells count position entries s d fresh size volume settled stands allowed = record {
+  size = size ∙ ap (λ (n : ℕ). 4096 * n) (sym fresh.pages);
+  volume = volume;
+  settled = settled;
+  stands = λ told. subst (λ (p : ℕ). StandsOver p s.overlay d.held) (sym fresh.journal) (subst (λ (es : List Entry). StandsOver position es d.held) (sym fresh.overlay) (stands told));
+  allowed = subst (λ (n : ℕ). AreAllowed n s.overlay) (sym fresh.pages) (subst (AreAllowed count) (sym fresh.overlay) allowed);
+  lawful = record {
+    different = λ i j e before within same. none_within j within;
+    listed = λ k e within. absurd (none_within k within);
+  };
+}
+  where
+    none_within : (k : ℕ) → k < length s.free → ⊥
+    none_within k within = omega (arith, within, ap length fresh.free)
+
+-- so is one whose journal was read from it
+pub over_recovered : (tells : Bool) (count position : ℕ) (entries : List Entry) (s : State) (v w : Device) → IsFresh count position entries s → OnlyReads tells v w → v.size ≡ 4096 * count → IsVolumeSize v.size
+    → Only v.held v.images → (IsTrue tells → StandsOver position entries v.held) → AreAllowed (page_count v.size) entries → IsOver tells s w
+over_recovered tells count position entries s v w fresh reads size volume settled stands allowed =
+    over_fresh tells count position entries s w fresh (reads.keeps.size ∙ size) (subst IsVolumeSize (sym reads.keeps.size) volume) (still_only tells v w reads settled)
+    (λ told. subst (StandsOver position entries) (sym reads.held) (stands told)) (subst (λ (n : ℕ). AreAllowed n entries) (counted v.size count size) allowed)
+
+-- calls on an open batch keep a store over its volume
+pub over_still : (tells : Bool) (s t : State) (v w : Device) → IsOver tells s v → Undisturbed tells s t v w → IsLawful tells (contents_over t w) → IsOver tells t w
+over_still tells s t v w over calls lawful = record {
+  size = calls.reads.keeps.size ∙ over.size ∙ ap (λ (n : ℕ). 4096 * n) (sym calls.pages);
+  volume = subst IsVolumeSize (sym calls.reads.keeps.size) over.volume;
+  settled = λ image now. over.settled image (calls.reads.images image now) ∙ sym calls.reads.held;
+  stands = λ told. subst (λ (p : ℕ). StandsOver p t.overlay w.held) (sym calls.journal) (subst (λ (es : List Entry). StandsOver s.journal es w.held) (sym calls.overlay) (subst (StandsOver s.journal s.overlay) (sym calls.reads.held) (over.stands told)));
+  allowed = subst (λ (n : ℕ). AreAllowed n t.overlay) (sym calls.pages) (subst (AreAllowed s.pages) (sym calls.overlay) over.allowed);
+  lawful = lawful;
+}
+
+-- so does the taking of memory
+pub over_prepared : (tells : Bool) (s t : State) (d : Device) → t ≡ record s { spare = t.spare } → IsOver tells s d → IsOver tells t d
+over_prepared tells s t d is over =
+    subst (λ (x : State). IsOver tells x d) (sym is)
+    (record { size = over.size; volume = over.volume; settled = over.settled; stands = over.stands; allowed = over.allowed; lawful = over.lawful })
+
+-- each volume has an element page
+pub first_element : (tells : Bool) (s : State) (d : Device) → IsOver tells s d → 930 < s.pages
+first_element tells s d over = omega (arith, over.size, over.volume.1, over.volume.3)
+
+-- once their batch is dropped, the pages and those that can be taken are as they were
+pub read_dropped : (tells : Bool) (s t : State) (v w : Device) → Undisturbed tells s t v w → s.batch ≡ [] → (k : ℕ) → read_pages (record t { batch = []; free = t.kept_free }) w.held k ≡ read_pages s v.held k
+read_dropped tells s t v w calls none k = λ i. read_pages (record s { batch = sym none i; overlay = calls.overlay i }) (calls.reads.held i) k
+
+pub over_dropped : (tells : Bool) (s t u : State) (v w : Device) → IsOver tells s v → Undisturbed tells s t v w → s.batch ≡ [] → s.free ≡ s.kept_free → u ≡ record t { batch = []; free = t.kept_free } → IsOver tells u w
+over_dropped tells s t u v w over calls none kept dropped =
+    let back : State = record t { batch = []; free = t.kept_free } in
+    subst (λ (x : State). IsOver tells x w) (sym dropped)
+    (over_still tells s back v w over (record { pages = calls.pages; journal = calls.journal; overlay = calls.overlay; kept_free = calls.kept_free; reads = calls.reads })
+    (lawful_same tells (contents_over s v) (contents_over back w) over.lawful calls.pages (λ told k. read_dropped tells s t v w calls none k) (calls.kept_free ∙ sym kept)))
+
+-- after a commit the pages are those that were read in its batch, but for what the emptying of the journal may change
+pub read_committed : (tells : Bool) (told : IsTrue tells) (s t : State) (v w : Device) → IsOver tells s v → t.batch ≡ [] → IsOver tells t w → ReadsButFreed v.size s.overlay (read_pages s v.held) w.held
+    → SameButFreed (read_pages s v.held) (read_pages t w.held)
+read_committed tells told s t v w before none over reads =
+    same_trans (read_pages s v.held) (pages w.held) (read_pages t w.held) (same_but_freed s.pages v.size s.overlay (read_pages s v.held) w.held before.allowed reads)
+    (same_from_equal (pages w.held) (read_pages t w.held) (λ k. read_closed t w.held none (over.stands told) k))
+
+-- a store whose journal was just read has no batch open
+pub idle_recovered : (tells : Bool) (count position : ℕ) (entries : List Entry) (s : State) (d : Device) → IsFresh count position entries s → IsOver tells s d → IsIdle tells s d
+idle_recovered tells count position entries s d fresh over = record { over = over; batch = fresh.batch; kept_free = fresh.kept_free ∙ sym fresh.free }
+
+pub idle_closed : (tells : Bool) (s t : State) (d : Device) → Closes s t → IsOver tells t d → IsIdle tells t d
+idle_closed tells s t d closes over = record { over = over; batch = closes.batch; kept_free = closes.kept_free ∙ sym closes.free }
+
+pub idle_dropped : (tells : Bool) (s t u : State) (v w : Device) → IsIdle tells s v → Undisturbed tells s t v w → u ≡ record t { batch = []; free = t.kept_free } → IsIdle tells u w
+idle_dropped tells s t u v w idle calls dropped = record {
+  over = over_dropped tells s t u v w idle.over calls idle.batch (sym idle.kept_free) dropped;
+  batch = ap (λ (x : State). x.batch) dropped;
+  kept_free = ap (λ (x : State). x.kept_free) dropped ∙ sym (ap (λ (x : State). x.free) dropped);
+}

@@ -1,0 +1,4 @@
+pub mod ReadLemmas
+mod KeepLemmas
+pub mod CommitLemmas
+pub mod CallerLemmas

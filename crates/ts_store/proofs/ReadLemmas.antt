@@ -1,0 +1,89 @@
+-- What is read over a volume: the open batch, else the overlay, else the page in its place.
+use Rattle.std.proofs.Common.{◌≡◌, inl, inr, ⊎_elim, ℕ, ◌+◌, ◌*◌, Bool, true, false, cond, eqb, Option, Some, None, List, [], ◌∷◌, refl, ap, sym, ◌∙◌, subst, arith}
+use Rattle.std.proofs.lemmas.Bool.{cond-true, cond-false, cases_eq, eq-eqb, ne_eqb, not-true}
+use Rattle.ts_page.specs.Head.{bytes_at}
+use Rattle.ts_page.specs.Pages.{IsElementPage, SameButFreed, IsOutsideJournal, with_page}
+use Rattle.ts_journal.specs.declared.batch.Change.{Change}
+use Rattle.ts_journal.specs.declared.batch.Change.TheVariants.{Image, Free}
+use Rattle.ts_journal.specs.Entry.{Entry, AreAllowed, IsRising, is_region, change_of, content, put, put_page, put_pages}
+use Rattle.ts_journal.specs.Journal.{own_page, pages, StandsOver, ReadsButFreed, SameOrFreed}
+use Rattle.ts_journal.proofs.BatchLemmas.{none_below}
+use Rattle.ts_journal.proofs.ParseLemmas.{no_region}
+use Rattle.ts_journal.proofs.OverlayLemmas.{change_of-put, shown, pages_shown}
+use Rattle.ts_store.specs.OpenBatch.{State, changed, change_or, change_read, over, read_pages}
+
+-- what is read after one change more
+changed_cond : (b : Bool) (change : Change) (rest : Option Change) (page : List ℕ) → changed (cond b (Some change) rest) page ≡ cond b (content change) (changed rest page)
+changed_cond true change rest page = refl
+changed_cond false change rest page = refl
+
+pub over_put : (es : List Entry) (number : ℕ) (change : Change) (own : ℕ → List ℕ) (k : ℕ) → over (put number change es) own k ≡ with_page number (content change) (over es own) k
+over_put es number change own k =
+    ap (λ (o : Option Change). changed o (own k)) (change_of-put es number change k) ∙ changed_cond (eqb number k) change (change_of k es) (own k)
+
+-- rising entries put in order are what is found of each page
+pub put_pages-over : (es : List Entry) (least top : ℕ) (own : ℕ → List ℕ) (k : ℕ) → IsRising least top es → put_pages es own k ≡ over es own k
+put_pages-over [] least top own k rising = refl
+put_pages-over (e ∷ es) least top own k rising =
+    put_pages-over es (e.0 + 1) top (put_page e own) k rising.1 ∙ (elim (cases_eq e.0 k) [
+      | inl here ↦
+          let none : change_of k es ≡ None = none_below es (e.0 + 1) top k rising.1 (omega (arith, here)) in
+          ap (λ (o : Option Change). changed o (put_page e own k)) none ∙ cond-true (eqb e.0 k) (content e.1) (own k) (eq-eqb e.0 k here)
+          ∙ ap (λ (o : Option Change). changed o (own k)) (sym (cond-true (eqb e.0 k) (Some e.1) (change_of k es) (eq-eqb e.0 k here)))
+      | inr there ↦
+          ap (changed (change_of k es)) (cond-false (eqb e.0 k) (content e.1) (own k) (ne_eqb e.0 k there))
+          ∙ ap (λ (o : Option Change). changed o (own k)) (sym (cond-false (eqb e.0 k) (Some e.1) (change_of k es) (ne_eqb e.0 k there)))
+    ])
+
+shown_changed : (o : Option Change) (page : List ℕ) → shown o page ≡ changed o page
+shown_changed None page = refl
+shown_changed (Some change) page = refl
+
+-- the overlay over the pages in their places is what the journal makes of them
+pub over_pages : (position : ℕ) (overlay : List Entry) (held : List ℕ) → StandsOver position overlay held → (k : ℕ) → pages held k ≡ over overlay (own_page held) k
+over_pages position overlay held stands k =
+    pages_shown held stands.rs stands.stands.records k ∙ ap (λ (es : List Entry). shown (change_of k es) (own_page held k)) (sym stands.covers)
+    ∙ shown_changed (change_of k overlay) (own_page held k)
+
+-- so it is the open batch over the pages of the volume that is read
+pub read_over : (s : State) (held : List ℕ) → StandsOver s.journal s.overlay held → (k : ℕ) → read_pages s held k ≡ over s.batch (pages held) k
+read_over s held stands k = ap (changed (change_of k s.batch)) (sym (over_pages s.journal s.overlay held stands k))
+
+-- with no batch, just these
+pub read_closed : (s : State) (held : List ℕ) → s.batch ≡ [] → StandsOver s.journal s.overlay held → (k : ℕ) → read_pages s held k ≡ pages held k
+read_closed s held none stands k =
+    read_over s held stands k ∙ ap (λ (es : List Entry). over es (pages held) k) none
+
+-- a page without a change is read in its place
+pub read_clean : (s : State) (held : List ℕ) (k : ℕ) → change_read k s ≡ None → IsOutsideJournal k → read_pages s held k ≡ bytes_at (4096 * k) 4096 held
+read_clean s held k none outside = here (change_of k s.batch) (change_of k s.overlay) none
+  where
+    own : own_page held k ≡ bytes_at (4096 * k) 4096 held
+    own = cond-false (is_region k) [] (bytes_at (4096 * k) 4096 held) (not-true (is_region k) (no_region k outside))
+
+    here : (b o : Option Change) → change_or b o ≡ None → changed b (changed o (own_page held k)) ≡ bytes_at (4096 * k) 4096 held
+    here (Some c) o is = absurd (cc)
+    here None (Some c) is = absurd (cc)
+    here None None is = own
+
+-- only an element page is freed
+pub freed_element : (count : ℕ) (es : List Entry) (k : ℕ) → AreAllowed count es → change_of k es ≡ Some Free → IsElementPage k
+freed_element count [] k allowed is = absurd (cc)
+freed_element count ((n, Image page) ∷ es) k allowed is = elim (cases_eq n k) [
+  | inl here ↦ absurd (cc (sym (cond-true (eqb n k) (Some (Image page)) (change_of k es) (eq-eqb n k here)) ∙ is))
+  | inr there ↦ freed_element count es k allowed.1 (sym (cond-false (eqb n k) (Some (Image page)) (change_of k es) (ne_eqb n k there)) ∙ is)
+]
+freed_element count ((n, Free) ∷ es) k allowed is = elim (cases_eq n k) [
+  | inl here ↦ subst IsElementPage here allowed.0.freeable
+  | inr there ↦ freed_element count es k allowed.1 (sym (cond-false (eqb n k) (Some Free) (change_of k es) (ne_eqb n k there)) ∙ is)
+]
+
+-- what an emptied journal leaves of the pages
+pub same_but_freed : (count bytes : ℕ) (es : List Entry) (wanted : ℕ → List ℕ) (image : List ℕ) → AreAllowed count es → ReadsButFreed bytes es wanted image → SameButFreed wanted (pages image)
+same_but_freed count bytes es wanted image allowed reads k =
+    ⊎_elim (λ same. inl same) (λ freed. inr (freed_element count es k allowed freed.0, freed.1, freed.2)) (reads.same k)
+
+-- where the entries free nothing, nothing differs
+pub same_over : (es : List Entry) (o : Option Change) (k : ℕ) (a b : List ℕ) → SameOrFreed es k a b → SameOrFreed es k (changed o a) (changed o b)
+same_over es None k a b same = same
+same_over es (Some change) k a b same = inl refl

@@ -1,0 +1,6 @@
+use Rattle.ts_store.proofs.CallerLemmas.{idle_dropped}
+use Rattle.ts_store.proofs.tests.tried.Goals as goal
+
+pub returns-clause-idle : goal.returns-clause-idle
+returns-clause-idle g c =
+    idle_dropped g.V.Volume.tells c.args.store.now c.replaced_on.new.store c.discard.new.self (g.V.Volume.device c.args.vol.now) (g.V.Volume.device c.replaced_on.new.vol) c.requires.idle c.replaced_on.ensures c.discard.ensures

@@ -1,0 +1,3 @@
+pub mod FreeList
+pub mod OpenBatch
+pub mod Undisturbed

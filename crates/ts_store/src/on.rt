@@ -1,0 +1,89 @@
+// A store over its volume, as a keeper of pages.
+ghost use Rattle.std.specs.Prelude.{◌≡◌, ◌*◌};
+ghost use Rattle.std.proofs.Props.{props};
+ghost use Rattle.ts_page.specs.Pages.{IsLawful};
+ghost use Rattle.ts_store.specs.OpenBatch.{contents_over};
+
+use crate::store::Store;
+use ts_base::StoreFault;
+use ts_disk::Volume;
+use ts_journal::Change;
+use ts_page::{Page, Pages};
+
+const PAGE: u64 = 4096;
+
+/// A store and the volume that it is of.
+#[derive(Drop)]
+pub struct On<'a, V: Volume> {
+    pub store: &'a mut Store,
+    pub vol: &'a mut V,
+    ghost size: { (V.device vol.now).size ≡ 4096 * store.now.pages },
+    ghost lawful: { IsLawful V.tells (contents_over store.now (V.device vol.now)) } by { Prim.hlevel props },
+}
+
+impl<'a, V: Volume> Pages for On<'a, V> {
+    ghost use Rattle.std.specs.Prelude.{◌<◌, IsSome};
+    ghost use Rattle.std.proofs.Common.{refl, ◌∙◌};
+    ghost use Rattle.ts_page.specs.Pages.{Got};
+    ghost use Rattle.ts_store.specs.OpenBatch.{change_read};
+    ghost use Rattle.ts_store.specs.Undisturbed.{Undisturbed, undisturbed_none, undisturbed_then};
+
+    ghost tells = { V.tells };
+
+    ghost contents = { λ on. contents_over on.store.now (V.device on.vol.now) };
+
+    ghost undisturbed = { λ a b. (b.store.ghost_name ≡ a.store.ghost_name) × (b.vol.ghost_name ≡ a.vol.ghost_name)
+        × Undisturbed V.tells a.store.now b.store.now (V.device a.vol.now) (V.device b.vol.now) };
+
+    /// Reads a page. One of the open batch or of the overlay is read with no call on the volume.
+    fn get(&mut self, no: u32, into: &mut Page) -> Result<(), StoreFault>
+        requires { no < self.old.store.now.pages }
+        ensures got { Got V.tells no into.new.bytes result (contents_over self.old.store.now (V.device self.old.vol.now))
+            (contents_over self.new.store.now (V.device self.new.vol.now)) }
+        ensures undisturbed { (self.new.store.ghost_name ≡ self.old.store.ghost_name) × (self.new.vol.ghost_name ≡ self.old.vol.ghost_name)
+            × Undisturbed V.tells self.old.store.now self.new.store.now (V.device self.old.vol.now) (V.device self.new.vol.now) }
+        ensures kept { IsSome (change_read no self.old.store.now) → self.new.vol.now ≡ self.old.vol.now }
+    {
+        match self.store.find(no) {
+            Some(Change::Image(page)) => *into = *page,
+            Some(Change::Free) => *into = Page::zero(),
+            None => {
+                let read = self.vol.read_at(PAGE * no as u64, &mut into.bytes);
+                if read.is_err() {
+                    return Err(StoreFault::Failed);
+                }
+            }
+        }
+        Ok(())
+    }
+
+    fn put(&mut self, no: u32, page: &Page) -> Result<(), StoreFault> {
+        // An image has as many bytes as a page.
+        let _bytes: &[u8] = &page.bytes;
+        self.store.set(no, Change::Image(*page))?;
+        Ok(())
+    }
+
+    fn free(&mut self, no: u32) -> Result<(), StoreFault> {
+        self.store.free(no)?;
+        Ok(())
+    }
+
+    fn spare(&self) -> u32 {
+        self.store.spare() as u32
+    }
+
+    fn take(&mut self) -> u32 {
+        self.store.take()
+    }
+
+    ghost lawful = { λ on. on.lawful };
+
+    ghost stays = { λ on. (refl, refl, undisturbed_none V.tells on.store.now (V.device on.vol.now) (V.lawful on.vol.now)) };
+
+    ghost then = { λ a b c p q. (
+      q.0 ∙ p.0,
+      q.1 ∙ p.1,
+      undisturbed_then V.tells a.store.now b.store.now c.store.now (V.device a.vol.now) (V.device b.vol.now) (V.device c.vol.now) p.2 q.2,
+    ) };
+}
