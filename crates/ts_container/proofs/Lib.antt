@@ -1,0 +1,14 @@
+pub mod PartLemmas
+pub mod FieldLemmas
+pub mod ParseLemmas
+pub mod SlotBytesLemmas
+pub mod PlaceLemmas
+pub mod ReadLemmas
+pub mod WriteLemmas
+pub mod SurveyLemmas
+pub mod UniqueLemmas
+pub mod ContentLemmas
+pub mod ElementLemmas
+pub mod ChargeLemmas
+pub mod ShapeLemmas
+pub mod VerdictLemmas

@@ -1,0 +1,123 @@
+-- Pages read one after the other.
+use Rattle.std.proofs.Common.{◌≡◌, ℕ, zero, suc, ◌+◌, ◌-◌, ◌<◌, ◌≤◌, Bool, true, Option, Some, None, Result, Ok, Err, IsTrue, IfOk, IfErr, OnOk, List, length, drop, replicate, refl, sym, ap, subst, ◌∙◌, arith, inl, inr, ◌⊎◌}
+use Rattle.std.proofs.lemmas.Bool.{cases_lt, cases_eq}
+use Rattle.ts_base.specs.declared.fault.StoreFault.{StoreFault}
+use Rattle.ts_page.specs.Pages.{Contents, EqualPages, IsOutsideJournal, Got}
+use Rattle.ts_model.specs.declared.kind.Kind.{Kind}
+use Rattle.ts_model.specs.declared.kind.Kind.TheVariants as kinds
+use Rattle.std.specs.Option.{option_map}
+use Rattle.std.proofs.lemmas.List.{length-map, length-replicate}
+use Rattle.ts_model.specs.Definitions.{Definitions, RowTypeDef, ContainerDef, SeriesDef, limit, slots, at_slot, of_row_type, of_container, of_series, no_definitions, IsDefinitions}
+use Rattle.ts_container.specs.Limits.{IsSlotOf}
+use Rattle.ts_container.proofs.PlaceLemmas.{at_slot-map}
+use Rattle.ts_container.specs.declared.fault.SurveyFault.{SurveyFault}
+use Rattle.ts_container.specs.declared.fault.SurveyFault.TheVariants.{NotAStore, Failed, Memory}
+use Rattle.ts_container.specs.declared.definitions.Found.{Found}
+use Rattle.ts_container.specs.declared.definitions.Found.TheVariants as found
+use Rattle.ts_container.specs.Meaning.{def_at, HoldsDefinitions, KeepLimits}
+use Rattle.ts_container.specs.Reading.{HoldNone, rank, rank_of_page, AreReadTo, HoldBelow, HasZerosBehind, PageRead, first_repeated}
+use Rattle.ts_container.specs.Survey.{Reads, IfRefused, PageGot, HoldUnless, DefinitionsRead}
+
+-- a page that was got was read
+pub got_read : (tells : Bool) (number : ℕ) (into : List ℕ) (v w : Contents) → IsOutsideJournal number → Got tells number into (Ok tt) v w → PageGot tells number into (Ok tt) v w
+got_read tells number into v w outside got = record {
+  call = record { count = got.call.count; faults = got.call.faults; pages = got.pages; free = got.free; cause = λ failed. absurd (cc) };
+  read = λ told. got.read told outside;
+  refused = tt;
+}
+
+-- one call after another
+pub reads_more : {S T : Type 0} (tells : Bool) (x : S) (r : Result T SurveyFault) (u v w : Contents) → Reads tells (Ok x) u v → Reads tells r v w → Reads tells r u w
+reads_more tells x r u v w first second = record {
+  count = second.count ∙ first.count;
+  faults = omega (arith, first.faults, second.faults);
+  pages = λ told n. second.pages told n ∙ first.pages told n;
+  free = second.free ∙ first.free;
+  cause = λ failed. omega (arith, first.faults, second.cause failed);
+}
+
+-- a call that went well, seen as another answer
+pub reads_ok : {S T : Type 0} (tells : Bool) (x : S) (y : T) (v w : Contents) → Reads tells (Ok x) v w → Reads tells (Ok y) v w
+reads_ok tells x y v w reads = record { count = reads.count; faults = reads.faults; pages = reads.pages; free = reads.free; cause = λ failed. absurd (cc) }
+
+-- and one that failed, seen as a failure of another call
+pub reads_err : {S T : Type 0} (tells : Bool) (e : SurveyFault) (v w : Contents) → Reads {T = S} tells (Err e) v w → Reads {T = T} tells (Err e) v w
+reads_err {S} {T} tells e v w reads = record { count = reads.count; faults = reads.faults; pages = reads.pages; free = reads.free; cause = λ failed. reads.cause (err_again S T e failed) } where
+  err_again : (S T : Type 0) (e : SurveyFault) → ◌≡◌ {A = Result T SurveyFault} (Err e) (Err Failed) → ◌≡◌ {A = Result S SurveyFault} (Err e) (Err Failed)
+  err_again S T e same = let e' : e ≡ Failed = cc in ap Err e'
+
+-- nothing was read yet
+pub reads_none : (tells : Bool) (v : Contents) → Reads {T = Unit {0}} tells (Ok tt) v v
+reads_none tells v = record { count = refl; faults = omega arith; pages = λ told n. refl; free = refl; cause = λ failed. absurd (cc) }
+
+-- a verdict without a call
+pub reads_refused : {S T : Type 0} (tells : Bool) (x : S) (number : ℕ) (v w : Contents) → Reads tells (Ok x) v w → Reads {T = T} tells (Err (NotAStore number)) v w
+reads_refused tells x number v w reads = record { count = reads.count; faults = reads.faults; pages = reads.pages; free = reads.free; cause = λ failed. absurd (cc) }
+
+-- what is known of definition pages below some number
+abbrev pub KnownBelow : Option ℕ → (ℕ → List ℕ) → ℕ → Definitions → Type 0
+KnownBelow None pages number d = HoldBelow (rank_of_page number) pages d × ((n : ℕ) → 257 ≤ n → n < number → HasZerosBehind n (pages n))
+KnownBelow (Some repeated) pages number d = HoldNone pages
+
+-- one page more
+pub known_more : (before : Option ℕ) (g : Found) (number : ℕ) (page : List ℕ) (pages : ℕ → List ℕ) (old new : Definitions) → (g ≡ found.Bad → ⊥) → pages number ≡ page → PageRead number page old new g
+    → KnownBelow before pages number old → KnownBelow (first_repeated before g number) pages (number + 1) new
+known_more (Some before) g number page pages old new good same read known = known
+known_more None found.Good number page pages old new good same read known = (
+  read.2 pages same known.0,
+  λ n low below. elim (cases_eq n number) [
+    | inl this ↦ subst (λ (k : ℕ). HasZerosBehind k (pages k)) (sym this) (subst (HasZerosBehind number) (sym same) read.0)
+    | inr other ↦ known.1 n low (lower n number below other)
+  ],
+) where
+  lower : (n number : ℕ) → n < number + 1 → (n ≡ number → ⊥) → n < number
+  lower n number below other = omega arith
+known_more None found.Repeated number page pages old new good same read known = read.1 pages same known.0
+known_more None found.Bad number page pages old new good same read known = absurd (good refl)
+
+-- a page that isn't bad was read
+pub page_is_read : (g : Found) (number : ℕ) (page : List ℕ) (old new : Definitions) → (g ≡ found.Bad → ⊥) → PageRead number page old new g → AreReadTo (rank_of_page (number + 1)) new
+page_is_read found.Good number page old new good read = read.1
+page_is_read found.Repeated number page old new good read = read.0
+page_is_read found.Bad number page old new good read = absurd (good refl)
+
+-- all slots stand below the end
+below_end : (kind : Kind) (slot : ℕ) → slot < limit kind → rank kind slot < 4224
+below_end kinds.RowType slot within = omega arith
+below_end kinds.Container slot within = omega arith
+below_end kinds.Series slot within = omega arith
+
+-- all definition pages were read
+pub known_all : (repeated : Option ℕ) (pages : ℕ → List ℕ) (d : Definitions) → KnownBelow repeated pages 930 d → HoldUnless repeated pages d
+known_all None pages d known = record {
+  slots = λ kind slot within. known.0 kind slot within (below_end kind slot within);
+  behind = known.1;
+}
+known_all (Some number) pages d known = known
+
+-- nothing stands below the first page
+pub known_none : (pages : ℕ → List ℕ) (d : Definitions) → KnownBelow None pages 257 d
+known_none pages d = (λ kind slot within below. absurd (omega arith), λ n low below. absurd (omega arith))
+
+-- no definitions were read yet
+empty_at : {A : Type 0} (n i : ℕ) → at_slot {A = A} i (replicate n None) ≡ None
+empty_at zero i = refl
+empty_at (suc n) zero = refl
+empty_at {A} (suc n) (suc i) = empty_at {A = A} n i
+
+none_at : (kind : Kind) (slot : ℕ) → def_at kind slot no_definitions ≡ None
+none_at kinds.RowType slot = at_slot-map of_row_type slot (replicate 64 None) ∙ ap (option_map of_row_type) (empty_at 64 slot)
+none_at kinds.Container slot = at_slot-map of_container slot (replicate 64 None) ∙ ap (option_map of_container) (empty_at 64 slot)
+none_at kinds.Series slot = at_slot-map of_series slot (replicate 4096 None) ∙ ap (option_map of_series) (empty_at 4096 slot)
+
+sizes_none : (kind : Kind) → length (slots kind no_definitions) ≡ limit kind
+sizes_none kinds.RowType = length-map no_definitions.row_types (option_map of_row_type) ∙ length-replicate {A = Option RowTypeDef} 64 None
+sizes_none kinds.Container = length-map no_definitions.containers (option_map of_container) ∙ length-replicate {A = Option ContainerDef} 64 None
+sizes_none kinds.Series = length-map no_definitions.series (option_map of_series) ∙ length-replicate {A = Option SeriesDef} 4096 None
+
+pub none_read : (d : Definitions) → d ≡ no_definitions → AreReadTo 0 d
+none_read d is = subst (AreReadTo 0) (sym is) (record {
+  sizes = sizes_none;
+  empty = λ kind slot above. none_at kind slot;
+  limits = λ kind slot within. subst (IsSlotOf kind) (sym (none_at kind slot)) tt;
+})

@@ -1,0 +1,198 @@
+-- What a survey says of the pages.
+use Rattle.std.proofs.Common.{◌≡◌, ℕ, ◌+◌, ◌-◌, ◌<◌, ◌≤◌, Bool, true, false, Option, Some, None, IsSome, IsTrue, Result, Ok, Err, IsErrAnd, IfErr, List, length, refl, sym, ap, subst, ◌∙◌, arith, inl, inr, ◌⊎◌, MatchOption}
+use Rattle.ts_page.specs.Pages.{Contents, EqualPages}
+use Rattle.ts_space.specs.Place.{count_of}
+use Rattle.ts_space.specs.Directory.{Directory, places_of}
+use Rattle.ts_space.specs.declared.place.Place.{Place}
+use Rattle.ts_model.specs.Definitions.{Definitions, as_row_type, as_container, as_series, IsDefinitions}
+use Rattle.ts_container.specs.Slot.{header_bytes}
+use Rattle.ts_container.specs.Meaning.{ElementPage, element_page, elements_of, Layout, HoldsDefinitions, HoldsElements, HoldsLayout, KeepLimits, AreThere, AreSound, sum_of_quotas, HasOnePageEach, KeepsQuotas, IsSound, IsLaidOut}
+use Rattle.ts_container.specs.Reading.{HoldNone, AreReadTo}
+use Rattle.ts_container.specs.Charges.{KeepQuotas}
+use Rattle.ts_container.specs.Elements.{ListsAll, ListsUnless, Listed, HoldAll, HoldNoElements, AllRead, ElementsRead, IsSeen}
+use Rattle.ts_container.specs.Survey.{Reads, IfRefused, HoldUnless, DefinitionsRead, SoundRead, IsFound, HoldNoLayout}
+use Rattle.ts_container.specs.declared.fault.SurveyFault.{SurveyFault}
+use Rattle.ts_container.specs.declared.fault.SurveyFault.TheVariants.{NotAStore, Failed, Memory}
+use Rattle.ts_container.specs.declared.surveyed.Surveyed.{Surveyed}
+use Rattle.ts_model.specs.Table.{Slots}
+use Rattle.ts_model.specs.Parts.{tables_of, AreParts}
+use Rattle.ts_model.proofs.PartsLemmas.{read-table, row_type-name, container-name, series-name}
+use Rattle.ts_container.proofs.SurveyLemmas.{reads_more, reads_err, reads_refused}
+use Rattle.ts_container.proofs.UniqueLemmas.{unique}
+use Rattle.ts_container.proofs.ShapeLemmas.{AllAlike, pages_alike, one_alike, as_many, count_places, quotas_kept, quotas_listed}
+
+-- how many element pages there are
+size_of : (count : ℕ) (l : Layout) → count ≡ 930 + length l.element_pages → length l.element_pages ≡ count - 930
+size_of count l is = omega (arith, is)
+
+-- another header
+pub no_header : (count : ℕ) (pages : ℕ → List ℕ) (bytes : List ℕ) → pages 0 ≡ bytes → (bytes ≡ header_bytes (count - 930) → ⊥) → HoldNoLayout count pages
+no_header count pages bytes same other l laid = other (sym same ∙ laid.bytes.header ∙ ap header_bytes (size_of count l laid.size))
+
+-- no definitions
+pub no_definitions : (count : ℕ) (pages : ℕ → List ℕ) → HoldNone pages → HoldNoLayout count pages
+no_definitions count pages none l laid = none l.definitions laid.bytes.definitions laid.rules.definitions.limits laid.rules.definitions.tables
+
+-- each layout has the definitions that were read
+pub the_definitions : (count : ℕ) (pages : ℕ → List ℕ) (d : Definitions) → HoldsDefinitions pages d → KeepLimits d → IsDefinitions d → (l : Layout) → IsLaidOut count pages l → l.definitions ≡ d
+the_definitions count pages d holds limits rules l laid =
+    unique pages l.definitions d laid.bytes.definitions laid.rules.definitions.limits laid.rules.definitions.tables holds limits rules
+
+-- a repeated name, or a reference to an empty slot
+pub not_apart : (count : ℕ) (pages : ℕ → List ℕ) (d : Definitions) (repeated dangling : Option ℕ) → HoldUnless repeated pages d → KeepLimits d → IsDefinitions d → MatchOption dangling (AreThere d) (λ _. AreThere d → ⊥) → IsSome repeated ⊎ IsSome dangling → HoldNoLayout count pages
+not_apart count pages d (Some number) dangling known limits rules there some = no_definitions count pages known
+not_apart count pages d None (Some number) known limits rules there some = λ l laid.
+    there (subst AreThere (the_definitions count pages d known limits rules l laid) laid.rules.definitions.references)
+not_apart count pages d None None known limits rules there some = elim some [ inl one ↦ absurd (cc) | inr two ↦ absurd (cc) ]
+
+-- quotas that are too much together
+pub not_granted : (count : ℕ) (pages : ℕ → List ℕ) (d : Definitions) → HoldsDefinitions pages d → KeepLimits d → IsDefinitions d → (sum_of_quotas d.containers ≤ count - 930 → ⊥) → HoldNoLayout count pages
+not_granted count pages d holds limits rules more l laid =
+    let same = the_definitions count pages d holds limits rules l laid in
+    more (subst (λ (n : ℕ). sum_of_quotas d.containers ≤ n) (size_of count l laid.size) (subst (λ (x : Definitions). sum_of_quotas x.containers ≤ length l.element_pages) same laid.rules.definitions.quotas))
+
+-- the element pages of each layout
+its_pages : (count : ℕ) (pages : ℕ → List ℕ) (d : Definitions) → HoldsDefinitions pages d → AreSound (count - 930) d → (l : Layout) → IsLaidOut count pages l → HoldAll d pages l.element_pages
+its_pages count pages d holds sound l laid j within =
+    subst (λ (x : Definitions). HoldsElements x (pages (930 + j)) (element_page j l.element_pages)) (the_definitions count pages d holds sound.limits sound.tables l laid) (laid.bytes.elements j within)
+
+-- a bad element page
+pub no_elements : (count : ℕ) (pages : ℕ → List ℕ) (d : Definitions) → HoldsDefinitions pages d → AreSound (count - 930) d → HoldNoElements (count - 930) d pages → HoldNoLayout count pages
+no_elements count pages d holds sound none l laid = none l.element_pages (size_of count l laid.size) (its_pages count pages d holds sound l laid)
+
+-- what was seen of pages that are told, they hold
+pub told_pages : (tells : Bool) (count : ℕ) (d : Definitions) (v : Contents) (es : List ElementPage) → IsTrue tells → length es ≡ count → ((j : ℕ) → j < count → IsSeen tells v d (930 + j) (element_page j es)) → HoldAll d v.page es
+told_pages tells count d v es told size seen j within =
+    let at : j < count = omega (arith, within, size) in
+    let one = seen j at in
+    subst (λ (b : List ℕ). HoldsElements d b (element_page j es)) (sym (one.2 told)) one.1
+
+-- the pages that were read are like those of each layout
+likewise : (tells : Bool) (count : ℕ) (d : Definitions) (v : Contents) (es : List ElementPage) → IsTrue tells → length es ≡ count - 930 → ((j : ℕ) → j < count - 930 → IsSeen tells v d (930 + j) (element_page j es))
+    → HoldsDefinitions v.page d → AreSound (count - 930) d → (l : Layout) → IsLaidOut count v.page l → AllAlike es l.element_pages
+likewise tells count d v es told size seen holds sound l laid =
+    pages_alike d v.page es l.element_pages (size ∙ sym (size_of count l laid.size)) (told_pages tells (count - 930) d v es told size seen) (its_pages count v.page d holds sound l laid)
+
+-- a second page of a series
+two_pages : (second : Option ℕ) (number : ℕ) (space : Directory) (es : List ElementPage) → second ≡ Some number → ListsUnless second space es → HasOnePageEach es → ⊥
+two_pages None number space es is lists one = absurd (cc)
+two_pages (Some other) number space es is lists one = lists one
+
+pub not_one : (tells : Bool) (count number : ℕ) (d : Definitions) (v : Contents) (space : Directory) (spare : List ℕ) (second : Option ℕ) → IsTrue tells → HoldsDefinitions v.page d → AreSound (count - 930) d → AllRead tells (count - 930) d v space spare second → second ≡ Some number → HoldNoLayout count v.page
+not_one tells count number d v space spare second told holds sound read is l laid =
+    two_pages second number space read.elements is read.listed.lists
+    (one_alike read.elements l.element_pages (likewise tells count d v read.elements told read.size read.seen holds sound l laid) laid.rules.one_page)
+
+-- the places are all there where no second page was found
+pub all_listed : (second : Option ℕ) (space : Directory) (es : List ElementPage) → second ≡ None → ListsUnless second space es → ListsAll space es
+all_listed None space es is lists = lists
+all_listed (Some number) space es is lists = absurd (cc)
+
+counted : (space : Directory) (es : List ElementPage) → ListsAll space es → (slot : ℕ) → slot < 4096 → count_of (places_of slot space) ≡ length (elements_of slot es)
+counted space es lists slot within = ap count_of (lists.places slot within) ∙ count_places slot 930 es
+
+-- a container over its quota
+pub not_paid : (tells : Bool) (count : ℕ) (d : Definitions) (v : Contents) (space : Directory) (spare : List ℕ) (second : Option ℕ) → IsTrue tells → HoldsDefinitions v.page d → AreSound (count - 930) d → AllRead tells (count - 930) d v space spare second → second ≡ None → (KeepQuotas d space → ⊥) → HoldNoLayout count v.page
+not_paid tells count d v space spare second told holds sound read is over l laid =
+    let lists = all_listed second space read.elements is read.listed.lists in
+    let like = likewise tells count d v read.elements told read.size read.seen holds sound l laid in
+    let same : l.definitions ≡ d = the_definitions count v.page d holds sound.limits sound.tables l laid in
+    let kept : KeepsQuotas (record { definitions = d; element_pages = l.element_pages }) = subst (λ (x : Definitions). KeepsQuotas (record { definitions = x; element_pages = l.element_pages })) same laid.rules.charges in
+    over (quotas_listed d space l.element_pages sound.tables (λ slot within. counted space read.elements lists slot within ∙ as_many slot read.elements l.element_pages like) kept)
+
+-- the layout that was read
+pub is_found : (tells : Bool) (count : ℕ) (d : Definitions) (v : Contents) (space : Directory) (spare : List ℕ) (second : Option ℕ) → 931 ≤ count → count ≤ 66466 → (IsTrue tells → v.page 0 ≡ header_bytes (count - 930)) → (IsTrue tells → HoldsDefinitions v.page d) → AreSound (count - 930) d
+    → AllRead tells (count - 930) d v space spare second → second ≡ None → KeepQuotas d space → IsFound tells count v d space spare
+is_found tells count d v space spare second low high header holds sound read is kept =
+    let es : List ElementPage = read.elements in
+    let lists = all_listed second space es is read.listed.lists in
+    let l : Layout = record { definitions = d; element_pages = es } in (
+      l,
+      record { definitions = refl; places = lists.places; free = read.listed.free },
+      omega (arith, read.size, low),
+      record {
+        some = omega (arith, read.size, low);
+        most = omega (arith, read.size, high);
+        definitions = subst (λ (n : ℕ). AreSound n d) (sym read.size) sound;
+        one_page = lists.one;
+        charges = quotas_kept d space es sound.tables (counted space es lists) kept;
+      },
+      λ told. record {
+        header = header told ∙ ap header_bytes (sym read.size);
+        definitions = holds told;
+        elements = told_pages tells (count - 930) d v es told read.size read.seen;
+      },
+    )
+
+-- a call that failed as this one
+pub err_is : {T : Type 0} (r : Result T SurveyFault) (e : SurveyFault) → IsErrAnd r (λ x. x ≡ e) → r ≡ Err e
+err_is (Ok x) e is = absurd is
+err_is (Err x) e is = ap Err is
+
+-- what a refusal says, said of something else
+refused_so : (e : SurveyFault) (P Q : Type 0) → (P → Q) → IfRefused e P → IfRefused e Q
+refused_so (NotAStore page) P Q so refused = so refused
+refused_so Failed P Q so refused = tt
+refused_so (Memory error) P Q so refused = tt
+
+-- the same pages
+same_pages : (a b : ℕ → List ℕ) → EqualPages a b → b ≡ a
+same_pages a b same = λ i n. same n i
+
+none_before : (a b : ℕ → List ℕ) → EqualPages a b → HoldNone b → HoldNone a
+none_before a b same none = subst HoldNone (same_pages a b same) none
+
+pub sound_err : (tells : Bool) (count : ℕ) (e : SurveyFault) (d : Definitions) (u v w : Contents) → Reads tells (Ok (tt {0})) u v → DefinitionsRead tells (Err e) d v w → SoundRead tells count (Err e) u w
+sound_err tells count e d u v w first read = record {
+  call = reads_more tells tt (Err e) u v w first (reads_err tells e v w read.call);
+  read = tt;
+  header = λ ok told. absurd (cc);
+  known = tt;
+  refused = refused_so e (IsTrue tells → HoldNone v.page) (IsTrue tells → HoldNoLayout count u.page) (λ none told. no_definitions count u.page (none_before u.page v.page (first.pages told) (none told))) read.refused;
+}
+
+pub sound_refused : (tells : Bool) (count number : ℕ) (repeated : Option ℕ) (u v w : Contents) → Reads tells (Ok (tt {0})) u v → Reads tells (Ok repeated) v w → (IsTrue tells → HoldNoLayout count u.page) → SoundRead tells count (Err (NotAStore number)) u w
+sound_refused tells count number repeated u v w first second none = record {
+  call = reads_more tells tt (Err (NotAStore number)) u v w first (reads_refused tells repeated number v w second);
+  read = tt;
+  header = λ ok told. absurd (cc);
+  known = tt;
+  refused = none;
+}
+
+-- what is known of the pages as they were before
+pub known_before : (tells : Bool) (repeated : Option ℕ) (d : Definitions) (u v : Contents) → Reads tells (Ok (tt {0})) u v → (IsTrue tells → HoldUnless repeated v.page d) → IsTrue tells → HoldUnless repeated u.page d
+known_before tells repeated d u v first known told = subst (λ (p : ℕ → List ℕ). HoldUnless repeated p d) (same_pages u.page v.page (first.pages told)) (known told)
+
+-- the rules of the tables, as they are kept
+pub rules_of : (a b c : Slots) → AreParts a b c → IsDefinitions (tables_of a b c).definitions
+rules_of a b c parts = record {
+  row_types = read-table as_row_type (λ r. r.name) 64 a.slots row_type-name parts.row_types.rules;
+  containers = read-table as_container (λ x. x.name) 64 b.slots container-name parts.containers.rules;
+  series = read-table as_series (λ s. s.key) 4096 c.slots series-name parts.series.rules;
+}
+
+-- where there is no number
+pub there_unless : (o : Option ℕ) (A B : Type 0) → o ≡ None → MatchOption o A (λ _. B) → A
+there_unless None A B none is = is
+there_unless (Some n) A B none is = absurd (cc)
+
+pub known_apart : (o : Option ℕ) (pages : ℕ → List ℕ) (d : Definitions) → o ≡ None → HoldUnless o pages d → HoldsDefinitions pages d
+known_apart None pages d none known = known
+known_apart (Some n) pages d none known = absurd (cc)
+
+-- the elements of pages that were read are none
+pub elements_refused : (tells : Bool) (count : ℕ) (r : Result Surveyed SurveyFault) (e : SurveyFault) (d : Definitions) (u v w : Contents) → r ≡ Err e → Reads tells (Ok (tt {0})) u v → (IsTrue tells → HoldsDefinitions u.page d) → AreSound (count - 930) d → ElementsRead tells (count - 930) d (Err e) v w → IfErr r (λ e. IfRefused e (IsTrue tells → HoldNoLayout count u.page))
+elements_refused tells count r e d u v w is first holds sound read =
+    subst (λ (x : Result Surveyed SurveyFault). IfErr x (λ e. IfRefused e (IsTrue tells → HoldNoLayout count u.page))) (sym is)
+    (refused_so e (IsTrue tells → HoldNoElements (count - 930) d v.page) (IsTrue tells → HoldNoLayout count u.page)
+    (λ none told. no_elements count u.page d (holds told) sound (subst (HoldNoElements (count - 930) d) (same_pages u.page v.page (first.pages told)) (none told))) read.refused)
+
+-- what was read of pages that stayed was read of them as they were before
+pub all_before : (tells : Bool) (count : ℕ) (d : Definitions) (u v : Contents) (space : Directory) (spare : List ℕ) (second : Option ℕ) → Reads tells (Ok (tt {0})) u v → AllRead tells count d v space spare second → AllRead tells count d u space spare second
+all_before tells count d u v space spare second first read = record {
+  elements = read.elements;
+  size = read.size;
+  listed = read.listed;
+  seen = λ j within. let one = read.seen j within in (one.0, one.1, λ told. sym (first.pages told (930 + j)) ∙ one.2 told);
+}

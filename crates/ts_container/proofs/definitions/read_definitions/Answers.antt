@@ -1,0 +1,28 @@
+use Rattle.std.proofs.Common.{Ok, ap, sym, subst, ◌∙◌, ◌+◌, ◌≡◌, ℕ, Option, arith}
+use Rattle.ts_container.proofs.SurveyLemmas.{KnownBelow, reads_none, reads_more, known_none, known_more, none_read, page_is_read}
+use Rattle.ts_container.proofs.definitions.read_definitions.Goals as goal
+
+pub loop-number-init : goal.loop-number-init
+loop-number-init g c = record {
+  call = reads_none g.P.Pages.tells (g.P.Pages.contents c.args.pages.now);
+  undisturbed = g.met.P.Pages.stays c.args.pages.now;
+  read = none_read c.args.defs.now.definitions c.requires.empty;
+  known = λ told. known_none (g.P.Pages.contents c.args.pages.now).page c.args.defs.now.definitions;
+}
+
+pub loop-number-preserved : goal.loop-number-preserved
+loop-number-preserved g c =
+    let u = g.P.Pages.contents c.args.pages.now in
+    let v = g.P.Pages.contents c.loop-number.pages in
+    let w = g.P.Pages.contents c.read.new.pages in
+    let got = c.in_ok-read.ensures.got in
+    let page = c.in_ok-found.ensures in
+    record {
+      call = reads_more g.P.Pages.tells tt (Ok tt) u v w c.loop-number.invariant.call got.call;
+      undisturbed = g.met.P.Pages.«then» c.args.pages.now c.loop-number.pages c.read.new.pages c.loop-number.invariant.undisturbed c.in_ok-read.ensures.undisturbed;
+      read = page_is_read c.in_ok-found.found c.loop-number.number c.read.new.page.bytes c.loop-number.defs.definitions c.read_page.new.defs.definitions c.in_default.not-Bad page;
+      known = λ told.
+          subst (λ (r : Option ℕ). KnownBelow r u.page (c.loop-number.number + 1) c.read_page.new.defs.definitions) (sym c.first_repeated-repeated.ensures)
+          (known_more c.loop-number.repeated c.in_ok-found.found c.loop-number.number c.read.new.page.bytes u.page c.loop-number.defs.definitions c.read_page.new.defs.definitions c.in_default.not-Bad
+          (sym (got.read told ∙ c.loop-number.invariant.call.pages told c.loop-number.number)) page (c.loop-number.invariant.known told));
+    }

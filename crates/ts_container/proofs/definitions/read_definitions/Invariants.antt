@@ -1,0 +1,13 @@
+use Rattle.std.proofs.Common.{◌≡◌, Ok, IsTrue}
+use Rattle.ts_container.specs.Reading.{rank_of_page, AreReadTo}
+use Rattle.ts_container.specs.Survey.{Reads}
+use Rattle.ts_container.proofs.SurveyLemmas.{KnownBelow}
+use Rattle.ts_container.proofs.definitions.read_definitions.Given as goal
+
+abbrev pub invariant-loop-number : goal.invariant-loop-number
+invariant-loop-number g l = record {
+  call : Reads {T = Unit {0}} g.P.Pages.tells (Ok tt) (g.P.Pages.contents l.fn.pages) (g.P.Pages.contents l.pages);
+  undisturbed : g.P.Pages.undisturbed l.fn.pages l.pages;
+  read : AreReadTo (rank_of_page l.number) l.defs.definitions;
+  known : IsTrue g.P.Pages.tells → KnownBelow l.repeated (g.P.Pages.contents l.fn.pages).page l.number l.defs.definitions;
+}

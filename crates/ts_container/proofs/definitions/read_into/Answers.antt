@@ -1,0 +1,13 @@
+use Rattle.std.proofs.Common.{subst}
+use Rattle.std.proofs.lemmas.Result.{IfOk-weaker}
+use Rattle.ts_container.specs.declared.slot.Reading.{Reading}
+use Rattle.ts_container.specs.Reading.{IsReadingOf}
+use Rattle.ts_container.proofs.ReadLemmas.{slot_read}
+use Rattle.ts_container.proofs.definitions.read_into.Goals as goal
+
+pub returns-in-Filled : goal.returns-in-Filled
+returns-in-Filled c =
+    IfOk-weaker c.admit.result _ _
+    (λ g put. slot_read g c.args.kind c.args.slot c.in-Filled.def c.args.bytes.now c.args.defs.now.definitions c.admit.new.defs.definitions
+    (subst (λ (r : Reading). IsReadingOf c.args.kind c.args.bytes.now r) c.in-Filled.is c.in_ok-read_slot.ensures) put)
+    c.admit.ensures

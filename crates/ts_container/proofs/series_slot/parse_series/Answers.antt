@@ -1,0 +1,38 @@
+use Rattle.std.proofs.Common.{ℕ, ◌≡◌, ◌≤◌, ◌+◌, ◌-◌, Some, None, List, length, take, drop, get_or, sym, ap, ◌∙◌, arith, inl, inr}
+use Rattle.ts_base.specs.Name.{key_if_any}
+use Rattle.ts_model.specs.declared.def.Def.{Def}
+use Rattle.ts_model.specs.declared.def.Def.TheVariants as defs
+use Rattle.ts_container.specs.Slot.{def_bytes, series_bytes}
+use Rattle.ts_container.proofs.FieldLemmas.{series_length, series_key, series_container}
+use Rattle.ts_container.proofs.ParseLemmas.{one, none_some, length-key, key_is, series_only}
+use Rattle.ts_container.proofs.series_slot.parse_series.Goals as goal
+
+-- the text where the key stands
+text : (slot key : List ℕ) (container : ℕ) → length key ≤ 64 → slot ≡ series_bytes key container → take (2 + get_or slot 1 0 - 2) (drop 2 slot) ≡ key
+text slot key container short is =
+    let count : get_or slot 1 0 ≡ length key = ap (λ (l : List ℕ). get_or l 1 0) is ∙ series_length key container in
+    let size : 2 + get_or slot 1 0 - 2 ≡ length key = omega (arith, count) in
+    (λ i. take (size i) (drop 2 (is i))) ∙ series_key key container short
+
+pub returns-then-length-gt-KEY-clause-found : goal.returns-then-length-gt-KEY-clause-found
+returns-then-length-gt-KEY-clause-found c =
+    series_only (λ def. c.args.slot.now ≡ def_bytes def → None ≡ Some def) (λ key container is bytes.
+    let short = length-key key is.key in
+    let count = ap (λ (l : List ℕ). get_or l 1 0) bytes ∙ series_length key container in
+    let slot = ap (λ (l : List ℕ). get_or l 66 0) bytes ∙ series_container key container short in
+    absurd (elim c.then-length-gt-KEY.either [ inl over ↦ omega (arith, count, over, short) | inr over ↦ omega (arith, slot, over.1, is.container) ]))
+
+pub returns-in_default-clause-found : goal.returns-in_default-clause-found
+returns-in_default-clause-found c =
+    series_only (λ def. c.args.slot.now ≡ def_bytes def → None ≡ Some def) (λ key container is bytes.
+    none_some c.in_ok-key.field-0 key c.in_default.is
+    (c.in_ok-key.ensures ∙ key_is _ key (text c.args.slot.now key container (length-key key is.key) bytes) is.key))
+
+pub returns-clause-found : goal.returns-clause-found
+returns-clause-found c =
+    series_only (λ def. c.args.slot.now ≡ def_bytes def → Some (defs.Series c.in-Some.key (get_or c.args.slot.now 66 0)) ≡ Some def) (λ key container is bytes.
+    let short = length-key key is.key in
+    let same = one c.in_ok-key.field-0 c.in-Some.key key c.in-Some.is
+    (c.in_ok-key.ensures ∙ key_is _ key (text c.args.slot.now key container short bytes) is.key) in
+    let slot = ap (λ (l : List ℕ). get_or l 66 0) bytes ∙ series_container key container short in
+    λ i. Some (defs.Series (same i) (slot i)))

@@ -1,0 +1,57 @@
+use Rattle.std.proofs.Common.{◌≡◌, ◌≤◌, ◌-◌, ℕ, Ok, Err, Some, None, IsTrue, true, ap, sym, subst, ◌∙◌, arith, refl}
+use Rattle.ts_model.specs.Definitions.{Tables, IsDefinitions}
+use Rattle.ts_container.specs.Survey.{SoundRead}
+use Rattle.ts_container.proofs.SurveyLemmas.{reads_more, reads_ok, reads_refused, reads_err}
+use Rattle.ts_container.proofs.VerdictLemmas.{err_is, sound_err, sound_refused, known_before, rules_of, there_unless, known_apart, no_definitions, not_apart, not_granted}
+use Rattle.ts_container.proofs.surveyed.survey_definitions.Goals as goal
+
+pub returns-in_err-repeated-clause-read : goal.returns-in_err-repeated-clause-read
+returns-in_err-repeated-clause-read g c =
+    let is = err_is c.from_residual-in_err-repeated.result c.in_err-repeated.field-0.0 c.from_residual-in_err-repeated.ensures.1 in
+    let u = g.P.Pages.contents c.args.pages.now in
+    let v = g.P.Pages.contents c.read.new.pages in
+    let w = g.P.Pages.contents c.read_definitions.new.pages in
+    let read = sound_err g.P.Pages.tells c.args.count c.in_err-repeated.field-0.0 c.read_definitions.new.defs.definitions u v w c.in_ok-read.ensures.got.call c.in_err-repeated.ensures.read in
+    rw is read
+
+pub returns-in-Some-clause-read : goal.returns-in-Some-clause-read
+returns-in-Some-clause-read g c =
+    let u = g.P.Pages.contents c.args.pages.now in
+    let v = g.P.Pages.contents c.read.new.pages in
+    let w = g.P.Pages.contents c.read_definitions.new.pages in
+    let d = c.read_definitions.new.defs.definitions in
+    let defs = c.in_ok-repeated.ensures.read in
+    let rules = subst (λ (t : Tables). IsDefinitions t.definitions) c.defs.view_is (rules_of _ _ _ c.defs.invariant) in
+    sound_refused g.P.Pages.tells c.args.count c.in-Some.bad c.in_ok-repeated.repeated u v w c.in_ok-read.ensures.got.call defs.call
+    (λ told. not_apart c.args.count u.page d c.in_ok-repeated.repeated c.first_dangling.result (known_before g.P.Pages.tells c.in_ok-repeated.repeated d u v c.in_ok-read.ensures.got.call defs.known told) defs.read.limits rules c.first_dangling.ensures (c.in-Some.ensures.some refl))
+
+pub returns-then-sum_of_quotas-count-clause-read :
+    goal.returns-then-sum_of_quotas-count-clause-read
+returns-then-sum_of_quotas-count-clause-read g c =
+    let u = g.P.Pages.contents c.args.pages.now in
+    let v = g.P.Pages.contents c.read.new.pages in
+    let w = g.P.Pages.contents c.read_definitions.new.pages in
+    let d = c.read_definitions.new.defs.definitions in
+    let defs = c.in_ok-repeated.ensures.read in
+    let rules = subst (λ (t : Tables). IsDefinitions t.definitions) c.defs.view_is (rules_of _ _ _ c.defs.invariant) in
+    let nones = c.in_default.ensures.none refl in
+    sound_refused g.P.Pages.tells c.args.count 833 c.in_ok-repeated.repeated u v w c.in_ok-read.ensures.got.call defs.call
+    (λ told. not_granted c.args.count u.page d (known_apart c.in_ok-repeated.repeated u.page d nones.0 (known_before g.P.Pages.tells c.in_ok-repeated.repeated d u v c.in_ok-read.ensures.got.call defs.known told)) defs.read.limits rules
+    (λ within. omega (arith, within, c.sum_of_quotas.ensures, c.if-sum_of_quotas-count.true)))
+
+pub returns-clause-read : goal.returns-clause-read
+returns-clause-read g c =
+    let u = g.P.Pages.contents c.args.pages.now in
+    let v = g.P.Pages.contents c.read.new.pages in
+    let w = g.P.Pages.contents c.read_definitions.new.pages in
+    let d = c.read_definitions.new.defs.definitions in
+    let defs = c.in_ok-repeated.ensures.read in
+    let rules = subst (λ (t : Tables). IsDefinitions t.definitions) c.defs.view_is (rules_of _ _ _ c.defs.invariant) in
+    let nones = c.in_default.ensures.none refl in
+    record {
+      call = reads_more g.P.Pages.tells tt (Ok c.read_definitions.new.defs) u v w c.in_ok-read.ensures.got.call (reads_ok g.P.Pages.tells c.in_ok-repeated.repeated c.read_definitions.new.defs v w defs.call);
+      read = record { tables = rules; limits = defs.read.limits; references = there_unless c.first_dangling.result _ _ nones.1 c.first_dangling.ensures; quotas = omega (arith, c.sum_of_quotas.ensures, c.if-sum_of_quotas-count.false) };
+      header = λ ok told. sym (c.in_ok-read.ensures.got.read told) ∙ c.if-not-is_header.ensures.0 refl;
+      known = λ told. known_apart c.in_ok-repeated.repeated u.page d nones.0 (known_before g.P.Pages.tells c.in_ok-repeated.repeated d u v c.in_ok-read.ensures.got.call defs.known told);
+      refused = tt;
+    }

@@ -1,0 +1,89 @@
+-- The calls that read pages or write a slot, over what a keeper of pages means.
+use Rattle.std.specs.Prelude.{◌≡◌, ℕ, ◌+◌, ◌-◌, ◌≤◌, ◌<◌, Bool, IsTrue, Option, Some, None, Result, IsOk, IfOk, IfErr, OnOk, OnErr, IsErrOf, List, ◌++◌, length, take, drop}
+use Rattle.ts_base.specs.declared.fault.StoreFault.{StoreFault}
+use Rattle.ts_base.specs.declared.fault.StoreFault.TheVariants.{Failed as StoreFailed}
+use Rattle.ts_disk.specs.Device.{Rose}
+use Rattle.ts_page.specs.Pages.{Contents, EqualPages, with_page}
+use Rattle.ts_model.specs.declared.kind.Kind.{Kind}
+use Rattle.ts_model.specs.declared.def.Def.{Def}
+use Rattle.ts_model.specs.declared.defs.Defs.{Defs}
+use Rattle.ts_model.specs.Definitions.{Definitions, with_slot, IsDefinitions}
+use Rattle.ts_space.specs.Directory.{Directory}
+use Rattle.ts_container.specs.declared.fault.SurveyFault.{SurveyFault}
+use Rattle.ts_container.specs.declared.fault.SurveyFault.TheVariants.{NotAStore, Failed, Memory}
+use Rattle.ts_container.specs.Slot.{header_bytes, slot_bytes, slot_size, page_of_slot, byte_of_slot}
+use Rattle.ts_container.specs.Meaning.{Layout, HoldsDefinitions, HoldsLayout, AreSound, IsSound, IsLaidOut}
+use Rattle.ts_container.specs.Surveyed.{ListsPlaces, free_pages}
+use Rattle.ts_container.specs.Reading.{AreReadTo, HoldNone}
+
+-- what a call that only reads pages leaves, and when it fails
+pub record Reads {T : Type 0} (tells : Bool) (result : Result T SurveyFault) (v w : Contents) : Type 0 where
+  pub count : w.count ≡ v.count
+  pub faults : v.faults ≤ w.faults
+  pub pages : IsTrue tells → EqualPages v.page w.page
+  pub free : w.free ≡ v.free
+  pub cause : IsErrOf result Failed → Rose v.faults w.faults
+
+-- what a verdict on the pages says of them; other errors say nothing
+abbrev pub IfRefused : SurveyFault → Type 0 → Type 0
+IfRefused (NotAStore page) P = P
+IfRefused Failed P = Unit {0}
+IfRefused (Memory error) P = Unit {0}
+
+-- a page is read
+pub record PageGot (tells : Bool) (number : ℕ) (into : List ℕ) (result : Result Unit SurveyFault) (v w : Contents) : Type 0 where
+  pub call : Reads tells result v w
+  pub read : OnOk result (IsTrue tells → into ≡ v.page number)
+  pub refused : IfErr result (λ e. IfRefused e ⊥)
+
+-- pages hold these definitions; where one repeats a name, they hold none that keep the rules
+abbrev pub HoldUnless : Option ℕ → (ℕ → List ℕ) → Definitions → Type 0
+HoldUnless None pages d = HoldsDefinitions pages d
+HoldUnless (Some number) pages d = HoldNone pages
+
+-- all definition pages are read
+pub record DefinitionsRead (tells : Bool) (result : Result (Option ℕ) SurveyFault) (d : Definitions) (v w : Contents) : Type 0 where
+  pub call : Reads tells result v w
+  pub read : OnOk result (AreReadTo 4224 d)
+  pub known : IfOk result (λ repeated. IsTrue tells → HoldUnless repeated v.page d)
+  pub refused : IfErr result (λ e. IfRefused e (IsTrue tells → HoldNone v.page))
+
+-- what was found is what a layout has
+pub record IsSurveyOf (d : Definitions) (space : Directory) (spare : List ℕ) (l : Layout) : Type 0 where
+  pub definitions : d ≡ l.definitions
+  pub places : ListsPlaces space l
+  pub free : spare ≡ free_pages l
+
+-- The pages, so many in all, are laid out as what was found: on every keeper of pages it keeps the rules, and where the
+-- pages are told they hold it.
+abbrev pub IsFound : Bool → ℕ → Contents → Definitions → Directory → List ℕ → Type 0
+IsFound tells count v d space free =
+    (l : Layout) × IsSurveyOf d space free l × (count ≡ 930 + length l.element_pages) × IsSound l × (IsTrue tells → HoldsLayout v.page l)
+
+-- no layout serves for the pages
+abbrev pub HoldNoLayout : ℕ → (ℕ → List ℕ) → Type 0
+HoldNoLayout count pages = (l : Layout) → IsLaidOut count pages l → ⊥
+
+-- the header and the definitions are read
+pub record SoundRead (tells : Bool) (count : ℕ) (result : Result Defs SurveyFault) (v w : Contents) : Type 0 where
+  pub call : Reads tells result v w
+  pub read : IfOk result (λ x. AreSound (count - 930) x.definitions)
+  pub header : IsOk result → IsTrue tells → v.page 0 ≡ header_bytes (count - 930)
+  pub known : IfOk result (λ x. IsTrue tells → HoldsDefinitions v.page x.definitions)
+  pub refused : IfErr result (λ e. IfRefused e (IsTrue tells → HoldNoLayout count v.page))
+
+-- the bytes of a page with another slot
+abbrev pub with_slot_bytes : Kind → ℕ → Option Def → List ℕ → List ℕ
+with_slot_bytes kind slot def page =
+    take (byte_of_slot kind slot) page ++ (slot_bytes kind def ++ drop (byte_of_slot kind slot + slot_size kind) page)
+
+-- A slot is written: the other bytes of its page stay, and all other pages, so the pages that held some definitions
+-- hold them with this slot changed.
+pub record SlotWritten (tells : Bool) (kind : Kind) (slot : ℕ) (def : Option Def) (result : Result Unit StoreFault) (v w : Contents) : Type 0 where
+  pub count : w.count ≡ v.count
+  pub faults : v.faults ≤ w.faults
+  pub free : w.free ≡ v.free
+  pub cause : IsErrOf result StoreFailed → Rose v.faults w.faults
+  pub written : OnOk result (IsTrue tells → EqualPages (with_page (page_of_slot kind slot) (with_slot_bytes kind slot def (v.page (page_of_slot kind slot))) v.page) w.page)
+  pub definitions : OnOk result (IsTrue tells → (d : Definitions) → IsDefinitions d → HoldsDefinitions v.page d → HoldsDefinitions w.page (with_slot kind slot def d))
+  pub pages_stay : OnErr result (IsTrue tells → EqualPages v.page w.page)

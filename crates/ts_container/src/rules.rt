@@ -1,0 +1,86 @@
+// The rules that definitions keep together.
+ghost use Rattle.std.specs.Prelude.{◌≡◌, ◌↔◌, ◌<◌, ◌≤◌, ◌^◌, Some, IsTrue, MatchOption, length};
+ghost use Rattle.ts_model.specs.declared.def.Def.{Def};
+ghost use Rattle.ts_model.specs.Definitions.{limit, at_slot, IsDefinitions};
+ghost use Rattle.ts_container.specs.Limits.{IsDef};
+ghost use Rattle.ts_container.specs.Meaning.{def_at, reference, IsThere, AreThere, KeepLimits, quota_in, sum_of_quotas};
+ghost use Rattle.ts_container.specs.Reading.{AreThereIn};
+
+use crate::place::page_of_slot;
+use ts_model::{Def, Defs, Kind};
+
+/// The page of the first definition that refers to an empty slot.
+pub(crate) fn first_dangling(defs: &Defs) -> Option<u32>
+    requires limits { KeepLimits defs.now.definitions }
+    ensures { MatchOption result (AreThere defs.now.definitions) (λ _. AreThere defs.now.definitions → ⊥) }
+{
+    if let Some(slot) = dangling_in(defs, Kind::Container) {
+        return Some(page_of_slot(Kind::Container, slot));
+    }
+    if let Some(slot) = dangling_in(defs, Kind::Series) {
+        return Some(page_of_slot(Kind::Series, slot));
+    }
+    None
+}
+
+// The first slot of a kind whose definition refers to an empty slot.
+fn dangling_in(defs: &Defs, kind: Kind) -> Option<u16>
+    requires limits { KeepLimits defs.now.definitions }
+    ensures { MatchOption result (AreThereIn kind defs.now.definitions)
+        (λ slot. (slot < limit kind) × (AreThereIn kind defs.now.definitions → ⊥)) }
+{
+    for slot in 0..kind.limit() {
+        if !is_sound_at(defs, kind, slot) {
+            return Some(slot);
+        }
+    }
+    None
+}
+
+// Whether what stands in a slot, if anything does, refers to a filled slot.
+fn is_sound_at(defs: &Defs, kind: Kind, slot: u16) -> bool
+    requires limits { KeepLimits defs.now.definitions }
+    requires slot { slot < limit kind }
+    ensures { IsTrue result ↔ ((def : Def) → def_at kind slot defs.now.definitions ≡ Some def
+        → IsThere defs.now.definitions (reference def)) }
+{
+    match defs.get(kind, slot) {
+        None => true,
+        Some(def) => is_there(defs, def),
+    }
+}
+
+// Whether something stands in the slot that a definition refers to.
+fn is_there(defs: &Defs, def: &Def) -> bool
+    requires { IsDef def.now }
+    ensures { IsTrue result ↔ IsThere defs.now.definitions (reference def.now) }
+{
+    match def {
+        Def::RowType { .. } => true,
+        Def::Container { row_type, .. } => defs.get(Kind::RowType, *row_type as u16).is_some(),
+        Def::Series { container, .. } => defs.get(Kind::Container, *container as u16).is_some(),
+    }
+}
+
+/// The quotas of all containers together.
+pub(crate) fn sum_of_quotas(defs: &Defs) -> u64
+    requires { length defs.now.definitions.containers ≡ 64 }
+    ensures { result ≡ sum_of_quotas defs.now.definitions.containers }
+{
+    let mut sum = 0;
+    for slot in 0..64 {
+        sum += quota_at(defs, slot) as u64;
+    }
+    sum
+}
+
+// The quota of the container in a slot; 0 where there is none.
+fn quota_at(defs: &Defs, slot: u16) -> u32
+    requires { slot < 64 }
+    ensures { result ≡ quota_in (at_slot slot defs.now.definitions.containers) }
+{
+    match defs.get(Kind::Container, slot) {
+        Some(Def::Container { quota, .. }) => *quota,
+        _ => 0,
+    }
+}

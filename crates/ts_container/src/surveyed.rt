@@ -1,0 +1,92 @@
+// The survey of a volume's pages.
+ghost use Rattle.std.specs.Prelude.{◌≡◌, ◌≤◌, ◌-◌, ◌⊎◌, None, IsSome, IfOk, IfErr, IsTrue};
+ghost use Rattle.ts_model.specs.Definitions.{IsDefinitions};
+ghost use Rattle.ts_container.specs.Survey.{Reads, IfRefused, IsFound, HoldNoLayout, SoundRead};
+
+use crate::charges::keep_quotas;
+use crate::definitions::read_definitions;
+use crate::elements::read_elements;
+use crate::fault::SurveyFault;
+use crate::header::is_header;
+use crate::place::{CONTAINERS, ELEMENTS};
+use crate::read::read;
+use crate::rules::{first_dangling, sum_of_quotas};
+use std::alloc::{AllocError, Global};
+use ts_model::{Defs, Kind};
+use ts_page::{Page, Pages};
+use ts_space::Space;
+
+/// What is kept in memory of a volume.
+#[derive(Drop)]
+pub struct Surveyed {
+    pub defs: Defs,
+    pub space: Space,
+    /// The free element pages, rising.
+    pub free: Vec<u32>,
+}
+
+/// Reads all pages of a volume but the journal's, each once: `count` is the number of all. They give the definitions, the
+/// directory and the free pages, or the first bad page. They stay as they are, and so does the list of free ones.
+pub fn survey<P: Pages>(alloc: Global, pages: &mut P, count: u32) -> Result<Surveyed, SurveyFault>
+    requires count { count ≡ (P.contents pages.old).count }
+    requires some { 931 ≤ count }
+    requires most { count ≤ 66466 }
+    ensures ok { IfOk result (λ s. IsFound P.tells count (P.contents pages.old) s.defs.definitions s.space s.free.items) }
+    ensures refused { IfErr result (λ e. IfRefused e (IsTrue P.tells → HoldNoLayout count (P.contents pages.old).page)) }
+    ensures call { Reads P.tells result (P.contents pages.old) (P.contents pages.new) }
+    ensures undisturbed { P.undisturbed pages.old pages.new }
+{
+    let mut page = Page::zero();
+    let defs = survey_definitions(alloc, pages, count, &mut page)?;
+    let elements = read_elements(alloc, pages, count, &defs, &mut page)?;
+    if let Some(second) = elements.second {
+        return Err(SurveyFault::NotAStore { page: second });
+    }
+    if !keep_quotas(&defs, &elements.space) {
+        return Err(SurveyFault::NotAStore { page: CONTAINERS });
+    }
+    Ok(Surveyed {
+        defs,
+        space: elements.space,
+        free: elements.free,
+    })
+}
+
+// The header and the definitions, and the rules that they keep together.
+fn survey_definitions<P: Pages>(
+    alloc: Global,
+    pages: &mut P,
+    count: u32,
+    page: &mut Page,
+) -> Result<Defs, SurveyFault>
+    requires within { count ≤ (P.contents pages.old).count }
+    requires some { 931 ≤ count }
+    ensures read { SoundRead P.tells count result (P.contents pages.old) (P.contents pages.new) }
+    ensures undisturbed { P.undisturbed pages.old pages.new }
+{
+    read(pages, 0, page)?;
+    if !is_header(count - ELEMENTS, page) {
+        return Err(SurveyFault::NotAStore { page: 0 });
+    }
+    let mut defs = Defs::new(alloc);
+    let repeated = read_definitions(alloc, pages, page, &mut defs)?;
+    if let Some(bad) = lower(repeated, first_dangling(&defs)) {
+        return Err(SurveyFault::NotAStore { page: bad });
+    }
+    if sum_of_quotas(&defs) > (count - ELEMENTS) as u64 {
+        return Err(SurveyFault::NotAStore { page: CONTAINERS });
+    }
+    Ok(defs)
+}
+
+// The lower of two pages, if there is one.
+fn lower(first: Option<u32>, second: Option<u32>) -> Option<u32>
+    ensures none { result ≡ None → (first ≡ None) × (second ≡ None) }
+    ensures some { IsSome result → IsSome first ⊎ IsSome second }
+{
+    match (first, second) {
+        (Some(first), Some(second)) => Some(first.min(second)),
+        (Some(page), None) | (None, Some(page)) => Some(page),
+        (None, None) => None,
+    }
+}

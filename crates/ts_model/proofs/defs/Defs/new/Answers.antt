@@ -1,0 +1,28 @@
+use Rattle.std.proofs.Common.{◌≡◌, ℕ, None, false, replicate, ap, sym, subst, ◌∙◌}
+use Rattle.ts_model.specs.declared.kind.Kind.TheVariants as kinds
+use Rattle.ts_model.specs.Definitions.{as_row_type, as_container, as_series, no_tables}
+use Rattle.ts_model.specs.Table.{Slots}
+use Rattle.ts_model.specs.Parts.{tables_of, IsPart}
+use Rattle.ts_model.proofs.PartsLemmas.{part-new, read-none}
+use Rattle.ts_model.proofs.defs.Defs.new.Goals as goal
+
+abbrev empty : ℕ → Slots
+empty count = record { count = count; slots = replicate count None; room = false }
+
+empty-tables : tables_of (empty 64) (empty 64) (empty 4096) ≡ no_tables
+empty-tables = λ i. record {
+  definitions = record { row_types = read-none as_row_type 64 i; containers = read-none as_container 64 i; series = read-none as_series 4096 i };
+  room = record { row_types = false; containers = false; series = false };
+}
+
+pub invariant_of-result : goal.invariant_of-result
+invariant_of-result c = record {
+  row_types = subst (IsPart kinds.RowType) (sym c.new.ensures) (part-new kinds.RowType c.limit.result false c.limit.ensures);
+  containers = subst (IsPart kinds.Container) (sym c.new-2.ensures) (part-new kinds.Container c.limit-2.result false c.limit-2.ensures);
+  series = subst (IsPart kinds.Series) (sym c.new-3.ensures) (part-new kinds.Series c.limit-3.result false c.limit-3.ensures);
+}
+
+pub returns : goal.returns
+returns c =
+    (λ i. tables_of ((c.new.ensures ∙ ap empty c.limit.ensures) i) ((c.new-2.ensures ∙ ap empty c.limit-2.ensures) i) ((c.new-3.ensures ∙ ap empty c.limit-3.ensures) i))
+    ∙ empty-tables

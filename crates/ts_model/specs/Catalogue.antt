@@ -1,0 +1,62 @@
+-- The catalogue: what a store holds, as plain values under their names.
+use Rattle.std.specs.Prelude.{ℕ, List, [], Option, unwrap_or, option_map, option_and_then, map, sum, filter, bytes_eq}
+use Rattle.std.specs.Ordering.{nat_cmp, int_cmp}
+use Rattle.std.specs.Cmp.Lexicographic.{slice_cmp}
+use Rattle.std.specs.declared.cmp.Ordering.{Ordering}
+use Rattle.std.specs.FinMap.{FinMap, empty, entries, get, values}
+use Rattle.ts_row.specs.declared.kind.Column.{Column}
+use Rattle.ts_row.specs.RowType.{Heading}
+use Rattle.ts_row.specs.Row.{Values}
+
+-- names and keys in the order of their bytes
+abbrev pub name_cmp : List ℕ → List ℕ → Ordering
+name_cmp = slice_cmp nat_cmp
+
+-- values under their names, in the order of the names
+abbrev pub Named : Type 0 → Type 0
+Named X = FinMap name_cmp X
+
+-- a container: the name of its row type, and the most pages that its series may be charged
+pub record Container : Type 0 where
+  pub row_type : List ℕ
+  pub quota : ℕ
+
+-- the elements of a series: a row at each of some stamps; `entries` lists them, the stamps strictly rising
+abbrev pub Elements : Type 0
+Elements = FinMap int_cmp Values
+
+-- an irregular series: the name of its container, and its elements
+pub record Series : Type 0 where
+  pub container : List ℕ
+  pub elements : Elements
+
+-- what a store holds: so many element pages; row types, containers and series under their names and keys
+pub record Catalogue : Type 0 where
+  pub pages : ℕ
+  pub row_types : Named Heading
+  pub containers : Named Container
+  pub series : Named Series
+
+-- a store of so many element pages that holds nothing
+abbrev pub empty_catalogue : ℕ → Catalogue
+empty_catalogue pages = record { pages = pages; row_types = empty; containers = empty; series = empty }
+
+-- the row type of a series, that of its container
+abbrev pub heading_of : Catalogue → Series → Option Heading
+heading_of cat s = option_and_then (λ c. get cat.row_types c.row_type) (get cat.containers s.container)
+
+-- the value columns of a series; none where the row type is missing
+abbrev pub columns_of : Catalogue → Series → List Column
+columns_of cat s = unwrap_or (option_map (λ heading. heading.columns) (heading_of cat s)) []
+
+-- the quota of the container of a series; 0 where the container is missing
+abbrev pub quota_of : Catalogue → Series → ℕ
+quota_of cat s = unwrap_or (option_map (λ c. c.quota) (get cat.containers s.container)) 0
+
+-- the series that stand in a container, with their keys, in the order of the keys
+abbrev pub series_in : List ℕ → Catalogue → List (List ℕ × Series)
+series_in container cat = filter (λ e. bytes_eq e.1.container container) (entries cat.series)
+
+-- the sum of the quotas of all containers
+abbrev pub quotas : Catalogue → ℕ
+quotas cat = sum (map (λ c. c.quota) (values cat.containers))

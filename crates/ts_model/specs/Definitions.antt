@@ -1,0 +1,159 @@
+-- The definitions of row types, containers and series, in numbered slots.
+use Rattle.std.specs.Prelude.{◌≡◌, ℕ, ◌+◌, ◌⊎◌, Bool, true, false, List, [], ◌∷◌, length, map, replicate, slice_index_or, slice_set, position, is_none, Option, Some, None, option_map, option_and_then, bytes_eq}
+use Rattle.std.specs.FinMap.{from_entries}
+use Rattle.ts_row.specs.RowType.{Heading}
+use Rattle.ts_model.specs.Catalogue.{Named}
+use Rattle.ts_model.specs.declared.kind.Kind.{Kind}
+use Rattle.ts_model.specs.declared.kind.Kind.TheVariants as kinds
+use Rattle.ts_model.specs.declared.def.Def.{Def}
+use Rattle.ts_model.specs.declared.def.Def.TheVariants as defs
+
+-- a row type: its name, and its columns
+pub record RowTypeDef : Type 0 where
+  pub name : List ℕ
+  pub heading : Heading
+
+-- a container: its name, the slot of its row type, and its quota
+pub record ContainerDef : Type 0 where
+  pub name : List ℕ
+  pub row_type : ℕ
+  pub quota : ℕ
+
+-- an irregular series: its key, and the slot of its container
+pub record SeriesDef : Type 0 where
+  pub key : List ℕ
+  pub container : ℕ
+
+-- the slots of each kind, each empty or filled with a definition
+pub record Definitions : Type 0 where
+  pub row_types : List (Option RowTypeDef)
+  pub containers : List (Option ContainerDef)
+  pub series : List (Option SeriesDef)
+
+-- for which kinds an empty slot can be filled without taking memory
+pub record Room : Type 0 where
+  pub row_types : Bool
+  pub containers : Bool
+  pub series : Bool
+
+-- what contracts see of the definitions that are kept: their slots, and for which kinds there is room
+pub record Tables : Type 0 where
+  pub definitions : Definitions
+  pub room : Room
+
+-- how many slots a kind has
+abbrev pub limit : Kind → ℕ
+limit kinds.RowType = 64
+limit kinds.Container = 64
+limit kinds.Series = 4096
+
+-- what a definition defines
+abbrev pub kind_of : Def → Kind
+kind_of (defs.RowType name kind) = kinds.RowType
+kind_of (defs.Container name row_type quota) = kinds.Container
+kind_of (defs.Series key container) = kinds.Series
+
+-- its name or its key
+abbrev pub name_of : Def → List ℕ
+name_of (defs.RowType name kind) = name
+name_of (defs.Container name row_type quota) = name
+name_of (defs.Series key container) = key
+
+-- the definitions of the three kinds as one type, and back
+abbrev pub of_row_type : RowTypeDef → Def
+of_row_type r = defs.RowType r.name r.heading
+
+abbrev pub of_container : ContainerDef → Def
+of_container c = defs.Container c.name c.row_type c.quota
+
+abbrev pub of_series : SeriesDef → Def
+of_series s = defs.Series s.key s.container
+
+abbrev pub as_row_type : Def → Option RowTypeDef
+as_row_type (defs.RowType name kind) = Some (record { name = name; heading = kind })
+as_row_type other = None
+
+abbrev pub as_container : Def → Option ContainerDef
+as_container (defs.Container name row_type quota) = Some (record { name = name; row_type = row_type; quota = quota })
+as_container other = None
+
+abbrev pub as_series : Def → Option SeriesDef
+as_series (defs.Series key container) = Some (record { key = key; container = container })
+as_series other = None
+
+-- the slots of a kind
+abbrev pub slots : Kind → Definitions → List (Option Def)
+slots kinds.RowType d = map (option_map of_row_type) d.row_types
+slots kinds.Container d = map (option_map of_container) d.containers
+slots kinds.Series d = map (option_map of_series) d.series
+
+-- the definitions with this one, or none, in a slot of a kind, and all other slots as they were
+abbrev pub with_slot : Kind → ℕ → Option Def → Definitions → Definitions
+with_slot kinds.RowType slot def d = record d { row_types = slice_set d.row_types slot (option_and_then as_row_type def) }
+with_slot kinds.Container slot def d = record d { containers = slice_set d.containers slot (option_and_then as_container def) }
+with_slot kinds.Series slot def d = record d { series = slice_set d.series slot (option_and_then as_series def) }
+
+-- whether a slot of a kind can be filled without taking memory
+abbrev pub has_room : Kind → Room → Bool
+has_room kinds.RowType room = room.row_types
+has_room kinds.Container room = room.containers
+has_room kinds.Series room = room.series
+
+-- room for a kind, and for the others as before
+abbrev pub with_room : Kind → Room → Room
+with_room kinds.RowType room = record room { row_types = true }
+with_room kinds.Container room = record room { containers = true }
+with_room kinds.Series room = record room { series = true }
+
+-- nothing defined, and no room
+abbrev pub no_definitions : Definitions
+no_definitions = record { row_types = replicate 64 None; containers = replicate 64 None; series = replicate 4096 None }
+
+abbrev pub no_tables : Tables
+no_tables = record { definitions = no_definitions; room = record { row_types = false; containers = false; series = false } }
+
+-- what stands in a slot
+abbrev pub at_slot : {A : Type 0} → ℕ → List (Option A) → Option A
+at_slot slot table = slice_index_or table slot None
+
+-- a slot is filled with what has this name
+abbrev pub has_name : List ℕ → Option Def → Bool
+has_name name None = false
+has_name name (Some def) = bytes_eq name (name_of def)
+
+-- the slot that has this name
+abbrev pub slot_of : List ℕ → List (Option Def) → Option ℕ
+slot_of name table = position (has_name name) table
+
+-- the lowest empty slot
+abbrev pub vacant_slot : {A : Type 0} → List (Option A) → Option ℕ
+vacant_slot table = position is_none table
+
+-- no other slot has the name
+abbrev pub IsNewName : List ℕ → ℕ → List (Option Def) → Type 0
+IsNewName name slot table = (slot_of name table ≡ None) ⊎ (slot_of name table ≡ Some slot)
+
+-- what the filled slots of a table have, from slot number `first` on: a name, and what a function gives of slot and definition
+abbrev pub filled_from : {A X : Type 0} → (A → List ℕ) → (ℕ → A → X) → ℕ → List (Option A) → List (List ℕ × X)
+filled_from name value first [] = []
+filled_from name value first (None ∷ rest) = filled_from name value (first + 1) rest
+filled_from name value first (Some def ∷ rest) = (name def, value first def) ∷ filled_from name value (first + 1) rest
+
+-- the filled slots under their names, each as what a function gives of slot and definition
+abbrev pub by_name : {A X : Type 0} → (A → List ℕ) → (ℕ → A → X) → List (Option A) → Named X
+by_name name value table = from_entries (filled_from name value 0 table)
+
+-- the numbers of the filled slots under their names
+abbrev pub slots_by_name : List (Option Def) → Named ℕ
+slots_by_name table = by_name name_of (λ slot def. slot) table
+
+-- so many slots, and no two of them have one name
+pub record IsTable {A : Type 0} (name : A → List ℕ) (count : ℕ) (table : List (Option A)) : Type 0 where
+  pub size : length table ≡ count
+  pub apart : (i j : ℕ) (a b : A) → at_slot i table ≡ Some a → at_slot j table ≡ Some b → name a ≡ name b → i ≡ j
+
+-- the rules that all definitions keep
+pub record IsDefinitions (d : Definitions) : Type 0 where
+  pub row_types : IsTable (λ r. r.name) 64 d.row_types
+  pub containers : IsTable (λ c. c.name) 64 d.containers
+  pub series : IsTable (λ s. s.key) 4096 d.series

@@ -1,0 +1,5 @@
+pub mod Catalogue
+pub mod Charge
+pub mod Definitions
+pub mod Table
+pub mod Parts

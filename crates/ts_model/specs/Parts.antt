@@ -1,0 +1,34 @@
+-- The definitions as three tables, one a kind.
+use Rattle.std.specs.Prelude.{◌≡◌, ℕ, List, map, Option, Some, option_and_then}
+use Rattle.ts_model.specs.declared.kind.Kind.{Kind}
+use Rattle.ts_model.specs.declared.kind.Kind.TheVariants as kinds
+use Rattle.ts_model.specs.declared.def.Def.{Def}
+use Rattle.ts_model.specs.Definitions.{Tables, at_slot, kind_of, name_of, as_row_type, as_container, as_series, limit, IsTable}
+use Rattle.ts_model.specs.Table.{Slots}
+
+-- the definitions that three tables have, and the kinds that they have room for
+abbrev pub tables_of : Slots → Slots → Slots → Tables
+tables_of row_types containers series = record {
+  definitions = record {
+    row_types = map (option_and_then as_row_type) row_types.slots;
+    containers = map (option_and_then as_container) containers.slots;
+    series = map (option_and_then as_series) series.slots;
+  };
+  room = record { row_types = row_types.room; containers = containers.room; series = series.room };
+}
+
+-- each definition in a table is of one kind
+abbrev pub AreOfKind : Kind → List (Option Def) → Type 0
+AreOfKind kind table = (i : ℕ) (def : Def) → at_slot i table ≡ Some def → kind_of def ≡ kind
+
+-- the table of a kind: as many slots as the kind has, no name twice, each definition of the kind
+pub record IsPart (kind : Kind) (table : Slots) : Type 0 where
+  pub count : table.count ≡ limit kind
+  pub kinds : AreOfKind kind table.slots
+  pub rules : IsTable name_of (limit kind) table.slots
+
+-- the tables of the three kinds
+pub record AreParts (a b c : Slots) : Type 0 where
+  pub row_types : IsPart kinds.RowType a
+  pub containers : IsPart kinds.Container b
+  pub series : IsPart kinds.Series c

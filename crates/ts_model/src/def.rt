@@ -1,0 +1,74 @@
+ghost use Rattle.std.specs.Prelude.{◌≡◌, IfOk};
+ghost use Rattle.ts_model.specs.Definitions.{name_of, kind_of};
+
+use crate::Kind;
+use std::alloc::AllocError;
+use ts_base::{Key, Name};
+use ts_row::RowType;
+
+/// The definition of an object: its name or key, and what it is. It names others by their slots.
+#[derive(Debug, Drop)]
+pub enum Def {
+    RowType {
+        name: Name,
+        kind: RowType,
+    },
+    /// Its row type is the one in slot `row_type`; its series may be charged `quota` pages at most.
+    Container {
+        name: Name,
+        row_type: u8,
+        quota: u32,
+    },
+    /// An irregular series of the container in slot `container`.
+    Series {
+        key: Key,
+        container: u8,
+    },
+}
+
+impl Def {
+    /// The name, or the key of a series.
+    pub fn name(&self) -> &[u8]
+        ensures { result.now ≡ name_of self.now }
+    {
+        match self {
+            Def::RowType { name, .. } | Def::Container { name, .. } => name.as_slice(),
+            Def::Series { key, .. } => key.as_slice(),
+        }
+    }
+
+    /// What it defines.
+    pub fn kind(&self) -> Kind
+        ensures { result ≡ kind_of self.now }
+    {
+        match self {
+            Def::RowType { .. } => Kind::RowType,
+            Def::Container { .. } => Kind::Container,
+            Def::Series { .. } => Kind::Series,
+        }
+    }
+
+    pub fn copy(&self) -> Result<Self, AllocError>
+        ensures { IfOk result (λ made. made ≡ self.now) }
+    {
+        Ok(match self {
+            Def::RowType { name, kind } => Def::RowType {
+                name: name.copy()?,
+                kind: kind.copy()?,
+            },
+            Def::Container {
+                name,
+                row_type,
+                quota,
+            } => Def::Container {
+                name: name.copy()?,
+                row_type: *row_type,
+                quota: *quota,
+            },
+            Def::Series { key, container } => Def::Series {
+                key: key.copy()?,
+                container: *container,
+            },
+        })
+    }
+}

@@ -1,0 +1,117 @@
+ghost use Rattle.std.specs.Prelude.{◌≡◌, ◌<◌, ◌⊎◌, true, OnOk, OnErr, IsOk, IfSome, IsSome, EachIndex, slice_index, option_copied};
+ghost use Rattle.std.specs.FinMap.{values};
+ghost use Rattle.ts_model.specs.Definitions.{limit, kind_of, name_of, slots, with_slot, has_room, with_room, no_tables, at_slot, slot_of, vacant_slot, slots_by_name, IsNewName, IsDefinitions};
+
+use crate::table::Table;
+use crate::{Def, Kind};
+use std::alloc::{AllocError, Global};
+use std::marker::Model;
+
+/// Row types, containers and series in numbered slots, each found by its name.
+#[derive(Drop)]
+pub struct Defs {
+    row_types: Table,
+    containers: Table,
+    series: Table,
+}
+
+impl Model for Defs {
+    ghost use Rattle.ts_model.specs.Definitions.{Tables};
+    ghost use Rattle.ts_model.specs.Parts.{tables_of, AreParts};
+
+    ghost Value = { Tables };
+
+    ghost view = { λ d. tables_of d.row_types d.containers d.series };
+
+    ghost invariant = { λ d. AreParts d.row_types d.containers d.series };
+}
+
+impl Defs {
+    /// Nothing defined; it takes no memory.
+    pub fn new(alloc: Global) -> Defs
+        ensures { result ≡ no_tables }
+    {
+        Defs {
+            row_types: Table::new(alloc, Kind::RowType.limit()),
+            containers: Table::new(alloc, Kind::Container.limit()),
+            series: Table::new(alloc, Kind::Series.limit()),
+        }
+    }
+
+    /// The slot that has this name, or this key.
+    pub fn find(&self, kind: Kind, name: &[u8]) -> Option<u16>
+        ensures value { result ≡ slot_of name.now (slots kind self.now.definitions) }
+        ensures within { IfSome result (λ slot. slot < limit kind) }
+    {
+        self.table(kind).find(name)
+    }
+
+    /// What stands in a slot.
+    pub fn get(&self, kind: Kind, slot: u16) -> Option<&Def>
+        requires { slot < limit kind }
+        ensures { option_copied result ≡ at_slot slot (slots kind self.now.definitions) }
+    {
+        self.table(kind).get(slot)
+    }
+
+    /// The lowest empty slot.
+    pub fn vacant(&self, kind: Kind) -> Option<u16>
+        ensures value { result ≡ vacant_slot (slots kind self.now.definitions) }
+        ensures within { IfSome result (λ slot. slot < limit kind) }
+    {
+        self.table(kind).vacant()
+    }
+
+    /// The filled slots in the order of their names.
+    pub fn in_order(&self, kind: Kind) -> &[u16]
+        ensures value { result.now ≡ values (slots_by_name (slots kind self.now.definitions)) }
+        ensures filled { EachIndex result.now (λ k. IsSome (at_slot (slice_index result.now k) (slots kind self.now.definitions))) }
+        ensures within { EachIndex result.now (λ k. slice_index result.now k < limit kind) }
+        ensures rules { IsDefinitions self.now.definitions }
+    {
+        self.table(kind).in_order()
+    }
+
+    /// Takes memory for each empty slot of a kind.
+    pub fn reserve(&mut self, kind: Kind) -> Result<(), AllocError>
+        ensures ok { OnOk result (self.new.room ≡ with_room kind self.old.room) }
+        ensures err { OnErr result (self.new.room ≡ self.old.room) }
+        ensures memory { has_room kind self.old.room ≡ true → IsOk result }
+        ensures others { self.new.definitions ≡ self.old.definitions }
+    {
+        match kind {
+            Kind::RowType => self.row_types.reserve(),
+            Kind::Container => self.containers.reserve(),
+            Kind::Series => self.series.reserve(),
+        }
+    }
+
+    /// Fills a slot with a definition, or empties it. It takes no memory.
+    pub fn set(&mut self, kind: Kind, slot: u16, def: Option<Def>)
+        requires slot { slot < limit kind }
+        requires kind { IfSome def (λ d. kind_of d ≡ kind) }
+        requires name { IfSome def (λ d. IsNewName (name_of d) slot (slots kind self.old.definitions)) }
+        requires room { IsSome def → (has_room kind self.old.room ≡ true) ⊎ IsSome (at_slot slot (slots kind self.old.definitions)) }
+        ensures slot { self.new.definitions ≡ with_slot kind slot def self.old.definitions }
+        ensures room { self.new.room ≡ self.old.room }
+    {
+        match kind {
+            Kind::RowType => self.row_types.set(slot, def),
+            Kind::Container => self.containers.set(slot, def),
+            Kind::Series => self.series.set(slot, def),
+        }
+    }
+
+    // The slots of a kind.
+    fn table(&self, kind: Kind) -> &Table
+        ensures slots { result.now.slots ≡ slots kind self.now.definitions }
+        ensures count { result.now.count ≡ limit kind }
+        ensures rules { IsDefinitions self.now.definitions }
+    {
+        match kind {
+            Kind::RowType => &self.row_types,
+            Kind::Container => &self.containers,
+            Kind::Series => &self.series,
+        }
+    }
+}
