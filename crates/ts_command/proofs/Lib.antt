@@ -1,6 +1,3 @@
-pub mod FeedLemmas
-pub mod ItemLemmas
-pub mod PartsLemmas
 pub mod TokenLemmas
 pub mod NumberLemmas
 pub mod TextLemmas
@@ -8,6 +5,10 @@ pub mod TokenLengths
 pub mod PhraseLemmas
 pub mod FormLemmas
 pub mod TextFormLemmas
-pub mod PlaceLemmas
 pub mod WordLemmas
-pub mod RunLemmas
+pub mod SpellingLemmas
+pub mod StatementLemmas
+pub mod NumberFormLemmas
+pub mod PrintedLemmas
+pub mod KeptLemmas
+pub mod FollowLemmas

@@ -1,22 +1,20 @@
 -- Phrases take bytes from the front, and lists of phrases.
-use Rattle.std.proofs.Common.{◌≡◌, ℕ, zero, suc, ◌<◌, ◌≤◌, List, [], ◌∷◌, ◌++◌, length, take, drop, Option, Some, None, Ok, Err, refl, sym, ◌∙◌, ap, arith, append_assoc, length-drop, inl, inr}
-use Rattle.std.proofs.lemmas.Bool.{cases_Bool}
-use Rattle.std.proofs.lemmas.List.{append-nil}
-use Rattle.ts_command.specs.Items.{is_blank}
+use Rattle.std.proofs.Common.{◌≡◌, ℕ, zero, suc, ◌<◌, ◌≤◌, true, List, [], ◌∷◌, ◌++◌, length, take, drop, take-append-drop, Option, Some, None, Ok, Err, refl, sym, ◌∙◌, ap, subst, arith, append_assoc, length-drop}
+use Rattle.std.proofs.Math.Seq.{take-append_seam, drop-append_seam}
+use Rattle.std.specs.List.{list_all}
+use Rattle.std.proofs.lemmas.List.{append-nil, append_cancel_right, length-take}
+use Rattle.ts_base.specs.Name.{is_blank}
 use Rattle.ts_command.specs.Tokens.{unblanked, front}
-use Rattle.ts_command.specs.Phrase.{Read, Phrase, go_on, ◌>>=◌, give, taken, token, a_sign, sign_in, phrases, repeated, onto, behind}
+use Rattle.ts_command.specs.Phrase.{Read, Phrase, go_on, ◌>>=◌, give, taken, taken_front, token, a_sign, sign_in, phrases, repeated, onto, behind}
 use Rattle.ts_command.specs.declared.token.TokenKind.{TokenKind}
 use Rattle.ts_command.specs.declared.misfit.Misfit.{Misfit}
 use Rattle.ts_command.specs.declared.misfit.Misfit.TheVariants.{At, Memory}
 use Rattle.ts_command.specs.Misfit.{Refuses}
 use Rattle.ts_command.proofs.TokenLengths.{front_some}
-
-pub unblanked-le : (bytes : List ℕ) → length (unblanked bytes) ≤ length bytes
-unblanked-le [] = omega arith
-unblanked-le (b ∷ bytes) = elim (cases_Bool (is_blank b)) [
-  | inl t ↦ rw t (omega (arith, unblanked-le bytes))
-  | inr f ↦ rw f (omega arith)
-]
+use Rattle.ts_command.specs.Spelling.{spelled}
+use Rattle.ts_command.proofs.TokenLengths.{front_within}
+use Rattle.ts_command.proofs.SpellingLemmas.{Takes, Stops, takes_none, takes_token, takes_on, stops_on, takes-le, unblanked-le, stops_here, blanked}
+use Rattle.ts_command.proofs.FollowLemmas.{Alike, Follows, split_same, front_unblanked, unblanked_past, blanks_before, keeps_token, follows_on, between}
 
 -- where a token stands there is a byte
 front_there : (s : List ℕ) (found : TokenKind × ℕ) → front s ≡ Some found → 0 < length s
@@ -50,76 +48,230 @@ pub sign_shrinks : (wanted : ℕ) (bytes : List ℕ) (found : Unit {0} × List �
 unfolding a_sign
 sign_shrinks wanted bytes found is = token_shrinks (sign_in wanted) bytes found is
 
--- What a phrase gives has this property; it leaves no more bytes than there were, and where it is refused no more are left.
+-- What a phrase gives has this property, and what it leaves stands behind what it took. Where it is refused, whole tokens
+-- stand before, and with the token that stands there it is refused there, whatever comes behind.
+pub record Reads {A : Type 0} (Leaves : List ℕ → List ℕ → Type 0) (P : A → Type 0) (phrase : Phrase A) : Type 0 where
+  pub ok : (bytes : List ℕ) (found : A × List ℕ) → phrase bytes ≡ Ok found → P found.0 × Leaves bytes found.1
+  pub err : (bytes : List ℕ) (left : ℕ) → phrase bytes ≡ Err left → Stops bytes left
+  pub fails : (before here there : List ℕ) → phrase (before ++ here) ≡ Err (length here) → Alike here there → phrase (before ++ there) ≡ Err (length there)
+
+-- a phrase that takes whole tokens, and the same ones where what it leaves begins with the same token
 pub record Yields {A : Type 0} (P : A → Type 0) (phrase : Phrase A) : Type 0 where
-  pub ok : (bytes : List ℕ) (found : A × List ℕ) → phrase bytes ≡ Ok found → P found.0 × (length found.1 ≤ length bytes)
-  pub err : (bytes : List ℕ) (left : ℕ) → phrase bytes ≡ Err left → left ≤ length bytes
+  pub reads : Reads Takes P phrase
+  pub keeps : (used rest other : List ℕ) (a : A) → phrase (used ++ rest) ≡ Ok (a, rest) → Follows rest other → phrase (used ++ other) ≡ Ok (a, other)
 
 -- such a phrase takes bytes from the front
 pub shrinks_of : {A : Type 0} (P : A → Type 0) (phrase : Phrase A) → Yields P phrase → Shrinks phrase
-shrinks_of P phrase yields bytes found is = (yields.ok bytes found is).1
+shrinks_of P phrase yields bytes found is = takes-le bytes found.1 (yields.reads.ok bytes found is).1
+
+-- a token behind blanks is taken
+token_at : {A : Type 0} (accept : TokenKind → List ℕ → Option A) (blanks text rest : List ℕ) (kind : TokenKind) (a : A) → list_all is_blank blanks ≡ true → front (text ++ rest) ≡ Some (kind, length text) → accept kind text ≡ Some a → token accept (blanks ++ (text ++ rest)) ≡ Ok (a, rest)
+token_at {A} accept blanks text rest kind a all is as_this =
+    let here : unblanked (blanks ++ (text ++ rest)) ≡ text ++ rest = unblanked_past blanks (text ++ rest) all ∙ front_unblanked (text ++ rest) (kind, length text) is in
+    ap (λ (l : List ℕ). taken_front accept l (front l)) here
+    ∙ ap (taken_front accept (text ++ rest)) is
+    ∙ ap (λ (l : List ℕ). taken (text ++ rest) (length text) (accept kind l)) (take-append_seam text rest)
+    ∙ ap (taken (text ++ rest) (length text)) as_this
+    ∙ ap (λ (l : List ℕ). Ok (a, l)) (drop-append_seam text rest)
+
+-- a token is refused at the first byte that isn't blank
+pub token_left : {A : Type 0} (accept : TokenKind → List ℕ → Option A) (bytes : List ℕ) (left : ℕ) → token accept bytes ≡ Err left → left ≡ length (unblanked bytes)
+token_left {A} accept bytes left is = by_front (front (unblanked bytes)) refl is where
+  by_taken : (n : ℕ) (taken_as : Option A) → taken (unblanked bytes) n taken_as ≡ Err left → left ≡ length (unblanked bytes)
+  by_taken n None e = let same : length (unblanked bytes) ≡ left = cc in sym same
+  by_taken n (Some a) e = absurd (cc)
+
+  by_front : (front_is : Option (TokenKind × ℕ)) → front (unblanked bytes) ≡ front_is → token accept bytes ≡ Err left → left ≡ length (unblanked bytes)
+  by_front None e was =
+      let left_is : Err (length (unblanked bytes)) ≡ Err left = rw e at was in
+      let same : length (unblanked bytes) ≡ left = cc in
+      sym same
+  by_front (Some t) e was = by_taken t.1 (accept t.0 (take t.1 (unblanked bytes))) (rw e at was)
 
 -- a token
 pub of_token : {A : Type 0} (P : A → Type 0) (accept : TokenKind → List ℕ → Option A) → ((here : List ℕ) (kind : TokenKind) (n : ℕ) (a : A) → front here ≡ Some (kind, n) → accept kind (take n here) ≡ Some a → P a) → Yields P (token accept)
 of_token {A} P accept gives = record {
-  ok = λ bytes found is. (by_front bytes found (front (unblanked bytes)) refl is, let less = token_shrinks accept bytes found is in omega arith);
-  err = λ bytes left is. err_front bytes left (front (unblanked bytes)) refl is;
+  reads = record {
+    ok = λ bytes found is. by_front bytes found (front (unblanked bytes)) refl is;
+    err = λ bytes left is. stops_here bytes left (token_left accept bytes left is);
+    fails = λ before here there is alike. fails before here there is alike;
+  };
+  keeps = λ used rest other a is follows. keeps_front used rest other a follows (front (unblanked (used ++ rest))) refl is;
 } where
-  by_taken : (here : List ℕ) (kind : TokenKind) (n : ℕ) (found : A × List ℕ) → front here ≡ Some (kind, n) → (taken_as : Option A) → accept kind (take n here) ≡ taken_as → taken here n taken_as ≡ Ok found → P found.0
-  by_taken here kind n found at None e is = absurd (cc)
-  by_taken here kind n found at (Some a) e is =
-      let pair : A × List ℕ = (a, drop n here) in
+  by_taken : (bytes : List ℕ) (kind : TokenKind) (n : ℕ) (found : A × List ℕ) → front (unblanked bytes) ≡ Some (kind, n) → (taken_as : Option A) → accept kind (take n (unblanked bytes)) ≡ taken_as → taken (unblanked bytes) n taken_as ≡ Ok found → P found.0 × Takes bytes found.1
+  by_taken bytes kind n found at None e is = absurd (cc)
+  by_taken bytes kind n found at (Some a) e is =
+      let pair : A × List ℕ = (a, drop n (unblanked bytes)) in
       let same : pair ≡ found = cc in
       let first : a ≡ found.0 = ap (λ (p : A × List ℕ). p.0) same in
-      rw (← first) (gives here kind n a at e)
+      let rest : drop n (unblanked bytes) ≡ found.1 = ap (λ (p : A × List ℕ). p.1) same in
+      (rw (← first) (gives (unblanked bytes) kind n a at e), rw (← rest) (takes_token bytes kind n at))
 
-  by_front : (bytes : List ℕ) (found : A × List ℕ) (front_is : Option (TokenKind × ℕ)) → front (unblanked bytes) ≡ front_is → token accept bytes ≡ Ok found → P found.0
+  by_front : (bytes : List ℕ) (found : A × List ℕ) (front_is : Option (TokenKind × ℕ)) → front (unblanked bytes) ≡ front_is → token accept bytes ≡ Ok found → P found.0 × Takes bytes found.1
   by_front bytes found None e is = absurd (let no = rw e at is in cc)
-  by_front bytes found (Some t) e is = by_taken (unblanked bytes) t.0 t.1 found e (accept t.0 (take t.1 (unblanked bytes))) refl (rw e at is)
+  by_front bytes found (Some t) e is = by_taken bytes t.0 t.1 found e (accept t.0 (take t.1 (unblanked bytes))) refl (rw e at is)
 
-  err_taken : (bytes : List ℕ) (n left : ℕ) (taken_as : Option A) → taken (unblanked bytes) n taken_as ≡ Err left → left ≤ length bytes
-  err_taken bytes n left None is = let same : length (unblanked bytes) ≡ left = cc in omega (arith, unblanked-le bytes)
-  err_taken bytes n left (Some a) is = absurd (cc)
+  -- what isn't accepted is accepted nowhere
+  refused_as : (here : List ℕ) (n left : ℕ) (taken_as : Option A) → taken here n taken_as ≡ Err left → taken_as ≡ None
+  refused_as here n left None is = refl
+  refused_as here n left (Some a) is = absurd (cc)
 
-  err_front : (bytes : List ℕ) (left : ℕ) (front_is : Option (TokenKind × ℕ)) → front (unblanked bytes) ≡ front_is → token accept bytes ≡ Err left → left ≤ length bytes
-  err_front bytes left None e is =
-      let at : Err (length (unblanked bytes)) ≡ Err left = rw e at is in
-      let same : length (unblanked bytes) ≡ left = cc in
-      omega (arith, unblanked-le bytes)
-  err_front bytes left (Some t) e is = err_taken bytes t.1 left (accept t.0 (take t.1 (unblanked bytes))) (rw e at is)
+  fails : (before here there : List ℕ) → token accept (before ++ here) ≡ Err (length here) → Alike here there → token accept (before ++ there) ≡ Err (length there)
+  fails before here there is alike =
+      let t : TokenKind × ℕ = (alike.kind, alike.size) in
+      let size : length (unblanked (before ++ here)) ≡ length here = sym (token_left accept (before ++ here) (length here) is) in
+      let found = blanks_before before here size in
+      let at : taken here alike.size (accept alike.kind (take alike.size here)) ≡ Err (length here) =
+      sym (ap (λ (l : List ℕ). taken_front accept l (front l)) found.1 ∙ ap (taken_front accept here) alike.was) ∙ is in
+      let none : accept alike.kind (take alike.size here) ≡ None = refused_as here alike.size (length here) (accept alike.kind (take alike.size here)) at in
+      let there_is : unblanked (before ++ there) ≡ there = unblanked_past before there found.0 ∙ front_unblanked there t alike.is in
+      ap (λ (l : List ℕ). taken_front accept l (front l)) there_is
+      ∙ ap (taken_front accept there) alike.is
+      ∙ ap (λ (l : List ℕ). taken there alike.size (accept alike.kind l)) alike.same
+      ∙ ap (taken there alike.size) none
+
+  keeps_taken : (used rest other : List ℕ) (a : A) (kind : TokenKind) (n : ℕ) → Follows rest other → front (unblanked (used ++ rest)) ≡ Some (kind, n) → (taken_as : Option A) → accept kind (take n (unblanked (used ++ rest))) ≡ taken_as → taken (unblanked (used ++ rest)) n taken_as ≡ Ok (a, rest) → token accept (used ++ other) ≡ Ok (a, other)
+  keeps_taken used rest other a kind n follows at None e is = absurd (cc)
+  keeps_taken used rest other a kind n follows at (Some b) e is =
+      let here : List ℕ = unblanked (used ++ rest) in
+      let text : List ℕ = take n here in
+      let pair : A × List ℕ = (b, drop n here) in
+      let wanted : A × List ℕ = (a, rest) in
+      let same : pair ≡ wanted = cc in
+      let value : b ≡ a = ap (λ (p : A × List ℕ). p.0) same in
+      let behind : drop n here ≡ rest = ap (λ (p : A × List ℕ). p.1) same in
+      let before = blanked (used ++ rest) in
+      let size : length text ≡ n = omega (arith, length-take n here, front_within here kind n at) in
+      let whole : here ≡ text ++ rest = sym (take-append-drop n here) ∙ ap (λ (l : List ℕ). text ++ l) behind in
+      let parts = split_same used (before.blanks ++ text) rest rest (before.split ∙ ap (λ (l : List ℕ). before.blanks ++ l) whole ∙ sym (append_assoc before.blanks text rest)) refl in
+      let stands : front (text ++ rest) ≡ Some (kind, length text) = ap front (sym whole) ∙ at ∙ ap (λ (m : ℕ). Some (kind, m)) (sym size) in
+      let there = keeps_token text rest other kind follows stands in
+      ap (λ (l : List ℕ). token accept (l ++ other)) parts.0
+      ∙ ap (token accept) (append_assoc before.blanks text other)
+      ∙ token_at accept before.blanks text other kind a before.all there (e ∙ ap Some value)
+
+  keeps_front : (used rest other : List ℕ) (a : A) → Follows rest other → (front_is : Option (TokenKind × ℕ)) → front (unblanked (used ++ rest)) ≡ front_is → token accept (used ++ rest) ≡ Ok (a, rest) → token accept (used ++ other) ≡ Ok (a, other)
+  keeps_front used rest other a follows None e is = absurd (let no = rw e at is in cc)
+  keeps_front used rest other a follows (Some t) e is = keeps_taken used rest other a t.0 t.1 follows e (accept t.0 (take t.1 (unblanked (used ++ rest)))) refl (rw e at is)
+
+-- A phrase has been read, and then it stops at `here`: so it does with other bytes that begin with the same token.
+pub record Passes {A : Type 0} (phrase : Phrase A) (before here : List ℕ) (found : A × List ℕ) : Type 0 where
+  pub middle : List ℕ
+  pub rest : found.1 ≡ middle ++ here
+  pub goes : (there : List ℕ) → Alike here there → phrase (before ++ there) ≡ Ok (found.0, middle ++ there)
+
+pub passes : {A : Type 0} (P : A → Type 0) (phrase : Phrase A) → Yields P phrase → (before here : List ℕ) (found : A × List ℕ) → phrase (before ++ here) ≡ Ok found → Stops found.1 (length here) → Passes phrase before here found
+passes {A} P phrase one before here found is stops =
+    let takes = (one.reads.ok (before ++ here) found is).1 in
+    let used : List ℕ = spelled takes.lexemes in
+    let lies = between before here used found.1 takes.spells.whole stops in
+    record {
+      middle = lies.middle;
+      rest = lies.rest_is;
+      goes = λ there alike.
+          let at : phrase (used ++ found.1) ≡ Ok (found.0, found.1) = ap phrase (sym takes.spells.whole) ∙ is in
+          ap (λ (l : List ℕ). phrase (l ++ there)) lies.before_is ∙ ap phrase (append_assoc used lies.middle there)
+          ∙ one.keeps used found.1 (lies.middle ++ there) found.0 at (lies.follows there alike);
+    }
+
+-- A phrase has been read, and then whole tokens up to the rest: so they are before another rest that begins with the same token.
+pub record Leads {A : Type 0} (phrase : Phrase A) (used rest : List ℕ) (found : A × List ℕ) : Type 0 where
+  pub middle : List ℕ
+  pub split : found.1 ≡ middle ++ rest
+  pub goes : (other : List ℕ) → Follows rest other → phrase (used ++ other) ≡ Ok (found.0, middle ++ other)
+
+pub leads : {A : Type 0} (P : A → Type 0) (phrase : Phrase A) → Yields P phrase → (used rest : List ℕ) (found : A × List ℕ) → phrase (used ++ rest) ≡ Ok found → Takes found.1 rest → Leads phrase used rest found
+leads {A} P phrase one used rest found is next =
+    let takes = (one.reads.ok (used ++ rest) found is).1 in
+    let front_used : List ℕ = spelled takes.lexemes in
+    let middle : List ℕ = spelled next.lexemes in
+    let parts = split_same used (front_used ++ middle) rest rest (takes.spells.whole ∙ ap (λ (l : List ℕ). front_used ++ l) next.spells.whole ∙ sym (append_assoc front_used middle rest)) refl in
+    record {
+      middle = middle;
+      split = next.spells.whole;
+      goes = λ other follows.
+          let at : phrase (front_used ++ found.1) ≡ Ok (found.0, found.1) = ap phrase (sym takes.spells.whole) ∙ is in
+          let far : Follows found.1 (middle ++ other) = subst (λ (l : List ℕ). Follows l (middle ++ other)) (sym next.spells.whole) (follows_on next.lexemes rest other next.spells.tokens follows) in
+          ap (λ (l : List ℕ). phrase (l ++ other)) parts.0 ∙ ap phrase (append_assoc front_used middle other)
+          ∙ one.keeps front_used found.1 (middle ++ other) found.0 at far;
+    }
+
+-- one phrase after the other, whatever the second leaves
+pub chain_to : {A B : Type 0} (Leaves : List ℕ → List ℕ → Type 0) (P : A → Type 0) (Q : B → Type 0) (first : Phrase A) (next : A → Phrase B) →
+    ((bytes middle rest : List ℕ) → Takes bytes middle → Leaves middle rest → Leaves bytes rest) →
+    Yields P first → ((a : A) → P a → Reads Leaves Q (next a)) → Reads Leaves Q (first >>= next)
+chain_to {A} {B} Leaves P Q first next joins one two = record {
+  ok = λ bytes found is. by_first bytes found (first bytes) refl is;
+  err = λ bytes left is. err_first bytes left (first bytes) refl is;
+  fails = λ before here there is alike. fails_first before here there alike (first (before ++ here)) refl is;
+} where
+  by_first : (bytes : List ℕ) (found : B × List ℕ) (read : Read A) → first bytes ≡ read → go_on (first bytes) next ≡ Ok found → Q found.0 × Leaves bytes found.1
+  by_first bytes found (Err left) e is = absurd (let no = rw e at is in cc)
+  by_first bytes found (Ok x) e is =
+      let before = one.reads.ok bytes x e in
+      let after = (two x.0 before.0).ok x.1 found (rw e at is) in
+      (after.0, joins bytes x.1 found.1 before.1 after.1)
+
+  err_first : (bytes : List ℕ) (left : ℕ) (read : Read A) → first bytes ≡ read → go_on (first bytes) next ≡ Err left → Stops bytes left
+  err_first bytes left (Err before) e is = let at : Err before ≡ Err left = rw e at is in let same : before ≡ left = cc in one.reads.err bytes left (e ∙ ap Err same)
+  err_first bytes left (Ok x) e is =
+      let before = one.reads.ok bytes x e in
+      stops_on bytes x.1 left before.1 ((two x.0 before.0).err x.1 left (rw e at is))
+
+  fails_first : (before here there : List ℕ) → Alike here there → (read : Read A) → first (before ++ here) ≡ read → go_on (first (before ++ here)) next ≡ Err (length here) → go_on (first (before ++ there)) next ≡ Err (length there)
+  fails_first before here there alike (Err left) e is =
+      let at : Err left ≡ Err (length here) = rw e at is in
+      let same : left ≡ length here = cc in
+      let again = one.reads.fails before here there (e ∙ ap Err same) alike in
+      ap (λ (r : Read A). go_on r next) again
+  fails_first before here there alike (Ok x) e is =
+      let given_is = (one.reads.ok (before ++ here) x e).0 in
+      let at : next x.0 x.1 ≡ Err (length here) = rw e at is in
+      let lies = passes P first one before here x e ((two x.0 given_is).err x.1 (length here) at) in
+      let again = (two x.0 given_is).fails lies.middle here there (ap (next x.0) (sym lies.rest) ∙ at) alike in
+      ap (λ (r : Read A). go_on r next) (lies.goes there alike) ∙ again ∙ ap Err refl
 
 -- one phrase after the other
 pub chain : {A B : Type 0} (P : A → Type 0) (Q : B → Type 0) (first : Phrase A) (next : A → Phrase B) → Yields P first → ((a : A) → P a → Yields Q (next a)) → Yields Q (first >>= next)
 chain {A} {B} P Q first next one two = record {
-  ok = λ bytes found is. by_first bytes found (first bytes) refl is;
-  err = λ bytes left is. err_first bytes left (first bytes) refl is;
+  reads = chain_to Takes P Q first next takes_on one (λ a holds. (two a holds).reads);
+  keeps = λ used rest other b is follows. keeps_first used rest other b follows (first (used ++ rest)) refl is;
 } where
-  by_first : (bytes : List ℕ) (found : B × List ℕ) (read : Read A) → first bytes ≡ read → go_on (first bytes) next ≡ Ok found → Q found.0 × (length found.1 ≤ length bytes)
-  by_first bytes found (Err left) e is = absurd (let no = rw e at is in cc)
-  by_first bytes found (Ok x) e is =
-      let before = one.ok bytes x e in
-      let after = (two x.0 before.0).ok x.1 found (rw e at is) in
-      (after.0, omega (arith, before.1, after.1))
-
-  err_first : (bytes : List ℕ) (left : ℕ) (read : Read A) → first bytes ≡ read → go_on (first bytes) next ≡ Err left → left ≤ length bytes
-  err_first bytes left (Err before) e is = let at : Err before ≡ Err left = rw e at is in let same : before ≡ left = cc in omega (arith, one.err bytes before e)
-  err_first bytes left (Ok x) e is =
-      let before = one.ok bytes x e in
-      omega (arith, before.1, (two x.0 before.0).err x.1 left (rw e at is))
+  keeps_first : (used rest other : List ℕ) (b : B) → Follows rest other → (read : Read A) → first (used ++ rest) ≡ read → go_on (first (used ++ rest)) next ≡ Ok (b, rest) → go_on (first (used ++ other)) next ≡ Ok (b, other)
+  keeps_first used rest other b follows (Err left) e is = absurd (let no = rw e at is in cc)
+  keeps_first used rest other b follows (Ok x) e is =
+      let given_is = (one.reads.ok (used ++ rest) x e).0 in
+      let at : next x.0 x.1 ≡ Ok (b, rest) = rw e at is in
+      let way = leads P first one used rest x e ((two x.0 given_is).reads.ok x.1 (b, rest) at).1 in
+      let again = (two x.0 given_is).keeps way.middle rest other b (ap (next x.0) (sym way.split) ∙ at) follows in
+      ap (λ (r : Read A). go_on r next) (way.goes other follows) ∙ again
 
 -- nothing more
 pub given : {A : Type 0} (P : A → Type 0) (a : A) → P a → Yields P (give a)
 given {A} P a holds = record {
-  ok = λ bytes found is. by_pair bytes found is;
-  err = λ bytes left is. absurd (cc);
+  reads = record {
+    ok = λ bytes found is. by_pair bytes found is;
+    err = λ bytes left is. absurd (cc);
+    fails = λ before here there is alike. absurd (cc);
+  };
+  keeps = λ used rest other b is follows. keeps_pair used rest other b is;
 } where
-  by_pair : (bytes : List ℕ) (found : A × List ℕ) → give a bytes ≡ Ok found → P found.0 × (length found.1 ≤ length bytes)
+  by_pair : (bytes : List ℕ) (found : A × List ℕ) → give a bytes ≡ Ok found → P found.0 × Takes bytes found.1
   by_pair bytes found is =
       let pair : A × List ℕ = (a, bytes) in
       let same : pair ≡ found = cc in
       let rest : bytes ≡ found.1 = ap (λ (p : A × List ℕ). p.1) same in
       let first : a ≡ found.0 = ap (λ (p : A × List ℕ). p.0) same in
-      (rw (← first) holds, omega (arith, ap length rest))
+      (rw (← first) holds, rw (← rest) (takes_none bytes))
+
+  keeps_pair : (used rest other : List ℕ) (b : A) → give a (used ++ rest) ≡ Ok (b, rest) → give a (used ++ other) ≡ Ok (b, other)
+  keeps_pair used rest other b is =
+      let pair : A × List ℕ = (a, used ++ rest) in
+      let wanted : A × List ℕ = (b, rest) in
+      let same : pair ≡ wanted = cc in
+      let value : a ≡ b = ap (λ (p : A × List ℕ). p.0) same in
+      let none : used ≡ [] = append_cancel_right used [] rest (ap (λ (p : A × List ℕ). p.1) same) in
+      ap (λ (l : List ℕ). Ok (a, l ++ other)) none ∙ ap (λ (c : A). Ok (c, other)) value
 
 -- anything
 abbrev pub Any : {A : Type 0} → A → Type 0
@@ -128,6 +280,17 @@ Any a = Unit {0}
 pub sign_yields : (wanted : ℕ) → Yields Any (a_sign wanted)
 unfolding a_sign
 sign_yields wanted = of_token Any (sign_in wanted) (λ here kind n a at e. tt)
+
+-- where no comma stands none stands behind the same blanks and the same token
+pub no_comma : (rest other : List ℕ) (left : ℕ) → Follows rest other → a_sign 44 rest ≡ Err left → a_sign 44 other ≡ Err (length (unblanked other))
+unfolding a_sign
+no_comma rest other left follows none =
+    let at : a_sign 44 (follows.blanks ++ follows.here) ≡ Err left = ap (a_sign 44) (sym follows.was) ∙ none in
+    let size : left ≡ length follows.here =
+    token_left (sign_in 44) (follows.blanks ++ follows.here) left at ∙ ap length (unblanked_past follows.blanks follows.here follows.all ∙ front_unblanked follows.here (follows.alike.kind, follows.alike.size) follows.alike.was) in
+    let again = (sign_yields 44).reads.fails follows.blanks follows.here follows.there (at ∙ ap Err size) follows.alike in
+    let there : unblanked other ≡ follows.there = ap unblanked follows.is ∙ unblanked_past follows.blanks follows.there follows.all ∙ front_unblanked follows.there (follows.alike.kind, follows.alike.size) follows.alike.is in
+    ap (a_sign 44) follows.is ∙ again ∙ ap (λ (l : List ℕ). Err (length l)) (sym there)
 
 pub behind_yields : {A : Type 0} (P : A → Type 0) (wanted : ℕ) (phrase : Phrase A) → Yields P phrase → Yields P (behind wanted phrase)
 behind_yields P wanted phrase one = chain Any P (a_sign wanted) (λ sign. phrase) (sign_yields wanted) (λ sign any. one)
@@ -139,7 +302,7 @@ no_sign wanted [] none = (0, refl)
 no_sign wanted (b ∷ bytes) none = absurd (omega arith)
 
 -- Shrinking phrases are as many as commas, whatever number is allowed beyond the bytes.
-phrases_enough : {A : Type 0} (phrase : Phrase A) → Shrinks phrase → (m n : ℕ) (bytes : List ℕ) → length bytes ≤ m → length bytes ≤ n → phrases phrase m bytes ≡ phrases phrase n bytes
+pub phrases_enough : {A : Type 0} (phrase : Phrase A) → Shrinks phrase → (m n : ℕ) (bytes : List ℕ) → length bytes ≤ m → length bytes ≤ n → phrases phrase m bytes ≡ phrases phrase n bytes
 phrases_enough phrase shrinks zero zero bytes le1 le2 = refl
 phrases_enough phrase shrinks zero (suc n) bytes le1 le2 = let none = no_sign 44 bytes (omega arith) in rw none.1 refl
 phrases_enough phrase shrinks (suc m) zero bytes le1 le2 = let none = no_sign 44 bytes (omega arith) in rw none.1 refl

@@ -7,7 +7,7 @@ use Rattle.ts_base.specs.Name.{is_text_byte}
 use Rattle.ts_command.specs.Tokens.{closing, later, or_before}
 
 -- a byte of a text
-text_byte : (b : ℕ) (t : List ℕ) → (b == 39) ≡ false → is_text_byte b ≡ true → closing (b ∷ t) ≡ later 1 (closing t)
+pub text_byte : (b : ℕ) (t : List ℕ) → (b == 39) ≡ false → is_text_byte b ≡ true → closing (b ∷ t) ≡ later 1 (closing t)
 unfolding closing
 text_byte b [] other text = rw other refl
 text_byte b (c ∷ t) other text = rw (other, text) refl
@@ -19,13 +19,13 @@ other_byte b [] other text = rw other refl
 other_byte b (c ∷ t) other text = rw (other, text) refl
 
 -- a quote that isn't doubled
-single_quote : (b : ℕ) (t : List ℕ) → (b == 39) ≡ true → (slice_index_or t 0 0 == 39) ≡ false → closing (b ∷ t) ≡ Some 1
+pub single_quote : (b : ℕ) (t : List ℕ) → (b == 39) ≡ true → (slice_index_or t 0 0 == 39) ≡ false → closing (b ∷ t) ≡ Some 1
 unfolding closing
 single_quote b [] quote single = rw quote refl
 single_quote b (c ∷ t) quote single = rw (quote, single) refl
 
 -- a doubled quote
-doubled_quote : (b : ℕ) (t : List ℕ) → (b == 39) ≡ true → (slice_index_or t 0 0 == 39) ≡ true → closing (b ∷ t) ≡ or_before (Some 1) (later 2 (closing (drop 1 t)))
+pub doubled_quote : (b : ℕ) (t : List ℕ) → (b == 39) ≡ true → (slice_index_or t 0 0 == 39) ≡ true → closing (b ∷ t) ≡ or_before (Some 1) (later 2 (closing (drop 1 t)))
 unfolding closing
 doubled_quote b [] quote double = absurd (cc)
 doubled_quote b (c ∷ t) quote double = rw (quote, double) refl

@@ -3,17 +3,10 @@ use Rattle.std.proofs.Common.{◌≡◌, ℕ, zero, suc, ◌+◌, ◌<◌, ◌�
 use Rattle.std.proofs.lemmas.Bool.{cases_Bool}
 use Rattle.std.specs.List.{prefix_len, list_all}
 use Rattle.ts_base.specs.Name.{begins_word, continues_word, is_word}
+use Rattle.ts_items.proofs.RunLemmas.{front_passes}
 use Rattle.ts_command.specs.Tokens.{closing, later, number_length, front}
 use Rattle.ts_command.specs.declared.token.TokenKind.TheVariants.{Word, Number, Text, Sign}
 use Rattle.ts_command.proofs.TokenLengths.{token_is, of_kind_is}
-
--- the front passes
-pub front_passes : (p : ℕ → Bool) (s : List ℕ) → list_all p (take (prefix_len p s) s) ≡ true
-front_passes p [] = refl
-front_passes p (b ∷ s) = elim (cases_Bool (p b)) [
-  | inl t ↦ let next : 1 + prefix_len p s ≡ suc (prefix_len p s) = omega arith in rw (t, next, t) (front_passes p s)
-  | inr f ↦ rw f refl
-]
 
 -- more of the list doesn't
 more_fails : (p : ℕ → Bool) (s : List ℕ) (longer : ℕ) → prefix_len p s < longer → longer ≤ length s → list_all p (take longer s) ≡ false

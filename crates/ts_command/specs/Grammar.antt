@@ -17,7 +17,7 @@ use Rattle.ts_command.specs.Text.{said}
 use Rattle.ts_command.specs.declared.token.TokenKind.{TokenKind}
 use Rattle.ts_command.specs.declared.token.TokenKind.TheVariants.{Word, Number, Text, Sign}
 use Rattle.ts_command.specs.declared.routine.Routine.{Routine}
-use Rattle.ts_command.specs.declared.routine.Routine.TheVariants.{CreateRowType, DropRowType, TSContainerCreate, TSContainerDestroy, TSContainerUsage, TSCreateIrr, DropSeries, ListSeries, InsElem, GetElem, GetNelems}
+use Rattle.ts_command.specs.declared.routine.Routine.TheVariants as calls
 use Rattle.ts_command.specs.Routines.{routine_of, type_of}
 use Rattle.ts_command.specs.declared.routine.TypeName.{TypeName}
 use Rattle.ts_command.specs.declared.routine.TypeName.TheVariants.{SmallInt, Integer, BigInt, Decimal, VarChar}
@@ -131,50 +131,47 @@ routine_in kind token = None
 unfoldable pub a_routine : Phrase Routine
 a_routine = token routine_in
 
+-- one argument, two or three, with commas between them, as a command
+abbrev pub one : {A : Type 0} → Phrase A → (A → Command) → Phrase Command
+one first make = do
+  a ← first
+  give (make a)
+
+abbrev pub two : {A B : Type 0} → Phrase A → Phrase B → (A → B → Command) → Phrase Command
+two first second make = do
+  a ← first
+  b ← behind 44 second
+  give (make a b)
+
+abbrev pub three : {A B C : Type 0} → Phrase A → Phrase B → Phrase C → (A → B → C → Command) → Phrase Command
+three first second third make = do
+  a ← first
+  b ← behind 44 second
+  c ← behind 44 third
+  give (make a b c)
+
 -- the arguments of each routine, as its command
 unfoldable pub arguments : Routine → Phrase Command
-arguments CreateRowType = do
+arguments calls.CreateRowType = do
   name ← a_name
   stamp ← behind 44 a_stamp_column
   first ← behind 44 a_column
   others ← repeated a_column
   give (commands.CreateRowType name stamp (first ∷ others))
-arguments DropRowType = do
-  name ← a_name
-  give (commands.DropRowType name)
-arguments TSContainerCreate = do
-  name ← a_name
-  row_type ← behind 44 a_name
-  quota ← behind 44 (a_whole (pos 1) (pos 65536))
-  give (commands.TSContainerCreate name row_type quota)
-arguments TSContainerDestroy = do
-  name ← a_name
-  give (commands.TSContainerDestroy name)
-arguments TSContainerUsage = do
-  name ← a_name
-  give (commands.TSContainerUsage name)
-arguments TSCreateIrr = do
-  key ← a_key
-  container ← behind 44 a_name
-  give (commands.TSCreateIrr key container)
-arguments DropSeries = do
-  key ← a_key
-  give (commands.DropSeries key)
-arguments ListSeries = do
-  container ← a_name
-  give (commands.ListSeries container)
-arguments InsElem = do
+arguments calls.DropRowType = one a_name commands.DropRowType
+arguments calls.TSContainerCreate = three a_name a_name (a_whole (pos 1) (pos 65536)) commands.TSContainerCreate
+arguments calls.TSContainerDestroy = one a_name commands.TSContainerDestroy
+arguments calls.TSContainerUsage = one a_name commands.TSContainerUsage
+arguments calls.TSCreateIrr = two a_key a_name commands.TSCreateIrr
+arguments calls.DropSeries = one a_key commands.DropSeries
+arguments calls.ListSeries = one a_name commands.ListSeries
+arguments calls.InsElem = do
   key ← a_key
   stamp ← behind 44 a_stamp
   values ← repeated a_literal
   give (commands.InsElem key stamp values)
-arguments GetElem = do
-  key ← a_key
-  stamp ← behind 44 a_stamp
-  give (commands.GetElem key stamp)
-arguments GetNelems = do
-  key ← a_key
-  give (commands.GetNelems key)
+arguments calls.GetElem = two a_key a_stamp commands.GetElem
+arguments calls.GetNelems = one a_key commands.GetNelems
 
 -- the `;` that ends the statement, and nothing behind it
 unfoldable pub the_end : Phrase (Unit {0})

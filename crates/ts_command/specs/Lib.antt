@@ -1,7 +1,3 @@
-pub mod Items
-pub mod ItemLaws
-pub mod Parts
-pub mod Reader
 pub mod Tokens
 pub mod Number
 pub mod Text
@@ -11,3 +7,7 @@ pub mod Grammar
 pub mod Misfit
 pub mod Form
 pub mod TextForm
+pub mod Spelling
+pub mod Script
+pub mod NumberForm
+pub mod Printed

@@ -4,26 +4,26 @@ use Rattle.std.specs.Str.{bytes_eq}
 use Rattle.ts_command.specs.declared.routine.Routine.{Routine}
 use Rattle.ts_command.specs.declared.routine.TypeName.{TypeName}
 use Rattle.ts_command.specs.declared.routine.TypeName.TheVariants.{SmallInt, Integer, BigInt, Decimal, VarChar}
-use Rattle.ts_command.specs.declared.routine.Routine.TheVariants.{CreateRowType, DropRowType, TSContainerCreate, TSContainerDestroy, TSContainerUsage, TSCreateIrr, DropSeries, ListSeries, InsElem, GetElem, GetNelems}
+use Rattle.ts_command.specs.declared.routine.Routine.TheVariants as calls
 
 -- the name of a routine
 abbrev pub spelling : Routine → List ℕ
-spelling CreateRowType = codes "CreateRowType"
-spelling DropRowType = codes "DropRowType"
-spelling TSContainerCreate = codes "TSContainerCreate"
-spelling TSContainerDestroy = codes "TSContainerDestroy"
-spelling TSContainerUsage = codes "TSContainerUsage"
-spelling TSCreateIrr = codes "TSCreateIrr"
-spelling DropSeries = codes "DropSeries"
-spelling ListSeries = codes "ListSeries"
-spelling InsElem = codes "InsElem"
-spelling GetElem = codes "GetElem"
-spelling GetNelems = codes "GetNelems"
+spelling calls.CreateRowType = codes "CreateRowType"
+spelling calls.DropRowType = codes "DropRowType"
+spelling calls.TSContainerCreate = codes "TSContainerCreate"
+spelling calls.TSContainerDestroy = codes "TSContainerDestroy"
+spelling calls.TSContainerUsage = codes "TSContainerUsage"
+spelling calls.TSCreateIrr = codes "TSCreateIrr"
+spelling calls.DropSeries = codes "DropSeries"
+spelling calls.ListSeries = codes "ListSeries"
+spelling calls.InsElem = codes "InsElem"
+spelling calls.GetElem = codes "GetElem"
+spelling calls.GetNelems = codes "GetNelems"
 
 abbrev pub routines : List Routine
 routines =
-    InsElem ∷ GetElem ∷ GetNelems ∷ CreateRowType ∷ DropRowType ∷ TSContainerCreate ∷ TSContainerDestroy ∷ TSContainerUsage ∷
-    TSCreateIrr ∷ DropSeries ∷ ListSeries ∷ []
+    calls.InsElem ∷ calls.GetElem ∷ calls.GetNelems ∷ calls.CreateRowType ∷ calls.DropRowType ∷ calls.TSContainerCreate ∷ calls.TSContainerDestroy ∷ calls.TSContainerUsage ∷
+    calls.TSCreateIrr ∷ calls.DropSeries ∷ calls.ListSeries ∷ []
 
 -- the routine of this name, if there is one
 unfoldable pub routine_of : List ℕ → Option Routine

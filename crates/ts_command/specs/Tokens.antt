@@ -2,8 +2,7 @@
 use Rattle.std.specs.Prelude.{ℕ, ◌+◌, ◌-◌, ◌==◌, ◌||◌, if◌then◌else◌, List, [], ◌∷◌, length, take, drop, Option, Some, None}
 use Rattle.std.specs.List.{prefix_len}
 use Rattle.std.specs.Char.{is_ascii_digit}
-use Rattle.ts_base.specs.Name.{begins_word, continues_word, is_text_byte}
-use Rattle.ts_command.specs.Items.{is_blank}
+use Rattle.ts_base.specs.Name.{begins_word, continues_word, is_blank, is_text_byte}
 use Rattle.ts_command.specs.declared.token.TokenKind.{TokenKind}
 use Rattle.ts_command.specs.declared.token.TokenKind.TheVariants.{Word, Number, Text, Sign}
 

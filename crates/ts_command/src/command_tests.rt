@@ -1,5 +1,5 @@
 // Statements and their commands, and the places of refusals.
-use crate::{Command, read_command};
+use crate::{Command, Cut, Reader, read_command};
 use std::alloc::{AllocError, Global};
 use std::test::Fail;
 use ts_base::{Refusal, Trouble};
@@ -337,5 +337,65 @@ fn a_name_has_32_bytes_and_a_key_64_at_most(rt: HostRuntime) -> Result<(), Fail>
     assert_eq!(rt; outcome(alloc, &quotes)?.len(), 75);
     let more_quotes = around(alloc, b"DropSeries('", b'\'', 130, b"');")?;
     assert_eq!(rt; outcome(alloc, &more_quotes)?.as_str(), "at 11");
+    Ok(())
+}
+
+// What each item of a script asks for, in its order, with `|` behind each. The script comes byte by byte.
+fn requests(alloc: Global, script: &[u8]) -> Result<String, AllocError> {
+    let mut reader = Reader::new(alloc)?;
+    let mut text = String::new(alloc);
+    for byte in script.chunks(1) {
+        let cut = reader.feed(byte).cut;
+        note(alloc, cut, reader.text(), &mut text)?;
+    }
+    let cut = reader.finish();
+    note(alloc, cut, b"", &mut text)?;
+    Ok(text)
+}
+
+// Notes what an item asks for.
+fn note(
+    alloc: Global,
+    cut: Option<Cut>,
+    statement: &[u8],
+    text: &mut String,
+) -> Result<(), AllocError> {
+    match cut {
+        Some(Cut::Statement) => text.push_str(&outcome(alloc, statement)?)?,
+        Some(Cut::TooLong) => text.push_str("too long")?,
+        Some(Cut::Unended) => text.push_str("unended")?,
+        None => return Ok(()),
+    }
+    text.push('|')
+}
+
+#[test]
+fn a_script_is_its_commands_and_refusals(rt: HostRuntime) -> Result<(), Fail> {
+    let alloc = rt.alloc();
+    let page: [(&[u8], &str); 5] = [
+        (b" ;; ", ""),
+        (
+            b"InsElem('x','2011-01-03 00:00:00',1); GetEl",
+            "InsElem x 129401280000000 1/0|unended|",
+        ),
+        (
+            b"InsElem('x','1970-01-01 00:00:00',-2147483648); InsElem('x','1970-01-01 00:00:00',1.0);",
+            "InsElem x 0 -2147483648/0|InsElem x 0 10/1|",
+        ),
+        (
+            b"InsElem('x','1970-01-01 00:00:00'); InsElem('x','2011-02-29 00:00:00',1);",
+            "InsElem x 0|at 13|",
+        ),
+        (
+            b"GetNelems('a;b');\nGetNelems('n') ;",
+            "GetNelems a;b|GetNelems n|",
+        ),
+    ];
+    for (script, wanted) in page {
+        let found = requests(alloc, script)?;
+        assert_eq!(rt; found.as_str(), wanted);
+    }
+    let long = around(alloc, b"", b'x', 65536, b";GetNelems('n');")?;
+    assert_eq!(rt; requests(alloc, &long)?.as_str(), "too long|GetNelems n|");
     Ok(())
 }

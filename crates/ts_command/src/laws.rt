@@ -1,28 +1,64 @@
-// What holds of every script, in the words of one who writes it.
-ghost use Rattle.std.specs.Prelude.{◌≡◌, [], List, ℕ, ◌++◌, Some, None, take, length, true, false, ◌<◌, ◌≤◌};
-ghost use Rattle.std.specs.List.{flat_map};
-ghost use Rattle.ts_command.specs.Items.{Item, items, items_from, place_from, is_unended};
+// What holds of every statement, in the words of one who writes it.
+ghost use Rattle.std.specs.Prelude.{◌≡◌, List, [], ◌∷◌, ◌++◌, ◌-◌, ℕ, Ok, Err, Some, None, take, drop, length, map, true, false, IsTrue, ◌<◌, ◌≤◌};
+ghost use Rattle.std.specs.List.{list_all};
 ghost use Rattle.ts_base.specs.Name.{is_word};
+ghost use Rattle.ts_items.specs.Items.{items_from, place_from};
 ghost use Rattle.ts_command.specs.TextForm.{closes, ClosesNoLater, ClosesNowhere};
-ghost use Rattle.ts_command.specs.Tokens.{closing, front};
-ghost use Rattle.ts_command.specs.Parts.{Part, Rest, Splits, item_of_part, item_of_rest, is_unended_rest};
+ghost use Rattle.ts_command.specs.NumberForm.{IsNumber};
+ghost use Rattle.ts_command.specs.Tokens.{unblanked, closing, number_length, front};
+ghost use Rattle.ts_command.specs.Spelling.{Lexeme, Spells};
+ghost use Rattle.ts_row.specs.RowType.{is_kind, scale_of};
+ghost use Rattle.ts_row.specs.Row.{Values, holds, fits, value_if_any, row_of};
+ghost use Rattle.ts_row.specs.Printed.{value_text, row_text};
+ghost use Rattle.ts_command.specs.Phrase.{repeated};
+ghost use Rattle.ts_command.specs.Printed.{ends_value};
+ghost use Rattle.ts_command.specs.Grammar.{a_literal, command_of};
+ghost use Rattle.ts_command.specs.Script.{request_of, requests};
 
+use crate::Command;
 use crate::token::TokenKind;
+use ts_row::{
+    Column, ColumnKind, Literal, Value, printed_digits_write_the_size, printed_values_fit_again,
+};
 
-/// The items of the front of a script are the first items of the script.
-pub fn items_of_a_front_come_first()
-    ensures { (front rest : List ℕ) →
-        items (front ++ rest) ≡ items front ++ items_from (place_from (Some []) front) rest }
+/// A statement that is a command is tokens with blanks between them, then blanks and the `;`. Where it is refused,
+/// whole tokens with their blanks stand before the place.
+pub fn a_statement_is_its_tokens()
+    ensures command { (text : List ℕ) (command : Command) → command_of text ≡ Ok command →
+        (lexemes : List Lexeme) × (rest : List ℕ) × Spells text lexemes rest × (unblanked rest ≡ 59 ∷ []) }
+    ensures place { (text : List ℕ) (place : ℕ) → command_of text ≡ Err place →
+        (lexemes : List Lexeme) × (rest : List ℕ) × Spells text lexemes rest × (place ≡ length text - length (unblanked rest)) }
 {}
 
-/// Every script is made of parts and a rest. However it is split into them, its items are theirs.
-pub fn items_are_those_of_the_parts()
-    ensures items { (bytes : List ℕ) (parts : List Part) (rest : Rest) → Splits bytes parts rest →
-        items bytes ≡ flat_map item_of_part parts ++ item_of_rest rest }
-    ensures last { (bytes : List ℕ) (parts : List Part) (rest : Rest) → Splits bytes parts rest →
-        is_unended bytes ≡ is_unended_rest rest }
-    ensures some { (bytes : List ℕ) → (parts : List Part) × (rest : Rest) × Splits bytes parts rest }
+/// With the token that stands at the place of a refusal no statement goes on: whatever comes behind it, it is refused at
+/// this place.
+pub fn no_statement_goes_on_with_the_token_at_the_place()
+    ensures { (text more : List ℕ) (place size : ℕ) (kind : TokenKind) → command_of text ≡ Err place →
+        front (drop place text) ≡ Some (kind, size) → front (take size (drop place text) ++ more) ≡ Some (kind, size) →
+        command_of (take place text ++ (take size (drop place text) ++ more)) ≡ Err place }
 {}
+
+/// What the front of a script asks for comes first in what the script asks for.
+pub fn requests_of_a_front_come_first()
+    ensures { (front_of rest : List ℕ) →
+        requests (front_of ++ rest) ≡ requests front_of ++ map request_of (items_from (place_from (Some []) front_of) rest) }
+{}
+
+/// A value that is printed is read again, where a blank, a comma or a closing bracket stands behind it, as one literal;
+/// this fits the column and gives the value back. So for a row, as the last arguments of a statement.
+pub fn printed_values_are_read_again()
+    ensures value { (kind : ColumnKind) (value : Value) (rest : List ℕ) →
+        IsTrue (is_kind kind) → IsTrue (holds kind value) → IsTrue (ends_value rest) →
+        (literal : Literal) × (a_literal (value_text (scale_of kind) value ++ rest) ≡ Ok (literal, rest))
+        × (value_if_any kind literal ≡ Some value) }
+    ensures row { (columns : List Column) (row : Values) (rest : List ℕ) → 1 ≤ length columns →
+        IsTrue (list_all (λ c. is_kind c.kind) columns) → IsTrue (fits columns row) →
+        (literals : List Literal) × (repeated a_literal (44 ∷ (row_text columns row ++ 41 ∷ rest)) ≡ Ok (literals, 41 ∷ rest))
+        × (row_of columns literals ≡ Ok row) }
+{
+    printed_digits_write_the_size();
+    printed_values_fit_again();
+}
 
 /// A word that is read is a word, and no longer one stands there.
 pub fn a_word_is_the_longest()
@@ -37,4 +73,13 @@ pub fn a_text_is_the_longest()
     ensures ends { (bytes : List ℕ) (end : ℕ) → closing bytes ≡ Some end → closes (take end bytes) ≡ true }
     ensures longest { (bytes : List ℕ) (end : ℕ) → closing bytes ≡ Some end → ClosesNoLater bytes end }
     ensures none { (bytes : List ℕ) → closing bytes ≡ None → ClosesNowhere bytes }
+{}
+
+/// A number that is read is a number, and no longer one stands there; where none is read, none stands there.
+pub fn a_number_is_the_longest()
+    ensures is { (bytes : List ℕ) (size : ℕ) → number_length bytes ≡ Some size → IsNumber (take size bytes) }
+    ensures longest { (bytes : List ℕ) (size : ℕ) → number_length bytes ≡ Some size →
+        (longer : ℕ) → size < longer → longer ≤ length bytes → IsNumber (take longer bytes) → ⊥ }
+    ensures none { (bytes : List ℕ) → number_length bytes ≡ None →
+        (size : ℕ) → size ≤ length bytes → IsNumber (take size bytes) → ⊥ }
 {}

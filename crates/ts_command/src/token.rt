@@ -5,8 +5,7 @@ ghost use Rattle.std.specs.List.{prefix_len};
 ghost use Rattle.ts_base.specs.Name.{continues_word};
 ghost use Rattle.ts_command.specs.Tokens.{unblanked, digits_in_front, fraction_length, magnitude_length, number_length, closing, front};
 
-use crate::reader::is_blank;
-use ts_base::{begins_word, continues_word, is_text_byte};
+use ts_base::{begins_word, continues_word, is_blank, is_text_byte};
 
 /// The most digits of a number.
 const DIGITS: usize = 38;

@@ -1,6 +1,0 @@
-use Rattle.std.proofs.Common.{[], Some}
-use Rattle.ts_command.specs.ItemLaws.{items_from-append}
-use Rattle.ts_command.proofs.laws.items_of_a_front_come_first.Goals as goal
-
-pub returns : goal.returns
-returns c = λ front rest. items_from-append (Some []) front rest

@@ -1,0 +1,5 @@
+pub mod FeedLemmas
+pub mod ItemLemmas
+pub mod PartsLemmas
+pub mod PlaceLemmas
+pub mod RunLemmas

@@ -1,0 +1,4 @@
+pub mod Items
+pub mod ItemLaws
+pub mod Parts
+pub mod Reader
