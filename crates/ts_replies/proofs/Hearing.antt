@@ -100,40 +100,40 @@ module _ {C I : Type 0} (answer : Answer C I) (lacks : I → Bool) (apart : AreA
       heard-append items cat said memory_line n next (item ∷ waiting) whole ∙ ap (more_heard n) one
 
   -- an image that keeps the catalogue
-  pub kept_now : (keeps : C → Type 0) (torn : C → I → Type 0) (cat : C) (waiting : List I) (rest : List ℕ) → keeps cat → IsNowOrNext answer keeps torn cat waiting rest
-  kept_now keeps torn cat [] rest k = k
-  kept_now keeps torn cat (item ∷ waiting) rest k = inl k
+  pub kept_now : (keeps : C → Type 0) (cat : C) (waiting : List I) → keeps cat → IsNowOrNext answer keeps cat waiting
+  kept_now keeps cat [] k = k
+  kept_now keeps cat (item ∷ waiting) k = inl k
 
   -- nothing said can follow
   pub empty_follows : (cat : C) (items : List I) → CanFollow answer lacks cat items []
   empty_follows cat [] = refl
   empty_follows cat (item ∷ items) = inl ((answer cat item).0, refl)
 
-  module _ (keeps : C → Type 0) (torn : C → I → Type 0) where
+  module _ (keeps : C → Type 0) where
     -- where the replies are whole
-    pub good_between : (cat : C) (items : List I) (said : List ℕ) (n : ℕ) (next : C) (waiting : List I) → Whole cat items said n next waiting → IsNowOrNext answer keeps torn next waiting [] → IsGood answer lacks keeps torn cat items said
+    pub good_between : (cat : C) (items : List I) (said : List ℕ) (n : ℕ) (next : C) (waiting : List I) → Whole cat items said n next waiting → IsNowOrNext answer keeps next waiting → IsGood answer lacks keeps cat items said
     good_between cat items said n next waiting whole kept = record {
       fair = rw whole (empty_follows next waiting);
       kept = rw whole kept;
     }
 
     part_good : (cat : C) (items : List I) (said p : List ℕ) (n : ℕ) (next : C) (item : I) (waiting : List I) → Whole cat items said n next (item ∷ waiting) → behind (answer next item).0 p ≡ None → behind memory_line p ≡ None →
-        CanFollow answer lacks next (item ∷ waiting) p → IsNowOrNext answer keeps torn next (item ∷ waiting) p → IsGood answer lacks keeps torn cat items (said ++ p)
+        CanFollow answer lacks next (item ∷ waiting) p → IsNowOrNext answer keeps next (item ∷ waiting) → IsGood answer lacks keeps cat items (said ++ p)
     part_good cat items said p n next item waiting whole no_reply no_memory follows kept =
         let is : heard answer lacks cat items (said ++ p) ≡ record { count = n + 0; catalogue = next; waiting = item ∷ waiting; rest = p } =
         heard-append items cat said p n next (item ∷ waiting) whole ∙ ap (more_heard n) (heard-none next item waiting p (hear-none next item p no_reply no_memory)) in
         record { fair = rw is follows; kept = rw is kept }
 
     -- while a reply is said
-    pub good_reply : (cat : C) (items : List I) (said p : List ℕ) (n : ℕ) (next : C) (item : I) (waiting : List I) → Whole cat items said n next (item ∷ waiting) → IsFront p (answer next item).0 → keeps (answer next item).1 → IsGood answer lacks keeps torn cat items (said ++ p)
+    pub good_reply : (cat : C) (items : List I) (said p : List ℕ) (n : ℕ) (next : C) (item : I) (waiting : List I) → Whole cat items said n next (item ∷ waiting) → IsFront p (answer next item).0 → keeps (answer next item).1 → IsGood answer lacks keeps cat items (said ++ p)
     good_reply cat items said p n next item waiting whole front here = elim (whole_or_part p (answer next item).0 front) [
-      | inl all ↦ rw all (good_between cat items (said ++ (answer next item).0) (n + 1) (answer next item).1 waiting (whole_reply cat items said n next item waiting whole) (kept_now keeps torn (answer next item).1 waiting [] here))
-      | inr part ↦ part_good cat items said p n next item waiting whole part (none-front memory_line p (answer next item).0 front (apart.reply next item)) (inl front) (inr (inl here))
+      | inl all ↦ rw all (good_between cat items (said ++ (answer next item).0) (n + 1) (answer next item).1 waiting (whole_reply cat items said n next item waiting whole) (kept_now keeps (answer next item).1 waiting here))
+      | inr part ↦ part_good cat items said p n next item waiting whole part (none-front memory_line p (answer next item).0 front (apart.reply next item)) (inl front) (inr here)
     ]
 
-    pub good_memory : (cat : C) (items : List I) (said p : List ℕ) (n : ℕ) (next : C) (item : I) (waiting : List I) → lacks item ≡ true → Whole cat items said n next (item ∷ waiting) → IsFront p memory_line → keeps next → IsGood answer lacks keeps torn cat items (said ++ p)
+    pub good_memory : (cat : C) (items : List I) (said p : List ℕ) (n : ℕ) (next : C) (item : I) (waiting : List I) → lacks item ≡ true → Whole cat items said n next (item ∷ waiting) → IsFront p memory_line → keeps next → IsGood answer lacks keeps cat items (said ++ p)
     good_memory cat items said p n next item waiting t whole front here = elim (whole_or_part p memory_line front) [
-      | inl all ↦ rw all (good_between cat items (said ++ memory_line) (n + 1) next waiting (whole_memory cat items said n next item waiting t whole) (kept_now keeps torn next waiting [] here))
+      | inl all ↦ rw all (good_between cat items (said ++ memory_line) (n + 1) next waiting (whole_memory cat items said n next item waiting t whole) (kept_now keeps next waiting here))
       | inr part ↦ part_good cat items said p n next item waiting whole (none-front (answer next item).0 p memory_line front (apart.memory next item [])) part (inr (t, front)) (inl here)
     ]
 
@@ -156,15 +156,15 @@ module _ {C I : Type 0} (answer : Answer C I) (lacks : I → Bool) (apart : AreA
   follows_more cat [] more rest e = rw e (empty_follows cat more)
   follows_more cat (item ∷ waiting) more rest f = f
 
-  kept_more : (keeps : C → Type 0) (torn : C → I → Type 0) (cat : C) (waiting more : List I) (rest : List ℕ) → IsNowOrNext answer keeps torn cat waiting rest → IsNowOrNext answer keeps torn cat (waiting ++ more) rest
-  kept_more keeps torn cat [] more rest k = kept_now keeps torn cat more rest k
-  kept_more keeps torn cat (item ∷ waiting) more rest k = k
+  kept_more : (keeps : C → Type 0) (cat : C) (waiting more : List I) → IsNowOrNext answer keeps cat waiting → IsNowOrNext answer keeps cat (waiting ++ more)
+  kept_more keeps cat [] more k = kept_now keeps cat more k
+  kept_more keeps cat (item ∷ waiting) more k = k
 
-  pub good_more : (keeps : C → Type 0) (torn : C → I → Type 0) (cat : C) (items more : List I) (said : List ℕ) → IsGood answer lacks keeps torn cat items said → IsGood answer lacks keeps torn cat (items ++ more) said
-  good_more keeps torn cat items more said good =
+  pub good_more : (keeps : C → Type 0) (cat : C) (items more : List I) (said : List ℕ) → IsGood answer lacks keeps cat items said → IsGood answer lacks keeps cat (items ++ more) said
+  good_more keeps cat items more said good =
       let h : Heard C I = heard answer lacks cat items said in
       let is = items_step cat items more said good.fair in
-      record { fair = rw is (follows_more h.catalogue h.waiting more h.rest good.fair); kept = rw is (kept_more keeps torn h.catalogue h.waiting more h.rest good.kept) }
+      record { fair = rw is (follows_more h.catalogue h.waiting more h.rest good.fair); kept = rw is (kept_more keeps h.catalogue h.waiting more good.kept) }
 
   pub fair_more : (cat : C) (items more : List I) (said : List ℕ) → IsFair answer lacks cat items said → IsFair answer lacks cat (items ++ more) said
   fair_more cat items more said fair =
@@ -181,8 +181,8 @@ module _ {C I : Type 0} (answer : Answer C I) (lacks : I → Bool) (apart : AreA
   pub fair_then : (cat : C) (items others : List I) (said more : List ℕ) (n : ℕ) (next : C) → Whole cat items said n next [] → IsFair answer lacks next others more → IsFair answer lacks cat (items ++ others) (said ++ more)
   fair_then cat items others said more n next whole fair = rw (heard_then cat items others said more n next whole) fair
 
-  pub good_then : (keeps : C → Type 0) (torn : C → I → Type 0) (cat : C) (items others : List I) (said more : List ℕ) (n : ℕ) (next : C) → Whole cat items said n next [] → IsGood answer lacks keeps torn next others more → IsGood answer lacks keeps torn cat (items ++ others) (said ++ more)
-  good_then keeps torn cat items others said more n next whole good = record {
+  pub good_then : (keeps : C → Type 0) (cat : C) (items others : List I) (said more : List ℕ) (n : ℕ) (next : C) → Whole cat items said n next [] → IsGood answer lacks keeps next others more → IsGood answer lacks keeps cat (items ++ others) (said ++ more)
+  good_then keeps cat items others said more n next whole good = record {
     fair = rw (heard_then cat items others said more n next whole) good.fair;
     kept = rw (heard_then cat items others said more n next whole) good.kept;
   }

@@ -11,25 +11,24 @@ module _ {C I : Type 0} (answer : Answer C I) (lacks : I → Bool) (apart : AreA
   one_answered cat item reply next (inr is) = rw (is.1, is.2) (whole_memory answer lacks apart cat (item ∷ []) [] 0 cat item [] is.0 (heard-nothing answer lacks apart cat (item ∷ [])))
 
   -- an item alone, while its reply is said
-  pub one_good : (keeps : C → Type 0) (torn : C → I → Type 0) (cat : C) (item : I) (reply front : List ℕ) (next : C) → IsStep answer lacks cat item reply next → IsFront front reply → keeps next → IsGood answer lacks keeps torn cat (item ∷ []) front
-  one_good keeps torn cat item reply front next (inl is) f here =
-      good_reply answer lacks apart keeps torn cat (item ∷ []) [] front 0 cat item [] (heard-nothing answer lacks apart cat (item ∷ [])) (f.0, sym is.0 ∙ f.1) (rw (← is.1) here)
-  one_good keeps torn cat item reply front next (inr is) f here =
-      good_memory answer lacks apart keeps torn cat (item ∷ []) [] front 0 cat item [] is.0 (heard-nothing answer lacks apart cat (item ∷ [])) (f.0, sym is.1 ∙ f.1) (rw (← is.2) here)
+  pub one_good : (keeps : C → Type 0) (cat : C) (item : I) (reply front : List ℕ) (next : C) → IsStep answer lacks cat item reply next → IsFront front reply → keeps next → IsGood answer lacks keeps cat (item ∷ []) front
+  one_good keeps cat item reply front next (inl is) f here =
+      good_reply answer lacks apart keeps cat (item ∷ []) [] front 0 cat item [] (heard-nothing answer lacks apart cat (item ∷ [])) (f.0, sym is.0 ∙ f.1) (rw (← is.1) here)
+  one_good keeps cat item reply front next (inr is) f here =
+      good_memory answer lacks apart keeps cat (item ∷ []) [] front 0 cat item [] is.0 (heard-nothing answer lacks apart cat (item ∷ [])) (f.0, sym is.1 ∙ f.1) (rw (← is.2) here)
 
   -- the same of what was said alone
   pub one_fair : (cat : C) (item : I) (reply front : List ℕ) (next : C) → IsStep answer lacks cat item reply next → IsFront front reply → IsFair answer lacks cat (item ∷ []) front
-  one_fair cat item reply front next step f = (one_good (λ c. Unit {0}) (λ c i. ⊥) cat item reply front next step f tt).fair
+  one_fair cat item reply front next step f = (one_good (λ c. Unit {0}) cat item reply front next step f tt).fair
 
   -- an item alone, before its reply
-  pub one_waits : (keeps : C → Type 0) (torn : C → I → Type 0) (cat : C) (item : I) → keeps cat ⊎ (keeps (answer cat item).1 ⊎ torn cat item) → IsGood answer lacks keeps torn cat (item ∷ []) []
-  one_waits keeps torn cat item (inl now) = good_between answer lacks apart keeps torn cat (item ∷ []) [] 0 cat (item ∷ []) (heard-nothing answer lacks apart cat (item ∷ [])) (inl now)
-  one_waits keeps torn cat item (inr (inl next)) = good_between answer lacks apart keeps torn cat (item ∷ []) [] 0 cat (item ∷ []) (heard-nothing answer lacks apart cat (item ∷ [])) (inr (inl next))
-  one_waits keeps torn cat item (inr (inr in_work)) = good_between answer lacks apart keeps torn cat (item ∷ []) [] 0 cat (item ∷ []) (heard-nothing answer lacks apart cat (item ∷ [])) (inr (inr (refl, in_work)))
+  pub one_waits : (keeps : C → Type 0) (cat : C) (item : I) → keeps cat ⊎ keeps (answer cat item).1 → IsGood answer lacks keeps cat (item ∷ []) []
+  one_waits keeps cat item (inl now) = good_between answer lacks apart keeps cat (item ∷ []) [] 0 cat (item ∷ []) (heard-nothing answer lacks apart cat (item ∷ [])) (inl now)
+  one_waits keeps cat item (inr next) = good_between answer lacks apart keeps cat (item ∷ []) [] 0 cat (item ∷ []) (heard-nothing answer lacks apart cat (item ∷ [])) (inr next)
 
   -- before anything is said
-  pub none_good : (keeps : C → Type 0) (torn : C → I → Type 0) (cat : C) (items : List I) → keeps cat → IsGood answer lacks keeps torn cat items []
-  none_good keeps torn cat items here = good_between answer lacks apart keeps torn cat items [] 0 cat items (heard-nothing answer lacks apart cat items) (kept_now answer lacks apart keeps torn cat items [] here)
+  pub none_good : (keeps : C → Type 0) (cat : C) (items : List I) → keeps cat → IsGood answer lacks keeps cat items []
+  none_good keeps cat items here = good_between answer lacks apart keeps cat items [] 0 cat items (heard-nothing answer lacks apart cat items) (kept_now answer lacks apart keeps cat items here)
 
   -- all of the first items are answered, and then all others
   pub answered_then : (cat : C) (items others : List I) (said more : List ℕ) (mid last : C) → AllAnswered answer lacks cat items said mid → AllAnswered answer lacks mid others more last → AllAnswered answer lacks cat (items ++ others) (said ++ more) last
@@ -41,15 +40,15 @@ module _ {C I : Type 0} (answer : Answer C I) (lacks : I → Bool) (apart : AreA
   pub answered_fair : (cat : C) (items : List I) (said : List ℕ) (last : C) → AllAnswered answer lacks cat items said last → IsFair answer lacks cat items said
   answered_fair cat items said last all = rw all refl
 
-  module _ (means : List ℕ → C → Type 0) (torn : List ℕ → C → I → Type 0) (image said before : List ℕ) where
+  module _ (means : List ℕ → C → Type 0) (image said before : List ℕ) where
     -- more items come
-    pub moment_more : (cat : C) (items others : List I) → IsGoodMoment answer lacks means torn cat items before image said → IsGoodMoment answer lacks means torn cat (items ++ others) before image said
-    moment_more cat items others good = (good.0, good.1, good_more answer lacks apart (means image) (torn image) cat items others good.0 good.2)
+    pub moment_more : (cat : C) (items others : List I) → IsGoodMoment answer lacks means cat items before image said → IsGoodMoment answer lacks means cat (items ++ others) before image said
+    moment_more cat items others good = (good.0, good.1, good_more answer lacks apart (means image) cat items others good.0 good.2)
 
     -- a moment after all of the first items are answered
-    pub moment_then : (cat : C) (items others : List I) (gained middle : List ℕ) (mid : C) → AllAnswered answer lacks cat items gained mid → middle ≡ before ++ gained → IsGoodMoment answer lacks means torn mid others middle image said → IsGoodMoment answer lacks means torn cat (items ++ others) before image said
+    pub moment_then : (cat : C) (items others : List I) (gained middle : List ℕ) (mid : C) → AllAnswered answer lacks cat items gained mid → middle ≡ before ++ gained → IsGoodMoment answer lacks means mid others middle image said → IsGoodMoment answer lacks means cat (items ++ others) before image said
     moment_then cat items others gained middle mid first here good = (
       gained ++ good.0,
       good.1 ∙ ap (λ (l : List ℕ). l ++ good.0) here ∙ append_assoc before gained good.0,
-      good_then answer lacks apart (means image) (torn image) cat items others gained good.0 (length items) mid first good.2,
+      good_then answer lacks apart (means image) cat items others gained good.0 (length items) mid first good.2,
     )

@@ -1,0 +1,4 @@
+pub mod ReplyLemmas
+pub mod ApartLemmas
+pub mod RoutineLemmas
+pub mod ReadingLemmas

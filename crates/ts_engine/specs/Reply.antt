@@ -1,0 +1,41 @@
+-- The texts of replies: lines, each ended by a line feed, of which the last begins with `ok` or `error`.
+use Rattle.std.specs.Prelude.{ℕ, ℤ, List, ◌++◌, length, codes, decimal, flat_map}
+use Rattle.ts_base.specs.StampText.{stamp_text}
+use Rattle.ts_base.specs.declared.refusal.Refusal.{Refusal}
+use Rattle.ts_base.specs.Refusal.{refusal_code, refusal_name}
+use Rattle.ts_row.specs.declared.kind.Column.{Column}
+use Rattle.ts_row.specs.Row.{Values}
+use Rattle.ts_row.specs.Printed.{row_text, quoted}
+
+-- `ok`, and the same before a count, two counts or a stamp
+unfoldable pub ok_line : List ℕ
+ok_line = codes "ok\n"
+
+unfoldable pub count_line : ℕ → List ℕ
+count_line n = codes "ok " ++ decimal n ++ codes "\n"
+
+unfoldable pub counts_line : ℕ → ℕ → List ℕ
+counts_line n m = codes "ok " ++ decimal n ++ codes " " ++ decimal m ++ codes "\n"
+
+unfoldable pub stamp_line : ℤ → List ℕ
+stamp_line stamp = codes "ok " ++ stamp_text stamp ++ codes "\n"
+
+-- `error`, the number of a refusal and its name
+unfoldable pub refusal_line : Refusal → List ℕ
+refusal_line refusal = codes "error " ++ decimal (refusal_code refusal) ++ codes " " ++ refusal_name refusal ++ codes "\n"
+
+-- an element: its stamp and its values
+unfoldable pub element_line : List Column → ℤ × Values → List ℕ
+element_line columns e = stamp_text e.0 ++ codes " " ++ row_text columns e.1 ++ codes "\n"
+
+-- elements, one a line, and how many they are
+unfoldable pub elements_text : List Column → List (ℤ × Values) → List ℕ
+elements_text columns es = flat_map (element_line columns) es ++ count_line (length es)
+
+-- an irregular series in a list: its key in quotes, a quote in it twice, and how many elements it has
+unfoldable pub series_line : List ℕ × ℕ → List ℕ
+series_line s = codes "'" ++ flat_map quoted s.0 ++ codes "' irregular " ++ decimal s.1 ++ codes "\n"
+
+-- series with the numbers of their elements, one a line, and how many they are
+unfoldable pub series_text : List (List ℕ × ℕ) → List ℕ
+series_text ss = flat_map series_line ss ++ count_line (length ss)
