@@ -2,8 +2,11 @@ pub mod NumberLemmas
 pub mod PartsLemmas
 pub mod PageLemmas
 pub mod VolumeLemmas
+pub mod MakingLemmas
+pub mod MeansLemmas
 pub mod StoreLemmas
 pub mod InsertLemmas
+pub mod OpenLemmas
 pub mod RunLemmas
 pub mod RanLemmas
 pub mod PullLemmas

@@ -5,7 +5,7 @@ use Rattle.std.specs.Int.{w16, w32, w64, to_be_bytes, from_be_bytes, cast_unsign
 use Rattle.std.proofs.lemmas.Int.{to_z-of_z, ints}
 use Rattle.std.proofs.Math.Facts.{Fits-of_z}
 use Rattle.std.proofs.lemmas.Nat.{from_be_bytes-to_be_bytes_2, from_be_bytes-to_be_bytes_4, from_be_bytes-to_be_bytes_8}
-use Rattle.std.proofs.lemmas.List.{drop-replicate, replicate-append-replicate, take_at, drop_at}
+use Rattle.std.proofs.lemmas.List.{drop-replicate, take_at, drop_at}
 use Rattle.std.proofs.lemmas.Grind.{flat_map-append}
 use Rattle.std.proofs.lemmas.List.Concat.{flat_map-cons}
 use Rattle.std.proofs.Math.Seq.{take-append_seam}
@@ -13,7 +13,7 @@ use Rattle.ts_base.specs.Moment.{IsStamp, stamp_if_any}
 use Rattle.ts_disk.specs.Device.{overwritten}
 use Rattle.ts_shell.specs.declared.reading.Reading.{Reading}
 use Rattle.ts_shell.specs.Readings.{IsReading, IsValue, AreReadings}
-use Rattle.ts_shell.specs.SeriesPage.{value_bytes, cell_bytes, head_bytes, page_of, Holds}
+use Rattle.ts_shell.specs.SeriesPage.{value_bytes, cell_bytes, series_head, page_of, Holds}
 use Rattle.ts_shell.specs.Decoding.{units_in, value_in}
 
 pub length-value_bytes : (v : Option ℤ) → length (value_bytes v) ≡ 5
@@ -30,9 +30,8 @@ length-cells (r ∷ rest) =
     let here : flat_map cell_bytes (r ∷ rest) ≡ cell_bytes r ++ flat_map cell_bytes rest = flat_map-cons cell_bytes r rest in
     omega (arith, ap length here, length-append (cell_bytes r) (flat_map cell_bytes rest), length-cell_bytes r, length-cells rest)
 
-pub length-head_bytes : (n : ℕ) → length (head_bytes n) ≡ 32
-unfolding head_bytes
-length-head_bytes n = refl
+pub length-series_head : (n : ℕ) → length (series_head n) ≡ 32
+length-series_head n = refl
 
 -- the value's bytes give the value back
 value_back : (front : List ℕ) (v : Option ℤ) → IsValue v → length front ≡ 9 → value_in (front ++ value_bytes v) ≡ v
@@ -71,24 +70,24 @@ unfolding page_of
 cell_at before after r at is =
     let readings : List Reading = before ++ r ∷ after in
     let zeros : List ℕ = replicate (4064 - 14 * length readings) 0 in
-    let front : List ℕ = head_bytes (length readings) ++ flat_map cell_bytes before in
+    let front : List ℕ = series_head (length readings) ++ flat_map cell_bytes before in
     let rest : List ℕ = flat_map cell_bytes after ++ zeros in
     let cells : flat_map cell_bytes readings ≡ flat_map cell_bytes before ++ (cell_bytes r ++ flat_map cell_bytes after) =
     flat_map-append cell_bytes before (r ∷ after) ∙ ap (λ (l : List ℕ). flat_map cell_bytes before ++ l) (flat_map-cons cell_bytes r after) in
-    let whole : head_bytes (length readings) ++ flat_map cell_bytes readings ++ zeros ≡ front ++ (cell_bytes r ++ rest) =
-    ap (λ (l : List ℕ). head_bytes (length readings) ++ l ++ zeros) cells
+    let whole : series_head (length readings) ++ flat_map cell_bytes readings ++ zeros ≡ front ++ (cell_bytes r ++ rest) =
+    ap (λ (l : List ℕ). series_head (length readings) ++ l ++ zeros) cells
     ∙ simp append_assoc in
-    let size : length front ≡ at = omega (arith, is, length-append (head_bytes (length readings)) (flat_map cell_bytes before), length-head_bytes (length readings), length-cells before) in
+    let size : length front ≡ at = omega (arith, is, length-append (series_head (length readings)) (flat_map cell_bytes before), length-series_head (length readings), length-cells before) in
     ap (λ (l : List ℕ). take 14 (drop at l)) whole ∙ ap (take 14) (drop_at front (cell_bytes r ++ rest) at size) ∙ take_at (cell_bytes r) rest 14 (length-cell_bytes r)
 
 -- the count in the head
 pub count_at : (readings : List Reading) → length readings ≤ 290 → from_be_bytes w16 (take 2 (drop 3 (page_of readings))) ≡ length readings
-unfolding page_of head_bytes
+unfolding page_of
 count_at readings fit = from_be_bytes-to_be_bytes_2 (length readings) (omega arith)
 
 -- the first byte of a page that holds readings
 pub kind_at : (readings : List Reading) → get_or (page_of readings) 0 0 ≡ 2
-unfolding page_of head_bytes
+unfolding page_of
 kind_at readings = refl
 
 -- one of a list, with those before it
@@ -110,15 +109,6 @@ AreReadings-front (x ∷ xs) ys a = (a.0, AreReadings-front xs ys a.1)
 pub AreReadings-at : (xs : List Reading) (r : Reading) (ys : List Reading) → AreReadings (xs ++ r ∷ ys) → IsReading r
 AreReadings-at [] r ys a = a.0
 AreReadings-at (x ∷ xs) r ys a = AreReadings-at xs r ys a.1
-
--- a head and the zeros behind it, from the bytes that are written
-pub head_and_zeros : (n size : ℕ) → size ≡ 4096 → (2 ∷ 0 ∷ 0 ∷ to_be_bytes w16 n) ++ replicate (size - 5) 0 ≡ head_bytes n ++ replicate 4064 0
-unfolding head_bytes
-head_and_zeros n size is =
-    let front : List ℕ = 2 ∷ 0 ∷ 0 ∷ to_be_bytes w16 n in
-    let zeros : replicate {A = ℕ} (size - 5) 0 ≡ replicate {A = ℕ} 27 0 ++ replicate {A = ℕ} 4064 0 =
-    ap (λ (k : ℕ). replicate {A = ℕ} k 0) (let e : size - 5 ≡ 27 + 4064 = omega arith in e) ∙ sym (replicate-append-replicate 27 4064 0) in
-    ap (λ (l : List ℕ). front ++ l) zeros
 
 -- the stamp of a number is that number
 stamp_is : (b d : Bool) (t s : ℤ) → cond b None (cond d None (Some t)) ≡ Some s → s ≡ t

@@ -1,7 +1,9 @@
 -- What a volume means for as long as it has one series on one page.
-use Rattle.std.specs.Prelude.{◌≡◌, ℕ, ◌+◌, ◌-◌, ◌*◌, ◌≤◌, List, [], ◌∷◌, ◌++◌, length, take, drop, replicate, codes}
+use Rattle.std.specs.Prelude.{◌≡◌, ◌≢◌, ◌⊎◌, ℕ, ◌+◌, ◌-◌, ◌*◌, ◌≤◌, false, Some, List, [], ◌∷◌, ◌++◌, length, take, replicate, codes}
 use Rattle.std.specs.Int.{w32, to_be_bytes}
 use Rattle.ts_disk.specs.Device.{overwritten}
+use Rattle.ts_journal.specs.Entry.{Entry, is_region}
+use Rattle.ts_journal.specs.Journal.{records, pages}
 use Rattle.ts_shell.specs.declared.reading.Reading.{Reading}
 use Rattle.ts_shell.specs.SeriesPage.{IsSeriesPage}
 
@@ -11,7 +13,7 @@ page_with front = front ++ replicate (4096 - length front) 0
 
 -- the header's bytes: a magic word, the format, the number of element pages
 abbrev pub header_front : ℕ → List ℕ
-header_front pages = codes "TSVOLUME" ++ 1 ∷ to_be_bytes w32 pages
+header_front count = codes "TSVOLUME" ++ 1 ∷ to_be_bytes w32 count
 
 -- a name in its 33 bytes: its length, its bytes, zeros
 abbrev pub name_bytes : List ℕ → List ℕ
@@ -29,16 +31,17 @@ container_front = 1 ∷ (name_bytes (codes "c1") ++ 0 ∷ to_be_bytes w32 1)
 abbrev pub series_front : List ℕ
 series_front = 2 ∷ 1 ∷ 120 ∷ []
 
--- page number n of a volume's bytes
-unfoldable pub page_at : ℕ → List ℕ → List ℕ
-page_at n bytes = take 4096 (drop (4096 * n) bytes)
+-- a page outside the journal's region, in a volume of so many bytes
+pub record IsPlace (number size : ℕ) : Type 0 where
+  pub outside : is_region number ≡ false
+  pub within : 4096 * number + 4096 ≤ size
 
 -- the four pages that `init` writes are there
-pub record HasFixedPages (pages : ℕ) (bytes : List ℕ) : Type 0 where
-  pub header : page_at 0 bytes ≡ page_with (header_front pages)
-  pub row_type : page_at 257 bytes ≡ page_with row_type_front
-  pub container : page_at 833 bytes ≡ page_with container_front
-  pub series : page_at 834 bytes ≡ page_with series_front
+pub record HasFixedPages (count : ℕ) (at : ℕ → List ℕ) : Type 0 where
+  pub header : at 0 ≡ page_with (header_front count)
+  pub row_type : at 257 ≡ page_with row_type_front
+  pub container : at 833 ≡ page_with container_front
+  pub series : at 834 ≡ page_with series_front
 
 -- the bytes with the three definitions written
 abbrev pub with_definitions : List ℕ → List ℕ
@@ -47,19 +50,32 @@ with_definitions bytes =
 
 -- all bytes of an empty volume
 unfoldable pub first_bytes : ℕ → List ℕ
-first_bytes pages = overwritten 0 (header_front pages) (with_definitions (replicate (4096 * (930 + pages)) 0))
+first_bytes count = overwritten 0 (header_front count) (with_definitions (replicate (4096 * (930 + count)) 0))
 
--- a volume of 930 pages and 1 to 65536 element pages, of which the first is the series' page
+-- A volume of 930 pages and 1 to 65536 element pages, of which the first is the series' page. Its pages are those that it has
+-- by its journal, none of whose records is malformed.
 pub record Means (bytes : List ℕ) (readings : List Reading) : Type 0 where
-  pub pages : ℕ
-  pub some : 1 ≤ pages
-  pub limit : pages ≤ 65536
-  pub size : length bytes ≡ 4096 * (930 + pages)
-  pub fixed : HasFixedPages pages bytes
-  pub elements : IsSeriesPage (page_at 930 bytes) readings
+  pub count : ℕ
+  pub some : 1 ≤ count
+  pub limit : count ≤ 65536
+  pub size : length bytes ≡ 4096 * (930 + count)
+  pub sound : (rs : List (List Entry)) × (records bytes ≡ Some rs)
+  pub fixed : HasFixedPages count (pages bytes)
+  pub elements : IsSeriesPage (pages bytes 930) readings
 
--- the bytes of a volume that means the readings, but for any bytes in the series' page
-abbrev pub IsTorn : List ℕ → List Reading → Type 0
-IsTorn bytes readings =
-    (whole : List ℕ) × Means whole readings × (length bytes ≡ length whole)
-    × (take 3809280 bytes ≡ take 3809280 whole) × (drop 3813376 bytes ≡ drop 3813376 whole)
+-- the same page; or two pages with the head of a free one, behind which nothing counts
+abbrev pub SamePage : List ℕ → List ℕ → Type 0
+SamePage wanted page = (page ≡ wanted) ⊎ ((take 32 wanted ≡ replicate 32 0) × (take 32 page ≡ replicate 32 0))
+
+-- every page but that of the series is the same
+abbrev pub SameOthers : List ℕ → List ℕ → Type 0
+SameOthers entry image = (number : ℕ) → number ≢ 930 → SamePage (pages entry number) (pages image number)
+
+-- an image that means the readings, and whose other pages are those of the entry
+pub record MeansFrom (entry image : List ℕ) (readings : List Reading) : Type 0 where
+  pub means : Means image readings
+  pub others : SameOthers entry image
+
+-- an image that means the empty list, or means none
+abbrev pub IsEmptyOrNone : List ℕ → Type 0
+IsEmptyOrNone image = (readings : List Reading) → Means image readings → readings ≡ []

@@ -1,11 +1,13 @@
 pub mod Readings
 pub mod SeriesPage
 pub mod FirstVolume
+pub mod Making
 pub mod Words
 pub mod Items
 pub mod Answer
 pub mod Decoding
-pub mod Undisturbed
+pub mod Quiet
 pub mod Run
 pub mod Stored
+pub mod Opening
 pub mod Top

@@ -1,5 +1,5 @@
 -- A run over one series: what it keeps, what it says, and what a stop within it leaves.
-use Rattle.std.specs.Prelude.{◌≡◌, ℕ, ◌+◌, ◌≤◌, ◌<◌, List, [], ◌∷◌, ◌++◌, length, insert, Some, codes, Bool, IsTrue, Result, Err, OnOk, OnErr}
+use Rattle.std.specs.Prelude.{◌≡◌, ℕ, ◌≤◌, ◌<◌, List, [], ◌∷◌, ◌++◌, length, insert, Some, codes, Bool, IsTrue, Result, Err, OnOk, OnErr}
 use Rattle.ts_disk.specs.Device.{Device, Only, LeavesOnly, Rose}
 use Rattle.ts_replies.specs.Acknowledged.{IsFront, IsFair, AllAnswered}
 use Rattle.ts_replies.specs.Good.{IsGoodMoment}
@@ -14,22 +14,18 @@ use Rattle.ts_shell.specs.Readings.{IsReading, placed}
 use Rattle.ts_shell.specs.declared.fault.RunFault.{RunFault}
 use Rattle.ts_shell.specs.declared.fault.RunFault.TheVariants.{Disk, Output}
 use Rattle.ts_shell.specs.Stored.{Kept}
-use Rattle.ts_shell.specs.FirstVolume.{Means, IsTorn}
+use Rattle.ts_shell.specs.FirstVolume.{MeansFrom}
 use Rattle.ts_shell.specs.Answer.{answer, ok_line, lacks}
 
--- nothing is pending, and the bytes held mean the readings
-pub record Stands (v : Device) (readings : List Reading) : Type 0 where
-  pub means : Means v.held readings
+-- nothing is pending, and the bytes held mean the readings, with the other pages of the entry
+pub record Stands (entry : List ℕ) (v : Device) (readings : List Reading) : Type 0 where
+  pub means : MeansFrom entry v.held readings
   pub only : Only v.held v.images
 
--- while an accepted item is in work, the series' page may be torn
-abbrev pub torn : List ℕ → List Reading → Item → Type 0
-torn image readings item = IsTorn image readings × (length (answer readings item).1 ≡ length readings + 1)
-
 -- An image and the bytes said by then: these are replies from `before` on, and the image means the readings after exactly
--- the acknowledged items, or these and the next, or is torn by the next.
-abbrev pub IsGoodRun : List Reading → List Item → List ℕ → List ℕ → List ℕ → Type 0
-IsGoodRun readings items before image said = IsGoodMoment answer lacks Means torn readings items before image said
+-- the acknowledged items, or these and the next, with the other pages of the entry.
+abbrev pub IsGoodRun : List ℕ → List Reading → List Item → List ℕ → List ℕ → List ℕ → Type 0
+IsGoodRun entry readings items before image said = IsGoodMoment answer lacks (MeansFrom entry) readings items before image said
 
 -- what the number of an item is
 abbrev pub IsItem : Item → Type 0
@@ -59,12 +55,12 @@ abbrev pub SaysFairly : List Item → List Reading → Device → Device → Typ
 SaysFairly items old v w = (gained : List ℕ) × (w.said ≡ v.said ++ gained) × IsFair answer lacks old items gained
 
 -- What carrying out one item does, from the readings `old` to `new`.
-pub record Carried (tells : Bool) (old new : List Reading) (item : Item) (result : Result Unit RunFault) (v w : Device) : Type 0 where
+pub record Carried (entry : List ℕ) (tells : Bool) (old new : List Reading) (item : Item) (result : Result Unit RunFault) (v w : Device) : Type 0 where
   pub readings : OnOk result (new ≡ (answer old item).1)
   -- the answer is said, and the volume stands at the next readings
-  pub ok : OnOk result (IsTrue tells → Stands v old → Stands w (answer old item).1 × (w.said ≡ v.said ++ (answer old item).0))
-  pub err : OnErr result (IsTrue tells → Stands v old → SaidPart old item v.said w.said)
-  pub moments : IsTrue tells → Stands v old → LeavesOnly v w (IsGoodRun old (item ∷ []) v.said)
+  pub ok : OnOk result (IsTrue tells → Stands entry v old → Stands entry w (answer old item).1 × (w.said ≡ v.said ++ (answer old item).0))
+  pub err : OnErr result (IsTrue tells → Stands entry v old → SaidPart old item v.said w.said)
+  pub moments : IsTrue tells → Stands entry v old → LeavesOnly v w (IsGoodRun entry old (item ∷ []) v.said)
   pub disk : result ≡ Err Disk → Rose v.faults w.faults
   pub output : result ≡ Err Output → Rose v.say_faults w.say_faults
   pub kept : Kept v w
@@ -72,11 +68,11 @@ pub record Carried (tells : Bool) (old new : List Reading) (item : Item) (result
   pub syncs : IsTrue tells → v.syncs ≤ w.syncs
 
 -- What carrying out items in their order does, from the readings `old` to `new`.
-pub record Ran (tells : Bool) (items : List Item) (old new : List Reading) (result : Result Unit RunFault) (v w : Device) : Type 0 where
+pub record Ran (entry : List ℕ) (tells : Bool) (items : List Item) (old new : List Reading) (result : Result Unit RunFault) (v w : Device) : Type 0 where
   -- each item is answered, and the volume stands at the readings after them
-  pub ok : OnOk result (IsTrue tells → Stands v old → (gained : List ℕ) × (w.said ≡ v.said ++ gained) × AllAnswered answer lacks old items gained new × Stands w new)
-  pub fair : IsTrue tells → Stands v old → SaysFairly items old v w
-  pub moments : IsTrue tells → Stands v old → LeavesOnly v w (IsGoodRun old items v.said)
+  pub ok : OnOk result (IsTrue tells → Stands entry v old → (gained : List ℕ) × (w.said ≡ v.said ++ gained) × AllAnswered answer lacks old items gained new × Stands entry w new)
+  pub fair : IsTrue tells → Stands entry v old → SaysFairly items old v w
+  pub moments : IsTrue tells → Stands entry v old → LeavesOnly v w (IsGoodRun entry old items v.said)
   pub disk : result ≡ Err Disk → Rose v.faults w.faults
   pub output : result ≡ Err Output → Rose v.say_faults w.say_faults
   pub kept : Kept v w

@@ -1,7 +1,9 @@
 -- The page of the one series, byte for byte.
 use Rattle.std.specs.Prelude.{◌≡◌, ◌⊎◌, ℕ, ◌-◌, ◌*◌, ◌≤◌, ℤ, List, [], ◌∷◌, ◌++◌, length, replicate, slice_index, Option, Some, None}
 use Rattle.std.specs.List.{flat_map}
-use Rattle.std.specs.Int.{w16, w32, w64, to_be_bytes, cast_unsigned}
+use Rattle.std.specs.Int.{w32, w64, to_be_bytes, cast_unsigned}
+use Rattle.ts_page.specs.declared.page.Head.TheVariants.{Irregular}
+use Rattle.ts_page.specs.Head.{head_bytes}
 use Rattle.ts_shell.specs.declared.reading.Reading.{Reading}
 use Rattle.ts_shell.specs.Readings.{AreReadings, IsRising}
 
@@ -14,13 +16,13 @@ value_bytes (Some v) = 1 ∷ to_be_bytes w32 (cast_unsigned w32 v)
 abbrev pub cell_bytes : Reading → List ℕ
 cell_bytes r = 1 ∷ (to_be_bytes w64 (cast_unsigned w64 r.stamp) ++ value_bytes r.value)
 
--- the head of an irregular page of series slot 0 with so many elements: kind, slot, count, base, zeros
-unfoldable pub head_bytes : ℕ → List ℕ
-head_bytes n = 2 ∷ 0 ∷ 0 ∷ (to_be_bytes w16 n ++ replicate 27 0)
+-- the head of the series' page: an irregular page of series slot 0 with so many elements
+abbrev pub series_head : ℕ → List ℕ
+series_head n = head_bytes (Irregular 0 n)
 
 -- the page of these readings; the cells behind them and the bytes behind the last cell are zero
 unfoldable pub page_of : List Reading → List ℕ
-page_of readings = head_bytes (length readings) ++ flat_map cell_bytes readings ++ replicate (4064 - 14 * length readings) 0
+page_of readings = series_head (length readings) ++ flat_map cell_bytes readings ++ replicate (4064 - 14 * length readings) 0
 
 -- one to 290 readings with rising stamps stand on the page
 pub record Holds (page : List ℕ) (readings : List Reading) : Type 0 where

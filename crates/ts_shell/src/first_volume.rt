@@ -1,19 +1,26 @@
 // The volume for as long as it has one series on one page: four pages that `init` writes, and the series' page.
-ghost use Rattle.std.specs.Prelude.{◌≡◌, ◌≢◌, ◌+◌, ◌*◌, ◌≤◌, ◌↔◌, [], ℕ, List, length, replicate, vec_capacity, IsTrue, IsErr, OnOk, IfOk, IfSome, IfNone};
+ghost use Rattle.std.specs.Prelude.{◌≡◌, ◌≢◌, ◌+◌, ◌-◌, ◌*◌, ◌<◌, ◌≤◌, ◌↔◌, [], ℕ, List, length, replicate, vec_capacity, IsTrue, IsErr, OnOk, IfOk};
 ghost use Rattle.ts_disk.specs.Device.{Only, Rose, overwritten};
+ghost use Rattle.ts_journal.specs.Entry.{content};
+ghost use Rattle.ts_journal.specs.Journal.{IsVolumeSize, StandsOver, own_page, pages};
+ghost use Rattle.ts_journal.specs.Moment.{OnlyReads};
 ghost use Rattle.ts_shell.specs.declared.reading.Reading.{Reading};
-ghost use Rattle.ts_shell.specs.FirstVolume.{Means, HasFixedPages, first_bytes, with_definitions, header_front, row_type_front, container_front, series_front, page_with, page_at};
-ghost use Rattle.ts_shell.specs.Undisturbed.{Undisturbed, Quiet};
+ghost use Rattle.ts_shell.specs.FirstVolume.{Means, HasFixedPages, IsPlace, first_bytes, with_definitions, header_front, row_type_front, container_front, series_front, page_with};
+ghost use Rattle.ts_shell.specs.Making.{WritesAside, EmptyFrom};
+ghost use Rattle.ts_shell.specs.Quiet.{Quiet};
 
 use crate::reading::Reading;
 use crate::series_page::read_page;
 use ts_disk::{Failed, Site, Volume};
+use ts_journal::Change;
+use ts_page::Page;
+use ts_recover::Replayed;
 
-/// Bytes of a page.
-pub(crate) const PAGE: usize = 4096;
+/// The number of the first element page.
+const FIRST_ELEMENT_PAGE: u32 = 930;
 
 /// The number of the series' page.
-pub(crate) const SERIES_PAGE: u64 = 930;
+pub(crate) const SERIES_PAGE: u32 = 930;
 
 /// Makes an empty store with so many element pages.
 pub(crate) fn make<S: Site>(site: &mut S, pages: u32) -> Result<(), Failed>
@@ -25,6 +32,8 @@ pub(crate) fn make<S: Site>(site: &mut S, pages: u32) -> Result<(), Failed>
     ensures size { OnOk result ((S.device site.new).size ≡ 4096 * (930 + pages)) }
     ensures durable { OnOk result (Only (S.device site.new).held (S.device site.new).images) }
     ensures quiet { Quiet (S.device site.old) (S.device site.new) }
+    // Where a sync answered Ok, two calls had answered Ok by then.
+    ensures moments { IsTrue S.tells → (S.device site.old).syncs < (S.device site.new).syncs → EmptyFrom ((S.device site.old).clock + 2) (S.device site.old) (S.device site.new) }
     ensures cause { IsErr result → Rose (S.device site.old).faults (S.device site.new).faults }
 {
     site.resize(4096 * (930 + pages as u64))?;
@@ -41,6 +50,7 @@ fn write_definitions<S: Site>(site: &mut S) -> Result<(), Failed>
     ensures size { (S.device site.new).size ≡ (S.device site.old).size }
     ensures quiet { Quiet (S.device site.old) (S.device site.new) }
     ensures written { OnOk result (IsTrue S.tells → (S.device site.new).held ≡ with_definitions (S.device site.old).held) }
+    ensures aside { WritesAside (S.device site.old) (S.device site.new) }
     ensures cause { IsErr result → Rose (S.device site.old).faults (S.device site.new).faults }
 {
     write_front(site, 257, row_type())?;
@@ -49,105 +59,126 @@ fn write_definitions<S: Site>(site: &mut S) -> Result<(), Failed>
     Ok(())
 }
 
-/// Reads what a volume means into a list that has room for it, and tells whether it means a list.
+/// Reads what an opened volume means into a list that has room for it, and tells whether it means a list. Each page is read
+/// once, by what the journal puts over it or else from its place.
 pub(crate) fn read_volume<S: Site>(
     site: &mut S,
-    page: &mut [u8],
-    scratch: &mut [u8],
+    replayed: &Replayed,
     readings: &mut Vec<Reading>,
 ) -> Result<bool, Failed>
-    requires page { length page.old ≡ 4096 }
-    requires scratch { length scratch.old ≡ 4096 }
+    requires size { IsVolumeSize (S.device site.old).size }
+    requires count { (S.device site.old).size ≡ 4096 * replayed.now.pages }
+    requires stands { IsTrue S.tells → StandsOver replayed.now.journal replayed.now.overlay.entries (S.device site.old).held }
     requires empty { readings.old.items ≡ [] }
     requires room { 290 ≤ vec_capacity readings.old }
-    ensures undisturbed { Undisturbed (S.device site.old) (S.device site.new) }
     ensures yes { IfOk result (λ is. IsTrue S.tells → IsTrue is → Means (S.device site.old).held readings.new.items) }
     // Where the volume means some list, it is found.
     ensures found { IfOk result (λ is. IsTrue S.tells → (wanted : List Reading) → Means (S.device site.old).held wanted → IsTrue is × (readings.new.items ≡ wanted)) }
-    ensures size { IfOk result (λ is. IsTrue is → 4096 * 931 ≤ (S.device site.new).size) }
     ensures fit { length readings.new.items ≤ 290 }
     ensures capacity { vec_capacity readings.new ≡ vec_capacity readings.old }
-    ensures page { length page.new ≡ 4096 }
-    ensures scratch { length scratch.new ≡ 4096 }
     ensures cause { IsErr result → Rose (S.device site.old).faults (S.device site.new).faults }
+    ensures others { OnlyReads S.tells (S.device site.old) (S.device site.new) }
 {
-    let Some(pages) = element_pages(site.len()) else {
-        return Ok(false);
-    };
-    if !has_fixed_pages(site, pages, page)? {
+    if !has_fixed_pages(site, replayed)? {
         return Ok(false);
     }
-    read_page_at(site, SERIES_PAGE, page)?;
-    Ok(read_page(page, scratch, readings))
+    let page = read_page_at(site, replayed, SERIES_PAGE)?;
+    Ok(read_page(&page.bytes, readings))
 }
 
 // Whether the four pages that `init` writes are there.
-fn has_fixed_pages<S: Site>(site: &mut S, pages: u32, page: &mut [u8]) -> Result<bool, Failed>
-    requires page { length page.old ≡ 4096 }
-    requires size { 4096 * 931 ≤ (S.device site.old).size }
-    ensures undisturbed { Undisturbed (S.device site.old) (S.device site.new) }
-    ensures is { IfOk result (λ is. IsTrue S.tells → (IsTrue is ↔ HasFixedPages pages (S.device site.old).held)) }
-    ensures page { length page.new ≡ 4096 }
+fn has_fixed_pages<S: Site>(site: &mut S, replayed: &Replayed) -> Result<bool, Failed>
+    requires size { IsVolumeSize (S.device site.old).size }
+    requires count { (S.device site.old).size ≡ 4096 * replayed.now.pages }
+    requires stands { IsTrue S.tells → StandsOver replayed.now.journal replayed.now.overlay.entries (S.device site.old).held }
+    ensures is { IfOk result (λ is. IsTrue S.tells → (IsTrue is ↔ HasFixedPages (replayed.now.pages - 930) (pages (S.device site.old).held))) }
     ensures cause { IsErr result → Rose (S.device site.old).faults (S.device site.new).faults }
+    ensures others { OnlyReads S.tells (S.device site.old) (S.device site.new) }
 {
-    if !has_pages(site, 0, &header(pages), 257, row_type(), page)? {
+    let front = header(replayed.pages - FIRST_ELEMENT_PAGE);
+    if !has_pages(site, replayed, 0, &front, 257, row_type())? {
         return Ok(false);
     }
-    has_pages(site, 833, container(), 834, series(), page)
+    has_pages(site, replayed, 833, container(), 834, series())
 }
 
 // Whether two pages begin so and are zero behind that.
 fn has_pages<S: Site>(
     site: &mut S,
-    first: u64,
+    replayed: &Replayed,
+    first: u32,
     first_front: &[u8],
-    second: u64,
+    second: u32,
     second_front: &[u8],
-    page: &mut [u8],
 ) -> Result<bool, Failed>
-    requires page { length page.old ≡ 4096 }
-    requires first { 4096 * first + 4096 ≤ (S.device site.old).size }
-    requires second { 4096 * second + 4096 ≤ (S.device site.old).size }
+    requires stands { IsTrue S.tells → StandsOver replayed.now.journal replayed.now.overlay.entries (S.device site.old).held }
+    requires first { IsPlace first (S.device site.old).size }
+    requires second { IsPlace second (S.device site.old).size }
     requires first_front { length first_front.now ≤ 4096 }
     requires second_front { length second_front.now ≤ 4096 }
-    ensures undisturbed { Undisturbed (S.device site.old) (S.device site.new) }
-    ensures is { IfOk result (λ is. IsTrue S.tells → (IsTrue is ↔ ((page_at first (S.device site.old).held ≡ page_with first_front.now) × (page_at second (S.device site.old).held ≡ page_with second_front.now)))) }
-    ensures page { length page.new ≡ 4096 }
+    ensures is { IfOk result (λ is. IsTrue S.tells → (IsTrue is ↔ ((pages (S.device site.old).held first ≡ page_with first_front.now) × (pages (S.device site.old).held second ≡ page_with second_front.now)))) }
     ensures cause { IsErr result → Rose (S.device site.old).faults (S.device site.new).faults }
+    ensures others { OnlyReads S.tells (S.device site.old) (S.device site.new) }
 {
-    if !has_page(site, first, first_front, page)? {
+    if !has_page(site, replayed, first, first_front)? {
         return Ok(false);
     }
-    has_page(site, second, second_front, page)
+    has_page(site, replayed, second, second_front)
 }
 
 // Whether a page begins so and is zero behind that.
-fn has_page<S: Site>(site: &mut S, no: u64, front: &[u8], page: &mut [u8]) -> Result<bool, Failed>
-    requires page { length page.old ≡ 4096 }
-    requires size { 4096 * no + 4096 ≤ (S.device site.old).size }
+fn has_page<S: Site>(
+    site: &mut S,
+    replayed: &Replayed,
+    no: u32,
+    front: &[u8],
+) -> Result<bool, Failed>
+    requires stands { IsTrue S.tells → StandsOver replayed.now.journal replayed.now.overlay.entries (S.device site.old).held }
+    requires place { IsPlace no (S.device site.old).size }
     requires front { length front.now ≤ 4096 }
-    ensures undisturbed { Undisturbed (S.device site.old) (S.device site.new) }
-    ensures is { IfOk result (λ is. IsTrue S.tells → (IsTrue is ↔ (page_at no (S.device site.old).held ≡ page_with front.now))) }
-    ensures page { length page.new ≡ 4096 }
+    ensures is { IfOk result (λ is. IsTrue S.tells → (IsTrue is ↔ (pages (S.device site.old).held no ≡ page_with front.now))) }
     ensures cause { IsErr result → Rose (S.device site.old).faults (S.device site.new).faults }
+    ensures others { OnlyReads S.tells (S.device site.old) (S.device site.new) }
 {
-    read_page_at(site, no, page)?;
-    Ok(is_page_with(page, front))
+    let page = read_page_at(site, replayed, no)?;
+    Ok(is_page_with(&page.bytes, front))
 }
 
-// Reads a page of a volume.
-#[tactic(auto, unfolding(crate::specs::FirstVolume::page_at))]
-fn read_page_at<S: Site>(site: &mut S, no: u64, page: &mut [u8]) -> Result<(), Failed>
-    requires page { length page.old ≡ 4096 }
-    requires size { 4096 * no + 4096 ≤ (S.device site.old).size }
-    ensures undisturbed { Undisturbed (S.device site.old) (S.device site.new) }
-    ensures read { OnOk result (IsTrue S.tells → page.new ≡ page_at no (S.device site.old).held) }
-    ensures page { length page.new ≡ 4096 }
+// Reads a page of an opened volume.
+fn read_page_at<S: Site>(site: &mut S, replayed: &Replayed, no: u32) -> Result<Page, Failed>
+    requires stands { IsTrue S.tells → StandsOver replayed.now.journal replayed.now.overlay.entries (S.device site.old).held }
+    requires place { IsPlace no (S.device site.old).size }
+    ensures read { IfOk result (λ page. IsTrue S.tells → page.bytes ≡ pages (S.device site.old).held no) }
     ensures cause { IsErr result → Rose (S.device site.old).faults (S.device site.new).faults }
+    ensures others { OnlyReads S.tells (S.device site.old) (S.device site.new) }
+{
+    match replayed.overlay.find(no) {
+        Some(change) => Ok(content(change)),
+        None => read_own_page(site, no),
+    }
+}
+
+// The page that a change leaves; a freed one reads as zeros.
+fn content(change: &Change) -> Page
+    ensures { result.bytes ≡ content change.now }
+{
+    match change {
+        Change::Image(page) => *page,
+        Change::Free => Page::zero(),
+    }
+}
+
+// Reads a page in its place.
+fn read_own_page<S: Site>(site: &mut S, no: u32) -> Result<Page, Failed>
+    requires place { IsPlace no (S.device site.old).size }
+    ensures read { IfOk result (λ page. IsTrue S.tells → page.bytes ≡ own_page (S.device site.old).held no) }
+    ensures cause { IsErr result → Rose (S.device site.old).faults (S.device site.new).faults }
+    ensures others { OnlyReads S.tells (S.device site.old) (S.device site.new) }
 {
     let _len = site.len();
-    site.read_at(4096 * no, page)?;
-    Ok(())
+    let mut page = Page::zero();
+    site.read_at(4096 * no as u64, &mut page.bytes)?;
+    Ok(page)
 }
 
 fn is_page_with(page: &[u8], front: &[u8]) -> bool
@@ -173,26 +204,15 @@ fn are_zero(bytes: &[u8]) -> bool
     true
 }
 
-// The number of element pages of a volume of this length, if it has one.
-fn element_pages(len: u64) -> Option<u32>
-    ensures some { IfSome result (λ pages. (1 ≤ pages) × (pages ≤ 65536) × (len ≡ 4096 * (930 + pages))) }
-    ensures none { IfNone result ((pages : ℕ) → 1 ≤ pages → pages ≤ 65536 → len ≢ 4096 * (930 + pages)) }
-{
-    if len % 4096 != 0 {
-        return None;
-    }
-    let count = len / 4096;
-    if count < 931 || count > 66466 {
-        return None;
-    }
-    Some((count - 930) as u32)
-}
-
 fn write_front<S: Site>(site: &mut S, no: u64, front: &[u8]) -> Result<(), Failed>
     requires size { 4096 * no + length front.now ≤ (S.device site.old).size }
+    requires page { length front.now ≤ 4096 }
+    requires outside { no ≢ 1 }
+    requires before { no < 930 }
     ensures size { (S.device site.new).size ≡ (S.device site.old).size }
     ensures quiet { Quiet (S.device site.old) (S.device site.new) }
     ensures written { OnOk result (IsTrue S.tells → (S.device site.new).held ≡ overwritten (4096 * no) front.now (S.device site.old).held) }
+    ensures aside { WritesAside (S.device site.old) (S.device site.new) }
     ensures cause { IsErr result → Rose (S.device site.old).faults (S.device site.new).faults }
 {
     let _len = site.len();

@@ -1,34 +1,37 @@
 // The page of the one series: a head of 32 bytes, cells of 14 bytes, zeros.
 ghost use Rattle.std.specs.Prelude.{◌≡◌, ◌≢◌, ◌+◌, ◌-◌, ◌++◌, ◌≤◌, ◌↔◌, [], List, ℤ, length, take, drop, replicate, slice_index, vec_len, vec_capacity, IsTrue, IfSome, IfNone};
 ghost use Rattle.std.specs.Int.{w16, from_be_bytes};
-ghost use Rattle.ts_disk.specs.Device.{overwritten};
 ghost use Rattle.ts_shell.specs.declared.reading.Reading.{Reading};
 ghost use Rattle.ts_shell.specs.Readings.{IsReading, AreReadings, IsRising, IsValue};
-ghost use Rattle.ts_shell.specs.SeriesPage.{value_bytes, cell_bytes, head_bytes, page_of, IsSeriesPage};
+ghost use Rattle.ts_shell.specs.SeriesPage.{value_bytes, cell_bytes, page_of, IsSeriesPage};
 ghost use Rattle.ts_shell.specs.Decoding.{units_in, value_in};
 
 use crate::reading::Reading;
 use ts_base::Stamp;
+use ts_page::{Head, Page};
 
 /// How many cells a page has room for.
 pub(crate) const CELLS: usize = 290;
 
-/// Writes the page of the readings.
-pub(crate) fn write_page(readings: &[Reading], page: &mut [u8])
+/// The page of the readings.
+pub(crate) fn page_of(readings: &[Reading]) -> Page
     requires fit { length readings.now ≤ 290 }
-    requires size { length page.old ≡ 4096 }
-    ensures { page.new ≡ page_of readings.now }
+    ensures { result.bytes ≡ page_of readings.now }
 {
-    write_head(readings.len() as u16, page);
+    let mut page = Page::zero();
+    page.set_head(&Head::Irregular {
+        series: 0,
+        count: readings.len() as u16,
+    });
     for (i, reading) in readings.iter().enumerate() {
-        put_cell(page, 32 + 14 * i, cell_of(reading));
+        page.set_cell(i, &cell_of(reading));
     }
+    page
 }
 
 /// Reads the readings of a page into a list that has room for them, and tells whether the page has the format.
-pub(crate) fn read_page(page: &[u8], scratch: &mut [u8], readings: &mut Vec<Reading>) -> bool
+pub(crate) fn read_page(page: &[u8], readings: &mut Vec<Reading>) -> bool
     requires size { length page.now ≡ 4096 }
-    requires scratch { length scratch.old ≡ 4096 }
     requires empty { readings.old.items ≡ [] }
     requires room { 290 ≤ vec_capacity readings.old }
     ensures yes { IsTrue result → IsSeriesPage page.now readings.new.items }
@@ -36,7 +39,6 @@ pub(crate) fn read_page(page: &[u8], scratch: &mut [u8], readings: &mut Vec<Read
     ensures found { (wanted : List Reading) → IsSeriesPage page.now wanted → IsTrue result × (readings.new.items ≡ wanted) }
     ensures fit { length readings.new.items ≤ 290 }
     ensures capacity { vec_capacity readings.new ≡ vec_capacity readings.old }
-    ensures scratch { length scratch.new ≡ 4096 }
 {
     if page[0] == 0 {
         return true;
@@ -52,8 +54,7 @@ pub(crate) fn read_page(page: &[u8], scratch: &mut [u8], readings: &mut Vec<Read
         return false;
     }
     // The head, the empty cells and the end are right where the page of these readings is this one.
-    write_page(readings, scratch);
-    &*scratch == page
+    page_of(readings).bytes.as_slice() == page
 }
 
 // The number of elements that the head tells.
@@ -173,35 +174,4 @@ fn value_of(value: Option<i32>) -> [u8; 5]
             [1, b[0], b[1], b[2], b[3]]
         }
     }
-}
-
-// Writes a head and zeros behind it.
-fn write_head(count: u16, page: &mut [u8])
-    requires { length page.old ≡ 4096 }
-    ensures { page.new ≡ head_bytes count ++ replicate 4064 0 }
-{
-    let n = count.to_be_bytes();
-    lay(page, &[2, 0, 0, n[0], n[1]]);
-}
-
-/// Writes these bytes and zeros behind them.
-pub(crate) fn lay(page: &mut [u8], front: &[u8])
-    requires { length front.now ≤ length page.old }
-    ensures { page.new ≡ front.now ++ replicate (length page.old - length front.now) 0 }
-{
-    clear(page);
-    page[..front.len()].copy_from_slice(front);
-}
-
-fn clear(page: &mut [u8])
-    ensures { page.new ≡ replicate (length page.old) 0 }
-{
-    page.fill(0);
-}
-
-fn put_cell(page: &mut [u8], at: usize, cell: [u8; 14])
-    requires { at + 14 ≤ length page.old }
-    ensures { page.new ≡ overwritten at cell page.old }
-{
-    page[at..at + 14].copy_from_slice(&cell);
 }

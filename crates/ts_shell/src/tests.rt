@@ -3,7 +3,7 @@ use crate::run_ts;
 use std::alloc::{AllocError, Global};
 use std::test::Fail;
 use std::thread::Threads;
-use ts_disk::{BlankSource, MemorySite, MemorySource, Site, Volume};
+use ts_disk::{BlankSource, MemorySite, MemorySource, Pick, Site, Volume};
 
 /// Where the series' page begins.
 const PAGE: u64 = 930 * 4096;
@@ -175,6 +175,8 @@ fn a_page_takes_290_elements(rt: HostRuntime) -> Result<(), Fail> {
     said.extend_from_slice(b"error 30 ContainerFull\n")?;
     let mut site = volume(&rt, rt.alloc())?;
     assert_eq!(rt; run(&rt, rt.alloc(), &mut site, &script)?, 0);
+    // The next opening brings the page to its place.
+    assert_eq!(rt; run(&rt, rt.alloc(), &mut site, b"")?, 0);
     assert_eq!(rt; site.said(), said.as_slice());
     // The last cell ends at byte 4092 of the page.
     assert!(rt; site.len() >= PAGE + 4096);
@@ -230,7 +232,7 @@ fn volumes_that_mean_no_list_are_refused(rt: HostRuntime) -> Result<(), Fail> {
     let script = b"InsElem('x','2011-01-03 00:00:00',1);InsElem('x','2011-01-03 00:00:01',2);";
     let later = 129_401_280_200_000u64.to_be_bytes();
     let equal = 129_401_280_100_000u64.to_be_bytes();
-    let table: [(u64, &[u8]); 12] = [
+    let table: [(u64, &[u8]); 13] = [
         // The first stamp after the second, and equal to it.
         (PAGE + 33, &later),
         (PAGE + 33, &equal),
@@ -247,10 +249,14 @@ fn volumes_that_mean_no_list_are_refused(rt: HostRuntime) -> Result<(), Fail> {
         (257 * 4096 + 1, &[3]),
         (833 * 4096 + 4095, &[1]),
         (834 * 4096 + 2, b"y"),
+        // An open gate with a record of four bytes.
+        (4096, b"GATEOPEN\0\0\0\x04"),
     ];
     for (at, bytes) in table {
         let mut site = volume(&rt, rt.alloc())?;
         assert_eq!(rt; run(&rt, rt.alloc(), &mut site, script)?, 0);
+        // The page stands in its place once the next run has opened the volume.
+        assert_eq!(rt; run(&rt, rt.alloc(), &mut site, b"")?, 0);
         assert!(rt; damage(&mut site, at, bytes));
         assert_eq!(rt;
             run(
@@ -287,11 +293,20 @@ fn a_script_has_at_most_65536_bytes(rt: HostRuntime) -> Result<(), Fail> {
     Ok(())
 }
 
-// The calls of this run: sync, five reads, write, sync, say.
+// The calls of this run: sync, a read of the gate, five of pages, four writes of the record, sync, the gate, sync, say.
 #[test]
 fn a_failing_call_has_its_status(rt: HostRuntime) -> Result<(), Fail> {
     let alloc = rt.alloc();
-    let table: [(u64, u8); 5] = [(0, 5), (5, 5), (6, 5), (7, 5), (8, 4)];
+    let table: [(u64, u8); 8] = [
+        (0, 5),
+        (1, 5),
+        (6, 5),
+        (7, 5),
+        (11, 5),
+        (12, 5),
+        (13, 5),
+        (14, 4),
+    ];
     for (call, status) in table {
         let mut site = volume(&rt, rt.alloc())?;
         site.fail(site.calls().saturating_add(call))?;
@@ -313,5 +328,172 @@ fn a_failing_call_has_its_status(rt: HostRuntime) -> Result<(), Fail> {
     let words = words(alloc, &["run"])?;
     assert_eq!(rt; run_ts(&rt, alloc, &words, &mut site, &mut source), 3);
     assert_eq!(rt; site.said(), b"".as_slice());
+    Ok(())
+}
+
+// The record at position 0 that frees page 930: the gate, five bytes, 2 and the number; then a closed gate.
+#[test]
+fn a_record_that_frees_the_page_empties_the_series(rt: HostRuntime) -> Result<(), Fail> {
+    let script = b"InsElem('x','2011-01-03 00:00:00',1);";
+    let mut site = volume(&rt, rt.alloc())?;
+    assert_eq!(rt; run(&rt, rt.alloc(), &mut site, script)?, 0);
+    assert_eq!(rt; run(&rt, rt.alloc(), &mut site, b"")?, 0);
+    assert!(rt;
+        damage(
+            &mut site,
+            4096,
+            b"GATEOPEN\0\0\0\x05\x02\0\0\x03\xa2\0\0\0\0\0\0\0\0"
+        )
+    );
+    assert_eq!(rt; run(&rt, rt.alloc(), &mut site, script)?, 0);
+    assert_eq!(rt;
+        site.said(),
+        b"ok 2011-01-03 00:00:00.00000\nok 2011-01-03 00:00:00.00000\n".as_slice()
+    );
+    Ok(())
+}
+
+const THREE: &[u8] =
+    b"InsElem('x','2011-01-03 00:00:00',1);InsElem('x','2011-01-03 00:00:01',2);InsElem('x','2011-01-03 00:00:02',3);";
+
+// How many of the three elements a volume has: each that is there is a duplicate.
+fn elements(
+    rt: &(impl Threads + Sync),
+    alloc: Global,
+    bytes: Vec<u8>,
+) -> Result<Option<usize>, Fail> {
+    let table: [&[u8]; 4] = [
+        b"ok 2011-01-03 00:00:00.00000\nok 2011-01-03 00:00:01.00000\nok 2011-01-03 00:00:02.00000\n",
+        b"error 23 Duplicate\nok 2011-01-03 00:00:01.00000\nok 2011-01-03 00:00:02.00000\n",
+        b"error 23 Duplicate\nerror 23 Duplicate\nok 2011-01-03 00:00:02.00000\n",
+        b"error 23 Duplicate\nerror 23 Duplicate\nerror 23 Duplicate\n",
+    ];
+    let mut site = MemorySite::new(bytes)?;
+    if run(rt, alloc, &mut site, THREE)? != 0 {
+        return Ok(None);
+    }
+    Ok(table.iter().position(|said| *said == site.said()))
+}
+
+// How many replies `ok` were said.
+fn accepted(said: &[u8]) -> usize {
+    said.iter().filter(|byte| **byte == b'k').count()
+}
+
+// Runs of the three inserts over a volume that has so many of them, each stopped at the call of one number: what is left
+// has those that were acknowledged by then, or these and the next one. The calls from 1 on, so many, only read.
+fn stops(
+    rt: &(impl Threads + Sync),
+    alloc: Global,
+    bytes: &[u8],
+    there: usize,
+    reads: u64,
+    pick: Pick,
+) -> Result<bool, Fail> {
+    for call in 0..100 {
+        if 1 <= call && call <= reads {
+            continue;
+        }
+        let mut site = MemorySite::new(Vec::from_slice(alloc, bytes)?)?;
+        site.fuse(call);
+        run(rt, alloc, &mut site, THREE)?;
+        if site.calls() <= call {
+            // The run needed no call of this number; its last is the third say.
+            return Ok(call > 30 && site.said().ends_with(b"00:00:02.00000\n"));
+        }
+        let wanted = there.saturating_add(accepted(site.said()));
+        let found = elements(rt, alloc, site.image(call, pick)?)?;
+        if found != Some(wanted) && found != Some(wanted.saturating_add(1)) {
+            return Ok(false);
+        }
+    }
+    Ok(false)
+}
+
+// The bytes that a volume holds.
+fn bytes_of(alloc: Global, site: &mut MemorySite) -> Result<Vec<u8>, Fail> {
+    let mut bytes = vec![in alloc; 0u8; site.len() as usize]?;
+    if site.read_at(0, &mut bytes).is_err() {
+        return Err(Fail::from("the read failed"));
+    }
+    Ok(bytes)
+}
+
+fn stops_in_a_run(rt: &(impl Threads + Sync), alloc: Global, pick: Pick) -> Result<bool, Fail> {
+    let mut site = volume(rt, alloc)?;
+    let bytes = bytes_of(alloc, &mut site)?;
+    stops(rt, alloc, &bytes, 0, 6, pick)
+}
+
+// The journal holds the record of the first element when the run begins.
+fn stops_after_one(rt: &(impl Threads + Sync), alloc: Global, pick: Pick) -> Result<bool, Fail> {
+    let mut site = volume(rt, alloc)?;
+    run(
+        rt,
+        alloc,
+        &mut site,
+        b"InsElem('x','2011-01-03 00:00:00',1);",
+    )?;
+    let bytes = bytes_of(alloc, &mut site)?;
+    stops(rt, alloc, &bytes, 1, 9, pick)
+}
+
+#[test]
+fn a_stop_in_a_run_leaves_old_bytes(rt: HostRuntime) -> Result<(), Fail> {
+    assert!(rt; stops_in_a_run(&rt, rt.alloc(), Pick::Old)?);
+    Ok(())
+}
+
+#[test]
+fn a_stop_over_a_record_leaves_old_bytes(rt: HostRuntime) -> Result<(), Fail> {
+    assert!(rt; stops_after_one(&rt, rt.alloc(), Pick::Old)?);
+    Ok(())
+}
+
+#[test]
+fn a_stop_in_a_run_leaves_new_bytes(rt: HostRuntime) -> Result<(), Fail> {
+    assert!(rt; stops_in_a_run(&rt, rt.alloc(), Pick::New)?);
+    Ok(())
+}
+
+#[test]
+fn a_stop_over_a_record_leaves_new_bytes(rt: HostRuntime) -> Result<(), Fail> {
+    assert!(rt; stops_after_one(&rt, rt.alloc(), Pick::New)?);
+    Ok(())
+}
+
+#[test]
+fn a_stop_in_a_run_leaves_half_of_each_write(rt: HostRuntime) -> Result<(), Fail> {
+    assert!(rt; stops_in_a_run(&rt, rt.alloc(), Pick::Half)?);
+    Ok(())
+}
+
+#[test]
+fn a_stop_over_a_record_leaves_half_of_each_write(rt: HostRuntime) -> Result<(), Fail> {
+    assert!(rt; stops_after_one(&rt, rt.alloc(), Pick::Half)?);
+    Ok(())
+}
+
+#[test]
+fn a_stop_in_a_run_leaves_zeros(rt: HostRuntime) -> Result<(), Fail> {
+    assert!(rt; stops_in_a_run(&rt, rt.alloc(), Pick::Fill(0))?);
+    Ok(())
+}
+
+#[test]
+fn a_stop_over_a_record_leaves_zeros(rt: HostRuntime) -> Result<(), Fail> {
+    assert!(rt; stops_after_one(&rt, rt.alloc(), Pick::Fill(0))?);
+    Ok(())
+}
+
+#[test]
+fn a_stop_in_a_run_leaves_ones(rt: HostRuntime) -> Result<(), Fail> {
+    assert!(rt; stops_in_a_run(&rt, rt.alloc(), Pick::Fill(255))?);
+    Ok(())
+}
+
+#[test]
+fn a_stop_over_a_record_leaves_ones(rt: HostRuntime) -> Result<(), Fail> {
+    assert!(rt; stops_after_one(&rt, rt.alloc(), Pick::Fill(255))?);
     Ok(())
 }

@@ -1,11 +1,13 @@
 // The top call: what the program does, by its words.
-ghost use Rattle.std.specs.Prelude.{◌≡◌, ◌≢◌, ◌≤◌, ◌↔◌, ◌*◌, ℕ, [], None, Some, IfOk, IsTrue, length, map, replicate, string_bytes, vec_capacity, vec_len};
+ghost use Rattle.std.specs.Prelude.{◌≡◌, ◌≢◌, ◌≤◌, ◌↔◌, ℕ, List, [], None, Some, IfOk, IsTrue, length, map, replicate, string_bytes, vec_capacity, vec_len};
+ghost use Rattle.ts_shell.specs.Stored.{IsOpened};
 ghost use Rattle.ts_shell.specs.Words.{job_of};
 ghost use Rattle.ts_shell.specs.Top.{Made, Untouched, ScriptRan, OpenedRan, status_of};
 ghost use Rattle.ts_shell.specs.declared.words.Job.TheVariants.{Init, Run};
 
 use crate::fault::RunFault;
-use crate::first_volume::{PAGE, make, read_volume};
+use crate::first_volume::make;
+use crate::opening::{OpenFault, open};
 use crate::reading::Reading;
 use crate::run::carry_out_all;
 use crate::script::{LIMIT, ScriptFault, pull_script};
@@ -14,6 +16,7 @@ use crate::words::{Job, read_job};
 use std::alloc::{AllocError, Global};
 use std::thread::Threads;
 use ts_disk::{Site, Source};
+use ts_recover::Replayed;
 
 /// Does what the words ask for, and answers with the program's status.
 ///
@@ -60,28 +63,29 @@ fn run<S: Site, R: Source>(alloc: Global, site: &mut S, source: &mut R) -> u8
     ensures ran { ScriptRan S.tells R.tells result (S.device site.old) (S.device site.new) (R.input source.old) (R.input source.new) }
 {
     match Buffers::new(alloc) {
-        Ok(buffers) => run_with(site, source, buffers),
+        Ok(buffers) => run_with(alloc, site, source, buffers),
         Err(_) => 7,
     }
 }
 
 // Opens the volume, pulls the script and carries it out.
-fn run_with<S: Site, R: Source>(site: &mut S, source: &mut R, buffers: Buffers) -> u8
+fn run_with<S: Site, R: Source>(alloc: Global, site: &mut S, source: &mut R, buffers: Buffers) -> u8
     requires empty { buffers.readings.items ≡ [] }
     ensures ran { ScriptRan S.tells R.tells result (S.device site.old) (S.device site.new) (R.input source.old) (R.input source.new) }
 {
     let Buffers {
-        mut page,
-        mut scratch,
         mut script,
         mut readings,
     } = buffers;
     match site.sync() {
         Err(_) => 5,
-        Ok(()) => match read_volume(site, &mut page, &mut scratch, &mut readings) {
-            Err(_) => 5,
-            Ok(false) => 6,
-            Ok(true) => run_script(site, source, &mut page, &mut script, &mut readings),
+        Ok(()) => match open(alloc, site, &mut readings) {
+            Err(OpenFault::Disk) => 5,
+            Err(OpenFault::NotAStore) => 6,
+            Err(OpenFault::Memory) => 7,
+            Ok(mut replayed) => {
+                run_script(site, source, &mut replayed, &mut script, &mut readings)
+            }
         },
     }
 }
@@ -90,21 +94,20 @@ fn run_with<S: Site, R: Source>(site: &mut S, source: &mut R, buffers: Buffers) 
 fn run_script<S: Site, R: Source>(
     site: &mut S,
     source: &mut R,
-    page: &mut [u8],
+    replayed: &mut Replayed,
     script: &mut [u8],
     readings: &mut Vec<Reading>,
 ) -> u8
-    requires page { length page.old ≡ 4096 }
     requires script { length script.old ≡ 65537 }
     requires room { 290 ≤ vec_capacity readings.old }
     requires fit { length readings.old.items ≤ 290 }
-    requires size { 4096 * 931 ≤ (S.device site.old).size }
-    ensures ran { OpenedRan S.tells R.tells readings.old.items result (S.device site.old) (S.device site.new) (R.input source.old) (R.input source.new) }
+    requires opened { IsOpened S.tells replayed.old.journal replayed.old.overlay (S.device site.old) }
+    ensures ran { (entry : List ℕ) → OpenedRan entry S.tells R.tells readings.old.items result (S.device site.old) (S.device site.new) (R.input source.old) (R.input source.new) }
 {
     match pull_script(source, script) {
         Err(ScriptFault::Pull) => 3,
         Err(ScriptFault::TooLong) => 8,
-        Ok(count) => status(carry_out_all(site, page, readings, &script[..count])),
+        Ok(count) => status(carry_out_all(site, replayed, readings, &script[..count])),
     }
 }
 
@@ -122,12 +125,8 @@ fn status(outcome: Result<(), RunFault>) -> u8
 /// All that a run needs, taken before it begins.
 #[derive(Drop)]
 struct Buffers {
-    page: Vec<u8>,
-    scratch: Vec<u8>,
     script: Vec<u8>,
     readings: Vec<Reading>,
-    ghost page_size: { length page.items ≡ 4096 },
-    ghost scratch_size: { length scratch.items ≡ 4096 },
     ghost script_size: { length script.items ≡ 65537 },
     ghost room: { 290 ≤ vec_capacity readings },
 }
@@ -137,8 +136,6 @@ impl Buffers {
         ensures empty { IfOk result (λ b. b.readings.items ≡ []) }
     {
         Ok(Buffers {
-            page: zeros(alloc, PAGE)?,
-            scratch: zeros(alloc, PAGE)?,
             script: zeros(alloc, LIMIT + 1)?,
             readings: Vec::with_capacity(alloc, CELLS)?,
         })

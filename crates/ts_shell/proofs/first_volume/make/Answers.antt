@@ -1,7 +1,8 @@
 use Rattle.std.proofs.Common.{◌≡◌, ℕ, ◌+◌, ◌-◌, ◌*◌, List, [], ◌∷◌, ◌++◌, length, replicate, refl, sym, ◌∙◌, ap, arith}
 use Rattle.ts_disk.specs.Device.{overwritten}
 use Rattle.ts_shell.specs.FirstVolume.{with_definitions, first_bytes}
-use Rattle.ts_shell.specs.Undisturbed.{quiet_then, quiet_call}
+use Rattle.ts_shell.specs.Quiet.{quiet_then, quiet_call}
+use Rattle.ts_shell.proofs.MakingLemmas.{aside_then, aside_sync, empty_from, zeros_grown}
 use Rattle.ts_shell.proofs.VolumeLemmas.{rose_on, made}
 use Rattle.ts_shell.proofs.first_volume.make.Goals as goal
 
@@ -97,3 +98,54 @@ returns-in_err-write_front-clause-cause g c = λ err.
     let on_b = quiet_then v a b on_a (quiet_call g.S.Volume.tells c.sync.result a b c.sync.ensures.call) in
     let on_d = quiet_then v b d on_b c.write_definitions.ensures.quiet in
     rose_on v.faults d.faults e.faults on_d.faults (c.in_err-write_front.ensures.cause refl)
+
+pub returns-in_err-resize-clause-moments : goal.returns-in_err-resize-clause-moments
+returns-in_err-resize-clause-moments g c = λ told more. absurd (omega (arith, more, c.resize.ensures.syncs))
+
+pub returns-in_err-sync-clause-moments : goal.returns-in_err-sync-clause-moments
+returns-in_err-sync-clause-moments g c = λ told more. absurd (omega (arith, more, c.resize.ensures.syncs, c.in_err-sync.ensures.syncs_stay))
+
+pub returns-in_err-write_definitions-clause-moments : goal.returns-in_err-write_definitions-clause-moments
+returns-in_err-write_definitions-clause-moments g c = λ told more.
+    let v = g.S.Volume.device c.args.site.now in
+    let b = g.S.Volume.device c.sync.new.self in
+    let d = g.S.Volume.device c.write_definitions.new.site in
+    let none : length v.held ≡ 0 = (g.met.S.Volume.lawful c.args.site.now).size told ∙ c.requires.empty in
+    let zeros = zeros_grown v.held (g.S.Volume.device c.resize.new.self).held (4096 * (930 + c.args.pages)) v.size none c.requires.empty (c.in_ok-resize.ensures.grown told) in
+    let clock : b.clock ≡ v.clock + 2 = omega (arith, c.in_ok-resize.ensures.call.tick told refl, c.in_ok-sync.ensures.call.tick told refl) in
+    empty_from v b d (4096 * (930 + c.args.pages)) (g.S.Volume.device c.resize.new.self).held clock (c.sync.ensures.call.said ∙ c.resize.ensures.call.said) (omega (arith, c.requires.some)) zeros c.in_ok-sync.ensures.durable c.write_definitions.ensures.aside
+
+pub returns-in_err-write_front-clause-moments : goal.returns-in_err-write_front-clause-moments
+returns-in_err-write_front-clause-moments g c = λ told more.
+    let v = g.S.Volume.device c.args.site.now in
+    let b = g.S.Volume.device c.sync.new.self in
+    let d = g.S.Volume.device c.write_definitions.new.site in
+    let e = g.S.Volume.device c.write_front.new.site in
+    let none : length v.held ≡ 0 = (g.met.S.Volume.lawful c.args.site.now).size told ∙ c.requires.empty in
+    let zeros = zeros_grown v.held (g.S.Volume.device c.resize.new.self).held (4096 * (930 + c.args.pages)) v.size none c.requires.empty (c.in_ok-resize.ensures.grown told) in
+    let clock : b.clock ≡ v.clock + 2 = omega (arith, c.in_ok-resize.ensures.call.tick told refl, c.in_ok-sync.ensures.call.tick told refl) in
+    empty_from v b e (4096 * (930 + c.args.pages)) (g.S.Volume.device c.resize.new.self).held clock (c.sync.ensures.call.said ∙ c.resize.ensures.call.said) (omega (arith, c.requires.some)) zeros c.in_ok-sync.ensures.durable (aside_then b d e c.write_definitions.ensures.aside c.write_front.ensures.aside)
+
+pub returns-in_err-sync-2-clause-moments : goal.returns-in_err-sync-2-clause-moments
+returns-in_err-sync-2-clause-moments g c = λ told more.
+    let v = g.S.Volume.device c.args.site.now in
+    let b = g.S.Volume.device c.sync.new.self in
+    let d = g.S.Volume.device c.write_definitions.new.site in
+    let e = g.S.Volume.device c.write_front.new.site in
+    let f = g.S.Volume.device c.sync-2.new.self in
+    let none : length v.held ≡ 0 = (g.met.S.Volume.lawful c.args.site.now).size told ∙ c.requires.empty in
+    let zeros = zeros_grown v.held (g.S.Volume.device c.resize.new.self).held (4096 * (930 + c.args.pages)) v.size none c.requires.empty (c.in_ok-resize.ensures.grown told) in
+    let clock : b.clock ≡ v.clock + 2 = omega (arith, c.in_ok-resize.ensures.call.tick told refl, c.in_ok-sync.ensures.call.tick told refl) in
+    empty_from v b f (4096 * (930 + c.args.pages)) (g.S.Volume.device c.resize.new.self).held clock (c.sync.ensures.call.said ∙ c.resize.ensures.call.said) (omega (arith, c.requires.some)) zeros c.in_ok-sync.ensures.durable (aside_sync g.S.Volume.tells c.sync-2.result b e f (aside_then b d e c.write_definitions.ensures.aside c.write_front.ensures.aside) c.sync-2.ensures)
+
+pub returns-clause-moments : goal.returns-clause-moments
+returns-clause-moments g c = λ told more.
+    let v = g.S.Volume.device c.args.site.now in
+    let b = g.S.Volume.device c.sync.new.self in
+    let d = g.S.Volume.device c.write_definitions.new.site in
+    let e = g.S.Volume.device c.write_front.new.site in
+    let f = g.S.Volume.device c.sync-2.new.self in
+    let none : length v.held ≡ 0 = (g.met.S.Volume.lawful c.args.site.now).size told ∙ c.requires.empty in
+    let zeros = zeros_grown v.held (g.S.Volume.device c.resize.new.self).held (4096 * (930 + c.args.pages)) v.size none c.requires.empty (c.in_ok-resize.ensures.grown told) in
+    let clock : b.clock ≡ v.clock + 2 = omega (arith, c.in_ok-resize.ensures.call.tick told refl, c.in_ok-sync.ensures.call.tick told refl) in
+    empty_from v b f (4096 * (930 + c.args.pages)) (g.S.Volume.device c.resize.new.self).held clock (c.sync.ensures.call.said ∙ c.resize.ensures.call.said) (omega (arith, c.requires.some)) zeros c.in_ok-sync.ensures.durable (aside_sync g.S.Volume.tells c.sync-2.result b e f (aside_then b d e c.write_definitions.ensures.aside c.write_front.ensures.aside) c.sync-2.ensures)

@@ -1,10 +1,13 @@
-use Rattle.std.proofs.Common.{◌≡◌, ℕ, length, take, drop, ◌*◌, ◌∙◌, ap, arith}
-use Rattle.ts_shell.specs.FirstVolume.{page_at}
+use Rattle.std.proofs.Common.{Some, IsTrue, sym, ◌∙◌}
+use Rattle.ts_shell.proofs.MeansLemmas.{page_shown, own_shown}
 use Rattle.ts_shell.proofs.first_volume.read_page_at.Goals as goal
 
-pub returns-clause-read : goal.returns-clause-read
-unfolding page_at
-returns-clause-read g c = λ told.
+pub returns-in-Some-clause-read : goal.returns-in-Some-clause-read
+returns-in-Some-clause-read g c = λ told.
     let held = (g.S.Volume.device c.args.site.now).held in
-    let size : length c.read_at.new.into ≡ 4096 = omega (arith, c.read_at.auto.into, c.requires.page) in
-    c.in_ok-read_at.ensures.read told ∙ ap (λ (n : ℕ). take n (drop (4096 * c.args.no) held)) size
+    c.content.ensures ∙ sym (page_shown c.args.replayed.now.journal c.args.replayed.now.overlay.entries held c.args.no (Some c.in-Some.change.now) (c.requires.stands told) c.in-Some.ensures)
+
+pub returns-in-None-clause-read : goal.returns-in-None-clause-read
+returns-in-None-clause-read g c =
+    let held = (g.S.Volume.device c.args.site.now).held in
+    own_shown (IsTrue g.S.Volume.tells) c.args.replayed.now.journal c.args.replayed.now.overlay.entries held c.args.no c.read_own_page.result c.requires.stands c.in-None.ensures c.read_own_page.ensures.read

@@ -47,6 +47,6 @@ returns-clause-found c = λ wanted is. elim is [
   | inr holds ↦
       let count = c.count_in-count.ensures ∙ count_is c.args.page.now wanted holds in
       let found = c.read_cells.ensures.found wanted holds.each (sym count) holds.bytes in
-      let written = c.write_page.ensures ∙ ap page_of (c.deref-2.ensures.value ∙ found.1) ∙ sym holds.bytes in
-      (c.eq.ensures ∙ (bytes_eq-Decides c.write_page.new.page c.args.page.now).1 written, found.1)
+      let written = c.as_slice.ensures ∙ c.page_of.ensures ∙ ap page_of (c.deref-2.ensures.value ∙ found.1) ∙ sym holds.bytes in
+      (c.eq.ensures ∙ (bytes_eq-Decides c.as_slice.result.now c.args.page.now).1 written, found.1)
 ]

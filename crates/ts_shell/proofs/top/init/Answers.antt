@@ -6,6 +6,7 @@ pub returns-then-len-ne0 : goal.returns-then-len-ne0
 returns-then-len-ne0 g c = record {
   made = record {
     done = λ zero. absurd (omega arith);
+    moments = λ t more. absurd (omega arith);
     there = λ ten. omega (arith, c.len.ensures);
     refused = λ some. refl;
     kept = λ ten. untouched_now (g.S.Volume.device c.args.site.now);
@@ -19,6 +20,7 @@ pub returns-in-Ok : goal.returns-in-Ok
 returns-in-Ok g c = record {
   made = record {
     done = λ zero. (c.in-Ok.ensures.size, c.in-Ok.ensures.durable, λ t. (c.in-Ok.ensures.bytes t, c.in-Ok.ensures.ok t));
+    moments = c.make.ensures.moments;
     there = λ ten. absurd (omega arith);
     refused = λ some. absurd (omega (arith, c.len.ensures));
     kept = λ ten. absurd (omega arith);
@@ -32,6 +34,7 @@ pub returns-in-Err : goal.returns-in-Err
 returns-in-Err g c = record {
   made = record {
     done = λ zero. absurd (omega arith);
+    moments = c.make.ensures.moments;
     there = λ ten. absurd (omega arith);
     refused = λ some. absurd (omega (arith, c.len.ensures));
     kept = λ ten. absurd (omega arith);
