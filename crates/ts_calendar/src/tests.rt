@@ -118,9 +118,8 @@ fn intervals_move_with_their_unit(rt: HostRuntime) -> Result<(), Fail> {
 }
 
 #[test]
-fn no_interval_starts_outside_the_years(rt: HostRuntime) -> Result<(), Fail> {
+fn no_interval_starts_behind_the_years(rt: HostRuntime) -> Result<(), Fail> {
     let last = stamp(b"9999-12-31 23:59:59.99999")?;
-    let first = stamp(b"0001-01-01 00:00:00")?;
     let rows: [(Unit, &[u8]); 7] = [
         (Second, b"9999-12-31 23:59:59"),
         (Minute, b"9999-12-31 23:59:00"),
@@ -136,19 +135,37 @@ fn no_interval_starts_outside_the_years(rt: HostRuntime) -> Result<(), Fail> {
         assert_eq!(rt; end.start_of(1), None);
         assert_eq!(rt; end.interval_of(last), Some(0));
         assert_eq!(rt; end.start_of(i64::MAX), None);
+    }
+    Ok(())
+}
+
+#[test]
+fn no_interval_starts_before_the_years(rt: HostRuntime) -> Result<(), Fail> {
+    let first = stamp(b"0001-01-01 00:00:00")?;
+    for unit in [Second, Minute, Hour, Day, Week, Month, Year] {
         let begin = calendar(rt.alloc(), b"0001-01-01 00:00:00", unit, true, &[1])?;
         assert_eq!(rt; begin.start_of(-1), None);
         assert_eq!(rt; begin.interval_of(first), Some(0));
         assert_eq!(rt; begin.start_of(i64::MIN), None);
+    }
+    Ok(())
+}
+
+#[test]
+fn a_stamp_before_the_first_interval_is_held_by_none(rt: HostRuntime) -> Result<(), Fail> {
+    let stamp = stamp(b"0001-01-01 00:00:59")?;
+    let rows: [(Unit, bool); 7] = [
+        (Second, true),
+        (Minute, true),
+        (Hour, true),
+        (Day, true),
+        (Week, false),
+        (Month, false),
+        (Year, false),
+    ];
+    for (unit, held) in rows {
         let later = calendar(rt.alloc(), b"0001-01-02 00:00:01", unit, true, &[1])?;
-        let held = match unit {
-            Second | Minute | Hour | Day => true,
-            Week | Month | Year => false,
-        };
-        assert_eq!(rt;
-            later.interval_of(stamp(b"0001-01-01 00:00:59")?).is_some(),
-            held
-        );
+        assert_eq!(rt; later.interval_of(stamp).is_some(), held, "{unit:?}");
     }
     Ok(())
 }
@@ -209,28 +226,18 @@ fn on_follows_the_pattern_from_the_start(rt: HostRuntime) -> Result<(), Fail> {
     Ok(())
 }
 
+// Every third month, and every other year.
+fn quarters(alloc: Global) -> Result<Calendar, Fail> {
+    let months = calendar(alloc, b"2012-03-10 00:00:00", Month, true, &[1, 2])?;
+    let years = calendar(alloc, b"2011-01-10 00:00:00", Year, true, &[1, 1])?;
+    Ok(years.and_op(&months)?)
+}
+
 #[test]
 fn calendars_of_different_units_meet_in_the_smaller(rt: HostRuntime) -> Result<(), Fail> {
-    let week = calendar(rt.alloc(), b"2011-01-02 00:00:00", Day, false, &[1, 5, 1])?;
-    let hours = calendar(rt.alloc(), b"2011-01-05 06:00:00", Hour, true, &[1])?;
-    let from = stamp(b"2011-01-05 06:00:00")?;
-    let both = week.and_op(&hours)?;
-    assert_eq!(rt; both.start(), from);
-    assert_eq!(rt; both.patt_start(), from);
-    assert_eq!(rt;
-        both.pattern().runs(),
-        pattern(rt.alloc(), Hour, true, &[66, 48, 54])?.runs()
-    );
-    let either = hours.or_op(&week)?;
-    assert_eq!(rt; either.start(), from);
-    assert_eq!(rt;
-        either.pattern().runs(),
-        pattern(rt.alloc(), Hour, true, &[168])?.runs()
-    );
-    let months = calendar(rt.alloc(), b"2012-03-10 00:00:00", Month, true, &[1, 2])?;
-    let years = calendar(rt.alloc(), b"2011-01-10 00:00:00", Year, true, &[1, 1])?;
-    let quarters = years.and_op(&months)?;
-    assert_eq!(rt; quarters.patt_start(), stamp(b"2012-03-10 00:00:00")?);
+    let quarters = quarters(rt.alloc())?;
+    let start = stamp(b"2012-03-10 00:00:00")?;
+    assert_eq!(rt; quarters.patt_start(), start);
     let want = pattern(rt.alloc(), Month, false, &[12, 1, 2, 1, 2, 1, 2, 1, 2])?;
     assert_eq!(rt; quarters.pattern().runs(), want.runs());
     Ok(())
@@ -254,22 +261,70 @@ fn a_pattern_start_may_lie_after_the_result(rt: HostRuntime) -> Result<(), Fail>
     Ok(())
 }
 
+// Why two calendars that are always on don't meet.
+fn apart(
+    alloc: Global,
+    first: &[u8],
+    unit: Unit,
+    second: &[u8],
+    other: Unit,
+) -> Result<Option<Refusal>, Fail> {
+    let first = calendar(alloc, first, unit, true, &[1])?;
+    let second = calendar(alloc, second, other, true, &[1])?;
+    Ok(refusal(first.or_op(&second)))
+}
+
 #[test]
 fn calendars_that_cannot_meet_are_refused(rt: HostRuntime) -> Result<(), Fail> {
+    let rows: [(&[u8], Unit, &[u8], Unit, Refusal); 4] = [
+        (
+            b"2011-01-02 00:00:00",
+            Day,
+            b"2011-01-02 00:00:00",
+            Month,
+            Refusal::UnitMismatch,
+        ),
+        (
+            b"2011-01-05 06:30:00",
+            Hour,
+            b"2011-01-05 06:00:00",
+            Hour,
+            Refusal::NotAligned,
+        ),
+        (
+            b"2011-01-02 00:00:00",
+            Month,
+            b"2011-03-03 00:00:00",
+            Month,
+            Refusal::NotAligned,
+        ),
+        (
+            b"2012-03-02 00:00:00",
+            Year,
+            b"2012-02-02 00:00:00",
+            Year,
+            Refusal::NotAligned,
+        ),
+    ];
+    for (first, unit, second, other, why) in rows {
+        let found = apart(rt.alloc(), first, unit, second, other)?;
+        assert_eq!(rt; found, Some(why), "{first:?} {second:?}");
+    }
+    Ok(())
+}
+
+#[test]
+fn days_that_take_turns_have_no_day_in_common(rt: HostRuntime) -> Result<(), Fail> {
     let days = calendar(rt.alloc(), b"2011-01-02 00:00:00", Day, true, &[1, 1])?;
     let turned = calendar(rt.alloc(), b"2011-01-02 00:00:00", Day, false, &[1, 1])?;
-    let months = calendar(rt.alloc(), b"2011-01-02 00:00:00", Month, true, &[1])?;
-    let halves = calendar(rt.alloc(), b"2011-01-05 06:30:00", Hour, true, &[1])?;
-    let hours = calendar(rt.alloc(), b"2011-01-05 06:00:00", Hour, true, &[1])?;
-    let late = calendar(rt.alloc(), b"2011-03-03 00:00:00", Month, true, &[1])?;
-    let years = calendar(rt.alloc(), b"2012-02-02 00:00:00", Year, true, &[1])?;
-    let spring = calendar(rt.alloc(), b"2012-03-02 00:00:00", Year, true, &[1])?;
-    assert_eq!(rt; refusal(days.and_op(&months)), Some(Refusal::UnitMismatch));
-    assert_eq!(rt; refusal(halves.or_op(&hours)), Some(Refusal::NotAligned));
-    assert_eq!(rt; refusal(months.and_op(&late)), Some(Refusal::NotAligned));
-    assert_eq!(rt; refusal(spring.and_op(&years)), Some(Refusal::NotAligned));
     assert_eq!(rt; refusal(days.and_op(&turned)), Some(Refusal::AllOff));
     assert!(rt; days.or_op(&turned).is_ok());
+    Ok(())
+}
+
+#[test]
+fn a_pattern_in_common_may_be_too_long(rt: HostRuntime) -> Result<(), Fail> {
+    let days = calendar(rt.alloc(), b"2011-01-02 00:00:00", Day, true, &[1, 1])?;
     let long = calendar(rt.alloc(), b"2011-01-02 00:00:00", Day, true, &[527_039])?;
     let why = Refusal::PatternTooLong {
         length: 1_054_078,

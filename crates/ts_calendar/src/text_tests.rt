@@ -2,7 +2,8 @@
 use crate::{Calendar, CalendarText, PatternPart};
 use std::alloc::Global;
 use std::test::Fail;
-use ts_base::{Bytes, Refusal, Trouble};
+use ts_base::{Bytes, Refusal, Stamp, Trouble};
+use ts_pattern::Pattern;
 
 const DATES: &[u8] = b"startdate(2011-01-02 00:00:00), pattstart(2011-01-02 00:00:00), ";
 
@@ -24,6 +25,16 @@ fn refusal(outcome: Result<CalendarText, Trouble>) -> Option<Refusal> {
         Err(Trouble::Refused(why)) => Some(why),
         _ => None,
     }
+}
+
+// Why the same two dates and this part are refused, if they are.
+fn refusal_of(alloc: Global, part: &[u8]) -> Result<Option<Refusal>, Fail> {
+    let text = with_part(alloc, part)?;
+    let text = text.as_slice();
+    if text.len() > 1000 {
+        return Err(Fail::from("a long text"));
+    }
+    Ok(refusal(CalendarText::read(alloc, text)))
 }
 
 #[test]
@@ -104,75 +115,76 @@ fn a_part_that_is_none_is_refused_at_its_place(rt: HostRuntime) -> Result<(), Fa
         (b"pattern({527041 on},second) x", 92),
     ];
     for (part, place) in rows {
-        let text = with_part(rt.alloc(), part)?;
         let bad = Some(Refusal::BadCalendar { place });
-        assert_eq!(rt;
-            refusal(CalendarText::read(rt.alloc(), text.as_slice())),
-            bad,
-            "{part:?}"
-        );
+        assert_eq!(rt; refusal_of(rt.alloc(), part)?, bad, "{part:?}");
     }
-    let longest = with_part(rt.alloc(), b"pattname(abcdefghijklmnopqrstuvwxyz_12345)")?;
-    assert!(rt; CalendarText::read(rt.alloc(), longest.as_slice()).is_ok());
+    Ok(())
+}
+
+#[test]
+fn a_name_of_32_bytes_is_read(rt: HostRuntime) -> Result<(), Fail> {
+    let why = refusal_of(rt.alloc(), b"pattname(abcdefghijklmnopqrstuvwxyz_12345)")?;
+    assert_eq!(rt; why, None);
     Ok(())
 }
 
 #[test]
 fn a_pattern_over_a_limit_is_refused_after_the_grammar(rt: HostRuntime) -> Result<(), Fail> {
-    let text = with_part(rt.alloc(), b"pattern({527040 on,1 off},second)")?;
     let long = Some(Refusal::PatternTooLong {
         length: 527_041,
         runs: 0,
     });
-    assert_eq!(rt;
-        refusal(CalendarText::read(rt.alloc(), text.as_slice())),
-        long
-    );
+    let why = refusal_of(rt.alloc(), b"pattern({527040 on,1 off},second)")?;
+    assert_eq!(rt; why, long);
     Ok(())
 }
 
-// The calendar of a text with a pattern of its own.
-fn calendar(alloc: Global, text: &[u8]) -> Result<Calendar, Fail> {
-    let CalendarText {
-        start,
-        patt_start,
-        part,
-    } = CalendarText::read(alloc, text)?;
-    let PatternPart::Own(pattern) = part else {
-        return Err(Fail::from("a name"));
-    };
-    match Calendar::make(start, patt_start, pattern) {
+// A calendar that starts with its pattern.
+fn calendar(alloc: Global, start: &[u8], pattern: &[u8]) -> Result<Calendar, Fail> {
+    let start = Stamp::read(start).ok_or("no stamp")?;
+    if pattern.len() > 1000 {
+        return Err(Fail::from("a long text"));
+    }
+    let pattern = Pattern::read(alloc, pattern)?;
+    match Calendar::make(start, start, pattern) {
         Ok(calendar) => Ok(calendar),
         Err(_) => Err(Fail::from("no calendar")),
     }
 }
 
+// The text of a calendar with a pattern of its own.
+fn text_of(alloc: Global, calendar: &Calendar) -> Result<Bytes, Fail> {
+    let text = CalendarText {
+        start: calendar.start(),
+        patt_start: calendar.patt_start(),
+        part: PatternPart::Own(calendar.pattern().copy()?),
+    };
+    printed(alloc, &text)
+}
+
+fn week(alloc: Global) -> Result<Calendar, Fail> {
+    calendar(alloc, b"2011-01-02 00:00:00", b"{1 off,5 on,1 off},day")
+}
+
+fn hours(alloc: Global) -> Result<Calendar, Fail> {
+    calendar(alloc, b"2011-01-05 06:00:00", b"{1 on},hour")
+}
+
 #[test]
-fn the_and_and_the_or_of_two_texts_are_printed(rt: HostRuntime) -> Result<(), Fail> {
-    let week = with_part(rt.alloc(), b"pattern({1 off,5 on,1 off},day)")?;
-    let week = calendar(rt.alloc(), week.as_slice())?;
-    let hours = calendar(
-        rt.alloc(),
-        b"startdate(2011-01-05 06:00:00), pattstart(2011-01-05 06:00:00), pattern({1 on},hour)",
-    )?;
-    let rows: [(Calendar, &[u8]); 2] = [
-        (
-            week.and_op(&hours)?,
-            b"startdate(2011-01-05 06:00:00.00000), pattstart(2011-01-05 06:00:00.00000), pattern({66 on,48 off,54 on},hour)",
-        ),
-        (
-            week.or_op(&hours)?,
-            b"startdate(2011-01-05 06:00:00.00000), pattstart(2011-01-05 06:00:00.00000), pattern({168 on},hour)",
-        ),
-    ];
-    for (joined, form) in rows {
-        let text = CalendarText {
-            start: joined.start(),
-            patt_start: joined.patt_start(),
-            part: PatternPart::Own(joined.pattern().copy()?),
-        };
-        assert_eq!(rt; printed(rt.alloc(), &text)?.as_slice(), form);
-    }
+fn the_and_of_two_calendars_is_printed(rt: HostRuntime) -> Result<(), Fail> {
+    let both = week(rt.alloc())?.and_op(&hours(rt.alloc())?)?;
+    let form: &[u8] =
+        b"startdate(2011-01-05 06:00:00.00000), pattstart(2011-01-05 06:00:00.00000), pattern({66 on,48 off,54 on},hour)";
+    assert_eq!(rt; text_of(rt.alloc(), &both)?.as_slice(), form);
+    Ok(())
+}
+
+#[test]
+fn the_or_of_two_calendars_is_printed(rt: HostRuntime) -> Result<(), Fail> {
+    let either = week(rt.alloc())?.or_op(&hours(rt.alloc())?)?;
+    let form: &[u8] =
+        b"startdate(2011-01-05 06:00:00.00000), pattstart(2011-01-05 06:00:00.00000), pattern({168 on},hour)";
+    assert_eq!(rt; text_of(rt.alloc(), &either)?.as_slice(), form);
     Ok(())
 }
 

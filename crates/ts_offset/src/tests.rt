@@ -67,19 +67,24 @@ fn an_index_counts_the_starts_after_the_first_stamp(rt: HostRuntime) -> Result<(
 }
 
 #[test]
-fn months_and_years_are_counted_by_their_starts(rt: HostRuntime) -> Result<(), Fail> {
+fn months_are_counted_by_their_starts(rt: HostRuntime) -> Result<(), Fail> {
     let months = calendar(rt.alloc(), b"2012-01-28 00:00:00", Unit::Month, true, &[1])?;
     let counter = Counter::make(rt.alloc(), &months)?;
     let from = stamp(b"2012-01-28 00:00:00")?;
-    assert_eq!(rt; counter.cal_index(from, stamp(b"2012-03-28 00:00:00")?), 2);
-    assert_eq!(rt;
-        counter.cal_index(from, stamp(b"2012-03-27 23:59:59.99999")?),
-        1
-    );
-    assert_eq!(rt;
-        counter.cal_stamp(from, 13),
-        Some(stamp(b"2013-02-28 00:00:00")?)
-    );
+    let rows: [(&[u8], i64); 2] = [
+        (b"2012-03-28 00:00:00", 2),
+        (b"2012-03-27 23:59:59.99999", 1),
+    ];
+    for (to, count) in rows {
+        assert_eq!(rt; counter.cal_index(from, stamp(to)?), count, "{to:?}");
+    }
+    let later = stamp(b"2013-02-28 00:00:00")?;
+    assert_eq!(rt; counter.cal_stamp(from, 13), Some(later));
+    Ok(())
+}
+
+#[test]
+fn each_third_month_has_an_offset(rt: HostRuntime) -> Result<(), Fail> {
     let quarters = calendar(
         rt.alloc(),
         b"2012-01-28 00:00:00",
@@ -88,18 +93,27 @@ fn months_and_years_are_counted_by_their_starts(rt: HostRuntime) -> Result<(), F
         &[1, 2],
     )?;
     let grid = Grid::make(rt.alloc(), &quarters, stamp(b"2012-02-01 00:00:00")?)?;
-    assert_eq!(rt; grid.origin(), from);
-    assert_eq!(rt; grid.offset_of(stamp(b"2012-05-27 00:00:00")?), Ok(1));
-    assert_eq!(rt;
-        grid.offset_of(stamp(b"2012-05-28 00:00:00")?),
-        Err(Refusal::OffStamp)
-    );
-    assert_eq!(rt; grid.stamp_of(3), Some(stamp(b"2012-10-28 00:00:00")?));
+    let rows: [(&[u8], Result<u64, Refusal>); 3] = [
+        (b"2012-01-28 00:00:00", Ok(0)),
+        (b"2012-05-27 00:00:00", Ok(1)),
+        (b"2012-05-28 00:00:00", Err(Refusal::OffStamp)),
+    ];
+    for (text, offset) in rows {
+        assert_eq!(rt; grid.offset_of(stamp(text)?), offset, "{text:?}");
+    }
+    let third = stamp(b"2012-10-28 00:00:00")?;
+    assert_eq!(rt; grid.stamp_of(3), Some(third));
+    Ok(())
+}
+
+#[test]
+fn years_are_counted_to_their_last(rt: HostRuntime) -> Result<(), Fail> {
     let years = calendar(rt.alloc(), b"2012-02-28 00:00:00", Unit::Year, true, &[1])?;
-    let last = stamp(b"9999-12-31 23:59:59.99999")?;
     let grid = Grid::make(rt.alloc(), &years, stamp(b"2012-02-28 00:00:00")?)?;
-    assert_eq!(rt; grid.offset_of(last), Ok(7987));
-    assert_eq!(rt; grid.stamp_of(7987), Some(stamp(b"9999-02-28 00:00:00")?));
+    let end = stamp(b"9999-12-31 23:59:59.99999")?;
+    let last = stamp(b"9999-02-28 00:00:00")?;
+    assert_eq!(rt; grid.offset_of(end), Ok(7987));
+    assert_eq!(rt; grid.stamp_of(7987), Some(last));
     assert_eq!(rt; grid.stamp_of(7988), None);
     Ok(())
 }
@@ -128,14 +142,17 @@ fn a_stamp_is_sought_among_later_starts(rt: HostRuntime) -> Result<(), Fail> {
 #[test]
 fn a_range_lists_the_starts_of_both_ends_too(rt: HostRuntime) -> Result<(), Fail> {
     let week = Counter::make(rt.alloc(), &work_week(rt.alloc())?)?;
-    let listed = week.cal_range(
-        stamp(b"2011-01-06 00:00:00")?,
-        stamp(b"2011-01-10 00:00:00")?,
-    )?;
-    assert_eq!(rt; listed.len(), 3);
-    assert_eq!(rt; listed[0], stamp(b"2011-01-06 00:00:00")?);
-    assert_eq!(rt; listed[1], stamp(b"2011-01-07 00:00:00")?);
-    assert_eq!(rt; listed[2], stamp(b"2011-01-10 00:00:00")?);
+    let from = stamp(b"2011-01-06 00:00:00")?;
+    let to = stamp(b"2011-01-10 00:00:00")?;
+    let listed = week.cal_range(from, to)?;
+    let between = stamp(b"2011-01-07 00:00:00")?;
+    assert_eq!(rt; listed.as_slice(), [from, between, to].as_slice());
+    Ok(())
+}
+
+#[test]
+fn a_range_has_as_many_starts_as_it_holds(rt: HostRuntime) -> Result<(), Fail> {
+    let week = Counter::make(rt.alloc(), &work_week(rt.alloc())?)?;
     let rows: [(&[u8], &[u8], usize); 5] = [
         (b"2011-01-06 00:00:00.00001", b"2011-01-10 00:00:00", 2),
         (b"2011-01-06 00:00:00", b"2011-01-09 23:59:59.99999", 2),
@@ -144,11 +161,8 @@ fn a_range_lists_the_starts_of_both_ends_too(rt: HostRuntime) -> Result<(), Fail
         (b"0001-01-01 00:00:00", b"2011-01-03 00:00:00", 1),
     ];
     for (from, to, count) in rows {
-        assert_eq!(rt;
-            week.cal_range(stamp(from)?, stamp(to)?)?.len(),
-            count,
-            "{from:?} {to:?}"
-        );
+        let listed = week.cal_range(stamp(from)?, stamp(to)?)?;
+        assert_eq!(rt; listed.len(), count, "{from:?} {to:?}");
     }
     Ok(())
 }
@@ -168,39 +182,53 @@ fn a_range_of_more_than_a_million_starts_is_refused(rt: HostRuntime) -> Result<(
     Ok(())
 }
 
-#[test]
-fn one_interval_of_a_long_pattern_is_found(rt: HostRuntime) -> Result<(), Fail> {
-    let rare = calendar(
-        rt.alloc(),
+// One minute on in 527040.
+fn rare(alloc: Global) -> Result<Calendar, Fail> {
+    calendar(
+        alloc,
         b"2011-01-01 00:00:00",
         Unit::Minute,
         true,
         &[1, 527_039],
-    )?;
+    )
+}
+
+#[test]
+fn one_interval_of_a_long_pattern_is_counted(rt: HostRuntime) -> Result<(), Fail> {
+    let counter = Counter::make(rt.alloc(), &rare(rt.alloc())?)?;
     let first = stamp(b"2011-01-01 00:00:00")?;
     let next = stamp(b"2012-01-02 00:00:00")?;
-    let counter = Counter::make(rt.alloc(), &rare)?;
     assert_eq!(rt; counter.cal_index(first, next), 1);
     assert_eq!(rt; counter.cal_index(next, first), -1);
     assert_eq!(rt; counter.cal_stamp(first, 1), Some(next));
-    let grid = Grid::make(rt.alloc(), &rare, stamp(b"2011-01-01 00:01:00")?)?;
-    assert_eq!(rt; grid.origin(), next);
-    assert_eq!(rt; grid.offset_of(first), Err(Refusal::BeforeOrigin));
-    assert_eq!(rt; grid.offset_of(stamp(b"2012-01-02 00:00:59.99999")?), Ok(0));
-    assert_eq!(rt;
-        grid.offset_of(stamp(b"2012-01-02 00:01:00")?),
-        Err(Refusal::OffStamp)
-    );
     Ok(())
 }
 
 #[test]
+fn one_interval_of_a_long_pattern_is_found(rt: HostRuntime) -> Result<(), Fail> {
+    let after = stamp(b"2011-01-01 00:01:00")?;
+    let grid = Grid::make(rt.alloc(), &rare(rt.alloc())?, after)?;
+    assert_eq!(rt; grid.origin(), stamp(b"2012-01-02 00:00:00")?);
+    let rows: [(&[u8], Result<u64, Refusal>); 3] = [
+        (b"2011-01-01 00:00:00", Err(Refusal::BeforeOrigin)),
+        (b"2012-01-02 00:00:59.99999", Ok(0)),
+        (b"2012-01-02 00:01:00", Err(Refusal::OffStamp)),
+    ];
+    for (text, offset) in rows {
+        assert_eq!(rt; grid.offset_of(stamp(text)?), offset, "{text:?}");
+    }
+    Ok(())
+}
+
+// Offsets of the week of work from Monday 2011-01-03.
+fn monday(alloc: Global) -> Result<Grid, Fail> {
+    let origin = stamp(b"2011-01-03 00:00:00")?;
+    Ok(Grid::make(alloc, &work_week(alloc)?, origin)?)
+}
+
+#[test]
 fn offsets_skip_the_intervals_that_are_off(rt: HostRuntime) -> Result<(), Fail> {
-    let grid = Grid::make(
-        rt.alloc(),
-        &work_week(rt.alloc())?,
-        stamp(b"2011-01-03 00:00:00")?,
-    )?;
+    let grid = monday(rt.alloc())?;
     let starts: [&[u8]; 7] = [
         b"2011-01-03 00:00:00",
         b"2011-01-04 00:00:00",
@@ -210,18 +238,17 @@ fn offsets_skip_the_intervals_that_are_off(rt: HostRuntime) -> Result<(), Fail> 
         b"2011-01-10 00:00:00",
         b"2011-01-11 00:00:00",
     ];
-    for (offset, start) in starts.iter().enumerate() {
-        assert_eq!(rt;
-            grid.offset_of(stamp(start)?),
-            Ok(offset as u64),
-            "{start:?}"
-        );
-        assert_eq!(rt;
-            grid.stamp_of(offset as u64),
-            Some(stamp(start)?),
-            "{start:?}"
-        );
+    for (offset, text) in starts.iter().enumerate() {
+        let start = stamp(text)?;
+        assert_eq!(rt; grid.offset_of(start), Ok(offset as u64), "{text:?}");
+        assert_eq!(rt; grid.stamp_of(offset as u64), Some(start), "{text:?}");
     }
+    Ok(())
+}
+
+#[test]
+fn a_stamp_has_the_offset_of_its_interval(rt: HostRuntime) -> Result<(), Fail> {
+    let grid = monday(rt.alloc())?;
     let rows: [(&[u8], Result<u64, Refusal>); 6] = [
         (b"2011-01-08 00:00:00", Err(Refusal::OffStamp)),
         (b"2011-01-09 23:59:59.99999", Err(Refusal::OffStamp)),
@@ -271,17 +298,28 @@ fn an_origin_moves_to_an_on_start(rt: HostRuntime) -> Result<(), Fail> {
         let grid = Grid::make(rt.alloc(), &week, stamp(origin)?)?;
         assert_eq!(rt; grid.origin(), stamp(moved)?, "{origin:?}");
     }
-    let late = calendar(
-        rt.alloc(),
-        b"9998-01-01 00:00:00",
-        Unit::Year,
-        true,
-        &[1, 1],
-    )?;
-    let outcome = Grid::make(rt.alloc(), &late, stamp(b"9999-06-01 00:00:00")?);
+    Ok(())
+}
+
+// Each other year on, up to 9998.
+fn last_years(alloc: Global) -> Result<Calendar, Fail> {
+    calendar(alloc, b"9998-01-01 00:00:00", Unit::Year, true, &[1, 1])
+}
+
+#[test]
+fn no_origin_lies_behind_the_last_on_start(rt: HostRuntime) -> Result<(), Fail> {
+    let after = stamp(b"9999-06-01 00:00:00")?;
+    let outcome = Grid::make(rt.alloc(), &last_years(rt.alloc())?, after);
     assert_eq!(rt; refusal(outcome), Some(Refusal::PastEnd));
-    let grid = Grid::make(rt.alloc(), &late, stamp(b"9998-06-01 00:00:00")?)?;
-    assert_eq!(rt; grid.stamp_of(0), Some(stamp(b"9998-01-01 00:00:00")?));
+    Ok(())
+}
+
+#[test]
+fn the_last_on_start_has_an_offset(rt: HostRuntime) -> Result<(), Fail> {
+    let within = stamp(b"9998-06-01 00:00:00")?;
+    let grid = Grid::make(rt.alloc(), &last_years(rt.alloc())?, within)?;
+    let start = stamp(b"9998-01-01 00:00:00")?;
+    assert_eq!(rt; grid.stamp_of(0), Some(start));
     assert_eq!(rt; grid.stamp_of(1), None);
     Ok(())
 }
