@@ -17,6 +17,8 @@ use Rattle.ts_container.specs.declared.surveyed.Surveyed.{Surveyed}
 use Rattle.ts_model.specs.Table.{Slots}
 use Rattle.ts_model.specs.Parts.{tables_of, AreParts}
 use Rattle.ts_model.proofs.PartsLemmas.{read-table, row_type-name, container-name, series-name}
+use Rattle.ts_container.specs.OnePage.{AreFilled}
+use Rattle.ts_container.proofs.ElementLemmas.{within_list}
 use Rattle.ts_container.proofs.SurveyLemmas.{reads_more, reads_err, reads_refused}
 use Rattle.ts_container.proofs.UniqueLemmas.{unique}
 use Rattle.ts_container.proofs.ShapeLemmas.{AllAlike, pages_alike, one_alike, as_many, count_places, quotas_kept, quotas_listed}
@@ -100,6 +102,13 @@ not_paid tells count d v space spare second told holds sound read is over l laid
     let kept : KeepsQuotas (record { definitions = d; element_pages = l.element_pages }) = subst (λ (x : Definitions). KeepsQuotas (record { definitions = x; element_pages = l.element_pages })) same laid.rules.charges in
     over (quotas_listed d space l.element_pages sound.tables (λ slot within. counted space read.elements lists slot within ∙ as_many slot read.elements l.element_pages like) kept)
 
+-- each page that was read is filled
+filled_seen : (tells : Bool) (count : ℕ) (d : Definitions) (v : Contents) (es : List ElementPage) → length es ≡ count → ((j : ℕ) → j < count → IsSeen tells v d (930 + j) (element_page j es)) → AreFilled (record { definitions = d; element_pages = es })
+filled_seen tells count d v es size seen i slot fs is =
+    let one = seen i (omega (arith, within_list es i slot fs is, size)) in
+    let here = subst (HoldsElements d one.0) is one.1 in
+    (here.0, here.1, here.2.fill)
+
 -- the layout that was read
 pub is_found : (tells : Bool) (count : ℕ) (d : Definitions) (v : Contents) (space : Directory) (spare : List ℕ) (second : Option ℕ) → 931 ≤ count → count ≤ 66466 → (IsTrue tells → v.page 0 ≡ header_bytes (count - 930)) → (IsTrue tells → HoldsDefinitions v.page d) → AreSound (count - 930) d
     → AllRead tells (count - 930) d v space spare second → second ≡ None → KeepQuotas d space → IsFound tells count v d space spare
@@ -108,7 +117,7 @@ is_found tells count d v space spare second low high header holds sound read is 
     let lists = all_listed second space es is read.listed.lists in
     let l : Layout = record { definitions = d; element_pages = es } in (
       l,
-      record { definitions = refl; places = lists.places; free = read.listed.free },
+      record { definitions = refl; places = lists.places; free = read.listed.free; filled = filled_seen tells (count - 930) d v es read.size read.seen },
       omega (arith, read.size, low),
       record {
         some = omega (arith, read.size, low);

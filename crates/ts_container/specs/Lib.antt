@@ -7,3 +7,6 @@ pub mod Fault
 pub mod Survey
 pub mod Elements
 pub mod Charges
+pub mod Changed
+pub mod Lookup
+pub mod OnePage

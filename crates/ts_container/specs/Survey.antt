@@ -14,6 +14,7 @@ use Rattle.ts_container.specs.declared.fault.SurveyFault.TheVariants.{NotAStore,
 use Rattle.ts_container.specs.Slot.{header_bytes, slot_bytes, slot_size, page_of_slot, byte_of_slot}
 use Rattle.ts_container.specs.Meaning.{Layout, HoldsDefinitions, HoldsLayout, AreSound, IsSound, IsLaidOut}
 use Rattle.ts_container.specs.Surveyed.{ListsPlaces, free_pages}
+use Rattle.ts_container.specs.OnePage.{AreFilled}
 use Rattle.ts_container.specs.Reading.{AreReadTo, HoldNone}
 
 -- what a call that only reads pages leaves, and when it fails
@@ -53,6 +54,7 @@ pub record IsSurveyOf (d : Definitions) (space : Directory) (spare : List ℕ) (
   pub definitions : d ≡ l.definitions
   pub places : ListsPlaces space l
   pub free : spare ≡ free_pages l
+  pub filled : AreFilled l
 
 -- The pages, so many in all, are laid out as what was found: on every keeper of pages it keeps the rules, and where the
 -- pages are told they hold it.

@@ -5,11 +5,27 @@ ghost use Rattle.ts_space.specs.Directory.{places_of};
 ghost use Rattle.ts_space.specs.Charge.{irregular_places_charge};
 ghost use Rattle.ts_container.specs.Meaning.{KeepLimits};
 ghost use Rattle.ts_container.specs.Charges.{charge_listed, container_charge, KeepsQuotaAt, KeepQuotas};
+ghost use Rattle.ts_container.specs.OnePage.{charge_in};
 
 use crate::content::row_type_in;
 use ts_cells::page_room;
 use ts_model::{Def, Defs, Kind};
 use ts_space::{Space, charge_irregular};
+
+/// What all series of the container in a slot are charged together; nothing where there is none.
+pub fn charge_of_container(defs: &Defs, space: &Space, slot: u8) -> u64
+    requires slot { slot < 64 }
+    requires limits { KeepLimits defs.now.definitions }
+    requires rules { IsDefinitions defs.now.definitions }
+    requires few { (slot : ℕ) → slot < 4096 → length (places_of slot space.now) ≤ 1 }
+    ensures value { result ≡ charge_in defs.now.definitions space.now slot }
+    ensures bound { result ≤ 2 ^ 44 }
+{
+    match row_type_in(defs, slot) {
+        Some(kind) => charge_of(defs, space, slot, page_room(kind)),
+        None => 0,
+    }
+}
 
 /// Whether no container is charged more than its quota.
 pub(crate) fn keep_quotas(defs: &Defs, space: &Space) -> bool
@@ -48,7 +64,8 @@ fn charge_of(defs: &Defs, space: &Space, container: u8, room: usize) -> u64
     requires room { 0 < room }
     requires rules { IsDefinitions defs.now.definitions }
     requires few { (slot : ℕ) → slot < 4096 → length (places_of slot space.now) ≤ 1 }
-    ensures { result ≡ container_charge defs.now.definitions space.now container room }
+    ensures value { result ≡ container_charge defs.now.definitions space.now container room }
+    ensures bound { result ≤ 2 ^ 44 }
 {
     let mut sum = 0;
     for slot in 0..4096 {

@@ -54,7 +54,7 @@ fn series_content(page: &Page, defs: &Defs, slot: u16) -> Option<Content>
 }
 
 /// The row type of the series in a slot, if there is one.
-fn row_type_of(defs: &Defs, slot: u16) -> Option<&RowType>
+pub fn row_type_of(defs: &Defs, slot: u16) -> Option<&RowType>
     requires limits { KeepLimits defs.now.definitions }
     requires rules { IsDefinitions defs.now.definitions }
     ensures value { option_copied result ≡ heading_at defs.now.definitions slot }
@@ -70,7 +70,7 @@ fn row_type_of(defs: &Defs, slot: u16) -> Option<&RowType>
 }
 
 /// The row type of the container in a slot, if there is one.
-pub(crate) fn row_type_in(defs: &Defs, container: u8) -> Option<&RowType>
+pub fn row_type_in(defs: &Defs, container: u8) -> Option<&RowType>
     requires limits { KeepLimits defs.now.definitions }
     requires slot { container < 64 }
     ensures { option_copied result ≡ heading_in defs.now.definitions container }
