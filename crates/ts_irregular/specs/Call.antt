@@ -1,0 +1,66 @@
+-- What the two calls do to pages and places.
+use Rattle.std.specs.Prelude.{◌≡◌, ◌⊎◌, ℕ, ◌≤◌, ℤ, Bool, IsTrue, Option, Result, List, [], ◌∷◌, length}
+use Rattle.ts_base.specs.declared.fault.StoreFault.{StoreFault}
+use Rattle.ts_space.specs.declared.place.Place.{Place}
+use Rattle.ts_space.specs.Directory.{Directory}
+use Rattle.ts_page.specs.Head.{zero_page}
+use Rattle.ts_page.specs.Pages.{Contents, Answered, EqualPages, with_page}
+use Rattle.ts_row.specs.declared.kind.Column.{Column}
+use Rattle.ts_row.specs.Row.{Values}
+use Rattle.ts_cells.specs.Cell.{Element, page_room}
+use Rattle.ts_cells.specs.IrregularPage.{AreInOrder, irregular_page}
+use Rattle.ts_irregular.specs.Edit.{element_at, edited}
+use Rattle.ts_irregular.specs.OnePage.{place_of, AreSeen}
+
+-- pages are read
+pub record Reads {T : Type 0} (tells : Bool) (result : Result T StoreFault) (v w : Contents) : Type 0 where
+  pub call : Answered result v w
+  pub pages : IsTrue tells → EqualPages v.page w.page
+  pub free : w.free ≡ v.free
+  pub change_bytes : w.change_bytes ≡ v.change_bytes
+
+-- this is the row at a stamp among the elements that are seen
+pub record IsFound (tells : Bool) (slot : ℕ) (columns : List Column) (stamp : ℤ) (places : List Place) (v : Contents) (row : Option Values) : Type 0 where
+  pub elements : List Element
+  pub seen : AreSeen tells slot columns v.page places elements
+  pub found : row ≡ element_at stamp elements
+
+-- a series without elements stays one
+pub record StaysEmpty (tells : Bool) (now : List Place) (v w : Contents) : Type 0 where
+  pub places : now ≡ []
+  pub free : w.free ≡ v.free
+  pub pages : IsTrue tells → EqualPages v.page w.page
+
+-- the page of a series has these elements
+pub record IsPagePut (tells : Bool) (slot : ℕ) (columns : List Column) (number : ℕ) (es : List Element) (now : List Place) (v w : Contents) : Type 0 where
+  pub places : now ≡ place_of number es
+  pub pages : IsTrue tells → EqualPages (with_page number (irregular_page slot columns es) v.page) w.page
+
+-- the page of a series is free
+pub record IsPageFreed (tells : Bool) (number : ℕ) (now : List Place) (v w : Contents) : Type 0 where
+  pub places : now ≡ []
+  pub free : w.free ≡ number ∷ v.free
+  pub pages : IsTrue tells → EqualPages (with_page number zero_page v.page) w.page
+
+-- A series that had these places has these elements and these places: a first page is taken, and one without elements is freed.
+abbrev pub AreKept : Bool → ℕ → List Column → List Place → List Element → List Place → Contents → Contents → Type 0
+AreKept tells slot columns [] [] now v w = StaysEmpty tells now v w
+AreKept tells slot columns [] (e ∷ es) now v w =
+    (number : ℕ) × (v.free ≡ number ∷ w.free) × IsPagePut tells slot columns number (e ∷ es) now v w
+AreKept tells slot columns (place ∷ others) [] now v w = IsPageFreed tells place.page now v w
+AreKept tells slot columns (place ∷ others) (e ∷ es) now v w =
+    (w.free ≡ v.free) × IsPagePut tells slot columns place.page (e ∷ es) now v w
+
+-- a row is put at a stamp, or taken away, among the elements that are seen
+pub record IsEdited (tells : Bool) (slot : ℕ) (columns : List Column) (stamp : ℤ) (row : Option Values) (old new : List Place) (v w : Contents) : Type 0 where
+  pub elements : List Element
+  pub seen : AreSeen tells slot columns v.page old elements
+  pub order : AreInOrder columns (edited stamp row elements)
+  pub room : length (edited stamp row elements) ≤ page_room columns
+  pub kept : AreKept tells slot columns old (edited stamp row elements) new v w
+
+-- an edit that fails leaves the pages and all places; one page may be taken
+pub record IsNotEdited (tells : Bool) (old new : Directory) (v w : Contents) : Type 0 where
+  pub places : new.lists ≡ old.lists
+  pub pages : IsTrue tells → EqualPages v.page w.page
+  pub free : (w.free ≡ v.free) ⊎ ((number : ℕ) × (v.free ≡ number ∷ w.free))

@@ -1,0 +1,3 @@
+pub mod Edit
+pub mod OnePage
+pub mod Call

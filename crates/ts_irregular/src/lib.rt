@@ -1,0 +1,18 @@
+//! The elements of an irregular series on one page: the row at a stamp is read, put or taken away. A page is read whole
+//! and judged against its place in the directory; one that doesn't agree is taken as a page without elements. Each
+//! call says which elements it saw, and an edit leaves the page of these with one changed (`specs/Edit`,
+//! `specs/OnePage`, `specs/Call`). Stands on ts_cells, ts_space and ts_page; knows nothing of definitions, quotas or
+//! journals. Read `specs/Edit.antt`, `specs/Call.antt`, then `get.rt` and `set.rt`.
+#![tactic(auto)]
+
+mod cells;
+mod get;
+mod laws;
+mod page;
+mod search;
+mod see;
+mod set;
+
+pub use get::irregular_get;
+pub use laws::{an_edit_keeps_one_page, edits_are_those_of_a_map, edits_keep_the_order};
+pub use set::irregular_set;

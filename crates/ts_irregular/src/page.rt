@@ -1,0 +1,84 @@
+// The page of a series, edited, and its place.
+ghost use Rattle.std.specs.Prelude.{◌≡◌, ◌≤◌, IsTrue, List, [], ◌∷◌, length, drop};
+ghost use Rattle.ts_row.specs.Row.{fits};
+ghost use Rattle.ts_cells.specs.Cell.{Element, page_room};
+ghost use Rattle.ts_cells.specs.IrregularPage.{AreElements, AreInOrder, behind_head, irregular_page};
+ghost use Rattle.ts_irregular.specs.Edit.{with_element, without_element, taken_for};
+ghost use Rattle.ts_irregular.specs.OnePage.{place_of};
+
+use crate::cells::{put_row, take_row};
+use crate::search::units_in;
+use ts_base::Stamp;
+use ts_page::{Head, Page};
+use ts_row::{Row, Shelf};
+use ts_space::Place;
+
+/// The first byte behind the head of a page.
+pub(crate) const HEAD: usize = 32;
+
+/// Puts a row at a stamp into a page with so many elements, and gives how many it has then.
+pub(crate) fn put_into(
+    shelf: &Shelf,
+    page: &mut Page,
+    count: usize,
+    stamp: Stamp,
+    row: &Row,
+) -> usize
+    requires room { count ≤ page_room shelf.now.kind.now.columns }
+    requires fits { IsTrue (fits shelf.now.kind.now.columns row.now) }
+    ensures count { (es : List Element) → AreInOrder shelf.now.kind.now.columns es → length es ≡ count
+        → drop 32 page.old.bytes ≡ behind_head shelf.now.kind.now.columns es
+        → length (with_element stamp row.now (taken_for (page_room shelf.now.kind.now.columns) stamp es)) ≡ result }
+    ensures bytes { (es : List Element) → AreInOrder shelf.now.kind.now.columns es → length es ≡ count
+        → drop 32 page.old.bytes ≡ behind_head shelf.now.kind.now.columns es
+        → page.new.bytes ≡ irregular_page shelf.now.series shelf.now.kind.now.columns
+        (with_element stamp row.now (taken_for (page_room shelf.now.kind.now.columns) stamp es)) }
+    ensures some { 1 ≤ result }
+    ensures most { result ≤ page_room shelf.now.kind.now.columns }
+{
+    let count = put_row(shelf.kind, &mut page.bytes[HEAD..], count, stamp, row);
+    set_count(shelf, page, count);
+    count
+}
+
+/// Takes the element at a stamp, if one is there, out of a page with so many, and gives how many are left.
+pub(crate) fn take_out(shelf: &Shelf, page: &mut Page, count: usize, stamp: Stamp) -> usize
+    requires room { count ≤ page_room shelf.now.kind.now.columns }
+    ensures count { (es : List Element) → AreInOrder shelf.now.kind.now.columns es → length es ≡ count
+        → drop 32 page.old.bytes ≡ behind_head shelf.now.kind.now.columns es
+        → length (without_element stamp es) ≡ result }
+    ensures bytes { (es : List Element) → AreInOrder shelf.now.kind.now.columns es → length es ≡ count
+        → drop 32 page.old.bytes ≡ behind_head shelf.now.kind.now.columns es
+        → page.new.bytes ≡ irregular_page shelf.now.series shelf.now.kind.now.columns (without_element stamp es) }
+    ensures most { result ≤ count }
+{
+    let count = take_row(shelf.kind, &mut page.bytes[HEAD..], count, stamp);
+    set_count(shelf, page, count);
+    count
+}
+
+// Writes the head of a page with so many elements.
+fn set_count(shelf: &Shelf, page: &mut Page, count: usize)
+    requires { count ≤ page_room shelf.now.kind.now.columns }
+    ensures { (es : List Element) → length es ≡ count → drop 32 page.old.bytes ≡ behind_head shelf.now.kind.now.columns es
+        → page.new.bytes ≡ irregular_page shelf.now.series shelf.now.kind.now.columns es }
+{
+    page.set_head(&Head::Irregular {
+        series: shelf.series,
+        count: count as u16,
+    });
+}
+
+/// The place of a page with so many elements.
+pub(crate) fn place_in(shelf: &Shelf, number: u32, count: usize, page: &Page) -> Place
+    requires some { 1 ≤ count }
+    requires room { count ≤ page_room shelf.now.kind.now.columns }
+    ensures { (es : List Element) → AreElements shelf.now.kind.now.columns es → length es ≡ count
+        → page.now.bytes ≡ irregular_page shelf.now.series shelf.now.kind.now.columns es → place_of number es ≡ result ∷ [] }
+{
+    Place {
+        at: units_in(&page.bytes[HEAD + 1..HEAD + 9]),
+        page: number,
+        count: count as u16,
+    }
+}
