@@ -44,5 +44,6 @@ pub use laws::{
     containers_stand_in_slots, pages_mean_one_catalogue, references_are_names,
     row_types_stand_in_slots, series_stand_in_slots, slots_are_counted,
 };
+pub use rules::sum_of_quotas;
 pub use surveyed::{Surveyed, survey};
 pub use write::write_slot;

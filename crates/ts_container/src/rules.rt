@@ -63,7 +63,7 @@ fn is_there(defs: &Defs, def: &Def) -> bool
 }
 
 /// The quotas of all containers together.
-pub(crate) fn sum_of_quotas(defs: &Defs) -> u64
+pub fn sum_of_quotas(defs: &Defs) -> u64
     requires { length defs.now.definitions.containers ≡ 64 }
     ensures { result ≡ sum_of_quotas defs.now.definitions.containers }
 {

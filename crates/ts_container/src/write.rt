@@ -1,5 +1,5 @@
 // One slot is written into its page.
-ghost use Rattle.std.specs.Prelude.{◌≡◌, ◌<◌, ◌≤◌, IfSome, option_copied, length, replicate};
+ghost use Rattle.std.specs.Prelude.{◌≡◌, ◌+◌, ◌<◌, ◌≤◌, IfSome, option_copied, length, replicate};
 ghost use Rattle.ts_model.specs.Definitions.{kind_of, limit};
 ghost use Rattle.ts_container.specs.Slot.{slot_size, slot_bytes};
 ghost use Rattle.ts_container.specs.Survey.{with_slot_bytes, SlotWritten};
@@ -23,6 +23,7 @@ pub fn write_slot<P: Pages>(
     requires kind { IfSome (option_copied def) (λ d. kind_of d ≡ kind) }
     requires within { 930 ≤ (P.contents pages.old).count }
     ensures written { SlotWritten P.tells kind slot (option_copied def.entry) result (P.contents pages.old) (P.contents pages.new) }
+    ensures bytes { (P.contents pages.new).change_bytes ≤ (P.contents pages.old).change_bytes + 4101 }
     ensures undisturbed { P.undisturbed pages.old pages.new }
 {
     let mut page = Page::zero();
