@@ -31,9 +31,6 @@ pub enum Command {
         key: Key,
         container: Name,
     },
-    DropSeries {
-        key: Key,
-    },
     ListSeries {
         container: Name,
     },

@@ -11,14 +11,13 @@ pub(crate) enum Routine {
     TSContainerDestroy,
     TSContainerUsage,
     TSCreateIrr,
-    DropSeries,
     ListSeries,
     InsElem,
     GetElem,
     GetNelems,
 }
 
-const ROUTINES: [Routine; 11] = [
+const ROUTINES: [Routine; 10] = [
     Routine::InsElem,
     Routine::GetElem,
     Routine::GetNelems,
@@ -28,7 +27,6 @@ const ROUTINES: [Routine; 11] = [
     Routine::TSContainerDestroy,
     Routine::TSContainerUsage,
     Routine::TSCreateIrr,
-    Routine::DropSeries,
     Routine::ListSeries,
 ];
 
@@ -46,7 +44,6 @@ impl Routine {
             Routine::TSContainerDestroy => b"TSContainerDestroy",
             Routine::TSContainerUsage => b"TSContainerUsage",
             Routine::TSCreateIrr => b"TSCreateIrr",
-            Routine::DropSeries => b"DropSeries",
             Routine::ListSeries => b"ListSeries",
             Routine::InsElem => b"InsElem",
             Routine::GetElem => b"GetElem",
