@@ -6,8 +6,8 @@ use Rattle.ts_command.specs.declared.command.Command.{Command}
 use Rattle.ts_command.specs.declared.command.Command.TheVariants as commands
 use Rattle.ts_replies.specs.Acknowledged.{AreApart}
 use Rattle.ts_model.specs.Catalogue.{Catalogue}
-use Rattle.ts_engine.specs.Item.{Item, Asked, NoCommand, TooLong, Unended}
-use Rattle.ts_engine.specs.Answer.{Tried, Answered, ◌>>=◌, settled, outcome, answer, carried_out, create_row_type, drop_row_type, create_container, destroy_container, container_usage, create_irregular, drop_series, list_series, insert_element, get_element, count_elements}
+use Rattle.ts_command.specs.Script.{Request}
+use Rattle.ts_engine.specs.Answer.{Tried, Answered, ◌>>=◌, settled, outcome, answer, carried_out, create_row_type, drop_row_type, create_container, destroy_container, container_usage, create_irregular, list_series, insert_element, get_element, count_elements}
 use Rattle.ts_engine.proofs.ReplyLemmas.{IsApart, Begins, apart-begins, ok-begins, count-begins, counts-begins, stamp-begins, elements-begin, series_text-begins, refusal-apart}
 
 -- what is said of a reply begins with another byte than the memory line
@@ -44,17 +44,13 @@ create_irregular-differs : (key container : List ℕ) (cat : Catalogue) → Diff
 unfolding create_irregular
 create_irregular-differs key container cat = then _ _ (λ a. then _ _ (λ b. then _ _ (λ c. ok-begins)))
 
-drop_series-differs : (key : List ℕ) (cat : Catalogue) → Differs (drop_series key cat)
-unfolding drop_series
-drop_series-differs key cat = then _ _ (λ a. ok-begins)
-
 list_series-differs : (container : List ℕ) (cat : Catalogue) → Differs (list_series container cat)
 unfolding list_series
 list_series-differs container cat = then _ _ (λ a. series_text-begins _)
 
 insert_element-differs : (key : List ℕ) (stamp : ℤ) (literals : List Literal) (cat : Catalogue) → Differs (insert_element key stamp literals cat)
 unfolding insert_element
-insert_element-differs key stamp literals cat = then _ _ (λ a. then _ _ (λ b. then _ _ (λ c. then _ _ (λ d. stamp-begins stamp))))
+insert_element-differs key stamp literals cat = then _ _ (λ a. then _ _ (λ b. then _ _ (λ c. then _ _ (λ d. then _ _ (λ e. stamp-begins stamp)))))
 
 get_element-differs : (key : List ℕ) (stamp : ℤ) (cat : Catalogue) → Differs (get_element key stamp cat)
 unfolding get_element
@@ -72,26 +68,23 @@ carried_out-differs (commands.TSContainerCreate name row_type quota) cat = creat
 carried_out-differs (commands.TSContainerDestroy name) cat = destroy_container-differs name cat
 carried_out-differs (commands.TSContainerUsage name) cat = container_usage-differs name cat
 carried_out-differs (commands.TSCreateIrr key container) cat = create_irregular-differs key container cat
-carried_out-differs (commands.DropSeries key) cat = drop_series-differs key cat
 carried_out-differs (commands.ListSeries container) cat = list_series-differs container cat
 carried_out-differs (commands.InsElem key stamp literals) cat = insert_element-differs key stamp literals cat
 carried_out-differs (commands.GetElem key stamp) cat = get_element-differs key stamp cat
 carried_out-differs (commands.GetNelems key) cat = count_elements-differs key cat
 
-outcome-differs : (item : Item) (cat : Catalogue) → Differs (outcome item cat)
+outcome-differs : (request : Request) (cat : Catalogue) → Differs (outcome request cat)
 unfolding outcome
-outcome-differs (Asked command) cat = carried_out-differs command cat
-outcome-differs (NoCommand place) cat = tt
-outcome-differs TooLong cat = tt
-outcome-differs Unended cat = tt
+outcome-differs (Ok command) cat = carried_out-differs command cat
+outcome-differs (Err refusal) cat = tt
 
 settled-apart : (cat : Catalogue) (t : Tried Answered) → Differs t → IsApart (settled cat t).0
 settled-apart cat (Ok answered) differs = apart-begins answered.0 differs
 settled-apart cat (Err refusal) differs = refusal-apart refusal
 
-answer-apart : (cat : Catalogue) (item : Item) → IsApart (answer cat item).0
+answer-apart : (cat : Catalogue) (request : Request) → IsApart (answer cat request).0
 unfolding answer
-answer-apart cat item = settled-apart cat (outcome item cat) (outcome-differs item cat)
+answer-apart cat request = settled-apart cat (outcome request cat) (outcome-differs request cat)
 
 pub apart : AreApart answer
-apart = record { memory = λ cat item x. (answer-apart cat item).memory x; reply = λ cat item. (answer-apart cat item).reply }
+apart = record { memory = λ cat request x. (answer-apart cat request).memory x; reply = λ cat request. (answer-apart cat request).reply }

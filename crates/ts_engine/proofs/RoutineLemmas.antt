@@ -9,9 +9,9 @@ use Rattle.ts_row.specs.declared.value.Literal.{Literal}
 use Rattle.ts_row.specs.RowType.{Heading, bad_column}
 use Rattle.ts_row.specs.Row.{Values, row_of}
 use Rattle.ts_model.specs.Catalogue.{Named, Container, Series, Catalogue, columns_of, quota_of, series_in, quotas}
-use Rattle.ts_model.specs.Charge.{container_charge}
+use Rattle.ts_model.specs.Charge.{page_elements, container_charge}
 use Rattle.ts_engine.specs.Reply.{ok_line, count_line, counts_line, stamp_line, elements_text, series_text}
-use Rattle.ts_engine.specs.Answer.{Tried, Answered, ◌>>=◌, refused_if, known, wanted, unused, within_limit, no_bad_column, a_row_type, row_or_mismatch, a_row, within_quota, within_pages, has_container, has_series, with_element, element_at, create_row_type, drop_row_type, create_container, destroy_container, container_usage, create_irregular, drop_series, list_series, insert_element, get_element, count_elements}
+use Rattle.ts_engine.specs.Answer.{Tried, Answered, ◌>>=◌, refused_if, known, wanted, unused, within_limit, no_bad_column, a_row_type, row_or_mismatch, a_row, within_quota, on_one_page, within_pages, has_container, has_series, with_element, element_at, create_row_type, drop_row_type, create_container, destroy_container, container_usage, create_irregular, list_series, insert_element, get_element, count_elements}
 
 -- the tests, passed and failed
 
@@ -70,6 +70,14 @@ quota-kept charge quota h = passed _ (refusals.ContainerFull charge quota) (le-l
 pub quota-passed : (charge quota : ℕ) → quota < charge → within_quota charge quota ≡ Err (refusals.ContainerFull charge quota)
 unfolding within_quota
 quota-passed charge quota h = refused _ (refusals.ContainerFull charge quota) (lt-ltb quota charge h)
+
+pub page-kept : (room count quota : ℕ) → count ≤ room → on_one_page room count quota ≡ Ok tt
+unfolding on_one_page
+page-kept room count quota h = passed _ (refusals.ContainerFull 65537 quota) (le-ltb room count h)
+
+pub page-passed : (room count quota : ℕ) → room < count → on_one_page room count quota ≡ Err (refusals.ContainerFull 65537 quota)
+unfolding on_one_page
+page-passed room count quota h = refused _ (refusals.ContainerFull 65537 quota) (lt-ltb room count h)
 
 pub pages-kept : (sum pages : ℕ) → sum ≤ pages → within_pages sum pages ≡ Ok tt
 unfolding within_pages
@@ -146,14 +154,6 @@ module _ (name : List ℕ) (cat : Catalogue) where
   unfolding list_series
   list_series-done container there = on-ok _ _ _ (wanted-there name cat.containers container there)
 
-  pub drop_series-unknown : get cat.series name ≡ None → drop_series name cat ≡ Err refusals.UnknownName
-  unfolding drop_series
-  drop_series-unknown missing = on-err _ _ _ (wanted-missing name cat.series missing)
-
-  pub drop_series-done : (s : Series) → get cat.series name ≡ Some s → drop_series name cat ≡ Ok (ok_line, record cat { series = remove cat.series name })
-  unfolding drop_series
-  drop_series-done s there = on-ok _ _ _ (wanted-there name cat.series s there)
-
   pub count_elements-unknown : get cat.series name ≡ None → count_elements name cat ≡ Err refusals.UnknownName
   unfolding count_elements
   count_elements-unknown missing = on-err _ _ _ (wanted-missing name cat.series missing)
@@ -223,12 +223,21 @@ module _ (key : List ℕ) (stamp : ℤ) (cat : Catalogue) where
       unfolding insert_element
       insert_element-taken row other good taken = on-ok _ _ _ (wanted-there key cat.series s there) ∙ on-ok _ _ _ (good-row (columns_of cat s) literals row good) ∙ on-err _ _ _ (refused (is_some (get s.elements stamp)) refusals.Duplicate (ap is_some taken))
 
-      pub insert_element-full : (row : Values) → row_of (columns_of cat s) literals ≡ Ok row → get s.elements stamp ≡ None → quota_of cat s < container_charge s.container (with_element key s stamp row cat)
+      -- one element more than the page holds
+      pub insert_element-crowded : (row : Values) → row_of (columns_of cat s) literals ≡ Ok row → get s.elements stamp ≡ None → page_elements (columns_of cat s) < len s.elements + 1
+          → insert_element key stamp literals cat ≡ Err (refusals.ContainerFull 65537 (quota_of cat s))
+      unfolding insert_element
+      insert_element-crowded row good free crowded = on-ok _ _ _ (wanted-there key cat.series s there) ∙ on-ok _ _ _ (good-row (columns_of cat s) literals row good) ∙ on-ok _ _ _ (passed (is_some (get s.elements stamp)) refusals.Duplicate (ap is_some free))
+          ∙ on-err _ _ _ (page-passed (page_elements (columns_of cat s)) (len s.elements + 1) (quota_of cat s) crowded)
+
+      pub insert_element-full : (row : Values) → row_of (columns_of cat s) literals ≡ Ok row → get s.elements stamp ≡ None → len s.elements + 1 ≤ page_elements (columns_of cat s) → quota_of cat s < container_charge s.container (with_element key s stamp row cat)
           → insert_element key stamp literals cat ≡ Err (refusals.ContainerFull (container_charge s.container (with_element key s stamp row cat)) (quota_of cat s))
       unfolding insert_element
-      insert_element-full row good free over = on-ok _ _ _ (wanted-there key cat.series s there) ∙ on-ok _ _ _ (good-row (columns_of cat s) literals row good) ∙ on-ok _ _ _ (passed (is_some (get s.elements stamp)) refusals.Duplicate (ap is_some free)) ∙ on-err _ _ _ (quota-passed _ (quota_of cat s) over)
+      insert_element-full row good free one over = on-ok _ _ _ (wanted-there key cat.series s there) ∙ on-ok _ _ _ (good-row (columns_of cat s) literals row good) ∙ on-ok _ _ _ (passed (is_some (get s.elements stamp)) refusals.Duplicate (ap is_some free))
+          ∙ on-ok _ _ _ (page-kept (page_elements (columns_of cat s)) (len s.elements + 1) (quota_of cat s) one) ∙ on-err _ _ _ (quota-passed _ (quota_of cat s) over)
 
-      pub insert_element-done : (row : Values) → row_of (columns_of cat s) literals ≡ Ok row → get s.elements stamp ≡ None → container_charge s.container (with_element key s stamp row cat) ≤ quota_of cat s
+      pub insert_element-done : (row : Values) → row_of (columns_of cat s) literals ≡ Ok row → get s.elements stamp ≡ None → len s.elements + 1 ≤ page_elements (columns_of cat s) → container_charge s.container (with_element key s stamp row cat) ≤ quota_of cat s
           → insert_element key stamp literals cat ≡ Ok (stamp_line stamp, with_element key s stamp row cat)
       unfolding insert_element
-      insert_element-done row good free fits = on-ok _ _ _ (wanted-there key cat.series s there) ∙ on-ok _ _ _ (good-row (columns_of cat s) literals row good) ∙ on-ok _ _ _ (passed (is_some (get s.elements stamp)) refusals.Duplicate (ap is_some free)) ∙ on-ok _ _ _ (quota-kept _ (quota_of cat s) fits)
+      insert_element-done row good free one fits = on-ok _ _ _ (wanted-there key cat.series s there) ∙ on-ok _ _ _ (good-row (columns_of cat s) literals row good) ∙ on-ok _ _ _ (passed (is_some (get s.elements stamp)) refusals.Duplicate (ap is_some free))
+          ∙ on-ok _ _ _ (page-kept (page_elements (columns_of cat s)) (len s.elements + 1) (quota_of cat s) one) ∙ on-ok _ _ _ (quota-kept _ (quota_of cat s) fits)

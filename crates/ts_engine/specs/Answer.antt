@@ -1,6 +1,6 @@
--- What a catalogue answers to an item: a reply, and the catalogue after it. Each routine tries its refusals in order; the
--- first that holds is said, and the catalogue stays.
-use Rattle.std.specs.Prelude.{ℕ, ◌+◌, Bool, nat_lt, nat_le, if◌then◌else◌, ℤ, unsigned_abs, List, length, map, Option, Some, None, option_to_list, Result, Ok, Err, is_some, bytes_eq}
+-- What a catalogue answers to a request of a script: a reply, and the catalogue after it. Each routine tries its refusals in
+-- order; the first that holds is said, and the catalogue stays.
+use Rattle.std.specs.Prelude.{ℕ, ◌+◌, Bool, true, false, nat_lt, nat_le, if◌then◌else◌, ℤ, unsigned_abs, List, length, map, Option, Some, None, option_to_list, Result, Ok, Err, is_some, bytes_eq}
 use Rattle.std.specs.List.{list_any}
 use Rattle.std.specs.FinMap.{empty, get, insert, remove, len, values}
 use Rattle.ts_base.specs.declared.refusal.Refusal.{Refusal}
@@ -11,11 +11,11 @@ use Rattle.ts_row.specs.RowType.{bad_column}
 use Rattle.ts_row.specs.Row.{Values, row_of}
 use Rattle.ts_command.specs.declared.command.Command.{Command}
 use Rattle.ts_command.specs.declared.command.Command.TheVariants as commands
+use Rattle.ts_command.specs.Script.{Request}
 use Rattle.ts_model.specs.declared.kind.Kind.TheVariants as kinds
 use Rattle.ts_model.specs.Definitions.{limit}
 use Rattle.ts_model.specs.Catalogue.{Named, Elements, Series, Catalogue, columns_of, quota_of, series_in, quotas}
-use Rattle.ts_model.specs.Charge.{container_charge}
-use Rattle.ts_engine.specs.Item.{Item, Asked, NoCommand, TooLong, Unended}
+use Rattle.ts_model.specs.Charge.{page_elements, container_charge}
 use Rattle.ts_engine.specs.Reply.{ok_line, count_line, counts_line, stamp_line, refusal_line, elements_text, series_text}
 
 -- a value, or the refusal that came first
@@ -74,6 +74,10 @@ a_row columns literals = row_or_mismatch (row_of columns literals)
 -- charges beyond a quota are refused
 unfoldable pub within_quota : ℕ → ℕ → Tried (Unit {0})
 within_quota charge quota = refused_if (nat_lt quota charge) (refusals.ContainerFull charge quota)
+
+-- So far a series has one page: one element more than that holds is refused in every container, as a charge above any quota.
+unfoldable pub on_one_page : ℕ → ℕ → ℕ → Tried (Unit {0})
+on_one_page room count quota = refused_if (nat_lt room count) (refusals.ContainerFull 65537 quota)
 
 -- quotas beyond the element pages are refused
 unfoldable pub within_pages : ℕ → ℕ → Tried (Unit {0})
@@ -135,11 +139,6 @@ create_irregular key container cat = do
   room ← within_limit (limit kinds.Series) cat.series
   Ok (ok_line, record cat { series = insert cat.series key (record { container = container; elements = empty }) })
 
-unfoldable pub drop_series : List ℕ → Catalogue → Tried Answered
-drop_series key cat = do
-  series ← wanted key cat.series
-  Ok (ok_line, record cat { series = remove cat.series key })
-
 unfoldable pub list_series : List ℕ → Catalogue → Tried Answered
 list_series container cat = do
   there ← wanted container cat.containers
@@ -150,6 +149,7 @@ insert_element key stamp literals cat = do
   series ← wanted key cat.series
   row ← a_row (columns_of cat series) literals
   free ← refused_if (is_some (get series.elements stamp)) refusals.Duplicate
+  one ← on_one_page (page_elements (columns_of cat series)) (len series.elements + 1) (quota_of cat series)
   fits ← within_quota (container_charge series.container (with_element key series stamp row cat)) (quota_of cat series)
   Ok (stamp_line stamp, with_element key series stamp row cat)
 
@@ -171,24 +171,29 @@ carried_out (commands.TSContainerCreate name row_type quota) cat = create_contai
 carried_out (commands.TSContainerDestroy name) cat = destroy_container name cat
 carried_out (commands.TSContainerUsage name) cat = container_usage name cat
 carried_out (commands.TSCreateIrr key container) cat = create_irregular key container cat
-carried_out (commands.DropSeries key) cat = drop_series key cat
 carried_out (commands.ListSeries container) cat = list_series container cat
 carried_out (commands.InsElem key stamp literals) cat = insert_element key stamp literals cat
 carried_out (commands.GetElem key stamp) cat = get_element key stamp cat
 carried_out (commands.GetNelems key) cat = count_elements key cat
 
--- what an item comes to
-unfoldable pub outcome : Item → Catalogue → Tried Answered
-outcome (Asked command) cat = carried_out command cat
-outcome (NoCommand place) cat = Err (refusals.Syntax place)
-outcome TooLong cat = Err refusals.TooLong
-outcome Unended cat = Err refusals.Unended
+-- what a request comes to
+unfoldable pub outcome : Request → Catalogue → Tried Answered
+outcome (Ok command) cat = carried_out command cat
+outcome (Err refusal) cat = Err refusal
 
 -- the reply, or the line of the refusal and the same catalogue
 abbrev pub settled : Catalogue → Tried Answered → Answered
 settled cat (Ok answered) = answered
 settled cat (Err refusal) = (refusal_line refusal, cat)
 
--- the answer to an item
-unfoldable pub answer : Catalogue → Item → Answered
-answer cat item = settled cat (outcome item cat)
+-- the answer to a request
+unfoldable pub answer : Catalogue → Request → Answered
+answer cat request = settled cat (outcome request cat)
+
+-- whether the line that there is no memory may stand in the place of the reply: not in that of a statement that is too long or
+-- cut off, which takes none
+abbrev pub may_lack_memory : Request → Bool
+may_lack_memory (Ok command) = true
+may_lack_memory (Err refusals.TooLong) = false
+may_lack_memory (Err refusals.Unended) = false
+may_lack_memory (Err refusal) = true

@@ -1,3 +1,11 @@
-pub mod Item
 pub mod Reply
 pub mod Answer
+pub mod Volume
+pub mod Engine
+pub mod Start
+pub mod Step
+pub mod Change
+pub mod Slots
+pub mod RowTypes
+pub mod Reading
+pub mod Elements

@@ -1,10 +1,10 @@
-ghost use Rattle.std.specs.Prelude.{◌≡◌, [], ◌∷◌, Err, List, ℕ, ℤ, codes};
+ghost use Rattle.std.specs.Prelude.{◌≡◌, [], ◌∷◌, Err, List, ℕ, ℤ, Ok, codes};
 ghost use Rattle.ts_base.specs.declared.refusal.Refusal.{Refusal};
 ghost use Rattle.ts_base.specs.declared.refusal.Refusal.TheVariants as refusals;
 ghost use Rattle.ts_command.specs.declared.command.Command.TheVariants as commands;
 ghost use Rattle.ts_model.specs.Catalogue.{Catalogue};
 ghost use Rattle.ts_replies.specs.Acknowledged.{AreApart};
-ghost use Rattle.ts_engine.specs.Item.{Item, Asked};
+ghost use Rattle.ts_command.specs.Script.{Request};
 ghost use Rattle.ts_engine.specs.Reply.{refusal_line, count_line, counts_line, series_text};
 ghost use Rattle.ts_engine.specs.Answer.{answer, outcome};
 
@@ -14,18 +14,18 @@ pub fn replies_and_the_memory_line_are_apart()
     ensures { AreApart answer }
 {}
 
-/// An item that is refused is answered by the line of its refusal, and changes nothing.
-pub fn a_refused_item_changes_nothing()
-    ensures { (cat : Catalogue) (item : Item) (refusal : Refusal) → outcome item cat ≡ Err refusal →
-        answer cat item ≡ (refusal_line refusal, cat) }
+/// A request that is refused is answered by the line of its refusal, and changes nothing.
+pub fn a_refused_request_changes_nothing()
+    ensures { (cat : Catalogue) (request : Request) (refusal : Refusal) → outcome request cat ≡ Err refusal →
+        answer cat request ≡ (refusal_line refusal, cat) }
 {}
 
 /// The routines that only read change nothing, whatever they answer.
 pub fn reading_changes_nothing()
-    ensures usage { (cat : Catalogue) (name : List ℕ) → (answer cat (Asked (commands.TSContainerUsage name))).1 ≡ cat }
-    ensures series { (cat : Catalogue) (container : List ℕ) → (answer cat (Asked (commands.ListSeries container))).1 ≡ cat }
-    ensures element { (cat : Catalogue) (key : List ℕ) (stamp : ℤ) → (answer cat (Asked (commands.GetElem key stamp))).1 ≡ cat }
-    ensures count { (cat : Catalogue) (key : List ℕ) → (answer cat (Asked (commands.GetNelems key))).1 ≡ cat }
+    ensures usage { (cat : Catalogue) (name : List ℕ) → (answer cat (Ok (commands.TSContainerUsage name))).1 ≡ cat }
+    ensures series { (cat : Catalogue) (container : List ℕ) → (answer cat (Ok (commands.ListSeries container))).1 ≡ cat }
+    ensures element { (cat : Catalogue) (key : List ℕ) (stamp : ℤ) → (answer cat (Ok (commands.GetElem key stamp))).1 ≡ cat }
+    ensures count { (cat : Catalogue) (key : List ℕ) → (answer cat (Ok (commands.GetNelems key))).1 ≡ cat }
 {}
 
 /// Lines as they are printed: numbers of refusals without padding, a key in quotes and a quote in it twice.

@@ -1,0 +1,284 @@
+-- A change: work in an open batch, its end, and what a stop within it leaves.
+use Rattle.std.specs.declared.alloc.AllocError.{AllocError}
+use Rattle.std.proofs.Common.{◌≡◌, inl, inr, ⊎_elim, ℕ, ◌≤◌, Bool, IsTrue, Some, None, Result, Ok, Err, IsOk, OnOk, List, [], refl, ap, sym, ◌∙◌, subst, arith}
+use Rattle.ts_base.specs.declared.fault.StoreFault.{StoreFault}
+use Rattle.ts_base.specs.declared.fault.StoreFault.TheVariants.{Failed as StoreFailed}
+use Rattle.ts_disk.specs.Device.{Device, Lawful, Rose, LeavesOnly}
+use Rattle.ts_disk.proofs.Moments.{started, then_on, leaves_map}
+use Rattle.ts_page.specs.Pages.{Contents, SameButFreed}
+use Rattle.ts_page.proofs.PagesLemmas.{lawful_same}
+use Rattle.ts_journal.specs.Journal.{own_page, pages, ReadsButFreed}
+use Rattle.ts_journal.specs.Moment.{Keeps}
+use Rattle.ts_journal.proofs.WriteLemmas.{keeps_refl, keeps_then}
+use Rattle.ts_recover.proofs.ReadLemmas.{reads_then, reads_none}
+use Rattle.ts_store.specs.OpenBatch.{State, IsOver, IsIdle, Closes, BeforeOrRead, over, read_pages, contents_over}
+use Rattle.ts_store.specs.Undisturbed.{Undisturbed}
+use Rattle.ts_store.proofs.ReadLemmas.{read_closed, same_but_freed}
+use Rattle.ts_store.proofs.CallerLemmas.{over_still, idle_dropped, read_dropped, read_committed}
+use Rattle.ts_engine.specs.declared.fault.StepFault.{StepFault}
+use Rattle.ts_engine.specs.declared.fault.StepFault.TheVariants.{Disk, Memory, Closed}
+use Rattle.ts_engine.specs.Engine.{Kept}
+use Rattle.ts_engine.specs.Change.{ReadsAlike, Dropped, FinishLeaves, Finished, IsStill, ChangeLeaves, Changed}
+use Rattle.ts_engine.proofs.OpenLemmas.{rose_on}
+
+-- a fact that a call gives where it answers Ok
+on_ok : {E : Type 0} (r : Result Unit E) (P : Type 0) → IsOk r → OnOk r P → P
+on_ok (Ok done) P ok holds = holds
+on_ok (Err e) P ok holds = absurd (cc)
+
+-- bytes of which an emptied journal leaves the pages
+alike_but_freed : (tells : Bool) (s : State) (v : Device) (wanted : ℕ → List ℕ) (image : List ℕ) → IsOver tells s v → ReadsButFreed v.size s.overlay wanted image → ReadsAlike v.size wanted image
+alike_but_freed tells s v wanted image over reads = record { size = reads.size; sound = reads.sound; alike = same_but_freed s.pages v.size s.overlay wanted image over.allowed reads }
+
+-- a commit of a batch on which the work was done
+module _ (tells : Bool) (e f : Kept) (v w : Device) (before : IsOver tells e.store v) (moments : IsTrue tells → LeavesOnly v w (BeforeOrRead e.store v)) (keeps : Keeps tells v w) where
+  finish_moments : IsTrue tells → LeavesOnly v w (FinishLeaves (Ok tt) e.store v)
+  finish_moments told =
+      leaves_map v w (BeforeOrRead e.store v) (FinishLeaves (Ok tt) e.store v)
+      (λ image said now. (
+        ⊎_elim (λ old. inl (alike_but_freed tells e.store v (pages v.held) image before old))
+            (λ new. inr (refl, alike_but_freed tells e.store v (read_pages e.store v.held) image before new)) now.0,
+        now.1,
+      )) (moments told)
+
+  pub committed : (tables : f.tables ≡ e.tables) → (space : f.space ≡ e.space) → (spent : f.spent ≡ e.spent) → Closes e.store f.store → IsOver tells f.store w
+      → (IsTrue tells → ReadsButFreed v.size e.store.overlay (read_pages e.store v.held) w.held) → Finished tells (Ok tt) (Ok tt) e f v w
+  committed tables space spent closes over reads = record {
+    tables = tables;
+    space = space;
+    done = refl;
+    over = over;
+    count = closes.pages;
+    batch = closes.batch;
+    free = closes.free;
+    kept_free = closes.kept_free;
+    spent = spent;
+    alike = λ told. read_committed tells told e.store f.store v w before closes.batch over (reads told);
+    fault = tt;
+    moments = finish_moments;
+    others = keeps;
+  }
+
+  pub uncommitted : (tables : f.tables ≡ e.tables) → (space : f.space ≡ e.space) → (spent : f.spent ≡ Some w.faults) → Rose v.faults w.faults → Finished tells (Ok tt) (Err Disk) e f v w
+  uncommitted tables space spent rose = record {
+    tables = tables;
+    space = space;
+    done = tt;
+    over = tt;
+    count = tt;
+    batch = tt;
+    free = tt;
+    kept_free = tt;
+    spent = tt;
+    alike = tt;
+    fault = (inl rose, spent, keeps.faults);
+    moments = finish_moments;
+    others = keeps;
+  }
+
+-- work that was done
+is_done : {E : Type 0} (r : Result Unit E) → IsOk r → r ≡ Ok tt
+is_done (Ok done) ok = refl
+is_done (Err e) ok = absurd (cc)
+
+-- taking memory before changes nothing
+module _ (tells : Bool) (worked : Result Unit StoreFault) (done : IsOk worked) (e g f : Kept) (v w : Device) (is : g ≡ record e { store = record e.store { spare = g.store.spare } }) where
+  same_finish : (result : Result Unit StepFault) → Finished tells (Ok tt) result (record e { store = record e.store { spare = g.store.spare } }) f v w → Finished tells (Ok tt) result e f v w
+  same_finish (Ok done) x = record {
+    tables = x.tables;
+    space = x.space;
+    done = x.done;
+    over = x.over;
+    count = x.count;
+    batch = x.batch;
+    free = x.free;
+    kept_free = x.kept_free;
+    spent = x.spent;
+    alike = x.alike;
+    fault = tt;
+    moments = x.moments;
+    others = x.others;
+  }
+  same_finish (Err Disk) x = record {
+    tables = x.tables;
+    space = x.space;
+    done = tt;
+    over = tt;
+    count = tt;
+    batch = tt;
+    free = tt;
+    kept_free = tt;
+    spent = tt;
+    alike = tt;
+    fault = x.fault;
+    moments = x.moments;
+    others = x.others;
+  }
+  same_finish (Err (Memory error)) x = record {
+    tables = x.tables;
+    space = x.space;
+    done = tt;
+    over = tt;
+    count = tt;
+    batch = tt;
+    free = tt;
+    kept_free = tt;
+    spent = tt;
+    alike = tt;
+    fault = record { pages = x.fault.pages; journal = x.fault.journal; overlay = x.fault.overlay; batch = x.fault.batch; free = x.fault.free; kept_free = x.fault.kept_free; spent = x.fault.spent; reads = x.fault.reads };
+    moments = x.moments;
+    others = x.others;
+  }
+  same_finish (Err (Closed faults)) x = absurd x.fault
+
+  pub finished_prepared : (result : Result Unit StepFault) → Finished tells (Ok tt) result g f v w → Finished tells worked result e f v w
+  finished_prepared result finished =
+      subst (λ (r : Result Unit StoreFault). Finished tells r result e f v w) (sym (is_done worked done)) (same_finish result (subst (λ (x : Kept). Finished tells (Ok tt) result x f v w) is finished))
+
+-- the bytes held read as their pages
+alike_held : (tells : Bool) (told : IsTrue tells) (s : State) (v : Device) → Lawful tells v → IsOver tells s v → ReadsAlike v.size (pages v.held) v.held
+alike_held tells told s v lawful over = record { size = lawful.size told; sound = ((over.stands told).rs, (over.stands told).stands.records); alike = λ k. inl refl }
+
+-- a moment before anything is written
+before_finish : (tells : Bool) (worked : Result Unit StoreFault) (s : State) (v : Device) → Lawful tells v → IsOver tells s v → IsTrue tells → LeavesOnly v v (FinishLeaves worked s v)
+before_finish tells worked s v lawful over told =
+    started tells v (FinishLeaves worked s v) lawful
+    (λ image now. (inl (subst (ReadsAlike v.size (pages v.held)) (sym (over.settled image now)) (alike_held tells told s v lawful over)), refl))
+
+-- a batch that isn't committed, as the disk failed in its work or there was no memory
+module _ (tells : Bool) (worked : Result Unit StoreFault) (e g f : Kept) (v : Device) (lawful : Lawful tells v) (before : IsOver tells e.store v) (is : g ≡ record e { store = record e.store { spare = g.store.spare } }) where
+  pub unworked : worked ≡ Err StoreFailed → f ≡ record g { spent = Some v.faults } → Finished tells worked (Err Disk) e f v v
+  unworked failed spent = record {
+    tables = ap (λ (x : Kept). x.tables) spent ∙ ap (λ (x : Kept). x.tables) is;
+    space = ap (λ (x : Kept). x.space) spent ∙ ap (λ (x : Kept). x.space) is;
+    done = tt;
+    over = tt;
+    count = tt;
+    batch = tt;
+    free = tt;
+    kept_free = tt;
+    spent = tt;
+    alike = tt;
+    fault = (inr failed, ap (λ (x : Kept). x.spent) spent, omega arith);
+    moments = before_finish tells worked e.store v lawful before;
+    others = keeps_refl tells v;
+  }
+
+  pub dropped : (error : AllocError) → f ≡ record g { store = record g.store { batch = []; free = g.store.kept_free } } → Finished tells worked (Err (Memory error)) e f v v
+  dropped error drop = record {
+    tables = ap (λ (x : Kept). x.tables) drop ∙ ap (λ (x : Kept). x.tables) is;
+    space = ap (λ (x : Kept). x.space) drop ∙ ap (λ (x : Kept). x.space) is;
+    done = tt;
+    over = tt;
+    count = tt;
+    batch = tt;
+    free = tt;
+    kept_free = tt;
+    spent = tt;
+    alike = tt;
+    fault = record {
+      pages = ap (λ (x : Kept). x.store.pages) drop ∙ ap (λ (x : Kept). x.store.pages) is;
+      journal = ap (λ (x : Kept). x.store.journal) drop ∙ ap (λ (x : Kept). x.store.journal) is;
+      overlay = ap (λ (x : Kept). x.store.overlay) drop ∙ ap (λ (x : Kept). x.store.overlay) is;
+      batch = ap (λ (x : Kept). x.store.batch) drop;
+      free = ap (λ (x : Kept). x.store.free) drop ∙ ap (λ (x : Kept). x.store.kept_free) is;
+      kept_free = ap (λ (x : Kept). x.store.kept_free) drop ∙ ap (λ (x : Kept). x.store.kept_free) is;
+      spent = ap (λ (x : Kept). x.spent) drop ∙ ap (λ (x : Kept). x.spent) is;
+      reads = reads_none tells v lawful;
+    };
+    moments = before_finish tells worked e.store v lawful before;
+    others = keeps_refl tells v;
+  }
+
+-- a count that rose before
+rose_before : (a b c : ℕ) → Rose a b → b ≤ c → Rose a c
+rose_before a b c rose le = omega arith
+
+-- Work over an idle store, and the end of its batch.
+module _ (tells : Bool) (Work : Contents → Contents → Type 0) (worked : Result Unit StoreFault) (e g f : Kept) (v x w : Device) (lawful : Lawful tells v) (idle : IsIdle tells e.store v)
+    (calls : Undisturbed tells e.store g.store v x) (work : OnOk worked (Work (contents_over e.store v) (contents_over g.store x))) (cause : worked ≡ Err StoreFailed → Rose v.faults x.faults) where
+  -- what is read before the work is what the pages are
+  before_work : IsTrue tells → read_pages e.store v.held ≡ pages v.held
+  before_work told = λ i k. read_closed e.store v.held idle.batch (idle.over.stands told) k i
+
+  alike_before : IsTrue tells → ReadsAlike v.size (read_pages e.store v.held) v.held
+  unfolding before_work
+  alike_before told = subst (λ (p : ℕ → List ℕ). ReadsAlike v.size p v.held) (sym (before_work told)) (alike_held tells told e.store v lawful idle.over)
+
+  -- each moment of the work
+  work_moments : IsTrue tells → LeavesOnly v x (ChangeLeaves Work e.store v)
+  work_moments told =
+      leaves_map v x (λ image said. v.images image × (said ≡ v.said)) (ChangeLeaves Work e.store v)
+      (λ image said now. (inl (subst (ReadsAlike v.size (read_pages e.store v.held)) (sym (idle.over.settled image now.0)) (alike_before told)), now.1)) calls.reads.moments
+
+  -- an image that reads as the pages did before
+  alike_after : IsTrue tells → (image : List ℕ) → ReadsAlike x.size (pages x.held) image → ReadsAlike v.size (read_pages e.store v.held) image
+  unfolding before_work
+  alike_after told image reads = record {
+    size = reads.size ∙ calls.reads.keeps.size;
+    sound = reads.sound;
+    alike = subst (λ (p : ℕ → List ℕ). SameButFreed p (pages image)) (ap pages calls.reads.held ∙ sym (before_work told)) reads.alike;
+  }
+
+  -- each moment of both
+  all_moments : IsTrue tells → LeavesOnly x w (FinishLeaves worked g.store x) → LeavesOnly v w (ChangeLeaves Work e.store v)
+  all_moments told moments =
+      then_on v x w (ChangeLeaves Work e.store v) (work_moments told)
+      (leaves_map x w (FinishLeaves worked g.store x) (ChangeLeaves Work e.store v)
+      (λ image said now. (
+        ⊎_elim (λ old. inl (alike_after told image old))
+            (λ new. inr (contents_over g.store x, on_ok worked (Work (contents_over e.store v) (contents_over g.store x)) new.0 work, record { size = new.1.size ∙ calls.reads.keeps.size; sound = new.1.sound; alike = new.1.alike })) now.0,
+        now.1 ∙ calls.reads.keeps.said,
+      )) moments)
+
+  -- the batch was dropped
+  still : Dropped tells g f x w → IsStill tells e.store f.store v w
+  still drop =
+      let back : State = record g.store { batch = []; free = g.store.kept_free } in
+      let idle_back : IsIdle tells back x = idle_dropped tells e.store g.store back v x idle calls refl in
+      let pages_is : (k : ℕ) → read_pages f.store w.held k ≡ read_pages back x.held k = λ k i. over (drop.batch i) (over (drop.overlay i) (own_page (drop.reads.held i))) k in
+      record {
+        idle = record {
+          over = over_still tells back f.store x w idle_back.over (record { pages = drop.pages; journal = drop.journal; overlay = drop.overlay; kept_free = drop.kept_free; reads = drop.reads })
+              (lawful_same tells (contents_over back x) (contents_over f.store w) idle_back.over.lawful drop.pages (λ told k. pages_is k) drop.free);
+          batch = drop.batch;
+          kept_free = drop.kept_free ∙ sym drop.free;
+        };
+        pages = drop.pages ∙ calls.pages;
+        free = drop.free ∙ calls.kept_free ∙ idle.kept_free;
+        same = λ k. pages_is k ∙ read_dropped tells e.store g.store v x calls idle.batch k;
+        reads = reads_then tells v x w calls.reads drop.reads;
+      }
+
+  pub changed : (result : Result Unit StepFault) → g.spent ≡ None → Finished tells worked result g f x w → Changed tells Work result e.store f.store f.spent v w
+  changed (Ok done) unspent finished = record {
+    idle = record { over = finished.over; batch = finished.batch; kept_free = finished.kept_free ∙ sym finished.free };
+    done = record {
+      read = contents_over g.store x;
+      work = on_ok worked (Work (contents_over e.store v) (contents_over g.store x)) finished.done work;
+      pages = finished.count ∙ calls.pages;
+      free = finished.free;
+      alike = finished.alike;
+    };
+    unspent = finished.spent ∙ unspent;
+    fault = tt;
+    moments = λ told. all_moments told (finished.moments told);
+    others = keeps_then tells v x w calls.reads.keeps finished.others;
+  }
+  changed (Err Disk) unspent finished = record {
+    idle = tt;
+    done = tt;
+    unspent = tt;
+    fault = (⊎_elim (λ rose. rose_on v.faults x.faults w.faults calls.reads.keeps.faults rose) (λ failed. rose_before v.faults x.faults w.faults (cause failed) finished.fault.2) finished.fault.0, finished.fault.1);
+    moments = λ told. all_moments told (finished.moments told);
+    others = keeps_then tells v x w calls.reads.keeps finished.others;
+  }
+  changed (Err (Memory error)) unspent finished = record {
+    idle = tt;
+    done = tt;
+    unspent = tt;
+    fault = (still finished.fault, finished.fault.spent ∙ unspent);
+    moments = λ told. all_moments told (finished.moments told);
+    others = keeps_then tells v x w calls.reads.keeps finished.others;
+  }
+  changed (Err (Closed faults)) unspent finished = absurd finished.fault

@@ -1,0 +1,116 @@
+-- A step of which the layout that comes next is known by what was read at the end of its work.
+use Rattle.std.proofs.Common.{◌≡◌, inl, inr, ⊎_elim, ℕ, ◌+◌, Bool, false, IsTrue, Option, Result, Ok, Err, List, [], length, refl, ap, sym, ◌∙◌, subst}
+use Rattle.ts_base.specs.declared.refusal.Refusal.{Refusal}
+use Rattle.ts_command.specs.declared.command.Command.{Command}
+use Rattle.ts_disk.specs.Device.{Device, Lawful, LeavesOnly}
+use Rattle.ts_disk.proofs.Moments.{leaves_map}
+use Rattle.ts_page.specs.Pages.{Contents}
+use Rattle.ts_store.specs.OpenBatch.{read_pages, contents_over}
+use Rattle.ts_store.proofs.CommitLemmas.{counted}
+use Rattle.ts_model.specs.Catalogue.{Catalogue}
+use Rattle.ts_container.specs.Meaning.{Layout, HoldsLayout, IsSound, catalogue_of}
+use Rattle.ts_engine.specs.declared.fault.StepFault.{StepFault}
+use Rattle.ts_engine.specs.declared.fault.StepFault.TheVariants.{Disk, Memory, Closed}
+use Rattle.ts_engine.specs.Answer.{Answered, answer, outcome}
+use Rattle.ts_engine.specs.Volume.{MeansCatalogue}
+use Rattle.ts_engine.specs.Engine.{Kept, IsKeptOf, IsReady, IsAt}
+use Rattle.ts_engine.specs.Step.{BeforeOrAfter, Stepped, is_reading}
+use Rattle.ts_engine.specs.Change.{ChangeLeaves, Changed}
+use Rattle.ts_engine.proofs.MeansLemmas.{holds_still, means_layout}
+use Rattle.ts_engine.proofs.StepLemmas.{answers, kept_same, means_alike, means_held, at_layout}
+
+-- the layout that comes next
+pub record Next (tells : Bool) (command : Command) (out : List ℕ) (l : Layout) (read : Contents) : Type 0 where
+  pub layout : Layout
+  pub size : length layout.element_pages ≡ length l.element_pages
+  pub rules : IsSound layout
+  pub holds : IsTrue tells → HoldsLayout read.page layout
+  pub comes : IsTrue tells → outcome (Ok command) (catalogue_of l) ≡ Ok (out, catalogue_of layout)
+
+-- what is answered isn't refused, and what is false isn't true
+not_refused : (answered : Answered) (refusal : Refusal) → Ok answered ≡ Err refusal → ⊥
+not_refused answered refusal same = cc
+
+not_reading : (b : Bool) → b ≡ false → IsTrue b → ⊥
+not_reading b wrong right = cc
+
+module _ (tells : Bool) (command : Command) (Work : Contents → Contents → Type 0) (e f : Kept) (v w : Device) (out : List ℕ) (lawful : Lawful tells v) (later : Lawful tells w) (ready : IsReady tells e v)
+    (next : (read : Contents) → Work (contents_over e.store v) read → Next tells command out ready.keeps.0 read) (writes : is_reading command ≡ false) where
+  stands : IsTrue tells → (cat : Catalogue) → IsAt tells e cat v → cat ≡ catalogue_of ready.keeps.0
+  stands told cat at = at_layout tells e v ready.keeps.0 lawful ready.idle ready.keeps.1 told (ready.keeps.2 told) cat at.means
+
+  answered : IsTrue tells → (cat : Catalogue) → cat ≡ catalogue_of ready.keeps.0 → (read : Contents) (work : Work (contents_over e.store v) read) → answer cat (Ok command) ≡ (out, catalogue_of (next read work).layout)
+  answered told cat is read work =
+      ap (λ (c : Catalogue). answer c (Ok command)) is ∙ answers (catalogue_of ready.keeps.0) command (out, catalogue_of (next read work).layout) ((next read work).comes told)
+
+  next_moments : (result : Result Unit StepFault) (spent : Option ℕ) → Changed tells Work result e.store f.store spent v w → IsTrue tells → (cat : Catalogue) → IsAt tells e cat v → LeavesOnly v w (BeforeOrAfter cat command v)
+  next_moments result spent changed told cat at =
+      let is = stands told cat at in
+      leaves_map v w (ChangeLeaves Work e.store v) (BeforeOrAfter cat command v)
+      (λ image said now. (
+        ⊎_elim (λ old. inl (subst (MeansCatalogue image) (sym is) (means_alike tells e v ready.keeps.0 lawful ready.idle ready.keeps.1 image (ready.keeps.2 told) old)))
+            (λ new.
+            let after = next new.0 new.1 in
+            inr (subst (MeansCatalogue image) (sym (ap (λ (a : Answered). a.1) (answered told cat is new.0 new.1)))
+            (means_layout v.size new.0.page image after.layout ready.idle.over.volume new.2.size new.2.sound new.2.alike (counted v.size e.store.pages ready.idle.over.size ∙ ready.keeps.1.size ∙ ap (λ (n : ℕ). 930 + n) (sym after.size)) (after.holds told) after.rules))) now.0,
+        now.1,
+      ))
+      (changed.moments told)
+
+  pub next_ok : (changed : Changed tells Work (Ok tt) e.store f.store f.spent v w) → IsKeptOf f (next changed.done.read changed.done.work).layout → Stepped tells command (Ok tt) out e f v w
+  next_ok changed kept' =
+      let after = next changed.done.read changed.done.work in
+      let holds' : IsTrue tells → HoldsLayout (read_pages f.store w.held) after.layout = λ told. holds_still changed.done.read.page (read_pages f.store w.held) after.layout (changed.done.alike told) (after.holds told) in
+      let ready' : IsReady tells f w = record { idle = changed.idle; keeps = (after.layout, kept', holds'); unspent = changed.unspent } in
+      record {
+        ready = ready';
+        answered = λ told cat at.
+            let comes' = answered told cat (stands told cat at) changed.done.read changed.done.work in (
+              sym (ap (λ (a : Answered). a.0) comes'),
+              record {
+                ready = ready';
+                means = subst (MeansCatalogue w.held) (sym (ap (λ (a : Answered). a.1) comes')) (means_held tells f w after.layout later changed.idle kept' told (holds' told));
+              },
+            );
+        unchanged = λ told cat at nothing.
+            let is = stands told cat at in
+            absurd (⊎_elim (λ refused. not_refused (out, catalogue_of after.layout) refused.0 (sym (after.comes told) ∙ ap (λ (c : Catalogue). outcome (Ok command) c) (sym is) ∙ refused.1)) (λ reads. not_reading (is_reading command) writes reads) nothing);
+        fault = tt;
+        empty = λ err. absurd (cc);
+        moments = next_moments (Ok tt) f.spent changed;
+        others = changed.others;
+      }
+
+  pub next_fault : (fault : StepFault) → Changed tells Work (Err fault) e.store f.store f.spent v w → f.tables.definitions ≡ e.tables.definitions → f.space.lists ≡ e.space.lists → Stepped tells command (Err fault) [] e f v w
+  next_fault Disk changed definitions lists = record {
+    ready = tt;
+    answered = tt;
+    unchanged = tt;
+    fault = changed.fault;
+    empty = λ err. refl;
+    moments = next_moments (Err Disk) f.spent changed;
+    others = changed.others;
+  }
+  next_fault (Memory error) changed definitions lists =
+      let still = changed.fault.0 in
+      record {
+        ready = tt;
+        answered = tt;
+        unchanged = tt;
+        fault = (
+          record { disk = still.reads; kept = record { definitions = definitions; lists = lists; free = still.free; spent = changed.fault.1 ∙ sym ready.unspent } },
+          record {
+            idle = still.idle;
+            keeps = (
+              ready.keeps.0,
+              kept_same e f ready.keeps.0 ready.keeps.1 definitions lists still.pages still.free,
+              λ told. subst (λ (p : ℕ → List ℕ). HoldsLayout p ready.keeps.0) (sym (λ i k. still.same k i)) (ready.keeps.2 told),
+            );
+            unspent = changed.fault.1;
+          },
+        );
+        empty = λ err. refl;
+        moments = next_moments (Err (Memory error)) f.spent changed;
+        others = changed.others;
+      }
+  next_fault (Closed faults) changed definitions lists = absurd changed.fault

@@ -1,0 +1,232 @@
+-- An opening: what it finds, and what a stop within it leaves.
+use Rattle.std.proofs.Common.{◌≡◌, inl, ℕ, ◌+◌, ◌-◌, ◌≤◌, Bool, IsTrue, Result, Ok, Err, IfErr, IsErrAnd, None, List, slice_index, [], All, AllPairs, length, get_or, refl, ap, sym, ◌∙◌, subst, arith}
+use Rattle.ts_disk.specs.Device.{Device, Lawful, Only, Rose, LeavesOnly}
+use Rattle.ts_disk.proofs.Moments.{then_on, leaves_map}
+use Rattle.ts_page.specs.Pages.{IsListed, IsLawful}
+use Rattle.ts_journal.specs.Entry.{AreAllowed}
+use Rattle.ts_journal.specs.Journal.{page_count, pages, ReadsButFreed}
+use Rattle.ts_journal.specs.Moment.{Keeps, OnlyReads, SamePages}
+use Rattle.ts_journal.proofs.WriteLemmas.{keeps_then}
+use Rattle.ts_store.specs.OpenBatch.{State, IsOver, IsIdle, Settles, read_pages, contents_over}
+use Rattle.ts_store.specs.Undisturbed.{Undisturbed}
+use Rattle.ts_store.proofs.ReadLemmas.{read_closed}
+use Rattle.ts_store.proofs.CommitLemmas.{counted}
+use Rattle.ts_store.proofs.CallerLemmas.{read_dropped, read_committed}
+use Rattle.ts_model.specs.Catalogue.{Catalogue}
+use Rattle.ts_model.specs.Definitions.{Definitions, Tables}
+use Rattle.ts_space.specs.Directory.{Directory, used_of}
+use Rattle.ts_container.specs.declared.fault.SurveyFault.{SurveyFault}
+use Rattle.ts_container.specs.declared.fault.SurveyFault.TheVariants.{NotAStore, Failed, Memory}
+use Rattle.ts_container.specs.Meaning.{ElementPage, Free, element_page, HoldsElements, HoldsLayout, catalogue_of}
+use Rattle.ts_container.specs.Survey.{IsFound, IfRefused, HoldNoLayout}
+use Rattle.ts_container.specs.Surveyed.{free_pages}
+use Rattle.ts_container.proofs.FreeLemmas.{free_counted}
+use Rattle.ts_engine.specs.declared.engine.Engine.{Engine}
+use Rattle.ts_engine.specs.Volume.{MeansCatalogue}
+use Rattle.ts_engine.specs.Engine.{Kept, IsKeptOf, IsReady}
+use Rattle.ts_engine.specs.Start.{StillMeans, StartFault, ReadFault, Opened}
+use Rattle.ts_engine.proofs.MeansLemmas.{holds_still, means_layout, still_means, free_at, free_different}
+
+-- an answer that is an error by another call
+pub if_err : {T : Type 0} (r : Result T SurveyFault) (fault : SurveyFault) (P : SurveyFault → Type 0) → IsErrAnd r (λ x. x ≡ fault) → P fault → IfErr r P
+if_err (Ok x) fault P is holds = tt
+if_err (Err other) fault P is holds = subst P (sym is) holds
+
+pub opened_err : (tells : Bool) (r : Result Engine SurveyFault) (fault : SurveyFault) (v w : Device) → IsErrAnd r (λ x. x ≡ fault) → Opened tells (Err fault) v w → Opened tells r v w
+opened_err tells (Ok e) fault v w is opened = absurd is
+opened_err tells (Err other) fault v w is opened = subst (λ (x : SurveyFault). Opened tells (Err x) v w) (sym is) opened
+
+-- what is read of an idle store is what the pages are
+pub read_idle : (tells : Bool) (told : IsTrue tells) (s : State) (d : Device) → IsIdle tells s d → read_pages s d.held ≡ pages d.held
+read_idle tells told s d idle = λ i k. read_closed s d.held idle.batch (idle.over.stands told) k i
+
+-- pages of which no layout serves are those of no store
+pub survey_fault : (tells : Bool) (fault : SurveyFault) (number : ℕ) (s : State) (v w : Device) → Lawful tells v → IsIdle tells s v → number ≡ s.pages
+    → (fault ≡ Failed → Rose v.faults w.faults) → IfRefused fault (IsTrue tells → HoldNoLayout number (read_pages s v.held)) → ReadFault tells fault v w
+survey_fault tells Failed number s v w lawful idle same cause refused = cause refl
+survey_fault tells (Memory error) number s v w lawful idle same cause refused = tt
+survey_fault tells (NotAStore page) number s v w lawful idle same cause refused = λ told cat means.
+    let count : page_count (length v.held) ≡ number = ap page_count (lawful.size told) ∙ counted v.size s.pages idle.over.size ∙ sym same in
+    let laid = means.pages.1 in
+    refused told means.pages.0 (record {
+      size = sym count ∙ laid.size;
+      bytes = subst (λ (p : ℕ → List ℕ). HoldsLayout p means.pages.0) (sym (read_idle tells told s v idle)) laid.bytes;
+      rules = laid.rules;
+    })
+
+-- the pages that were found free can be taken
+pub admitted : (tells : Bool) (s t : State) (d : Device) (x : Definitions) (space : Directory) (free : List ℕ) → IsIdle tells s d → IsFound tells s.pages (contents_over s d) x space free
+    → t ≡ record s { free = free; kept_free = free } → IsOver tells t d
+admitted tells s t d x space free idle found is =
+    let l = found.0 in
+    let next : State = record s { free = free; kept_free = free } in
+    let over = idle.over in
+    let lawful : IsLawful tells (contents_over next d) = record {
+      different = subst (λ (ns : List ℕ). AllPairs (λ a b. a ≡ b → ⊥) ns) (sym found.1.free) (free_different 930 l.element_pages);
+      listed = subst (λ (ns : List ℕ). All (IsListed tells (contents_over next d)) ns) (sym found.1.free) (λ k e within.
+          let one = free_at 930 l.element_pages k e within in
+          record {
+            element = omega (arith, one.2);
+            below = omega (arith, one.1, one.2, found.2);
+            free = λ told.
+                let P : ℕ → Type 0 = λ n. slice_index (read_pages s d.held n) 0 ≡ 0 in
+                subst P (sym one.2) (let Q : ElementPage → Type 0 = λ e. HoldsElements l.definitions (read_pages s d.held (930 + one.0)) e in
+                subst Q one.3 ((found.4 told).elements one.0 one.1));
+          });
+    } in
+    subst (λ (z : State). IsOver tells z d) (sym is)
+    (record { size = over.size; volume = over.volume; settled = over.settled; stands = over.stands; allowed = over.allowed; lawful = lawful })
+
+-- what was found is found still once the batch is dropped
+pub found_dropped : (tells : Bool) (count : ℕ) (s t u : State) (v w : Device) (x : Definitions) (space : Directory) (free : List ℕ) → IsIdle tells s v → Undisturbed tells s t v w → u ≡ record t { batch = []; free = t.kept_free }
+    → IsFound tells count (contents_over s v) x space free → count ≡ s.pages → IsFound tells u.pages (contents_over u w) x space free
+found_dropped tells count s t u v w x space free idle calls dropped found same =
+    let back : State = record t { batch = []; free = t.kept_free } in
+    let pages : read_pages back w.held ≡ read_pages s v.held = λ i k. read_dropped tells s t v w calls idle.batch k i in
+    subst (λ (z : State). IsFound tells z.pages (contents_over z w) x space free) (sym dropped)
+    (found.0, found.1, calls.pages ∙ sym same ∙ found.2, found.3, λ told. subst (λ (p : ℕ → List ℕ). HoldsLayout p found.0) (sym pages) (found.4 told))
+
+-- a volume that was surveyed: its pages can be taken, and then its journal is settled
+module _ (tells : Bool) (s t : State) (v : Device) (x : Definitions) (space : Directory) (free : List ℕ) (idle : IsIdle tells s v) (found : IsFound tells s.pages (contents_over s v) x space free)
+    (admit : t ≡ record s { free = free; kept_free = free }) where
+  over_admitted : IsOver tells t v
+  over_admitted = admitted tells s t v x space free idle found admit
+
+  none_open : t.batch ≡ []
+  none_open = ap (λ (z : State). z.batch) admit ∙ idle.batch
+
+  allowed : AreAllowed (page_count v.size) t.overlay
+  allowed = subst (λ (n : ℕ). AreAllowed n t.overlay) (sym (counted v.size t.pages over_admitted.size)) over_admitted.allowed
+
+  -- the layout that was found is that of what the volume means
+  means_found : Lawful tells v → IsTrue tells → MeansCatalogue v.held (catalogue_of found.0)
+  means_found lawful told =
+      means_layout v.size (read_pages s v.held) v.held found.0 idle.over.volume (lawful.size told) ((idle.over.stands told).rs, (idle.over.stands told).stands.records)
+      (λ k. inl (sym (read_closed s v.held idle.batch (idle.over.stands told) k))) (counted v.size s.pages idle.over.size ∙ found.2) (found.4 told) found.3
+
+  -- the volume means the same at each moment
+  pub settle_moments : Lawful tells v → (w : Device) → (IsTrue tells → LeavesOnly v w (SamePages v t.overlay)) → IsTrue tells → (cat : Catalogue) → MeansCatalogue v.held cat → LeavesOnly v w (StillMeans cat v)
+  unfolding allowed
+  settle_moments lawful w moments told cat means =
+      leaves_map v w (SamePages v t.overlay) (StillMeans cat v) (λ image said now. (still_means v.size v.held t.overlay image cat (lawful.size told) allowed now.0 means, now.1)) (moments told)
+
+  module _ (u : State) (w : Device) (tables : Tables) (lawful : Lawful tells v) (slots : length space.lists ≡ 4096) (same : tables.definitions ≡ x) (over : IsOver tells u w) (settled : Settles t u)
+      (reads : IsTrue tells → ReadsButFreed v.size t.overlay (pages v.held) w.held) where
+    abbrev pub engine : Kept
+    engine = record { store = u; tables = tables; space = space; spent = None }
+
+    none_left : u.batch ≡ []
+    none_left = settled.batch ∙ none_open
+
+    holds : IsTrue tells → HoldsLayout (read_pages u w.held) found.0
+    unfolding over_admitted none_open none_left
+    holds told =
+        let here : read_pages t v.held ≡ pages v.held = λ i k. read_closed t v.held none_open (over_admitted.stands told) k i in
+        let before : read_pages t v.held ≡ read_pages s v.held = ap (λ (z : State). read_pages z v.held) admit in
+        let alike = read_committed tells told t u v w over_admitted none_left over (subst (λ (p : ℕ → List ℕ). ReadsButFreed v.size t.overlay p w.held) (sym here) (reads told)) in
+        holds_still (read_pages t v.held) (read_pages u w.held) found.0 alike (subst (λ (p : ℕ → List ℕ). HoldsLayout p found.0) (sym before) (found.4 told))
+
+    free_is : u.free ≡ free_pages found.0
+    free_is = settled.free ∙ ap (λ (z : State). z.free) admit ∙ found.1.free
+
+    kept : IsKeptOf engine found.0
+    unfolding free_is
+    kept = record {
+      definitions = same ∙ found.1.definitions;
+      size = settled.pages ∙ ap (λ (z : State). z.pages) admit ∙ found.2;
+      places = found.1.places;
+      listed = subst (λ (ns : List ℕ). All (λ number. element_page (number - 930) found.0.element_pages ≡ Free) ns) (sym free_is) (λ k d within.
+          let one = free_at 930 found.0.element_pages k d within in
+          subst (λ (n : ℕ). element_page n found.0.element_pages ≡ Free) (let e : one.0 ≡ get_or (free_pages found.0) k d - 930 = omega (arith, one.2) in e) one.3);
+      free = ap (λ (ns : List ℕ). length ns + used_of space) free_is ∙ free_counted found.0 space found.3.definitions.tables found.1.filled found.1.places slots;
+      rules = found.3;
+      filled = found.1.filled;
+    }
+
+    pub ready : IsReady tells engine w
+    unfolding none_left holds kept
+    ready = record {
+      idle = record { over = over; batch = none_left; kept_free = settled.kept_free ∙ ap (λ (z : State). z.kept_free) admit ∙ sym (settled.free ∙ ap (λ (z : State). z.free) admit) };
+      keeps = (found.0, kept, holds);
+      unspent = refl;
+    }
+
+    pub settled_opened : Keeps tells v w → (IsTrue tells → LeavesOnly v w (SamePages v t.overlay)) → Opened tells (Ok engine) v w
+    unfolding allowed means_found
+    settled_opened keeps moments = record {
+      ready = ready;
+      at = λ told. (
+        catalogue_of found.0,
+        means_found lawful told,
+        record {
+          ready = ready;
+          means = still_means v.size v.held t.overlay w.held (catalogue_of found.0) (lawful.size told) allowed (reads told) (means_found lawful told);
+        },
+      );
+      fault = tt;
+      others = keeps;
+      moments = settle_moments lawful w moments;
+    }
+
+-- the settling failed
+pub unsettled : (tells : Bool) (v w : Device) → Rose v.faults w.faults → Keeps tells v w → (IsTrue tells → (cat : Catalogue) → MeansCatalogue v.held cat → LeavesOnly v w (StillMeans cat v)) → Opened tells (Err Failed) v w
+unsettled tells v w rose keeps moments = record { ready = tt; at = tt; fault = rose; others = keeps; moments = moments }
+
+-- what only reads means the same at each moment
+reads_mean : (tells : Bool) (v w : Device) (cat : Catalogue) → Only v.held v.images → OnlyReads tells v w → MeansCatalogue v.held cat → LeavesOnly v w (StillMeans cat v)
+reads_mean tells v w cat only reads means =
+    leaves_map v w (λ image said. v.images image × (said ≡ v.said)) (StillMeans cat v)
+    (λ image said now. (subst (λ (bytes : List ℕ). MeansCatalogue bytes cat) (sym (only image now.0)) means, now.1)) reads.moments
+
+-- nothing was written
+pub refused : (tells : Bool) (fault : SurveyFault) (v w : Device) → Only v.held v.images → OnlyReads tells v w → ReadFault tells fault v w → Opened tells (Err fault) v w
+refused tells fault v w only reads cause = record {
+  ready = tt;
+  at = tt;
+  fault = whole fault cause;
+  others = reads.keeps;
+  moments = λ told cat means. reads_mean tells v w cat only reads means;
+}
+  where
+    whole : (fault : SurveyFault) → ReadFault tells fault v w → StartFault tells fault v w
+    whole Failed cause = cause
+    whole (NotAStore page) cause = (cause, reads.held, reads.images)
+    whole (Memory error) cause = (reads.held, reads.images)
+
+-- a count that rose later
+pub rose_on : (a b c : ℕ) → a ≤ b → Rose b c → Rose a c
+rose_on a b c le rose = omega arith
+
+-- the same after reads
+pub fault_after : (tells : Bool) (fault : SurveyFault) (v x w : Device) → OnlyReads tells v x → ReadFault tells fault x w → ReadFault tells fault v w
+fault_after tells Failed v x w reads cause = rose_on v.faults x.faults w.faults reads.keeps.faults cause
+fault_after tells (NotAStore page) v x w reads cause = λ told cat means. cause told cat (subst (λ (bytes : List ℕ). MeansCatalogue bytes cat) (sym reads.held) means)
+fault_after tells (Memory error) v x w reads cause = tt
+
+-- each moment of both
+moments_after : (tells : Bool) (v x w : Device) (cat : Catalogue) → Only v.held v.images → OnlyReads tells v x → MeansCatalogue v.held cat → LeavesOnly x w (StillMeans cat x) → LeavesOnly v w (StillMeans cat v)
+moments_after tells v x w cat only reads means later =
+    then_on v x w (StillMeans cat v) (reads_mean tells v x cat only reads means)
+    (leaves_map x w (StillMeans cat x) (StillMeans cat v) (λ image said now. (now.0, now.1 ∙ reads.keeps.said)) later)
+
+-- an opening went on after it had read
+pub opened_after : (tells : Bool) (result : Result Engine SurveyFault) (v x w : Device) → Only v.held v.images → OnlyReads tells v x → Opened tells result x w → Opened tells result v w
+opened_after tells (Ok e) v x w only reads opened = record {
+  ready = opened.ready;
+  at = λ told. let stands = opened.at told in (stands.0, subst (λ (bytes : List ℕ). MeansCatalogue bytes stands.0) reads.held stands.1, stands.2);
+  fault = tt;
+  others = keeps_then tells v x w reads.keeps opened.others;
+  moments = λ told cat means. moments_after tells v x w cat only reads means (opened.moments told cat (subst (λ (bytes : List ℕ). MeansCatalogue bytes cat) (sym reads.held) means));
+}
+opened_after tells (Err fault) v x w only reads opened = record {
+  ready = tt;
+  at = tt;
+  fault = later fault opened.fault;
+  others = keeps_then tells v x w reads.keeps opened.others;
+  moments = λ told cat means. moments_after tells v x w cat only reads means (opened.moments told cat (subst (λ (bytes : List ℕ). MeansCatalogue bytes cat) (sym reads.held) means));
+}
+  where
+    later : (fault : SurveyFault) → StartFault tells fault x w → StartFault tells fault v w
+    later Failed cause = rose_on v.faults x.faults w.faults reads.keeps.faults cause
+    later (NotAStore page) cause = (λ told cat means. cause.0 told cat (subst (λ (bytes : List ℕ). MeansCatalogue bytes cat) (sym reads.held) means), cause.1 ∙ reads.held, λ image now. reads.images image (cause.2 image now))
+    later (Memory error) cause = (cause.0 ∙ reads.held, λ image now. reads.images image (cause.1 image now))

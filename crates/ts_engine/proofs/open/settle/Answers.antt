@@ -1,0 +1,29 @@
+use Rattle.std.proofs.Common.{refl}
+use Rattle.ts_engine.proofs.OpenLemmas.{admitted, settle_moments, settled_opened, unsettled}
+use Rattle.ts_engine.proofs.open.settle.Goals as goal
+
+pub settle-requires-clause-over : goal.settle-requires-clause-over
+settle-requires-clause-over g c =
+    admitted g.V.Volume.tells c.args.store c.admit.new.self (g.V.Volume.device c.args.vol.now) c.args.surveyed.defs.definitions c.args.surveyed.space c.args.surveyed.free.items
+    c.requires.idle c.requires.found c.admit.ensures
+
+pub returns-in-Ok : goal.returns-in-Ok
+returns-in-Ok g c =
+    let tells = g.V.Volume.tells in
+    let v = g.V.Volume.device c.args.vol.now in
+    let w = g.V.Volume.device c.settle.new.vol in
+    record {
+      opened = settled_opened tells c.args.store c.admit.new.self v c.args.surveyed.defs.definitions c.args.surveyed.space c.args.surveyed.free.items c.requires.idle c.requires.found c.admit.ensures
+          c.settle.new.self w c.args.surveyed.defs (g.met.V.Volume.lawful c.args.vol.now) c.places-slots.ensures.slots refl c.in-Ok.ensures.over c.in-Ok.ensures.settled c.in-Ok.ensures.ok c.settle.ensures.others c.settle.ensures.moments;
+    }
+
+pub returns-in-Err : goal.returns-in-Err
+returns-in-Err g c =
+    let tells = g.V.Volume.tells in
+    let v = g.V.Volume.device c.args.vol.now in
+    let w = g.V.Volume.device c.settle.new.vol in
+    record {
+      opened = unsettled tells v w (c.in-Err.ensures.cause refl) c.settle.ensures.others
+          (settle_moments tells c.args.store c.admit.new.self v c.args.surveyed.defs.definitions c.args.surveyed.space c.args.surveyed.free.items c.requires.idle c.requires.found c.admit.ensures
+          (g.met.V.Volume.lawful c.args.vol.now) w c.settle.ensures.moments);
+    }

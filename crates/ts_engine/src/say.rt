@@ -1,0 +1,34 @@
+// What a reply says.
+ghost use Rattle.std.specs.Prelude.{◌≡◌, ◌++◌, OnOk};
+ghost use Rattle.ts_engine.specs.Reply.{ok_line, refusal_line};
+
+use crate::say_values::say_number;
+use std::alloc::AllocError;
+use ts_base::{Refusal, Reply};
+
+/// Says that a command was carried out.
+#[tactic(auto, unfolding(crate::specs::Reply::ok_line))]
+pub(crate) fn say_ok(out: &mut Reply) -> Result<(), AllocError>
+    ensures { OnOk result (out.new ≡ out.old ++ ok_line) }
+{
+    out.extend_from_slice(b"ok\n")
+}
+
+/// Says why a command was refused.
+#[tactic(auto, unfolding(crate::specs::Reply::refusal_line))]
+pub(crate) fn say_refusal(out: &mut Reply, refusal: &Refusal) -> Result<(), AllocError>
+    ensures { OnOk result (out.new ≡ out.old ++ refusal_line refusal.now) }
+{
+    out.extend_from_slice(b"error ")?;
+    say_number(out, refusal.code() as u64)?;
+    out.extend_from_slice(b" ")?;
+    out.extend_from_slice(refusal.name())?;
+    out.extend_from_slice(b"\n")
+}
+
+/// Says why a statement is refused that is no command.
+pub fn write_refusal(refusal: &Refusal, out: &mut Reply) -> Result<(), AllocError>
+    ensures { OnOk result (out.new ≡ out.old ++ refusal_line refusal.now) }
+{
+    say_refusal(out, refusal)
+}
