@@ -30,7 +30,7 @@ fn advice(status: u8) -> &'static str {
         2 =>
             "these words name no job; say `ts VOLUME init PAGES` with 1 to 65536 pages, or `ts VOLUME run < SCRIPT`",
         3 =>
-            "standard input failed while the script was read; nothing was carried out, so run the script again",
+            "standard input failed; each command whose reply you have is stored: run the rest again",
         4 =>
             "standard output failed; each command whose reply you have is stored, and the one after it may be: run the rest again",
         5 =>
@@ -39,7 +39,7 @@ fn advice(status: u8) -> &'static str {
             "this is no store, or its pages are damaged; nothing was changed: take another file, or a copy of this one",
         7 =>
             "there is no memory for a run; nothing was changed: free some, then run the script again",
-        8 => "the script has more than 65536 bytes; nothing was carried out: split it",
+        8 => "the script has more than 268435456 bytes; what ends within these was carried out: run the rest",
         10 => "the file isn't empty; nothing was changed: choose another path for a new store",
         _ => "the run ended",
     }

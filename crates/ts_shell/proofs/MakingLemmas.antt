@@ -1,89 +1,108 @@
--- Writes aside of the first gate and of the series' page.
-use Rattle.std.proofs.Common.{◌≡◌, ◌≢◌, ◌⊎◌, inl, inr, ℕ, ◌+◌, ◌-◌, ◌*◌, ◌<◌, ◌≤◌, Bool, Some, List, [], ◌∷◌, ◌++◌, length, replicate, get_or, Result, refl, sym, ◌∙◌, ap, subst, arith}
-use Rattle.std.proofs.lemmas.Bool.{cases_lt}
-use Rattle.ts_disk.specs.Device.{Device, Lawful, Only, LeavesOnly, WrittenAt, Synced}
-use Rattle.ts_disk.proofs.Moments.{started, calls_on, then_on, leaves_map}
-use Rattle.ts_journal.specs.Journal.{records, pages}
-use Rattle.ts_shell.specs.declared.reading.Reading.{Reading}
-use Rattle.ts_shell.specs.SeriesPage.{IsSeriesPage}
-use Rattle.ts_shell.specs.FirstVolume.{Means, IsEmptyOrNone}
-use Rattle.ts_shell.specs.Making.{Aside, AsideFrom, WritesAside, EmptyFrom}
-use Rattle.ts_shell.proofs.PageLemmas.{kind_is}
-use Rattle.ts_shell.proofs.VolumeLemmas.{page_at, page_at-torn, no_journal, pages_own, zero_page}
+-- What a stop leaves while a store is made.
+use Rattle.std.proofs.Common.{◌≡◌, ℕ, ◌+◌, ◌-◌, ◌*◌, ◌≤◌, Bool, IsTrue, Some, codes, List, [], ◌∷◌, ◌++◌, length, take, drop, replicate, Result, Ok, refl, sym, ◌∙◌, ap, subst, arith}
+use Rattle.std.specs.Int.{w32, to_be_bytes}
+use Rattle.std.proofs.lemmas.List.{drop-replicate, length-replicate, take-replicate, take_at}
+use Rattle.ts_disk.specs.Device.{Device, Lawful, LeavesOnly, Torn, overwritten, Resized, WrittenAt, Synced}
+use Rattle.ts_disk.proofs.Moments.{started, calls_on}
+use Rattle.ts_disk.proofs.Ranges.{drop_further}
+use Rattle.ts_disk.proofs.Replays.{Torn-overwritten}
+use Rattle.ts_journal.specs.Journal.{page_count, records, pages}
+use Rattle.ts_model.specs.Catalogue.{empty_catalogue}
+use Rattle.ts_container.specs.Slot.{header_bytes}
+use Rattle.ts_container.proofs.PartLemmas.{length-padded}
+use Rattle.ts_container.proofs.LayoutLemmas.{same_catalogue}
+use Rattle.ts_shell.specs.Making.{IsEmptyOrNone, EmptyFrom}
+use Rattle.ts_shell.proofs.NewLemmas.{page_at, IsNew, no_journal, pages_own, new_means}
 
-aside_refl : (image : List ℕ) → Aside image image
-aside_refl image = record { gate = refl; series = refl }
+-- the header is a page
+pub header_length : (count : ℕ) → length (header_bytes count) ≡ 4096
+unfolding header_bytes
+header_length count = length-padded 4096 (codes "TSVOLUME" ++ (1 ∷ to_be_bytes w32 count)) (omega arith)
 
-aside_on : (a b c : List ℕ) → Aside a b → Aside b c → Aside a c
-aside_on a b c first second = record { gate = second.gate ∙ first.gate; series = second.series ∙ first.series }
+-- what is torn before a page leaves it
+page_behind : (n k : ℕ) (old new : List ℕ) → Torn 0 k old new → k ≤ 4096 * n → page_at n new ≡ page_at n old
+page_behind n k old new torn behind = ap (take 4096) (drop_further (0 + k) (4096 * n) old new (omega (arith, behind)) torn.after)
 
-pub aside_write : {E : Type 0} (tells : Bool) (number at : ℕ) (bytes : List ℕ) (r : Result Unit E) (v w : Device) → Lawful tells v → at ≡ 4096 * number → number ≢ 1 → number < 930 → length bytes ≤ 4096 → WrittenAt tells at bytes r v w → WritesAside v w
-aside_write tells number at bytes r v w lawful is outside before one write = record {
-  said = write.call.said;
-  crash = tears;
-  moments = calls_on tells r v v w (AsideFrom v) (started tells v (AsideFrom v) lawful (λ image now. ((image, now, aside_refl image), refl))) write.call (λ image now. (tears image now, refl));
-} where
-  near : (4096 * 1 + 4096 ≤ at) ⊎ (at + length bytes ≤ 4096 * 1)
-  near = elim (cases_lt number 1) [
-    | inl first ↦ inr (omega (arith, first, is, one))
-    | inr behind ↦ inl (omega (arith, behind, is, outside))
-  ]
+-- a page of zeros
+zero_page_at : (n size : ℕ) → 4096 * n + 4096 ≤ size → page_at n (replicate size 0) ≡ replicate 4096 0
+zero_page_at n size room = ap (take 4096) (drop-replicate (4096 * n) size 0) ∙ take-replicate {X = ℕ} 4096 (size - 4096 * n) 0 (omega arith)
 
-  tears : (image : List ℕ) → w.images image → (earlier : List ℕ) × v.images earlier × Aside earlier image
-  tears image now =
-      let from = write.crash image now in (
-        from.0,
-        from.1,
-        record { gate = page_at-torn 1 at (length bytes) from.0 image from.2 near; series = page_at-torn 930 at (length bytes) from.0 image from.2 (inr (omega (arith, is, before, one))) },
-      )
+module _ (count size : ℕ) (some : 1 ≤ count) (limit : count ≤ 65536) (is : size ≡ 4096 * (930 + count)) where
+  -- zeros with any first page, if this is the header
+  torn_new : (image : List ℕ) → Torn 0 4096 (replicate size 0) image → page_at 0 image ≡ header_bytes count → IsNew count image
+  torn_new image torn header = record {
+    size = torn.len ∙ length-replicate size 0 ∙ is;
+    header = header;
+    zeros = λ n low high. page_behind n 4096 (replicate size 0) image torn (omega (arith, low)) ∙ zero_page_at n size (omega (arith, is, high));
+  }
 
-pub aside_then : (v w x : Device) → WritesAside v w → WritesAside w x → WritesAside v x
-aside_then v w x first second = record {
-  said = second.said ∙ first.said;
-  crash = λ image now.
-      let mid = second.crash image now in
-      let start = first.crash mid.0 mid.1 in
-      (start.0, start.1, aside_on start.0 mid.0 image start.2 mid.2);
-  moments = then_on v w x (AsideFrom v) first.moments
-      (leaves_map w x (AsideFrom w) (AsideFrom v)
-      (λ image said now.
-      let start = first.crash now.0.0 now.0.1 in
-      ((start.0, start.1, aside_on start.0 now.0.0 image start.2 now.0.2), now.1 ∙ first.said))
-      second.moments);
-}
+  -- the header written over zeros
+  pub written_new : (header held : List ℕ) → header ≡ header_bytes count → length header ≡ 4096 → held ≡ overwritten 0 header (replicate size 0) → IsNew count held
+  written_new header held same whole written =
+      let zeros : List ℕ = replicate size 0 in
+      let long : length zeros ≡ size = length-replicate size 0 in
+      let torn : Torn 0 (length header) zeros (overwritten 0 header zeros) = Torn-overwritten 0 header zeros (omega (arith, whole, long, is)) in
+      let front : page_at 0 (overwritten 0 header zeros) ≡ header = take_at header (drop (0 + length header) zeros) 4096 whole in
+      subst (IsNew count) (sym written)
+      (torn_new (overwritten 0 header zeros) (subst (λ (k : ℕ). Torn 0 k zeros (overwritten 0 header zeros)) whole torn) (front ∙ same))
 
-pub aside_sync : {E : Type 0} (tells : Bool) (r : Result Unit E) (v w x : Device) → WritesAside v w → Synced tells r w x → WritesAside v x
-aside_sync tells r v w x first sync = record {
-  said = sync.call.said ∙ first.said;
-  crash = λ image now. first.crash image (sync.crash image now);
-  moments = calls_on tells r v w x (AsideFrom v) first.moments sync.call (λ image now. (first.crash image (sync.crash image now), first.said));
-}
-
--- zeros with other bytes aside mean the empty list, or none
-empty_or_none : (size : ℕ) (zeros image : List ℕ) → 3813376 ≤ size → zeros ≡ replicate size 0 → Aside zeros image → IsEmptyOrNone image
-empty_or_none size zeros image long is aside readings means =
-    let gate : page_at 1 image ≡ replicate 4096 0 = aside.gate ∙ ap (page_at 1) is ∙ zero_page 1 size (omega (arith, long)) in
-    let page : page_at 930 image ≡ replicate 4096 0 = aside.series ∙ ap (page_at 930) is ∙ zero_page 930 size (omega (arith, long)) in
-    let none : records image ≡ Some [] = no_journal image gate in
-    let here : pages image 930 ≡ replicate 4096 0 = pages_own image none 930 ∙ page in
-    by_page here means.elements
-  where
-    by_page : pages image 930 ≡ replicate 4096 0 → IsSeriesPage (pages image 930) readings → readings ≡ []
-    by_page here (inl free) = free.1
-    by_page here (inr holds) = absurd (omega (arith, kind_is (pages image 930) readings holds, ap (λ (l : List ℕ). get_or l 0 0) here))
-
--- from the first sync on: the bytes were zeros then, and nothing was pending
-pub empty_from : (v b w : Device) (size : ℕ) (zeros : List ℕ) → b.clock ≡ v.clock + 2 → b.said ≡ v.said → 3813376 ≤ size → zeros ≡ replicate size 0 → Only zeros b.images → WritesAside b w → EmptyFrom (v.clock + 2) v w
-empty_from v b w size zeros clock said long is only aside = record {
-  later = omega (arith, clock, aside.moments.later);
-  each = λ image s left.
-      let Q : ℕ → Type 0 = λ n. w.since n image s in
-      let now = aside.moments.each image s (subst Q (sym clock) left) in
-      let P : List ℕ → Type 0 = λ l. Aside l image in
-      (empty_or_none size zeros image long is (subst P (only now.0.0 now.0.1) now.0.2), now.1 ∙ said);
-}
+  -- zeros with any first page mean the empty catalogue or none
+  pub torn_empty : (image : List ℕ) → Torn 0 4096 (replicate size 0) image → IsEmptyOrNone count image
+  torn_empty image torn cat means =
+      let none : records image ≡ Some [] = no_journal image (page_behind 1 4096 (replicate size 0) image torn (omega arith) ∙ zero_page_at 1 size (omega (arith, is))) in
+      let long : length image ≡ 4096 * (930 + count) = torn.len ∙ length-replicate size 0 ∙ is in
+      let layout = means.pages.0 in
+      let laid = means.pages.1 in
+      let same : length layout.element_pages ≡ count = omega (arith, laid.size, long) in
+      let header : page_at 0 image ≡ header_bytes count = sym (pages_own image none 0) ∙ laid.bytes.header ∙ ap header_bytes same in
+      same_catalogue (page_count (length image)) (pages image) cat (empty_catalogue count) means.pages (new_means count image some limit (torn_new image torn header)).pages
 
 -- nothing, grown, is zeros
-pub zeros_grown : (held grown : List ℕ) (size old : ℕ) → length held ≡ 0 → old ≡ 0 → grown ≡ held ++ replicate (size - old) 0 → grown ≡ replicate size 0
-zeros_grown [] grown size old none empty is = is ∙ ap (λ (n : ℕ). replicate {A = ℕ} n 0) (let e : size - old ≡ size = omega (arith, empty) in e)
-zeros_grown (x ∷ held) grown size old none empty is = absurd (omega arith)
+pub zeros_grown : (held grown : List ℕ) (size old : ℕ) → length held ≡ old → old ≡ 0 → grown ≡ held ++ replicate (size - old) 0 → grown ≡ replicate size 0
+zeros_grown [] grown size old long empty is = is ∙ ap (λ (n : ℕ). replicate {A = ℕ} n 0) (let e : size - old ≡ size = omega (arith, empty) in e)
+zeros_grown (x ∷ held) grown size old long empty is = absurd (omega (arith, long, empty))
+
+-- an image that means the empty catalogue or none, with nothing said
+abbrev pub EmptyMoment : ℕ → Device → List ℕ → List ℕ → Type 0
+EmptyMoment count v image said = IsEmptyOrNone count image × (said ≡ v.said)
+
+-- from the first sync on: the bytes were zeros then, and nothing was pending
+module _ {E F : Type 0} (tells : Bool) (told : IsTrue tells) (count size : ℕ) (some : 1 ≤ count) (limit : count ≤ 65536) (is : size ≡ 4096 * (930 + count)) (v a b : Device) (lawful : Lawful tells v) (later : Lawful tells b) (empty : v.size ≡ 0)
+    (resize : Resized {E = E} tells size (Ok tt) v a) (sync : Synced {E = F} tells (Ok tt) a b) where
+  pub zeros_held : a.held ≡ replicate size 0
+  zeros_held = zeros_grown v.held a.held size v.size (lawful.size told) empty (resize.grown told)
+
+  torn_here : (image : List ℕ) → b.images image → Torn 0 4096 (replicate size 0) image
+  torn_here image now =
+      let same : replicate size 0 ≡ image = sym zeros_held ∙ sym (sync.durable image now) in
+      subst (Torn 0 4096 (replicate size 0)) same (record { len = refl; before = refl; after = refl })
+
+  said_same : b.said ≡ v.said
+  said_same = sync.call.said ∙ resize.call.said
+
+  pub begun : LeavesOnly b b (EmptyMoment count v)
+  begun = started tells b (EmptyMoment count v) later (λ image now. (torn_empty count size some limit is image (torn_here image now), said_same))
+
+  -- the header is written, or not
+  module _ {G : Type 0} (header : List ℕ) (whole : length header ≡ 4096) (d : Device) (r : Result Unit G) (write : WrittenAt tells 0 header r b d) where
+    torn_there : (image : List ℕ) → d.images image → Torn 0 4096 (replicate size 0) image
+    torn_there image now =
+        let from = write.crash image now in
+        let same : from.0 ≡ replicate size 0 = sync.durable from.0 from.1 ∙ zeros_held in
+        subst (λ (l : List ℕ). Torn 0 4096 l image) same (subst (λ (k : ℕ). Torn 0 k from.0 image) whole from.2)
+
+    pub written : LeavesOnly b d (EmptyMoment count v)
+    written = calls_on tells r b b d (EmptyMoment count v) begun write.call (λ image now. (torn_empty count size some limit is image (torn_there image now), said_same))
+
+    pub written_synced : {H : Type 0} (f : Device) (q : Result Unit H) → Synced tells q d f → LeavesOnly b f (EmptyMoment count v)
+    written_synced f q again =
+        calls_on tells q b d f (EmptyMoment count v) written again.call (λ image now. (torn_empty count size some limit is image (torn_there image (again.crash image now)), write.call.said ∙ said_same))
+
+  -- what these moments are since the first sync
+  pub empty_from : (w : Device) → LeavesOnly b w (EmptyMoment count v) → EmptyFrom count (v.clock + 2) v w
+  empty_from w leaves =
+      let clock : b.clock ≡ v.clock + 2 = omega (arith, resize.call.tick told refl, sync.call.tick told refl) in
+      record {
+        later = omega (arith, clock, leaves.later);
+        each = λ image said left. leaves.each image said (subst (λ (n : ℕ). w.since n image said) (sym clock) left);
+      }

@@ -1,114 +1,144 @@
--- Runs of items, one behind another.
-use Rattle.std.proofs.Common.{inl, ℕ, Bool, IsTrue, List, [], ◌∷◌, ◌++◌, length, Result, Ok, Err, refl, sym, ◌∙◌, ap, subst, arith, append_assoc}
+-- Runs of requests, one behind another.
+use Rattle.std.proofs.Common.{◌≡◌, ℕ, Bool, IsTrue, List, [], ◌++◌, length, Result, Ok, Err, refl, sym, ◌∙◌, ap, subst, arith, append_assoc}
 use Rattle.std.proofs.lemmas.List.{append-nil}
 use Rattle.ts_disk.specs.Device.{Device, Lawful, LeavesOnly}
 use Rattle.ts_disk.proofs.Moments.{started, then_on, leaves_map}
-use Rattle.ts_replies.proofs.Steps.{one_answered, one_fair, none_good, answered_then, moment_more, moment_then}
+use Rattle.ts_command.specs.Script.{Request}
+use Rattle.ts_replies.proofs.Steps.{none_good, answered_then, moment_more, moment_then}
 use Rattle.ts_replies.proofs.Hearing.{fair_more, fair_then}
-use Rattle.ts_shell.specs.declared.reading.Reading.{Reading}
-use Rattle.ts_shell.specs.declared.item.Item.{Item}
+use Rattle.ts_model.specs.Catalogue.{Catalogue}
+use Rattle.ts_engine.specs.Answer.{answer, may_lack_memory}
+use Rattle.ts_engine.specs.Volume.{MeansCatalogue}
+use Rattle.ts_engine.specs.Engine.{Kept, IsReady, IsAt}
+use Rattle.ts_engine.proofs.ApartLemmas.{apart}
 use Rattle.ts_shell.specs.declared.fault.RunFault.{RunFault}
-use Rattle.ts_shell.specs.FirstVolume.{MeansFrom}
-use Rattle.ts_shell.specs.Answer.{answer, lacks}
-use Rattle.ts_shell.specs.Run.{Stands, IsGoodRun, Carried, Ran, SaysFairly}
-use Rattle.ts_shell.proofs.RunLemmas.{apart}
-use Rattle.ts_shell.proofs.VolumeLemmas.{rose_on}
+use Rattle.ts_shell.specs.declared.fault.RunFault.TheVariants.{Disk, Output}
+use Rattle.ts_shell.specs.Run.{IsGoodRun, SaysFairly, Answered, Ran}
+use Rattle.ts_shell.proofs.ItemLemmas.{rose_on}
 
--- no item at all
-pub ran_none : (entry : List ℕ) (tells : Bool) (old : List Reading) (v : Device) → Lawful tells v → Ran entry tells [] old old (Ok tt) v v
-ran_none entry tells old v lawful = record {
-  ok = λ told stands. ([], sym (append-nil v.said), refl, stands);
-  fair = λ told stands. ([], sym (append-nil v.said), refl);
-  moments = λ told stands. started tells v (IsGoodRun entry old [] v.said) lawful (λ image now.
-      let P : List ℕ → Type 0 = λ l. MeansFrom entry l old in
-      ([], sym (append-nil v.said), none_good answer lacks apart (MeansFrom entry image) old [] (subst P (sym (stands.only image now)) stands.means)));
-  disk = λ e. absurd (cc);
-  output = λ e. absurd (cc);
-  kept = record { size = refl; faults = omega arith; say_faults = omega arith };
+-- a moment in which nothing was done yet
+pub good_now : (tells : Bool) (e : Kept) (cat : Catalogue) (asked : List Request) (v : Device) → Lawful tells v → IsAt tells e cat v → LeavesOnly v v (IsGoodRun cat asked v.said)
+good_now tells e cat asked v lawful at =
+    started tells v (IsGoodRun cat asked v.said) lawful (λ image now. (
+      [],
+      sym (append-nil v.said),
+      none_good answer may_lack_memory apart (MeansCatalogue image) cat asked (subst (λ (l : List ℕ). MeansCatalogue l cat) (sym (at.ready.idle.over.settled image now)) at.means),
+    ))
+
+-- no request at all
+pub ran_none : {T : Type 0} (tells : Bool) (done : T) (e : Kept) (v : Device) → Lawful tells v → IsReady tells e v → Ran tells [] (Ok done) e e v v
+ran_none tells done e v lawful ready = record {
+  ready = ready;
+  answered = λ told cat at. record { gained = []; last = cat; said = sym (append-nil v.said); all = refl; at = at };
+  fair = λ told cat at. ([], sym (append-nil v.said), refl);
+  moments = λ told cat at. good_now tells e cat [] v lawful at;
+  disk = λ is. absurd (cc);
+  output = λ is. absurd (cc);
+  size = refl;
+  faults = omega arith;
+  say_faults = omega arith;
   syncs = λ told. omega arith;
 }
 
--- one item
-pub ran_one : (entry : List ℕ) (tells : Bool) (item : Item) (old new : List Reading) (r : Result Unit RunFault) (v w : Device) → Carried entry tells old new item r v w → Ran entry tells (item ∷ []) old new r v w
-ran_one entry tells item old new (Ok x) v w carried = record {
-  ok = λ told stands.
-      let done = carried.ok told stands in
-      let P : List Reading → Type 0 = Stands entry w in
-      ((answer old item).0, done.1, one_answered answer lacks apart old item (answer old item).0 new (inl (refl, carried.readings)), subst P (sym carried.readings) done.0);
-  fair = λ told stands.
-      let done = carried.ok told stands in
-      ((answer old item).0, done.1, one_fair answer lacks apart old item (answer old item).0 (answer old item).0 (answer old item).1 (inl (refl, refl)) ([], sym (append-nil (answer old item).0)));
-  moments = carried.moments;
-  disk = carried.disk;
-  output = carried.output;
-  kept = carried.kept;
-  syncs = carried.syncs;
+-- the same run with another value
+pub ran_as : {T U : Type 0} (tells : Bool) (asked : List Request) (done : T) (value : U) (e f : Kept) (v w : Device) → Ran tells asked (Ok done) e f v w → Ran tells asked (Ok value) e f v w
+ran_as tells asked done value e f v w run = record {
+  ready = run.ready;
+  answered = run.answered;
+  fair = run.fair;
+  moments = run.moments;
+  disk = λ is. absurd (cc);
+  output = λ is. absurd (cc);
+  size = run.size;
+  faults = run.faults;
+  say_faults = run.say_faults;
+  syncs = run.syncs;
 }
-ran_one entry tells item old new (Err x) v w carried = record {
-  ok = tt;
-  fair = λ told stands.
-      let part = carried.err told stands in
-      (part.0, part.2, one_fair answer lacks apart old item (answer old item).0 part.0 (answer old item).1 (inl (refl, refl)) part.1);
-  moments = carried.moments;
-  disk = carried.disk;
-  output = carried.output;
-  kept = carried.kept;
-  syncs = carried.syncs;
+
+same_fault : {T : Type 0} {U : Type 0} (a b : RunFault) → ◌≡◌ {A = Result U RunFault} (Err a) (Err b) → ◌≡◌ {A = Result T RunFault} (Err a) (Err b)
+same_fault a b is = let e : a ≡ b = cc in ap Err e
+
+-- the same run that failed, of another value
+pub ran_failed_as : {T U : Type 0} (tells : Bool) (asked : List Request) (fault : RunFault) (e f : Kept) (v w : Device) → Ran {T = T} tells asked (Err fault) e f v w → Ran {T = U} tells asked (Err fault) e f v w
+ran_failed_as {T} {U} tells asked fault e f v w run = record {
+  ready = tt;
+  answered = tt;
+  fair = run.fair;
+  moments = run.moments;
+  disk = λ is. run.disk (same_fault {T = T} {U = U} fault Disk is);
+  output = λ is. run.output (same_fault {T = T} {U = U} fault Output is);
+  size = run.size;
+  faults = run.faults;
+  say_faults = run.say_faults;
+  syncs = run.syncs;
 }
 
 -- a run that ended before the others began
-pub ran_front : (entry : List ℕ) (tells : Bool) (items others : List Item) (old new : List Reading) (fault : RunFault) (v w : Device) → Ran entry tells items old new (Err fault) v w → Ran entry tells (items ++ others) old new (Err fault) v w
-ran_front entry tells items others old new fault v w run = record {
-  ok = tt;
-  fair = λ told stands. let fair = run.fair told stands in (fair.0, fair.1, fair_more answer lacks apart old items others fair.0 fair.2);
-  moments = λ told stands. leaves_map v w (IsGoodRun entry old items v.said) (IsGoodRun entry old (items ++ others) v.said) (λ image said. moment_more answer lacks apart (MeansFrom entry) image said v.said old items others) (run.moments told stands);
-  disk = run.disk;
-  output = run.output;
-  kept = run.kept;
+pub ran_front : {T U : Type 0} (tells : Bool) (asked others : List Request) (fault : RunFault) (e f : Kept) (v w : Device) → Ran {T = T} tells asked (Err fault) e f v w → Ran {T = U} tells (asked ++ others) (Err fault) e f v w
+ran_front {T} {U} tells asked others fault e f v w run = record {
+  ready = tt;
+  answered = tt;
+  fair = λ told cat at. let fair = run.fair told cat at in (fair.0, fair.1, fair_more answer may_lack_memory apart cat asked others fair.0 fair.2);
+  moments = λ told cat at.
+      leaves_map v w (IsGoodRun cat asked v.said) (IsGoodRun cat (asked ++ others) v.said) (λ image said. moment_more answer may_lack_memory apart MeansCatalogue image said v.said cat asked others) (run.moments told cat at);
+  disk = λ is. run.disk (same_fault {T = T} {U = U} fault Disk is);
+  output = λ is. run.output (same_fault {T = T} {U = U} fault Output is);
+  size = run.size;
+  faults = run.faults;
+  say_faults = run.say_faults;
   syncs = run.syncs;
 }
 
 -- a run behind a run
-module _ (entry : List ℕ) (tells : Bool) (items others : List Item) (old mid new : List Reading) (v x w : Device) (first : Ran entry tells items old mid (Ok tt) v x) where
-  module _ (told : IsTrue tells) (stands : Stands entry v old) (fair : SaysFairly others mid x w) (good : LeavesOnly x w (IsGoodRun entry mid others x.said)) where
-    fair_behind : SaysFairly (items ++ others) old v w
-    fair_behind =
-        let done = first.ok told stands in (
-          done.0 ++ fair.0,
-          fair.1 ∙ ap (λ (l : List ℕ). l ++ fair.0) done.1 ∙ append_assoc v.said done.0 fair.0,
-          fair_then answer lacks apart old items others done.0 fair.0 (length items) mid done.2 fair.2,
-        )
+module _ {T : Type 0} (tells : Bool) (asked others : List Request) (done : T) (e f h : Kept) (v x w : Device) (first : Ran tells asked (Ok done) e f v x) where
+  module _ (told : IsTrue tells) (cat : Catalogue) (at : IsAt tells e cat v) where
+    abbrev so_far : Answered tells cat asked f v x
+    so_far = first.answered told cat at
 
-    good_behind : LeavesOnly v w (IsGoodRun entry old (items ++ others) v.said)
-    good_behind =
-        let done = first.ok told stands in
-        then_on v x w (IsGoodRun entry old (items ++ others) v.said)
-        (leaves_map v x (IsGoodRun entry old items v.said) (IsGoodRun entry old (items ++ others) v.said) (λ image said. moment_more answer lacks apart (MeansFrom entry) image said v.said old items others) (first.moments told stands))
-        (leaves_map x w (IsGoodRun entry mid others x.said) (IsGoodRun entry old (items ++ others) v.said) (λ image said. moment_then answer lacks apart (MeansFrom entry) image said v.said old items others done.0 x.said mid done.2 done.1) good)
+    fair_behind : SaysFairly so_far.last others x w → SaysFairly cat (asked ++ others) v w
+    fair_behind fair = (
+      so_far.gained ++ fair.0,
+      fair.1 ∙ ap (λ (l : List ℕ). l ++ fair.0) so_far.said ∙ append_assoc v.said so_far.gained fair.0,
+      fair_then answer may_lack_memory apart cat asked others so_far.gained fair.0 (length asked) so_far.last so_far.all fair.2,
+    )
 
-  pub ran_then : (r : Result Unit RunFault) → Ran entry tells others mid new r x w → Ran entry tells (items ++ others) old new r v w
+    good_behind : LeavesOnly x w (IsGoodRun so_far.last others x.said) → LeavesOnly v w (IsGoodRun cat (asked ++ others) v.said)
+    good_behind good =
+        then_on v x w (IsGoodRun cat (asked ++ others) v.said)
+        (leaves_map v x (IsGoodRun cat asked v.said) (IsGoodRun cat (asked ++ others) v.said) (λ image said. moment_more answer may_lack_memory apart MeansCatalogue image said v.said cat asked others) (first.moments told cat at))
+        (leaves_map x w (IsGoodRun so_far.last others x.said) (IsGoodRun cat (asked ++ others) v.said) (λ image said. moment_then answer may_lack_memory apart MeansCatalogue image said v.said cat asked others so_far.gained x.said so_far.last so_far.all so_far.said) good)
+
+  pub ran_then : {U : Type 0} (r : Result U RunFault) → Ran tells others r f h x w → Ran tells (asked ++ others) r e h v w
   ran_then (Ok y) second = record {
-    ok = λ told stands.
-        let done = first.ok told stands in
-        let more = second.ok told done.3 in (
-          done.0 ++ more.0,
-          more.1 ∙ ap (λ (l : List ℕ). l ++ more.0) done.1 ∙ append_assoc v.said done.0 more.0,
-          answered_then answer lacks apart old items others done.0 more.0 mid new done.2 more.2,
-          more.3,
-        );
-    fair = λ told stands. let done = first.ok told stands in fair_behind told stands (second.fair told done.3) (second.moments told done.3);
-    moments = λ told stands. let done = first.ok told stands in good_behind told stands (second.fair told done.3) (second.moments told done.3);
-    disk = λ e. absurd (cc);
-    output = λ e. absurd (cc);
-    kept = record { size = second.kept.size ∙ first.kept.size; faults = omega (arith, first.kept.faults, second.kept.faults); say_faults = omega (arith, first.kept.say_faults, second.kept.say_faults) };
+    ready = second.ready;
+    answered = λ told cat at.
+        let here = first.answered told cat at in
+        let more = second.answered told here.last here.at in
+        record {
+          gained = here.gained ++ more.gained;
+          last = more.last;
+          said = more.said ∙ ap (λ (l : List ℕ). l ++ more.gained) here.said ∙ append_assoc v.said here.gained more.gained;
+          all = answered_then answer may_lack_memory apart cat asked others here.gained more.gained here.last more.last here.all more.all;
+          at = more.at;
+        };
+    fair = λ told cat at. let here = first.answered told cat at in fair_behind told cat at (second.fair told here.last here.at);
+    moments = λ told cat at. let here = first.answered told cat at in good_behind told cat at (second.moments told here.last here.at);
+    disk = λ is. absurd (cc);
+    output = λ is. absurd (cc);
+    size = second.size ∙ first.size;
+    faults = omega (arith, first.faults, second.faults);
+    say_faults = omega (arith, first.say_faults, second.say_faults);
     syncs = λ told. omega (arith, first.syncs told, second.syncs told);
   }
   ran_then (Err y) second = record {
-    ok = tt;
-    fair = λ told stands. let done = first.ok told stands in fair_behind told stands (second.fair told done.3) (second.moments told done.3);
-    moments = λ told stands. let done = first.ok told stands in good_behind told stands (second.fair told done.3) (second.moments told done.3);
-    disk = λ e. rose_on v.faults x.faults w.faults first.kept.faults (second.disk e);
-    output = λ e. rose_on v.say_faults x.say_faults w.say_faults first.kept.say_faults (second.output e);
-    kept = record { size = second.kept.size ∙ first.kept.size; faults = omega (arith, first.kept.faults, second.kept.faults); say_faults = omega (arith, first.kept.say_faults, second.kept.say_faults) };
+    ready = tt;
+    answered = tt;
+    fair = λ told cat at. let here = first.answered told cat at in fair_behind told cat at (second.fair told here.last here.at);
+    moments = λ told cat at. let here = first.answered told cat at in good_behind told cat at (second.moments told here.last here.at);
+    disk = λ is. rose_on v.faults x.faults w.faults first.faults (second.disk is);
+    output = λ is. rose_on v.say_faults x.say_faults w.say_faults first.say_faults (second.output is);
+    size = second.size ∙ first.size;
+    faults = omega (arith, first.faults, second.faults);
+    say_faults = omega (arith, first.say_faults, second.say_faults);
     syncs = λ told. omega (arith, first.syncs told, second.syncs told);
   }

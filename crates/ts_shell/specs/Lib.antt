@@ -1,13 +1,4 @@
-pub mod Readings
-pub mod SeriesPage
-pub mod FirstVolume
-pub mod Making
 pub mod Words
-pub mod Items
-pub mod Answer
-pub mod Decoding
-pub mod Quiet
+pub mod Making
 pub mod Run
-pub mod Stored
-pub mod Opening
 pub mod Top

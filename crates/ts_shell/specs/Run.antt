@@ -1,80 +1,53 @@
--- A run over one series: what it keeps, what it says, and what a stop within it leaves.
-use Rattle.std.specs.Prelude.{◌≡◌, ℕ, ◌≤◌, ◌<◌, List, [], ◌∷◌, ◌++◌, length, insert, Some, codes, Bool, IsTrue, Result, Err, OnOk, OnErr}
-use Rattle.ts_disk.specs.Device.{Device, Only, LeavesOnly, Rose}
-use Rattle.ts_replies.specs.Acknowledged.{IsFront, IsFair, AllAnswered}
+-- A run over an engine: what is said, and what a stop within it leaves.
+use Rattle.std.specs.Prelude.{◌≡◌, ◌≤◌, ℕ, Bool, IsTrue, if◌then◌else◌, List, [], ◌∷◌, ◌++◌, map, Option, Result, Err, OnOk}
+use Rattle.ts_base.specs.declared.refusal.Refusal.TheVariants as refusals
+use Rattle.ts_disk.specs.Device.{Device, LeavesOnly, Rose}
+use Rattle.ts_items.specs.Items.{items_from, is_unended_at}
+use Rattle.ts_command.specs.Script.{Request, request_of}
+use Rattle.ts_replies.specs.Acknowledged.{IsFair, AllAnswered}
 use Rattle.ts_replies.specs.Good.{IsGoodMoment}
-use Rattle.ts_shell.specs.declared.reading.Reading.{Reading}
-use Rattle.ts_shell.specs.declared.item.Item.{Item}
-use Rattle.ts_shell.specs.declared.item.Item.TheVariants.{Insert, NotInGrammar}
-use Rattle.ts_shell.specs.declared.decide.Why.{Why}
-use Rattle.ts_shell.specs.declared.decide.Why.TheVariants.{Syntax, Duplicate, ContainerFull}
-use Rattle.ts_shell.specs.declared.decide.Decision.{Decision}
-use Rattle.ts_shell.specs.declared.decide.Decision.TheVariants.{Refused, Accepted}
-use Rattle.ts_shell.specs.Readings.{IsReading, placed}
+use Rattle.ts_model.specs.Catalogue.{Catalogue}
+use Rattle.ts_engine.specs.Answer.{answer, may_lack_memory}
+use Rattle.ts_engine.specs.Volume.{MeansCatalogue}
+use Rattle.ts_engine.specs.Engine.{Kept, IsReady, IsAt}
 use Rattle.ts_shell.specs.declared.fault.RunFault.{RunFault}
 use Rattle.ts_shell.specs.declared.fault.RunFault.TheVariants.{Disk, Output}
-use Rattle.ts_shell.specs.Stored.{Kept}
-use Rattle.ts_shell.specs.FirstVolume.{MeansFrom}
-use Rattle.ts_shell.specs.Answer.{answer, ok_line, lacks}
 
--- nothing is pending, and the bytes held mean the readings, with the other pages of the entry
-pub record Stands (entry : List ℕ) (v : Device) (readings : List Reading) : Type 0 where
-  pub means : MeansFrom entry v.held readings
-  pub only : Only v.held v.images
+-- what the items ask for that end within these bytes, which come at this place of a script
+abbrev pub requests_from : Option (List ℕ) → List ℕ → List Request
+requests_from place bytes = map request_of (items_from place bytes)
 
--- An image and the bytes said by then: these are replies from `before` on, and the image means the readings after exactly
--- the acknowledged items, or these and the next, with the other pages of the entry.
-abbrev pub IsGoodRun : List ℕ → List Reading → List Item → List ℕ → List ℕ → List ℕ → Type 0
-IsGoodRun entry readings items before image said = IsGoodMoment answer lacks (MeansFrom entry) readings items before image said
+-- what a script asks for besides that ends at this place
+abbrev pub requests_at_end : Option (List ℕ) → List Request
+requests_at_end place = if is_unended_at place then Err refusals.Unended ∷ [] else []
 
--- what the number of an item is
-abbrev pub IsItem : Item → Type 0
-IsItem (Insert stamp value) = value < 1000000000
-IsItem NotInGrammar = Unit {0}
+-- what was said is replies to the requests in their order, the last of them perhaps in part
+abbrev pub SaysFairly : Catalogue → List Request → Device → Device → Type 0
+SaysFairly cat asked v w = (gained : List ℕ) × (w.said ≡ v.said ++ gained) × IsFair answer may_lack_memory cat asked gained
 
--- the line that refuses an item
-abbrev pub line_of : Why → List ℕ
-line_of Syntax = codes "error 1 Syntax\n"
-line_of Duplicate = codes "error 23 Duplicate\n"
-line_of ContainerFull = codes "error 30 ContainerFull\n"
+-- An image and the bytes said by then: these are replies from `before` on, and the image means the catalogue after exactly the
+-- acknowledged requests, or these and the next.
+abbrev pub IsGoodRun : Catalogue → List Request → List ℕ → List ℕ → List ℕ → Type 0
+IsGoodRun cat asked before image said = IsGoodMoment answer may_lack_memory MeansCatalogue cat asked before image said
 
--- what an item comes to: a line that refuses it, or a place for its reading
-abbrev pub Decides : List Reading → Item → Decision → Type 0
-Decides readings item (Refused why) = answer readings item ≡ (line_of why, readings)
-Decides readings item (Accepted at reading) =
-    (at ≤ length readings) × (length readings < 290) × IsReading reading
-    × (placed reading readings ≡ Some (insert readings at reading))
-    × (answer readings item ≡ (ok_line reading.stamp, insert readings at reading))
+-- every request has its whole reply, and the engine stands at the catalogue after them
+pub record Answered (tells : Bool) (cat : Catalogue) (asked : List Request) (f : Kept) (v w : Device) : Type 0 where
+  pub gained : List ℕ
+  pub last : Catalogue
+  pub said : w.said ≡ v.said ++ gained
+  pub all : AllAnswered answer may_lack_memory cat asked gained last
+  pub at : IsAt tells f last w
 
--- part of one reply was said
-abbrev pub SaidPart : List Reading → Item → List ℕ → List ℕ → Type 0
-SaidPart readings item before said = (front : List ℕ) × IsFront front (answer readings item).0 × (said ≡ before ++ front)
-
--- what was said is replies to the items in their order, the last of them perhaps in part
-abbrev pub SaysFairly : List Item → List Reading → Device → Device → Type 0
-SaysFairly items old v w = (gained : List ℕ) × (w.said ≡ v.said ++ gained) × IsFair answer lacks old items gained
-
--- What carrying out one item does, from the readings `old` to `new`.
-pub record Carried (entry : List ℕ) (tells : Bool) (old new : List Reading) (item : Item) (result : Result Unit RunFault) (v w : Device) : Type 0 where
-  pub readings : OnOk result (new ≡ (answer old item).1)
-  -- the answer is said, and the volume stands at the next readings
-  pub ok : OnOk result (IsTrue tells → Stands entry v old → Stands entry w (answer old item).1 × (w.said ≡ v.said ++ (answer old item).0))
-  pub err : OnErr result (IsTrue tells → Stands entry v old → SaidPart old item v.said w.said)
-  pub moments : IsTrue tells → Stands entry v old → LeavesOnly v w (IsGoodRun entry old (item ∷ []) v.said)
+-- what carrying out requests in their order does, with an engine that is `e` before and `f` behind
+pub record Ran {T : Type 0} (tells : Bool) (asked : List Request) (result : Result T RunFault) (e f : Kept) (v w : Device) : Type 0 where
+  pub ready : OnOk result (IsReady tells f w)
+  pub answered : OnOk result (IsTrue tells → (cat : Catalogue) → IsAt tells e cat v → Answered tells cat asked f v w)
+  pub fair : IsTrue tells → (cat : Catalogue) → IsAt tells e cat v → SaysFairly cat asked v w
+  pub moments : IsTrue tells → (cat : Catalogue) → IsAt tells e cat v → LeavesOnly v w (IsGoodRun cat asked v.said)
   pub disk : result ≡ Err Disk → Rose v.faults w.faults
   pub output : result ≡ Err Output → Rose v.say_faults w.say_faults
-  pub kept : Kept v w
-  -- no sync is forgotten
-  pub syncs : IsTrue tells → v.syncs ≤ w.syncs
-
--- What carrying out items in their order does, from the readings `old` to `new`.
-pub record Ran (entry : List ℕ) (tells : Bool) (items : List Item) (old new : List Reading) (result : Result Unit RunFault) (v w : Device) : Type 0 where
-  -- each item is answered, and the volume stands at the readings after them
-  pub ok : OnOk result (IsTrue tells → Stands entry v old → (gained : List ℕ) × (w.said ≡ v.said ++ gained) × AllAnswered answer lacks old items gained new × Stands entry w new)
-  pub fair : IsTrue tells → Stands entry v old → SaysFairly items old v w
-  pub moments : IsTrue tells → Stands entry v old → LeavesOnly v w (IsGoodRun entry old items v.said)
-  pub disk : result ≡ Err Disk → Rose v.faults w.faults
-  pub output : result ≡ Err Output → Rose v.say_faults w.say_faults
-  pub kept : Kept v w
-  -- no sync is forgotten
+  -- the length stays, and no fault and no sync is forgotten
+  pub size : w.size ≡ v.size
+  pub faults : v.faults ≤ w.faults
+  pub say_faults : v.say_faults ≤ w.say_faults
   pub syncs : IsTrue tells → v.syncs ≤ w.syncs

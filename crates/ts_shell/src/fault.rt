@@ -1,4 +1,6 @@
-/// What ended a run.
+// What ends a run over an engine.
+
+/// The disk or the output failed.
 #[derive(Clone, Copy, Debug, PartialEq, Eq)]
 pub(crate) enum RunFault {
     Disk,

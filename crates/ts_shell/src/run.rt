@@ -1,205 +1,96 @@
-// Items carried out one after the other: each reply is said once its record is on the disk, and before the next begins.
-ghost use Rattle.std.specs.Prelude.{◌≡◌, ◌+◌, ◌≤◌, ◌<◌, ℕ, List, [], ◌∷◌, length, insert, vec_len, vec_capacity, IsErr, OnOk};
-ghost use Rattle.ts_disk.specs.Device.{Says};
-ghost use Rattle.ts_base.specs.StampText.{stamp_text};
-ghost use Rattle.ts_shell.specs.Answer.{ok_line};
-ghost use Rattle.ts_shell.specs.Items.{items, items_of_parts, statement_items, unblanked};
-ghost use Rattle.ts_shell.specs.Stored.{IsOpened, Stored};
-ghost use Rattle.ts_shell.specs.Run.{IsItem, Carried, Ran};
+// A script, pulled in pieces and carried out piece by piece.
+ghost use Rattle.std.specs.Prelude.{◌≡◌, ◌≤◌, ◌<◌, ◌+◌, ℕ, IfOk, Some, [], length};
+ghost use Rattle.ts_disk.specs.Input.{Pulled};
+ghost use Rattle.ts_engine.specs.Engine.{IsReady};
+ghost use Rattle.ts_shell.specs.Top.{OpenedRan, status_of, status_of_end};
 
-use crate::decide::{Decision, decide, refusal_line};
 use crate::fault::RunFault;
-use crate::first_volume::SERIES_PAGE;
-use crate::item::Item;
-use crate::reading::Reading;
-use crate::series_page::page_of;
-use crate::statement::{first_statement, is_blank_text, read_item, skip_blanks};
-use ts_base::Stamp;
-use ts_disk::Site;
-use ts_journal::{Batch, Change};
-use ts_page::Page;
-use ts_recover::{Replayed, settle};
+use crate::session::Session;
+use std::thread::Threads;
+use ts_disk::{PullFailed, Site, Source};
 
-/// Carries out the items of a script, each answered before the next begins.
-pub(crate) fn carry_out_all<S: Site>(
-    site: &mut S,
-    replayed: &mut Replayed,
-    readings: &mut Vec<Reading>,
-    script: &[u8],
-) -> Result<(), RunFault>
-    requires room { 290 ≤ vec_capacity readings.old }
-    requires fit { length readings.old.items ≤ 290 }
-    requires opened { IsOpened S.tells replayed.old.journal replayed.old.overlay (S.device site.old) }
-    ensures ran { (entry : List ℕ) → Ran entry S.tells (items script.now) readings.old.items readings.new.items result (S.device site.old) (S.device site.new) }
+/// The most bytes of a piece.
+pub(crate) const PIECE: usize = 65536;
+
+/// The most bytes of a script.
+const LIMIT: usize = 268_435_456;
+
+// How many bytes are pulled next, where so many were: no piece goes past the limit, but for the one byte that shows that the
+// script does.
+fn room_after(count: usize) -> usize
+    requires { count ≤ 268435456 }
+    ensures some { 0 < result }
+    ensures piece { result ≤ 65536 }
+    ensures limit { count < 268435456 → count + result ≤ 268435456 }
 {
-    let mut rest = script;
-    while let Some((statement, behind)) = first_statement(rest) {
-        match carry_out_statement(site, replayed, readings, statement) {
-            Ok(()) => rest = behind,
-            Err(fault) => return Err(fault),
+    if count == LIMIT {
+        return 1;
+    }
+    let left = LIMIT - count;
+    if left < PIECE { left } else { PIECE }
+}
+
+// Pulls into the front of a buffer.
+fn pull_front<R: Source>(
+    source: &mut R,
+    buffer: &mut [u8],
+    room: usize,
+) -> Result<usize, PullFailed>
+    requires some { 0 < room }
+    requires within { room ≤ length buffer.old }
+    ensures pulled { Pulled R.tells buffer.new result (R.input source.old) (R.input source.new) }
+    ensures room { IfOk result (λ n. n ≤ room) }
+{
+    source.pull(&mut buffer[..room])
+}
+
+// The status of a fault.
+fn status(fault: RunFault) -> u8
+    ensures { result ≡ status_of fault }
+{
+    match fault {
+        RunFault::Disk => 5,
+        RunFault::Output => 4,
+    }
+}
+
+// The status of a run whose script has ended.
+fn status_at_end(outcome: Result<(), RunFault>) -> u8
+    ensures { result ≡ status_of_end outcome }
+{
+    match outcome {
+        Ok(()) => 0,
+        Err(fault) => status(fault),
+    }
+}
+
+/// Carries out the script of a source over a session at its start. The program's status.
+pub(crate) fn run_script<S: Site, R: Source>(
+    rt: &(impl Threads + Sync),
+    session: &mut Session,
+    site: &mut S,
+    source: &mut R,
+    buffer: &mut [u8],
+) -> u8
+    requires ready { IsReady S.tells session.old.engine (S.device site.old) }
+    requires start { session.old.reader.place ≡ Some [] }
+    requires piece { length buffer.old ≡ 65536 }
+    ensures ran { OpenedRan S.tells R.tells session.old.engine result (S.device site.old) (S.device site.new) (R.input source.old) (R.input source.new) }
+{
+    let mut count = 0;
+    loop {
+        match pull_front(source, buffer, room_after(count)) {
+            Err(_) => return 3,
+            Ok(0) => return status_at_end(session.carry_out_end(site)),
+            Ok(more) => {
+                if count == LIMIT {
+                    return 8;
+                }
+                match session.carry_out_piece(rt, site, &buffer[..more]) {
+                    Ok(()) => count += more,
+                    Err(fault) => return status(fault),
+                }
+            }
         }
     }
-    carry_out_rest(site, replayed, readings, rest)
-}
-
-// A statement that a `;` ends.
-fn carry_out_statement<S: Site>(
-    site: &mut S,
-    replayed: &mut Replayed,
-    readings: &mut Vec<Reading>,
-    statement: &[u8],
-) -> Result<(), RunFault>
-    requires room { 290 ≤ vec_capacity readings.old }
-    requires fit { length readings.old.items ≤ 290 }
-    requires opened { IsOpened S.tells replayed.old.journal replayed.old.overlay (S.device site.old) }
-    ensures ran { (entry : List ℕ) → Ran entry S.tells (statement_items (unblanked statement.now)) readings.old.items readings.new.items result (S.device site.old) (S.device site.new) }
-    ensures opened { OnOk result (IsOpened S.tells replayed.new.journal replayed.new.overlay (S.device site.new)) }
-    ensures room { 290 ≤ vec_capacity readings.new }
-    ensures fit { length readings.new.items ≤ 290 }
-{
-    let text = skip_blanks(statement);
-    if text.is_empty() {
-        return Ok(());
-    }
-    carry_out(site, replayed, readings, read_item(text))
-}
-
-// What stands behind the last `;`.
-fn carry_out_rest<S: Site>(
-    site: &mut S,
-    replayed: &mut Replayed,
-    readings: &mut Vec<Reading>,
-    rest: &[u8],
-) -> Result<(), RunFault>
-    requires room { 290 ≤ vec_capacity readings.old }
-    requires fit { length readings.old.items ≤ 290 }
-    requires opened { IsOpened S.tells replayed.old.journal replayed.old.overlay (S.device site.old) }
-    ensures ran { (entry : List ℕ) → Ran entry S.tells (items_of_parts (rest.now ∷ [])) readings.old.items readings.new.items result (S.device site.old) (S.device site.new) }
-{
-    if is_blank_text(rest) {
-        return Ok(());
-    }
-    carry_out(site, replayed, readings, Item::NotInGrammar)
-}
-
-/// Carries out an item and says its reply.
-fn carry_out<S: Site>(
-    site: &mut S,
-    replayed: &mut Replayed,
-    readings: &mut Vec<Reading>,
-    item: Item,
-) -> Result<(), RunFault>
-    requires item { IsItem item }
-    requires room { 290 ≤ vec_capacity readings.old }
-    requires fit { length readings.old.items ≤ 290 }
-    requires opened { IsOpened S.tells replayed.old.journal replayed.old.overlay (S.device site.old) }
-    ensures carried { (entry : List ℕ) → Carried entry S.tells readings.old.items readings.new.items item result (S.device site.old) (S.device site.new) }
-    ensures opened { OnOk result (IsOpened S.tells replayed.new.journal replayed.new.overlay (S.device site.new)) }
-    ensures room { 290 ≤ vec_capacity readings.new }
-    ensures fit { length readings.new.items ≤ 290 }
-{
-    let (at, reading) = match decide(readings, item) {
-        Decision::Refused(why) => return say(site, refusal_line(why)),
-        Decision::Accepted(at, reading) => (at, reading),
-    };
-    let stamp = reading.stamp;
-    place(readings, at, reading);
-    match store(site, replayed, readings) {
-        Ok(()) => say_stored(site, stamp),
-        Err(fault) => Err(fault),
-    }
-}
-
-// Puts a reading into its place, in room that is there.
-fn place(readings: &mut Vec<Reading>, at: usize, reading: Reading)
-    requires within { at ≤ vec_len readings.old }
-    requires room { vec_len readings.old < vec_capacity readings.old }
-    ensures items { readings.new.items ≡ insert readings.old.items at reading }
-    ensures len { vec_len readings.new ≡ vec_len readings.old + 1 }
-    ensures room { vec_capacity readings.old ≤ vec_capacity readings.new }
-{
-    let done = readings.insert(at, reading).is_ok();
-    prove!(done);
-}
-
-// Brings the page of the readings into the volume, by the journal.
-fn store<S: Site>(
-    site: &mut S,
-    replayed: &mut Replayed,
-    readings: &[Reading],
-) -> Result<(), RunFault>
-    requires fit { length readings.now ≤ 290 }
-    requires opened { IsOpened S.tells replayed.old.journal replayed.old.overlay (S.device site.old) }
-    ensures stored { Stored S.tells readings.now result (S.device site.old) (S.device site.new) }
-    ensures opened { OnOk result (IsOpened S.tells replayed.new.journal replayed.new.overlay (S.device site.new)) }
-    ensures disk { IsErr result → result ≡ Err RunFault.Disk }
-{
-    // The record before this one goes to its place first.
-    match settle(replayed, site) {
-        Ok(()) => commit_page(site, replayed, readings),
-        Err(_) => Err(RunFault::Disk),
-    }
-}
-
-// Commits the page of the readings, as the only record of the journal.
-fn commit_page<S: Site>(
-    site: &mut S,
-    replayed: &mut Replayed,
-    readings: &[Reading],
-) -> Result<(), RunFault>
-    requires fit { length readings.now ≤ 290 }
-    requires opened { IsOpened S.tells replayed.old.journal replayed.old.overlay (S.device site.old) }
-    requires start { replayed.old.journal ≡ 0 }
-    requires empty { replayed.old.overlay.entries ≡ [] }
-    ensures stored { Stored S.tells readings.now result (S.device site.old) (S.device site.new) }
-    ensures opened { OnOk result (IsOpened S.tells replayed.new.journal replayed.new.overlay (S.device site.new)) }
-    ensures disk { IsErr result → result ≡ Err RunFault.Disk }
-{
-    put_page(&mut replayed.overlay, page_of(readings));
-    match replayed.journal.commit(site, &replayed.overlay) {
-        Ok(()) => Ok(()),
-        // A record of one page has room in an empty journal, so the disk failed.
-        Err(_) => Err(RunFault::Disk),
-    }
-}
-
-// Makes the page the only entry of a batch, in memory that is there.
-fn put_page(batch: &mut Batch, page: Page)
-    requires empty { batch.old.entries ≡ [] }
-    requires room { 1 ≤ batch.old.spare }
-    ensures { batch.new.entries ≡ (930, Change.Image page) ∷ [] }
-{
-    let done = batch.set(SERIES_PAGE, Change::Image(page)).is_ok();
-    prove!(done);
-}
-
-// Says a piece.
-fn say<S: Site>(site: &mut S, piece: &[u8]) -> Result<(), RunFault>
-    ensures says { Says S.tells piece.now result (S.device site.old) (S.device site.new) }
-    ensures output { IsErr result → result ≡ Err RunFault.Output }
-{
-    match site.say(piece) {
-        Ok(()) => Ok(()),
-        Err(_) => Err(RunFault::Output),
-    }
-}
-
-// Says that an element of this stamp was stored.
-fn say_stored<S: Site>(site: &mut S, stamp: Stamp) -> Result<(), RunFault>
-    ensures says { Says S.tells (ok_line stamp) result (S.device site.old) (S.device site.new) }
-    ensures output { IsErr result → result ≡ Err RunFault.Output }
-{
-    let line = stored_line(stamp);
-    say(site, &line)
-}
-
-// The reply `ok STAMP`.
-fn stored_line(stamp: Stamp) -> [u8; 29]
-    ensures { result ≡ ok_line stamp }
-{
-    let mut text = [0u8; 25];
-    stamp.write_into(&mut text);
-    let mut line = *b"ok 0000-00-00 00:00:00.00000\n";
-    line[3..28].copy_from_slice(&text);
-    line
 }

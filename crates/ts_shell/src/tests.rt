@@ -5,8 +5,15 @@ use std::test::Fail;
 use std::thread::Threads;
 use ts_disk::{BlankSource, MemorySite, MemorySource, Pick, Site, Volume};
 
-/// Where the series' page begins.
+/// Where the first element page begins.
 const PAGE: u64 = 930 * 4096;
+
+/// A row type, a container and two series.
+const BASE: &[u8] =
+    b"CreateRowType(rd, t datetime, v integer);\nTSContainerCreate(c1, rd, 8);\nTSCreateIrr('x', c1); TSCreateIrr('y', c1);\n";
+
+/// What is said to `BASE`.
+const BASE_SAID: &[u8] = b"ok\nok\nok\nok\n";
 
 fn words(alloc: Global, texts: &[&str]) -> Result<Vec<String>, AllocError> {
     let mut words = Vec::new(alloc);
@@ -16,18 +23,12 @@ fn words(alloc: Global, texts: &[&str]) -> Result<Vec<String>, AllocError> {
     Ok(words)
 }
 
-// A volume that `init 1` made.
-fn volume(rt: &(impl Threads + Sync), alloc: Global) -> Result<MemorySite, Fail> {
+// A volume that `init` made with so many element pages.
+fn volume(rt: &(impl Threads + Sync), alloc: Global, pages: &str) -> Result<MemorySite, Fail> {
     let mut site = MemorySite::new(Vec::new(alloc))?;
     let mut source = MemorySource::new(Vec::new(alloc), 1);
-    let status = run_ts(
-        rt,
-        alloc,
-        &words(alloc, &["init", "1"])?,
-        &mut site,
-        &mut source,
-    );
-    if status == 0 {
+    let words = words(alloc, &["init", pages])?;
+    if run_ts(rt, alloc, &words, &mut site, &mut source) == 0 {
         Ok(site)
     } else {
         Err(Fail::from("init failed"))
@@ -45,146 +46,46 @@ fn run(
     Ok(run_ts(rt, alloc, &words(alloc, &["run"])?, site, &mut source))
 }
 
+fn repeated(alloc: Global, byte: u8, count: usize) -> Result<Vec<u8>, AllocError> {
+    vec![in alloc; byte; count]
+}
+
+// Two texts, one behind the other.
+fn joined(alloc: Global, first: &[u8], second: &[u8]) -> Result<Vec<u8>, Fail> {
+    let mut text = Vec::from_slice(alloc, first)?;
+    text.extend_from_slice(second)?;
+    Ok(text)
+}
+
+// Whether a script on a new volume of so many element pages has these replies.
+fn replies(
+    rt: &(impl Threads + Sync),
+    alloc: Global,
+    pages: &str,
+    script: &[u8],
+    said: &[u8],
+) -> Result<bool, Fail> {
+    let mut site = volume(rt, alloc, pages)?;
+    let status = run(rt, alloc, &mut site, script)?;
+    Ok(status == 0 && site.said() == said)
+}
+
+// The same behind `BASE`.
+fn replies_behind(
+    rt: &(impl Threads + Sync),
+    alloc: Global,
+    script: &[u8],
+    said: &[u8],
+) -> Result<bool, Fail> {
+    let script = joined(alloc, BASE, script)?;
+    let said = joined(alloc, BASE_SAID, said)?;
+    replies(rt, alloc, "8", &script, &said)
+}
+
 // Writes bytes into a volume behind the store's back.
 fn damage(site: &mut MemorySite, at: u64, bytes: &[u8]) -> bool {
     let size = site.len();
     size >= at && size - at >= bytes.len() as u64 && site.write_at(at, bytes).is_ok()
-}
-
-#[test]
-fn scripts_get_their_replies(rt: HostRuntime) -> Result<(), Fail> {
-    let table: [(&[u8], &[u8]); 9] = [
-        (b"", b""),
-        (b" ;\n;\t", b""),
-        (
-            b"InsElem('x','2011-01-03 00:00:00',40);",
-            b"ok 2011-01-03 00:00:00.00000\n",
-        ),
-        (
-            b"InsElem('x','2011-01-03 00:00:00',40); InsElem('x','2011-01-03 00:00:00',41); GetElem('x','2011-01-03 00:00:00');",
-            b"ok 2011-01-03 00:00:00.00000\nerror 23 Duplicate\nerror 1 Syntax\n",
-        ),
-        (
-            b"\nInsElem('x','2011-01-03 00:00:00.5',999999999);\r\n",
-            b"ok 2011-01-03 00:00:00.50000\n",
-        ),
-        (
-            b"InsElem( 'x','2011-01-03 00:00:00',1);",
-            b"error 1 Syntax\n",
-        ),
-        (
-            b"InsElem('x','2011-01-03 00:00:00',1) ;",
-            b"error 1 Syntax\n",
-        ),
-        (
-            b"InsElem('x','2011-02-29 00:00:00',1);InsElem('x','2011-02-28 00:00:00',1234567890);",
-            b"error 1 Syntax\nerror 1 Syntax\n",
-        ),
-        (b"InsElem('x','2011-01-03 00:00:00',1)", b"error 1 Syntax\n"),
-    ];
-    for (script, said) in table {
-        let mut site = volume(&rt, rt.alloc())?;
-        assert_eq!(rt; run(&rt, rt.alloc(), &mut site, script)?, 0);
-        assert_eq!(rt; site.said(), said);
-    }
-    Ok(())
-}
-
-// What one run stored, the next one reads.
-#[test]
-fn elements_last_from_run_to_run(rt: HostRuntime) -> Result<(), Fail> {
-    let mut site = volume(&rt, rt.alloc())?;
-    assert_eq!(rt;
-        run(
-            &rt,
-            rt.alloc(),
-            &mut site,
-            b"InsElem('x','2011-01-05 00:00:00',2);"
-        )?,
-        0
-    );
-    assert_eq!(rt;
-        run(
-            &rt,
-            rt.alloc(),
-            &mut site,
-            b"InsElem('x','2011-01-03 00:00:00',1);"
-        )?,
-        0
-    );
-    assert_eq!(rt;
-        run(
-            &rt,
-            rt.alloc(),
-            &mut site,
-            b"InsElem('x','2011-01-05 00:00:00',3);"
-        )?,
-        0
-    );
-    assert_eq!(rt;
-        site.said(),
-        b"ok 2011-01-05 00:00:00.00000\nok 2011-01-03 00:00:00.00000\nerror 23 Duplicate\n".as_slice()
-    );
-    assert!(rt; site.len() >= PAGE + 74);
-    let mut front = [0u8; 74];
-    assert!(rt; site.read_at(PAGE, &mut front).is_ok());
-    // 129401280000000 and, two days on, 129418560000000, each with its number.
-    assert_eq!(rt; &front[..5], [2, 0, 0, 0, 2].as_slice());
-    assert_eq!(rt;
-        &front[32..46],
-        [1, 0, 0, 117, 176, 149, 83, 240, 0, 1, 0, 0, 0, 1].as_slice()
-    );
-    assert_eq!(rt;
-        &front[46..60],
-        [1, 0, 0, 117, 180, 155, 75, 208, 0, 1, 0, 0, 0, 2].as_slice()
-    );
-    assert_eq!(rt; &front[60..], [0; 14].as_slice());
-    Ok(())
-}
-
-// Puts `HH:MM:SS` of a second of the day to the end.
-fn push_clock(text: &mut Vec<u8>, second: u32) -> Result<(), AllocError> {
-    push_two(text, second / 3600)?;
-    text.push(b':')?;
-    push_two(text, second / 60 % 60)?;
-    text.push(b':')?;
-    push_two(text, second % 60)
-}
-
-fn push_two(text: &mut Vec<u8>, number: u32) -> Result<(), AllocError> {
-    text.push(b'0' + (number / 10 % 10) as u8)?;
-    text.push(b'0' + (number % 10) as u8)?;
-    Ok(())
-}
-
-#[test]
-fn a_page_takes_290_elements(rt: HostRuntime) -> Result<(), Fail> {
-    let alloc = rt.alloc();
-    let mut script: Vec<u8> = Vec::new(alloc);
-    let mut said: Vec<u8> = Vec::new(alloc);
-    for second in 0..291u32 {
-        script.extend_from_slice(b"InsElem('x','2011-01-03 ")?;
-        push_clock(&mut script, second)?;
-        script.extend_from_slice(b"',7);\n")?;
-        if second < 290 {
-            said.extend_from_slice(b"ok 2011-01-03 ")?;
-            push_clock(&mut said, second)?;
-            said.extend_from_slice(b".00000\n")?;
-        }
-    }
-    said.extend_from_slice(b"error 30 ContainerFull\n")?;
-    let mut site = volume(&rt, rt.alloc())?;
-    assert_eq!(rt; run(&rt, rt.alloc(), &mut site, &script)?, 0);
-    // The next opening brings the page to its place.
-    assert_eq!(rt; run(&rt, rt.alloc(), &mut site, b"")?, 0);
-    assert_eq!(rt; site.said(), said.as_slice());
-    // The last cell ends at byte 4092 of the page.
-    assert!(rt; site.len() >= PAGE + 4096);
-    let mut end = [9u8; 18];
-    assert!(rt; site.read_at(PAGE + 4078, &mut end).is_ok());
-    assert_eq!(rt; end[0], 1);
-    assert_eq!(rt; &end[9..], [1, 0, 0, 0, 7, 0, 0, 0, 0].as_slice());
-    Ok(())
 }
 
 #[test]
@@ -196,10 +97,10 @@ fn init_makes_a_store_once(rt: HostRuntime) -> Result<(), Fail> {
     assert_eq!(rt; run_ts(&rt, alloc, &words, &mut site, &mut source), 0);
     assert_eq!(rt; site.len(), 3_842_048);
     assert_eq!(rt; run_ts(&rt, alloc, &words, &mut site, &mut source), 10);
-    assert_eq!(rt; run(&rt, rt.alloc(), &mut site, b"")?, 0);
+    assert_eq!(rt; run(&rt, alloc, &mut site, b"")?, 0);
     assert_eq!(rt; site.said(), b"".as_slice());
     let mut nothing = MemorySite::new(Vec::new(alloc))?;
-    assert_eq!(rt; run(&rt, rt.alloc(), &mut nothing, b"")?, 6);
+    assert_eq!(rt; run(&rt, alloc, &mut nothing, b"")?, 6);
     Ok(())
 }
 
@@ -228,160 +129,315 @@ fn words_that_name_no_job_do_nothing(rt: HostRuntime) -> Result<(), Fail> {
 }
 
 #[test]
-fn volumes_that_mean_no_list_are_refused(rt: HostRuntime) -> Result<(), Fail> {
-    let script = b"InsElem('x','2011-01-03 00:00:00',1);InsElem('x','2011-01-03 00:00:01',2);";
-    let later = 129_401_280_200_000u64.to_be_bytes();
-    let equal = 129_401_280_100_000u64.to_be_bytes();
-    let table: [(u64, &[u8]); 13] = [
-        // The first stamp after the second, and equal to it.
-        (PAGE + 33, &later),
-        (PAGE + 33, &equal),
-        // A count of three, of 291 and of none.
-        (PAGE + 4, &[3]),
-        (PAGE + 3, &[1, 35]),
-        (PAGE + 4, &[0]),
-        // A byte behind the last cell, and at the page's end.
-        (PAGE + 60, &[1]),
-        (PAGE + 4095, &[1]),
-        // Another kind of page, and a byte of each fixed page.
-        (PAGE, &[1]),
-        (8, &[2]),
-        (257 * 4096 + 1, &[3]),
-        (833 * 4096 + 4095, &[1]),
-        (834 * 4096 + 2, b"y"),
-        // An open gate with a record of four bytes.
-        (4096, b"GATEOPEN\0\0\0\x04"),
-    ];
-    for (at, bytes) in table {
-        let mut site = volume(&rt, rt.alloc())?;
-        assert_eq!(rt; run(&rt, rt.alloc(), &mut site, script)?, 0);
-        // The page stands in its place once the next run has opened the volume.
-        assert_eq!(rt; run(&rt, rt.alloc(), &mut site, b"")?, 0);
-        assert!(rt; damage(&mut site, at, bytes));
-        assert_eq!(rt;
-            run(
-                &rt,
-                rt.alloc(),
-                &mut site,
-                b"InsElem('x','2011-01-03 00:00:09',1);"
-            )?,
-            6,
-            "at {at}"
-        );
-        assert_eq!(rt; site.said().len(), 58);
-    }
+fn rows_that_misfit_are_refused(rt: HostRuntime) -> Result<(), Fail> {
+    assert!(rt;
+        replies_behind(
+            &rt,
+            rt.alloc(),
+            b"InsElem('x','2011-01-03 00:00:00',-2147483648);InsElem('x','2011-01-03 00:00:00',1.0);\
+              InsElem('x','2011-01-03 00:00:00');InsElem('x','2011-01-03 00:00:00',1,2);\
+              InsElem('x','2011-02-29 00:00:00',1);",
+            b"error 26 RowMismatch\nerror 26 RowMismatch\nerror 26 RowMismatch\nerror 26 RowMismatch\nerror 1 Syntax\n",
+        )?
+    );
     Ok(())
 }
 
 #[test]
-fn a_script_has_at_most_65536_bytes(rt: HostRuntime) -> Result<(), Fail> {
-    let alloc = rt.alloc();
-    let mut script = Vec::from_slice(alloc, b"InsElem('x','2011-01-03 00:00:00',1);")?;
-    let words = words(alloc, &["run"])?;
-    script.resize(65536, b' ')?;
-    let mut site = volume(&rt, rt.alloc())?;
-    assert_eq!(rt; run(&rt, rt.alloc(), &mut site, &script)?, 0);
-    assert_eq!(rt; site.said().len(), 29);
-    script.push(b' ')?;
-    let mut site = volume(&rt, rt.alloc())?;
-    assert_eq!(rt; run(&rt, rt.alloc(), &mut site, &script)?, 8);
+fn decimals_are_printed_in_their_scale(rt: HostRuntime) -> Result<(), Fail> {
+    assert!(rt;
+        replies(
+            &rt,
+            rt.alloc(),
+            "8",
+            b"CreateRowType(de, t datetime, v decimal(5,2));TSContainerCreate(c1, de, 1);TSCreateIrr('d', c1);\
+              InsElem('d','2011-01-03 00:00:00',123.4);InsElem('d','2011-01-04 00:00:00',1.250);\
+              InsElem('d','2011-01-05 00:00:00',1.255);InsElem('d','2011-01-05 00:00:00',1000);\
+              GetElem('d','2011-01-03 00:00:00');GetElem('d','2011-01-04 00:00:00');GetNelems('d');",
+            b"ok\nok\nok\nok 2011-01-03 00:00:00.00000\nok 2011-01-04 00:00:00.00000\n\
+              error 26 RowMismatch\nerror 26 RowMismatch\n\
+              2011-01-03 00:00:00.00000 123.40\nok 1\n2011-01-04 00:00:00.00000 1.25\nok 1\nok 2\n",
+        )?
+    );
+    Ok(())
+}
+
+#[test]
+fn a_text_is_printed_as_it_is_written(rt: HostRuntime) -> Result<(), Fail> {
+    assert!(rt;
+        replies(
+            &rt,
+            rt.alloc(),
+            "8",
+            b"CreateRowType(te, t datetime, v varchar(4));TSContainerCreate(c1, te, 1);TSCreateIrr('t', c1);\
+              InsElem('t','2011-01-03 00:00:00','it''s');GetElem('t','2011-01-03 00:00:00');",
+            b"ok\nok\nok\nok 2011-01-03 00:00:00.00000\n2011-01-03 00:00:00.00000 'it''s'\nok 1\n",
+        )?
+    );
+    Ok(())
+}
+
+#[test]
+fn a_script_that_ends_within_a_statement_is_unended(rt: HostRuntime) -> Result<(), Fail> {
+    assert!(rt;
+        replies_behind(
+            &rt,
+            rt.alloc(),
+            b"InsElem('x','2011-01-03 00:00:00',1); GetEl",
+            b"ok 2011-01-03 00:00:00.00000\nerror 3 Unended\n",
+        )?
+    );
+    assert!(rt; replies(&rt, rt.alloc(), "1", b" ;; ", b"")?);
+    Ok(())
+}
+
+#[test]
+fn what_follows_a_statement_that_is_too_long_is_carried_out(rt: HostRuntime) -> Result<(), Fail> {
+    let mut script = repeated(rt.alloc(), b'x', 65536)?;
+    script.extend_from_slice(b";GetNelems('n');")?;
+    assert!(rt;
+        replies(
+            &rt,
+            rt.alloc(),
+            "1",
+            &script,
+            b"error 2 TooLong\nerror 10 UnknownName\n",
+        )?
+    );
+    Ok(())
+}
+
+#[test]
+fn a_script_without_end_is_too_long(rt: HostRuntime) -> Result<(), Fail> {
+    let mut site = volume(&rt, rt.alloc(), "1")?;
+    let words = words(rt.alloc(), &["run"])?;
     assert_eq!(rt;
-        run_ts(&rt, alloc, &words, &mut site, &mut BlankSource::new()),
+        run_ts(&rt, rt.alloc(), &words, &mut site, &mut BlankSource::new()),
         8
     );
     assert_eq!(rt; site.said(), b"".as_slice());
     Ok(())
 }
 
-// The calls of this run: sync, a read of the gate, five of pages, four writes of the record, sync, the gate, sync, say.
+// Six rows of 771 bytes, of which five fit on a page.
 #[test]
-fn a_failing_call_has_its_status(rt: HostRuntime) -> Result<(), Fail> {
+fn a_page_has_room_for_five_wide_rows(rt: HostRuntime) -> Result<(), Fail> {
+    assert!(rt;
+        replies(
+            &rt,
+            rt.alloc(),
+            "8",
+            b"CreateRowType(wide, t datetime, p varchar(255), q varchar(255), r varchar(255));\
+              TSContainerCreate(c2, wide, 1);TSCreateIrr('w', c2);\
+              InsElem('w','2011-01-01 00:00:00','','',null);InsElem('w','2011-01-02 00:00:00','','',null);\
+              InsElem('w','2011-01-03 00:00:00','','',null);InsElem('w','2011-01-04 00:00:00','','',null);\
+              InsElem('w','2011-01-05 00:00:00','','',null);InsElem('w','2011-01-06 00:00:00','','',null);\
+              TSContainerUsage(c2);",
+            b"ok\nok\nok\nok 2011-01-01 00:00:00.00000\nok 2011-01-02 00:00:00.00000\nok 2011-01-03 00:00:00.00000\n\
+              ok 2011-01-04 00:00:00.00000\nok 2011-01-05 00:00:00.00000\nerror 30 ContainerFull\nok 1 1\n",
+        )?
+    );
+    Ok(())
+}
+
+#[test]
+fn quotas_keep_to_the_element_pages(rt: HostRuntime) -> Result<(), Fail> {
+    assert!(rt;
+        replies(
+            &rt,
+            rt.alloc(),
+            "4",
+            b"CreateRowType(rd, t datetime, v integer);TSContainerCreate(c1, rd, 3);TSContainerCreate(c2, rd, 2);\
+              TSContainerCreate(c2, rd, 1);CreateRowType(u, t datetime, t integer);DropRowType(rd);",
+            b"ok\nok\nerror 31 VolumeFull\nok\nerror 12 BadRowType\nerror 32 InUse\n",
+        )?
+    );
+    Ok(())
+}
+
+// Puts a statement that makes the row type of that number to the end.
+fn push_row_type(script: &mut Vec<u8>, number: u8) -> Result<(), AllocError> {
+    script.extend_from_slice(b"CreateRowType(r")?;
+    script.push(b'0' + number / 10 % 10)?;
+    script.push(b'0' + number % 10)?;
+    script.extend_from_slice(b", t datetime, v integer);")
+}
+
+#[test]
+fn there_are_64_row_types_at_most(rt: HostRuntime) -> Result<(), Fail> {
     let alloc = rt.alloc();
-    let table: [(u64, u8); 8] = [
-        (0, 5),
-        (1, 5),
-        (6, 5),
-        (7, 5),
-        (11, 5),
-        (12, 5),
-        (13, 5),
-        (14, 4),
+    let mut script: Vec<u8> = Vec::new(alloc);
+    let mut said: Vec<u8> = Vec::new(alloc);
+    for number in 0..65u8 {
+        push_row_type(&mut script, number)?;
+        if number < 64 {
+            said.extend_from_slice(b"ok\n")?;
+        }
+    }
+    said.extend_from_slice(b"error 33 TooMany\n")?;
+    assert!(rt; replies(&rt, alloc, "1", &script, &said)?);
+    Ok(())
+}
+
+// What one run stored, the next one reads.
+#[test]
+fn a_store_lasts_from_run_to_run(rt: HostRuntime) -> Result<(), Fail> {
+    let mut site = volume(&rt, rt.alloc(), "8")?;
+    assert_eq!(rt; run(&rt, rt.alloc(), &mut site, BASE)?, 0);
+    assert_eq!(rt;
+        run(
+            &rt,
+            rt.alloc(),
+            &mut site,
+            b"InsElem('x','2011-01-05 00:00:00',2);InsElem('x','2011-01-03 00:00:00',1);"
+        )?,
+        0
+    );
+    assert_eq!(rt;
+        run(
+            &rt,
+            rt.alloc(),
+            &mut site,
+            b"GetElem('x','2011-01-05 00:00:00');InsElem('x','2011-01-05 00:00:00',3);ListSeries(c1);TSContainerUsage(c1);"
+        )?,
+        0
+    );
+    assert_eq!(rt;
+        site.said(),
+        b"ok\nok\nok\nok\nok 2011-01-05 00:00:00.00000\nok 2011-01-03 00:00:00.00000\n\
+          2011-01-05 00:00:00.00000 2\nok 1\nerror 23 Duplicate\n'x' irregular 2\n'y' irregular 0\nok 2\nok 1 8\n"
+            .as_slice()
+    );
+    Ok(())
+}
+
+#[test]
+fn a_volume_that_means_no_catalogue_is_refused(rt: HostRuntime) -> Result<(), Fail> {
+    let table: [(u64, &[u8]); 5] = [
+        // The kind of an element page, the header, a row type, a container, and an open gate with a record of four bytes.
+        (PAGE, &[1]),
+        (8, &[2]),
+        (257 * 4096, &[3]),
+        (833 * 4096, &[2]),
+        (4096, b"GATEOPEN\0\0\0\x04"),
     ];
-    for (call, status) in table {
-        let mut site = volume(&rt, rt.alloc())?;
-        site.fail(site.calls().saturating_add(call))?;
-        assert_eq!(rt;
-            run(
-                &rt,
-                rt.alloc(),
-                &mut site,
-                b"InsElem('x','2011-01-03 00:00:00',1);"
-            )?,
-            status,
-            "at {call}"
-        );
+    for (at, bytes) in table {
+        let mut site = volume(&rt, rt.alloc(), "1")?;
+        assert!(rt; damage(&mut site, at, bytes));
+        assert_eq!(rt; run(&rt, rt.alloc(), &mut site, BASE)?, 6, "at {at}");
         assert_eq!(rt; site.said(), b"".as_slice());
     }
-    let mut site = volume(&rt, rt.alloc())?;
-    let mut source = MemorySource::new(Vec::from_slice(alloc, b";;")?, 1);
+    Ok(())
+}
+
+#[test]
+fn a_pull_that_fails_has_its_status(rt: HostRuntime) -> Result<(), Fail> {
+    let alloc = rt.alloc();
+    let mut site = volume(&rt, alloc, "1")?;
+    let mut source = MemorySource::new(
+        Vec::from_slice(alloc, b"GetNelems('n');GetNelems('m');")?,
+        15,
+    );
     source.fail(1)?;
     let words = words(alloc, &["run"])?;
     assert_eq!(rt; run_ts(&rt, alloc, &words, &mut site, &mut source), 3);
+    assert_eq!(rt; site.said(), b"error 10 UnknownName\n".as_slice());
+    Ok(())
+}
+
+#[test]
+fn a_sync_or_a_say_that_fails_has_its_status(rt: HostRuntime) -> Result<(), Fail> {
+    let mut site = volume(&rt, rt.alloc(), "1")?;
+    site.fail(site.calls())?;
+    assert_eq!(rt; run(&rt, rt.alloc(), &mut site, b"GetNelems('n');")?, 5);
+    let mut site = volume(&rt, rt.alloc(), "1")?;
+    assert_eq!(rt; run(&rt, rt.alloc(), &mut site, b"")?, 0);
+    let opening = reads(&rt, rt.alloc(), "1")?;
+    site.fail(site.calls().saturating_add(opening).saturating_add(1))?;
+    assert_eq!(rt; run(&rt, rt.alloc(), &mut site, b"GetNelems('n');")?, 4);
     assert_eq!(rt; site.said(), b"".as_slice());
     Ok(())
 }
 
-// The record at position 0 that frees page 930: the gate, five bytes, 2 and the number; then a closed gate.
-#[test]
-fn a_record_that_frees_the_page_empties_the_series(rt: HostRuntime) -> Result<(), Fail> {
-    let script = b"InsElem('x','2011-01-03 00:00:00',1);";
-    let mut site = volume(&rt, rt.alloc())?;
-    assert_eq!(rt; run(&rt, rt.alloc(), &mut site, script)?, 0);
-    assert_eq!(rt; run(&rt, rt.alloc(), &mut site, b"")?, 0);
-    assert!(rt;
-        damage(
-            &mut site,
-            4096,
-            b"GATEOPEN\0\0\0\x05\x02\0\0\x03\xa2\0\0\0\0\0\0\0\0"
-        )
-    );
-    assert_eq!(rt; run(&rt, rt.alloc(), &mut site, script)?, 0);
-    assert_eq!(rt;
-        site.said(),
-        b"ok 2011-01-03 00:00:00.00000\nok 2011-01-03 00:00:00.00000\n".as_slice()
-    );
-    Ok(())
+// How many calls of an opening only read, where the journal is empty: all but its sync.
+fn reads(rt: &(impl Threads + Sync), alloc: Global, pages: &str) -> Result<u64, Fail> {
+    let mut site = volume(rt, alloc, pages)?;
+    let before = site.calls();
+    run(rt, alloc, &mut site, b"")?;
+    Ok(site.calls().saturating_sub(before).saturating_sub(1))
 }
 
-const THREE: &[u8] =
-    b"InsElem('x','2011-01-03 00:00:00',1);InsElem('x','2011-01-03 00:00:01',2);InsElem('x','2011-01-03 00:00:02',3);";
+/// Each statement is refused where the store has what it makes.
+const SCRIPT: &[u8] = b"CreateRowType(rd, t datetime, v integer);TSContainerCreate(c1, rd, 8);\
+    TSCreateIrr('x', c1);TSCreateIrr('y', c1);InsElem('x','2011-01-03 00:00:00',1);\
+    InsElem('y','2011-01-03 00:00:01',2);InsElem('x','2011-01-03 00:00:02',3);";
 
-// How many of the three elements a volume has: each that is there is a duplicate.
-fn elements(
+const MADE: [&[u8]; 7] = [
+    b"ok\n",
+    b"ok\n",
+    b"ok\n",
+    b"ok\n",
+    b"ok 2011-01-03 00:00:00.00000\n",
+    b"ok 2011-01-03 00:00:01.00000\n",
+    b"ok 2011-01-03 00:00:02.00000\n",
+];
+
+const THERE: [&[u8]; 7] = [
+    b"error 11 NameTaken\n",
+    b"error 11 NameTaken\n",
+    b"error 11 NameTaken\n",
+    b"error 11 NameTaken\n",
+    b"error 23 Duplicate\n",
+    b"error 23 Duplicate\n",
+    b"error 23 Duplicate\n",
+];
+
+/// Reads all that `SCRIPT` makes.
+const READING: &[u8] = b"TSContainerUsage(c1);ListSeries(c1);GetElem('x','2011-01-03 00:00:00');\
+    GetElem('y','2011-01-03 00:00:01');GetElem('x','2011-01-03 00:00:02');";
+
+const READ: &[u8] =
+    b"ok 2 8\n'x' irregular 2\n'y' irregular 1\nok 2\n2011-01-03 00:00:00.00000 1\nok 1\n\
+    2011-01-03 00:00:01.00000 2\nok 1\n2011-01-03 00:00:02.00000 3\nok 1\n";
+
+// What is said to `SCRIPT` and `READING` where so many of its statements were carried out before.
+fn said_after(alloc: Global, count: usize) -> Result<Vec<u8>, Fail> {
+    let mut said = Vec::new(alloc);
+    for number in 0..7usize {
+        said.extend_from_slice(if number < count {
+            THERE[number]
+        } else {
+            MADE[number]
+        })?;
+    }
+    said.extend_from_slice(READ)?;
+    Ok(said)
+}
+
+// Whether a volume holds what so many of the statements make, or these and the next one.
+fn holds(
     rt: &(impl Threads + Sync),
     alloc: Global,
     bytes: Vec<u8>,
-) -> Result<Option<usize>, Fail> {
-    let table: [&[u8]; 4] = [
-        b"ok 2011-01-03 00:00:00.00000\nok 2011-01-03 00:00:01.00000\nok 2011-01-03 00:00:02.00000\n",
-        b"error 23 Duplicate\nok 2011-01-03 00:00:01.00000\nok 2011-01-03 00:00:02.00000\n",
-        b"error 23 Duplicate\nerror 23 Duplicate\nok 2011-01-03 00:00:02.00000\n",
-        b"error 23 Duplicate\nerror 23 Duplicate\nerror 23 Duplicate\n",
-    ];
+    count: usize,
+) -> Result<bool, Fail> {
     let mut site = MemorySite::new(bytes)?;
-    if run(rt, alloc, &mut site, THREE)? != 0 {
-        return Ok(None);
+    let script = joined(alloc, SCRIPT, READING)?;
+    if run(rt, alloc, &mut site, &script)? != 0 {
+        return Ok(false);
     }
-    Ok(table.iter().position(|said| *said == site.said()))
+    let now = said_after(alloc, count)?;
+    let next = said_after(alloc, count.saturating_add(1))?;
+    Ok(site.said() == now.as_slice() || site.said() == next.as_slice())
 }
 
-// How many replies `ok` were said.
-fn accepted(said: &[u8]) -> usize {
-    said.iter().filter(|byte| **byte == b'k').count()
+// How many replies were said in whole: each has one line.
+fn whole_replies(said: &[u8]) -> usize {
+    said.iter().filter(|byte| **byte == b'\n').count()
 }
 
-// Runs of the three inserts over a volume that has so many of them, each stopped at the call of one number: what is left
-// has those that were acknowledged by then, or these and the next one. The calls from 1 on, so many, only read.
+// Runs of the script over a volume that holds what so many of its statements make, each stopped at the call of one number:
+// what is left holds what was acknowledged by then, or that and the next. The calls from 1 on, so many, only read.
 fn stops(
     rt: &(impl Threads + Sync),
     alloc: Global,
@@ -390,20 +446,21 @@ fn stops(
     reads: u64,
     pick: Pick,
 ) -> Result<bool, Fail> {
-    for call in 0..100 {
+    for call in 0..reads.saturating_add(200) {
         if 1 <= call && call <= reads {
             continue;
         }
         let mut site = MemorySite::new(Vec::from_slice(alloc, bytes)?)?;
         site.fuse(call);
-        run(rt, alloc, &mut site, THREE)?;
+        run(rt, alloc, &mut site, SCRIPT)?;
         if site.calls() <= call {
-            // The run needed no call of this number; its last is the third say.
-            return Ok(call > 30 && site.said().ends_with(b"00:00:02.00000\n"));
+            // The run needed no call of this number; its last is the last say.
+            return Ok(
+                call > reads.saturating_add(20) && site.said().ends_with(b"00:00:02.00000\n"),
+            );
         }
-        let wanted = there.saturating_add(accepted(site.said()));
-        let found = elements(rt, alloc, site.image(call, pick)?)?;
-        if found != Some(wanted) && found != Some(wanted.saturating_add(1)) {
+        let wanted = there.max(whole_replies(site.said()));
+        if !holds(rt, alloc, site.image(call, pick)?, wanted)? {
             return Ok(false);
         }
     }
@@ -420,33 +477,27 @@ fn bytes_of(alloc: Global, site: &mut MemorySite) -> Result<Vec<u8>, Fail> {
 }
 
 fn stops_in_a_run(rt: &(impl Threads + Sync), alloc: Global, pick: Pick) -> Result<bool, Fail> {
-    let mut site = volume(rt, alloc)?;
+    let mut site = volume(rt, alloc, "8")?;
     let bytes = bytes_of(alloc, &mut site)?;
-    stops(rt, alloc, &bytes, 0, 6, pick)
+    stops(rt, alloc, &bytes, 0, reads(rt, alloc, "8")?, pick)
 }
 
-// The journal holds the record of the first element when the run begins.
+// The journal holds the record of the row type when the run begins.
 fn stops_after_one(rt: &(impl Threads + Sync), alloc: Global, pick: Pick) -> Result<bool, Fail> {
-    let mut site = volume(rt, alloc)?;
+    let mut site = volume(rt, alloc, "8")?;
     run(
         rt,
         alloc,
         &mut site,
-        b"InsElem('x','2011-01-03 00:00:00',1);",
+        b"CreateRowType(rd, t datetime, v integer);",
     )?;
     let bytes = bytes_of(alloc, &mut site)?;
-    stops(rt, alloc, &bytes, 1, 9, pick)
+    stops(rt, alloc, &bytes, 1, reads(rt, alloc, "8")?, pick)
 }
 
 #[test]
 fn a_stop_in_a_run_leaves_old_bytes(rt: HostRuntime) -> Result<(), Fail> {
     assert!(rt; stops_in_a_run(&rt, rt.alloc(), Pick::Old)?);
-    Ok(())
-}
-
-#[test]
-fn a_stop_over_a_record_leaves_old_bytes(rt: HostRuntime) -> Result<(), Fail> {
-    assert!(rt; stops_after_one(&rt, rt.alloc(), Pick::Old)?);
     Ok(())
 }
 
@@ -457,20 +508,8 @@ fn a_stop_in_a_run_leaves_new_bytes(rt: HostRuntime) -> Result<(), Fail> {
 }
 
 #[test]
-fn a_stop_over_a_record_leaves_new_bytes(rt: HostRuntime) -> Result<(), Fail> {
-    assert!(rt; stops_after_one(&rt, rt.alloc(), Pick::New)?);
-    Ok(())
-}
-
-#[test]
 fn a_stop_in_a_run_leaves_half_of_each_write(rt: HostRuntime) -> Result<(), Fail> {
     assert!(rt; stops_in_a_run(&rt, rt.alloc(), Pick::Half)?);
-    Ok(())
-}
-
-#[test]
-fn a_stop_over_a_record_leaves_half_of_each_write(rt: HostRuntime) -> Result<(), Fail> {
-    assert!(rt; stops_after_one(&rt, rt.alloc(), Pick::Half)?);
     Ok(())
 }
 
@@ -481,14 +520,32 @@ fn a_stop_in_a_run_leaves_zeros(rt: HostRuntime) -> Result<(), Fail> {
 }
 
 #[test]
-fn a_stop_over_a_record_leaves_zeros(rt: HostRuntime) -> Result<(), Fail> {
-    assert!(rt; stops_after_one(&rt, rt.alloc(), Pick::Fill(0))?);
+fn a_stop_in_a_run_leaves_ones(rt: HostRuntime) -> Result<(), Fail> {
+    assert!(rt; stops_in_a_run(&rt, rt.alloc(), Pick::Fill(255))?);
     Ok(())
 }
 
 #[test]
-fn a_stop_in_a_run_leaves_ones(rt: HostRuntime) -> Result<(), Fail> {
-    assert!(rt; stops_in_a_run(&rt, rt.alloc(), Pick::Fill(255))?);
+fn a_stop_over_a_record_leaves_old_bytes(rt: HostRuntime) -> Result<(), Fail> {
+    assert!(rt; stops_after_one(&rt, rt.alloc(), Pick::Old)?);
+    Ok(())
+}
+
+#[test]
+fn a_stop_over_a_record_leaves_new_bytes(rt: HostRuntime) -> Result<(), Fail> {
+    assert!(rt; stops_after_one(&rt, rt.alloc(), Pick::New)?);
+    Ok(())
+}
+
+#[test]
+fn a_stop_over_a_record_leaves_half_of_each_write(rt: HostRuntime) -> Result<(), Fail> {
+    assert!(rt; stops_after_one(&rt, rt.alloc(), Pick::Half)?);
+    Ok(())
+}
+
+#[test]
+fn a_stop_over_a_record_leaves_zeros(rt: HostRuntime) -> Result<(), Fail> {
+    assert!(rt; stops_after_one(&rt, rt.alloc(), Pick::Fill(0))?);
     Ok(())
 }
 

@@ -1,28 +1,38 @@
 // The top call: what the program does, by its words.
-ghost use Rattle.std.specs.Prelude.{◌≡◌, ◌≢◌, ◌≤◌, ◌↔◌, ℕ, List, [], None, Some, IfOk, IsTrue, length, map, replicate, string_bytes, vec_capacity, vec_len};
-ghost use Rattle.ts_shell.specs.Stored.{IsOpened};
+ghost use Rattle.std.specs.Prelude.{◌≡◌, ◌≢◌, ◌≤◌, ◌↔◌, ℕ, List, [], None, Some, IfOk, length, map, string_bytes};
+ghost use Rattle.ts_items.specs.Reader.{start};
 ghost use Rattle.ts_shell.specs.Words.{job_of};
-ghost use Rattle.ts_shell.specs.Top.{Made, Untouched, ScriptRan, OpenedRan, status_of};
+ghost use Rattle.ts_shell.specs.Top.{Made, Untouched, ScriptRan};
 ghost use Rattle.ts_shell.specs.declared.words.Job.TheVariants.{Init, Run};
 
-use crate::fault::RunFault;
-use crate::first_volume::make;
-use crate::opening::{OpenFault, open};
-use crate::reading::Reading;
-use crate::run::carry_out_all;
-use crate::script::{LIMIT, ScriptFault, pull_script};
-use crate::series_page::CELLS;
+use crate::make::make;
+use crate::run::{PIECE, run_script};
+use crate::session::Session;
 use crate::words::{Job, read_job};
 use std::alloc::{AllocError, Global};
 use std::thread::Threads;
+use ts_base::Reply;
+use ts_command::Reader;
+use ts_container::SurveyFault;
 use ts_disk::{Site, Source};
-use ts_recover::Replayed;
+use ts_engine::Engine;
 
 /// Does what the words ask for, and answers with the program's status.
 ///
-/// `init PAGES` makes an empty store, and `run` carries out the script of the source, one reply per item.
+/// `init PAGES` makes an empty store, and `run` carries out the script of the source, one reply per item. The status:
+///
+/// - 0: the work was done; `run` has read the source to its end.
+/// - 2: exactly where the words are none of these forms. Nothing was done.
+/// - 3: a pull failed. Every item has its reply that ended before.
+/// - 4: a reply could not be said whole.
+/// - 5: a call of the volume failed.
+/// - 6: of `run`, exactly where the volume is no store, but for a fault or want of memory that came first. Nothing was
+///   said or written.
+/// - 7: of `run`, there was no memory to open the volume. Nothing was said or written, and the source wasn't pulled.
+/// - 8: of `run`, exactly where a pull gave bytes past the first 268435456. Every item has its reply that ends within these.
+/// - 10: of `init`, exactly where the volume isn't empty. Nothing was done.
 pub fn run_ts<S: Site, R: Source>(
-    _rt: &(impl Threads + Sync),
+    rt: &(impl Threads + Sync),
     alloc: Global,
     words: &[String],
     site: &mut S,
@@ -39,7 +49,7 @@ pub fn run_ts<S: Site, R: Source>(
     match read_job(words) {
         None => 2,
         Some(Job::Init(pages)) => init(site, pages),
-        Some(Job::Run) => run(alloc, site, source),
+        Some(Job::Run) => run(rt, alloc, site, source),
     }
 }
 
@@ -59,85 +69,69 @@ fn init<S: Site>(site: &mut S, pages: u32) -> u8
 }
 
 // Carries out the script of the source.
-fn run<S: Site, R: Source>(alloc: Global, site: &mut S, source: &mut R) -> u8
+fn run<S: Site, R: Source>(
+    rt: &(impl Threads + Sync),
+    alloc: Global,
+    site: &mut S,
+    source: &mut R,
+) -> u8
     ensures ran { ScriptRan S.tells R.tells result (S.device site.old) (S.device site.new) (R.input source.old) (R.input source.new) }
 {
     match Buffers::new(alloc) {
-        Ok(buffers) => run_with(alloc, site, source, buffers),
+        Ok(buffers) => run_with(rt, alloc, site, source, buffers),
         Err(_) => 7,
     }
 }
 
-// Opens the volume, pulls the script and carries it out.
-fn run_with<S: Site, R: Source>(alloc: Global, site: &mut S, source: &mut R, buffers: Buffers) -> u8
-    requires empty { buffers.readings.items ≡ [] }
+// Opens the volume and carries out the script.
+fn run_with<S: Site, R: Source>(
+    rt: &(impl Threads + Sync),
+    alloc: Global,
+    site: &mut S,
+    source: &mut R,
+    buffers: Buffers,
+) -> u8
+    requires start { buffers.reader ≡ start }
     ensures ran { ScriptRan S.tells R.tells result (S.device site.old) (S.device site.new) (R.input source.old) (R.input source.new) }
 {
     let Buffers {
-        mut script,
-        mut readings,
+        reader,
+        reply,
+        mut piece,
     } = buffers;
-    match site.sync() {
-        Err(_) => 5,
-        Ok(()) => match open(alloc, site, &mut readings) {
-            Err(OpenFault::Disk) => 5,
-            Err(OpenFault::NotAStore) => 6,
-            Err(OpenFault::Memory) => 7,
-            Ok(mut replayed) => {
-                run_script(site, source, &mut replayed, &mut script, &mut readings)
-            }
-        },
+    match Engine::start(alloc, site) {
+        Err(SurveyFault::Failed) => 5,
+        Err(SurveyFault::NotAStore { .. }) => 6,
+        Err(SurveyFault::Memory(_)) => 7,
+        Ok(engine) => {
+            let mut session = Session {
+                engine,
+                reader,
+                reply,
+                alloc,
+            };
+            run_script(rt, &mut session, site, source, &mut piece)
+        }
     }
 }
 
-// Pulls the script and carries it out, over an opened volume.
-fn run_script<S: Site, R: Source>(
-    site: &mut S,
-    source: &mut R,
-    replayed: &mut Replayed,
-    script: &mut [u8],
-    readings: &mut Vec<Reading>,
-) -> u8
-    requires script { length script.old ≡ 65537 }
-    requires room { 290 ≤ vec_capacity readings.old }
-    requires fit { length readings.old.items ≤ 290 }
-    requires opened { IsOpened S.tells replayed.old.journal replayed.old.overlay (S.device site.old) }
-    ensures ran { (entry : List ℕ) → OpenedRan entry S.tells R.tells readings.old.items result (S.device site.old) (S.device site.new) (R.input source.old) (R.input source.new) }
-{
-    match pull_script(source, script) {
-        Err(ScriptFault::Pull) => 3,
-        Err(ScriptFault::TooLong) => 8,
-        Ok(count) => status(carry_out_all(site, replayed, readings, &script[..count])),
-    }
-}
-
-// The status of a run.
-fn status(outcome: Result<(), RunFault>) -> u8
-    ensures { result ≡ status_of outcome }
-{
-    match outcome {
-        Ok(()) => 0,
-        Err(RunFault::Disk) => 5,
-        Err(RunFault::Output) => 4,
-    }
-}
-
-/// All that a run needs, taken before it begins.
+/// What reading takes, before anything is done.
 #[derive(Drop)]
 struct Buffers {
-    script: Vec<u8>,
-    readings: Vec<Reading>,
-    ghost script_size: { length script.items ≡ 65537 },
-    ghost room: { 290 ≤ vec_capacity readings },
+    reader: Reader,
+    reply: Reply,
+    piece: Vec<u8>,
+    ghost whole: { length piece.items ≡ 65536 },
 }
 
 impl Buffers {
     fn new(alloc: Global) -> Result<Buffers, AllocError>
-        ensures empty { IfOk result (λ b. b.readings.items ≡ []) }
+        ensures start { IfOk result (λ b. b.reader ≡ start) }
     {
         Ok(Buffers {
-            script: zeros(alloc, LIMIT + 1)?,
-            readings: Vec::with_capacity(alloc, CELLS)?,
+            reader: Reader::new(alloc)?,
+            reply: Reply::new(alloc),
+            piece: zeros(alloc, PIECE)?,
         })
     }
 }

@@ -19,13 +19,13 @@ returns-then-len-ne0 g c = record {
 pub returns-in-Ok : goal.returns-in-Ok
 returns-in-Ok g c = record {
   made = record {
-    done = λ zero. (c.in-Ok.ensures.size, c.in-Ok.ensures.durable, λ t. (c.in-Ok.ensures.bytes t, c.in-Ok.ensures.ok t));
+    done = λ zero. (c.in-Ok.ensures.size, c.in-Ok.ensures.durable, c.in-Ok.ensures.means);
     moments = c.make.ensures.moments;
     there = λ ten. absurd (omega arith);
     refused = λ some. absurd (omega (arith, c.len.ensures));
     kept = λ ten. absurd (omega arith);
     disk = λ five. absurd (omega arith);
-    said = c.make.ensures.quiet.said;
+    said = c.make.ensures.said;
     statuses = inl refl;
   };
 }
@@ -39,7 +39,7 @@ returns-in-Err g c = record {
     refused = λ some. absurd (omega (arith, c.len.ensures));
     kept = λ ten. absurd (omega arith);
     disk = λ five. c.in-Err.ensures.cause refl;
-    said = c.make.ensures.quiet.said;
+    said = c.make.ensures.said;
     statuses = inr (inl refl);
   };
 }

@@ -1,0 +1,161 @@
+-- A header and zeros behind it mean the empty catalogue.
+use Rattle.std.proofs.Common.{◌≡◌, ℕ, zero, suc, ◌+◌, ◌-◌, ◌*◌, ◌<◌, ◌≤◌, Bool, false, cond, Option, Some, None, unwrap_or, List, [], map, length, take, drop, replicate, get_or, slice_index, refl, sym, ◌∙◌, ap, subst, arith}
+use Rattle.std.specs.Option.{option_map}
+use Rattle.std.specs.FinMap.{from_entries}
+use Rattle.std.proofs.lemmas.Bool.Decides.{nat_tests}
+use Rattle.std.proofs.lemmas.List.{drop-replicate, length-replicate, take-replicate, take-take}
+use Rattle.ts_page.specs.Head.{bytes_at, zero_page}
+use Rattle.ts_journal.specs.Gate.{is_open}
+use Rattle.ts_journal.specs.Entry.{is_region}
+use Rattle.ts_journal.specs.Journal.{region, records, own_page, pages, put_records}
+use Rattle.ts_journal.proofs.ImageLemmas.{gate_part, same_gate, records_closed}
+use Rattle.ts_model.specs.declared.kind.Kind.{Kind}
+use Rattle.ts_model.specs.declared.kind.Kind.TheVariants as kinds
+use Rattle.ts_model.specs.declared.def.Def.{Def}
+use Rattle.ts_model.specs.Definitions.{RowTypeDef, ContainerDef, SeriesDef, of_row_type, of_container, of_series, no_definitions, limit, at_slot, filled_from}
+use Rattle.ts_model.specs.Catalogue.{empty_catalogue}
+use Rattle.ts_container.specs.Limits.{IsSlotOf}
+use Rattle.ts_container.specs.Slot.{header_bytes, slot_size, slot_bytes, page_of_slot, byte_of_slot, slots_in_page, bytes_of_slots}
+use Rattle.ts_container.specs.Meaning.{Free, Cells, Layout, def_at, HoldsDefinitions, HoldsElements, IsSound, container_of, series_of, catalogue_of, sum_of_quotas}
+use Rattle.ts_container.proofs.PlaceLemmas.{page_low, page_high, slot_end, fits_page}
+use Rattle.ts_engine.specs.Volume.{MeansCatalogue}
+
+-- page number n as it stands in its place
+abbrev pub page_at : ℕ → List ℕ → List ℕ
+page_at n bytes = bytes_at (4096 * n) 4096 bytes
+
+-- the bytes of a store in which nothing is: its header, and zeros behind it
+pub record IsNew (count : ℕ) (image : List ℕ) : Type 0 where
+  pub size : length image ≡ 4096 * (930 + count)
+  pub header : page_at 0 image ≡ header_bytes count
+  pub zeros : (n : ℕ) → 1 ≤ n → n < 930 + count → page_at n image ≡ replicate 4096 0
+
+-- eight zeros are no open gate
+zeros_closed : is_open (replicate 8 0) ≡ false
+unfolding is_open
+zeros_closed = refl
+
+-- where page 1 is zero the journal is empty
+pub no_journal : (image : List ℕ) → page_at 1 image ≡ replicate 4096 0 → records image ≡ Some []
+no_journal image zeros =
+    let first : take 8 (region image) ≡ take 8 (replicate {A = ℕ} 8 0) = gate_part image ∙ sym (take-take 8 4096 (drop 4096 image) (omega arith)) ∙ ap (take 8) zeros ∙ take-replicate {X = ℕ} 8 4096 0 (omega arith) in
+    records_closed image (same_gate (region image) (replicate 8 0) first ∙ zeros_closed)
+
+-- and then the pages are those in their places
+pub pages_own : (image : List ℕ) → records image ≡ Some [] → (n : ℕ) → pages image n ≡ own_page image n
+pages_own image none n = λ j. put_records (unwrap_or (none j) []) (own_page image) n
+
+-- pages from 257 on are none of the journal
+is_outside : (n : ℕ) → 257 ≤ n → is_region n ≡ false
+is_outside n low = grind (arith, nat_tests)
+
+-- each of a list of one value
+each_is : {A : Type 0} (n i : ℕ) (x : A) → get_or (replicate n x) i x ≡ x
+each_is zero i x = refl
+each_is (suc n) zero x = refl
+each_is (suc n) (suc i) x = each_is n i x
+
+-- no slot of an empty table is filled
+none_there : {A : Type 0} (f : A → Def) (n slot : ℕ) → at_slot slot (map (option_map f) (replicate n None)) ≡ None
+none_there f zero slot = refl
+none_there f (suc n) zero = refl
+none_there f (suc n) (suc slot) = none_there f n slot
+
+nothing_defined : (kind : Kind) (slot : ℕ) → def_at kind slot no_definitions ≡ None
+nothing_defined kinds.RowType slot = none_there of_row_type 64 slot
+nothing_defined kinds.Container slot = none_there of_container 64 slot
+nothing_defined kinds.Series slot = none_there of_series 4096 slot
+
+filled_none : {A X : Type 0} (name : A → List ℕ) (value : ℕ → A → X) (first n : ℕ) → filled_from name value first (replicate n None) ≡ []
+filled_none name value first zero = refl
+filled_none name value first (suc n) = filled_none name value (first + 1) n
+
+some_is_none : {A : Type 0} (x : A) → Some x ≡ None → ⊥
+some_is_none x is = cc
+
+cells_are_free : (slot : ℕ) (es : List _) → Cells slot es ≡ Free → ⊥
+cells_are_free slot es is = cc
+
+-- an empty slot is zeros
+empty_slot : (kind : Kind) → slot_bytes kind None ≡ replicate (slot_size kind) 0
+unfolding zero_page
+empty_slot kinds.RowType = refl
+empty_slot kinds.Container = refl
+empty_slot kinds.Series = refl
+
+-- a part of zeros
+zeros_part : (b n : ℕ) → b + n ≤ 4096 → bytes_at b n (replicate 4096 0) ≡ replicate n 0
+zeros_part b n within = ap (take n) (drop-replicate b 4096 0) ∙ take-replicate {X = ℕ} n (4096 - b) 0 (omega arith)
+
+-- pages of zeros hold no definitions
+no_definitions_held : (at : ℕ → List ℕ) → ((n : ℕ) → 257 ≤ n → n < 930 → at n ≡ replicate 4096 0) → HoldsDefinitions at no_definitions
+no_definitions_held at zeros = record {
+  slots = λ kind slot within.
+      let low = page_low kind slot in
+      let high = page_high kind slot within in
+      ap (bytes_at (byte_of_slot kind slot) (slot_size kind)) (zeros (page_of_slot kind slot) low high)
+      ∙ zeros_part (byte_of_slot kind slot) (slot_size kind) (omega (arith, slot_end kind slot within, fits_page (page_of_slot kind slot) low high))
+      ∙ sym (empty_slot kind) ∙ ap (slot_bytes kind) (sym (nothing_defined kind slot));
+  behind = λ number low high. ap (drop (bytes_of_slots (slots_in_page number))) (zeros number low high) ∙ drop-replicate (bytes_of_slots (slots_in_page number)) 4096 0;
+}
+
+-- nothing defined, and each element page free
+abbrev pub empty_layout : ℕ → Layout
+empty_layout count = record { definitions = no_definitions; element_pages = replicate count Free }
+
+empty_is_sound : (count : ℕ) → 1 ≤ count → count ≤ 65536 → IsSound (empty_layout count)
+empty_is_sound count some limit =
+    let size : length (replicate count Free) ≡ count = length-replicate count Free in
+    record {
+      some = omega (arith, size);
+      most = omega (arith, size);
+      definitions = record {
+        tables = record {
+          row_types = record { size = length-replicate {A = Option RowTypeDef} 64 None; apart = λ i j a b here. absurd (some_is_none a (sym here ∙ each_is 64 i None)) };
+          containers = record { size = length-replicate {A = Option ContainerDef} 64 None; apart = λ i j a b here. absurd (some_is_none a (sym here ∙ each_is 64 i None)) };
+          series = record { size = length-replicate {A = Option SeriesDef} 4096 None; apart = λ i j a b here. absurd (some_is_none a (sym here ∙ each_is 4096 i None)) };
+        };
+        limits = λ kind slot within. subst (IsSlotOf kind) (sym (nothing_defined kind slot)) tt;
+        references = λ kind slot def within is. absurd (some_is_none def (sym is ∙ nothing_defined kind slot));
+        quotas = (let none : sum_of_quotas (replicate 64 None) ≡ 0 = refl in omega (arith, none));
+      };
+      one_page = λ i j slot es fs here. absurd (cells_are_free slot es (sym here ∙ each_is count i Free));
+      charges = λ i c h here. absurd (some_is_none c (sym here ∙ each_is 64 i None));
+    }
+
+empty_means : (count : ℕ) → empty_catalogue count ≡ catalogue_of (empty_layout count)
+empty_means count = λ j. record {
+  pages = sym (length-replicate count Free) j;
+  row_types = from_entries (sym (filled_none {A = RowTypeDef} (λ r. r.name) (λ slot r. r.heading) 0 64) j);
+  containers = from_entries (sym (filled_none {A = ContainerDef} (λ c. c.name) (λ slot c. container_of no_definitions c) 0 64) j);
+  series = from_entries (sym (filled_none {A = SeriesDef} (λ s. s.key) (series_of (empty_layout count)) 0 4096) j);
+}
+
+-- a new store means the empty catalogue
+pub new_means : (count : ℕ) (image : List ℕ) → 1 ≤ count → count ≤ 65536 → IsNew count image → MeansCatalogue image (empty_catalogue count)
+new_means count image some limit new =
+    let none : records image ≡ Some [] = no_journal image (new.zeros 1 (omega arith) (omega arith)) in
+    let size : length (replicate count Free) ≡ count = length-replicate count Free in
+    let behind : (n : ℕ) → 257 ≤ n → n < 930 + count → pages image n ≡ replicate 4096 0 = λ n low high. pages_own image none n ∙ own n low ∙ new.zeros n (omega arith) high in
+    record {
+      size = (count, some, limit, new.size);
+      sound = ([], none);
+      pages = (
+        empty_layout count,
+        record {
+          size = omega (arith, new.size, size);
+          bytes = record {
+            header = pages_own image none 0 ∙ new.header ∙ ap header_bytes (sym size);
+            definitions = no_definitions_held (pages image) (λ n low high. behind n low (omega arith));
+            elements = λ i within.
+                subst (HoldsElements no_definitions (pages image (930 + i))) (sym (each_is count i Free))
+                (ap (λ (l : List ℕ). slice_index l 0) (behind (930 + i) (omega arith) (omega (arith, within, size))));
+          };
+          rules = empty_is_sound count some limit;
+        },
+        empty_means count,
+      );
+    }
+  where
+    own : (n : ℕ) → 257 ≤ n → own_page image n ≡ page_at n image
+    own n low = ap (λ (b : Bool). cond {A = List ℕ} b [] (page_at n image)) (is_outside n low)
