@@ -39,7 +39,8 @@ fn advice(status: u8) -> &'static str {
             "this is no store, or its pages are damaged; nothing was changed: take another file, or a copy of this one",
         7 =>
             "there is no memory for a run; nothing was changed: free some, then run the script again",
-        8 => "the script has more than 268435456 bytes; what ends within these was carried out: run the rest",
+        8 =>
+            "the script has more than 268435456 bytes; what ends within these was carried out: run the rest",
         10 => "the file isn't empty; nothing was changed: choose another path for a new store",
         _ => "the run ended",
     }
