@@ -164,7 +164,7 @@ fn each_routine_is_read_with_its_arguments(rt: HostRuntime) -> Result<(), Fail> 
 #[test]
 fn a_refusal_tells_the_first_place_that_cannot_stand(rt: HostRuntime) -> Result<(), Fail> {
     let alloc = rt.alloc();
-    let page: [(&[u8], &str); 48] = [
+    let page: [(&[u8], &str); 45] = [
         (b"", "at 0"),
         (b" ;", "at 1"),
         (b"#;", "at 0"),
