@@ -238,6 +238,7 @@ arguments_yield calls.TSContainerUsage = chain IsName HasForm a_name _ name_yiel
 arguments_yield calls.TSCreateIrr =
     chain IsKey HasForm a_key _ key_yields
     (λ key k. chain IsName HasForm (behind 44 a_name) _ (behind_comma IsName a_name name_yields) (λ container n. given HasForm _ (k, n)))
+arguments_yield calls.DropSeries = chain IsKey HasForm a_key _ key_yields (λ key k. given HasForm _ k)
 arguments_yield calls.ListSeries = chain IsName HasForm a_name _ name_yields (λ container n. given HasForm _ n)
 arguments_yield calls.InsElem =
     chain IsKey HasForm a_key _ key_yields

@@ -163,6 +163,7 @@ arguments calls.TSContainerCreate = three a_name a_name (a_whole (pos 1) (pos 65
 arguments calls.TSContainerDestroy = one a_name commands.TSContainerDestroy
 arguments calls.TSContainerUsage = one a_name commands.TSContainerUsage
 arguments calls.TSCreateIrr = two a_key a_name commands.TSCreateIrr
+arguments calls.DropSeries = one a_key commands.DropSeries
 arguments calls.ListSeries = one a_name commands.ListSeries
 arguments calls.InsElem = do
   key ← a_key

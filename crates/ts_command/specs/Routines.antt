@@ -14,6 +14,7 @@ spelling calls.TSContainerCreate = codes "TSContainerCreate"
 spelling calls.TSContainerDestroy = codes "TSContainerDestroy"
 spelling calls.TSContainerUsage = codes "TSContainerUsage"
 spelling calls.TSCreateIrr = codes "TSCreateIrr"
+spelling calls.DropSeries = codes "DropSeries"
 spelling calls.ListSeries = codes "ListSeries"
 spelling calls.InsElem = codes "InsElem"
 spelling calls.GetElem = codes "GetElem"
@@ -22,7 +23,7 @@ spelling calls.GetNelems = codes "GetNelems"
 abbrev pub routines : List Routine
 routines =
     calls.InsElem ∷ calls.GetElem ∷ calls.GetNelems ∷ calls.CreateRowType ∷ calls.DropRowType ∷ calls.TSContainerCreate ∷ calls.TSContainerDestroy ∷ calls.TSContainerUsage ∷
-    calls.TSCreateIrr ∷ calls.ListSeries ∷ []
+    calls.TSCreateIrr ∷ calls.DropSeries ∷ calls.ListSeries ∷ []
 
 -- the routine of this name, if there is one
 unfoldable pub routine_of : List ℕ → Option Routine

@@ -31,6 +31,9 @@ pub enum Command {
         key: Key,
         container: Name,
     },
+    DropSeries {
+        key: Key,
+    },
     ListSeries {
         container: Name,
     },
@@ -80,6 +83,21 @@ impl Literals {
         Ok(())
     }
 
+    /// Takes a list as it is.
+    pub fn from_vec(items: Vec<Literal>) -> Literals
+        ensures { result ≡ items.items }
+    {
+        Literals { items }
+    }
+
+    /// Gives the list back.
+    pub fn into_vec(self) -> Vec<Literal>
+        ensures { result.items ≡ self }
+    {
+        let Literals { items } = self;
+        items
+    }
+
     pub fn as_slice(&self) -> &[Literal]
         ensures { result.now ≡ self.now }
     {
@@ -117,6 +135,21 @@ impl Columns {
     {
         self.items.push(column)?;
         Ok(())
+    }
+
+    /// Takes a list as it is.
+    pub fn from_vec(items: Vec<Column>) -> Columns
+        ensures { result ≡ items.items }
+    {
+        Columns { items }
+    }
+
+    /// Gives the list back.
+    pub fn into_vec(self) -> Vec<Column>
+        ensures { result.items ≡ self }
+    {
+        let Columns { items } = self;
+        items
     }
 
     pub fn as_slice(&self) -> &[Column]

@@ -1,5 +1,5 @@
 // Statements and their commands, and the places of refusals.
-use crate::{Command, Cut, Reader, read_command};
+use crate::{Columns, Command, Cut, Literals, Reader, read_command};
 use std::alloc::{AllocError, Global};
 use std::test::Fail;
 use ts_base::{Refusal, Trouble};
@@ -54,6 +54,7 @@ fn spell(alloc: Global, command: &Command) -> Result<String, AllocError> {
         Command::TSCreateIrr { key, container } => {
             words(alloc, "TSCreateIrr", key.as_slice(), container.as_slice())
         }
+        Command::DropSeries { key } => words(alloc, "DropSeries", key.as_slice(), b""),
         Command::ListSeries { container } => {
             words(alloc, "ListSeries", container.as_slice(), b"")
         }
@@ -144,7 +145,7 @@ fn each_routine_is_read_with_its_arguments(rt: HostRuntime) -> Result<(), Fail> 
         (b"TSContainerDestroy(c1);", "TSContainerDestroy c1"),
         (b"TSContainerUsage(_1);", "TSContainerUsage _1"),
         (b"TSCreateIrr('x', c1);", "TSCreateIrr x c1"),
-        (b"GetNelems('it''s');", "GetNelems it's"),
+        (b"DropSeries('it''s');", "DropSeries it's"),
         (b"ListSeries(null);", "ListSeries null"),
         (b"InsElem('x','1970-01-01 00:00:00');", "InsElem x 0"),
         (
@@ -164,7 +165,7 @@ fn each_routine_is_read_with_its_arguments(rt: HostRuntime) -> Result<(), Fail> 
 #[test]
 fn a_refusal_tells_the_first_place_that_cannot_stand(rt: HostRuntime) -> Result<(), Fail> {
     let alloc = rt.alloc();
-    let page: [(&[u8], &str); 45] = [
+    let page: [(&[u8], &str); 48] = [
         (b"", "at 0"),
         (b" ;", "at 1"),
         (b"#;", "at 0"),
@@ -196,6 +197,9 @@ fn a_refusal_tells_the_first_place_that_cannot_stand(rt: HostRuntime) -> Result<
         (b"TSCreateIrr('x');", "at 15"),
         (b"TSCreateIrr(x,c);", "at 12"),
         (b"TSCreateIrr('x',c,d);", "at 17"),
+        (b"DropSeries();", "at 11"),
+        (b"DropSeries(x);", "at 11"),
+        (b"DropSeries('x','y');", "at 14"),
         (b"ListSeries();", "at 11"),
         (b"ListSeries('a');", "at 11"),
         (b"ListSeries(a,b);", "at 12"),
@@ -324,15 +328,15 @@ fn a_name_has_32_bytes_and_a_key_64_at_most(rt: HostRuntime) -> Result<(), Fail>
     assert_eq!(rt; outcome(alloc, &name)?.len(), 44);
     let long_name = around(alloc, b"DropRowType(", b'a', 33, b");")?;
     assert_eq!(rt; outcome(alloc, &long_name)?.as_str(), "at 12");
-    let key = around(alloc, b"GetNelems('", b'k', 64, b"');")?;
-    assert_eq!(rt; outcome(alloc, &key)?.len(), 74);
-    let long_key = around(alloc, b"GetNelems('", b'k', 65, b"');")?;
-    assert_eq!(rt; outcome(alloc, &long_key)?.as_str(), "at 10");
+    let key = around(alloc, b"DropSeries('", b'k', 64, b"');")?;
+    assert_eq!(rt; outcome(alloc, &key)?.len(), 75);
+    let long_key = around(alloc, b"DropSeries('", b'k', 65, b"');")?;
+    assert_eq!(rt; outcome(alloc, &long_key)?.as_str(), "at 11");
     // A doubled quote is one byte of the key.
-    let quotes = around(alloc, b"GetNelems('", b'\'', 128, b"');")?;
-    assert_eq!(rt; outcome(alloc, &quotes)?.len(), 74);
-    let more_quotes = around(alloc, b"GetNelems('", b'\'', 130, b"');")?;
-    assert_eq!(rt; outcome(alloc, &more_quotes)?.as_str(), "at 10");
+    let quotes = around(alloc, b"DropSeries('", b'\'', 128, b"');")?;
+    assert_eq!(rt; outcome(alloc, &quotes)?.len(), 75);
+    let more_quotes = around(alloc, b"DropSeries('", b'\'', 130, b"');")?;
+    assert_eq!(rt; outcome(alloc, &more_quotes)?.as_str(), "at 11");
     Ok(())
 }
 
@@ -363,6 +367,17 @@ fn note(
         None => return Ok(()),
     }
     text.push('|')
+}
+
+#[test]
+fn lists_are_taken_and_given_back(rt: HostRuntime) -> Result<(), Fail> {
+    let alloc = rt.alloc();
+    let mut values = Vec::new(alloc);
+    values.push(Literal::Null)?;
+    assert_eq!(rt; Literals::from_vec(values).into_vec().len(), 1);
+    let columns = Columns::from_vec(Vec::new(alloc));
+    assert_eq!(rt; columns.into_vec().len(), 0);
+    Ok(())
 }
 
 #[test]

@@ -129,6 +129,10 @@ fn read_arguments(alloc: Global, routine: Routine, bytes: &[u8]) -> Result<(Comm
             Ok((Command::TSContainerUsage { name }, rest))
         }
         Routine::TSCreateIrr => read_create_irr(alloc, bytes),
+        Routine::DropSeries => {
+            let (key, rest) = read_key(alloc, bytes)?;
+            Ok((Command::DropSeries { key }, rest))
+        }
         Routine::ListSeries => {
             let (container, rest) = read_name(alloc, bytes)?;
             Ok((Command::ListSeries { container }, rest))

@@ -11,13 +11,14 @@ pub(crate) enum Routine {
     TSContainerDestroy,
     TSContainerUsage,
     TSCreateIrr,
+    DropSeries,
     ListSeries,
     InsElem,
     GetElem,
     GetNelems,
 }
 
-const ROUTINES: [Routine; 10] = [
+const ROUTINES: [Routine; 11] = [
     Routine::InsElem,
     Routine::GetElem,
     Routine::GetNelems,
@@ -27,6 +28,7 @@ const ROUTINES: [Routine; 10] = [
     Routine::TSContainerDestroy,
     Routine::TSContainerUsage,
     Routine::TSCreateIrr,
+    Routine::DropSeries,
     Routine::ListSeries,
 ];
 
@@ -44,6 +46,7 @@ impl Routine {
             Routine::TSContainerDestroy => b"TSContainerDestroy",
             Routine::TSContainerUsage => b"TSContainerUsage",
             Routine::TSCreateIrr => b"TSCreateIrr",
+            Routine::DropSeries => b"DropSeries",
             Routine::ListSeries => b"ListSeries",
             Routine::InsElem => b"InsElem",
             Routine::GetElem => b"GetElem",

@@ -7,7 +7,7 @@ use Rattle.ts_command.specs.declared.command.Command.TheVariants as commands
 use Rattle.ts_replies.specs.Acknowledged.{AreApart}
 use Rattle.ts_model.specs.Catalogue.{Catalogue}
 use Rattle.ts_command.specs.Script.{Request}
-use Rattle.ts_engine.specs.Answer.{Tried, Answered, ◌>>=◌, settled, outcome, answer, carried_out, create_row_type, drop_row_type, create_container, destroy_container, container_usage, create_irregular, list_series, insert_element, get_element, count_elements}
+use Rattle.ts_engine.specs.Answer.{Tried, Answered, ◌>>=◌, settled, outcome, answer, carried_out, create_row_type, drop_row_type, create_container, destroy_container, container_usage, create_irregular, drop_series, list_series, insert_element, get_element, count_elements}
 use Rattle.ts_engine.proofs.ReplyLemmas.{IsApart, Begins, apart-begins, ok-begins, count-begins, counts-begins, stamp-begins, elements-begin, series_text-begins, refusal-apart}
 
 -- what is said of a reply begins with another byte than the memory line
@@ -44,6 +44,10 @@ create_irregular-differs : (key container : List ℕ) (cat : Catalogue) → Diff
 unfolding create_irregular
 create_irregular-differs key container cat = then _ _ (λ a. then _ _ (λ b. then _ _ (λ c. ok-begins)))
 
+drop_series-differs : (key : List ℕ) (cat : Catalogue) → Differs (drop_series key cat)
+unfolding drop_series
+drop_series-differs key cat = then _ _ (λ a. ok-begins)
+
 list_series-differs : (container : List ℕ) (cat : Catalogue) → Differs (list_series container cat)
 unfolding list_series
 list_series-differs container cat = then _ _ (λ a. series_text-begins _)
@@ -68,6 +72,7 @@ carried_out-differs (commands.TSContainerCreate name row_type quota) cat = creat
 carried_out-differs (commands.TSContainerDestroy name) cat = destroy_container-differs name cat
 carried_out-differs (commands.TSContainerUsage name) cat = container_usage-differs name cat
 carried_out-differs (commands.TSCreateIrr key container) cat = create_irregular-differs key container cat
+carried_out-differs (commands.DropSeries key) cat = drop_series-differs key cat
 carried_out-differs (commands.ListSeries container) cat = list_series-differs container cat
 carried_out-differs (commands.InsElem key stamp literals) cat = insert_element-differs key stamp literals cat
 carried_out-differs (commands.GetElem key stamp) cat = get_element-differs key stamp cat

@@ -1,23 +1,24 @@
-mod MeansLemmas
-mod OpenLemmas
-mod SyncLemmas
 mod ChangeLemmas
-mod StepLemmas
-mod DefineLemmas
-mod SlotLemmas
-mod RowTypeLemmas
-mod PutLemmas
-mod RefuseLemmas
-mod NextLemmas
-mod LookLemmas
-mod InsertLemmas
-mod ElementLemmas
 mod ContainerLemmas
-pub mod ReplyLemmas
-pub mod ApartLemmas
-pub mod RoutineLemmas
-pub mod ReadingLemmas
-mod SaidLemmas
-mod InOrderLemmas
-mod ReadStepLemmas
+mod DefineLemmas
+mod ElementLemmas
 mod ElementReadLemmas
+mod InOrderLemmas
+mod InsertLemmas
+mod LookLemmas
+mod MeansLemmas
+mod NextLemmas
+mod OpenLemmas
+mod PutLemmas
+mod ReadStepLemmas
+mod RefuseLemmas
+mod RowTypeLemmas
+mod SaidLemmas
+mod SeriesDropLemmas
+mod SlotLemmas
+mod StepLemmas
+mod SyncLemmas
+pub mod ApartLemmas
+pub mod ReadingLemmas
+pub mod ReplyLemmas
+pub mod RoutineLemmas

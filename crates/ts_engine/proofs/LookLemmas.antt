@@ -24,7 +24,7 @@ use Rattle.ts_container.proofs.SeriesLemmas.{elements_none, page_one, few}
 use Rattle.ts_engine.specs.declared.fault.StepFault.{StepFault}
 use Rattle.ts_engine.specs.declared.fault.StepFault.TheVariants.{Disk, Memory, Closed}
 use Rattle.ts_engine.specs.Volume.{MeansCatalogue}
-use Rattle.ts_engine.specs.Engine.{Kept, IsKeptOf, IsReady, IsAt}
+use Rattle.ts_engine.specs.Engine.{Kept, IsKeptOf, IsReady, IsAt, IsSame}
 use Rattle.ts_engine.specs.Step.{BeforeOrAfter, IsUntouched, StepFaulted, Stepped}
 use Rattle.ts_engine.specs.Change.{IsStill, ChangeFault}
 use Rattle.ts_engine.specs.Elements.{CanRead, Finds, IsThere, Looked}
@@ -99,16 +99,16 @@ module _ (tells : Bool) (command : Command) (e f g : Kept) (v x w : Device) (rea
   at_after : (cat : Catalogue) → IsAt tells e cat v → IsAt tells f cat x
   at_after cat at = record { ready = ready_after; means = subst (λ (bytes : List ℕ). MeansCatalogue bytes cat) (sym still.reads.held) at.means }
 
-  untouched_both : IsUntouched tells f g x w → IsUntouched tells e g v w
-  untouched_both un = record {
-    disk = reads_then tells v x w still.reads un.disk;
-    kept = record {
-      definitions = un.kept.definitions ∙ (λ i. (tables i).definitions);
-      lists = un.kept.lists ∙ (λ i. (space i).lists);
-      free = un.kept.free ∙ still.free;
-      spent = un.kept.spent ∙ unspent ∙ sym ready.unspent;
-    };
+  same_both : IsSame f g → IsSame e g
+  same_both kept = record {
+    definitions = kept.definitions ∙ (λ i. (tables i).definitions);
+    lists = kept.lists ∙ (λ i. (space i).lists);
+    free = kept.free ∙ still.free;
+    spent = kept.spent ∙ unspent ∙ sym ready.unspent;
   }
+
+  untouched_both : IsUntouched tells f g x w → IsUntouched tells e g v w
+  untouched_both un = record { disk = reads_then tells v x w still.reads un.disk; kept = same_both un.kept }
 
   fault_both : (fault : StepFault) → StepFaulted tells fault f g x w → StepFaulted tells fault e g v w
   fault_both Disk faulted = (omega (arith, faulted.0, still.reads.keeps.faults), faulted.1)
@@ -126,7 +126,8 @@ module _ (tells : Bool) (command : Command) (e f g : Kept) (v x w : Device) (rea
   stepped_after (Ok done) out stepped = record {
     ready = stepped.ready;
     answered = λ told cat at. stepped.answered told cat (at_after cat at);
-    unchanged = λ told cat at nothing. untouched_both (stepped.unchanged told cat (at_after cat at) nothing);
+    reads = λ told cat at nothing. reads_then tells v x w still.reads (stepped.reads told cat (at_after cat at) nothing);
+    unchanged = λ told cat at nothing. same_both (stepped.unchanged told cat (at_after cat at) nothing);
     fault = tt;
     empty = stepped.empty;
     moments = λ told cat at. moments_both cat at (stepped.moments told cat (at_after cat at));
@@ -135,6 +136,7 @@ module _ (tells : Bool) (command : Command) (e f g : Kept) (v x w : Device) (rea
   stepped_after (Err fault) out stepped = record {
     ready = tt;
     answered = tt;
+    reads = λ told cat at nothing. reads_then tells v x w still.reads (stepped.reads told cat (at_after cat at) nothing);
     unchanged = tt;
     fault = fault_both fault stepped.fault;
     empty = stepped.empty;
@@ -147,13 +149,14 @@ pub stepped_looked : (tells : Bool) (command : Command) (slot : ℕ) (stamp : �
 stepped_looked tells command slot stamp fault e f v w ready looked = record {
   ready = tt;
   answered = tt;
+  reads = λ told cat at nothing. looked.reads;
   unchanged = tt;
   fault = faulted fault looked.fault;
   empty = λ err. refl;
   moments = λ told cat at.
       leaves_map v w (λ image said. v.images image × (said ≡ v.said)) (BeforeOrAfter cat command v)
-      (λ image said now. (inl (subst (λ (bytes : List ℕ). MeansCatalogue bytes cat) (sym (ready.idle.over.settled image now.0)) at.means), now.1)) (looked.moments told);
-  others = looked.others;
+      (λ image said now. (inl (subst (λ (bytes : List ℕ). MeansCatalogue bytes cat) (sym (ready.idle.over.settled image now.0)) at.means), now.1)) looked.reads.moments;
+  others = looked.reads.keeps;
 }
   where
     faulted : (x : StepFault) → ChangeFault tells x e.store f.store f.spent v w → StepFaulted tells x e f v w

@@ -14,7 +14,7 @@ use Rattle.ts_engine.specs.declared.fault.StepFault.TheVariants.{Disk, Memory, C
 use Rattle.ts_engine.specs.Answer.{Answered, answer, outcome}
 use Rattle.ts_engine.specs.Volume.{MeansCatalogue}
 use Rattle.ts_engine.specs.Engine.{Kept, IsKeptOf, IsReady, IsAt}
-use Rattle.ts_engine.specs.Step.{BeforeOrAfter, Stepped, is_reading}
+use Rattle.ts_engine.specs.Step.{BeforeOrAfter, ChangesNothing, Stepped, is_reading}
 use Rattle.ts_engine.specs.Change.{ChangeLeaves, Changed}
 use Rattle.ts_engine.proofs.MeansLemmas.{holds_still, means_layout}
 use Rattle.ts_engine.proofs.StepLemmas.{answers, kept_same, means_alike, means_held, at_layout}
@@ -42,6 +42,11 @@ module _ (tells : Bool) (command : Command) (Work : Contents → Contents → Ty
   answered : IsTrue tells → (cat : Catalogue) → cat ≡ catalogue_of ready.keeps.0 → (read : Contents) (work : Work (contents_over e.store v) read) → answer cat (Ok command) ≡ (out, catalogue_of (next read work).layout)
   answered told cat is read work =
       ap (λ (c : Catalogue). answer c (Ok command)) is ∙ answers (catalogue_of ready.keeps.0) command (out, catalogue_of (next read work).layout) ((next read work).comes told)
+
+  changes : IsTrue tells → (answered : Answered) → outcome (Ok command) (catalogue_of ready.keeps.0) ≡ Ok answered → (cat : Catalogue) → IsAt tells e cat v → ChangesNothing cat command → ⊥
+  changes told answered comes cat at nothing =
+      let is = stands told cat at in
+      ⊎_elim (λ refused. not_refused answered refused.0 (sym comes ∙ ap (λ (c : Catalogue). outcome (Ok command) c) (sym is) ∙ refused.1)) (λ reads. not_reading (is_reading command) writes reads) nothing
 
   next_moments : (result : Result Unit StepFault) (spent : Option ℕ) → Changed tells Work result e.store f.store spent v w → IsTrue tells → (cat : Catalogue) → IsAt tells e cat v → LeavesOnly v w (BeforeOrAfter cat command v)
   next_moments result spent changed told cat at =
@@ -72,30 +77,31 @@ module _ (tells : Bool) (command : Command) (Work : Contents → Contents → Ty
                 means = subst (MeansCatalogue w.held) (sym (ap (λ (a : Answered). a.1) comes')) (means_held tells f w after.layout later changed.idle kept' told (holds' told));
               },
             );
-        unchanged = λ told cat at nothing.
-            let is = stands told cat at in
-            absurd (⊎_elim (λ refused. not_refused (out, catalogue_of after.layout) refused.0 (sym (after.comes told) ∙ ap (λ (c : Catalogue). outcome (Ok command) c) (sym is) ∙ refused.1)) (λ reads. not_reading (is_reading command) writes reads) nothing);
+        reads = λ told cat at nothing. absurd (changes told (out, catalogue_of after.layout) (after.comes told) cat at nothing);
+        unchanged = λ told cat at nothing. absurd (changes told (out, catalogue_of after.layout) (after.comes told) cat at nothing);
         fault = tt;
         empty = λ err. absurd (cc);
         moments = next_moments (Ok tt) f.spent changed;
         others = changed.others;
       }
 
-  pub next_fault : (fault : StepFault) → Changed tells Work (Err fault) e.store f.store f.spent v w → f.tables.definitions ≡ e.tables.definitions → f.space.lists ≡ e.space.lists → Stepped tells command (Err fault) [] e f v w
-  next_fault Disk changed definitions lists = record {
+  pub next_fault : (IsTrue tells → (answered : Answered) × (outcome (Ok command) (catalogue_of ready.keeps.0) ≡ Ok answered)) → (fault : StepFault) → Changed tells Work (Err fault) e.store f.store f.spent v w → f.tables.definitions ≡ e.tables.definitions → f.space.lists ≡ e.space.lists → Stepped tells command (Err fault) [] e f v w
+  next_fault comes Disk changed definitions lists = record {
     ready = tt;
     answered = tt;
+    reads = λ told cat at nothing. absurd (changes told (comes told).0 (comes told).1 cat at nothing);
     unchanged = tt;
     fault = changed.fault;
     empty = λ err. refl;
     moments = next_moments (Err Disk) f.spent changed;
     others = changed.others;
   }
-  next_fault (Memory error) changed definitions lists =
+  next_fault comes (Memory error) changed definitions lists =
       let still = changed.fault.0 in
       record {
         ready = tt;
         answered = tt;
+        reads = λ told cat at nothing. absurd (changes told (comes told).0 (comes told).1 cat at nothing);
         unchanged = tt;
         fault = (
           record { disk = still.reads; kept = record { definitions = definitions; lists = lists; free = still.free; spent = changed.fault.1 ∙ sym ready.unspent } },
@@ -113,4 +119,4 @@ module _ (tells : Bool) (command : Command) (Work : Contents → Contents → Ty
         moments = next_moments (Err (Memory error)) f.spent changed;
         others = changed.others;
       }
-  next_fault (Closed faults) changed definitions lists = absurd changed.fault
+  next_fault comes (Closed faults) changed definitions lists = absurd changed.fault

@@ -7,6 +7,7 @@ use Rattle.ts_journal.specs.Entry.{AreAllowed}
 use Rattle.ts_journal.specs.Journal.{page_count, pages, ReadsButFreed}
 use Rattle.ts_journal.specs.Moment.{Keeps, OnlyReads, SamePages}
 use Rattle.ts_journal.proofs.WriteLemmas.{keeps_then}
+use Rattle.ts_recover.proofs.ReadLemmas.{reads_then}
 use Rattle.ts_store.specs.OpenBatch.{State, IsOver, IsIdle, Settles, read_pages, contents_over}
 use Rattle.ts_store.specs.Undisturbed.{Undisturbed}
 use Rattle.ts_store.proofs.ReadLemmas.{read_closed}
@@ -22,7 +23,7 @@ use Rattle.ts_container.specs.Survey.{IsFound, IfRefused, HoldNoLayout}
 use Rattle.ts_container.specs.Surveyed.{free_pages}
 use Rattle.ts_container.proofs.FreeLemmas.{free_counted}
 use Rattle.ts_engine.specs.declared.engine.Engine.{Engine}
-use Rattle.ts_engine.specs.Volume.{MeansCatalogue}
+use Rattle.ts_engine.specs.Volume.{MeansCatalogue, MeansNothing}
 use Rattle.ts_engine.specs.Engine.{Kept, IsKeptOf, IsReady}
 use Rattle.ts_engine.specs.Start.{StillMeans, StartFault, ReadFault, Opened}
 use Rattle.ts_engine.proofs.MeansLemmas.{holds_still, means_layout, still_means, free_at, free_different}
@@ -99,7 +100,7 @@ module _ (tells : Bool) (s t : State) (v : Device) (x : Definitions) (space : Di
   allowed = subst (λ (n : ℕ). AreAllowed n t.overlay) (sym (counted v.size t.pages over_admitted.size)) over_admitted.allowed
 
   -- the layout that was found is that of what the volume means
-  means_found : Lawful tells v → IsTrue tells → MeansCatalogue v.held (catalogue_of found.0)
+  pub means_found : Lawful tells v → IsTrue tells → MeansCatalogue v.held (catalogue_of found.0)
   means_found lawful told =
       means_layout v.size (read_pages s v.held) v.held found.0 idle.over.volume (lawful.size told) ((idle.over.stands told).rs, (idle.over.stands told).stands.records)
       (λ k. inl (sym (read_closed s v.held idle.batch (idle.over.stands told) k))) (counted v.size s.pages idle.over.size ∙ found.2) (found.4 told) found.3
@@ -166,11 +167,12 @@ module _ (tells : Bool) (s t : State) (v : Device) (x : Definitions) (space : Di
       fault = tt;
       others = keeps;
       moments = settle_moments lawful w moments;
+      nothing = λ told none. absurd (none (catalogue_of found.0) (means_found lawful told));
     }
 
 -- the settling failed
-pub unsettled : (tells : Bool) (v w : Device) → Rose v.faults w.faults → Keeps tells v w → (IsTrue tells → (cat : Catalogue) → MeansCatalogue v.held cat → LeavesOnly v w (StillMeans cat v)) → Opened tells (Err Failed) v w
-unsettled tells v w rose keeps moments = record { ready = tt; at = tt; fault = rose; others = keeps; moments = moments }
+pub unsettled : (tells : Bool) (v w : Device) → Rose v.faults w.faults → Keeps tells v w → (IsTrue tells → (cat : Catalogue) → MeansCatalogue v.held cat → LeavesOnly v w (StillMeans cat v)) → (IsTrue tells → (cat : Catalogue) × MeansCatalogue v.held cat) → Opened tells (Err Failed) v w
+unsettled tells v w rose keeps moments means = record { ready = tt; at = tt; fault = rose; others = keeps; moments = moments; nothing = λ told none. absurd (none (means told).0 (means told).1) }
 
 -- what only reads means the same at each moment
 reads_mean : (tells : Bool) (v w : Device) (cat : Catalogue) → Only v.held v.images → OnlyReads tells v w → MeansCatalogue v.held cat → LeavesOnly v w (StillMeans cat v)
@@ -186,6 +188,7 @@ refused tells fault v w only reads cause = record {
   fault = whole fault cause;
   others = reads.keeps;
   moments = λ told cat means. reads_mean tells v w cat only reads means;
+  nothing = λ told none. reads;
 }
   where
     whole : (fault : SurveyFault) → ReadFault tells fault v w → StartFault tells fault v w
@@ -217,6 +220,7 @@ opened_after tells (Ok e) v x w only reads opened = record {
   fault = tt;
   others = keeps_then tells v x w reads.keeps opened.others;
   moments = λ told cat means. moments_after tells v x w cat only reads means (opened.moments told cat (subst (λ (bytes : List ℕ). MeansCatalogue bytes cat) (sym reads.held) means));
+  nothing = λ told none. reads_then tells v x w reads (opened.nothing told (subst MeansNothing (sym reads.held) none));
 }
 opened_after tells (Err fault) v x w only reads opened = record {
   ready = tt;
@@ -224,6 +228,7 @@ opened_after tells (Err fault) v x w only reads opened = record {
   fault = later fault opened.fault;
   others = keeps_then tells v x w reads.keeps opened.others;
   moments = λ told cat means. moments_after tells v x w cat only reads means (opened.moments told cat (subst (λ (bytes : List ℕ). MeansCatalogue bytes cat) (sym reads.held) means));
+  nothing = λ told none. reads_then tells v x w reads (opened.nothing told (subst MeansNothing (sym reads.held) none));
 }
   where
     later : (fault : SurveyFault) → StartFault tells fault x w → StartFault tells fault v w

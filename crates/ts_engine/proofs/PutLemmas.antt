@@ -1,5 +1,5 @@
 -- A step that puts an element.
-use Rattle.std.proofs.Common.{◌≡◌, ℕ, ◌+◌, ◌-◌, ◌<◌, ◌≤◌, Bool, false, ℤ, Option, Some, None, IsSome, Ok, Err, List, [], All, get_or, ◌==◌, if◌then◌else◌, length, set, length-set, set-set, refl, ap, sym, ◌∙◌, subst, arith}
+use Rattle.std.proofs.Common.{◌≡◌, ℕ, ◌+◌, ◌-◌, ◌<◌, ◌≤◌, Bool, false, IsTrue, ℤ, Option, Some, None, IsSome, Ok, Err, List, [], All, get_or, ◌==◌, if◌then◌else◌, length, set, length-set, set-set, refl, ap, sym, ◌∙◌, subst, arith}
 use Rattle.std.proofs.lemmas.List.{set-get_or}
 use Rattle.ts_command.specs.declared.command.Command.TheVariants.{InsElem}
 use Rattle.ts_disk.specs.Device.{Device, Lawful}
@@ -18,7 +18,7 @@ use Rattle.ts_model.specs.declared.kind.Kind.TheVariants as kinds
 use Rattle.ts_model.specs.Definitions.{Definitions, SeriesDef, at_slot}
 use Rattle.ts_model.specs.Catalogue.{Catalogue}
 use Rattle.ts_store.specs.OpenBatch.{contents_over}
-use Rattle.ts_container.specs.Meaning.{ElementPage, Layout, Free, Cells, element_page, heading_in, IsSound, heading_at}
+use Rattle.ts_container.specs.Meaning.{ElementPage, Layout, Free, Cells, element_page, heading_in, IsSound, heading_at, series_of, catalogue_of}
 use Rattle.ts_container.specs.OnePage.{IsFreeIn, AreFreePages}
 use Rattle.ts_container.specs.Charges.{container_charge}
 use Rattle.ts_container.proofs.LookupLemmas.{series_at}
@@ -27,6 +27,7 @@ use Rattle.ts_container.proofs.FreeLemmas.{free_counted}
 use Rattle.ts_container.proofs.QuotaLemmas.{page_free}
 use Rattle.ts_container.proofs.HeldLemmas.{slots_stay}
 use Rattle.ts_engine.specs.declared.fault.StepFault.{StepFault}
+use Rattle.ts_engine.specs.Answer.{outcome, with_element as with_element_of}
 use Rattle.ts_engine.specs.Reply.{stamp_line}
 use Rattle.ts_engine.specs.Engine.{Kept, IsKeptOf, IsReady}
 use Rattle.ts_engine.specs.Step.{Stepped}
@@ -49,7 +50,7 @@ free_in tells e v l kept listed slots = record {
 }
 
 -- each of these pages is free
-all_free : (ns : List ℕ) (pages : List ElementPage) → All (IsFreeIn pages) ns → All (λ number. element_page (number - 930) pages ≡ Free) ns
+pub all_free : (ns : List ℕ) (pages : List ElementPage) → All (IsFreeIn pages) ns → All (λ number. element_page (number - 930) pages ≡ Free) ns
 all_free ns pages each k d within =
     let one : IsFreeIn pages (get_or ns k d) = each k d within in
     let same : get_or ns k d - 930 ≡ one.0 = omega (arith, one.1) in
@@ -127,6 +128,13 @@ module _ (tells : Bool) (e f : Kept) (v w : Device) (key : List ℕ) (literals :
   abbrev layout : (read : Contents) (p : Work (contents_over e.store v) read) → Layout
   layout read p = put_layout tells ready.keeps.0 e.space f.space key slot stamp row (contents_over e.store v) read ready.keeps.1.rules ready.keeps.1.filled ready.keeps.1.places has.named.within on room_in changes (edited read p) (goes read p)
 
+  done : IsTrue tells → outcome (Ok (InsElem key stamp literals)) (catalogue_of ready.keeps.0) ≡ Ok (stamp_line stamp, with_element_of key (series_of ready.keeps.0 slot on.s) stamp row (catalogue_of ready.keeps.0))
+  done told =
+      let l = ready.keeps.0 in
+      let kept = ready.keeps.1 in
+      let gives = has.gives on.h (ap (λ (d : Definitions). heading_at d slot) kept.definitions ∙ on.columns) in
+      insert_done l e.space key slot stamp literals kept.rules on row gives.0 kept.filled kept.places has.named.within (absent told l kept (ready.keeps.2 told)) room_in
+
   pub next_put : (read : Contents) → Work (contents_over e.store v) read → Next tells (InsElem key stamp literals) (stamp_line stamp) ready.keeps.0 read
   next_put read p =
       let l = ready.keeps.0 in
@@ -139,8 +147,7 @@ module _ (tells : Bool) (e f : Kept) (v w : Device) (key : List ℕ) (literals :
         rules = put_rules tells l e.space f.space key slot stamp row (contents_over e.store v) read kept.rules kept.filled kept.places has.named.within on room_in changes x g;
         holds = λ told. put_holds tells l e.space f.space key slot stamp row (contents_over e.store v) read kept.rules kept.filled kept.places has.named.within on room_in changes x g told (ready.keeps.2 told);
         comes = λ told.
-            let gives = has.gives on.h (ap (λ (d : Definitions). heading_at d slot) kept.definitions ∙ on.columns) in
-            insert_done l e.space key slot stamp literals kept.rules on row gives.0 kept.filled kept.places has.named.within (absent told l kept (ready.keeps.2 told)) room_in
+            done told
             ∙ ap (λ (cat : Catalogue). Ok (stamp_line stamp, cat))
             (sym (put_catalogue tells l e.space f.space key slot stamp row (contents_over e.store v) read kept.rules kept.filled kept.places has.named.within on room_in changes x g told (ready.keeps.2 told)));
       }
@@ -176,7 +183,7 @@ module _ (tells : Bool) (e f : Kept) (v w : Device) (key : List ℕ) (literals :
   pub put_fault : (x : Kept) (fault : StepFault) → Lawful tells v → Lawful tells w → Changed tells Work (Err fault) e.store x.store x.spent v w → x.tables.definitions ≡ e.tables.definitions → x.space.lists ≡ e.space.lists
       → Stepped tells (InsElem key stamp literals) (Err fault) [] e x v w
   put_fault x fault lawful later changed definitions lists =
-      next_fault tells (InsElem key stamp literals) Work e x v w (stamp_line stamp) lawful later ready next_put refl fault changed definitions lists
+      next_fault tells (InsElem key stamp literals) Work e x v w (stamp_line stamp) lawful later ready next_put refl (λ told. (_, done told)) fault changed definitions lists
 
 -- the places of a series are as they were
 pub places_back : (slot : ℕ) (a b c : Directory) → ChangesOnly slot a b → ChangesOnly slot b c → places_of slot c ≡ places_of slot a → c.lists ≡ a.lists

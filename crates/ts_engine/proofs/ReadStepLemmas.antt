@@ -41,6 +41,7 @@ pub stepped_disk : (tells : Bool) (command : Command) (e f : Kept) (v w : Device
 stepped_disk tells command e f v w ready reads rose spent = record {
   ready = tt;
   answered = tt;
+  reads = λ told cat at nothing. reads;
   unchanged = tt;
   fault = (rose, spent);
   empty = λ err. refl;

@@ -11,7 +11,7 @@ use Rattle.ts_row.specs.Row.{Values, row_of}
 use Rattle.ts_model.specs.Catalogue.{Named, Container, Series, Catalogue, columns_of, quota_of, series_in, quotas}
 use Rattle.ts_model.specs.Charge.{page_elements, container_charge}
 use Rattle.ts_engine.specs.Reply.{ok_line, count_line, counts_line, stamp_line, elements_text, series_text}
-use Rattle.ts_engine.specs.Answer.{Tried, Answered, ◌>>=◌, refused_if, known, wanted, unused, within_limit, no_bad_column, a_row_type, row_or_mismatch, a_row, within_quota, on_one_page, within_pages, has_container, has_series, with_element, element_at, create_row_type, drop_row_type, create_container, destroy_container, container_usage, create_irregular, list_series, insert_element, get_element, count_elements}
+use Rattle.ts_engine.specs.Answer.{Tried, Answered, ◌>>=◌, refused_if, known, wanted, unused, within_limit, no_bad_column, a_row_type, row_or_mismatch, a_row, within_quota, on_one_page, within_pages, has_container, has_series, with_element, element_at, create_row_type, drop_row_type, create_container, destroy_container, container_usage, create_irregular, drop_series, list_series, insert_element, get_element, count_elements}
 
 -- the tests, passed and failed
 
@@ -145,6 +145,14 @@ module _ (name : List ℕ) (cat : Catalogue) where
   pub container_usage-done : (container : Container) → get cat.containers name ≡ Some container → container_usage name cat ≡ Ok (counts_line (container_charge name cat) container.quota, cat)
   unfolding container_usage
   container_usage-done container there = on-ok _ _ _ (wanted-there name cat.containers container there)
+
+  pub drop_series-unknown : get cat.series name ≡ None → drop_series name cat ≡ Err refusals.UnknownName
+  unfolding drop_series
+  drop_series-unknown missing = on-err _ _ _ (wanted-missing name cat.series missing)
+
+  pub drop_series-done : (s : Series) → get cat.series name ≡ Some s → drop_series name cat ≡ Ok (ok_line, record cat { series = remove cat.series name })
+  unfolding drop_series
+  drop_series-done s there = on-ok _ _ _ (wanted-there name cat.series s there)
 
   pub list_series-unknown : get cat.containers name ≡ None → list_series name cat ≡ Err refusals.UnknownName
   unfolding list_series

@@ -21,7 +21,7 @@ use Rattle.ts_engine.specs.Answer.{Answered, answer, outcome, settled}
 use Rattle.ts_engine.specs.Reply.{refusal_line}
 use Rattle.ts_engine.specs.Volume.{MeansCatalogue}
 use Rattle.ts_engine.specs.Engine.{Kept, IsKeptOf, IsReady, IsAt}
-use Rattle.ts_engine.specs.Step.{BeforeOrAfter, IsUntouched, Stepped, is_reading}
+use Rattle.ts_engine.specs.Step.{BeforeOrAfter, ChangesNothing, IsUntouched, Stepped, is_reading}
 use Rattle.ts_engine.specs.Change.{reply_of, ReadsAlike, IsStill, ChangeLeaves, Changed}
 use Rattle.ts_engine.proofs.MeansLemmas.{holds_still, means_layout}
 
@@ -84,6 +84,11 @@ module _ (tells : Bool) (command : Command) (Work : Contents → Contents → Ty
   stands : IsTrue tells → (cat : Catalogue) → IsAt tells e cat v → cat ≡ catalogue_of l
   stands told cat at = at_layout tells e v l lawful ready.idle kept told (holds told) cat at.means
 
+  changes : IsTrue tells → (cat : Catalogue) → IsAt tells e cat v → ChangesNothing cat command → ⊥
+  changes told cat at nothing =
+      let is = stands told cat at in
+      ⊎_elim (λ refused. not_both (out, catalogue_of l') refused.0 (sym comes ∙ ap (λ (c : Catalogue). outcome (Ok command) c) (sym is) ∙ refused.1)) (λ reads. not_told (is_reading command) writes reads) nothing
+
   step_moments : (result : Result Unit StepFault) (spent : Option ℕ) → Changed tells Work result e.store f.store spent v w → IsTrue tells → (cat : Catalogue) → IsAt tells e cat v → LeavesOnly v w (BeforeOrAfter cat command v)
   step_moments result spent changed told cat at =
       let is = stands told cat at in
@@ -110,9 +115,8 @@ module _ (tells : Bool) (command : Command) (Work : Contents → Contents → Ty
                 means = subst (MeansCatalogue w.held) (sym (ap (λ (a : Answered). a.1) comes')) (means_held tells f w l' later changed.idle kept' told (holds' told));
               },
             );
-        unchanged = λ told cat at nothing.
-            let is = stands told cat at in
-            absurd (⊎_elim (λ refused. not_both (out, catalogue_of l') refused.0 (sym comes ∙ ap (λ (c : Catalogue). outcome (Ok command) c) (sym is) ∙ refused.1)) (λ reads. not_told (is_reading command) writes reads) nothing);
+        reads = λ told cat at nothing. absurd (changes told cat at nothing);
+        unchanged = λ told cat at nothing. absurd (changes told cat at nothing);
         fault = tt;
         empty = λ err. absurd (cc);
         moments = step_moments (Ok tt) f.spent changed;
@@ -123,6 +127,7 @@ module _ (tells : Bool) (command : Command) (Work : Contents → Contents → Ty
   stepped_fault Disk changed definitions lists = record {
     ready = tt;
     answered = tt;
+    reads = λ told cat at nothing. absurd (changes told cat at nothing);
     unchanged = tt;
     fault = changed.fault;
     empty = λ err. refl;
@@ -134,6 +139,7 @@ module _ (tells : Bool) (command : Command) (Work : Contents → Contents → Ty
       record {
         ready = tt;
         answered = tt;
+        reads = λ told cat at nothing. absurd (changes told cat at nothing);
         unchanged = tt;
         fault = (
           record { disk = still.reads; kept = record { definitions = definitions; lists = lists; free = still.free; spent = changed.fault.1 ∙ sym ready.unspent } },
@@ -194,7 +200,8 @@ module _ (tells : Bool) (command : Command) (e f : Kept) (v w : Device) (lawful 
             means = subst (MeansCatalogue w.held) (sym (ap (λ (a : Answered). a.1) comes)) (subst (λ (bytes : List ℕ). MeansCatalogue bytes cat) (sym still.reads.held) at.means);
           },
         );
-    unchanged = λ told cat at nothing. untouched;
+    reads = λ told cat at nothing. still.reads;
+    unchanged = λ told cat at nothing. untouched.kept;
     fault = tt;
     empty = λ err. absurd (cc);
     moments = λ told. still_moments;
@@ -205,6 +212,7 @@ module _ (tells : Bool) (command : Command) (e f : Kept) (v w : Device) (lawful 
   stepped_memory error = record {
     ready = tt;
     answered = tt;
+    reads = λ told cat at nothing. still.reads;
     unchanged = tt;
     fault = (untouched, ready_still);
     empty = λ err. refl;

@@ -2,15 +2,15 @@
 use Rattle.std.proofs.Common.{◌≡◌, inl, inr, ⊎_elim, ℕ, ◌+◌, ◌≤◌, ◌<◌, Bool, IsTrue, List, Result, Ok, Err, refl, sym, ◌∙◌, subst, arith}
 use Rattle.ts_disk.specs.Device.{Device, Lawful, Only, Synced, FirstSync, LeavesOnly}
 use Rattle.ts_disk.proofs.Moments.{started, calls_on, then_on, leaves_map}
-use Rattle.ts_journal.specs.Moment.{Keeps}
+use Rattle.ts_journal.specs.Moment.{Keeps, OnlyReads}
 use Rattle.ts_journal.proofs.WriteLemmas.{keeps_then}
 use Rattle.ts_model.specs.Catalogue.{Catalogue}
 use Rattle.ts_container.specs.declared.fault.SurveyFault.{SurveyFault}
 use Rattle.ts_container.specs.declared.fault.SurveyFault.TheVariants.{NotAStore, Failed, Memory}
 use Rattle.ts_engine.specs.declared.engine.Engine.{Engine}
-use Rattle.ts_engine.specs.Volume.{MeansCatalogue}
+use Rattle.ts_engine.specs.Volume.{MeansCatalogue, MeansNothing}
 use Rattle.ts_engine.proofs.OpenLemmas.{rose_on}
-use Rattle.ts_engine.specs.Start.{StillMeans, StartFault, Opened, Started}
+use Rattle.ts_engine.specs.Start.{StillMeans, StartFault, LeavesAsItWas, Opened, Started}
 
 -- the first sync, where it answered Ok
 sync_begins : {E : Type 0} (tells : Bool) (told : IsTrue tells) (v x : Device) (P : List ℕ → List ℕ → Type 0) → Lawful tells v → Lawful tells x → Synced {E = E} tells (Ok tt) v x → P v.held v.said → FirstSync v x P
@@ -63,6 +63,12 @@ sync_means tells result v x cat lawful only sync means =
     let here : (image : List ℕ) → v.images image → StillMeans cat v image v.said = λ image now. (same_bytes v.held image cat (sym (only image now)) means, refl) in
     calls_on tells result v v x (StillMeans cat v) (started tells v (StillMeans cat v) lawful here) sync.call (λ image now. here image (sync.crash image now))
 
+-- a sync writes nothing
+sync_only : {E : Type 0} (tells : Bool) (result : Result Unit E) (v x : Device) → Lawful tells v → Synced tells result v x → LeavesOnly v x (λ image said. v.images image × (said ≡ v.said))
+sync_only tells result v x lawful sync =
+    let P : List ℕ → List ℕ → Type 0 = λ image said. v.images image × (said ≡ v.said) in
+    calls_on tells result v v x P (started tells v P lawful (λ image now. (now, refl))) sync.call (λ image now. (sync.crash image now, refl))
+
 sync_keeps : {E : Type 0} (tells : Bool) (result : Result Unit E) (v x : Device) → Synced tells result v x → Keeps tells v x
 sync_keeps tells (Ok done) v x sync = record { size = sync.size; said = sync.call.said; say_faults = sync.call.say_faults; faults = sync.call.faults; syncs = λ told. omega (arith, sync.syncs told) }
 sync_keeps tells (Err e) v x sync = record { size = sync.size; said = sync.call.said; say_faults = sync.call.say_faults; faults = sync.call.faults; syncs = λ told. omega (arith, sync.syncs_stay) }
@@ -77,6 +83,7 @@ unsynced tells e v x lawful sync = record {
   synced = tt;
   moments = λ told cat means. sync_fails tells e v x (StillMeans cat v) lawful sync;
   at_rest = λ told only cat means. sync_means tells (Err e) v x cat lawful only sync means;
+  nothing = λ told none. record { held = sync.held; moments = sync_only tells (Err e) v x lawful sync };
 }
 
 -- what follows the sync
@@ -93,6 +100,13 @@ module _ {E : Type 0} (tells : Bool) (v x w : Device) (lawful : Lawful tells v) 
   start_at_rest : Only v.held v.images → (cat : Catalogue) → MeansCatalogue v.held cat → (MeansCatalogue x.held cat → LeavesOnly x w (StillMeans cat x)) → LeavesOnly v w (StillMeans cat v)
   start_at_rest only cat means moments = then_on v x w (StillMeans cat v) (sync_means tells (Ok tt) v x cat lawful only sync means) (open_moments cat means moments)
 
+  as_it_was : OnlyReads tells x w → LeavesAsItWas v w
+  as_it_was reads = record {
+    held = reads.held ∙ sync.held;
+    moments = then_on v x w (λ image said. v.images image × (said ≡ v.said)) (sync_only tells (Ok tt) v x lawful sync)
+        (leaves_map x w (λ image said. x.images image × (said ≡ x.said)) (λ image said. v.images image × (said ≡ v.said)) (λ image said now. (sync.crash image now.0, now.1 ∙ sync.call.said)) reads.moments);
+  }
+
   start_fault : (fault : SurveyFault) → StartFault tells fault x w → StartFault tells fault v w
   start_fault Failed cause = rose_on v.faults x.faults w.faults sync.call.faults cause
   start_fault (NotAStore page) cause = (λ told cat means. cause.0 told cat (same_bytes v.held x.held cat (sym sync.held) means), cause.1 ∙ sync.held, λ image now. sync.crash image (cause.2 image now))
@@ -107,6 +121,7 @@ module _ {E : Type 0} (tells : Bool) (v x w : Device) (lawful : Lawful tells v) 
     synced = λ told. omega (arith, sync.syncs told, opened.others.syncs told);
     moments = λ told cat means. start_moments told cat means opened.others (opened.moments told cat);
     at_rest = λ told only cat means. start_at_rest only cat means (opened.moments told cat);
+    nothing = λ told none. as_it_was (opened.nothing told (subst MeansNothing (sym sync.held) none));
   }
   synced_started (Err fault) opened = record {
     ready = tt;
@@ -116,4 +131,5 @@ module _ {E : Type 0} (tells : Bool) (v x w : Device) (lawful : Lawful tells v) 
     synced = tt;
     moments = λ told cat means. start_moments told cat means opened.others (opened.moments told cat);
     at_rest = λ told only cat means. start_at_rest only cat means (opened.moments told cat);
+    nothing = λ told none. as_it_was (opened.nothing told (subst MeansNothing (sym sync.held) none));
   }

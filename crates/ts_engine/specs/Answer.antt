@@ -139,6 +139,11 @@ create_irregular key container cat = do
   room ← within_limit (limit kinds.Series) cat.series
   Ok (ok_line, record cat { series = insert cat.series key (record { container = container; elements = empty }) })
 
+unfoldable pub drop_series : List ℕ → Catalogue → Tried Answered
+drop_series key cat = do
+  series ← wanted key cat.series
+  Ok (ok_line, record cat { series = remove cat.series key })
+
 unfoldable pub list_series : List ℕ → Catalogue → Tried Answered
 list_series container cat = do
   there ← wanted container cat.containers
@@ -171,6 +176,7 @@ carried_out (commands.TSContainerCreate name row_type quota) cat = create_contai
 carried_out (commands.TSContainerDestroy name) cat = destroy_container name cat
 carried_out (commands.TSContainerUsage name) cat = container_usage name cat
 carried_out (commands.TSCreateIrr key container) cat = create_irregular key container cat
+carried_out (commands.DropSeries key) cat = drop_series key cat
 carried_out (commands.ListSeries container) cat = list_series container cat
 carried_out (commands.InsElem key stamp literals) cat = insert_element key stamp literals cat
 carried_out (commands.GetElem key stamp) cat = get_element key stamp cat

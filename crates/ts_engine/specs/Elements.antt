@@ -5,9 +5,9 @@ use Rattle.ts_base.specs.declared.refusal.Refusal.{Refusal}
 use Rattle.ts_base.specs.declared.refusal.Refusal.TheVariants.{ContainerFull}
 use Rattle.ts_base.specs.declared.fault.Trouble.{Trouble}
 use Rattle.ts_command.specs.declared.command.Command.{Command}
-use Rattle.ts_disk.specs.Device.{Device, LeavesOnly}
+use Rattle.ts_disk.specs.Device.{Device}
 use Rattle.ts_page.specs.Pages.{Contents}
-use Rattle.ts_journal.specs.Moment.{Keeps}
+use Rattle.ts_journal.specs.Moment.{OnlyReads}
 use Rattle.ts_row.specs.declared.value.Literal.{Literal}
 use Rattle.ts_row.specs.RowType.{Heading}
 use Rattle.ts_row.specs.Row.{Values, fits, row_of, IsRowTrouble}
@@ -95,8 +95,7 @@ pub record Looked (tells : Bool) (slot : ℕ) (stamp : ℤ) (result : Result Boo
   pub unspent : OnOk result (f.spent ≡ None)
   pub found : IfOk result (λ there. IsThere tells slot stamp there e v)
   pub fault : IfErr result (λ fault. ChangeFault tells fault e.store f.store f.spent v w)
-  pub moments : IsTrue tells → LeavesOnly v w (λ image said. v.images image × (said ≡ v.said))
-  pub others : Keeps tells v w
+  pub reads : OnlyReads tells v w
 
 -- all that a look at the page of a series asks for
 pub record CanRead (slot : ℕ) (d : Definitions) (space : Directory) (c : Contents) : Type 0 where

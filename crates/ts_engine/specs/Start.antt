@@ -1,7 +1,7 @@
 -- What the opening of a volume does.
 use Rattle.std.specs.Prelude.{◌≡◌, ◌<◌, Bool, IsTrue, Result, IfOk, OnOk, IfErr, List, ℕ}
 use Rattle.ts_disk.specs.Device.{Device, Only, Rose, FirstSync, LeavesOnly, Within}
-use Rattle.ts_journal.specs.Moment.{Keeps}
+use Rattle.ts_journal.specs.Moment.{Keeps, OnlyReads}
 use Rattle.ts_recover.specs.declared.replay.RecoverFault.{RecoverFault}
 use Rattle.ts_recover.specs.declared.replay.RecoverFault.TheVariants as journal
 use Rattle.ts_model.specs.Catalogue.{Catalogue}
@@ -34,6 +34,11 @@ read_as journal.Failed = Failed
 read_as (journal.NotAStore page) = NotAStore page
 read_as (journal.Memory error) = Memory error
 
+-- nothing was written: the bytes stay, and each moment has an image of the entry and nothing said
+pub record LeavesAsItWas (v w : Device) : Type 0 where
+  pub held : w.held ≡ v.held
+  pub moments : LeavesOnly v w (λ image said. v.images image × (said ≡ v.said))
+
 -- a volume of which nothing is pending is opened, or not
 pub record Opened (tells : Bool) (result : Result Engine SurveyFault) (v w : Device) : Type 0 where
   pub ready : IfOk result (λ e. IsReady tells e w)
@@ -41,6 +46,7 @@ pub record Opened (tells : Bool) (result : Result Engine SurveyFault) (v w : Dev
   pub fault : IfErr result (λ fault. StartFault tells fault v w)
   pub others : Keeps tells v w
   pub moments : IsTrue tells → (cat : Catalogue) → MeansCatalogue v.held cat → LeavesOnly v w (StillMeans cat v)
+  pub nothing : IsTrue tells → MeansNothing v.held → OnlyReads tells v w
 
 -- A volume is opened, or not.
 pub record Started (tells : Bool) (result : Result Engine SurveyFault) (v w : Device) : Type 0 where
@@ -55,3 +61,5 @@ pub record Started (tells : Bool) (result : Result Engine SurveyFault) (v w : De
   pub moments : IsTrue tells → (cat : Catalogue) → MeansCatalogue v.held cat → FirstSync v w (StillMeans cat v)
   -- where nothing is pending at the entry, each moment means that
   pub at_rest : IsTrue tells → Only v.held v.images → (cat : Catalogue) → MeansCatalogue v.held cat → LeavesOnly v w (StillMeans cat v)
+  -- where it means no catalogue, it is left as it was
+  pub nothing : IsTrue tells → MeansNothing v.held → LeavesAsItWas v w

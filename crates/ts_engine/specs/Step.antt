@@ -46,8 +46,10 @@ pub record Stepped (tells : Bool) (command : Command) (result : Result Unit Step
   -- the reply is that of the catalogue, and the engine stands at the catalogue after it
   pub answered : OnOk result (IsTrue tells → (cat : Catalogue) → IsAt tells e cat v
       → (out ≡ (answer cat (Ok command)).0) × IsAt tells f (answer cat (Ok command)).1 w)
-  -- a command that is refused and one that only reads leave the volume and the engine as they were
-  pub unchanged : OnOk result (IsTrue tells → (cat : Catalogue) → IsAt tells e cat v → ChangesNothing cat command → IsUntouched tells e f v w)
+  -- a command that is refused and one that only reads leave the volume as it was, whatever the call answers
+  pub reads : IsTrue tells → (cat : Catalogue) → IsAt tells e cat v → ChangesNothing cat command → OnlyReads tells v w
+  -- and, where there is a reply, the engine
+  pub unchanged : OnOk result (IsTrue tells → (cat : Catalogue) → IsAt tells e cat v → ChangesNothing cat command → IsSame e f)
   pub fault : IfErr result (λ fault. StepFaulted tells fault e f v w)
   pub empty : IsErr result → out ≡ []
   pub moments : IsTrue tells → (cat : Catalogue) → IsAt tells e cat v → LeavesOnly v w (BeforeOrAfter cat command v)

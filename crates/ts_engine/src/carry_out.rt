@@ -42,6 +42,7 @@ impl Engine {
             Command::TSCreateIrr { key, container } => {
                 self.create_irregular(vol, key, container, out)
             }
+            Command::DropSeries { key } => self.drop_series(vol, key, out),
             Command::ListSeries { container } => self.list_series(vol, container, out),
             Command::InsElem { key, stamp, values } => {
                 self.insert_element(vol, key, *stamp, values, out)

@@ -191,7 +191,7 @@ impl Engine {
     }
 
     // Writes a slot in the open batch.
-    fn put_slot<V: Volume>(
+    pub(crate) fn put_slot<V: Volume>(
         &mut self,
         vol: &mut V,
         kind: Kind,

@@ -3,7 +3,7 @@ use Rattle.std.proofs.Common.{◌≡◌, ◌⊎◌, inl, inr, ⊎_elim, ℕ, ◌
 use Rattle.std.proofs.lemmas.List.{append-nil}
 use Rattle.ts_disk.specs.Device.{Device, Lawful, Within, Rose, FirstSync, LeavesOnly}
 use Rattle.ts_disk.specs.Input.{Input}
-use Rattle.ts_disk.proofs.Moments.{first_map}
+use Rattle.ts_disk.proofs.Moments.{first_map, started as moments_now}
 use Rattle.ts_command.specs.Script.{Request}
 use Rattle.ts_replies.proofs.Steps.{none_good}
 use Rattle.ts_model.specs.Catalogue.{Catalogue}
@@ -13,7 +13,7 @@ use Rattle.ts_engine.specs.declared.engine.Engine.{Engine}
 use Rattle.ts_engine.specs.Answer.{answer, may_lack_memory}
 use Rattle.ts_engine.specs.Volume.{MeansCatalogue, MeansNothing}
 use Rattle.ts_engine.specs.Engine.{IsAt}
-use Rattle.ts_engine.specs.Start.{Started, StillMeans}
+use Rattle.ts_engine.specs.Start.{LeavesAsItWas, Started, StillMeans}
 use Rattle.ts_engine.proofs.ApartLemmas.{apart}
 use Rattle.ts_shell.specs.Run.{IsGoodRun, SaysFairly}
 use Rattle.ts_shell.specs.Top.{Untouched, Took, TookEnough, asked_of, OpenedRan, RanFrom, ScriptRan, AllDone}
@@ -69,9 +69,15 @@ first_now tells v P lawful = record {
   from = λ rose. absurd (omega arith);
 }
 
+left_now : (tells : Bool) (v : Device) → Lawful tells v → LeavesAsItWas v v
+left_now tells v lawful = record {
+  held = refl;
+  moments = moments_now tells v (λ image said. v.images image × (said ≡ v.said)) lawful (λ image now. (now, refl));
+}
+
 -- The run ends before the script is pulled, with nothing said.
 module _ (tells told : Bool) (v w : Device) (i : Input) (said : w.said ≡ v.said) (size : w.size ≡ v.size) (faults : v.faults ≤ w.faults) (say_faults : w.say_faults ≡ v.say_faults)
-    (first : IsTrue tells → (cat : Catalogue) → MeansCatalogue v.held cat → (asked : List Request) → FirstSync v w (IsGoodRun cat asked v.said)) where
+    (first : IsTrue tells → (cat : Catalogue) → MeansCatalogue v.held cat → (asked : List Request) → FirstSync v w (IsGoodRun cat asked v.said)) (left : IsTrue tells → MeansNothing v.held → LeavesAsItWas v w) where
   unpulled : (status : ℕ) → (status ≡ 5) ⊎ ((status ≡ 6) ⊎ (status ≡ 7)) → (status ≡ 5 → Rose v.faults w.faults) → (status ≡ 6 → IsTrue tells → MeansNothing v.held) → ((status ≡ 6) ⊎ (status ≡ 7) → (w.held ≡ v.held) × Within v.images w.images) → ScriptRan tells told status v w i i
   unpulled status which disk no_store unwritten = record {
     fair = λ t s cat means. ran_from cat status v w i i means (nothing_taken status i) (silent cat (asked_of false []) v w said) (first t cat means (asked_of false []));
@@ -82,6 +88,7 @@ module _ (tells told : Bool) (v w : Device) (i : Input) (said : w.said ≡ v.sai
     disk = disk;
     no_store = no_store;
     not_a_store = λ t none. which;
+    left = left;
     too_long = λ eight. absurd (other_eight eight which);
     short = λ s. inr (taken_enough i);
     quiet = λ is. said;
@@ -114,7 +121,7 @@ module _ (tells told : Bool) (v w : Device) (i : Input) (said : w.said ≡ v.sai
 -- want of memory for the buffers: nothing is done
 pub unbuffered : (tells told : Bool) (v : Device) (i : Input) → Lawful tells v → ScriptRan tells told 7 v v i i
 unbuffered tells told v i lawful =
-    unpulled tells told v v i refl refl (omega arith) refl (λ t cat means asked. first_now tells v (IsGoodRun cat asked v.said) lawful) 7 (inr (inr refl)) (λ five. absurd (omega arith)) (λ six. absurd (omega arith)) (λ which. (refl, λ image now. now))
+    unpulled tells told v v i refl refl (omega arith) refl (λ t cat means asked. first_now tells v (IsGoodRun cat asked v.said) lawful) (λ t none. left_now tells v lawful) 7 (inr (inr refl)) (λ five. absurd (omega arith)) (λ six. absurd (omega arith)) (λ which. (refl, λ image now. now))
 
 -- the opening, from its first sync on
 opening : (tells : Bool) (r : Result Engine SurveyFault) (v y : Device) → Started tells r v y → IsTrue tells → (cat : Catalogue) → MeansCatalogue v.held cat → (asked : List Request) → FirstSync v y (IsGoodRun cat asked v.said)
@@ -124,7 +131,7 @@ opening tells r v y started told cat means asked =
 -- the volume was not opened
 module _ (tells told : Bool) (r : Result Engine SurveyFault) (v y : Device) (i : Input) (started : Started tells r v y) where
   ended : (status : ℕ) → (status ≡ 5) ⊎ ((status ≡ 6) ⊎ (status ≡ 7)) → (status ≡ 5 → Rose v.faults y.faults) → (status ≡ 6 → IsTrue tells → MeansNothing v.held) → ((status ≡ 6) ⊎ (status ≡ 7) → (y.held ≡ v.held) × Within v.images y.images) → ScriptRan tells told status v y i i
-  ended = unpulled tells told v y i started.others.said started.others.size started.others.faults started.others.say_faults (opening tells r v y started)
+  ended = unpulled tells told v y i started.others.said started.others.size started.others.faults started.others.say_faults (opening tells r v y started) started.nothing
 
   pub disk_failed : r ≡ Err faults.Failed → ScriptRan tells told 5 v y i i
   disk_failed is =
@@ -185,6 +192,7 @@ module _ (tells told : Bool) (engine : Engine) (v y w : Device) (i j : Input) (s
     disk = λ five. rose_on v.faults y.faults w.faults started.others.faults (ran.disk five);
     no_store = λ six. absurd (not_six six ran.statuses);
     not_a_store = λ t none. let cat = started.at t in absurd (none cat.0 cat.1);
+    left = λ t none. let cat = started.at t in absurd (none cat.0 cat.1);
     too_long = ran.too_long;
     short = ran.short;
     quiet = λ which. absurd (neither which);

@@ -8,6 +8,7 @@ use Rattle.ts_model.specs.Catalogue.{Catalogue, empty_catalogue}
 use Rattle.ts_engine.specs.Answer.{answer, may_lack_memory}
 use Rattle.ts_engine.specs.Volume.{MeansCatalogue, MeansNothing}
 use Rattle.ts_engine.specs.Engine.{Kept, IsAt}
+use Rattle.ts_engine.specs.Start.{LeavesAsItWas}
 use Rattle.ts_shell.specs.declared.fault.RunFault.{RunFault}
 use Rattle.ts_shell.specs.declared.fault.RunFault.TheVariants.{Disk, Output}
 use Rattle.ts_shell.specs.Making.{EmptyFrom}
@@ -146,6 +147,8 @@ pub record ScriptRan (tells told : Bool) (status : ℕ) (v w : Device) (i j : In
   -- 6 comes exactly where the volume means no catalogue, but for a fault or want of memory that came first
   pub no_store : status ≡ 6 → IsTrue tells → MeansNothing v.held
   pub not_a_store : IsTrue tells → MeansNothing v.held → (status ≡ 5) ⊎ ((status ≡ 6) ⊎ (status ≡ 7))
+  -- and then it is left as it was
+  pub left : IsTrue tells → MeansNothing v.held → LeavesAsItWas v w
   -- 8 comes exactly where a pull gave bytes past the first 268435456
   pub too_long : status ≡ 8 → IsTrue told → TookTooMuch i j
   pub short : IsTrue told → (status ≡ 8) ⊎ TookEnough i j

@@ -93,10 +93,11 @@ fn init_makes_a_store_once(rt: HostRuntime) -> Result<(), Fail> {
     let alloc = rt.alloc();
     let mut site = MemorySite::new(Vec::new(alloc))?;
     let mut source = MemorySource::new(Vec::new(alloc), 1);
-    let words = words(alloc, &["init", "08"])?;
-    assert_eq!(rt; run_ts(&rt, alloc, &words, &mut site, &mut source), 0);
+    let eight = words(alloc, &["init", "8"])?;
+    assert_eq!(rt; run_ts(&rt, alloc, &eight, &mut site, &mut source), 0);
     assert_eq!(rt; site.len(), 3_842_048);
-    assert_eq!(rt; run_ts(&rt, alloc, &words, &mut site, &mut source), 10);
+    let again = words(alloc, &["init", "08"])?;
+    assert_eq!(rt; run_ts(&rt, alloc, &again, &mut site, &mut source), 10);
     assert_eq!(rt; run(&rt, alloc, &mut site, b"")?, 0);
     assert_eq!(rt; site.said(), b"".as_slice());
     let mut nothing = MemorySite::new(Vec::new(alloc))?;
@@ -199,7 +200,7 @@ fn what_follows_a_statement_that_is_too_long_is_carried_out(rt: HostRuntime) -> 
         replies(
             &rt,
             rt.alloc(),
-            "1",
+            "8",
             &script,
             b"error 2 TooLong\nerror 10 UnknownName\n",
         )?
@@ -255,27 +256,150 @@ fn quotas_keep_to_the_element_pages(rt: HostRuntime) -> Result<(), Fail> {
     Ok(())
 }
 
-// Puts a statement that makes the row type of that number to the end.
-fn push_row_type(script: &mut Vec<u8>, number: u8) -> Result<(), AllocError> {
-    script.extend_from_slice(b"CreateRowType(r")?;
-    script.push(b'0' + number / 10 % 10)?;
-    script.push(b'0' + number % 10)?;
-    script.extend_from_slice(b", t datetime, v integer);")
+/// A row type of three texts and a container of it, by their bytes in their slots.
+const TEXTS: [(u64, &[u8]); 7] = [
+    (257 * 4096, b"\x01\x04wide"),
+    (257 * 4096 + 34, b"\x01t"),
+    (257 * 4096 + 67, b"\x03\x05\xff\0\x01p"),
+    (257 * 4096 + 104, b"\x05\xff\0\x01q"),
+    (257 * 4096 + 140, b"\x05\xff\0\x01r"),
+    (833 * 4096, b"\x01\x02c1"),
+    (833 * 4096 + 38, b"\x08"),
+];
+
+// Definitions made by hand: without a series, and with one of texts.
+#[test]
+fn a_number_misfits_a_series_of_texts(rt: HostRuntime) -> Result<(), Fail> {
+    let script = b"InsElem('x','2011-01-03 00:00:00',1);";
+    let mut site = volume(&rt, rt.alloc(), "8")?;
+    for (at, bytes) in TEXTS {
+        assert!(rt; damage(&mut site, at, bytes));
+    }
+    assert_eq!(rt; run(&rt, rt.alloc(), &mut site, script)?, 0);
+    assert!(rt; damage(&mut site, 834 * 4096, b"\x02\x01x"));
+    assert_eq!(rt; run(&rt, rt.alloc(), &mut site, script)?, 0);
+    assert_eq!(rt;
+        site.said(),
+        b"error 10 UnknownName\nerror 26 RowMismatch\n".as_slice()
+    );
+    Ok(())
 }
 
+// The volume has one element page, which goes from one series to the next.
 #[test]
-fn there_are_64_row_types_at_most(rt: HostRuntime) -> Result<(), Fail> {
-    let alloc = rt.alloc();
-    let mut script: Vec<u8> = Vec::new(alloc);
+fn a_series_is_dropped_with_its_page(rt: HostRuntime) -> Result<(), Fail> {
+    assert!(rt;
+        replies(
+            &rt,
+            rt.alloc(),
+            "1",
+            b"CreateRowType(rd, t datetime, v integer);TSContainerCreate(c1, rd, 1);TSCreateIrr('x', c1);TSCreateIrr('y', c1);\
+              InsElem('x','2011-01-03 00:00:00',1);InsElem('y','2011-01-04 00:00:00',2);DropSeries('x');GetNelems('x');\
+              DropSeries('x');InsElem('y','2011-01-04 00:00:00',2);TSContainerUsage(c1);DropSeries('y');ListSeries(c1);\
+              TSContainerUsage(c1);TSContainerDestroy(c1);",
+            b"ok\nok\nok\nok\nok 2011-01-03 00:00:00.00000\nerror 30 ContainerFull\nok\nerror 10 UnknownName\n\
+              error 10 UnknownName\nok 2011-01-04 00:00:00.00000\nok 1 1\nok\nok 0\nok 0 1\nok\n",
+        )?
+    );
+    Ok(())
+}
+
+// Puts a statement with a number of two digits to the end.
+fn push_numbered(
+    script: &mut Vec<u8>,
+    front: &[u8],
+    number: u8,
+    back: &[u8],
+) -> Result<(), AllocError> {
+    script.extend_from_slice(front)?;
+    script.push(b'0' + number / 10 % 10)?;
+    script.push(b'0' + number % 10)?;
+    script.extend_from_slice(back)
+}
+
+// Whether the 65th of so many such statements is refused on a volume of 65 element pages, behind a beginning.
+fn are_64_at_most(
+    rt: &(impl Threads + Sync),
+    alloc: Global,
+    beginning: &[u8],
+    front: &[u8],
+    back: &[u8],
+) -> Result<bool, Fail> {
+    let mut script = Vec::from_slice(alloc, beginning)?;
     let mut said: Vec<u8> = Vec::new(alloc);
+    if !beginning.is_empty() {
+        said.extend_from_slice(b"ok\n")?;
+    }
     for number in 0..65u8 {
-        push_row_type(&mut script, number)?;
+        push_numbered(&mut script, front, number, back)?;
         if number < 64 {
             said.extend_from_slice(b"ok\n")?;
         }
     }
     said.extend_from_slice(b"error 33 TooMany\n")?;
-    assert!(rt; replies(&rt, alloc, "1", &script, &said)?);
+    replies(rt, alloc, "65", &script, &said)
+}
+
+#[test]
+fn there_are_64_row_types_at_most(rt: HostRuntime) -> Result<(), Fail> {
+    assert!(rt;
+        are_64_at_most(
+            &rt,
+            rt.alloc(),
+            b"",
+            b"CreateRowType(r",
+            b", t datetime, v integer);"
+        )?
+    );
+    Ok(())
+}
+
+#[test]
+fn there_are_64_containers_at_most(rt: HostRuntime) -> Result<(), Fail> {
+    assert!(rt;
+        are_64_at_most(
+            &rt,
+            rt.alloc(),
+            b"CreateRowType(rd, t datetime, v integer);",
+            b"TSContainerCreate(c",
+            b", rd, 1);"
+        )?
+    );
+    Ok(())
+}
+
+#[test]
+fn names_that_nothing_has_are_unknown(rt: HostRuntime) -> Result<(), Fail> {
+    assert!(rt;
+        replies(
+            &rt,
+            rt.alloc(),
+            "8",
+            b"DropRowType(n);TSContainerCreate(c, n, 1);TSContainerDestroy(n);TSContainerUsage(n);TSCreateIrr('k', n);\
+              DropSeries('n');ListSeries(n);InsElem('n','2011-01-03 00:00:00',1);GetElem('n','2011-01-03 00:00:00');\
+              GetNelems('n');",
+            b"error 10 UnknownName\nerror 10 UnknownName\nerror 10 UnknownName\nerror 10 UnknownName\n\
+              error 10 UnknownName\nerror 10 UnknownName\nerror 10 UnknownName\nerror 10 UnknownName\n\
+              error 10 UnknownName\nerror 10 UnknownName\n",
+        )?
+    );
+    Ok(())
+}
+
+// Where two refusals hold, the one that is tried first is said.
+#[test]
+fn refusals_are_tried_in_their_order(rt: HostRuntime) -> Result<(), Fail> {
+    assert!(rt;
+        replies_behind(
+            &rt,
+            rt.alloc(),
+            b"CreateRowType(rd, t datetime, t integer);CreateRowType(rd, t datetime, v integer);\
+              TSContainerCreate(c1, n, 1);TSContainerCreate(c1, rd, 9);TSContainerCreate(c2, rd, 1);\
+              TSCreateIrr('x', n);TSCreateIrr('x', c1);TSContainerDestroy(c1);DropRowType(rd);",
+            b"error 12 BadRowType\nerror 11 NameTaken\nerror 10 UnknownName\nerror 11 NameTaken\nerror 31 VolumeFull\n\
+              error 10 UnknownName\nerror 11 NameTaken\nerror 32 InUse\nerror 32 InUse\n",
+        )?
+    );
     Ok(())
 }
 
@@ -493,6 +617,66 @@ fn stops_after_one(rt: &(impl Threads + Sync), alloc: Global, pick: Pick) -> Res
     )?;
     let bytes = bytes_of(alloc, &mut site)?;
     stops(rt, alloc, &bytes, 1, reads(rt, alloc, "8")?, pick)
+}
+
+// Whether a volume holds a series with its element or, where it can be gone, neither.
+fn holds_or_lacks(
+    rt: &(impl Threads + Sync),
+    alloc: Global,
+    bytes: Vec<u8>,
+    must_lack: bool,
+) -> Result<bool, Fail> {
+    let mut site = MemorySite::new(bytes)?;
+    let script = b"GetElem('x','2011-01-03 00:00:00');ListSeries(c1);";
+    if run(rt, alloc, &mut site, script)? != 0 {
+        return Ok(false);
+    }
+    let holds =
+        site.said() == b"2011-01-03 00:00:00.00000 1\nok 1\n'x' irregular 1\n'y' irregular 0\nok 2\n".as_slice();
+    let lacks = site.said() == b"error 10 UnknownName\n'y' irregular 0\nok 1\n".as_slice();
+    Ok(lacks || holds && !must_lack)
+}
+
+// Runs that drop a series, each stopped at the call of one number. The calls from 1 on, so many, only read.
+fn stops_in_a_drop(
+    rt: &(impl Threads + Sync),
+    alloc: Global,
+    bytes: &[u8],
+    reads: u64,
+    pick: Pick,
+) -> Result<bool, Fail> {
+    for call in 0..reads.saturating_add(100) {
+        if 1 <= call && call <= reads {
+            continue;
+        }
+        let mut site = MemorySite::new(Vec::from_slice(alloc, bytes)?)?;
+        site.fuse(call);
+        run(rt, alloc, &mut site, b"DropSeries('x');")?;
+        let said = site.said() == b"ok\n".as_slice();
+        if site.calls() <= call {
+            return Ok(call > reads.saturating_add(2) && said);
+        }
+        if !holds_or_lacks(rt, alloc, site.image(call, pick)?, said)? {
+            return Ok(false);
+        }
+    }
+    Ok(false)
+}
+
+#[test]
+fn a_stop_in_a_drop_leaves_half_of_each_write(rt: HostRuntime) -> Result<(), Fail> {
+    let mut site = volume(&rt, rt.alloc(), "8")?;
+    run(&rt, rt.alloc(), &mut site, BASE)?;
+    run(
+        &rt,
+        rt.alloc(),
+        &mut site,
+        b"InsElem('x','2011-01-03 00:00:00',1);",
+    )?;
+    let bytes = bytes_of(rt.alloc(), &mut site)?;
+    let opening = reads(&rt, rt.alloc(), "8")?;
+    assert!(rt; stops_in_a_drop(&rt, rt.alloc(), &bytes, opening, Pick::Half)?);
+    Ok(())
 }
 
 #[test]

@@ -1,5 +1,6 @@
 use Rattle.std.proofs.Common.{refl}
-use Rattle.ts_engine.proofs.OpenLemmas.{admitted, settle_moments, settled_opened, unsettled}
+use Rattle.ts_container.specs.Meaning.{catalogue_of}
+use Rattle.ts_engine.proofs.OpenLemmas.{admitted, means_found, settle_moments, settled_opened, unsettled}
 use Rattle.ts_engine.proofs.open.settle.Goals as goal
 
 pub settle-requires-clause-over : goal.settle-requires-clause-over
@@ -25,5 +26,9 @@ returns-in-Err g c =
     record {
       opened = unsettled tells v w (c.in-Err.ensures.cause refl) c.settle.ensures.others
           (settle_moments tells c.args.store c.admit.new.self v c.args.surveyed.defs.definitions c.args.surveyed.space c.args.surveyed.free.items c.requires.idle c.requires.found c.admit.ensures
-          (g.met.V.Volume.lawful c.args.vol.now) w c.settle.ensures.moments);
+          (g.met.V.Volume.lawful c.args.vol.now) w c.settle.ensures.moments)
+          (λ told. (
+            catalogue_of c.requires.found.0,
+            means_found tells c.args.store c.admit.new.self v c.args.surveyed.defs.definitions c.args.surveyed.space c.args.surveyed.free.items c.requires.idle c.requires.found c.admit.ensures (g.met.V.Volume.lawful c.args.vol.now) told,
+          ));
     }

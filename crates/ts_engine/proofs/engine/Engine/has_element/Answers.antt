@@ -17,7 +17,6 @@ returns-in-Ok g c =
         unspent = ap (λ (x : Kept). x.spent) others ∙ c.requires.ready.unspent;
         found = finds_there g.V.Volume.tells c.args.self.now (g.V.Volume.device c.args.vol.now) c.args.slot c.args.stamp c.in-Ok.there c.requires.slot c.in-Ok.ensures.found;
         fault = tt;
-        moments = λ told. c.look.ensures.still.reads.moments;
-        others = c.look.ensures.still.reads.keeps;
+        reads = c.look.ensures.still.reads;
       };
     }
