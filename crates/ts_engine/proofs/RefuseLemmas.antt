@@ -1,5 +1,5 @@
 -- What is refused where an element is to be put.
-use Rattle.std.proofs.Common.{◌≡◌, inl, ⊎_elim, ℕ, Bool, true, false, ℤ, Option, Some, IsSome, Result, Ok, Err, IfErr, IsErrAnd, List, refl, ap, sym, ◌∙◌, subst}
+use Rattle.std.proofs.Common.{◌≡◌, inl, ⊎_elim, ℕ, Bool, true, false, ℤ, Option, Some, None, IsSome, Result, Ok, Err, IfErr, IsErrAnd, List, refl, ap, sym, ◌∙◌, subst}
 use Rattle.ts_base.specs.declared.refusal.Refusal.{Refusal}
 use Rattle.ts_base.specs.declared.refusal.Refusal.TheVariants as refusals
 use Rattle.ts_base.specs.declared.fault.Trouble.{Trouble}
@@ -37,15 +37,23 @@ series_kept key slot e l kept named = series_in_slot l key slot kept.rules (subs
 columns_kept : (key : List ℕ) (slot : ℕ) (e : Kept) (l : Layout) (kept : IsKeptOf e l) (on : SeriesIn l key slot) → heading_at e.tables.definitions slot ≡ Some on.h
 columns_kept key slot e l kept on = ap (λ (d : Definitions). heading_at d slot) kept.definitions ∙ on.columns
 
+-- none isn't some
+pub not_some : {A : Type 0} (o : Option A) → o ≡ None → IsSome o → ⊥
+not_some None none some = absurd (cc)
+not_some (Some a) none some = cc
+
+-- a series that is found has columns
+pub defined_named : (key : List ℕ) (slot : ℕ) (e : Kept) (l : Layout) → IsKeptOf e l → IsSlotNamed kinds.Series slot key e.tables.definitions → IsSome (heading_at e.tables.definitions slot)
+defined_named key slot e l kept named = subst (λ (o : Option Heading). IsSome o) (sym (columns_kept key slot e l kept (series_kept key slot e l kept named))) refl
+
 -- the row is one for the series
 pub row_for : (tells : Bool) (key : List ℕ) (literals : List Literal) (slot : ℕ) (row : Values) (e : Kept) (v : Device) → IsReady tells e v → HasRow key literals slot row e.tables.definitions → IsRowFor slot row e.tables.definitions
 row_for tells key literals slot row e v ready has =
     let l = ready.keeps.0 in
     let kept = ready.keeps.1 in
-    let on = series_kept key slot e l kept has.named in
     record {
       within = has.named.within;
-      defined = subst (λ (o : Option Heading). IsSome o) (sym (columns_kept key slot e l kept on)) refl;
+      defined = defined_named key slot e l kept has.named;
       fits = λ h columns. (has.gives h columns).1;
     }
 

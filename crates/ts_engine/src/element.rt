@@ -1,5 +1,5 @@
 // The routine that reads one element.
-ghost use Rattle.std.specs.Prelude.{◌≡◌, ◌<◌, ◌++◌, [], IsTrue, IsErrOf, IfOk, IfSome, OnOk, None, List, ℕ, Ok, map, option_to_list};
+ghost use Rattle.std.specs.Prelude.{◌≡◌, ◌<◌, ◌++◌, [], IsTrue, IsErrOf, IsSome, IfOk, IfSome, OnOk, None, List, ℕ, Ok, map, option_to_list};
 ghost use Rattle.ts_base.specs.declared.fault.StoreFault.TheVariants.{Failed as StoreFailed};
 ghost use Rattle.ts_command.specs.declared.command.Command.TheVariants.{GetElem};
 ghost use Rattle.ts_disk.specs.Device.{Rose};
@@ -9,6 +9,7 @@ ghost use Rattle.ts_store.specs.OpenBatch.{IsOver, IsIdle, contents_over};
 ghost use Rattle.ts_store.specs.Undisturbed.{Undisturbed};
 ghost use Rattle.ts_irregular.specs.OnePage.{HasOnePage};
 ghost use Rattle.ts_irregular.specs.Call.{IsFound};
+ghost use Rattle.ts_container.specs.Meaning.{heading_at};
 ghost use Rattle.ts_engine.specs.Reply.{elements_text};
 ghost use Rattle.ts_engine.specs.Engine.{IsReady};
 ghost use Rattle.ts_engine.specs.Step.{Stepped};
@@ -66,15 +67,15 @@ impl Engine {
     ) -> Result<(), StoreFault>
         requires ready { IsReady V.tells self.old (V.device vol.old) }
         requires slot { slot < 4096 }
+        requires defined { IsSome (heading_at self.old.tables.definitions slot) }
         requires empty { out.old ≡ [] }
         ensures said { OnOk result (IsElementReply V.tells self.old (V.device vol.old).held slot stamp out.new) }
         ensures cause { IsErrOf result StoreFailed → Rose (V.device vol.old).faults (V.device vol.new).faults }
         ensures still { IsStill V.tells self.old.store self.new.store (V.device vol.old) (V.device vol.new) }
         ensures others { self.new ≡ record self.old { store = self.new.store } }
     {
-        // Each series has a row type.
         let Some(kind) = row_type_of(&self.defs, slot) else {
-            return Err(StoreFault::Memory(AllocError));
+            unreachable!()
         };
         let row = read_row(&mut self.store, vol, &self.space, kind, slot, stamp)?;
         say_row(self.alloc, out, kind, stamp, row)?;

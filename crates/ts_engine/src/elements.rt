@@ -85,7 +85,7 @@ impl Engine {
         let wanted = key.as_slice();
         let slot = self.slot_named(Kind::Series, wanted)?;
         let Some(kind) = row_type_of(&self.defs, slot) else {
-            return Err(Trouble::Refused(Refusal::UnknownName));
+            unreachable!()
         };
         let row = kind.row_of(values.as_slice())?;
         Ok((slot, row))
@@ -295,7 +295,7 @@ fn look_on<V: Volume>(
     ensures still { IsStill V.tells store.old store.new (V.device vol.old) (V.device vol.new) }
 {
     let Some(kind) = row_type_of(defs, slot) else {
-        return Ok(false);
+        unreachable!()
     };
     let found = read_row(store, vol, space, kind, slot, stamp)?;
     Ok(found.is_some())
@@ -322,7 +322,7 @@ fn edit_on<V: Volume>(
     ensures undisturbed { Undisturbed V.tells store.old store.new (V.device vol.old) (V.device vol.new) }
 {
     let Some(kind) = row_type_of(defs, slot) else {
-        return Ok(());
+        unreachable!()
     };
     set_on(store, space, vol, kind, slot, stamp, row)
 }

@@ -29,4 +29,3 @@ pub use laws::{
     a_refused_request_changes_nothing, lines_are_printed_so, reading_changes_nothing,
     replies_and_the_memory_line_are_apart,
 };
-pub use say::write_refusal;

@@ -25,10 +25,3 @@ pub(crate) fn say_refusal(out: &mut Reply, refusal: &Refusal) -> Result<(), Allo
     out.extend_from_slice(refusal.name())?;
     out.extend_from_slice(b"\n")
 }
-
-/// Says why a statement is refused that is no command.
-pub fn write_refusal(refusal: &Refusal, out: &mut Reply) -> Result<(), AllocError>
-    ensures { OnOk result (out.new ≡ out.old ++ refusal_line refusal.now) }
-{
-    say_refusal(out, refusal)
-}

@@ -8,6 +8,7 @@ use Rattle.ts_engine.specs.Reading.{IsReply}
 use Rattle.ts_engine.proofs.StepLemmas.{by_memory, still_none, stepped_still, stepped_memory}
 use Rattle.ts_engine.proofs.SaidLemmas.{found}
 use Rattle.ts_engine.proofs.ReadStepLemmas.{stepped_reading, stepped_disk}
+use Rattle.ts_engine.proofs.RefuseLemmas.{defined_named}
 use Rattle.ts_engine.proofs.ElementReadLemmas.{element_refused}
 use Rattle.ts_engine.proofs.engine.Engine.get_element.Goals as goal
 
@@ -72,3 +73,10 @@ returns-in-Err-Memory g c =
       stepped = stepped_memory tells (commands.GetElem c.args.key.now c.args.stamp) e f v w (g.met.V.Volume.lawful c.args.vol.now) c.requires.ready c.in-Err-Memory.ensures.still (ap (λ (k : Kept). k.spent) others ∙ c.requires.ready.unspent)
           (ap (λ (k : Kept). k.tables.definitions) others) (ap (λ (k : Kept). k.space.lists) others) c.in-Err-Memory.error;
     }
+
+pub say_element_of-requires-clause-defined : goal.say_element_of-requires-clause-defined
+say_element_of-requires-clause-defined g c =
+    let e = c.args.self.now in
+    let key = c.args.key.now in
+    let is = found kinds.Series e.tables c.self.inside.defs key c.as_slice.result.now (Some c.in-Some.slot) (ap (λ (k : Kept). k.tables) c.self.view_is) c.as_slice.ensures.value c.in-Some.ensures.value in
+    defined_named key c.in-Some.slot e c.requires.ready.keeps.0 c.requires.ready.keeps.1 (record { within = c.in-Some.ensures.within; is = is })
