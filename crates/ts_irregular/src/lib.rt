@@ -12,6 +12,8 @@ mod page;
 mod search;
 mod see;
 mod set;
+#[cfg(test)]
+mod tests;
 
 pub use get::irregular_get;
 pub use laws::{an_edit_keeps_one_page, edits_are_those_of_a_map, edits_keep_the_order};
