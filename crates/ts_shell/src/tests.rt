@@ -631,8 +631,8 @@ fn holds_or_lacks(
     if run(rt, alloc, &mut site, script)? != 0 {
         return Ok(false);
     }
-    let holds =
-        site.said() == b"2011-01-03 00:00:00.00000 1\nok 1\n'x' irregular 1\n'y' irregular 0\nok 2\n".as_slice();
+    let holds = site.said()
+        == b"2011-01-03 00:00:00.00000 1\nok 1\n'x' irregular 1\n'y' irregular 0\nok 2\n".as_slice();
     let lacks = site.said() == b"error 10 UnknownName\n'y' irregular 0\nok 1\n".as_slice();
     Ok(lacks || holds && !must_lack)
 }
