@@ -22,6 +22,8 @@ mod say;
 mod say_values;
 mod series;
 mod slots;
+#[cfg(test)]
+mod tests;
 
 pub use engine::Engine;
 pub use fault::StepFault;
