@@ -14,7 +14,7 @@ use Rattle.ts_row.specs.Row.{Values}
 use Rattle.ts_cells.specs.Cell.{Element, IsElement, page_room}
 use Rattle.ts_cells.specs.IrregularPage.{AreInOrder, irregular_page}
 use Rattle.ts_irregular.specs.Edit.{element_at, with_element, without_element, edited, taken_for}
-use Rattle.ts_irregular.specs.OnePage.{place_of, IsPlace, HasOnePage, IsOn, IsTakenFor, IsSeen, AreSeen, HasRoom}
+use Rattle.ts_irregular.specs.OnePage.{place_of, IsPlace, HasOnePage, IsReadable, IsOn, IsTakenFor, IsSeen, AreSeen, HasRoom}
 use Rattle.ts_irregular.specs.Call.{IsFound, IsPagePut, IsPageFreed, AreKept, IsEdited}
 use Rattle.ts_irregular.proofs.EditLemmas.{with_in_order, without_in_order, length-without}
 
@@ -260,16 +260,29 @@ only_place columns v (p ∷ []) place first one =
     (ap (λ (q : Place). q ∷ []) same, subst (IsPlace columns v) same one)
 only_place columns v (p ∷ q ∷ places) place first one = absurd one
 
+pub readable_place : (v : Contents) (places : List Place) (place : Place) → ◌≡◌ {A = Option Place} (Some place) (slice_get places 0) → IsReadable v places → (places ≡ place ∷ []) × IsElementPage place.page × (place.page < v.count)
+readable_place v [] place first one = absurd (cc)
+readable_place v (p ∷ []) place first one =
+    let same : p ≡ place = cc in
+    let there = subst (λ (q : Place). IsElementPage q.page × (q.page < v.count)) same one in
+    (ap (λ (q : Place). q ∷ []) same, there.0, there.1)
+readable_place v (p ∷ q ∷ places) place first one = absurd one
+
+-- what can be edited can be read
+pub one_readable : (columns : List Column) (v : Contents) (places : List Place) → HasOnePage columns v places → IsReadable v places
+one_readable columns v [] one = tt
+one_readable columns v (p ∷ []) one = (one.element, one.below)
+one_readable columns v (p ∷ q ∷ places) one = absurd one
+
 pub no_place : (columns : List Column) (v : Contents) (places : List Place) → ◌≡◌ {A = Option Place} None (slice_get places 0) → places ≡ []
 no_place columns v [] first = refl
 no_place columns v (p ∷ places) first = absurd (cc)
 
 -- the elements that a read of the only page sees
-pub found_on : (tells : Bool) (slot count : ℕ) (columns : List Column) (stamp : ℤ) (places : List Place) (place : Place) (es : List Element) (bytes : List ℕ) (row : Option Values) (v u : Contents) → places ≡ place ∷ [] → IsPlace columns v place
+pub found_on : (tells : Bool) (slot count : ℕ) (columns : List Column) (stamp : ℤ) (places : List Place) (place : Place) (es : List Element) (bytes : List ℕ) (row : Option Values) (v u : Contents) → places ≡ place ∷ [] → IsElementPage place.page
     → Got tells place.page bytes (Ok tt) v u → IsTakenFor slot columns bytes place es → length es ≡ count → count ≤ page_room columns → row ≡ element_at stamp es → IsFound tells slot columns stamp places v row
-found_on tells slot count columns stamp places place es bytes row v u one placed got taken size room is =
+found_on tells slot count columns stamp places place es bytes row v u one element got taken size room is =
     let P : List Place → Type 0 = λ l. AreSeen tells slot columns v.page l es in
-    let element = placed.element in
     record {
       elements = es;
       seen = subst P (sym one) (seen_read tells slot columns v.page place bytes es (λ told. got.read told (inr (omega (arith, element)))) (omega (arith, size, room)) taken);

@@ -29,6 +29,12 @@ HasOnePage columns c [] = Unit {0}
 HasOnePage columns c (place ∷ []) = IsPlace columns c place
 HasOnePage columns c (place ∷ other ∷ places) = ⊥
 
+-- a series has no page, or one that can be read: an element page
+abbrev pub IsReadable : Contents → List Place → Type 0
+IsReadable c [] = Unit {0}
+IsReadable c (place ∷ []) = IsElementPage place.page × (place.page < c.count)
+IsReadable c (place ∷ other ∷ places) = ⊥
+
 -- the slot of the series that the head of an irregular page tells
 abbrev pub series_in : Option Head → Option ℕ
 series_in None = None

@@ -5,7 +5,7 @@ ghost use Rattle.ts_space.specs.Directory.{places_of};
 ghost use Rattle.ts_cells.specs.Cell.{Element, page_room};
 ghost use Rattle.ts_cells.specs.IrregularPage.{AreInOrder, behind_head};
 ghost use Rattle.ts_irregular.specs.Edit.{element_at};
-ghost use Rattle.ts_irregular.specs.OnePage.{HasOnePage};
+ghost use Rattle.ts_irregular.specs.OnePage.{IsReadable};
 ghost use Rattle.ts_irregular.specs.Call.{Reads, IsFound};
 
 use crate::page::HEAD;
@@ -26,7 +26,7 @@ pub fn irregular_get<P: Pages>(
     stamp: Stamp,
 ) -> Result<Option<Row>, StoreFault>
     requires slot { shelf.now.series < 4096 }
-    requires one { HasOnePage shelf.now.kind.now.columns (P.contents pages.old) (places_of shelf.now.series space.now) }
+    requires one { IsReadable (P.contents pages.old) (places_of shelf.now.series space.now) }
     ensures found { IfOk result (λ row. IsFound P.tells shelf.now.series shelf.now.kind.now.columns stamp (places_of shelf.now.series space.now)
         (P.contents pages.old) row) }
     ensures fits { IfOk result (λ found. IfSome found (λ row. IsTrue (fits shelf.now.kind.now.columns row))) }

@@ -13,7 +13,6 @@ use ts_space::Place;
 /// How many elements a page has, where it agrees with its place. Else it is taken as one without elements, and its bytes
 /// become zeros. The whole page is judged, so that on a volume that is damaged no row is taken for another.
 pub(crate) fn see(shelf: &Shelf, place: &Place, page: &mut Page) -> usize
-    requires { place.now.count ≤ page_room shelf.now.kind.now.columns }
     ensures seen { (es : List Element) × IsTakenFor shelf.now.series shelf.now.kind.now.columns page.old.bytes place.now es
         × (length es ≡ result) × (drop 32 page.new.bytes ≡ behind_head shelf.now.kind.now.columns es) }
     ensures room { result ≤ page_room shelf.now.kind.now.columns }

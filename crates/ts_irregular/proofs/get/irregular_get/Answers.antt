@@ -2,7 +2,7 @@ use Rattle.std.proofs.Common.{List, ap, ◌∙◌}
 use Rattle.std.specs.List.{slice_get}
 use Rattle.ts_row.specs.declared.kind.Column.{Column}
 use Rattle.ts_space.specs.declared.place.Place.{Place}
-use Rattle.ts_irregular.proofs.KeptLemmas.{only_place, found_on}
+use Rattle.ts_irregular.proofs.KeptLemmas.{readable_place, found_on}
 use Rattle.ts_irregular.proofs.HeadLemmas.{all_behind}
 use Rattle.ts_irregular.proofs.get.irregular_get.Goals as goal
 
@@ -10,7 +10,7 @@ pub returns-clause-found : goal.returns-clause-found
 returns-clause-found g c =
     let columns : List Column = c.args.shelf.now.kind.now.columns in
     let v = g.P.Pages.contents c.args.pages.now in
-    let one = only_place columns v _ c.in-Some.place.now (c.in-Some.ensures.value ∙ ap (λ (l : List Place). slice_get l 0) c.places.ensures.ok) c.requires.one in
+    let one = readable_place v _ c.in-Some.place.now (c.in-Some.ensures.value ∙ ap (λ (l : List Place). slice_get l 0) c.places.ensures.ok) c.requires.one in
     let seen = c.see-count.ensures.seen in
     let behind = all_behind c.see-count.new.page.bytes ∙ seen.3 in
     found_on g.P.Pages.tells c.args.shelf.now.series c.see-count.result columns c.args.stamp _ c.in-Some.place.now seen.0 c.get.new.into.bytes c.in_ok-row_at.field-0 v (g.P.Pages.contents c.get.new.self)

@@ -25,3 +25,8 @@ returns-clause-seen c =
       on.1.count,
       behind_told c.args.shelf.now.series columns on.0 c.args.page.now.bytes on.1.bytes,
     )
+
+pub returns-clause-room : goal.returns-clause-room
+returns-clause-room c =
+    let on = c.agrees.ensures.0 c.if-not-agrees.false in
+    omega (arith, on.1.count, on.1.bytes.fill.room)
