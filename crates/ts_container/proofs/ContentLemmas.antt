@@ -1,34 +1,14 @@
 -- What stands on an element page.
-use Rattle.std.proofs.Common.{◌≡◌, ℕ, ◌<◌, ◌≤◌, ◌^◌, ◌==◌, true, Option, Some, None, List, [], ◌∷◌, length, get_or, refl, sym, ap, subst, ◌∙◌, arith}
-use Rattle.std.specs.Option.{option_map, option_and_then}
-use Rattle.std.proofs.lemmas.Bool.Decides.{nat_tests}
-use Rattle.std.proofs.lemmas.List.{get_or_past}
+use Rattle.std.proofs.Common.{◌≡◌, ℕ, Option, Some, None, List, length, sym, ap, subst, ◌∙◌}
 use Rattle.ts_row.specs.RowType.{Heading}
-use Rattle.ts_row.specs.declared.kind.Column.{Column}
-use Rattle.ts_page.specs.declared.page.Head.{Head}
 use Rattle.ts_page.specs.declared.page.Head.TheVariants as heads
 use Rattle.ts_page.specs.Head.{head_of}
-use Rattle.ts_page.specs.Pages.{IsFreePage}
-use Rattle.ts_cells.specs.Cell.{Element, page_room}
-use Rattle.ts_cells.specs.IrregularPage.{IsIrregularPage, HasExtent}
-use Rattle.ts_cells.proofs.HeadLemmas.{irregular_head, few_fit}
-use Rattle.ts_model.specs.declared.kind.Kind.TheVariants as kinds
-use Rattle.ts_model.specs.declared.def.Def.{Def}
-use Rattle.ts_model.specs.declared.def.Def.TheVariants as defs
-use Rattle.ts_model.specs.Definitions.{Definitions, RowTypeDef, ContainerDef, SeriesDef, at_slot, limit, IsDefinitions}
-use Rattle.ts_container.specs.Limits.{IsSlotOf}
-use Rattle.ts_container.specs.Meaning.{def_at, KeepLimits, ElementPage, Free, Cells, HoldsElements, heading_of_container, heading_in, heading_at}
+use Rattle.ts_cells.specs.Cell.{Element}
+use Rattle.ts_cells.specs.IrregularPage.{IsIrregularPage}
+use Rattle.ts_model.specs.Definitions.{Definitions}
+use Rattle.ts_layout.specs.Meaning.{ElementPage, Free, Cells, HoldsElements, heading_at}
 use Rattle.ts_container.specs.Elements.{slot_in}
-
--- the head of an irregular page
-pub head_is : (slot : ℕ) (columns : List Column) (es : List Element) (page : List ℕ) → IsIrregularPage slot columns es page → head_of page ≡ Some (heads.Irregular slot (length es))
-head_is slot columns es page is =
-    let few : length es < 2 ^ 16 = omega (arith, is.fill.room, few_fit columns) in
-    ap head_of is.bytes ∙ irregular_head slot columns es is.number few
-
--- the head of a free page
-pub head_free : (page : List ℕ) → IsFreePage page → head_of page ≡ Some heads.Free
-head_free page free = let t : (get_or page 0 0 == 0) ≡ true = grind (arith, nat_tests, free) in rw t refl
+use Rattle.ts_layout.proofs.HeadLemmas.{head_is, head_free}
 
 none_some : (o : Option ℕ) (a : ℕ) → o ≡ None → o ≡ Some a → ⊥
 none_some o a none some = cc
@@ -65,14 +45,3 @@ no_extent d slot h page told there none (Cells slot' es) holds =
 pub no_head : (d : Definitions) (page : List ℕ) → (head_of page ≡ Some heads.Free → ⊥) → ((slot count : ℕ) → head_of page ≡ Some (heads.Irregular slot count) → ⊥) → (e : ElementPage) → HoldsElements d page e → ⊥
 no_head d page free irregular Free holds = free (head_free page holds)
 no_head d page free irregular (Cells slot es) holds = irregular slot (length es) (head_is slot holds.0.columns es page holds.2)
-
--- the slots that definitions refer to are slots
-pub container_limit : (d : Definitions) → KeepLimits d → (slot : ℕ) → slot < 64 → (name : List ℕ) (row_type quota : ℕ) → def_at kinds.Container slot d ≡ Some (defs.Container name row_type quota) → row_type < 64
-container_limit d limits slot within name row_type quota is = (let P : Option Def → Type 0 = IsSlotOf kinds.Container in subst P is (limits kinds.Container slot within)).1.row_type
-
-pub series_limit : (d : Definitions) → KeepLimits d → (slot : ℕ) → slot < 4096 → (key : List ℕ) (container : ℕ) → def_at kinds.Series slot d ≡ Some (defs.Series key container) → container < 64
-series_limit d limits slot within key container is = (let P : Option Def → Type 0 = IsSlotOf kinds.Series in subst P is (limits kinds.Series slot within)).1.container
-
--- no series stands past the last slot
-pub heading_past : (d : Definitions) → IsDefinitions d → (slot : ℕ) → 4096 ≤ slot → None ≡ heading_at d slot
-heading_past d rules slot past = ap (option_and_then (λ (s : SeriesDef). heading_in d s.container)) (sym (get_or_past d.series slot None (omega (arith, past, rules.series.size))))

@@ -1,25 +1,10 @@
 -- Bytes that are written into a slice part by part.
-use Rattle.std.proofs.Common.{◌≡◌, ℕ, suc, ◌+◌, ◌-◌, ◌*◌, ◌≤◌, List, [], ◌∷◌, ◌++◌, length, take, drop, set, replicate, IsTrue, sym, ap, ◌∙◌, arith, append_assoc, length-append, length-drop, length-take, length-set}
+use Rattle.std.proofs.Common.{◌≡◌, ℕ, suc, ◌+◌, ◌-◌, ◌*◌, ◌≤◌, List, [], ◌∷◌, ◌++◌, length, take, drop, set, replicate, sym, ap, ◌∙◌, arith, append_assoc, length-append, length-drop, length-take, length-set}
 use borrow.Rule.Slice.PartMut.{put_mid}
-use Rattle.std.proofs.lemmas.Bool.Decides.{nat_tests}
-use Rattle.std.proofs.lemmas.List.{drop_all, drop-replicate, append-nil, length-replicate}
+use Rattle.std.proofs.lemmas.List.{drop_all, drop-replicate, append-nil}
 use Rattle.std.proofs.lemmas.Slice.{take-put_mid}
-use Rattle.ts_base.specs.Name.{is_name}
 use Rattle.ts_row.specs.declared.kind.Column.{Column}
-use Rattle.ts_container.specs.Slot.{padded, name_bytes, column_bytes, columns_bytes}
-
--- a name has at most 32 bytes
-pub length-name : (name : List ℕ) → IsTrue (is_name name) → length name ≤ 32
-length-name name form = grind (arith, nat_tests)
-
--- padded bytes are so many
-pub length-padded : (size : ℕ) (bytes : List ℕ) → length bytes ≤ size → length (padded size bytes) ≡ size
-unfolding padded
-length-padded size bytes short = simp (length-append, length-replicate) (omega arith)
-
--- a name has 33 bytes
-pub length-name_bytes : (name : List ℕ) → length name ≤ 32 → length (name_bytes name) ≡ 33
-length-name_bytes name short = ap suc (length-padded 32 name short)
+use Rattle.ts_layout.specs.Slot.{padded, column_bytes, columns_bytes}
 
 -- bytes in front of padded ones
 pub padded-append : (size : ℕ) (front bytes : List ℕ) → padded size (front ++ bytes) ≡ front ++ padded (size - length front) bytes

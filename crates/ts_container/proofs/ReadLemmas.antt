@@ -1,8 +1,6 @@
 -- Definitions that are read slot by slot.
-use Rattle.std.proofs.Common.{◌≡◌, ◌≢◌, ℕ, ◌+◌, ◌-◌, ◌*◌, ◌<◌, ◌≤◌, true, false, is_some, map, Option, Some, None, List, [], ◌∷◌, length, take, drop, replicate, get_or, length-drop, refl, sym, ap, subst, ◌∙◌, arith, inl, inr, ◌⊎◌}
-use Rattle.std.specs.Prelude.{bytes_eq}
-use Rattle.std.specs.Option.{option_map}
-use Rattle.std.proofs.lemmas.Bool.{cases_lt, cases_eq}
+use Rattle.std.proofs.Common.{◌≡◌, ◌≢◌, ℕ, ◌+◌, ◌-◌, ◌*◌, ◌<◌, ◌≤◌, true, false, is_some, Option, Some, None, List, length, take, drop, replicate, length-drop, refl, sym, ap, subst, ◌∙◌, arith, inl, inr}
+use Rattle.std.proofs.lemmas.Bool.{cases_lt}
 use Rattle.std.proofs.lemmas.Slice.Eq.{bytes_eq-Decides}
 use Rattle.std.proofs.lemmas.List.{take_all, length-replicate}
 use Rattle.std.proofs.lemmas.List.Quantifiers.{position-Some}
@@ -10,18 +8,18 @@ use Rattle.ts_page.specs.Head.{bytes_at}
 use Rattle.ts_model.specs.declared.kind.Kind.{Kind}
 use Rattle.ts_model.specs.declared.kind.Kind.TheVariants as kinds
 use Rattle.ts_model.specs.declared.def.Def.{Def}
-use Rattle.ts_model.specs.declared.def.Def.TheVariants as defs
-use Rattle.ts_model.specs.Definitions.{Definitions, RowTypeDef, ContainerDef, SeriesDef, kind_of, name_of, limit, slots, slot_of, has_name, at_slot, with_slot, of_row_type, of_container, of_series, IsTable, IsDefinitions}
+use Rattle.ts_model.specs.Definitions.{Definitions, kind_of, name_of, limit, slots, slot_of, has_name, of_row_type, of_container, of_series, IsDefinitions}
 use Rattle.ts_container.specs.declared.definitions.Found.{Found}
 use Rattle.ts_container.specs.declared.definitions.Found.TheVariants as found
-use Rattle.ts_container.specs.declared.place.Slots.{Slots}
-use Rattle.ts_container.specs.Slot.{slot_size, slot_bytes, def_bytes, page_of_slot, byte_of_slot, slots_in_page, bytes_of_slots}
-use Rattle.ts_container.specs.Limits.{IsDef, IsSlotOf}
-use Rattle.ts_container.specs.Meaning.{def_at, bytes_of_slot, HoldsDefinitions, KeepLimits}
-use Rattle.ts_container.specs.Reading.{HoldNone, rank, rank_of_page, AreReadTo, HoldBelow, filled, both_found, Admitted, SlotRead, PageRead, HasZerosBehind}
-use Rattle.ts_container.proofs.ParseLemmas.{slot_filled}
-use Rattle.ts_container.proofs.SlotBytesLemmas.{slot_one}
-use Rattle.ts_container.proofs.PlaceLemmas.{at_slot-map, def_at-with_slot, def_at-other, length-with_slot, rank_one, Stands, stands, rank_next}
+use Rattle.ts_layout.specs.declared.place.Slots.{Slots}
+use Rattle.ts_layout.specs.Slot.{slot_size, slot_bytes, def_bytes, slots_in_page, bytes_of_slots}
+use Rattle.ts_layout.specs.Limits.{IsDef, IsSlotOf}
+use Rattle.ts_layout.specs.Meaning.{def_at, bytes_of_slot}
+use Rattle.ts_container.specs.Reading.{HoldNone, AreReadTo, HoldBelow, filled, both_found, Admitted, SlotRead, PageRead, HasZerosBehind}
+use Rattle.ts_layout.specs.Rank.{rank, rank_of_page}
+use Rattle.ts_layout.proofs.SlotLemmas.{slot_filled, own, apart_by_rank, this_or_other}
+use Rattle.ts_layout.proofs.SlotBytesLemmas.{slot_one}
+use Rattle.ts_layout.proofs.PlaceLemmas.{def_at-with_slot, def_at-other, length-with_slot, Stands, stands, rank_next}
 
 -- a slot with what was read into it
 filled_same : (kind : Kind) (slot : ℕ) (o : Option Def) (d : Definitions) → IsSlotOf kind o → slot < length (slots kind d) → def_at kind slot d ≡ None → def_at kind slot (filled kind slot o d) ≡ o
@@ -35,18 +33,6 @@ filled_other kind kind' slot slot' (Some def) d other = def_at-other kind kind' 
 filled_sizes : (kind kind' : Kind) (slot : ℕ) (o : Option Def) (d : Definitions) → length (slots kind' (filled kind slot o d)) ≡ length (slots kind' d)
 filled_sizes kind kind' slot None d = refl
 filled_sizes kind kind' slot (Some def) d = length-with_slot kind kind' slot (Some def) d
-
--- slots of other ranks are others
-pub apart_by_rank : (kind kind' : Kind) (slot slot' : ℕ) → rank kind' slot' ≢ rank kind slot → kind' ≡ kind → slot' ≡ slot → ⊥
-apart_by_rank kind kind' slot slot' other same same' = other (λ i. rank (same i) (same' i))
-
--- a slot is the one that is read, or another
-pub this_or_other : (kind kind' : Kind) (slot slot' : ℕ) → slot < limit kind → slot' < limit kind' → ((kind' ≡ kind) × (slot' ≡ slot)) ⊎ (rank kind' slot' ≢ rank kind slot)
-this_or_other kind kind' slot slot' within within' =
-    elim (cases_eq (rank kind' slot') (rank kind slot)) [
-      | inl same ↦ inl (rank_one kind' kind slot' slot within' within same)
-      | inr other ↦ inr other
-    ]
 
 -- one slot more is read
 pub read_more : (kind : Kind) (slot reached : ℕ) (o : Option Def) (d : Definitions) → slot < limit kind → rank kind slot ≡ reached → IsSlotOf kind o → AreReadTo reached d → AreReadTo (reached + 1) (filled kind slot o d)
@@ -80,14 +66,6 @@ hold_more kind slot reached o d pages within at is read bytes held = λ kind' sl
 -- how many bytes of a page are slots, as the code counts them
 pub counted : (number size : ℕ) (on : Slots) → on ≡ slots_in_page number → size ≡ slot_size on.kind → bytes_of_slots (slots_in_page number) ≡ size * on.count
 counted number size on is same = (λ i. bytes_of_slots (sym is i)) ∙ ap (λ (n : ℕ). n * on.count) (sym same)
-
--- what stands in a slot of a table, as the table's own
-own_of : {A : Type 0} (f : A → Def) (o : Option A) (def : Def) → option_map f o ≡ Some def → (a : A) × (o ≡ Some a) × (f a ≡ def)
-own_of f None def none = absurd (cc)
-own_of f (Some a) def some = (a, refl, cc)
-
-pub own : {A : Type 0} (f : A → Def) (i : ℕ) (table : List (Option A)) (def : Def) → at_slot i (map (option_map f) table) ≡ Some def → (a : A) × (at_slot i table ≡ Some a) × (f a ≡ def)
-own f i table def is = own_of f (at_slot i table) def (sym (at_slot-map f i table) ∙ is)
 
 -- no two definitions of one kind have one name
 pub apart : (d : Definitions) → IsDefinitions d → (kind : Kind) (i j : ℕ) (a b : Def) → def_at kind i d ≡ Some a → def_at kind j d ≡ Some b → name_of a ≡ name_of b → i ≡ j

@@ -1,22 +1,22 @@
 -- Pages read one after the other.
-use Rattle.std.proofs.Common.{◌≡◌, ℕ, zero, suc, ◌+◌, ◌-◌, ◌<◌, ◌≤◌, Bool, true, Option, Some, None, Result, Ok, Err, IsTrue, IfOk, IfErr, OnOk, List, length, drop, replicate, refl, sym, ap, subst, ◌∙◌, arith, inl, inr, ◌⊎◌}
-use Rattle.std.proofs.lemmas.Bool.{cases_lt, cases_eq}
-use Rattle.ts_base.specs.declared.fault.StoreFault.{StoreFault}
-use Rattle.ts_page.specs.Pages.{Contents, EqualPages, IsOutsideJournal, Got}
+use Rattle.std.proofs.Common.{◌≡◌, ℕ, zero, suc, ◌+◌, ◌<◌, ◌≤◌, Bool, Option, Some, None, Result, Ok, Err, List, length, replicate, refl, sym, ap, subst, ◌∙◌, arith, inl, inr}
+use Rattle.std.proofs.lemmas.Bool.{cases_eq}
+use Rattle.ts_page.specs.Pages.{Contents, IsOutsideJournal, Got}
 use Rattle.ts_model.specs.declared.kind.Kind.{Kind}
 use Rattle.ts_model.specs.declared.kind.Kind.TheVariants as kinds
 use Rattle.std.specs.Option.{option_map}
 use Rattle.std.proofs.lemmas.List.{length-map, length-replicate}
-use Rattle.ts_model.specs.Definitions.{Definitions, RowTypeDef, ContainerDef, SeriesDef, limit, slots, at_slot, of_row_type, of_container, of_series, no_definitions, IsDefinitions}
-use Rattle.ts_container.specs.Limits.{IsSlotOf}
-use Rattle.ts_container.proofs.PlaceLemmas.{at_slot-map}
+use Rattle.ts_model.specs.Definitions.{Definitions, RowTypeDef, ContainerDef, SeriesDef, limit, slots, at_slot, of_row_type, of_container, of_series, no_definitions}
+use Rattle.ts_layout.specs.Limits.{IsSlotOf}
+use Rattle.ts_layout.proofs.PlaceLemmas.{at_slot-map}
 use Rattle.ts_container.specs.declared.fault.SurveyFault.{SurveyFault}
-use Rattle.ts_container.specs.declared.fault.SurveyFault.TheVariants.{NotAStore, Failed, Memory}
+use Rattle.ts_container.specs.declared.fault.SurveyFault.TheVariants.{NotAStore, Failed}
 use Rattle.ts_container.specs.declared.definitions.Found.{Found}
 use Rattle.ts_container.specs.declared.definitions.Found.TheVariants as found
-use Rattle.ts_container.specs.Meaning.{def_at, HoldsDefinitions, KeepLimits}
-use Rattle.ts_container.specs.Reading.{HoldNone, rank, rank_of_page, AreReadTo, HoldBelow, HasZerosBehind, PageRead, first_repeated}
-use Rattle.ts_container.specs.Survey.{Reads, IfRefused, PageGot, HoldUnless, DefinitionsRead}
+use Rattle.ts_layout.specs.Meaning.{def_at}
+use Rattle.ts_container.specs.Reading.{HoldNone, AreReadTo, HoldBelow, HasZerosBehind, PageRead, first_repeated}
+use Rattle.ts_layout.specs.Rank.{rank, rank_of_page}
+use Rattle.ts_container.specs.Survey.{Reads, PageGot, HoldUnless}
 
 -- a page that was got was read
 pub got_read : (tells : Bool) (number : ℕ) (into : List ℕ) (v w : Contents) → IsOutsideJournal number → Got tells number into (Ok tt) v w → PageGot tells number into (Ok tt) v w

@@ -1,15 +1,14 @@
 -- What a survey says of the pages.
-use Rattle.std.proofs.Common.{◌≡◌, ℕ, ◌+◌, ◌-◌, ◌<◌, ◌≤◌, Bool, true, false, Option, Some, None, IsSome, IsTrue, Result, Ok, Err, IsErrAnd, IfErr, List, length, refl, sym, ap, subst, ◌∙◌, arith, inl, inr, ◌⊎◌, MatchOption}
+use Rattle.std.proofs.Common.{◌≡◌, ℕ, ◌+◌, ◌-◌, ◌<◌, ◌≤◌, Bool, Option, Some, None, IsSome, IsTrue, Result, Ok, Err, IsErrAnd, IfErr, List, length, refl, sym, ap, subst, ◌∙◌, arith, inl, inr, ◌⊎◌, MatchOption}
 use Rattle.ts_page.specs.Pages.{Contents, EqualPages}
 use Rattle.ts_space.specs.Place.{count_of}
 use Rattle.ts_space.specs.Directory.{Directory, places_of}
-use Rattle.ts_space.specs.declared.place.Place.{Place}
 use Rattle.ts_model.specs.Definitions.{Definitions, as_row_type, as_container, as_series, IsDefinitions}
-use Rattle.ts_container.specs.Slot.{header_bytes}
-use Rattle.ts_container.specs.Meaning.{ElementPage, element_page, elements_of, Layout, HoldsDefinitions, HoldsElements, HoldsLayout, KeepLimits, AreThere, AreSound, sum_of_quotas, HasOnePageEach, KeepsQuotas, IsSound, IsLaidOut}
-use Rattle.ts_container.specs.Reading.{HoldNone, AreReadTo}
-use Rattle.ts_container.specs.Charges.{KeepQuotas}
-use Rattle.ts_container.specs.Elements.{ListsAll, ListsUnless, Listed, HoldAll, HoldNoElements, AllRead, ElementsRead, IsSeen}
+use Rattle.ts_layout.specs.Slot.{header_bytes}
+use Rattle.ts_layout.specs.Meaning.{ElementPage, element_page, elements_of, Layout, HoldsDefinitions, HoldsElements, KeepLimits, AreThere, AreSound, sum_of_quotas, HasOnePageEach, KeepsQuotas, IsLaidOut, HoldAll}
+use Rattle.ts_container.specs.Reading.{HoldNone}
+use Rattle.ts_layout.specs.Charges.{KeepQuotas}
+use Rattle.ts_container.specs.Elements.{ListsAll, ListsUnless, HoldNoElements, AllRead, ElementsRead, IsSeen}
 use Rattle.ts_container.specs.Survey.{Reads, IfRefused, HoldUnless, DefinitionsRead, SoundRead, IsFound, HoldNoLayout}
 use Rattle.ts_container.specs.declared.fault.SurveyFault.{SurveyFault}
 use Rattle.ts_container.specs.declared.fault.SurveyFault.TheVariants.{NotAStore, Failed, Memory}
@@ -17,11 +16,11 @@ use Rattle.ts_container.specs.declared.surveyed.Surveyed.{Surveyed}
 use Rattle.ts_model.specs.Table.{Slots}
 use Rattle.ts_model.specs.Parts.{tables_of, AreParts}
 use Rattle.ts_model.proofs.PartsLemmas.{read-table, row_type-name, container-name, series-name}
-use Rattle.ts_container.specs.OnePage.{AreFilled}
-use Rattle.ts_container.proofs.ElementLemmas.{within_list}
+use Rattle.ts_layout.specs.OnePage.{AreFilled}
+use Rattle.ts_layout.proofs.ElementPageLemmas.{within_list}
 use Rattle.ts_container.proofs.SurveyLemmas.{reads_more, reads_err, reads_refused}
-use Rattle.ts_container.proofs.UniqueLemmas.{unique}
-use Rattle.ts_container.proofs.ShapeLemmas.{AllAlike, pages_alike, one_alike, as_many, count_places, quotas_kept, quotas_listed}
+use Rattle.ts_layout.proofs.UniqueLemmas.{unique}
+use Rattle.ts_layout.proofs.ShapeLemmas.{AllAlike, pages_alike, one_alike, as_many, count_places, quotas_kept, quotas_listed}
 
 -- how many element pages there are
 size_of : (count : ℕ) (l : Layout) → count ≡ 930 + length l.element_pages → length l.element_pages ≡ count - 930

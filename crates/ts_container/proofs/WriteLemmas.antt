@@ -1,26 +1,24 @@
 -- A slot written into its page.
-use Rattle.std.proofs.Common.{◌≡◌, ◌≢◌, ℕ, ◌+◌, ◌-◌, ◌*◌, ◌/◌, ◌%◌, ◌<◌, ◌≤◌, ◌==◌, Bool, true, false, if◌then◌else◌, Option, Some, None, Result, Ok, Err, IsTrue, IfSome, OnOk, OnErr, List, [], ◌∷◌, ◌++◌, length, take, drop, replicate, refl, sym, ap, subst, ◌∙◌, arith, append_assoc, length-append, length-take, length-drop, inl, inr, ◌⊎◌, lit≤}
+use Rattle.std.proofs.Common.{◌≡◌, ◌≢◌, ℕ, ◌+◌, ◌-◌, ◌*◌, ◌/◌, ◌%◌, ◌<◌, ◌≤◌, ◌==◌, Bool, true, false, if◌then◌else◌, Option, Some, None, Result, Ok, Err, IsTrue, IfSome, OnOk, OnErr, List, ◌++◌, length, take, drop, replicate, refl, sym, ap, subst, ◌∙◌, arith, append_assoc, length-append, length-drop, inl, inr, ◌⊎◌, lit≤}
 use Rattle.std.proofs.lemmas.Bool.Decides.{nat_tests}
 use Rattle.std.proofs.lemmas.Bool.{cases_lt, cases_eq}
-use Rattle.std.specs.Option.{option_map}
-use Rattle.std.proofs.lemmas.List.{take_at, drop_at, take-take, take-append-le, drop-drop, length-take-le, length-map}
+use Rattle.std.proofs.lemmas.List.{take_at, drop_at, take-take, take-append-le, drop-drop, length-take-le}
 use Rattle.std.proofs.lemmas.Slice.{between_is}
 use Rattle.ts_base.specs.declared.fault.StoreFault.{StoreFault}
 use Rattle.ts_page.specs.Head.{bytes_at}
 use Rattle.std.specs.Prelude.{Contains}
 use Rattle.std.proofs.lemmas.List.Elements.{All-contains}
-use Rattle.ts_page.specs.Pages.{Contents, EqualPages, with_page, IsOutsideJournal, IsLawful, IsListed, Got, Put}
-use Rattle.ts_container.proofs.ParseLemmas.{slot_empty}
+use Rattle.ts_page.specs.Pages.{Contents, EqualPages, with_page, IsLawful, IsListed, Got, Put}
+use Rattle.ts_layout.proofs.SlotLemmas.{slot_empty, this_or_other, apart_by_rank, sizes}
 use Rattle.ts_model.specs.declared.kind.Kind.{Kind}
 use Rattle.ts_model.specs.declared.kind.Kind.TheVariants as kinds
 use Rattle.ts_model.specs.declared.def.Def.{Def}
-use Rattle.ts_model.specs.Definitions.{Definitions, kind_of, limit, slots, with_slot, of_row_type, of_container, of_series, IsDefinitions}
-use Rattle.ts_container.specs.declared.place.Slots.{Slots}
-use Rattle.ts_container.specs.Slot.{slot_size, slot_bytes, page_of_slot, byte_of_slot, slots_in_page, bytes_of_slots}
-use Rattle.ts_container.specs.Meaning.{def_at, bytes_of_slot, HoldsDefinitions}
-use Rattle.ts_container.specs.Survey.{with_slot_bytes, SlotWritten}
-use Rattle.ts_container.proofs.PlaceLemmas.{def_at-with_slot, def_at-cleared, def_at-other, page_low, page_high, slot_end}
-use Rattle.ts_container.proofs.ReadLemmas.{this_or_other, apart_by_rank}
+use Rattle.ts_model.specs.Definitions.{Definitions, kind_of, limit, slots, with_slot, IsDefinitions}
+use Rattle.ts_layout.specs.Slot.{slot_size, slot_bytes, page_of_slot, byte_of_slot, slots_in_page, bytes_of_slots}
+use Rattle.ts_layout.specs.Meaning.{def_at, bytes_of_slot, HoldsDefinitions}
+use Rattle.ts_layout.specs.Changed.{with_slot_bytes}
+use Rattle.ts_container.specs.Survey.{SlotWritten}
+use Rattle.ts_layout.proofs.PlaceLemmas.{def_at-with_slot, def_at-cleared, def_at-other, page_low, page_high, slot_end}
 
 -- bytes that were written, those below and those above them
 same_bytes : (at size : ℕ) (page slot : List ℕ) → at + size ≤ length page → length slot ≡ size → bytes_at at size (take at page ++ (slot ++ drop (at + size) page)) ≡ slot
@@ -81,12 +79,6 @@ slot_stays kind kind' slot slot' def page within within' same other room wide =
       | inl below ↦ bytes_below (byte_of_slot kind slot) (slot_size kind) (byte_of_slot kind' slot') (slot_size kind') page (slot_bytes kind def) below room
       | inr above ↦ ap (take (slot_size kind')) (drop_above (byte_of_slot kind slot) (slot_size kind) (byte_of_slot kind' slot') page (slot_bytes kind def) above room wide)
     ]
-
--- each table has its slots
-pub sizes : (d : Definitions) → IsDefinitions d → (kind : Kind) → length (slots kind d) ≡ limit kind
-sizes d rules kinds.RowType = length-map d.row_types (option_map of_row_type) ∙ rules.row_types.size
-sizes d rules kinds.Container = length-map d.containers (option_map of_container) ∙ rules.containers.size
-sizes d rules kinds.Series = length-map d.series (option_map of_series) ∙ rules.series.size
 
 -- what is written is there
 def_at-written : (kind : Kind) (slot : ℕ) (def : Option Def) (d : Definitions) → IfSome def (λ x. kind_of x ≡ kind) → slot < length (slots kind d) → def_at kind slot (with_slot kind slot def d) ≡ def

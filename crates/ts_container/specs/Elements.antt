@@ -1,5 +1,5 @@
 -- The element pages as they are read.
-use Rattle.std.specs.Prelude.{◌≡◌, ℕ, ◌+◌, ◌<◌, ◌≤◌, Bool, IsTrue, Option, Some, None, Result, IfOk, IfErr, OnOk, List, [], ◌∷◌, ◌++◌, length}
+use Rattle.std.specs.Prelude.{◌≡◌, ℕ, ◌+◌, ◌<◌, ◌≤◌, Bool, IsTrue, Option, Some, None, Result, IfOk, IfErr, List, length}
 use Rattle.ts_page.specs.declared.page.Head.{Head}
 use Rattle.ts_page.specs.declared.page.Head.TheVariants as heads
 use Rattle.ts_page.specs.Pages.{Contents}
@@ -11,8 +11,8 @@ use Rattle.ts_container.specs.declared.content.Content.{Content}
 use Rattle.ts_container.specs.declared.content.Content.TheVariants as content
 use Rattle.ts_container.specs.declared.elements.Elements.{Elements}
 use Rattle.ts_container.specs.declared.fault.SurveyFault.{SurveyFault}
-use Rattle.ts_container.specs.Meaning.{ElementPage, Free, Cells, element_page, HoldsElements, HasOnePageEach}
-use Rattle.ts_container.specs.Surveyed.{places_from, free_from}
+use Rattle.ts_layout.specs.Meaning.{ElementPage, Free, Cells, element_page, HoldsElements, HasOnePageEach, HoldAll}
+use Rattle.ts_layout.specs.Surveyed.{places_from, free_from}
 use Rattle.ts_container.specs.Survey.{Reads, IfRefused}
 
 -- what is found of a page tells what stands on it
@@ -57,10 +57,6 @@ pub record Listed (space : Directory) (spare : List ℕ) (second : Option ℕ) (
 -- the bytes that were read of a page hold this; where the pages are told, they are the page's
 abbrev pub IsSeen : Bool → Contents → Definitions → ℕ → ElementPage → Type 0
 IsSeen tells v d number e = (bytes : List ℕ) × HoldsElements d bytes e × (IsTrue tells → v.page number ≡ bytes)
-
--- element pages, from page 930 on, with these elements
-abbrev pub HoldAll : Definitions → (ℕ → List ℕ) → List ElementPage → Type 0
-HoldAll d pages es = (j : ℕ) → j < length es → HoldsElements d (pages (930 + j)) (element_page j es)
 
 -- no elements stand on so many element pages
 abbrev pub HoldNoElements : ℕ → Definitions → (ℕ → List ℕ) → Type 0

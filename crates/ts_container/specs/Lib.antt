@@ -1,12 +1,4 @@
-pub mod Slot
-pub mod Limits
-pub mod Meaning
 pub mod Reading
-pub mod Surveyed
 pub mod Fault
 pub mod Survey
 pub mod Elements
-pub mod Charges
-pub mod Changed
-pub mod Lookup
-pub mod OnePage

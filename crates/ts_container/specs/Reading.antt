@@ -1,16 +1,16 @@
 -- What is read of slots and of the pages where they stand.
-use Rattle.std.specs.Prelude.{◌≡◌, ℕ, ◌+◌, ◌-◌, ◌*◌, ◌<◌, ◌≤◌, nat_lt, min, if◌then◌else◌, Option, Some, None, List, length, drop, replicate}
+use Rattle.std.specs.Prelude.{◌≡◌, ℕ, ◌+◌, ◌-◌, ◌<◌, ◌≤◌, Option, Some, None, List, length, drop, replicate}
 use Rattle.ts_model.specs.declared.kind.Kind.{Kind}
-use Rattle.ts_model.specs.declared.kind.Kind.TheVariants as kinds
 use Rattle.ts_model.specs.declared.def.Def.{Def}
 use Rattle.ts_model.specs.Definitions.{Definitions, kind_of, name_of, limit, slots, slot_of, with_slot, IsDefinitions}
 use Rattle.ts_container.specs.declared.definitions.Found.{Found}
 use Rattle.ts_container.specs.declared.definitions.Found.TheVariants as found
 use Rattle.ts_container.specs.declared.slot.Reading.{Reading}
 use Rattle.ts_container.specs.declared.slot.Reading.TheVariants.{Bad, Empty, Filled}
-use Rattle.ts_container.specs.Slot.{def_bytes, slot_bytes, slots_in_page, bytes_of_slots}
-use Rattle.ts_container.specs.Limits.{IsDef, IsSlotOf}
-use Rattle.ts_container.specs.Meaning.{def_at, bytes_of_slot, reference, IsThere, HoldsDefinitions, KeepLimits}
+use Rattle.ts_layout.specs.Slot.{def_bytes, slot_bytes, slots_in_page, bytes_of_slots}
+use Rattle.ts_layout.specs.Limits.{IsDef, IsSlotOf}
+use Rattle.ts_layout.specs.Meaning.{def_at, bytes_of_slot, HoldsDefinitions, KeepLimits}
+use Rattle.ts_layout.specs.Rank.{rank, rank_of_page}
 
 -- the bytes of an empty slot, those of a definition, or those of neither
 abbrev pub IsReadingOf : Kind → List ℕ → Reading → Type 0
@@ -21,21 +21,6 @@ IsReadingOf kind bytes Bad = (slot : Option Def) → IsSlotOf kind slot → byte
 -- pages that hold no definitions that keep their rules
 abbrev pub HoldNone : (ℕ → List ℕ) → Type 0
 HoldNone pages = (d : Definitions) → HoldsDefinitions pages d → KeepLimits d → IsDefinitions d → ⊥
-
--- each definition of a kind refers to a filled slot
-abbrev pub AreThereIn : Kind → Definitions → Type 0
-AreThereIn kind d = (slot : ℕ) (def : Def) → slot < limit kind → def_at kind slot d ≡ Some def → IsThere d (reference def)
-
--- the slots in the order of their pages
-abbrev pub rank : Kind → ℕ → ℕ
-rank kinds.RowType slot = slot
-rank kinds.Container slot = 64 + slot
-rank kinds.Series slot = 128 + slot
-
--- how many slots stand before a definition page
-abbrev pub rank_of_page : ℕ → ℕ
-rank_of_page number =
-    if nat_lt number 321 then number - 257 else (if nat_lt number 834 then 64 else 128 + min (43 * (number - 834)) 4096)
 
 -- definitions that were read as far as some rank: the slots from there on are empty
 pub record AreReadTo (reached : ℕ) (d : Definitions) : Type 0 where

@@ -1,5 +1,5 @@
 -- The calls that read pages or write a slot, over what a keeper of pages means.
-use Rattle.std.specs.Prelude.{◌≡◌, ℕ, ◌+◌, ◌-◌, ◌≤◌, ◌<◌, Bool, IsTrue, Option, Some, None, Result, IsOk, IfOk, IfErr, OnOk, OnErr, IsErrOf, List, ◌++◌, length, take, drop}
+use Rattle.std.specs.Prelude.{◌≡◌, ℕ, ◌+◌, ◌-◌, ◌≤◌, Bool, IsTrue, Option, Some, None, Result, IsOk, IfOk, IfErr, OnOk, OnErr, IsErrOf, List, length}
 use Rattle.ts_base.specs.declared.fault.StoreFault.{StoreFault}
 use Rattle.ts_base.specs.declared.fault.StoreFault.TheVariants.{Failed as StoreFailed}
 use Rattle.ts_disk.specs.Device.{Rose}
@@ -11,11 +11,12 @@ use Rattle.ts_model.specs.Definitions.{Definitions, with_slot, IsDefinitions}
 use Rattle.ts_space.specs.Directory.{Directory}
 use Rattle.ts_container.specs.declared.fault.SurveyFault.{SurveyFault}
 use Rattle.ts_container.specs.declared.fault.SurveyFault.TheVariants.{NotAStore, Failed, Memory}
-use Rattle.ts_container.specs.Slot.{header_bytes, slot_bytes, slot_size, page_of_slot, byte_of_slot}
-use Rattle.ts_container.specs.Meaning.{Layout, HoldsDefinitions, HoldsLayout, AreSound, IsSound, IsLaidOut}
-use Rattle.ts_container.specs.Surveyed.{ListsPlaces, free_pages}
-use Rattle.ts_container.specs.OnePage.{AreFilled}
+use Rattle.ts_layout.specs.Slot.{header_bytes, page_of_slot}
+use Rattle.ts_layout.specs.Meaning.{Layout, HoldsDefinitions, HoldsLayout, AreSound, IsSound, IsLaidOut}
+use Rattle.ts_layout.specs.Surveyed.{ListsPlaces, free_pages}
+use Rattle.ts_layout.specs.OnePage.{AreFilled}
 use Rattle.ts_container.specs.Reading.{AreReadTo, HoldNone}
+use Rattle.ts_layout.specs.Changed.{with_slot_bytes}
 
 -- what a call that only reads pages leaves, and when it fails
 pub record Reads {T : Type 0} (tells : Bool) (result : Result T SurveyFault) (v w : Contents) : Type 0 where
@@ -73,11 +74,6 @@ pub record SoundRead (tells : Bool) (count : ℕ) (result : Result Defs SurveyFa
   pub header : IsOk result → IsTrue tells → v.page 0 ≡ header_bytes (count - 930)
   pub known : IfOk result (λ x. IsTrue tells → HoldsDefinitions v.page x.definitions)
   pub refused : IfErr result (λ e. IfRefused e (IsTrue tells → HoldNoLayout count v.page))
-
--- the bytes of a page with another slot
-abbrev pub with_slot_bytes : Kind → ℕ → Option Def → List ℕ → List ℕ
-with_slot_bytes kind slot def page =
-    take (byte_of_slot kind slot) page ++ (slot_bytes kind def ++ drop (byte_of_slot kind slot + slot_size kind) page)
 
 -- A slot is written: the other bytes of its page stay, and all other pages, so the pages that held some definitions
 -- hold them with this slot changed.

@@ -3,9 +3,9 @@ ghost use Rattle.std.specs.Prelude.{◌≡◌, ◌≤◌, ◌<◌, ◌*◌, ◌^
 ghost use Rattle.ts_model.specs.Definitions.{at_slot, IsDefinitions};
 ghost use Rattle.ts_space.specs.Directory.{places_of};
 ghost use Rattle.ts_space.specs.Charge.{irregular_places_charge};
-ghost use Rattle.ts_container.specs.Meaning.{KeepLimits};
-ghost use Rattle.ts_container.specs.Charges.{charge_listed, container_charge, KeepsQuotaAt, KeepQuotas};
-ghost use Rattle.ts_container.specs.OnePage.{charge_in};
+ghost use Rattle.ts_layout.specs.Meaning.{KeepLimits};
+ghost use Rattle.ts_layout.specs.Charges.{charge_listed, container_charge, KeepsQuotaAt, KeepQuotas};
+ghost use Rattle.ts_layout.specs.OnePage.{charge_in};
 
 use crate::content::row_type_in;
 use ts_cells::page_room;

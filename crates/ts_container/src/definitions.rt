@@ -1,17 +1,18 @@
 // The definition pages, read one after the other.
 ghost use Rattle.std.specs.Prelude.{◌≡◌, ◌<◌, ◌≤◌, IfOk, length};
 ghost use Rattle.ts_model.specs.Definitions.{kind_of, limit, no_definitions};
-ghost use Rattle.ts_container.specs.Slot.{slot_size};
-ghost use Rattle.ts_container.specs.Limits.{IsDef};
-ghost use Rattle.ts_container.specs.Reading.{both_found, first_repeated, Admitted, SlotRead, PageRead, AreReadTo, rank_of_page};
+ghost use Rattle.ts_layout.specs.Slot.{slot_size};
+ghost use Rattle.ts_layout.specs.Limits.{IsDef};
+ghost use Rattle.ts_container.specs.Reading.{both_found, first_repeated, Admitted, SlotRead, PageRead, AreReadTo};
+ghost use Rattle.ts_layout.specs.Rank.{rank_of_page};
 ghost use Rattle.ts_container.specs.Survey.{DefinitionsRead};
 
 use crate::fault::SurveyFault;
 use crate::pad::is_zero;
-use crate::place::{ELEMENTS, ROW_TYPES, slot_size, slots_in_page};
 use crate::read::read;
 use crate::slot::{Reading, read_slot};
 use std::alloc::{AllocError, Global};
+use ts_layout::{ELEMENTS, ROW_TYPES, slot_size, slots_in_page};
 use ts_model::{Def, Defs, Kind};
 use ts_page::{Page, Pages};
 

@@ -3,15 +3,15 @@ ghost use Rattle.std.specs.Prelude.{◌≡◌, ◌<◌, ◌≤◌, ◌+◌, ◌-
 ghost use Rattle.ts_model.specs.Definitions.{IsDefinitions};
 ghost use Rattle.ts_cells.specs.Cell.{Element};
 ghost use Rattle.ts_cells.specs.IrregularPage.{HasExtent};
-ghost use Rattle.ts_container.specs.Meaning.{ElementPage, Free, Cells, KeepLimits};
+ghost use Rattle.ts_layout.specs.Meaning.{ElementPage, Free, Cells, KeepLimits};
 ghost use Rattle.ts_container.specs.Elements.{Describes, IsWithin, IsSomething, Listed, ElementsRead};
 
 use crate::content::{Content, content_of};
 use crate::fault::SurveyFault;
-use crate::place::ELEMENTS;
 use crate::read::read;
 use std::alloc::{AllocError, Global};
 use ts_cells::Extent;
+use ts_layout::ELEMENTS;
 use ts_model::Defs;
 use ts_page::{Page, Pages};
 use ts_space::{Place, Space};

@@ -1,6 +1,6 @@
 // The header of a volume: its first page.
 ghost use Rattle.std.specs.Prelude.{◌≡◌, ◌↔◌, ◌^◌, ◌<◌, IsTrue, length};
-ghost use Rattle.ts_container.specs.Slot.{header_bytes};
+ghost use Rattle.ts_layout.specs.Slot.{header_bytes};
 
 use crate::pad::pad;
 use ts_page::Page;
@@ -9,7 +9,7 @@ use ts_page::Page;
 const FORMAT: u8 = 1;
 
 /// Writes the header of a volume with so many element pages.
-#[tactic(auto, unfolding(crate::specs::Slot::header_bytes))]
+#[tactic(auto, unfolding(ts_layout::specs::Slot::header_bytes))]
 pub fn write_header(element_pages: u32, page: &mut Page)
     ensures { page.new.bytes ≡ header_bytes element_pages }
 {

@@ -1,13 +1,13 @@
 // Names, keys and zeros behind them.
 ghost use Rattle.std.specs.Prelude.{◌≡◌, ◌↔◌, ◌≤◌, ℕ, List, Some, IsTrue, IfOk, length, replicate};
 ghost use Rattle.ts_base.specs.Name.{is_name};
-ghost use Rattle.ts_container.specs.Slot.{padded, name_bytes};
+ghost use Rattle.ts_layout.specs.Slot.{padded, name_bytes};
 
 use std::alloc::{AllocError, Global};
 use ts_base::Name;
 
 /// Writes bytes, and zeros behind them.
-#[tactic(auto, using(crate::proofs::PartLemmas::put_over_zeros), unfolding(crate::specs::Slot::padded))]
+#[tactic(auto, using(crate::proofs::PartLemmas::put_over_zeros), unfolding(ts_layout::specs::Slot::padded))]
 pub(crate) fn pad(bytes: &[u8], into: &mut [u8])
     requires { length bytes.now ≤ length into.old }
     ensures { into.new ≡ padded (length into.old) bytes.now }

@@ -7,8 +7,8 @@ ghost use Rattle.ts_row.specs.declared.kind.ColumnKind.{ColumnKind};
 ghost use Rattle.ts_row.specs.declared.kind.Column.{Column};
 ghost use Rattle.ts_model.specs.declared.def.Def.{Def};
 ghost use Rattle.ts_model.specs.Definitions.{kind_of};
-ghost use Rattle.ts_container.specs.Slot.{padded, name_bytes, kind_bytes, column_bytes, columns_bytes, row_type_bytes, def_bytes};
-ghost use Rattle.ts_container.specs.Limits.{IsDef};
+ghost use Rattle.ts_layout.specs.Slot.{padded, name_bytes, kind_bytes, column_bytes, columns_bytes, row_type_bytes, def_bytes};
+ghost use Rattle.ts_layout.specs.Limits.{IsDef};
 
 use crate::pad::{pad, read_name, write_name};
 use std::alloc::{AllocError, Global};

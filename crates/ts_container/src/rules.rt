@@ -2,11 +2,10 @@
 ghost use Rattle.std.specs.Prelude.{◌≡◌, ◌↔◌, ◌<◌, ◌≤◌, ◌^◌, Some, IsTrue, MatchOption, length};
 ghost use Rattle.ts_model.specs.declared.def.Def.{Def};
 ghost use Rattle.ts_model.specs.Definitions.{limit, at_slot, IsDefinitions};
-ghost use Rattle.ts_container.specs.Limits.{IsDef};
-ghost use Rattle.ts_container.specs.Meaning.{def_at, reference, IsThere, AreThere, KeepLimits, quota_in, sum_of_quotas};
-ghost use Rattle.ts_container.specs.Reading.{AreThereIn};
+ghost use Rattle.ts_layout.specs.Limits.{IsDef};
+ghost use Rattle.ts_layout.specs.Meaning.{def_at, reference, IsThere, AreThere, KeepLimits, quota_in, sum_of_quotas, AreThereIn};
 
-use crate::place::page_of_slot;
+use ts_layout::page_of_slot;
 use ts_model::{Def, Defs, Kind};
 
 /// The page of the first definition that refers to an empty slot.

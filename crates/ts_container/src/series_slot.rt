@@ -2,8 +2,8 @@
 ghost use Rattle.std.specs.Prelude.{◌≡◌, ◌≤◌, ◌∷◌, ◌++◌, [], Some, IfOk, IfSome, length};
 ghost use Rattle.ts_model.specs.declared.def.Def.{Def};
 ghost use Rattle.ts_model.specs.Definitions.{kind_of};
-ghost use Rattle.ts_container.specs.Slot.{padded, series_bytes, def_bytes};
-ghost use Rattle.ts_container.specs.Limits.{IsDef};
+ghost use Rattle.ts_layout.specs.Slot.{padded, series_bytes, def_bytes};
+ghost use Rattle.ts_layout.specs.Limits.{IsDef};
 
 use crate::pad::pad;
 use std::alloc::{AllocError, Global};

@@ -2,8 +2,8 @@
 ghost use Rattle.std.specs.Prelude.{◌≡◌, ◌↔◌, length, IsTrue, IfOk, IfSome, Some};
 ghost use Rattle.ts_model.specs.declared.def.Def.{Def};
 ghost use Rattle.ts_model.specs.Definitions.{kind_of};
-ghost use Rattle.ts_container.specs.Slot.{slot_size, def_bytes};
-ghost use Rattle.ts_container.specs.Limits.{IsDef};
+ghost use Rattle.ts_layout.specs.Slot.{slot_size, def_bytes};
+ghost use Rattle.ts_layout.specs.Limits.{IsDef};
 ghost use Rattle.ts_container.specs.Reading.{IsReadingOf};
 
 use crate::container_slot::{parse_container, write_container};

@@ -1,13 +1,14 @@
 // One slot is written into its page.
 ghost use Rattle.std.specs.Prelude.{◌≡◌, ◌+◌, ◌<◌, ◌≤◌, IfSome, option_copied, length, replicate};
 ghost use Rattle.ts_model.specs.Definitions.{kind_of, limit};
-ghost use Rattle.ts_container.specs.Slot.{slot_size, slot_bytes};
-ghost use Rattle.ts_container.specs.Survey.{with_slot_bytes, SlotWritten};
+ghost use Rattle.ts_layout.specs.Slot.{slot_size, slot_bytes};
+ghost use Rattle.ts_layout.specs.Changed.{with_slot_bytes};
+ghost use Rattle.ts_container.specs.Survey.{SlotWritten};
 
-use crate::place::{byte_of_slot, page_of_slot, slot_size};
 use crate::slot::write_def;
 use std::alloc::Global;
 use ts_base::StoreFault;
+use ts_layout::{byte_of_slot, page_of_slot, slot_size};
 use ts_model::{Def, Kind};
 use ts_page::{Page, Pages};
 

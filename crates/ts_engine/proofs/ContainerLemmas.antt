@@ -14,14 +14,14 @@ use Rattle.ts_model.specs.declared.def.Def.{Def}
 use Rattle.ts_model.specs.declared.def.Def.TheVariants as defs
 use Rattle.ts_model.specs.Catalogue.{Catalogue, Series, series_in, quotas}
 use Rattle.ts_model.specs.Definitions.{Definitions, SeriesDef, of_series, at_slot}
-use Rattle.ts_container.specs.Meaning.{Layout, IsSound, catalogue_of, def_at, heading_in, sum_of_quotas}
-use Rattle.ts_container.specs.Changed.{CanCreate, NoSeriesStandsIn, HasNoPage}
-use Rattle.ts_container.specs.OnePage.{AreFilled}
-use Rattle.ts_container.proofs.CreatedLemmas.{container_sound, container_keeps_headings, container_catalogue, series_sound, series_keeps_headings, series_catalogue}
-use Rattle.ts_container.proofs.DroppedLemmas.{container_dropped_sound, container_dropped_headings, container_dropped_catalogue}
-use Rattle.ts_container.proofs.PlaceLemmas.{at_slot-map}
-use Rattle.ts_container.proofs.LayoutLemmas.{within_table}
-use Rattle.ts_container.proofs.LookupLemmas.{row_type_found, no_row_type_found, container_found, no_container_found, container_full, container_vacant, series_found, no_series_found, series_full, series_vacant, vacant_found, quotas_same, container_used, container_unused}
+use Rattle.ts_layout.specs.Meaning.{Layout, IsSound, catalogue_of, def_at, heading_in, sum_of_quotas}
+use Rattle.ts_layout.specs.Changed.{CanCreate, NoSeriesStandsIn, HasNoPage}
+use Rattle.ts_layout.specs.OnePage.{AreFilled}
+use Rattle.ts_layout.proofs.CreatedLemmas.{container_sound, container_keeps_headings, container_catalogue, series_sound, series_keeps_headings, series_catalogue}
+use Rattle.ts_layout.proofs.DroppedLemmas.{container_dropped_sound, container_dropped_headings, container_dropped_catalogue}
+use Rattle.ts_layout.proofs.PlaceLemmas.{at_slot-map}
+use Rattle.ts_layout.proofs.LayoutLemmas.{within_table}
+use Rattle.ts_layout.proofs.LookupLemmas.{row_type_found, no_row_type_found, container_found, no_container_found, container_full, container_vacant, series_found, no_series_found, series_full, series_vacant, vacant_found, quotas_same, container_used, container_unused}
 use Rattle.ts_engine.specs.Answer.{Tried, Answered, outcome, carried_out, create_container, destroy_container, create_irregular}
 use Rattle.ts_engine.specs.Reply.{ok_line}
 use Rattle.ts_engine.specs.Engine.{Kept}

@@ -14,12 +14,12 @@ use Rattle.ts_model.specs.declared.kind.Kind.TheVariants as kinds
 use Rattle.ts_model.specs.declared.def.Def.{Def}
 use Rattle.ts_model.specs.Definitions.{Room, limit, has_room, with_room, with_slot}
 use Rattle.ts_space.specs.Directory.{Directory, used_of}
-use Rattle.ts_container.specs.Slot.{page_of_slot}
-use Rattle.ts_container.specs.Meaning.{Layout, Free, element_page, HoldsLayout, IsSound, catalogue_of}
-use Rattle.ts_container.specs.Survey.{SlotWritten, with_slot_bytes}
-use Rattle.ts_container.specs.Surveyed.{ListsPlaces}
-use Rattle.ts_container.specs.Changed.{layout_with, KeepsHeadings}
-use Rattle.ts_container.proofs.LayoutLemmas.{layout_written}
+use Rattle.ts_layout.specs.Slot.{page_of_slot}
+use Rattle.ts_layout.specs.Meaning.{Layout, Free, element_page, HoldsLayout, IsSound, catalogue_of}
+use Rattle.ts_container.specs.Survey.{SlotWritten}
+use Rattle.ts_layout.specs.Changed.{with_slot_bytes, layout_with, KeepsHeadings}
+use Rattle.ts_layout.specs.Surveyed.{ListsPlaces}
+use Rattle.ts_layout.proofs.LayoutLemmas.{layout_written}
 use Rattle.ts_engine.specs.declared.fault.StepFault.{StepFault}
 use Rattle.ts_engine.specs.declared.fault.StepFault.TheVariants.{Memory}
 use Rattle.ts_engine.specs.Reply.{ok_line, refusal_line}

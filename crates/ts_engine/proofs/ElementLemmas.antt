@@ -26,19 +26,19 @@ use Rattle.ts_irregular.specs.OnePage.{place_of as page_place, HasOnePage, IsOn,
 use Rattle.ts_irregular.specs.Call.{IsPagePut, AreKept, IsEdited}
 use Rattle.ts_model.specs.declared.kind.Kind.TheVariants as kinds
 use Rattle.ts_model.specs.Definitions.{Definitions, RowTypeDef, ContainerDef, SeriesDef, at_slot}
-use Rattle.ts_container.specs.Meaning.{ElementPage, Free, Cells, Layout, element_page, HoldsLayout, HoldsElements, IsSound, heading_of_container, heading_in, heading_at, series_of, catalogue_of, charge_of_container}
-use Rattle.ts_container.specs.Surveyed.{place_of, ListsPlaces}
-use Rattle.ts_container.specs.OnePage.{by_stamp, with_cells, IsPageFor, HasPage, AreFilled, KeepsQuotaOf, AreFreePages}
-use Rattle.ts_container.specs.Charges.{container_charge}
-use Rattle.ts_container.proofs.LookupLemmas.{series_found, container_of_series, row_type_of_container}
-use Rattle.ts_container.proofs.LayoutLemmas.{one_of}
-use Rattle.ts_container.proofs.SeriesLemmas.{few, page_none, page_one, counted, catalogue_written}
-use Rattle.ts_container.proofs.OnePageLemmas.{free_cells, places_written, rules_written, filled_after}
-use Rattle.ts_container.proofs.FreeListLemmas.{page_taken, page_kept}
-use Rattle.ts_container.proofs.HeldLemmas.{place_tells, place_holds, place_filled, others_stay}
-use Rattle.ts_container.proofs.ShapeLemmas.{charge_same}
-use Rattle.ts_container.proofs.ListedLemmas.{charge_own}
-use Rattle.ts_container.proofs.WrittenLemmas.{cells_written}
+use Rattle.ts_layout.specs.Meaning.{ElementPage, Free, Cells, Layout, element_page, HoldsLayout, HoldsElements, IsSound, heading_of_container, heading_in, heading_at, series_of, catalogue_of, charge_of_container}
+use Rattle.ts_layout.specs.Surveyed.{place_of, ListsPlaces}
+use Rattle.ts_layout.specs.OnePage.{by_stamp, with_cells, IsPageFor, HasPage, AreFilled, KeepsQuotaOf, AreFreePages}
+use Rattle.ts_layout.specs.Charges.{container_charge}
+use Rattle.ts_layout.proofs.LookupLemmas.{series_found, container_of_series, row_type_of_container}
+use Rattle.ts_layout.proofs.LayoutLemmas.{one_of}
+use Rattle.ts_layout.proofs.SeriesLemmas.{few, page_none, page_one, counted, catalogue_written}
+use Rattle.ts_layout.proofs.OnePageLemmas.{free_cells, places_written, rules_written, filled_after}
+use Rattle.ts_layout.proofs.FreeListLemmas.{page_taken, page_kept}
+use Rattle.ts_layout.proofs.HeldLemmas.{place_tells, place_holds, place_filled, others_stay}
+use Rattle.ts_layout.proofs.ShapeLemmas.{charge_same}
+use Rattle.ts_layout.proofs.ListedLemmas.{charge_own}
+use Rattle.ts_layout.proofs.WrittenLemmas.{cells_written}
 use Rattle.ts_engine.specs.Answer.{with_element as with_element_of}
 use Rattle.ts_engine.specs.Slots.{IsSlotNamed}
 use Rattle.ts_engine.specs.Elements.{IsSeries, first_charge, charge_with as charge_with_one, HasRoomFor}

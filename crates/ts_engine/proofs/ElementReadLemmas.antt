@@ -17,11 +17,11 @@ use Rattle.ts_command.specs.declared.command.Command.TheVariants as commands
 use Rattle.ts_model.specs.declared.kind.Kind.TheVariants as kinds
 use Rattle.ts_model.specs.Catalogue.{columns_of}
 use Rattle.ts_model.specs.Definitions.{Definitions, slots, slot_of}
-use Rattle.ts_container.specs.Meaning.{Layout, element_page, elements_of, HoldsElements, HoldsLayout, heading_at, series_of, catalogue_of}
-use Rattle.ts_container.specs.Surveyed.{place_of}
-use Rattle.ts_container.proofs.OnePageLemmas.{free_cells}
-use Rattle.ts_container.proofs.SeriesLemmas.{few, page_one, elements_none}
-use Rattle.ts_container.proofs.LookupLemmas.{series_found, no_series_found, columns_of_series}
+use Rattle.ts_layout.specs.Meaning.{Layout, element_page, elements_of, HoldsElements, HoldsLayout, heading_at, series_of, catalogue_of}
+use Rattle.ts_layout.specs.Surveyed.{place_of}
+use Rattle.ts_layout.proofs.OnePageLemmas.{free_cells}
+use Rattle.ts_layout.proofs.SeriesLemmas.{few, page_one, elements_none}
+use Rattle.ts_layout.proofs.LookupLemmas.{series_found, no_series_found, columns_of_series}
 use Rattle.ts_irregular.specs.Edit.{element_at as row_at}
 use Rattle.ts_irregular.specs.OnePage.{IsPlace, HasOnePage, IsOn, AreSeen}
 use Rattle.ts_irregular.specs.Call.{IsFound}

@@ -19,13 +19,13 @@ use Rattle.ts_model.specs.Catalogue.{name_cmp, Series, series_in}
 use Rattle.ts_model.specs.Definitions.{Definitions, SeriesDef, ContainerDef, of_series, name_of, at_slot, slots, slot_of, filled_from, slots_by_name, by_name}
 use Rattle.ts_model.proofs.OrderLemmas.{total, same_name, eq_ties, ties-refl, ties-same}
 use Rattle.ts_model.proofs.IndexLemmas.{empty-list}
-use Rattle.ts_container.specs.Meaning.{Layout, IsSound, series_of, catalogue_of}
-use Rattle.ts_container.specs.Surveyed.{ListsPlaces}
-use Rattle.ts_container.specs.OnePage.{AreFilled}
-use Rattle.ts_container.proofs.LayoutLemmas.{one_of}
-use Rattle.ts_container.proofs.ReadLemmas.{own as own_def}
-use Rattle.ts_container.proofs.LookupLemmas.{container_found, container_of_series}
-use Rattle.ts_container.proofs.SeriesLemmas.{len_counted}
+use Rattle.ts_layout.specs.Meaning.{Layout, IsSound, series_of, catalogue_of}
+use Rattle.ts_layout.specs.Surveyed.{ListsPlaces}
+use Rattle.ts_layout.specs.OnePage.{AreFilled}
+use Rattle.ts_layout.proofs.LayoutLemmas.{one_of}
+use Rattle.ts_layout.proofs.SlotLemmas.{own as own_def}
+use Rattle.ts_layout.proofs.LookupLemmas.{container_found, container_of_series}
+use Rattle.ts_layout.proofs.SeriesLemmas.{len_counted}
 use Rattle.ts_engine.specs.Reply.{series_line}
 use Rattle.ts_engine.specs.Reading.{listed_if, listed_at}
 

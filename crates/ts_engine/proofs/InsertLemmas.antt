@@ -14,12 +14,12 @@ use Rattle.ts_cells.specs.Cell.{page_room}
 use Rattle.ts_command.specs.declared.command.Command.TheVariants.{InsElem}
 use Rattle.ts_model.specs.Catalogue.{Catalogue, Elements, columns_of, quota_of}
 use Rattle.ts_model.specs.Charge.{page_elements, container_charge as charge_by_name}
-use Rattle.ts_container.specs.Meaning.{Layout, IsSound, elements_at, series_of, catalogue_of}
-use Rattle.ts_container.specs.Surveyed.{ListsPlaces}
-use Rattle.ts_container.specs.OnePage.{AreFilled}
-use Rattle.ts_container.proofs.SeriesLemmas.{len_counted, counted}
-use Rattle.ts_container.proofs.ShapeLemmas.{charge_same}
-use Rattle.ts_container.proofs.NamedChargeLemmas.{charge_named, charge_with, columns_named, quota_named}
+use Rattle.ts_layout.specs.Meaning.{Layout, IsSound, elements_at, series_of, catalogue_of}
+use Rattle.ts_layout.specs.Surveyed.{ListsPlaces}
+use Rattle.ts_layout.specs.OnePage.{AreFilled}
+use Rattle.ts_layout.proofs.SeriesLemmas.{len_counted, counted}
+use Rattle.ts_layout.proofs.ShapeLemmas.{charge_same}
+use Rattle.ts_layout.proofs.NamedChargeLemmas.{charge_named, charge_with, columns_named, quota_named}
 use Rattle.ts_engine.specs.Answer.{with_element, insert_element, carried_out, outcome}
 use Rattle.ts_engine.specs.Reply.{stamp_line}
 use Rattle.ts_engine.specs.Elements.{first_charge, charge_with as charge_with_one, HasRoomFor, HasNoRoom}

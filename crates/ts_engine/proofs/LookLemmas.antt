@@ -18,9 +18,9 @@ use Rattle.ts_cells.specs.Cell.{Element}
 use Rattle.ts_store.specs.OpenBatch.{State, IsIdle, read_pages, contents_over}
 use Rattle.ts_store.specs.Undisturbed.{Undisturbed}
 use Rattle.ts_store.proofs.CallerLemmas.{idle_dropped, read_dropped}
-use Rattle.ts_container.specs.Meaning.{Layout, KeepLimits, HoldsLayout, IsSound, heading_at, elements_of}
-use Rattle.ts_container.specs.Surveyed.{ListsPlaces}
-use Rattle.ts_container.proofs.SeriesLemmas.{elements_none, page_one, few}
+use Rattle.ts_layout.specs.Meaning.{Layout, KeepLimits, HoldsLayout, IsSound, heading_at, elements_of}
+use Rattle.ts_layout.specs.Surveyed.{ListsPlaces}
+use Rattle.ts_layout.proofs.SeriesLemmas.{elements_none, page_one, few}
 use Rattle.ts_engine.specs.declared.fault.StepFault.{StepFault}
 use Rattle.ts_engine.specs.declared.fault.StepFault.TheVariants.{Disk, Memory, Closed}
 use Rattle.ts_engine.specs.Volume.{MeansCatalogue}

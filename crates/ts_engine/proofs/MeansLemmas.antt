@@ -6,9 +6,9 @@ use Rattle.ts_journal.specs.Entry.{Entry, AreAllowed}
 use Rattle.ts_journal.specs.Journal.{IsVolumeSize, page_count, pages, records, ReadsButFreed}
 use Rattle.ts_store.proofs.ReadLemmas.{same_but_freed}
 use Rattle.ts_model.specs.Catalogue.{Catalogue}
-use Rattle.ts_container.specs.Meaning.{ElementPage, Free, Cells, Layout, element_page, HoldsLayout, IsSound, catalogue_of}
-use Rattle.ts_container.specs.Surveyed.{free_from}
-use Rattle.ts_container.proofs.LayoutLemmas.{layout_stays}
+use Rattle.ts_layout.specs.Meaning.{ElementPage, Free, Cells, Layout, element_page, HoldsLayout, IsSound, catalogue_of}
+use Rattle.ts_layout.specs.Surveyed.{free_from}
+use Rattle.ts_layout.proofs.LayoutLemmas.{layout_stays}
 use Rattle.ts_engine.specs.Volume.{MeansCatalogue}
 
 -- what pages hold they hold still, but for a journal and the bytes of freed pages

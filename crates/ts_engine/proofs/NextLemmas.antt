@@ -8,7 +8,7 @@ use Rattle.ts_page.specs.Pages.{Contents}
 use Rattle.ts_store.specs.OpenBatch.{read_pages, contents_over}
 use Rattle.ts_store.proofs.CommitLemmas.{counted}
 use Rattle.ts_model.specs.Catalogue.{Catalogue}
-use Rattle.ts_container.specs.Meaning.{Layout, HoldsLayout, IsSound, catalogue_of}
+use Rattle.ts_layout.specs.Meaning.{Layout, HoldsLayout, IsSound, catalogue_of}
 use Rattle.ts_engine.specs.declared.fault.StepFault.{StepFault}
 use Rattle.ts_engine.specs.declared.fault.StepFault.TheVariants.{Disk, Memory, Closed}
 use Rattle.ts_engine.specs.Answer.{Answered, answer, outcome}

@@ -18,10 +18,10 @@ use Rattle.ts_model.specs.Definitions.{Definitions, Tables}
 use Rattle.ts_space.specs.Directory.{Directory, used_of}
 use Rattle.ts_container.specs.declared.fault.SurveyFault.{SurveyFault}
 use Rattle.ts_container.specs.declared.fault.SurveyFault.TheVariants.{NotAStore, Failed, Memory}
-use Rattle.ts_container.specs.Meaning.{ElementPage, Free, element_page, HoldsElements, HoldsLayout, catalogue_of}
+use Rattle.ts_layout.specs.Meaning.{ElementPage, Free, element_page, HoldsElements, HoldsLayout, catalogue_of}
 use Rattle.ts_container.specs.Survey.{IsFound, IfRefused, HoldNoLayout}
-use Rattle.ts_container.specs.Surveyed.{free_pages}
-use Rattle.ts_container.proofs.FreeLemmas.{free_counted}
+use Rattle.ts_layout.specs.Surveyed.{free_pages}
+use Rattle.ts_layout.proofs.FreeLemmas.{free_counted}
 use Rattle.ts_engine.specs.declared.engine.Engine.{Engine}
 use Rattle.ts_engine.specs.Volume.{MeansCatalogue, MeansNothing}
 use Rattle.ts_engine.specs.Engine.{Kept, IsKeptOf, IsReady}

@@ -18,14 +18,14 @@ use Rattle.ts_model.specs.declared.kind.Kind.TheVariants as kinds
 use Rattle.ts_model.specs.Definitions.{Definitions, SeriesDef, at_slot}
 use Rattle.ts_model.specs.Catalogue.{Catalogue}
 use Rattle.ts_store.specs.OpenBatch.{contents_over}
-use Rattle.ts_container.specs.Meaning.{ElementPage, Layout, Free, Cells, element_page, heading_in, IsSound, heading_at, series_of, catalogue_of}
-use Rattle.ts_container.specs.OnePage.{IsFreeIn, AreFreePages}
-use Rattle.ts_container.specs.Charges.{container_charge}
-use Rattle.ts_container.proofs.LookupLemmas.{series_at}
-use Rattle.ts_container.proofs.LayoutLemmas.{one_of, chained}
-use Rattle.ts_container.proofs.FreeLemmas.{free_counted}
-use Rattle.ts_container.proofs.QuotaLemmas.{page_free}
-use Rattle.ts_container.proofs.HeldLemmas.{slots_stay}
+use Rattle.ts_layout.specs.Meaning.{ElementPage, Layout, Free, Cells, element_page, heading_in, IsSound, heading_at, series_of, catalogue_of}
+use Rattle.ts_layout.specs.OnePage.{IsFreeIn, AreFreePages}
+use Rattle.ts_layout.specs.Charges.{container_charge}
+use Rattle.ts_layout.proofs.LookupLemmas.{series_at}
+use Rattle.ts_layout.proofs.LayoutLemmas.{one_of, chained}
+use Rattle.ts_layout.proofs.FreeLemmas.{free_counted}
+use Rattle.ts_layout.proofs.QuotaLemmas.{page_free}
+use Rattle.ts_layout.proofs.HeldLemmas.{slots_stay}
 use Rattle.ts_engine.specs.declared.fault.StepFault.{StepFault}
 use Rattle.ts_engine.specs.Answer.{outcome, with_element as with_element_of}
 use Rattle.ts_engine.specs.Reply.{stamp_line}

@@ -11,7 +11,7 @@ use Rattle.ts_store.proofs.CallerLemmas.{idle_dropped, read_dropped}
 use Rattle.ts_engine.specs.declared.fault.StepFault.{StepFault}
 use Rattle.ts_engine.specs.declared.fault.StepFault.TheVariants.{Disk, Memory}
 use Rattle.ts_base.specs.declared.refusal.Refusal.{Refusal}
-use Rattle.ts_container.specs.Meaning.{Layout, catalogue_of}
+use Rattle.ts_layout.specs.Meaning.{Layout, catalogue_of}
 use Rattle.ts_engine.specs.Answer.{outcome}
 use Rattle.ts_engine.specs.Reply.{refusal_line}
 use Rattle.ts_engine.specs.Volume.{MeansCatalogue}

@@ -12,8 +12,8 @@ use Rattle.ts_row.specs.RowType.{Heading}
 use Rattle.ts_row.specs.Row.{Values, IsRowTrouble}
 use Rattle.ts_model.specs.declared.kind.Kind.TheVariants as kinds
 use Rattle.ts_model.specs.Definitions.{Definitions, slots, slot_of}
-use Rattle.ts_container.specs.Meaning.{Layout, heading_at, catalogue_of}
-use Rattle.ts_container.proofs.LookupLemmas.{no_series_found}
+use Rattle.ts_layout.specs.Meaning.{Layout, heading_at, catalogue_of}
+use Rattle.ts_layout.proofs.LookupLemmas.{no_series_found}
 use Rattle.ts_engine.specs.Reply.{refusal_line}
 use Rattle.ts_engine.specs.Engine.{Kept, IsKeptOf, IsReady}
 use Rattle.ts_engine.specs.Step.{Stepped}

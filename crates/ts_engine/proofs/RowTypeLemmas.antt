@@ -14,12 +14,12 @@ use Rattle.ts_model.specs.declared.kind.Kind.TheVariants as kinds
 use Rattle.ts_model.specs.declared.def.Def.TheVariants as defs
 use Rattle.ts_model.specs.Catalogue.{Catalogue}
 use Rattle.ts_model.specs.Definitions.{Definitions}
-use Rattle.ts_container.specs.Meaning.{Layout, IsSound, catalogue_of}
-use Rattle.ts_container.specs.Changed.{CanCreate, NoContainerHas}
-use Rattle.ts_container.proofs.CreatedLemmas.{row_type_sound, row_type_keeps_headings, row_type_catalogue}
-use Rattle.ts_container.proofs.DroppedLemmas.{row_type_dropped_sound, row_type_dropped_headings, row_type_dropped_catalogue}
-use Rattle.ts_container.proofs.LayoutLemmas.{within_table}
-use Rattle.ts_container.proofs.LookupLemmas.{row_type_found, no_row_type_found, row_type_full, row_type_vacant, vacant_found, row_type_used, row_type_unused}
+use Rattle.ts_layout.specs.Meaning.{Layout, IsSound, catalogue_of}
+use Rattle.ts_layout.specs.Changed.{CanCreate, NoContainerHas}
+use Rattle.ts_layout.proofs.CreatedLemmas.{row_type_sound, row_type_keeps_headings, row_type_catalogue}
+use Rattle.ts_layout.proofs.DroppedLemmas.{row_type_dropped_sound, row_type_dropped_headings, row_type_dropped_catalogue}
+use Rattle.ts_layout.proofs.LayoutLemmas.{within_table}
+use Rattle.ts_layout.proofs.LookupLemmas.{row_type_found, no_row_type_found, row_type_full, row_type_vacant, vacant_found, row_type_used, row_type_unused}
 use Rattle.ts_engine.specs.Answer.{outcome, carried_out, create_row_type, drop_row_type}
 use Rattle.ts_engine.specs.Reply.{ok_line}
 use Rattle.ts_engine.specs.Engine.{Kept}

@@ -14,13 +14,13 @@ use Rattle.ts_model.specs.declared.kind.Kind.{Kind}
 use Rattle.ts_model.specs.declared.kind.Kind.TheVariants as kinds
 use Rattle.ts_model.specs.Charge.{container_charge as charge_by_name}
 use Rattle.ts_model.specs.Definitions.{Tables, Definitions, RowTypeDef, ContainerDef, slots, slot_of, at_slot}
-use Rattle.ts_container.specs.Meaning.{Layout, KeepLimits, quota_in, heading_in, heading_of_container, container_of, series_of, catalogue_of}
-use Rattle.ts_container.specs.Charges.{container_charge}
-use Rattle.ts_container.specs.OnePage.{charge_in}
-use Rattle.ts_container.proofs.LookupLemmas.{series_found, no_series_found, container_found, no_container_found, row_type_of_container}
-use Rattle.ts_container.proofs.SeriesLemmas.{few, len_counted, counted}
-use Rattle.ts_container.proofs.ShapeLemmas.{charge_same}
-use Rattle.ts_container.proofs.NamedChargeLemmas.{charge_named}
+use Rattle.ts_layout.specs.Meaning.{Layout, KeepLimits, quota_in, heading_in, heading_of_container, container_of, series_of, catalogue_of}
+use Rattle.ts_layout.specs.Charges.{container_charge}
+use Rattle.ts_layout.specs.OnePage.{charge_in}
+use Rattle.ts_layout.proofs.LookupLemmas.{series_found, no_series_found, container_found, no_container_found, row_type_of_container}
+use Rattle.ts_layout.proofs.SeriesLemmas.{few, len_counted, counted}
+use Rattle.ts_layout.proofs.ShapeLemmas.{charge_same}
+use Rattle.ts_layout.proofs.NamedChargeLemmas.{charge_named}
 use Rattle.ts_engine.specs.Answer.{Answered, outcome, carried_out, count_elements, container_usage, list_series}
 use Rattle.ts_engine.specs.Reply.{count_line, counts_line, refusal_line, series_line, series_text}
 use Rattle.ts_engine.specs.Engine.{Kept, IsKeptOf}

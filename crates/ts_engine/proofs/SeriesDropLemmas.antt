@@ -19,20 +19,21 @@ use Rattle.ts_model.specs.declared.kind.Kind.TheVariants as kinds
 use Rattle.ts_model.specs.Definitions.{Definitions, slots, slot_of, with_slot}
 use Rattle.ts_model.specs.Catalogue.{Catalogue}
 use Rattle.ts_store.specs.OpenBatch.{contents_over}
-use Rattle.ts_container.specs.Slot.{page_of_slot}
-use Rattle.ts_container.specs.Meaning.{ElementPage, Layout, Free, Cells, element_page, HoldsDefinitions, HoldsLayout, IsSound, series_of, catalogue_of}
-use Rattle.ts_container.specs.Survey.{SlotWritten, with_slot_bytes}
-use Rattle.ts_container.specs.Surveyed.{ListsPlaces}
-use Rattle.ts_container.specs.OnePage.{HasNoPage, HasPage, IsFreeIn, AreFreePages, freed, without_series}
-use Rattle.ts_container.proofs.PlaceLemmas.{page_low, page_high}
-use Rattle.ts_container.proofs.OnePageLemmas.{free_cells}
-use Rattle.ts_container.proofs.LookupLemmas.{no_series_found}
-use Rattle.ts_container.proofs.WrittenLemmas.{there_now, elsewhere, definitions_stay}
-use Rattle.ts_container.proofs.SeriesLemmas.{few, page_none, page_one}
-use Rattle.ts_container.proofs.HeldLemmas.{place_tells, others_stay, slots_stay}
-use Rattle.ts_container.proofs.FreeLemmas.{free_counted}
-use Rattle.ts_container.proofs.FreeListLemmas.{page_given, none_freed}
-use Rattle.ts_container.proofs.SeriesDroppedLemmas.{page_dropped, none_dropped, places_dropped, rules_dropped, filled_dropped, catalogue_dropped}
+use Rattle.ts_layout.specs.Slot.{page_of_slot}
+use Rattle.ts_layout.specs.Meaning.{ElementPage, Layout, Free, Cells, element_page, HoldsDefinitions, HoldsLayout, IsSound, series_of, catalogue_of}
+use Rattle.ts_container.specs.Survey.{SlotWritten}
+use Rattle.ts_layout.specs.Changed.{with_slot_bytes}
+use Rattle.ts_layout.specs.Surveyed.{ListsPlaces}
+use Rattle.ts_layout.specs.OnePage.{HasNoPage, HasPage, IsFreeIn, AreFreePages, freed, without_series}
+use Rattle.ts_layout.proofs.PlaceLemmas.{page_low, page_high}
+use Rattle.ts_layout.proofs.OnePageLemmas.{free_cells}
+use Rattle.ts_layout.proofs.LookupLemmas.{no_series_found}
+use Rattle.ts_layout.proofs.WrittenLemmas.{there_now, elsewhere, definitions_stay}
+use Rattle.ts_layout.proofs.SeriesLemmas.{few, page_none, page_one}
+use Rattle.ts_layout.proofs.HeldLemmas.{place_tells, others_stay, slots_stay}
+use Rattle.ts_layout.proofs.FreeLemmas.{free_counted}
+use Rattle.ts_layout.proofs.FreeListLemmas.{page_given, none_freed}
+use Rattle.ts_layout.proofs.SeriesDroppedLemmas.{page_dropped, none_dropped, places_dropped, rules_dropped, filled_dropped, catalogue_dropped}
 use Rattle.ts_engine.specs.declared.fault.StepFault.{StepFault}
 use Rattle.ts_engine.specs.Reply.{ok_line}
 use Rattle.ts_engine.specs.Answer.{drop_series, carried_out, outcome}

@@ -5,8 +5,8 @@ use Rattle.ts_model.specs.declared.kind.Kind.TheVariants as kinds
 use Rattle.ts_model.specs.declared.def.Def.{Def}
 use Rattle.ts_model.specs.declared.def.Def.TheVariants as defs
 use Rattle.ts_model.specs.Definitions.{Definitions, ContainerDef, SeriesDef, of_container, of_series, slots, at_slot}
-use Rattle.ts_container.proofs.ReadLemmas.{own}
-use Rattle.ts_container.proofs.LayoutLemmas.{one_of}
+use Rattle.ts_layout.proofs.SlotLemmas.{own}
+use Rattle.ts_layout.proofs.LayoutLemmas.{one_of}
 
 -- the slot that a definition refers to
 target : Def → ℕ

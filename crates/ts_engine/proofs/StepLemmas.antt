@@ -13,8 +13,8 @@ use Rattle.ts_store.proofs.ReadLemmas.{read_closed}
 use Rattle.ts_store.proofs.CommitLemmas.{counted}
 use Rattle.ts_model.specs.Catalogue.{Catalogue}
 use Rattle.ts_space.specs.declared.place.Place.{Place}
-use Rattle.ts_container.specs.Meaning.{Layout, Free, element_page, HoldsLayout, IsSound, catalogue_of}
-use Rattle.ts_container.proofs.LayoutLemmas.{same_catalogue}
+use Rattle.ts_layout.specs.Meaning.{Layout, Free, element_page, HoldsLayout, IsSound, catalogue_of}
+use Rattle.ts_layout.proofs.LayoutLemmas.{same_catalogue}
 use Rattle.ts_engine.specs.declared.fault.StepFault.{StepFault}
 use Rattle.ts_engine.specs.declared.fault.StepFault.TheVariants.{Disk, Memory, Closed}
 use Rattle.ts_engine.specs.Answer.{Answered, answer, outcome, settled}

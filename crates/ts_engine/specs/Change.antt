@@ -14,8 +14,8 @@ use Rattle.ts_model.specs.declared.kind.Kind.{Kind}
 use Rattle.ts_model.specs.declared.def.Def.{Def}
 use Rattle.ts_model.specs.Definitions.{Definitions, limit, kind_of, name_of, slots, with_slot, IsNewName}
 use Rattle.ts_store.specs.OpenBatch.{State, IsOver, IsIdle, read_pages, contents_over}
-use Rattle.ts_container.specs.Meaning.{Layout, IsSound, catalogue_of}
-use Rattle.ts_container.specs.Changed.{layout_with, KeepsHeadings}
+use Rattle.ts_layout.specs.Meaning.{Layout, IsSound, catalogue_of}
+use Rattle.ts_layout.specs.Changed.{layout_with, KeepsHeadings}
 use Rattle.ts_engine.specs.declared.fault.StepFault.{StepFault}
 use Rattle.ts_engine.specs.declared.fault.StepFault.TheVariants.{Disk, Memory, Closed}
 use Rattle.ts_engine.specs.Answer.{outcome}

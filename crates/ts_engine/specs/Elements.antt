@@ -20,8 +20,8 @@ use Rattle.ts_irregular.specs.Call.{IsFound, IsEdited}
 use Rattle.ts_model.specs.declared.kind.Kind.TheVariants as kinds
 use Rattle.ts_model.specs.Definitions.{Definitions, ContainerDef, SeriesDef, at_slot, IsDefinitions}
 use Rattle.ts_store.specs.OpenBatch.{read_pages}
-use Rattle.ts_container.specs.Meaning.{Layout, KeepLimits, HoldsLayout, heading_at, heading_of_container, elements_at, catalogue_of}
-use Rattle.ts_container.specs.Charges.{container_charge}
+use Rattle.ts_layout.specs.Meaning.{Layout, KeepLimits, HoldsLayout, heading_at, heading_of_container, elements_at, catalogue_of}
+use Rattle.ts_layout.specs.Charges.{container_charge}
 use Rattle.ts_engine.specs.declared.fault.StepFault.{StepFault}
 use Rattle.ts_engine.specs.Answer.{outcome}
 use Rattle.ts_engine.specs.Engine.{Kept, IsKeptOf}

@@ -4,9 +4,9 @@ use Rattle.ts_disk.specs.Device.{Device}
 use Rattle.ts_space.specs.Directory.{Directory, used_of}
 use Rattle.ts_model.specs.Catalogue.{Catalogue}
 use Rattle.ts_model.specs.Definitions.{Tables}
-use Rattle.ts_container.specs.Meaning.{Layout, Free, element_page, HoldsLayout, IsSound}
-use Rattle.ts_container.specs.Surveyed.{ListsPlaces}
-use Rattle.ts_container.specs.OnePage.{AreFilled}
+use Rattle.ts_layout.specs.Meaning.{Layout, Free, element_page, HoldsLayout, IsSound}
+use Rattle.ts_layout.specs.Surveyed.{ListsPlaces}
+use Rattle.ts_layout.specs.OnePage.{AreFilled}
 use Rattle.ts_store.specs.OpenBatch.{State, IsIdle, read_pages}
 use Rattle.ts_engine.specs.Volume.{MeansCatalogue}
 

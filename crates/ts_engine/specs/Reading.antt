@@ -9,7 +9,7 @@ use Rattle.ts_space.specs.Directory.{Directory, places_of}
 use Rattle.ts_model.specs.declared.kind.Kind.TheVariants as kinds
 use Rattle.ts_model.specs.Definitions.{Definitions, SeriesDef, at_slot, slots, slot_of, slots_by_name}
 use Rattle.ts_store.specs.OpenBatch.{read_pages}
-use Rattle.ts_container.specs.Meaning.{Layout, HoldsLayout, catalogue_of}
+use Rattle.ts_layout.specs.Meaning.{Layout, HoldsLayout, catalogue_of}
 use Rattle.ts_engine.specs.Answer.{answer}
 use Rattle.ts_engine.specs.Engine.{Kept, IsKeptOf}
 

@@ -2,7 +2,7 @@
 use Rattle.std.specs.Prelude.{◌≡◌, ℕ, List, length, Some}
 use Rattle.ts_journal.specs.Entry.{Entry}
 use Rattle.ts_journal.specs.Journal.{IsVolumeSize, page_count, records, pages}
-use Rattle.ts_container.specs.Meaning.{Means}
+use Rattle.ts_layout.specs.Meaning.{Means}
 use Rattle.ts_model.specs.Catalogue.{Catalogue}
 
 -- They are as many as a volume has, no record of the journal is malformed, and the pages that the volume has by its journal are

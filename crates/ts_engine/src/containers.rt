@@ -2,7 +2,7 @@
 ghost use Rattle.std.specs.Prelude.{◌≡◌, ◌≢◌, ◌+◌, ◌<◌, ◌≤◌, [], true, false, None, Some, IfOk, length};
 ghost use Rattle.ts_command.specs.declared.command.Command.TheVariants.{TSContainerCreate, TSContainerDestroy};
 ghost use Rattle.ts_command.specs.Form.{HasForm};
-ghost use Rattle.ts_container.specs.Meaning.{sum_of_quotas};
+ghost use Rattle.ts_layout.specs.Meaning.{sum_of_quotas};
 ghost use Rattle.ts_model.specs.Definitions.{SeriesDef, at_slot};
 ghost use Rattle.ts_model.specs.declared.kind.Kind.TheVariants.{Container as Containers};
 ghost use Rattle.ts_engine.specs.Engine.{IsReady};

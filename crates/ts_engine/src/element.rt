@@ -9,7 +9,7 @@ ghost use Rattle.ts_store.specs.OpenBatch.{IsOver, IsIdle, contents_over};
 ghost use Rattle.ts_store.specs.Undisturbed.{Undisturbed};
 ghost use Rattle.ts_irregular.specs.OnePage.{HasOnePage};
 ghost use Rattle.ts_irregular.specs.Call.{IsFound};
-ghost use Rattle.ts_container.specs.Meaning.{heading_at};
+ghost use Rattle.ts_layout.specs.Meaning.{heading_at};
 ghost use Rattle.ts_engine.specs.Reply.{elements_text};
 ghost use Rattle.ts_engine.specs.Engine.{IsReady};
 ghost use Rattle.ts_engine.specs.Step.{Stepped};

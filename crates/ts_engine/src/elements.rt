@@ -16,7 +16,7 @@ ghost use Rattle.ts_irregular.specs.Call.{IsEdited};
 ghost use Rattle.ts_model.specs.Definitions.{IsDefinitions};
 ghost use Rattle.ts_store.specs.OpenBatch.{IsOver, IsIdle, contents_over};
 ghost use Rattle.ts_store.specs.Undisturbed.{Undisturbed};
-ghost use Rattle.ts_container.specs.Meaning.{KeepLimits, heading_at};
+ghost use Rattle.ts_layout.specs.Meaning.{KeepLimits, heading_at};
 ghost use Rattle.ts_engine.specs.Reply.{stamp_line};
 ghost use Rattle.ts_engine.specs.Engine.{IsReady};
 ghost use Rattle.ts_engine.specs.Step.{Stepped};

@@ -5,7 +5,7 @@ ghost use Rattle.ts_command.specs.declared.command.Command.TheVariants.{GetNelem
 ghost use Rattle.ts_space.specs.Place.{count_of};
 ghost use Rattle.ts_space.specs.Directory.{places_of};
 ghost use Rattle.ts_model.specs.Definitions.{at_slot};
-ghost use Rattle.ts_container.specs.Meaning.{quota_in};
+ghost use Rattle.ts_layout.specs.Meaning.{quota_in};
 ghost use Rattle.ts_engine.specs.Reply.{series_line};
 ghost use Rattle.ts_engine.specs.Engine.{IsReady};
 ghost use Rattle.ts_engine.specs.Step.{Stepped};

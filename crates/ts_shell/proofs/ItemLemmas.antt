@@ -10,7 +10,7 @@ use Rattle.ts_journal.specs.Journal.{IsVolumeSize, StandsOver}
 use Rattle.ts_journal.specs.Moment.{Keeps}
 use Rattle.ts_store.specs.OpenBatch.{IsOver, contents_over, read_pages}
 use Rattle.ts_model.specs.Catalogue.{Catalogue}
-use Rattle.ts_container.specs.Meaning.{HoldsLayout}
+use Rattle.ts_layout.specs.Meaning.{HoldsLayout}
 use Rattle.ts_command.specs.declared.command.Command.{Command}
 use Rattle.ts_base.specs.declared.fault.Trouble.{Trouble}
 use Rattle.ts_base.specs.declared.fault.Trouble.TheVariants.{Refused}

@@ -14,10 +14,10 @@ use Rattle.ts_model.specs.declared.kind.Kind.TheVariants as kinds
 use Rattle.ts_model.specs.declared.def.Def.{Def}
 use Rattle.ts_model.specs.Definitions.{RowTypeDef, ContainerDef, SeriesDef, of_row_type, of_container, of_series, no_definitions, limit, at_slot, filled_from}
 use Rattle.ts_model.specs.Catalogue.{empty_catalogue}
-use Rattle.ts_container.specs.Limits.{IsSlotOf}
-use Rattle.ts_container.specs.Slot.{header_bytes, slot_size, slot_bytes, page_of_slot, byte_of_slot, slots_in_page, bytes_of_slots}
-use Rattle.ts_container.specs.Meaning.{Free, Cells, Layout, def_at, HoldsDefinitions, HoldsElements, IsSound, container_of, series_of, catalogue_of, sum_of_quotas}
-use Rattle.ts_container.proofs.PlaceLemmas.{page_low, page_high, slot_end, fits_page}
+use Rattle.ts_layout.specs.Limits.{IsSlotOf}
+use Rattle.ts_layout.specs.Slot.{header_bytes, slot_size, slot_bytes, page_of_slot, byte_of_slot, slots_in_page, bytes_of_slots}
+use Rattle.ts_layout.specs.Meaning.{Free, Cells, Layout, def_at, HoldsDefinitions, HoldsElements, IsSound, container_of, series_of, catalogue_of, sum_of_quotas}
+use Rattle.ts_layout.proofs.PlaceLemmas.{page_low, page_high, slot_end, fits_page}
 use Rattle.ts_engine.specs.Volume.{MeansCatalogue}
 
 -- page number n as it stands in its place

@@ -1,5 +1,5 @@
 use Rattle.std.proofs.Common.{◌≡◌, ◌*◌, ◌≤◌, ◌^◌, take}
-use Rattle.ts_container.specs.Charges.{charges_listed}
+use Rattle.ts_layout.specs.Charges.{charges_listed}
 use Rattle.ts_container.proofs.charges.charge_of.Given as goal
 
 abbrev pub invariant-loop-slot : goal.invariant-loop-slot

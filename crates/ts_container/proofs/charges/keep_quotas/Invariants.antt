@@ -1,5 +1,5 @@
 use Rattle.std.proofs.Common.{ℕ, ◌<◌}
-use Rattle.ts_container.specs.Charges.{KeepsQuotaAt}
+use Rattle.ts_layout.specs.Charges.{KeepsQuotaAt}
 use Rattle.ts_container.proofs.charges.keep_quotas.Given as goal
 
 abbrev pub invariant-loop-slot : goal.invariant-loop-slot

@@ -1,5 +1,5 @@
 use Rattle.std.proofs.Common.{arith}
-use Rattle.ts_container.specs.Slot.{container_bytes}
+use Rattle.ts_layout.specs.Slot.{container_bytes}
 use Rattle.ts_container.proofs.PartLemmas.{behind}
 use Rattle.ts_container.proofs.container_slot.write_container.Goals as goal
 

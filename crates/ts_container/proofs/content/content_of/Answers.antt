@@ -1,5 +1,3 @@
-use Rattle.std.proofs.Common.{◌≡◌, ℕ, Some, refl, sym, ap, ◌∙◌, arith}
-use Rattle.ts_page.specs.declared.page.Head.TheVariants as heads
 use Rattle.ts_container.proofs.ContentLemmas.{no_head}
 use Rattle.ts_container.proofs.content.content_of.Goals as goal
 

@@ -1,5 +1,5 @@
 use Rattle.std.proofs.Common.{refl}
-use Rattle.ts_container.specs.Meaning.{Cells}
+use Rattle.ts_layout.specs.Meaning.{Cells}
 use Rattle.ts_container.proofs.ContentLemmas.{no_row_type, no_extent, page_found}
 use Rattle.ts_container.proofs.content.series_content.Goals as goal
 

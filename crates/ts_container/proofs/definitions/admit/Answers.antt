@@ -1,4 +1,4 @@
-use Rattle.std.proofs.Common.{◌≡◌, ℕ, List, Option, None, Some, refl, sym, ap, ◌∙◌, inl}
+use Rattle.std.proofs.Common.{ℕ, List, Some, refl, sym, ap, ◌∙◌, inl}
 use Rattle.ts_model.specs.Definitions.{Definitions, slots, slot_of, name_of, with_slot}
 use Rattle.ts_container.proofs.ReadLemmas.{some_slot, no_slot}
 use Rattle.ts_container.proofs.definitions.admit.Goals as goal

@@ -1,4 +1,4 @@
-use Rattle.std.proofs.Common.{Ok, ap, sym, subst, ◌∙◌, ◌+◌, ◌≡◌, ℕ, Option, arith}
+use Rattle.std.proofs.Common.{Ok, sym, subst, ◌∙◌, ◌+◌, ℕ, Option}
 use Rattle.ts_container.proofs.SurveyLemmas.{KnownBelow, reads_none, reads_more, known_none, known_more, none_read, page_is_read}
 use Rattle.ts_container.proofs.definitions.read_definitions.Goals as goal
 

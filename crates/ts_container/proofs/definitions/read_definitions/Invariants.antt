@@ -1,5 +1,6 @@
-use Rattle.std.proofs.Common.{◌≡◌, Ok, IsTrue}
-use Rattle.ts_container.specs.Reading.{rank_of_page, AreReadTo}
+use Rattle.std.proofs.Common.{Ok, IsTrue}
+use Rattle.ts_layout.specs.Rank.{rank_of_page}
+use Rattle.ts_container.specs.Reading.{AreReadTo}
 use Rattle.ts_container.specs.Survey.{Reads}
 use Rattle.ts_container.proofs.SurveyLemmas.{KnownBelow}
 use Rattle.ts_container.proofs.definitions.read_definitions.Given as goal

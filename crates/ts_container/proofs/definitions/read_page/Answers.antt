@@ -1,5 +1,6 @@
-use Rattle.std.proofs.Common.{◌≡◌, ◌+◌, ℕ, List, length, subst, arith, rules}
-use Rattle.ts_container.specs.Reading.{rank_of_page, AreReadTo, HoldBelow}
+use Rattle.std.proofs.Common.{◌≡◌, ◌+◌, ℕ, length, subst, arith, rules}
+use Rattle.ts_layout.specs.Rank.{rank_of_page}
+use Rattle.ts_container.specs.Reading.{AreReadTo, HoldBelow}
 use Rattle.ts_container.proofs.ReadLemmas.{Step, made, step_of, step_is_bad, page_read, behind_none, counted, ended, zeros_to, zeros_from}
 use Rattle.ts_container.proofs.ParseLemmas.{both_ways}
 use Rattle.ts_container.proofs.definitions.read_page.Goals as goal

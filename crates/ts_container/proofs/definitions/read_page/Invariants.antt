@@ -1,6 +1,7 @@
 use Rattle.std.proofs.Common.{◌≡◌, ◌+◌}
 use Rattle.ts_container.specs.declared.definitions.Found.TheVariants as found
-use Rattle.ts_container.specs.Reading.{rank_of_page, AreReadTo}
+use Rattle.ts_layout.specs.Rank.{rank_of_page}
+use Rattle.ts_container.specs.Reading.{AreReadTo}
 use Rattle.ts_container.proofs.ReadLemmas.{KnownOf}
 use Rattle.ts_container.proofs.definitions.read_page.Given as goal
 

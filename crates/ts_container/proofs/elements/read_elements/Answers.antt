@@ -1,4 +1,4 @@
-use Rattle.std.proofs.Common.{◌≡◌, Ok, sym, subst, ◌∙◌, arith}
+use Rattle.std.proofs.Common.{Ok, sym, ◌∙◌}
 use Rattle.ts_container.proofs.SurveyLemmas.{reads_none, reads_more, reads_refused}
 use Rattle.ts_container.proofs.ElementLemmas.{none_read, read_more, read_bad}
 use Rattle.ts_container.proofs.elements.read_elements.Goals as goal

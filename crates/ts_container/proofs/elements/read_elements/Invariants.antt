@@ -1,4 +1,4 @@
-use Rattle.std.proofs.Common.{◌≡◌, ◌-◌, Ok}
+use Rattle.std.proofs.Common.{◌-◌, Ok}
 use Rattle.ts_container.specs.Elements.{AllRead}
 use Rattle.ts_container.specs.Survey.{Reads}
 use Rattle.ts_container.proofs.elements.read_elements.Given as goal

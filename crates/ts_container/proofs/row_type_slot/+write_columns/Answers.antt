@@ -1,7 +1,5 @@
-use Rattle.std.proofs.Common.{ℕ, arith, sym, ◌∙◌, ap, ◌≤◌, ◌*◌, ◌≡◌, List, [], ◌∷◌, suc, length, replicate}
-use Rattle.std.proofs.lemmas.Grind.{common_steps}
+use Rattle.std.proofs.Common.{ℕ, arith, sym, ap, ◌≤◌, ◌*◌, ◌≡◌, List, ◌∷◌, length}
 use Rattle.ts_row.specs.declared.kind.Column.{Column}
-use Rattle.ts_container.specs.Slot.{padded, columns_bytes}
 use Rattle.ts_container.proofs.PartLemmas.{front, columns_more, columns_none}
 use Rattle.ts_container.proofs.row_type_slot.+write_columns.Goals as goal
 

@@ -1,5 +1,5 @@
-use Rattle.std.proofs.Common.{arith, length, refl}
-use Rattle.ts_container.specs.Slot.{columns_bytes}
+use Rattle.std.proofs.Common.{length, refl}
+use Rattle.ts_layout.specs.Slot.{columns_bytes}
 use Rattle.ts_container.proofs.PartLemmas.{behind_padded}
 use Rattle.ts_container.proofs.row_type_slot.write_counted.Goals as goal
 

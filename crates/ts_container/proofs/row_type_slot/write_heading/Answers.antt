@@ -1,6 +1,6 @@
 use Rattle.std.proofs.Common.{arith, ap, ◌∙◌, ◌∷◌, length, List}
 use Rattle.ts_row.specs.declared.kind.Column.{Column}
-use Rattle.ts_container.specs.Slot.{padded, name_bytes, columns_bytes}
+use Rattle.ts_layout.specs.Slot.{padded, name_bytes, columns_bytes}
 use Rattle.ts_container.proofs.PartLemmas.{parts, front}
 use Rattle.ts_container.proofs.row_type_slot.write_heading.Goals as goal
 

@@ -1,5 +1,5 @@
 use Rattle.std.proofs.Common.{arith}
-use Rattle.ts_container.specs.Slot.{row_type_bytes}
+use Rattle.ts_layout.specs.Slot.{row_type_bytes}
 use Rattle.ts_container.proofs.PartLemmas.{behind}
 use Rattle.ts_container.proofs.row_type_slot.write_row_type.Goals as goal
 

@@ -1,6 +1,6 @@
 use Rattle.std.proofs.Common.{◌≡◌, ℕ, ◌<◌, Some}
 use Rattle.ts_model.specs.declared.def.Def.{Def}
-use Rattle.ts_container.specs.Meaning.{def_at, reference, IsThere}
+use Rattle.ts_layout.specs.Meaning.{def_at, reference, IsThere}
 use Rattle.ts_container.proofs.rules.dangling_in.Given as goal
 
 abbrev pub invariant-loop-slot : goal.invariant-loop-slot

@@ -1,5 +1,5 @@
 use Rattle.std.proofs.Common.{◌≡◌, ◌*◌, ◌≤◌, ◌^◌, take}
-use Rattle.ts_container.specs.Meaning.{sum_of_quotas}
+use Rattle.ts_layout.specs.Meaning.{sum_of_quotas}
 use Rattle.ts_container.proofs.rules.sum_of_quotas.Given as goal
 
 abbrev pub invariant-loop-slot : goal.invariant-loop-slot

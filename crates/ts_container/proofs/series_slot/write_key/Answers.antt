@@ -1,5 +1,5 @@
 use Rattle.std.proofs.Common.{[], ◌∷◌, arith, ◌∙◌, ap, sym}
-use Rattle.ts_container.specs.Slot.{padded}
+use Rattle.ts_layout.specs.Slot.{padded}
 use Rattle.ts_container.proofs.PartLemmas.{parts_padded, front}
 use Rattle.ts_container.proofs.series_slot.write_key.Goals as goal
 

@@ -1,5 +1,5 @@
 use Rattle.std.proofs.Common.{arith, ap, ◌∙◌, ◌++◌, ◌∷◌, [], List, ℕ, length}
-use Rattle.ts_container.specs.Slot.{padded, series_bytes}
+use Rattle.ts_layout.specs.Slot.{padded, series_bytes}
 use Rattle.ts_container.proofs.PartLemmas.{behind_two}
 use Rattle.ts_container.proofs.series_slot.write_series.Goals as goal
 

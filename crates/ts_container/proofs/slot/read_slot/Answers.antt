@@ -1,5 +1,5 @@
 use Rattle.std.proofs.Common.{◌≡◌, sym, ap, ◌∙◌, Option, Some, IfSome, subst}
-use Rattle.ts_container.specs.Slot.{def_bytes}
+use Rattle.ts_layout.specs.Slot.{def_bytes}
 use Rattle.ts_container.proofs.ParseLemmas.{none_some, one, both_ways, reads_empty, reads_bad}
 use Rattle.ts_container.proofs.slot.read_slot.Goals as goal
 

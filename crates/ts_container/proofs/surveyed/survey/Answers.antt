@@ -1,6 +1,5 @@
-use Rattle.std.proofs.Common.{◌≡◌, ◌≤◌, ◌-◌, ℕ, Ok, Some, IsTrue, false, refl, ap, sym, subst, ◌∙◌, arith}
-use Rattle.ts_container.specs.Charges.{KeepQuotas}
-use Rattle.ts_container.proofs.SurveyLemmas.{reads_more, reads_ok, reads_refused, reads_err}
+use Rattle.std.proofs.Common.{◌-◌, Ok, refl}
+use Rattle.ts_container.proofs.SurveyLemmas.{reads_more, reads_ok, reads_refused}
 use Rattle.ts_container.proofs.VerdictLemmas.{err_is, elements_refused, all_before, not_one, not_paid, is_found}
 use Rattle.ts_container.proofs.surveyed.survey.Goals as goal
 

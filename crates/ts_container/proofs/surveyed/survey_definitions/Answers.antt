@@ -1,8 +1,7 @@
-use Rattle.std.proofs.Common.{◌≡◌, ◌≤◌, ◌-◌, ℕ, Ok, Err, Some, None, IsTrue, true, ap, sym, subst, ◌∙◌, arith, refl}
+use Rattle.std.proofs.Common.{Ok, sym, subst, ◌∙◌, arith, refl}
 use Rattle.ts_model.specs.Definitions.{Tables, IsDefinitions}
-use Rattle.ts_container.specs.Survey.{SoundRead}
-use Rattle.ts_container.proofs.SurveyLemmas.{reads_more, reads_ok, reads_refused, reads_err}
-use Rattle.ts_container.proofs.VerdictLemmas.{err_is, sound_err, sound_refused, known_before, rules_of, there_unless, known_apart, no_definitions, not_apart, not_granted}
+use Rattle.ts_container.proofs.SurveyLemmas.{reads_more, reads_ok}
+use Rattle.ts_container.proofs.VerdictLemmas.{err_is, sound_err, sound_refused, known_before, rules_of, there_unless, known_apart, not_apart, not_granted}
 use Rattle.ts_container.proofs.surveyed.survey_definitions.Goals as goal
 
 pub returns-in_err-repeated-clause-read : goal.returns-in_err-repeated-clause-read

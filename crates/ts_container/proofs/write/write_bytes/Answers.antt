@@ -1,4 +1,4 @@
-use Rattle.std.proofs.Common.{Option, None, ap}
+use Rattle.std.proofs.Common.{ap}
 use Rattle.std.specs.Option.{option_copied}
 use Rattle.ts_container.proofs.WriteLemmas.{slot_cleared}
 use Rattle.ts_container.proofs.write.write_bytes.Goals as goal

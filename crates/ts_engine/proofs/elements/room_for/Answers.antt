@@ -1,6 +1,6 @@
 use Rattle.std.proofs.Common.{Some, sym, ap, ◌∙◌}
 use Rattle.std.specs.Option.{option_copied}
-use Rattle.ts_container.proofs.ContentLemmas.{series_limit}
+use Rattle.ts_layout.proofs.LimitLemmas.{series_limit}
 use Rattle.ts_engine.proofs.elements.room_for.Goals as goal
 
 pub row_type_in-requires-clause-slot : goal.row_type_in-requires-clause-slot

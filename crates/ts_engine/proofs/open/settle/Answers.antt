@@ -1,5 +1,5 @@
 use Rattle.std.proofs.Common.{refl}
-use Rattle.ts_container.specs.Meaning.{catalogue_of}
+use Rattle.ts_layout.specs.Meaning.{catalogue_of}
 use Rattle.ts_engine.proofs.OpenLemmas.{admitted, means_found, settle_moments, settled_opened, unsettled}
 use Rattle.ts_engine.proofs.open.settle.Goals as goal
 

@@ -1,5 +1,5 @@
 use Rattle.std.proofs.Common.{List, ℕ, ◌++◌, ◌∷◌, [], sym, subst}
-use Rattle.ts_container.specs.Meaning.{Free}
+use Rattle.ts_layout.specs.Meaning.{Free}
 use Rattle.ts_container.specs.Elements.{Listed}
 use Rattle.ts_container.proofs.ElementLemmas.{listed_free}
 use Rattle.ts_container.proofs.elements.Elements.add_free.Goals as goal

@@ -1,6 +1,6 @@
 use Rattle.std.proofs.Common.{◌≤◌, length, ap, sym, subst}
 use Rattle.ts_space.specs.Directory.{Directory, places_of}
-use Rattle.ts_container.proofs.SeriesLemmas.{few}
+use Rattle.ts_layout.proofs.SeriesLemmas.{few}
 use Rattle.ts_engine.specs.Engine.{Kept}
 use Rattle.ts_engine.proofs.engine.Engine.check_room.Goals as goal
 

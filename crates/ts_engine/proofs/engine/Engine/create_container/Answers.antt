@@ -3,7 +3,7 @@ use Rattle.std.proofs.lemmas.Int.{to_z-of_z}
 use Rattle.ts_model.specs.declared.kind.Kind.TheVariants.{Container as Containers}
 use Rattle.ts_model.specs.Definitions.{Definitions}
 use Rattle.ts_engine.specs.Change.{IsDecision}
-use Rattle.ts_container.specs.Meaning.{sum_of_quotas}
+use Rattle.ts_layout.specs.Meaning.{sum_of_quotas}
 use Rattle.ts_command.specs.declared.command.Command.TheVariants.{TSContainerCreate}
 use Rattle.ts_engine.proofs.engine.Engine.create_container.Goals as goal
 

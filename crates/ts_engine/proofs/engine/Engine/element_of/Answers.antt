@@ -1,6 +1,6 @@
 use Rattle.std.proofs.Common.{◌≡◌, ℕ, List, None, ap, sym, ◌∙◌, subst}
 use Rattle.ts_model.specs.declared.kind.Kind.TheVariants as kinds
-use Rattle.ts_container.specs.Meaning.{heading_at}
+use Rattle.ts_layout.specs.Meaning.{heading_at}
 use Rattle.ts_engine.specs.Engine.{Kept}
 use Rattle.ts_engine.specs.Slots.{IsSlotNamed, IsUnknown}
 use Rattle.ts_engine.proofs.RefuseLemmas.{no_row, not_some, defined_named}

@@ -1,7 +1,7 @@
 use Rattle.std.proofs.Common.{ℕ, List, ◌++◌, map, ap, sym, subst, ◌∙◌}
 use Rattle.std.specs.Option.{option_to_list}
 use Rattle.ts_space.specs.Directory.{places_of}
-use Rattle.ts_container.specs.Meaning.{heading_at}
+use Rattle.ts_layout.specs.Meaning.{heading_at}
 use Rattle.ts_store.specs.OpenBatch.{contents_over}
 use Rattle.ts_irregular.specs.OnePage.{HasOnePage}
 use Rattle.ts_irregular.specs.Call.{IsFound}

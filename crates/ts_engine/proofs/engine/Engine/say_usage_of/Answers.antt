@@ -2,8 +2,8 @@ use Rattle.std.proofs.Common.{ℕ, ◌≤◌, Some, None, length, ap, sym, ◌�
 use Rattle.ts_command.specs.declared.command.Command.TheVariants as commands
 use Rattle.ts_space.specs.Directory.{places_of}
 use Rattle.ts_model.specs.declared.kind.Kind.TheVariants as kinds
-use Rattle.ts_container.specs.Meaning.{KeepLimits}
-use Rattle.ts_container.specs.OnePage.{charge_in}
+use Rattle.ts_layout.specs.Meaning.{KeepLimits}
+use Rattle.ts_layout.specs.OnePage.{charge_in}
 use Rattle.ts_engine.specs.Engine.{Kept}
 use Rattle.ts_engine.specs.Reply.{counts_line}
 use Rattle.ts_engine.specs.Reading.{IsReply}

@@ -1,0 +1,95 @@
+-- The fields of a slot, as its bytes give them.
+use Rattle.std.proofs.Common.{◌≡◌, ℕ, suc, ◌+◌, ◌<◌, ◌≤◌, ◌^◌, List, [], ◌∷◌, ◌++◌, length, take, drop, get_or, IsTrue, refl, sym, ap, ◌∙◌, arith, append_assoc, length-append}
+use Rattle.std.specs.Int.{w32, to_be_bytes, from_be_bytes}
+use Rattle.std.proofs.lemmas.Bool.Decides.{nat_tests}
+use Rattle.std.proofs.lemmas.List.{get_or-append-add, take_at, drop_at, drop-drop, length-replicate}
+use Rattle.std.proofs.lemmas.Nat.{from_be_bytes-to_be_bytes_4}
+use Rattle.std.proofs.Math.Seq.{take-append_seam}
+use Rattle.ts_base.specs.Name.{is_name}
+use Rattle.ts_row.specs.RowType.{Heading}
+use Rattle.ts_layout.specs.Slot.{padded, name_bytes, columns_bytes, row_type_bytes, container_bytes, series_bytes}
+
+-- a name has at most 32 bytes
+pub length-name : (name : List ℕ) → IsTrue (is_name name) → length name ≤ 32
+length-name name form = grind (arith, nat_tests)
+
+-- padded bytes are so many
+pub length-padded : (size : ℕ) (bytes : List ℕ) → length bytes ≤ size → length (padded size bytes) ≡ size
+unfolding padded
+length-padded size bytes short = simp (length-append, length-replicate) (omega arith)
+
+-- a name has 33 bytes
+pub length-name_bytes : (name : List ℕ) → length name ≤ 32 → length (name_bytes name) ≡ 33
+length-name_bytes name short = ap suc (length-padded 32 name short)
+
+-- what stands behind the first part
+behind : (w n : ℕ) (front rest : List ℕ) → length front ≡ w → get_or (front ++ rest) (w + n) 0 ≡ get_or rest n 0
+behind w n front rest wide = ap (λ k. get_or (front ++ rest) (k + n) 0) (sym wide) ∙ get_or-append-add front rest n 0
+
+-- padded bytes begin with these
+take-padded : (size : ℕ) (bytes : List ℕ) → take (length bytes) (padded size bytes) ≡ bytes
+unfolding padded
+take-padded size bytes = take-append_seam bytes _
+
+-- the text of a name
+pub name_text : (name : List ℕ) → take (length name) (drop 1 (name_bytes name)) ≡ name
+name_text name = take-padded 32 name
+
+-- a container's name, the slot of its row type and its quota
+pub container_name : (name : List ℕ) (row_type quota : ℕ) → length name ≤ 32 → take 33 (drop 1 (container_bytes name row_type quota)) ≡ name_bytes name
+unfolding container_bytes
+container_name name row_type quota short = take_at (name_bytes name) _ 33 (length-name_bytes name short)
+
+pub container_row_type : (name : List ℕ) (row_type quota : ℕ) → length name ≤ 32 → get_or (container_bytes name row_type quota) 34 0 ≡ row_type
+unfolding container_bytes
+container_row_type name row_type quota short = behind 33 0 (name_bytes name) (row_type ∷ padded 25 (to_be_bytes w32 quota)) (length-name_bytes name short)
+
+pub container_quota : (name : List ℕ) (row_type quota : ℕ) → length name ≤ 32 → quota < 2 ^ 32 →
+    from_be_bytes w32 (get_or (container_bytes name row_type quota) 35 0 ∷ get_or (container_bytes name row_type quota) 36 0
+    ∷ get_or (container_bytes name row_type quota) 37 0 ∷ get_or (container_bytes name row_type quota) 38 0 ∷ []) ≡ quota
+unfolding container_bytes padded
+container_quota name row_type quota short fits =
+    let rest : List ℕ = row_type ∷ padded 25 (to_be_bytes w32 quota) in
+    let wide = length-name_bytes name short in
+    (λ i. from_be_bytes w32 (behind 33 1 (name_bytes name) rest wide i ∷ behind 33 2 (name_bytes name) rest wide i ∷ behind 33 3 (name_bytes name) rest wide i ∷ behind 33 4 (name_bytes name) rest wide i ∷ []))
+    ∙ from_be_bytes-to_be_bytes_4 quota fits
+
+-- a series' key and the slot of its container
+pub series_length : (key : List ℕ) (container : ℕ) → get_or (series_bytes key container) 1 0 ≡ length key
+unfolding series_bytes
+series_length key container = refl
+
+pub series_key : (key : List ℕ) (container : ℕ) → length key ≤ 64 → take (length key) (drop 2 (series_bytes key container)) ≡ key
+unfolding series_bytes padded
+series_key key container short = ap (take (length key)) (append_assoc key _ _) ∙ take-append_seam key _
+
+pub series_container : (key : List ℕ) (container : ℕ) → length key ≤ 64 → get_or (series_bytes key container) 66 0 ≡ container
+unfolding series_bytes
+series_container key container short = behind 64 0 (padded 64 key) (container ∷ padded 27 []) (length-padded 64 key short)
+
+-- a row type's name, the name of its stamp, the number of its columns and these
+behind_name : (name rest : List ℕ) → length name ≤ 32 → drop 33 (name_bytes name ++ rest) ≡ rest
+behind_name name rest short = drop_at (name_bytes name) rest 33 (length-name_bytes name short)
+
+pub row_type_name : (name : List ℕ) (h : Heading) → length name ≤ 32 → take 33 (drop 1 (row_type_bytes name h)) ≡ name_bytes name
+unfolding row_type_bytes
+row_type_name name h short = take_at (name_bytes name) _ 33 (length-name_bytes name short)
+
+pub row_type_stamp : (name : List ℕ) (h : Heading) → length name ≤ 32 → length h.stamp ≤ 32 → take 33 (drop 34 (row_type_bytes name h)) ≡ name_bytes h.stamp
+unfolding row_type_bytes
+row_type_stamp name h short stamp = ap (take 33) (behind_name name _ short) ∙ take_at (name_bytes h.stamp) _ 33 (length-name_bytes h.stamp stamp)
+
+pub row_type_count : (name : List ℕ) (h : Heading) → length name ≤ 32 → length h.stamp ≤ 32 → get_or (row_type_bytes name h) 67 0 ≡ length h.columns
+unfolding row_type_bytes
+row_type_count name h short stamp =
+    let columns : List ℕ = length h.columns ∷ padded 4028 (columns_bytes h.columns) in
+    behind 33 33 (name_bytes name) (name_bytes h.stamp ++ columns) (length-name_bytes name short)
+    ∙ behind 33 0 (name_bytes h.stamp) columns (length-name_bytes h.stamp stamp)
+
+pub row_type_columns : (name : List ℕ) (h : Heading) → length name ≤ 32 → length h.stamp ≤ 32 → drop 68 (row_type_bytes name h) ≡ padded 4028 (columns_bytes h.columns)
+unfolding row_type_bytes
+row_type_columns name h short stamp =
+    let columns : List ℕ = length h.columns ∷ padded 4028 (columns_bytes h.columns) in
+    sym (drop-drop 34 33 (name_bytes name ++ (name_bytes h.stamp ++ columns)))
+    ∙ ap (drop 34) (behind_name name (name_bytes h.stamp ++ columns) short)
+    ∙ sym (drop-drop 1 33 (name_bytes h.stamp ++ columns)) ∙ ap (drop 1) (behind_name h.stamp columns stamp)

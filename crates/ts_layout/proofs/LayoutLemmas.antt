@@ -1,0 +1,200 @@
+-- Pages hold one layout, and the bytes behind the head of a free page are no part of it.
+use Rattle.std.proofs.Common.{◌≡◌, ◌≢◌, ℕ, suc, ◌+◌, ◌*◌, ◌<◌, ◌≤◌, true, Option, Some, None, List, [], ◌∷◌, length, take, drop, refl, sym, ap, subst, ◌∙◌, arith, inl, inr, ◌⊎◌}
+use Rattle.std.specs.Option.{option_map, option_and_then}
+use Rattle.std.proofs.lemmas.Bool.Decides.{nat_tests}
+use Rattle.std.proofs.lemmas.Bool.{cases_lt}
+use Rattle.std.proofs.lemmas.List.{get_or_past}
+use Rattle.ts_row.specs.RowType.{Heading, is_row_type}
+use Rattle.ts_row.specs.declared.kind.Column.{Column}
+use Rattle.ts_row.proofs.RowBytesLemmas.{valid}
+use Rattle.ts_page.specs.Head.{bytes_at}
+use Rattle.ts_page.specs.Pages.{IsElementPage, HasFreeHead, EqualPages, with_page}
+use Rattle.ts_page.proofs.PagesLemmas.{free_headed, with_other}
+use Rattle.ts_cells.specs.Cell.{Element, cell_size}
+use Rattle.ts_cells.specs.IrregularPage.{IsIrregularPage, cells_bytes, behind_head}
+use Rattle.ts_cells.proofs.HeadLemmas.{irregular_behind, front_cells}
+use Rattle.ts_cells.proofs.PageLemmas.{same_cells}
+use Rattle.ts_model.specs.declared.kind.Kind.{Kind}
+use Rattle.ts_model.specs.declared.kind.Kind.TheVariants as kinds
+use Rattle.ts_model.specs.declared.def.Def.{Def}
+use Rattle.ts_model.specs.Catalogue.{Catalogue}
+use Rattle.ts_model.specs.Definitions.{Definitions, RowTypeDef, ContainerDef, SeriesDef, of_row_type, of_series, at_slot, limit, IsDefinitions}
+use Rattle.ts_layout.specs.Limits.{IsSlotOf}
+use Rattle.ts_layout.specs.Slot.{slot_size, page_of_slot, byte_of_slot, slots_in_page, bytes_of_slots}
+use Rattle.ts_layout.specs.Meaning.{Layout, ElementPage, Free, Cells, element_page, def_at, heading_of_container, heading_in, heading_at, HoldsDefinitions, HoldsElements, HoldsLayout, KeepLimits, IsLaidOut, Means, catalogue_of}
+use Rattle.ts_layout.specs.Changed.{SameOutsideJournal, KeepsHeadings, HasNoPage}
+use Rattle.ts_layout.proofs.ElementPageLemmas.{within_list}
+use Rattle.ts_layout.proofs.ShapeLemmas.{alike}
+use Rattle.ts_layout.proofs.UniqueLemmas.{unique}
+use Rattle.ts_layout.proofs.PlaceLemmas.{at_slot-map, page_low, page_high}
+
+pub none≢some : {A : Type 0} (o : Option A) (a : A) → o ≡ None → o ≡ Some a → ⊥
+none≢some o a none some = cc
+
+pub one_of : {A : Type 0} (o : Option A) (a b : A) → o ≡ Some a → o ≡ Some b → a ≡ b
+one_of o a b first second = cc
+
+-- a filled slot is one of the table's
+pub within_table : {A : Type 0} (table : List (Option A)) (i : ℕ) (a : A) → at_slot i table ≡ Some a → i < length table
+within_table table i a here =
+    elim (cases_lt i (length table)) [
+      | inl low ↦ low
+      | inr high ↦ absurd (none≢some (at_slot i table) a (get_or_past table i None high) here)
+    ]
+
+-- what a value is made from that is there
+pub chained : {A B : Type 0} (f : A → Option B) (o : Option A) (b : B) → option_and_then f o ≡ Some b → (a : A) × (o ≡ Some a) × (f a ≡ Some b)
+chained f None b is = absurd (cc)
+chained f (Some a) b is = (a, refl, is)
+
+pub mapped : {A B : Type 0} (f : A → B) (o : Option A) (b : B) → option_map f o ≡ Some b → (a : A) × (o ≡ Some a) × (f a ≡ b)
+mapped f None b is = absurd (cc)
+mapped f (Some a) b is = (a, refl, cc)
+
+-- the row type of a series that has one
+pub record RowTypeOf (d : Definitions) (slot : ℕ) (h : Heading) : Type 0 where
+  pub series : SeriesDef
+  pub container : ContainerDef
+  pub row_type : RowTypeDef
+  pub series_there : at_slot slot d.series ≡ Some series
+  pub container_there : at_slot series.container d.containers ≡ Some container
+  pub row_type_there : at_slot container.row_type d.row_types ≡ Some row_type
+  pub heading : row_type.heading ≡ h
+
+pub row_type_of : (d : Definitions) (slot : ℕ) (h : Heading) → heading_at d slot ≡ Some h → RowTypeOf d slot h
+row_type_of d slot h is =
+    let s = chained (λ (s : SeriesDef). heading_in d s.container) (at_slot slot d.series) h is in
+    let c = chained (heading_of_container d) (at_slot s.0.container d.containers) h s.2 in
+    let r = mapped (λ (r : RowTypeDef). r.heading) (at_slot c.0.row_type d.row_types) h c.2 in
+    record { series = s.0; container = c.0; row_type = r.0; series_there = s.1; container_there = c.1; row_type_there = r.1; heading = r.2 }
+
+-- its columns may be
+row_type_columns : (stamp : List ℕ) (columns : List Column) → is_row_type stamp columns ≡ true → valid columns
+row_type_columns stamp columns is = grind (arith, nat_tests)
+
+columns_valid : (d : Definitions) (slot : ℕ) (h : Heading) → KeepLimits d → IsDefinitions d → heading_at d slot ≡ Some h → valid h.columns
+columns_valid d slot h limits rules is =
+    let row = row_type_of d slot h is in
+    let r : RowTypeDef = row.row_type in
+    let within : row.container.row_type < 64 = omega (arith, within_table d.row_types row.container.row_type r row.row_type_there, rules.row_types.size) in
+    let there : def_at kinds.RowType row.container.row_type d ≡ Some (of_row_type r) = at_slot-map of_row_type row.container.row_type d.row_types ∙ ap (option_map of_row_type) row.row_type_there in
+    let good = (let P : Option Def → Type 0 = IsSlotOf kinds.RowType in subst P there (limits kinds.RowType row.container.row_type within)).1.rules in
+    subst (λ (x : Heading). valid x.columns) row.heading (row_type_columns r.heading.stamp r.heading.columns good)
+
+-- a page of one series has one list of elements
+one_page : (slot : ℕ) (columns : List Column) (es fs : List Element) (page : List ℕ) → valid columns → length es ≡ length fs → IsIrregularPage slot columns es page → IsIrregularPage slot columns fs page → es ≡ fs
+one_page slot columns es fs page kinds long first second =
+    let behind : behind_head columns es ≡ behind_head columns fs =
+    sym (irregular_behind slot columns es) ∙ ap (drop 32) (sym first.bytes ∙ second.bytes) ∙ irregular_behind slot columns fs in
+    let cells : cells_bytes columns es ≡ cells_bytes columns fs =
+    sym (front_cells columns es (length fs) first.fill.elements.each long) ∙ ap (take (cell_size columns * length fs)) behind ∙ front_cells columns fs (length fs) second.fill.elements.each refl in
+    same_cells columns es fs kinds first.fill.elements.each second.fill.elements.each long cells
+
+-- a page holds one thing
+pub same_page : (d : Definitions) (page : List ℕ) (e f : ElementPage) → KeepLimits d → IsDefinitions d → HoldsElements d page e → HoldsElements d page f → e ≡ f
+same_page d page Free Free limits rules first second = refl
+same_page d page Free (Cells t fs) limits rules first second = absurd (alike d page Free (Cells t fs) first second)
+same_page d page (Cells s es) Free limits rules first second = absurd (alike d page (Cells s es) Free first second)
+same_page d page (Cells s es) (Cells t fs) limits rules first second =
+    let like = alike d page (Cells s es) (Cells t fs) first second in
+    let columns : List Column = first.0.columns in
+    let there : heading_at d s ≡ Some second.0 = ap (heading_at d) like.0 ∙ second.1 in
+    let headings : second.0 ≡ first.0 = one_of (heading_at d s) second.0 first.0 there first.1 in
+    let other : IsIrregularPage s columns fs page = subst (λ (x : Heading). IsIrregularPage s x.columns fs page) headings (subst (λ (n : ℕ). IsIrregularPage n second.0.columns fs page) (sym like.0) second.2) in
+    let elements : es ≡ fs = one_page s columns es fs page (columns_valid d s first.0 limits rules first.1) like.1 first.2 other in
+    λ i. Cells (like.0 i) (elements i)
+
+-- lists of pages that are the same page by page
+pub same_pages : (es fs : List ElementPage) → length es ≡ length fs → ((i : ℕ) → i < length es → element_page i es ≡ element_page i fs) → es ≡ fs
+same_pages [] [] long same = refl
+same_pages [] (f ∷ fs) long same = absurd (omega arith)
+same_pages (e ∷ es) [] long same = absurd (omega arith)
+same_pages (e ∷ es) (f ∷ fs) long same =
+    let first : e ≡ f = same 0 (omega arith) in
+    let others : es ≡ fs = same_pages es fs (omega arith) (λ i within. same (suc i) (omega (arith, within))) in
+    λ j. first j ∷ others j
+
+-- pages hold one list of definitions, and one list of element pages by them
+pub same_definitions : (count : ℕ) (pages : ℕ → List ℕ) (k l : Layout) → IsLaidOut count pages k → IsLaidOut count pages l → k.definitions ≡ l.definitions
+same_definitions count pages k l first second =
+    unique pages k.definitions l.definitions first.bytes.definitions first.rules.definitions.limits first.rules.definitions.tables
+    second.bytes.definitions second.rules.definitions.limits second.rules.definitions.tables
+
+pub same_element_pages : (count : ℕ) (pages : ℕ → List ℕ) (k l : Layout) → IsLaidOut count pages k → IsLaidOut count pages l → k.element_pages ≡ l.element_pages
+same_element_pages count pages k l first second =
+    let long : length k.element_pages ≡ length l.element_pages = omega (arith, first.size, second.size) in
+    let same = same_definitions count pages k l first second in
+    same_pages k.element_pages l.element_pages long (λ i within.
+    same_page k.definitions (pages (930 + i)) (element_page i k.element_pages) (element_page i l.element_pages) first.rules.definitions.limits first.rules.definitions.tables
+    (first.bytes.elements i within)
+    (subst (λ (d : Definitions). HoldsElements d (pages (930 + i)) (element_page i l.element_pages)) (sym same) (second.bytes.elements i (omega (arith, within, long)))))
+
+pub same_layout : (count : ℕ) (pages : ℕ → List ℕ) (k l : Layout) → IsLaidOut count pages k → IsLaidOut count pages l → k ≡ l
+same_layout count pages k l first second =
+    let definitions = same_definitions count pages k l first second in
+    let element_pages = same_element_pages count pages k l first second in
+    λ i. record { definitions = definitions i; element_pages = element_pages i }
+
+pub same_catalogue : (count : ℕ) (pages : ℕ → List ℕ) (a b : Catalogue) → Means count pages a → Means count pages b → a ≡ b
+same_catalogue count pages a b first second =
+    first.2 ∙ ap catalogue_of (same_layout count pages first.0 second.0 first.1 second.1) ∙ sym second.2
+
+-- a page of elements has no free head
+free_or_cells : (d : Definitions) (page : List ℕ) (e : ElementPage) → HasFreeHead page → HoldsElements d page e → e ≡ Free
+free_or_cells d page Free free holds = refl
+free_or_cells d page (Cells slot es) free holds = absurd (alike d page Free (Cells slot es) (free_headed page free) holds)
+
+-- what a free page holds, so does another
+element_stays : (d : Definitions) (wanted page : List ℕ) (e : ElementPage) (number : ℕ) → (page ≡ wanted) ⊎ (IsElementPage number × HasFreeHead wanted × HasFreeHead page) → HoldsElements d wanted e → HoldsElements d page e
+element_stays d wanted page e number (inl same) holds = subst (λ (p : List ℕ). HoldsElements d p e) (sym same) holds
+element_stays d wanted page e number (inr freed) holds =
+    subst (HoldsElements d page) (sym (free_or_cells d wanted e freed.1 holds)) (free_headed page freed.2)
+
+below_elements : (number : ℕ) (wanted page : List ℕ) → number < 930 → (page ≡ wanted) ⊎ (IsElementPage number × HasFreeHead wanted × HasFreeHead page) → page ≡ wanted
+below_elements number wanted page low (inl same) = same
+below_elements number wanted page low (inr freed) = absurd (omega (arith, freed.0))
+
+pub layout_stays : (wanted pages : ℕ → List ℕ) (l : Layout) → SameOutsideJournal wanted pages → HoldsLayout wanted l → HoldsLayout pages l
+layout_stays wanted pages l same holds =
+    let low : (number : ℕ) → 257 ≤ number → number < 930 → pages number ≡ wanted number =
+    λ number above below. below_elements number (wanted number) (pages number) below (same number (inr (omega (arith, above)))) in
+    record {
+      header = below_elements 0 (wanted 0) (pages 0) (omega arith) (same 0 (inl refl)) ∙ holds.header;
+      definitions = record {
+        slots = λ kind slot within.
+            ap (bytes_at (byte_of_slot kind slot) (slot_size kind)) (low (page_of_slot kind slot) (page_low kind slot) (page_high kind slot within)) ∙ holds.definitions.slots kind slot within;
+        behind = λ number above below. ap (drop (bytes_of_slots (slots_in_page number))) (low number above below) ∙ holds.definitions.behind number above below;
+      };
+      elements = λ i within.
+          element_stays l.definitions (wanted (930 + i)) (pages (930 + i)) (element_page i l.element_pages) (930 + i) (same (930 + i) (inr (omega arith))) (holds.elements i within);
+    }
+
+-- a page holds the same by definitions with the same columns
+by_heading : (d e : Definitions) (page : List ℕ) (p : ElementPage) → ((slot : ℕ) (es : List Element) → p ≡ Cells slot es → heading_at e slot ≡ heading_at d slot) → HoldsElements d page p → HoldsElements e page p
+by_heading d e page Free same holds = holds
+by_heading d e page (Cells slot es) same holds = (holds.0, same slot es refl ∙ holds.1, holds.2)
+
+-- a slot is written: the header and the element pages stay
+pub layout_written : (kind : Kind) (slot : ℕ) (bytes : List ℕ) (v w : ℕ → List ℕ) (d : Definitions) (l : Layout) → slot < limit kind → HoldsLayout v l → EqualPages (with_page (page_of_slot kind slot) bytes v) w → HoldsDefinitions w d → KeepsHeadings d l
+    → HoldsLayout w (record l { definitions = d })
+layout_written kind slot bytes v w d l within holds written definitions headings =
+    let number : ℕ = page_of_slot kind slot in
+    let low = page_low kind slot in
+    let high = page_high kind slot within in
+    let stays : (n : ℕ) → number ≢ n → w n ≡ v n = λ n other. written n ∙ with_other number n bytes v other in
+    record {
+      header = stays 0 (λ same. absurd (omega (arith, low, same))) ∙ holds.header;
+      definitions = definitions;
+      elements = λ i inside.
+          let page : w (930 + i) ≡ v (930 + i) = stays (930 + i) (λ same. absurd (omega (arith, high, same))) in
+          subst (λ (p : List ℕ). HoldsElements d p (element_page i l.element_pages)) (sym page)
+          (by_heading l.definitions d (v (930 + i)) (element_page i l.element_pages) (λ s es is. headings i s es is) (holds.elements i inside));
+    }
+
+-- a slot without a series has no page
+pub no_page_held : (pages : ℕ → List ℕ) (slot : ℕ) (l : Layout) → HoldsLayout pages l → def_at kinds.Series slot l.definitions ≡ None → HasNoPage slot l.element_pages
+no_page_held pages slot l holds empty i es is =
+    let within : i < length l.element_pages = within_list l.element_pages i slot es is in
+    let page : HoldsElements l.definitions (pages (930 + i)) (Cells slot es) = subst (HoldsElements l.definitions (pages (930 + i))) is (holds.elements i within) in
+    let row = row_type_of l.definitions slot page.0 page.1 in
+    none≢some (def_at kinds.Series slot l.definitions) (of_series row.series) empty (at_slot-map of_series slot l.definitions.series ∙ ap (option_map of_series) row.series_there)

@@ -1,0 +1,199 @@
+-- Where slots stand, and what changes with one.
+use Rattle.std.proofs.Common.{◌≡◌, ◌≢◌, ℕ, zero, suc, ◌+◌, ◌-◌, ◌*◌, ◌/◌, ◌%◌, ◌<◌, ◌≤◌, ◌==◌, true, false, nat_lt, min, Option, Some, None, List, [], ◌∷◌, map, length, set, refl, sym, ap, ◌∙◌, arith, get_or-set_same, get_or-set_other, length-set, subst, lit<, lit≤, inl, inr}
+use Rattle.std.specs.Option.{option_map, option_and_then}
+use Rattle.std.proofs.lemmas.Bool.Decides.{nat_tests}
+use Rattle.std.proofs.lemmas.Bool.{cases_lt}
+use Rattle.std.proofs.lemmas.List.{length-map}
+use Rattle.ts_model.specs.declared.kind.Kind.{Kind}
+use Rattle.ts_model.specs.declared.kind.Kind.TheVariants as kinds
+use Rattle.ts_model.specs.declared.def.Def.{Def}
+use Rattle.ts_model.specs.declared.def.Def.TheVariants as defs
+use Rattle.ts_model.specs.Definitions.{Definitions, kind_of, limit, slots, at_slot, with_slot, of_row_type, of_container, of_series, as_row_type, as_container, as_series}
+use Rattle.ts_layout.specs.declared.place.Slots.{Slots}
+use Rattle.ts_layout.specs.Slot.{slot_size, slots_in_page, page_of_slot, byte_of_slot}
+use Rattle.ts_layout.specs.Meaning.{def_at}
+use Rattle.ts_layout.specs.Rank.{rank, rank_of_page}
+
+-- what stands in a slot of a table that is seen as definitions
+pub at_slot-map : {A B : Type 0} (f : A → B) (i : ℕ) (table : List (Option A)) → at_slot i (map (option_map f) table) ≡ option_map f (at_slot i table)
+at_slot-map f i [] = refl
+at_slot-map f zero (o ∷ table) = refl
+at_slot-map f (suc i) (o ∷ table) = at_slot-map f i table
+
+-- a definition of a kind, as that kind and back
+back_row_type : (def : Def) → kind_of def ≡ kinds.RowType → option_map of_row_type (option_and_then as_row_type (Some def)) ≡ Some def
+back_row_type (defs.RowType name h) is = refl
+back_row_type (defs.Container name r q) is = absurd (cc)
+back_row_type (defs.Series key c) is = absurd (cc)
+
+back_container : (def : Def) → kind_of def ≡ kinds.Container → option_map of_container (option_and_then as_container (Some def)) ≡ Some def
+back_container (defs.RowType name h) is = absurd (cc)
+back_container (defs.Container name r q) is = refl
+back_container (defs.Series key c) is = absurd (cc)
+
+back_series : (def : Def) → kind_of def ≡ kinds.Series → option_map of_series (option_and_then as_series (Some def)) ≡ Some def
+back_series (defs.RowType name h) is = absurd (cc)
+back_series (defs.Container name r q) is = absurd (cc)
+back_series (defs.Series key c) is = refl
+
+-- a slot that was set
+set_same : {A : Type 0} (f : A → Def) (o : Option A) (i : ℕ) (table : List (Option A)) → i < length table → at_slot i (map (option_map f) (set table i o)) ≡ option_map f o
+set_same f o i table within = at_slot-map f i (set table i o) ∙ ap (option_map f) (get_or-set_same table i o None within)
+
+set_other : {A : Type 0} (f : A → Def) (o : Option A) (i j : ℕ) (table : List (Option A)) → j ≢ i → at_slot j (map (option_map f) (set table i o)) ≡ at_slot j (map (option_map f) table)
+set_other f o i j table other = at_slot-map f j (set table i o) ∙ ap (option_map f) (get_or-set_other table i j o None other) ∙ sym (at_slot-map f j table)
+
+pub def_at-with_slot : (kind : Kind) (slot : ℕ) (def : Def) (d : Definitions) → kind_of def ≡ kind → slot < length (slots kind d) → def_at kind slot (with_slot kind slot (Some def) d) ≡ Some def
+def_at-with_slot kinds.RowType slot def d is within = set_same of_row_type _ slot d.row_types (omega (arith, length-map d.row_types (option_map of_row_type))) ∙ back_row_type def is
+def_at-with_slot kinds.Container slot def d is within = set_same of_container _ slot d.containers (omega (arith, length-map d.containers (option_map of_container))) ∙ back_container def is
+def_at-with_slot kinds.Series slot def d is within = set_same of_series _ slot d.series (omega (arith, length-map d.series (option_map of_series))) ∙ back_series def is
+
+pub def_at-cleared : (kind : Kind) (slot : ℕ) (d : Definitions) → slot < length (slots kind d) → def_at kind slot (with_slot kind slot None d) ≡ None
+def_at-cleared kinds.RowType slot d within = set_same of_row_type _ slot d.row_types (omega (arith, length-map d.row_types (option_map of_row_type)))
+def_at-cleared kinds.Container slot d within = set_same of_container _ slot d.containers (omega (arith, length-map d.containers (option_map of_container)))
+def_at-cleared kinds.Series slot d within = set_same of_series _ slot d.series (omega (arith, length-map d.series (option_map of_series)))
+
+-- every other slot stays
+pub def_at-other : (kind kind' : Kind) (slot slot' : ℕ) (o : Option Def) (d : Definitions) → ((kind' ≡ kind) → (slot' ≡ slot) → ⊥) → def_at kind' slot' (with_slot kind slot o d) ≡ def_at kind' slot' d
+def_at-other kinds.RowType kinds.RowType slot slot' o d other = set_other of_row_type _ slot slot' d.row_types (other refl)
+def_at-other kinds.RowType kinds.Container slot slot' o d other = refl
+def_at-other kinds.RowType kinds.Series slot slot' o d other = refl
+def_at-other kinds.Container kinds.RowType slot slot' o d other = refl
+def_at-other kinds.Container kinds.Container slot slot' o d other = set_other of_container _ slot slot' d.containers (other refl)
+def_at-other kinds.Container kinds.Series slot slot' o d other = refl
+def_at-other kinds.Series kinds.RowType slot slot' o d other = refl
+def_at-other kinds.Series kinds.Container slot slot' o d other = refl
+def_at-other kinds.Series kinds.Series slot slot' o d other = set_other of_series _ slot slot' d.series (other refl)
+
+-- the tables keep their lengths
+pub length-with_slot : (kind kind' : Kind) (slot : ℕ) (o : Option Def) (d : Definitions) → length (slots kind' (with_slot kind slot o d)) ≡ length (slots kind' d)
+length-with_slot kinds.RowType kinds.RowType slot o d = length-map _ (option_map of_row_type) ∙ length-set d.row_types slot _ ∙ sym (length-map d.row_types (option_map of_row_type))
+length-with_slot kinds.RowType kinds.Container slot o d = refl
+length-with_slot kinds.RowType kinds.Series slot o d = refl
+length-with_slot kinds.Container kinds.RowType slot o d = refl
+length-with_slot kinds.Container kinds.Container slot o d = length-map _ (option_map of_container) ∙ length-set d.containers slot _ ∙ sym (length-map d.containers (option_map of_container))
+length-with_slot kinds.Container kinds.Series slot o d = refl
+length-with_slot kinds.Series kinds.RowType slot o d = refl
+length-with_slot kinds.Series kinds.Container slot o d = refl
+length-with_slot kinds.Series kinds.Series slot o d = length-map _ (option_map of_series) ∙ length-set d.series slot _ ∙ sym (length-map d.series (option_map of_series))
+
+-- two slots of one rank are one
+pub rank_one : (kind kind' : Kind) (slot slot' : ℕ) → slot < limit kind → slot' < limit kind' → rank kind slot ≡ rank kind' slot' → (kind ≡ kind') × (slot ≡ slot')
+rank_one kinds.RowType kinds.RowType slot slot' is is' same = (refl, same)
+rank_one kinds.RowType kinds.Container slot slot' is is' same = absurd (omega arith)
+rank_one kinds.RowType kinds.Series slot slot' is is' same = absurd (omega arith)
+rank_one kinds.Container kinds.RowType slot slot' is is' same = absurd (omega arith)
+rank_one kinds.Container kinds.Container slot slot' is is' same = (refl, omega arith)
+rank_one kinds.Container kinds.Series slot slot' is is' same = absurd (omega arith)
+rank_one kinds.Series kinds.RowType slot slot' is is' same = absurd (omega arith)
+rank_one kinds.Series kinds.Container slot slot' is is' same = absurd (omega arith)
+rank_one kinds.Series kinds.Series slot slot' is is' same = (refl, omega arith)
+
+-- the slots in a page, by its number
+row_types_in : (number : ℕ) → number < 321 → slots_in_page number ≡ record { kind = kinds.RowType; first = number - 257; count = 1 }
+row_types_in number below = let t : nat_lt number 321 ≡ true = grind (arith, nat_tests) in rw t refl
+
+none_in : (number : ℕ) → 321 ≤ number → number < 833 → slots_in_page number ≡ record { kind = kinds.RowType; first = 0; count = 0 }
+none_in number above below =
+    let f : nat_lt number 321 ≡ false = grind (arith, nat_tests) in
+    let t : nat_lt number 833 ≡ true = grind (arith, nat_tests) in
+    rw (f, t) refl
+
+series_in : (number : ℕ) → 834 ≤ number → slots_in_page number ≡ record { kind = kinds.Series; first = 43 * (number - 834); count = min 43 (4096 - 43 * (number - 834)) }
+series_in number above =
+    let f : nat_lt number 321 ≡ false = grind (arith, nat_tests) in
+    let g : nat_lt number 833 ≡ false = grind (arith, nat_tests) in
+    let h : (number == 833) ≡ false = grind (arith, nat_tests) in
+    rw (f, g, h) refl
+
+rank_row_types : (number : ℕ) → number < 321 → rank_of_page number ≡ number - 257
+rank_row_types number below = let t : nat_lt number 321 ≡ true = grind (arith, nat_tests) in rw t refl
+
+rank_middle : (number : ℕ) → 321 ≤ number → number < 834 → rank_of_page number ≡ 64
+rank_middle number above below =
+    let f : nat_lt number 321 ≡ false = grind (arith, nat_tests) in
+    let t : nat_lt number 834 ≡ true = grind (arith, nat_tests) in
+    rw (f, t) refl
+
+rank_series : (number : ℕ) → 834 ≤ number → rank_of_page number ≡ 128 + min (43 * (number - 834)) 4096
+rank_series number above =
+    let f : nat_lt number 321 ≡ false = grind (arith, nat_tests) in
+    let g : nat_lt number 834 ≡ false = grind (arith, nat_tests) in
+    rw (f, g) refl
+
+-- a fact of each definition page, by the four ranges of their numbers
+by_range : (P : ℕ → Type 0) → ((n : ℕ) → 257 ≤ n → n < 321 → P n) → ((n : ℕ) → 321 ≤ n → n < 833 → P n) → P 833 → ((n : ℕ) → 834 ≤ n → n < 930 → P n) → (number : ℕ) → 257 ≤ number → number < 930 → P number
+by_range P rows none middle series number low high =
+    elim (cases_lt number 321) [
+      | inl below ↦ rows number low below
+      | inr above ↦ elim (cases_lt number 833) [
+        | inl below ↦ none number above below
+        | inr above' ↦ elim (cases_lt number 834) [
+          | inl below ↦ subst P (let e : 833 ≡ number = omega arith in e) middle
+          | inr past ↦ series number past high
+        ]
+      ]
+    ]
+
+-- what is said of the slots in a page
+pub record Stands (on : Slots) (number k : ℕ) : Type 0 where
+  pub within : on.first + k < limit on.kind
+  pub page : page_of_slot on.kind (on.first + k) ≡ number
+  pub byte : byte_of_slot on.kind (on.first + k) ≡ slot_size on.kind * k
+  pub rank : rank on.kind (on.first + k) ≡ rank_of_page number + k
+
+pub stands : (number k : ℕ) → 257 ≤ number → number < 930 → k < (slots_in_page number).count → Stands (slots_in_page number) number k
+stands number k low high =
+    by_range (λ n. k < (slots_in_page n).count → Stands (slots_in_page n) n k)
+    (λ n above below. subst (λ (on : Slots). k < on.count → Stands on n k) (sym (row_types_in n below))
+    (λ one. record { within = omega arith; page = omega arith; byte = omega arith; rank = omega (arith, rank_row_types n below) }))
+    (λ n above below. subst (λ (on : Slots). k < on.count → Stands on n k) (sym (none_in n above below)) (λ none. absurd (omega arith)))
+    (λ few. record { within = omega arith; page = refl; byte = omega arith; rank = omega (arith, rank_middle 833 (lit≤ tt) (lit< tt)) })
+    (λ n above below. subst (λ (on : Slots). k < on.count → Stands on n k) (sym (series_in n above))
+    (λ few. record { within = omega arith; page = omega arith; byte = omega arith; rank = omega (arith, rank_series n above) }))
+    number low high
+
+-- the page after one goes on where that one ends
+pub rank_next : (number : ℕ) → 257 ≤ number → number < 930 → rank_of_page (number + 1) ≡ rank_of_page number + (slots_in_page number).count
+rank_next number low high =
+    by_range (λ n. rank_of_page (n + 1) ≡ rank_of_page n + (slots_in_page n).count)
+    (λ n above below. subst (λ (on : Slots). rank_of_page (n + 1) ≡ rank_of_page n + on.count) (sym (row_types_in n below)) (next_row_type n above below))
+    (λ n above below. subst (λ (on : Slots). rank_of_page (n + 1) ≡ rank_of_page n + on.count) (sym (none_in n above below))
+    (omega (arith, rank_middle n above (omega arith), rank_middle (n + 1) (omega arith) (omega arith))))
+    (omega (arith, rank_middle 833 (lit≤ tt) (lit< tt), rank_series 834 (lit≤ tt)))
+    (λ n above below. subst (λ (on : Slots). rank_of_page (n + 1) ≡ rank_of_page n + on.count) (sym (series_in n above))
+    (omega (arith, rank_series n above, rank_series (n + 1) (omega arith))))
+    number low high where
+      next_row_type : (n : ℕ) → 257 ≤ n → n < 321 → rank_of_page (n + 1) ≡ rank_of_page n + 1
+      next_row_type n above below =
+          elim (cases_lt (n + 1) 321) [
+            | inl below' ↦ omega (arith, rank_row_types n below, rank_row_types (n + 1) below')
+            | inr last ↦ omega (arith, rank_row_types n below, rank_middle (n + 1) last (omega arith))
+          ]
+
+-- the slots in a page fit it
+pub fits_page : (number : ℕ) → 257 ≤ number → number < 930 → slot_size (slots_in_page number).kind * (slots_in_page number).count ≤ 4096
+fits_page number low high =
+    by_range (λ n. slot_size (slots_in_page n).kind * (slots_in_page n).count ≤ 4096)
+    (λ n above below. subst (λ (on : Slots). slot_size on.kind * on.count ≤ 4096) (sym (row_types_in n below)) (lit≤ tt))
+    (λ n above below. subst (λ (on : Slots). slot_size on.kind * on.count ≤ 4096) (sym (none_in n above below)) (lit≤ tt))
+    (lit≤ tt)
+    (λ n above below. subst (λ (on : Slots). slot_size on.kind * on.count ≤ 4096) (sym (series_in n above)) (omega arith))
+    number low high
+
+-- the page of a slot is a definition page
+pub page_low : (kind : Kind) (slot : ℕ) → 257 ≤ page_of_slot kind slot
+page_low kinds.RowType slot = omega arith
+page_low kinds.Container slot = lit≤ tt
+page_low kinds.Series slot = omega arith
+
+pub page_high : (kind : Kind) (slot : ℕ) → slot < limit kind → page_of_slot kind slot < 930
+page_high kinds.RowType slot within = omega arith
+page_high kinds.Container slot within = lit< tt
+page_high kinds.Series slot within = omega arith
+
+-- each slot has its bytes in its page, in front of what is behind all slots there
+pub slot_end : (kind : Kind) (slot : ℕ) → slot < limit kind → byte_of_slot kind slot + slot_size kind ≤ slot_size (slots_in_page (page_of_slot kind slot)).kind * (slots_in_page (page_of_slot kind slot)).count
+slot_end kinds.RowType slot within = subst (λ (on : Slots). 4096 ≤ slot_size on.kind * on.count) (sym (row_types_in (257 + slot) (omega arith))) (lit≤ tt)
+slot_end kinds.Container slot within = omega arith
+slot_end kinds.Series slot within = subst (λ (on : Slots). 94 * (slot % 43) + 94 ≤ slot_size on.kind * on.count) (sym (series_in (834 + slot / 43) (omega arith))) (omega arith)

@@ -1,0 +1,130 @@
+-- No two definitions have one slot's bytes.
+use Rattle.std.proofs.Common.{◌≡◌, ℕ, ◌<◌, ◌≤◌, ◌^◌, Option, Some, None, List, [], ◌∷◌, ◌++◌, length, take, drop, get_or, ◌==◌, if◌then◌else◌, refl, sym, ap, ◌∙◌, arith, lit≤}
+use Rattle.std.specs.Int.{w32, from_be_bytes}
+use Rattle.ts_page.specs.Head.{zero_page}
+use Rattle.ts_row.specs.RowType.{Heading}
+use Rattle.ts_row.specs.declared.kind.Column.{Column}
+use Rattle.ts_row.specs.declared.kind.ColumnKind.{ColumnKind}
+use Rattle.ts_row.specs.declared.kind.ColumnKind.TheVariants.{SmallInt, Integer, BigInt, Decimal, VarChar}
+use Rattle.ts_model.specs.declared.kind.Kind.{Kind}
+use Rattle.ts_model.specs.declared.kind.Kind.TheVariants as kinds
+use Rattle.ts_model.specs.declared.def.Def.{Def}
+use Rattle.ts_model.specs.declared.def.Def.TheVariants as defs
+use Rattle.ts_model.specs.Definitions.{kind_of}
+use Rattle.ts_layout.specs.Slot.{name_bytes, kind_bytes, column_bytes, columns_bytes, row_type_bytes, container_bytes, series_bytes, def_bytes, slot_bytes}
+use Rattle.ts_layout.specs.Limits.{IsRowTypeDef, IsContainerDef, IsSeriesDef, IsDef, IsSlotOf}
+use Rattle.ts_layout.proofs.FieldLemmas.{length-name, name_text, container_name, container_row_type, container_quota, series_length, series_key, series_container, row_type_name, row_type_stamp, row_type_count}
+use Rattle.ts_layout.proofs.LimitLemmas.{length-key}
+use Rattle.ts_layout.proofs.ColumnLemmas.{AreNamed, first_column, named_first, named_others, column_kind, column_name, behind_stamp}
+use Rattle.ts_layout.proofs.SlotLemmas.{slot_filled}
+
+-- of names
+name_one : (a b : List ℕ) → name_bytes a ≡ name_bytes b → a ≡ b
+name_one a b same =
+    let size : length a ≡ length b = ap (λ (l : List ℕ). get_or l 0 0) same in
+    sym (name_text a) ∙ (λ i. take (size i) (drop 1 (same i))) ∙ name_text b
+
+-- of types of columns
+kind_in : ℕ → ℕ → ℕ → ColumnKind
+kind_in code first second =
+    if code == 1 then SmallInt else (if code == 2 then Integer else (if code == 3 then BigInt else (if code == 4 then Decimal first second else VarChar first)))
+
+kind_of_bytes : List ℕ → ColumnKind
+kind_of_bytes bytes = kind_in (get_or bytes 0 0) (get_or bytes 1 0) (get_or bytes 2 0)
+
+kind_back : (kind : ColumnKind) → kind_of_bytes (kind_bytes kind) ≡ kind
+unfolding kind_of_bytes kind_in
+kind_back SmallInt = refl
+kind_back Integer = refl
+kind_back BigInt = refl
+kind_back (Decimal digits scale) = refl
+kind_back (VarChar most) = refl
+
+-- of columns
+column_one : (a b : Column) → column_bytes a ≡ column_bytes b → a ≡ b
+column_one a b same =
+    let kinds : kind_bytes a.kind ≡ kind_bytes b.kind = column_kind a (column_bytes a) refl ∙ sym (column_kind b (column_bytes a) same) in
+    let kind : a.kind ≡ b.kind = sym (kind_back a.kind) ∙ ap kind_of_bytes kinds ∙ kind_back b.kind in
+    let name : a.name ≡ b.name = name_one a.name b.name (sym (column_name a (column_bytes a) refl) ∙ column_name b (column_bytes a) same) in
+    λ i. record { name = name i; kind = kind i }
+
+columns_one : (cs ds : List Column) (bytes rest more : List ℕ) → length cs ≡ length ds → AreNamed cs → AreNamed ds → bytes ≡ columns_bytes cs ++ rest → bytes ≡ columns_bytes ds ++ more → cs ≡ ds
+columns_one [] [] bytes rest more long named named' is is' = refl
+columns_one [] (d ∷ ds) bytes rest more long named named' is is' = absurd (omega arith)
+columns_one (c ∷ cs) [] bytes rest more long named named' is is' = absurd (omega arith)
+columns_one (c ∷ cs) (d ∷ ds) bytes rest more long named named' is is' =
+    let first = first_column c cs rest bytes (named_first c cs named) is in
+    let second = first_column d ds more bytes (named_first d ds named') is' in
+    let same : c ≡ d = column_one c d (sym first.0 ∙ second.0) in
+    let others : cs ≡ ds = columns_one cs ds (drop 36 bytes) rest more (omega arith) (named_others c cs named) (named_others d ds named') first.1 second.1 in
+    λ i. same i ∷ others i
+
+-- of definitions
+row_type_one : (name : List ℕ) (h : Heading) (name' : List ℕ) (h' : Heading) → IsRowTypeDef (record { name = name; heading = h }) → IsRowTypeDef (record { name = name'; heading = h' })
+    → row_type_bytes name h ≡ row_type_bytes name' h' → defs.RowType name h ≡ defs.RowType name' h'
+row_type_one name h name' h' is is' same =
+    let short = length-name name is.name in
+    let short' = length-name name' is'.name in
+    let stamp = length-name h.stamp is.stamp in
+    let stamp' = length-name h'.stamp is'.stamp in
+    let names = name_one name name' (sym (row_type_name name h short) ∙ ap (λ (l : List ℕ). take 33 (drop 1 l)) same ∙ row_type_name name' h' short') in
+    let stamps = name_one h.stamp h'.stamp (sym (row_type_stamp name h short stamp) ∙ ap (λ (l : List ℕ). take 33 (drop 34 l)) same ∙ row_type_stamp name' h' short' stamp') in
+    let counts = sym (row_type_count name h short stamp) ∙ ap (λ (l : List ℕ). get_or l 67 0) same ∙ row_type_count name' h' short' stamp' in
+    let columns = columns_one h.columns h'.columns _ _ _ counts is.columns is'.columns
+    (behind_stamp (row_type_bytes name h) name h is refl) (behind_stamp (row_type_bytes name h) name' h' is' same) in
+    λ i. defs.RowType (names i) (record { stamp = stamps i; columns = columns i })
+
+container_one : (name : List ℕ) (row_type quota : ℕ) (name' : List ℕ) (row_type' quota' : ℕ) → IsContainerDef (record { name = name; row_type = row_type; quota = quota })
+    → IsContainerDef (record { name = name'; row_type = row_type'; quota = quota' }) → container_bytes name row_type quota ≡ container_bytes name' row_type' quota'
+    → defs.Container name row_type quota ≡ defs.Container name' row_type' quota'
+container_one name row_type quota name' row_type' quota' is is' same =
+    let short = length-name name is.name in
+    let short' = length-name name' is'.name in
+    let fits : quota < 2 ^ 32 = omega (arith, is.most) in
+    let fits' : quota' < 2 ^ 32 = omega (arith, is'.most) in
+    let names = name_one name name' (sym (container_name name row_type quota short) ∙ ap (λ (l : List ℕ). take 33 (drop 1 l)) same ∙ container_name name' row_type' quota' short') in
+    let slots = sym (container_row_type name row_type quota short) ∙ ap (λ (l : List ℕ). get_or l 34 0) same ∙ container_row_type name' row_type' quota' short' in
+    let quotas = sym (container_quota name row_type quota short fits)
+    ∙ ap (λ (l : List ℕ). from_be_bytes w32 (get_or l 35 0 ∷ get_or l 36 0 ∷ get_or l 37 0 ∷ get_or l 38 0 ∷ [])) same ∙ container_quota name' row_type' quota' short' fits' in
+    λ i. defs.Container (names i) (slots i) (quotas i)
+
+series_one : (key : List ℕ) (container : ℕ) (key' : List ℕ) (container' : ℕ) → IsSeriesDef (record { key = key; container = container }) → IsSeriesDef (record { key = key'; container = container' })
+    → series_bytes key container ≡ series_bytes key' container' → defs.Series key container ≡ defs.Series key' container'
+series_one key container key' container' is is' same =
+    let short = length-key key is.key in
+    let short' = length-key key' is'.key in
+    let counts = sym (series_length key container) ∙ ap (λ (l : List ℕ). get_or l 1 0) same ∙ series_length key' container' in
+    let keys = sym (series_key key container short) ∙ (λ i. take (counts i) (drop 2 (same i))) ∙ series_key key' container' short' in
+    let slots = sym (series_container key container short) ∙ ap (λ (l : List ℕ). get_or l 66 0) same ∙ series_container key' container' short' in
+    λ i. defs.Series (keys i) (slots i)
+
+-- of one kind
+def_one : (kind : Kind) (a b : Def) → kind_of a ≡ kind → kind_of b ≡ kind → IsDef a → IsDef b → def_bytes a ≡ def_bytes b → a ≡ b
+def_one kinds.RowType (defs.RowType name h) (defs.RowType name' h') is is' good good' same = row_type_one name h name' h' good good' same
+def_one kinds.Container (defs.Container name r q) (defs.Container name' r' q') is is' good good' same = container_one name r q name' r' q' good good' same
+def_one kinds.Series (defs.Series key c) (defs.Series key' c') is is' good good' same = series_one key c key' c' good good' same
+def_one kind a b is is' good good' same = absurd (cc)
+
+-- a definition's first byte isn't 0, an empty slot's is
+first_of_def : (def : Def) → 1 ≤ get_or (def_bytes def) 0 0
+unfolding row_type_bytes container_bytes series_bytes
+first_of_def (defs.RowType name h) = lit≤ tt
+first_of_def (defs.Container name row_type quota) = lit≤ tt
+first_of_def (defs.Series key container) = lit≤ tt
+
+first_of_empty : (kind : Kind) → get_or (slot_bytes kind None) 0 0 ≡ 0
+unfolding zero_page
+first_of_empty kinds.RowType = refl
+first_of_empty kinds.Container = refl
+first_of_empty kinds.Series = refl
+
+pub filled_first : (kind : Kind) (def : Def) → 1 ≤ get_or (slot_bytes kind (Some def)) 0 0
+filled_first kind def = omega (arith, first_of_def def, ap (λ (l : List ℕ). get_or l 0 0) (slot_filled kind def))
+
+-- two slots with the same bytes are one
+pub slot_one : (kind : Kind) (a b : Option Def) → IsSlotOf kind a → IsSlotOf kind b → slot_bytes kind a ≡ slot_bytes kind b → a ≡ b
+slot_one kind None None is is' same = refl
+slot_one kind None (Some b) is is' same = absurd (omega (arith, first_of_empty kind, filled_first kind b, ap (λ (l : List ℕ). get_or l 0 0) same))
+slot_one kind (Some a) None is is' same = absurd (omega (arith, first_of_empty kind, filled_first kind a, ap (λ (l : List ℕ). get_or l 0 0) same))
+slot_one kind (Some a) (Some b) is is' same =
+    ap Some (def_one kind a b is.0 is'.0 is.1 is'.1 (sym (slot_filled kind a) ∙ same ∙ slot_filled kind b))

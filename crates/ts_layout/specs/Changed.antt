@@ -1,0 +1,49 @@
+-- What one slot that is filled or emptied changes in a layout, and what pages that mean the same may differ in.
+use Rattle.std.specs.Prelude.{◌≡◌, ℕ, ◌<◌, ◌⊎◌, Option, Some, None, List, ◌+◌, ◌++◌, take, drop}
+use Rattle.ts_page.specs.Pages.{IsOutsideJournal, IsElementPage, HasFreeHead}
+use Rattle.ts_cells.specs.Cell.{Element}
+use Rattle.ts_model.specs.declared.kind.Kind.{Kind}
+use Rattle.ts_model.specs.declared.def.Def.{Def}
+use Rattle.ts_model.specs.Definitions.{Definitions, ContainerDef, SeriesDef, limit, kind_of, name_of, slots, with_slot, at_slot, slot_of}
+use Rattle.ts_layout.specs.Limits.{IsDef}
+use Rattle.ts_layout.specs.Meaning.{Layout, ElementPage, Cells, element_page, def_at, heading_at, reference, IsThere}
+use Rattle.ts_layout.specs.Slot.{slot_bytes, slot_size, byte_of_slot}
+
+-- outside the journal the same pages, but for the bytes behind the heads of free element pages
+abbrev pub SameOutsideJournal : (ℕ → List ℕ) → (ℕ → List ℕ) → Type 0
+SameOutsideJournal wanted pages =
+    (number : ℕ) → IsOutsideJournal number → (pages number ≡ wanted number) ⊎ (IsElementPage number × HasFreeHead (wanted number) × HasFreeHead (pages number))
+
+-- the bytes of a page with another slot
+abbrev pub with_slot_bytes : Kind → ℕ → Option Def → List ℕ → List ℕ
+with_slot_bytes kind slot def page =
+    take (byte_of_slot kind slot) page ++ (slot_bytes kind def ++ drop (byte_of_slot kind slot + slot_size kind) page)
+
+-- the layout with this definition, or none, in a slot of a kind
+abbrev pub layout_with : Kind → ℕ → Option Def → Layout → Layout
+layout_with kind slot def l = record l { definitions = with_slot kind slot def l.definitions }
+
+-- by other definitions the elements on each page have the same columns
+abbrev pub KeepsHeadings : Definitions → Layout → Type 0
+KeepsHeadings d l =
+    (i slot : ℕ) (es : List Element) → element_page i l.element_pages ≡ Cells slot es → heading_at d slot ≡ heading_at l.definitions slot
+
+-- no page has elements of the series in a slot
+abbrev pub HasNoPage : ℕ → List ElementPage → Type 0
+HasNoPage slot pages = (i : ℕ) (es : List Element) → element_page i pages ≡ Cells slot es → ⊥
+
+-- no container has the row type in a slot
+abbrev pub NoContainerHas : ℕ → Definitions → Type 0
+NoContainerHas slot d = (i : ℕ) (c : ContainerDef) → at_slot i d.containers ≡ Some c → c.row_type ≡ slot → ⊥
+
+-- no series stands in the container in a slot
+abbrev pub NoSeriesStandsIn : ℕ → Definitions → Type 0
+NoSeriesStandsIn slot d = (i : ℕ) (s : SeriesDef) → at_slot i d.series ≡ Some s → s.container ≡ slot → ⊥
+
+-- this definition can be put into a slot: the slot is empty, the name is new, and what it refers to is there
+pub record CanCreate (slot : ℕ) (def : Def) (d : Definitions) : Type 0 where
+  pub within : slot < limit (kind_of def)
+  pub empty : def_at (kind_of def) slot d ≡ None
+  pub new : slot_of (name_of def) (slots (kind_of def) d) ≡ None
+  pub limits : IsDef def
+  pub refers : IsThere d (reference def)

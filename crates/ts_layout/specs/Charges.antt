@@ -1,0 +1,31 @@
+-- What containers are charged, by the directory.
+use Rattle.std.specs.Prelude.{◌≡◌, ℕ, suc, ◌+◌, ◌<◌, ◌≤◌, ◌==◌, if◌then◌else◌, Option, Some, None, List, [], ◌∷◌}
+use Rattle.ts_row.specs.RowType.{Heading}
+use Rattle.ts_space.specs.Directory.{Directory, places_of}
+use Rattle.ts_space.specs.Charge.{irregular_places_charge}
+use Rattle.ts_cells.specs.Cell.{page_room}
+use Rattle.ts_model.specs.Definitions.{Definitions, ContainerDef, SeriesDef, at_slot}
+use Rattle.ts_layout.specs.Meaning.{heading_of_container}
+
+-- what stands in a slot is charged to a container, where a page has room for so many elements
+abbrev pub charge_listed : Directory → ℕ → ℕ → ℕ → Option SeriesDef → ℕ
+charge_listed space container room slot None = 0
+charge_listed space container room slot (Some s) = if s.container == container then irregular_places_charge room (places_of slot space) else 0
+
+-- the sum over slots, from slot number `first` on
+abbrev pub charges_listed : Directory → ℕ → ℕ → ℕ → List (Option SeriesDef) → ℕ
+charges_listed space container room first [] = 0
+charges_listed space container room first (s ∷ rest) = charge_listed space container room first s + charges_listed space container room (suc first) rest
+
+-- what all series of a container are charged
+abbrev pub container_charge : Definitions → Directory → ℕ → ℕ → ℕ
+container_charge d space container room = charges_listed space container room 0 d.series
+
+-- the container in a slot, if there is one, is charged its quota at most
+abbrev pub KeepsQuotaAt : Definitions → Directory → ℕ → Type 0
+KeepsQuotaAt d space slot =
+    (c : ContainerDef) (h : Heading) → at_slot slot d.containers ≡ Some c → heading_of_container d c ≡ Some h → container_charge d space slot (page_room h.columns) ≤ c.quota
+
+-- each container is
+abbrev pub KeepQuotas : Definitions → Directory → Type 0
+KeepQuotas d space = (slot : ℕ) → slot < 64 → KeepsQuotaAt d space slot

@@ -1,0 +1,9 @@
+pub mod Slot
+pub mod Rank
+pub mod Limits
+pub mod Meaning
+pub mod Changed
+pub mod Lookup
+pub mod Surveyed
+pub mod Charges
+pub mod OnePage

@@ -1,0 +1,193 @@
+-- What the pages of a volume mean: they are laid out from definitions and elements that keep the rules, and mean the
+-- catalogue of these.
+use Rattle.std.specs.Prelude.{◌≡◌, ℕ, suc, ◌+◌, ◌-◌, ◌<◌, ◌≤◌, ◌==◌, if◌then◌else◌, IsSome, Option, Some, None, option_and_then, option_map, unwrap_or, List, [], ◌∷◌, length, drop, replicate, slice_index_or, sum_by}
+use Rattle.std.specs.List.{flat_map}
+use Rattle.std.specs.FinMap.{from_entries}
+use Rattle.ts_row.specs.RowType.{Heading}
+use Rattle.ts_page.specs.Head.{bytes_at}
+use Rattle.ts_page.specs.Pages.{IsFreePage}
+use Rattle.ts_space.specs.Charge.{irregular_charge}
+use Rattle.ts_cells.specs.Cell.{Element, page_room}
+use Rattle.ts_cells.specs.IrregularPage.{IsIrregularPage}
+use Rattle.ts_model.specs.Catalogue.{Catalogue, Container, Series, Elements}
+use Rattle.ts_model.specs.declared.kind.Kind.{Kind}
+use Rattle.ts_model.specs.declared.kind.Kind.TheVariants as kinds
+use Rattle.ts_model.specs.declared.def.Def.{Def}
+use Rattle.ts_model.specs.declared.def.Def.TheVariants as defs
+use Rattle.ts_model.specs.Definitions.{Definitions, ContainerDef, SeriesDef, limit, slots, at_slot, by_name, IsDefinitions}
+use Rattle.ts_layout.specs.Limits.{IsSlotOf}
+use Rattle.ts_layout.specs.Slot.{slot_size, slot_bytes, page_of_slot, byte_of_slot, slots_in_page, bytes_of_slots, header_bytes}
+
+-- an element page: free, or with the elements of the series in a slot
+pub data ElementPage : Type 0 where
+  Free : ElementPage
+  Cells : ℕ → List Element → ElementPage
+
+-- what a volume is laid out from: its definitions in their slots, and what stands on each of its element pages
+pub record Layout : Type 0 where
+  pub definitions : Definitions
+  pub element_pages : List ElementPage
+
+-- the element page of that number, counted from 0
+abbrev pub element_page : ℕ → List ElementPage → ElementPage
+element_page i pages = slice_index_or pages i Free
+
+-- the columns of a container's elements, by the slot of its row type
+abbrev pub heading_of_container : Definitions → ContainerDef → Option Heading
+heading_of_container d c = option_map (λ r. r.heading) (at_slot c.row_type d.row_types)
+
+-- the columns of the elements of the container in a slot
+abbrev pub heading_in : Definitions → ℕ → Option Heading
+heading_in d slot = option_and_then (heading_of_container d) (at_slot slot d.containers)
+
+-- the columns of the elements of the series in a slot
+abbrev pub heading_at : Definitions → ℕ → Option Heading
+heading_at d slot = option_and_then (λ s. heading_in d s.container) (at_slot slot d.series)
+
+-- what stands in a slot of a kind
+abbrev pub def_at : Kind → ℕ → Definitions → Option Def
+def_at kind slot d = at_slot slot (slots kind d)
+
+-- the bytes of a slot
+abbrev pub bytes_of_slot : Kind → ℕ → (ℕ → List ℕ) → List ℕ
+bytes_of_slot kind slot pages = bytes_at (byte_of_slot kind slot) (slot_size kind) (pages (page_of_slot kind slot))
+
+-- the bytes of definitions, each in its slot; what is in no slot is zero
+pub record HoldsDefinitions (pages : ℕ → List ℕ) (d : Definitions) : Type 0 where
+  pub slots : (kind : Kind) (slot : ℕ) → slot < limit kind → bytes_of_slot kind slot pages ≡ slot_bytes kind (def_at kind slot d)
+  pub behind : (number : ℕ) → 257 ≤ number → number < 930
+      → drop (bytes_of_slots (slots_in_page number)) (pages number) ≡ replicate (4096 - bytes_of_slots (slots_in_page number)) 0
+
+-- a page that is free, whatever follows its first byte, or the page of elements of a series
+abbrev pub HoldsElements : Definitions → List ℕ → ElementPage → Type 0
+HoldsElements d page Free = IsFreePage page
+HoldsElements d page (Cells slot es) =
+    (heading : Heading) × (heading_at d slot ≡ Some heading) × IsIrregularPage slot heading.columns es page
+
+-- element pages, from page 930 on, with these elements
+abbrev pub HoldAll : Definitions → (ℕ → List ℕ) → List ElementPage → Type 0
+HoldAll d pages es = (j : ℕ) → j < length es → HoldsElements d (pages (930 + j)) (element_page j es)
+
+-- the bytes of a volume that is laid out so; the journal's pages are no part of it
+pub record HoldsLayout (pages : ℕ → List ℕ) (l : Layout) : Type 0 where
+  pub header : pages 0 ≡ header_bytes (length l.element_pages)
+  pub definitions : HoldsDefinitions pages l.definitions
+  pub elements : (i : ℕ) → i < length l.element_pages → HoldsElements l.definitions (pages (930 + i)) (element_page i l.element_pages)
+
+-- what stands in the slots of each kind is of that kind and keeps its limits
+abbrev pub KeepLimits : Definitions → Type 0
+KeepLimits d = (kind : Kind) (slot : ℕ) → slot < limit kind → IsSlotOf kind (def_at kind slot d)
+
+-- what a definition refers to: a container to the slot of its row type, a series to that of its container
+abbrev pub reference : Def → Option (Kind × ℕ)
+reference (defs.RowType name kind) = None
+reference (defs.Container name row_type quota) = Some (kinds.RowType, row_type)
+reference (defs.Series key container) = Some (kinds.Container, container)
+
+-- something stands in the slot that a definition refers to
+abbrev pub IsThere : Definitions → Option (Kind × ℕ) → Type 0
+IsThere d None = Unit {0}
+IsThere d (Some target) = IsSome (def_at target.0 target.1 d)
+
+-- each definition refers to a filled slot
+abbrev pub AreThere : Definitions → Type 0
+AreThere d = (kind : Kind) (slot : ℕ) (def : Def) → slot < limit kind → def_at kind slot d ≡ Some def → IsThere d (reference def)
+
+-- each definition of a kind refers to a filled slot
+abbrev pub AreThereIn : Kind → Definitions → Type 0
+AreThereIn kind d = (slot : ℕ) (def : Def) → slot < limit kind → def_at kind slot d ≡ Some def → IsThere d (reference def)
+
+-- the quotas of all containers together
+abbrev pub quota_in : Option ContainerDef → ℕ
+quota_in None = 0
+quota_in (Some c) = c.quota
+
+abbrev pub sum_of_quotas : List (Option ContainerDef) → ℕ
+sum_of_quotas table = sum_by quota_in table
+
+-- the rules of definitions in a volume with so many element pages
+pub record AreSound (pages : ℕ) (d : Definitions) : Type 0 where
+  pub tables : IsDefinitions d
+  pub limits : KeepLimits d
+  pub references : AreThere d
+  pub quotas : sum_of_quotas d.containers ≤ pages
+
+-- the elements that a page has of the series in a slot
+abbrev pub elements_on : ℕ → ElementPage → List Element
+elements_on slot Free = []
+elements_on slot (Cells s es) = if s == slot then es else []
+
+-- all elements of the series in a slot, page after page
+abbrev pub elements_of : ℕ → List ElementPage → List Element
+elements_of slot pages = flat_map (elements_on slot) pages
+
+-- the sum over the filled slots of a table, from slot number `first` on, of what a function gives of slot and definition
+abbrev pub sum_filled : {A : Type 0} → (ℕ → A → ℕ) → ℕ → List (Option A) → ℕ
+sum_filled f first [] = 0
+sum_filled f first (None ∷ rest) = sum_filled f (suc first) rest
+sum_filled f first (Some a ∷ rest) = f first a + sum_filled f (suc first) rest
+
+-- what one series is charged to the container in a slot, where a page has room for so many of its elements
+abbrev pub charge_of_series : List ElementPage → ℕ → ℕ → ℕ → SeriesDef → ℕ
+charge_of_series pages container room slot s =
+    if s.container == container then irregular_charge room (length (elements_of slot pages)) else 0
+
+-- what all series of the container in a slot are charged together
+abbrev pub charge_of_container : Layout → ℕ → ℕ → ℕ
+charge_of_container l container room = sum_filled (charge_of_series l.element_pages container room) 0 l.definitions.series
+
+-- no two pages have elements of one series
+abbrev pub HasOnePageEach : List ElementPage → Type 0
+HasOnePageEach pages =
+    (i j slot : ℕ) (es fs : List Element) → element_page i pages ≡ Cells slot es → element_page j pages ≡ Cells slot fs → i ≡ j
+
+-- no container is charged more than its quota
+abbrev pub KeepsQuotas : Layout → Type 0
+KeepsQuotas l =
+    (i : ℕ) (c : ContainerDef) (h : Heading) → at_slot i l.definitions.containers ≡ Some c → heading_of_container l.definitions c ≡ Some h
+    → charge_of_container l i (page_room h.columns) ≤ c.quota
+
+-- the rules of a volume
+pub record IsSound (l : Layout) : Type 0 where
+  pub some : 1 ≤ length l.element_pages
+  pub most : length l.element_pages ≤ 65536
+  pub definitions : AreSound (length l.element_pages) l.definitions
+  pub one_page : HasOnePageEach l.element_pages
+  pub charges : KeepsQuotas l
+
+-- pages, so many in all, that are laid out so and keep the rules
+pub record IsLaidOut (count : ℕ) (pages : ℕ → List ℕ) (l : Layout) : Type 0 where
+  pub size : count ≡ 930 + length l.element_pages
+  pub bytes : HoldsLayout pages l
+  pub rules : IsSound l
+
+-- the name of what stands in a slot; an empty slot has none
+abbrev pub name_at : {A : Type 0} → (A → List ℕ) → ℕ → List (Option A) → List ℕ
+name_at name slot table = unwrap_or (option_map name (at_slot slot table)) []
+
+-- the elements of the series in a slot, by their stamps
+abbrev pub elements_at : ℕ → List ElementPage → Elements
+elements_at slot pages = from_entries (elements_of slot pages)
+
+-- a container and a series with names in place of slots
+abbrev pub container_of : Definitions → ContainerDef → Container
+container_of d c = record { row_type = name_at (λ r. r.name) c.row_type d.row_types; quota = c.quota }
+
+abbrev pub series_of : Layout → ℕ → SeriesDef → Series
+series_of l slot s = record {
+  container = name_at (λ c. c.name) s.container l.definitions.containers;
+  elements = elements_at slot l.element_pages;
+}
+
+-- the catalogue of a layout
+abbrev pub catalogue_of : Layout → Catalogue
+catalogue_of l = record {
+  pages = length l.element_pages;
+  row_types = by_name (λ r. r.name) (λ slot r. r.heading) l.definitions.row_types;
+  containers = by_name (λ c. c.name) (λ slot c. container_of l.definitions c) l.definitions.containers;
+  series = by_name (λ s. s.key) (series_of l) l.definitions.series;
+}
+
+-- pages, so many in all, mean the catalogue that they are laid out from
+abbrev pub Means : ℕ → (ℕ → List ℕ) → Catalogue → Type 0
+Means count pages cat = (l : Layout) × IsLaidOut count pages l × (cat ≡ catalogue_of l)

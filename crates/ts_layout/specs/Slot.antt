@@ -1,0 +1,99 @@
+-- The bytes of definitions in their slots. What isn't named is zero, and an empty slot is zeros.
+use Rattle.std.specs.Prelude.{ℕ, ◌+◌, ◌-◌, ◌*◌, ◌/◌, ◌%◌, ◌==◌, nat_lt, min, if◌then◌else◌, Option, Some, None, List, [], ◌∷◌, ◌++◌, length, replicate, codes}
+use Rattle.std.specs.List.{flat_map}
+use Rattle.std.specs.Int.{w32, to_be_bytes}
+use Rattle.ts_row.specs.declared.kind.ColumnKind.{ColumnKind}
+use Rattle.ts_row.specs.declared.kind.ColumnKind.TheVariants.{SmallInt, Integer, BigInt, Decimal, VarChar}
+use Rattle.ts_row.specs.declared.kind.Column.{Column}
+use Rattle.ts_row.specs.RowType.{Heading}
+use Rattle.ts_page.specs.Head.{zero_page}
+use Rattle.ts_layout.specs.declared.place.Slots.{Slots}
+use Rattle.ts_model.specs.declared.kind.Kind.{Kind}
+use Rattle.ts_model.specs.declared.kind.Kind.TheVariants as kinds
+use Rattle.ts_model.specs.declared.def.Def.{Def}
+use Rattle.ts_model.specs.declared.def.Def.TheVariants as defs
+
+-- bytes and zeros, so many in all
+unfoldable pub padded : ℕ → List ℕ → List ℕ
+padded size bytes = bytes ++ replicate (size - length bytes) 0
+
+-- a name in 33 bytes: its length, its bytes, zeros
+abbrev pub name_bytes : List ℕ → List ℕ
+name_bytes name = length name ∷ padded 32 name
+
+-- the type of a column in 3 bytes: its code, the digits of a decimal or the most bytes of a text, the scale
+abbrev pub kind_bytes : ColumnKind → List ℕ
+kind_bytes SmallInt = 1 ∷ 0 ∷ 0 ∷ []
+kind_bytes Integer = 2 ∷ 0 ∷ 0 ∷ []
+kind_bytes BigInt = 3 ∷ 0 ∷ 0 ∷ []
+kind_bytes (Decimal digits scale) = 4 ∷ digits ∷ scale ∷ []
+kind_bytes (VarChar most) = 5 ∷ most ∷ 0 ∷ []
+
+-- a column in 36 bytes: its type and its name
+abbrev pub column_bytes : Column → List ℕ
+column_bytes c = kind_bytes c.kind ++ name_bytes c.name
+
+abbrev pub columns_bytes : List Column → List ℕ
+columns_bytes columns = flat_map column_bytes columns
+
+-- a row type in the 4096 bytes of its page: 1, its name, the name of the stamp, the number of value columns, these
+unfoldable pub row_type_bytes : List ℕ → Heading → List ℕ
+row_type_bytes name heading =
+    1 ∷ (name_bytes name
+    ++ (name_bytes heading.stamp ++ (length heading.columns ∷ padded 4028 (columns_bytes heading.columns))))
+
+-- a container in 60 bytes: 1, its name, the slot of its row type, its quota
+unfoldable pub container_bytes : List ℕ → ℕ → ℕ → List ℕ
+container_bytes name row_type quota = 1 ∷ (name_bytes name ++ (row_type ∷ padded 25 (to_be_bytes w32 quota)))
+
+-- an irregular series in 94 bytes: 2, the length of its key, its key, the slot of its container
+unfoldable pub series_bytes : List ℕ → ℕ → List ℕ
+series_bytes key container = 2 ∷ (length key ∷ (padded 64 key ++ (container ∷ padded 27 [])))
+
+-- a definition in its slot
+abbrev pub def_bytes : Def → List ℕ
+def_bytes (defs.RowType name kind) = row_type_bytes name kind
+def_bytes (defs.Container name row_type quota) = container_bytes name row_type quota
+def_bytes (defs.Series key container) = series_bytes key container
+
+-- the bytes of a slot of a kind
+abbrev pub slot_size : Kind → ℕ
+slot_size kinds.RowType = 4096
+slot_size kinds.Container = 60
+slot_size kinds.Series = 94
+
+-- a slot of a kind: empty, or with a definition
+abbrev pub slot_bytes : Kind → Option Def → List ℕ
+slot_bytes kinds.RowType None = zero_page
+slot_bytes kinds.Container None = replicate 60 0
+slot_bytes kinds.Series None = replicate 94 0
+slot_bytes kind (Some def) = def_bytes def
+
+-- the page of a slot: row types have one each from page 257 on, containers share page 833, and of series 43 stand in
+-- each page from 834 on
+abbrev pub page_of_slot : Kind → ℕ → ℕ
+page_of_slot kinds.RowType slot = 257 + slot
+page_of_slot kinds.Container slot = 833
+page_of_slot kinds.Series slot = 834 + slot / 43
+
+-- the first byte of a slot in its page
+abbrev pub byte_of_slot : Kind → ℕ → ℕ
+byte_of_slot kinds.RowType slot = 0
+byte_of_slot kinds.Container slot = 60 * slot
+byte_of_slot kinds.Series slot = 94 * (slot % 43)
+
+-- the slots that stand in a definition page, from its first byte on; in the pages 321 to 832 there are none
+abbrev pub slots_in_page : ℕ → Slots
+slots_in_page number =
+    if nat_lt number 321 then record { kind = kinds.RowType; first = number - 257; count = 1 }
+    else (if nat_lt number 833 then record { kind = kinds.RowType; first = 0; count = 0 }
+    else (if number == 833 then record { kind = kinds.Container; first = 0; count = 64 }
+    else record { kind = kinds.Series; first = 43 * (number - 834); count = min 43 (4096 - 43 * (number - 834)) }))
+
+-- how many bytes of a definition page are slots
+abbrev pub bytes_of_slots : Slots → ℕ
+bytes_of_slots on = slot_size on.kind * on.count
+
+-- the header of a volume: the word `TSVOLUME`, the format 1, the number of element pages
+unfoldable pub header_bytes : ℕ → List ℕ
+header_bytes pages = padded 4096 (codes "TSVOLUME" ++ (1 ∷ to_be_bytes w32 pages))

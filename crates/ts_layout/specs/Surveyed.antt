@@ -1,0 +1,35 @@
+-- What is kept in memory of a volume: its definitions, the directory of its pages and its free pages.
+use Rattle.std.specs.Prelude.{◌≡◌, ℕ, suc, ◌<◌, ◌==◌, if◌then◌else◌, List, [], ◌∷◌, ◌++◌, length}
+use Rattle.ts_space.specs.declared.place.Place.{Place}
+use Rattle.ts_space.specs.Directory.{Directory, places_of}
+use Rattle.ts_cells.specs.Cell.{Element}
+use Rattle.ts_layout.specs.Meaning.{ElementPage, Free, Cells, Layout}
+
+-- the place of a page: its first stamp, its number and how many elements it has
+abbrev pub place_of : ℕ → List Element → List Place
+place_of number [] = []
+place_of number (e ∷ es) = record { at = e.0; page = number; count = suc (length es) } ∷ []
+
+-- the place of a page, if it has elements of the series in a slot
+abbrev pub places_on : ℕ → ℕ → ElementPage → List Place
+places_on slot number Free = []
+places_on slot number (Cells s es) = if s == slot then place_of number es else []
+
+-- the places of the series in a slot, page after page from page number `first` on
+abbrev pub places_from : ℕ → ℕ → List ElementPage → List Place
+places_from slot first [] = []
+places_from slot first (e ∷ rest) = places_on slot first e ++ places_from slot (suc first) rest
+
+-- the numbers of the free pages, from page number `first` on
+abbrev pub free_from : ℕ → List ElementPage → List ℕ
+free_from first [] = []
+free_from first (Free ∷ rest) = first ∷ free_from (suc first) rest
+free_from first (Cells s es ∷ rest) = free_from (suc first) rest
+
+-- the directory lists for each series exactly its pages
+abbrev pub ListsPlaces : Directory → Layout → Type 0
+ListsPlaces space l = (slot : ℕ) → slot < 4096 → places_of slot space ≡ places_from slot 930 l.element_pages
+
+-- all free pages, the first one first
+abbrev pub free_pages : Layout → List ℕ
+free_pages l = free_from 930 l.element_pages

@@ -1,0 +1,102 @@
+// Where slots stand in the definition pages.
+ghost use Rattle.std.specs.Prelude.{◌≡◌, ◌<◌, ◌≤◌};
+ghost use Rattle.ts_model.specs.Definitions.{limit};
+ghost use Rattle.ts_layout.specs.Slot.{slot_size, slots_in_page, page_of_slot, byte_of_slot};
+
+use ts_model::Kind;
+
+/// The definition pages: 64 of row types, those of no kind yet, one of all containers, and those of series.
+pub const ROW_TYPES: u32 = 257;
+
+const UNUSED: u32 = 321;
+
+pub const CONTAINERS: u32 = 833;
+
+const SERIES: u32 = 834;
+
+/// The first element page.
+pub const ELEMENTS: u32 = 930;
+
+/// So many slots of series stand in one page.
+const SERIES_IN_PAGE: u32 = 43;
+
+/// Slots of one kind that follow one another.
+#[derive(Clone, Copy)]
+pub struct Slots {
+    pub kind: Kind,
+    pub first: u16,
+    pub count: u16,
+}
+
+/// The slots that stand in a definition page.
+pub fn slots_in_page(number: u32) -> Slots
+    requires low { 257 ≤ number }
+    requires high { number < 930 }
+    ensures { result ≡ slots_in_page number }
+{
+    if number < UNUSED {
+        return Slots {
+            kind: Kind::RowType,
+            first: (number - ROW_TYPES) as u16,
+            count: 1,
+        };
+    }
+    if number < CONTAINERS {
+        return Slots {
+            kind: Kind::RowType,
+            first: 0,
+            count: 0,
+        };
+    }
+    if number == CONTAINERS {
+        return Slots {
+            kind: Kind::Container,
+            first: 0,
+            count: 64,
+        };
+    }
+    let first = SERIES_IN_PAGE * (number - SERIES);
+    Slots {
+        kind: Kind::Series,
+        first: first as u16,
+        count: SERIES_IN_PAGE.min(4096 - first) as u16,
+    }
+}
+
+/// The bytes of a slot.
+pub fn slot_size(kind: Kind) -> usize
+    ensures value { result ≡ slot_size kind }
+    ensures bound { result ≤ 4096 }
+{
+    match kind {
+        Kind::RowType => 4096,
+        Kind::Container => 60,
+        Kind::Series => 94,
+    }
+}
+
+/// The page of a slot.
+pub fn page_of_slot(kind: Kind, slot: u16) -> u32
+    requires { slot < limit kind }
+    ensures { result ≡ page_of_slot kind slot }
+{
+    let slot = slot as u32;
+    match kind {
+        Kind::RowType => ROW_TYPES + slot,
+        Kind::Container => CONTAINERS,
+        Kind::Series => SERIES + slot / SERIES_IN_PAGE,
+    }
+}
+
+/// The first byte of a slot in its page.
+pub fn byte_of_slot(kind: Kind, slot: u16) -> usize
+    requires { slot < limit kind }
+    ensures { result ≡ byte_of_slot kind slot }
+{
+    let slot = slot as usize;
+    match kind {
+        Kind::RowType => 0,
+        Kind::Container => 60 * slot,
+        Kind::Series => 94 * (slot % 43),
+    }
+}
