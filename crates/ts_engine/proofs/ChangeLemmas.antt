@@ -1,6 +1,6 @@
 -- A change: work in an open batch, its end, and what a stop within it leaves.
 use Rattle.std.specs.declared.alloc.AllocError.{AllocError}
-use Rattle.std.proofs.Common.{◌≡◌, inl, inr, ⊎_elim, ℕ, ◌≤◌, Bool, IsTrue, Some, None, Result, Ok, Err, IsOk, OnOk, List, [], refl, ap, sym, ◌∙◌, subst, arith}
+use Rattle.std.proofs.Common.{◌≡◌, ◌⊎◌, inl, inr, ⊎_elim, ℕ, ◌≤◌, Bool, IsTrue, Some, None, Result, Ok, Err, IsOk, OnOk, List, [], refl, ap, sym, ◌∙◌, subst, arith}
 use Rattle.ts_base.specs.declared.fault.StoreFault.{StoreFault}
 use Rattle.ts_base.specs.declared.fault.StoreFault.TheVariants.{Failed as StoreFailed}
 use Rattle.ts_disk.specs.Device.{Device, Lawful, Rose, LeavesOnly}
@@ -8,7 +8,7 @@ use Rattle.ts_disk.proofs.Moments.{started, then_on, leaves_map}
 use Rattle.ts_page.specs.Pages.{Contents, SameButFreed}
 use Rattle.ts_page.proofs.PagesLemmas.{lawful_same}
 use Rattle.ts_journal.specs.Journal.{own_page, pages, ReadsButFreed}
-use Rattle.ts_journal.specs.Moment.{Keeps}
+use Rattle.ts_journal.specs.Moment.{Keeps, OnlyReads}
 use Rattle.ts_journal.proofs.WriteLemmas.{keeps_refl, keeps_then}
 use Rattle.ts_recover.proofs.ReadLemmas.{reads_then, reads_none}
 use Rattle.ts_store.specs.OpenBatch.{State, IsOver, IsIdle, Closes, BeforeOrRead, over, read_pages, contents_over}
@@ -55,6 +55,7 @@ module _ (tells : Bool) (e f : Kept) (v w : Device) (before : IsOver tells e.sto
     spent = spent;
     alike = λ told. read_committed tells told e.store f.store v w before closes.batch over (reads told);
     fault = tt;
+    tried = inr refl;
     moments = finish_moments;
     others = keeps;
   }
@@ -72,6 +73,7 @@ module _ (tells : Bool) (e f : Kept) (v w : Device) (before : IsOver tells e.sto
     spent = tt;
     alike = tt;
     fault = (inl rose, spent, keeps.faults);
+    tried = inr refl;
     moments = finish_moments;
     others = keeps;
   }
@@ -96,6 +98,7 @@ module _ (tells : Bool) (worked : Result Unit StoreFault) (done : IsOk worked) (
     spent = x.spent;
     alike = x.alike;
     fault = tt;
+    tried = x.tried;
     moments = x.moments;
     others = x.others;
   }
@@ -111,6 +114,7 @@ module _ (tells : Bool) (worked : Result Unit StoreFault) (done : IsOk worked) (
     spent = tt;
     alike = tt;
     fault = x.fault;
+    tried = x.tried;
     moments = x.moments;
     others = x.others;
   }
@@ -126,6 +130,7 @@ module _ (tells : Bool) (worked : Result Unit StoreFault) (done : IsOk worked) (
     spent = tt;
     alike = tt;
     fault = record { pages = x.fault.pages; journal = x.fault.journal; overlay = x.fault.overlay; batch = x.fault.batch; free = x.fault.free; kept_free = x.fault.kept_free; spent = x.fault.spent; reads = x.fault.reads };
+    tried = x.tried;
     moments = x.moments;
     others = x.others;
   }
@@ -160,6 +165,7 @@ module _ (tells : Bool) (worked : Result Unit StoreFault) (e g f : Kept) (v : De
     spent = tt;
     alike = tt;
     fault = (inr failed, ap (λ (x : Kept). x.spent) spent, omega arith);
+    tried = inl (reads_none tells v lawful);
     moments = before_finish tells worked e.store v lawful before;
     others = keeps_refl tells v;
   }
@@ -186,6 +192,7 @@ module _ (tells : Bool) (worked : Result Unit StoreFault) (e g f : Kept) (v : De
       spent = ap (λ (x : Kept). x.spent) drop ∙ ap (λ (x : Kept). x.spent) is;
       reads = reads_none tells v lawful;
     };
+    tried = inl (reads_none tells v lawful);
     moments = before_finish tells worked e.store v lawful before;
     others = keeps_refl tells v;
   }
@@ -250,6 +257,11 @@ module _ (tells : Bool) (Work : Contents → Contents → Type 0) (worked : Resu
         reads = reads_then tells v x w calls.reads drop.reads;
       }
 
+  -- nothing was written, or the work was done
+  reads_or_work : OnlyReads tells x w ⊎ IsOk worked → OnlyReads tells v w ⊎ ((read : Contents) × Work (contents_over e.store v) read)
+  reads_or_work tried =
+      ⊎_elim (λ reads. inl (reads_then tells v x w calls.reads reads)) (λ ok. inr (contents_over g.store x, on_ok worked (Work (contents_over e.store v) (contents_over g.store x)) ok work)) tried
+
   pub changed : (result : Result Unit StepFault) → g.spent ≡ None → Finished tells worked result g f x w → Changed tells Work result e.store f.store f.spent v w
   changed (Ok done) unspent finished = record {
     idle = record { over = finished.over; batch = finished.batch; kept_free = finished.kept_free ∙ sym finished.free };
@@ -262,6 +274,7 @@ module _ (tells : Bool) (Work : Contents → Contents → Type 0) (worked : Resu
     };
     unspent = finished.spent ∙ unspent;
     fault = tt;
+    tried = tt;
     moments = λ told. all_moments told (finished.moments told);
     others = keeps_then tells v x w calls.reads.keeps finished.others;
   }
@@ -270,6 +283,7 @@ module _ (tells : Bool) (Work : Contents → Contents → Type 0) (worked : Resu
     done = tt;
     unspent = tt;
     fault = (⊎_elim (λ rose. rose_on v.faults x.faults w.faults calls.reads.keeps.faults rose) (λ failed. rose_before v.faults x.faults w.faults (cause failed) finished.fault.2) finished.fault.0, finished.fault.1);
+    tried = reads_or_work finished.tried;
     moments = λ told. all_moments told (finished.moments told);
     others = keeps_then tells v x w calls.reads.keeps finished.others;
   }
@@ -278,6 +292,7 @@ module _ (tells : Bool) (Work : Contents → Contents → Type 0) (worked : Resu
     done = tt;
     unspent = tt;
     fault = (still finished.fault, finished.fault.spent ∙ unspent);
+    tried = reads_or_work finished.tried;
     moments = λ told. all_moments told (finished.moments told);
     others = keeps_then tells v x w calls.reads.keeps finished.others;
   }

@@ -26,7 +26,8 @@ use Rattle.ts_engine.specs.Reply.{ok_line, refusal_line}
 use Rattle.ts_engine.specs.Engine.{Kept, IsKeptOf, IsReady}
 use Rattle.ts_engine.specs.Step.{Stepped, is_reading}
 use Rattle.ts_engine.specs.Change.{IsStill, Changed, Defines, IsDecision}
-use Rattle.ts_engine.proofs.StepLemmas.{refuses, still_none, stepped_ok, stepped_fault, stepped_still, stepped_memory}
+use Rattle.ts_engine.proofs.StepLemmas.{refuses, still_none, stepped_still, stepped_memory}
+use Rattle.ts_engine.proofs.NextLemmas.{Next, next_ok, next_fault}
 
 -- there is room once it was taken
 pub room_taken : (kind : Kind) (room : Room) → has_room kind (with_room kind room) ≡ true
@@ -65,18 +66,23 @@ module _ (tells : Bool) (kind : Kind) (slot : ℕ) (def : Option Def) (command :
   defines : Defines kind slot def command ready.keeps.0
   defines = decision ready.keeps.0 ready.keeps.1
 
-  work : IsTrue tells → (read : Contents) → SlotWritten tells kind slot def (Ok tt) (contents_over e.store v) read → HoldsLayout read.page (layout_with kind slot def ready.keeps.0)
-  work told read written = slot_work tells told kind slot def ready.keeps.0 (contents_over e.store v) read within ready.keeps.1.rules defines.headings (ready.keeps.2 told) written
+  next : (read : Contents) → SlotWritten tells kind slot def (Ok tt) (contents_over e.store v) read → Next tells command ok_line ready.keeps.0 read
+  next read written = record {
+    layout = layout_with kind slot def ready.keeps.0;
+    size = refl;
+    rules = defines.rules;
+    holds = λ told. slot_work tells told kind slot def ready.keeps.0 (contents_over e.store v) read within ready.keeps.1.rules defines.headings (ready.keeps.2 told) written;
+    comes = λ told. defines.outcome;
+  }
 
   pub defined_ok : Changed tells (SlotWritten tells kind slot def (Ok tt)) (Ok tt) e.store f.store f.spent v w → f.tables.definitions ≡ with_slot kind slot def e.tables.definitions → f.space ≡ e.space → Stepped tells command (Ok tt) ok_line e f v w
+  unfolding next
   defined_ok changed definitions space =
-      stepped_ok tells command (SlotWritten tells kind slot def (Ok tt)) e f v w ok_line ready.keeps.0 (layout_with kind slot def ready.keeps.0) lawful later ready ready.keeps.1 ready.keeps.2 refl defines.rules work defines.outcome writes
-      changed (kept_defined e f ready.keeps.0 kind slot def ready.keeps.1 defines.rules defines.headings definitions space changed.done.pages (changed.done.free ∙ changed.done.work.free))
+      next_ok tells command (SlotWritten tells kind slot def (Ok tt)) e f v w ok_line lawful later ready next writes changed
+      (kept_defined e f ready.keeps.0 kind slot def ready.keeps.1 defines.rules defines.headings definitions space changed.done.pages (changed.done.free ∙ changed.done.work.free))
 
   pub defined_fault : (fault : StepFault) → Changed tells (SlotWritten tells kind slot def (Ok tt)) (Err fault) e.store f.store f.spent v w → f.tables.definitions ≡ e.tables.definitions → f.space.lists ≡ e.space.lists → Stepped tells command (Err fault) [] e f v w
-  defined_fault fault changed definitions lists =
-      stepped_fault tells command (SlotWritten tells kind slot def (Ok tt)) e f v w ok_line ready.keeps.0 (layout_with kind slot def ready.keeps.0) lawful later ready ready.keeps.1 ready.keeps.2 refl defines.rules work defines.outcome writes
-      fault changed definitions lists
+  defined_fault fault changed definitions lists = next_fault tells command (SlotWritten tells kind slot def (Ok tt)) e f v w ok_line lawful later ready next writes fault changed definitions lists
 
 -- a command that changes nothing
 module _ (tells : Bool) (command : Command) (e : Kept) (v : Device) (lawful : Lawful tells v) (ready : IsReady tells e v) where

@@ -1,5 +1,5 @@
 -- A look at the page of a series, and a step behind it.
-use Rattle.std.proofs.Common.{◌≡◌, inl, ℕ, ◌<◌, Bool, IsTrue, ℤ, Some, None, IsSome, is_some, Result, Ok, Err, OnOk, List, [], ◌∷◌, length, refl, ap, sym, ◌∙◌, subst, arith}
+use Rattle.std.proofs.Common.{◌≡◌, inl, ℕ, ◌<◌, Bool, true, false, IsTrue, ℤ, Some, None, IsSome, is_some, Result, Ok, Err, OnOk, List, [], ◌∷◌, length, refl, ap, sym, ◌∙◌, subst, arith}
 use Rattle.std.specs.FinMap.{get-from_entries}
 use Rattle.std.specs.Cmp.{int_cmp_total}
 use Rattle.ts_command.specs.declared.command.Command.{Command}
@@ -8,13 +8,16 @@ use Rattle.ts_disk.proofs.Moments.{then_on, leaves_map}
 use Rattle.ts_journal.proofs.WriteLemmas.{keeps_then}
 use Rattle.ts_recover.proofs.ReadLemmas.{reads_then}
 use Rattle.ts_row.specs.RowType.{Heading}
+use Rattle.ts_row.specs.Row.{Values}
 use Rattle.ts_space.specs.declared.place.Place.{Place}
 use Rattle.ts_space.specs.Directory.{Directory, places_of}
 use Rattle.ts_irregular.specs.Edit.{element_at}
 use Rattle.ts_irregular.specs.OnePage.{AreSeen}
+use Rattle.ts_irregular.specs.Call.{IsInserted}
 use Rattle.ts_model.specs.Catalogue.{Catalogue}
 use Rattle.ts_model.specs.Definitions.{Definitions, IsDefinitions}
 use Rattle.ts_cells.specs.Cell.{Element}
+use Rattle.ts_page.specs.Pages.{Contents}
 use Rattle.ts_store.specs.OpenBatch.{State, IsIdle, read_pages, contents_over}
 use Rattle.ts_store.specs.Undisturbed.{Undisturbed}
 use Rattle.ts_store.proofs.CallerLemmas.{idle_dropped, read_dropped}
@@ -27,7 +30,7 @@ use Rattle.ts_engine.specs.Volume.{MeansCatalogue}
 use Rattle.ts_engine.specs.Engine.{Kept, IsKeptOf, IsReady, IsAt, IsSame}
 use Rattle.ts_engine.specs.Step.{BeforeOrAfter, IsUntouched, StepFaulted, Stepped}
 use Rattle.ts_engine.specs.Change.{IsStill, ChangeFault}
-use Rattle.ts_engine.specs.Elements.{CanRead, Finds, IsThere, Looked}
+use Rattle.ts_engine.specs.Elements.{CanRead, Finds, IsThere, Looked, Inserts}
 use Rattle.ts_engine.proofs.StepLemmas.{kept_same}
 use Rattle.ts_engine.proofs.ElementLemmas.{one_page, on_page}
 
@@ -35,6 +38,14 @@ use Rattle.ts_engine.proofs.ElementLemmas.{one_page, on_page}
 pub mapped_ok : {A E : Type 0} (r : Result A E) (P Q : Type 0) → (P → Q) → OnOk r P → OnOk r Q
 mapped_ok (Ok a) P Q f holds = f holds
 mapped_ok (Err e) P Q f holds = tt
+
+-- a row that is put, or an element that is there
+pub inserted_as : (tells : Bool) (slot : ℕ) (d : Definitions) (stamp : ℤ) (row : Values) (old new : List Place) (v w : Contents) (h : Heading) → heading_at d slot ≡ Some h → (put : Bool) → IsInserted tells slot h.columns stamp row old new v w put → Inserts tells slot d stamp row old new v w put
+inserted_as tells slot d stamp row old new v w h columns true put = record { heading = h; columns = columns; put = put }
+inserted_as tells slot d stamp row old new v w h columns false there = record {
+  found = record { heading = h; columns = columns; row = Some there.row; found = there.found; is = refl };
+  places = there.places;
+}
 
 -- what a look at a page asks for
 pub can_read : (tells : Bool) (e : Kept) (v : Device) (slot : ℕ) → IsReady tells e v → slot < 4096 → IsSome (heading_at e.tables.definitions slot) → CanRead slot e.tables.definitions e.space (contents_over e.store v)
@@ -65,23 +76,13 @@ finds_there tells e v slot stamp there within finds told l kept holds =
     let same = seen_elements tells told l e.space slot finds.heading (read_pages e.store v.held) (places_of slot e.space) finds.found.elements kept.rules kept.places within (ap (λ (d : Definitions). heading_at d slot) (sym kept.definitions) ∙ finds.columns) holds refl finds.found.seen in
     ap is_some (get-from_entries int_cmp_total (elements_of slot l.element_pages) stamp ∙ ap (element_at stamp) (sym same) ∙ sym finds.found.found) ∙ sym finds.is
 
--- the batch of a look is dropped
-pub look_dropped : (tells : Bool) (s t u : State) (v w : Device) → IsIdle tells s v → Undisturbed tells s t v w → u ≡ record t { batch = []; free = t.kept_free } → IsStill tells s u v w
-look_dropped tells s t u v w idle calls dropped = record {
-  idle = idle_dropped tells s t u v w idle calls dropped;
-  pages = ap (λ (x : State). x.pages) dropped ∙ calls.pages;
-  free = ap (λ (x : State). x.free) dropped ∙ calls.kept_free ∙ idle.kept_free;
-  same = λ k. ap (λ (x : State). read_pages x w.held k) dropped ∙ read_dropped tells s t v w calls idle.batch k;
-  reads = calls.reads;
-}
-
 -- a step behind a look
-module _ (tells : Bool) (command : Command) (e f g : Kept) (v x w : Device) (ready : IsReady tells e v) (still : IsStill tells e.store f.store v x) (unspent : f.spent ≡ None) (tables : f.tables ≡ e.tables) (space : f.space ≡ e.space) where
+module _ (tells : Bool) (command : Command) (e f g : Kept) (v x w : Device) (ready : IsReady tells e v) (still : IsStill tells e.store f.store v x) (unspent : f.spent ≡ None) (tables : f.tables ≡ e.tables) (lists : f.space.lists ≡ e.space.lists) where
   kept_before : (l : Layout) → IsKeptOf f l → IsKeptOf e l
-  kept_before l kept = kept_same f e l kept (sym (λ i. (tables i).definitions)) (sym (λ i. (space i).lists)) (sym still.pages) (sym still.free)
+  kept_before l kept = kept_same f e l kept (sym (λ i. (tables i).definitions)) (sym lists) (sym still.pages) (sym still.free)
 
   kept_after : (l : Layout) → IsKeptOf e l → IsKeptOf f l
-  kept_after l kept = kept_same e f l kept (λ i. (tables i).definitions) (λ i. (space i).lists) still.pages still.free
+  kept_after l kept = kept_same e f l kept (λ i. (tables i).definitions) lists still.pages still.free
 
   holds_before : (l : Layout) → HoldsLayout (read_pages f.store x.held) l → HoldsLayout (read_pages e.store v.held) l
   holds_before l holds = subst (λ (p : ℕ → List ℕ). HoldsLayout p l) (λ i k. still.same k i) holds
@@ -102,7 +103,7 @@ module _ (tells : Bool) (command : Command) (e f g : Kept) (v x w : Device) (rea
   same_both : IsSame f g → IsSame e g
   same_both kept = record {
     definitions = kept.definitions ∙ (λ i. (tables i).definitions);
-    lists = kept.lists ∙ (λ i. (space i).lists);
+    lists = kept.lists ∙ lists;
     free = kept.free ∙ still.free;
     spent = kept.spent ∙ unspent ∙ sym ready.unspent;
   }
@@ -166,6 +167,6 @@ stepped_looked tells command slot stamp fault e f v w ready looked = record {
         disk = change.0.reads;
         kept = record { definitions = λ i. (looked.tables i).definitions; lists = λ i. (looked.space i).lists; free = change.0.free; spent = change.1 ∙ sym ready.unspent };
       },
-      ready_after tells command e f f v w w ready change.0 change.1 looked.tables looked.space,
+      ready_after tells command e f f v w w ready change.0 change.1 looked.tables (λ i. (looked.space i).lists),
     )
     faulted (Closed faults) change = absurd change

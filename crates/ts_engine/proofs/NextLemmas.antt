@@ -1,10 +1,11 @@
 -- A step of which the layout that comes next is known by what was read at the end of its work.
-use Rattle.std.proofs.Common.{◌≡◌, inl, inr, ⊎_elim, ℕ, ◌+◌, Bool, false, IsTrue, Option, Result, Ok, Err, List, [], length, refl, ap, sym, ◌∙◌, subst}
+use Rattle.std.proofs.Common.{◌≡◌, ◌⊎◌, inl, inr, ⊎_elim, ℕ, ◌+◌, Bool, false, IsTrue, Option, Result, Ok, Err, List, [], length, refl, ap, sym, ◌∙◌, subst}
 use Rattle.ts_base.specs.declared.refusal.Refusal.{Refusal}
 use Rattle.ts_command.specs.declared.command.Command.{Command}
 use Rattle.ts_disk.specs.Device.{Device, Lawful, LeavesOnly}
 use Rattle.ts_disk.proofs.Moments.{leaves_map}
 use Rattle.ts_page.specs.Pages.{Contents}
+use Rattle.ts_journal.specs.Moment.{OnlyReads}
 use Rattle.ts_store.specs.OpenBatch.{read_pages, contents_over}
 use Rattle.ts_store.proofs.CommitLemmas.{counted}
 use Rattle.ts_model.specs.Catalogue.{Catalogue}
@@ -85,23 +86,26 @@ module _ (tells : Bool) (command : Command) (Work : Contents → Contents → Ty
         others = changed.others;
       }
 
-  pub next_fault : (IsTrue tells → (answered : Answered) × (outcome (Ok command) (catalogue_of ready.keeps.0) ≡ Ok answered)) → (fault : StepFault) → Changed tells Work (Err fault) e.store f.store f.spent v w → f.tables.definitions ≡ e.tables.definitions → f.space.lists ≡ e.space.lists → Stepped tells command (Err fault) [] e f v w
-  next_fault comes Disk changed definitions lists = record {
+  tried : OnlyReads tells v w ⊎ ((read : Contents) × Work (contents_over e.store v) read) → IsTrue tells → (cat : Catalogue) → IsAt tells e cat v → ChangesNothing cat command → OnlyReads tells v w
+  tried either told cat at nothing = ⊎_elim (λ reads. reads) (λ done. absurd (changes told (out, catalogue_of (next done.0 done.1).layout) ((next done.0 done.1).comes told) cat at nothing)) either
+
+  pub next_fault : (fault : StepFault) → Changed tells Work (Err fault) e.store f.store f.spent v w → f.tables.definitions ≡ e.tables.definitions → f.space.lists ≡ e.space.lists → Stepped tells command (Err fault) [] e f v w
+  next_fault Disk changed definitions lists = record {
     ready = tt;
     answered = tt;
-    reads = λ told cat at nothing. absurd (changes told (comes told).0 (comes told).1 cat at nothing);
+    reads = tried changed.tried;
     unchanged = tt;
     fault = changed.fault;
     empty = λ err. refl;
     moments = next_moments (Err Disk) f.spent changed;
     others = changed.others;
   }
-  next_fault comes (Memory error) changed definitions lists =
+  next_fault (Memory error) changed definitions lists =
       let still = changed.fault.0 in
       record {
         ready = tt;
         answered = tt;
-        reads = λ told cat at nothing. absurd (changes told (comes told).0 (comes told).1 cat at nothing);
+        reads = tried changed.tried;
         unchanged = tt;
         fault = (
           record { disk = still.reads; kept = record { definitions = definitions; lists = lists; free = still.free; spent = changed.fault.1 ∙ sym ready.unspent } },
@@ -119,4 +123,4 @@ module _ (tells : Bool) (command : Command) (Work : Contents → Contents → Ty
         moments = next_moments (Err (Memory error)) f.spent changed;
         others = changed.others;
       }
-  next_fault comes (Closed faults) changed definitions lists = absurd changed.fault
+  next_fault (Closed faults) changed definitions lists = absurd changed.fault

@@ -1,8 +1,10 @@
 -- A step that puts an element.
-use Rattle.std.proofs.Common.{◌≡◌, ℕ, ◌+◌, ◌-◌, ◌<◌, ◌≤◌, Bool, false, IsTrue, ℤ, Option, Some, None, IsSome, Ok, Err, List, [], All, get_or, ◌==◌, if◌then◌else◌, length, set, length-set, set-set, refl, ap, sym, ◌∙◌, subst, arith}
+use Rattle.std.proofs.Common.{◌≡◌, ℕ, ◌+◌, ◌-◌, ◌<◌, ◌≤◌, Bool, true, false, ℤ, Option, Some, None, IsSome, Result, Ok, Err, OnOk, List, [], All, get_or, ◌==◌, if◌then◌else◌, length, set, length-set, set-set, refl, ap, sym, ◌∙◌, subst, arith}
 use Rattle.std.proofs.lemmas.List.{set-get_or}
 use Rattle.ts_command.specs.declared.command.Command.TheVariants.{InsElem}
-use Rattle.ts_disk.specs.Device.{Device, Lawful}
+use Rattle.ts_base.specs.declared.fault.StoreFault.{StoreFault}
+use Rattle.ts_base.specs.declared.fault.StoreFault.TheVariants.{Failed as StoreFailed}
+use Rattle.ts_disk.specs.Device.{Device, Lawful, Rose}
 use Rattle.ts_page.specs.Pages.{Contents, IsListed}
 use Rattle.ts_row.specs.declared.value.Literal.{Literal}
 use Rattle.ts_row.specs.RowType.{Heading}
@@ -17,8 +19,9 @@ use Rattle.ts_irregular.specs.Call.{IsEdited}
 use Rattle.ts_model.specs.declared.kind.Kind.TheVariants as kinds
 use Rattle.ts_model.specs.Definitions.{Definitions, SeriesDef, at_slot}
 use Rattle.ts_model.specs.Catalogue.{Catalogue}
-use Rattle.ts_store.specs.OpenBatch.{contents_over}
-use Rattle.ts_layout.specs.Meaning.{ElementPage, Layout, Free, Cells, element_page, heading_in, IsSound, heading_at, series_of, catalogue_of}
+use Rattle.ts_store.specs.OpenBatch.{IsIdle, contents_over}
+use Rattle.ts_store.specs.Undisturbed.{Undisturbed}
+use Rattle.ts_layout.specs.Meaning.{ElementPage, Layout, Free, Cells, element_page, heading_in, IsSound, heading_at}
 use Rattle.ts_layout.specs.OnePage.{IsFreeIn, AreFreePages}
 use Rattle.ts_layout.specs.Charges.{container_charge}
 use Rattle.ts_layout.proofs.LookupLemmas.{series_at}
@@ -27,17 +30,17 @@ use Rattle.ts_layout.proofs.FreeLemmas.{free_counted}
 use Rattle.ts_layout.proofs.QuotaLemmas.{page_free}
 use Rattle.ts_layout.proofs.HeldLemmas.{slots_stay}
 use Rattle.ts_engine.specs.declared.fault.StepFault.{StepFault}
-use Rattle.ts_engine.specs.Answer.{outcome, with_element as with_element_of}
 use Rattle.ts_engine.specs.Reply.{stamp_line}
 use Rattle.ts_engine.specs.Engine.{Kept, IsKeptOf, IsReady}
 use Rattle.ts_engine.specs.Step.{Stepped}
-use Rattle.ts_engine.specs.Change.{Changed}
+use Rattle.ts_engine.specs.Change.{Finished, Changed}
 use Rattle.ts_engine.specs.Slots.{IsSlotNamed}
-use Rattle.ts_engine.specs.Elements.{HasRow, IsRowFor, HasRoomFor, IsThere, CanPut, Puts}
+use Rattle.ts_engine.specs.Elements.{HasRow, IsRowFor, HasRoomFor, IsThere, CanPut, Puts, IsThereFirst, PutOrThere, EndsPut}
+use Rattle.ts_engine.proofs.ChangeLemmas.{changed}
 use Rattle.ts_engine.proofs.NextLemmas.{Next, next_ok, next_fault}
 use Rattle.ts_engine.proofs.ElementLemmas.{SeriesIn, series_in_slot, charge_few, GoesOn, goes_on, with_some, put_layout, put_places, put_filled, put_rules, put_holds, put_catalogue}
 use Rattle.ts_engine.proofs.InsertLemmas.{insert_done}
-use Rattle.ts_engine.proofs.LookLemmas.{can_read}
+use Rattle.ts_engine.proofs.LookLemmas.{can_read, finds_there}
 
 -- the free pages that are kept are all free ones
 pub free_in : (tells : Bool) (e : Kept) (v : Device) (l : Layout) → IsKeptOf e l → All (IsListed tells (contents_over e.store v)) e.store.free → length e.space.lists ≡ 4096 → AreFreePages e.store.free l.element_pages
@@ -101,7 +104,7 @@ can_put tells e v slot row ready for room slots =
 
 -- a row is put
 module _ (tells : Bool) (e f : Kept) (v w : Device) (key : List ℕ) (literals : List Literal) (slot : ℕ) (stamp : ℤ) (row : Values) (ready : IsReady tells e v) (has : HasRow key literals slot row e.tables.definitions)
-    (room : HasRoomFor slot e.tables.definitions e.space) (slots : length e.space.lists ≡ 4096) (absent : IsThere tells slot stamp false e v) (changes : ChangesOnly slot e.space f.space) where
+    (room : HasRoomFor slot e.tables.definitions e.space) (slots : length e.space.lists ≡ 4096) (changes : ChangesOnly slot e.space f.space) where
   abbrev Work : Contents → Contents → Type 0
   Work = Puts tells slot e.tables.definitions stamp row (places_of slot e.space) (places_of slot f.space)
 
@@ -115,7 +118,7 @@ module _ (tells : Bool) (e f : Kept) (v w : Device) (key : List ℕ) (literals :
   same_heading read p = one_of (heading_at ready.keeps.0.definitions slot) p.heading on.h (ap (λ (d : Definitions). heading_at d slot) (sym ready.keeps.1.definitions) ∙ p.columns) on.columns
 
   edited : (read : Contents) (p : Work (contents_over e.store v) read) → IsEdited tells slot on.h.columns stamp (Some row) (places_of slot e.space) (places_of slot f.space) (contents_over e.store v) read
-  edited read p = subst (λ (h : Heading). IsEdited tells slot h.columns stamp (Some row) (places_of slot e.space) (places_of slot f.space) (contents_over e.store v) read) (same_heading read p) p.edited
+  edited read p = subst (λ (h : Heading). IsEdited tells slot h.columns stamp (Some row) (places_of slot e.space) (places_of slot f.space) (contents_over e.store v) read) (same_heading read p) p.put.edited
 
   goes : (read : Contents) (p : Work (contents_over e.store v) read)
       → GoesOn tells ready.keeps.0 slot on.h.columns (edited read p).elements (with_element stamp row (edited read p).elements) (places_of slot f.space) (contents_over e.store v) read
@@ -128,12 +131,11 @@ module _ (tells : Bool) (e f : Kept) (v w : Device) (key : List ℕ) (literals :
   abbrev layout : (read : Contents) (p : Work (contents_over e.store v) read) → Layout
   layout read p = put_layout tells ready.keeps.0 e.space f.space key slot stamp row (contents_over e.store v) read ready.keeps.1.rules ready.keeps.1.filled ready.keeps.1.places has.named.within on room_in changes (edited read p) (goes read p)
 
-  done : IsTrue tells → outcome (Ok (InsElem key stamp literals)) (catalogue_of ready.keeps.0) ≡ Ok (stamp_line stamp, with_element_of key (series_of ready.keeps.0 slot on.s) stamp row (catalogue_of ready.keeps.0))
-  done told =
-      let l = ready.keeps.0 in
-      let kept = ready.keeps.1 in
-      let gives = has.gives on.h (ap (λ (d : Definitions). heading_at d slot) kept.definitions ∙ on.columns) in
-      insert_done l e.space key slot stamp literals kept.rules on row gives.0 kept.filled kept.places has.named.within (absent told l kept (ready.keeps.2 told)) room_in
+  -- no element was there
+  absent : (read : Contents) → Work (contents_over e.store v) read → IsThere tells slot stamp false e v
+  absent read p =
+      finds_there tells e v slot stamp false has.named.within
+      (record { heading = p.heading; columns = p.columns; row = None; found = record { elements = p.put.edited.elements; seen = p.put.edited.seen; found = sym p.put.absent }; is = refl })
 
   pub next_put : (read : Contents) → Work (contents_over e.store v) read → Next tells (InsElem key stamp literals) (stamp_line stamp) ready.keeps.0 read
   next_put read p =
@@ -147,7 +149,8 @@ module _ (tells : Bool) (e f : Kept) (v w : Device) (key : List ℕ) (literals :
         rules = put_rules tells l e.space f.space key slot stamp row (contents_over e.store v) read kept.rules kept.filled kept.places has.named.within on room_in changes x g;
         holds = λ told. put_holds tells l e.space f.space key slot stamp row (contents_over e.store v) read kept.rules kept.filled kept.places has.named.within on room_in changes x g told (ready.keeps.2 told);
         comes = λ told.
-            done told
+            let gives = has.gives on.h (ap (λ (d : Definitions). heading_at d slot) kept.definitions ∙ on.columns) in
+            insert_done l e.space key slot stamp literals kept.rules on row gives.0 kept.filled kept.places has.named.within (absent read p told l kept (ready.keeps.2 told)) room_in
             ∙ ap (λ (cat : Catalogue). Ok (stamp_line stamp, cat))
             (sym (put_catalogue tells l e.space f.space key slot stamp row (contents_over e.store v) read kept.rules kept.filled kept.places has.named.within on room_in changes x g told (ready.keeps.2 told)));
       }
@@ -183,9 +186,20 @@ module _ (tells : Bool) (e f : Kept) (v w : Device) (key : List ℕ) (literals :
   pub put_fault : (x : Kept) (fault : StepFault) → Lawful tells v → Lawful tells w → Changed tells Work (Err fault) e.store x.store x.spent v w → x.tables.definitions ≡ e.tables.definitions → x.space.lists ≡ e.space.lists
       → Stepped tells (InsElem key stamp literals) (Err fault) [] e x v w
   put_fault x fault lawful later changed definitions lists =
-      next_fault tells (InsElem key stamp literals) Work e x v w (stamp_line stamp) lawful later ready next_put refl (λ told. (_, done told)) fault changed definitions lists
+      next_fault tells (InsElem key stamp literals) Work e x v w (stamp_line stamp) lawful later ready next_put refl fault changed definitions lists
 
 -- the places of a series are as they were
 pub places_back : (slot : ℕ) (a b c : Directory) → ChangesOnly slot a b → ChangesOnly slot b c → places_of slot c ≡ places_of slot a → c.lists ≡ a.lists
 places_back slot a b c first second back =
     second.lists ∙ (λ i. set (first.lists i) slot (back i)) ∙ set-set a.lists slot (places_of slot b) (places_of slot a) ∙ set-get_or a.lists slot []
+
+pub places_same : (slot : ℕ) (a b : Directory) → ChangesOnly slot a b → places_of slot b ≡ places_of slot a → b.lists ≡ a.lists
+places_same slot a b changes same = changes.lists ∙ (λ i. set a.lists slot (same i)) ∙ set-get_or a.lists slot []
+
+-- a row was put in an open batch, and the batch is ended
+module _ (tells : Bool) (slot : ℕ) (d : Definitions) (stamp : ℤ) (row : Values) (old new : List Place) (worked : Result Unit StoreFault) (e g f : Kept) (v x w : Device) (lawful : Lawful tells v) (idle : IsIdle tells e.store v)
+    (calls : Undisturbed tells e.store g.store v x) (work : OnOk worked (Puts tells slot d stamp row old new (contents_over e.store v) (contents_over g.store x))) (cause : worked ≡ Err StoreFailed → Rose v.faults x.faults) (unspent : g.spent ≡ None) where
+  pub put_ended : (result : Result Bool StepFault) → EndsPut tells worked result g f x w → PutOrThere tells slot d stamp row old new result e.store f.store f.spent v w
+  put_ended (Ok true) finished = changed tells (Puts tells slot d stamp row old new) worked e g f v x w lawful idle calls work cause (Ok tt) unspent finished
+  put_ended (Ok false) finished = absurd finished
+  put_ended (Err fault) finished = changed tells (Puts tells slot d stamp row old new) worked e g f v x w lawful idle calls work cause (Err fault) unspent finished

@@ -150,9 +150,6 @@ module _ (tells : Bool) (e : Kept) (v : Device) (key : List ℕ) (slot : ℕ) (r
       free_once tells l slot p (page_one l e.space slot p kept.rules.one_page kept.places named.within is) (contents_over e.store v) x kept.rules (free_in tells e v l kept ready.idle.over.lawful.listed slots) gone
   free_after slots (p ∷ q ∷ ps) is x gone = absurd gone
 
-  done : outcome (Ok (DropSeries key)) (catalogue_of ready.keeps.0) ≡ Ok (ok_line, record (catalogue_of ready.keeps.0) { series = remove (catalogue_of ready.keeps.0).series key })
-  done = drops key (catalogue_of ready.keeps.0) ∙ drop_series-done key (catalogue_of ready.keeps.0) (series_of ready.keeps.0 slot on.s) on.listed
-
   next_drop : (read : Contents) → Work (contents_over e.store v) read → Next tells (DropSeries key) ok_line ready.keeps.0 read
   next_drop read d =
       let l = ready.keeps.0 in
@@ -163,7 +160,8 @@ module _ (tells : Bool) (e : Kept) (v : Device) (key : List ℕ) (slot : ℕ) (r
         rules = rules_dropped l slot named.within kept.rules;
         holds = λ told. holds_after told (places_of slot e.space) refl d.between read d.freed d.emptied;
         comes = λ told.
-            done ∙ ap (λ (k : List ℕ). Ok (ok_line, record (catalogue_of l) { series = remove (catalogue_of l).series k })) (sym on.named)
+            drops key (catalogue_of l) ∙ drop_series-done key (catalogue_of l) (series_of l slot on.s) on.listed
+            ∙ ap (λ (k : List ℕ). Ok (ok_line, record (catalogue_of l) { series = remove (catalogue_of l).series k })) (sym on.named)
             ∙ ap (λ (cat : Catalogue). Ok (ok_line, cat)) (sym (catalogue_dropped l slot on.s kept.rules on.is.there));
       }
 
@@ -201,4 +199,4 @@ module _ (tells : Bool) (e : Kept) (v : Device) (key : List ℕ) (slot : ℕ) (r
   pub drop_fault : (f : Kept) (w : Device) (fault : StepFault) → Lawful tells v → Lawful tells w → f.tables.definitions ≡ e.tables.definitions → f.space.lists ≡ e.space.lists
       → Changed tells Work (Err fault) e.store f.store f.spent v w → Stepped tells (DropSeries key) (Err fault) [] e f v w
   drop_fault f w fault lawful later definitions lists changed =
-      next_fault tells (DropSeries key) Work e f v w ok_line lawful later ready next_drop refl (λ told. (_, done)) fault changed definitions lists
+      next_fault tells (DropSeries key) Work e f v w ok_line lawful later ready next_drop refl fault changed definitions lists

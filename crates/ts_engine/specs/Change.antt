@@ -68,6 +68,8 @@ pub record Finished (tells : Bool) (worked : Result Unit StoreFault) (result : R
   pub spent : OnOk result (f.spent ≡ e.spent)
   pub alike : OnOk result (IsTrue tells → SameButFreed (read_pages e.store v.held) (read_pages f.store w.held))
   pub fault : IfErr result (λ fault. FinishFault tells worked fault e f v w)
+  -- nothing is written unless the work was done
+  pub tried : OnlyReads tells v w ⊎ IsOk worked
   pub moments : IsTrue tells → LeavesOnly v w (FinishLeaves worked e.store v)
   pub others : Keeps tells v w
 
@@ -105,6 +107,8 @@ pub record Changed (tells : Bool) (Work : Contents → Contents → Type 0) (res
   pub done : OnOk result (IsDone tells Work s t v w)
   pub unspent : OnOk result (spent ≡ None)
   pub fault : IfErr result (λ fault. ChangeFault tells fault s t spent v w)
+  -- where it isn't made, nothing was written, or the work was done
+  pub tried : IfErr result (λ fault. OnlyReads tells v w ⊎ ((read : Contents) × Work (contents_over s v) read))
   pub moments : IsTrue tells → LeavesOnly v w (ChangeLeaves Work s v)
   pub others : Keeps tells v w
 

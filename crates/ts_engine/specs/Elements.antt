@@ -1,6 +1,7 @@
 -- What is found before an element is put into a series, and what is put.
-use Rattle.std.specs.Prelude.{◌≡◌, ◌⊎◌, ℕ, ◌+◌, ◌<◌, ◌≤◌, ◌==◌, if◌then◌else◌, Bool, IsTrue, Option, Some, None, IsSome, is_some, Result, Ok, Err, IfOk, OnOk, IfErr, ℤ, List, [], length}
+use Rattle.std.specs.Prelude.{◌≡◌, ◌⊎◌, ℕ, ◌+◌, ◌<◌, ◌≤◌, ◌==◌, if◌then◌else◌, Bool, true, false, IsTrue, Option, Some, None, IsSome, is_some, Result, Ok, Err, IfOk, OnOk, IfErr, ℤ, List, [], length}
 use Rattle.std.specs.FinMap.{get}
+use Rattle.ts_base.specs.declared.fault.StoreFault.{StoreFault}
 use Rattle.ts_base.specs.declared.refusal.Refusal.{Refusal}
 use Rattle.ts_base.specs.declared.refusal.Refusal.TheVariants.{ContainerFull}
 use Rattle.ts_base.specs.declared.fault.Trouble.{Trouble}
@@ -16,16 +17,16 @@ use Rattle.ts_space.specs.Place.{count_of}
 use Rattle.ts_space.specs.Directory.{Directory, places_of}
 use Rattle.ts_cells.specs.Cell.{page_room}
 use Rattle.ts_irregular.specs.OnePage.{HasOnePage}
-use Rattle.ts_irregular.specs.Call.{IsFound, IsEdited}
+use Rattle.ts_irregular.specs.Call.{IsFound, IsPutNew}
 use Rattle.ts_model.specs.declared.kind.Kind.TheVariants as kinds
 use Rattle.ts_model.specs.Definitions.{Definitions, ContainerDef, SeriesDef, at_slot, IsDefinitions}
-use Rattle.ts_store.specs.OpenBatch.{read_pages}
+use Rattle.ts_store.specs.OpenBatch.{State, read_pages, contents_over}
 use Rattle.ts_layout.specs.Meaning.{Layout, KeepLimits, HoldsLayout, heading_at, heading_of_container, elements_at, catalogue_of}
 use Rattle.ts_layout.specs.Charges.{container_charge}
 use Rattle.ts_engine.specs.declared.fault.StepFault.{StepFault}
 use Rattle.ts_engine.specs.Answer.{outcome}
 use Rattle.ts_engine.specs.Engine.{Kept, IsKeptOf}
-use Rattle.ts_engine.specs.Change.{IsStill, ChangeFault}
+use Rattle.ts_engine.specs.Change.{Finished, Changed, IsStill, ChangeFault}
 use Rattle.ts_engine.specs.Slots.{IsSlotNamed, IsUnknown}
 
 -- what is kept is what some layout has
@@ -120,8 +121,32 @@ pub record CanPut (slot : ℕ) (row : Values) (d : Definitions) (space : Directo
   pub room : (h : Heading) → heading_at d slot ≡ Some h → count_of (places_of slot space) < page_room h.columns
   pub spare : places_of slot space ≡ [] → 0 < length c.free
 
--- a row is put at a stamp of the series in a slot, whose places become these
+-- a row is put at a stamp of the series in a slot, which had no element there, and whose places become these
 pub record Puts (tells : Bool) (slot : ℕ) (d : Definitions) (stamp : ℤ) (row : Values) (old new : List Place) (v w : Contents) : Type 0 where
   pub heading : Heading
   pub columns : heading_at d slot ≡ Some heading
-  pub edited : IsEdited tells slot heading.columns stamp (Some row) old new v w
+  pub put : IsPutNew tells slot heading.columns stamp row old new v w
+
+-- an element is there, and the places stay
+pub record IsThereFirst (tells : Bool) (slot : ℕ) (d : Definitions) (stamp : ℤ) (old new : List Place) (v : Contents) : Type 0 where
+  pub found : Finds tells slot d stamp old v true
+  pub places : new ≡ old
+
+-- a row is put, or an element is there
+abbrev pub Inserts : Bool → ℕ → Definitions → ℤ → Values → List Place → List Place → Contents → Contents → Bool → Type 0
+Inserts tells slot d stamp row old new v w true = Puts tells slot d stamp row old new v w
+Inserts tells slot d stamp row old new v w false = IsThereFirst tells slot d stamp old new v
+
+-- over an idle store: a row is put and committed; or an element is there, and nothing was written
+abbrev pub PutOrThere : Bool → ℕ → Definitions → ℤ → Values → List Place → List Place → Result Bool StepFault → State → State → Option ℕ → Device → Device → Type 0
+PutOrThere tells slot d stamp row old new (Ok true) s t spent v w = Changed tells (Puts tells slot d stamp row old new) (Ok tt) s t spent v w
+PutOrThere tells slot d stamp row old new (Ok false) s t spent v w =
+    IsStill tells s t v w × (spent ≡ None) × IsThereFirst tells slot d stamp old new (contents_over s v)
+PutOrThere tells slot d stamp row old new (Err fault) s t spent v w =
+    Changed tells (Puts tells slot d stamp row old new) (Err fault) s t spent v w
+
+-- the batch of an element that is put is committed or dropped
+abbrev pub EndsPut : Bool → Result Unit StoreFault → Result Bool StepFault → Kept → Kept → Device → Device → Type 0
+EndsPut tells worked (Ok true) e f v w = Finished tells worked (Ok tt) e f v w
+EndsPut tells worked (Ok false) e f v w = ⊥
+EndsPut tells worked (Err fault) e f v w = Finished tells worked (Err fault) e f v w

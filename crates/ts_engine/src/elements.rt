@@ -12,7 +12,7 @@ ghost use Rattle.ts_space.specs.Place.{IsRising, count_of};
 ghost use Rattle.ts_cells.specs.Cell.{page_room};
 ghost use Rattle.ts_space.specs.Directory.{places_of, ChangesOnly};
 ghost use Rattle.ts_irregular.specs.OnePage.{HasOnePage};
-ghost use Rattle.ts_irregular.specs.Call.{IsEdited};
+ghost use Rattle.ts_irregular.specs.Call.{IsInserted};
 ghost use Rattle.ts_model.specs.Definitions.{IsDefinitions};
 ghost use Rattle.ts_store.specs.OpenBatch.{IsOver, IsIdle, contents_over};
 ghost use Rattle.ts_store.specs.Undisturbed.{Undisturbed};
@@ -20,8 +20,8 @@ ghost use Rattle.ts_layout.specs.Meaning.{KeepLimits, heading_at};
 ghost use Rattle.ts_engine.specs.Reply.{stamp_line};
 ghost use Rattle.ts_engine.specs.Engine.{IsReady};
 ghost use Rattle.ts_engine.specs.Step.{Stepped};
-ghost use Rattle.ts_engine.specs.Change.{reply_of, IsStill, Changed};
-ghost use Rattle.ts_engine.specs.Elements.{KeepsSome, HasRow, HasNoRow, IsRowFor, HasRoomFor, HasNoRoom, IsThere, IsRefused, Looked, CanRead, Finds, CanPut, Puts};
+ghost use Rattle.ts_engine.specs.Change.{reply_of, IsStill};
+ghost use Rattle.ts_engine.specs.Elements.{KeepsSome, HasRow, HasNoRow, IsRowFor, HasRoomFor, HasNoRoom, IsRefused, Looked, CanRead, Finds, CanPut, Inserts, PutOrThere, EndsPut};
 
 use crate::element::read_row;
 use crate::engine::Engine;
@@ -34,7 +34,7 @@ use ts_cells::page_room;
 use ts_command::Literals;
 use ts_container::{charge_of_container, row_type_in, row_type_of};
 use ts_disk::Volume;
-use ts_irregular::irregular_set;
+use ts_irregular::irregular_insert;
 use ts_model::{Def, Defs, Kind};
 use ts_row::{Row, RowType, Shelf};
 use ts_space::{Place, Space};
@@ -106,9 +106,32 @@ impl Engine {
         ensures stepped { (key : List ℕ) (literals : List TheLiteral) → HasRow key literals slot row.now self.old.tables.definitions
             → Stepped V.tells (InsElem key stamp literals) result (reply_of result out.new) self.old self.new (V.device vol.old) (V.device vol.new) }
     {
+        match self.check_room(slot) {
+            Ok(()) => self.put_element(vol, slot, stamp, row, out),
+            Err(refusal) => self.refuse_full(vol, slot, stamp, row, refusal, out),
+        }
+    }
+
+    // Says why a row isn't put for which there is no room: an element that is there is told first.
+    fn refuse_full<V: Volume>(
+        &mut self,
+        vol: &mut V,
+        slot: u16,
+        stamp: Stamp,
+        row: &Row,
+        refusal: Refusal,
+        out: &mut Reply,
+    ) -> Result<(), StepFault>
+        requires ready { IsReady V.tells self.old (V.device vol.old) }
+        requires row { IsRowFor slot row.now self.old.tables.definitions }
+        requires none { HasNoRoom slot self.old.tables.definitions self.old.space refusal }
+        requires empty { out.old ≡ [] }
+        ensures stepped { (key : List ℕ) (literals : List TheLiteral) → HasRow key literals slot row.now self.old.tables.definitions
+            → Stepped V.tells (InsElem key stamp literals) result (reply_of result out.new) self.old self.new (V.device vol.old) (V.device vol.new) }
+    {
         match self.has_element(vol, slot, stamp) {
             Ok(true) => self.refuse(vol, Refusal::Duplicate, out),
-            Ok(false) => self.insert_new(vol, slot, stamp, row, out),
+            Ok(false) => self.refuse(vol, refusal, out),
             Err(fault) => Err(fault),
         }
     }
@@ -147,28 +170,6 @@ impl Engine {
         look_on(&self.defs, &mut self.store, &self.space, vol, slot, stamp)
     }
 
-    // Puts an element where none is, if there is room.
-    fn insert_new<V: Volume>(
-        &mut self,
-        vol: &mut V,
-        slot: u16,
-        stamp: Stamp,
-        row: &Row,
-        out: &mut Reply,
-    ) -> Result<(), StepFault>
-        requires ready { IsReady V.tells self.old (V.device vol.old) }
-        requires row { IsRowFor slot row.now self.old.tables.definitions }
-        requires empty { out.old ≡ [] }
-        ensures stepped { (key : List ℕ) (literals : List TheLiteral) → HasRow key literals slot row.now self.old.tables.definitions
-            → IsThere V.tells slot stamp false self.old (V.device vol.old)
-            → Stepped V.tells (InsElem key stamp literals) result (reply_of result out.new) self.old self.new (V.device vol.old) (V.device vol.new) }
-    {
-        match self.check_room(slot) {
-            Ok(()) => self.put_element(vol, slot, stamp, row, out),
-            Err(refusal) => self.refuse(vol, refusal, out),
-        }
-    }
-
     // Whether one element more of a series goes on its page and into the quota of its container.
     fn check_room(&self, slot: u16) -> Result<(), Refusal>
         requires kept { KeepsSome self.now }
@@ -180,7 +181,7 @@ impl Engine {
         room_for(&self.defs, &self.space, slot)
     }
 
-    // Puts an element where none is and there is room. All memory is taken before the first page is changed.
+    // Puts an element where there is room, unless one is there. All memory is taken before the first page is changed.
     fn put_element<V: Volume>(
         &mut self,
         vol: &mut V,
@@ -195,13 +196,16 @@ impl Engine {
         requires slots { length self.old.space.lists ≡ 4096 }
         requires empty { out.old ≡ [] }
         ensures stepped { (key : List ℕ) (literals : List TheLiteral) → HasRow key literals slot row.now self.old.tables.definitions
-            → IsThere V.tells slot stamp false self.old (V.device vol.old)
             → Stepped V.tells (InsElem key stamp literals) result (reply_of result out.new) self.old self.new (V.device vol.old) (V.device vol.new) }
     {
         say_stamp(out, stamp)?;
         let before = self.places_before(slot)?;
         match self.change_element(vol, slot, stamp, row) {
-            Ok(()) => Ok(()),
+            Ok(true) => Ok(()),
+            Ok(false) => {
+                out.clear();
+                self.refuse(vol, Refusal::Duplicate, out)
+            }
             Err(fault) => {
                 self.restore(slot, before);
                 Err(fault)
@@ -229,36 +233,60 @@ impl Engine {
         self.space.restore(slot, places);
     }
 
-    // Puts an element in a batch of its own. After an error the places of the series can be others.
+    // Puts an element in a batch of its own, unless one is there. After an error the places of the series can be others.
     fn change_element<V: Volume>(
         &mut self,
         vol: &mut V,
         slot: u16,
         stamp: Stamp,
         row: &Row,
-    ) -> Result<(), StepFault>
+    ) -> Result<bool, StepFault>
         requires ready { IsReady V.tells self.old (V.device vol.old) }
         requires can { CanPut slot row.now self.old.tables.definitions self.old.space (contents_over self.old.store (V.device vol.old)) }
         ensures tables { self.new.tables ≡ self.old.tables }
         ensures changes { ChangesOnly slot self.old.space self.new.space }
-        ensures changed { Changed V.tells (Puts V.tells slot self.old.tables.definitions stamp row.now (places_of slot self.old.space) (places_of slot self.new.space))
+        ensures changed { PutOrThere V.tells slot self.old.tables.definitions stamp row.now (places_of slot self.old.space) (places_of slot self.new.space)
             result self.old.store self.new.store self.new.spent (V.device vol.old) (V.device vol.new) }
     {
-        let worked = self.edit(vol, slot, stamp, row);
-        self.finish(vol, worked)
+        match self.edit(vol, slot, stamp, row) {
+            Ok(true) => self.end_put(vol, Ok(())),
+            Ok(false) => {
+                self.discard();
+                Ok(false)
+            }
+            Err(fault) => self.end_put(vol, Err(fault)),
+        }
     }
 
-    // Puts an element in the open batch.
+    // Ends the batch of an element that is put.
+    fn end_put<V: Volume>(
+        &mut self,
+        vol: &mut V,
+        worked: Result<(), StoreFault>,
+    ) -> Result<bool, StepFault>
+        requires over { IsOver V.tells self.old.store (V.device vol.old) }
+        requires short { length (entries_bytes self.old.store.batch) ≤ 1048556 }
+        ensures tables { self.new.tables ≡ self.old.tables }
+        ensures space { self.new.space ≡ self.old.space }
+        ensures ended { EndsPut V.tells worked result self.old self.new (V.device vol.old) (V.device vol.new) }
+    {
+        match self.finish(vol, worked) {
+            Ok(()) => Ok(true),
+            Err(fault) => Err(fault),
+        }
+    }
+
+    // Puts an element in the open batch, unless one is there.
     fn edit<V: Volume>(
         &mut self,
         vol: &mut V,
         slot: u16,
         stamp: Stamp,
         row: &Row,
-    ) -> Result<(), StoreFault>
+    ) -> Result<bool, StoreFault>
         requires over { IsOver V.tells self.old.store (V.device vol.old) }
         requires can { CanPut slot row.now self.old.tables.definitions self.old.space (contents_over self.old.store (V.device vol.old)) }
-        ensures put { OnOk result (Puts V.tells slot self.old.tables.definitions stamp row.now (places_of slot self.old.space) (places_of slot self.new.space)
+        ensures put { IfOk result (Inserts V.tells slot self.old.tables.definitions stamp row.now (places_of slot self.old.space) (places_of slot self.new.space)
             (contents_over self.old.store (V.device vol.old)) (contents_over self.new.store (V.device vol.new))) }
         ensures cause { IsErrOf result StoreFailed → Rose (V.device vol.old).faults (V.device vol.new).faults }
         ensures bytes { length (entries_bytes self.new.store.batch) ≤ length (entries_bytes self.old.store.batch) + 4101 }
@@ -301,7 +329,7 @@ fn look_on<V: Volume>(
     Ok(found.is_some())
 }
 
-// Puts an element over a store.
+// Puts an element over a store, unless one is there.
 fn edit_on<V: Volume>(
     defs: &Defs,
     store: &mut Store,
@@ -310,10 +338,10 @@ fn edit_on<V: Volume>(
     slot: u16,
     stamp: Stamp,
     row: &Row,
-) -> Result<(), StoreFault>
+) -> Result<bool, StoreFault>
     requires over { IsOver V.tells store.old (V.device vol.old) }
     requires can { CanPut slot row.now defs.now.definitions space.old (contents_over store.old (V.device vol.old)) }
-    ensures put { OnOk result (Puts V.tells slot defs.now.definitions stamp row.now (places_of slot space.old) (places_of slot space.new)
+    ensures put { IfOk result (Inserts V.tells slot defs.now.definitions stamp row.now (places_of slot space.old) (places_of slot space.new)
         (contents_over store.old (V.device vol.old)) (contents_over store.new (V.device vol.new))) }
     ensures cause { IsErrOf result StoreFailed → Rose (V.device vol.old).faults (V.device vol.new).faults }
     ensures bytes { length (entries_bytes store.new.batch) ≤ length (entries_bytes store.old.batch) + 4101 }
@@ -324,11 +352,11 @@ fn edit_on<V: Volume>(
     let Some(kind) = row_type_of(defs, slot) else {
         unreachable!()
     };
-    set_on(store, space, vol, kind, slot, stamp, row)
+    insert_on(store, space, vol, kind, slot, stamp, row)
 }
 
 // The same, where these are the columns.
-fn set_on<V: Volume>(
+fn insert_on<V: Volume>(
     store: &mut Store,
     space: &mut Space,
     vol: &mut V,
@@ -336,14 +364,14 @@ fn set_on<V: Volume>(
     slot: u16,
     stamp: Stamp,
     row: &Row,
-) -> Result<(), StoreFault>
+) -> Result<bool, StoreFault>
     requires over { IsOver V.tells store.old (V.device vol.old) }
     requires slot { slot < 4096 }
     requires one { HasOnePage kind.now.columns (contents_over store.old (V.device vol.old)) (places_of slot space.old) }
     requires fits { IsTrue (fits kind.now.columns row.now) }
     requires room { count_of (places_of slot space.old) < page_room kind.now.columns }
     requires spare { places_of slot space.old ≡ [] → 0 < length store.old.free }
-    ensures edited { OnOk result (IsEdited V.tells slot kind.now.columns stamp (Some row.now) (places_of slot space.old) (places_of slot space.new)
+    ensures inserted { IfOk result (IsInserted V.tells slot kind.now.columns stamp row.now (places_of slot space.old) (places_of slot space.new)
         (contents_over store.old (V.device vol.old)) (contents_over store.new (V.device vol.new))) }
     ensures cause { IsErrOf result StoreFailed → Rose (V.device vol.old).faults (V.device vol.new).faults }
     ensures bytes { length (entries_bytes store.new.batch) ≤ length (entries_bytes store.old.batch) + 4101 }
@@ -353,7 +381,7 @@ fn set_on<V: Volume>(
 {
     let shelf = Shelf { series: slot, kind };
     let mut on = On { store, vol };
-    irregular_set(&mut on, space, &shelf, stamp, Some(row))
+    irregular_insert(&mut on, space, &shelf, stamp, row)
 }
 
 // How many elements stand on the page of a series.

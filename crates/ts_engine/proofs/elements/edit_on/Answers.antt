@@ -1,7 +1,8 @@
 use Rattle.std.proofs.Common.{sym}
-use Rattle.ts_engine.proofs.LookLemmas.{mapped_ok}
+use Rattle.std.proofs.lemmas.Result.{IfOk-weaker}
+use Rattle.ts_engine.proofs.LookLemmas.{inserted_as}
 use Rattle.ts_engine.proofs.elements.edit_on.Goals as goal
 
 pub returns-clause-put : goal.returns-clause-put
 returns-clause-put g c =
-    mapped_ok c.set_on.result _ _ (λ edited. record { heading = c.in-Some.kind.now; columns = sym c.in-Some.ensures.value; edited = edited }) c.set_on.ensures.edited
+    IfOk-weaker c.insert_on.result _ _ (λ put inserted. inserted_as _ _ _ _ _ _ _ _ _ c.in-Some.kind.now (sym c.in-Some.ensures.value) put inserted) c.insert_on.ensures.inserted
