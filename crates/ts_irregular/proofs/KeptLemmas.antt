@@ -15,7 +15,7 @@ use Rattle.ts_cells.specs.Cell.{Element, IsElement, page_room}
 use Rattle.ts_cells.specs.IrregularPage.{AreInOrder, irregular_page}
 use Rattle.ts_irregular.specs.Edit.{element_at, with_element, without_element, edited, taken_for}
 use Rattle.ts_irregular.specs.OnePage.{place_of, IsPlace, HasOnePage, IsReadable, IsOn, IsTakenFor, IsSeen, AreSeen, HasRoom}
-use Rattle.ts_irregular.specs.Call.{IsFound, IsPagePut, IsPageFreed, AreKept, IsEdited}
+use Rattle.ts_irregular.specs.Call.{IsFound, IsPagePut, IsPageFreed, AreKept, ArePut, IsEdited, IsNotEdited}
 use Rattle.ts_irregular.proofs.EditLemmas.{with_in_order, without_in_order, length-without}
 
 -- elements that the bytes of a page are taken for are those that are seen where these bytes were read
@@ -88,23 +88,50 @@ changes_after series a b c first second = record {
   used = omega (arith, first.used, second.used);
 }
 
+-- what is kept of a page that was only read before
+pub kept_after : (tells : Bool) (slot : ℕ) (columns : List Column) (place : Place) (es : List Element) (now : List Place) (v u w : Contents) → (IsTrue tells → EqualPages v.page u.page) → u.free ≡ v.free
+    → AreKept tells slot columns (place ∷ []) es now u w → AreKept tells slot columns (place ∷ []) es now v w
+kept_after tells slot columns place [] now v u w same free kept = record {
+  places = kept.places;
+  free = kept.free ∙ ap (λ (l : List ℕ). place.page ∷ l) free;
+  pages = λ told. put_after place.page zero_page _ v.page u.page w.page refl (same told) (kept.pages told);
+}
+kept_after tells slot columns place (e ∷ es) now v u w same free kept =
+    (kept.0 ∙ free, record { places = kept.1.places; pages = λ told. put_after place.page (irregular_page slot columns (e ∷ es)) _ v.page u.page w.page refl (same told) (kept.1.pages told) })
+
 -- a row is put on the page that was read
-pub edited_put : (tells : Bool) (slot : ℕ) (columns : List Column) (stamp : ℤ) (row : Values) (place moved : Place) (es : List Element) (bytes page : List ℕ) (count : ℕ) (now : List Place) (v u w : Contents)
+unfoldable pub edited_put : (tells : Bool) (slot : ℕ) (columns : List Column) (stamp : ℤ) (row : Values) (place : Place) (es : List Element) (bytes : List ℕ) (now : List Place) (v u w : Contents)
     → IsTakenFor slot columns bytes place es → length es ≤ page_room columns → Got tells place.page bytes (Ok tt) v u → IsElementPage place.page → HasRoom tells slot columns v.page stamp (place ∷ [])
-    → IsElement columns (stamp, row) → page ≡ irregular_page slot columns (with_element stamp row (taken_for (page_room columns) stamp es))
+    → ArePut tells slot columns (place ∷ []) (with_element stamp row (taken_for (page_room columns) stamp es)) now u w
+    → IsEdited tells slot columns stamp (Some row) (place ∷ []) now v w
+edited_put tells slot columns stamp row place es bytes now v u w taken room got element space put = record {
+  elements = taken_for (page_room columns) stamp es;
+  seen = seen_for tells slot columns v.page place stamp es (seen_read tells slot columns v.page place bytes es (λ told. got.read told (inr (omega (arith, element)))) room taken) space;
+  order = put.order;
+  room = put.room;
+  kept = kept_after tells slot columns place (with_element stamp row (taken_for (page_room columns) stamp es)) now v u w got.pages got.free put.kept;
+}
+
+-- a row is put on a page
+pub put_made : (tells : Bool) (slot : ℕ) (columns : List Column) (stamp : ℤ) (row : Values) (place moved : Place) (es : List Element) (page : List ℕ) (count : ℕ) (now : List Place) (u w : Contents)
+    → AreInOrder columns (with_element stamp row (taken_for (page_room columns) stamp es)) → page ≡ irregular_page slot columns (with_element stamp row (taken_for (page_room columns) stamp es))
     → length (with_element stamp row (taken_for (page_room columns) stamp es)) ≡ count → 1 ≤ count → count ≤ page_room columns → Put tells place.page page (Ok tt) u w
     → place_of place.page (with_element stamp row (taken_for (page_room columns) stamp es)) ≡ moved ∷ [] → now ≡ moved ∷ []
-    → IsEdited tells slot columns stamp (Some row) (place ∷ []) now v w
-edited_put tells slot columns stamp row place moved es bytes page count now v u w taken room got element space is made size some most put listed known =
-    let seen = seen_for tells slot columns v.page place stamp es (seen_read tells slot columns v.page place bytes es (λ told. got.read told (inr (omega (arith, element)))) room taken) space in
-    record {
-      elements = taken_for (page_room columns) stamp es;
-      seen = seen;
-      order = with_in_order columns stamp row (taken_for (page_room columns) stamp es) seen.order is;
-      room = omega (arith, size, most);
-      kept = kept_put tells slot columns place (with_element stamp row (taken_for (page_room columns) stamp es)) now v w (omega (arith, size, some)) (put.free ∙ got.free)
-          (record { places = known ∙ sym listed; pages = λ told. put_after place.page page _ v.page u.page w.page made (got.pages told) (put.put told) });
-    }
+    → ArePut tells slot columns (place ∷ []) (with_element stamp row (taken_for (page_room columns) stamp es)) now u w
+put_made tells slot columns stamp row place moved es page count now u w order made size some most put listed known = record {
+  order = order;
+  room = omega (arith, size, most);
+  kept = kept_put tells slot columns place (with_element stamp row (taken_for (page_room columns) stamp es)) now u w (omega (arith, size, some)) put.free
+      (record { places = known ∙ sym listed; pages = λ told. put_after place.page page _ u.page u.page w.page made (λ n. refl) (put.put told) });
+}
+
+-- an edit that fails after the page was only read
+pub not_edited_after : (tells : Bool) (old new : Directory) (v u w : Contents) → (IsTrue tells → EqualPages v.page u.page) → u.free ≡ v.free → IsNotEdited tells old new u w → IsNotEdited tells old new v w
+not_edited_after tells old new v u w same free not = record {
+  places = not.places;
+  pages = λ told. same_after v.page u.page w.page (same told) (not.pages told);
+  free = elim not.free [ inl stays ↦ inl (stays ∙ free) | inr taken ↦ inr (taken.0, sym free ∙ taken.1) ];
+}
 
 -- a page without elements becomes full of none
 taken_for-none : (b : Bool) → ◌≡◌ {A = List Element} (cond b [] []) []

@@ -5,3 +5,4 @@ pub mod SearchLemmas
 pub mod PutLemmas
 pub mod HeadLemmas
 pub mod KeptLemmas
+pub mod InsertLemmas

@@ -1,5 +1,5 @@
--- What the two calls do to pages and places.
-use Rattle.std.specs.Prelude.{◌≡◌, ◌⊎◌, ℕ, ◌≤◌, ℤ, Bool, IsTrue, Option, Result, List, [], ◌∷◌, length}
+-- What the calls do to pages and places.
+use Rattle.std.specs.Prelude.{◌≡◌, ◌⊎◌, ℕ, ◌≤◌, ℤ, Bool, true, false, IsTrue, Option, Some, None, Result, List, [], ◌∷◌, length}
 use Rattle.ts_base.specs.declared.fault.StoreFault.{StoreFault}
 use Rattle.ts_space.specs.declared.place.Place.{Place}
 use Rattle.ts_space.specs.Directory.{Directory}
@@ -51,6 +51,12 @@ AreKept tells slot columns (place ∷ others) [] now v w = IsPageFreed tells pla
 AreKept tells slot columns (place ∷ others) (e ∷ es) now v w =
     (w.free ≡ v.free) × IsPagePut tells slot columns place.page (e ∷ es) now v w
 
+-- these elements of a series are put: they are in order, there is room for them, and they are kept
+pub record ArePut (tells : Bool) (slot : ℕ) (columns : List Column) (old : List Place) (es : List Element) (new : List Place) (v w : Contents) : Type 0 where
+  pub order : AreInOrder columns es
+  pub room : length es ≤ page_room columns
+  pub kept : AreKept tells slot columns old es new v w
+
 -- a row is put at a stamp, or taken away, among the elements that are seen
 pub record IsEdited (tells : Bool) (slot : ℕ) (columns : List Column) (stamp : ℤ) (row : Option Values) (old new : List Place) (v w : Contents) : Type 0 where
   pub elements : List Element
@@ -58,6 +64,24 @@ pub record IsEdited (tells : Bool) (slot : ℕ) (columns : List Column) (stamp :
   pub order : AreInOrder columns (edited stamp row elements)
   pub room : length (edited stamp row elements) ≤ page_room columns
   pub kept : AreKept tells slot columns old (edited stamp row elements) new v w
+
+-- among the elements that are seen none is at the stamp, and the row is put there
+pub record IsPutNew (tells : Bool) (slot : ℕ) (columns : List Column) (stamp : ℤ) (row : Values) (old new : List Place) (v w : Contents) : Type 0 where
+  pub edited : IsEdited tells slot columns stamp (Some row) old new v w
+  pub absent : element_at stamp edited.elements ≡ None
+
+-- among the elements that are seen one is at the stamp, and everything stays
+pub record IsThereAlready (tells : Bool) (slot : ℕ) (columns : List Column) (stamp : ℤ) (old new : List Place) (v w : Contents) : Type 0 where
+  pub row : Values
+  pub found : IsFound tells slot columns stamp old v (Some row)
+  pub places : new ≡ old
+  pub free : w.free ≡ v.free
+  pub pages : IsTrue tells → EqualPages v.page w.page
+
+-- a row is put, or one is there
+abbrev pub IsInserted : Bool → ℕ → List Column → ℤ → Values → List Place → List Place → Contents → Contents → Bool → Type 0
+IsInserted tells slot columns stamp row old new v w true = IsPutNew tells slot columns stamp row old new v w
+IsInserted tells slot columns stamp row old new v w false = IsThereAlready tells slot columns stamp old new v w
 
 -- an edit that fails leaves the pages and all places; one page may be taken
 pub record IsNotEdited (tells : Bool) (old new : Directory) (v w : Contents) : Type 0 where

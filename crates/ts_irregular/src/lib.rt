@@ -2,11 +2,12 @@
 //! and judged against its place in the directory; one that doesn't agree is taken as a page without elements. Each
 //! call says which elements it saw, and an edit leaves the page of these with one changed (`specs/Edit`,
 //! `specs/OnePage`, `specs/Call`). Stands on ts_cells, ts_space and ts_page; knows nothing of definitions, quotas or
-//! journals. Read `specs/Edit.antt`, `specs/Call.antt`, then `get.rt` and `set.rt`.
+//! journals. Read `specs/Edit.antt`, `specs/Call.antt`, then `get.rt`, `set.rt` and `insert.rt`.
 #![tactic(auto)]
 
 mod cells;
 mod get;
+mod insert;
 mod laws;
 mod page;
 mod search;
@@ -16,5 +17,6 @@ mod set;
 mod tests;
 
 pub use get::irregular_get;
+pub use insert::irregular_insert;
 pub use laws::{an_edit_keeps_one_page, edits_are_those_of_a_map, edits_keep_the_order};
 pub use set::irregular_set;

@@ -1,10 +1,13 @@
 // The row at a stamp is put or taken away.
-ghost use Rattle.std.specs.Prelude.{◌≡◌, ◌+◌, ◌<◌, ◌≤◌, IsTrue, IsSome, IfSome, OnOk, OnErr, Some, None, [], ◌∷◌, length, option_copied};
+ghost use Rattle.std.specs.Prelude.{◌≡◌, ◌+◌, ◌<◌, ◌≤◌, IsTrue, IsSome, IfSome, OnOk, OnErr, Some, None, List, [], ◌∷◌, length, drop, option_copied};
 ghost use Rattle.ts_row.specs.Row.{fits};
 ghost use Rattle.ts_space.specs.Directory.{places_of, spare_of, ChangesOnly};
 ghost use Rattle.ts_page.specs.Pages.{Answered};
+ghost use Rattle.ts_cells.specs.Cell.{Element, page_room};
+ghost use Rattle.ts_cells.specs.IrregularPage.{AreInOrder, behind_head};
+ghost use Rattle.ts_irregular.specs.Edit.{with_element, taken_for};
 ghost use Rattle.ts_irregular.specs.OnePage.{HasOnePage, IsPlace, HasRoom};
-ghost use Rattle.ts_irregular.specs.Call.{IsEdited, IsNotEdited};
+ghost use Rattle.ts_irregular.specs.Call.{ArePut, IsEdited, IsNotEdited};
 
 use crate::page::{place_in, put_into, take_out};
 use crate::see::see;
@@ -43,8 +46,8 @@ pub fn irregular_set<P: Pages>(
     }
 }
 
-// Puts the first element of a series, on a page that is taken.
-fn put_first<P: Pages>(
+/// Puts the first element of a series, on a page that is taken.
+pub(crate) fn put_first<P: Pages>(
     pages: &mut P,
     space: &mut Space,
     shelf: &Shelf,
@@ -96,14 +99,44 @@ fn put_on<P: Pages>(
     ensures others { ChangesOnly shelf.now.series space.old space.new }
     ensures undisturbed { P.undisturbed pages.old pages.new }
 {
-    // It lies in the range.
-    let _units = stamp.units();
     let mut page = Page::zero();
     pages.get(place.page, &mut page)?;
     let before = see(shelf, place, &mut page);
-    let count = put_into(shelf, &mut page, before, stamp, row);
-    pages.put(place.page, &page)?;
-    let moved = place_in(shelf, place.page, count, &page);
+    put_seen(pages, space, shelf, place, &mut page, before, stamp, row)
+}
+
+/// Puts an element on the page of a series that was read: so many elements were seen on it.
+pub(crate) fn put_seen<P: Pages>(
+    pages: &mut P,
+    space: &mut Space,
+    shelf: &Shelf,
+    place: &Place,
+    page: &mut Page,
+    before: usize,
+    stamp: Stamp,
+    row: &Row,
+) -> Result<(), StoreFault>
+    requires slot { shelf.now.series < 4096 }
+    requires one { places_of shelf.now.series space.old ≡ place.now ∷ [] }
+    requires place { IsPlace shelf.now.kind.now.columns (P.contents pages.old) place.now }
+    requires fits { IsTrue (fits shelf.now.kind.now.columns row.now) }
+    requires before { before ≤ page_room shelf.now.kind.now.columns }
+    ensures ok { (es : List Element) → AreInOrder shelf.now.kind.now.columns es → length es ≡ before
+        → drop 32 page.old.bytes ≡ behind_head shelf.now.kind.now.columns es
+        → OnOk result (ArePut P.tells shelf.now.series shelf.now.kind.now.columns (place.now ∷ [])
+        (with_element stamp row.now (taken_for (page_room shelf.now.kind.now.columns) stamp es))
+        (places_of shelf.now.series space.new) (P.contents pages.old) (P.contents pages.new)) }
+    ensures err { OnErr result (IsNotEdited P.tells space.old space.new (P.contents pages.old) (P.contents pages.new)) }
+    ensures call { Answered result (P.contents pages.old) (P.contents pages.new) }
+    ensures change { (P.contents pages.new).change_bytes ≤ (P.contents pages.old).change_bytes + 4101 }
+    ensures others { ChangesOnly shelf.now.series space.old space.new }
+    ensures undisturbed { P.undisturbed pages.old pages.new }
+{
+    // It lies in the range.
+    let _units = stamp.units();
+    let count = put_into(shelf, page, before, stamp, row);
+    pages.put(place.page, page)?;
+    let moved = place_in(shelf, place.page, count, page);
     move_place(space, shelf.series, place, moved);
     Ok(())
 }
