@@ -233,9 +233,10 @@ fn a_page_has_room_for_five_wide_rows(rt: HostRuntime) -> Result<(), Fail> {
               InsElem('w','2011-01-01 00:00:00','','',null);InsElem('w','2011-01-02 00:00:00','','',null);\
               InsElem('w','2011-01-03 00:00:00','','',null);InsElem('w','2011-01-04 00:00:00','','',null);\
               InsElem('w','2011-01-05 00:00:00','','',null);InsElem('w','2011-01-06 00:00:00','','',null);\
-              TSContainerUsage(c2);",
+              InsElem('w','2011-01-05 00:00:00','','',null);TSContainerUsage(c2);",
             b"ok\nok\nok\nok 2011-01-01 00:00:00.00000\nok 2011-01-02 00:00:00.00000\nok 2011-01-03 00:00:00.00000\n\
-              ok 2011-01-04 00:00:00.00000\nok 2011-01-05 00:00:00.00000\nerror 30 ContainerFull\nok 1 1\n",
+              ok 2011-01-04 00:00:00.00000\nok 2011-01-05 00:00:00.00000\nerror 30 ContainerFull\n\
+              error 23 Duplicate\nok 1 1\n",
         )?
     );
     Ok(())

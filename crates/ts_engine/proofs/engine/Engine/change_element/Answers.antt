@@ -58,6 +58,3 @@ returns-in-Err-clause-changed g c =
 
 pub end_put-requires-clause-short : goal.end_put-requires-clause-short
 end_put-requires-clause-short g c = omega (arith, c.edit.ensures.bytes, ap (λ (es : List Entry). length (entries_bytes es)) c.requires.ready.idle.batch)
-
-pub end_put-in-Err-requires-clause-short : goal.end_put-in-Err-requires-clause-short
-end_put-in-Err-requires-clause-short g c = omega (arith, c.edit.ensures.bytes, ap (λ (es : List Entry). length (entries_bytes es)) c.requires.ready.idle.batch)

@@ -91,8 +91,8 @@ returns-in-Ok-false g c =
           (c.refuse.ensures.stepped command (refused_taken tells key c.args.stamp literals slot c.args.row.now m x has_there (there_after tells command e m f v x w c.requires.ready is.0 is.1 tables lists slot c.args.stamp true there)));
     }
 
-pub returns-in-Err : goal.returns-in-Err
-returns-in-Err g c =
+pub returns : goal.returns
+returns g c =
     let tells = g.V.Volume.tells in
     let e = c.args.self.now in
     let m = c.change_element.new.self in
