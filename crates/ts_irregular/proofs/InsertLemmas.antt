@@ -1,17 +1,17 @@
 -- What an insert leaves, put together from what its parts leave.
-use Rattle.std.proofs.Common.{◌≡◌, ℕ, ◌≤◌, Bool, true, false, cond, ℤ, Option, Some, None, is_some, Result, Ok, Err, List, [], ◌∷◌, length, inl, refl, sym, ap, subst}
-use Rattle.std.specs.Prelude.{nat_lt, ◌<◌, ◌||◌}
+use Rattle.std.proofs.Common.{◌≡◌, ℕ, ◌≤◌, Bool, true, false, cond, ℤ, Option, Some, None, is_some, Result, Ok, Err, List, [], ◌∷◌, length, inl, refl, sym, ap, subst, arith}
+use Rattle.std.specs.Prelude.{Contains, nat_lt, ◌<◌, ◌||◌}
 use Rattle.ts_space.specs.declared.place.Place.{Place}
 use Rattle.ts_space.specs.Place.{count_of}
-use Rattle.ts_page.specs.Pages.{Contents, Got, IsElementPage}
+use Rattle.ts_page.specs.Pages.{Contents, Got, IsElementPage, IsLawful}
 use Rattle.ts_row.specs.declared.kind.Column.{Column}
 use Rattle.ts_row.specs.Row.{Values}
 use Rattle.ts_cells.specs.Cell.{Element, page_room}
 use Rattle.ts_irregular.specs.Edit.{element_at, with_element, taken_for, search_of}
-use Rattle.ts_irregular.specs.OnePage.{IsTakenFor}
-use Rattle.ts_irregular.specs.Call.{ArePut, IsEdited, IsPutNew, IsThereAlready}
+use Rattle.ts_irregular.specs.OnePage.{HasOnePage, IsTakenFor}
+use Rattle.ts_irregular.specs.Call.{ArePut, IsEdited, IsPutNew, IsThereAlready, IsInserted}
 use Rattle.ts_irregular.proofs.SearchLemmas.{search_ok, search_err}
-use Rattle.ts_irregular.proofs.KeptLemmas.{edited_put, found_on}
+use Rattle.ts_irregular.proofs.KeptLemmas.{edited_put, edit_keeps_one, found_on}
 
 -- where none is at the stamp, none is among those that a page is taken for
 none_for : (b : Bool) (stamp : ℤ) (es : List Element) → element_at stamp es ≡ None → element_at stamp (cond b es []) ≡ None
@@ -52,3 +52,20 @@ there_already tells slot count index columns stamp place es bytes now v u elemen
       free = got.free;
       pages = got.pages;
     }
+
+-- a series stays one that has no page or one
+pub one_stays : (columns : List Column) (places : List Place) (v w : Contents) → w.free ≡ v.free → w.count ≡ v.count → HasOnePage columns v places → HasOnePage columns w places
+one_stays columns [] v w free count one = tt
+one_stays columns (place ∷ []) v w free count one = record {
+  element = one.element;
+  below = omega (arith, one.below, count);
+  used = λ has. one.used (subst (λ (l : List ℕ). Contains l place.page) free has);
+  some = one.some;
+  room = one.room;
+}
+one_stays columns (place ∷ other ∷ places) v w free count one = absurd one
+
+pub insert_keeps_one : (put tells : Bool) (slot : ℕ) (columns : List Column) (stamp : ℤ) (row : Values) (old new : List Place) (v w : Contents) → IsLawful tells v → w.count ≡ v.count → HasOnePage columns v old
+    → IsInserted tells slot columns stamp row old new v w put → HasOnePage columns w new
+insert_keeps_one true tells slot columns stamp row old new v w lawful count one done = edit_keeps_one tells slot columns stamp (Some row) old new v w lawful count one done.edited
+insert_keeps_one false tells slot columns stamp row old new v w lawful count one done = subst (HasOnePage columns w) (sym done.places) (one_stays columns old v w done.free count one)

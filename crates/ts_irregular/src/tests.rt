@@ -51,6 +51,29 @@ impl Series {
         Ok(())
     }
 
+    // Puts an integer at so many units where none is, and tells whether it did.
+    fn insert(&mut self, at: i64, integer: i128) -> Result<bool, Fail>
+        requires { HasOnePage self.old.kind.columns (memory_contents self.old.pages) (places_of 7 self.old.space) }
+        ensures { OnOk result (HasOnePage self.new.kind.columns (memory_contents self.new.pages) (places_of 7 self.new.space)) }
+    {
+        let stamp = Stamp::of(at).ok_or("no stamp")?;
+        let row = self.kind.row_of(&[Literal::Number {
+            units: integer,
+            scale: 0,
+        }])?;
+        if count_of(self.space.places(SLOT)) >= page_room(&self.kind) as u64 {
+            return Err(Fail::from("a full page"));
+        }
+        if self.pages.spare() == 0 {
+            return Err(Fail::from("no free page"));
+        }
+        let shelf = Shelf {
+            series: SLOT,
+            kind: &self.kind,
+        };
+        Ok(irregular_insert(&mut self.pages, &mut self.space, &shelf, stamp, &row)?)
+    }
+
     // Takes away the element at so many units.
     fn take(&mut self, at: i64) -> Result<(), Fail>
         requires { HasOnePage self.old.kind.columns (memory_contents self.old.pages) (places_of 7 self.old.space) }
@@ -84,6 +107,7 @@ impl Series {
     // The bytes of its page.
     fn page(&mut self) -> Result<Page, Fail>
         requires { HasOnePage self.old.kind.columns (memory_contents self.old.pages) (places_of 7 self.old.space) }
+        ensures { OnOk result (HasOnePage self.new.kind.columns (memory_contents self.new.pages) (places_of 7 self.new.space)) }
     {
         let Some(place) = self.space.places(SLOT).first() else {
             return Err(Fail::from("no page"));
@@ -187,6 +211,30 @@ fn a_row_that_is_there_is_replaced(rt: HostRuntime) -> Result<(), Fail> {
     assert_eq!(rt; series.space.places(SLOT), [place(DAY_3, 2)].as_slice());
     assert_eq!(rt; series.get(DAY_3)?, Some(-8));
     assert_eq!(rt; series.get(DAY_3 + 9)?, Some(6));
+    Ok(())
+}
+
+#[test]
+fn a_row_is_inserted_where_none_is(rt: HostRuntime) -> Result<(), Fail> {
+    let mut series = empty(rt.alloc())?;
+    assert!(rt; series.insert(DAY_3, 5)?);
+    assert!(rt; series.insert(DAY_3 - 2, 6)?);
+    assert_eq!(rt; series.space.places(SLOT), [place(DAY_3 - 2, 2)].as_slice());
+    assert_eq!(rt; series.get(DAY_3)?, Some(5));
+    assert_eq!(rt; series.get(DAY_3 - 2)?, Some(6));
+    Ok(())
+}
+
+#[test]
+fn an_insert_leaves_the_element_that_is_there(rt: HostRuntime) -> Result<(), Fail> {
+    let mut series = empty(rt.alloc())?;
+    assert!(rt; series.insert(DAY_3, 5)?);
+    let before = series.page()?;
+    assert!(rt; !series.insert(DAY_3, -8)?);
+    let after = series.page()?;
+    assert_eq!(rt; after.bytes, before.bytes);
+    assert_eq!(rt; series.space.places(SLOT), [place(DAY_3, 1)].as_slice());
+    assert_eq!(rt; series.get(DAY_3)?, Some(5));
     Ok(())
 }
 
