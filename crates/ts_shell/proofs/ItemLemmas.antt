@@ -22,12 +22,12 @@ use Rattle.ts_replies.specs.Acknowledged.{IsFront, IsStep, memory_line}
 use Rattle.ts_replies.proofs.Steps.{one_answered, one_fair, one_good, one_waits, none_good}
 use Rattle.ts_engine.specs.declared.fault.StepFault.{StepFault}
 use Rattle.ts_engine.specs.declared.fault.StepFault.TheVariants as faults
-use Rattle.ts_engine.specs.Answer.{answer, outcome, may_lack_memory}
-use Rattle.ts_engine.specs.Reply.{refusal_line}
+use Rattle.ts_answer.specs.Answer.{answer, outcome, may_lack_memory}
+use Rattle.ts_answer.specs.Reply.{refusal_line}
 use Rattle.ts_engine.specs.Volume.{MeansCatalogue}
 use Rattle.ts_engine.specs.Engine.{Kept, IsReady, IsAt}
 use Rattle.ts_engine.specs.Step.{Stepped}
-use Rattle.ts_engine.proofs.ApartLemmas.{apart}
+use Rattle.ts_answer.proofs.ApartLemmas.{apart}
 use Rattle.ts_shell.specs.declared.fault.RunFault.{RunFault}
 use Rattle.ts_shell.specs.declared.fault.RunFault.TheVariants.{Disk, Output}
 use Rattle.ts_shell.specs.Run.{IsGoodRun, Ran}

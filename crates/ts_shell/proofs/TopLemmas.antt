@@ -10,11 +10,11 @@ use Rattle.ts_model.specs.Catalogue.{Catalogue}
 use Rattle.ts_container.specs.declared.fault.SurveyFault.{SurveyFault}
 use Rattle.ts_container.specs.declared.fault.SurveyFault.TheVariants as faults
 use Rattle.ts_engine.specs.declared.engine.Engine.{Engine}
-use Rattle.ts_engine.specs.Answer.{answer, may_lack_memory}
+use Rattle.ts_answer.specs.Answer.{answer, may_lack_memory}
 use Rattle.ts_engine.specs.Volume.{MeansCatalogue, MeansNothing}
 use Rattle.ts_engine.specs.Engine.{IsAt}
 use Rattle.ts_engine.specs.Start.{LeavesAsItWas, Started, StillMeans}
-use Rattle.ts_engine.proofs.ApartLemmas.{apart}
+use Rattle.ts_answer.proofs.ApartLemmas.{apart}
 use Rattle.ts_shell.specs.Run.{IsGoodRun, SaysFairly}
 use Rattle.ts_shell.specs.Top.{Untouched, Took, TookEnough, asked_of, OpenedRan, RanFrom, ScriptRan, AllDone}
 use Rattle.ts_shell.proofs.ItemLemmas.{never, rose_on}
@@ -191,8 +191,8 @@ module _ (tells told : Bool) (engine : Engine) (v y w : Device) (i j : Input) (s
     output = λ four. rose_on v.say_faults y.say_faults w.say_faults (omega (arith, started.others.say_faults)) (ran.output four);
     disk = λ five. rose_on v.faults y.faults w.faults started.others.faults (ran.disk five);
     no_store = λ six. absurd (not_six six ran.statuses);
-    not_a_store = λ t none. let cat = started.at t in absurd (none cat.0 cat.1);
-    left = λ t none. let cat = started.at t in absurd (none cat.0 cat.1);
+    not_a_store = λ t none. let cat = started.means t in absurd (none cat.0 cat.1);
+    left = λ t none. let cat = started.means t in absurd (none cat.0 cat.1);
     too_long = ran.too_long;
     short = ran.short;
     quiet = λ which. absurd (neither which);

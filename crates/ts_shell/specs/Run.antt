@@ -7,7 +7,7 @@ use Rattle.ts_command.specs.Script.{Request, request_of}
 use Rattle.ts_replies.specs.Acknowledged.{IsFair, AllAnswered}
 use Rattle.ts_replies.specs.Good.{IsGoodMoment}
 use Rattle.ts_model.specs.Catalogue.{Catalogue}
-use Rattle.ts_engine.specs.Answer.{answer, may_lack_memory}
+use Rattle.ts_answer.specs.Answer.{answer, may_lack_memory}
 use Rattle.ts_engine.specs.Volume.{MeansCatalogue}
 use Rattle.ts_engine.specs.Engine.{Kept, IsReady, IsAt}
 use Rattle.ts_shell.specs.declared.fault.RunFault.{RunFault}

@@ -5,7 +5,7 @@ use Rattle.ts_disk.specs.Input.{Input}
 use Rattle.ts_command.specs.Script.{Request, requests, last_request}
 use Rattle.ts_replies.specs.Acknowledged.{AllAnswered}
 use Rattle.ts_model.specs.Catalogue.{Catalogue, empty_catalogue}
-use Rattle.ts_engine.specs.Answer.{answer, may_lack_memory}
+use Rattle.ts_answer.specs.Answer.{answer, may_lack_memory}
 use Rattle.ts_engine.specs.Volume.{MeansCatalogue, MeansNothing}
 use Rattle.ts_engine.specs.Engine.{Kept, IsAt}
 use Rattle.ts_engine.specs.Start.{LeavesAsItWas}
