@@ -7,9 +7,11 @@
 mod batch;
 mod home;
 mod journal;
+mod pen;
 mod record;
 #[cfg(test)]
 mod tests;
 
 pub use batch::{Batch, Change};
-pub use journal::{CommitFault, Journal};
+pub use journal::{CommitFault, FRAME, Journal};
+pub use record::{OPEN_GATE, entry_length};
