@@ -1,5 +1,5 @@
 -- What a stop leaves in each step of emptying the journal.
-use Rattle.std.proofs.Common.{◌≡◌, ◌⊎◌, inl, inr, ℕ, Bool, IsTrue, Result, Ok, Err, OnOk, IsErr, List, length, replicate, refl, sym, ◌∙◌, ap, subst, arith}
+use Rattle.std.proofs.Common.{◌≡◌, inl, inr, ℕ, Bool, IsTrue, Result, Ok, Err, IsErr, List, replicate, ◌∙◌, ap, subst, arith}
 use Rattle.std.proofs.lemmas.Bool.{false≢true}
 use Rattle.ts_disk.specs.Device.{Device, Lawful, Only, Torn, LeavesOnly, WrittenAt, Synced, Rose, overwritten}
 use Rattle.ts_disk.proofs.Moments.{calls_on, leaves_map}

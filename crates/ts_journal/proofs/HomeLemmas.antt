@@ -1,19 +1,19 @@
 -- Pages brought to their places.
-use Rattle.std.proofs.Common.{◌≡◌, ◌≢◌, ◌⊎◌, inl, inr, ⊎_elim, ℕ, zero, suc, ◌+◌, ◌*◌, ◌^◌, ◌<◌, ◌≤◌, Bool, true, false, IsTrue, cond, eqb, Option, Some, None, Result, Ok, Err, OnOk, IsErr, List, [], ◌∷◌, ◌++◌, length, take, drop, replicate, get_or, refl, ap, sym, ◌∙◌, subst, arith, add-zero}
-use Rattle.std.proofs.lemmas.Bool.{false≢true, cond-true, cond-false, cases_Bool, eqb-true, eqb-false, eq-eqb, ne_eqb, cases_eq, cases_lt}
-use Rattle.std.proofs.lemmas.List.{take_more, take_all, take-take, take_at}
+use Rattle.std.proofs.Common.{◌≡◌, ◌⊎◌, inl, inr, ⊎_elim, ℕ, zero, suc, ◌+◌, ◌*◌, ◌^◌, ◌<◌, ◌≤◌, Bool, IsTrue, cond, eqb, Some, None, Result, Ok, Err, IsErr, List, [], ◌∷◌, ◌++◌, length, take, drop, replicate, get_or, refl, ap, sym, ◌∙◌, subst, arith, add-zero}
+use Rattle.std.proofs.lemmas.Bool.{false≢true, cond-true, cond-false, eq-eqb, ne_eqb, cases_eq, cases_lt}
+use Rattle.std.proofs.lemmas.List.{take_more, take_all, take-take}
 use Rattle.ts_disk.specs.Device.{Device, Lawful, Torn, Follows, LeavesOnly, WrittenAt, Rose, overwritten}
 use Rattle.ts_disk.proofs.Moments.{started, calls_on}
 use Rattle.ts_page.specs.Head.{bytes_at}
 use Rattle.ts_journal.specs.declared.batch.Change.{Change}
 use Rattle.ts_journal.specs.declared.batch.Change.TheVariants.{Image, Free}
 use Rattle.ts_journal.specs.Entry.{Entry, IsRising, IsWhole, IsAllowed, AreAllowed, change_of}
-use Rattle.ts_journal.specs.Journal.{IsVolumeSize, page_count, region}
+use Rattle.ts_journal.specs.Journal.{page_count}
 use Rattle.ts_journal.specs.Moment.{Keeps}
 use Rattle.ts_journal.specs.Steps.{Beside, home_bytes, IsHome, AreHome, BesideFrom, WritesHome}
 use Rattle.ts_journal.proofs.RangeLemmas.{outside, written_part, Torn-overwritten}
 use Rattle.ts_journal.proofs.WriteLemmas.{keeps_refl, keeps_then, keeps_write}
-use Rattle.ts_journal.proofs.BatchLemmas.{no_entry, from_least}
+use Rattle.ts_journal.proofs.BatchLemmas.{no_entry}
 
 pub beside_refl : (es : List Entry) (image : List ℕ) → Beside es image image
 beside_refl es image = record { len = refl; region = refl; others = λ number none. refl }

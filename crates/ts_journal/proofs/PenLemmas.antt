@@ -1,12 +1,12 @@
 -- Pieces put behind what is on its way.
-use Rattle.std.proofs.Common.{◌≡◌, ℕ, ◌+◌, ◌≤◌, Bool, Result, Ok, Err, IsErr, List, [], ◌++◌, length, take, refl, sym, ◌∙◌, ap, subst, arith, append_assoc, length-append}
+use Rattle.std.proofs.Common.{◌≡◌, ℕ, ◌+◌, ◌≤◌, Bool, Result, Ok, Err, IsErr, List, [], ◌++◌, length, refl, sym, ◌∙◌, ap, subst, arith, append_assoc, length-append}
 use Rattle.std.proofs.lemmas.Bool.{false≢true}
 use Rattle.std.proofs.lemmas.List.{append-nil}
 use Rattle.ts_disk.specs.Device.{Device, Lawful, WrittenAt}
 use Rattle.ts_disk.specs.declared.volume.Failed.{Failed}
 use Rattle.ts_journal.specs.declared.pen.Pen.{Pen}
 use Rattle.ts_journal.specs.Moment.{Writes}
-use Rattle.ts_journal.specs.Pen.{pending, Added, Adds}
+use Rattle.ts_journal.specs.Pen.{pending, Adds}
 use Rattle.ts_journal.proofs.WriteLemmas.{writes_one, writes_none, writes_then, writes_stopped}
 
 pub adds_none : (tells : Bool) (p : Pen) (v : Device) → Lawful tells v → Adds tells [] (Ok tt) p p v v

@@ -1,7 +1,7 @@
 -- A run of writes, one piece behind the other.
-use Rattle.std.proofs.Common.{◌≡◌, ◌⊎◌, ℕ, ◌+◌, ◌-◌, ◌≤◌, Bool, IsTrue, Result, Ok, Err, OnOk, IsOk, IsErr, List, [], ◌∷◌, ◌++◌, length, take, drop, refl, sym, ◌∙◌, ap, subst, arith, length-append}
+use Rattle.std.proofs.Common.{◌≡◌, ℕ, ◌+◌, ◌≤◌, Bool, IsTrue, Result, Ok, Err, OnOk, IsOk, IsErr, List, [], ◌++◌, length, refl, sym, ◌∙◌, subst, arith, length-append}
 use Rattle.std.proofs.lemmas.Bool.{false≢true}
-use Rattle.ts_disk.specs.Device.{Device, Lawful, Torn, Follows, LeavesOnly, WrittenAt, Synced, Called, Rose, overwritten}
+use Rattle.ts_disk.specs.Device.{Device, Lawful, Torn, Follows, WrittenAt, Synced, Rose, overwritten}
 use Rattle.ts_disk.proofs.Moments.{started, calls_on, leaves_map, then_on}
 use Rattle.ts_disk.proofs.Ranges.{Torn-within, Follows-within, overwritten-append}
 use Rattle.ts_journal.specs.Moment.{Keeps, TornFrom, WritesWithin, Writes}

@@ -1,5 +1,5 @@
 -- What the calls of a journal do to a volume, and what a stop within them leaves.
-use Rattle.std.specs.Prelude.{◌≡◌, ◌⊎◌, ℕ, ◌+◌, ◌<◌, ◌≤◌, Bool, IsTrue, List, length, Result, Ok, Err, OnOk, IsOk, IsErr}
+use Rattle.std.specs.Prelude.{◌≡◌, ◌⊎◌, ℕ, ◌<◌, ◌≤◌, Bool, IsTrue, List, length, Result, Ok, Err, OnOk, IsOk, IsErr}
 use Rattle.ts_disk.specs.Device.{Device, Torn, Follows, LeavesOnly, Rose, overwritten}
 use Rattle.ts_journal.specs.Entry.{Entry, put_pages}
 use Rattle.ts_journal.specs.Journal.{pages, ReadsAs, ReadsButFreed}

@@ -1,5 +1,5 @@
 -- A record: a gate, the number of bytes of its entries, these entries, and behind them the next gate.
-use Rattle.std.specs.Prelude.{ℕ, zero, suc, ◌+◌, ◌&&◌, ◌==◌, not, nat_lt, nat_le, if◌then◌else◌, Option, Some, None, option_and_then, List, [], ◌∷◌, ◌++◌, length, take, drop, replicate, slice_index}
+use Rattle.std.specs.Prelude.{◌≡◌, ◌≢◌, ℕ, zero, suc, ◌+◌, ◌<◌, ◌≤◌, ◌&&◌, ◌==◌, not, nat_lt, nat_le, if◌then◌else◌, Option, Some, None, option_and_then, List, [], ◌∷◌, ◌++◌, length, take, drop, replicate, slice_index}
 use Rattle.std.specs.Option.{option_map}
 use Rattle.std.specs.Int.{from_be_bytes, to_be_bytes, w32}
 use Rattle.ts_page.specs.Volume.{page_size, first_element_page}
@@ -7,7 +7,7 @@ use Rattle.ts_page.specs.Head.{bytes_at}
 use Rattle.ts_page.specs.Pages.{is_region}
 use Rattle.ts_journal.specs.declared.batch.Change.TheVariants.{Image, Free}
 use Rattle.ts_journal.specs.Gate.{is_open}
-use Rattle.ts_journal.specs.Entry.{Entry, entry_bytes, entries_bytes}
+use Rattle.ts_journal.specs.Entry.{Entry, IsBatch, AreAllowed, entry_bytes, entries_bytes}
 
 -- the bytes behind the gate of a record: the number of bytes of its entries, the entries and a closed next gate
 unfoldable pub body_bytes : List Entry → List ℕ
@@ -20,6 +20,20 @@ record_frame = 20
 -- the last position in the region at which a gate has room
 abbrev pub last_position : ℕ
 last_position = 1048568
+
+-- each number is that of a byte
+abbrev pub AreBytes : List ℕ → Type 0
+AreBytes bytes = (i : ℕ) → slice_index bytes i < 256
+
+-- The record of these entries stands at the front, by the rules of a volume of so many pages: behind its gate the number of bytes
+-- of the entries, then these, and there is room for a next gate.
+pub record IsRecord (count : ℕ) (es : List Entry) (bytes : List ℕ) : Type 0 where
+  pub some : es ≢ []
+  pub batch : IsBatch es
+  pub allowed : AreAllowed count es
+  pub number : bytes_at 8 4 bytes ≡ to_be_bytes w32 (length (entries_bytes es))
+  pub entries : bytes_at 12 (length (entries_bytes es)) bytes ≡ entries_bytes es
+  pub room : length (entries_bytes es) + record_frame ≤ length bytes
 
 -- how many bytes a record has up to the next gate
 abbrev pub record_length : List Entry → ℕ

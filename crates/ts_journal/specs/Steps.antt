@@ -1,5 +1,5 @@
 -- The steps of a commit and of a checkpoint, and what a stop within them leaves.
-use Rattle.std.specs.Prelude.{◌≡◌, ◌⊎◌, ℕ, ◌+◌, ◌*◌, Bool, IsTrue, Option, Some, None, List, [], ◌∷◌, ◌++◌, length, take, replicate, Result, OnOk, IsOk, IsErr}
+use Rattle.std.specs.Prelude.{◌≡◌, ◌⊎◌, ℕ, ◌+◌, ◌*◌, Bool, IsTrue, None, List, [], ◌∷◌, length, replicate, Result, OnOk, IsOk, IsErr}
 use Rattle.ts_disk.specs.Device.{Device, Only, Torn, Follows, LeavesOnly, Rose, overwritten}
 use Rattle.ts_page.specs.Volume.{page_size, head_size, region_start}
 use Rattle.ts_page.specs.Head.{bytes_at}
@@ -7,7 +7,7 @@ use Rattle.ts_page.specs.Pages.{HasFreeHead}
 use Rattle.ts_journal.specs.declared.batch.Change.{Change}
 use Rattle.ts_journal.specs.declared.batch.Change.TheVariants.{Image, Free}
 use Rattle.ts_journal.specs.Gate.{open_gate}
-use Rattle.ts_journal.specs.Entry.{Entry, entries_bytes, change_of}
+use Rattle.ts_journal.specs.Entry.{Entry, change_of}
 use Rattle.ts_journal.specs.Record.{body_bytes}
 use Rattle.ts_journal.specs.Journal.{region}
 use Rattle.ts_journal.specs.Moment.{Keeps}

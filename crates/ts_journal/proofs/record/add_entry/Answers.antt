@@ -1,4 +1,4 @@
-use Rattle.std.proofs.Common.{Ok, Err, ◌≡◌, ◌+◌, ◌≤◌, ◌∷◌, length, ap, sym, subst, arith, List, ℕ}
+use Rattle.std.proofs.Common.{Ok, Err, ◌+◌, ◌≤◌, ◌∷◌, length, ap, sym, subst, arith, List, ℕ}
 use Rattle.std.specs.Int.{to_be_bytes, w32}
 use Rattle.ts_journal.specs.declared.batch.Change.{Change}
 use Rattle.ts_journal.specs.Entry.{entry_bytes}

@@ -1,6 +1,5 @@
-use Rattle.std.proofs.Common.{◌≡◌, ◌++◌, ◌∷◌, [], Global, ap, sym, ◌∙◌, subst}
-use Rattle.ts_journal.specs.Entry.{Entry, Entries, IsBatch, put}
-use Rattle.ts_journal.specs.Stored.{change_in}
+use Rattle.std.proofs.Common.{Global, ◌∙◌, subst}
+use Rattle.ts_journal.specs.Entry.{Entries, IsBatch}
 use Rattle.ts_journal.proofs.StoredLemmas.{Kept, taking_whole, taking_more}
 use Rattle.ts_journal.proofs.batch.Batch.take_all.Goals as goal
 
