@@ -120,9 +120,9 @@ impl Volume for FileSite {
 
     ghost device = { file_device };
 
-    ghost use Rattle.ts_file.specs.FileSite.{file_lawful};
+    ghost use Rattle.ts_disk.proofs.Moments.{untold};
 
-    ghost lawful = { file_lawful };
+    ghost lawful = { λ f. untold (file_device f) (λ image now. now) (λ t image said left. left) };
 
     fn len(&self) -> u64 {
         self.size
