@@ -7,3 +7,4 @@ pub mod HeadLemmas
 pub mod KeptLemmas
 pub mod InsertLemmas
 pub mod FindLemmas
+pub mod LastLemmas

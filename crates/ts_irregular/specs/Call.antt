@@ -9,7 +9,7 @@ use Rattle.ts_row.specs.declared.kind.Column.{Column}
 use Rattle.ts_row.specs.Row.{Values}
 use Rattle.ts_cells.specs.Cell.{Element, page_room}
 use Rattle.ts_cells.specs.IrregularPage.{AreInOrder, irregular_page}
-use Rattle.ts_irregular.specs.Edit.{element_at, edited}
+use Rattle.ts_irregular.specs.Edit.{element_at, last_of, edited}
 use Rattle.ts_irregular.specs.OnePage.{place_of, AreOn, AreSeen}
 
 -- pages are read
@@ -29,6 +29,11 @@ pub record IsFound (tells : Bool) (slot : ℕ) (columns : List Column) (stamp : 
 -- have none such it says nothing.
 abbrev pub IsRowThere : Bool → ℕ → List Column → ℤ → List Place → Contents → Option Values → Type 0
 IsRowThere tells slot columns stamp places v row = IsTrue tells → (es : List Element) → AreOn slot columns v.page places es → row ≡ element_at stamp es
+
+-- Where the pages are told, this is the last of the elements that they have and their places tell of. Of pages that have none
+-- such it says nothing.
+abbrev pub IsLast : Bool → ℕ → List Column → List Place → Contents → Option Element → Type 0
+IsLast tells slot columns places v last = IsTrue tells → (es : List Element) → AreOn slot columns v.page places es → last ≡ last_of es
 
 -- a series without elements stays one
 pub record StaysEmpty (tells : Bool) (now : List Place) (v w : Contents) : Type 0 where
