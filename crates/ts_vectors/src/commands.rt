@@ -42,7 +42,9 @@ fn routine_of(command: &Command) -> &'static str {
         Command::DropSeries { .. } => "DropSeries",
         Command::ListSeries { .. } => "ListSeries",
         Command::InsElem { .. } => "InsElem",
+        Command::UpdElem { .. } => "UpdElem",
         Command::GetElem { .. } => "GetElem",
+        Command::GetLastElem { .. } => "GetLastElem",
         Command::GetNelems { .. } => "GetNelems",
     }
 }
@@ -58,7 +60,9 @@ fn first_of(command: &Command) -> &[u8] {
         Command::DropSeries { key } => key.as_slice(),
         Command::ListSeries { container } => container.as_slice(),
         Command::InsElem { key, .. } => key.as_slice(),
+        Command::UpdElem { key, .. } => key.as_slice(),
         Command::GetElem { key, .. } => key.as_slice(),
+        Command::GetLastElem { key } => key.as_slice(),
         Command::GetNelems { key } => key.as_slice(),
     }
 }
