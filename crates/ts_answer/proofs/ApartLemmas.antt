@@ -9,7 +9,7 @@ use Rattle.ts_model.specs.declared.kind.Kind.{Kind}
 use Rattle.ts_model.specs.declared.kind.Kind.TheVariants as kinds
 use Rattle.ts_model.specs.Catalogue.{Catalogue}
 use Rattle.ts_command.specs.Script.{Request}
-use Rattle.ts_answer.specs.Answer.{Tried, Answered, ◌>>=◌, settled, outcome, answer, carried_out, create_row_type, drop_definition, create_container, container_usage, create_irregular, drop_series, list_series, insert_element, get_element, count_elements}
+use Rattle.ts_answer.specs.Answer.{Tried, Answered, ◌>>=◌, settled, outcome, answer, carried_out, create_row_type, drop_definition, create_container, container_usage, create_irregular, drop_series, list_series, insert_element, update_element, get_element, get_last_element, count_elements}
 use Rattle.ts_answer.proofs.ReplyLemmas.{IsApart, Begins, apart-begins, ok-begins, count-begins, counts-begins, stamp-begins, elements-begin, series_text-begins, refusal-apart}
 
 -- what is said of a reply begins with another byte than the memory line
@@ -54,9 +54,17 @@ insert_element-differs : (key : List ℕ) (stamp : ℤ) (literals : List Literal
 unfolding insert_element
 insert_element-differs key stamp literals cat = then _ _ (λ a. then _ _ (λ b. then _ _ (λ c. then _ _ (λ d. then _ _ (λ e. stamp-begins stamp)))))
 
+update_element-differs : (key : List ℕ) (stamp : ℤ) (literals : List Literal) (cat : Catalogue) → Differs (update_element key stamp literals cat)
+unfolding update_element
+update_element-differs key stamp literals cat = then _ _ (λ a. then _ _ (λ b. then _ _ (λ c. stamp-begins stamp)))
+
 get_element-differs : (key : List ℕ) (stamp : ℤ) (cat : Catalogue) → Differs (get_element key stamp cat)
 unfolding get_element
 get_element-differs key stamp cat = then _ _ (λ a. elements-begin _ _)
+
+get_last_element-differs : (key : List ℕ) (cat : Catalogue) → Differs (get_last_element key cat)
+unfolding get_last_element
+get_last_element-differs key cat = then _ _ (λ a. elements-begin _ _)
 
 count_elements-differs : (key : List ℕ) (cat : Catalogue) → Differs (count_elements key cat)
 unfolding count_elements
@@ -73,7 +81,9 @@ carried_out-differs (commands.TSCreateIrr key container) cat = create_irregular-
 carried_out-differs (commands.DropSeries key) cat = drop_series-differs key cat
 carried_out-differs (commands.ListSeries container) cat = list_series-differs container cat
 carried_out-differs (commands.InsElem key stamp literals) cat = insert_element-differs key stamp literals cat
+carried_out-differs (commands.UpdElem key stamp literals) cat = update_element-differs key stamp literals cat
 carried_out-differs (commands.GetElem key stamp) cat = get_element-differs key stamp cat
+carried_out-differs (commands.GetLastElem key) cat = get_last_element-differs key cat
 carried_out-differs (commands.GetNelems key) cat = count_elements-differs key cat
 
 outcome-differs : (request : Request) (cat : Catalogue) → Differs (outcome request cat)

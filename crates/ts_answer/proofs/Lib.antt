@@ -1,7 +1,8 @@
 pub mod ApartLemmas
-pub mod CarriedLemmas
-pub mod NameLemmas
-pub mod ReadingLemmas
-pub mod ReplyLemmas
-pub mod TriedLemmas
-pub mod ViewLemmas
+pub mod CallerLemmas
+mod CarriedLemmas
+mod NameLemmas
+mod ReadingLemmas
+mod ReplyLemmas
+mod TriedLemmas
+mod ViewLemmas

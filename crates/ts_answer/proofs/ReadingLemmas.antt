@@ -7,7 +7,7 @@ use Rattle.ts_model.specs.Catalogue.{Catalogue}
 use Rattle.ts_command.specs.Script.{Request}
 use Rattle.ts_answer.specs.Commands.{is_writing}
 use Rattle.ts_answer.specs.Reply.{refusal_line}
-use Rattle.ts_answer.specs.Answer.{Tried, ◌>>=◌, settled, outcome, answer, carried_out, container_usage, list_series, get_element, count_elements}
+use Rattle.ts_answer.specs.Answer.{Tried, ◌>>=◌, settled, outcome, answer, carried_out, container_usage, list_series, get_element, get_last_element, count_elements}
 
 pub refused : (cat : Catalogue) (request : Request) (refusal : Refusal) → outcome request cat ≡ Err refusal → answer cat request ≡ (refusal_line refusal, cat)
 unfolding answer
@@ -20,7 +20,7 @@ reads cat (Err refusal) say = refl
 
 -- each routine that only reads
 pub leaves : (cat : Catalogue) (command : Command) → is_writing command ≡ false → (answer cat (Ok command)).1 ≡ cat
-unfolding answer outcome carried_out container_usage list_series get_element count_elements
+unfolding answer outcome carried_out container_usage list_series get_element get_last_element count_elements
 leaves cat (commands.CreateRowType name stamp columns) reading = absurd (cc)
 leaves cat (commands.DropRowType name) reading = absurd (cc)
 leaves cat (commands.TSContainerCreate name row_type quota) reading = absurd (cc)
@@ -30,5 +30,7 @@ leaves cat (commands.TSCreateIrr key container) reading = absurd (cc)
 leaves cat (commands.DropSeries key) reading = absurd (cc)
 leaves cat (commands.ListSeries container) reading = reads cat _ _
 leaves cat (commands.InsElem key stamp literals) reading = absurd (cc)
+leaves cat (commands.UpdElem key stamp literals) reading = absurd (cc)
 leaves cat (commands.GetElem key stamp) reading = reads cat _ _
+leaves cat (commands.GetLastElem key) reading = reads cat _ _
 leaves cat (commands.GetNelems key) reading = reads cat _ _

@@ -1,7 +1,7 @@
 -- What a catalogue answers to a request of a script: a reply, and the catalogue after it. Each routine tries its refusals in
 -- order; the first that holds is said, and the catalogue stays.
-use Rattle.std.specs.Prelude.{ℕ, ◌+◌, Bool, true, false, nat_lt, nat_le, if◌then◌else◌, ℤ, unsigned_abs, List, map, Option, Some, None, option_to_list, Result, Ok, Err, is_some}
-use Rattle.std.specs.FinMap.{empty, get, insert, remove, len}
+use Rattle.std.specs.Prelude.{ℕ, ◌+◌, ◌-◌, Bool, true, false, nat_lt, nat_le, if◌then◌else◌, ℤ, unsigned_abs, List, length, map, slice_get, Option, Some, None, option_to_list, Result, Ok, Err, is_some, is_none}
+use Rattle.std.specs.FinMap.{empty, entries, get, insert, remove, len}
 use Rattle.ts_base.specs.declared.refusal.Refusal.{Refusal}
 use Rattle.ts_base.specs.declared.refusal.Refusal.TheVariants as refusals
 use Rattle.ts_row.specs.declared.kind.Column.{Column}
@@ -95,6 +95,10 @@ abbrev pub with_element : List ℕ → Series → ℤ → Values → Catalogue �
 with_element key s stamp row cat =
     record cat { series = insert cat.series key (record s { elements = insert s.elements stamp row }) }
 
+-- the last element, as a list of one or none
+abbrev pub last_element : Elements → List (ℤ × Values)
+last_element elements = option_to_list (slice_get (entries elements) (length (entries elements) - 1))
+
 -- the element at a stamp, as a list of one or none
 abbrev pub element_at : ℤ → Elements → List (ℤ × Values)
 element_at stamp elements = map (λ row. (stamp, row)) (option_to_list (get elements stamp))
@@ -149,10 +153,22 @@ insert_element key stamp literals cat = do
   fits ← within_quota (container_charge series.container (with_element key series stamp row cat)) (quota_of cat series)
   Ok (stamp_line stamp, with_element key series stamp row cat)
 
+unfoldable pub update_element : List ℕ → ℤ → List Literal → Catalogue → Tried Answered
+update_element key stamp literals cat = do
+  series ← wanted key cat.series
+  row ← a_row (columns_of cat series) literals
+  there ← refused_if (is_none (get series.elements stamp)) refusals.Missing
+  Ok (stamp_line stamp, with_element key series stamp row cat)
+
 unfoldable pub get_element : List ℕ → ℤ → Catalogue → Tried Answered
 get_element key stamp cat = do
   series ← wanted key cat.series
   Ok (elements_text (columns_of cat series) (element_at stamp series.elements), cat)
+
+unfoldable pub get_last_element : List ℕ → Catalogue → Tried Answered
+get_last_element key cat = do
+  series ← wanted key cat.series
+  Ok (elements_text (columns_of cat series) (last_element series.elements), cat)
 
 unfoldable pub count_elements : List ℕ → Catalogue → Tried Answered
 count_elements key cat = do
@@ -170,7 +186,9 @@ carried_out (commands.TSCreateIrr key container) cat = create_irregular key cont
 carried_out (commands.DropSeries key) cat = drop_series key cat
 carried_out (commands.ListSeries container) cat = list_series container cat
 carried_out (commands.InsElem key stamp literals) cat = insert_element key stamp literals cat
+carried_out (commands.UpdElem key stamp literals) cat = update_element key stamp literals cat
 carried_out (commands.GetElem key stamp) cat = get_element key stamp cat
+carried_out (commands.GetLastElem key) cat = get_last_element key cat
 carried_out (commands.GetNelems key) cat = count_elements key cat
 
 -- what a request comes to

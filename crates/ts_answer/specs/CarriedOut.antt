@@ -86,9 +86,10 @@ Grows commands v w = w.change_bytes + 5 * length v.free ≤ v.change_bytes + 5 *
 -- why a command isn't carried out
 abbrev pub IsStopped : Bool → Command → Stop → View → Contents → Type 0
 IsStopped tells command (Refused refusal) x c =
-    Stays tells x.pages c × Grows 1 x.pages c × (IsTrue tells → (l : Layout) → Shows tells x l → outcome (Ok command) (catalogue_of l) ≡ Err refusal)
+    Stays tells x.pages c × Grows 1 x.pages c × (c.faults ≡ x.pages.faults)
+    × (IsTrue tells → (l : Layout) → Shows tells x l → outcome (Ok command) (catalogue_of l) ≡ Err refusal)
 IsStopped tells command Failed x c = Rose x.pages.faults c.faults
-IsStopped tells command (Memory error) x c = Unit {0}
+IsStopped tells command (Memory error) x c = c.faults ≡ x.pages.faults
 
 -- A command was carried out on pages, with this reply, or not. What was in memory stays, but for room: its effect isn't applied.
 -- Only pages with an effect are to be kept: after all else the caller drops what was changed.
@@ -103,6 +104,8 @@ pub record CarriedOut (tells : Bool) (command : Command) (result : Result Effect
   pub count : c.count ≡ x.pages.count
   pub bytes : c.change_bytes ≤ x.pages.change_bytes + most_bytes
   pub grows : IfOk result (λ effect. Grows 1 x.pages c)
+  -- only a failed call of the disk raises the count
+  pub no_fault : IfOk result (λ effect. c.faults ≡ x.pages.faults)
 
 -- A command that only reads was answered so, or not.
 pub record ReadOut (tells : Bool) (command : Command) (result : Result Unit Stop) (out : List ℕ) (x : View) (c : Contents) : Type 0 where
@@ -111,3 +114,4 @@ pub record ReadOut (tells : Bool) (command : Command) (result : Result Unit Stop
   pub stays : Stays tells x.pages c
   pub count : c.count ≡ x.pages.count
   pub bytes : c.change_bytes ≡ x.pages.change_bytes
+  pub no_fault : OnOk result (c.faults ≡ x.pages.faults)

@@ -16,7 +16,9 @@ is_writing (commands.TSCreateIrr key container) = true
 is_writing (commands.DropSeries key) = true
 is_writing (commands.ListSeries container) = false
 is_writing (commands.InsElem key stamp literals) = true
+is_writing (commands.UpdElem key stamp literals) = true
 is_writing (commands.GetElem key stamp) = false
+is_writing (commands.GetLastElem key) = false
 is_writing (commands.GetNelems key) = false
 
 -- an object of a catalogue: its kind, and its name or key
@@ -44,5 +46,7 @@ objects (commands.TSCreateIrr key container) = record { wrote = (kinds.Series, k
 objects (commands.DropSeries key) = writes kinds.Series key
 objects (commands.ListSeries container) = reads kinds.Container container
 objects (commands.InsElem key stamp literals) = writes kinds.Series key
+objects (commands.UpdElem key stamp literals) = writes kinds.Series key
 objects (commands.GetElem key stamp) = reads kinds.Series key
+objects (commands.GetLastElem key) = reads kinds.Series key
 objects (commands.GetNelems key) = reads kinds.Series key

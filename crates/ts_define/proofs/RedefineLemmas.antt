@@ -16,7 +16,7 @@ use Rattle.ts_answer.specs.View.{view, Shows}
 use Rattle.ts_answer.specs.CarriedOut.{CarriedOut, Comes}
 use Rattle.ts_answer.specs.Commands.{is_writing}
 use Rattle.ts_answer.specs.Decided.{IsDecision, FitsSlot}
-use Rattle.ts_answer.proofs.NameLemmas.{defined_by}
+use Rattle.ts_answer.proofs.CallerLemmas.{defined_by}
 
 -- pages with a slot written hold the layout with that definition
 slot_work : (tells : Bool) (told : IsTrue tells) (kind : Kind) (slot : ℕ) (def : Option Def) (l : Layout) (v w : Contents) → slot < limit kind → IsSound l → KeepsHeadings (with_slot kind slot def l.definitions) l → HoldsLayout v.page l
@@ -60,8 +60,5 @@ module _ (tells : Bool) (line : List ℕ) (kind : Kind) (slot : ℕ) (def : Opti
     count = written.count;
     bytes = omega (arith, bytes);
     grows = let free = ap (λ (ns : List ℕ). length ns) written.free in omega (arith, bytes, free);
+    no_fault = written.no_fault (λ failed. cc);
   }
-
--- a line that is said behind nothing is all that is said
-pub said_line : (line before after : List ℕ) → before ≡ [] → after ≡ before ++ line → after ≡ line
-said_line line before after none said = said ∙ ap (λ (out : List ℕ). out ++ line) none

@@ -8,7 +8,7 @@ use Rattle.ts_row.specs.RowType.{Heading, is_row_type, bad_column, IsBadRowType}
 use Rattle.ts_command.specs.Form.{IsColumn}
 use Rattle.ts_answer.specs.Answer.{a_row_type}
 use Rattle.ts_answer.specs.Tried.{IsTried, IsRefusedAs}
-use Rattle.ts_answer.proofs.TriedLemmas.{good-row_type, bad-row_type}
+use Rattle.ts_answer.proofs.CallerLemmas.{good-row_type, bad-row_type}
 use Rattle.ts_define.specs.RowTypes.{MakesRowType}
 
 -- two tests that are passed

@@ -1,5 +1,5 @@
 -- What a command that edits one element comes to.
-use Rattle.std.proofs.Common.{◌≡◌, ⊎_elim, ℕ, ◌+◌, ◌<◌, ◌≤◌, cond, true, false, ℤ, Option, Some, None, is_some, Ok, Err, List, length, refl, ap, sym, ◌∙◌, arith}
+use Rattle.std.proofs.Common.{◌≡◌, ⊎_elim, ℕ, ◌+◌, ◌<◌, ◌≤◌, cond, not, true, false, ℤ, Option, Some, None, is_some, is_none, Ok, Err, List, length, refl, ap, sym, ◌∙◌, arith}
 use Rattle.std.specs.Cmp.{int_cmp_total}
 use Rattle.std.specs.FinMap.{get, insert, len, len-insert}
 use Rattle.ts_base.specs.declared.refusal.Refusal.{Refusal}
@@ -12,7 +12,7 @@ use Rattle.ts_space.specs.Directory.{Directory, places_of}
 use Rattle.ts_space.specs.Charge.{irregular_charge}
 use Rattle.ts_cells.specs.Cell.{page_room}
 use Rattle.ts_command.specs.declared.command.Command.{Command}
-use Rattle.ts_command.specs.declared.command.Command.TheVariants.{InsElem}
+use Rattle.ts_command.specs.declared.command.Command.TheVariants.{InsElem, UpdElem}
 use Rattle.ts_model.specs.Catalogue.{Catalogue, Elements, Series, columns_of, quota_of}
 use Rattle.ts_model.specs.Charge.{page_elements, container_charge as charge_by_name}
 use Rattle.ts_layout.specs.Meaning.{Layout, IsSound, elements_at, series_of, catalogue_of}
@@ -21,10 +21,12 @@ use Rattle.ts_layout.specs.OnePage.{AreFilled}
 use Rattle.ts_layout.proofs.SeriesLemmas.{len_counted, counted}
 use Rattle.ts_layout.proofs.ShapeLemmas.{charge_same}
 use Rattle.ts_layout.proofs.NamedChargeLemmas.{charge_named, charge_with, columns_named, quota_named}
-use Rattle.ts_answer.specs.Answer.{Tried, Answered, ◌>>=◌, wanted, a_row, refused_if, on_one_page, within_quota, with_element, insert_element, carried_out, outcome}
+use Rattle.ts_answer.specs.Answer.{Tried, Answered, ◌>>=◌, wanted, a_row, refused_if, on_one_page, within_quota, with_element, insert_element, update_element, carried_out, outcome}
 use Rattle.ts_answer.specs.Reply.{stamp_line}
-use Rattle.ts_answer.proofs.TriedLemmas.{wanted-there, refused, passed, page-kept, page-passed, quota-kept, quota-passed, on_ok, on_err}
-use Rattle.ts_elements.specs.Elements.{first_charge, charge_with as charge_with_one, HasRoomFor, HasNoRoom}
+use Rattle.ts_answer.proofs.CallerLemmas.{wanted-there, refused, passed, page-kept, page-passed, quota-kept, quota-passed, on_ok, on_err}
+use Rattle.ts_elements.specs.declared.elements.EditKind.{EditKind}
+use Rattle.ts_elements.specs.declared.elements.EditKind.TheVariants.{Insert, Update}
+use Rattle.ts_elements.specs.Elements.{first_charge, charge_with as charge_with_one, HasRoomFor, HasNoRoom, edit_of}
 use Rattle.ts_elements.proofs.ElementLemmas.{SeriesIn, charge_few, charge_first}
 
 -- it begins with the series of a key, and a row for it
@@ -50,6 +52,23 @@ pub inserts : (key : List ℕ) (stamp : ℤ) (literals : List Literal) → Begin
 unfolding outcome carried_out insert_element
 inserts key stamp literals cat = refl
 
+-- one that is replaced
+abbrev pub update_rest : List ℕ → ℤ → Catalogue → Series → Values → Tried Answered
+update_rest key stamp cat s row = refused_if (is_none (get s.elements stamp)) refusals.Missing >>= (λ there. Ok (stamp_line stamp, with_element key s stamp row cat))
+
+pub updates : (key : List ℕ) (stamp : ℤ) (literals : List Literal) → BeginsWithRow (UpdElem key stamp literals) key literals (update_rest key stamp)
+unfolding outcome carried_out update_element
+updates key stamp literals cat = refl
+
+-- each edit
+abbrev pub edit_rest : EditKind → List ℕ → ℤ → Catalogue → Series → Values → Tried Answered
+edit_rest Insert key stamp cat s row = insert_rest key stamp cat s row
+edit_rest Update key stamp cat s row = update_rest key stamp cat s row
+
+pub edit_begins : (edit : EditKind) (key : List ℕ) (stamp : ℤ) (literals : List Literal) → BeginsWithRow (edit_of edit key stamp literals) key literals (edit_rest edit key stamp)
+edit_begins Insert key stamp literals = inserts key stamp literals
+edit_begins Update key stamp literals = updates key stamp literals
+
 -- something is found, or nothing
 found_none : (o : Option Values) → is_some o ≡ false → o ≡ None
 found_none None is = refl
@@ -73,6 +92,13 @@ module _ (l : Layout) (space : Directory) (key : List ℕ) (slot : ℕ) (stamp :
   -- an element is there
   pub insert_taken : is_some (get (elements_at slot l.element_pages) stamp) ≡ true → outcome (Ok (InsElem key stamp literals)) (catalogue_of l) ≡ Err refusals.Duplicate
   insert_taken there = goes ∙ on_err _ refusals.Duplicate _ (refused _ refusals.Duplicate there)
+
+  -- it is replaced; or none is there
+  pub update_done : is_some (get (elements_at slot l.element_pages) stamp) ≡ true → outcome (Ok (UpdElem key stamp literals)) (catalogue_of l) ≡ Ok (stamp_line stamp, with_element key (series_of l slot on.s) stamp row (catalogue_of l))
+  update_done there = edit_goes (UpdElem key stamp literals) key literals (update_rest key stamp) (updates key stamp literals) l slot row sound on good ∙ on_ok _ tt _ (passed _ refusals.Missing (ap not there))
+
+  pub update_missing : is_some (get (elements_at slot l.element_pages) stamp) ≡ false → outcome (Ok (UpdElem key stamp literals)) (catalogue_of l) ≡ Err refusals.Missing
+  update_missing free = edit_goes (UpdElem key stamp literals) key literals (update_rest key stamp) (updates key stamp literals) l slot row sound on good ∙ on_err _ refusals.Missing _ (refused _ refusals.Missing (ap not free))
 
   module _ (filled : AreFilled l) (lists : ListsPlaces space l) (within : slot < 4096) (free : is_some (get (elements_at slot l.element_pages) stamp) ≡ false) where
     abbrev free_rest : Catalogue → Series → Tried Answered

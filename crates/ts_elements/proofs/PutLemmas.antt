@@ -33,8 +33,7 @@ use Rattle.ts_answer.specs.Commands.{is_writing}
 use Rattle.ts_answer.specs.Reply.{stamp_line}
 use Rattle.ts_answer.specs.View.{View, IsViewOf, Shows}
 use Rattle.ts_answer.specs.CarriedOut.{CarriedOut, Comes}
-use Rattle.ts_answer.proofs.ViewLemmas.{held_same}
-use Rattle.ts_answer.proofs.CarriedLemmas.{refuses_still, stopped}
+use Rattle.ts_answer.proofs.CallerLemmas.{held_same, refuses_still, stopped}
 use Rattle.ts_elements.specs.Elements.{IsShelf, HasRow, HasRoomFor, HasNoRoom, IsThere, IsPutOrThere}
 use Rattle.ts_elements.proofs.SeenLemmas.{series_seen, columns_seen, series_defined, finds_there}
 use Rattle.ts_elements.proofs.ElementLemmas.{SeriesIn, charge_few, GoesOn, goes_on, with_some, kept_free, pays_more, put_layout, put_places, put_filled, put_rules, put_holds, put_catalogue}
@@ -134,9 +133,9 @@ module _ (tells : Bool) (command : Command) (key : List ℕ) (slot : ℕ) (stamp
               (sym (put_catalogue tells l x.space with key slot stamp row x.pages w kept.rules kept.filled kept.places shelf.named.within on paid changes edited goes told (shows.holds told)));
         }
 
-  pub put_carried : is_writing command ≡ true → w.change_bytes ≤ x.pages.change_bytes + 4101 → (places : Vec Place Global) → places.items ≡ places_of slot with → IsRising places.items → (out : List ℕ) → out ≡ stamp_line stamp
+  pub put_carried : is_writing command ≡ true → w.faults ≡ x.pages.faults → w.change_bytes ≤ x.pages.change_bytes + 4101 → (places : Vec Place Global) → places.items ≡ places_of slot with → IsRising places.items → (out : List ℕ) → out ≡ stamp_line stamp
       → CarriedOut tells command (Ok (Places slot places)) out x w
-  put_carried writes bytes places is rising out said = record {
+  put_carried writes no_fault bytes places is rising out said = record {
     done = λ l shows. subst (λ (text : List ℕ). Comes tells command (Places slot places) text x w l) (sym said) (comes_with l shows places is);
     applies = (shelf.named.within, rising);
     reads = λ reads. absurd (cc);
@@ -145,19 +144,20 @@ module _ (tells : Bool) (command : Command) (key : List ℕ) (slot : ℕ) (stamp
     count = count;
     bytes = omega (arith, bytes);
     grows = let free = kept_free tells slot h.columns (places_of slot x.space) (with_element stamp row put.elements) (places_of slot with) x.pages w put.kept in omega (arith, bytes, free);
+    no_fault = no_fault;
   }
 
 -- pages were looked at, and the command is refused
-pub looked_carried : {T : Type 0} (tells : Bool) (command : Command) (x : View) (w : Contents) (r : Result T StoreFault) → Reads tells r x.pages w → (refusal : Refusal) → (IsTrue tells → (l : Layout) → Shows tells x l → outcome (Ok command) (catalogue_of l) ≡ Err refusal)
+pub looked_carried : {T : Type 0} (tells : Bool) (command : Command) (x : View) (w : Contents) (t : T) → Reads tells (Ok t) x.pages w → (refusal : Refusal) → (IsTrue tells → (l : Layout) → Shows tells x l → outcome (Ok command) (catalogue_of l) ≡ Err refusal)
     → (out : List ℕ) → CarriedOut tells command (Err (stops.Refused refusal)) out x w
-looked_carried tells command x w r reads refusal refused out =
+looked_carried tells command x w t reads refusal refused out =
     let bytes = reads.change_bytes in
     stopped tells command out x (Err (stops.Refused refusal)) (stops.Refused refusal) w refl
-    (refuses_still tells command out x refusal w (record { free = reads.free; pages = reads.pages }) (omega (arith, bytes)) refused) reads.call.count (omega (arith, bytes))
+    (refuses_still tells command out x refusal w (record { free = reads.free; pages = reads.pages }) (omega (arith, bytes)) (reads.call.no_fault (λ failed. cc)) refused) reads.call.count (omega (arith, bytes))
 
 -- the row is one for the series, and is inserted
 module _ (tells : Bool) (key : List ℕ) (literals : List Literal) (slot : ℕ) (stamp : ℤ) (h : Heading) (row : Values) (x : View) (has : HasRow key literals slot h row x.definitions) where
-  gives : (l : Layout) (kept : IsViewOf x l) (on : SeriesIn l key slot) → a_row on.h.columns literals ≡ Ok row
+  pub gives : (l : Layout) (kept : IsViewOf x l) (on : SeriesIn l key slot) → a_row on.h.columns literals ≡ Ok row
   gives l kept on =
       let heads = one_of (heading_at x.definitions slot) on.h h (columns_seen x l kept slot key on) has.shelf.columns in
       ap (λ (y : Heading). a_row y.columns literals) heads ∙ has.gives
@@ -176,9 +176,9 @@ module _ (tells : Bool) (key : List ℕ) (literals : List Literal) (slot : ℕ) 
       (subst (λ (d : Definitions). HasNoRoom slot d x.space refusal) shows.kept.definitions full)
 
   -- the row is put
-  pub insert_carried : HasRoomFor slot x.definitions x.space → IsLawful tells x.pages → length x.space.lists ≡ 4096 → (w : Contents) → w.count ≡ x.pages.count → w.change_bytes ≤ x.pages.change_bytes + 4101
+  pub insert_carried : HasRoomFor slot x.definitions x.space → IsLawful tells x.pages → length x.space.lists ≡ 4096 → (w : Contents) → w.count ≡ x.pages.count → w.faults ≡ x.pages.faults → w.change_bytes ≤ x.pages.change_bytes + 4101
       → (places : Vec Place Global) → IsPutOrThere tells slot h.columns stamp row x.space x.pages w (Some places) → (out : List ℕ) → out ≡ stamp_line stamp → CarriedOut tells (InsElem key stamp literals) (Ok (Places slot places)) out x w
-  insert_carried room lawful slots w count bytes places put out said =
+  insert_carried room lawful slots w count no_fault bytes places put out said =
       let room_in : (l : Layout) → IsViewOf x l → HasRoomFor slot l.definitions x.space = λ l kept. subst (λ (d : Definitions). HasRoomFor slot d x.space) kept.definitions room in
       let absent = finds_there tells x slot stamp h None has.shelf.columns has.shelf.named.within (record { elements = put.4.edited.elements; seen = put.4.edited.seen; found = sym put.4.absent }) in
       put_carried tells (InsElem key stamp literals) key slot stamp h row x has.shelf lawful slots put.0 put.1 w count put.4.edited
@@ -186,14 +186,14 @@ module _ (tells : Bool) (key : List ℕ) (literals : List Literal) (slot : ℕ) 
       pays_more l x.space put.0 key slot number after shows.kept.rules shows.kept.places has.shelf.named.within on put.1 now some fits (room_in l shows.kept))
       (λ told l shows on heads.
       insert_done l x.space key slot stamp literals shows.kept.rules on row (gives l shows.kept on) shows.kept.filled shows.kept.places has.shelf.named.within (absent told l shows) (room_in l shows.kept))
-      refl bytes places put.2 put.3 out said
+      refl no_fault bytes places put.2 put.3 out said
 
   -- an element is there already
-  pub there_carried : (w : Contents) → w.count ≡ x.pages.count → w.change_bytes ≤ x.pages.change_bytes + 4101 → IsThereAlready tells slot h.columns stamp (places_of slot x.space) (places_of slot x.space) x.pages w
+  pub there_carried : (w : Contents) → w.count ≡ x.pages.count → w.faults ≡ x.pages.faults → w.change_bytes ≤ x.pages.change_bytes + 4101 → IsThereAlready tells slot h.columns stamp (places_of slot x.space) (places_of slot x.space) x.pages w
       → (out : List ℕ) → CarriedOut tells (InsElem key stamp literals) (Err (stops.Refused refusals.Duplicate)) out x w
-  there_carried w count bytes there out =
+  there_carried w count no_fault bytes there out =
       stopped tells (InsElem key stamp literals) out x (Err (stops.Refused refusals.Duplicate)) (stops.Refused refusals.Duplicate) w refl
-      (refuses_still tells (InsElem key stamp literals) out x refusals.Duplicate w (record { free = there.free; pages = there.pages }) (omega (arith, bytes))
+      (refuses_still tells (InsElem key stamp literals) out x refusals.Duplicate w (record { free = there.free; pages = there.pages }) (omega (arith, bytes)) no_fault
       (refused_taken (finds_there tells x slot stamp h (Some there.row) has.shelf.columns has.shelf.named.within there.found))) count (omega (arith, bytes))
 
 -- the places of a series are as they were

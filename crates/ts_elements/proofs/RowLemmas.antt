@@ -7,7 +7,7 @@ use Rattle.ts_row.specs.declared.value.Literal.{Literal}
 use Rattle.ts_row.specs.Row.{Values, row_of, IsRowTrouble}
 use Rattle.ts_answer.specs.Answer.{a_row}
 use Rattle.ts_answer.specs.Tried.{IsTried}
-use Rattle.ts_answer.proofs.TriedLemmas.{good-row, bad-row}
+use Rattle.ts_answer.proofs.CallerLemmas.{good-row, bad-row}
 
 pub row_tried : (r : Result Values Trouble) (columns : List Column) (literals : List Literal) → IfOk r (λ row. row_of columns literals ≡ Ok row) → IfErr r (IsRowTrouble columns literals) → IsTried r (a_row columns literals) (λ row value. value ≡ row)
 row_tried (Ok row) columns literals good cause = record { ok = (row, good-row columns literals row good, refl); err = tt }

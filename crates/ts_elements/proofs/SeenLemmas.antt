@@ -61,7 +61,7 @@ module _ (x : View) (l : Layout) (kept : IsViewOf x l) (slot : ℕ) where
       (s.0.key, series_seen s.0.key (subst (λ (d : Definitions). IsSlotNamed kinds.Series slot s.0.key d) (sym kept.definitions) (record { within = within; is = (series_at l slot s.0 kept.rules s.1).named })))
 
   module _ (h : Heading) (columns : heading_at x.definitions slot ≡ Some h) (within : slot < 4096) where
-    columns_in : heading_at l.definitions slot ≡ Some h
+    pub columns_in : heading_at l.definitions slot ≡ Some h
     columns_in = ap (λ (d : Definitions). heading_at d slot) (sym kept.definitions) ∙ columns
 
     pub has_one_page : HasOnePage h.columns x.pages (places_of slot x.space)
@@ -121,12 +121,13 @@ element_text l key slot h series is stamp row found =
     λ i. elements_text (is.columns i) (map (λ (r : Values). (stamp, r)) (option_to_list (rows i)))
 
 -- pages were read, and this is said
-pub read_out : {T : Type 0} (tells : Bool) (command : Command) (x : View) (c : Contents) (r : Result T StoreFault) (text out : List ℕ) → out ≡ text → Reads tells r x.pages c
+pub read_out : {T : Type 0} (tells : Bool) (command : Command) (x : View) (c : Contents) (t : T) (text out : List ℕ) → out ≡ text → Reads tells (Ok t) x.pages c
     → (IsTrue tells → (l : Layout) → Shows tells x l → outcome (Ok command) (catalogue_of l) ≡ Ok (text, catalogue_of l)) → ReadOut tells command (Ok tt) out x c
-read_out tells command x c r text out is reads says = record {
+read_out tells command x c t text out is reads says = record {
   said = λ told l shows. says told l shows ∙ ap (λ (t : List ℕ). let a : Answered = (t, catalogue_of l) in Ok a) (sym is);
   stopped = tt;
   stays = record { free = reads.free; pages = reads.pages };
   count = reads.call.count;
   bytes = reads.change_bytes;
+  no_fault = reads.call.no_fault (λ failed. cc);
 }

@@ -33,7 +33,7 @@ use Rattle.ts_answer.specs.View.{View, IsViewOf, Shows, ShowsSome}
 use Rattle.ts_answer.specs.CarriedOut.{CarriedOut, Comes}
 use Rattle.ts_answer.specs.Slots.{IsSlotNamed}
 use Rattle.ts_elements.specs.SeriesDropped.{AreFreed, CanFree}
-use Rattle.ts_answer.proofs.TriedLemmas.{wanted-there, on_ok}
+use Rattle.ts_answer.proofs.CallerLemmas.{wanted-there, on_ok}
 use Rattle.ts_elements.proofs.SeenLemmas.{series_seen}
 use Rattle.ts_elements.proofs.FreeLemmas.{free_in, all_free}
 
@@ -170,8 +170,8 @@ module _ (tells : Bool) (x : View) (key : List ℕ) (slot : ℕ) (named : IsSlot
               ∙ ap (λ (cat : Catalogue). Ok (ok_line, cat)) (sym (catalogue_dropped l slot on.s shows.kept.rules on.is.there));
         }
 
-  pub series_dropped : (out : List ℕ) → out ≡ ok_line → w.count ≡ x.pages.count → w.change_bytes ≤ x.pages.change_bytes + 4106 → CarriedOut tells (DropSeries key) (Ok (Series slot)) out x w
-  series_dropped out said count bytes = record {
+  pub series_dropped : (out : List ℕ) → out ≡ ok_line → w.count ≡ x.pages.count → w.faults ≡ x.pages.faults → w.change_bytes ≤ x.pages.change_bytes + 4106 → CarriedOut tells (DropSeries key) (Ok (Series slot)) out x w
+  series_dropped out said count no_fault bytes = record {
     done = λ l shows. subst (λ (text : List ℕ). Comes tells (DropSeries key) (Series slot) text x w l) (sym said) (comes_without l shows);
     applies = named.within;
     reads = λ reads. absurd (cc);
@@ -180,4 +180,5 @@ module _ (tells : Bool) (x : View) (key : List ℕ) (slot : ℕ) (named : IsSlot
     count = count;
     bytes = omega (arith, bytes);
     grows = let free = freed_free tells (places_of slot x.space) x.pages between gone in let then = ap (λ (ns : List ℕ). length ns) emptied.free in omega (arith, bytes, free, then);
+    no_fault = no_fault;
   }

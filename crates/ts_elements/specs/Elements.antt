@@ -12,7 +12,11 @@ use Rattle.ts_space.specs.declared.place.Place.{Place}
 use Rattle.ts_space.specs.Place.{count_of, IsRising}
 use Rattle.ts_space.specs.Directory.{Directory, places_of, ChangesOnly}
 use Rattle.ts_cells.specs.Cell.{page_room}
-use Rattle.ts_irregular.specs.Call.{IsPutNew, IsThereAlready}
+use Rattle.ts_irregular.specs.Call.{IsEdited, IsPutNew, IsThereAlready}
+use Rattle.ts_command.specs.declared.command.Command.{Command}
+use Rattle.ts_command.specs.declared.command.Command.TheVariants.{InsElem, UpdElem}
+use Rattle.ts_elements.specs.declared.elements.EditKind.{EditKind}
+use Rattle.ts_elements.specs.declared.elements.EditKind.TheVariants.{Insert, Update}
 use Rattle.ts_model.specs.declared.kind.Kind.TheVariants as kinds
 use Rattle.ts_model.specs.Catalogue.{Series, columns_of}
 use Rattle.ts_model.specs.Definitions.{Definitions, ContainerDef, SeriesDef, at_slot}
@@ -75,3 +79,14 @@ IsPutOrThere tells slot columns stamp row space v w (Some places) =
     (with : Directory) × ChangesOnly slot space with × (places.items ≡ places_of slot with) × IsRising places.items
     × IsPutNew tells slot columns stamp row (places_of slot space) (places_of slot with) v w
 IsPutOrThere tells slot columns stamp row space v w None = IsThereAlready tells slot columns stamp (places_of slot space) (places_of slot space) v w
+
+-- a row is put into a series that has a page, whose places become these
+abbrev pub IsReplaced : {A : Type 0} → Bool → ℕ → List Column → ℤ → Values → Directory → Contents → Contents → Vec Place A → Type 0
+IsReplaced tells slot columns stamp row space v w places =
+    (with : Directory) × ChangesOnly slot space with × (places.items ≡ places_of slot with) × IsRising places.items
+    × IsEdited tells slot columns stamp (Some row) (places_of slot space) (places_of slot with) v w
+
+-- the command that edits so
+abbrev pub edit_of : EditKind → List ℕ → ℤ → List Literal → Command
+edit_of Insert key stamp literals = InsElem key stamp literals
+edit_of Update key stamp literals = UpdElem key stamp literals

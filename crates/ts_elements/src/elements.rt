@@ -1,18 +1,18 @@
-// The routine that puts an element into a series.
-ghost use Rattle.std.specs.Prelude.{◌≡◌, ◌+◌, ◌<◌, ◌≤◌, ℕ, List, [], IsTrue, Some, IfOk, IfErr, OnOk, length};
+// The routines that edit the element at a stamp.
+ghost use Rattle.std.specs.Prelude.{◌≡◌, ◌≢◌, ◌+◌, ◌<◌, ◌≤◌, ℕ, List, [], IsTrue, Some, IfOk, IfErr, OnOk, length};
 ghost use Rattle.ts_row.specs.declared.value.Literal.{Literal as TheLiteral};
 ghost use Rattle.ts_row.specs.Row.{fits};
-ghost use Rattle.ts_command.specs.declared.command.Command.TheVariants.{InsElem};
+ghost use Rattle.ts_command.specs.declared.command.Command.TheVariants.{InsElem, UpdElem};
 ghost use Rattle.ts_page.specs.Pages.{Answered};
 ghost use Rattle.ts_space.specs.Place.{count_of};
 ghost use Rattle.ts_cells.specs.Cell.{page_room};
 ghost use Rattle.ts_space.specs.Directory.{places_of};
-ghost use Rattle.ts_irregular.specs.OnePage.{HasOnePage};
-ghost use Rattle.ts_model.specs.Definitions.{IsDefinitions};
+ghost use Rattle.ts_irregular.specs.OnePage.{HasOnePage, HasRoom};
+ghost use Rattle.ts_model.specs.Definitions.{Definitions, IsDefinitions};
 ghost use Rattle.ts_layout.specs.Meaning.{KeepLimits, heading_at};
 ghost use Rattle.ts_answer.specs.View.{view, ShowsSome};
 ghost use Rattle.ts_answer.specs.CarriedOut.{CarriedOut};
-ghost use Rattle.ts_elements.specs.Elements.{HasRow, HasRoomFor, HasNoRoom, IsPutOrThere};
+ghost use Rattle.ts_elements.specs.Elements.{HasRow, HasRoomFor, HasNoRoom, IsPutOrThere, IsReplaced, edit_of};
 
 use crate::shelf::{row_for, shelf_of};
 use ts_answer::{Effect, Stop};
@@ -20,18 +20,28 @@ use ts_base::{Key, Refusal, Reply, Stamp, StoreFault};
 use ts_cells::page_room;
 use ts_command::Literals;
 use ts_container::{charge_of_container, row_type_in};
-use ts_irregular::{irregular_get, irregular_insert};
+use ts_irregular::{irregular_get, irregular_insert, irregular_set};
 use ts_model::{Def, Defs, Kind};
 use ts_page::Pages;
 use ts_row::{Row, Shelf};
 use ts_say::say_stamp;
 use ts_space::{Place, Space};
 
-/// Puts an element into a series that has none at this stamp.
-pub fn insert_element<P: Pages>(
+/// What an edit does at a stamp.
+#[derive(Clone, Copy, Debug)]
+pub enum EditKind {
+    /// Puts an element where none is.
+    Insert,
+    /// Gives the element that is there another row.
+    Update,
+}
+
+/// Edits the element at a stamp of a series.
+pub fn edit_element<P: Pages>(
     pages: &mut P,
     defs: &Defs,
     space: &mut Space,
+    edit: EditKind,
     key: &Key,
     stamp: Stamp,
     values: &Literals,
@@ -39,16 +49,19 @@ pub fn insert_element<P: Pages>(
 ) -> Result<Effect, Stop>
     requires seen { ShowsSome P.tells (view defs.now.definitions space.old (P.contents pages.old)) }
     requires empty { out.old ≡ [] }
-    ensures carried { CarriedOut P.tells (InsElem key.now stamp values.now) result out.new (view defs.now.definitions space.old (P.contents pages.old)) (P.contents pages.new) }
+    ensures carried { CarriedOut P.tells (edit_of edit key.now stamp values.now) result out.new (view defs.now.definitions space.old (P.contents pages.old)) (P.contents pages.new) }
     ensures lists { space.new.lists ≡ space.old.lists }
     ensures undisturbed { P.undisturbed pages.old pages.new }
 {
     let shelf = shelf_of(pages, defs, space, key)?;
     let row = row_for(shelf.kind, values)?;
-    insert_at(pages, defs, space, &shelf, stamp, &row, out)
+    match edit {
+        EditKind::Insert => insert_at(pages, defs, space, &shelf, stamp, &row, out),
+        EditKind::Update => update_at(pages, space, &shelf, stamp, &row, out),
+    }
 }
 
-// The same for a row.
+// Puts a row into a series that has none at this stamp.
 fn insert_at<P: Pages>(
     pages: &mut P,
     defs: &Defs,
@@ -119,6 +132,64 @@ fn put<P: Pages>(
     let after = space.saved(shelf.series);
     space.restore(shelf.series, before);
     Ok(Some(after?))
+}
+
+// Puts a row at a stamp of a series that has one there.
+fn update_at<P: Pages>(
+    pages: &mut P,
+    space: &mut Space,
+    shelf: &Shelf,
+    stamp: Stamp,
+    row: &Row,
+    out: &mut Reply,
+) -> Result<Effect, Stop>
+    requires slot { shelf.now.series < 4096 }
+    requires one { HasOnePage shelf.now.kind.now.columns (P.contents pages.old) (places_of shelf.now.series space.old) }
+    requires fits { IsTrue (fits shelf.now.kind.now.columns row.now) }
+    requires empty { out.old ≡ [] }
+    ensures carried { (d : Definitions) (key : List ℕ) (literals : List TheLiteral) → HasRow key literals shelf.now.series shelf.now.kind.now row.now d
+        → CarriedOut P.tells (UpdElem key stamp literals) result out.new (view d space.old (P.contents pages.old)) (P.contents pages.new) }
+    ensures lists { space.new.lists ≡ space.old.lists }
+    ensures undisturbed { P.undisturbed pages.old pages.new }
+{
+    if irregular_get(pages, space, shelf, stamp)?.is_none() {
+        return Err(Stop::Refused(Refusal::Missing));
+    }
+    say_stamp(out, stamp)?;
+    let places = replace(pages, space, shelf, stamp, row)?;
+    Ok(Effect::Places {
+        slot: shelf.series,
+        places,
+    })
+}
+
+// Puts a row where one is, and gives the places of its series; the directory stays as it was.
+fn replace<P: Pages>(
+    pages: &mut P,
+    space: &mut Space,
+    shelf: &Shelf,
+    stamp: Stamp,
+    row: &Row,
+) -> Result<Vec<Place>, StoreFault>
+    requires slot { shelf.now.series < 4096 }
+    requires one { HasOnePage shelf.now.kind.now.columns (P.contents pages.old) (places_of shelf.now.series space.old) }
+    requires fits { IsTrue (fits shelf.now.kind.now.columns row.now) }
+    requires room { HasRoom P.tells shelf.now.series shelf.now.kind.now.columns (P.contents pages.old).page stamp (places_of shelf.now.series space.old) }
+    requires some { places_of shelf.now.series space.old ≢ [] }
+    ensures replaced { IfOk result (λ places. IsReplaced P.tells shelf.now.series shelf.now.kind.now.columns stamp row.now space.old (P.contents pages.old) (P.contents pages.new) places) }
+    ensures call { Answered result (P.contents pages.old) (P.contents pages.new) }
+    ensures bytes { (P.contents pages.new).change_bytes ≤ (P.contents pages.old).change_bytes + 4101 }
+    ensures lists { space.new.lists ≡ space.old.lists }
+    ensures slots { length space.old.lists ≡ 4096 }
+    ensures undisturbed { P.undisturbed pages.old pages.new }
+{
+    // A directory has a list for each slot.
+    let _slots = space.places(shelf.series);
+    let earlier = space.saved(shelf.series)?;
+    irregular_set(pages, space, shelf, stamp, Some(row))?;
+    let after = space.saved(shelf.series);
+    space.restore(shelf.series, earlier);
+    Ok(after?)
 }
 
 // How many elements stand on the page of a series.

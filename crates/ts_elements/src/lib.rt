@@ -9,6 +9,6 @@ mod elements;
 mod series;
 mod shelf;
 
-pub use element::get_element;
-pub use elements::insert_element;
+pub use element::{get_element, get_last_element};
+pub use elements::{EditKind, edit_element};
 pub use series::drop_series;

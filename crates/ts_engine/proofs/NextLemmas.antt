@@ -85,6 +85,7 @@ module _ (tells : Bool) (command : Command) (Work : Contents → Contents → Ty
         empty = λ err. absurd (cc);
         moments = next_moments (Ok tt) f.spent changed;
         others = changed.others;
+        no_fault = changed.no_fault;
       }
 
   tried : OnlyReads tells v w ⊎ ((read : Contents) × Work (contents_over e.store v) read) → IsTrue tells → (cat : Catalogue) → IsAt tells e cat v → ChangesNothing cat command → OnlyReads tells v w
@@ -100,6 +101,7 @@ module _ (tells : Bool) (command : Command) (Work : Contents → Contents → Ty
     empty = λ err. refl;
     moments = next_moments (Err Disk) f.spent changed;
     others = changed.others;
+    no_fault = tt;
   }
   next_fault (Memory error) changed definitions lists =
       let still = changed.fault.0 in
@@ -119,9 +121,11 @@ module _ (tells : Bool) (command : Command) (Work : Contents → Contents → Ty
             );
             unspent = changed.fault.1;
           },
+          still.no_fault,
         );
         empty = λ err. refl;
         moments = next_moments (Err (Memory error)) f.spent changed;
         others = changed.others;
+        no_fault = tt;
       }
   next_fault (Closed faults) changed definitions lists = absurd changed.fault

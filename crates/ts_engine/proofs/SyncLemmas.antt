@@ -85,6 +85,7 @@ unsynced tells e v x lawful sync = record {
   moments = λ told cat means. sync_fails tells e v x (StillMeans cat v) lawful sync;
   at_rest = λ told only cat means. sync_means tells (Err e) v x cat lawful only sync means;
   nothing = λ told none. record { held = sync.held; moments = sync_only tells (Err e) v x lawful sync };
+  no_fault = tt;
 }
 
 -- what follows the sync
@@ -110,8 +111,8 @@ module _ {E : Type 0} (tells : Bool) (v x w : Device) (lawful : Lawful tells v) 
 
   start_fault : (fault : SurveyFault) → StartFault tells fault x w → StartFault tells fault v w
   start_fault Failed cause = rose_on v.faults x.faults w.faults sync.call.faults cause
-  start_fault (NotAStore page) cause = (λ told cat means. cause.0 told cat (same_bytes v.held x.held cat (sym sync.held) means), cause.1 ∙ sync.held, λ image now. sync.crash image (cause.2 image now))
-  start_fault (Memory error) cause = (cause.0 ∙ sync.held, λ image now. sync.crash image (cause.1 image now))
+  start_fault (NotAStore page) cause = (λ told cat means. cause.0 told cat (same_bytes v.held x.held cat (sym sync.held) means), cause.1 ∙ sync.held, λ image now. sync.crash image (cause.2 image now), cause.3 ∙ sync.call.no_fault refl)
+  start_fault (Memory error) cause = (cause.0 ∙ sync.held, λ image now. sync.crash image (cause.1 image now), cause.2 ∙ sync.call.no_fault refl)
 
   pub synced_started : (result : Result Engine SurveyFault) → Opened tells result x w → Started tells result v w
   synced_started (Ok e) opened = record {
@@ -124,6 +125,7 @@ module _ {E : Type 0} (tells : Bool) (v x w : Device) (lawful : Lawful tells v) 
     moments = λ told cat means. start_moments told cat means opened.others (opened.moments told cat);
     at_rest = λ told only cat means. start_at_rest only cat means (opened.moments told cat);
     nothing = λ told none. as_it_was (opened.nothing told (subst MeansNothing (sym sync.held) none));
+    no_fault = opened.no_fault ∙ sync.call.no_fault refl;
   }
   synced_started (Err fault) opened = record {
     ready = tt;
@@ -135,4 +137,5 @@ module _ {E : Type 0} (tells : Bool) (v x w : Device) (lawful : Lawful tells v) 
     moments = λ told cat means. start_moments told cat means opened.others (opened.moments told cat);
     at_rest = λ told only cat means. start_at_rest only cat means (opened.moments told cat);
     nothing = λ told none. as_it_was (opened.nothing told (subst MeansNothing (sym sync.held) none));
+    no_fault = tt;
   }

@@ -8,4 +8,6 @@ mod say_values;
 mod tests;
 
 pub use say::{say_ok, say_refusal};
-pub use say_values::{say_count, say_counts, say_element, say_row, say_series, say_stamp};
+pub use say_values::{
+    say_count, say_counts, say_element, say_found, say_row, say_series, say_stamp,
+};

@@ -64,7 +64,6 @@ pub fn say_element(
 }
 
 /// Says the element at a stamp, if there is one, and how many there are.
-#[tactic(auto, unfolding(ts_answer::specs::Reply::elements_text))]
 pub fn say_row(
     alloc: Global,
     out: &mut Reply,
@@ -76,7 +75,24 @@ pub fn say_row(
     ensures { OnOk result (out.new ≡ out.old ++ elements_text kind.now.columns (map (λ r. (stamp, r)) (option_to_list row))) }
 {
     match row {
-        Some(row) => {
+        Some(row) => say_found(alloc, out, kind, Some((stamp, row))),
+        None => say_found(alloc, out, kind, None),
+    }
+}
+
+/// Says an element, if there is one, and how many there are.
+#[tactic(auto, unfolding(ts_answer::specs::Reply::elements_text))]
+pub fn say_found(
+    alloc: Global,
+    out: &mut Reply,
+    kind: &RowType,
+    found: Option<(Stamp, Row)>,
+) -> Result<(), AllocError>
+    requires { IfSome found (λ e. IsTrue (fits kind.now.columns e.1)) }
+    ensures { OnOk result (out.new ≡ out.old ++ elements_text kind.now.columns (option_to_list found)) }
+{
+    match found {
+        Some((stamp, row)) => {
             say_element(alloc, out, kind, stamp, &row)?;
             say_count(out, 1)
         }

@@ -18,7 +18,7 @@ use Rattle.ts_answer.specs.Kinds.{with_def}
 use Rattle.ts_answer.specs.Reply.{ok_line}
 use Rattle.ts_answer.specs.Tried.{IsTried}
 use Rattle.ts_answer.specs.View.{IsDefinedBy}
-use Rattle.ts_answer.proofs.TriedLemmas.{goes, stops, no_memory, passes, refuses, comes}
+use Rattle.ts_answer.proofs.CallerLemmas.{goes, stops, no_memory, passes, refuses, comes}
 use Rattle.ts_define.proofs.DefinedLemmas.{defined}
 use Rattle.ts_define.proofs.containers.new_container.Goals as goal
 

@@ -4,7 +4,7 @@ use Rattle.ts_model.specs.Definitions.{Definitions}
 use Rattle.ts_answer.specs.Answer.{drop_definition}
 use Rattle.ts_answer.specs.Kinds.{IsUsed}
 use Rattle.ts_answer.specs.Reply.{ok_line}
-use Rattle.ts_answer.proofs.TriedLemmas.{goes, stops, passes, refuses, comes}
+use Rattle.ts_answer.proofs.CallerLemmas.{goes, stops, passes, refuses, comes}
 use Rattle.ts_define.proofs.DefinedLemmas.{dropped}
 use Rattle.ts_define.proofs.UsedLemmas.{used_by_name, unused_by_name}
 use Rattle.ts_define.proofs.drops.drop_definition.Goals as goal

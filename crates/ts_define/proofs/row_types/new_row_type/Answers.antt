@@ -9,7 +9,7 @@ use Rattle.ts_answer.specs.Answer.{Answered, outcome, carried_out, create_row_ty
 use Rattle.ts_answer.specs.Decided.{DefinesAs}
 use Rattle.ts_answer.specs.Kinds.{with_def}
 use Rattle.ts_answer.specs.Reply.{ok_line}
-use Rattle.ts_answer.proofs.TriedLemmas.{goes, stops, no_memory, comes}
+use Rattle.ts_answer.proofs.CallerLemmas.{goes, stops, no_memory, comes}
 use Rattle.ts_define.proofs.DefinedLemmas.{defined}
 use Rattle.ts_define.proofs.RowTypeLemmas.{all_names}
 use Rattle.ts_define.proofs.row_types.new_row_type.Goals as goal

@@ -1,5 +1,5 @@
 use Rattle.std.proofs.Common.{◌∙◌}
-use Rattle.ts_answer.proofs.TriedLemmas.{no_memory}
+use Rattle.ts_answer.proofs.CallerLemmas.{no_memory}
 use Rattle.ts_define.proofs.RowTypeLemmas.{made_row_type}
 use Rattle.ts_define.proofs.row_types.row_type_of.Goals as goal
 

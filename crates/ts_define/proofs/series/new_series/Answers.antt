@@ -7,7 +7,7 @@ use Rattle.ts_answer.specs.Answer.{Answered, outcome, carried_out, create_irregu
 use Rattle.ts_answer.specs.Decided.{DefinesAs}
 use Rattle.ts_answer.specs.Kinds.{with_def}
 use Rattle.ts_answer.specs.Reply.{ok_line}
-use Rattle.ts_answer.proofs.TriedLemmas.{goes, stops, no_memory, comes}
+use Rattle.ts_answer.proofs.CallerLemmas.{goes, stops, no_memory, comes}
 use Rattle.ts_define.proofs.DefinedLemmas.{defined}
 use Rattle.ts_define.proofs.series.new_series.Goals as goal
 

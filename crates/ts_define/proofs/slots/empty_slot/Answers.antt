@@ -1,5 +1,5 @@
 use Rattle.std.proofs.Common.{◌≡◌, ℕ, true, false, Option, Some, None, is_some, refl, sym, ◌∙◌}
-use Rattle.ts_answer.proofs.NameLemmas.{name_new, name_taken, name_beyond}
+use Rattle.ts_answer.proofs.CallerLemmas.{name_new, name_taken, name_beyond}
 use Rattle.ts_define.proofs.slots.empty_slot.Goals as goal
 
 -- a slot was found, or none

@@ -1,5 +1,5 @@
 use Rattle.std.proofs.Common.{sym, ◌∙◌}
-use Rattle.ts_answer.proofs.NameLemmas.{name_wanted, name_unknown}
+use Rattle.ts_answer.proofs.CallerLemmas.{name_wanted, name_unknown}
 use Rattle.ts_define.proofs.slots.filled_slot.Goals as goal
 
 pub returns-in-Some-clause-tried : goal.returns-in-Some-clause-tried

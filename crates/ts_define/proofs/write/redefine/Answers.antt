@@ -4,7 +4,8 @@ use Rattle.ts_model.specs.declared.def.Def.{Def}
 use Rattle.ts_container.specs.Survey.{SlotWritten}
 use Rattle.ts_answer.specs.Reply.{ok_line}
 use Rattle.ts_answer.specs.Decided.{IsDecision, FitsSlot}
-use Rattle.ts_define.proofs.RedefineLemmas.{redefined, said_line}
+use Rattle.ts_define.proofs.RedefineLemmas.{redefined}
+use Rattle.ts_answer.proofs.CallerLemmas.{said_line}
 use Rattle.ts_define.proofs.write.redefine.Goals as goal
 
 pub returns-clause-carried : goal.returns-clause-carried

@@ -3,9 +3,7 @@ use Rattle.ts_command.specs.declared.command.Command.TheVariants.{GetElem}
 use Rattle.ts_layout.specs.Meaning.{catalogue_of}
 use Rattle.ts_answer.specs.Answer.{Answered, outcome, carried_out, get_element}
 use Rattle.ts_answer.specs.View.{view}
-use Rattle.ts_answer.proofs.CarriedLemmas.{read_stopped_first, tried_stopped}
-use Rattle.ts_answer.proofs.TriedLemmas.{refused_as, on_ok}
-use Rattle.ts_define.proofs.RedefineLemmas.{said_line}
+use Rattle.ts_answer.proofs.CallerLemmas.{read_stopped_first, tried_stopped, refused_as, on_ok, said_line}
 use Rattle.ts_elements.proofs.SeenLemmas.{row_found, element_text, read_out}
 use Rattle.ts_elements.proofs.element.get_element.Goals as goal
 
@@ -25,8 +23,8 @@ returns-clause-read g c =
     let x = view c.args.defs.now.definitions c.args.space.now (g.P.Pages.contents c.args.pages.now) in
     let shelf = c.in_ok-shelf.shelf in
     let named = c.in_ok-shelf.ensures.found in
-    read_out tells (GetElem c.args.key.now c.args.stamp) x (g.P.Pages.contents c.irregular_get.new.pages) c.irregular_get.result _ c.say_row.new.out (said_line _ c.args.out.now c.say_row.new.out c.requires.empty c.in_ok-say_row.ensures)
-    c.irregular_get.ensures.call (λ told l shows.
+    read_out tells (GetElem c.args.key.now c.args.stamp) x (g.P.Pages.contents c.irregular_get.new.pages) c.in_ok-row.row _ c.say_row.new.out (said_line _ c.args.out.now c.say_row.new.out c.requires.empty c.in_ok-say_row.ensures)
+    c.in_ok-row.ensures.call (λ told l shows.
     let tried = (c.in_ok-shelf.ensures.tried l shows.kept).ok in
     on_ok _ tried.0 _ tried.1 ∙ ap (λ (t : List ℕ). let a : Answered = (t, catalogue_of l) in Ok a)
     (element_text l c.args.key.now shelf.series shelf.kind.now tried.0 tried.2 c.args.stamp c.in_ok-row.row

@@ -8,7 +8,7 @@ use Rattle.ts_layout.proofs.SeriesLemmas.{few}
 use Rattle.ts_answer.specs.Reply.{stamp_line}
 use Rattle.ts_answer.specs.View.{view}
 use Rattle.ts_elements.specs.Elements.{IsThere, IsPutOrThere}
-use Rattle.ts_define.proofs.RedefineLemmas.{said_line}
+use Rattle.ts_answer.proofs.CallerLemmas.{said_line}
 use Rattle.ts_elements.proofs.SeenLemmas.{finds_there}
 use Rattle.ts_elements.proofs.PutLemmas.{room_there, page_there, refused_taken, refused_full, insert_carried, there_carried, looked_carried}
 use Rattle.ts_elements.proofs.elements.insert_at.Goals as goal
@@ -35,13 +35,13 @@ pub returns-in-Some-clause-carried : goal.returns-in-Some-clause-carried
 returns-in-Some-clause-carried g c key literals has =
     let x = view c.args.defs.now.definitions c.args.space.now (g.P.Pages.contents c.args.pages.now) in
     insert_carried g.P.Pages.tells key literals c.args.shelf.now.series c.args.stamp c.args.shelf.now.kind.now c.args.row.now x has c.in-Ok.ensures.room (g.met.P.Pages.lawful c.args.pages.now) c.in-Ok.ensures.slots
-    (g.P.Pages.contents c.put.new.pages) c.put.ensures.call.count c.put.ensures.bytes c.in-Some.places (subst (λ (o : Option (Vec Place Global)). IsPutOrThere g.P.Pages.tells c.args.shelf.now.series c.args.shelf.now.kind.now.columns c.args.stamp c.args.row.now x.space x.pages (g.P.Pages.contents c.put.new.pages) o) c.in-Some.is c.in_ok-placed-in-Ok.ensures.put) c.say_stamp.new.out (said_line (stamp_line c.args.stamp) c.args.out.now c.say_stamp.new.out c.requires.empty c.in_ok-say_stamp-in-Ok.ensures)
+    (g.P.Pages.contents c.put.new.pages) c.put.ensures.call.count (c.in_ok-placed-in-Ok.ensures.call.no_fault (λ failed. cc)) c.put.ensures.bytes c.in-Some.places (subst (λ (o : Option (Vec Place Global)). IsPutOrThere g.P.Pages.tells c.args.shelf.now.series c.args.shelf.now.kind.now.columns c.args.stamp c.args.row.now x.space x.pages (g.P.Pages.contents c.put.new.pages) o) c.in-Some.is c.in_ok-placed-in-Ok.ensures.put) c.say_stamp.new.out (said_line (stamp_line c.args.stamp) c.args.out.now c.say_stamp.new.out c.requires.empty c.in_ok-say_stamp-in-Ok.ensures)
 
 pub returns-in-None-clause-carried : goal.returns-in-None-clause-carried
 returns-in-None-clause-carried g c key literals has =
     let x = view c.args.defs.now.definitions c.args.space.now (g.P.Pages.contents c.args.pages.now) in
     there_carried g.P.Pages.tells key literals c.args.shelf.now.series c.args.stamp c.args.shelf.now.kind.now c.args.row.now x has
-    (g.P.Pages.contents c.put.new.pages) c.put.ensures.call.count c.put.ensures.bytes (subst (λ (o : Option (Vec Place Global)). IsPutOrThere g.P.Pages.tells c.args.shelf.now.series c.args.shelf.now.kind.now.columns c.args.stamp c.args.row.now x.space x.pages (g.P.Pages.contents c.put.new.pages) o) c.in-None.is c.in_ok-placed-in-Ok.ensures.put) c.say_stamp.new.out
+    (g.P.Pages.contents c.put.new.pages) c.put.ensures.call.count (c.in_ok-placed-in-Ok.ensures.call.no_fault (λ failed. cc)) c.put.ensures.bytes (subst (λ (o : Option (Vec Place Global)). IsPutOrThere g.P.Pages.tells c.args.shelf.now.series c.args.shelf.now.kind.now.columns c.args.stamp c.args.row.now x.space x.pages (g.P.Pages.contents c.put.new.pages) o) c.in-None.is c.in_ok-placed-in-Ok.ensures.put) c.say_stamp.new.out
 
 -- there is no room: an element that is there is told first
 pub returns-then-is_some-clause-carried : goal.returns-then-is_some-clause-carried
@@ -50,7 +50,7 @@ returns-then-is_some-clause-carried g c key literals has =
     let x = view c.args.defs.now.definitions c.args.space.now (g.P.Pages.contents c.args.pages.now) in
     let found = finds_there tells x c.args.shelf.now.series c.args.stamp c.args.shelf.now.kind.now c.in_ok-irregular_get-in-Err.field-0 c.requires.columns c.requires.slot c.in_ok-irregular_get-in-Err.ensures.found in
     let there = subst (λ (b : Bool). IsThere tells c.args.shelf.now.series c.args.stamp b x) (sym c.is_some.ensures ∙ c.if-is_some.true) found in
-    looked_carried tells (InsElem key c.args.stamp literals) x (g.P.Pages.contents c.irregular_get.new.pages) c.irregular_get.result c.irregular_get.ensures.call Duplicate
+    looked_carried tells (InsElem key c.args.stamp literals) x (g.P.Pages.contents c.irregular_get.new.pages) c.in_ok-irregular_get-in-Err.field-0 c.in_ok-irregular_get-in-Err.ensures.call Duplicate
     (refused_taken tells key literals c.args.shelf.now.series c.args.stamp c.args.shelf.now.kind.now c.args.row.now x has there) c.args.out.now
 
 pub returns-else-is_some-clause-carried : goal.returns-else-is_some-clause-carried
@@ -59,5 +59,5 @@ returns-else-is_some-clause-carried g c key literals has =
     let x = view c.args.defs.now.definitions c.args.space.now (g.P.Pages.contents c.args.pages.now) in
     let found = finds_there tells x c.args.shelf.now.series c.args.stamp c.args.shelf.now.kind.now c.in_ok-irregular_get-in-Err.field-0 c.requires.columns c.requires.slot c.in_ok-irregular_get-in-Err.ensures.found in
     let absent = subst (λ (b : Bool). IsThere tells c.args.shelf.now.series c.args.stamp b x) (sym c.is_some.ensures ∙ c.if-is_some.false) found in
-    looked_carried tells (InsElem key c.args.stamp literals) x (g.P.Pages.contents c.irregular_get.new.pages) c.irregular_get.result c.irregular_get.ensures.call c.in-Err.refusal
+    looked_carried tells (InsElem key c.args.stamp literals) x (g.P.Pages.contents c.irregular_get.new.pages) c.in_ok-irregular_get-in-Err.field-0 c.in_ok-irregular_get-in-Err.ensures.call c.in-Err.refusal
     (refused_full tells key literals c.args.shelf.now.series c.args.stamp c.args.shelf.now.kind.now c.args.row.now x has c.in-Err.refusal absent c.in-Err.ensures.none) c.args.out.now

@@ -3,10 +3,7 @@ use Rattle.ts_command.specs.declared.command.Command.TheVariants.{DropSeries}
 use Rattle.ts_answer.specs.Answer.{outcome, carried_out, drop_series}
 use Rattle.ts_answer.specs.Reply.{ok_line}
 use Rattle.ts_answer.specs.View.{view}
-use Rattle.ts_answer.proofs.CarriedLemmas.{stopped_first, tried_stopped}
-use Rattle.ts_answer.proofs.NameLemmas.{defined_by}
-use Rattle.ts_answer.proofs.TriedLemmas.{refused_as}
-use Rattle.ts_define.proofs.RedefineLemmas.{said_line}
+use Rattle.ts_answer.proofs.CallerLemmas.{stopped_first, tried_stopped, defined_by, refused_as, said_line}
 use Rattle.ts_elements.proofs.SeriesDropLemmas.{can_free, series_dropped}
 use Rattle.ts_elements.proofs.series.drop_series.Goals as goal
 
@@ -31,4 +28,4 @@ returns-clause-carried g c =
     let named = c.in_ok-slot.ensures.found in
     series_dropped g.P.Pages.tells x key slot named (g.met.P.Pages.lawful c.args.pages.now) c.free_page.ensures.slots (g.P.Pages.contents c.free_page.new.pages) (g.P.Pages.contents c.write_slot.new.pages)
     c.in_ok-free_page.ensures.freed c.in_ok-write_slot.ensures.written c.say_ok.new.out (said_line ok_line c.args.out.now c.say_ok.new.out c.requires.empty c.in_ok-say_ok.ensures)
-    (c.in_ok-write_slot.ensures.written.count ∙ c.free_page.ensures.call.count) (omega (arith, c.write_slot.ensures.bytes, c.free_page.ensures.bytes))
+    (c.in_ok-write_slot.ensures.written.count ∙ c.free_page.ensures.call.count) (c.in_ok-write_slot.ensures.written.no_fault (λ failed. cc) ∙ c.in_ok-free_page.ensures.call.no_fault (λ failed. cc)) (omega (arith, c.write_slot.ensures.bytes, c.free_page.ensures.bytes))

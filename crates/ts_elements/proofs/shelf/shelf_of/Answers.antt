@@ -2,8 +2,7 @@ use Rattle.std.proofs.Common.{refl, sym}
 use Rattle.ts_space.specs.Directory.{places_of}
 use Rattle.ts_irregular.proofs.KeptLemmas.{one_readable}
 use Rattle.ts_answer.specs.View.{view}
-use Rattle.ts_answer.proofs.NameLemmas.{defined_by}
-use Rattle.ts_answer.proofs.TriedLemmas.{fails}
+use Rattle.ts_answer.proofs.CallerLemmas.{defined_by, fails}
 use Rattle.ts_elements.proofs.SeenLemmas.{limits_seen, rules_seen, not_some, defined_named, has_one_page, shelf_tried}
 use Rattle.ts_elements.proofs.shelf.shelf_of.Goals as goal
 

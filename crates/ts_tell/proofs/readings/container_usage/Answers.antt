@@ -1,6 +1,5 @@
 use Rattle.ts_answer.specs.Answer.{outcome, carried_out, container_usage}
-use Rattle.ts_answer.proofs.NameLemmas.{defined_by}
-use Rattle.ts_answer.proofs.TriedLemmas.{goes, stops, comes}
+use Rattle.ts_answer.proofs.CallerLemmas.{defined_by, goes, stops, comes}
 use Rattle.ts_tell.proofs.SaidLemmas.{kept_few, kept_limits, usage_said}
 use Rattle.ts_tell.proofs.readings.container_usage.Goals as goal
 

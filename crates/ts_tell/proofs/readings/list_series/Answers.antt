@@ -1,6 +1,5 @@
 use Rattle.ts_answer.specs.Answer.{outcome, carried_out, list_series}
-use Rattle.ts_answer.proofs.NameLemmas.{defined_by}
-use Rattle.ts_answer.proofs.TriedLemmas.{goes, stops, comes}
+use Rattle.ts_answer.proofs.CallerLemmas.{defined_by, goes, stops, comes}
 use Rattle.ts_tell.proofs.SaidLemmas.{kept_few, list_said}
 use Rattle.ts_tell.proofs.readings.list_series.Goals as goal
 
