@@ -12,6 +12,7 @@ mod definitions;
 mod elements;
 mod fault;
 mod header;
+mod kept_charges;
 mod pad;
 mod read;
 mod row_type_slot;
@@ -19,14 +20,13 @@ mod rules;
 mod series_slot;
 mod slot;
 mod surveyed;
-#[cfg(test)]
-mod tests;
 mod write;
 
 pub use charges::charge_of_container;
 pub use content::{row_type_in, row_type_of};
 pub use fault::SurveyFault;
 pub use header::write_header;
+pub use kept_charges::{Charges, a_charge_changes_with_a_series};
 pub use rules::sum_of_quotas;
 pub use surveyed::{Surveyed, survey};
 pub use write::write_slot;

@@ -156,14 +156,8 @@ module _ (tells : Bool) (s t : State) (v : Device) (x : Definitions) (space : Di
     unfolding allowed means_found
     settled_opened keeps moments = record {
       ready = ready;
-      at = λ told. (
-        catalogue_of found.0,
-        means_found lawful told,
-        record {
-          ready = ready;
-          means = still_means v.size v.held t.overlay w.held (catalogue_of found.0) (lawful.size told) allowed (reads told) (means_found lawful told);
-        },
-      );
+      means = λ told. (catalogue_of found.0, means_found lawful told);
+      at = λ told cat means. record { ready = ready; means = still_means v.size v.held t.overlay w.held cat (lawful.size told) allowed (reads told) means };
       fault = tt;
       others = keeps;
       moments = settle_moments lawful w moments;
@@ -172,7 +166,7 @@ module _ (tells : Bool) (s t : State) (v : Device) (x : Definitions) (space : Di
 
 -- the settling failed
 pub unsettled : (tells : Bool) (v w : Device) → Rose v.faults w.faults → Keeps tells v w → (IsTrue tells → (cat : Catalogue) → MeansCatalogue v.held cat → LeavesOnly v w (StillMeans cat v)) → (IsTrue tells → (cat : Catalogue) × MeansCatalogue v.held cat) → Opened tells (Err Failed) v w
-unsettled tells v w rose keeps moments means = record { ready = tt; at = tt; fault = rose; others = keeps; moments = moments; nothing = λ told none. absurd (none (means told).0 (means told).1) }
+unsettled tells v w rose keeps moments means = record { ready = tt; means = tt; at = tt; fault = rose; others = keeps; moments = moments; nothing = λ told none. absurd (none (means told).0 (means told).1) }
 
 -- what only reads means the same at each moment
 reads_mean : (tells : Bool) (v w : Device) (cat : Catalogue) → Only v.held v.images → OnlyReads tells v w → MeansCatalogue v.held cat → LeavesOnly v w (StillMeans cat v)
@@ -184,6 +178,7 @@ reads_mean tells v w cat only reads means =
 pub refused : (tells : Bool) (fault : SurveyFault) (v w : Device) → Only v.held v.images → OnlyReads tells v w → ReadFault tells fault v w → Opened tells (Err fault) v w
 refused tells fault v w only reads cause = record {
   ready = tt;
+  means = tt;
   at = tt;
   fault = whole fault cause;
   others = reads.keeps;
@@ -216,7 +211,8 @@ moments_after tells v x w cat only reads means later =
 pub opened_after : (tells : Bool) (result : Result Engine SurveyFault) (v x w : Device) → Only v.held v.images → OnlyReads tells v x → Opened tells result x w → Opened tells result v w
 opened_after tells (Ok e) v x w only reads opened = record {
   ready = opened.ready;
-  at = λ told. let stands = opened.at told in (stands.0, subst (λ (bytes : List ℕ). MeansCatalogue bytes stands.0) reads.held stands.1, stands.2);
+  means = λ told. let means = opened.means told in (means.0, subst (λ (bytes : List ℕ). MeansCatalogue bytes means.0) reads.held means.1);
+  at = λ told cat means. opened.at told cat (subst (λ (bytes : List ℕ). MeansCatalogue bytes cat) (sym reads.held) means);
   fault = tt;
   others = keeps_then tells v x w reads.keeps opened.others;
   moments = λ told cat means. moments_after tells v x w cat only reads means (opened.moments told cat (subst (λ (bytes : List ℕ). MeansCatalogue bytes cat) (sym reads.held) means));
@@ -224,6 +220,7 @@ opened_after tells (Ok e) v x w only reads opened = record {
 }
 opened_after tells (Err fault) v x w only reads opened = record {
   ready = tt;
+  means = tt;
   at = tt;
   fault = later fault opened.fault;
   others = keeps_then tells v x w reads.keeps opened.others;

@@ -77,6 +77,7 @@ sync_keeps tells (Err e) v x sync = record { size = sync.size; said = sync.call.
 pub unsynced : {E : Type 0} (tells : Bool) (e : E) (v x : Device) → Lawful tells v → Synced tells (Err e) v x → Started tells (Err Failed) v x
 unsynced tells e v x lawful sync = record {
   ready = tt;
+  means = tt;
   at = tt;
   fault = sync.call.cause refl;
   others = sync_keeps tells (Err e) v x sync;
@@ -115,7 +116,8 @@ module _ {E : Type 0} (tells : Bool) (v x w : Device) (lawful : Lawful tells v) 
   pub synced_started : (result : Result Engine SurveyFault) → Opened tells result x w → Started tells result v w
   synced_started (Ok e) opened = record {
     ready = opened.ready;
-    at = λ told. let stands = opened.at told in (stands.0, same_bytes x.held v.held stands.0 sync.held stands.1, stands.2);
+    means = λ told. let means = opened.means told in (means.0, same_bytes x.held v.held means.0 sync.held means.1);
+    at = λ told cat means. opened.at told cat (same_bytes v.held x.held cat (sym sync.held) means);
     fault = tt;
     others = keeps_then tells v x w (sync_keeps tells (Ok tt) v x sync) opened.others;
     synced = λ told. omega (arith, sync.syncs told, opened.others.syncs told);
@@ -125,6 +127,7 @@ module _ {E : Type 0} (tells : Bool) (v x w : Device) (lawful : Lawful tells v) 
   }
   synced_started (Err fault) opened = record {
     ready = tt;
+    means = tt;
     at = tt;
     fault = start_fault fault opened.fault;
     others = keeps_then tells v x w (sync_keeps tells (Ok tt) v x sync) opened.others;

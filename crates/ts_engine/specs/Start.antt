@@ -42,7 +42,8 @@ pub record LeavesAsItWas (v w : Device) : Type 0 where
 -- a volume of which nothing is pending is opened, or not
 pub record Opened (tells : Bool) (result : Result Engine SurveyFault) (v w : Device) : Type 0 where
   pub ready : IfOk result (λ e. IsReady tells e w)
-  pub at : IfOk result (λ e. IsTrue tells → (cat : Catalogue) × MeansCatalogue v.held cat × IsAt tells e cat w)
+  pub means : IfOk result (λ e. IsTrue tells → (cat : Catalogue) × MeansCatalogue v.held cat)
+  pub at : IfOk result (λ e. IsTrue tells → (cat : Catalogue) → MeansCatalogue v.held cat → IsAt tells e cat w)
   pub fault : IfErr result (λ fault. StartFault tells fault v w)
   pub others : Keeps tells v w
   pub moments : IsTrue tells → (cat : Catalogue) → MeansCatalogue v.held cat → LeavesOnly v w (StillMeans cat v)
@@ -51,8 +52,10 @@ pub record Opened (tells : Bool) (result : Result Engine SurveyFault) (v w : Dev
 -- A volume is opened, or not.
 pub record Started (tells : Bool) (result : Result Engine SurveyFault) (v w : Device) : Type 0 where
   pub ready : IfOk result (λ e. IsReady tells e w)
-  -- it means some catalogue, and the engine stands there
-  pub at : IfOk result (λ e. IsTrue tells → (cat : Catalogue) × MeansCatalogue v.held cat × IsAt tells e cat w)
+  -- it means some catalogue
+  pub means : IfOk result (λ e. IsTrue tells → (cat : Catalogue) × MeansCatalogue v.held cat)
+  -- and the engine stands at each that it means
+  pub at : IfOk result (λ e. IsTrue tells → (cat : Catalogue) → MeansCatalogue v.held cat → IsAt tells e cat w)
   pub fault : IfErr result (λ fault. StartFault tells fault v w)
   pub others : Keeps tells v w
   -- an opened volume was synced

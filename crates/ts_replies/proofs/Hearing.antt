@@ -1,6 +1,6 @@
 -- More is said.
 use Rattle.std.proofs.Common.{◌≡◌, inl, inr, ℕ, ◌+◌, List, [], ◌∷◌, ◌++◌, append_assoc, zero-add, refl, sym, ◌∙◌, ap, Option, Some, None, arith}
-use Rattle.ts_replies.specs.Acknowledged.{Protocol, Heard, behind, behind_spare, IsFront, hear, first_heard, heard, one_more, CanFollow, IsFair, TellsApart}
+use Rattle.ts_replies.specs.Acknowledged.{Protocol, Heard, behind, behind_stand_in, IsFront, hear, first_heard, heard, one_more, CanFollow, IsFair, TellsApart}
 use Rattle.ts_replies.specs.Good.{IsNowOrNext, IsGood}
 use Rattle.std.proofs.lemmas.List.{append-nil}
 use Rattle.ts_replies.proofs.Behind.{behind-append, behind-is, behind-more, whole_or_part, none-front}
@@ -11,29 +11,29 @@ module _ {C I : Type 0} (p : Protocol C I) (apart : TellsApart p) where
   nothing-heard = apart.some
 
   -- the line in the place of a reply
-  spare-is : (item : I) (o : Option (List ℕ)) (said : List ℕ) (found : Option (List ℕ)) → p.spare item ≡ o → behind_spare o said ≡ found → behind_spare (p.spare item) said ≡ found
-  spare-is item o said found is e = ap (λ (s : Option (List ℕ)). behind_spare s said) is ∙ e
+  stand_in-is : (item : I) (o : Option (List ℕ)) (said : List ℕ) (found : Option (List ℕ)) → p.stand_in item ≡ o → behind_stand_in o said ≡ found → behind_stand_in (p.stand_in item) said ≡ found
+  stand_in-is item o said found is e = ap (λ (s : Option (List ℕ)). behind_stand_in s said) is ∙ e
 
   -- it isn't at the front of a part of a reply
-  spare-front : (cat : C) (item : I) (q : List ℕ) → IsFront q (p.answer cat item).0 → behind_spare (p.spare item) q ≡ None
-  spare-front cat item q front = go (p.spare item) refl where
-    go : (o : Option (List ℕ)) → p.spare item ≡ o → behind_spare (p.spare item) q ≡ None
-    go None is = spare-is item None q None is refl
-    go (Some line) is = spare-is item (Some line) q None is (none-front line q (p.answer cat item).0 front (apart.reply cat item line is))
+  stand_in-front : (cat : C) (item : I) (q : List ℕ) → IsFront q (p.answer cat item).0 → behind_stand_in (p.stand_in item) q ≡ None
+  stand_in-front cat item q front = go (p.stand_in item) refl where
+    go : (o : Option (List ℕ)) → p.stand_in item ≡ o → behind_stand_in (p.stand_in item) q ≡ None
+    go None is = stand_in-is item None q None is refl
+    go (Some line) is = stand_in-is item (Some line) q None is (none-front line q (p.answer cat item).0 front (apart.reply cat item line is))
 
   -- nor the reply at the front of a part of it
-  reply-front : (cat : C) (item : I) (line q : List ℕ) → p.spare item ≡ Some line → IsFront q line → behind (p.answer cat item).0 q ≡ None
+  reply-front : (cat : C) (item : I) (line q : List ℕ) → p.stand_in item ≡ Some line → IsFront q line → behind (p.answer cat item).0 q ≡ None
   reply-front cat item line q is front = none-front (p.answer cat item).0 q line front (ap (behind (p.answer cat item).0) (sym (append-nil line)) ∙ apart.line cat item line [] is)
 
   pub hear-reply : (cat : C) (item : I) (said rest : List ℕ) → behind (p.answer cat item).0 said ≡ Some rest → hear p cat item said ≡ Some ((p.answer cat item).1, rest)
   hear-reply cat item said rest e = rw e refl
 
-  pub hear-spare : (cat : C) (item : I) (line rest : List ℕ) → p.spare item ≡ Some line → hear p cat item (line ++ rest) ≡ Some (cat, rest)
-  hear-spare cat item line rest is =
-      rw (apart.line cat item line rest is) (ap (λ (o : Option (List ℕ)). first_heard (p.answer cat item).1 cat None o) (spare-is item (Some line) (line ++ rest) (Some rest) is (behind-append line rest)))
+  pub hear-stand_in : (cat : C) (item : I) (line rest : List ℕ) → p.stand_in item ≡ Some line → hear p cat item (line ++ rest) ≡ Some (cat, rest)
+  hear-stand_in cat item line rest is =
+      rw (apart.line cat item line rest is) (ap (λ (o : Option (List ℕ)). first_heard (p.answer cat item).1 cat None o) (stand_in-is item (Some line) (line ++ rest) (Some rest) is (behind-append line rest)))
 
-  pub hear-none : (cat : C) (item : I) (said : List ℕ) → behind (p.answer cat item).0 said ≡ None → behind_spare (p.spare item) said ≡ None → hear p cat item said ≡ None
-  hear-none cat item said no_reply no_spare = rw (no_reply, no_spare) refl
+  pub hear-none : (cat : C) (item : I) (said : List ℕ) → behind (p.answer cat item).0 said ≡ None → behind_stand_in (p.stand_in item) said ≡ None → hear p cat item said ≡ None
+  hear-none cat item said no_reply no_stand_in = rw (no_reply, no_stand_in) refl
 
   pub heard-some : (cat : C) (item : I) (items : List I) (said : List ℕ) (next : C) (rest : List ℕ) → hear p cat item said ≡ Some (next, rest) → heard p cat (item ∷ items) said ≡ one_more (heard p next items rest)
   heard-some cat item items said next rest e = rw (e, heard) refl
@@ -43,7 +43,7 @@ module _ {C I : Type 0} (p : Protocol C I) (apart : TellsApart p) where
 
   pub heard-nothing : (cat : C) (items : List I) → heard p cat items [] ≡ record { count = 0; catalogue = cat; waiting = items; rest = [] }
   heard-nothing cat [] = refl
-  heard-nothing cat (item ∷ items) = heard-none cat item items [] (hear-none cat item [] (nothing-heard cat item) (spare-front cat item [] ((p.answer cat item).0, refl)))
+  heard-nothing cat (item ∷ items) = heard-none cat item items [] (hear-none cat item [] (nothing-heard cat item) (stand_in-front cat item [] ((p.answer cat item).0, refl)))
 
   -- the replies so far are whole: this many, this catalogue, and these items wait
   abbrev pub Whole : C → List I → List ℕ → ℕ → C → List I → Type 0
@@ -79,17 +79,17 @@ module _ {C I : Type 0} (p : Protocol C I) (apart : TellsApart p) where
         let last : Heard C I = heard p next waiting more in
         heard-some cat item items (said ++ more) cat1 (rest ++ more) later ∙ ap one_more go ∙ (λ j. record last { count = en last.count j })
 
-    by_spare : behind (p.answer cat item).0 said ≡ None → (spare : Option (List ℕ)) → p.spare item ≡ spare → (o : Option (List ℕ)) → behind_spare spare said ≡ o → heard p cat (item ∷ items) (said ++ more) ≡ more_heard n (heard p next waiting more)
-    by_spare none (Some line) t (Some rest) e =
+    by_stand_in : behind (p.answer cat item).0 said ≡ None → (stand_in : Option (List ℕ)) → p.stand_in item ≡ stand_in → (o : Option (List ℕ)) → behind_stand_in stand_in said ≡ o → heard p cat (item ∷ items) (said ++ more) ≡ more_heard n (heard p next waiting more)
+    by_stand_in none (Some line) t (Some rest) e =
         let is : said ≡ line ++ rest = behind-is line said rest e in
-        step cat rest (ap (hear p cat item) is ∙ hear-spare cat item line rest t)
-        (ap (λ (l : List ℕ). hear p cat item (l ++ more)) is ∙ ap (hear p cat item) (append_assoc line rest more) ∙ hear-spare cat item line (rest ++ more) t)
-    by_spare none (Some line) t None e = stands (heard p cat (item ∷ items) said) n cat (item ∷ items) said more next waiting (heard-none cat item items said (hear-none cat item said none (spare-is item (Some line) said None t e))) whole
-    by_spare none None t o e = stands (heard p cat (item ∷ items) said) n cat (item ∷ items) said more next waiting (heard-none cat item items said (hear-none cat item said none (spare-is item None said None t refl))) whole
+        step cat rest (ap (hear p cat item) is ∙ hear-stand_in cat item line rest t)
+        (ap (λ (l : List ℕ). hear p cat item (l ++ more)) is ∙ ap (hear p cat item) (append_assoc line rest more) ∙ hear-stand_in cat item line (rest ++ more) t)
+    by_stand_in none (Some line) t None e = stands (heard p cat (item ∷ items) said) n cat (item ∷ items) said more next waiting (heard-none cat item items said (hear-none cat item said none (stand_in-is item (Some line) said None t e))) whole
+    by_stand_in none None t o e = stands (heard p cat (item ∷ items) said) n cat (item ∷ items) said more next waiting (heard-none cat item items said (hear-none cat item said none (stand_in-is item None said None t refl))) whole
 
     by_reply : (o : Option (List ℕ)) → behind (p.answer cat item).0 said ≡ o → heard p cat (item ∷ items) (said ++ more) ≡ more_heard n (heard p next waiting more)
     by_reply (Some rest) e = step (p.answer cat item).1 rest (hear-reply cat item said rest e) (hear-reply cat item (said ++ more) (rest ++ more) (behind-more (p.answer cat item).0 said rest more e))
-    by_reply None e = by_spare e (p.spare item) refl (behind_spare (p.spare item) said) refl
+    by_reply None e = by_stand_in e (p.stand_in item) refl (behind_stand_in (p.stand_in item) said) refl
 
   -- More is heard from where it stood.
   pub heard-append : (items : List I) → Appends items
@@ -103,9 +103,9 @@ module _ {C I : Type 0} (p : Protocol C I) (apart : TellsApart p) where
       let one = heard-some next item waiting (p.answer next item).0 (p.answer next item).1 [] (hear-reply next item (p.answer next item).0 [] all) ∙ ap one_more (heard-nothing (p.answer next item).1 waiting) in
       heard-append items cat said (p.answer next item).0 n next (item ∷ waiting) whole ∙ ap (more_heard n) one
 
-  pub whole_spare : (cat : C) (items : List I) (said : List ℕ) (n : ℕ) (next : C) (item : I) (waiting : List I) (line : List ℕ) → p.spare item ≡ Some line → Whole cat items said n next (item ∷ waiting) → Whole cat items (said ++ line) (n + 1) next waiting
-  whole_spare cat items said n next item waiting line is whole =
-      let one = heard-some next item waiting line next [] (ap (hear p next item) (sym (append-nil line)) ∙ hear-spare next item line [] is) ∙ ap one_more (heard-nothing next waiting) in
+  pub whole_stand_in : (cat : C) (items : List I) (said : List ℕ) (n : ℕ) (next : C) (item : I) (waiting : List I) (line : List ℕ) → p.stand_in item ≡ Some line → Whole cat items said n next (item ∷ waiting) → Whole cat items (said ++ line) (n + 1) next waiting
+  whole_stand_in cat items said n next item waiting line is whole =
+      let one = heard-some next item waiting line next [] (ap (hear p next item) (sym (append-nil line)) ∙ hear-stand_in next item line [] is) ∙ ap one_more (heard-nothing next waiting) in
       heard-append items cat said line n next (item ∷ waiting) whole ∙ ap (more_heard n) one
 
   -- an image that keeps the catalogue
@@ -126,24 +126,24 @@ module _ {C I : Type 0} (p : Protocol C I) (apart : TellsApart p) where
       kept = rw whole kept;
     }
 
-    part_good : (cat : C) (items : List I) (said q : List ℕ) (n : ℕ) (next : C) (item : I) (waiting : List I) → Whole cat items said n next (item ∷ waiting) → behind (p.answer next item).0 q ≡ None → behind_spare (p.spare item) q ≡ None →
+    part_good : (cat : C) (items : List I) (said q : List ℕ) (n : ℕ) (next : C) (item : I) (waiting : List I) → Whole cat items said n next (item ∷ waiting) → behind (p.answer next item).0 q ≡ None → behind_stand_in (p.stand_in item) q ≡ None →
         CanFollow p next (item ∷ waiting) q → IsNowOrNext p keeps next (item ∷ waiting) → IsGood p keeps cat items (said ++ q)
-    part_good cat items said q n next item waiting whole no_reply no_spare follows kept =
+    part_good cat items said q n next item waiting whole no_reply no_stand_in follows kept =
         let is : heard p cat items (said ++ q) ≡ record { count = n + 0; catalogue = next; waiting = item ∷ waiting; rest = q } =
-        heard-append items cat said q n next (item ∷ waiting) whole ∙ ap (more_heard n) (heard-none next item waiting q (hear-none next item q no_reply no_spare)) in
+        heard-append items cat said q n next (item ∷ waiting) whole ∙ ap (more_heard n) (heard-none next item waiting q (hear-none next item q no_reply no_stand_in)) in
         record { fair = rw is follows; kept = rw is kept }
 
     -- while a reply is said
     pub good_reply : (cat : C) (items : List I) (said q : List ℕ) (n : ℕ) (next : C) (item : I) (waiting : List I) → Whole cat items said n next (item ∷ waiting) → IsFront q (p.answer next item).0 → keeps (p.answer next item).1 → IsGood p keeps cat items (said ++ q)
     good_reply cat items said q n next item waiting whole front here = elim (whole_or_part q (p.answer next item).0 front) [
       | inl all ↦ rw all (good_between cat items (said ++ (p.answer next item).0) (n + 1) (p.answer next item).1 waiting (whole_reply cat items said n next item waiting whole) (kept_now keeps (p.answer next item).1 waiting here))
-      | inr part ↦ part_good cat items said q n next item waiting whole part (spare-front next item q front) (inl front) (inr here)
+      | inr part ↦ part_good cat items said q n next item waiting whole part (stand_in-front next item q front) (inl front) (inr here)
     ]
 
-    pub good_spare : (cat : C) (items : List I) (said q : List ℕ) (n : ℕ) (next : C) (item : I) (waiting : List I) (line : List ℕ) → p.spare item ≡ Some line → Whole cat items said n next (item ∷ waiting) → IsFront q line → keeps next → IsGood p keeps cat items (said ++ q)
-    good_spare cat items said q n next item waiting line is whole front here = elim (whole_or_part q line front) [
-      | inl all ↦ rw all (good_between cat items (said ++ line) (n + 1) next waiting (whole_spare cat items said n next item waiting line is whole) (kept_now keeps next waiting here))
-      | inr part ↦ part_good cat items said q n next item waiting whole (reply-front next item line q is front) (spare-is item (Some line) q None is part) (inr (line, is, front)) (inl here)
+    pub good_stand_in : (cat : C) (items : List I) (said q : List ℕ) (n : ℕ) (next : C) (item : I) (waiting : List I) (line : List ℕ) → p.stand_in item ≡ Some line → Whole cat items said n next (item ∷ waiting) → IsFront q line → keeps next → IsGood p keeps cat items (said ++ q)
+    good_stand_in cat items said q n next item waiting line is whole front here = elim (whole_or_part q line front) [
+      | inl all ↦ rw all (good_between cat items (said ++ line) (n + 1) next waiting (whole_stand_in cat items said n next item waiting line is whole) (kept_now keeps next waiting here))
+      | inr part ↦ part_good cat items said q n next item waiting whole (reply-front next item line q is front) (stand_in-is item (Some line) q None is part) (inr (line, is, front)) (inl here)
     ]
 
   -- more items come

@@ -2,20 +2,20 @@
 use Rattle.std.proofs.Common.{◌≡◌, ◌⊎◌, inl, inr, ℕ, List, [], ◌∷◌, ◌++◌, length, length-append, refl, sym, ◌∙◌, ap, append_assoc}
 use Rattle.ts_replies.specs.Acknowledged.{Protocol, IsFront, IsFair, AllAnswered, IsStep, TellsApart}
 use Rattle.ts_replies.specs.Good.{IsGood, IsGoodMoment}
-use Rattle.ts_replies.proofs.Hearing.{heard-nothing, whole_reply, whole_spare, good_between, good_reply, good_spare, kept_now, heard_then, good_then, good_more}
+use Rattle.ts_replies.proofs.Hearing.{heard-nothing, whole_reply, whole_stand_in, good_between, good_reply, good_stand_in, kept_now, heard_then, good_then, good_more}
 
 module _ {C I : Type 0} (p : Protocol C I) (apart : TellsApart p) where
   -- an item alone, and its whole reply
   pub one_answered : (cat : C) (item : I) (reply : List ℕ) (next : C) → IsStep p cat item reply next → AllAnswered p cat (item ∷ []) reply next
   one_answered cat item reply next (inl is) = rw (is.0, is.1) (whole_reply p apart cat (item ∷ []) [] 0 cat item [] (heard-nothing p apart cat (item ∷ [])))
-  one_answered cat item reply next (inr is) = rw is.1 (whole_spare p apart cat (item ∷ []) [] 0 cat item [] reply is.0 (heard-nothing p apart cat (item ∷ [])))
+  one_answered cat item reply next (inr is) = rw is.1 (whole_stand_in p apart cat (item ∷ []) [] 0 cat item [] reply is.0 (heard-nothing p apart cat (item ∷ [])))
 
   -- an item alone, while its reply is said
   pub one_good : (keeps : C → Type 0) (cat : C) (item : I) (reply front : List ℕ) (next : C) → IsStep p cat item reply next → IsFront front reply → keeps next → IsGood p keeps cat (item ∷ []) front
   one_good keeps cat item reply front next (inl is) f here =
       good_reply p apart keeps cat (item ∷ []) [] front 0 cat item [] (heard-nothing p apart cat (item ∷ [])) (f.0, sym is.0 ∙ f.1) (rw (← is.1) here)
   one_good keeps cat item reply front next (inr is) f here =
-      good_spare p apart keeps cat (item ∷ []) [] front 0 cat item [] reply is.0 (heard-nothing p apart cat (item ∷ [])) f (rw (← is.1) here)
+      good_stand_in p apart keeps cat (item ∷ []) [] front 0 cat item [] reply is.0 (heard-nothing p apart cat (item ∷ [])) f (rw (← is.1) here)
 
   -- the same of what was said alone
   pub one_fair : (cat : C) (item : I) (reply front : List ℕ) (next : C) → IsStep p cat item reply next → IsFront front reply → IsFair p cat (item ∷ []) front

@@ -30,7 +30,7 @@ Answer C I = C → I → List ℕ × C
 pub record Protocol (C I : Type 0) : Type 1 where
   pub answer : Answer C I
   -- the line that may stand in the place of the reply for want of memory, where one may
-  pub spare : I → Option (List ℕ)
+  pub stand_in : I → Option (List ℕ)
   pub means : List ℕ → C → Type 0
 
 -- the first that is there: what stands behind the reply, with the next catalogue, or behind the memory line, with this one
@@ -40,13 +40,13 @@ first_heard next cat None (Some rest) = Some (cat, rest)
 first_heard next cat None None = None
 
 -- what stands behind this line, if there is one
-abbrev pub behind_spare : Option (List ℕ) → List ℕ → Option (List ℕ)
-behind_spare None said = None
-behind_spare (Some line) said = behind line said
+abbrev pub behind_stand_in : Option (List ℕ) → List ℕ → Option (List ℕ)
+behind_stand_in None said = None
+behind_stand_in (Some line) said = behind line said
 
 -- after a whole reply to the item, or the line in its place: the catalogue, and what stands behind
 abbrev pub hear : {C I : Type 0} → Protocol C I → C → I → List ℕ → Option (C × List ℕ)
-hear p cat item said = first_heard (p.answer cat item).1 cat (behind (p.answer cat item).0 said) (behind_spare (p.spare item) said)
+hear p cat item said = first_heard (p.answer cat item).1 cat (behind (p.answer cat item).0 said) (behind_stand_in (p.stand_in item) said)
 
 -- one reply more
 abbrev pub one_more : {C I : Type 0} → Heard C I → Heard C I
@@ -64,7 +64,7 @@ heard p cat (item ∷ items) said =
 -- what else was said is the front of a reply that the next item may have, and nothing where there is no next item
 abbrev pub CanFollow : {C I : Type 0} → Protocol C I → C → List I → List ℕ → Type 0
 CanFollow p cat [] rest = rest ≡ []
-CanFollow p cat (item ∷ items) rest = IsFront rest (p.answer cat item).0 ⊎ ((line : List ℕ) × (p.spare item ≡ Some line) × IsFront rest line)
+CanFollow p cat (item ∷ items) rest = IsFront rest (p.answer cat item).0 ⊎ ((line : List ℕ) × (p.stand_in item ≡ Some line) × IsFront rest line)
 
 -- what was said is replies to the items in their order, the last of them perhaps in part
 abbrev pub IsFair : {C I : Type 0} → Protocol C I → C → List I → List ℕ → Type 0
@@ -78,7 +78,7 @@ AllAnswered p cat items said last =
 -- one step: the answer, or the line in its place, which changes nothing
 abbrev pub IsStep : {C I : Type 0} → Protocol C I → C → I → List ℕ → C → Type 0
 IsStep p cat item reply next =
-    ((reply ≡ (p.answer cat item).0) × (next ≡ (p.answer cat item).1)) ⊎ ((p.spare item ≡ Some reply) × (next ≡ cat))
+    ((reply ≡ (p.answer cat item).0) × (next ≡ (p.answer cat item).1)) ⊎ ((p.stand_in item ≡ Some reply) × (next ≡ cat))
 
 -- The replies and the memory line tell one another apart: none begins with the other, and none is empty.
 pub record AreApart {C I : Type 0} (answer : Answer C I) : Type 0 where
@@ -87,6 +87,6 @@ pub record AreApart {C I : Type 0} (answer : Answer C I) : Type 0 where
 
 -- The replies and the lines in their place tell one another apart: none begins with the other, and no reply is empty.
 pub record TellsApart {C I : Type 0} (p : Protocol C I) : Type 0 where
-  pub line : (cat : C) (item : I) (line x : List ℕ) → p.spare item ≡ Some line → behind (p.answer cat item).0 (line ++ x) ≡ None
-  pub reply : (cat : C) (item : I) (line : List ℕ) → p.spare item ≡ Some line → behind line (p.answer cat item).0 ≡ None
+  pub line : (cat : C) (item : I) (line x : List ℕ) → p.stand_in item ≡ Some line → behind (p.answer cat item).0 (line ++ x) ≡ None
+  pub reply : (cat : C) (item : I) (line : List ℕ) → p.stand_in item ≡ Some line → behind line (p.answer cat item).0 ≡ None
   pub some : (cat : C) (item : I) → behind (p.answer cat item).0 [] ≡ None

@@ -3,8 +3,8 @@ use Rattle.std.proofs.Common.{◌≡◌, ℕ, List, Bool, true, false, cond, Opt
 use Rattle.ts_command.specs.Script.{Request}
 use Rattle.ts_replies.specs.Acknowledged.{memory_line, TellsApart}
 use Rattle.ts_replies.proofs.Apart.{by_memory_line}
-use Rattle.ts_engine.specs.Answer.{may_lack_memory}
-use Rattle.ts_engine.proofs.ApartLemmas as engine
+use Rattle.ts_answer.specs.Answer.{may_lack_memory}
+use Rattle.ts_answer.proofs.ApartLemmas as engine
 use Rattle.ts_shell.specs.Run.{script}
 
 -- the line that may stand is this one, if any may

@@ -22,8 +22,8 @@ use Rattle.ts_replies.specs.Acknowledged.{IsFront, IsStep, memory_line}
 use Rattle.ts_replies.proofs.Steps.{one_answered, one_fair, one_good, one_waits, none_good}
 use Rattle.ts_engine.specs.declared.fault.StepFault.{StepFault}
 use Rattle.ts_engine.specs.declared.fault.StepFault.TheVariants as faults
-use Rattle.ts_engine.specs.Answer.{answer, outcome}
-use Rattle.ts_engine.specs.Reply.{refusal_line}
+use Rattle.ts_answer.specs.Answer.{answer, outcome}
+use Rattle.ts_answer.specs.Reply.{refusal_line}
 use Rattle.ts_engine.specs.Volume.{MeansCatalogue}
 use Rattle.ts_engine.specs.Engine.{Kept, IsReady, IsAt}
 use Rattle.ts_engine.specs.Step.{Stepped}
@@ -221,9 +221,9 @@ pub syntax_at : (trouble : Trouble) (refusal : Refusal) (read : Result Command �
 syntax_at trouble refusal read is cause = syntax_of refusal read (subst (λ (t : Trouble). IsCause t read) is cause)
 
 -- the memory line may stand in the place of the reply to a statement
-pub statement_spare : (r : Result Command ℕ) → script.spare (or_syntax r) ≡ Some memory_line
-statement_spare (Ok command) = refl
-statement_spare (Err place) = refl
+pub statement_stand_in : (r : Result Command ℕ) → script.stand_in (or_syntax r) ≡ Some memory_line
+statement_stand_in (Ok command) = refl
+statement_stand_in (Err place) = refl
 
 -- the disk failed, and nothing was said
 pub failed_ran : (tells : Bool) (command : Command) (r : Result Unit StepFault) (out : List ℕ) (e f : Kept) (v x : Device) → r ≡ Err faults.Disk → Stepped tells command r out e f v x → Ran {T = Unit} tells (Ok command ∷ []) (Err Disk) e f v x

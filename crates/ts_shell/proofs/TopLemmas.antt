@@ -203,8 +203,8 @@ module _ (tells told : Bool) (engine : Engine) (v y w : Device) (i j : Input) (s
     output = λ four. rose_on v.say_faults y.say_faults w.say_faults (omega (arith, started.others.say_faults)) (ran.output four);
     disk = λ five. rose_on v.faults y.faults w.faults started.others.faults (ran.disk five);
     no_store = λ six. absurd (not_six six ran.statuses);
-    not_a_store = λ t none. let cat = started.at t in absurd (none cat.0 cat.1);
-    left = λ t none. let cat = started.at t in absurd (none cat.0 cat.1);
+    not_a_store = λ t none. let cat = started.means t in absurd (none cat.0 cat.1);
+    left = λ t none. let cat = started.means t in absurd (none cat.0 cat.1);
     too_long = ran.too_long;
     short = ran.short;
     quiet = λ which. absurd (neither which);

@@ -1,13 +1,13 @@
 -- A run over an engine: what is said, and what a stop within it leaves.
-use Rattle.std.specs.Prelude.{◌≡◌, ◌≤◌, ℕ, Bool, IsTrue, if◌then◌else◌, List, [], ◌∷◌, ◌++◌, map, Option, Some, None, Result, Err, OnOk, IsErrOf}
+use Rattle.std.specs.Prelude.{◌≡◌, ◌≤◌, ℕ, Bool, IsTrue, if◌then◌else◌, List, [], ◌∷◌, ◌++◌, map, Option, Result, Err, OnOk, IsErrOf}
 use Rattle.ts_base.specs.declared.refusal.Refusal.TheVariants as refusals
 use Rattle.ts_disk.specs.Device.{Device, LeavesOnly, Rose}
 use Rattle.ts_items.specs.Items.{items_from, is_unended_at}
 use Rattle.ts_command.specs.Script.{Request, request_of}
-use Rattle.ts_replies.specs.Acknowledged.{Protocol, memory_line, IsFair, AllAnswered}
+use Rattle.ts_replies.specs.Acknowledged.{Protocol, IsFair, AllAnswered}
 use Rattle.ts_replies.specs.Good.{IsGoodMoment}
 use Rattle.ts_model.specs.Catalogue.{Catalogue}
-use Rattle.ts_engine.specs.Answer.{answer, may_lack_memory}
+use Rattle.ts_answer.specs.State.{State, committed, run_answer, stand_in}
 use Rattle.ts_engine.specs.Volume.{MeansCatalogue}
 use Rattle.ts_engine.specs.Engine.{Kept, IsReady, IsAt}
 use Rattle.ts_shell.specs.declared.fault.RunFault.{RunFault}
@@ -21,9 +21,9 @@ requests_from place bytes = map request_of (items_from place bytes)
 abbrev pub requests_at_end : Option (List ℕ) → List Request
 requests_at_end place = if is_unended_at place then Err refusals.Unended ∷ [] else []
 
--- How the requests of a script are answered: by the catalogue, or by the memory line where a request may lack memory.
-abbrev pub script : Protocol Catalogue Request
-script = record { answer = answer; spare = λ request. if may_lack_memory request then Some memory_line else None; means = MeansCatalogue }
+-- how the requests of a script are answered
+abbrev pub script : Protocol State Request
+script = record { answer = run_answer; stand_in = stand_in; means = λ image state. MeansCatalogue image (committed state) }
 
 -- what was said is replies to the items in their order, the last of them perhaps in part
 abbrev pub SaysFairly : {C I : Type 0} → Protocol C I → C → List I → Device → Device → Type 0
