@@ -8,8 +8,6 @@
 
 mod file_site;
 mod std_source;
-#[cfg(test)]
-mod tests;
 
 pub use file_site::FileSite;
 pub use std_source::StdSource;

@@ -53,11 +53,7 @@ pub(crate) fn damage(site: &mut MemorySite, at: u64, bytes: &[u8]) -> bool {
 }
 
 /// How many calls of an opening only read, where the journal is empty: all but its sync.
-pub(crate) fn reads(
-    rt: &(impl Threads + Sync),
-    alloc: Global,
-    pages: &str,
-) -> Result<u64, Fail> {
+pub(crate) fn reads(rt: &(impl Threads + Sync), alloc: Global, pages: &str) -> Result<u64, Fail> {
     let mut site = volume(rt, alloc, pages)?;
     let before = site.calls();
     run(rt, alloc, &mut site, b"")?;

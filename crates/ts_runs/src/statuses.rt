@@ -12,7 +12,10 @@ fn init_makes_a_store_once(rt: HostRuntime) -> Result<(), Fail> {
     let mut site = volume(&rt, alloc, "8")?;
     assert_eq!(rt; site.len(), 3_842_048);
     let mut source = MemorySource::new(Vec::new(alloc), 1);
-    assert_eq!(rt; status(&rt, alloc, &["init", "08"], &mut site, &mut source)?, 10);
+    assert_eq!(rt;
+        status(&rt, alloc, &["init", "08"], &mut site, &mut source)?,
+        10
+    );
     assert_eq!(rt; run(&rt, alloc, &mut site, b"")?, 0);
     assert_eq!(rt; site.said(), b"".as_slice());
     let mut nothing = MemorySite::new(Vec::new(alloc))?;
@@ -50,7 +53,10 @@ fn what_follows_a_statement_that_is_too_long_is_carried_out(rt: HostRuntime) -> 
     script.extend_from_slice(b";GetNelems('n');")?;
     let mut site = volume(&rt, alloc, "8")?;
     assert_eq!(rt; run(&rt, alloc, &mut site, &script)?, 0);
-    assert_eq!(rt; site.said(), b"error 2 TooLong\nerror 10 UnknownName\n".as_slice());
+    assert_eq!(rt;
+        site.said(),
+        b"error 2 TooLong\nerror 10 UnknownName\n".as_slice()
+    );
     Ok(())
 }
 
@@ -127,7 +133,11 @@ fn a_volume_that_means_no_catalogue_is_refused(rt: HostRuntime) -> Result<(), Fa
     for (at, bytes) in table {
         let mut site = volume(&rt, rt.alloc(), "1")?;
         assert!(rt; damage(&mut site, at, bytes));
-        assert_eq!(rt; run(&rt, rt.alloc(), &mut site, b"GetNelems('n');")?, 6, "at {at}");
+        assert_eq!(rt;
+            run(&rt, rt.alloc(), &mut site, b"GetNelems('n');")?,
+            6,
+            "at {at}"
+        );
         assert_eq!(rt; site.said(), b"".as_slice());
     }
     Ok(())
@@ -152,7 +162,10 @@ fn a_sync_or_a_say_that_fails_has_its_status(rt: HostRuntime) -> Result<(), Fail
     for (number, status) in [(0, 5), (opening.saturating_add(1), 4)] {
         let mut site = volume(&rt, rt.alloc(), "1")?;
         site.fail(site.calls().saturating_add(number))?;
-        assert_eq!(rt; run(&rt, rt.alloc(), &mut site, b"GetNelems('n');")?, status);
+        assert_eq!(rt;
+            run(&rt, rt.alloc(), &mut site, b"GetNelems('n');")?,
+            status
+        );
         assert_eq!(rt; site.said(), b"".as_slice());
     }
     Ok(())

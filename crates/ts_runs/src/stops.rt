@@ -114,11 +114,7 @@ fn stops(
 }
 
 // The bytes of a volume after a script.
-fn bytes_after(
-    rt: &(impl Threads + Sync),
-    alloc: Global,
-    script: &[u8],
-) -> Result<Vec<u8>, Fail> {
+fn bytes_after(rt: &(impl Threads + Sync), alloc: Global, script: &[u8]) -> Result<Vec<u8>, Fail> {
     let mut site = volume(rt, alloc, "8")?;
     run(rt, alloc, &mut site, script)?;
     let mut bytes = vec![in alloc; 0u8; site.len() as usize]?;

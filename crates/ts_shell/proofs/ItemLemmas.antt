@@ -73,7 +73,10 @@ module _ (tells : Bool) (e : Kept) (v w : Device) (size : w.size ≡ v.size) (he
 
 -- a step that the disk doesn't fail leaves the count
 step_leaves : (tells : Bool) (command : Command) (r : Result Unit StepFault) (out : List ℕ) (e f : Kept) (v x : Device) → Stepped tells command r out e f v x → ¬ IsErrOf r faults.Disk → x.faults ≡ v.faults
-step_leaves tells command r out e f v x stepped other = ?
+step_leaves tells command (Ok y) out e f v x stepped other = stepped.no_fault
+step_leaves tells command (Err faults.Disk) out e f v x stepped other = absurd (other refl)
+step_leaves tells command (Err (faults.Memory error)) out e f v x stepped other = stepped.fault.2
+step_leaves tells command (Err (faults.Closed count)) out e f v x stepped other = absurd stepped.fault
 
 -- an image that means the catalogue before a request or the one after it, and nothing said
 abbrev pub Waits : Catalogue → Request → Device → List ℕ → List ℕ → Type 0

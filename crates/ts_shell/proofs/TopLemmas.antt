@@ -138,7 +138,10 @@ opening tells r v y started told cat means asked =
 
 -- an opening that the disk doesn't fail leaves the count
 start_leaves : (tells : Bool) (r : Result Engine SurveyFault) (v y : Device) → Started tells r v y → ¬ IsErrOf r faults.Failed → y.faults ≡ v.faults
-start_leaves tells r v y started other = ?
+start_leaves tells (Ok engine) v y started other = started.no_fault
+start_leaves tells (Err faults.Failed) v y started other = absurd (other refl)
+start_leaves tells (Err (faults.NotAStore page)) v y started other = started.fault.3
+start_leaves tells (Err (faults.Memory error)) v y started other = started.fault.2
 
 -- the volume was not opened
 module _ (tells told : Bool) (r : Result Engine SurveyFault) (v y : Device) (i : Input) (started : Started tells r v y) where
@@ -164,20 +167,13 @@ module _ (tells told : Bool) (r : Result Engine SurveyFault) (v y : Device) (i :
       ended 7 (inr (inr refl)) (λ five. absurd (omega arith)) (λ six. absurd (omega arith)) (λ which. (here.fault.0, here.fault.1)) (λ no. start_leaves tells (Err (faults.Memory error)) v y here (λ is. absurd (cc)))
 
 -- the script behind the opening
-module _ (tells told : Bool) (engine : Engine) (v y w : Device) (i j : Input) (status : ℕ) (lawful : Lawful tells y) (started : Started tells (Ok engine) v y) (ran : OpenedRan tells told engine status y w i j) where
-  -- the engine stands at what the volume means
-  stands : IsTrue tells → (cat : Catalogue) → MeansCatalogue v.held cat → IsAt tells engine cat y
-  stands told cat means =
-      let first = started.moments told cat means in
-      let here = first.from (started.synced told) y.held y.said (lawful.counts (v.clock + 1) y.held (first.ends (started.synced told)) (lawful.held told)) in
-      record { ready = started.ready; means = here.0 }
-
+module _ (tells told : Bool) (engine : Engine) (v y w : Device) (i j : Input) (status : ℕ) (started : Started tells (Ok engine) v y) (ran : OpenedRan tells told engine status y w i j) where
   said_first : y.said ≡ v.said
   said_first = started.others.said
 
   fair_from : IsTrue tells → IsTrue told → (cat : Catalogue) → MeansCatalogue v.held cat → RanFrom cat status v w i j
   fair_from t s cat means =
-      let part = ran.fair t s cat (stands t cat means) in
+      let part = ran.fair t s cat (started.at t cat means) in
       let asked = asked_of part.took.ended part.took.taken in
       let good : LeavesOnly y w (IsGoodRun script cat asked v.said) = subst (λ (l : List ℕ). LeavesOnly y w (IsGoodRun script cat asked l)) said_first part.moments in
       ran_from cat status v w i j means part.took
@@ -197,8 +193,8 @@ module _ (tells told : Bool) (engine : Engine) (v y w : Device) (i j : Input) (s
   pub opened : ScriptRan tells told status v w i j
   opened = record {
     fair = fair_from;
-    all = λ zero t s cat means. let done = ran.all zero t s cat (stands t cat means) in record { ended = done.ended; done = done_from cat _ done.done };
-    so_far = λ which t s cat means. let done = ran.so_far which t s cat (stands t cat means) in record { taken = done.taken; cut = done.cut; done = done_from cat _ done.done };
+    all = λ zero t s cat means. let done = ran.all zero t s cat (started.at t cat means) in record { ended = done.ended; done = done_from cat _ done.done };
+    so_far = λ which t s cat means. let done = ran.so_far which t s cat (started.at t cat means) in record { taken = done.taken; cut = done.cut; done = done_from cat _ done.done };
     pull = ran.pull;
     output = λ four. rose_on v.say_faults y.say_faults w.say_faults (omega (arith, started.others.say_faults)) (ran.output four);
     disk = λ five. rose_on v.faults y.faults w.faults started.others.faults (ran.disk five);
