@@ -1,7 +1,8 @@
-use crate::{FileSite, StdSource};
+// A real file, standard output and standard input.
 use std::fs::{self, OpenOptions};
 use std::test::Fail;
 use ts_disk::{Failed, Site, Source, Volume};
+use ts_file::{FileSite, StdSource};
 
 #[test]
 fn a_file_holds_what_is_written(rt: HostRuntime) -> Result<(), Fail> {

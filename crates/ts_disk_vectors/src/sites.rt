@@ -1,8 +1,9 @@
-use crate::{
-    BlankSource, Failed, GatedFault, MemorySite, MemorySource, Pick, PullFailed, SayFailed, Site,
-    Source, Volume, put_gated,
-};
+// Sites and sources in memory.
 use std::test::Fail;
+use ts_disk::{
+    BlankSource, Failed, GatedFault, MemorySite, MemorySource, Pick, PullFailed, Site, Source,
+    Volume, put_gated,
+};
 
 // Every stop within every call, by every choice for what it tears.
 #[test]
@@ -34,20 +35,27 @@ fn each_stop_leaves_nothing_or_the_value(rt: HostRuntime) -> Result<(), Fail> {
     Ok(())
 }
 
+// A gated write makes four calls of the volume and says its reply. The call of one number is to fail, or all from it on.
 #[test]
 fn the_call_of_that_number_fails(rt: HostRuntime) -> Result<(), Fail> {
-    let alloc = rt.alloc();
-    let mut site = MemorySite::new(vec![in alloc; 0, 0]?)?;
-    site.fail(2)?;
-    assert!(rt; put_gated(&mut site, 7) == Err(GatedFault::Disk));
-    assert_eq!(rt; site.faults(), 1);
-    let mut site = MemorySite::new(vec![in alloc; 0, 0]?)?;
-    site.fuse(4);
-    assert!(rt; put_gated(&mut site, 7) == Err(GatedFault::Output));
-    assert_eq!(rt; site.faults(), 0);
-    assert!(rt; site.say(b"x") == Err(SayFailed));
-    assert!(rt; site.sync() == Err(Failed));
-    assert_eq!(rt; site.faults(), 1);
+    for number in 0..6u64 {
+        let wanted = match number {
+            0..=3 => Err(GatedFault::Disk),
+            4 => Err(GatedFault::Output),
+            _ => Ok(()),
+        };
+        for is_fuse in [false, true] {
+            let mut site = MemorySite::new(vec![in rt.alloc(); 0, 0]?)?;
+            if is_fuse {
+                site.fuse(number);
+            } else {
+                site.fail(number)?;
+            }
+            assert!(rt; put_gated(&mut site, 7) == wanted);
+            assert_eq!(rt; site.faults(), u64::from(number < 4));
+            assert_eq!(rt; site.calls(), 5.min(number.saturating_add(1)));
+        }
+    }
     Ok(())
 }
 
@@ -57,8 +65,7 @@ fn a_choice_decides_on_unsynced_ranges(rt: HostRuntime) -> Result<(), Fail> {
     let alloc = rt.alloc();
     let mut site = MemorySite::new(vec![in alloc; 1, 2, 3, 4, 5, 6]?)?;
     site.reserve(10, 100)?;
-    let size = site.len();
-    assert_eq!(rt; size, 6);
+    assert_eq!(rt; site.len(), 6);
     assert!(rt; site.write_at(1, &[11, 12, 13, 14]).is_ok());
     assert!(rt; site.resize(8).is_ok());
     assert!(rt; site.say(b"so").is_ok());
@@ -107,14 +114,17 @@ fn a_source_gives_its_bytes_in_pieces(rt: HostRuntime) -> Result<(), Fail> {
     let mut source = MemorySource::new(b"abcde".to_vec(alloc)?, 3);
     source.fail(1)?;
     let mut into = [b'.'; 4];
-    assert!(rt; source.pull(&mut into) == Ok(3));
-    assert_eq!(rt; into, *b"abc.");
-    assert!(rt; source.pull(&mut into) == Err(PullFailed));
-    assert!(rt; source.pull(&mut into) == Ok(2));
-    assert_eq!(rt; into, *b"dec.");
-    assert!(rt; source.pull(&mut into) == Ok(0));
-    let mut blanks = BlankSource::new();
-    assert!(rt; blanks.pull(&mut into) == Ok(4));
+    let table: [(Result<usize, PullFailed>, [u8; 4]); 4] = [
+        (Ok(3), *b"abc."),
+        (Err(PullFailed), *b"abc."),
+        (Ok(2), *b"dec."),
+        (Ok(0), *b"dec."),
+    ];
+    for (wanted, bytes) in table {
+        assert!(rt; source.pull(&mut into) == wanted);
+        assert_eq!(rt; into, bytes);
+    }
+    assert!(rt; BlankSource::new().pull(&mut into) == Ok(4));
     assert_eq!(rt; into, *b"    ");
     Ok(())
 }

@@ -1,9 +1,9 @@
 // Scripts cut into their items, in pieces of every length.
 ghost use Rattle.std.specs.Prelude.{◌<◌, ℕ};
 
-use crate::{Cut, Fed, Reader};
 use std::alloc::{AllocError, Global};
 use std::test::Fail;
+use ts_items::{Cut, Fed, Reader};
 
 // Notes an item: a statement behind a `<`, `T` for one that is too long, `U` for one that the end cuts off.
 fn note(items: &mut Vec<u8>, cut: Option<Cut>, text: &[u8]) -> Result<(), AllocError> {
@@ -83,52 +83,38 @@ fn every_cutting_gives_the_same_items(rt: HostRuntime) -> Result<(), Fail> {
 #[test]
 fn a_statement_has_at_most_65536_bytes_with_its_end(rt: HostRuntime) -> Result<(), Fail> {
     let alloc = rt.alloc();
-    let longest = padded(alloc, b'x', 65535, b";y;")?;
-    let found = items_of(alloc, &longest, 65536)?;
-    assert_eq!(rt; found.len(), 65540);
-    let too_long = padded(alloc, b'x', 65536, b";y;")?;
-    for piece in [1, 7, 65535, 65536, 65537, 65540] {
-        let found = items_of(alloc, &too_long, piece)?;
-        assert_eq!(rt; found.as_slice(), b"T<y;".as_slice());
+    // So many bytes of one kind, and what comes behind them; the piece; the items.
+    let page: [(u8, usize, &[u8], usize, &[u8]); 13] = [
+        (b'x', 65536, b";y;", 1, b"T<y;"),
+        (b'x', 65536, b";y;", 7, b"T<y;"),
+        (b'x', 65536, b";y;", 65535, b"T<y;"),
+        (b'x', 65536, b";y;", 65536, b"T<y;"),
+        (b'x', 65536, b";y;", 65537, b"T<y;"),
+        (b'x', 65536, b";y;", 65540, b"T<y;"),
+        // A quote in what is skipped counts neither there nor in the next statement.
+        (b'x', 65536, b"''';y';z;';", 1000, b"T<y';z;';"),
+        (b'\'', 65535, b"x;'y;", 65536, b"TU"),
+        (b'x', 65536, b" and the end of the script", 3, b"T"),
+        // Blanks count from the start of a statement; 65536 of them are one, and the next begins behind them.
+        (b' ', 65522, b"GetNelems('n');a;", 65536, b"T<a;"),
+        (b'\n', 65536, b"a;", 100, b"<a;"),
+        (b' ', 65535, b"a;b;", 65536, b"T<b;"),
+        (b' ', 200_000, b"", 65536, b""),
+    ];
+    for (byte, count, behind, piece, items) in page {
+        let script = padded(alloc, byte, count, behind)?;
+        let found = items_of(alloc, &script, piece.max(1))?;
+        assert_eq!(rt; found.as_slice(), items, "{byte} in pieces of {piece}");
     }
-    Ok(())
-}
-
-#[test]
-fn behind_a_long_statement_all_is_skipped_up_to_the_next_end(rt: HostRuntime) -> Result<(), Fail> {
-    let alloc = rt.alloc();
-    // A quote in what is skipped counts neither there nor in the next statement.
-    let quoted = padded(alloc, b'x', 65536, b"''';y';z;';")?;
-    let found = items_of(alloc, &quoted, 1000)?;
-    assert_eq!(rt; found.as_slice(), b"T<y';z;';".as_slice());
-    let open = padded(alloc, b'\'', 65535, b"x;'y;")?;
-    let found = items_of(alloc, &open, 65536)?;
-    assert_eq!(rt; found.as_slice(), b"TU".as_slice());
-    let ended = padded(alloc, b'x', 65536, b" and the end of the script")?;
-    let found = items_of(alloc, &ended, 3)?;
-    assert_eq!(rt; found.as_slice(), b"T".as_slice());
-    Ok(())
-}
-
-#[test]
-fn blanks_count_up_to_65536_from_the_start_of_a_statement(rt: HostRuntime) -> Result<(), Fail> {
-    let alloc = rt.alloc();
-    let fits = padded(alloc, b' ', 65521, b"GetNelems('n');")?;
-    let found = items_of(alloc, &fits, 65536)?;
-    assert_eq!(rt; found.len(), 65537);
-    let long = padded(alloc, b' ', 65522, b"GetNelems('n');a;")?;
-    let found = items_of(alloc, &long, 65536)?;
-    assert_eq!(rt; found.as_slice(), b"T<a;".as_slice());
-    // 65536 blanks are a statement, and the next begins behind them.
-    let blank = padded(alloc, b'\n', 65536, b"a;")?;
-    let found = items_of(alloc, &blank, 100)?;
-    assert_eq!(rt; found.as_slice(), b"<a;".as_slice());
-    let less = padded(alloc, b' ', 65535, b"a;b;")?;
-    let found = items_of(alloc, &less, 65536)?;
-    assert_eq!(rt; found.as_slice(), b"T<b;".as_slice());
-    let only = padded(alloc, b' ', 200_000, b"")?;
-    let found = items_of(alloc, &only, 65536)?;
-    assert_eq!(rt; found.as_slice(), b"".as_slice());
+    // The longest statements: what is noted has a byte more for each.
+    let page: [(u8, usize, &[u8], usize); 2] = [
+        (b'x', 65535, b";y;", 65540),
+        (b' ', 65521, b"GetNelems('n');", 65537),
+    ];
+    for (byte, count, behind, noted) in page {
+        let script = padded(alloc, byte, count, behind)?;
+        assert_eq!(rt; items_of(alloc, &script, 65536)?.len(), noted);
+    }
     Ok(())
 }
 
