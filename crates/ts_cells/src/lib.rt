@@ -2,8 +2,6 @@
 //! `specs/Cell` says, and the page of some elements as `specs/IrregularPage` says; a page is judged without making
 //! its rows. Stands on ts_page, ts_row and ts_base; knows nothing of slots, directories or disks. Read
 //! `specs/Cell.antt`, `specs/IrregularPage.antt`, then `extent.rt`.
-//! A `let _width = ..;` that nothing uses stands for the proof alone: it brings in what the call ensures, which the word above
-//! it names.
 #![tactic(auto)]
 
 mod cell;

@@ -1,8 +1,8 @@
 //! The slots of definitions, written and read, and the survey of a volume. A survey reads each page once and keeps the
 //! definitions, the directory and the free pages, or tells the first bad page; no volume that it refuses means a catalogue
-//! (`specs/Survey`). A slot is written alone: all other bytes stay. What the pages mean is ts_layout's; stands on it, and
-//! on ts_cells, ts_space, ts_model and ts_page; knows nothing of disks, journals or commands. Read `specs/Survey.antt`,
-//! then `surveyed.rt` and `write.rt`.
+//! (`specs/Survey`). A slot is written alone: all other bytes stay. What containers are charged can be kept as sums
+//! (`specs/KeptCharges`). What the pages mean is ts_layout's; stands on it, and on ts_cells, ts_space, ts_model and
+//! ts_page; knows nothing of disks, journals or commands. Read `specs/Survey.antt`, then `surveyed.rt` and `write.rt`.
 #![tactic(auto)]
 
 mod charges;

@@ -214,7 +214,7 @@ struct Left {
     integers: Vec<Option<i128>>,
 }
 
-fn left(alloc: Global, steps: &[Step], stamps: &[i64]) -> Result<Left, Fail> {
+fn what_is_left(alloc: Global, steps: &[Step], stamps: &[i64]) -> Result<Left, Fail> {
     let mut series = after(alloc, steps)?;
     let mut integers = Vec::new(alloc);
     for stamp in stamps {
@@ -273,7 +273,7 @@ fn elements_are_put_and_taken_away(rt: HostRuntime) -> Result<(), Fail> {
         (&[first, taken, taken], None, 2),
     ];
     for (steps, place, spare) in rows {
-        let left = left(rt.alloc(), steps, &[])?;
+        let left = what_is_left(rt.alloc(), steps, &[])?;
         assert_eq!(rt; (left.place, left.spare, left.told), (place, spare, true));
     }
     Ok(())
@@ -299,7 +299,7 @@ fn elements_are_read(rt: HostRuntime) -> Result<(), Fail> {
         (&[first, Step::Take(DAY_3)], [None, None, None, None, None]),
     ];
     for (steps, want) in rows {
-        let left = left(rt.alloc(), steps, &stamps)?;
+        let left = what_is_left(rt.alloc(), steps, &stamps)?;
         assert_eq!(rt; left.integers.as_slice(), want.as_slice());
     }
     Ok(())
@@ -322,7 +322,7 @@ fn an_insert_leaves_the_element_that_is_there(rt: HostRuntime) -> Result<(), Fai
     let before = page_after(rt.alloc(), &steps[..1])?;
     let after = page_after(rt.alloc(), &steps)?;
     assert_eq!(rt; after.bytes, before.bytes);
-    let left = left(rt.alloc(), &steps, &[DAY_3])?;
+    let left = what_is_left(rt.alloc(), &steps, &[DAY_3])?;
     assert_eq!(rt;
         (left.place, left.spare, left.told),
         (place(DAY_3, 1), 1, false)

@@ -37,7 +37,7 @@ struct Patch<'a> {
     bytes: &'a [u8],
 }
 
-fn patch(page: u32, at: usize, bytes: &[u8]) -> Patch<'_> {
+fn bytes_at(page: u32, at: usize, bytes: &[u8]) -> Patch<'_> {
     Patch { page, at, bytes }
 }
 
@@ -78,16 +78,16 @@ fn good(alloc: Global) -> Result<MemoryPages, Fail>
     ensures free { IfOk result (λ pages. (memory_contents pages).free ≡ []) }
 {
     let patches = [
-        patch(0, 0, b"TSVOLUME\x01\x00\x00\x00\x02"),
-        patch(257, 0, b"\x01\x01r"),
-        patch(257, 34, b"\x01t"),
-        patch(257, 67, b"\x01\x02\x00\x00\x01v"),
-        patch(833, 180, b"\x01\x01c"),
-        patch(833, 214, b"\x00\x00\x00\x00\x02"),
-        patch(835, 658, b"\x02\x01k"),
-        patch(835, 724, b"\x03"),
-        patch(931, 0, b"\x02\x00\x32\x00\x01"),
-        patch(931, 32, &CELL),
+        bytes_at(0, 0, b"TSVOLUME\x01\x00\x00\x00\x02"),
+        bytes_at(257, 0, b"\x01\x01r"),
+        bytes_at(257, 34, b"\x01t"),
+        bytes_at(257, 67, b"\x01\x02\x00\x00\x01v"),
+        bytes_at(833, 180, b"\x01\x01c"),
+        bytes_at(833, 214, b"\x00\x00\x00\x00\x02"),
+        bytes_at(835, 658, b"\x02\x01k"),
+        bytes_at(835, 724, b"\x03"),
+        bytes_at(931, 0, b"\x02\x00\x32\x00\x01"),
+        bytes_at(931, 32, &CELL),
     ];
     let mut pages = zeros(alloc)?;
     put_all(&mut pages, &patches)?;
@@ -271,7 +271,7 @@ fn the_first_page_that_breaks_the_format_is_told(rt: HostRuntime) -> Result<(), 
         (835, 724, &[2], Some(835)),
     ];
     for (page, at, bytes, want) in rows {
-        assert_eq!(rt; bad_with(rt.alloc(), &[patch(page, at, bytes)])?, want);
+        assert_eq!(rt; bad_with(rt.alloc(), &[bytes_at(page, at, bytes)])?, want);
     }
     Ok(())
 }
@@ -279,15 +279,15 @@ fn the_first_page_that_breaks_the_format_is_told(rt: HostRuntime) -> Result<(), 
 #[test]
 fn a_page_that_repeats_a_name_or_refers_to_nothing_is_told(rt: HostRuntime) -> Result<(), Fail> {
     // A series of the same key in slot 51 and one in slot 301, a container that refers to nothing, a page that breaks the format.
-    let beside = patch(835, 752, b"\x02\x01k");
-    let behind = patch(841, 0, b"\x02\x01k");
-    let dangling = patch(833, 214, &[1]);
-    let broken = patch(900, 0, &[9]);
+    let beside = bytes_at(835, 752, b"\x02\x01k");
+    let behind = bytes_at(841, 0, b"\x02\x01k");
+    let dangling = bytes_at(833, 214, b"\x01");
+    let broken = bytes_at(900, 0, b"\x09");
     // A row type of the same name in another slot.
     let twice = [
-        patch(300, 0, b"\x01\x01r"),
-        patch(300, 34, b"\x01t"),
-        patch(300, 67, b"\x01\x01\x00\x00\x01w"),
+        bytes_at(300, 0, b"\x01\x01r"),
+        bytes_at(300, 34, b"\x01t"),
+        bytes_at(300, 67, b"\x01\x01\x00\x00\x01w"),
     ];
     let rows: [(&[Patch], Option<u32>); 6] = [
         (&[beside], Some(835)),
@@ -320,18 +320,18 @@ fn a_bad_element_page_is_told(rt: HostRuntime) -> Result<(), Fail> {
         (930, 1, &[9, 9, 9], None),
     ];
     for (page, at, bytes, want) in rows {
-        assert_eq!(rt; bad_with(rt.alloc(), &[patch(page, at, bytes)])?, want);
+        assert_eq!(rt; bad_with(rt.alloc(), &[bytes_at(page, at, bytes)])?, want);
     }
     Ok(())
 }
 
 #[test]
 fn stamps_that_do_not_rise_are_told(rt: HostRuntime) -> Result<(), Fail> {
-    for (last, want) in [(0xf0, Some(931)), (0xf1, None)] {
+    for (last, want) in [([0xf0], Some(931)), ([0xf1], None)] {
         let two = [
-            patch(931, 4, &[2]),
-            patch(931, 46, &CELL),
-            patch(931, 53, &[last]),
+            bytes_at(931, 4, b"\x02"),
+            bytes_at(931, 46, &CELL),
+            bytes_at(931, 53, &last),
         ];
         assert_eq!(rt; bad_with(rt.alloc(), &two)?, want);
     }
@@ -341,15 +341,16 @@ fn stamps_that_do_not_rise_are_told(rt: HostRuntime) -> Result<(), Fail> {
 #[test]
 fn pages_that_are_too_many_are_told(rt: HostRuntime) -> Result<(), Fail> {
     // A second page of the series, which a page of another series of the container becomes, and a quota.
-    let head = patch(930, 0, b"\x02\x00\x32\x00\x01");
-    let cell = patch(930, 32, &CELL);
-    let other = patch(930, 2, &[51]);
-    let key = patch(835, 752, b"\x02\x01l");
-    let container = patch(835, 818, &[3]);
-    let one = patch(833, 218, &[1]);
+    let head = bytes_at(930, 0, b"\x02\x00\x32\x00\x01");
+    let cell = bytes_at(930, 32, &CELL);
+    let other = bytes_at(930, 2, b"\x33");
+    let key = bytes_at(835, 752, b"\x02\x01l");
+    let container = bytes_at(835, 818, b"\x03");
+    let one = bytes_at(833, 218, b"\x01");
+    let three = bytes_at(833, 218, b"\x03");
     let rows: [(&[Patch], Option<u32>); 4] = [
         // Quotas of 3 pages in a volume of 2.
-        (&[patch(833, 218, &[3])], Some(833)),
+        (&[three], Some(833)),
         (&[head, cell, one], Some(931)),
         (&[head, cell, one, other, key, container], Some(833)),
         (&[head, cell, other, key, container], None),
