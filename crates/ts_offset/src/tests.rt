@@ -467,19 +467,27 @@ fn the_starts_of_a_grid_follow_one_another(rt: HostRuntime) -> Result<(), Fail> 
         (6, b"2011-01-11 00:00:00"),
         (2_084_229, LAST_DAY),
     ];
-    let mut starts = grid.starts_from(0);
     for (offset, text) in rows {
         let start = stamp(text)?;
         assert_eq!(rt; grid.offset_of(start), Ok(offset), "{offset}");
         assert_eq!(rt; grid.stamp_of(offset), Some(start), "{offset}");
-        if offset > 6 {
-            starts = grid.starts_from(offset);
-        }
-        assert_eq!(rt; starts.next(), Some(start), "{offset}");
+        assert_eq!(rt; grid.starts_from(offset).next(), Some(start), "{offset}");
     }
-    assert_eq!(rt; starts.next(), None);
-    assert_eq!(rt; starts.next(), None);
     assert_eq!(rt; grid.starts_from(u64::MAX).next(), None);
+    Ok(())
+}
+
+#[test]
+fn the_starts_of_a_grid_come_to_an_end(rt: HostRuntime) -> Result<(), Fail> {
+    let grid = grid(rt.alloc(), WORK, D03)?;
+    let mut starts = grid.starts_from(4);
+    for text in [D07, D10, b"2011-01-11 00:00:00"] {
+        assert_eq!(rt; starts.next(), Some(stamp(text)?), "{text:?}");
+    }
+    let mut starts = grid.starts_from(2_084_229);
+    assert_eq!(rt; starts.next(), Some(stamp(LAST_DAY)?));
+    assert_eq!(rt; starts.next(), None);
+    assert_eq!(rt; starts.next(), None);
     Ok(())
 }
 
