@@ -7,6 +7,8 @@
 
 mod calendar;
 mod civil;
+mod grid;
+mod laws;
 mod read;
 mod steps;
 #[cfg(test)]
@@ -16,4 +18,6 @@ mod text;
 mod text_tests;
 
 pub use calendar::Calendar;
+pub use grid::CommonGrid;
+pub use laws::{starts_rise, steps_lead_there};
 pub use text::{CalendarText, PatternPart, calendar_texts_are_tokens, printed_calendars_are_read};

@@ -376,3 +376,31 @@ fn calendars_that_cannot_meet_are_refused(rt: HostRuntime) -> Result<(), Fail> {
     }
     Ok(())
 }
+
+#[test]
+fn two_calendars_have_a_grid_in_common(rt: HostRuntime) -> Result<(), Fail> {
+    let rows: [(Unit, &[u8], Unit, &[u8], Result<(Unit, i64), Refusal>); 6] = [
+        (Day, D02, Hour, b"2011-01-05 06:00:00", Ok((Hour, 78))),
+        (Hour, b"2011-01-05 06:00:00", Day, D02, Ok((Hour, -78))),
+        (
+            Year,
+            b"2011-01-10 00:00:00",
+            Month,
+            b"2012-03-10 00:00:00",
+            Ok((Month, 14)),
+        ),
+        (Week, D02, Week, b"2011-01-16 00:00:00", Ok((Week, 2))),
+        (Week, D02, Week, D03, Err(Refusal::NotAligned)),
+        (Day, D02, Month, D02, Err(Refusal::UnitMismatch)),
+    ];
+    for (left, first, right, second, want) in rows {
+        let left = always(rt.alloc(), first, left)?;
+        let right = always(rt.alloc(), second, right)?;
+        let found = match left.common_grid(&right) {
+            Ok(grid) => Ok((grid.unit, grid.steps)),
+            Err(why) => Err(why),
+        };
+        assert_eq!(rt; found, want, "{first:?} {second:?}");
+    }
+    Ok(())
+}

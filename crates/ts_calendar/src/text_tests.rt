@@ -1,5 +1,5 @@
 // Texts of calendars. The places are counted by hand: `pattname` or `pattern` stands at byte 64 of these texts.
-use crate::{Calendar, CalendarText, PatternPart};
+use crate::{Calendar, CalendarText, CommonGrid, PatternPart};
 use std::alloc::Global;
 use std::test::Fail;
 use ts_base::{Bytes, Refusal, Trouble};
@@ -120,6 +120,7 @@ fn a_part_that_is_none_is_refused_at_its_place(rt: HostRuntime) -> Result<(), Fa
 fn the_types_may_go_to_other_threads() {
     goes_to_threads::<Calendar>();
     goes_to_threads::<CalendarText>();
+    goes_to_threads::<CommonGrid>();
     goes_to_threads::<PatternPart>();
 }
 

@@ -17,6 +17,8 @@ mod sums;
 #[cfg(test)]
 mod tests;
 mod walk;
+#[cfg(test)]
+mod walk_tests;
 
 pub use counter::Counter;
 pub use grid::Grid;

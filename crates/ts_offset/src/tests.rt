@@ -2,7 +2,7 @@
 use crate::{Counter, Grid, Shape, StartsFrom};
 use std::alloc::Global;
 use std::test::Fail;
-use ts_base::Unit::{Day, Minute, Month, Second, Year};
+use ts_base::Unit::{Day, Hour, Minute, Month, Second, Week, Year};
 use ts_base::{Refusal, Stamp, Trouble, Unit};
 use ts_calendar::Calendar;
 use ts_pattern::{Pattern, Run};
@@ -307,6 +307,37 @@ fn a_range_has_as_many_starts_as_it_holds(rt: HostRuntime) -> Result<(), Fail> {
     Ok(())
 }
 
+// All intervals of a unit, from the first stamp on.
+fn always(unit: Unit) -> Laid {
+    Laid {
+        start: FIRST,
+        unit,
+        on: true,
+        counts: &[1],
+    }
+}
+
+#[test]
+fn each_unit_is_counted_to_the_end_of_the_years(rt: HostRuntime) -> Result<(), Fail> {
+    let rows: [(Unit, u64, &[u8]); 7] = [
+        (Second, 315_537_897_599, LAST_SECOND),
+        (Minute, 5_258_964_959, b"9999-12-31 23:59:00"),
+        (Hour, 87_649_415, b"9999-12-31 23:00:00"),
+        (Day, 3_652_058, LAST_DAY),
+        (Week, 521_722, b"9999-12-27 00:00:00"),
+        (Month, 119_987, b"9999-12-01 00:00:00"),
+        (Year, 9_998, b"9999-01-01 00:00:00"),
+    ];
+    let end = stamp(LAST)?;
+    for (unit, last, start) in rows {
+        let grid = grid(rt.alloc(), always(unit), FIRST)?;
+        assert_eq!(rt; grid.offset_of(end), Ok(last), "{unit:?}");
+        assert_eq!(rt; grid.stamp_of(last), Some(stamp(start)?), "{unit:?}");
+        assert_eq!(rt; grid.stamp_of(last + 1), None, "{unit:?}");
+    }
+    Ok(())
+}
+
 // The origin that a grid takes, if there is one.
 fn moved(alloc: Global, laid: Laid, origin: &[u8]) -> Result<Option<Stamp>, Fail> {
     match Grid::make(alloc, &calendar(alloc, laid)?, stamp(origin)?) {
@@ -417,7 +448,7 @@ fn a_stamp_has_the_offset_of_its_interval(rt: HostRuntime) -> Result<(), Fail> {
 
 #[test]
 fn an_offset_has_a_stamp(rt: HostRuntime) -> Result<(), Fail> {
-    let rows: [(Laid, &[u8], u64, Option<&[u8]>); 9] = [
+    let rows: [(Laid, &[u8], u64, Option<&[u8]>); 11] = [
         (
             QUARTERS,
             b"2012-02-01 00:00:00",
@@ -440,7 +471,9 @@ fn an_offset_has_a_stamp(rt: HostRuntime) -> Result<(), Fail> {
         (LAST_YEARS, b"9998-06-01 00:00:00", 1, None),
         (FIRST_SECONDS, FIRST, 315_537_897_599, Some(LAST_SECOND)),
         (FIRST_SECONDS, FIRST, 315_537_897_600, None),
+        (FIRST_SECONDS, FIRST, (1 << 62) - 1, None),
         (FIRST_SECONDS, FIRST, 1 << 62, None),
+        (FIRST_SECONDS, FIRST, (1 << 62) + 1, None),
         (FIRST_SECONDS, FIRST, u64::MAX, None),
     ];
     for (laid, origin, offset, start) in rows {
