@@ -3,4 +3,4 @@ use Rattle.ts_store.proofs.tests.looked.Goals as goal
 
 pub returns-clause-idle : goal.returns-clause-idle
 returns-clause-idle g c =
-    idle_dropped g.V.Volume.tells c.args.store.now c.seen_on-byte.new.store c.discard.new.self (g.V.Volume.device c.args.vol.now) (g.V.Volume.device c.seen_on-byte.new.vol) c.requires.idle c.seen_on-byte.ensures c.discard.ensures
+    idle_dropped g.V.Volume.tells c.args.store.now c.seen_on.new.store c.discard.new.self (g.V.Volume.device c.args.vol.now) (g.V.Volume.device c.seen_on.new.vol) c.requires.idle c.seen_on.ensures c.discard.ensures
