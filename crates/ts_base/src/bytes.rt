@@ -1,4 +1,4 @@
-ghost use Rattle.std.specs.Prelude.{◌≡◌, [], ◌∷◌, ◌++◌, IfOk, OnOk, OnErr};
+ghost use Rattle.std.specs.Prelude.{◌≡◌, [], ◌∷◌, ◌++◌, take, IfOk, OnOk, OnErr};
 
 use std::alloc::{AllocError, Global};
 use std::marker::Model;
@@ -57,6 +57,13 @@ impl Bytes {
         ensures err { OnErr result (self.new ≡ self.old) }
     {
         self.items.extend_from_slice(bytes)
+    }
+
+    /// Keeps the first bytes alone, at most so many. The memory stays for the next ones.
+    pub fn truncate(&mut self, len: usize)
+        ensures { self.new ≡ take len self.old }
+    {
+        self.items.truncate(len);
     }
 
     /// Takes all bytes out. The memory stays for the next ones.

@@ -12,8 +12,6 @@ mod name;
 mod refusal;
 mod reply;
 mod stamp;
-#[cfg(test)]
-mod tests;
 mod text;
 mod unit;
 

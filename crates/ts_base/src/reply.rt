@@ -1,4 +1,4 @@
-ghost use Rattle.std.specs.Prelude.{◌≡◌, [], ◌∷◌, ◌++◌, OnOk, OnErr};
+ghost use Rattle.std.specs.Prelude.{◌≡◌, [], ◌∷◌, ◌++◌, take, OnOk, OnErr};
 
 use crate::Bytes;
 use std::alloc::{AllocError, Global};
@@ -48,6 +48,13 @@ impl Reply {
         ensures err { OnErr result (self.new ≡ self.old) }
     {
         self.bytes.extend_from_slice(bytes)
+    }
+
+    /// Keeps the first bytes alone, at most so many. The memory stays for the next ones.
+    pub fn truncate(&mut self, len: usize)
+        ensures { self.new ≡ take len self.old }
+    {
+        self.bytes.truncate(len);
     }
 
     /// Takes all bytes out. The memory stays for the next reply.

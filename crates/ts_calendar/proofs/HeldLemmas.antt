@@ -4,7 +4,7 @@ use Rattle.std.proofs.lemmas.Int.{by_lt_z, ints}
 use Rattle.ts_base.specs.declared.unit.Unit as unit
 use Rattle.ts_base.specs.Moment.{IsStamp, stamp_if_any}
 use Rattle.ts_calendar.specs.Intervals.{IsEarly, start_in, IsBefore, HoldsIn}
-use Rattle.ts_calendar.specs.Line.{line_at, IsAround}
+use Rattle.ts_calendar.specs.Line.{line_at, IsLineAround}
 use Rattle.ts_calendar.proofs.StampLemmas.{stamp-low, stamp-high, stamp-some, stamp-is}
 use Rattle.ts_calendar.proofs.LineLemmas.{line-start, line-rises}
 
@@ -34,7 +34,7 @@ before_is s t h low b =
     (λ high. rw (stamp-some t (low, high)) at b)
 
 -- the interval around a stamp holds it, where it exists
-pub holds-around : (u : unit.Unit) (first s k f : ℤ) → IsStamp first → IsEarly u first → IsAround u first s k → start_in u first k ≡ Some f → HoldsIn u first k s
+pub holds-around : (u : unit.Unit) (first s k f : ℤ) → IsStamp first → IsEarly u first → IsLineAround u first s k → start_in u first k ≡ Some f → HoldsIn u first k s
 holds-around u first s k f stamp early around e =
     let here = start-is u first k f stamp early e in
     record {
@@ -45,7 +45,7 @@ holds-around u first s k f stamp early around e =
     }
 
 -- and no other one does
-pub holds-only : (u : unit.Unit) (first s k n : ℤ) → IsStamp first → IsEarly u first → IsStamp s → IsAround u first s k → HoldsIn u first n s → n ≡ k
+pub holds-only : (u : unit.Unit) (first s k n : ℤ) → IsStamp first → IsEarly u first → IsStamp s → IsLineAround u first s k → HoldsIn u first n s → n ≡ k
 holds-only u first s k n stamp early within around held =
     let here = start-is u first n held.from stamp early held.exists_from in
     let after : line_at u first n ≤ℤ s = rw here.0 at held.after in
@@ -54,7 +54,7 @@ holds-only u first s k n stamp early within around held =
     let before = before_is s (line_at u first (n +ℤ pos 1)) within low (rw (line-start u first (n +ℤ pos 1) stamp early) at held.before) in
     only u first s k n stamp early around after before
   where
-    only : (u : unit.Unit) (first s k n : ℤ) → IsStamp first → IsEarly u first → IsAround u first s k → line_at u first n ≤ℤ s → s <ℤ line_at u first (n +ℤ pos 1) → n ≡ k
+    only : (u : unit.Unit) (first s k n : ℤ) → IsStamp first → IsEarly u first → IsLineAround u first s k → line_at u first n ≤ℤ s → s <ℤ line_at u first (n +ℤ pos 1) → n ≡ k
     only u first s k n stamp early around after before =
         by_lt_z n k
         (λ lt. let up = line-order u first (n +ℤ pos 1) k stamp early (omega (arith, ints)) in absurd (omega (arith, ints, around.after, up)))

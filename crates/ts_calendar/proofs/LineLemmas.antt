@@ -13,7 +13,7 @@ use Rattle.ts_base.proofs.CivilLemmas.{days_bounds, civil_of-days, natural}
 use Rattle.ts_base.proofs.MonthLemmas.{months-rise}
 use Rattle.ts_pattern.specs.Units.{is_monthly, size}
 use Rattle.ts_calendar.specs.Intervals.{IsEarly, start_in}
-use Rattle.ts_calendar.specs.Line.{month_line, line_at, IsAround, comes_after}
+use Rattle.ts_calendar.specs.Line.{month_line, line_at, IsLineAround, comes_after}
 use Rattle.ts_calendar.proofs.StampLemmas.{int_lt_yes, int_lt_no, int_lt-true, int_lt-false, stamp-low, stamp-high, stamp-some, stamp-is, dated}
 
 -- the year of a month number
@@ -195,10 +195,20 @@ after-line s l o e h =
     (λ lt. let none = e ∙ stamp-high l low lt in absurd (let no_ = ap (comes_after s) none in cc))
     (λ high. let here = e ∙ stamp-some l (low, high) in int_lt-true s l (sym (ap (comes_after s) here) ∙ h)))
 
+-- a stamp on the line of its own months
+months-zero : (s m : ℤ) → IsStamp s → m ≡ pos 0 → month_line (day_of_month s) (clock_of s) (month_at s +ℤ m) ≡ s
+months-zero s m stamp none =
+    let same : month_at s +ℤ m ≡ month_at s = omega (arith, signed_arith) in
+    let years = month-within s stamp in
+    let date = month-date s stamp in
+    let d = dated s stamp in
+    let mid = line-mid (day_of_month s) (clock_of s) (month_at s) years.0 years.1 in
+    ap (month_line (day_of_month s) (clock_of s)) same ∙ mid ∙ omega (arith, signed_arith, date.0, d.whole)
+
 -- the interval of the stamp's month, where it doesn't start after the stamp
 pub around-here : (u : unit.Unit) (first s k : ℤ) → IsStamp first → IsTrue (is_monthly u) → IsEarly u first → IsStamp s
     → month_of_interval u first k ≤ℤ month_at s → month_at s <ℤ month_of_interval u first (k +ℤ pos 1)
-    → comes_after s (start_in u first k) ≡ false → IsAround u first s k
+    → comes_after s (start_in u first k) ≡ false → IsLineAround u first s k
 around-here u first s k stamp monthly early within low high h =
     let d = dated first stamp in
     let some : 1 ≤ day_of_month first = omega (arith, d.valid.2.0) in
@@ -221,7 +231,7 @@ around-here u first s k stamp monthly early within low high h =
 
 -- else the one before
 pub around-before : (u : unit.Unit) (first s k j : ℤ) → IsStamp first → IsTrue (is_monthly u) → IsEarly u first → IsStamp s → j +ℤ pos 1 ≡ k
-    → month_of_interval u first j <ℤ month_at s → comes_after s (start_in u first k) ≡ true → IsAround u first s j
+    → month_of_interval u first j <ℤ month_at s → comes_after s (start_in u first k) ≡ true → IsLineAround u first s j
 around-before u first s k j stamp monthly early within next low h =
     let d = dated first stamp in
     let some : 1 ≤ day_of_month first = omega (arith, d.valid.2.0) in
@@ -232,23 +242,23 @@ around-before u first s k j stamp monthly early within next low h =
     }
 
 -- intervals that don't move with the months, by division
-pub around-second : (p s : ℤ) → IsAround Second p s (int_div_euclid (s -ℤ p) (pos 100_000))
+pub around-second : (p s : ℤ) → IsLineAround Second p s (int_div_euclid (s -ℤ p) (pos 100_000))
 unfolding line_at
 around-second p s = record { after = omega (arith, signed_arith); before = omega (arith, signed_arith) }
 
-pub around-minute : (p s : ℤ) → IsAround Minute p s (int_div_euclid (s -ℤ p) (pos 6_000_000))
+pub around-minute : (p s : ℤ) → IsLineAround Minute p s (int_div_euclid (s -ℤ p) (pos 6_000_000))
 unfolding line_at
 around-minute p s = record { after = omega (arith, signed_arith); before = omega (arith, signed_arith) }
 
-pub around-hour : (p s : ℤ) → IsAround Hour p s (int_div_euclid (s -ℤ p) (pos 360_000_000))
+pub around-hour : (p s : ℤ) → IsLineAround Hour p s (int_div_euclid (s -ℤ p) (pos 360_000_000))
 unfolding line_at
 around-hour p s = record { after = omega (arith, signed_arith); before = omega (arith, signed_arith) }
 
-pub around-day : (p s : ℤ) → IsAround Day p s (int_div_euclid (s -ℤ p) (pos 8_640_000_000))
+pub around-day : (p s : ℤ) → IsLineAround Day p s (int_div_euclid (s -ℤ p) (pos 8_640_000_000))
 unfolding line_at
 around-day p s = record { after = omega (arith, signed_arith); before = omega (arith, signed_arith) }
 
-pub around-week : (p s : ℤ) → IsAround Week p s (int_div_euclid (s -ℤ p) (pos 60_480_000_000))
+pub around-week : (p s : ℤ) → IsLineAround Week p s (int_div_euclid (s -ℤ p) (pos 60_480_000_000))
 unfolding line_at
 around-week p s = record { after = omega (arith, signed_arith); before = omega (arith, signed_arith) }
 
@@ -298,3 +308,14 @@ date-moved u first k f stamp early monthly e =
 -- the day of the month is kept
 pub day-kept : (u : unit.Unit) (first k f : ℤ) → IsStamp first → IsEarly u first → IsTrue (is_monthly u) → start_in u first k ≡ Some f → day_of_month f ≡ day_of_month first
 day-kept u first k f stamp early monthly e = (date-moved u first k f stamp early monthly e).0
+
+-- interval 0 starts at the first stamp
+pub line-zero : (u : unit.Unit) (first : ℤ) → IsStamp first → IsEarly u first → line_at u first (pos 0) ≡ first
+unfolding line_at
+line-zero Second first stamp early = omega (arith, signed_arith)
+line-zero Minute first stamp early = omega (arith, signed_arith)
+line-zero Hour first stamp early = omega (arith, signed_arith)
+line-zero Day first stamp early = omega (arith, signed_arith)
+line-zero Week first stamp early = omega (arith, signed_arith)
+line-zero Month first stamp early = months-zero first (pos 0 *ℤ pos 1) stamp (omega (arith, signed_arith))
+line-zero Year first stamp early = months-zero first (pos 0 *ℤ pos 12) stamp (omega (arith, signed_arith))

@@ -1,7 +1,7 @@
 -- The intervals of a calendar: where they start, which one holds a stamp, and which are on.
-use Rattle.std.specs.Prelude.{◌≡◌, ◌*◌, ◌≤◌, Bool, true, false, ◌&&◌, not, if◌then◌else◌, int_lt, ℤ, pos, ◌+ℤ◌, ◌*ℤ◌, ◌≤ℤ◌, ◌<ℤ◌, Option, Some, None, IsTrue}
+use Rattle.std.specs.Prelude.{◌≡◌, ◌*◌, ◌≤◌, Bool, true, false, ◌&&◌, not, if◌then◌else◌, int_lt, ℤ, pos, ◌+ℤ◌, ◌*ℤ◌, ◌≤ℤ◌, ◌<ℤ◌, Option, Some, None, IsTrue, IsSome}
 use Rattle.ts_base.specs.declared.unit.Unit as unit
-use Rattle.ts_base.specs.Moment.{stamp_if_any}
+use Rattle.ts_base.specs.Moment.{IsStamp, stamp_if_any}
 use Rattle.ts_base.specs.Months.{months_after, day_of_month}
 use Rattle.ts_pattern.specs.Runs.{flag}
 use Rattle.ts_pattern.specs.Units.{is_monthly, size}
@@ -20,6 +20,19 @@ start_in u first k =
 -- the start of interval k of a calendar, if the interval exists
 abbrev pub start_at : CalendarPlan → ℤ → Option ℤ
 start_at c k = start_in c.pattern.unit c.patt_start k
+
+-- the pattern starts with a stamp, on a day that each month has; each calendar does so
+pub record IsLaid (c : CalendarPlan) : Type 0 where
+  pub stamp : IsStamp c.patt_start
+  pub early : IsEarly c.pattern.unit c.patt_start
+
+-- of the intervals that exist, those up to k start at a stamp or before it, and the others after it; interval k exists
+-- where an earlier one does, and the next one where a later one does
+pub record IsAround (c : CalendarPlan) (s k : ℤ) : Type 0 where
+  pub early : (j from : ℤ) → j ≤ℤ k → start_at c j ≡ Some from → from ≤ℤ s
+  pub late : (j from : ℤ) → k <ℤ j → start_at c j ≡ Some from → s <ℤ from
+  pub here : (j : ℤ) → j ≤ℤ k → IsSome (start_at c j) → IsSome (start_at c k)
+  pub next : (j : ℤ) → k <ℤ j → IsSome (start_at c j) → IsSome (start_at c (k +ℤ pos 1))
 
 -- the end of an interval comes after the stamp, or is beyond all stamps
 abbrev pub IsBefore : ℤ → Option ℤ → Type 0

@@ -23,7 +23,7 @@ line_at u first k =
     else first +ℤ k *ℤ pos (size u * 100_000)
 
 -- interval k begins at or before the stamp, and the next one after it
-pub record IsAround (u : unit.Unit) (first s k : ℤ) : Type 0 where
+pub record IsLineAround (u : unit.Unit) (first s k : ℤ) : Type 0 where
   pub after : line_at u first k ≤ℤ s
   pub before : s <ℤ line_at u first (k +ℤ pos 1)
 

@@ -1,12 +1,14 @@
 //! Calendars: intervals of one unit on the line of stamps, of which a pattern says which ones are on. Where an interval
-//! starts, which one holds a stamp and which are on is `specs/Intervals`; which calendars are valid, and AND and OR of
-//! two of them, is `specs/Calendar`; their texts are `specs/Text`. All of it is closed arithmetic, by jiff's calendar
-//! for months. Stands on ts_pattern and ts_base; knows nothing of series. Read `specs/Intervals.antt`, then
-//! `calendar.rt`.
+//! starts, which one holds a stamp and which are on is `specs/Intervals`; which calendars are valid, the grid that two of
+//! them have in common, and their AND and OR, is `specs/Calendar`; their texts are `specs/Text`. All of it is closed
+//! arithmetic, by jiff's calendar for months. That starts rise, and where steps lead, are laws (`laws.rt`). Stands on
+//! ts_pattern and ts_base; knows nothing of series. Read `specs/Intervals.antt`, then `calendar.rt`.
 #![tactic(auto)]
 
 mod calendar;
 mod civil;
+mod grid;
+mod laws;
 mod read;
 mod steps;
 #[cfg(test)]
@@ -16,4 +18,6 @@ mod text;
 mod text_tests;
 
 pub use calendar::Calendar;
+pub use grid::CommonGrid;
+pub use laws::{starts_rise, steps_lead_there};
 pub use text::{CalendarText, PatternPart, calendar_texts_are_tokens, printed_calendars_are_read};

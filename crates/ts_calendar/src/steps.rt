@@ -1,13 +1,13 @@
 // Intervals of one unit, counted from a stamp on.
-ghost use Rattle.std.specs.Prelude.{◌≡◌, ◌+◌, ◌*◌, ◌≤◌, ◌<◌, pos, negsuc, ℤ, ◌+ℤ◌, ◌*ℤ◌, ◌≤ℤ◌, neg_ℤ, IsTrue, IfSome, IfNone, Some};
+ghost use Rattle.std.specs.Prelude.{◌≡◌, ◌+◌, ◌*◌, ◌≤◌, ◌<◌, pos, negsuc, ℤ, ◌+ℤ◌, ◌*ℤ◌, ◌≤ℤ◌, IsTrue, IfSome, IfNone, Some};
 ghost use Rattle.std.specs.Int.{int_div_euclid};
-ghost use Rattle.jiff_core.specs.Calendar.{IsBetween};
 ghost use Rattle.ts_pattern.specs.Units.{size, is_monthly};
 ghost use Rattle.ts_calendar.specs.Calendar.{steps_between, first_step, starts_at};
+ghost use Rattle.ts_calendar.specs.First.{IsNear};
 ghost use Rattle.ts_calendar.specs.Intervals.{IsEarly, start_in};
 ghost use Rattle.ts_base.specs.Moment.{stamp_if_any, IsStamp};
 ghost use Rattle.ts_base.specs.Months.{months_after, day_of_month};
-ghost use Rattle.ts_calendar.specs.Line.{IsAround, comes_after};
+ghost use Rattle.ts_calendar.specs.Line.{IsLineAround, comes_after};
 ghost use Rattle.ts_base.specs.declared.unit.Unit.TheVariants.{Month, Year};
 
 use crate::civil::{month_number, units_of};
@@ -54,9 +54,9 @@ fn year_start(first: Stamp, years: i64) -> Option<Stamp>
 /// The interval that begins at or before a stamp and ends after it, be it beyond the years.
 pub(crate) fn interval_around(unit: Unit, first: Stamp, stamp: Stamp) -> i64
     requires { IsEarly unit first }
-    ensures around { IsAround unit first stamp result }
+    ensures around { IsLineAround unit first stamp result }
     ensures stamps { IsStamp first × IsStamp stamp }
-    ensures near { IsBetween (neg_ℤ (pos 400_000_000_000)) (pos 400_000_000_000) result }
+    ensures near { IsNear result × IsNear (result +ℤ pos 1) }
 {
     let units = units_of(stamp) - units_of(first);
     match unit {
@@ -72,8 +72,8 @@ pub(crate) fn interval_around(unit: Unit, first: Stamp, stamp: Stamp) -> i64
 
 fn month_around(first: Stamp, stamp: Stamp) -> i64
     requires { day_of_month first ≤ 28 }
-    ensures around { IsAround Month first stamp result }
-    ensures near { IsBetween (neg_ℤ (pos 400_000_000_000)) (pos 400_000_000_000) result }
+    ensures around { IsLineAround Month first stamp result }
+    ensures near { IsNear result × IsNear (result +ℤ pos 1) }
 {
     let k = month_number(stamp) - month_number(first);
     if is_after(start_in(Unit::Month, first, k), stamp) {
@@ -84,8 +84,8 @@ fn month_around(first: Stamp, stamp: Stamp) -> i64
 
 fn year_around(first: Stamp, stamp: Stamp) -> i64
     requires { day_of_month first ≤ 28 }
-    ensures around { IsAround Year first stamp result }
-    ensures near { IsBetween (neg_ℤ (pos 400_000_000_000)) (pos 400_000_000_000) result }
+    ensures around { IsLineAround Year first stamp result }
+    ensures near { IsNear result × IsNear (result +ℤ pos 1) }
 {
     let k = (month_number(stamp) - month_number(first)).div_euclid(12);
     if is_after(start_in(Unit::Year, first, k), stamp) {
@@ -109,7 +109,7 @@ pub(crate) fn steps_between(unit: Unit, from: Stamp, to: Stamp) -> Option<i64>
     requires { IsEarly unit from }
     ensures value { result ≡ steps_between unit from to }
     ensures stamps { IsStamp from × IsStamp to }
-    ensures near { IfSome result (IsBetween (neg_ℤ (pos 400_000_000_000)) (pos 400_000_000_000)) }
+    ensures near { IfSome result IsNear }
 {
     let k = interval_around(unit, from, to);
     if starts_at(start_in(unit, from, k), to) {
@@ -123,7 +123,7 @@ pub(crate) fn steps_between(unit: Unit, from: Stamp, to: Stamp) -> Option<i64>
 pub(crate) fn first_step(unit: Unit, from: Stamp, start: Stamp) -> Option<i64>
     requires { IsEarly unit from }
     ensures value { result ≡ first_step unit from start }
-    ensures near { IfSome result (IsBetween (neg_ℤ (pos 400_000_000_001)) (pos 400_000_000_001)) }
+    ensures near { IfSome result IsNear }
 {
     let k = interval_around(unit, from, start);
     if starts_at(start_in(unit, from, k), start) {

@@ -1,41 +1,10 @@
 // Texts of calendars. The places are counted by hand: `pattname` or `pattern` stands at byte 64 of these texts.
-use crate::{Calendar, CalendarText, PatternPart};
+use crate::{Calendar, CalendarText, CommonGrid, PatternPart};
 use std::alloc::Global;
 use std::test::Fail;
-use ts_base::{Bytes, Refusal, Stamp, Trouble};
-use ts_pattern::Pattern;
+use ts_base::{Bytes, Refusal, Trouble};
 
 const DATES: &[u8] = b"startdate(2011-01-02 00:00:00), pattstart(2011-01-02 00:00:00), ";
-
-// The same two dates, and a part.
-fn with_part(alloc: Global, part: &[u8]) -> Result<Bytes, Fail> {
-    let mut text = Bytes::from_slice(alloc, DATES)?;
-    text.extend_from_slice(part)?;
-    Ok(text)
-}
-
-fn printed(alloc: Global, text: &CalendarText) -> Result<Bytes, Fail> {
-    let mut out = Bytes::new(alloc);
-    text.print(alloc, &mut out)?;
-    Ok(out)
-}
-
-fn refusal(outcome: Result<CalendarText, Trouble>) -> Option<Refusal> {
-    match outcome {
-        Err(Trouble::Refused(why)) => Some(why),
-        _ => None,
-    }
-}
-
-// Why the same two dates and this part are refused, if they are.
-fn refusal_of(alloc: Global, part: &[u8]) -> Result<Option<Refusal>, Fail> {
-    let text = with_part(alloc, part)?;
-    let text = text.as_slice();
-    if text.len() > 1000 {
-        return Err(Fail::from("a long text"));
-    }
-    Ok(refusal(CalendarText::read(alloc, text)))
-}
 
 #[test]
 fn a_text_is_printed_in_one_form(rt: HostRuntime) -> Result<(), Fail> {
@@ -58,15 +27,34 @@ fn a_text_is_printed_in_one_form(rt: HostRuntime) -> Result<(), Fail> {
         ),
     ];
     for (text, form) in rows {
-        let read = CalendarText::read(rt.alloc(), text)?;
-        assert_eq!(rt; printed(rt.alloc(), &read)?.as_slice(), form);
-        assert_eq!(rt; printed(rt.alloc(), &read.copy()?)?.as_slice(), form);
+        let read = CalendarText::read(rt.alloc(), text)?.copy()?;
+        let mut out = Bytes::new(rt.alloc());
+        read.print(rt.alloc(), &mut out)?;
+        assert_eq!(rt; out.as_slice(), form);
     }
     Ok(())
 }
 
+// Why a text is refused, if it is.
+fn refusal(alloc: Global, text: &[u8]) -> Result<Option<Refusal>, Fail> {
+    if text.len() > 1000 {
+        return Err(Fail::from("a long text"));
+    }
+    match CalendarText::read(alloc, text) {
+        Err(Trouble::Refused(why)) => Ok(Some(why)),
+        _ => Ok(None),
+    }
+}
+
+// The same of a text of the same two dates and this part.
+fn refusal_of(alloc: Global, part: &[u8]) -> Result<Option<Refusal>, Fail> {
+    let mut text = Bytes::from_slice(alloc, DATES)?;
+    text.extend_from_slice(part)?;
+    refusal(alloc, text.as_slice())
+}
+
 #[test]
-fn dates_that_are_none_are_refused_at_their_place(rt: HostRuntime) -> Result<(), Fail> {
+fn a_date_that_is_none_is_refused_at_its_place(rt: HostRuntime) -> Result<(), Fail> {
     let rows: [(&[u8], u32); 13] = [
         (b"", 0),
         (b" \t", 2),
@@ -86,12 +74,8 @@ fn dates_that_are_none_are_refused_at_their_place(rt: HostRuntime) -> Result<(),
         ),
     ];
     for (text, place) in rows {
-        let bad = Some(Refusal::BadCalendar { place });
-        assert_eq!(rt;
-            refusal(CalendarText::read(rt.alloc(), text)),
-            bad,
-            "{text:?}"
-        );
+        let found = refusal(rt.alloc(), text)?;
+        assert_eq!(rt; found, Some(Refusal::BadCalendar { place }), "{text:?}");
     }
     Ok(())
 }
@@ -115,76 +99,20 @@ fn a_part_that_is_none_is_refused_at_its_place(rt: HostRuntime) -> Result<(), Fa
         (b"pattern({527041 on},second) x", 92),
     ];
     for (part, place) in rows {
-        let bad = Some(Refusal::BadCalendar { place });
-        assert_eq!(rt; refusal_of(rt.alloc(), part)?, bad, "{part:?}");
+        let found = refusal_of(rt.alloc(), part)?;
+        assert_eq!(rt; found, Some(Refusal::BadCalendar { place }), "{part:?}");
     }
-    Ok(())
-}
-
-#[test]
-fn a_name_of_32_bytes_is_read(rt: HostRuntime) -> Result<(), Fail> {
-    let why = refusal_of(rt.alloc(), b"pattname(abcdefghijklmnopqrstuvwxyz_12345)")?;
-    assert_eq!(rt; why, None);
-    Ok(())
-}
-
-#[test]
-fn a_pattern_over_a_limit_is_refused_after_the_grammar(rt: HostRuntime) -> Result<(), Fail> {
     let long = Some(Refusal::PatternTooLong {
         length: 527_041,
         runs: 0,
     });
-    let why = refusal_of(rt.alloc(), b"pattern({527040 on,1 off},second)")?;
-    assert_eq!(rt; why, long);
-    Ok(())
-}
-
-// A calendar that starts with its pattern.
-fn calendar(alloc: Global, start: &[u8], pattern: &[u8]) -> Result<Calendar, Fail> {
-    let start = Stamp::read(start).ok_or("no stamp")?;
-    if pattern.len() > 1000 {
-        return Err(Fail::from("a long text"));
+    let rows: [(&[u8], Option<Refusal>); 2] = [
+        (b"pattname(abcdefghijklmnopqrstuvwxyz_12345)", None),
+        (b"pattern({527040 on,1 off},second)", long),
+    ];
+    for (part, why) in rows {
+        assert_eq!(rt; refusal_of(rt.alloc(), part)?, why, "{part:?}");
     }
-    let pattern = Pattern::read(alloc, pattern)?;
-    match Calendar::make(start, start, pattern) {
-        Ok(calendar) => Ok(calendar),
-        Err(_) => Err(Fail::from("no calendar")),
-    }
-}
-
-// The text of a calendar with a pattern of its own.
-fn text_of(alloc: Global, calendar: &Calendar) -> Result<Bytes, Fail> {
-    let text = CalendarText {
-        start: calendar.start(),
-        patt_start: calendar.patt_start(),
-        part: PatternPart::Own(calendar.pattern().copy()?),
-    };
-    printed(alloc, &text)
-}
-
-fn week(alloc: Global) -> Result<Calendar, Fail> {
-    calendar(alloc, b"2011-01-02 00:00:00", b"{1 off,5 on,1 off},day")
-}
-
-fn hours(alloc: Global) -> Result<Calendar, Fail> {
-    calendar(alloc, b"2011-01-05 06:00:00", b"{1 on},hour")
-}
-
-#[test]
-fn the_and_of_two_calendars_is_printed(rt: HostRuntime) -> Result<(), Fail> {
-    let both = week(rt.alloc())?.and_op(&hours(rt.alloc())?)?;
-    let form: &[u8] =
-        b"startdate(2011-01-05 06:00:00.00000), pattstart(2011-01-05 06:00:00.00000), pattern({66 on,48 off,54 on},hour)";
-    assert_eq!(rt; text_of(rt.alloc(), &both)?.as_slice(), form);
-    Ok(())
-}
-
-#[test]
-fn the_or_of_two_calendars_is_printed(rt: HostRuntime) -> Result<(), Fail> {
-    let either = week(rt.alloc())?.or_op(&hours(rt.alloc())?)?;
-    let form: &[u8] =
-        b"startdate(2011-01-05 06:00:00.00000), pattstart(2011-01-05 06:00:00.00000), pattern({168 on},hour)";
-    assert_eq!(rt; text_of(rt.alloc(), &either)?.as_slice(), form);
     Ok(())
 }
 
@@ -192,6 +120,7 @@ fn the_or_of_two_calendars_is_printed(rt: HostRuntime) -> Result<(), Fail> {
 fn the_types_may_go_to_other_threads() {
     goes_to_threads::<Calendar>();
     goes_to_threads::<CalendarText>();
+    goes_to_threads::<CommonGrid>();
     goes_to_threads::<PatternPart>();
 }
 

@@ -1,13 +1,13 @@
 // A page judged by its bytes: how many elements it has, and from when to when.
 ghost use Rattle.std.specs.Prelude.{◌≡◌, ◌↔◌, ◌*◌, ◌≤◌, IsTrue, IfSome, IfNone, Some, List, ℕ, length};
-ghost use Rattle.ts_page.specs.Head.{are_zero, head_of};
+ghost use Rattle.ts_page.specs.Head.{head_of};
 ghost use Rattle.ts_cells.specs.Cell.{Element, cell_size, page_room};
 ghost use Rattle.ts_cells.specs.IrregularPage.{IsIrregularPage, AreInOrder, HasExtent, HasEnds, cells_bytes, behind_head, irregular_count};
 
 use crate::cell::{cell_size, page_room, stamp_of_cell};
 use ts_base::Stamp;
 use ts_page::{Head, Page};
-use ts_row::RowType;
+use ts_row::{RowType, is_zero};
 
 /// The first byte behind the head of a page.
 const HEAD: usize = 32;
@@ -75,7 +75,7 @@ fn extent_in(kind: &RowType, count: u16, behind: &[u8]) -> Option<Extent>
         → behind.now ≡ behind_head kind.now.columns es → ⊥) }
 {
     let (cells, rest) = behind.split_at(cell_size(kind) * count as usize);
-    if !are_zero(rest) {
+    if !is_zero(rest) {
         return None;
     }
     let Some((first, last)) = ends_of(kind, cells, count as usize) else {
@@ -111,11 +111,4 @@ fn ends_of(kind: &RowType, cells: &[u8], count: usize) -> Option<(Stamp, Stamp)>
         last = stamp;
     }
     Some((first, last))
-}
-
-// Zeros and nothing else.
-fn are_zero(bytes: &[u8]) -> bool
-    ensures { result ≡ are_zero bytes.now }
-{
-    bytes.iter().all(|byte| *byte == 0)
 }

@@ -6,8 +6,6 @@
 
 mod cell;
 mod extent;
-#[cfg(test)]
-mod tests;
 
 pub use cell::{cell_size, page_room, stamp_of_cell, write_cell};
 pub use extent::{Extent, extent_of};

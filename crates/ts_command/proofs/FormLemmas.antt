@@ -244,9 +244,14 @@ arguments_yield calls.InsElem =
     chain IsKey HasForm a_key _ key_yields
     (λ key k. chain Any HasForm (behind 44 a_stamp) _ (behind_comma Any a_stamp stamp_yields)
     (λ stamp s. chain (AllByRecursion Any) HasForm (repeated a_literal) _ (repeated_yields Any a_literal literal_yields) (λ values v. given HasForm _ k)))
+arguments_yield calls.UpdElem =
+    chain IsKey HasForm a_key _ key_yields
+    (λ key k. chain Any HasForm (behind 44 a_stamp) _ (behind_comma Any a_stamp stamp_yields)
+    (λ stamp s. chain (AllByRecursion Any) HasForm (repeated a_literal) _ (repeated_yields Any a_literal literal_yields) (λ values v. given HasForm _ k)))
 arguments_yield calls.GetElem =
     chain IsKey HasForm a_key _ key_yields
     (λ key k. chain Any HasForm (behind 44 a_stamp) _ (behind_comma Any a_stamp stamp_yields) (λ stamp s. given HasForm _ k))
+arguments_yield calls.GetLastElem = chain IsKey HasForm a_key _ key_yields (λ key k. given HasForm _ k)
 arguments_yield calls.GetNelems = chain IsKey HasForm a_key _ key_yields (λ key k. given HasForm _ k)
 
 -- whole tokens, and then blanks and the `;`

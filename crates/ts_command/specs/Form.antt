@@ -20,5 +20,7 @@ HasForm (commands.TSCreateIrr key container) = IsTrue (is_key key) × IsTrue (is
 HasForm (commands.DropSeries key) = IsTrue (is_key key)
 HasForm (commands.ListSeries container) = IsTrue (is_name container)
 HasForm (commands.InsElem key stamp values) = IsTrue (is_key key)
+HasForm (commands.UpdElem key stamp values) = IsTrue (is_key key)
 HasForm (commands.GetElem key stamp) = IsTrue (is_key key)
+HasForm (commands.GetLastElem key) = IsTrue (is_key key)
 HasForm (commands.GetNelems key) = IsTrue (is_key key)

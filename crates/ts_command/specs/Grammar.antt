@@ -170,7 +170,13 @@ arguments calls.InsElem = do
   stamp ← behind 44 a_stamp
   values ← repeated a_literal
   give (commands.InsElem key stamp values)
+arguments calls.UpdElem = do
+  key ← a_key
+  stamp ← behind 44 a_stamp
+  values ← repeated a_literal
+  give (commands.UpdElem key stamp values)
 arguments calls.GetElem = two a_key a_stamp commands.GetElem
+arguments calls.GetLastElem = one a_key commands.GetLastElem
 arguments calls.GetNelems = one a_key commands.GetNelems
 
 -- the `;` that ends the statement, and nothing behind it

@@ -17,12 +17,14 @@ spelling calls.TSCreateIrr = codes "TSCreateIrr"
 spelling calls.DropSeries = codes "DropSeries"
 spelling calls.ListSeries = codes "ListSeries"
 spelling calls.InsElem = codes "InsElem"
+spelling calls.UpdElem = codes "UpdElem"
 spelling calls.GetElem = codes "GetElem"
+spelling calls.GetLastElem = codes "GetLastElem"
 spelling calls.GetNelems = codes "GetNelems"
 
 abbrev pub routines : List Routine
 routines =
-    calls.InsElem ∷ calls.GetElem ∷ calls.GetNelems ∷ calls.CreateRowType ∷ calls.DropRowType ∷ calls.TSContainerCreate ∷ calls.TSContainerDestroy ∷ calls.TSContainerUsage ∷
+    calls.InsElem ∷ calls.GetElem ∷ calls.GetNelems ∷ calls.UpdElem ∷ calls.GetLastElem ∷ calls.CreateRowType ∷ calls.DropRowType ∷ calls.TSContainerCreate ∷ calls.TSContainerDestroy ∷ calls.TSContainerUsage ∷
     calls.TSCreateIrr ∷ calls.DropSeries ∷ calls.ListSeries ∷ []
 
 -- the routine of this name, if there is one

@@ -42,9 +42,17 @@ pub enum Command {
         stamp: Stamp,
         values: Literals,
     },
+    UpdElem {
+        key: Key,
+        stamp: Stamp,
+        values: Literals,
+    },
     GetElem {
         key: Key,
         stamp: Stamp,
+    },
+    GetLastElem {
+        key: Key,
     },
     GetNelems {
         key: Key,

@@ -7,8 +7,6 @@
 
 mod column;
 mod command;
-#[cfg(test)]
-mod command_tests;
 mod laws;
 mod misfit;
 mod number;

@@ -96,6 +96,21 @@ fn read_ins_elem(alloc: Global, bytes: &[u8]) -> Result<(Command, &[u8]), Misfit
 }
 
 #[tactic(auto, unfolding(crate::specs::Grammar::arguments))]
+fn read_upd_elem(alloc: Global, bytes: &[u8]) -> Result<(Command, &[u8]), Misfit>
+    ensures ok { IfOk result (λ found. arguments Routine.UpdElem bytes.now ≡ Ok (found.0, found.1.now)) }
+    ensures cause { IfErr result (λ misfit. Refuses misfit (arguments Routine.UpdElem bytes.now)) }
+{
+    let (key, rest) = read_key(alloc, bytes)?;
+    match read_stamp(alloc, read_sign(rest, b',')?) {
+        Ok((stamp, rest)) => {
+            let (values, rest) = read_literals(alloc, rest)?;
+            Ok((Command::UpdElem { key, stamp, values }, rest))
+        }
+        Err(misfit) => Err(misfit),
+    }
+}
+
+#[tactic(auto, unfolding(crate::specs::Grammar::arguments))]
 fn read_get_elem(alloc: Global, bytes: &[u8]) -> Result<(Command, &[u8]), Misfit>
     ensures ok { IfOk result (λ found. arguments Routine.GetElem bytes.now ≡ Ok (found.0, found.1.now)) }
     ensures cause { IfErr result (λ misfit. Refuses misfit (arguments Routine.GetElem bytes.now)) }
@@ -138,7 +153,12 @@ fn read_arguments(alloc: Global, routine: Routine, bytes: &[u8]) -> Result<(Comm
             Ok((Command::ListSeries { container }, rest))
         }
         Routine::InsElem => read_ins_elem(alloc, bytes),
+        Routine::UpdElem => read_upd_elem(alloc, bytes),
         Routine::GetElem => read_get_elem(alloc, bytes),
+        Routine::GetLastElem => {
+            let (key, rest) = read_key(alloc, bytes)?;
+            Ok((Command::GetLastElem { key }, rest))
+        }
         Routine::GetNelems => {
             let (key, rest) = read_key(alloc, bytes)?;
             Ok((Command::GetNelems { key }, rest))

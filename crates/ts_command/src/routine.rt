@@ -14,14 +14,18 @@ pub(crate) enum Routine {
     DropSeries,
     ListSeries,
     InsElem,
+    UpdElem,
     GetElem,
+    GetLastElem,
     GetNelems,
 }
 
-const ROUTINES: [Routine; 11] = [
+const ROUTINES: [Routine; 13] = [
     Routine::InsElem,
     Routine::GetElem,
     Routine::GetNelems,
+    Routine::UpdElem,
+    Routine::GetLastElem,
     Routine::CreateRowType,
     Routine::DropRowType,
     Routine::TSContainerCreate,
@@ -49,7 +53,9 @@ impl Routine {
             Routine::DropSeries => b"DropSeries",
             Routine::ListSeries => b"ListSeries",
             Routine::InsElem => b"InsElem",
+            Routine::UpdElem => b"UpdElem",
             Routine::GetElem => b"GetElem",
+            Routine::GetLastElem => b"GetLastElem",
             Routine::GetNelems => b"GetNelems",
         }
     }

@@ -7,3 +7,4 @@ pub mod ContentLemmas
 pub mod ElementLemmas
 pub mod VerdictLemmas
 pub mod RoomLemmas
+pub mod KeptChargeLemmas

@@ -21,7 +21,7 @@ use Rattle.ts_container.specs.Survey.{Reads, PageGot, HoldUnless}
 -- a page that was got was read
 pub got_read : (tells : Bool) (number : ℕ) (into : List ℕ) (v w : Contents) → IsOutsideJournal number → Got tells number into (Ok tt) v w → PageGot tells number into (Ok tt) v w
 got_read tells number into v w outside got = record {
-  call = record { count = got.call.count; faults = got.call.faults; pages = got.pages; free = got.free; cause = λ failed. absurd (cc) };
+  call = record { count = got.call.count; faults = got.call.faults; pages = got.pages; free = got.free; cause = λ failed. absurd (cc); no_fault = λ fine. got.call.no_fault (λ failed. cc) };
   read = λ told. got.read told outside;
   refused = tt;
 }
@@ -34,25 +34,26 @@ reads_more tells x r u v w first second = record {
   pages = λ told n. second.pages told n ∙ first.pages told n;
   free = second.free ∙ first.free;
   cause = λ failed. omega (arith, first.faults, second.cause failed);
+  no_fault = λ fine. second.no_fault fine ∙ first.no_fault (λ failed. cc);
 }
 
 -- a call that went well, seen as another answer
 pub reads_ok : {S T : Type 0} (tells : Bool) (x : S) (y : T) (v w : Contents) → Reads tells (Ok x) v w → Reads tells (Ok y) v w
-reads_ok tells x y v w reads = record { count = reads.count; faults = reads.faults; pages = reads.pages; free = reads.free; cause = λ failed. absurd (cc) }
+reads_ok tells x y v w reads = record { count = reads.count; faults = reads.faults; pages = reads.pages; free = reads.free; cause = λ failed. absurd (cc); no_fault = λ fine. reads.no_fault (λ failed. cc) }
 
 -- and one that failed, seen as a failure of another call
 pub reads_err : {S T : Type 0} (tells : Bool) (e : SurveyFault) (v w : Contents) → Reads {T = S} tells (Err e) v w → Reads {T = T} tells (Err e) v w
-reads_err {S} {T} tells e v w reads = record { count = reads.count; faults = reads.faults; pages = reads.pages; free = reads.free; cause = λ failed. reads.cause (err_again S T e failed) } where
+reads_err {S} {T} tells e v w reads = record { count = reads.count; faults = reads.faults; pages = reads.pages; free = reads.free; cause = λ failed. reads.cause (err_again S T e failed); no_fault = λ fine. reads.no_fault (λ failed. fine (err_again T S e failed)) } where
   err_again : (S T : Type 0) (e : SurveyFault) → ◌≡◌ {A = Result T SurveyFault} (Err e) (Err Failed) → ◌≡◌ {A = Result S SurveyFault} (Err e) (Err Failed)
   err_again S T e same = let e' : e ≡ Failed = cc in ap Err e'
 
 -- nothing was read yet
 pub reads_none : (tells : Bool) (v : Contents) → Reads {T = Unit {0}} tells (Ok tt) v v
-reads_none tells v = record { count = refl; faults = omega arith; pages = λ told n. refl; free = refl; cause = λ failed. absurd (cc) }
+reads_none tells v = record { count = refl; faults = omega arith; pages = λ told n. refl; free = refl; cause = λ failed. absurd (cc); no_fault = λ fine. refl }
 
 -- a verdict without a call
 pub reads_refused : {S T : Type 0} (tells : Bool) (x : S) (number : ℕ) (v w : Contents) → Reads tells (Ok x) v w → Reads {T = T} tells (Err (NotAStore number)) v w
-reads_refused tells x number v w reads = record { count = reads.count; faults = reads.faults; pages = reads.pages; free = reads.free; cause = λ failed. absurd (cc) }
+reads_refused tells x number v w reads = record { count = reads.count; faults = reads.faults; pages = reads.pages; free = reads.free; cause = λ failed. absurd (cc); no_fault = λ fine. reads.no_fault (λ failed. cc) }
 
 -- what is known of definition pages below some number
 abbrev pub KnownBelow : Option ℕ → (ℕ → List ℕ) → ℕ → Definitions → Type 0

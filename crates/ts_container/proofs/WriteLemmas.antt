@@ -175,6 +175,7 @@ slot_written tells kind slot def result v v' w before after within kinded got lo
       faults = omega (arith, got.call.faults, put.call.faults);
       free = put.free ∙ got.free;
       cause = λ failed. omega (arith, got.call.faults, put.call.cause failed);
+      no_fault = λ fine. put.call.no_fault fine ∙ got.call.no_fault (λ failed. cc);
       written = there;
       definitions = on_ok result _ _ there (λ same told d rules holds.
           let length' : length (v.page number) ≡ 4096 = ap length (sym (read told)) ∙ long in

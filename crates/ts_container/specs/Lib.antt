@@ -2,3 +2,4 @@ pub mod Reading
 pub mod Fault
 pub mod Survey
 pub mod Elements
+pub mod KeptCharges

@@ -25,6 +25,8 @@ pub record Reads {T : Type 0} (tells : Bool) (result : Result T SurveyFault) (v 
   pub pages : IsTrue tells → EqualPages v.page w.page
   pub free : w.free ≡ v.free
   pub cause : IsErrOf result Failed → Rose v.faults w.faults
+  -- any other answer leaves the count
+  pub no_fault : ¬ IsErrOf result Failed → w.faults ≡ v.faults
 
 -- what a verdict on the pages says of them; other errors say nothing
 abbrev pub IfRefused : SurveyFault → Type 0 → Type 0
@@ -85,3 +87,5 @@ pub record SlotWritten (tells : Bool) (kind : Kind) (slot : ℕ) (def : Option D
   pub written : OnOk result (IsTrue tells → EqualPages (with_page (page_of_slot kind slot) (with_slot_bytes kind slot def (v.page (page_of_slot kind slot))) v.page) w.page)
   pub definitions : OnOk result (IsTrue tells → (d : Definitions) → IsDefinitions d → HoldsDefinitions v.page d → HoldsDefinitions w.page (with_slot kind slot def d))
   pub pages_stay : OnErr result (IsTrue tells → EqualPages v.page w.page)
+  -- any answer but the store's failure leaves the count
+  pub no_fault : ¬ IsErrOf result StoreFailed → w.faults ≡ v.faults

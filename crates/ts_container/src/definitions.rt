@@ -8,13 +8,13 @@ ghost use Rattle.ts_layout.specs.Rank.{rank_of_page};
 ghost use Rattle.ts_container.specs.Survey.{DefinitionsRead};
 
 use crate::fault::SurveyFault;
-use crate::pad::is_zero;
 use crate::read::read;
 use crate::slot::{Reading, read_slot};
 use std::alloc::{AllocError, Global};
 use ts_layout::{ELEMENTS, ROW_TYPES, slot_size, slots_in_page};
 use ts_model::{Def, Defs, Kind};
 use ts_page::{Page, Pages};
+use ts_row::is_zero;
 
 /// What is found where definitions stand.
 #[derive(Clone, Copy, Debug, PartialEq, Eq)]

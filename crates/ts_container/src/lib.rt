@@ -1,8 +1,8 @@
 //! The slots of definitions, written and read, and the survey of a volume. A survey reads each page once and keeps the
 //! definitions, the directory and the free pages, or tells the first bad page; no volume that it refuses means a catalogue
-//! (`specs/Survey`). A slot is written alone: all other bytes stay. What the pages mean is ts_layout's; stands on it, and
-//! on ts_cells, ts_space, ts_model and ts_page; knows nothing of disks, journals or commands. Read `specs/Survey.antt`,
-//! then `surveyed.rt` and `write.rt`.
+//! (`specs/Survey`). A slot is written alone: all other bytes stay. What containers are charged can be kept as sums
+//! (`specs/KeptCharges`). What the pages mean is ts_layout's; stands on it, and on ts_cells, ts_space, ts_model and
+//! ts_page; knows nothing of disks, journals or commands. Read `specs/Survey.antt`, then `surveyed.rt` and `write.rt`.
 #![tactic(auto)]
 
 mod charges;
@@ -12,6 +12,7 @@ mod definitions;
 mod elements;
 mod fault;
 mod header;
+mod kept_charges;
 mod pad;
 mod read;
 mod row_type_slot;
@@ -19,14 +20,13 @@ mod rules;
 mod series_slot;
 mod slot;
 mod surveyed;
-#[cfg(test)]
-mod tests;
 mod write;
 
 pub use charges::charge_of_container;
 pub use content::{row_type_in, row_type_of};
 pub use fault::SurveyFault;
 pub use header::write_header;
+pub use kept_charges::{Charges, a_charge_changes_with_a_series};
 pub use rules::sum_of_quotas;
 pub use surveyed::{Surveyed, survey};
 pub use write::write_slot;

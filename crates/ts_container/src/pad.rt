@@ -1,5 +1,5 @@
 // Names, keys and zeros behind them.
-ghost use Rattle.std.specs.Prelude.{◌≡◌, ◌↔◌, ◌≤◌, ℕ, List, Some, IsTrue, IfOk, length, replicate};
+ghost use Rattle.std.specs.Prelude.{◌≡◌, ◌≤◌, ℕ, List, Some, IsTrue, IfOk, length};
 ghost use Rattle.ts_base.specs.Name.{is_name};
 ghost use Rattle.ts_layout.specs.Slot.{padded, name_bytes};
 
@@ -37,11 +37,4 @@ pub(crate) fn read_name(alloc: Global, bytes: &[u8]) -> Result<Option<Name>, All
         return Ok(None);
     }
     Name::read(alloc, &bytes[1..1 + length])
-}
-
-/// Zeros and nothing else.
-pub(crate) fn is_zero(bytes: &[u8]) -> bool
-    ensures { IsTrue result ↔ (bytes.now ≡ replicate (length bytes.now) 0) }
-{
-    bytes.iter().all(|byte| *byte == 0)
 }

@@ -7,11 +7,11 @@ ghost use Rattle.ts_layout.specs.Limits.{IsDef};
 ghost use Rattle.ts_container.specs.Reading.{IsReadingOf};
 
 use crate::container_slot::{parse_container, write_container};
-use crate::pad::is_zero;
 use crate::row_type_slot::{parse_row_type, write_row_type};
 use crate::series_slot::{parse_series, write_series};
 use std::alloc::{AllocError, Global};
 use ts_model::{Def, Kind};
+use ts_row::is_zero;
 
 /// What the bytes of a slot are.
 #[derive(Debug, Drop)]

@@ -1,5 +1,5 @@
 -- What a source means, and what a pull does to that.
-use Rattle.std.specs.Prelude.{◌≡◌, ℕ, ◌+◌, ◌-◌, ◌^◌, min, ◌≤◌, Bool, IsTrue, List, [], ◌++◌, length, take, Result, IfOk, OnErr, IsErr}
+use Rattle.std.specs.Prelude.{◌≡◌, ℕ, ◌+◌, ◌-◌, ◌^◌, min, ◌≤◌, Bool, IsTrue, List, [], ◌++◌, length, take, Result, IfOk, OnErr, IsOk, IsErr}
 use Rattle.ts_disk.specs.Device.{Rose}
 
 -- All that is meant by a source. What is not told is empty.
@@ -21,3 +21,5 @@ pub record Pulled {E : Type 0} (tells : Bool) (into : List ℕ) (result : Result
   pub pulls : w.pulls ≡ min (v.pulls + 1) (2 ^ 64 - 1)
   pub pull_faults : v.pull_faults ≤ w.pull_faults
   pub cause : IsErr result → Rose v.pull_faults w.pull_faults
+  -- a pull that answers Ok leaves the count
+  pub no_fault : IsOk result → w.pull_faults ≡ v.pull_faults

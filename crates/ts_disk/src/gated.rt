@@ -43,6 +43,9 @@ pub fn put_gated<S: Site>(site: &mut S, value: u8) -> Result<(), GatedFault>
         (Good (S.device site.old).said (111 ∷ 107 ∷ []) value) }
     ensures cause_disk { IsErrOf result GatedFault.Disk → Rose (S.device site.old).faults (S.device site.new).faults }
     ensures cause_output { IsErrOf result GatedFault.Output → Rose (S.device site.old).say_faults (S.device site.new).say_faults }
+    // One that answers Ok leaves both counts.
+    ensures no_fault { OnOk result ((S.device site.new).faults ≡ (S.device site.old).faults) }
+    ensures no_say_fault { OnOk result ((S.device site.new).say_faults ≡ (S.device site.old).say_faults) }
     ensures size { (S.device site.new).size ≡ (S.device site.old).size }
 {
     site.write_at(1, &[value])?;

@@ -9,8 +9,6 @@ mod calls;
 mod gated;
 mod memory_site;
 mod memory_source;
-#[cfg(test)]
-mod tests;
 mod volume;
 
 pub use calls::Pick;

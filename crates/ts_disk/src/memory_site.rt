@@ -3,7 +3,6 @@ ghost use Rattle.std.specs.Prelude.{◌≡◌, ◌+◌, ◌≤◌, ◌<◌, ◌�
 ghost use Rattle.ts_disk.specs.Replay.{events_of, used_by, run, fresh};
 ghost use Rattle.ts_disk.specs.Replay.{State, after_call, used, put};
 ghost use Rattle.ts_disk.specs.Picks.{pick_write, pick_grow, pick_within, pick_after};
-ghost use Rattle.ts_disk.specs.Failing.{is_failing};
 ghost use Rattle.ts_disk.specs.Device.{Rose, overwritten};
 
 use crate::calls::{Call, Pick};
@@ -34,7 +33,7 @@ pub struct MemorySite {
 }
 
 impl MemorySite {
-    ghost use Rattle.ts_disk.specs.Memory.{site_device, site_calls, site_log, failing_calls, fuse_of, spare_calls, spare_bytes, SameRoom, image_at, state_before};
+    ghost use Rattle.ts_disk.specs.Memory.{site_device, site_calls, site_log, failing_calls, fuse_of, next_fails, spare_calls, spare_bytes, SameRoom, image_at, state_before};
     ghost use Rattle.ts_disk.specs.Replay.{IsImage};
     ghost use Rattle.ts_disk.specs.Device.{Only};
 
@@ -119,6 +118,14 @@ impl MemorySite {
         let bytes = part(&self.tape, place, used(call));
         pick_within(&mut image, pick, call, bytes)?;
         Ok(image)
+    }
+
+    // Whether the next call is to fail.
+    fn is_next_to_fail(&self) -> bool
+        ensures { result ≡ next_fails self.now }
+    {
+        let number = self.calls.len() as u64;
+        self.failing.contains(&number) || self.fuse <= number
     }
 
     pub fn calls(&self) -> u64
@@ -212,12 +219,6 @@ fn append(bytes: &mut Vec<u8>, piece: &[u8])
 {
     let done = bytes.extend_from_slice(piece).is_ok();
     prove!(done);
-}
-
-pub(crate) fn is_to_fail(failing: &[u64], fuse: u64, number: u64) -> bool
-    ensures { result ≡ is_failing failing.now fuse number }
-{
-    failing.contains(&number) || fuse <= number
 }
 
 fn part(tape: &[u8], place: usize, count: usize) -> &[u8]
@@ -333,9 +334,9 @@ fn pick_after(
 }
 
 impl Volume for MemorySite {
-    ghost use Rattle.ts_disk.specs.Memory.{site_device, spare_calls, spare_bytes, next_fails};
+    ghost use Rattle.ts_disk.specs.Memory.{site_device, spare_calls, spare_bytes, next_fails, Keeps, FailsSo};
     ghost use Rattle.ts_disk.specs.Device.{Resized, ReadAt, WrittenAt, Synced};
-    ghost use Rattle.std.specs.Prelude.{is_err};
+    ghost use Rattle.ts_disk.specs.declared.calls.Call.TheVariants.{Resize, Read, Write, Sync};
     ghost use Rattle.ts_disk.specs.ReplayLaws.{lawful_replay};
 
     ghost tells = { true };
@@ -356,35 +357,28 @@ impl Volume for MemorySite {
         requires no_shorter { (site_device self.old).size ≤ bytes }
         requires limit { bytes ≤ 272244736 }
         ensures resized { Resized true bytes result (site_device self.old) (site_device self.new) }
-        ensures exact { 0 < spare_calls self.old → (bytes - (site_device self.old).size) ≤ spare_bytes self.old → is_err result ≡ next_fails self.old }
-        ensures calls { spare_calls self.old ≤ spare_calls self.new + 1 }
-        ensures bytes { spare_bytes self.old ≤ spare_bytes self.new + (bytes - (site_device self.old).size) }
+        ensures kept { Keeps (Resize bytes) [] (bytes - (site_device self.old).size) self.old self.new }
+        ensures fails { FailsSo (bytes - (site_device self.old).size) result self.old self.new }
     {
-        if is_to_fail(&self.failing, self.fuse, self.calls.len() as u64) {
-            note(
-                &mut self.calls,
-                &mut self.tape,
-                &mut self.faults,
-                Call::Resize(bytes, false),
-                &[],
-                Failed,
-            )?;
-            raise(&mut self.faults);
-            return Err(Failed);
-        }
+        let fails = self.is_next_to_fail();
         let length = bytes as usize;
         if self.bytes.reserve(length - self.bytes.len()).is_err() {
             raise(&mut self.faults);
             return Err(Failed);
         }
+        let call = Call::Resize(bytes, !fails);
         note(
             &mut self.calls,
             &mut self.tape,
             &mut self.faults,
-            Call::Resize(bytes, true),
+            call,
             &[],
             Failed,
         )?;
+        if fails {
+            raise(&mut self.faults);
+            return Err(Failed);
+        }
         lengthen(&mut self.bytes, length);
         Ok(())
     }
@@ -392,16 +386,16 @@ impl Volume for MemorySite {
     fn read_at(&mut self, at: u64, into: &mut [u8]) -> Result<(), Failed>
         requires { at + length into.old ≤ (site_device self.old).size }
         ensures read { ReadAt true at into.new result (site_device self.old) (site_device self.new) }
-        ensures exact { 0 < spare_calls self.old → 0 ≤ spare_bytes self.old → is_err result ≡ next_fails self.old }
-        ensures calls { spare_calls self.old ≤ spare_calls self.new + 1 }
-        ensures bytes { spare_bytes self.old ≤ spare_bytes self.new + 0 }
+        ensures kept { Keeps Read [] 0 self.old self.new }
+        ensures fails { FailsSo 0 result self.old self.new }
     {
-        let fails = is_to_fail(&self.failing, self.fuse, self.calls.len() as u64);
+        let fails = self.is_next_to_fail();
+        let call = Call::Read(!fails);
         note(
             &mut self.calls,
             &mut self.tape,
             &mut self.faults,
-            Call::Read,
+            call,
             &[],
             Failed,
         )?;
@@ -416,101 +410,78 @@ impl Volume for MemorySite {
     fn write_at(&mut self, at: u64, from: &[u8]) -> Result<(), Failed>
         requires { at + length from.now ≤ (site_device self.old).size }
         ensures written { WrittenAt true at from.now result (site_device self.old) (site_device self.new) }
-        ensures exact { 0 < spare_calls self.old → length from.now ≤ spare_bytes self.old → is_err result ≡ next_fails self.old }
-        ensures calls { spare_calls self.old ≤ spare_calls self.new + 1 }
-        ensures bytes { spare_bytes self.old ≤ spare_bytes self.new + length from.now }
+        ensures kept { Keeps (Write at (length from.now)) from.now (length from.now) self.old self.new }
+        ensures fails { FailsSo (length from.now) result self.old self.new }
     {
-        let count = from.len() as u64;
-        if is_to_fail(&self.failing, self.fuse, self.calls.len() as u64) {
-            note(
-                &mut self.calls,
-                &mut self.tape,
-                &mut self.faults,
-                Call::Write(at, count, false),
-                from,
-                Failed,
-            )?;
-            raise(&mut self.faults);
-            return Err(Failed);
-        }
+        let fails = self.is_next_to_fail();
+        let call = Call::Write(at, from.len() as u64, !fails);
         note(
             &mut self.calls,
             &mut self.tape,
             &mut self.faults,
-            Call::Write(at, count, true),
+            call,
             from,
             Failed,
         )?;
+        if fails {
+            raise(&mut self.faults);
+            return Err(Failed);
+        }
         overwrite(&mut self.bytes, at as usize, from);
         Ok(())
     }
 
     fn sync(&mut self) -> Result<(), Failed>
         ensures synced { Synced true result (site_device self.old) (site_device self.new) }
-        ensures exact { 0 < spare_calls self.old → 0 ≤ spare_bytes self.old → is_err result ≡ next_fails self.old }
-        ensures calls { spare_calls self.old ≤ spare_calls self.new + 1 }
-        ensures bytes { spare_bytes self.old ≤ spare_bytes self.new + 0 }
+        ensures kept { Keeps Sync [] 0 self.old self.new }
+        ensures fails { FailsSo 0 result self.old self.new }
     {
-        if is_to_fail(&self.failing, self.fuse, self.calls.len() as u64) {
-            note(
-                &mut self.calls,
-                &mut self.tape,
-                &mut self.faults,
-                Call::Sync(false),
-                &[],
-                Failed,
-            )?;
-            raise(&mut self.faults);
-            return Err(Failed);
-        }
+        let fails = self.is_next_to_fail();
+        let call = Call::Sync(!fails);
         note(
             &mut self.calls,
             &mut self.tape,
             &mut self.faults,
-            Call::Sync(true),
+            call,
             &[],
             Failed,
         )?;
+        if fails {
+            raise(&mut self.faults);
+            return Err(Failed);
+        }
         Ok(())
     }
 }
 
 impl Site for MemorySite {
-    ghost use Rattle.ts_disk.specs.Memory.{site_device, spare_calls, spare_bytes, next_fails};
+    ghost use Rattle.ts_disk.specs.Memory.{site_device, Keeps, FailsSo};
     ghost use Rattle.ts_disk.specs.Device.{Says};
-    ghost use Rattle.std.specs.Prelude.{is_err};
+    ghost use Rattle.ts_disk.specs.declared.calls.Call.TheVariants.{Say};
 
     fn say(&mut self, piece: &[u8]) -> Result<(), SayFailed>
         ensures says { Says true piece.now result (site_device self.old) (site_device self.new) }
-        ensures exact { 0 < spare_calls self.old → length piece.now ≤ spare_bytes self.old → is_err result ≡ next_fails self.old }
-        ensures calls { spare_calls self.old ≤ spare_calls self.new + 1 }
-        ensures bytes { spare_bytes self.old ≤ spare_bytes self.new + length piece.now }
+        ensures kept { Keeps (Say (length piece.now)) piece.now (length piece.now) self.old self.new }
+        ensures fails { FailsSo (length piece.now) result self.old self.new }
     {
-        let count = piece.len() as u64;
-        if is_to_fail(&self.failing, self.fuse, self.calls.len() as u64) {
-            note(
-                &mut self.calls,
-                &mut self.tape,
-                &mut self.say_faults,
-                Call::Say(count, false),
-                piece,
-                SayFailed,
-            )?;
-            raise(&mut self.say_faults);
-            return Err(SayFailed);
-        }
+        let fails = self.is_next_to_fail();
         if self.said.reserve(piece.len()).is_err() {
             raise(&mut self.say_faults);
             return Err(SayFailed);
         }
+        let call = Call::Say(piece.len() as u64, !fails);
         note(
             &mut self.calls,
             &mut self.tape,
             &mut self.say_faults,
-            Call::Say(count, true),
+            call,
             piece,
             SayFailed,
         )?;
+        if fails {
+            raise(&mut self.say_faults);
+            return Err(SayFailed);
+        }
         append(&mut self.said, piece);
         Ok(())
     }

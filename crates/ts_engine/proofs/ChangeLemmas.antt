@@ -42,8 +42,8 @@ module _ (tells : Bool) (e f : Kept) (v w : Device) (before : IsOver tells e.sto
       )) (moments told)
 
   pub committed : (tables : f.tables ≡ e.tables) → (space : f.space ≡ e.space) → (spent : f.spent ≡ e.spent) → Closes e.store f.store → IsOver tells f.store w
-      → (IsTrue tells → ReadsButFreed v.size e.store.overlay (read_pages e.store v.held) w.held) → Finished tells (Ok tt) (Ok tt) e f v w
-  committed tables space spent closes over reads = record {
+      → (IsTrue tells → ReadsButFreed v.size e.store.overlay (read_pages e.store v.held) w.held) → w.faults ≡ v.faults → Finished tells (Ok tt) (Ok tt) e f v w
+  committed tables space spent closes over reads no_fault = record {
     tables = tables;
     space = space;
     done = refl;
@@ -58,6 +58,7 @@ module _ (tells : Bool) (e f : Kept) (v w : Device) (before : IsOver tells e.sto
     tried = inr refl;
     moments = finish_moments;
     others = keeps;
+    no_fault = no_fault;
   }
 
   pub uncommitted : (tables : f.tables ≡ e.tables) → (space : f.space ≡ e.space) → (spent : f.spent ≡ Some w.faults) → Rose v.faults w.faults → Finished tells (Ok tt) (Err Disk) e f v w
@@ -76,6 +77,7 @@ module _ (tells : Bool) (e f : Kept) (v w : Device) (before : IsOver tells e.sto
     tried = inr refl;
     moments = finish_moments;
     others = keeps;
+    no_fault = tt;
   }
 
 -- work that was done
@@ -101,6 +103,7 @@ module _ (tells : Bool) (worked : Result Unit StoreFault) (done : IsOk worked) (
     tried = x.tried;
     moments = x.moments;
     others = x.others;
+    no_fault = x.no_fault;
   }
   same_finish (Err Disk) x = record {
     tables = x.tables;
@@ -117,6 +120,7 @@ module _ (tells : Bool) (worked : Result Unit StoreFault) (done : IsOk worked) (
     tried = x.tried;
     moments = x.moments;
     others = x.others;
+    no_fault = tt;
   }
   same_finish (Err (Memory error)) x = record {
     tables = x.tables;
@@ -129,10 +133,11 @@ module _ (tells : Bool) (worked : Result Unit StoreFault) (done : IsOk worked) (
     kept_free = tt;
     spent = tt;
     alike = tt;
-    fault = record { pages = x.fault.pages; journal = x.fault.journal; overlay = x.fault.overlay; batch = x.fault.batch; free = x.fault.free; kept_free = x.fault.kept_free; spent = x.fault.spent; reads = x.fault.reads };
+    fault = record { pages = x.fault.pages; journal = x.fault.journal; overlay = x.fault.overlay; batch = x.fault.batch; free = x.fault.free; kept_free = x.fault.kept_free; spent = x.fault.spent; reads = x.fault.reads; no_fault = x.fault.no_fault };
     tried = x.tried;
     moments = x.moments;
     others = x.others;
+    no_fault = tt;
   }
   same_finish (Err (Closed faults)) x = absurd x.fault
 
@@ -168,6 +173,7 @@ module _ (tells : Bool) (worked : Result Unit StoreFault) (e g f : Kept) (v : De
     tried = inl (reads_none tells v lawful);
     moments = before_finish tells worked e.store v lawful before;
     others = keeps_refl tells v;
+    no_fault = tt;
   }
 
   pub dropped : (error : AllocError) → f ≡ record g { store = record g.store { batch = []; free = g.store.kept_free } } → Finished tells worked (Err (Memory error)) e f v v
@@ -191,10 +197,12 @@ module _ (tells : Bool) (worked : Result Unit StoreFault) (e g f : Kept) (v : De
       kept_free = ap (λ (x : Kept). x.store.kept_free) drop ∙ ap (λ (x : Kept). x.store.kept_free) is;
       spent = ap (λ (x : Kept). x.spent) drop ∙ ap (λ (x : Kept). x.spent) is;
       reads = reads_none tells v lawful;
+      no_fault = refl;
     };
     tried = inl (reads_none tells v lawful);
     moments = before_finish tells worked e.store v lawful before;
     others = keeps_refl tells v;
+    no_fault = tt;
   }
 
 -- a count that rose before
@@ -203,7 +211,7 @@ rose_before a b c rose le = omega arith
 
 -- Work over an idle store, and the end of its batch.
 module _ (tells : Bool) (Work : Contents → Contents → Type 0) (worked : Result Unit StoreFault) (e g f : Kept) (v x w : Device) (lawful : Lawful tells v) (idle : IsIdle tells e.store v)
-    (calls : Undisturbed tells e.store g.store v x) (work : OnOk worked (Work (contents_over e.store v) (contents_over g.store x))) (cause : worked ≡ Err StoreFailed → Rose v.faults x.faults) where
+    (calls : Undisturbed tells e.store g.store v x) (work : OnOk worked (Work (contents_over e.store v) (contents_over g.store x))) (cause : worked ≡ Err StoreFailed → Rose v.faults x.faults) (quiet : x.faults ≡ v.faults) where
   -- what is read before the work is what the pages are
   before_work : IsTrue tells → read_pages e.store v.held ≡ pages v.held
   before_work told = λ i k. read_closed e.store v.held idle.batch (idle.over.stands told) k i
@@ -255,6 +263,7 @@ module _ (tells : Bool) (Work : Contents → Contents → Type 0) (worked : Resu
         free = drop.free ∙ calls.kept_free ∙ idle.kept_free;
         same = λ k. pages_is k ∙ read_dropped tells e.store g.store v x calls idle.batch k;
         reads = reads_then tells v x w calls.reads drop.reads;
+        no_fault = drop.no_fault ∙ quiet;
       }
 
   -- nothing was written, or the work was done
@@ -277,6 +286,7 @@ module _ (tells : Bool) (Work : Contents → Contents → Type 0) (worked : Resu
     tried = tt;
     moments = λ told. all_moments told (finished.moments told);
     others = keeps_then tells v x w calls.reads.keeps finished.others;
+    no_fault = finished.no_fault ∙ quiet;
   }
   changed (Err Disk) unspent finished = record {
     idle = tt;
@@ -286,6 +296,7 @@ module _ (tells : Bool) (Work : Contents → Contents → Type 0) (worked : Resu
     tried = reads_or_work finished.tried;
     moments = λ told. all_moments told (finished.moments told);
     others = keeps_then tells v x w calls.reads.keeps finished.others;
+    no_fault = tt;
   }
   changed (Err (Memory error)) unspent finished = record {
     idle = tt;
@@ -295,5 +306,6 @@ module _ (tells : Bool) (Work : Contents → Contents → Type 0) (worked : Resu
     tried = reads_or_work finished.tried;
     moments = λ told. all_moments told (finished.moments told);
     others = keeps_then tells v x w calls.reads.keeps finished.others;
+    no_fault = tt;
   }
   changed (Err (Closed faults)) unspent finished = absurd finished.fault

@@ -1,5 +1,5 @@
 -- A step of which the layout that comes next is known by what was read at the end of its work.
-use Rattle.std.proofs.Common.{◌≡◌, ◌⊎◌, inl, inr, ⊎_elim, ℕ, ◌+◌, Bool, false, IsTrue, Option, Result, Ok, Err, List, [], length, refl, ap, sym, ◌∙◌, subst}
+use Rattle.std.proofs.Common.{◌≡◌, ◌⊎◌, inl, inr, ⊎_elim, ℕ, ◌+◌, Bool, true, false, IsTrue, Option, Result, Ok, Err, List, [], length, refl, ap, sym, ◌∙◌, subst}
 use Rattle.ts_base.specs.declared.refusal.Refusal.{Refusal}
 use Rattle.ts_command.specs.declared.command.Command.{Command}
 use Rattle.ts_disk.specs.Device.{Device, Lawful, LeavesOnly}
@@ -12,10 +12,11 @@ use Rattle.ts_model.specs.Catalogue.{Catalogue}
 use Rattle.ts_layout.specs.Meaning.{Layout, HoldsLayout, IsSound, catalogue_of}
 use Rattle.ts_engine.specs.declared.fault.StepFault.{StepFault}
 use Rattle.ts_engine.specs.declared.fault.StepFault.TheVariants.{Disk, Memory, Closed}
-use Rattle.ts_engine.specs.Answer.{Answered, answer, outcome}
+use Rattle.ts_answer.specs.Answer.{Answered, answer, outcome}
 use Rattle.ts_engine.specs.Volume.{MeansCatalogue}
 use Rattle.ts_engine.specs.Engine.{Kept, IsKeptOf, IsReady, IsAt}
-use Rattle.ts_engine.specs.Step.{BeforeOrAfter, ChangesNothing, Stepped, is_reading}
+use Rattle.ts_engine.specs.Step.{BeforeOrAfter, ChangesNothing, Stepped}
+use Rattle.ts_answer.specs.Commands.{is_writing}
 use Rattle.ts_engine.specs.Change.{ChangeLeaves, Changed}
 use Rattle.ts_engine.proofs.MeansLemmas.{holds_still, means_layout}
 use Rattle.ts_engine.proofs.StepLemmas.{answers, kept_same, means_alike, means_held, at_layout}
@@ -32,11 +33,11 @@ pub record Next (tells : Bool) (command : Command) (out : List ℕ) (l : Layout)
 not_refused : (answered : Answered) (refusal : Refusal) → Ok answered ≡ Err refusal → ⊥
 not_refused answered refusal same = cc
 
-not_reading : (b : Bool) → b ≡ false → IsTrue b → ⊥
-not_reading b wrong right = cc
+not_reading : (b : Bool) → b ≡ true → b ≡ false → ⊥
+not_reading b right wrong = cc
 
 module _ (tells : Bool) (command : Command) (Work : Contents → Contents → Type 0) (e f : Kept) (v w : Device) (out : List ℕ) (lawful : Lawful tells v) (later : Lawful tells w) (ready : IsReady tells e v)
-    (next : (read : Contents) → Work (contents_over e.store v) read → Next tells command out ready.keeps.0 read) (writes : is_reading command ≡ false) where
+    (next : (read : Contents) → Work (contents_over e.store v) read → Next tells command out ready.keeps.0 read) (writes : is_writing command ≡ true) where
   stands : IsTrue tells → (cat : Catalogue) → IsAt tells e cat v → cat ≡ catalogue_of ready.keeps.0
   stands told cat at = at_layout tells e v ready.keeps.0 lawful ready.idle ready.keeps.1 told (ready.keeps.2 told) cat at.means
 
@@ -47,7 +48,7 @@ module _ (tells : Bool) (command : Command) (Work : Contents → Contents → Ty
   changes : IsTrue tells → (answered : Answered) → outcome (Ok command) (catalogue_of ready.keeps.0) ≡ Ok answered → (cat : Catalogue) → IsAt tells e cat v → ChangesNothing cat command → ⊥
   changes told answered comes cat at nothing =
       let is = stands told cat at in
-      ⊎_elim (λ refused. not_refused answered refused.0 (sym comes ∙ ap (λ (c : Catalogue). outcome (Ok command) c) (sym is) ∙ refused.1)) (λ reads. not_reading (is_reading command) writes reads) nothing
+      ⊎_elim (λ refused. not_refused answered refused.0 (sym comes ∙ ap (λ (c : Catalogue). outcome (Ok command) c) (sym is) ∙ refused.1)) (λ reads. not_reading (is_writing command) writes reads) nothing
 
   next_moments : (result : Result Unit StepFault) (spent : Option ℕ) → Changed tells Work result e.store f.store spent v w → IsTrue tells → (cat : Catalogue) → IsAt tells e cat v → LeavesOnly v w (BeforeOrAfter cat command v)
   next_moments result spent changed told cat at =
@@ -84,6 +85,7 @@ module _ (tells : Bool) (command : Command) (Work : Contents → Contents → Ty
         empty = λ err. absurd (cc);
         moments = next_moments (Ok tt) f.spent changed;
         others = changed.others;
+        no_fault = changed.no_fault;
       }
 
   tried : OnlyReads tells v w ⊎ ((read : Contents) × Work (contents_over e.store v) read) → IsTrue tells → (cat : Catalogue) → IsAt tells e cat v → ChangesNothing cat command → OnlyReads tells v w
@@ -99,6 +101,7 @@ module _ (tells : Bool) (command : Command) (Work : Contents → Contents → Ty
     empty = λ err. refl;
     moments = next_moments (Err Disk) f.spent changed;
     others = changed.others;
+    no_fault = tt;
   }
   next_fault (Memory error) changed definitions lists =
       let still = changed.fault.0 in
@@ -118,9 +121,11 @@ module _ (tells : Bool) (command : Command) (Work : Contents → Contents → Ty
             );
             unspent = changed.fault.1;
           },
+          still.no_fault,
         );
         empty = λ err. refl;
         moments = next_moments (Err (Memory error)) f.spent changed;
         others = changed.others;
+        no_fault = tt;
       }
   next_fault (Closed faults) changed definitions lists = absurd changed.fault

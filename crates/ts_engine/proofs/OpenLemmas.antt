@@ -43,17 +43,20 @@ read_idle tells told s d idle = λ i k. read_closed s d.held idle.batch (idle.ov
 
 -- pages of which no layout serves are those of no store
 pub survey_fault : (tells : Bool) (fault : SurveyFault) (number : ℕ) (s : State) (v w : Device) → Lawful tells v → IsIdle tells s v → number ≡ s.pages
-    → (fault ≡ Failed → Rose v.faults w.faults) → IfRefused fault (IsTrue tells → HoldNoLayout number (read_pages s v.held)) → ReadFault tells fault v w
-survey_fault tells Failed number s v w lawful idle same cause refused = cause refl
-survey_fault tells (Memory error) number s v w lawful idle same cause refused = tt
-survey_fault tells (NotAStore page) number s v w lawful idle same cause refused = λ told cat means.
-    let count : page_count (length v.held) ≡ number = ap page_count (lawful.size told) ∙ counted v.size s.pages idle.over.size ∙ sym same in
-    let laid = means.pages.1 in
-    refused told means.pages.0 (record {
-      size = sym count ∙ laid.size;
-      bytes = subst (λ (p : ℕ → List ℕ). HoldsLayout p means.pages.0) (sym (read_idle tells told s v idle)) laid.bytes;
-      rules = laid.rules;
-    })
+    → (fault ≡ Failed → Rose v.faults w.faults) → ((fault ≡ Failed → ⊥) → w.faults ≡ v.faults) → IfRefused fault (IsTrue tells → HoldNoLayout number (read_pages s v.held)) → ReadFault tells fault v w
+survey_fault tells Failed number s v w lawful idle same cause quiet refused = cause refl
+survey_fault tells (Memory error) number s v w lawful idle same cause quiet refused = quiet (λ failed. cc)
+survey_fault tells (NotAStore page) number s v w lawful idle same cause quiet refused = (
+  λ told cat means.
+      let count : page_count (length v.held) ≡ number = ap page_count (lawful.size told) ∙ counted v.size s.pages idle.over.size ∙ sym same in
+      let laid = means.pages.1 in
+      refused told means.pages.0 (record {
+        size = sym count ∙ laid.size;
+        bytes = subst (λ (p : ℕ → List ℕ). HoldsLayout p means.pages.0) (sym (read_idle tells told s v idle)) laid.bytes;
+        rules = laid.rules;
+      }),
+  quiet (λ failed. cc),
+)
 
 -- the pages that were found free can be taken
 pub admitted : (tells : Bool) (s t : State) (d : Device) (x : Definitions) (space : Directory) (free : List ℕ) → IsIdle tells s d → IsFound tells s.pages (contents_over s d) x space free
@@ -152,27 +155,22 @@ module _ (tells : Bool) (s t : State) (v : Device) (x : Definitions) (space : Di
       unspent = refl;
     }
 
-    pub settled_opened : Keeps tells v w → (IsTrue tells → LeavesOnly v w (SamePages v t.overlay)) → Opened tells (Ok engine) v w
+    pub settled_opened : Keeps tells v w → (IsTrue tells → LeavesOnly v w (SamePages v t.overlay)) → w.faults ≡ v.faults → Opened tells (Ok engine) v w
     unfolding allowed means_found
-    settled_opened keeps moments = record {
+    settled_opened keeps moments no_fault = record {
       ready = ready;
-      at = λ told. (
-        catalogue_of found.0,
-        means_found lawful told,
-        record {
-          ready = ready;
-          means = still_means v.size v.held t.overlay w.held (catalogue_of found.0) (lawful.size told) allowed (reads told) (means_found lawful told);
-        },
-      );
+      means = λ told. (catalogue_of found.0, means_found lawful told);
+      at = λ told cat means. record { ready = ready; means = still_means v.size v.held t.overlay w.held cat (lawful.size told) allowed (reads told) means };
       fault = tt;
       others = keeps;
       moments = settle_moments lawful w moments;
       nothing = λ told none. absurd (none (catalogue_of found.0) (means_found lawful told));
+      no_fault = no_fault;
     }
 
 -- the settling failed
 pub unsettled : (tells : Bool) (v w : Device) → Rose v.faults w.faults → Keeps tells v w → (IsTrue tells → (cat : Catalogue) → MeansCatalogue v.held cat → LeavesOnly v w (StillMeans cat v)) → (IsTrue tells → (cat : Catalogue) × MeansCatalogue v.held cat) → Opened tells (Err Failed) v w
-unsettled tells v w rose keeps moments means = record { ready = tt; at = tt; fault = rose; others = keeps; moments = moments; nothing = λ told none. absurd (none (means told).0 (means told).1) }
+unsettled tells v w rose keeps moments means = record { ready = tt; means = tt; at = tt; fault = rose; others = keeps; moments = moments; nothing = λ told none. absurd (none (means told).0 (means told).1); no_fault = tt }
 
 -- what only reads means the same at each moment
 reads_mean : (tells : Bool) (v w : Device) (cat : Catalogue) → Only v.held v.images → OnlyReads tells v w → MeansCatalogue v.held cat → LeavesOnly v w (StillMeans cat v)
@@ -184,27 +182,29 @@ reads_mean tells v w cat only reads means =
 pub refused : (tells : Bool) (fault : SurveyFault) (v w : Device) → Only v.held v.images → OnlyReads tells v w → ReadFault tells fault v w → Opened tells (Err fault) v w
 refused tells fault v w only reads cause = record {
   ready = tt;
+  means = tt;
   at = tt;
   fault = whole fault cause;
   others = reads.keeps;
   moments = λ told cat means. reads_mean tells v w cat only reads means;
   nothing = λ told none. reads;
+  no_fault = tt;
 }
   where
     whole : (fault : SurveyFault) → ReadFault tells fault v w → StartFault tells fault v w
     whole Failed cause = cause
-    whole (NotAStore page) cause = (cause, reads.held, reads.images)
-    whole (Memory error) cause = (reads.held, reads.images)
+    whole (NotAStore page) cause = (cause.0, reads.held, reads.images, cause.1)
+    whole (Memory error) cause = (reads.held, reads.images, cause)
 
 -- a count that rose later
 pub rose_on : (a b c : ℕ) → a ≤ b → Rose b c → Rose a c
 rose_on a b c le rose = omega arith
 
 -- the same after reads
-pub fault_after : (tells : Bool) (fault : SurveyFault) (v x w : Device) → OnlyReads tells v x → ReadFault tells fault x w → ReadFault tells fault v w
-fault_after tells Failed v x w reads cause = rose_on v.faults x.faults w.faults reads.keeps.faults cause
-fault_after tells (NotAStore page) v x w reads cause = λ told cat means. cause told cat (subst (λ (bytes : List ℕ). MeansCatalogue bytes cat) (sym reads.held) means)
-fault_after tells (Memory error) v x w reads cause = tt
+pub fault_after : (tells : Bool) (fault : SurveyFault) (v x w : Device) → OnlyReads tells v x → x.faults ≡ v.faults → ReadFault tells fault x w → ReadFault tells fault v w
+fault_after tells Failed v x w reads quiet cause = rose_on v.faults x.faults w.faults reads.keeps.faults cause
+fault_after tells (NotAStore page) v x w reads quiet cause = (λ told cat means. cause.0 told cat (subst (λ (bytes : List ℕ). MeansCatalogue bytes cat) (sym reads.held) means), cause.1 ∙ quiet)
+fault_after tells (Memory error) v x w reads quiet cause = cause ∙ quiet
 
 -- each moment of both
 moments_after : (tells : Bool) (v x w : Device) (cat : Catalogue) → Only v.held v.images → OnlyReads tells v x → MeansCatalogue v.held cat → LeavesOnly x w (StillMeans cat x) → LeavesOnly v w (StillMeans cat v)
@@ -213,25 +213,29 @@ moments_after tells v x w cat only reads means later =
     (leaves_map x w (StillMeans cat x) (StillMeans cat v) (λ image said now. (now.0, now.1 ∙ reads.keeps.said)) later)
 
 -- an opening went on after it had read
-pub opened_after : (tells : Bool) (result : Result Engine SurveyFault) (v x w : Device) → Only v.held v.images → OnlyReads tells v x → Opened tells result x w → Opened tells result v w
-opened_after tells (Ok e) v x w only reads opened = record {
+pub opened_after : (tells : Bool) (result : Result Engine SurveyFault) (v x w : Device) → Only v.held v.images → OnlyReads tells v x → x.faults ≡ v.faults → Opened tells result x w → Opened tells result v w
+opened_after tells (Ok e) v x w only reads quiet opened = record {
   ready = opened.ready;
-  at = λ told. let stands = opened.at told in (stands.0, subst (λ (bytes : List ℕ). MeansCatalogue bytes stands.0) reads.held stands.1, stands.2);
+  means = λ told. let means = opened.means told in (means.0, subst (λ (bytes : List ℕ). MeansCatalogue bytes means.0) reads.held means.1);
+  at = λ told cat means. opened.at told cat (subst (λ (bytes : List ℕ). MeansCatalogue bytes cat) (sym reads.held) means);
   fault = tt;
   others = keeps_then tells v x w reads.keeps opened.others;
   moments = λ told cat means. moments_after tells v x w cat only reads means (opened.moments told cat (subst (λ (bytes : List ℕ). MeansCatalogue bytes cat) (sym reads.held) means));
   nothing = λ told none. reads_then tells v x w reads (opened.nothing told (subst MeansNothing (sym reads.held) none));
+  no_fault = opened.no_fault ∙ quiet;
 }
-opened_after tells (Err fault) v x w only reads opened = record {
+opened_after tells (Err fault) v x w only reads quiet opened = record {
   ready = tt;
+  means = tt;
   at = tt;
   fault = later fault opened.fault;
   others = keeps_then tells v x w reads.keeps opened.others;
   moments = λ told cat means. moments_after tells v x w cat only reads means (opened.moments told cat (subst (λ (bytes : List ℕ). MeansCatalogue bytes cat) (sym reads.held) means));
   nothing = λ told none. reads_then tells v x w reads (opened.nothing told (subst MeansNothing (sym reads.held) none));
+  no_fault = tt;
 }
   where
     later : (fault : SurveyFault) → StartFault tells fault x w → StartFault tells fault v w
     later Failed cause = rose_on v.faults x.faults w.faults reads.keeps.faults cause
-    later (NotAStore page) cause = (λ told cat means. cause.0 told cat (subst (λ (bytes : List ℕ). MeansCatalogue bytes cat) (sym reads.held) means), cause.1 ∙ reads.held, λ image now. reads.images image (cause.2 image now))
-    later (Memory error) cause = (cause.0 ∙ reads.held, λ image now. reads.images image (cause.1 image now))
+    later (NotAStore page) cause = (λ told cat means. cause.0 told cat (subst (λ (bytes : List ℕ). MeansCatalogue bytes cat) (sym reads.held) means), cause.1 ∙ reads.held, λ image now. reads.images image (cause.2 image now), cause.3 ∙ quiet)
+    later (Memory error) cause = (cause.0 ∙ reads.held, λ image now. reads.images image (cause.1 image now), cause.2 ∙ quiet)

@@ -77,6 +77,7 @@ sync_keeps tells (Err e) v x sync = record { size = sync.size; said = sync.call.
 pub unsynced : {E : Type 0} (tells : Bool) (e : E) (v x : Device) → Lawful tells v → Synced tells (Err e) v x → Started tells (Err Failed) v x
 unsynced tells e v x lawful sync = record {
   ready = tt;
+  means = tt;
   at = tt;
   fault = sync.call.cause refl;
   others = sync_keeps tells (Err e) v x sync;
@@ -84,6 +85,7 @@ unsynced tells e v x lawful sync = record {
   moments = λ told cat means. sync_fails tells e v x (StillMeans cat v) lawful sync;
   at_rest = λ told only cat means. sync_means tells (Err e) v x cat lawful only sync means;
   nothing = λ told none. record { held = sync.held; moments = sync_only tells (Err e) v x lawful sync };
+  no_fault = tt;
 }
 
 -- what follows the sync
@@ -109,22 +111,25 @@ module _ {E : Type 0} (tells : Bool) (v x w : Device) (lawful : Lawful tells v) 
 
   start_fault : (fault : SurveyFault) → StartFault tells fault x w → StartFault tells fault v w
   start_fault Failed cause = rose_on v.faults x.faults w.faults sync.call.faults cause
-  start_fault (NotAStore page) cause = (λ told cat means. cause.0 told cat (same_bytes v.held x.held cat (sym sync.held) means), cause.1 ∙ sync.held, λ image now. sync.crash image (cause.2 image now))
-  start_fault (Memory error) cause = (cause.0 ∙ sync.held, λ image now. sync.crash image (cause.1 image now))
+  start_fault (NotAStore page) cause = (λ told cat means. cause.0 told cat (same_bytes v.held x.held cat (sym sync.held) means), cause.1 ∙ sync.held, λ image now. sync.crash image (cause.2 image now), cause.3 ∙ sync.call.no_fault refl)
+  start_fault (Memory error) cause = (cause.0 ∙ sync.held, λ image now. sync.crash image (cause.1 image now), cause.2 ∙ sync.call.no_fault refl)
 
   pub synced_started : (result : Result Engine SurveyFault) → Opened tells result x w → Started tells result v w
   synced_started (Ok e) opened = record {
     ready = opened.ready;
-    at = λ told. let stands = opened.at told in (stands.0, same_bytes x.held v.held stands.0 sync.held stands.1, stands.2);
+    means = λ told. let means = opened.means told in (means.0, same_bytes x.held v.held means.0 sync.held means.1);
+    at = λ told cat means. opened.at told cat (same_bytes v.held x.held cat (sym sync.held) means);
     fault = tt;
     others = keeps_then tells v x w (sync_keeps tells (Ok tt) v x sync) opened.others;
     synced = λ told. omega (arith, sync.syncs told, opened.others.syncs told);
     moments = λ told cat means. start_moments told cat means opened.others (opened.moments told cat);
     at_rest = λ told only cat means. start_at_rest only cat means (opened.moments told cat);
     nothing = λ told none. as_it_was (opened.nothing told (subst MeansNothing (sym sync.held) none));
+    no_fault = opened.no_fault ∙ sync.call.no_fault refl;
   }
   synced_started (Err fault) opened = record {
     ready = tt;
+    means = tt;
     at = tt;
     fault = start_fault fault opened.fault;
     others = keeps_then tells v x w (sync_keeps tells (Ok tt) v x sync) opened.others;
@@ -132,4 +137,5 @@ module _ {E : Type 0} (tells : Bool) (v x w : Device) (lawful : Lawful tells v) 
     moments = λ told cat means. start_moments told cat means opened.others (opened.moments told cat);
     at_rest = λ told only cat means. start_at_rest only cat means (opened.moments told cat);
     nothing = λ told none. as_it_was (opened.nothing told (subst MeansNothing (sym sync.held) none));
+    no_fault = tt;
   }

@@ -19,14 +19,14 @@ StillMeans cat v image said = MeansCatalogue image cat × (said ≡ v.said)
 -- memory, nothing was written.
 abbrev pub StartFault : Bool → SurveyFault → Device → Device → Type 0
 StartFault tells Failed v w = Rose v.faults w.faults
-StartFault tells (NotAStore page) v w = (IsTrue tells → MeansNothing v.held) × (w.held ≡ v.held) × Within v.images w.images
-StartFault tells (Memory error) v w = (w.held ≡ v.held) × Within v.images w.images
+StartFault tells (NotAStore page) v w = (IsTrue tells → MeansNothing v.held) × (w.held ≡ v.held) × Within v.images w.images × (w.faults ≡ v.faults)
+StartFault tells (Memory error) v w = (w.held ≡ v.held) × Within v.images w.images × (w.faults ≡ v.faults)
 
 -- what a call that only read was refused for
 abbrev pub ReadFault : Bool → SurveyFault → Device → Device → Type 0
 ReadFault tells Failed v w = Rose v.faults w.faults
-ReadFault tells (NotAStore page) v w = IsTrue tells → MeansNothing v.held
-ReadFault tells (Memory error) v w = Unit {0}
+ReadFault tells (NotAStore page) v w = (IsTrue tells → MeansNothing v.held) × (w.faults ≡ v.faults)
+ReadFault tells (Memory error) v w = w.faults ≡ v.faults
 
 -- what a fault of the journal's reading is to an opening
 abbrev pub read_as : RecoverFault → SurveyFault
@@ -42,17 +42,21 @@ pub record LeavesAsItWas (v w : Device) : Type 0 where
 -- a volume of which nothing is pending is opened, or not
 pub record Opened (tells : Bool) (result : Result Engine SurveyFault) (v w : Device) : Type 0 where
   pub ready : IfOk result (λ e. IsReady tells e w)
-  pub at : IfOk result (λ e. IsTrue tells → (cat : Catalogue) × MeansCatalogue v.held cat × IsAt tells e cat w)
+  pub means : IfOk result (λ e. IsTrue tells → (cat : Catalogue) × MeansCatalogue v.held cat)
+  pub at : IfOk result (λ e. IsTrue tells → (cat : Catalogue) → MeansCatalogue v.held cat → IsAt tells e cat w)
   pub fault : IfErr result (λ fault. StartFault tells fault v w)
   pub others : Keeps tells v w
   pub moments : IsTrue tells → (cat : Catalogue) → MeansCatalogue v.held cat → LeavesOnly v w (StillMeans cat v)
   pub nothing : IsTrue tells → MeansNothing v.held → OnlyReads tells v w
+  pub no_fault : OnOk result (w.faults ≡ v.faults)
 
 -- A volume is opened, or not.
 pub record Started (tells : Bool) (result : Result Engine SurveyFault) (v w : Device) : Type 0 where
   pub ready : IfOk result (λ e. IsReady tells e w)
-  -- it means some catalogue, and the engine stands there
-  pub at : IfOk result (λ e. IsTrue tells → (cat : Catalogue) × MeansCatalogue v.held cat × IsAt tells e cat w)
+  -- it means some catalogue
+  pub means : IfOk result (λ e. IsTrue tells → (cat : Catalogue) × MeansCatalogue v.held cat)
+  -- and the engine stands at each that it means
+  pub at : IfOk result (λ e. IsTrue tells → (cat : Catalogue) → MeansCatalogue v.held cat → IsAt tells e cat w)
   pub fault : IfErr result (λ fault. StartFault tells fault v w)
   pub others : Keeps tells v w
   -- an opened volume was synced
@@ -63,3 +67,5 @@ pub record Started (tells : Bool) (result : Result Engine SurveyFault) (v w : De
   pub at_rest : IsTrue tells → Only v.held v.images → (cat : Catalogue) → MeansCatalogue v.held cat → LeavesOnly v w (StillMeans cat v)
   -- where it means no catalogue, it is left as it was
   pub nothing : IsTrue tells → MeansNothing v.held → LeavesAsItWas v w
+  -- only a failed call of the disk raises the count
+  pub no_fault : OnOk result (w.faults ≡ v.faults)

@@ -12,10 +12,9 @@ use crate::engine::Engine;
 use std::alloc::Global;
 use ts_container::{SurveyFault, Surveyed, survey};
 use ts_disk::Volume;
+use ts_page::PAGE;
 use ts_recover::{RecoverFault, recover};
 use ts_store::{On, Store};
-
-const PAGE: u64 = 4096;
 
 /// Reads the journal and all pages, and brings the journal's pages to their places. All memory is taken before the first write.
 pub(crate) fn open<V: Volume>(alloc: Global, vol: &mut V) -> Result<Engine, SurveyFault>
@@ -32,6 +31,7 @@ fn read_journal<V: Volume>(alloc: Global, vol: &mut V) -> Result<Store, SurveyFa
     requires settled { Only (V.device vol.old).held (V.device vol.old).images }
     ensures idle { IfOk result (λ s. IsIdle V.tells s (V.device vol.new)) }
     ensures fault { IfErr result (λ fault. ReadFault V.tells fault (V.device vol.old) (V.device vol.new)) }
+    ensures no_fault { OnOk result ((V.device vol.new).faults ≡ (V.device vol.old).faults) }
     ensures others { OnlyReads V.tells (V.device vol.old) (V.device vol.new) }
 {
     match recover(alloc, vol) {
@@ -60,6 +60,7 @@ fn survey_over<V: Volume>(
     ensures idle { OnOk result (IsIdle V.tells store.new (V.device vol.new)) }
     ensures found { IfOk result (λ s. IsFound V.tells store.new.pages (contents_over store.new (V.device vol.new)) s.defs.definitions s.space s.free.items) }
     ensures fault { IfErr result (λ fault. ReadFault V.tells fault (V.device vol.old) (V.device vol.new)) }
+    ensures no_fault { OnOk result ((V.device vol.new).faults ≡ (V.device vol.old).faults) }
     ensures others { OnlyReads V.tells (V.device vol.old) (V.device vol.new) }
 {
     let count = (vol.len() / PAGE) as u32;
@@ -80,6 +81,7 @@ fn survey_on<V: Volume>(
     ensures found { IfOk result (λ s. IsFound V.tells count (contents_over store.old (V.device vol.old)) s.defs.definitions s.space s.free.items) }
     ensures refused { IfErr result (λ e. IfRefused e (IsTrue V.tells → HoldNoLayout count (read_pages store.old (V.device vol.old).held))) }
     ensures cause { IsErrOf result Failed → Rose (V.device vol.old).faults (V.device vol.new).faults }
+    ensures no_fault { ¬ IsErrOf result Failed → (V.device vol.new).faults ≡ (V.device vol.old).faults }
     ensures undisturbed { Undisturbed V.tells store.old store.new (V.device vol.old) (V.device vol.new) }
 {
     let mut on = On { store, vol };

@@ -183,12 +183,3 @@ fn a_volume_of_zeros_is_no_store(rt: HostRuntime) -> Result<(), Fail> {
     assert!(rt; matches!(opened, Err(SurveyFault::NotAStore { page: 0 })));
     Ok(())
 }
-
-#[test]
-fn the_laws_are_called(rt: HostRuntime) -> Result<(), Fail> {
-    replies_and_the_memory_line_are_apart();
-    a_refused_request_changes_nothing();
-    reading_changes_nothing();
-    lines_are_printed_so();
-    Ok(())
-}

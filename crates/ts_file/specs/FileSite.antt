@@ -1,6 +1,6 @@
 -- What a real file shows: its length and its counts.
-use Rattle.std.specs.Prelude.{◌≡◌, ℕ, Bool, false, []}
-use Rattle.ts_disk.specs.Device.{Device, Lawful}
+use Rattle.std.specs.Prelude.{◌≡◌, ℕ, Bool, []}
+use Rattle.ts_disk.specs.Device.{Device}
 use Rattle.ts_file.specs.declared.file_site.FileSite.{FileSite}
 
 -- the file's length
@@ -37,12 +37,4 @@ file_device f = record {
   faults = f.faults;
   said = [];
   say_faults = f.say_faults;
-}
-
-pub file_lawful : (f : FileSite) → Lawful false (file_device f)
-file_lawful f = record {
-  held = λ told. cc;
-  size = λ told. cc;
-  counts = λ t image le now. now;
-  only = λ image said left. absurd left;
 }

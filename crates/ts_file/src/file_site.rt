@@ -1,6 +1,6 @@
 // A real file and standard output.
 ghost use Rattle.std.specs.Prelude.{◌≡◌, ◌+◌, ◌≤◌, ◌<◌, false, length, ◌^◌, IsTrue, IsErr};
-ghost use Rattle.ts_disk.specs.Device.{Rose, Resized, ReadAt, WrittenAt, Synced};
+ghost use Rattle.ts_disk.specs.Device.{Rose, Resized, ReadAt, WrittenAt, Synced, Says};
 
 use std::fs::File;
 use std::io::{self, Stdout, Write};
@@ -44,7 +44,8 @@ impl FileSite {
 
     // No call can be made any more: a sync failed, or no fault more can be counted.
     fn is_closed(&self) -> bool
-        ensures { IsTrue (is_lost_of self.now) → IsTrue result }
+        ensures lost { IsTrue (is_lost_of self.now) → IsTrue result }
+        ensures full { faults_of self.now ≡ u64.MAX → IsTrue result }
     {
         self.is_lost || self.faults == u64::MAX
     }
@@ -114,15 +115,15 @@ fn write_all(output: &mut Stdout, piece: &[u8]) -> io::Result<()> {
 }
 
 impl Volume for FileSite {
-    ghost use Rattle.ts_file.specs.FileSite.{file_device, is_lost_of};
+    ghost use Rattle.ts_file.specs.FileSite.{file_device, faults_of, is_lost_of};
 
     ghost tells = { false };
 
     ghost device = { file_device };
 
-    ghost use Rattle.ts_file.specs.FileSite.{file_lawful};
+    ghost use Rattle.ts_disk.proofs.Moments.{untold};
 
-    ghost lawful = { file_lawful };
+    ghost lawful = { λ f. untold (file_device f) (λ image now. now) (λ t image said left. left) };
 
     fn len(&self) -> u64 {
         self.size
@@ -137,6 +138,7 @@ impl Volume for FileSite {
         requires limit { bytes ≤ 272244736 }
         ensures resized { Resized false bytes result (file_device self.old) (file_device self.new) }
         ensures closed { IsTrue (is_lost_of self.old) → IsErr result }
+        ensures full { faults_of self.old ≡ u64.MAX → IsErr result }
     {
         // A resize that failed may have changed the length too.
         self.is_resized = true;
@@ -152,6 +154,7 @@ impl Volume for FileSite {
         requires { at + length into.old ≤ (file_device self.old).size }
         ensures read { ReadAt false at into.new result (file_device self.old) (file_device self.new) }
         ensures closed { IsTrue (is_lost_of self.old) → IsErr result }
+        ensures full { faults_of self.old ≡ u64.MAX → IsErr result }
     {
         // The range lies within the length, which is a u64.
         let _size = self.size;
@@ -166,6 +169,7 @@ impl Volume for FileSite {
         requires { at + length from.now ≤ (file_device self.old).size }
         ensures written { WrittenAt false at from.now result (file_device self.old) (file_device self.new) }
         ensures closed { IsTrue (is_lost_of self.old) → IsErr result }
+        ensures full { faults_of self.old ≡ u64.MAX → IsErr result }
     {
         // The range lies within the length, which is a u64.
         let _size = self.size;
@@ -179,6 +183,7 @@ impl Volume for FileSite {
     fn sync(&mut self) -> Result<(), Failed>
         ensures synced { Synced false result (file_device self.old) (file_device self.new) }
         ensures closed { IsTrue (is_lost_of self.old) → IsErr result }
+        ensures full { faults_of self.old ≡ u64.MAX → IsErr result }
         ensures lost { IsErr result → IsTrue (is_lost_of self.new) }
     {
         if self.is_closed() || self.flush().is_err() {
@@ -191,7 +196,12 @@ impl Volume for FileSite {
 }
 
 impl Site for FileSite {
-    fn say(&mut self, piece: &[u8]) -> Result<(), SayFailed> {
+    ghost use Rattle.ts_file.specs.FileSite.{file_device, say_faults_of};
+
+    fn say(&mut self, piece: &[u8]) -> Result<(), SayFailed>
+        ensures says { Says false piece.now result (file_device self.old) (file_device self.new) }
+        ensures full { say_faults_of self.old ≡ u64.MAX → IsErr result }
+    {
         if self.say_faults == u64::MAX || write_all(&mut self.output, piece).is_err() {
             raise(&mut self.say_faults);
             return Err(SayFailed);

@@ -1,5 +1,6 @@
 // Standard input.
-ghost use Rattle.std.specs.Prelude.{◌≡◌, false};
+ghost use Rattle.std.specs.Prelude.{◌≡◌, ◌<◌, length, false, IsErr};
+ghost use Rattle.ts_disk.specs.Input.{Pulled};
 
 use crate::file_site::raise;
 use std::io::{Read, Stdin};
@@ -35,7 +36,11 @@ impl Source for StdSource {
 
     ghost input = { std_input };
 
-    fn pull(&mut self, into: &mut [u8]) -> Result<usize, PullFailed> {
+    fn pull(&mut self, into: &mut [u8]) -> Result<usize, PullFailed>
+        requires { 0 < length into.old }
+        ensures pulled { Pulled false into.new result (std_input self.old) (std_input self.new) }
+        ensures full { (std_input self.old).pull_faults ≡ u64.MAX → IsErr result }
+    {
         self.pulls = self.pulls.saturating_add(1);
         if self.pull_faults == u64::MAX {
             return Err(PullFailed);

@@ -6,3 +6,5 @@ pub mod PutLemmas
 pub mod HeadLemmas
 pub mod KeptLemmas
 pub mod InsertLemmas
+pub mod FindLemmas
+pub mod LastLemmas

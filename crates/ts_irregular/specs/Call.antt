@@ -9,8 +9,8 @@ use Rattle.ts_row.specs.declared.kind.Column.{Column}
 use Rattle.ts_row.specs.Row.{Values}
 use Rattle.ts_cells.specs.Cell.{Element, page_room}
 use Rattle.ts_cells.specs.IrregularPage.{AreInOrder, irregular_page}
-use Rattle.ts_irregular.specs.Edit.{element_at, edited}
-use Rattle.ts_irregular.specs.OnePage.{place_of, AreSeen}
+use Rattle.ts_irregular.specs.Edit.{element_at, last_of, edited}
+use Rattle.ts_irregular.specs.OnePage.{place_of, AreOn, AreSeen}
 
 -- pages are read
 pub record Reads {T : Type 0} (tells : Bool) (result : Result T StoreFault) (v w : Contents) : Type 0 where
@@ -24,6 +24,16 @@ pub record IsFound (tells : Bool) (slot : ℕ) (columns : List Column) (stamp : 
   pub elements : List Element
   pub seen : AreSeen tells slot columns v.page places elements
   pub found : row ≡ element_at stamp elements
+
+-- Where the pages are told, this is the row at a stamp among the elements that they have and their places tell of. Of pages that
+-- have none such it says nothing.
+abbrev pub IsRowThere : Bool → ℕ → List Column → ℤ → List Place → Contents → Option Values → Type 0
+IsRowThere tells slot columns stamp places v row = IsTrue tells → (es : List Element) → AreOn slot columns v.page places es → row ≡ element_at stamp es
+
+-- Where the pages are told, this is the last of the elements that they have and their places tell of. Of pages that have none
+-- such it says nothing.
+abbrev pub IsLast : Bool → ℕ → List Column → List Place → Contents → Option Element → Type 0
+IsLast tells slot columns places v last = IsTrue tells → (es : List Element) → AreOn slot columns v.page places es → last ≡ last_of es
 
 -- a series without elements stays one
 pub record StaysEmpty (tells : Bool) (now : List Place) (v w : Contents) : Type 0 where

@@ -1,5 +1,5 @@
 -- The elements of a series in the order of their stamps, and what an edit at one stamp makes of them.
-use Rattle.std.specs.Prelude.{ℕ, suc, ℤ, int_lt, not, nat_lt, ◌||◌, if◌then◌else◌, Option, Some, None, is_some, Result, Ok, Err, List, [], ◌∷◌, filter, length}
+use Rattle.std.specs.Prelude.{ℕ, suc, ◌-◌, slice_get, ℤ, int_lt, not, nat_lt, ◌||◌, if◌then◌else◌, Option, Some, None, is_some, Result, Ok, Err, List, [], ◌∷◌, filter, length}
 use Rattle.std.specs.Ordering.{int_cmp, int_eq}
 use Rattle.std.specs.FinMap.{find, put}
 use Rattle.ts_row.specs.Row.{Values}
@@ -8,6 +8,10 @@ use Rattle.ts_cells.specs.Cell.{Element}
 -- the row of the element at a stamp, if one is there
 abbrev pub element_at : ℤ → List Element → Option Values
 element_at stamp es = find int_cmp stamp es
+
+-- the last element, if there is one
+abbrev pub last_of : List Element → Option Element
+last_of es = slice_get es (length es - 1)
 
 -- the elements with a row at a stamp: before the first later one, or in place of the one that is there
 abbrev pub with_element : ℤ → Values → List Element → List Element

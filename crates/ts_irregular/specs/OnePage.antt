@@ -2,6 +2,7 @@
 use Rattle.std.specs.Prelude.{◌≡◌, ◌⊎◌, ℕ, ◌<◌, ◌≤◌, ℤ, Bool, IsTrue, Option, Some, None, IsSome, Contains, List, [], ◌∷◌, length}
 use Rattle.ts_space.specs.declared.place.Place.{Place}
 use Rattle.ts_space.specs.Place.{count_of}
+pub use Rattle.ts_space.specs.Place.{place_of}
 use Rattle.ts_page.specs.declared.page.Head.{Head}
 use Rattle.ts_page.specs.declared.page.Head.TheVariants.{Free, Regular, Irregular}
 use Rattle.ts_page.specs.Pages.{Contents, IsElementPage}
@@ -9,11 +10,6 @@ use Rattle.ts_row.specs.declared.kind.Column.{Column}
 use Rattle.ts_cells.specs.Cell.{Element, page_room}
 use Rattle.ts_cells.specs.IrregularPage.{AreInOrder, IsIrregularPage, first_stamp}
 use Rattle.ts_irregular.specs.Edit.{element_at}
-
--- the place of a page: its first stamp, its number and how many elements it has; none where it has none
-abbrev pub place_of : ℕ → List Element → List Place
-place_of number [] = []
-place_of number (e ∷ es) = record { at = e.0; page = number; count = length (e ∷ es) } ∷ []
 
 -- a place is that of an element page which `take` can't give, with one element at least, and no more than there is room for
 pub record IsPlace (columns : List Column) (c : Contents) (place : Place) : Type 0 where
@@ -41,6 +37,13 @@ series_in None = None
 series_in (Some Free) = None
 series_in (Some (Regular series count base)) = None
 series_in (Some (Irregular series count)) = Some series
+
+-- the same, and how many elements it tells
+abbrev pub told_in : Option Head → Option (ℕ × ℕ)
+told_in None = None
+told_in (Some Free) = None
+told_in (Some (Regular series count base)) = None
+told_in (Some (Irregular series count)) = Some (series, count)
 
 -- a page has these elements of the series in a slot, and they are those that its place tells of
 pub record IsOn (slot : ℕ) (columns : List Column) (page : List ℕ) (place : Place) (es : List Element) : Type 0 where

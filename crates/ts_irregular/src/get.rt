@@ -42,8 +42,8 @@ pub fn irregular_get<P: Pages>(
     Ok(row_at(shelf.kind, &page.bytes[HEAD..], count, stamp)?)
 }
 
-// The row at a stamp among the elements whose cells stand behind the head of a page.
-fn row_at(
+/// The row at a stamp among the elements whose cells stand behind the head of a page.
+pub(crate) fn row_at(
     kind: &RowType,
     behind: &[u8],
     count: usize,

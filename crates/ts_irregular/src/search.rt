@@ -55,8 +55,8 @@ fn rank(kind: &RowType, behind: &[u8], count: usize, stamp: Stamp) -> usize
     low
 }
 
-// The units of the stamp in a cell.
-fn units_at(behind: &[u8], size: usize, index: usize) -> i64
+/// The units of the stamp in a cell.
+pub(crate) fn units_at(behind: &[u8], size: usize, index: usize) -> i64
     requires within { size * index + size ≤ length behind.now }
     requires size { 9 ≤ size }
     ensures { result ≡ cast_signed w64 (from_be_bytes w64 (take 8 (drop (size * index + 1) behind.now))) }

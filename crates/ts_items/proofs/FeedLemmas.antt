@@ -1,7 +1,7 @@
 -- Reading goes on where it stopped.
 use Rattle.std.proofs.Common.{◌≡◌, ℕ, List, [], ◌∷◌, ◌++◌, ◌∙◌, ap, Option, ◌+◌, ◌<◌, take, length, slice_index_or}
 use Rattle.std.proofs.lemmas.List.{take_more, append-nil}
-use Rattle.ts_items.specs.ItemLaws.{items_from-append, place_from-append}
+use Rattle.ts_items.proofs.ItemLaws.{items_from-append, place_from-append}
 use Rattle.ts_items.specs.Items.{Item, after, items_from, place_from}
 
 -- one byte more

@@ -1,3 +1,4 @@
+pub mod ItemLaws
 pub mod FeedLemmas
 pub mod ItemLemmas
 pub mod PartsLemmas

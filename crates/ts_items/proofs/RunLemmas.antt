@@ -9,7 +9,7 @@ use Rattle.std.proofs.lemmas.List.Sums.{sum_by-append}
 use Rattle.std.specs.List.{prefix_len, list_all}
 use Rattle.ts_items.specs.Items.{Item, after, items_from, place_from, all_blank, quotes_match}
 use Rattle.ts_base.specs.Name.{is_blank}
-use Rattle.ts_items.specs.ItemLaws.{items_from-append, place_from-append}
+use Rattle.ts_items.proofs.ItemLaws.{items_from-append, place_from-append}
 use Rattle.ts_items.specs.Reader.{is_plain, Tells, place_of}
 use Rattle.ts_items.specs.declared.reader.Phase.{Phase}
 use Rattle.ts_items.specs.declared.reader.Phase.TheVariants.{Within, Ended, Past}

@@ -1,4 +1,3 @@
 pub mod Items
-pub mod ItemLaws
 pub mod Parts
 pub mod Reader

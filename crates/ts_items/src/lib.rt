@@ -6,8 +6,6 @@
 
 mod laws;
 mod reader;
-#[cfg(test)]
-mod tests;
 
 pub use laws::{items_are_those_of_the_parts, items_of_a_front_come_first};
 pub use reader::{Cut, Fed, Reader};

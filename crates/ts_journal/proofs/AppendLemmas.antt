@@ -1,12 +1,12 @@
 -- What a stop leaves in each step of an append.
-use Rattle.std.proofs.Common.{◌≡◌, ◌⊎◌, inl, inr, ℕ, ◌+◌, Bool, IsTrue, Result, Ok, Err, OnOk, IsErr, List, length, refl, sym, ◌∙◌, ap, subst, arith}
+use Rattle.std.proofs.Common.{◌≡◌, inl, inr, ℕ, ◌+◌, Bool, IsTrue, Result, Ok, Err, OnOk, IsErr, List, length, sym, ◌∙◌, ap, subst, arith}
 use Rattle.std.proofs.lemmas.Bool.{false≢true}
 use Rattle.ts_disk.specs.Device.{Device, Only, Torn, LeavesOnly, WrittenAt, Synced, Rose, overwritten}
 use Rattle.ts_disk.proofs.Moments.{calls_on, leaves_map}
 use Rattle.ts_journal.specs.Gate.{open_gate}
 use Rattle.ts_journal.specs.Entry.{Entry}
 use Rattle.ts_journal.specs.Record.{body_bytes}
-use Rattle.ts_journal.specs.Moment.{Keeps, TornFrom, WritesWithin, Writes}
+use Rattle.ts_journal.specs.Moment.{Keeps, TornFrom, WritesWithin}
 use Rattle.ts_journal.specs.Steps.{staged, Appending, Appends}
 use Rattle.ts_journal.proofs.WriteLemmas.{on_ok_map, keeps_then, keeps_sync, keeps_write}
 
@@ -22,7 +22,7 @@ module _ (tells : Bool) (at : ℕ) (es : List Entry) (v : Device) where
   -- a failure on the way
   pub appends_failed : {E : Type 0} (r : Result Unit E) (w : Device) → IsErr r → Keeps tells v w → Rose v.faults w.faults → (IsTrue tells → LeavesOnly v w (Appending at es v)) → Appends tells at es r v w
   appends_failed (Ok done) w err keeps rose moments = absurd (false≢true err)
-  appends_failed (Err e) w err keeps rose moments = record { keeps = keeps; written = tt; durable = tt; cause = λ failed. rose; moments = moments }
+  appends_failed (Err e) w err keeps rose moments = record { keeps = keeps; written = tt; durable = tt; cause = λ failed. rose; no_fault = λ done. absurd (false≢true done); moments = moments }
 
   module _ (settled : Only v.held v.images) (w : Device) (body : WritesWithin tells (at + 8) (length (body_bytes es)) v w) where
     behind_gate : (image : List ℕ) → w.images image → Torn (at + 8) (length (body_bytes es)) v.held image
@@ -54,11 +54,12 @@ module _ (tells : Bool) (at : ℕ) (es : List Entry) (v : Device) where
               calls_on tells p v y z (Appending at es v) run_gate last.call (λ image now. (inr (torn_gate image (last.crash image now)), gate.call.said ∙ (sync.call.said ∙ body.keeps.said)))
 
         -- the gate is written, and the last sync answers
-        pub appends_done : {G : Type 0} (p : Result Unit G) (z : Device) → (IsTrue tells → w.held ≡ staged at es v.held) → (IsTrue tells → y.held ≡ overwritten at open_gate x.held) → Synced tells p y z → Appends tells at es p v z
-        appends_done p z written opened last = record {
+        pub appends_done : {G : Type 0} (p : Result Unit G) (z : Device) → (IsTrue tells → w.held ≡ staged at es v.held) → (IsTrue tells → y.held ≡ overwritten at open_gate x.held) → Synced tells p y z → y.faults ≡ v.faults → Appends tells at es p v z
+        appends_done p z written opened last still = record {
           keeps = keeps_then tells v y z keeps_gate (keeps_sync tells p y z last);
           written = on_ok_const p _ (λ told. last.held ∙ opened told ∙ ap (overwritten at open_gate) (sync.held ∙ written told));
           durable = only_held tells p y z last;
           cause = λ err. omega (arith, keeps_gate.faults, last.call.cause err);
+          no_fault = λ done. last.call.no_fault done ∙ still;
           moments = λ told. run_last (written told) p z last;
         }

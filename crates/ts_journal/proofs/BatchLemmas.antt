@@ -1,12 +1,12 @@
 -- A batch in the order of its numbers: where an entry stands, and what a put leaves.
-use Rattle.std.proofs.Common.{◌≡◌, ◌≢◌, ℕ, zero, suc, ◌+◌, ◌*◌, ◌^◌, ◌<◌, ◌≤◌, Bool, true, false, cond, nat_lt, ltb, eqb, Option, Some, None, List, [], ◌∷◌, ◌++◌, length, take, drop, get_or, set, inl, inr, refl, ap, sym, ◌∙◌, arith, length-append, subst, take-append-drop}
-use Rattle.std.specs.List.{flat_map, insert}
+use Rattle.std.proofs.Common.{◌≡◌, ℕ, zero, suc, ◌+◌, ◌^◌, ◌<◌, ◌≤◌, true, false, ltb, eqb, Some, None, List, [], ◌∷◌, ◌++◌, length, take, drop, get_or, set, inl, inr, refl, ap, sym, ◌∙◌, arith, subst, take-append-drop}
+use Rattle.std.specs.List.{insert}
 use Rattle.std.proofs.lemmas.Bool.{cases_lt, cond_both, ltb-true, ltb-false, eqb-true, eqb-false}
 use Rattle.std.proofs.lemmas.Bool.Decides.{nat_tests}
-use Rattle.std.proofs.lemmas.List.{take_more, flat_map_more, append-nil, append_assoc}
+use Rattle.std.proofs.lemmas.List.{take_more, flat_map_more}
 use Rattle.std.proofs.lemmas.List.Concat.{flat_map-append}
 use Rattle.ts_journal.specs.declared.batch.Change.{Change}
-use Rattle.ts_journal.specs.declared.batch.Change.TheVariants.{Image, Free}
+use Rattle.ts_journal.specs.declared.batch.Change.TheVariants.{Image}
 use Rattle.ts_journal.specs.Entry.{Entry, IsRising, IsWhole, AreWhole, IsBatch, change_of, put, put_all, entry_bytes, entries_bytes}
 use Rattle.ts_journal.specs.Place.{place_of, stands_at}
 

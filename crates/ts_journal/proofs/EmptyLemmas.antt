@@ -1,5 +1,5 @@
 -- What a stop leaves in each step of emptying the journal.
-use Rattle.std.proofs.Common.{◌≡◌, ◌⊎◌, inl, inr, ℕ, Bool, IsTrue, Result, Ok, Err, OnOk, IsErr, List, length, replicate, refl, sym, ◌∙◌, ap, subst, arith}
+use Rattle.std.proofs.Common.{◌≡◌, inl, inr, ℕ, Bool, IsTrue, Result, Ok, Err, IsErr, List, replicate, ◌∙◌, ap, subst, arith}
 use Rattle.std.proofs.lemmas.Bool.{false≢true}
 use Rattle.ts_disk.specs.Device.{Device, Lawful, Only, Torn, LeavesOnly, WrittenAt, Synced, Rose, overwritten}
 use Rattle.ts_disk.proofs.Moments.{calls_on, leaves_map}
@@ -13,7 +13,7 @@ module _ (tells : Bool) (es : List Entry) (v : Device) where
   -- a failure on the way
   pub empties_failed : {E : Type 0} (r : Result Unit E) (w : Device) → IsErr r → Keeps tells v w → Rose v.faults w.faults → (IsTrue tells → LeavesOnly v w (Emptying es v)) → Empties tells es r v w
   empties_failed (Ok done) w err keeps rose moments = absurd (false≢true err)
-  empties_failed (Err e) w err keeps rose moments = record { keeps = keeps; emptied = tt; durable = tt; cause = λ failed. rose; moments = moments }
+  empties_failed (Err e) w err keeps rose moments = record { keeps = keeps; emptied = tt; durable = tt; cause = λ failed. rose; no_fault = λ done. absurd (false≢true done); moments = moments }
 
   module _ {D : Type 0} (settled : Only v.held v.images) (d : Result Unit D) (w : Device) (home : WritesHome tells es d v w) where
     in_pages : (image : List ℕ) → w.images image → Beside es v.held image
@@ -42,12 +42,13 @@ module _ (tells : Bool) (es : List Entry) (v : Device) where
               calls_on tells p v y z (Emptying es v) run_closed last.call (λ image now. (inr (closing image (last.crash image now)), gate.call.said ∙ (sync.call.said ∙ home.keeps.said)))
 
         -- the gate is closed, and the last sync answers
-        pub empties_done : {G : Type 0} (p : Result Unit G) (z : Device) → (IsTrue tells → BroughtHome es v.held w.held) → (IsTrue tells → y.held ≡ overwritten 4096 (replicate 8 0) x.held) → Synced tells p y z → Empties tells es p v z
-        empties_done p z brought closed last = record {
+        pub empties_done : {G : Type 0} (p : Result Unit G) (z : Device) → (IsTrue tells → BroughtHome es v.held w.held) → (IsTrue tells → y.held ≡ overwritten 4096 (replicate 8 0) x.held) → Synced tells p y z → y.faults ≡ v.faults → Empties tells es p v z
+        empties_done p z brought closed last still = record {
           keeps = keeps_then tells v y z keeps_closed (keeps_sync tells p y z last);
           emptied = on_ok_const p _ (λ told. (w.held, brought told, last.held ∙ closed told ∙ ap (overwritten 4096 (replicate 8 0)) sync.held));
           durable = only_held tells p y z last;
           cause = λ err. omega (arith, keeps_closed.faults, last.call.cause err);
+          no_fault = λ done. last.call.no_fault done ∙ still;
           moments = λ told. run_emptied (brought told) p z last;
         }
 

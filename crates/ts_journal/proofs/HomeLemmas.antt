@@ -1,19 +1,19 @@
 -- Pages brought to their places.
-use Rattle.std.proofs.Common.{◌≡◌, ◌≢◌, ◌⊎◌, inl, inr, ⊎_elim, ℕ, zero, suc, ◌+◌, ◌*◌, ◌^◌, ◌<◌, ◌≤◌, Bool, true, false, IsTrue, cond, eqb, Option, Some, None, Result, Ok, Err, OnOk, IsErr, List, [], ◌∷◌, ◌++◌, length, take, drop, replicate, get_or, refl, ap, sym, ◌∙◌, subst, arith, add-zero}
-use Rattle.std.proofs.lemmas.Bool.{false≢true, cond-true, cond-false, cases_Bool, eqb-true, eqb-false, eq-eqb, ne_eqb, cases_eq, cases_lt}
-use Rattle.std.proofs.lemmas.List.{take_more, take_all, take-take, take_at}
+use Rattle.std.proofs.Common.{◌≡◌, ◌⊎◌, inl, inr, ⊎_elim, ℕ, zero, suc, ◌+◌, ◌*◌, ◌^◌, ◌<◌, ◌≤◌, Bool, IsTrue, cond, eqb, Some, None, Result, Ok, Err, IsErr, List, [], ◌∷◌, ◌++◌, length, take, drop, replicate, get_or, refl, ap, sym, ◌∙◌, subst, arith, add-zero}
+use Rattle.std.proofs.lemmas.Bool.{false≢true, cond-true, cond-false, eq-eqb, ne_eqb, cases_eq, cases_lt}
+use Rattle.std.proofs.lemmas.List.{take_more, take_all, take-take}
 use Rattle.ts_disk.specs.Device.{Device, Lawful, Torn, Follows, LeavesOnly, WrittenAt, Rose, overwritten}
 use Rattle.ts_disk.proofs.Moments.{started, calls_on}
 use Rattle.ts_page.specs.Head.{bytes_at}
 use Rattle.ts_journal.specs.declared.batch.Change.{Change}
 use Rattle.ts_journal.specs.declared.batch.Change.TheVariants.{Image, Free}
 use Rattle.ts_journal.specs.Entry.{Entry, IsRising, IsWhole, IsAllowed, AreAllowed, change_of}
-use Rattle.ts_journal.specs.Journal.{IsVolumeSize, page_count, region}
+use Rattle.ts_journal.specs.Journal.{page_count}
 use Rattle.ts_journal.specs.Moment.{Keeps}
 use Rattle.ts_journal.specs.Steps.{Beside, home_bytes, IsHome, AreHome, BesideFrom, WritesHome}
 use Rattle.ts_journal.proofs.RangeLemmas.{outside, written_part, Torn-overwritten}
 use Rattle.ts_journal.proofs.WriteLemmas.{keeps_refl, keeps_then, keeps_write}
-use Rattle.ts_journal.proofs.BatchLemmas.{no_entry, from_least}
+use Rattle.ts_journal.proofs.BatchLemmas.{no_entry}
 
 pub beside_refl : (es : List Entry) (image : List ℕ) → Beside es image image
 beside_refl es image = record { len = refl; region = refl; others = λ number none. refl }
@@ -88,6 +88,7 @@ written_home Free number old whole room =
 pub record Homing (tells : Bool) (es : List Entry) (i : ℕ) (v w : Device) : Type 0 where
   pub keeps : Keeps tells v w
   pub home : IsTrue tells → AreHome (take i es) w.held
+  pub no_fault : w.faults ≡ v.faults
   pub crash : Follows (Beside es) v.images w.images
   pub moments : LeavesOnly v w (BesideFrom es v)
 
@@ -95,6 +96,7 @@ pub homing_start : (tells : Bool) (es : List Entry) (v : Device) → Lawful tell
 homing_start tells es v lawful = record {
   keeps = keeps_refl tells v;
   home = λ told. tt;
+  no_fault = refl;
   crash = λ image now. (image, now, beside_refl es image);
   moments = started tells v (BesideFrom es v) lawful (λ image now. (image, now, beside_refl es image, refl));
 }
@@ -104,6 +106,7 @@ home_done tells es i v w past run = record {
   keeps = run.keeps;
   home = λ told. subst (λ (l : List Entry). AreHome l w.held) (take_all i es past) (run.home told);
   cause = λ err. absurd (false≢true err);
+  no_fault = λ done. run.no_fault;
   crash = run.crash;
   moments = run.moments;
 }
@@ -136,11 +139,11 @@ module _ (es : List Entry) (count : ℕ) (allowed : AreAllowed count es) (i : �
 
     pub home_failed : (q : Result Unit E) → IsErr q → Rose w.faults x.faults → WritesHome tells es q v x
     home_failed (Ok done) err rose = absurd (false≢true err)
-    home_failed (Err e) err rose = record { keeps = keeps_home; home = tt; cause = λ failed. omega (arith, run.keeps.faults, rose); crash = crash_home; moments = moments_home }
+    home_failed (Err e) err rose = record { keeps = keeps_home; home = tt; cause = λ failed. omega (arith, run.keeps.faults, rose); no_fault = λ done. absurd (false≢true done); crash = crash_home; moments = moments_home }
 
     pub home_more : Lawful tells w → IsRising 0 (2 ^ 32) es → 4096 * (get_or es i no_entry).0 + 4096 ≤ w.size → bytes ≡ home_bytes (get_or es i no_entry).1 → IsWhole (get_or es i no_entry).1
-        → (IsTrue tells → x.held ≡ overwritten (4096 * (get_or es i no_entry).0) bytes w.held) → Homing tells es (i + 1) v x
-    home_more lawful rising room is whole written =
+        → (IsTrue tells → x.held ≡ overwritten (4096 * (get_or es i no_entry).0) bytes w.held) → x.faults ≡ w.faults → Homing tells es (i + 1) v x
+    home_more lawful rising room is whole written still =
         let e = get_or es i no_entry in
         record {
           keeps = keeps_home;
@@ -151,6 +154,7 @@ module _ (es : List Entry) (count : ℕ) (allowed : AreAllowed count es) (i : �
               let torn : Torn (4096 * e.0) (length bytes) w.held x.held = subst (λ (l : List ℕ). Torn (4096 * e.0) (length bytes) w.held l) (sym (written told)) (Torn-overwritten (4096 * e.0) bytes w.held (omega (arith, long, short))) in
               subst (λ (l : List Entry). AreHome l x.held) (sym (take_more es i no_entry within))
               (home_push (take i es) e x.held (home_keeps (take i es) 0 e.0 (length bytes) w.held x.held short torn (take_rising es 0 (2 ^ 32) i no_entry rising within) (run.home told)) last);
+          no_fault = still ∙ run.no_fault;
           crash = crash_home;
           moments = moments_home;
         }

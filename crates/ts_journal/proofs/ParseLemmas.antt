@@ -1,11 +1,10 @@
 -- What is read of the bytes of entries.
-use Rattle.std.proofs.Common.{◌≡◌, ◌≢◌, ◌⊎◌, inl, inr, ⊎_elim, ℕ, zero, suc, ◌+◌, ◌*◌, ◌^◌, ◌<◌, ◌≤◌, Bool, true, false, ◌&&◌, not, cond, leb, ltb, eqb, Option, Some, None, option_and_then, List, [], ◌∷◌, ◌++◌, length, take, drop, refl, ap, sym, ◌∙◌, subst, arith, length-append}
+use Rattle.std.proofs.Common.{◌≡◌, ◌⊎◌, inl, inr, ℕ, zero, suc, ◌+◌, ◌^◌, ◌<◌, ◌≤◌, true, ◌&&◌, not, leb, ltb, Some, None, option_and_then, List, [], ◌∷◌, ◌++◌, length, drop, refl, ap, sym, ◌∙◌, arith, length-append}
 use Rattle.std.specs.Option.{option_map}
-use Rattle.std.specs.Int.{from_be_bytes, to_be_bytes, w32}
+use Rattle.std.specs.Int.{to_be_bytes, w32}
 use Rattle.std.proofs.lemmas.Nat.{from_be_bytes-to_be_bytes_4}
-use Rattle.std.proofs.lemmas.Bool.{cond-true, cond-false, and_from, and_right, not_from_false, le-leb, lt-leb, lt-ltb}
+use Rattle.std.proofs.lemmas.Bool.{cond-true, and_from, and_right, not_from_false, le-leb, lt-leb, lt-ltb}
 use Rattle.std.proofs.lemmas.List.{take_at, drop_at}
-use Rattle.ts_journal.specs.declared.batch.Change.{Change}
 use Rattle.ts_journal.specs.declared.batch.Change.TheVariants.{Image, Free}
 use Rattle.ts_journal.specs.Entry.{Entry, IsRising, IsWhole, AreWhole, IsAllowed, AreAllowed, is_region, entry_bytes, entries_bytes}
 use Rattle.ts_journal.specs.Record.{entry_if_any, first_entry, entries_in}

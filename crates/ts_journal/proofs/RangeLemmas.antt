@@ -1,6 +1,6 @@
 -- What a torn or a written range leaves outside of it and within it.
-use Rattle.std.proofs.Common.{◌≡◌, ◌⊎◌, ℕ, ◌+◌, ◌-◌, ◌≤◌, List, [], ◌++◌, length, take, drop, refl, sym, ◌∙◌, ap, subst, inl, inr, ⊎_elim, arith, append_assoc, length-append, length-drop, take-append-drop, add-zero}
-use Rattle.std.proofs.lemmas.List.{append-nil, take_at, drop_at, take-take, drop-drop, drop-take, length-take-le, take-append-le, drop-append-le, length-take}
+use Rattle.std.proofs.Common.{◌≡◌, ◌⊎◌, ℕ, ◌+◌, ◌≤◌, List, [], ◌++◌, length, take, drop, refl, sym, ◌∙◌, ap, inl, inr, arith, append_assoc, length-append, length-drop, take-append-drop, add-zero}
+use Rattle.std.proofs.lemmas.List.{append-nil, take_at, drop_at, take-take, drop-drop, drop-take, length-take-le, take-append-le, drop-append-le}
 use Rattle.ts_disk.specs.Device.{Torn, overwritten}
 use Rattle.ts_disk.proofs.Ranges.{drop_further}
 use Rattle.ts_page.specs.Head.{bytes_at}

@@ -1,7 +1,7 @@
 -- A run of writes, one piece behind the other.
-use Rattle.std.proofs.Common.{◌≡◌, ◌⊎◌, ℕ, ◌+◌, ◌-◌, ◌≤◌, Bool, IsTrue, Result, Ok, Err, OnOk, IsErr, List, [], ◌∷◌, ◌++◌, length, take, drop, refl, sym, ◌∙◌, ap, subst, arith, length-append}
+use Rattle.std.proofs.Common.{◌≡◌, ℕ, ◌+◌, ◌≤◌, Bool, IsTrue, Result, Ok, Err, OnOk, IsOk, IsErr, List, [], ◌++◌, length, refl, sym, ◌∙◌, subst, arith, length-append}
 use Rattle.std.proofs.lemmas.Bool.{false≢true}
-use Rattle.ts_disk.specs.Device.{Device, Lawful, Torn, Follows, LeavesOnly, WrittenAt, Synced, Called, Rose, overwritten}
+use Rattle.ts_disk.specs.Device.{Device, Lawful, Torn, Follows, WrittenAt, Synced, Rose, overwritten}
 use Rattle.ts_disk.proofs.Moments.{started, calls_on, leaves_map, then_on}
 use Rattle.ts_disk.proofs.Ranges.{Torn-within, Follows-within, overwritten-append}
 use Rattle.ts_journal.specs.Moment.{Keeps, TornFrom, WritesWithin, Writes}
@@ -52,8 +52,8 @@ pub on_ok_map : {E : Type 0} (r : Result Unit E) (P Q : Type 0) → (P → Q) �
 on_ok_map (Ok done) P Q f p = f p
 on_ok_map (Err e) P Q f p = tt
 
-pub writes_joined : {E : Type 0} (tells : Bool) (at : ℕ) (bytes : List ℕ) (r : Result Unit E) (v w : Device) → WritesWithin tells at (length bytes) v w → OnOk r (IsTrue tells → w.held ≡ overwritten at bytes v.held) → (IsErr r → Rose v.faults w.faults) → Writes tells at bytes r v w
-writes_joined tells at bytes r v w run written cause = record { within = run; written = written; cause = cause }
+pub writes_joined : {E : Type 0} (tells : Bool) (at : ℕ) (bytes : List ℕ) (r : Result Unit E) (v w : Device) → WritesWithin tells at (length bytes) v w → OnOk r (IsTrue tells → w.held ≡ overwritten at bytes v.held) → (IsErr r → Rose v.faults w.faults) → (IsOk r → w.faults ≡ v.faults) → Writes tells at bytes r v w
+writes_joined tells at bytes r v w run written cause no_fault = record { within = run; written = written; cause = cause; no_fault = no_fault }
 
 -- before the first write
 pub within_start : (tells : Bool) (at n : ℕ) (v : Device) → Lawful tells v → WritesWithin tells at n v v
@@ -105,6 +105,7 @@ writes_one tells at from bytes r v w lawful is write =
       within = within_more tells at (length from) at from r v v w (omega arith) (omega arith) (within_start tells at (length from) v lawful) write;
       written = write.written;
       cause = write.call.cause;
+      no_fault = write.call.no_fault;
     }
 
 -- nothing is written yet
@@ -113,12 +114,13 @@ writes_none tells at v lawful = record {
   within = within_start tells at 0 v lawful;
   written = λ told. sym (overwritten-none at v.held);
   cause = λ err. absurd (false≢true err);
+  no_fault = λ done. refl;
 }
 
 -- a failure on the way
 pub writes_failed : {E : Type 0} (tells : Bool) (at : ℕ) (bytes : List ℕ) (r : Result Unit E) (v w : Device) → IsErr r → WritesWithin tells at (length bytes) v w → Rose v.faults w.faults → Writes tells at bytes r v w
 writes_failed tells at bytes (Ok done) v w err run rose = absurd (false≢true err)
-writes_failed tells at bytes (Err e) v w err run rose = record { within = run; written = tt; cause = λ failed. rose }
+writes_failed tells at bytes (Err e) v w err run rose = record { within = run; written = tt; cause = λ failed. rose; no_fault = λ done. absurd (false≢true done) }
 
 -- one piece behind another
 pub writes_then : {E F : Type 0} (tells : Bool) (at place : ℕ) (xs ys : List ℕ) (r : Result Unit F) (v w x : Device) → Lawful tells v → at + length xs + length ys ≤ v.size → place ≡ at + length xs
@@ -133,6 +135,7 @@ writes_then tells at place xs ys r v w x lawful room is_place first second =
     (on_ok_map r _ _ (λ written told.
     written told ∙ (λ j. overwritten (is_place j) ys (first.written told j)) ∙ overwritten-append at xs ys v.held (omega (arith, lawful.size told))) second.written)
     (λ err. rose_after v w x first.within.keeps.faults (second.cause err))
+    (λ done. second.no_fault done ∙ first.no_fault refl)
 
 -- the first piece, and then a failure before the rest
 pub writes_stopped : {E F : Type 0} (tells : Bool) (at : ℕ) (xs ys : List ℕ) (q : Result Unit E) (r : Result Unit F) (v w : Device) → IsErr q → IsErr r → Writes tells at xs q v w → Writes tells at (xs ++ ys) r v w

@@ -1,8 +1,11 @@
 -- The entries of a batch: each is the number of a page and what becomes of that page.
-use Rattle.std.specs.Prelude.{◌≡◌, ℕ, ◌+◌, ◌<◌, ◌≤◌, ◌⊎◌, Bool, ◌&&◌, ◌==◌, nat_lt, nat_le, if◌then◌else◌, Option, Some, None, List, [], ◌∷◌, ◌++◌, length, ◌^◌}
+use Rattle.std.specs.Prelude.{◌≡◌, ℕ, ◌+◌, ◌<◌, ◌≤◌, ◌==◌, nat_lt, if◌then◌else◌, Option, Some, None, List, [], ◌∷◌, ◌++◌, length, ◌^◌}
 use Rattle.std.specs.List.{flat_map}
 use Rattle.std.specs.Int.{to_be_bytes, w32}
+use Rattle.ts_page.specs.Volume.{page_size}
 use Rattle.ts_page.specs.Head.{zero_page}
+use Rattle.ts_page.specs.Pages.{IsOutsideJournal, IsElementPage}
+pub use Rattle.ts_page.specs.Pages.{is_region}
 use Rattle.ts_journal.specs.declared.batch.Change.{Change}
 use Rattle.ts_journal.specs.declared.batch.Change.TheVariants.{Image, Free}
 
@@ -38,7 +41,7 @@ IsRising least top (e ∷ es) = (least ≤ e.0) × IsRising (e.0 + 1) top es
 
 -- an image is a whole page
 abbrev pub IsWhole : Change → Type 0
-IsWhole (Image page) = length page.bytes ≡ 4096
+IsWhole (Image page) = length page.bytes ≡ page_size
 IsWhole Free = Unit {0}
 
 abbrev pub AreWhole : List Entry → Type 0
@@ -50,19 +53,15 @@ pub record IsBatch (es : List Entry) : Type 0 where
   pub rising : IsRising 0 (2 ^ 32) es
   pub whole : AreWhole es
 
--- the pages of the journal's own region have no entry
-abbrev pub is_region : ℕ → Bool
-is_region number = nat_le 1 number && nat_le number 256
-
 -- only an element page can be freed
 abbrev pub IsFreeable : ℕ → Change → Type 0
 IsFreeable number (Image page) = Unit {0}
-IsFreeable number Free = 930 ≤ number
+IsFreeable number Free = IsElementPage number
 
 -- the rules on one entry of a volume of so many pages
 pub record IsAllowed (count : ℕ) (entry : Entry) : Type 0 where
   pub below : entry.0 < count
-  pub outside : (entry.0 ≡ 0) ⊎ (256 < entry.0)
+  pub outside : IsOutsideJournal entry.0
   pub freeable : IsFreeable entry.0 entry.1
 
 -- the rules on each entry

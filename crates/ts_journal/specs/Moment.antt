@@ -1,5 +1,5 @@
 -- What the calls of a journal do to a volume, and what a stop within them leaves.
-use Rattle.std.specs.Prelude.{◌≡◌, ◌⊎◌, ℕ, ◌+◌, ◌<◌, ◌≤◌, Bool, IsTrue, List, length, Result, Ok, Err, OnOk, IsErr}
+use Rattle.std.specs.Prelude.{◌≡◌, ◌⊎◌, ℕ, ◌<◌, ◌≤◌, Bool, IsTrue, List, length, Result, Ok, Err, OnOk, IsOk, IsErr}
 use Rattle.ts_disk.specs.Device.{Device, Torn, Follows, LeavesOnly, Rose, overwritten}
 use Rattle.ts_journal.specs.Entry.{Entry, put_pages}
 use Rattle.ts_journal.specs.Journal.{pages, ReadsAs, ReadsButFreed}
@@ -52,3 +52,4 @@ pub record Writes {E : Type 0} (tells : Bool) (at : ℕ) (bytes : List ℕ) (res
   pub within : WritesWithin tells at (length bytes) v w
   pub written : OnOk result (IsTrue tells → w.held ≡ overwritten at bytes v.held)
   pub cause : IsErr result → Rose v.faults w.faults
+  pub no_fault : IsOk result → w.faults ≡ v.faults

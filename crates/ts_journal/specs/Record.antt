@@ -1,15 +1,39 @@
 -- A record: a gate, the number of bytes of its entries, these entries, and behind them the next gate.
-use Rattle.std.specs.Prelude.{ℕ, zero, suc, ◌+◌, ◌&&◌, ◌==◌, not, nat_lt, nat_le, if◌then◌else◌, Option, Some, None, option_and_then, List, [], ◌∷◌, ◌++◌, length, take, drop, replicate, slice_index}
+use Rattle.std.specs.Prelude.{◌≡◌, ◌≢◌, ℕ, zero, suc, ◌+◌, ◌<◌, ◌≤◌, ◌&&◌, ◌==◌, not, nat_lt, nat_le, if◌then◌else◌, Option, Some, None, option_and_then, List, [], ◌∷◌, ◌++◌, length, take, drop, replicate, slice_index}
 use Rattle.std.specs.Option.{option_map}
 use Rattle.std.specs.Int.{from_be_bytes, to_be_bytes, w32}
+use Rattle.ts_page.specs.Volume.{page_size, first_element_page}
 use Rattle.ts_page.specs.Head.{bytes_at}
+use Rattle.ts_page.specs.Pages.{is_region}
 use Rattle.ts_journal.specs.declared.batch.Change.TheVariants.{Image, Free}
 use Rattle.ts_journal.specs.Gate.{is_open}
-use Rattle.ts_journal.specs.Entry.{Entry, entry_bytes, entries_bytes, is_region}
+use Rattle.ts_journal.specs.Entry.{Entry, IsBatch, AreAllowed, entry_bytes, entries_bytes}
 
 -- the bytes behind the gate of a record: the number of bytes of its entries, the entries and a closed next gate
 unfoldable pub body_bytes : List Entry → List ℕ
 body_bytes es = to_be_bytes w32 (length (entries_bytes es)) ++ entries_bytes es ++ replicate 8 0
+
+-- how many bytes a record has besides its entries, with both gates
+abbrev pub record_frame : ℕ
+record_frame = 20
+
+-- the last position in the region at which a gate has room
+abbrev pub last_position : ℕ
+last_position = 1048568
+
+-- each number is that of a byte
+abbrev pub AreBytes : List ℕ → Type 0
+AreBytes bytes = (i : ℕ) → slice_index bytes i < 256
+
+-- The record of these entries stands at the front, by the rules of a volume of so many pages: behind its gate the number of bytes
+-- of the entries, then these, and there is room for a next gate.
+pub record IsRecord (count : ℕ) (es : List Entry) (bytes : List ℕ) : Type 0 where
+  pub some : es ≢ []
+  pub batch : IsBatch es
+  pub allowed : AreAllowed count es
+  pub number : bytes_at 8 4 bytes ≡ to_be_bytes w32 (length (entries_bytes es))
+  pub entries : bytes_at 12 (length (entries_bytes es)) bytes ≡ entries_bytes es
+  pub room : length (entries_bytes es) + record_frame ≤ length bytes
 
 -- how many bytes a record has up to the next gate
 abbrev pub record_length : List Entry → ℕ
@@ -20,8 +44,8 @@ record_length es = 12 + length (entries_bytes es)
 unfoldable pub entry_if_any : ℕ → ℕ → ℕ → ℕ → List ℕ → Option Entry
 entry_if_any count least kind number behind =
     if nat_le least number && nat_lt number count && not (is_region number)
-    then (if (kind == 1) && nat_le 4096 (length behind) then Some (number, Image (record { bytes = take 4096 behind }))
-    else (if (kind == 2) && nat_le 930 number then Some (number, Free) else None))
+    then (if (kind == 1) && nat_le page_size (length behind) then Some (number, Image (record { bytes = take page_size behind }))
+    else (if (kind == 2) && nat_le first_element_page number then Some (number, Free) else None))
     else None
 
 -- the entry at the front
@@ -42,7 +66,7 @@ entries_in (suc most) count least (byte ∷ bytes) =
 unfoldable pub first_record : ℕ → List ℕ → Option (List Entry)
 first_record count bytes =
     let n = from_be_bytes w32 (bytes_at 8 4 bytes) in
-    if nat_le 5 n && nat_le (n + 20) (length bytes) then entries_in n count 0 (bytes_at 12 n bytes) else None
+    if nat_le 5 n && nat_le (n + record_frame) (length bytes) then entries_in n count 0 (bytes_at 12 n bytes) else None
 
 -- the records from the front on, up to the first gate that isn't open, at most so many; none where one is malformed
 unfoldable pub records_in : ℕ → ℕ → List ℕ → Option (List (List Entry))

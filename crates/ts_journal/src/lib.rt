@@ -7,9 +7,16 @@
 mod batch;
 mod home;
 mod journal;
+mod laws;
+mod pen;
 mod record;
 #[cfg(test)]
 mod tests;
 
 pub use batch::{Batch, Change};
-pub use journal::{CommitFault, Journal};
+pub use journal::{CommitFault, FRAME, Journal};
+pub use laws::{
+    a_record_is_read_where_it_stands, an_overlay_has_the_last_change_of_each_page,
+    records_are_read_where_they_stand,
+};
+pub use record::{OPEN_GATE, entry_length};

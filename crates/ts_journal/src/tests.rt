@@ -46,7 +46,20 @@ fn the_absorbed_changes_win(rt: HostRuntime) -> Result<(), Fail> {
     assert!(rt; batch.find(931) == Some(&image(3)));
     assert!(rt; batch.find(932) == Some(&image(2)));
     assert_eq!(rt; batch.bytes(), 8207);
+    let mut third = Batch::new(alloc);
+    third.set(932, Change::Free)?;
+    batch.reserve(1)?;
+    batch.take_all(&mut third);
+    assert!(rt; batch.find(932) == Some(&Change::Free));
+    assert_eq!(rt; third.len(), 0);
     Ok(())
+}
+
+#[test]
+fn the_laws_ask_nothing(_rt: HostRuntime) {
+    a_record_is_read_where_it_stands();
+    records_are_read_where_they_stand();
+    an_overlay_has_the_last_change_of_each_page();
 }
 
 #[test]

@@ -1,14 +1,10 @@
 -- What is kept in memory of a volume: its definitions, the directory of its pages and its free pages.
 use Rattle.std.specs.Prelude.{◌≡◌, ℕ, suc, ◌<◌, ◌==◌, if◌then◌else◌, List, [], ◌∷◌, ◌++◌, length}
 use Rattle.ts_space.specs.declared.place.Place.{Place}
+pub use Rattle.ts_space.specs.Place.{place_of}
 use Rattle.ts_space.specs.Directory.{Directory, places_of}
 use Rattle.ts_cells.specs.Cell.{Element}
 use Rattle.ts_layout.specs.Meaning.{ElementPage, Free, Cells, Layout}
-
--- the place of a page: its first stamp, its number and how many elements it has
-abbrev pub place_of : ℕ → List Element → List Place
-place_of number [] = []
-place_of number (e ∷ es) = record { at = e.0; page = number; count = suc (length es) } ∷ []
 
 -- the place of a page, if it has elements of the series in a slot
 abbrev pub places_on : ℕ → ℕ → ElementPage → List Place

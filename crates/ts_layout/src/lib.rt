@@ -9,8 +9,6 @@
 mod element_laws;
 mod laws;
 mod place;
-#[cfg(test)]
-mod tests;
 
 pub use element_laws::{
     a_place_tells_of_its_page, a_series_is_dropped_with_its_page,

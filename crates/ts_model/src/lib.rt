@@ -10,8 +10,6 @@ mod def;
 mod defs;
 mod kind;
 mod table;
-#[cfg(test)]
-mod tests;
 
 pub use def::Def;
 pub use defs::Defs;

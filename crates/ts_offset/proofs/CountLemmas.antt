@@ -57,7 +57,7 @@ from-rest g i j from to =
     (λ x lt. ap not (int_lt_yes x g.origin lt))
     (λ x le. ap not (int_lt_no x g.origin le))
 
-pub from-far : (g : GridPlan) (i : ℤ) → IsFirstFrom g.calendar g.origin i → starts_of g ≡ starts_among g.calendar i (gap i (pos 1_000_000_000_000))
+pub from-far : (g : GridPlan) (i : ℤ) → IsFirstFrom g.calendar g.origin i → starts_of g ≡ starts_among g.calendar i (gap i (pos 400_000_000_001))
 from-far g i from =
     far g.calendar (λ x. not (int_lt x g.origin)) g.origin i from
     (λ x lt. ap not (int_lt_yes x g.origin lt))

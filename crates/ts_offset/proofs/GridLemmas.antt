@@ -7,7 +7,9 @@ use Rattle.ts_calendar.specs.Plan.{CalendarPlan}
 use Rattle.ts_calendar.specs.Intervals.{start_at, is_on, Holds, IsOnStamp}
 use Rattle.ts_calendar.proofs.StampLemmas.{int_lt_yes, int_lt_no}
 use Rattle.ts_calendar.proofs.LineLemmas.{line-rises}
-use Rattle.ts_offset.specs.Walk.{gap, count, on_start, starts_among, IsNear, IsFirstFrom, IsEnd, IsLaid}
+use Rattle.ts_offset.specs.Walk.{gap, count, on_start, starts_among, IsFirstFrom, IsEnd}
+use Rattle.ts_calendar.specs.Intervals.{IsLaid}
+use Rattle.ts_calendar.specs.First.{IsNear}
 use Rattle.ts_offset.specs.Grid.{GridPlan, held_start, starts_before, offset_at, offset_of, stamp_of, IsHeldBefore}
 use Rattle.ts_offset.proofs.ListLemmas.{taken-at, taken-from}
 use Rattle.ts_offset.proofs.StartLemmas.{IsAt, on-line, start-one, first-at}
@@ -78,10 +80,10 @@ late-again g t k i laid stamp near around on from le =
     let d = unsigned_abs (k -ℤ i) in
     let there : i +ℤ pos d ≡ k = omega (arith, ints) in
     let start : on_start g.calendar (i +ℤ pos d) ≡ Some f.0 = ap (on_start g.calendar) there ∙ ap (λ b. cond b (start_at g.calendar k) None) on ∙ f.1 in
-    let far = gap-up i (pos 1_000_000_000_000) (omega (arith, ints, from.near.1)) in
-    let few : d < gap i (pos 1_000_000_000_000) = omega (arith, ints, far, near.1, from.near.1) in
+    let far = gap-up i (pos 400_000_000_001) (omega (arith, ints, from.near.1)) in
+    let few : d < gap i (pos 400_000_000_001) = omega (arith, ints, far, near.1, from.near.1) in
     ap (λ l. slice_get l (length (starts_among g.calendar i (gap i k)))) (from-far g i from)
-    ∙ taken-at (on_start g.calendar) i (length (starts_among g.calendar i (gap i k))) (gap i (pos 1_000_000_000_000)) d f.0 few start
+    ∙ taken-at (on_start g.calendar) i (length (starts_among g.calendar i (gap i k))) (gap i (pos 400_000_000_001)) d f.0 few start
     (ap (λ n. length (starts_among g.calendar i n)) (sym (gap-le i k le)))
     ∙ sym (held-on g.calendar t k laid stamp near around on ∙ f.1)
 

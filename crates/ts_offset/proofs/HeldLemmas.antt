@@ -10,7 +10,9 @@ use Rattle.ts_calendar.specs.First.{first_from}
 use Rattle.ts_calendar.proofs.StampLemmas.{int_lt_yes, int_lt_no, int_lt-true, int_lt-false}
 use Rattle.ts_calendar.proofs.HeldLemmas.{holds-around, holds-only}
 use Rattle.ts_calendar.proofs.FirstLemmas.{first_from-found, first_from-none}
-use Rattle.ts_offset.specs.Walk.{IsNear, IsOnStart, on_start, IsLaid}
+use Rattle.ts_offset.specs.Walk.{IsOnStart, on_start}
+use Rattle.ts_calendar.specs.Intervals.{IsLaid}
+use Rattle.ts_calendar.specs.First.{IsNear}
 use Rattle.ts_offset.specs.Grid.{starts_by, ends_after, holds_on, held_start}
 use Rattle.ts_offset.proofs.StartLemmas.{IsAt}
 
@@ -70,15 +72,15 @@ pub around-only : (c : CalendarPlan) (t k n : ℤ) → IsLaid c → IsStamp t �
 around-only c t k n laid stamp around held = holds-only c.pattern.unit c.patt_start t k n laid.stamp laid.early stamp around held
 
 abbrev low : ℤ
-low = negsuc 999_999_999_999
+low = negsuc 399_999_999_999
 
 pub held-on : (c : CalendarPlan) (t k : ℤ) → IsLaid c → IsStamp t → IsNear k → IsAt c t k → is_on c k ≡ true → held_start c t ≡ start_at c k
 held-on c t k laid stamp near around on =
     let test = holds_on c t in
     let d = unsigned_abs (k -ℤ low) in
     let same : low +ℤ pos d ≡ k = omega (arith, ints, near.0, near.1) in
-    let found : first_from test low 2_000_000_000_000 ≡ Some (low +ℤ pos d) =
-    first_from-found test low 2_000_000_000_000 d (omega (arith, ints, near.0, near.1))
+    let found : first_from test low 800_000_000_001 ≡ Some (low +ℤ pos d) =
+    first_from-found test low 800_000_000_001 d (omega (arith, ints, near.0, near.1))
     (ap test same ∙ test-holds c t k on (around-holds c t k laid around on))
     (λ i lt. false-unless (test (low +ℤ pos i)) (λ yes_.
     let other = around-only c t k (low +ℤ pos i) laid stamp around (holds-test c t (low +ℤ pos i) yes_).1 in
@@ -88,7 +90,7 @@ held-on c t k laid stamp near around on =
 pub held-off : (c : CalendarPlan) (t k : ℤ) → IsLaid c → IsStamp t → IsAt c t k → is_on c k ≡ false → held_start c t ≡ None
 held-off c t k laid stamp around off =
     let test = holds_on c t in
-    ap (option_and_then (start_at c)) (first_from-none test low 2_000_000_000_000
+    ap (option_and_then (start_at c)) (first_from-none test low 800_000_000_001
     (λ i lt. false-unless (test (low +ℤ pos i)) (λ yes_.
     let h = holds-test c t (low +ℤ pos i) yes_ in
     let other = around-only c t k (low +ℤ pos i) laid stamp around h.1 in

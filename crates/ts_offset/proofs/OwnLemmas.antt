@@ -4,15 +4,16 @@ use Rattle.std.proofs.lemmas.Int.{by_lt_z, ints}
 use Rattle.ts_base.specs.Moment.{IsStamp, stamp_if_any}
 use Rattle.ts_calendar.specs.Plan.{CalendarPlan}
 use Rattle.ts_calendar.specs.Intervals.{start_at, IsBefore, Holds}
-use Rattle.ts_calendar.specs.Calendar.{first_interval}
-use Rattle.ts_calendar.specs.First.{first_from}
+use Rattle.ts_calendar.specs.First.{first_from, first_interval}
 use Rattle.ts_calendar.proofs.StampLemmas.{stamp-some}
 use Rattle.ts_calendar.proofs.LineLemmas.{line-start, line-rises}
-use Rattle.ts_offset.specs.Walk.{IsLaid, IsNear, IsOnStart}
+use Rattle.ts_offset.specs.Walk.{IsOnStart}
+use Rattle.ts_calendar.specs.Intervals.{IsLaid}
+use Rattle.ts_calendar.specs.First.{IsNear}
 use Rattle.ts_offset.specs.Grid.{holds_on, held_start, IsHeldFrom}
 use Rattle.ts_offset.proofs.StartLemmas.{IsAt, line, on-line}
 use Rattle.ts_offset.proofs.HeldLemmas.{holds-test, held-on}
-use Rattle.ts_offset.proofs.ListedLemmas.{line-near}
+use Rattle.ts_calendar.proofs.LawLemmas.{line-near}
 use Rattle.ts_offset.proofs.GridLemmas.{around-start}
 
 before-line : (t l : ℤ) → IsStamp t → negsuc 6_213_559_679_999_999 ≤ℤ l → IsBefore t (stamp_if_any l) → t <ℤ l
@@ -59,7 +60,7 @@ started-at c None s e = absurd (cc)
 pub from-held : (c : CalendarPlan) (t s : ℤ) → held_start c t ≡ Some s → IsHeldFrom c t s
 from-held c t s e =
     let w = started-at c (first_interval (holds_on c t)) s e in
-    let h = holds-test c t w.0 (found-test (holds_on c t) (neg_ℤ (pos 1_000_000_000_000)) 2_000_000_000_000 w.0 w.1) in
+    let h = holds-test c t w.0 (found-test (holds_on c t) (neg_ℤ (pos 400_000_000_000)) 800_000_000_001 w.0 w.1) in
     record { interval = w.0; on = h.0; start = w.2; held = h.1 }
 
 -- an on start is held by its own interval

@@ -4,16 +4,18 @@ use Rattle.std.proofs.lemmas.Int.{by_lt_z, ints}
 use Rattle.ts_base.specs.Moment.{IsStamp}
 use Rattle.ts_calendar.specs.Plan.{CalendarPlan}
 use Rattle.ts_calendar.specs.Intervals.{start_at}
-use Rattle.ts_calendar.specs.Line.{line_at, IsAround}
+use Rattle.ts_calendar.specs.Line.{line_at, IsLineAround}
 use Rattle.ts_calendar.proofs.LineLemmas.{line-rises}
 use Rattle.ts_calendar.proofs.HeldLemmas.{line-order, start-is}
-use Rattle.ts_offset.specs.Walk.{IsLaid, IsNear, IsFirstFrom, IsEnd}
+use Rattle.ts_offset.specs.Walk.{IsFirstFrom, IsEnd}
+use Rattle.ts_calendar.specs.Intervals.{IsLaid}
+use Rattle.ts_calendar.specs.First.{IsNear}
 
 abbrev pub line : CalendarPlan → ℤ → ℤ
 line c k = line_at c.pattern.unit c.patt_start k
 
 abbrev pub IsAt : CalendarPlan → ℤ → ℤ → Type 0
-IsAt c t k = IsAround c.pattern.unit c.patt_start t k
+IsAt c t k = IsLineAround c.pattern.unit c.patt_start t k
 
 -- a start that is there lies on the line
 pub on-line : (c : CalendarPlan) (k s : ℤ) → IsLaid c → start_at c k ≡ Some s → (s ≡ line c k) × IsStamp s

@@ -22,10 +22,10 @@ pub gap-none : (i j : ℤ) → j ≤ℤ i → gap i j ≡ 0
 gap-none i j le = ap (λ b. cond b (unsigned_abs (j -ℤ i)) 0) (int_lt_no i j le)
 
 abbrev low : ℤ
-low = neg_ℤ (pos 1_000_000_000_000)
+low = neg_ℤ (pos 400_000_000_000)
 
 abbrev high : ℤ
-high = pos 1_000_000_000_000
+high = pos 400_000_000_001
 
 -- the on starts that pass, where those of the intervals from i up to j do and all others don't
 pub window : (c : CalendarPlan) (p : ℤ → Bool) (i j : ℤ) → low ≤ℤ i → i ≤ℤ high → low ≤ℤ j → j ≤ℤ high
@@ -42,7 +42,7 @@ window c p i j above below over under early within late =
     (λ lt.
     let n = unsigned_abs (j -ℤ i) in
     let after = unsigned_abs (high -ℤ j) in
-    let whole : 2_000_000_000_000 ≡ before + n + after = omega (arith, ints) in
+    let whole : 800_000_000_001 ≡ before + n + after = omega (arith, ints) in
     let there : low +ℤ pos (before + n) ≡ j = omega (arith, ints) in
     ap (λ m. filter p (starts_among c low m)) whole
     ∙ taken-window f p low before n after
@@ -52,7 +52,7 @@ window c p i j above below over under early within late =
     ∙ ap (λ k. starts_among c k n) here ∙ ap (starts_among c i) (sym (gap-up i j lt)))
     (λ ge.
     let after = unsigned_abs (high -ℤ i) in
-    let whole : 2_000_000_000_000 ≡ before + 0 + after = omega (arith, ints) in
+    let whole : 800_000_000_001 ≡ before + 0 + after = omega (arith, ints) in
     let there : low +ℤ pos (before + 0) ≡ i = omega (arith, ints) in
     ap (λ m. filter p (starts_among c low m)) whole
     ∙ taken-window f p low before 0 after
@@ -84,9 +84,9 @@ rest c p lo i j from to under within =
 -- the same up to the last interval of all
 pub far : (c : CalendarPlan) (p : ℤ → Bool) (lo i : ℤ) → IsFirstFrom c lo i
     → ((s : ℤ) → s <ℤ lo → p s ≡ false) → ((s : ℤ) → lo ≤ℤ s → p s ≡ true)
-    → filter p (on_starts c) ≡ starts_among c i (gap i (pos 1_000_000_000_000))
+    → filter p (on_starts c) ≡ starts_among c i (gap i (pos 400_000_000_001))
 far c p lo i from under within =
-    window c p i (pos 1_000_000_000_000) (omega (arith, ints, from.near.0)) (omega (arith, ints, from.near.1)) (omega (arith, ints)) (omega (arith, ints))
+    window c p i (pos 400_000_000_001) (omega (arith, ints, from.near.0)) (omega (arith, ints, from.near.1)) (omega (arith, ints)) (omega (arith, ints))
     (λ k s lt e. under s (from.earlier k s lt e))
     (λ k s le lt e. within s (from.later k s le e))
     (λ k s le lt e. absurd (omega (arith, ints)))

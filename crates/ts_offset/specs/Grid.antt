@@ -4,7 +4,7 @@ use Rattle.ts_base.specs.declared.refusal.Refusal.{Refusal}
 use Rattle.ts_base.specs.declared.refusal.Refusal.TheVariants.{OffStamp, BeforeOrigin, PastEnd}
 use Rattle.ts_calendar.specs.Plan.{CalendarPlan}
 use Rattle.ts_calendar.specs.Intervals.{start_at, is_on, Holds, IsOnStamp}
-use Rattle.ts_calendar.specs.Calendar.{first_interval}
+use Rattle.ts_calendar.specs.First.{first_interval}
 use Rattle.ts_offset.specs.Walk.{IsOnStart, on_starts}
 use Rattle.ts_offset.specs.Counting.{cal_stamp}
 

@@ -1,9 +1,8 @@
 -- The on intervals of a calendar, one after the other, and their starts.
 use Rattle.std.specs.Prelude.{◌≡◌, ℕ, zero, suc, true, if◌then◌else◌, int_lt, ℤ, pos, neg_ℤ, ◌+ℤ◌, ◌-ℤ◌, ◌≤ℤ◌, ◌<ℤ◌, unsigned_abs, Option, Some, None, List, [], ◌∷◌, length, filter, filter_map}
-use Rattle.jiff_core.specs.Calendar.{IsBetween}
 use Rattle.ts_calendar.specs.Plan.{CalendarPlan}
-use Rattle.ts_base.specs.Moment.{IsStamp}
-use Rattle.ts_calendar.specs.Intervals.{IsEarly, start_at, is_on}
+use Rattle.ts_calendar.specs.First.{reach, near_count, IsNear}
+use Rattle.ts_calendar.specs.Intervals.{start_at, is_on}
 
 -- the n whole numbers from k on
 unfoldable pub numbers_from : ℤ → ℕ → List ℤ
@@ -28,22 +27,13 @@ starts_among c k n = filter_map (on_start c) (numbers_from k n)
 
 -- all on starts, in order; no interval lies further away
 unfoldable pub on_starts : CalendarPlan → List ℤ
-on_starts c = starts_among c (neg_ℤ (pos 1_000_000_000_000)) 2_000_000_000_000
+on_starts c = starts_among c (neg_ℤ (pos reach)) near_count
 
 -- a stamp is the start of an on interval
 pub record IsOnStart (c : CalendarPlan) (s : ℤ) : Type 0 where
   pub interval : ℤ
   pub on : is_on c interval ≡ true
   pub start : start_at c interval ≡ Some s
-
--- the pattern starts with a stamp, on a day that each month has; each calendar does so
-pub record IsLaid (c : CalendarPlan) : Type 0 where
-  pub stamp : IsStamp c.patt_start
-  pub early : IsEarly c.pattern.unit c.patt_start
-
--- the number of an interval, far from the ends of the numbers
-abbrev pub IsNear : ℤ → Type 0
-IsNear k = IsBetween (neg_ℤ (pos 500_000_000_000)) (pos 500_000_000_000) k
 
 -- interval k and the later ones start at t or after it, and the earlier ones before it
 pub record IsFirstFrom (c : CalendarPlan) (t k : ℤ) : Type 0 where

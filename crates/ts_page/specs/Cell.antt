@@ -1,10 +1,11 @@
 -- The cells of an element page, which follow its head one after the other.
 use Rattle.std.specs.Prelude.{ℕ, ◌+◌, ◌*◌, List, ◌++◌, length, take, drop}
+use Rattle.ts_page.specs.Volume.{head_size}
 use Rattle.ts_page.specs.Head.{bytes_at}
 
 -- where the cell of that number begins
 abbrev pub cell_place : ℕ → ℕ → ℕ
-cell_place number size = 32 + number * size
+cell_place number size = head_size + number * size
 
 -- the bytes of the cell of that number
 abbrev pub cell_of : ℕ → ℕ → List ℕ → List ℕ

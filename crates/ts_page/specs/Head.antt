@@ -1,13 +1,14 @@
 -- The head of an element page: its first 32 bytes. A page whose first byte is 0 is free, whatever follows.
-use Rattle.std.specs.Prelude.{ℕ, ◌<◌, ◌^◌, Bool, ◌&&◌, ◌==◌, if◌then◌else◌, Option, Some, None, List, ◌∷◌, ◌++◌, take, drop, replicate, slice_index}
+use Rattle.std.specs.Prelude.{◌≡◌, ℕ, ◌<◌, ◌^◌, Bool, ◌&&◌, ◌==◌, if◌then◌else◌, Option, Some, None, List, ◌∷◌, ◌++◌, take, drop, replicate, slice_index}
 use Rattle.std.specs.Int.{from_be_bytes, to_be_bytes, w16, w64}
 use Rattle.std.specs.List.{list_all}
+use Rattle.ts_page.specs.Volume.{page_size, head_size}
 use Rattle.ts_page.specs.declared.page.Head.{Head}
 use Rattle.ts_page.specs.declared.page.Head.TheVariants.{Free, Regular, Irregular}
 
 -- the bytes of a page of zeros
 unfoldable pub zero_page : List ℕ
-zero_page = replicate 4096 0
+zero_page = replicate page_size 0
 
 -- each byte is 0
 abbrev pub are_zero : List ℕ → Bool
@@ -20,7 +21,7 @@ bytes_at at n page = take n (drop at page)
 -- The bytes of a head: its kind, the slot of its series in two bytes, the number of its elements in two, for a
 -- regular page the offset of its first cell in eight, and zeros.
 abbrev pub head_bytes : Head → List ℕ
-head_bytes Free = replicate 32 0
+head_bytes Free = replicate head_size 0
 head_bytes (Regular series count base) =
     1 ∷ to_be_bytes w16 series ++ to_be_bytes w16 count ++ to_be_bytes w64 base ++ replicate 19 0
 head_bytes (Irregular series count) =
@@ -42,3 +43,9 @@ head_of page =
     else (if (kind == 1) && are_zero (bytes_at 13 19 page)
     then Some (Regular series count (from_be_bytes w64 (bytes_at 5 8 page)))
     else (if (kind == 2) && are_zero (bytes_at 5 27 page) then Some (Irregular series count) else None))
+
+-- the page begins with this head as it is written; a free one is told by its first byte alone
+abbrev pub HasHead : List ℕ → Head → Type 0
+HasHead page Free = slice_index page 0 ≡ 0
+HasHead page (Regular series count base) = take head_size page ≡ head_bytes (Regular series count base)
+HasHead page (Irregular series count) = take head_size page ≡ head_bytes (Irregular series count)

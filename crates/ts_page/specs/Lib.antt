@@ -1,3 +1,4 @@
+pub mod Volume
 pub mod Head
 pub mod Cell
 pub mod Pages

@@ -1,9 +1,10 @@
 -- Pages by their numbers, and what each call on a keeper of pages does to them.
-use Rattle.std.specs.Prelude.{◌≡◌, ◌≢◌, ◌⊎◌, ℕ, ◌+◌, ◌<◌, ◌≤◌, ◌==◌, if◌then◌else◌, Bool, IsTrue, List, [], ◌∷◌, All, AllPairs, length, take, replicate, slice_index, slice_index_or, Result, OnOk, OnErr, IsErrOf}
+use Rattle.std.specs.Prelude.{◌≡◌, ◌≢◌, ◌⊎◌, ℕ, ◌+◌, ◌<◌, ◌≤◌, ◌==◌, ◌&&◌, nat_le, if◌then◌else◌, Bool, IsTrue, List, [], ◌∷◌, All, AllPairs, length, take, replicate, slice_index, slice_index_or, Result, OnOk, OnErr, IsErrOf}
 use Rattle.ts_base.specs.declared.fault.StoreFault.{StoreFault}
 use Rattle.ts_base.specs.declared.fault.StoreFault.TheVariants.{Failed}
 use Rattle.ts_disk.specs.Device.{Rose}
 use Rattle.ts_page.specs.declared.page.Page.{Page}
+use Rattle.ts_page.specs.Volume.{head_size, last_region_page, first_element_page, image_entry_size, free_entry_size}
 use Rattle.ts_page.specs.Head.{zero_page}
 
 -- All that is meant by a keeper of pages between two calls. What is not told is anything.
@@ -21,11 +22,15 @@ pub record Contents : Type 0 where
 
 -- The pages 1 to 256 hold the journal: they are read and written by no one else, and what they hold is no page.
 abbrev pub IsOutsideJournal : ℕ → Type 0
-IsOutsideJournal number = (number ≡ 0) ⊎ (256 < number)
+IsOutsideJournal number = (number ≡ 0) ⊎ (last_region_page < number)
 
--- the pages from 930 on hold elements
+-- the same as a test: the page is one of the journal's
+abbrev pub is_region : ℕ → Bool
+is_region number = nat_le 1 number && nat_le number last_region_page
+
+-- the pages from the first element page on hold elements
 abbrev pub IsElementPage : ℕ → Type 0
-IsElementPage number = 930 ≤ number
+IsElementPage number = first_element_page ≤ number
 
 -- an element page whose first byte is 0 is free, whatever follows
 abbrev pub IsFreePage : List ℕ → Type 0
@@ -41,7 +46,7 @@ with_page changed bytes pages number = if changed == number then bytes else page
 
 -- the head of a free page as it is written: 32 zeros
 abbrev pub HasFreeHead : List ℕ → Type 0
-HasFreeHead page = take 32 page ≡ replicate 32 0
+HasFreeHead page = take head_size page ≡ replicate head_size 0
 
 -- The same pages, but for the bytes behind the heads of free element pages. A free page is free whatever follows, so the two
 -- mean the same. This is all that the emptying of a journal may change.
@@ -65,6 +70,8 @@ pub record Answered {T : Type 0} (result : Result T StoreFault) (v w : Contents)
   pub count : w.count ≡ v.count
   pub faults : v.faults ≤ w.faults
   pub cause : IsErrOf result Failed → Rose v.faults w.faults
+  -- any other answer leaves the count
+  pub no_fault : ¬ IsErrOf result Failed → w.faults ≡ v.faults
 
 -- a page is read
 pub record Got (tells : Bool) (number : ℕ) (into : List ℕ) (result : Result Unit StoreFault) (v w : Contents) : Type 0 where
@@ -80,7 +87,7 @@ pub record Put (tells : Bool) (number : ℕ) (bytes : List ℕ) (result : Result
   pub put : OnOk result (IsTrue tells → EqualPages (with_page number bytes v.page) w.page)
   pub free : w.free ≡ v.free
   pub pages_stay : OnErr result (IsTrue tells → EqualPages v.page w.page)
-  pub change_bytes : w.change_bytes ≤ v.change_bytes + 4101
+  pub change_bytes : w.change_bytes ≤ v.change_bytes + image_entry_size
 
 -- a page is freed, five bytes in a record: it reads as zeros, and is the next that `take` gives
 pub record Freed (tells : Bool) (number : ℕ) (result : Result Unit StoreFault) (v w : Contents) : Type 0 where
@@ -89,7 +96,7 @@ pub record Freed (tells : Bool) (number : ℕ) (result : Result Unit StoreFault)
   pub listed : OnOk result (w.free ≡ number ∷ v.free)
   pub pages_stay : OnErr result (IsTrue tells → EqualPages v.page w.page)
   pub free_stays : OnErr result (w.free ≡ v.free)
-  pub change_bytes : w.change_bytes ≤ v.change_bytes + 5
+  pub change_bytes : w.change_bytes ≤ v.change_bytes + free_entry_size
 
 -- a page leaves the list
 pub record Taken (tells : Bool) (number : ℕ) (v w : Contents) : Type 0 where

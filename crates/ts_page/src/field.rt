@@ -21,7 +21,8 @@ pub(crate) fn eight_bytes(bytes: &[u8], at: usize) -> u64
     u64::from_be_bytes(field)
 }
 
-pub(crate) fn are_zero(bytes: &[u8]) -> bool
+/// Each byte is 0.
+pub fn are_zero(bytes: &[u8]) -> bool
     ensures { result ≡ are_zero bytes.now }
 {
     bytes.iter().all(|byte| *byte == 0)

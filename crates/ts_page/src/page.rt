@@ -1,9 +1,11 @@
 // A page, its head and its cells.
 ghost use Rattle.std.specs.Prelude.{◌≡◌, ◌+◌, ◌*◌, ◌≤◌, length, drop, Some, ◌++◌};
+ghost use Rattle.ts_page.specs.Volume.{page_size, head_size};
 ghost use Rattle.ts_page.specs.Head.{head_of, head_bytes, FitsHead, zero_page};
 ghost use Rattle.ts_page.specs.Cell.{cell_of, with_cell};
 
 use crate::field::{are_zero, eight_bytes, two_bytes};
+use crate::volume::HEAD;
 
 /// 4096 bytes.
 #[derive(Clone, Copy, Debug, PartialEq, Eq)]
@@ -20,8 +22,6 @@ pub enum Head {
     /// The slot of its series and its number of elements.
     Irregular { series: u16, count: u16 },
 }
-
-const HEAD: usize = 32;
 
 impl Page {
     /// A page of zeros.
@@ -52,7 +52,7 @@ impl Page {
 
     /// Writes the head over the first 32 bytes.
     pub fn set_head(&mut self, head: &Head)
-        ensures ok { self.new.bytes ≡ head_bytes head.now ++ drop 32 self.old.bytes }
+        ensures ok { self.new.bytes ≡ head_bytes head.now ++ drop head_size self.old.bytes }
         ensures read_again { head_of self.new.bytes ≡ Some head.now }
     {
         self.bytes[..HEAD].copy_from_slice(&head_bytes(head));
@@ -60,7 +60,7 @@ impl Page {
 
     /// The bytes of the cell of that number, where each cell has so many.
     pub fn cell(&self, number: usize, size: usize) -> &[u8]
-        requires within { 32 + (number + 1) * size ≤ 4096 }
+        requires within { head_size + (number + 1) * size ≤ page_size }
         ensures { result.now ≡ cell_of number size self.now.bytes }
     {
         let at = HEAD + number * size;
@@ -69,7 +69,7 @@ impl Page {
 
     /// Writes the cell of that number, where each cell has as many bytes.
     pub fn set_cell(&mut self, number: usize, from: &[u8])
-        requires within { 32 + (number + 1) * length from.now ≤ 4096 }
+        requires within { head_size + (number + 1) * length from.now ≤ page_size }
         ensures ok { self.new.bytes ≡ with_cell number from.now self.old.bytes }
         ensures read_again { cell_of number (length from.now) self.new.bytes ≡ from.now }
     {

@@ -13,8 +13,6 @@ mod pattern;
 mod read;
 mod run;
 mod runs;
-#[cfg(test)]
-mod tests;
 mod text;
 mod tokens;
 mod units;

@@ -1,9 +1,13 @@
 -- A run of reads.
-use Rattle.std.proofs.Common.{◌≡◌, ℕ, ◌+◌, ◌≤◌, Bool, IsTrue, Result, List, refl, ◌∙◌, arith}
+use Rattle.std.proofs.Common.{◌≡◌, ℕ, ◌+◌, ◌≤◌, Bool, IsTrue, Result, Ok, Err, List, refl, ◌∙◌, arith}
 use Rattle.ts_disk.specs.Device.{Device, Lawful, LeavesOnly, ReadAt}
 use Rattle.ts_disk.proofs.Moments.{started, calls_on, leaves_map, then_on}
 use Rattle.ts_journal.specs.Moment.{Keeps, OnlyReads}
 use Rattle.ts_journal.proofs.WriteLemmas.{keeps_refl, keeps_then}
+
+-- what is Ok is no error
+pub no_error : {T E : Type 0} (x : T) (e : E) → Ok x ≡ Err e → ⊥
+no_error x e is = cc
 
 pub reads_none : (tells : Bool) (v : Device) → Lawful tells v → OnlyReads tells v v
 reads_none tells v lawful = record {

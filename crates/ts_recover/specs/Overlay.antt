@@ -1,7 +1,7 @@
 -- When each answer of a recovery comes.
-use Rattle.std.specs.Prelude.{◌≡◌, ◌⊎◌, ℕ, Bool, IsTrue, Result, Ok, Err, None}
+use Rattle.std.specs.Prelude.{◌≡◌, ◌⊎◌, ℕ, Bool, IsTrue, Result, Ok, Err, None, List}
 use Rattle.ts_disk.specs.Device.{Device, Rose}
-use Rattle.ts_journal.specs.Journal.{IsVolumeSize, records}
+use Rattle.ts_journal.specs.Journal.{IsVolumeSize, records, IsMalformed}
 use Rattle.ts_recover.specs.declared.replay.RecoverFault.{RecoverFault}
 use Rattle.ts_recover.specs.declared.replay.RecoverFault.TheVariants.{Failed, NotAStore, Memory}
 
@@ -13,6 +13,13 @@ RecoverCause tells (Err Failed) v w = Rose v.faults w.faults
 RecoverCause tells (Err (NotAStore page)) v w =
     ((page ≡ 0) × (IsVolumeSize v.size → ⊥)) ⊎ ((page ≡ 1) × IsVolumeSize v.size × (IsTrue tells → records v.held ≡ None))
 RecoverCause tells (Err (Memory e)) v w = Unit {0}
+
+-- Where page 1 is bad, a record of the journal that is reached through open gates is malformed; and nowhere else.
+abbrev pub PageOneCause : {T : Type 0} → Result T RecoverFault → List ℕ → Type 0
+PageOneCause (Ok replayed) held = ¬ IsMalformed held
+PageOneCause (Err Failed) held = Unit {0}
+PageOneCause (Err (NotAStore page)) held = page ≡ 1 → IsMalformed held
+PageOneCause (Err (Memory e)) held = Unit {0}
 
 -- the same for what only reads on: it finds no page bad by itself
 abbrev pub ReadCause : {T : Type 0} → Result T RecoverFault → Device → Device → Type 0

@@ -1,23 +1,24 @@
 // What an opening reads of the journal, and the settling.
-ghost use Rattle.std.specs.Prelude.{◌≡◌, ◌+◌, ◌*◌, ◌≤◌, ◌<◌, [], length, IsTrue, IsErr, IfOk, OnOk, OnErr};
+ghost use Rattle.std.specs.Prelude.{◌≡◌, ◌+◌, ◌*◌, ◌≤◌, ◌<◌, [], length, IsTrue, IsOk, IsErr, IsErrOf, IfOk, OnOk, OnErr};
 ghost use Rattle.ts_disk.specs.Device.{Only, LeavesOnly, Rose};
+ghost use Rattle.ts_page.specs.Volume.{page_size};
 ghost use Rattle.ts_journal.specs.Entry.{AreAllowed};
-ghost use Rattle.ts_journal.specs.Journal.{IsVolumeSize, page_count, StandsAt, StandsOver, ReadsButFreed, pages};
+ghost use Rattle.ts_journal.specs.Record.{AreBytes};
+ghost use Rattle.ts_journal.specs.Journal.{IsVolumeSize, page_count, StandsAt, StandsOver, StaysUnread, ReadsButFreed, pages};
 ghost use Rattle.ts_journal.specs.Moment.{Keeps, OnlyReads, SamePages};
-ghost use Rattle.ts_recover.specs.Overlay.{RecoverCause};
+ghost use Rattle.ts_recover.specs.Overlay.{RecoverCause, PageOneCause};
 ghost use Rattle.ts_recover.specs.declared.replay.RecoverFault.TheVariants.{Failed as RecoverFailed, Memory as RecoverMemory};
 
 use crate::read::read_journal;
 use std::alloc::{AllocError, Global};
 use ts_disk::{Failed, Volume};
 use ts_journal::{Batch, Journal};
+use ts_page::PAGE;
 
 /// The pages that a volume has before its element pages, and the limits of all its pages.
 const LEAST_PAGES: u64 = 931;
 
 const MOST_PAGES: u64 = 66466;
-
-const PAGE: u64 = 4096;
 
 /// What the journal says of a volume.
 #[derive(Drop)]
@@ -58,10 +59,14 @@ impl From<AllocError> for RecoverFault {
 /// Reads the journal of a volume.
 pub fn recover<V: Volume>(alloc: Global, vol: &mut V) -> Result<Replayed, RecoverFault>
     ensures size { IfOk result (λ r. IsVolumeSize (V.device vol.old).size) }
-    ensures count { IfOk result (λ r. (V.device vol.old).size ≡ 4096 * r.pages) }
+    ensures count { IfOk result (λ r. (V.device vol.old).size ≡ page_size * r.pages) }
     ensures ok { IfOk result (λ r. IsTrue V.tells → StandsOver r.journal r.overlay.entries (V.device vol.old).held) }
+    // What stands behind the journal's end, as an open gate of an older record, isn't read.
+    ensures unread { IfOk result (λ r. IsTrue V.tells → StaysUnread r.journal (V.device vol.old).held) }
     ensures allowed { IfOk result (λ r. AreAllowed (page_count (V.device vol.old).size) r.overlay.entries) }
     ensures cause { RecoverCause V.tells result (V.device vol.old) (V.device vol.new) }
+    ensures malformed { IsTrue V.tells → AreBytes (V.device vol.old).held → PageOneCause result (V.device vol.old).held }
+    ensures no_fault { ¬ IsErrOf result RecoverFault.Failed → (V.device vol.new).faults ≡ (V.device vol.old).faults }
     ensures others { OnlyReads V.tells (V.device vol.old) (V.device vol.new) }
 {
     let bytes = vol.len();
@@ -99,6 +104,7 @@ pub fn settle<V: Volume>(replayed: &mut Replayed, vol: &mut V) -> Result<(), Fai
     ensures err { OnErr result (replayed.new ≡ replayed.old) }
     ensures pages { replayed.new.pages ≡ replayed.old.pages }
     ensures cause { IsErr result → Rose (V.device vol.old).faults (V.device vol.new).faults }
+    ensures no_fault { IsOk result → (V.device vol.new).faults ≡ (V.device vol.old).faults }
     ensures untouched { replayed.old.journal ≡ 0 → vol.new ≡ vol.old }
     ensures others { Keeps V.tells (V.device vol.old) (V.device vol.new) }
     ensures moments { IsTrue V.tells → LeavesOnly (V.device vol.old) (V.device vol.new)

@@ -1,5 +1,5 @@
 -- What was said, read as replies to a list of items. The catalogue, the item and what answers it are left open.
-use Rattle.std.specs.Prelude.{◌≡◌, ◌⊎◌, ℕ, ◌+◌, ◌==◌, Bool, IsTrue, if◌then◌else◌, List, [], ◌∷◌, ◌++◌, length, Option, Some, None, codes}
+use Rattle.std.specs.Prelude.{◌≡◌, ◌⊎◌, ℕ, ◌+◌, ◌==◌, if◌then◌else◌, List, [], ◌∷◌, ◌++◌, length, Option, Some, None, codes}
 
 -- the line that may stand in the place of a reply for want of memory
 abbrev pub memory_line : List ℕ
@@ -26,51 +26,67 @@ pub record Heard (C I : Type 0) : Type 0 where
 abbrev pub Answer : Type 0 → Type 0 → Type 0
 Answer C I = C → I → List ℕ × C
 
+-- How the items of a script are answered, and what an image means.
+pub record Protocol (C I : Type 0) : Type 1 where
+  pub answer : Answer C I
+  -- the line that may stand in the place of the reply for want of memory, where one may
+  pub stand_in : I → Option (List ℕ)
+  pub means : List ℕ → C → Type 0
+
 -- the first that is there: what stands behind the reply, with the next catalogue, or behind the memory line, with this one
 abbrev pub first_heard : {C : Type 0} → C → C → Option (List ℕ) → Option (List ℕ) → Option (C × List ℕ)
 first_heard next cat (Some rest) memory = Some (next, rest)
 first_heard next cat None (Some rest) = Some (cat, rest)
 first_heard next cat None None = None
 
--- After a whole reply to the item, or its memory line: the catalogue, and what stands behind. `lacks` tells the items
--- that may find no memory.
-abbrev pub hear : {C I : Type 0} → Answer C I → (I → Bool) → C → I → List ℕ → Option (C × List ℕ)
-hear answer lacks cat item said =
-    first_heard (answer cat item).1 cat (behind (answer cat item).0 said) (if lacks item then behind memory_line said else None)
+-- what stands behind this line, if there is one
+abbrev pub behind_stand_in : Option (List ℕ) → List ℕ → Option (List ℕ)
+behind_stand_in None said = None
+behind_stand_in (Some line) said = behind line said
+
+-- after a whole reply to the item, or the line in its place: the catalogue, and what stands behind
+abbrev pub hear : {C I : Type 0} → Protocol C I → C → I → List ℕ → Option (C × List ℕ)
+hear p cat item said = first_heard (p.answer cat item).1 cat (behind (p.answer cat item).0 said) (behind_stand_in (p.stand_in item) said)
 
 -- one reply more
 abbrev pub one_more : {C I : Type 0} → Heard C I → Heard C I
 one_more h = record h { count = h.count + 1 }
 
 -- the whole replies at the front of what was said, one item after the other
-abbrev pub heard : {C I : Type 0} → Answer C I → (I → Bool) → C → List I → List ℕ → Heard C I
-heard answer lacks cat [] said = record { count = 0; catalogue = cat; waiting = []; rest = said }
-heard answer lacks cat (item ∷ items) said =
-    elim (hear answer lacks cat item said) [
-      | Some after ↦ one_more (heard answer lacks after.0 items after.1)
+abbrev pub heard : {C I : Type 0} → Protocol C I → C → List I → List ℕ → Heard C I
+heard p cat [] said = record { count = 0; catalogue = cat; waiting = []; rest = said }
+heard p cat (item ∷ items) said =
+    elim (hear p cat item said) [
+      | Some after ↦ one_more (heard p after.0 items after.1)
       | None ↦ record { count = 0; catalogue = cat; waiting = item ∷ items; rest = said }
     ]
 
 -- what else was said is the front of a reply that the next item may have, and nothing where there is no next item
-abbrev pub CanFollow : {C I : Type 0} → Answer C I → (I → Bool) → C → List I → List ℕ → Type 0
-CanFollow answer lacks cat [] rest = rest ≡ []
-CanFollow answer lacks cat (item ∷ items) rest = IsFront rest (answer cat item).0 ⊎ (IsTrue (lacks item) × IsFront rest memory_line)
+abbrev pub CanFollow : {C I : Type 0} → Protocol C I → C → List I → List ℕ → Type 0
+CanFollow p cat [] rest = rest ≡ []
+CanFollow p cat (item ∷ items) rest = IsFront rest (p.answer cat item).0 ⊎ ((line : List ℕ) × (p.stand_in item ≡ Some line) × IsFront rest line)
 
 -- what was said is replies to the items in their order, the last of them perhaps in part
-abbrev pub IsFair : {C I : Type 0} → Answer C I → (I → Bool) → C → List I → List ℕ → Type 0
-IsFair answer lacks cat items said = let h = heard answer lacks cat items said in CanFollow answer lacks h.catalogue h.waiting h.rest
+abbrev pub IsFair : {C I : Type 0} → Protocol C I → C → List I → List ℕ → Type 0
+IsFair p cat items said = let h = heard p cat items said in CanFollow p h.catalogue h.waiting h.rest
 
 -- every item has its whole reply, and this is the catalogue after them
-abbrev pub AllAnswered : {C I : Type 0} → Answer C I → (I → Bool) → C → List I → List ℕ → C → Type 0
-AllAnswered answer lacks cat items said last =
-    heard answer lacks cat items said ≡ record { count = length items; catalogue = last; waiting = []; rest = [] }
+abbrev pub AllAnswered : {C I : Type 0} → Protocol C I → C → List I → List ℕ → C → Type 0
+AllAnswered p cat items said last =
+    heard p cat items said ≡ record { count = length items; catalogue = last; waiting = []; rest = [] }
 
--- one step: the answer, or the memory line, which changes nothing
-abbrev pub IsStep : {C I : Type 0} → Answer C I → (I → Bool) → C → I → List ℕ → C → Type 0
-IsStep answer lacks cat item reply next =
-    ((reply ≡ (answer cat item).0) × (next ≡ (answer cat item).1)) ⊎ (IsTrue (lacks item) × (reply ≡ memory_line) × (next ≡ cat))
+-- one step: the answer, or the line in its place, which changes nothing
+abbrev pub IsStep : {C I : Type 0} → Protocol C I → C → I → List ℕ → C → Type 0
+IsStep p cat item reply next =
+    ((reply ≡ (p.answer cat item).0) × (next ≡ (p.answer cat item).1)) ⊎ ((p.stand_in item ≡ Some reply) × (next ≡ cat))
 
 -- The replies and the memory line tell one another apart: none begins with the other, and none is empty.
 pub record AreApart {C I : Type 0} (answer : Answer C I) : Type 0 where
   pub memory : (cat : C) (item : I) (x : List ℕ) → behind (answer cat item).0 (memory_line ++ x) ≡ None
   pub reply : (cat : C) (item : I) → behind memory_line (answer cat item).0 ≡ None
+
+-- The replies and the lines in their place tell one another apart: none begins with the other, and no reply is empty.
+pub record TellsApart {C I : Type 0} (p : Protocol C I) : Type 0 where
+  pub line : (cat : C) (item : I) (line x : List ℕ) → p.stand_in item ≡ Some line → behind (p.answer cat item).0 (line ++ x) ≡ None
+  pub reply : (cat : C) (item : I) (line : List ℕ) → p.stand_in item ≡ Some line → behind line (p.answer cat item).0 ≡ None
+  pub some : (cat : C) (item : I) → behind (p.answer cat item).0 [] ≡ None

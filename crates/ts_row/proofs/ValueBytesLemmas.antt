@@ -88,6 +88,13 @@ all_zero-is (b ∷ bytes) zeros =
     let others : all_zero bytes ≡ true = grind (arith, nat_tests) in
     ap (λ c. c ∷ bytes) first ∙ ap (λ l. 0 ∷ l) (all_zero-is bytes others)
 
+-- so a test of all bytes tells zeros
+pub zeros_told : (bytes : List ℕ) (told : Bool) → told ≡ all_zero bytes → (told ≡ true → bytes ≡ replicate (length bytes) 0) × (bytes ≡ replicate (length bytes) 0 → told ≡ true)
+zeros_told bytes told is = (
+  (λ yes. all_zero-is bytes (sym is ∙ yes)),
+  (λ same. is ∙ ap all_zero same ∙ all_zero-replicate (length bytes)),
+)
+
 -- zeros are NULL's bytes
 value_in-zeros : (kind : ColumnKind) (n : ℕ) → 0 < n → value_in kind (replicate n 0) ≡ Some Null
 value_in-zeros kind zero some = absurd (omega arith)

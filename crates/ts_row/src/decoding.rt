@@ -5,6 +5,7 @@ ghost use Rattle.std.specs.Int.{cast_signed, from_be_bytes, w64};
 ghost use Rattle.ts_row.specs.RowType.{column_width, is_kind};
 ghost use Rattle.ts_row.specs.Decoding.{all_zero, number_in, text_in, filled_in, value_in, row_in};
 
+use crate::zeros::is_zero;
 use crate::{Column, ColumnKind, Row, Value};
 use std::alloc::{AllocError, Global};
 use ts_base::{Bytes, is_text};
@@ -131,11 +132,4 @@ fn decode_text(alloc: Global, most: u16, bytes: &[u8]) -> Result<Option<Value>, 
         return Ok(None);
     }
     Ok(Some(Value::Text(Bytes::from_slice(alloc, text)?)))
-}
-
-/// Zeros and nothing else.
-pub(crate) fn is_zero(bytes: &[u8]) -> bool
-    ensures { result ≡ all_zero bytes.now }
-{
-    bytes.iter().all(|byte| *byte == 0)
 }

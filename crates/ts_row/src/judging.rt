@@ -4,7 +4,8 @@ ghost use Rattle.std.specs.List.{list_all};
 ghost use Rattle.ts_row.specs.RowType.{column_width, is_kind};
 ghost use Rattle.ts_row.specs.Decoding.{text_in, filled_in, value_in, row_in};
 
-use crate::decoding::{decode_number, is_zero};
+use crate::decoding::decode_number;
+use crate::zeros::is_zero;
 use crate::{Column, ColumnKind};
 use ts_base::is_text;
 

@@ -16,9 +16,8 @@ mod print;
 mod row;
 mod row_type;
 mod rules;
-#[cfg(test)]
-mod tests;
 mod value;
+mod zeros;
 
 pub use kind::{Column, ColumnKind};
 pub use laws::{printed_digits_write_the_size, printed_values_fit_again};
@@ -26,3 +25,4 @@ pub use print::print_value;
 pub use row::{Elem, Row, Shelf};
 pub use row_type::RowType;
 pub use value::{Literal, Value};
+pub use zeros::is_zero;

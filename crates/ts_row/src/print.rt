@@ -1,9 +1,8 @@
 // What is printed of values and rows.
-ghost use Rattle.std.specs.Prelude.{◌≡◌, ◌≤◌, ◌++◌, IsTrue, OnOk, OnErr};
+ghost use Rattle.std.specs.Prelude.{◌≡◌, ◌↔◌, ◌⊎◌, ◌≤◌, ◌++◌, IsTrue, OnOk, OnErr, length};
 ghost use Rattle.std.specs.List.{list_all, flat_map};
 ghost use Rattle.std.specs.Fmt.{decimal};
 ghost use Rattle.ts_row.specs.RowType.{is_kind};
-ghost use Rattle.ts_row.specs.Row.{fits};
 ghost use Rattle.ts_row.specs.Printed.{last_digits, fraction_text, size_text, number_text, quoted, value_text, row_text, Extends};
 
 use crate::{Column, Value};
@@ -11,8 +10,9 @@ use std::alloc::{AllocError, Global};
 use ts_base::Bytes;
 
 /// Prints a value, a number as a decimal with this scale. Want of memory changes nothing.
+#[tactic(auto, using(crate::proofs::PrintLemmas::cut_back))]
 pub fn print_value(
-    alloc: Global,
+    _alloc: Global,
     value: &Value,
     scale: u8,
     out: &mut Bytes,
@@ -21,19 +21,23 @@ pub fn print_value(
     ensures ok { OnOk result (out.new ≡ out.old ++ value_text scale value.now) }
     ensures err { OnErr result (out.new ≡ out.old) }
 {
-    let mut made = Bytes::new(alloc);
-    print_scaled(value, scale as u32, &mut made)?;
-    out.extend_from_slice(made.as_slice())
+    let before = out.as_slice().len();
+    match print_scaled(value, scale as u32, out) {
+        Ok(()) => Ok(()),
+        Err(error) => {
+            out.truncate(before);
+            Err(error)
+        }
+    }
 }
 
-// Prints the values of a row with commas between them.
+// Prints values, each as its column prints it, with commas between them.
 pub(crate) fn print_row(
     columns: &[Column],
     values: &[Value],
     out: &mut Bytes,
 ) -> Result<(), AllocError>
     requires kinds { IsTrue (list_all (λ c. is_kind c.kind) columns.now) }
-    requires fits { IsTrue (fits columns.now values.now) }
     ensures ok { OnOk result (out.new ≡ out.old ++ row_text columns.now values.now) }
     ensures err { OnErr result (Extends out.old out.new) }
 {
@@ -44,11 +48,18 @@ pub(crate) fn print_row(
         return Ok(());
     };
     print_scaled(value, column.kind.scale() as u32, out)?;
-    if columns.is_empty() {
+    if is_end(columns, values) {
         return Ok(());
     }
     out.push(b',')?;
     print_row(columns, values, out)
+}
+
+// Whether there are no columns or no values.
+fn is_end(columns: &[Column], values: &[Value]) -> bool
+    ensures { IsTrue result ↔ (length columns.now ≡ 0) ⊎ (length values.now ≡ 0) }
+{
+    columns.is_empty() || values.is_empty()
 }
 
 // Prints a value, a number as a decimal with this scale.

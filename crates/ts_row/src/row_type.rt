@@ -127,15 +127,20 @@ impl RowType {
         is_row(self.columns.as_slice(), from)
     }
 
-    /// Prints the values of a row with commas between them. Want of memory changes nothing.
+    /// Prints the values of a row, each as its column prints it, with commas between them. Want of memory changes nothing.
+    #[tactic(auto, using(crate::proofs::PrintLemmas::cut_back))]
     pub fn print(&self, row: &Row, out: &mut Bytes) -> Result<(), AllocError>
-        requires { IsTrue (fits self.now.columns row.now) }
         ensures ok { OnOk result (out.new ≡ out.old ++ row_text self.now.columns row.now) }
         ensures err { OnErr result (out.new ≡ out.old) }
     {
-        let mut made = Bytes::new(*self.columns.allocator());
-        print_row(self.columns.as_slice(), row.values(), &mut made)?;
-        out.extend_from_slice(made.as_slice())
+        let before = out.as_slice().len();
+        match print_row(self.columns.as_slice(), row.values(), out) {
+            Ok(()) => Ok(()),
+            Err(error) => {
+                out.truncate(before);
+                Err(error)
+            }
+        }
     }
 }
 

@@ -3,7 +3,7 @@ use Rattle.std.proofs.Common.{◌≡◌, ℕ, Bool, true, false, cond, List, [],
 use Rattle.std.proofs.lemmas.List.{map-append}
 use Rattle.ts_disk.specs.Device.{Device, Lawful}
 use Rattle.ts_items.specs.Items.{Item, items_from, place_from, is_unended_at, Unended}
-use Rattle.ts_items.specs.ItemLaws.{items_from-append}
+use Rattle.ts_items.proofs.ItemLaws.{items_from-append}
 use Rattle.ts_items.specs.declared.reader.Cut.{Cut}
 use Rattle.ts_items.specs.declared.reader.Cut.TheVariants as cuts
 use Rattle.ts_base.specs.declared.refusal.Refusal.TheVariants as refusals

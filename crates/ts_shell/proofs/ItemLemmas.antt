@@ -1,5 +1,5 @@
 -- One request: what is said, and what a stop within it leaves.
-use Rattle.std.proofs.Common.{◌≡◌, ◌⊎◌, inl, inr, ℕ, ◌≤◌, Bool, true, false, IsTrue, codes, List, [], ◌∷◌, ◌++◌, length, take, drop, Result, Ok, Err, IsErr, refl, sym, ◌∙◌, ap, subst, arith, take-append-drop}
+use Rattle.std.proofs.Common.{◌≡◌, ◌⊎◌, inl, inr, ℕ, ◌≤◌, Bool, true, false, IsTrue, codes, List, [], ◌∷◌, ◌++◌, length, take, drop, Option, Some, Result, Ok, Err, IsErr, refl, sym, ◌∙◌, ap, subst, arith, take-append-drop, IsErrOf}
 use Rattle.std.specs.Fmt.{digits}
 use Rattle.std.proofs.lemmas.List.{append-nil}
 use Rattle.ts_disk.specs.Device.{Device, Lawful, Within, LeavesOnly, Says, Rose}
@@ -22,15 +22,15 @@ use Rattle.ts_replies.specs.Acknowledged.{IsFront, IsStep, memory_line}
 use Rattle.ts_replies.proofs.Steps.{one_answered, one_fair, one_good, one_waits, none_good}
 use Rattle.ts_engine.specs.declared.fault.StepFault.{StepFault}
 use Rattle.ts_engine.specs.declared.fault.StepFault.TheVariants as faults
-use Rattle.ts_engine.specs.Answer.{answer, outcome, may_lack_memory}
-use Rattle.ts_engine.specs.Reply.{refusal_line}
+use Rattle.ts_answer.specs.Answer.{answer, outcome}
+use Rattle.ts_answer.specs.Reply.{refusal_line}
 use Rattle.ts_engine.specs.Volume.{MeansCatalogue}
 use Rattle.ts_engine.specs.Engine.{Kept, IsReady, IsAt}
 use Rattle.ts_engine.specs.Step.{Stepped}
-use Rattle.ts_engine.proofs.ApartLemmas.{apart}
 use Rattle.ts_shell.specs.declared.fault.RunFault.{RunFault}
 use Rattle.ts_shell.specs.declared.fault.RunFault.TheVariants.{Disk, Output}
-use Rattle.ts_shell.specs.Run.{IsGoodRun, Ran}
+use Rattle.ts_shell.proofs.ApartLemmas.{apart}
+use Rattle.ts_shell.specs.Run.{script, IsGoodRun, Ran}
 
 -- the two truth values are apart
 pub never : {A : Type 0} → IsTrue false → A
@@ -71,6 +71,13 @@ module _ (tells : Bool) (e : Kept) (v w : Device) (size : w.size ≡ v.size) (he
   pub at_same : (cat : Catalogue) → IsAt tells e cat v → IsAt tells e cat w
   at_same cat at = record { ready = ready_same at.ready; means = subst (λ (l : List ℕ). MeansCatalogue l cat) (sym held) at.means }
 
+-- a step that the disk doesn't fail leaves the count
+step_leaves : (tells : Bool) (command : Command) (r : Result Unit StepFault) (out : List ℕ) (e f : Kept) (v x : Device) → Stepped tells command r out e f v x → ¬ IsErrOf r faults.Disk → x.faults ≡ v.faults
+step_leaves tells command (Ok y) out e f v x stepped other = stepped.no_fault
+step_leaves tells command (Err faults.Disk) out e f v x stepped other = absurd (other refl)
+step_leaves tells command (Err (faults.Memory error)) out e f v x stepped other = stepped.fault.2
+step_leaves tells command (Err (faults.Closed count)) out e f v x stepped other = absurd stepped.fault
+
 -- an image that means the catalogue before a request or the one after it, and nothing said
 abbrev pub Waits : Catalogue → Request → Device → List ℕ → List ℕ → Type 0
 Waits cat request v image said = (MeansCatalogue image cat ⊎ MeansCatalogue image (answer cat request).1) × (said ≡ v.said)
@@ -78,17 +85,19 @@ Waits cat request v image said = (MeansCatalogue image cat ⊎ MeansCatalogue im
 -- An engine goes on by one request, with no word said. This line is the reply.
 pub record Steps (tells : Bool) (request : Request) (line : List ℕ) (e f : Kept) (v x : Device) : Type 0 where
   pub ready : IsReady tells f x
-  pub step : IsTrue tells → (cat : Catalogue) → IsAt tells e cat v → (next : Catalogue) × IsStep answer may_lack_memory cat request line next × IsAt tells f next x
+  pub step : IsTrue tells → (cat : Catalogue) → IsAt tells e cat v → (next : Catalogue) × IsStep script cat request line next × IsAt tells f next x
   pub waits : IsTrue tells → (cat : Catalogue) → IsAt tells e cat v → LeavesOnly v x (Waits cat request v)
   pub keeps : Keeps tells v x
+  pub no_fault : x.faults ≡ v.faults
 
 -- nothing but the reply is said
-pub steps_here : (tells : Bool) (request : Request) (line : List ℕ) (e : Kept) (v : Device) → Lawful tells v → IsReady tells e v → ((cat : Catalogue) → IsStep answer may_lack_memory cat request line cat) → Steps tells request line e e v v
+pub steps_here : (tells : Bool) (request : Request) (line : List ℕ) (e : Kept) (v : Device) → Lawful tells v → IsReady tells e v → ((cat : Catalogue) → IsStep script cat request line cat) → Steps tells request line e e v v
 steps_here tells request line e v lawful ready step = record {
   ready = ready;
   step = λ told cat at. (cat, step cat, at);
   waits = λ told cat at. started tells v (Waits cat request v) lawful (λ image now. (inl (subst (λ (l : List ℕ). MeansCatalogue l cat) (sym (at.ready.idle.over.settled image now)) at.means), refl));
   keeps = record { size = refl; said = refl; say_faults = refl; faults = omega arith; syncs = λ told. omega arith };
+  no_fault = refl;
 }
 
 -- a command is carried out
@@ -98,6 +107,7 @@ steps_done tells command out e f v x stepped = record {
   step = λ told cat at. let done = stepped.answered told cat at in ((answer cat (Ok command)).1, inl (done.0, refl), done.1);
   waits = stepped.moments;
   keeps = stepped.others;
+  no_fault = step_leaves tells command (Ok tt) out e f v x stepped (λ is. absurd (cc));
 }
 
 -- there is no memory for a command
@@ -108,28 +118,29 @@ steps_wanting tells command r error out e f v x is stepped =
     let same = here.fault.0 in
     record {
       ready = here.fault.1;
-      step = λ told cat at. (cat, inr (refl, refl, refl), record { ready = here.fault.1; means = subst (λ (l : List ℕ). MeansCatalogue l cat) (sym same.disk.held) at.means });
+      step = λ told cat at. (cat, inr (refl, refl), record { ready = here.fault.1; means = subst (λ (l : List ℕ). MeansCatalogue l cat) (sym same.disk.held) at.means });
       waits = here.moments;
       keeps = here.others;
+      no_fault = step_leaves tells command (Err (faults.Memory error)) out e f v x here (λ is. absurd (cc));
     }
 
 module _ (tells : Bool) (request : Request) (line : List ℕ) (e f : Kept) (v x : Device) (steps : Steps tells request line e f v x) where
   module _ (told : IsTrue tells) (cat : Catalogue) (at : IsAt tells e cat v) where
-    waits_good : (image said : List ℕ) → Waits cat request v image said → IsGoodRun cat (request ∷ []) v.said image said
-    waits_good image said now = ([], now.1 ∙ sym (append-nil v.said), one_waits answer may_lack_memory apart (MeansCatalogue image) cat request now.0)
+    waits_good : (image said : List ℕ) → Waits cat request v image said → IsGoodRun script cat (request ∷ []) v.said image said
+    waits_good image said now = ([], now.1 ∙ sym (append-nil v.said), one_waits script apart (MeansCatalogue image) cat request now.0)
 
-    pub silent_moments : LeavesOnly v x (IsGoodRun cat (request ∷ []) v.said)
-    silent_moments = leaves_map v x (Waits cat request v) (IsGoodRun cat (request ∷ []) v.said) waits_good (steps.waits told cat at)
+    pub silent_moments : LeavesOnly v x (IsGoodRun script cat (request ∷ []) v.said)
+    silent_moments = leaves_map v x (Waits cat request v) (IsGoodRun script cat (request ∷ []) v.said) waits_good (steps.waits told cat at)
 
     module _ {E : Type 0} (w : Device) (q : Result Unit E) (says : Says tells line q x w) where
-      pub saying_moments : LeavesOnly v w (IsGoodRun cat (request ∷ []) v.said)
+      pub saying_moments : LeavesOnly v w (IsGoodRun script cat (request ∷ []) v.said)
       saying_moments =
           let next = steps.step told cat at in
-          goes_on v x w (IsGoodRun cat (request ∷ []) v.said) _ silent_moments says.time (λ image said now.
+          goes_on v x w (IsGoodRun script cat (request ∷ []) v.said) _ silent_moments says.time (λ image said now.
           let here : MeansCatalogue image next.0 = subst (λ (l : List ℕ). MeansCatalogue l next.0) (sym (next.2.ready.idle.over.settled image (says.crash image now.0))) next.2.means in (
             take now.1.0 line,
             now.1.1 ∙ ap (λ (l : List ℕ). l ++ take now.1.0 line) steps.keeps.said,
-            one_good answer may_lack_memory apart (MeansCatalogue image) cat request line (take now.1.0 line) next.0 next.1 (front_of now.1.0 line) here,
+            one_good script apart (MeansCatalogue image) cat request line (take now.1.0 line) next.0 next.1 (front_of now.1.0 line) here,
           ))
 
   -- its reply is said
@@ -142,18 +153,20 @@ module _ (tells : Bool) (request : Request) (line : List ℕ) (e f : Kept) (v x 
           gained = line;
           last = next.0;
           said = says.said told ∙ ap (λ (l : List ℕ). l ++ line) steps.keeps.said;
-          all = one_answered answer may_lack_memory apart cat request line next.0 next.1;
+          all = one_answered script apart cat request line next.0 next.1;
           at = at_same tells f x w says.size says.held says.faults says.crash next.0 next.2;
         };
     fair = λ told cat at.
         let next = steps.step told cat at in (
           line,
           says.said told ∙ ap (λ (l : List ℕ). l ++ line) steps.keeps.said,
-          one_fair answer may_lack_memory apart cat request line line next.0 next.1 ([], sym (append-nil line)),
+          one_fair script apart cat request line line next.0 next.1 ([], sym (append-nil line)),
         );
     moments = λ told cat at. saying_moments told cat at w (Ok y) says;
     disk = λ is. absurd (cc);
     output = λ is. absurd (cc);
+    no_fault = λ no. says.faults ∙ steps.no_fault;
+    no_say_fault = λ no. says.no_fault refl ∙ steps.keeps.say_faults;
     size = says.size ∙ steps.keeps.size;
     faults = omega (arith, steps.keeps.faults, says.faults);
     say_faults = omega (arith, steps.keeps.say_faults, says.say_faults);
@@ -167,11 +180,13 @@ module _ (tells : Bool) (request : Request) (line : List ℕ) (e f : Kept) (v x 
         let part = says.part in (
           take part.0 line,
           part.1 ∙ ap (λ (l : List ℕ). l ++ take part.0 line) steps.keeps.said,
-          one_fair answer may_lack_memory apart cat request line (take part.0 line) next.0 next.1 (front_of part.0 line),
+          one_fair script apart cat request line (take part.0 line) next.0 next.1 (front_of part.0 line),
         );
     moments = λ told cat at. saying_moments told cat at w (Err y) says;
     disk = λ is. absurd (let clash : ◌≡◌ {A = Result Unit RunFault} (Err Disk) (Err Output) = sym is ∙ fault refl in cc);
     output = λ is. rose_on v.say_faults x.say_faults w.say_faults (omega (arith, steps.keeps.say_faults)) (says.cause refl);
+    no_fault = λ no. says.faults ∙ steps.no_fault;
+    no_say_fault = λ no. absurd (no (fault refl));
     size = says.size ∙ steps.keeps.size;
     faults = omega (arith, steps.keeps.faults, says.faults);
     say_faults = omega (arith, steps.keeps.say_faults, says.say_faults);
@@ -179,11 +194,11 @@ module _ (tells : Bool) (request : Request) (line : List ℕ) (e f : Kept) (v x 
   }
 
 -- a line is said, and nothing else is done
-pub line_ran : (tells : Bool) (request : Request) (line : List ℕ) (e : Kept) (v w : Device) (q : Result Unit RunFault) → Lawful tells v → IsReady tells e v → ((cat : Catalogue) → IsStep answer may_lack_memory cat request line cat) → Says tells line q v w → (IsErr q → q ≡ Err Output) → Ran tells (request ∷ []) q e e v w
+pub line_ran : (tells : Bool) (request : Request) (line : List ℕ) (e : Kept) (v w : Device) (q : Result Unit RunFault) → Lawful tells v → IsReady tells e v → ((cat : Catalogue) → IsStep script cat request line cat) → Says tells line q v w → (IsErr q → q ≡ Err Output) → Ran tells (request ∷ []) q e e v w
 line_ran tells request line e v w q lawful ready step = said_ran tells request line e e v v (steps_here tells request line e v lawful ready step) w q
 
 -- a request that is refused is answered by the line of its refusal
-pub refused_step : (refusal : Refusal) (line : List ℕ) → refusal_line refusal ≡ line → (cat : Catalogue) → IsStep answer may_lack_memory cat (Err refusal) line cat
+pub refused_step : (refusal : Refusal) (line : List ℕ) → refusal_line refusal ≡ line → (cat : Catalogue) → IsStep script cat (Err refusal) line cat
 unfolding answer outcome
 refused_step refusal line same cat = inl (sym same, refl)
 
@@ -209,9 +224,9 @@ pub syntax_at : (trouble : Trouble) (refusal : Refusal) (read : Result Command �
 syntax_at trouble refusal read is cause = syntax_of refusal read (subst (λ (t : Trouble). IsCause t read) is cause)
 
 -- the memory line may stand in the place of the reply to a statement
-pub statement_lacks : (r : Result Command ℕ) → may_lack_memory (or_syntax r) ≡ true
-statement_lacks (Ok command) = refl
-statement_lacks (Err place) = refl
+pub statement_stand_in : (r : Result Command ℕ) → script.stand_in (or_syntax r) ≡ Some memory_line
+statement_stand_in (Ok command) = refl
+statement_stand_in (Err place) = refl
 
 -- the disk failed, and nothing was said
 pub failed_ran : (tells : Bool) (command : Command) (r : Result Unit StepFault) (out : List ℕ) (e f : Kept) (v x : Device) → r ≡ Err faults.Disk → Stepped tells command r out e f v x → Ran {T = Unit} tells (Ok command ∷ []) (Err Disk) e f v x
@@ -221,13 +236,15 @@ failed_ran tells command r out e f v x is stepped =
     record {
       ready = tt;
       answered = tt;
-      fair = λ told cat at. ([], here.others.said ∙ sym (append-nil v.said), (none_good answer may_lack_memory apart (λ c. Unit {0}) cat (Ok command ∷ []) tt).fair);
+      fair = λ told cat at. ([], here.others.said ∙ sym (append-nil v.said), (none_good script apart (λ c. Unit {0}) cat (Ok command ∷ []) tt).fair);
       moments = λ told cat at.
-          leaves_map v x (Waits cat (Ok command) v) (IsGoodRun cat (Ok command ∷ []) v.said)
-          (λ image said now. ([], now.1 ∙ sym (append-nil v.said), one_waits answer may_lack_memory apart (MeansCatalogue image) cat (Ok command) now.0))
+          leaves_map v x (Waits cat (Ok command) v) (IsGoodRun script cat (Ok command ∷ []) v.said)
+          (λ image said now. ([], now.1 ∙ sym (append-nil v.said), one_waits script apart (MeansCatalogue image) cat (Ok command) now.0))
           (here.moments told cat at);
       disk = λ e. here.fault.0;
       output = λ e. absurd (cc);
+      no_fault = λ no. absurd (no refl);
+      no_say_fault = λ no. here.others.say_faults;
       size = here.others.size;
       faults = here.others.faults;
       say_faults = omega (arith, here.others.say_faults);

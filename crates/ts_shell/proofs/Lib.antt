@@ -1,3 +1,4 @@
+mod ApartLemmas
 pub mod NumberLemmas
 pub mod ItemLemmas
 pub mod RanLemmas

@@ -7,22 +7,21 @@ use Rattle.ts_command.specs.Script.{Request}
 use Rattle.ts_replies.proofs.Steps.{none_good, answered_then, moment_more, moment_then}
 use Rattle.ts_replies.proofs.Hearing.{fair_more, fair_then}
 use Rattle.ts_model.specs.Catalogue.{Catalogue}
-use Rattle.ts_engine.specs.Answer.{answer, may_lack_memory}
 use Rattle.ts_engine.specs.Volume.{MeansCatalogue}
 use Rattle.ts_engine.specs.Engine.{Kept, IsReady, IsAt}
-use Rattle.ts_engine.proofs.ApartLemmas.{apart}
 use Rattle.ts_shell.specs.declared.fault.RunFault.{RunFault}
 use Rattle.ts_shell.specs.declared.fault.RunFault.TheVariants.{Disk, Output}
-use Rattle.ts_shell.specs.Run.{IsGoodRun, SaysFairly, Answered, Ran}
+use Rattle.ts_shell.proofs.ApartLemmas.{apart}
+use Rattle.ts_shell.specs.Run.{script, IsGoodRun, SaysFairly, Answered, Ran}
 use Rattle.ts_shell.proofs.ItemLemmas.{rose_on}
 
 -- a moment in which nothing was done yet
-pub good_now : (tells : Bool) (e : Kept) (cat : Catalogue) (asked : List Request) (v : Device) → Lawful tells v → IsAt tells e cat v → LeavesOnly v v (IsGoodRun cat asked v.said)
+pub good_now : (tells : Bool) (e : Kept) (cat : Catalogue) (asked : List Request) (v : Device) → Lawful tells v → IsAt tells e cat v → LeavesOnly v v (IsGoodRun script cat asked v.said)
 good_now tells e cat asked v lawful at =
-    started tells v (IsGoodRun cat asked v.said) lawful (λ image now. (
+    started tells v (IsGoodRun script cat asked v.said) lawful (λ image now. (
       [],
       sym (append-nil v.said),
-      none_good answer may_lack_memory apart (MeansCatalogue image) cat asked (subst (λ (l : List ℕ). MeansCatalogue l cat) (sym (at.ready.idle.over.settled image now)) at.means),
+      none_good script apart (MeansCatalogue image) cat asked (subst (λ (l : List ℕ). MeansCatalogue l cat) (sym (at.ready.idle.over.settled image now)) at.means),
     ))
 
 -- no request at all
@@ -34,6 +33,8 @@ ran_none tells done e v lawful ready = record {
   moments = λ told cat at. good_now tells e cat [] v lawful at;
   disk = λ is. absurd (cc);
   output = λ is. absurd (cc);
+  no_fault = λ no. refl;
+  no_say_fault = λ no. refl;
   size = refl;
   faults = omega arith;
   say_faults = omega arith;
@@ -49,6 +50,8 @@ ran_as tells asked done value e f v w run = record {
   moments = run.moments;
   disk = λ is. absurd (cc);
   output = λ is. absurd (cc);
+  no_fault = λ no. run.no_fault (λ is. absurd (cc));
+  no_say_fault = λ no. run.no_say_fault (λ is. absurd (cc));
   size = run.size;
   faults = run.faults;
   say_faults = run.say_faults;
@@ -67,6 +70,8 @@ ran_failed_as {T} {U} tells asked fault e f v w run = record {
   moments = run.moments;
   disk = λ is. run.disk (same_fault {T = T} {U = U} fault Disk is);
   output = λ is. run.output (same_fault {T = T} {U = U} fault Output is);
+  no_fault = λ no. run.no_fault (λ is. no (same_fault {T = U} {U = T} fault Disk is));
+  no_say_fault = λ no. run.no_say_fault (λ is. no (same_fault {T = U} {U = T} fault Output is));
   size = run.size;
   faults = run.faults;
   say_faults = run.say_faults;
@@ -78,11 +83,13 @@ pub ran_front : {T U : Type 0} (tells : Bool) (asked others : List Request) (fau
 ran_front {T} {U} tells asked others fault e f v w run = record {
   ready = tt;
   answered = tt;
-  fair = λ told cat at. let fair = run.fair told cat at in (fair.0, fair.1, fair_more answer may_lack_memory apart cat asked others fair.0 fair.2);
+  fair = λ told cat at. let fair = run.fair told cat at in (fair.0, fair.1, fair_more script apart cat asked others fair.0 fair.2);
   moments = λ told cat at.
-      leaves_map v w (IsGoodRun cat asked v.said) (IsGoodRun cat (asked ++ others) v.said) (λ image said. moment_more answer may_lack_memory apart MeansCatalogue image said v.said cat asked others) (run.moments told cat at);
+      leaves_map v w (IsGoodRun script cat asked v.said) (IsGoodRun script cat (asked ++ others) v.said) (λ image said. moment_more script apart image said v.said cat asked others) (run.moments told cat at);
   disk = λ is. run.disk (same_fault {T = T} {U = U} fault Disk is);
   output = λ is. run.output (same_fault {T = T} {U = U} fault Output is);
+  no_fault = λ no. run.no_fault (λ is. no (same_fault {T = U} {U = T} fault Disk is));
+  no_say_fault = λ no. run.no_say_fault (λ is. no (same_fault {T = U} {U = T} fault Output is));
   size = run.size;
   faults = run.faults;
   say_faults = run.say_faults;
@@ -95,18 +102,18 @@ module _ {T : Type 0} (tells : Bool) (asked others : List Request) (done : T) (e
     abbrev so_far : Answered tells cat asked f v x
     so_far = first.answered told cat at
 
-    fair_behind : SaysFairly so_far.last others x w → SaysFairly cat (asked ++ others) v w
+    fair_behind : SaysFairly script so_far.last others x w → SaysFairly script cat (asked ++ others) v w
     fair_behind fair = (
       so_far.gained ++ fair.0,
       fair.1 ∙ ap (λ (l : List ℕ). l ++ fair.0) so_far.said ∙ append_assoc v.said so_far.gained fair.0,
-      fair_then answer may_lack_memory apart cat asked others so_far.gained fair.0 (length asked) so_far.last so_far.all fair.2,
+      fair_then script apart cat asked others so_far.gained fair.0 (length asked) so_far.last so_far.all fair.2,
     )
 
-    good_behind : LeavesOnly x w (IsGoodRun so_far.last others x.said) → LeavesOnly v w (IsGoodRun cat (asked ++ others) v.said)
+    good_behind : LeavesOnly x w (IsGoodRun script so_far.last others x.said) → LeavesOnly v w (IsGoodRun script cat (asked ++ others) v.said)
     good_behind good =
-        then_on v x w (IsGoodRun cat (asked ++ others) v.said)
-        (leaves_map v x (IsGoodRun cat asked v.said) (IsGoodRun cat (asked ++ others) v.said) (λ image said. moment_more answer may_lack_memory apart MeansCatalogue image said v.said cat asked others) (first.moments told cat at))
-        (leaves_map x w (IsGoodRun so_far.last others x.said) (IsGoodRun cat (asked ++ others) v.said) (λ image said. moment_then answer may_lack_memory apart MeansCatalogue image said v.said cat asked others so_far.gained x.said so_far.last so_far.all so_far.said) good)
+        then_on v x w (IsGoodRun script cat (asked ++ others) v.said)
+        (leaves_map v x (IsGoodRun script cat asked v.said) (IsGoodRun script cat (asked ++ others) v.said) (λ image said. moment_more script apart image said v.said cat asked others) (first.moments told cat at))
+        (leaves_map x w (IsGoodRun script so_far.last others x.said) (IsGoodRun script cat (asked ++ others) v.said) (λ image said. moment_then script apart image said v.said cat asked others so_far.gained x.said so_far.last so_far.all so_far.said) good)
 
   pub ran_then : {U : Type 0} (r : Result U RunFault) → Ran tells others r f h x w → Ran tells (asked ++ others) r e h v w
   ran_then (Ok y) second = record {
@@ -118,13 +125,15 @@ module _ {T : Type 0} (tells : Bool) (asked others : List Request) (done : T) (e
           gained = here.gained ++ more.gained;
           last = more.last;
           said = more.said ∙ ap (λ (l : List ℕ). l ++ more.gained) here.said ∙ append_assoc v.said here.gained more.gained;
-          all = answered_then answer may_lack_memory apart cat asked others here.gained more.gained here.last more.last here.all more.all;
+          all = answered_then script apart cat asked others here.gained more.gained here.last more.last here.all more.all;
           at = more.at;
         };
     fair = λ told cat at. let here = first.answered told cat at in fair_behind told cat at (second.fair told here.last here.at);
     moments = λ told cat at. let here = first.answered told cat at in good_behind told cat at (second.moments told here.last here.at);
     disk = λ is. absurd (cc);
     output = λ is. absurd (cc);
+    no_fault = λ no. second.no_fault no ∙ first.no_fault (λ is. absurd (cc));
+    no_say_fault = λ no. second.no_say_fault no ∙ first.no_say_fault (λ is. absurd (cc));
     size = second.size ∙ first.size;
     faults = omega (arith, first.faults, second.faults);
     say_faults = omega (arith, first.say_faults, second.say_faults);
@@ -137,6 +146,8 @@ module _ {T : Type 0} (tells : Bool) (asked others : List Request) (done : T) (e
     moments = λ told cat at. let here = first.answered told cat at in good_behind told cat at (second.moments told here.last here.at);
     disk = λ is. rose_on v.faults x.faults w.faults first.faults (second.disk is);
     output = λ is. rose_on v.say_faults x.say_faults w.say_faults first.say_faults (second.output is);
+    no_fault = λ no. second.no_fault no ∙ first.no_fault (λ is. absurd (cc));
+    no_say_fault = λ no. second.no_say_fault no ∙ first.no_say_fault (λ is. absurd (cc));
     size = second.size ∙ first.size;
     faults = omega (arith, first.faults, second.faults);
     say_faults = omega (arith, first.say_faults, second.say_faults);

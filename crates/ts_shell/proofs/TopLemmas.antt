@@ -1,5 +1,5 @@
 -- A run behind an opening.
-use Rattle.std.proofs.Common.{◌≡◌, ◌⊎◌, inl, inr, ⊎_elim, ℕ, ◌+◌, ◌≤◌, ◌<◌, Bool, false, IsTrue, List, [], ◌++◌, Result, Ok, Err, refl, sym, ◌∙◌, ap, subst, arith}
+use Rattle.std.proofs.Common.{◌≡◌, ◌⊎◌, inl, inr, ⊎_elim, ℕ, ◌+◌, ◌≤◌, ◌<◌, Bool, false, IsTrue, List, [], ◌++◌, length, Result, Ok, Err, IsErrOf, ◌≢◌, refl, sym, ◌∙◌, ap, subst, arith, length-append}
 use Rattle.std.proofs.lemmas.List.{append-nil}
 use Rattle.ts_disk.specs.Device.{Device, Lawful, Within, Rose, FirstSync, LeavesOnly}
 use Rattle.ts_disk.specs.Input.{Input}
@@ -10,13 +10,12 @@ use Rattle.ts_model.specs.Catalogue.{Catalogue}
 use Rattle.ts_container.specs.declared.fault.SurveyFault.{SurveyFault}
 use Rattle.ts_container.specs.declared.fault.SurveyFault.TheVariants as faults
 use Rattle.ts_engine.specs.declared.engine.Engine.{Engine}
-use Rattle.ts_engine.specs.Answer.{answer, may_lack_memory}
 use Rattle.ts_engine.specs.Volume.{MeansCatalogue, MeansNothing}
 use Rattle.ts_engine.specs.Engine.{IsAt}
 use Rattle.ts_engine.specs.Start.{LeavesAsItWas, Started, StillMeans}
-use Rattle.ts_engine.proofs.ApartLemmas.{apart}
-use Rattle.ts_shell.specs.Run.{IsGoodRun, SaysFairly}
-use Rattle.ts_shell.specs.Top.{Untouched, Took, TookEnough, asked_of, OpenedRan, RanFrom, ScriptRan, AllDone}
+use Rattle.ts_shell.proofs.ApartLemmas.{apart}
+use Rattle.ts_shell.specs.Run.{script, IsGoodRun, SaysFairly}
+use Rattle.ts_shell.specs.Top.{Untouched, Took, TookEnough, TookTooMuch, asked_of, OpenedRan, RanFrom, ScriptRan, AllDone}
 use Rattle.ts_shell.proofs.ItemLemmas.{never, rose_on}
 
 -- nothing was done
@@ -24,11 +23,11 @@ pub untouched_now : (v : Device) → Untouched v v
 untouched_now v = record { size = refl; held = refl; no_more = λ image now. now; no_fewer = λ image now. now; clock = refl; syncs = refl; faults = refl; said = refl; say_faults = refl }
 
 -- nothing said is fair, and good where the image means the catalogue
-pub silent : (cat : Catalogue) (asked : List Request) (v w : Device) → w.said ≡ v.said → SaysFairly cat asked v w
-silent cat asked v w same = ([], same ∙ sym (append-nil v.said), (none_good answer may_lack_memory apart (λ c. Unit {0}) cat asked tt).fair)
+pub silent : (cat : Catalogue) (asked : List Request) (v w : Device) → w.said ≡ v.said → SaysFairly script cat asked v w
+silent cat asked v w same = ([], same ∙ sym (append-nil v.said), (none_good script apart (λ c. Unit {0}) cat asked tt).fair)
 
-pub good_first : (cat : Catalogue) (asked : List Request) (before image said : List ℕ) → MeansCatalogue image cat → said ≡ before → IsGoodRun cat asked before image said
-good_first cat asked before image said means same = ([], same ∙ sym (append-nil before), none_good answer may_lack_memory apart (MeansCatalogue image) cat asked means)
+pub good_first : (cat : Catalogue) (asked : List Request) (before image said : List ℕ) → MeansCatalogue image cat → said ≡ before → IsGoodRun script cat asked before image said
+good_first cat asked before image said means same = ([], same ∙ sym (append-nil before), none_good script apart (MeansCatalogue image) cat asked means)
 
 -- what follows the first sync
 pub first_then : (v x w : Device) (P : List ℕ → List ℕ → Type 0) → FirstSync v x P → v.syncs < x.syncs → LeavesOnly x w P → x.syncs ≤ w.syncs → FirstSync v w P
@@ -48,7 +47,7 @@ taken_enough : (i : Input) → TookEnough i i
 taken_enough i = record { taken = []; cut = refl; short = omega arith }
 
 -- what was said and what a stop leaves; where nothing was pending, each moment is good
-pub ran_from : (cat : Catalogue) (status : ℕ) (v w : Device) (i j : Input) → MeansCatalogue v.held cat → (took : Took status i j) → SaysFairly cat (asked_of took.ended took.taken) v w → FirstSync v w (IsGoodRun cat (asked_of took.ended took.taken) v.said) → RanFrom cat status v w i j
+pub ran_from : (cat : Catalogue) (status : ℕ) (v w : Device) (i j : Input) → MeansCatalogue v.held cat → (took : Took status i j) → SaysFairly script cat (asked_of took.ended took.taken) v w → FirstSync v w (IsGoodRun script cat (asked_of took.ended took.taken) v.said) → RanFrom cat status v w i j
 ran_from cat status v w i j means took fair moments = record {
   took = took;
   fair = fair;
@@ -77,9 +76,9 @@ left_now tells v lawful = record {
 
 -- The run ends before the script is pulled, with nothing said.
 module _ (tells told : Bool) (v w : Device) (i : Input) (said : w.said ≡ v.said) (size : w.size ≡ v.size) (faults : v.faults ≤ w.faults) (say_faults : w.say_faults ≡ v.say_faults)
-    (first : IsTrue tells → (cat : Catalogue) → MeansCatalogue v.held cat → (asked : List Request) → FirstSync v w (IsGoodRun cat asked v.said)) (left : IsTrue tells → MeansNothing v.held → LeavesAsItWas v w) where
-  unpulled : (status : ℕ) → (status ≡ 5) ⊎ ((status ≡ 6) ⊎ (status ≡ 7)) → (status ≡ 5 → Rose v.faults w.faults) → (status ≡ 6 → IsTrue tells → MeansNothing v.held) → ((status ≡ 6) ⊎ (status ≡ 7) → (w.held ≡ v.held) × Within v.images w.images) → ScriptRan tells told status v w i i
-  unpulled status which disk no_store unwritten = record {
+    (first : IsTrue tells → (cat : Catalogue) → MeansCatalogue v.held cat → (asked : List Request) → FirstSync v w (IsGoodRun script cat asked v.said)) (left : IsTrue tells → MeansNothing v.held → LeavesAsItWas v w) where
+  unpulled : (status : ℕ) → (status ≡ 5) ⊎ ((status ≡ 6) ⊎ (status ≡ 7)) → (status ≡ 5 → Rose v.faults w.faults) → (status ≡ 6 → IsTrue tells → MeansNothing v.held) → ((status ≡ 6) ⊎ (status ≡ 7) → (w.held ≡ v.held) × Within v.images w.images) → (status ≢ 5 → w.faults ≡ v.faults) → ScriptRan tells told status v w i i
+  unpulled status which disk no_store unwritten no_fault = record {
     fair = λ t s cat means. ran_from cat status v w i i means (nothing_taken status i) (silent cat (asked_of false []) v w said) (first t cat means (asked_of false []));
     all = λ zero. absurd (other zero which);
     so_far = λ three. absurd (⊎_elim (λ is. other_three is which) (λ is. other_eight is which) three);
@@ -99,7 +98,16 @@ module _ (tells told : Bool) (v w : Device) (i : Input) (said : w.said ≡ v.sai
     faults = faults;
     say_faults = omega (arith, say_faults);
     pull_faults = omega arith;
-    pulls = omega arith;
+    no_fault = no_fault;
+    no_say_fault = λ no. say_faults;
+    no_pull_fault = λ no. refl;
+    pulls = λ s. omega arith;
+    pulls_most = omega arith;
+    complete = λ t s cat means short not_disk not_output not_pull. elim which [
+      | inl five ↦ absurd (not_disk (disk five))
+      | inr (inl six) ↦ absurd (no_store six t cat means)
+      | inr (inr seven) ↦ inr seven
+    ];
   } where
     differs : (n : ℕ) → (n ≡ 5 → ⊥) → (n ≡ 6 → ⊥) → (n ≡ 7 → ⊥) → status ≡ n → (status ≡ 5) ⊎ ((status ≡ 6) ⊎ (status ≡ 7)) → ⊥
     differs n a b c is (inl e) = a (sym is ∙ e)
@@ -121,58 +129,58 @@ module _ (tells told : Bool) (v w : Device) (i : Input) (said : w.said ≡ v.sai
 -- want of memory for the buffers: nothing is done
 pub unbuffered : (tells told : Bool) (v : Device) (i : Input) → Lawful tells v → ScriptRan tells told 7 v v i i
 unbuffered tells told v i lawful =
-    unpulled tells told v v i refl refl (omega arith) refl (λ t cat means asked. first_now tells v (IsGoodRun cat asked v.said) lawful) (λ t none. left_now tells v lawful) 7 (inr (inr refl)) (λ five. absurd (omega arith)) (λ six. absurd (omega arith)) (λ which. (refl, λ image now. now))
+    unpulled tells told v v i refl refl (omega arith) refl (λ t cat means asked. first_now tells v (IsGoodRun script cat asked v.said) lawful) (λ t none. left_now tells v lawful) 7 (inr (inr refl)) (λ five. absurd (omega arith)) (λ six. absurd (omega arith)) (λ which. (refl, λ image now. now)) (λ no. refl)
 
 -- the opening, from its first sync on
-opening : (tells : Bool) (r : Result Engine SurveyFault) (v y : Device) → Started tells r v y → IsTrue tells → (cat : Catalogue) → MeansCatalogue v.held cat → (asked : List Request) → FirstSync v y (IsGoodRun cat asked v.said)
+opening : (tells : Bool) (r : Result Engine SurveyFault) (v y : Device) → Started tells r v y → IsTrue tells → (cat : Catalogue) → MeansCatalogue v.held cat → (asked : List Request) → FirstSync v y (IsGoodRun script cat asked v.said)
 opening tells r v y started told cat means asked =
-    first_map v y (StillMeans cat v) (IsGoodRun cat asked v.said) (λ image said now. good_first cat asked v.said image said now.0 now.1) (started.moments told cat means)
+    first_map v y (StillMeans cat v) (IsGoodRun script cat asked v.said) (λ image said now. good_first cat asked v.said image said now.0 now.1) (started.moments told cat means)
+
+-- an opening that the disk doesn't fail leaves the count
+start_leaves : (tells : Bool) (r : Result Engine SurveyFault) (v y : Device) → Started tells r v y → ¬ IsErrOf r faults.Failed → y.faults ≡ v.faults
+start_leaves tells (Ok engine) v y started other = started.no_fault
+start_leaves tells (Err faults.Failed) v y started other = absurd (other refl)
+start_leaves tells (Err (faults.NotAStore page)) v y started other = started.fault.3
+start_leaves tells (Err (faults.Memory error)) v y started other = started.fault.2
 
 -- the volume was not opened
 module _ (tells told : Bool) (r : Result Engine SurveyFault) (v y : Device) (i : Input) (started : Started tells r v y) where
-  ended : (status : ℕ) → (status ≡ 5) ⊎ ((status ≡ 6) ⊎ (status ≡ 7)) → (status ≡ 5 → Rose v.faults y.faults) → (status ≡ 6 → IsTrue tells → MeansNothing v.held) → ((status ≡ 6) ⊎ (status ≡ 7) → (y.held ≡ v.held) × Within v.images y.images) → ScriptRan tells told status v y i i
+  ended : (status : ℕ) → (status ≡ 5) ⊎ ((status ≡ 6) ⊎ (status ≡ 7)) → (status ≡ 5 → Rose v.faults y.faults) → (status ≡ 6 → IsTrue tells → MeansNothing v.held) → ((status ≡ 6) ⊎ (status ≡ 7) → (y.held ≡ v.held) × Within v.images y.images) → (status ≢ 5 → y.faults ≡ v.faults) → ScriptRan tells told status v y i i
   ended = unpulled tells told v y i started.others.said started.others.size started.others.faults started.others.say_faults (opening tells r v y started) started.nothing
 
   pub disk_failed : r ≡ Err faults.Failed → ScriptRan tells told 5 v y i i
   disk_failed is =
       let P : Result Engine SurveyFault → Type 0 = λ s. Started tells s v y in
       let here : Started tells (Err faults.Failed) v y = subst P is started in
-      ended 5 (inl refl) (λ five. here.fault) (λ six. absurd (omega arith)) (λ which. absurd (⊎_elim (λ (e : 5 ≡ 6). omega arith) (λ (e : 5 ≡ 7). omega arith) which))
+      ended 5 (inl refl) (λ five. here.fault) (λ six. absurd (omega arith)) (λ which. absurd (⊎_elim (λ (e : 5 ≡ 6). omega arith) (λ (e : 5 ≡ 7). omega arith) which)) (λ no. absurd (no refl))
 
   pub not_a_store : (page : ℕ) → r ≡ Err (faults.NotAStore page) → ScriptRan tells told 6 v y i i
   not_a_store page is =
       let P : Result Engine SurveyFault → Type 0 = λ s. Started tells s v y in
       let here : Started tells (Err (faults.NotAStore page)) v y = subst P is started in
-      ended 6 (inr (inl refl)) (λ five. absurd (omega arith)) (λ six. here.fault.0) (λ which. (here.fault.1, here.fault.2))
+      ended 6 (inr (inl refl)) (λ five. absurd (omega arith)) (λ six. here.fault.0) (λ which. (here.fault.1, here.fault.2)) (λ no. start_leaves tells (Err (faults.NotAStore page)) v y here (λ is. absurd (cc)))
 
   pub wanting : (error : _) → r ≡ Err (faults.Memory error) → ScriptRan tells told 7 v y i i
   wanting error is =
       let P : Result Engine SurveyFault → Type 0 = λ s. Started tells s v y in
       let here : Started tells (Err (faults.Memory error)) v y = subst P is started in
-      ended 7 (inr (inr refl)) (λ five. absurd (omega arith)) (λ six. absurd (omega arith)) (λ which. (here.fault.0, here.fault.1))
+      ended 7 (inr (inr refl)) (λ five. absurd (omega arith)) (λ six. absurd (omega arith)) (λ which. (here.fault.0, here.fault.1)) (λ no. start_leaves tells (Err (faults.Memory error)) v y here (λ is. absurd (cc)))
 
 -- the script behind the opening
-module _ (tells told : Bool) (engine : Engine) (v y w : Device) (i j : Input) (status : ℕ) (lawful : Lawful tells y) (started : Started tells (Ok engine) v y) (ran : OpenedRan tells told engine status y w i j) where
-  -- the engine stands at what the volume means
-  stands : IsTrue tells → (cat : Catalogue) → MeansCatalogue v.held cat → IsAt tells engine cat y
-  stands told cat means =
-      let first = started.moments told cat means in
-      let here = first.from (started.synced told) y.held y.said (lawful.counts (v.clock + 1) y.held (first.ends (started.synced told)) (lawful.held told)) in
-      record { ready = started.ready; means = here.0 }
-
+module _ (tells told : Bool) (engine : Engine) (v y w : Device) (i j : Input) (status : ℕ) (started : Started tells (Ok engine) v y) (ran : OpenedRan tells told engine status y w i j) where
   said_first : y.said ≡ v.said
   said_first = started.others.said
 
   fair_from : IsTrue tells → IsTrue told → (cat : Catalogue) → MeansCatalogue v.held cat → RanFrom cat status v w i j
   fair_from t s cat means =
-      let part = ran.fair t s cat (stands t cat means) in
+      let part = ran.fair t s cat (started.at t cat means) in
       let asked = asked_of part.took.ended part.took.taken in
-      let good : LeavesOnly y w (IsGoodRun cat asked v.said) = subst (λ (l : List ℕ). LeavesOnly y w (IsGoodRun cat asked l)) said_first part.moments in
+      let good : LeavesOnly y w (IsGoodRun script cat asked v.said) = subst (λ (l : List ℕ). LeavesOnly y w (IsGoodRun script cat asked l)) said_first part.moments in
       ran_from cat status v w i j means part.took
       (part.fair.0, part.fair.1 ∙ ap (λ (l : List ℕ). l ++ part.fair.0) said_first, part.fair.2)
-      (first_then v y w (IsGoodRun cat asked v.said) (opening tells (Ok engine) v y started t cat means asked) (started.synced t) good (ran.syncs t))
+      (first_then v y w (IsGoodRun script cat asked v.said) (opening tells (Ok engine) v y started t cat means asked) (started.synced t) good (ran.syncs t))
 
-  done_from : (cat : Catalogue) (asked : List Request) → AllDone cat asked y w → AllDone cat asked v w
+  done_from : (cat : Catalogue) (asked : List Request) → AllDone script cat asked y w → AllDone script cat asked v w
   done_from cat asked done = record {
     gained = done.gained;
     last = done.last;
@@ -185,14 +193,14 @@ module _ (tells told : Bool) (engine : Engine) (v y w : Device) (i j : Input) (s
   pub opened : ScriptRan tells told status v w i j
   opened = record {
     fair = fair_from;
-    all = λ zero t s cat means. let done = ran.all zero t s cat (stands t cat means) in record { ended = done.ended; done = done_from cat _ done.done };
-    so_far = λ which t s cat means. let done = ran.so_far which t s cat (stands t cat means) in record { taken = done.taken; cut = done.cut; done = done_from cat _ done.done };
+    all = λ zero t s cat means. let done = ran.all zero t s cat (started.at t cat means) in record { ended = done.ended; done = done_from cat _ done.done };
+    so_far = λ which t s cat means. let done = ran.so_far which t s cat (started.at t cat means) in record { taken = done.taken; cut = done.cut; done = done_from cat _ done.done };
     pull = ran.pull;
     output = λ four. rose_on v.say_faults y.say_faults w.say_faults (omega (arith, started.others.say_faults)) (ran.output four);
     disk = λ five. rose_on v.faults y.faults w.faults started.others.faults (ran.disk five);
     no_store = λ six. absurd (not_six six ran.statuses);
-    not_a_store = λ t none. let cat = started.at t in absurd (none cat.0 cat.1);
-    left = λ t none. let cat = started.at t in absurd (none cat.0 cat.1);
+    not_a_store = λ t none. let cat = started.means t in absurd (none cat.0 cat.1);
+    left = λ t none. let cat = started.means t in absurd (none cat.0 cat.1);
     too_long = ran.too_long;
     short = ran.short;
     quiet = λ which. absurd (neither which);
@@ -203,8 +211,22 @@ module _ (tells told : Bool) (engine : Engine) (v y w : Device) (i j : Input) (s
     faults = omega (arith, started.others.faults, ran.faults);
     say_faults = omega (arith, started.others.say_faults, ran.say_faults);
     pull_faults = ran.pull_faults;
+    no_fault = λ no. ran.no_fault no ∙ start_leaves tells (Ok engine) v y started (λ is. absurd (cc));
+    no_say_fault = λ no. ran.no_say_fault no ∙ started.others.say_faults;
+    no_pull_fault = ran.no_pull_fault;
     pulls = ran.pulls;
+    pulls_most = ran.pulls_most;
+    complete = λ t s cat means short not_disk not_output not_pull. elim ran.statuses [
+      | inl zero ↦ inl zero
+      | inr (inl three) ↦ absurd (not_pull (ran.pull three))
+      | inr (inr (inl four)) ↦ absurd (not_output (rose_on v.say_faults y.say_faults w.say_faults (omega (arith, started.others.say_faults)) (ran.output four)))
+      | inr (inr (inr (inl five))) ↦ absurd (not_disk (rose_on v.faults y.faults w.faults started.others.faults (ran.disk five)))
+      | inr (inr (inr (inr eight))) ↦ absurd (overlong_not (ran.too_long eight s) short)
+    ];
   } where
+    overlong_not : TookTooMuch i j → length i.left ≤ 268435456 → ⊥
+    overlong_not much short = omega (arith, much.long, short, ap length much.cut, length-append much.taken j.left)
+
     not_six : status ≡ 6 → (status ≡ 0) ⊎ ((status ≡ 3) ⊎ ((status ≡ 4) ⊎ ((status ≡ 5) ⊎ (status ≡ 8)))) → ⊥
     not_six six (inl e) = absurd (omega arith)
     not_six six (inr (inl e)) = absurd (omega arith)

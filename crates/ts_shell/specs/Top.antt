@@ -1,18 +1,17 @@
 -- What the top call does, by its words.
-use Rattle.std.specs.Prelude.{◌≡◌, ◌⊎◌, ℕ, ◌+◌, ◌*◌, ◌<◌, ◌≤◌, Bool, IsTrue, if◌then◌else◌, List, [], ◌++◌, length, take, Result, Ok, Err}
+use Rattle.std.specs.Prelude.{◌≡◌, ◌⊎◌, ℕ, ◌+◌, ◌*◌, ◌<◌, ◌≤◌, Bool, IsTrue, if◌then◌else◌, List, [], ◌++◌, length, take, Result, Ok, Err, ◌≢◌}
 use Rattle.ts_disk.specs.Device.{Device, Within, Only, Rose, FirstSync, LeavesOnly}
 use Rattle.ts_disk.specs.Input.{Input}
 use Rattle.ts_command.specs.Script.{Request, requests, last_request}
-use Rattle.ts_replies.specs.Acknowledged.{AllAnswered}
+use Rattle.ts_replies.specs.Acknowledged.{Protocol, AllAnswered}
 use Rattle.ts_model.specs.Catalogue.{Catalogue, empty_catalogue}
-use Rattle.ts_engine.specs.Answer.{answer, may_lack_memory}
 use Rattle.ts_engine.specs.Volume.{MeansCatalogue, MeansNothing}
 use Rattle.ts_engine.specs.Engine.{Kept, IsAt}
 use Rattle.ts_engine.specs.Start.{LeavesAsItWas}
 use Rattle.ts_shell.specs.declared.fault.RunFault.{RunFault}
 use Rattle.ts_shell.specs.declared.fault.RunFault.TheVariants.{Disk, Output}
 use Rattle.ts_shell.specs.Making.{EmptyFrom}
-use Rattle.ts_shell.specs.Run.{IsGoodRun, SaysFairly}
+use Rattle.ts_shell.specs.Run.{script, IsGoodRun, SaysFairly}
 
 -- no call was made that does anything
 pub record Untouched (v w : Device) : Type 0 where
@@ -37,6 +36,11 @@ pub record Made (tells : Bool) (pages status : ℕ) (v w : Device) : Type 0 wher
   pub refused : 0 < v.size → status ≡ 10
   pub kept : status ≡ 10 → Untouched v w
   pub disk : status ≡ 5 → Rose v.faults w.faults
+  -- no count rose but at 5 that of the volume
+  pub no_fault : status ≢ 5 → w.faults ≡ v.faults
+  pub say_faults : w.say_faults ≡ v.say_faults
+  -- an empty volume becomes a store, unless a call of it fails
+  pub complete : v.size ≡ 0 → ¬ Rose v.faults w.faults → status ≡ 0
   -- nothing is said
   pub said : w.said ≡ v.said
   pub statuses : (status ≡ 0) ⊎ ((status ≡ 5) ⊎ (status ≡ 10))
@@ -59,13 +63,13 @@ asked_in taken = requests (take 268435456 taken)
 abbrev pub asked_of : Bool → List ℕ → List Request
 asked_of ended taken = asked_in taken ++ (if ended then last_request taken else [])
 
--- every request has its whole reply, and the volume, with nothing pending, means the catalogue after them
-pub record AllDone (cat : Catalogue) (asked : List Request) (v w : Device) : Type 0 where
+-- every item has its whole reply, and the volume, with nothing pending, means the catalogue after them
+pub record AllDone {C I : Type 0} (p : Protocol C I) (cat : C) (asked : List I) (v w : Device) : Type 0 where
   pub gained : List ℕ
-  pub last : Catalogue
+  pub last : C
   pub said : w.said ≡ v.said ++ gained
-  pub answered : AllAnswered answer may_lack_memory cat asked gained last
-  pub means : MeansCatalogue w.held last
+  pub answered : AllAnswered p cat asked gained last
+  pub means : p.means w.held last
   pub only : Only w.held w.images
 
 -- The bytes that were taken from the source, and whether it answered its end: then nothing is left, the limit was kept, and only
@@ -79,13 +83,13 @@ pub record Took (status : ℕ) (i j : Input) : Type 0 where
 -- everything was taken up to the end of the source, and every request of the script is answered
 pub record DoneToEnd (cat : Catalogue) (v w : Device) (i j : Input) : Type 0 where
   pub ended : j.left ≡ []
-  pub done : AllDone cat (requests i.left ++ last_request i.left) v w
+  pub done : AllDone script cat (requests i.left ++ last_request i.left) v w
 
 -- every request is answered of those items that end within the bytes taken, up to the limit
 pub record DoneSoFar (cat : Catalogue) (v w : Device) (i j : Input) : Type 0 where
   pub taken : List ℕ
   pub cut : i.left ≡ taken ++ j.left
-  pub done : AllDone cat (asked_in taken) v w
+  pub done : AllDone script cat (asked_in taken) v w
 
 -- the bytes that were taken are more than the limit
 pub record TookTooMuch (i j : Input) : Type 0 where
@@ -99,15 +103,15 @@ pub record TookEnough (i j : Input) : Type 0 where
   pub cut : i.left ≡ taken ++ j.left
   pub short : length taken ≤ 268435456
 
--- What was said over an engine that stood at this catalogue, and what a stop left.
-pub record RanOn (cat : Catalogue) (status : ℕ) (v w : Device) (i j : Input) : Type 0 where
+-- What was said over an engine that stood at this catalogue, and what a stop left. `asked` tells the items of what was taken.
+pub record RanOn {C I : Type 0} (p : Protocol C I) (asked : Bool → List ℕ → List I) (cat : C) (status : ℕ) (v w : Device) (i j : Input) : Type 0 where
   pub took : Took status i j
-  pub fair : SaysFairly cat (asked_of took.ended took.taken) v w
-  pub moments : LeavesOnly v w (IsGoodRun cat (asked_of took.ended took.taken) v.said)
+  pub fair : SaysFairly p cat (asked took.ended took.taken) v w
+  pub moments : LeavesOnly v w (IsGoodRun p cat (asked took.ended took.taken) v.said)
 
 -- What a script does over an engine.
 pub record OpenedRan (tells told : Bool) (e : Kept) (status : ℕ) (v w : Device) (i j : Input) : Type 0 where
-  pub fair : IsTrue tells → IsTrue told → (cat : Catalogue) → IsAt tells e cat v → RanOn cat status v w i j
+  pub fair : IsTrue tells → IsTrue told → (cat : Catalogue) → IsAt tells e cat v → RanOn script asked_of cat status v w i j
   pub all : status ≡ 0 → IsTrue tells → IsTrue told → (cat : Catalogue) → IsAt tells e cat v → DoneToEnd cat v w i j
   pub so_far : (status ≡ 3) ⊎ (status ≡ 8) → IsTrue tells → IsTrue told → (cat : Catalogue) → IsAt tells e cat v → DoneSoFar cat v w i j
   pub pull : status ≡ 3 → Rose i.pull_faults j.pull_faults
@@ -121,17 +125,21 @@ pub record OpenedRan (tells told : Bool) (e : Kept) (status : ℕ) (v w : Device
   pub faults : v.faults ≤ w.faults
   pub say_faults : v.say_faults ≤ w.say_faults
   pub pull_faults : i.pull_faults ≤ j.pull_faults
-  pub pulls : j.pulls ≤ i.pulls + 268435457
+  pub no_fault : status ≢ 5 → w.faults ≡ v.faults
+  pub no_say_fault : status ≢ 4 → w.say_faults ≡ v.say_faults
+  pub no_pull_fault : status ≢ 3 → j.pull_faults ≡ i.pull_faults
+  pub pulls : IsTrue told → j.pulls + length j.left ≤ i.pulls + length i.left + 1
+  pub pulls_most : j.pulls ≤ i.pulls + 268435457
 
 -- What was said and what a stop leaves, over a volume that means this catalogue at the entry.
 pub record RanFrom (cat : Catalogue) (status : ℕ) (v w : Device) (i j : Input) : Type 0 where
   pub took : Took status i j
-  pub fair : SaysFairly cat (asked_of took.ended took.taken) v w
+  pub fair : SaysFairly script cat (asked_of took.ended took.taken) v w
   -- From the end of the first sync on each moment is good; before it, and in the whole call where no sync answered Ok, each is
   -- an image of the entry with nothing said.
-  pub moments : FirstSync v w (IsGoodRun cat (asked_of took.ended took.taken) v.said)
+  pub moments : FirstSync v w (IsGoodRun script cat (asked_of took.ended took.taken) v.said)
   -- where nothing was pending at the entry, each moment of the call is good
-  pub at_rest : Only v.held v.images → (image said : List ℕ) → w.since v.clock image said → IsGoodRun cat (asked_of took.ended took.taken) v.said image said
+  pub at_rest : Only v.held v.images → (image said : List ℕ) → w.since v.clock image said → IsGoodRun script cat (asked_of took.ended took.taken) v.said image said
 
 -- What `run` does.
 pub record ScriptRan (tells told : Bool) (status : ℕ) (v w : Device) (i j : Input) : Type 0 where
@@ -162,5 +170,14 @@ pub record ScriptRan (tells told : Bool) (status : ℕ) (v w : Device) (i j : In
   pub faults : v.faults ≤ w.faults
   pub say_faults : v.say_faults ≤ w.say_faults
   pub pull_faults : i.pull_faults ≤ j.pull_faults
-  -- every pull that isn't the last one takes a byte
-  pub pulls : j.pulls ≤ i.pulls + 268435457
+  -- no count rises but the one that the status names
+  pub no_fault : status ≢ 5 → w.faults ≡ v.faults
+  pub no_say_fault : status ≢ 4 → w.say_faults ≡ v.say_faults
+  pub no_pull_fault : status ≢ 3 → j.pull_faults ≡ i.pull_faults
+  -- as many pulls at most as bytes were taken, and one more; of a source that tells nothing as many as the limit has, and one more
+  pub pulls : IsTrue told → j.pulls + length j.left ≤ i.pulls + length i.left + 1
+  pub pulls_most : j.pulls ≤ i.pulls + 268435457
+  -- a volume that means a catalogue and a source that ends within the limit: unless a count rose, the script is carried out whole,
+  -- or there was no memory to open the volume
+  pub complete : IsTrue tells → IsTrue told → (cat : Catalogue) → MeansCatalogue v.held cat → length i.left ≤ 268435456
+      → ¬ Rose v.faults w.faults → ¬ Rose v.say_faults w.say_faults → ¬ Rose i.pull_faults j.pull_faults → (status ≡ 0) ⊎ (status ≡ 7)

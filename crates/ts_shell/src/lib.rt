@@ -10,8 +10,6 @@ mod make;
 mod number;
 mod run;
 mod session;
-#[cfg(test)]
-mod tests;
 mod top;
 mod words;
 

@@ -20,6 +20,8 @@ pub(crate) fn make<V: Volume>(vol: &mut V, pages: u32) -> Result<(), Failed>
     ensures said { (V.device vol.new).said ≡ (V.device vol.old).said }
     // Where a sync answered Ok, two calls had answered Ok by then.
     ensures moments { IsTrue V.tells → (V.device vol.old).syncs < (V.device vol.new).syncs → EmptyFrom pages ((V.device vol.old).clock + 2) (V.device vol.old) (V.device vol.new) }
+    ensures no_fault { OnOk result ((V.device vol.new).faults ≡ (V.device vol.old).faults) }
+    ensures say_faults { (V.device vol.new).say_faults ≡ (V.device vol.old).say_faults }
     ensures cause { IsErr result → Rose (V.device vol.old).faults (V.device vol.new).faults }
 {
     vol.resize(4096 * (930 + pages as u64))?;

@@ -1,5 +1,5 @@
 -- How many pages a series is charged for.
-use Rattle.std.specs.Prelude.{ℕ, ◌+◌, ◌-◌, ◌*◌, ◌/◌, ◌<◌, ◌==◌, if◌then◌else◌, List, [], ◌∷◌, map, length}
+use Rattle.std.specs.Prelude.{ℕ, ◌+◌, ◌-◌, ◌*◌, ◌/◌, ◌<◌, ◌==◌, if◌then◌else◌, List, [], ◌∷◌, map}
 use Rattle.std.specs.List.{list_any}
 use Rattle.std.specs.Int.{div_ceil}
 use Rattle.ts_space.specs.declared.place.Place.{Place}
@@ -18,10 +18,6 @@ regular_charge r offsets = distinct_count (map (λ offset. offset / r) offsets)
 -- more than q together
 abbrev pub irregular_charge : ℕ → ℕ → ℕ
 irregular_charge q n = if n == 0 then 0 else 2 * div_ceil n q - 1
-
--- the charge of a regular series by its places: each of its pages is one that an element falls on
-abbrev pub regular_places_charge : List Place → ℕ
-regular_places_charge = length
 
 -- the charge of an irregular series by its places
 abbrev pub irregular_places_charge : ℕ → List Place → ℕ

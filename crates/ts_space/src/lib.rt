@@ -8,8 +8,6 @@ mod charge;
 mod laws;
 mod place;
 mod space;
-#[cfg(test)]
-mod tests;
 
 pub use charge::{charge_irregular, charge_regular};
 pub use laws::{

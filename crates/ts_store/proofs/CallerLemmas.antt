@@ -1,16 +1,17 @@
 -- What a caller needs between the calls of a store.
-use Rattle.std.proofs.Common.{◌≡◌, ℕ, ◌*◌, ◌<◌, Bool, IsTrue, List, [], length, ap, sym, ◌∙◌, subst, arith}
+use Rattle.std.proofs.Common.{◌≡◌, ℕ, ◌*◌, ◌<◌, Bool, IsTrue, Some, List, [], length, refl, ap, sym, ◌∙◌, subst, arith}
 use Rattle.ts_disk.specs.Device.{Device, Only}
 use Rattle.ts_page.specs.Pages.{IsLawful, SameButFreed}
 use Rattle.ts_page.proofs.PagesLemmas.{lawful_same, same_trans, same_from_equal}
 use Rattle.ts_journal.specs.Entry.{Entry, AreAllowed}
-use Rattle.ts_journal.specs.Journal.{IsVolumeSize, page_count, pages, StandsOver, ReadsButFreed}
+use Rattle.ts_journal.specs.Journal.{IsVolumeSize, page_count, records, pages, StandsOver, ReadsButFreed}
 use Rattle.ts_journal.specs.Moment.{OnlyReads}
 use Rattle.ts_recover.proofs.OpenedLemmas.{still_only}
 use Rattle.ts_store.specs.OpenBatch.{State, IsOver, IsIdle, IsFresh, Closes, read_pages, contents_over}
 use Rattle.ts_store.specs.Undisturbed.{Undisturbed}
-use Rattle.ts_store.proofs.ReadLemmas.{read_closed, same_but_freed}
-use Rattle.ts_store.proofs.CommitLemmas.{counted}
+pub use Rattle.ts_recover.proofs.ReadLemmas.{reads_none, reads_then}
+pub use Rattle.ts_store.proofs.ReadLemmas.{read_closed, same_but_freed}
+pub use Rattle.ts_store.proofs.CommitLemmas.{counted}
 
 -- a store whose journal was just read is over its volume
 pub over_fresh : (tells : Bool) (count position : ℕ) (entries : List Entry) (s : State) (d : Device) → IsFresh count position entries s → d.size ≡ 4096 * count → IsVolumeSize d.size → Only d.held d.images
@@ -89,3 +90,36 @@ idle_dropped tells s t u v w idle calls dropped = record {
   batch = ap (λ (x : State). x.batch) dropped;
   kept_free = ap (λ (x : State). x.kept_free) dropped ∙ sym (ap (λ (x : State). x.free) dropped);
 }
+
+-- What a caller takes from a store that is over its volume.
+module _ (tells : Bool) (s : State) (v : Device) (over : IsOver tells s v) where
+  -- the volume has as many pages as the store
+  pub over_counted : page_count v.size ≡ s.pages
+  over_counted = counted v.size s.pages over.size
+
+  -- no record of its journal is malformed
+  pub over_sound : IsTrue tells → (rs : List (List Entry)) × (records v.held ≡ Some rs)
+  over_sound told = ((over.stands told).rs, (over.stands told).stands.records)
+
+  -- a stop leaves the bytes that are held
+  pub over_only : (image : List ℕ) → v.images image → image ≡ v.held
+  over_only image now = over.settled image now
+
+  -- what reads as some pages, but for the heads of the pages that the overlay frees, differs from them behind the heads of free pages alone
+  pub over_alike : (wanted : ℕ → List ℕ) (image : List ℕ) → ReadsButFreed v.size s.overlay wanted image → SameButFreed wanted (pages image)
+  over_alike wanted image reads = same_but_freed s.pages v.size s.overlay wanted image over.allowed reads
+
+  -- so it is once the volume did something that leaves its bytes, as a say
+  pub over_kept : (w : Device) → w.size ≡ v.size → w.held ≡ v.held → ((image : List ℕ) → w.images image → v.images image) → IsOver tells s w
+  over_kept w size held within = record {
+    size = size ∙ over.size;
+    volume = subst IsVolumeSize (sym size) over.volume;
+    settled = λ image now. over.settled image (within image now) ∙ sym held;
+    stands = λ told. subst (StandsOver s.journal s.overlay) (sym held) (over.stands told);
+    allowed = over.allowed;
+    lawful = lawful_same tells (contents_over s v) (contents_over s w) over.lawful refl (λ told k. ap (λ (bytes : List ℕ). read_pages s bytes k) held) refl;
+  }
+
+-- between two batches the pages that are read are those of the volume
+pub idle_reads : (tells : Bool) (s : State) (d : Device) → IsIdle tells s d → IsTrue tells → (k : ℕ) → read_pages s d.held k ≡ pages d.held k
+idle_reads tells s d idle told k = read_closed s d.held idle.batch (idle.over.stands told) k

@@ -1,5 +1,5 @@
 -- What the calls on an open batch keep.
-use Rattle.std.proofs.Common.{◌≡◌, ℕ, ◌+◌, ◌*◌, ◌<◌, ◌≤◌, ◌^◌, Bool, IsTrue, Result, Ok, Err, OnOk, OnErr, None, List, [], ◌∷◌, ltb, eqb, Contains, length, take, drop, refl, ap, sym, ◌∙◌, subst, arith, length-append}
+use Rattle.std.proofs.Common.{◌≡◌, ℕ, ◌+◌, ◌*◌, ◌<◌, ◌≤◌, ◌^◌, Bool, IsTrue, Result, Ok, Err, OnOk, OnErr, IsOk, None, List, [], ◌∷◌, ltb, eqb, Contains, length, take, drop, refl, ap, sym, ◌∙◌, subst, arith, length-append}
 use Rattle.std.specs.Int.{to_be_bytes, w32}
 use Rattle.std.proofs.lemmas.Bool.{cond_both}
 use Rattle.ts_disk.specs.Device.{Device, ReadAt}
@@ -78,7 +78,7 @@ module _ (tells : Bool) (s t : State) (d : Device) (number : ℕ) where
 
   pub put_done : (change : Change) (bytes : List ℕ) → bytes ≡ content change → length (entry_bytes (number, change)) ≤ 4101 → t ≡ record s { batch = put number change s.batch } → Put tells number bytes (Ok tt) (contents_over s d) (contents_over t d)
   put_done change bytes is few done = record {
-    call = record { count = ap (λ (x : State). x.pages) done; faults = omega arith; cause = λ failed. absurd (cc) };
+    call = record { count = ap (λ (x : State). x.pages) done; faults = omega arith; cause = λ failed. absurd (cc); no_fault = λ other. refl };
     put = λ told n. ap (λ (x : State). read_pages x d.held n) done ∙ over_put s.batch number change (over s.overlay (own_page d.held)) n
         ∙ ap (λ (b : List ℕ). with_page number b (read_pages s d.held) n) (sym is);
     free = ap (λ (x : State). x.free) done;
@@ -88,7 +88,7 @@ module _ (tells : Bool) (s t : State) (d : Device) (number : ℕ) where
 
   pub free_done : t ≡ record s { batch = put number Free s.batch; free = number ∷ s.free } → Freed tells number (Ok tt) (contents_over s d) (contents_over t d)
   free_done done = record {
-    call = record { count = ap (λ (x : State). x.pages) done; faults = omega arith; cause = λ failed. absurd (cc) };
+    call = record { count = ap (λ (x : State). x.pages) done; faults = omega arith; cause = λ failed. absurd (cc); no_fault = λ other. refl };
     freed = λ told n. ap (λ (x : State). read_pages x d.held n) done ∙ over_put s.batch number Free (over s.overlay (own_page d.held)) n;
     listed = ap (λ (x : State). x.free) done;
     pages_stay = tt;
@@ -103,9 +103,9 @@ module _ (tells : Bool) (s t : State) (d : Device) (number : ℕ) where
 
 -- a page that has no change is read from the volume
 pub got_clean : {E : Type 0} (tells : Bool) (s : State) (number at : ℕ) (into : List ℕ) (r : Result Unit E) (v w : Device) → at ≡ 4096 * number → length into ≡ 4096 → change_read number s ≡ None
-    → ReadAt tells at into r v w → (IsTrue tells → into ≡ take (length into) (drop at v.held)) → Got tells number into (Ok tt) (contents_over s v) (contents_over s w)
-got_clean tells s number at into r v w place size none read done = record {
-  call = record { count = refl; faults = read.call.faults; cause = λ failed. absurd (cc) };
+    → ReadAt tells at into r v w → IsOk r → (IsTrue tells → into ≡ take (length into) (drop at v.held)) → Got tells number into (Ok tt) (contents_over s v) (contents_over s w)
+got_clean tells s number at into r v w place size none read answered done = record {
+  call = record { count = refl; faults = read.call.faults; cause = λ failed. absurd (cc); no_fault = λ other. read.call.no_fault answered };
   read = λ told outside. done told ∙ (λ i. take (size i) (drop (place i) v.held)) ∙ sym (read_clean s v.held number none outside);
   pages = λ told n. ap (λ (h : List ℕ). read_pages s h n) read.held;
   free = refl;

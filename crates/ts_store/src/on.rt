@@ -1,6 +1,7 @@
 // A store over its volume, as a keeper of pages.
 ghost use Rattle.std.specs.Prelude.{◌≡◌, ◌*◌};
 ghost use Rattle.std.proofs.Props.{props};
+ghost use Rattle.ts_page.specs.Volume.{page_size};
 ghost use Rattle.ts_page.specs.Pages.{IsLawful};
 ghost use Rattle.ts_store.specs.OpenBatch.{contents_over};
 
@@ -8,16 +9,14 @@ use crate::store::Store;
 use ts_base::StoreFault;
 use ts_disk::Volume;
 use ts_journal::Change;
-use ts_page::{Page, Pages};
-
-const PAGE: u64 = 4096;
+use ts_page::{PAGE, Page, Pages};
 
 /// A store and the volume that it is of.
 #[derive(Drop)]
 pub struct On<'a, V: Volume> {
     pub store: &'a mut Store,
     pub vol: &'a mut V,
-    ghost size: { (V.device vol.now).size ≡ 4096 * store.now.pages },
+    ghost size: { (V.device vol.now).size ≡ page_size * store.now.pages },
     ghost lawful: { IsLawful V.tells (contents_over store.now (V.device vol.now)) } by { Prim.hlevel props },
 }
 
@@ -26,7 +25,8 @@ impl<'a, V: Volume> Pages for On<'a, V> {
     ghost use Rattle.std.proofs.Common.{refl, ◌∙◌};
     ghost use Rattle.ts_page.specs.Pages.{Got};
     ghost use Rattle.ts_store.specs.OpenBatch.{change_read};
-    ghost use Rattle.ts_store.specs.Undisturbed.{Undisturbed, undisturbed_none, undisturbed_then};
+    ghost use Rattle.ts_recover.proofs.ReadLemmas.{reads_none, reads_then};
+    ghost use Rattle.ts_store.specs.Undisturbed.{Undisturbed};
 
     ghost tells = { V.tells };
 
@@ -79,11 +79,21 @@ impl<'a, V: Volume> Pages for On<'a, V> {
 
     ghost lawful = { λ on. on.lawful };
 
-    ghost stays = { λ on. (refl, refl, undisturbed_none V.tells on.store.now (V.device on.vol.now) (V.lawful on.vol.now)) };
+    ghost stays = { λ on. (
+      refl,
+      refl,
+      record { pages = refl; journal = refl; overlay = refl; kept_free = refl; reads = reads_none V.tells (V.device on.vol.now) (V.lawful on.vol.now) },
+    ) };
 
     ghost then = { λ a b c p q. (
       q.0 ∙ p.0,
       q.1 ∙ p.1,
-      undisturbed_then V.tells a.store.now b.store.now c.store.now (V.device a.vol.now) (V.device b.vol.now) (V.device c.vol.now) p.2 q.2,
+      record {
+        pages = q.2.pages ∙ p.2.pages;
+        journal = q.2.journal ∙ p.2.journal;
+        overlay = q.2.overlay ∙ p.2.overlay;
+        kept_free = q.2.kept_free ∙ p.2.kept_free;
+        reads = reads_then V.tells (V.device a.vol.now) (V.device b.vol.now) (V.device c.vol.now) p.2.reads q.2.reads;
+      },
     ) };
 }

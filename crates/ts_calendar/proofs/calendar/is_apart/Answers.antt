@@ -6,8 +6,8 @@ use Rattle.ts_calendar.specs.Intervals.{start_in, starts_from}
 use Rattle.ts_calendar.proofs.StampLemmas.{int_lt_no}
 use Rattle.ts_calendar.proofs.calendar.is_apart.Goals as goal
 
-pub returns : goal.returns
-returns c =
+pub returns-clause-value : goal.returns-clause-value
+returns-clause-value c =
     let plan = c.args.pattern.now in
     let first = c.args.patt_start in
     let k = to_z w64 (of_z w64 (pos 0 -ℤ to_z w64 c.length.result)) in

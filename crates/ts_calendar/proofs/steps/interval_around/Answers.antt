@@ -2,6 +2,7 @@ use Rattle.std.proofs.Common.{◌≡◌, ◌∙◌, ap, arith, pos, ◌-ℤ◌, 
 use Rattle.std.specs.Int.{int_div_euclid}
 use Rattle.jiff_core.proofs.SignedLemmas.{signed_casts}
 use Rattle.ts_calendar.proofs.LineLemmas.{around-second, around-minute, around-hour, around-day, around-week}
+use Rattle.ts_calendar.proofs.StepLemmas.{near-next}
 use Rattle.ts_calendar.proofs.steps.interval_around.Goals as goal
 
 pub returns-in-Second-clause-around : goal.returns-in-Second-clause-around
@@ -48,3 +49,33 @@ returns-in-Week-clause-around c =
     let k : to_z w64 (of_z w64 c.div_euclid-in-Week.result) ≡ int_div_euclid (c.args.stamp -ℤ c.args.first) (pos 60_480_000_000) =
     to_z-of_z fits ∙ c.div_euclid-in-Week.ensures ∙ ap (λ d. int_div_euclid d (pos 60_480_000_000)) diff in
     rw (c.in-Week.is, k) (around-week c.args.first c.args.stamp)
+
+pub returns-in-Second-clause-near : goal.returns-in-Second-clause-near
+returns-in-Second-clause-near c =
+    near-next (to_z w64 (of_z w64 c.div_euclid.result))
+    (omega (arith, signed_casts, c.div_euclid.ensures, c.units_of.ensures.value, c.units_of.ensures.within, c.units_of-2.ensures.value, c.units_of-2.ensures.within))
+    (omega (arith, signed_casts, c.div_euclid.ensures, c.units_of.ensures.value, c.units_of.ensures.within, c.units_of-2.ensures.value, c.units_of-2.ensures.within))
+
+pub returns-in-Minute-clause-near : goal.returns-in-Minute-clause-near
+returns-in-Minute-clause-near c =
+    near-next (to_z w64 (of_z w64 c.div_euclid-in-Minute.result))
+    (omega (arith, signed_casts, c.div_euclid-in-Minute.ensures, c.units_of.ensures.value, c.units_of.ensures.within, c.units_of-2.ensures.value, c.units_of-2.ensures.within))
+    (omega (arith, signed_casts, c.div_euclid-in-Minute.ensures, c.units_of.ensures.value, c.units_of.ensures.within, c.units_of-2.ensures.value, c.units_of-2.ensures.within))
+
+pub returns-in-Hour-clause-near : goal.returns-in-Hour-clause-near
+returns-in-Hour-clause-near c =
+    near-next (to_z w64 (of_z w64 c.div_euclid-in-Hour.result))
+    (omega (arith, signed_casts, c.div_euclid-in-Hour.ensures, c.units_of.ensures.value, c.units_of.ensures.within, c.units_of-2.ensures.value, c.units_of-2.ensures.within))
+    (omega (arith, signed_casts, c.div_euclid-in-Hour.ensures, c.units_of.ensures.value, c.units_of.ensures.within, c.units_of-2.ensures.value, c.units_of-2.ensures.within))
+
+pub returns-in-Day-clause-near : goal.returns-in-Day-clause-near
+returns-in-Day-clause-near c =
+    near-next (to_z w64 (of_z w64 c.div_euclid-in-Day.result))
+    (omega (arith, signed_casts, c.div_euclid-in-Day.ensures, c.units_of.ensures.value, c.units_of.ensures.within, c.units_of-2.ensures.value, c.units_of-2.ensures.within))
+    (omega (arith, signed_casts, c.div_euclid-in-Day.ensures, c.units_of.ensures.value, c.units_of.ensures.within, c.units_of-2.ensures.value, c.units_of-2.ensures.within))
+
+pub returns-in-Week-clause-near : goal.returns-in-Week-clause-near
+returns-in-Week-clause-near c =
+    near-next (to_z w64 (of_z w64 c.div_euclid-in-Week.result))
+    (omega (arith, signed_casts, c.div_euclid-in-Week.ensures, c.units_of.ensures.value, c.units_of.ensures.within, c.units_of-2.ensures.value, c.units_of-2.ensures.within))
+    (omega (arith, signed_casts, c.div_euclid-in-Week.ensures, c.units_of.ensures.value, c.units_of.ensures.within, c.units_of-2.ensures.value, c.units_of-2.ensures.within))

@@ -7,14 +7,14 @@ use Rattle.ts_cells.specs.IrregularPage.{behind_head}
 use Rattle.ts_cells.proofs.HeadLemmas.{is_zero, front_cells, behind_cells, behind_again}
 use Rattle.ts_cells.proofs.extent.extent_in.Goals as goal
 
-pub returns-then-not-are_zero-clause-none : goal.returns-then-not-are_zero-clause-none
-returns-then-not-are_zero-clause-none c = λ es order count same.
+pub returns-then-not-is_zero-clause-none : goal.returns-then-not-is_zero-clause-none
+returns-then-not-is_zero-clause-none c = λ es order count same.
     let columns : List Column = c.args.kind.now.columns in
     let n : ℕ = c.args.count in
     let rest : c.split_at.result.1.now ≡ drop (cell_size columns * n) (behind_head columns es) =
     c.split_at.ensures.back ∙ (λ j. drop (c.cell_size.ensures.value j * n) (same j)) in
     let zeros : are_zero c.split_at.result.1.now ≡ true = ap are_zero (rest ∙ behind_cells columns es n order.each count) ∙ is_zero (4064 - cell_size columns * length es) in
-    let other : are_zero c.split_at.result.1.now ≡ false = sym c.are_zero.ensures ∙ c.if-not-are_zero.true in
+    let other : are_zero c.split_at.result.1.now ≡ false = sym c.is_zero.ensures.ok ∙ c.if-not-is_zero.true in
     absurd (cc)
 
 pub returns-in_default-clause-none : goal.returns-in_default-clause-none
@@ -31,5 +31,5 @@ returns-clause-found c =
     let cells : take (cell_size columns * n) c.args.behind.now ≡ c.split_at.result.0.now =
     (λ j. take (sym c.cell_size.ensures.value j * n) c.args.behind.now) ∙ sym c.split_at.ensures.front in
     let zeros : are_zero (drop (cell_size columns * n) c.args.behind.now) ≡ true =
-    ap are_zero ((λ j. drop (sym c.cell_size.ensures.value j * n) c.args.behind.now) ∙ sym c.split_at.ensures.back) ∙ sym c.are_zero.ensures ∙ c.if-not-are_zero.false in
+    ap are_zero ((λ j. drop (sym c.cell_size.ensures.value j * n) c.args.behind.now) ∙ sym c.split_at.ensures.back) ∙ sym c.is_zero.ensures.ok ∙ c.if-not-is_zero.false in
     (found.0, found.1, record { count = found.2; ends = found.4 }, found.2, behind_again columns found.0 n c.args.behind.now c.requires.size found.2 (cells ∙ found.3) zeros)

@@ -32,7 +32,7 @@ loop-k-preserved c =
 pub returns-then-not-is_zero : goal.returns-then-not-is_zero
 returns-then-not-is_zero c =
     behind_none c.args.number c.args.page.now.bytes c.requires.low c.requires.high (λ zeros.
-    both_ways (c.is_zero.ensures.1 (zeros_to _ _ c.args.page.now.bytes (counted c.args.number c.slot_size-size.result c.slots_in_page-on.result c.slots_in_page-on.ensures c.slot_size-size.ensures.value) zeros)) c.if-not-is_zero.true)
+    both_ways (c.is_zero.ensures.zeros.1 (zeros_to _ _ c.args.page.now.bytes (counted c.args.number c.slot_size-size.result c.slots_in_page-on.result c.slots_in_page-on.ensures c.slot_size-size.ensures.value) zeros)) c.if-not-is_zero.true)
 
 pub returns : goal.returns
 returns c =
@@ -40,6 +40,6 @@ returns c =
     let all : rank_of_page c.args.number + c.loop-k.k ≡ rank_of_page (c.args.number + 1) =
     ended c.args.number c.loop-k.k c.slots_in_page-on.result c.slots_in_page-on.ensures c.requires.low c.requires.high c.loop-k-test.false c.loop-k.auto.k-end in
     page_read c.loop-k.found c.args.number c.args.page.now.bytes c.args.defs.now.definitions c.loop-k.defs.definitions c.loop-k.invariant.good
-    (zeros_from _ _ c.args.page.now.bytes (counted c.args.number c.slot_size-size.result c.slots_in_page-on.result c.slots_in_page-on.ensures c.slot_size-size.ensures.value) long (c.is_zero.ensures.0 c.if-not-is_zero.false))
+    (zeros_from _ _ c.args.page.now.bytes (counted c.args.number c.slot_size-size.result c.slots_in_page-on.result c.slots_in_page-on.ensures c.slot_size-size.ensures.value) long (c.is_zero.ensures.zeros.0 c.if-not-is_zero.false))
     (subst (λ (n : ℕ). Step c.args.number n c.args.page.now.bytes c.args.defs.now.definitions c.loop-k.defs.definitions c.loop-k.found) all
     (record { read = c.loop-k.invariant.read; known = c.loop-k.invariant.known }))

@@ -1,3 +1,4 @@
+use Rattle.std.proofs.Common.{◌∙◌}
 use Rattle.ts_recover.proofs.ReadLemmas.{reads_then}
 use Rattle.ts_engine.proofs.OpenLemmas.{refused, opened_after, fault_after, opened_err}
 use Rattle.ts_engine.proofs.open.open.Goals as goal
@@ -21,7 +22,7 @@ returns-in_err-surveyed g c =
     record {
       opened = opened_err tells c.from_residual-in_err-surveyed.result c.in_err-surveyed.field-0.0 v w c.from_residual-in_err-surveyed.ensures.1
           (refused tells c.in_err-surveyed.field-0.0 v w c.requires.settled (reads_then tells v x w c.read_journal.ensures.others c.survey_over.ensures.others)
-          (fault_after tells c.in_err-surveyed.field-0.0 v x w c.read_journal.ensures.others c.in_err-surveyed.ensures.fault));
+          (fault_after tells c.in_err-surveyed.field-0.0 v x w c.read_journal.ensures.others c.in_ok-store.ensures.no_fault c.in_err-surveyed.ensures.fault));
     }
 
 pub returns : goal.returns
@@ -32,5 +33,5 @@ returns g c =
     let y = g.V.Volume.device c.survey_over.new.vol in
     let w = g.V.Volume.device c.settle.new.vol in
     record {
-      opened = opened_after tells c.settle.result v y w c.requires.settled (reads_then tells v x y c.read_journal.ensures.others c.survey_over.ensures.others) c.settle.ensures.opened;
+      opened = opened_after tells c.settle.result v y w c.requires.settled (reads_then tells v x y c.read_journal.ensures.others c.survey_over.ensures.others) (c.in_ok-surveyed.ensures.no_fault ∙ c.in_ok-store.ensures.no_fault) c.settle.ensures.opened;
     }

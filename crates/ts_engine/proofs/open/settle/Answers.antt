@@ -15,7 +15,7 @@ returns-in-Ok g c =
     let w = g.V.Volume.device c.settle.new.vol in
     record {
       opened = settled_opened tells c.args.store c.admit.new.self v c.args.surveyed.defs.definitions c.args.surveyed.space c.args.surveyed.free.items c.requires.idle c.requires.found c.admit.ensures
-          c.settle.new.self w c.args.surveyed.defs (g.met.V.Volume.lawful c.args.vol.now) c.places-slots.ensures.slots refl c.in-Ok.ensures.over c.in-Ok.ensures.settled c.in-Ok.ensures.ok c.settle.ensures.others c.settle.ensures.moments;
+          c.settle.new.self w c.args.surveyed.defs (g.met.V.Volume.lawful c.args.vol.now) c.places-slots.ensures.slots refl c.in-Ok.ensures.over c.in-Ok.ensures.settled c.in-Ok.ensures.ok c.settle.ensures.others c.settle.ensures.moments (c.in-Ok.ensures.no_fault refl);
     }
 
 pub returns-in-Err : goal.returns-in-Err

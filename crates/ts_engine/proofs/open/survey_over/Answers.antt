@@ -9,7 +9,7 @@ returns-in_err-surveyed-clause-fault g c =
     let w = g.V.Volume.device c.survey_on.new.vol in
     if_err c.from_residual.result c.in_err-surveyed.field-0.0 (λ fault. ReadFault g.V.Volume.tells fault v w) c.from_residual.ensures.1
     (survey_fault g.V.Volume.tells c.in_err-surveyed.field-0.0 _ c.args.store.now v w (g.met.V.Volume.lawful c.args.vol.now) c.requires.idle (omega (arith, c.len.ensures, c.requires.idle.over.size))
-    (λ is. c.in_err-surveyed.ensures.cause (ap Err is)) c.in_err-surveyed.ensures.refused)
+    (λ is. c.in_err-surveyed.ensures.cause (ap Err is)) (λ other. c.in_err-surveyed.ensures.no_fault (λ failed. other (cc))) c.in_err-surveyed.ensures.refused)
 
 pub returns-clause-found : goal.returns-clause-found
 returns-clause-found g c =

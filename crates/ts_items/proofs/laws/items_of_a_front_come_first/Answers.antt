@@ -1,5 +1,5 @@
 use Rattle.std.proofs.Common.{[], Some}
-use Rattle.ts_items.specs.ItemLaws.{items_from-append}
+use Rattle.ts_items.proofs.ItemLaws.{items_from-append}
 use Rattle.ts_items.proofs.laws.items_of_a_front_come_first.Goals as goal
 
 pub returns : goal.returns

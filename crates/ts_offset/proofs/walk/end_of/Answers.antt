@@ -1,6 +1,7 @@
 use Rattle.std.proofs.Common.{◌≡◌, arith, pos, ◌+ℤ◌, to_z, of_z, w64, subst}
 use Rattle.jiff_core.proofs.SignedLemmas.{signed_casts}
-use Rattle.ts_offset.specs.Walk.{IsFirstFrom, IsEnd, IsLaid}
+use Rattle.ts_offset.specs.Walk.{IsFirstFrom, IsEnd}
+use Rattle.ts_calendar.specs.Intervals.{IsLaid}
 use Rattle.ts_offset.proofs.StartLemmas.{first-next, end-after}
 use Rattle.ts_offset.proofs.walk.end_of.Goals as goal
 
@@ -9,10 +10,7 @@ returns-clause-end c =
     let plan = c.args.calendar.now in
     let k = c.interval_around.result in
     let e = c.interval_around.ensures in
-    let laid : IsLaid plan = record { stamp = e.stamps.0; early = e.early } in
+    let laid : IsLaid plan = e.laid in
     let next : k +ℤ pos 1 ≡ to_z w64 (of_z w64 (to_z w64 (of_z w64 k) +ℤ pos 1)) = omega (arith, signed_casts, e.near) in
     let first = first-next plan k c.last_stamp.result laid e.around (omega (arith, signed_casts, e.near), omega (arith, signed_casts, e.near)) in
     subst (IsEnd plan) next (end-after plan (k +ℤ pos 1) laid (subst (λ t. IsFirstFrom plan (t +ℤ pos 1) (k +ℤ pos 1)) c.last_stamp.ensures first))
-
-pub returns-clause-laid : goal.returns-clause-laid
-returns-clause-laid c = record { stamp = c.interval_around.ensures.stamps.0; early = c.interval_around.ensures.early }

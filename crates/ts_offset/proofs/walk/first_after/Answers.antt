@@ -11,4 +11,4 @@ returns c =
     let e = c.interval_around.ensures in
     let next : k +ℤ pos 1 ≡ to_z w64 (of_z w64 (to_z w64 (of_z w64 k) +ℤ pos 1)) = omega (arith, signed_casts, e.near) in
     subst (IsFirstFrom plan (c.args.stamp +ℤ pos 1)) next
-    (first-next plan k c.args.stamp (record { stamp = e.stamps.0; early = e.early }) e.around (omega (arith, signed_casts, e.near), omega (arith, signed_casts, e.near)))
+    (first-next plan k c.args.stamp e.laid e.around (omega (arith, signed_casts, e.near), omega (arith, signed_casts, e.near)))

@@ -13,7 +13,7 @@ returns-clause-value c =
     let e = c.interval_around.ensures in
     let same : to_z w64 (of_z w64 k) ≡ k = omega (arith, signed_casts, e.near) in
     c.on_start.ensures ∙ ap (on_start plan) same
-    ∙ sym (held-at plan c.args.stamp k (record { stamp = e.stamps.0; early = e.early }) e.stamps.1 (omega (arith, signed_casts, e.near), omega (arith, signed_casts, e.near)) e.around)
+    ∙ sym (held-at plan c.args.stamp k e.laid e.stamp (omega (arith, signed_casts, e.near), omega (arith, signed_casts, e.near)) e.around)
 
 pub returns-clause-on : goal.returns-clause-on
 returns-clause-on c =
@@ -27,4 +27,4 @@ returns-clause-none c =
     let e = c.interval_around.ensures in
     let same : to_z w64 (of_z w64 k) ≡ k = omega (arith, signed_casts, e.near) in
     missing (IsOnStamp plan c.args.stamp → ⊥) c.on_start.result (λ none.
-    none-on plan c.args.stamp k (record { stamp = e.stamps.0; early = e.early }) e.stamps.1 e.around (sym (ap (on_start plan) same) ∙ sym c.on_start.ensures ∙ none))
+    none-on plan c.args.stamp k e.laid e.stamp e.around (sym (ap (on_start plan) same) ∙ sym c.on_start.ensures ∙ none))

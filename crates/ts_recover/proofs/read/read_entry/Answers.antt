@@ -5,8 +5,8 @@ use Rattle.ts_page.specs.Head.{bytes_at}
 use Rattle.ts_recover.proofs.EntryLemmas.{zero_length, too_short, found_not_allowed, found_image, found_freed, found_neither}
 use Rattle.ts_recover.proofs.read.read_entry.Goals as goal
 
-pub returns-then-left-lt-FRONT-clause-ok : goal.returns-then-left-lt-FRONT-clause-ok
-returns-then-left-lt-FRONT-clause-ok g c told =
+pub returns-then-left-clause-ok : goal.returns-then-left-clause-ok
+returns-then-left-clause-ok g c told =
     let held = (g.V.Volume.device c.args.vol.now).held in
     let len = length-take-le c.args.left (drop c.args.at held) (omega (arith, length-drop c.args.at held, (g.met.V.Volume.lawful c.args.vol.now).size told, c.requires)) in
     sym (too_short c.args.pages c.args.least (bytes_at c.args.at c.args.left held) (omega (arith, len)))

@@ -1,8 +1,11 @@
-use Rattle.std.proofs.Common.{◌≡◌, ◌+◌, ◌-◌, ◌*◌, ◌/◌, ◌≤◌, ℕ, None, inr, refl, subst, sym, arith}
+use Rattle.std.proofs.Common.{length, ◌∙◌, ◌≡◌, ◌+◌, ◌-◌, ◌*◌, ◌/◌, ◌≤◌, ℕ, None, inr, refl, subst, sym, arith}
 use Rattle.ts_disk.specs.Device.{Device}
-use Rattle.ts_journal.specs.Journal.{IsVolumeSize, page_count}
+use Rattle.ts_journal.specs.Journal.{IsVolumeSize, page_count, StaysUnread}
 use Rattle.ts_journal.specs.Entry.{AreAllowed}
 use Rattle.ts_recover.specs.Reading.{JournalRead}
+use Rattle.ts_journal.proofs.CommitLemmas.{volume_long, stays_unread}
+use Rattle.std.proofs.lemmas.Option.{none-some}
+use Rattle.ts_journal.proofs.StandLemmas.{journal_malformed, journal_is_none}
 use Rattle.ts_recover.proofs.replay.recover.Goals as goal
 
 pub read_journal-requires-clause-size : goal.read_journal-requires-clause-size
@@ -23,3 +26,24 @@ returns-clause-size g c =
     let size = (g.V.Volume.device c.args.vol.now).size in
     let is = c.len-bytes.ensures in
     (size / 4096 - 930, omega arith, omega arith, omega arith)
+
+pub returns-clause-unread : goal.returns-clause-unread
+returns-clause-unread g c told =
+    let v = g.V.Volume.device c.args.vol.now in
+    let over = subst (λ o. JournalRead o v.held c.read_journal.new.overlay.entries) c.in-Some.is (c.in_ok-length.ensures.ok told) in
+    subst (λ (p : ℕ). StaysUnread p v.held) (sym c.at.ensures)
+    (stays_unread v.held c.in-Some.length over.rs (omega (arith, (g.met.V.Volume.lawful c.args.vol.now).size told, volume_long v.size (returns-clause-size g c))) over.stands)
+
+pub returns-in_default-clause-malformed : goal.returns-in_default-clause-malformed
+returns-in_default-clause-malformed g c told small one =
+    let v = g.V.Volume.device c.args.vol.now in
+    let is = c.len-bytes.ensures in
+    let size : IsVolumeSize v.size = (v.size / 4096 - 930, omega arith, omega arith, omega arith) in
+    journal_malformed v.held (subst IsVolumeSize (sym ((g.met.V.Volume.lawful c.args.vol.now).size told)) size) small
+    (subst (λ o. JournalRead o v.held c.read_journal.new.overlay.entries) c.in_default.is (c.in_ok-length.ensures.ok told))
+
+pub returns-clause-malformed : goal.returns-clause-malformed
+returns-clause-malformed g c told small malformed =
+    let v = g.V.Volume.device c.args.vol.now in
+    let over = subst (λ o. JournalRead o v.held c.read_journal.new.overlay.entries) c.in-Some.is (c.in_ok-length.ensures.ok told) in
+    none-some over.rs (sym (journal_is_none v.held (subst IsVolumeSize (sym ((g.met.V.Volume.lawful c.args.vol.now).size told)) (returns-clause-size g c)) small malformed) ∙ over.stands.records)

@@ -8,7 +8,7 @@ use Rattle.ts_shell.proofs.run.run_script.Given as goal
 abbrev pub invariant-loop-session : goal.invariant-loop-session
 invariant-loop-session g l = record {
   within : l.count ≤ 268435456;
-  faults : (g.R.Source.input l.fn.source).pull_faults ≤ (g.R.Source.input l.source).pull_faults;
+  faults : (g.R.Source.input l.source).pull_faults ≡ (g.R.Source.input l.fn.source).pull_faults;
   pulls : (g.R.Source.input l.source).pulls ≤ (g.R.Source.input l.fn.source).pulls + l.count;
   ready : IsReady g.S.Volume.tells l.session.engine (g.S.Volume.device l.site);
   run : (taken : List ℕ) × (length taken ≡ l.count) × (l.session.reader.place ≡ place_from (Some []) taken) × (IsTrue g.R.Source.tells → (g.R.Source.input l.fn.source).left ≡ taken ++ (g.R.Source.input l.source).left)

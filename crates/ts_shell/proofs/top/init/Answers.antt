@@ -11,6 +11,9 @@ returns-then-len-ne0 g c = record {
     refused = λ some. refl;
     kept = λ ten. untouched_now (g.S.Volume.device c.args.site.now);
     disk = λ five. absurd (omega arith);
+    no_fault = λ no. refl;
+    say_faults = refl;
+    complete = λ empty no. absurd (omega (arith, c.len.ensures));
     said = refl;
     statuses = inr (inr refl);
   };
@@ -25,6 +28,9 @@ returns-in-Ok g c = record {
     refused = λ some. absurd (omega (arith, c.len.ensures));
     kept = λ ten. absurd (omega arith);
     disk = λ five. absurd (omega arith);
+    no_fault = λ no. c.in-Ok.ensures.no_fault;
+    say_faults = c.make.ensures.say_faults;
+    complete = λ empty no. refl;
     said = c.make.ensures.said;
     statuses = inl refl;
   };
@@ -39,6 +45,9 @@ returns-in-Err g c = record {
     refused = λ some. absurd (omega (arith, c.len.ensures));
     kept = λ ten. absurd (omega arith);
     disk = λ five. c.in-Err.ensures.cause refl;
+    no_fault = λ no. absurd (no refl);
+    say_faults = c.make.ensures.say_faults;
+    complete = λ empty no. absurd (no (c.in-Err.ensures.cause refl));
     said = c.make.ensures.said;
     statuses = inr (inl refl);
   };

@@ -22,4 +22,4 @@ returns-in-Err-Memory g c =
 
 pub returns : goal.returns
 returns g c =
-    record { ran = opened g.S.Volume.tells g.R.Source.tells c.in-Ok.engine (g.S.Volume.device c.args.site.now) (g.S.Volume.device c.start.new.vol) (g.S.Volume.device c.run_script.new.site) (g.R.Source.input c.args.source.now) (g.R.Source.input c.run_script.new.source) c.run_script.result (g.met.S.Volume.lawful c.start.new.vol) c.in-Ok.ensures c.run_script.ensures.ran }
+    record { ran = opened g.S.Volume.tells g.R.Source.tells c.in-Ok.engine (g.S.Volume.device c.args.site.now) (g.S.Volume.device c.start.new.vol) (g.S.Volume.device c.run_script.new.site) (g.R.Source.input c.args.source.now) (g.R.Source.input c.run_script.new.source) c.run_script.result c.in-Ok.ensures c.run_script.ensures.ran }

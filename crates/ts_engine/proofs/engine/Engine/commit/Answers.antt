@@ -16,7 +16,7 @@ returns-in-Ok g c =
     let f : Kept = record { store = c.commit.new.self; tables = c.self.inside.defs; space = c.self.inside.space; spent = c.self.inside.spent } in
     record {
       finished = subst (λ (e : Kept). Finished tells (Ok tt) (Ok tt) e f v w) c.self.view_is
-          (committed tells (the_view c.self.inside) f v w over c.commit.ensures.moments c.commit.ensures.others refl refl refl c.in-Ok.ensures.closed c.in-Ok.ensures.over c.in-Ok.ensures.ok);
+          (committed tells (the_view c.self.inside) f v w over c.commit.ensures.moments c.commit.ensures.others refl refl refl c.in-Ok.ensures.closed c.in-Ok.ensures.over c.in-Ok.ensures.ok (c.in-Ok.ensures.no_fault refl));
     }
 
 pub returns-in-Err : goal.returns-in-Err

@@ -2,7 +2,7 @@ use Rattle.std.proofs.Common.{◌≡◌, ◌==◌, ℕ, suc, true, length, List,
 use Rattle.std.proofs.lemmas.Bool.Decides.{nat_tests}
 use Rattle.std.proofs.lemmas.List.{append-nil}
 use Rattle.ts_items.specs.Items.{place_from}
-use Rattle.ts_items.specs.ItemLaws.{place_from-append}
+use Rattle.ts_items.proofs.ItemLaws.{place_from-append}
 use Rattle.ts_items.proofs.RunLemmas.{rest_whole}
 use Rattle.ts_shell.specs.Run.{requests_from}
 use Rattle.ts_shell.proofs.RanLemmas.{ran_none, ran_as, ran_failed_as}

@@ -4,7 +4,7 @@ use Rattle.ts_base.specs.declared.refusal.Refusal.TheVariants as refusals
 use Rattle.ts_command.specs.Grammar.{command_of}
 use Rattle.ts_command.specs.Script.{Request, or_syntax}
 use Rattle.ts_replies.specs.Acknowledged.{memory_line}
-use Rattle.ts_shell.proofs.ItemLemmas.{line_ran, refused_step, syntax_line, syntax_at, statement_lacks}
+use Rattle.ts_shell.proofs.ItemLemmas.{line_ran, refused_step, syntax_line, syntax_at, statement_stand_in}
 use Rattle.ts_shell.proofs.FeedLemmas.{ran_of}
 use Rattle.ts_shell.proofs.session.Session.carry_out_statement.Goals as goal
 
@@ -30,4 +30,4 @@ returns-in-Err-Memory-clause-ran g c =
     let v = g.S.Volume.device c.args.site.now in
     let w = g.S.Volume.device c.say-in-Err-Memory.new.site in
     let request = or_syntax (command_of c.args.self.now.reader.text) in
-    line_ran g.S.Volume.tells request memory_line c.args.self.now.engine v w c.say-in-Err-Memory.result (g.met.S.Volume.lawful c.args.site.now) c.requires.ready (λ cat. inr (statement_lacks (command_of c.args.self.now.reader.text), refl, refl)) c.say-in-Err-Memory.ensures.says c.say-in-Err-Memory.ensures.output
+    line_ran g.S.Volume.tells request memory_line c.args.self.now.engine v w c.say-in-Err-Memory.result (g.met.S.Volume.lawful c.args.site.now) c.requires.ready (λ cat. inr (statement_stand_in (command_of c.args.self.now.reader.text), refl)) c.say-in-Err-Memory.ensures.says c.say-in-Err-Memory.ensures.output

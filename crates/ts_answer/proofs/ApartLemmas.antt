@@ -1,0 +1,103 @@
+-- No reply of a routine is taken for the memory line.
+use Rattle.std.proofs.Common.{ℕ, ℤ, Ok, Err, List}
+use Rattle.ts_row.specs.declared.kind.Column.{Column}
+use Rattle.ts_row.specs.declared.value.Literal.{Literal}
+use Rattle.ts_command.specs.declared.command.Command.{Command}
+use Rattle.ts_command.specs.declared.command.Command.TheVariants as commands
+use Rattle.ts_replies.specs.Acknowledged.{AreApart}
+use Rattle.ts_model.specs.declared.kind.Kind.{Kind}
+use Rattle.ts_model.specs.declared.kind.Kind.TheVariants as kinds
+use Rattle.ts_model.specs.Catalogue.{Catalogue}
+use Rattle.ts_command.specs.Script.{Request}
+use Rattle.ts_answer.specs.Answer.{Tried, Answered, ◌>>=◌, settled, outcome, answer, carried_out, create_row_type, drop_definition, create_container, container_usage, create_irregular, drop_series, list_series, insert_element, update_element, get_element, get_last_element, count_elements}
+use Rattle.ts_answer.proofs.ReplyLemmas.{IsApart, Begins, apart-begins, ok-begins, count-begins, counts-begins, stamp-begins, elements-begin, series_text-begins, refusal-apart}
+
+-- what is said of a reply begins with another byte than the memory line
+abbrev Differs : Tried Answered → Type 0
+Differs (Ok answered) = Begins answered.0
+Differs (Err refusal) = Unit {0}
+
+then : {A : Type 0} (m : Tried A) (f : A → Tried Answered) → ((a : A) → Differs (f a)) → Differs (m >>= f)
+unfolding ◌>>=◌
+then (Ok a) f differs = differs a
+then (Err refusal) f differs = tt
+
+create_row_type-differs : (name stamp : List ℕ) (columns : List Column) (cat : Catalogue) → Differs (create_row_type name stamp columns cat)
+unfolding create_row_type
+create_row_type-differs name stamp columns cat = then _ _ (λ a. then _ _ (λ b. ok-begins))
+
+drop_definition-differs : (kind : Kind) (name : List ℕ) (cat : Catalogue) → Differs (drop_definition kind name cat)
+unfolding drop_definition
+drop_definition-differs kind name cat = then _ _ (λ a. then _ _ (λ b. ok-begins))
+
+create_container-differs : (name row_type : List ℕ) (quota : ℕ) (cat : Catalogue) → Differs (create_container name row_type quota cat)
+unfolding create_container
+create_container-differs name row_type quota cat = then _ _ (λ a. then _ _ (λ b. then _ _ (λ c. ok-begins)))
+
+container_usage-differs : (name : List ℕ) (cat : Catalogue) → Differs (container_usage name cat)
+unfolding container_usage
+container_usage-differs name cat = then _ _ (λ a. counts-begins _ _)
+
+create_irregular-differs : (key container : List ℕ) (cat : Catalogue) → Differs (create_irregular key container cat)
+unfolding create_irregular
+create_irregular-differs key container cat = then _ _ (λ a. then _ _ (λ b. ok-begins))
+
+drop_series-differs : (key : List ℕ) (cat : Catalogue) → Differs (drop_series key cat)
+unfolding drop_series
+drop_series-differs key cat = then _ _ (λ a. ok-begins)
+
+list_series-differs : (container : List ℕ) (cat : Catalogue) → Differs (list_series container cat)
+unfolding list_series
+list_series-differs container cat = then _ _ (λ a. series_text-begins _)
+
+insert_element-differs : (key : List ℕ) (stamp : ℤ) (literals : List Literal) (cat : Catalogue) → Differs (insert_element key stamp literals cat)
+unfolding insert_element
+insert_element-differs key stamp literals cat = then _ _ (λ a. then _ _ (λ b. then _ _ (λ c. then _ _ (λ d. then _ _ (λ e. stamp-begins stamp)))))
+
+update_element-differs : (key : List ℕ) (stamp : ℤ) (literals : List Literal) (cat : Catalogue) → Differs (update_element key stamp literals cat)
+unfolding update_element
+update_element-differs key stamp literals cat = then _ _ (λ a. then _ _ (λ b. then _ _ (λ c. stamp-begins stamp)))
+
+get_element-differs : (key : List ℕ) (stamp : ℤ) (cat : Catalogue) → Differs (get_element key stamp cat)
+unfolding get_element
+get_element-differs key stamp cat = then _ _ (λ a. elements-begin _ _)
+
+get_last_element-differs : (key : List ℕ) (cat : Catalogue) → Differs (get_last_element key cat)
+unfolding get_last_element
+get_last_element-differs key cat = then _ _ (λ a. elements-begin _ _)
+
+count_elements-differs : (key : List ℕ) (cat : Catalogue) → Differs (count_elements key cat)
+unfolding count_elements
+count_elements-differs key cat = then _ _ (λ a. count-begins _)
+
+carried_out-differs : (command : Command) (cat : Catalogue) → Differs (carried_out command cat)
+unfolding carried_out
+carried_out-differs (commands.CreateRowType name stamp columns) cat = create_row_type-differs name stamp columns cat
+carried_out-differs (commands.DropRowType name) cat = drop_definition-differs kinds.RowType name cat
+carried_out-differs (commands.TSContainerCreate name row_type quota) cat = create_container-differs name row_type _ cat
+carried_out-differs (commands.TSContainerDestroy name) cat = drop_definition-differs kinds.Container name cat
+carried_out-differs (commands.TSContainerUsage name) cat = container_usage-differs name cat
+carried_out-differs (commands.TSCreateIrr key container) cat = create_irregular-differs key container cat
+carried_out-differs (commands.DropSeries key) cat = drop_series-differs key cat
+carried_out-differs (commands.ListSeries container) cat = list_series-differs container cat
+carried_out-differs (commands.InsElem key stamp literals) cat = insert_element-differs key stamp literals cat
+carried_out-differs (commands.UpdElem key stamp literals) cat = update_element-differs key stamp literals cat
+carried_out-differs (commands.GetElem key stamp) cat = get_element-differs key stamp cat
+carried_out-differs (commands.GetLastElem key) cat = get_last_element-differs key cat
+carried_out-differs (commands.GetNelems key) cat = count_elements-differs key cat
+
+outcome-differs : (request : Request) (cat : Catalogue) → Differs (outcome request cat)
+unfolding outcome
+outcome-differs (Ok command) cat = carried_out-differs command cat
+outcome-differs (Err refusal) cat = tt
+
+settled-apart : (cat : Catalogue) (t : Tried Answered) → Differs t → IsApart (settled cat t).0
+settled-apart cat (Ok answered) differs = apart-begins answered.0 differs
+settled-apart cat (Err refusal) differs = refusal-apart refusal
+
+answer-apart : (cat : Catalogue) (request : Request) → IsApart (answer cat request).0
+unfolding answer
+answer-apart cat request = settled-apart cat (outcome request cat) (outcome-differs request cat)
+
+pub apart : AreApart answer
+apart = record { memory = λ cat request x. (answer-apart cat request).memory x; reply = λ cat request. (answer-apart cat request).reply }

@@ -1,0 +1,8 @@
+pub mod ApartLemmas
+pub mod CallerLemmas
+mod CarriedLemmas
+mod NameLemmas
+mod ReadingLemmas
+mod ReplyLemmas
+mod TriedLemmas
+mod ViewLemmas

@@ -1,0 +1,36 @@
+-- What is refused, and what only reads, leaves the catalogue.
+use Rattle.std.proofs.Common.{◌≡◌, ℕ, false, Ok, Err, List, refl, ap}
+use Rattle.ts_base.specs.declared.refusal.Refusal.{Refusal}
+use Rattle.ts_command.specs.declared.command.Command.{Command}
+use Rattle.ts_command.specs.declared.command.Command.TheVariants as commands
+use Rattle.ts_model.specs.Catalogue.{Catalogue}
+use Rattle.ts_command.specs.Script.{Request}
+use Rattle.ts_answer.specs.Commands.{is_writing}
+use Rattle.ts_answer.specs.Reply.{refusal_line}
+use Rattle.ts_answer.specs.Answer.{Tried, ◌>>=◌, settled, outcome, answer, carried_out, container_usage, list_series, get_element, get_last_element, count_elements}
+
+pub refused : (cat : Catalogue) (request : Request) (refusal : Refusal) → outcome request cat ≡ Err refusal → answer cat request ≡ (refusal_line refusal, cat)
+unfolding answer
+refused cat request refusal h = ap (settled cat) h
+
+reads : {A : Type 0} (cat : Catalogue) (m : Tried A) (say : A → List ℕ) → (settled cat (m >>= (λ a. Ok (say a, cat)))).1 ≡ cat
+unfolding ◌>>=◌
+reads cat (Ok a) say = refl
+reads cat (Err refusal) say = refl
+
+-- each routine that only reads
+pub leaves : (cat : Catalogue) (command : Command) → is_writing command ≡ false → (answer cat (Ok command)).1 ≡ cat
+unfolding answer outcome carried_out container_usage list_series get_element get_last_element count_elements
+leaves cat (commands.CreateRowType name stamp columns) reading = absurd (cc)
+leaves cat (commands.DropRowType name) reading = absurd (cc)
+leaves cat (commands.TSContainerCreate name row_type quota) reading = absurd (cc)
+leaves cat (commands.TSContainerDestroy name) reading = absurd (cc)
+leaves cat (commands.TSContainerUsage name) reading = reads cat _ _
+leaves cat (commands.TSCreateIrr key container) reading = absurd (cc)
+leaves cat (commands.DropSeries key) reading = absurd (cc)
+leaves cat (commands.ListSeries container) reading = reads cat _ _
+leaves cat (commands.InsElem key stamp literals) reading = absurd (cc)
+leaves cat (commands.UpdElem key stamp literals) reading = absurd (cc)
+leaves cat (commands.GetElem key stamp) reading = reads cat _ _
+leaves cat (commands.GetLastElem key) reading = reads cat _ _
+leaves cat (commands.GetNelems key) reading = reads cat _ _

@@ -1,0 +1,113 @@
+-- Replies and the memory line: what tells them apart.
+use Rattle.std.proofs.Common.{◌≡◌, ℕ, ◌+◌, ◌%◌, ℤ, Bool, cond, None, List, [], ◌∷◌, ◌++◌, length, drop, codes, refl, ap, sym, subst, arith}
+use Rattle.std.specs.List.{flat_map}
+use Rattle.std.specs.Fmt.{digits}
+use Rattle.std.proofs.lemmas.Bool.{ne_eqb}
+use Rattle.ts_base.specs.StampText.{stamp_text}
+use Rattle.ts_base.specs.declared.refusal.Refusal.{Refusal}
+use Rattle.ts_base.specs.declared.refusal.Refusal.TheVariants as refusals
+use Rattle.ts_row.specs.declared.kind.Column.{Column}
+use Rattle.ts_row.specs.Row.{Values}
+use Rattle.ts_row.specs.Printed.{row_text}
+use Rattle.ts_replies.specs.Acknowledged.{behind, memory_line}
+use Rattle.ts_answer.specs.Reply.{ok_line, count_line, counts_line, stamp_line, refusal_line, element_line, elements_text, series_line, series_text}
+
+-- neither begins with the other
+pub record IsApart (text : List ℕ) : Type 0 where
+  pub memory : (x : List ℕ) → behind text (memory_line ++ x) ≡ None
+  pub reply : behind memory_line text ≡ None
+
+-- a text that begins with another byte
+pub record Begins (text : List ℕ) : Type 0 where
+  pub first : ℕ
+  pub rest : List ℕ
+  pub is : text ≡ first ∷ rest
+  pub other : first ≡ 101 → ⊥
+
+apart-first : (b : ℕ) (rest : List ℕ) → (b ≡ 101 → ⊥) → IsApart (b ∷ rest)
+apart-first b rest other = record {
+  memory = λ x. ap (λ (t : Bool). cond t (behind rest (drop 1 memory_line ++ x)) None) (ne_eqb b 101 other);
+  reply = ap (λ (t : Bool). cond t (behind (drop 1 memory_line) rest) None) (ne_eqb 101 b (λ e. other (sym e)));
+}
+
+pub apart-begins : (text : List ℕ) → Begins text → IsApart text
+apart-begins text b = subst IsApart (sym b.is) (apart-first b.first b.rest b.other)
+
+pub begins-append : (text more : List ℕ) → Begins text → Begins (text ++ more)
+begins-append text more b = record { first = b.first; rest = b.rest ++ more; is = ap (λ (l : List ℕ). l ++ more) b.is; other = b.other }
+
+pub ok-begins : Begins ok_line
+unfolding ok_line
+ok-begins = record { first = 111; rest = _; is = refl; other = λ e. omega (arith, e) }
+
+pub count-begins : (n : ℕ) → Begins (count_line n)
+unfolding count_line
+count-begins n = record { first = 111; rest = _; is = refl; other = λ e. omega (arith, e) }
+
+pub counts-begins : (n m : ℕ) → Begins (counts_line n m)
+unfolding counts_line
+counts-begins n m = record { first = 111; rest = _; is = refl; other = λ e. omega (arith, e) }
+
+pub stamp-begins : (stamp : ℤ) → Begins (stamp_line stamp)
+unfolding stamp_line
+stamp-begins stamp = record { first = 111; rest = _; is = refl; other = λ e. omega (arith, e) }
+
+digit-other : (n : ℕ) → 48 + n % 10 ≡ 101 → ⊥
+digit-other n e = omega (arith, e)
+
+stamp_text-begins : (stamp : ℤ) → Begins (stamp_text stamp)
+unfolding stamp_text
+stamp_text-begins stamp = record { first = _; rest = _; is = refl; other = digit-other _ }
+
+element-begins : (columns : List Column) (e : ℤ × Values) → Begins (element_line columns e)
+unfolding element_line
+element-begins columns e =
+    let stamp = stamp_text e.0 in
+    let row = row_text columns e.1 in
+    begins-append ((stamp ++ codes " ") ++ row) (codes "\n") (begins-append (stamp ++ codes " ") row (begins-append stamp (codes " ") (stamp_text-begins e.0)))
+
+series-begins : (s : List ℕ × ℕ) → Begins (series_line s)
+unfolding series_line
+series-begins s = record { first = 39; rest = _; is = refl; other = λ e. omega (arith, e) }
+
+lines-begin : {A : Type 0} (line : A → List ℕ) → ((a : A) → Begins (line a)) → (all : List A) (last : List ℕ) → Begins last → Begins (flat_map line all ++ last)
+lines-begin line begins [] last end = end
+lines-begin line begins (a ∷ all) last end = begins-append (line a ++ flat_map line all) last (begins-append (line a) (flat_map line all) (begins a))
+
+pub elements-begin : (columns : List Column) (es : List (ℤ × Values)) → Begins (elements_text columns es)
+unfolding elements_text
+elements-begin columns es = lines-begin (element_line columns) (element-begins columns) es (count_line (length es)) (count-begins (length es))
+
+pub series_text-begins : (ss : List (List ℕ × ℕ)) → Begins (series_text ss)
+unfolding series_text
+series_text-begins ss = lines-begin series_line series-begins ss (count_line (length ss)) (count-begins (length ss))
+
+pub refusal-apart : (refusal : Refusal) → IsApart (refusal_line refusal)
+unfolding refusal_line digits
+refusal-apart (refusals.Syntax place) = record { memory = λ x. refl; reply = refl }
+refusal-apart refusals.TooLong = record { memory = λ x. refl; reply = refl }
+refusal-apart refusals.Unended = record { memory = λ x. refl; reply = refl }
+refusal-apart refusals.UnknownName = record { memory = λ x. refl; reply = refl }
+refusal-apart refusals.NameTaken = record { memory = λ x. refl; reply = refl }
+refusal-apart (refusals.BadRowType column) = record { memory = λ x. refl; reply = refl }
+refusal-apart (refusals.BadPattern place) = record { memory = λ x. refl; reply = refl }
+refusal-apart (refusals.BadCalendar place) = record { memory = λ x. refl; reply = refl }
+refusal-apart refusals.AllOff = record { memory = λ x. refl; reply = refl }
+refusal-apart refusals.UnitMismatch = record { memory = λ x. refl; reply = refl }
+refusal-apart (refusals.PatternTooLong size runs) = record { memory = λ x. refl; reply = refl }
+refusal-apart refusals.NotAligned = record { memory = λ x. refl; reply = refl }
+refusal-apart refusals.OffStamp = record { memory = λ x. refl; reply = refl }
+refusal-apart refusals.BeforeOrigin = record { memory = λ x. refl; reply = refl }
+refusal-apart refusals.PastEnd = record { memory = λ x. refl; reply = refl }
+refusal-apart refusals.Duplicate = record { memory = λ x. refl; reply = refl }
+refusal-apart refusals.Missing = record { memory = λ x. refl; reply = refl }
+refusal-apart refusals.SecondFull = record { memory = λ x. refl; reply = refl }
+refusal-apart (refusals.RowMismatch column) = record { memory = λ x. refl; reply = refl }
+refusal-apart (refusals.ContainerFull charge quota) = record { memory = λ x. refl; reply = refl }
+refusal-apart (refusals.VolumeFull sum pages) = record { memory = λ x. refl; reply = refl }
+refusal-apart refusals.InUse = record { memory = λ x. refl; reply = refl }
+refusal-apart refusals.TooMany = record { memory = λ x. refl; reply = refl }
+refusal-apart (refusals.TooLarge rows) = record { memory = λ x. refl; reply = refl }
+refusal-apart refusals.NotRegular = record { memory = λ x. refl; reply = refl }
+refusal-apart (refusals.BadExpression place) = record { memory = λ x. refl; reply = refl }
+refusal-apart refusals.UnknownColumn = record { memory = λ x. refl; reply = refl }

@@ -1,0 +1,214 @@
+-- What a catalogue answers to a request of a script: a reply, and the catalogue after it. Each routine tries its refusals in
+-- order; the first that holds is said, and the catalogue stays.
+use Rattle.std.specs.Prelude.{ℕ, ◌+◌, ◌-◌, Bool, true, false, nat_lt, nat_le, if◌then◌else◌, ℤ, unsigned_abs, List, length, map, slice_get, Option, Some, None, option_to_list, Result, Ok, Err, is_some, is_none}
+use Rattle.std.specs.FinMap.{empty, entries, get, insert, remove, len}
+use Rattle.ts_base.specs.declared.refusal.Refusal.{Refusal}
+use Rattle.ts_base.specs.declared.refusal.Refusal.TheVariants as refusals
+use Rattle.ts_row.specs.declared.kind.Column.{Column}
+use Rattle.ts_row.specs.declared.value.Literal.{Literal}
+use Rattle.ts_row.specs.RowType.{bad_column}
+use Rattle.ts_row.specs.Row.{Values, row_of}
+use Rattle.ts_command.specs.declared.command.Command.{Command}
+use Rattle.ts_command.specs.declared.command.Command.TheVariants as commands
+use Rattle.ts_command.specs.Script.{Request}
+use Rattle.ts_model.specs.declared.kind.Kind.{Kind}
+use Rattle.ts_model.specs.declared.kind.Kind.TheVariants as kinds
+use Rattle.ts_model.specs.Definitions.{limit}
+use Rattle.ts_model.specs.Catalogue.{Named, Elements, Series, Catalogue, columns_of, quota_of, series_in, quotas}
+use Rattle.ts_model.specs.Charge.{page_elements, container_charge}
+use Rattle.ts_answer.specs.Kinds.{named, without, is_used}
+use Rattle.ts_answer.specs.Reply.{ok_line, count_line, counts_line, stamp_line, refusal_line, elements_text, series_text}
+
+-- a value, or the refusal that came first
+abbrev pub Tried : Type 0 → Type 0
+Tried A = Result A Refusal
+
+-- a value, and what is tried with it
+infixl 10 ◌>>=◌
+unfoldable pub ◌>>=◌ : {A B : Type 0} → Tried A → (A → Tried B) → Tried B
+(Ok a) >>= f = f a
+(Err refusal) >>= f = Err refusal
+
+-- a reply, and the catalogue after it
+abbrev pub Answered : Type 0
+Answered = List ℕ × Catalogue
+
+-- it is refused where a test holds
+unfoldable pub refused_if : Bool → Refusal → Tried (Unit {0})
+refused_if test refusal = if test then Err refusal else Ok tt
+
+-- what a name stands for, if it stands for anything; else the name is unknown
+abbrev pub known : {X : Type 0} → Option X → Tried X
+known (Some x) = Ok x
+known None = Err refusals.UnknownName
+
+-- what has this name; an unknown name is refused
+unfoldable pub wanted : {X : Type 0} → List ℕ → Named X → Tried X
+wanted name named = known (get named name)
+
+-- a name that is taken is refused
+unfoldable pub unused : {X : Type 0} → List ℕ → Named X → Tried (Unit {0})
+unused name named = refused_if (is_some (get named name)) refusals.NameTaken
+
+-- one more than there may be is refused
+unfoldable pub within_limit : {X : Type 0} → ℕ → Named X → Tried (Unit {0})
+within_limit most named = refused_if (nat_le most (len named)) refusals.TooMany
+
+-- a name of a kind that isn't taken, where there may be one more
+unfoldable pub a_new_name : Kind → List ℕ → Catalogue → Tried (Unit {0})
+a_new_name kind name cat = do
+  free ← unused name (named kind cat)
+  within_limit (limit kind) (named kind cat)
+
+-- a bad column is refused by its number
+abbrev pub no_bad_column : Option ℕ → Tried (Unit {0})
+no_bad_column (Some column) = Err (refusals.BadRowType column)
+no_bad_column None = Ok tt
+
+-- the first column that breaks a rule of row types is refused
+unfoldable pub a_row_type : List ℕ → List Column → Tried (Unit {0})
+a_row_type stamp columns = no_bad_column (bad_column stamp columns)
+
+-- a row, or the number of the column for which there is none
+abbrev pub row_or_mismatch : Result Values ℕ → Tried Values
+row_or_mismatch (Ok row) = Ok row
+row_or_mismatch (Err column) = Err (refusals.RowMismatch column)
+
+-- the row of literals; the first column that misfits, is missing or is too many is refused
+unfoldable pub a_row : List Column → List Literal → Tried Values
+a_row columns literals = row_or_mismatch (row_of columns literals)
+
+-- charges beyond a quota are refused
+unfoldable pub within_quota : ℕ → ℕ → Tried (Unit {0})
+within_quota charge quota = refused_if (nat_lt quota charge) (refusals.ContainerFull charge quota)
+
+-- So far a series has one page: one element more than that holds is refused in every container, as a charge above any quota.
+unfoldable pub on_one_page : ℕ → ℕ → ℕ → Tried (Unit {0})
+on_one_page room count quota = refused_if (nat_lt room count) (refusals.ContainerFull 65537 quota)
+
+-- quotas beyond the element pages are refused
+unfoldable pub within_pages : ℕ → ℕ → Tried (Unit {0})
+within_pages sum pages = refused_if (nat_lt pages sum) (refusals.VolumeFull sum pages)
+
+-- the catalogue with this element in a series
+abbrev pub with_element : List ℕ → Series → ℤ → Values → Catalogue → Catalogue
+with_element key s stamp row cat =
+    record cat { series = insert cat.series key (record s { elements = insert s.elements stamp row }) }
+
+-- the last element, as a list of one or none
+abbrev pub last_element : Elements → List (ℤ × Values)
+last_element elements = option_to_list (slice_get (entries elements) (length (entries elements) - 1))
+
+-- the element at a stamp, as a list of one or none
+abbrev pub element_at : ℤ → Elements → List (ℤ × Values)
+element_at stamp elements = map (λ row. (stamp, row)) (option_to_list (get elements stamp))
+
+unfoldable pub create_row_type : List ℕ → List ℕ → List Column → Catalogue → Tried Answered
+create_row_type name stamp columns cat = do
+  good ← a_row_type stamp columns
+  new ← a_new_name kinds.RowType name cat
+  Ok (ok_line, record cat { row_types = insert cat.row_types name (record { stamp = stamp; columns = columns }) })
+
+-- a definition to which nothing refers goes
+unfoldable pub drop_definition : Kind → List ℕ → Catalogue → Tried Answered
+drop_definition kind name cat = do
+  there ← wanted name (named kind cat)
+  idle ← refused_if (is_used kind name cat) refusals.InUse
+  Ok (ok_line, without kind name cat)
+
+unfoldable pub create_container : List ℕ → List ℕ → ℕ → Catalogue → Tried Answered
+create_container name row_type quota cat = do
+  heading ← wanted row_type cat.row_types
+  new ← a_new_name kinds.Container name cat
+  fits ← within_pages (quotas cat + quota) cat.pages
+  Ok (ok_line, record cat { containers = insert cat.containers name (record { row_type = row_type; quota = quota }) })
+
+unfoldable pub container_usage : List ℕ → Catalogue → Tried Answered
+container_usage name cat = do
+  container ← wanted name cat.containers
+  Ok (counts_line (container_charge name cat) container.quota, cat)
+
+unfoldable pub create_irregular : List ℕ → List ℕ → Catalogue → Tried Answered
+create_irregular key container cat = do
+  there ← wanted container cat.containers
+  new ← a_new_name kinds.Series key cat
+  Ok (ok_line, record cat { series = insert cat.series key (record { container = container; elements = empty }) })
+
+unfoldable pub drop_series : List ℕ → Catalogue → Tried Answered
+drop_series key cat = do
+  series ← wanted key cat.series
+  Ok (ok_line, record cat { series = remove cat.series key })
+
+unfoldable pub list_series : List ℕ → Catalogue → Tried Answered
+list_series container cat = do
+  there ← wanted container cat.containers
+  Ok (series_text (map (λ e. (e.0, len e.1.elements)) (series_in container cat)), cat)
+
+unfoldable pub insert_element : List ℕ → ℤ → List Literal → Catalogue → Tried Answered
+insert_element key stamp literals cat = do
+  series ← wanted key cat.series
+  row ← a_row (columns_of cat series) literals
+  free ← refused_if (is_some (get series.elements stamp)) refusals.Duplicate
+  one ← on_one_page (page_elements (columns_of cat series)) (len series.elements + 1) (quota_of cat series)
+  fits ← within_quota (container_charge series.container (with_element key series stamp row cat)) (quota_of cat series)
+  Ok (stamp_line stamp, with_element key series stamp row cat)
+
+unfoldable pub update_element : List ℕ → ℤ → List Literal → Catalogue → Tried Answered
+update_element key stamp literals cat = do
+  series ← wanted key cat.series
+  row ← a_row (columns_of cat series) literals
+  there ← refused_if (is_none (get series.elements stamp)) refusals.Missing
+  Ok (stamp_line stamp, with_element key series stamp row cat)
+
+unfoldable pub get_element : List ℕ → ℤ → Catalogue → Tried Answered
+get_element key stamp cat = do
+  series ← wanted key cat.series
+  Ok (elements_text (columns_of cat series) (element_at stamp series.elements), cat)
+
+unfoldable pub get_last_element : List ℕ → Catalogue → Tried Answered
+get_last_element key cat = do
+  series ← wanted key cat.series
+  Ok (elements_text (columns_of cat series) (last_element series.elements), cat)
+
+unfoldable pub count_elements : List ℕ → Catalogue → Tried Answered
+count_elements key cat = do
+  series ← wanted key cat.series
+  Ok (count_line (len series.elements), cat)
+
+-- what a command comes to
+unfoldable pub carried_out : Command → Catalogue → Tried Answered
+carried_out (commands.CreateRowType name stamp columns) cat = create_row_type name stamp columns cat
+carried_out (commands.DropRowType name) cat = drop_definition kinds.RowType name cat
+carried_out (commands.TSContainerCreate name row_type quota) cat = create_container name row_type (unsigned_abs quota) cat
+carried_out (commands.TSContainerDestroy name) cat = drop_definition kinds.Container name cat
+carried_out (commands.TSContainerUsage name) cat = container_usage name cat
+carried_out (commands.TSCreateIrr key container) cat = create_irregular key container cat
+carried_out (commands.DropSeries key) cat = drop_series key cat
+carried_out (commands.ListSeries container) cat = list_series container cat
+carried_out (commands.InsElem key stamp literals) cat = insert_element key stamp literals cat
+carried_out (commands.UpdElem key stamp literals) cat = update_element key stamp literals cat
+carried_out (commands.GetElem key stamp) cat = get_element key stamp cat
+carried_out (commands.GetLastElem key) cat = get_last_element key cat
+carried_out (commands.GetNelems key) cat = count_elements key cat
+
+-- what a request comes to
+unfoldable pub outcome : Request → Catalogue → Tried Answered
+outcome (Ok command) cat = carried_out command cat
+outcome (Err refusal) cat = Err refusal
+
+-- the reply, or the line of the refusal and the same catalogue
+abbrev pub settled : Catalogue → Tried Answered → Answered
+settled cat (Ok answered) = answered
+settled cat (Err refusal) = (refusal_line refusal, cat)
+
+-- the answer to a request
+unfoldable pub answer : Catalogue → Request → Answered
+answer cat request = settled cat (outcome request cat)
+
+-- whether the line that there is no memory may stand in the place of the reply: not in that of a statement that is too long or
+-- cut off, which takes none
+abbrev pub may_lack_memory : Request → Bool
+may_lack_memory (Ok command) = true
+may_lack_memory (Err refusals.TooLong) = false
+may_lack_memory (Err refusals.Unended) = false
+may_lack_memory (Err refusal) = true

@@ -1,0 +1,117 @@
+-- What it is to carry out a command on pages. Nothing here speaks of a device, a journal or a commit.
+use Rattle.std.specs.Prelude.{◌≡◌, ℕ, ◌<◌, ◌≤◌, ◌+◌, ◌*◌, Bool, true, false, IsTrue, None, Result, Ok, Err, IfOk, OnOk, IfErr, List, [], length, slice_set}
+use Rattle.ts_base.specs.declared.refusal.Refusal.{Refusal}
+use Rattle.ts_disk.specs.Device.{Rose}
+use Rattle.ts_command.specs.declared.command.Command.{Command}
+use Rattle.ts_page.specs.Pages.{Contents, EqualPages}
+use Rattle.ts_space.specs.declared.place.Place.{Place}
+use Rattle.ts_space.specs.Place.{IsRising}
+use Rattle.ts_model.specs.declared.kind.Kind.TheVariants as kinds
+use Rattle.ts_model.specs.Definitions.{Definitions, Room, has_room, with_slot}
+use Rattle.ts_layout.specs.Meaning.{Layout, catalogue_of}
+use Rattle.ts_answer.specs.declared.effect.Effect.{Effect}
+use Rattle.ts_answer.specs.declared.effect.Effect.TheVariants.{Nothing, Slot, Places, Series}
+use Rattle.ts_answer.specs.declared.stop.Stop.{Stop}
+use Rattle.ts_answer.specs.declared.stop.Stop.TheVariants.{Refused, Failed, Memory}
+use Rattle.ts_answer.specs.Answer.{outcome}
+use Rattle.ts_answer.specs.Commands.{is_writing}
+use Rattle.ts_answer.specs.Decided.{FitsSlot}
+use Rattle.ts_answer.specs.View.{View, Shows}
+
+-- the definitions, and the lists of places, once a command's effect is applied
+abbrev pub definitions_after : Effect → Definitions → Definitions
+definitions_after Nothing d = d
+definitions_after (Slot kind slot def) d = with_slot kind slot def d
+definitions_after (Places slot places) d = d
+definitions_after (Series slot) d = with_slot kinds.Series slot None d
+
+abbrev pub lists_after : Effect → List (List Place) → List (List Place)
+lists_after Nothing lists = lists
+lists_after (Slot kind slot def) lists = lists
+lists_after (Places slot places) lists = slice_set lists slot places.items
+lists_after (Series slot) lists = slice_set lists slot []
+
+-- what is seen then, on these pages
+abbrev pub view_after : Effect → View → Contents → View
+view_after effect x c = record {
+  definitions = definitions_after effect x.definitions;
+  space = record x.space { lists = lists_after effect x.space.lists };
+  pages = c;
+}
+
+-- the effect can be applied
+abbrev pub CanApply : Effect → Definitions → Type 0
+CanApply Nothing d = Unit {0}
+CanApply (Slot kind slot def) d = FitsSlot kind slot def d
+CanApply (Places slot places) d = (slot < 4096) × IsRising places.items
+CanApply (Series slot) d = slot < 4096
+
+-- there is no effect
+abbrev pub is_nothing : Effect → Bool
+is_nothing Nothing = true
+is_nothing (Slot kind slot def) = false
+is_nothing (Places slot places) = false
+is_nothing (Series slot) = false
+
+-- all that applying it asks for
+abbrev pub HasRoom : Effect → Room → Type 0
+HasRoom Nothing room = Unit {0}
+HasRoom (Slot kind slot def) room = has_room kind room ≡ true
+HasRoom (Places slot places) room = Unit {0}
+HasRoom (Series slot) room = Unit {0}
+
+-- the pages stay, and the free ones of them
+pub record Stays (tells : Bool) (v w : Contents) : Type 0 where
+  pub free : w.free ≡ v.free
+  pub pages : IsTrue tells → EqualPages v.page w.page
+
+-- A layout was seen, and by the catalogue of the one that is seen with the effect this is the answer.
+pub record Comes (tells : Bool) (command : Command) (effect : Effect) (out : List ℕ) (x : View) (c : Contents) (l : Layout) : Type 0 where
+  pub layout : Layout
+  pub shows : Shows tells (view_after effect x c) layout
+  pub comes : IsTrue tells → outcome (Ok command) (catalogue_of l) ≡ Ok (out, catalogue_of layout)
+
+-- how many bytes of a record one command's changes need at most: four pages, and the numbers of all that it frees
+abbrev pub most_bytes : ℕ
+most_bytes = 344084
+
+-- so much at most a command adds to the bytes of a record and five for each page in use: four pages, and the numbers of four
+abbrev pub most_growth : ℕ
+most_growth = 16424
+
+-- So many commands add no more than that each. The pages in use are those that aren't free.
+abbrev pub Grows : ℕ → Contents → Contents → Type 0
+Grows commands v w = w.change_bytes + 5 * length v.free ≤ v.change_bytes + 5 * length w.free + commands * most_growth
+
+-- why a command isn't carried out
+abbrev pub IsStopped : Bool → Command → Stop → View → Contents → Type 0
+IsStopped tells command (Refused refusal) x c =
+    Stays tells x.pages c × Grows 1 x.pages c × (c.faults ≡ x.pages.faults)
+    × (IsTrue tells → (l : Layout) → Shows tells x l → outcome (Ok command) (catalogue_of l) ≡ Err refusal)
+IsStopped tells command Failed x c = Rose x.pages.faults c.faults
+IsStopped tells command (Memory error) x c = c.faults ≡ x.pages.faults
+
+-- A command was carried out on pages, with this reply, or not. What was in memory stays, but for room: its effect isn't applied.
+-- Only pages with an effect are to be kept: after all else the caller drops what was changed.
+pub record CarriedOut (tells : Bool) (command : Command) (result : Result Effect Stop) (out : List ℕ) (x : View) (c : Contents) : Type 0 where
+  -- from each layout that is seen one comes that is seen with the effect, on every keeper of pages
+  pub done : IfOk result (λ effect. (l : Layout) → Shows tells x l → Comes tells command effect out x c l)
+  pub applies : IfOk result (λ effect. CanApply effect x.definitions)
+  -- a reading has no effect, and what has none leaves the pages
+  pub reads : IfOk result (λ effect. is_writing command ≡ false → is_nothing effect ≡ true)
+  pub stays : IfOk result (λ effect. is_nothing effect ≡ true → Stays tells x.pages c)
+  pub stopped : IfErr result (λ stop. IsStopped tells command stop x c)
+  pub count : c.count ≡ x.pages.count
+  pub bytes : c.change_bytes ≤ x.pages.change_bytes + most_bytes
+  pub grows : IfOk result (λ effect. Grows 1 x.pages c)
+  -- only a failed call of the disk raises the count
+  pub no_fault : IfOk result (λ effect. c.faults ≡ x.pages.faults)
+
+-- A command that only reads was answered so, or not.
+pub record ReadOut (tells : Bool) (command : Command) (result : Result Unit Stop) (out : List ℕ) (x : View) (c : Contents) : Type 0 where
+  pub said : OnOk result (IsTrue tells → (l : Layout) → Shows tells x l → outcome (Ok command) (catalogue_of l) ≡ Ok (out, catalogue_of l))
+  pub stopped : IfErr result (λ stop. IsStopped tells command stop x c)
+  pub stays : Stays tells x.pages c
+  pub count : c.count ≡ x.pages.count
+  pub bytes : c.change_bytes ≡ x.pages.change_bytes
+  pub no_fault : OnOk result (c.faults ≡ x.pages.faults)

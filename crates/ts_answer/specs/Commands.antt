@@ -1,0 +1,52 @@
+-- What a command may change: whether it writes, what it writes and what it names. Every command has its case.
+use Rattle.std.specs.Prelude.{ℕ, Bool, true, false, List, [], ◌∷◌}
+use Rattle.ts_command.specs.declared.command.Command.{Command}
+use Rattle.ts_command.specs.declared.command.Command.TheVariants as commands
+use Rattle.ts_model.specs.declared.kind.Kind.{Kind}
+use Rattle.ts_model.specs.declared.kind.Kind.TheVariants as kinds
+
+-- whether the routine writes; else it only reads
+abbrev pub is_writing : Command → Bool
+is_writing (commands.CreateRowType name stamp columns) = true
+is_writing (commands.DropRowType name) = true
+is_writing (commands.TSContainerCreate name row_type quota) = true
+is_writing (commands.TSContainerDestroy name) = true
+is_writing (commands.TSContainerUsage name) = false
+is_writing (commands.TSCreateIrr key container) = true
+is_writing (commands.DropSeries key) = true
+is_writing (commands.ListSeries container) = false
+is_writing (commands.InsElem key stamp literals) = true
+is_writing (commands.UpdElem key stamp literals) = true
+is_writing (commands.GetElem key stamp) = false
+is_writing (commands.GetLastElem key) = false
+is_writing (commands.GetNelems key) = false
+
+-- an object of a catalogue: its kind, and its name or key
+abbrev pub Object : Type 0
+Object = Kind × List ℕ
+
+-- the objects that a command writes (makes, drops or edits), and the others that it names
+pub record Touched : Type 0 where
+  pub wrote : List Object
+  pub named : List Object
+
+abbrev writes : Kind → List ℕ → Touched
+writes kind name = record { wrote = (kind, name) ∷ []; named = [] }
+
+abbrev reads : Kind → List ℕ → Touched
+reads kind name = record { wrote = []; named = (kind, name) ∷ [] }
+
+abbrev pub objects : Command → Touched
+objects (commands.CreateRowType name stamp columns) = writes kinds.RowType name
+objects (commands.DropRowType name) = writes kinds.RowType name
+objects (commands.TSContainerCreate name row_type quota) = record { wrote = (kinds.Container, name) ∷ []; named = (kinds.RowType, row_type) ∷ [] }
+objects (commands.TSContainerDestroy name) = writes kinds.Container name
+objects (commands.TSContainerUsage name) = reads kinds.Container name
+objects (commands.TSCreateIrr key container) = record { wrote = (kinds.Series, key) ∷ []; named = (kinds.Container, container) ∷ [] }
+objects (commands.DropSeries key) = writes kinds.Series key
+objects (commands.ListSeries container) = reads kinds.Container container
+objects (commands.InsElem key stamp literals) = writes kinds.Series key
+objects (commands.UpdElem key stamp literals) = writes kinds.Series key
+objects (commands.GetElem key stamp) = reads kinds.Series key
+objects (commands.GetLastElem key) = reads kinds.Series key
+objects (commands.GetNelems key) = reads kinds.Series key

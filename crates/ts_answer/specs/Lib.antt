@@ -1,0 +1,12 @@
+pub mod Answer
+pub mod CarriedOut
+pub mod Commands
+pub mod Decided
+pub mod Kinds
+pub mod Reading
+pub mod Reply
+pub mod Slots
+pub mod State
+pub mod Stop
+pub mod Tried
+pub mod View

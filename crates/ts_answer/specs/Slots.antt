@@ -1,0 +1,31 @@
+-- The slots of names, and those for new ones.
+use Rattle.std.specs.Prelude.{◌≡◌, ℕ, ◌<◌, Some, None, List}
+use Rattle.std.specs.FinMap.{get}
+use Rattle.ts_model.specs.declared.kind.Kind.{Kind}
+use Rattle.ts_model.specs.declared.kind.Kind.TheVariants as kinds
+use Rattle.ts_model.specs.Definitions.{Definitions, RowTypeDef, ContainerDef, SeriesDef, limit, slots, slot_of, vacant_slot, at_slot}
+use Rattle.ts_layout.specs.Meaning.{Layout, container_of, series_of, catalogue_of}
+use Rattle.ts_answer.specs.Kinds.{In, named}
+
+-- the lowest empty slot, for a name that is none yet
+pub record IsFreeSlot (kind : Kind) (slot : ℕ) (name : List ℕ) (d : Definitions) : Type 0 where
+  pub within : slot < limit kind
+  pub new : slot_of name (slots kind d) ≡ None
+  pub lowest : vacant_slot (slots kind d) ≡ Some slot
+
+-- the slot that has a name
+pub record IsSlotNamed (kind : Kind) (slot : ℕ) (name : List ℕ) (d : Definitions) : Type 0 where
+  pub within : slot < limit kind
+  pub is : slot_of name (slots kind d) ≡ Some slot
+
+-- what the definition in a slot is in the catalogue
+abbrev pub IsValue : (kind : Kind) → Layout → ℕ → In kind → Type 0
+IsValue kinds.RowType l slot heading = (r : RowTypeDef) × (at_slot slot l.definitions.row_types ≡ Some r) × (heading ≡ r.heading)
+IsValue kinds.Container l slot container = (c : ContainerDef) × (at_slot slot l.definitions.containers ≡ Some c) × (container ≡ container_of l.definitions c)
+IsValue kinds.Series l slot series = (s : SeriesDef) × (at_slot slot l.definitions.series ≡ Some s) × (series ≡ series_of l slot s)
+
+-- a name stands in a slot, and for this in the catalogue
+pub record Stands (kind : Kind) (name : List ℕ) (l : Layout) (slot : ℕ) (value : In kind) : Type 0 where
+  pub at : IsSlotNamed kind slot name l.definitions
+  pub listed : get (named kind (catalogue_of l)) name ≡ Some value
+  pub is : IsValue kind l slot value

@@ -1,0 +1,45 @@
+-- What a command sees: the definitions, the places of the pages of each series, and pages, whatever keeps them.
+use Rattle.std.specs.Prelude.{◌≡◌, ℕ, ◌+◌, ◌-◌, Bool, IsTrue, List, length, All}
+use Rattle.ts_page.specs.Pages.{Contents}
+use Rattle.ts_space.specs.Directory.{Directory, used_of}
+use Rattle.ts_model.specs.Definitions.{Definitions}
+use Rattle.ts_layout.specs.Meaning.{Layout, Free, element_page, HoldsLayout, IsSound}
+use Rattle.ts_layout.specs.Surveyed.{ListsPlaces}
+use Rattle.ts_layout.specs.OnePage.{AreFilled}
+
+pub record View : Type 0 where
+  pub definitions : Definitions
+  pub space : Directory
+  pub pages : Contents
+
+abbrev pub view : Definitions → Directory → Contents → View
+view d space c = record { definitions = d; space = space; pages = c }
+
+-- Definitions, places, a number of pages and a list of free ones are those of a layout that keeps the rules.
+pub record IsHeldOf (d : Definitions) (space : Directory) (count : ℕ) (numbers : List ℕ) (l : Layout) : Type 0 where
+  pub definitions : d ≡ l.definitions
+  pub size : count ≡ 930 + length l.element_pages
+  pub places : ListsPlaces space l
+  pub listed : All (λ number. element_page (number - 930) l.element_pages ≡ Free) numbers
+  pub free : length numbers + used_of space ≡ length l.element_pages
+  pub rules : IsSound l
+  pub filled : AreFilled l
+
+-- The same of definitions and a number of pages alone.
+pub record IsDefinedBy (d : Definitions) (count : ℕ) (l : Layout) : Type 0 where
+  pub definitions : d ≡ l.definitions
+  pub size : count ≡ 930 + length l.element_pages
+  pub rules : IsSound l
+  pub filled : AreFilled l
+
+abbrev pub IsViewOf : View → Layout → Type 0
+IsViewOf x l = IsHeldOf x.definitions x.space x.pages.count x.pages.free l
+
+-- a layout is seen: what is in memory is what it has, and where the pages are told, they hold it
+pub record Shows (tells : Bool) (x : View) (l : Layout) : Type 0 where
+  pub kept : IsViewOf x l
+  pub holds : IsTrue tells → HoldsLayout x.pages.page l
+
+-- some layout is seen
+abbrev pub ShowsSome : Bool → View → Type 0
+ShowsSome tells x = (l : Layout) × Shows tells x l

@@ -1,0 +1,47 @@
+ghost use Rattle.std.specs.Prelude.{◌≡◌, ◌≤◌, ◌+◌, [], ◌∷◌, Err, List, ℕ, Ok, false, length, codes};
+ghost use Rattle.ts_base.specs.declared.refusal.Refusal.{Refusal};
+ghost use Rattle.ts_base.specs.declared.refusal.Refusal.TheVariants as refusals;
+ghost use Rattle.ts_command.specs.declared.command.Command.{Command};
+ghost use Rattle.ts_page.specs.Pages.{Contents};
+ghost use Rattle.ts_model.specs.Catalogue.{Catalogue};
+ghost use Rattle.ts_replies.specs.Acknowledged.{AreApart};
+ghost use Rattle.ts_command.specs.Script.{Request};
+ghost use Rattle.ts_answer.specs.Reply.{refusal_line, count_line, counts_line, series_text};
+ghost use Rattle.ts_answer.specs.Answer.{answer, outcome};
+ghost use Rattle.ts_answer.specs.Commands.{is_writing};
+ghost use Rattle.ts_answer.specs.CarriedOut.{Grows};
+
+/// No reply begins with the memory line, nor the memory line with a reply, and no reply is empty: so what was said
+/// determines the catalogue.
+pub fn replies_and_the_memory_line_are_apart()
+    ensures { AreApart answer }
+{}
+
+/// A request that is refused is answered by the line of its refusal, and changes nothing.
+pub fn a_refused_request_changes_nothing()
+    ensures { (cat : Catalogue) (request : Request) (refusal : Refusal) → outcome request cat ≡ Err refusal →
+        answer cat request ≡ (refusal_line refusal, cat) }
+{}
+
+/// The routines that only read change nothing, whatever they answer.
+pub fn reading_changes_nothing()
+    ensures { (cat : Catalogue) (command : Command) → is_writing command ≡ false → (answer cat (Ok command)).1 ≡ cat }
+{}
+
+/// Commands after one another grow a record by no more than each of them, and those of a whole transaction fit one: it
+/// has at most 65536 element pages and room for 1048556 bytes.
+pub fn commands_fit_one_record()
+    ensures more { (m n : ℕ) (u v w : Contents) → Grows m u v → Grows n v w → Grows (m + n) u w }
+    ensures fit { (v w : Contents) → Grows 32 v w → v.change_bytes ≡ 0 → length w.free ≤ 65536 → w.change_bytes ≤ 853248 }
+{}
+
+/// Lines as they are printed: numbers of refusals without padding, a key in quotes and a quote in it twice.
+pub fn lines_are_printed_so()
+    ensures syntax { refusal_line (refusals.Syntax 0) ≡ codes "error 1 Syntax\n" }
+    ensures unended { refusal_line refusals.Unended ≡ codes "error 3 Unended\n" }
+    ensures unknown { refusal_line refusals.UnknownName ≡ codes "error 10 UnknownName\n" }
+    ensures full { refusal_line (refusals.ContainerFull 3 1) ≡ codes "error 30 ContainerFull\n" }
+    ensures count { count_line 2 ≡ codes "ok 2\n" }
+    ensures usage { counts_line 1 1 ≡ codes "ok 1 1\n" }
+    ensures series { series_text ((codes "it's", 10) ∷ []) ≡ codes "'it''s' irregular 10\nok 1\n" }
+{}

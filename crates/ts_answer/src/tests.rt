@@ -1,0 +1,20 @@
+// The laws hold for all values; a test calls each.
+use super::*;
+use std::test::Fail;
+
+#[test]
+fn the_laws_are_called(_rt: HostRuntime) -> Result<(), Fail> {
+    replies_and_the_memory_line_are_apart();
+    a_refused_request_changes_nothing();
+    reading_changes_nothing();
+    commands_fit_one_record();
+    lines_are_printed_so();
+    Ok(())
+}
+
+#[test]
+fn an_effect_is_none_or_some(rt: HostRuntime) -> Result<(), Fail> {
+    assert!(rt; Effect::Nothing.is_nothing());
+    assert!(rt; !Effect::Series { slot: 7 }.is_nothing());
+    Ok(())
+}

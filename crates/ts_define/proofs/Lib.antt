@@ -1,0 +1,4 @@
+pub mod DefinedLemmas
+pub mod RedefineLemmas
+pub mod RowTypeLemmas
+pub mod UsedLemmas

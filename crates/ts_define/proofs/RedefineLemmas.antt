@@ -1,0 +1,64 @@
+-- A command that changes one slot of the definitions, on pages.
+use Rattle.std.proofs.Common.{◌≡◌, ℕ, ◌+◌, ◌*◌, ◌-◌, ◌<◌, ◌≤◌, Bool, true, IsTrue, Option, Result, Ok, List, ◌++◌, [], All, length, refl, ap, sym, ◌∙◌, subst, arith}
+use Rattle.ts_command.specs.declared.command.Command.{Command}
+use Rattle.ts_page.specs.Pages.{Contents}
+use Rattle.ts_model.specs.declared.kind.Kind.{Kind}
+use Rattle.ts_model.specs.declared.def.Def.{Def}
+use Rattle.ts_model.specs.Definitions.{Definitions, limit, with_slot}
+use Rattle.ts_space.specs.Directory.{Directory, used_of}
+use Rattle.ts_layout.specs.Slot.{page_of_slot}
+use Rattle.ts_layout.specs.Meaning.{Layout, Free, element_page, HoldsLayout, IsSound}
+use Rattle.ts_layout.specs.Changed.{with_slot_bytes, layout_with, KeepsHeadings}
+use Rattle.ts_layout.proofs.LayoutLemmas.{layout_written}
+use Rattle.ts_container.specs.Survey.{SlotWritten}
+use Rattle.ts_answer.specs.declared.effect.Effect.TheVariants.{Slot}
+use Rattle.ts_answer.specs.View.{view, Shows}
+use Rattle.ts_answer.specs.CarriedOut.{CarriedOut, Comes}
+use Rattle.ts_answer.specs.Commands.{is_writing}
+use Rattle.ts_answer.specs.Decided.{IsDecision, FitsSlot}
+use Rattle.ts_answer.proofs.CallerLemmas.{defined_by}
+
+-- pages with a slot written hold the layout with that definition
+slot_work : (tells : Bool) (told : IsTrue tells) (kind : Kind) (slot : ℕ) (def : Option Def) (l : Layout) (v w : Contents) → slot < limit kind → IsSound l → KeepsHeadings (with_slot kind slot def l.definitions) l → HoldsLayout v.page l
+    → SlotWritten tells kind slot def (Ok tt) v w → HoldsLayout w.page (layout_with kind slot def l)
+slot_work tells told kind slot def l v w within rules headings holds written =
+    layout_written kind slot (with_slot_bytes kind slot def (v.page (page_of_slot kind slot))) v.page w.page (with_slot kind slot def l.definitions) l within holds (written.written told)
+    (written.definitions told l.definitions rules.definitions.tables holds.definitions) headings
+
+-- what was decided is written into its slot, and this line is said
+module _ (tells : Bool) (line : List ℕ) (kind : Kind) (slot : ℕ) (def : Option Def) (command : Command) (d : Definitions) (space : Directory) (v w : Contents) (decision : IsDecision line kind command (Ok (slot, def)) d v.count) (fits : FitsSlot kind slot def d)
+    (written : SlotWritten tells kind slot def (Ok tt) v w) where
+  comes : (l : Layout) → Shows tells (view d space v) l → Comes tells command (Slot kind slot def) line (view d space v) w l
+  comes l shows =
+      let kept = shows.kept in
+      let decided = (decision l (defined_by kept)).ok in
+      let defines = decided.2 in
+      record {
+        layout = layout_with kind slot def l;
+        shows = record {
+          kept = record {
+            definitions = ap (with_slot kind slot def) kept.definitions;
+            size = written.count ∙ kept.size;
+            places = kept.places;
+            listed = subst (λ (ns : List ℕ). All (λ number. element_page (number - 930) l.element_pages ≡ Free) ns) (sym written.free) kept.listed;
+            free = ap (λ (ns : List ℕ). length ns + used_of space) written.free ∙ kept.free;
+            rules = defines.rules;
+            filled = λ i s es is. let known = kept.filled i s es is in (known.0, defines.headings i s es is ∙ known.1, known.2);
+          };
+          holds = λ told. slot_work tells told kind slot def l v w fits.within kept.rules defines.headings (shows.holds told) written;
+        };
+        comes = λ told. decided.1 ∙ ap Ok defines.comes;
+      }
+
+  pub redefined : is_writing command ≡ true → (out : List ℕ) → out ≡ line → w.change_bytes ≤ v.change_bytes + 4101 → CarriedOut tells command (Ok (Slot kind slot def)) out (view d space v) w
+  redefined writes out said bytes = record {
+    done = λ l shows. subst (λ (text : List ℕ). Comes tells command (Slot kind slot def) text (view d space v) w l) (sym said) (comes l shows);
+    applies = fits;
+    reads = λ reads. absurd (cc);
+    stays = λ none. absurd (cc);
+    stopped = tt;
+    count = written.count;
+    bytes = omega (arith, bytes);
+    grows = let free = ap (λ (ns : List ℕ). length ns) written.free in omega (arith, bytes, free);
+    no_fault = written.no_fault (λ failed. cc);
+  }

@@ -1,0 +1,40 @@
+-- The row type that columns make.
+use Rattle.std.proofs.Common.{◌≡◌, ℕ, Bool, true, false, ◌&&◌, IsTrue, Some, None, Result, Ok, Err, IfOk, OnOk, MatchResult, IsErrAnd, List, [], ◌∷◌, refl, ap, sym, ◌∙◌, subst}
+use Rattle.std.specs.List.{AllByRecursion, list_all}
+use Rattle.ts_base.specs.declared.fault.Trouble.{Trouble}
+use Rattle.ts_base.specs.Name.{is_name}
+use Rattle.ts_row.specs.declared.kind.Column.{Column}
+use Rattle.ts_row.specs.RowType.{Heading, is_row_type, bad_column, IsBadRowType}
+use Rattle.ts_command.specs.Form.{IsColumn}
+use Rattle.ts_answer.specs.Answer.{a_row_type}
+use Rattle.ts_answer.specs.Tried.{IsTried, IsRefusedAs}
+use Rattle.ts_answer.proofs.CallerLemmas.{good-row_type, bad-row_type}
+use Rattle.ts_define.specs.RowTypes.{MakesRowType}
+
+-- two tests that are passed
+both : (a b : Bool) → IsTrue a → IsTrue b → IsTrue (a && b)
+both true b first second = second
+both false b first second = absurd (cc)
+
+-- names of words
+pub all_names : (columns : List Column) → AllByRecursion IsColumn columns → IsTrue (list_all (λ c. is_name c.name) columns)
+all_names [] all = refl
+all_names (c ∷ columns) all = both (is_name c.name) (list_all (λ x. is_name x.name) columns) all.0 (all_names columns all.1)
+
+-- the row type of copies
+pub made_row_type : (result : Result Heading Trouble) (stamp copied : List ℕ) (columns others : List Column) → copied ≡ stamp → others ≡ columns → IfOk result (λ made. made ≡ record { stamp = copied; columns = others })
+    → OnOk result (IsTrue (is_row_type copied others)) → MatchResult result (λ made. bad_column copied others ≡ None) (IsBadRowType copied others) → IsTried result (a_row_type stamp columns) (MakesRowType stamp columns)
+made_row_type (Ok made) stamp copied columns others same alike is rules good =
+    let P : List ℕ → List Column → Type 0 = λ s cs. IsTrue (is_row_type s cs) in
+    record {
+      ok = (
+        tt,
+        good-row_type stamp columns (sym (λ i. bad_column (same i) (alike i)) ∙ good),
+        record { made = is ∙ (λ i. record { stamp = same i; columns = alike i }); rules = subst (P stamp) alike (subst (λ (s : List ℕ). P s others) same rules) },
+      );
+      err = tt;
+    }
+made_row_type (Err trouble) stamp copied columns others same alike is rules bad = record {
+  ok = tt;
+  err = subst (λ (t : Trouble). IsRefusedAs t (a_row_type stamp columns)) (sym bad.2) (bad-row_type stamp columns bad.0 (sym (λ i. bad_column (same i) (alike i)) ∙ bad.1));
+}

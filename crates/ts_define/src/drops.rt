@@ -1,0 +1,74 @@
+// Definitions to which nothing refers are dropped, of each kind alike.
+ghost use Rattle.std.specs.Prelude.{◌≡◌, ◌<◌, ℕ, true, false, IfOk};
+ghost use Rattle.ts_model.specs.Definitions.{limit};
+ghost use Rattle.ts_model.specs.declared.kind.Kind.{Kind as TheKind};
+ghost use Rattle.ts_layout.specs.Meaning.{Layout, catalogue_of};
+ghost use Rattle.ts_answer.specs.Answer.{drop_definition};
+ghost use Rattle.ts_answer.specs.Decided.{DefinesAs, FitsSlot};
+ghost use Rattle.ts_answer.specs.Kinds.{Refers, IsUsed, IsUsedBy, HasNoPages};
+ghost use Rattle.ts_answer.specs.Reply.{ok_line};
+ghost use Rattle.ts_answer.specs.Tried.{IsTried};
+ghost use Rattle.ts_answer.specs.View.{IsDefinedBy};
+
+use crate::slots::slot_named;
+use ts_base::{Name, Refusal, Trouble};
+use ts_model::{Def, Defs, Kind};
+
+/// The slot of a name to which nothing refers, of a kind whose definitions have no pages.
+pub fn drop_definition(defs: &Defs, kind: Kind, name: &Name) -> Result<(u16, Option<Def>), Trouble>
+    requires { HasNoPages kind }
+    ensures fits { IfOk result (λ change. FitsSlot kind change.0 change.1 defs.now.definitions) }
+    ensures tried { (count : ℕ) (l : Layout) → IsDefinedBy defs.now.definitions count l
+        → IsTried result (drop_definition kind name.now (catalogue_of l)) (λ change answered. DefinesAs ok_line kind change.0 change.1 l answered) }
+{
+    let slot = slot_named(defs, kind, name)?;
+    if has_user(defs, kind, slot) {
+        return Err(Trouble::Refused(Refusal::InUse));
+    }
+    Ok((slot, None))
+}
+
+// Whether some definition refers to what stands in a slot of a kind.
+fn has_user(defs: &Defs, kind: Kind, slot: u16) -> bool
+    ensures some { result ≡ true → IsUsed kind slot defs.now.definitions }
+    ensures none { result ≡ false → IsUsed kind slot defs.now.definitions → ⊥ }
+{
+    has_user_in(defs, Kind::RowType, kind, slot)
+        || has_user_in(defs, Kind::Container, kind, slot)
+        || has_user_in(defs, Kind::Series, kind, slot)
+}
+
+// Whether some definition of the first kind does.
+fn has_user_in(defs: &Defs, users: Kind, kind: Kind, slot: u16) -> bool
+    ensures some { result ≡ true → IsUsedBy users kind slot defs.now.definitions }
+    ensures none { result ≡ false → IsUsedBy users kind slot defs.now.definitions → ⊥ }
+{
+    for user in 0..users.limit() {
+        if let Some(def) = defs.get(users, user) {
+            if refers(def, kind, slot) {
+                return true;
+            }
+        }
+    }
+    false
+}
+
+// Whether a definition does.
+fn refers(def: &Def, kind: Kind, slot: u16) -> bool
+    ensures some { result ≡ true → Refers def.now kind slot }
+    ensures none { result ≡ false → Refers def.now kind slot → ⊥ }
+{
+    match def {
+        Def::RowType { .. } => false,
+        Def::Container { row_type, .. } => { is_slot(Kind::RowType, *row_type as u16, kind, slot) }
+        Def::Series { container, .. } => is_slot(Kind::Container, *container as u16, kind, slot),
+    }
+}
+
+// Whether two slots are one.
+fn is_slot(kind: Kind, slot: u16, other: Kind, at: u16) -> bool
+    ensures same { result ≡ true → (kind ≡ other) × (slot ≡ at) }
+    ensures differs { result ≡ false → (kind ≡ other) × (slot ≡ at) → ⊥ }
+{
+    kind == other && slot == at
+}

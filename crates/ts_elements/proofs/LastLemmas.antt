@@ -1,0 +1,65 @@
+-- The last element of a series.
+use Rattle.std.proofs.Common.{◌≡◌, ℕ, ◌-◌, ◌<◌, Bool, IsTrue, Option, Some, Ok, List, [], ◌∷◌, length, refl, ap, sym, ◌∙◌, subst, arith}
+use Rattle.std.specs.List.{slice_get}
+use Rattle.std.specs.Option.{option_to_list}
+use Rattle.std.specs.Ordering.{int_cmp}
+use Rattle.std.specs.Cmp.{int_cmp_is, int_cmp_total}
+use Rattle.std.specs.declared.cmp.Ordering.{Ordering}
+use Rattle.std.specs.declared.cmp.Ordering.TheVariants.{Less}
+use Rattle.std.specs.FinMap.{put, entries, empty, from_entries, entries-insert, len-entries, len-empty}
+use Rattle.std.specs.FinMap.Entries.{by_order}
+use Rattle.ts_row.specs.RowType.{Heading}
+use Rattle.ts_row.specs.Row.{Values}
+use Rattle.ts_space.specs.declared.place.Place.{Place}
+use Rattle.ts_space.specs.Directory.{Directory, places_of}
+use Rattle.ts_cells.specs.Cell.{Element}
+use Rattle.ts_cells.specs.IrregularPage.{AreRising}
+use Rattle.ts_irregular.specs.OnePage.{IsOn, AreOn}
+use Rattle.ts_irregular.specs.Call.{IsLast}
+use Rattle.ts_model.proofs.IndexLemmas.{empty-list}
+use Rattle.ts_model.specs.Catalogue.{Series, columns_of}
+use Rattle.ts_layout.specs.Meaning.{Layout, HoldsLayout, IsSound, heading_at, elements_of, elements_at, catalogue_of}
+use Rattle.ts_layout.specs.Surveyed.{ListsPlaces}
+use Rattle.ts_layout.proofs.SeriesLemmas.{elements_none, page_one, few, all_rising}
+use Rattle.ts_answer.specs.Answer.{last_element}
+use Rattle.ts_answer.specs.Reply.{elements_text}
+use Rattle.ts_answer.specs.View.{View, Shows}
+use Rattle.ts_elements.specs.Elements.{IsShelfIn}
+use Rattle.ts_elements.proofs.ElementLemmas.{on_page}
+use Rattle.ts_elements.proofs.SeenLemmas.{columns_in}
+
+-- rising elements are the entries of their map
+put_first : (e : Element) (es : List Element) → AreRising (e ∷ es) → put int_cmp e.0 e.1 es ≡ e ∷ es
+put_first e [] rising = refl
+put_first e (f ∷ es) rising =
+    ap (λ (r : Ordering). by_order r ((e.0, e.1) ∷ f ∷ es) ((f.0, e.1) ∷ es) (f ∷ put int_cmp e.0 e.1 es)) (sym (int_cmp_is e.0 f.0 Less rising.0))
+
+rest_of : (e : Element) (es : List Element) → AreRising (e ∷ es) → AreRising es
+rest_of e [] rising = tt
+rest_of e (f ∷ es) rising = rising.1
+
+entries_rising : (es : List Element) → AreRising es → entries (from_entries {R = int_cmp} es) ≡ es
+entries_rising [] rising = empty-list (entries (empty {R = int_cmp})) (sym (len-entries (empty {R = int_cmp})) ∙ len-empty int_cmp Values)
+entries_rising (e ∷ es) rising =
+    entries-insert int_cmp_total (from_entries es) e.0 e.1 ∙ ap (put int_cmp e.0 e.1) (entries_rising es (rest_of e es rising)) ∙ put_first e es rising
+
+-- the pages have the elements of the layout
+on_pages : (l : Layout) (space : Directory) (slot : ℕ) (h : Heading) (pages : ℕ → List ℕ) (ps : List Place) → IsSound l → ListsPlaces space l → slot < 4096 → heading_at l.definitions slot ≡ Some h → HoldsLayout pages l → places_of slot space ≡ ps
+    → AreOn slot h.columns pages ps (elements_of slot l.element_pages)
+on_pages l space slot h pages [] sound lists within columns holds is = elements_none l space slot sound.one_page lists within is
+on_pages l space slot h pages (p ∷ []) sound lists within columns holds is =
+    let held = page_one l space slot p sound.one_page lists within is in
+    subst (λ (es : List Element). IsOn slot h.columns (pages p.page) p es) (sym held.all) (on_page l slot p h held columns pages holds)
+on_pages l space slot h pages (p ∷ q ∷ ps) sound lists within columns holds is =
+    absurd (let most = few l space slot sound.one_page lists within in let count = ap (λ (xs : List Place). length xs) is in omega (arith, most, count))
+
+-- the last element, as it is said
+pub last_text : (tells : Bool) (x : View) (l : Layout) (key : List ℕ) (slot : ℕ) (h : Heading) (series : Series) (last : Option Element) → IsTrue tells → Shows tells x l → IsShelfIn l key slot h series → heading_at x.definitions slot ≡ Some h → slot < 4096
+    → IsLast tells slot h.columns (places_of slot x.space) x.pages last → elements_text (columns_of (catalogue_of l) series) (last_element series.elements) ≡ elements_text h.columns (option_to_list last)
+last_text tells x l key slot h series last told shows is columns within found =
+    let kept = shows.kept in
+    let es = elements_of slot l.element_pages in
+    let on = on_pages l x.space slot h x.pages.page (places_of slot x.space) kept.rules kept.places within (columns_in x l kept slot h columns within) (shows.holds told) refl in
+    let entries_are = entries_rising es (all_rising l slot kept.rules.one_page kept.filled) in
+    let elements = ap (λ (s : Series). last_element s.elements) is.stands.is.2 ∙ ap (λ (fs : List Element). option_to_list (slice_get fs (length fs - 1))) entries_are ∙ ap option_to_list (sym (found told es on)) in
+    λ i. elements_text (is.columns i) (elements i)

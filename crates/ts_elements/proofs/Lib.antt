@@ -1,0 +1,9 @@
+pub mod EditLemmas
+pub mod ElementLemmas
+pub mod FreeLemmas
+pub mod LastLemmas
+pub mod PutLemmas
+pub mod RowLemmas
+pub mod SeenLemmas
+pub mod SeriesDropLemmas
+pub mod UpdateLemmas

@@ -1,0 +1,63 @@
+use Rattle.std.proofs.Common.{◌≤◌, Bool, Option, Vec, Global, length, sym, ◌∙◌, subst}
+use Rattle.ts_base.specs.declared.refusal.Refusal.TheVariants.{Duplicate}
+use Rattle.ts_command.specs.declared.command.Command.TheVariants.{InsElem}
+use Rattle.ts_space.specs.declared.place.Place.{Place}
+use Rattle.ts_space.specs.Directory.{places_of}
+use Rattle.ts_irregular.proofs.KeptLemmas.{one_readable}
+use Rattle.ts_layout.proofs.SeriesLemmas.{few}
+use Rattle.ts_answer.specs.Reply.{stamp_line}
+use Rattle.ts_answer.specs.View.{view}
+use Rattle.ts_elements.specs.Elements.{IsThere, IsPutOrThere}
+use Rattle.ts_answer.proofs.CallerLemmas.{said_line}
+use Rattle.ts_elements.proofs.SeenLemmas.{finds_there}
+use Rattle.ts_elements.proofs.PutLemmas.{room_there, page_there, refused_taken, refused_full, insert_carried, there_carried, looked_carried}
+use Rattle.ts_elements.proofs.elements.insert_at.Goals as goal
+
+pub room_for-requires-clause-few : goal.room_for-requires-clause-few
+room_for-requires-clause-few g c slot within =
+    let kept = c.requires.seen.1.kept in
+    few c.requires.seen.0 c.args.space.now slot kept.rules.one_page kept.places within
+
+pub irregular_get-requires-clause-one : goal.irregular_get-requires-clause-one
+irregular_get-requires-clause-one g c = one_readable c.args.shelf.now.kind.now.columns (g.P.Pages.contents c.args.pages.now) (places_of c.args.shelf.now.series c.args.space.now) c.requires.one
+
+pub put-requires-clause-room : goal.put-requires-clause-room
+put-requires-clause-room g c =
+    let x = view c.args.defs.now.definitions c.args.space.now (g.P.Pages.contents c.args.pages.now) in
+    room_there x c.requires.seen.0 c.requires.seen.1.kept c.args.shelf.now.series c.requires.slot c.args.shelf.now.kind.now c.requires.columns c.in-Ok.ensures.room
+
+pub put-requires-clause-spare : goal.put-requires-clause-spare
+put-requires-clause-spare g c =
+    let x = view c.args.defs.now.definitions c.args.space.now (g.P.Pages.contents c.args.pages.now) in
+    page_there x c.requires.seen.0 c.requires.seen.1.kept c.args.shelf.now.series c.requires.slot c.args.shelf.now.kind.now c.requires.columns c.in-Ok.ensures.room c.in-Ok.ensures.slots
+
+pub returns-in-Some-clause-carried : goal.returns-in-Some-clause-carried
+returns-in-Some-clause-carried g c key literals has =
+    let x = view c.args.defs.now.definitions c.args.space.now (g.P.Pages.contents c.args.pages.now) in
+    insert_carried g.P.Pages.tells key literals c.args.shelf.now.series c.args.stamp c.args.shelf.now.kind.now c.args.row.now x has c.in-Ok.ensures.room (g.met.P.Pages.lawful c.args.pages.now) c.in-Ok.ensures.slots
+    (g.P.Pages.contents c.put.new.pages) c.put.ensures.call.count (c.in_ok-placed-in-Ok.ensures.call.no_fault (λ failed. cc)) c.put.ensures.bytes c.in-Some.places (subst (λ (o : Option (Vec Place Global)). IsPutOrThere g.P.Pages.tells c.args.shelf.now.series c.args.shelf.now.kind.now.columns c.args.stamp c.args.row.now x.space x.pages (g.P.Pages.contents c.put.new.pages) o) c.in-Some.is c.in_ok-placed-in-Ok.ensures.put) c.say_stamp.new.out (said_line (stamp_line c.args.stamp) c.args.out.now c.say_stamp.new.out c.requires.empty c.in_ok-say_stamp-in-Ok.ensures)
+
+pub returns-in-None-clause-carried : goal.returns-in-None-clause-carried
+returns-in-None-clause-carried g c key literals has =
+    let x = view c.args.defs.now.definitions c.args.space.now (g.P.Pages.contents c.args.pages.now) in
+    there_carried g.P.Pages.tells key literals c.args.shelf.now.series c.args.stamp c.args.shelf.now.kind.now c.args.row.now x has
+    (g.P.Pages.contents c.put.new.pages) c.put.ensures.call.count (c.in_ok-placed-in-Ok.ensures.call.no_fault (λ failed. cc)) c.put.ensures.bytes (subst (λ (o : Option (Vec Place Global)). IsPutOrThere g.P.Pages.tells c.args.shelf.now.series c.args.shelf.now.kind.now.columns c.args.stamp c.args.row.now x.space x.pages (g.P.Pages.contents c.put.new.pages) o) c.in-None.is c.in_ok-placed-in-Ok.ensures.put) c.say_stamp.new.out
+
+-- there is no room: an element that is there is told first
+pub returns-then-is_some-clause-carried : goal.returns-then-is_some-clause-carried
+returns-then-is_some-clause-carried g c key literals has =
+    let tells = g.P.Pages.tells in
+    let x = view c.args.defs.now.definitions c.args.space.now (g.P.Pages.contents c.args.pages.now) in
+    let found = finds_there tells x c.args.shelf.now.series c.args.stamp c.args.shelf.now.kind.now c.in_ok-irregular_get-in-Err.field-0 c.requires.columns c.requires.slot c.in_ok-irregular_get-in-Err.ensures.found in
+    let there = subst (λ (b : Bool). IsThere tells c.args.shelf.now.series c.args.stamp b x) (sym c.is_some.ensures ∙ c.if-is_some.true) found in
+    looked_carried tells (InsElem key c.args.stamp literals) x (g.P.Pages.contents c.irregular_get.new.pages) c.in_ok-irregular_get-in-Err.field-0 c.in_ok-irregular_get-in-Err.ensures.call Duplicate
+    (refused_taken tells key literals c.args.shelf.now.series c.args.stamp c.args.shelf.now.kind.now c.args.row.now x has there) c.args.out.now
+
+pub returns-else-is_some-clause-carried : goal.returns-else-is_some-clause-carried
+returns-else-is_some-clause-carried g c key literals has =
+    let tells = g.P.Pages.tells in
+    let x = view c.args.defs.now.definitions c.args.space.now (g.P.Pages.contents c.args.pages.now) in
+    let found = finds_there tells x c.args.shelf.now.series c.args.stamp c.args.shelf.now.kind.now c.in_ok-irregular_get-in-Err.field-0 c.requires.columns c.requires.slot c.in_ok-irregular_get-in-Err.ensures.found in
+    let absent = subst (λ (b : Bool). IsThere tells c.args.shelf.now.series c.args.stamp b x) (sym c.is_some.ensures ∙ c.if-is_some.false) found in
+    looked_carried tells (InsElem key c.args.stamp literals) x (g.P.Pages.contents c.irregular_get.new.pages) c.in_ok-irregular_get-in-Err.field-0 c.in_ok-irregular_get-in-Err.ensures.call c.in-Err.refusal
+    (refused_full tells key literals c.args.shelf.now.series c.args.stamp c.args.shelf.now.kind.now c.args.row.now x has c.in-Err.refusal absent c.in-Err.ensures.none) c.args.out.now

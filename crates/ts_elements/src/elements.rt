@@ -1,0 +1,242 @@
+// The routines that edit the element at a stamp.
+ghost use Rattle.std.specs.Prelude.{◌≡◌, ◌≢◌, ◌+◌, ◌<◌, ◌≤◌, ℕ, List, [], IsTrue, Some, IfOk, IfErr, OnOk, length};
+ghost use Rattle.ts_row.specs.declared.value.Literal.{Literal as TheLiteral};
+ghost use Rattle.ts_row.specs.Row.{fits};
+ghost use Rattle.ts_command.specs.declared.command.Command.TheVariants.{InsElem, UpdElem};
+ghost use Rattle.ts_page.specs.Pages.{Answered};
+ghost use Rattle.ts_space.specs.Place.{count_of};
+ghost use Rattle.ts_cells.specs.Cell.{page_room};
+ghost use Rattle.ts_space.specs.Directory.{places_of};
+ghost use Rattle.ts_irregular.specs.OnePage.{HasOnePage, HasRoom};
+ghost use Rattle.ts_model.specs.Definitions.{Definitions, IsDefinitions};
+ghost use Rattle.ts_layout.specs.Meaning.{KeepLimits, heading_at};
+ghost use Rattle.ts_answer.specs.View.{view, ShowsSome};
+ghost use Rattle.ts_answer.specs.CarriedOut.{CarriedOut};
+ghost use Rattle.ts_elements.specs.Elements.{HasRow, HasRoomFor, HasNoRoom, IsPutOrThere, IsReplaced, edit_of};
+
+use crate::shelf::{row_for, shelf_of};
+use ts_answer::{Effect, Stop};
+use ts_base::{Key, Refusal, Reply, Stamp, StoreFault};
+use ts_cells::page_room;
+use ts_command::Literals;
+use ts_container::{charge_of_container, row_type_in};
+use ts_irregular::{irregular_get, irregular_insert, irregular_set};
+use ts_model::{Def, Defs, Kind};
+use ts_page::Pages;
+use ts_row::{Row, Shelf};
+use ts_say::say_stamp;
+use ts_space::{Place, Space};
+
+/// What an edit does at a stamp.
+#[derive(Clone, Copy, Debug)]
+pub enum EditKind {
+    /// Puts an element where none is.
+    Insert,
+    /// Gives the element that is there another row.
+    Update,
+}
+
+/// Edits the element at a stamp of a series.
+pub fn edit_element<P: Pages>(
+    pages: &mut P,
+    defs: &Defs,
+    space: &mut Space,
+    edit: EditKind,
+    key: &Key,
+    stamp: Stamp,
+    values: &Literals,
+    out: &mut Reply,
+) -> Result<Effect, Stop>
+    requires seen { ShowsSome P.tells (view defs.now.definitions space.old (P.contents pages.old)) }
+    requires empty { out.old ≡ [] }
+    ensures carried { CarriedOut P.tells (edit_of edit key.now stamp values.now) result out.new (view defs.now.definitions space.old (P.contents pages.old)) (P.contents pages.new) }
+    ensures lists { space.new.lists ≡ space.old.lists }
+    ensures undisturbed { P.undisturbed pages.old pages.new }
+{
+    let shelf = shelf_of(pages, defs, space, key)?;
+    let row = row_for(shelf.kind, values)?;
+    match edit {
+        EditKind::Insert => insert_at(pages, defs, space, &shelf, stamp, &row, out),
+        EditKind::Update => update_at(pages, space, &shelf, stamp, &row, out),
+    }
+}
+
+// Puts a row into a series that has none at this stamp.
+fn insert_at<P: Pages>(
+    pages: &mut P,
+    defs: &Defs,
+    space: &mut Space,
+    shelf: &Shelf,
+    stamp: Stamp,
+    row: &Row,
+    out: &mut Reply,
+) -> Result<Effect, Stop>
+    requires seen { ShowsSome P.tells (view defs.now.definitions space.old (P.contents pages.old)) }
+    requires slot { shelf.now.series < 4096 }
+    requires columns { heading_at defs.now.definitions shelf.now.series ≡ Some shelf.now.kind.now }
+    requires one { HasOnePage shelf.now.kind.now.columns (P.contents pages.old) (places_of shelf.now.series space.old) }
+    requires fits { IsTrue (fits shelf.now.kind.now.columns row.now) }
+    requires empty { out.old ≡ [] }
+    ensures carried { (key : List ℕ) (literals : List TheLiteral) → HasRow key literals shelf.now.series shelf.now.kind.now row.now defs.now.definitions
+        → CarriedOut P.tells (InsElem key stamp literals) result out.new (view defs.now.definitions space.old (P.contents pages.old)) (P.contents pages.new) }
+    ensures lists { space.new.lists ≡ space.old.lists }
+    ensures undisturbed { P.undisturbed pages.old pages.new }
+{
+    match room_for(defs, space, shelf.series) {
+        Err(refusal) => {
+            if irregular_get(pages, space, shelf, stamp)?.is_some() {
+                return Err(Stop::Refused(Refusal::Duplicate));
+            }
+            Err(Stop::Refused(refusal))
+        }
+        Ok(()) => {
+            say_stamp(out, stamp)?;
+            let placed = put(pages, space, shelf, stamp, row)?;
+            match placed {
+                Some(places) => Ok(Effect::Places {
+                    slot: shelf.series,
+                    places,
+                }),
+                None => Err(Stop::Refused(Refusal::Duplicate)),
+            }
+        }
+    }
+}
+
+// Puts a row where none is, and gives the places of its series; the directory stays as it was.
+fn put<P: Pages>(
+    pages: &mut P,
+    space: &mut Space,
+    shelf: &Shelf,
+    stamp: Stamp,
+    row: &Row,
+) -> Result<Option<Vec<Place>>, StoreFault>
+    requires slot { shelf.now.series < 4096 }
+    requires one { HasOnePage shelf.now.kind.now.columns (P.contents pages.old) (places_of shelf.now.series space.old) }
+    requires fits { IsTrue (fits shelf.now.kind.now.columns row.now) }
+    requires room { count_of (places_of shelf.now.series space.old) < page_room shelf.now.kind.now.columns }
+    requires spare { places_of shelf.now.series space.old ≡ [] → 0 < length (P.contents pages.old).free }
+    ensures put { IfOk result (IsPutOrThere P.tells shelf.now.series shelf.now.kind.now.columns stamp row.now space.old (P.contents pages.old) (P.contents pages.new)) }
+    ensures call { Answered result (P.contents pages.old) (P.contents pages.new) }
+    ensures bytes { (P.contents pages.new).change_bytes ≤ (P.contents pages.old).change_bytes + 4101 }
+    ensures lists { space.new.lists ≡ space.old.lists }
+    ensures slots { length space.old.lists ≡ 4096 }
+    ensures undisturbed { P.undisturbed pages.old pages.new }
+{
+    // A directory has a list for each slot.
+    let _slots = space.places(shelf.series);
+    let before = space.saved(shelf.series)?;
+    if !irregular_insert(pages, space, shelf, stamp, row)? {
+        return Ok(None);
+    }
+    let after = space.saved(shelf.series);
+    space.restore(shelf.series, before);
+    Ok(Some(after?))
+}
+
+// Puts a row at a stamp of a series that has one there.
+fn update_at<P: Pages>(
+    pages: &mut P,
+    space: &mut Space,
+    shelf: &Shelf,
+    stamp: Stamp,
+    row: &Row,
+    out: &mut Reply,
+) -> Result<Effect, Stop>
+    requires slot { shelf.now.series < 4096 }
+    requires one { HasOnePage shelf.now.kind.now.columns (P.contents pages.old) (places_of shelf.now.series space.old) }
+    requires fits { IsTrue (fits shelf.now.kind.now.columns row.now) }
+    requires empty { out.old ≡ [] }
+    ensures carried { (d : Definitions) (key : List ℕ) (literals : List TheLiteral) → HasRow key literals shelf.now.series shelf.now.kind.now row.now d
+        → CarriedOut P.tells (UpdElem key stamp literals) result out.new (view d space.old (P.contents pages.old)) (P.contents pages.new) }
+    ensures lists { space.new.lists ≡ space.old.lists }
+    ensures undisturbed { P.undisturbed pages.old pages.new }
+{
+    if irregular_get(pages, space, shelf, stamp)?.is_none() {
+        return Err(Stop::Refused(Refusal::Missing));
+    }
+    say_stamp(out, stamp)?;
+    let places = replace(pages, space, shelf, stamp, row)?;
+    Ok(Effect::Places {
+        slot: shelf.series,
+        places,
+    })
+}
+
+// Puts a row where one is, and gives the places of its series; the directory stays as it was.
+fn replace<P: Pages>(
+    pages: &mut P,
+    space: &mut Space,
+    shelf: &Shelf,
+    stamp: Stamp,
+    row: &Row,
+) -> Result<Vec<Place>, StoreFault>
+    requires slot { shelf.now.series < 4096 }
+    requires one { HasOnePage shelf.now.kind.now.columns (P.contents pages.old) (places_of shelf.now.series space.old) }
+    requires fits { IsTrue (fits shelf.now.kind.now.columns row.now) }
+    requires room { HasRoom P.tells shelf.now.series shelf.now.kind.now.columns (P.contents pages.old).page stamp (places_of shelf.now.series space.old) }
+    requires some { places_of shelf.now.series space.old ≢ [] }
+    ensures replaced { IfOk result (λ places. IsReplaced P.tells shelf.now.series shelf.now.kind.now.columns stamp row.now space.old (P.contents pages.old) (P.contents pages.new) places) }
+    ensures call { Answered result (P.contents pages.old) (P.contents pages.new) }
+    ensures bytes { (P.contents pages.new).change_bytes ≤ (P.contents pages.old).change_bytes + 4101 }
+    ensures lists { space.new.lists ≡ space.old.lists }
+    ensures slots { length space.old.lists ≡ 4096 }
+    ensures undisturbed { P.undisturbed pages.old pages.new }
+{
+    // A directory has a list for each slot.
+    let _slots = space.places(shelf.series);
+    let earlier = space.saved(shelf.series)?;
+    irregular_set(pages, space, shelf, stamp, Some(row))?;
+    let after = space.saved(shelf.series);
+    space.restore(shelf.series, earlier);
+    Ok(after?)
+}
+
+// How many elements stand on the page of a series.
+fn count_in(places: &[Place]) -> u64
+    requires few { length places.now ≤ 1 }
+    ensures { result ≡ count_of places.now }
+{
+    match places {
+        [place] => place.count as u64,
+        _ => 0,
+    }
+}
+
+// Whether one element more of a series goes on its page and into the quota of its container.
+fn room_for(defs: &Defs, space: &Space, slot: u16) -> Result<(), Refusal>
+    requires slot { slot < 4096 }
+    requires limits { KeepLimits defs.now.definitions }
+    requires rules { IsDefinitions defs.now.definitions }
+    requires few { (slot : ℕ) → slot < 4096 → length (places_of slot space.now) ≤ 1 }
+    ensures room { OnOk result (HasRoomFor slot defs.now.definitions space.now) }
+    ensures none { IfErr result (HasNoRoom slot defs.now.definitions space.now) }
+    ensures slots { length space.now.lists ≡ 4096 }
+{
+    let places = space.places(slot);
+    let Some(Def::Series { container, .. }) = defs.get(Kind::Series, slot) else {
+        return Ok(());
+    };
+    let Some(kind) = row_type_in(defs, *container) else {
+        return Ok(());
+    };
+    let Some(Def::Container { quota, .. }) = defs.get(Kind::Container, *container as u16) else {
+        return Ok(());
+    };
+    let count = count_in(places);
+    if count >= page_room(kind) as u64 {
+        return Err(Refusal::ContainerFull {
+            charge: 65537,
+            quota: *quota,
+        });
+    }
+    let first = if count == 0 { 1 } else { 0 };
+    let charge = charge_of_container(defs, space, *container) + first;
+    if charge > *quota as u64 {
+        return Err(Refusal::ContainerFull {
+            charge,
+            quota: *quota,
+        });
+    }
+    Ok(())
+}

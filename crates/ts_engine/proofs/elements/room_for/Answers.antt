@@ -1,9 +1,0 @@
-use Rattle.std.proofs.Common.{Some, sym, ap, ◌∙◌}
-use Rattle.std.specs.Option.{option_copied}
-use Rattle.ts_layout.proofs.LimitLemmas.{series_limit}
-use Rattle.ts_engine.proofs.elements.room_for.Goals as goal
-
-pub row_type_in-requires-clause-slot : goal.row_type_in-requires-clause-slot
-row_type_in-requires-clause-slot c =
-    series_limit c.args.defs.now.definitions c.requires.limits c.args.slot c.requires.slot _ c.in-Some-Series.container
-    (sym c.get.ensures ∙ ap option_copied c.in-Some-Series.is ∙ ap Some c.in-Some-Series.field-0-is)

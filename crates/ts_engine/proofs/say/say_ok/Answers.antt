@@ -1,6 +1,0 @@
-use Rattle.ts_engine.specs.Reply.{ok_line}
-use Rattle.ts_engine.proofs.say.say_ok.Goals as goal
-
-pub returns : goal.returns
-unfolding ok_line
-returns c = c.extend_from_slice.ensures.ok

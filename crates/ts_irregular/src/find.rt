@@ -1,0 +1,75 @@
+// The row at a stamp, where the page was judged before.
+ghost use Rattle.std.specs.Prelude.{◌≡◌, ◌↔◌, ◌<◌, ◌≤◌, IsTrue, IfOk, IfSome, List, length};
+ghost use Rattle.ts_row.specs.Row.{fits};
+ghost use Rattle.ts_space.specs.Directory.{places_of};
+ghost use Rattle.ts_page.specs.Head.{head_of};
+ghost use Rattle.ts_cells.specs.Cell.{Element, page_room};
+ghost use Rattle.ts_irregular.specs.OnePage.{IsReadable, IsOn, told_in};
+ghost use Rattle.ts_irregular.specs.Call.{Reads, IsRowThere};
+
+use crate::get::row_at;
+use crate::page::HEAD;
+use ts_base::{Stamp, StoreFault};
+use ts_cells::page_room;
+use ts_page::{Head, Page, Pages};
+use ts_row::{Row, RowType, Shelf};
+use ts_space::{Place, Space};
+
+/// The row of the element at a stamp of a series that has no page or one. The page isn't judged again: its head is compared with
+/// its place, and the stamp is searched. All pages stay.
+pub fn irregular_find<P: Pages>(
+    pages: &mut P,
+    space: &Space,
+    shelf: &Shelf,
+    stamp: Stamp,
+) -> Result<Option<Row>, StoreFault>
+    requires slot { shelf.now.series < 4096 }
+    requires one { IsReadable (P.contents pages.old) (places_of shelf.now.series space.now) }
+    ensures found { IfOk result (IsRowThere P.tells shelf.now.series shelf.now.kind.now.columns stamp (places_of shelf.now.series space.now)
+        (P.contents pages.old)) }
+    ensures fits { IfOk result (λ found. IfSome found (λ row. IsTrue (fits shelf.now.kind.now.columns row))) }
+    ensures call { Reads P.tells result (P.contents pages.old) (P.contents pages.new) }
+    ensures undisturbed { P.undisturbed pages.old pages.new }
+{
+    let Some(place) = space.places(shelf.series).first() else {
+        return Ok(None);
+    };
+    let mut page = Page::zero();
+    pages.get(place.page, &mut page)?;
+    let count = count_told(shelf, place, &page);
+    Ok(row_at(shelf.kind, &page.bytes[HEAD..], count, stamp)?)
+}
+
+// How many elements of the series a page has by its head; none where that disagrees with its place.
+fn count_told(shelf: &Shelf, place: &Place, page: &Page) -> usize
+    ensures told { (es : List Element) → IsOn shelf.now.series shelf.now.kind.now.columns page.now.bytes place.now es → length es ≡ result }
+    ensures room { result ≤ page_room shelf.now.kind.now.columns }
+{
+    let Some((series, count)) = told(page) else {
+        return 0;
+    };
+    if series != shelf.series {
+        return 0;
+    }
+    if !is_count(shelf.kind, place, count) {
+        return 0;
+    }
+    count as usize
+}
+
+// The slot of the series and the number of elements that the head of an irregular page tells.
+fn told(page: &Page) -> Option<(u16, u16)>
+    ensures { result ≡ told_in (head_of page.now.bytes) }
+{
+    match page.head() {
+        Some(Head::Irregular { series, count }) => Some((series, count)),
+        _ => None,
+    }
+}
+
+// That of the place, and no more than a page has room for.
+fn is_count(kind: &RowType, place: &Place, count: u16) -> bool
+    ensures { IsTrue result ↔ (count ≡ place.now.count) × (count ≤ page_room kind.now.columns) }
+{
+    count == place.count && count as usize <= page_room(kind)
+}

@@ -1,0 +1,8 @@
+use Rattle.ts_journal.proofs.LastLemmas.{last_there, one_each}
+use Rattle.ts_journal.proofs.laws.an_overlay_has_the_last_change_of_each_page.Goals as goal
+
+pub returns-clause-last : goal.returns-clause-last
+returns-clause-last c = last_there
+
+pub returns-clause-one : goal.returns-clause-one
+returns-clause-one c = one_each

@@ -1,0 +1,81 @@
+// Bytes on their way to the disk: pieces that follow each other go there in few writes.
+ghost use Rattle.std.specs.Prelude.{◌≤◌};
+
+use ts_disk::{Failed, Volume};
+
+/// Five pages: the record of a command that changes few pages goes to the disk in one write.
+const BUFFER: usize = 20480;
+
+/// What isn't written yet, and where it goes.
+#[derive(Drop)]
+pub(crate) struct Pen {
+    bytes: [u8; BUFFER],
+    filled: usize,
+    at: u64,
+    ghost within: { filled ≤ 20480 },
+}
+
+impl Pen {
+    ghost use Rattle.std.specs.Prelude.{◌≡◌, ◌+◌, ◌++◌, [], length, OnOk};
+    ghost use Rattle.ts_page.specs.Volume.{page_size};
+    ghost use Rattle.ts_journal.specs.Pen.{pending, Adds};
+
+    pub(crate) fn at(place: u64) -> Pen
+        ensures place { result.at ≡ place }
+        ensures empty { pending result ≡ [] }
+    {
+        Pen {
+            bytes: [0; BUFFER],
+            filled: 0,
+            at: place,
+        }
+    }
+
+    /// Puts a piece behind what is on its way. Where the buffer has no room for both, the first goes to the disk.
+    pub(crate) fn add<V: Volume>(&mut self, vol: &mut V, piece: &[u8]) -> Result<(), Failed>
+        requires short { length piece.now ≤ page_size }
+        requires room { self.old.at + length (pending self.old) + length piece.now ≤ (V.device vol.old).size }
+        ensures { Adds V.tells piece.now result self.old self.new (V.device vol.old) (V.device vol.new) }
+    {
+        self.make_room(vol, piece.len())?;
+        self.hold(piece);
+        Ok(())
+    }
+
+    // Writes what is on its way, where so many bytes more have no room with it.
+    fn make_room<V: Volume>(&mut self, vol: &mut V, more: usize) -> Result<(), Failed>
+        requires short { more ≤ page_size }
+        requires room { self.old.at + length (pending self.old) ≤ (V.device vol.old).size }
+        ensures written { Adds V.tells [] result self.old self.new (V.device vol.old) (V.device vol.new) }
+        ensures room { OnOk result (self.new.filled + more ≤ 20480) }
+    {
+        if more > BUFFER - self.filled {
+            return self.flush(vol);
+        }
+        Ok(())
+    }
+
+    /// Writes what is on its way.
+    pub(crate) fn flush<V: Volume>(&mut self, vol: &mut V) -> Result<(), Failed>
+        requires { self.old.at + length (pending self.old) ≤ (V.device vol.old).size }
+        ensures written { Adds V.tells [] result self.old self.new (V.device vol.old) (V.device vol.new) }
+        ensures emptied { OnOk result (self.new.filled ≡ 0) }
+    {
+        let _size = vol.len();
+        vol.write_at(self.at, &self.bytes[..self.filled])?;
+        self.at += self.filled as u64;
+        self.filled = 0;
+        Ok(())
+    }
+
+    // Puts a piece behind the others in the buffer.
+    fn hold(&mut self, piece: &[u8])
+        requires { self.old.filled + length piece.now ≤ 20480 }
+        ensures pending { pending self.new ≡ pending self.old ++ piece.now }
+        ensures place { self.new.at ≡ self.old.at }
+    {
+        let end = self.filled + piece.len();
+        self.bytes[self.filled..end].copy_from_slice(piece);
+        self.filled = end;
+    }
+}

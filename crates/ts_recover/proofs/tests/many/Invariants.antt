@@ -1,0 +1,9 @@
+use Rattle.std.proofs.Common.{◌≢◌, ◌<◌, []}
+use Rattle.ts_journal.specs.Entry.{AreAllowed}
+use Rattle.ts_recover.proofs.tests.many.Given as goal
+
+abbrev pub invariant-loop-no : goal.invariant-loop-no
+invariant-loop-no l = record {
+  allowed : AreAllowed l.end l.batch.entries;
+  some : 930 < l.no → l.batch.entries ≢ [];
+}

@@ -1,0 +1,273 @@
+// Statements and the commands that they are.
+use std::alloc::Global;
+use std::test::Fail;
+use ts_command::{Columns, Command, Literals, read_command};
+use ts_row::{Column, ColumnKind, Literal};
+
+// A command as a row of a table has it: its routine, its name or key, a second one if it has two, and the rest.
+type Row = (&'static str, &'static [u8], &'static [u8], Rest);
+
+#[derive(Clone, Copy, Debug)]
+enum Rest {
+    Nothing,
+    Stamp(i64),
+    Values(i64, &'static [Value]),
+    Quota(i64),
+    Columns(&'static [(&'static [u8], ColumnKind)]),
+}
+
+#[derive(Clone, Copy, Debug)]
+enum Value {
+    Null,
+    Number(i128, u8),
+    Text(&'static [u8]),
+}
+
+fn is_row(command: &Command, row: Row) -> bool {
+    let (routine, first, second, rest) = row;
+    routine_of(command) == routine
+        && first_of(command) == first
+        && second_of(command) == second
+        && is_rest(command, rest)
+}
+
+fn routine_of(command: &Command) -> &'static str {
+    match command {
+        Command::CreateRowType { .. } => "CreateRowType",
+        Command::DropRowType { .. } => "DropRowType",
+        Command::TSContainerCreate { .. } => "TSContainerCreate",
+        Command::TSContainerDestroy { .. } => "TSContainerDestroy",
+        Command::TSContainerUsage { .. } => "TSContainerUsage",
+        Command::TSCreateIrr { .. } => "TSCreateIrr",
+        Command::DropSeries { .. } => "DropSeries",
+        Command::ListSeries { .. } => "ListSeries",
+        Command::InsElem { .. } => "InsElem",
+        Command::UpdElem { .. } => "UpdElem",
+        Command::GetElem { .. } => "GetElem",
+        Command::GetLastElem { .. } => "GetLastElem",
+        Command::GetNelems { .. } => "GetNelems",
+    }
+}
+
+fn first_of(command: &Command) -> &[u8] {
+    match command {
+        Command::CreateRowType { name, .. } => name.as_slice(),
+        Command::DropRowType { name } => name.as_slice(),
+        Command::TSContainerCreate { name, .. } => name.as_slice(),
+        Command::TSContainerDestroy { name } => name.as_slice(),
+        Command::TSContainerUsage { name } => name.as_slice(),
+        Command::TSCreateIrr { key, .. } => key.as_slice(),
+        Command::DropSeries { key } => key.as_slice(),
+        Command::ListSeries { container } => container.as_slice(),
+        Command::InsElem { key, .. } => key.as_slice(),
+        Command::UpdElem { key, .. } => key.as_slice(),
+        Command::GetElem { key, .. } => key.as_slice(),
+        Command::GetLastElem { key } => key.as_slice(),
+        Command::GetNelems { key } => key.as_slice(),
+    }
+}
+
+fn second_of(command: &Command) -> &[u8] {
+    match command {
+        Command::CreateRowType { stamp, .. } => stamp.as_slice(),
+        Command::TSContainerCreate { row_type, .. } => row_type.as_slice(),
+        Command::TSCreateIrr { container, .. } => container.as_slice(),
+        _ => b"",
+    }
+}
+
+fn is_rest(command: &Command, rest: Rest) -> bool {
+    match (command, rest) {
+        (Command::GetElem { stamp, .. }, Rest::Stamp(units)) => stamp.units() == units,
+        (Command::InsElem { stamp, values, .. }, Rest::Values(units, wanted)) => {
+            stamp.units() == units && are_values(values.as_slice(), wanted)
+        }
+        (Command::TSContainerCreate { quota, .. }, Rest::Quota(wanted)) => *quota == wanted,
+        (Command::CreateRowType { columns, .. }, Rest::Columns(wanted)) => {
+            are_columns(columns.as_slice(), wanted)
+        }
+        (_, Rest::Nothing) => true,
+        _ => false,
+    }
+}
+
+fn are_values(found: &[Literal], wanted: &[Value]) -> bool {
+    found.len() == wanted.len() && found.iter().zip(wanted).all(|(a, b)| is_value(a, *b))
+}
+
+fn is_value(found: &Literal, wanted: Value) -> bool {
+    match (found, wanted) {
+        (Literal::Null, Value::Null) => true,
+        (Literal::Number { units, scale }, Value::Number(number, digits)) => {
+            *units == number && *scale == digits
+        }
+        (Literal::Text(bytes), Value::Text(text)) => bytes.as_slice() == text,
+        _ => false,
+    }
+}
+
+fn are_columns(found: &[Column], wanted: &[(&[u8], ColumnKind)]) -> bool {
+    found.len() == wanted.len() && found.iter().zip(wanted).all(|(a, b)| is_column(a, *b))
+}
+
+fn is_column(found: &Column, wanted: (&[u8], ColumnKind)) -> bool {
+    found.name.as_slice() == wanted.0 && found.kind == wanted.1
+}
+
+// Whether a statement is read as this command.
+fn is_read(alloc: Global, text: &[u8], row: Row) -> bool {
+    match read_command(alloc, &text[..text.len().min(65536)]) {
+        Ok(command) => is_row(&command, row),
+        Err(_) => false,
+    }
+}
+
+#[test]
+fn each_routine_is_read_with_its_arguments(rt: HostRuntime) {
+    let page: [(&[u8], Row); 15] = [
+        (
+            b"CreateRowType(rd, t datetime, v integer);",
+            (
+                "CreateRowType",
+                b"rd",
+                b"t",
+                Rest::Columns(&[(b"v", ColumnKind::Integer)]),
+            ),
+        ),
+        (
+            b"CreateRowType(w,t datetime,a smallint,b bigint,c decimal(018,0),d varchar ( 255 ));",
+            ("CreateRowType", b"w", b"t", Rest::Columns(&WIDE)),
+        ),
+        (
+            b"DropRowType(rd);",
+            ("DropRowType", b"rd", b"", Rest::Nothing),
+        ),
+        (
+            b"TSContainerCreate(c1, rd, 1);",
+            ("TSContainerCreate", b"c1", b"rd", Rest::Quota(1)),
+        ),
+        (
+            b"TSContainerCreate(c1,rd,0065536);",
+            ("TSContainerCreate", b"c1", b"rd", Rest::Quota(65536)),
+        ),
+        (
+            b"TSContainerDestroy(c1);",
+            ("TSContainerDestroy", b"c1", b"", Rest::Nothing),
+        ),
+        (
+            b"TSContainerUsage(_1);",
+            ("TSContainerUsage", b"_1", b"", Rest::Nothing),
+        ),
+        (
+            b"TSCreateIrr('x', c1);",
+            ("TSCreateIrr", b"x", b"c1", Rest::Nothing),
+        ),
+        (
+            b"DropSeries('it''s');",
+            ("DropSeries", b"it's", b"", Rest::Nothing),
+        ),
+        (
+            b"ListSeries(null);",
+            ("ListSeries", b"null", b"", Rest::Nothing),
+        ),
+        (
+            b"InsElem('x','1970-01-01 00:00:00');",
+            ("InsElem", b"x", b"", Rest::Values(0, &[])),
+        ),
+        (
+            b" \n InsElem\t('x' ,'1970-01-01 00:00:00.00001', null,-0,007,-1.50,'', 'a''')\r\n;",
+            ("InsElem", b"x", b"", Rest::Values(1, &SEVERAL)),
+        ),
+        (
+            b"GetElem('x','1969-12-31 23:59:59.99999');",
+            ("GetElem", b"x", b"", Rest::Stamp(-1)),
+        ),
+        (b"GetNelems('''');", ("GetNelems", b"'", b"", Rest::Nothing)),
+        (
+            b"GetNelems('a;b');",
+            ("GetNelems", b"a;b", b"", Rest::Nothing),
+        ),
+    ];
+    for (text, wanted) in page {
+        assert!(rt; is_read(rt.alloc(), text, wanted), "{text:?}");
+    }
+}
+
+const WIDE: [(&[u8], ColumnKind); 4] = [
+    (b"a", ColumnKind::SmallInt),
+    (b"b", ColumnKind::BigInt),
+    (
+        b"c",
+        ColumnKind::Decimal {
+            digits: 18,
+            scale: 0,
+        },
+    ),
+    (b"d", ColumnKind::VarChar { length: 255 }),
+];
+
+const SEVERAL: [Value; 6] = [
+    Value::Null,
+    Value::Number(0, 0),
+    Value::Number(7, 0),
+    Value::Number(-150, 2),
+    Value::Text(b""),
+    Value::Text(b"a'"),
+];
+
+#[test]
+fn a_value_is_its_longest_token(rt: HostRuntime) {
+    let page: [(&[u8], &[Value]); 8] = [
+        (
+            b"InsElem('x','1970-01-01 00:00:00',1.5);",
+            &[Value::Number(15, 1)],
+        ),
+        (
+            b"InsElem('x','1970-01-01 00:00:00',-0.50);",
+            &[Value::Number(-50, 2)],
+        ),
+        (
+            b"InsElem('x','1970-01-01 00:00:00',1.0);",
+            &[Value::Number(10, 1)],
+        ),
+        (
+            b"InsElem('x','1970-01-01 00:00:00',-2147483648);",
+            &[Value::Number(-2147483648, 0)],
+        ),
+        (
+            b"InsElem('x','1970-01-01 00:00:00','''');",
+            &[Value::Text(b"'")],
+        ),
+        (
+            b"InsElem('x','1970-01-01 00:00:00','a;b');",
+            &[Value::Text(b"a;b")],
+        ),
+        (
+            b"InsElem('x','1970-01-01 00:00:00',99999999999999999999999999999999999999);",
+            &[Value::Number(99_999_999_999_999_999_999_999_999_999_999_999_999, 0)],
+        ),
+        (
+            b"InsElem('x','1970-01-01 00:00:00',-0000000000000000000000000000000000000.1);",
+            &[Value::Number(-1, 1)],
+        ),
+    ];
+    for (text, values) in page {
+        let wanted = (
+            "InsElem",
+            b"x".as_slice(),
+            b"".as_slice(),
+            Rest::Values(0, values),
+        );
+        assert!(rt; is_read(rt.alloc(), text, wanted), "{text:?}");
+    }
+}
+
+#[test]
+fn lists_are_taken_and_given_back(rt: HostRuntime) -> Result<(), Fail> {
+    let mut values = Vec::new(rt.alloc());
+    values.push(Literal::Null)?;
+    assert_eq!(rt; Literals::from_vec(values).into_vec().len(), 1);
+    let columns = Columns::from_vec(Vec::new(rt.alloc()));
+    assert_eq!(rt; columns.into_vec().len(), 0);
+    Ok(())
+}

@@ -1,0 +1,180 @@
+// Patterns that are joined or brought to a smaller unit.
+use crate::patterns::{is_answer, pattern, printed, too_long};
+use std::alloc::Global;
+use ts_base::{Bytes, Refusal, Trouble, Unit};
+use ts_pattern::Junction;
+
+// Two patterns joined, printed.
+fn joined(alloc: Global, junction: Junction, left: &[u8], right: &[u8]) -> Result<Bytes, Trouble> {
+    let left = pattern(alloc, left)?;
+    let right = pattern(alloc, right)?;
+    let pattern = match junction {
+        Junction::And => left.and_op(&right)?,
+        Junction::Or => left.or_op(&right)?,
+    };
+    printed(alloc, &pattern)
+}
+
+#[test]
+fn patterns_meet_in_the_smaller_unit_and_the_common_length(rt: HostRuntime) {
+    let rows: [(Junction, &[u8], &[u8], &[u8]); 8] = [
+        (Junction::And, WORKING_DAYS, WORKING_HOURS, WORKING_TIME),
+        (Junction::And, WORKING_HOURS, WORKING_DAYS, WORKING_TIME),
+        (
+            Junction::And,
+            b"{1 off,1 on},week",
+            WORKING_HOURS,
+            b"{176 off,9 on,15 off,9 on,15 off,9 on,15 off,9 on,15 off,9 on,15 off,9 on,15 off,9 on,7 off},hour",
+        ),
+        (
+            Junction::Or,
+            b"{1 on,1 off},year",
+            b"{2 off,1 on},month",
+            b"{12 on,2 off,1 on,2 off,1 on,2 off,1 on,2 off,1 on},month",
+        ),
+        (
+            Junction::Or,
+            b"{1 on,1 off},day",
+            b"{1 on,2 off},day",
+            b"{1 on,1 off,3 on,1 off},day",
+        ),
+        (
+            Junction::And,
+            b"{1 on,1 off},day",
+            b"{1 on,2 off},day",
+            b"{1 on,5 off},day",
+        ),
+        (Junction::And, b"{4 on},day", b"{6 on},day", b"{12 on},day"),
+        (Junction::Or, b"{1 on},day", b"{1 off},day", b"{1 on},day"),
+    ];
+    for (junction, left, right, wanted) in rows {
+        let found = joined(rt.alloc(), junction, left, right);
+        assert!(rt; is_answer(&found, Ok(wanted)), "{left:?} {right:?}");
+    }
+}
+
+const WORKING_DAYS: &[u8] = b"{1 off,5 on,1 off},day";
+
+const WORKING_HOURS: &[u8] = b"{8 off,9 on,7 off},hour";
+
+const WORKING_TIME: &[u8] =
+    b"{32 off,9 on,15 off,9 on,15 off,9 on,15 off,9 on,15 off,9 on,31 off},hour";
+
+const MISMATCH: Result<&[u8], Refusal> = Err(Refusal::UnitMismatch);
+
+#[test]
+fn a_join_is_refused_with_its_numbers(rt: HostRuntime) {
+    let rows: [(&[u8], &[u8], Result<&[u8], Refusal>); 7] = [
+        (TURNS, b"{527039 on},second", too_long(1_054_078, 0)),
+        (TURNS, b"{527040 on},second", too_long(527_040, 527_040)),
+        (TURNS, b"{1 off,513 on},second", too_long(514, 513)),
+        (TURNS, b"{514 on},second", too_long(514, 514)),
+        (b"{1 on},week", b"{1 on},second", too_long(604_800, 0)),
+        (b"{1 on},day", b"{1 on},month", MISMATCH),
+        (b"{1 on},month", b"{1 on},day", MISMATCH),
+    ];
+    for (left, right, wanted) in rows {
+        let found = joined(rt.alloc(), Junction::And, left, right);
+        assert!(rt; is_answer(&found, wanted), "{right:?}");
+    }
+    let found = joined(rt.alloc(), Junction::Or, b"{1 on},month", b"{1 on},day");
+    assert!(rt; is_answer(&found, MISMATCH));
+    assert_eq!(rt; runs_of_turns(rt.alloc(), b"{512 on},second"), Some(512));
+}
+
+// One second on, one off.
+const TURNS: &[u8] = b"{1 on,1 off},second";
+
+// How many runs the AND with these has.
+fn runs_of_turns(alloc: Global, other: &[u8]) -> Option<usize> {
+    let turns = pattern(alloc, TURNS).ok()?;
+    let other = pattern(alloc, other).ok()?;
+    Some(turns.and_op(&other).ok()?.runs().len())
+}
+
+// The AND of two patterns, each of them shifted, printed.
+fn shifted(
+    alloc: Global,
+    left: &[u8],
+    shift: i64,
+    right: &[u8],
+    right_shift: i64,
+) -> Result<Bytes, Trouble> {
+    let left = pattern(alloc, left)?;
+    let right = pattern(alloc, right)?;
+    let pattern = left.join_shifted(Junction::And, shift, &right, right_shift)?;
+    printed(alloc, &pattern)
+}
+
+#[test]
+fn a_shift_moves_a_pattern_against_the_other(rt: HostRuntime) {
+    let rows: [(i64, &[u8]); 5] = [
+        (0, b"{24 on,24 off},hour"),
+        (6, b"{18 on,24 off,6 on},hour"),
+        (-6, b"{6 off,24 on,18 off},hour"),
+        (-30, b"{6 on,24 off,18 on},hour"),
+        (48_000_006, b"{18 on,24 off,6 on},hour"),
+    ];
+    for (shift, wanted) in rows {
+        let found = shifted(rt.alloc(), b"{1 on,1 off},day", shift, b"{48 on},hour", -7);
+        assert!(rt; is_answer(&found, Ok(wanted)), "by {shift}");
+    }
+}
+
+#[test]
+fn a_single_run_goes_with_the_runs_of_the_other(rt: HostRuntime) {
+    let rows: [(&[u8], &[u8], &[u8]); 4] = [
+        (
+            b"{1 on},second",
+            b"{527040 on},second",
+            b"{527040 on},second",
+        ),
+        (b"{5 on},second", b"{7 on},second", b"{35 on},second"),
+        (
+            b"{1 on},second",
+            b"{2 on,4 off,3 on},second",
+            b"{2 on,4 off,3 on},second",
+        ),
+        (
+            b"{5 on},second",
+            b"{2 on,4 off,3 on},second",
+            b"{2 on,4 off,5 on,4 off,5 on,4 off,5 on,4 off,5 on,4 off,3 on},second",
+        ),
+    ];
+    for (single, other, wanted) in rows {
+        for shift in [0, 3, -7] {
+            let found = shifted(rt.alloc(), single, shift, other, 0);
+            assert!(rt; is_answer(&found, Ok(wanted)), "{other:?} by {shift}");
+            let found = shifted(rt.alloc(), other, 0, single, shift);
+            assert!(rt; is_answer(&found, Ok(wanted)), "{other:?} by {shift}");
+        }
+    }
+}
+
+// A pattern in a smaller unit, printed.
+fn expanded(alloc: Global, text: &[u8], unit: Unit) -> Result<Bytes, Trouble> {
+    let pattern = pattern(alloc, text)?.expand(unit)?;
+    printed(alloc, &pattern)
+}
+
+#[test]
+fn expanding_multiplies_the_counts(rt: HostRuntime) {
+    let rows: [(&[u8], Unit, Result<&[u8], Refusal>); 10] = [
+        (WEEKS, Unit::Week, Ok(WEEKS)),
+        (WEEKS, Unit::Day, Ok(b"{7 on,14 off},day")),
+        (WEEKS, Unit::Hour, Ok(b"{168 on,336 off},hour")),
+        (WEEKS, Unit::Minute, Ok(b"{10080 on,20160 off},minute")),
+        (b"{1 on},week", Unit::Second, too_long(604_800, 0)),
+        (b"{1 on},day", Unit::Week, MISMATCH),
+        (b"{1 on},day", Unit::Month, MISMATCH),
+        (b"{1 on},day", Unit::Year, MISMATCH),
+        (b"{1 on},month", Unit::Day, MISMATCH),
+        (b"{1 on},month", Unit::Year, MISMATCH),
+    ];
+    for (text, unit, wanted) in rows {
+        let found = expanded(rt.alloc(), text, unit);
+        assert!(rt; is_answer(&found, wanted), "{text:?} {unit:?}");
+    }
+}
+
+const WEEKS: &[u8] = b"{1 on,2 off},week";
