@@ -6,14 +6,6 @@ use std::test::Fail;
 use std::thread::Threads;
 use ts_disk::{MemorySite, Pick, Volume};
 
-const PICKS: [Pick; 5] = [
-    Pick::Old,
-    Pick::New,
-    Pick::Half,
-    Pick::Fill(0),
-    Pick::Fill(255),
-];
-
 /// Each statement is refused where the store has what it makes.
 const SCRIPT: &[u8] = b"CreateRowType(rd, t datetime, v integer);TSContainerCreate(c1, rd, 8);\
     TSCreateIrr('x', c1);TSCreateIrr('y', c1);InsElem('x','2011-01-03 00:00:00',1);\
@@ -124,28 +116,78 @@ fn bytes_after(rt: &(impl Threads + Sync), alloc: Global, script: &[u8]) -> Resu
     Ok(bytes)
 }
 
+/// The first of the statements: the journal holds its record when the run begins.
+const RECORD: &[u8] = b"CreateRowType(rd, t datetime, v integer);";
+
+// Runs over a volume on which this script was carried out, which makes what so many statements make.
+fn stops_in_a_run(
+    rt: &(impl Threads + Sync),
+    alloc: Global,
+    beginning: &[u8],
+    there: usize,
+    pick: Pick,
+) -> Result<bool, Fail> {
+    let bytes = bytes_after(rt, alloc, beginning)?;
+    stops(rt, alloc, &bytes, there, reads(rt, alloc, "8")?, pick)
+}
+
 #[test]
-fn a_stop_in_a_run(rt: HostRuntime) -> Result<(), Fail> {
-    let bytes = bytes_after(&rt, rt.alloc(), b"")?;
-    let reads = reads(&rt, rt.alloc(), "8")?;
-    for pick in PICKS {
-        assert!(rt; stops(&rt, rt.alloc(), &bytes, 0, reads, pick)?);
-    }
+fn a_stop_in_a_run_leaves_old_bytes(rt: HostRuntime) -> Result<(), Fail> {
+    assert!(rt; stops_in_a_run(&rt, rt.alloc(), b"", 0, Pick::Old)?);
     Ok(())
 }
 
-// The journal holds the record of the row type when the run begins.
 #[test]
-fn a_stop_in_a_run_over_a_record(rt: HostRuntime) -> Result<(), Fail> {
-    let bytes = bytes_after(
-        &rt,
-        rt.alloc(),
-        b"CreateRowType(rd, t datetime, v integer);",
-    )?;
-    let reads = reads(&rt, rt.alloc(), "8")?;
-    for pick in PICKS {
-        assert!(rt; stops(&rt, rt.alloc(), &bytes, 1, reads, pick)?);
-    }
+fn a_stop_in_a_run_leaves_new_bytes(rt: HostRuntime) -> Result<(), Fail> {
+    assert!(rt; stops_in_a_run(&rt, rt.alloc(), b"", 0, Pick::New)?);
+    Ok(())
+}
+
+#[test]
+fn a_stop_in_a_run_leaves_half_of_each_write(rt: HostRuntime) -> Result<(), Fail> {
+    assert!(rt; stops_in_a_run(&rt, rt.alloc(), b"", 0, Pick::Half)?);
+    Ok(())
+}
+
+#[test]
+fn a_stop_in_a_run_leaves_zeros(rt: HostRuntime) -> Result<(), Fail> {
+    assert!(rt; stops_in_a_run(&rt, rt.alloc(), b"", 0, Pick::Fill(0))?);
+    Ok(())
+}
+
+#[test]
+fn a_stop_in_a_run_leaves_ones(rt: HostRuntime) -> Result<(), Fail> {
+    assert!(rt; stops_in_a_run(&rt, rt.alloc(), b"", 0, Pick::Fill(255))?);
+    Ok(())
+}
+
+#[test]
+fn a_stop_over_a_record_leaves_old_bytes(rt: HostRuntime) -> Result<(), Fail> {
+    assert!(rt; stops_in_a_run(&rt, rt.alloc(), RECORD, 1, Pick::Old)?);
+    Ok(())
+}
+
+#[test]
+fn a_stop_over_a_record_leaves_new_bytes(rt: HostRuntime) -> Result<(), Fail> {
+    assert!(rt; stops_in_a_run(&rt, rt.alloc(), RECORD, 1, Pick::New)?);
+    Ok(())
+}
+
+#[test]
+fn a_stop_over_a_record_leaves_half_of_each_write(rt: HostRuntime) -> Result<(), Fail> {
+    assert!(rt; stops_in_a_run(&rt, rt.alloc(), RECORD, 1, Pick::Half)?);
+    Ok(())
+}
+
+#[test]
+fn a_stop_over_a_record_leaves_zeros(rt: HostRuntime) -> Result<(), Fail> {
+    assert!(rt; stops_in_a_run(&rt, rt.alloc(), RECORD, 1, Pick::Fill(0))?);
+    Ok(())
+}
+
+#[test]
+fn a_stop_over_a_record_leaves_ones(rt: HostRuntime) -> Result<(), Fail> {
+    assert!(rt; stops_in_a_run(&rt, rt.alloc(), RECORD, 1, Pick::Fill(255))?);
     Ok(())
 }
 
