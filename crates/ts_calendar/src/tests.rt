@@ -6,13 +6,13 @@ use ts_base::Unit::{Day, Hour, Minute, Month, Second, Week, Year};
 use ts_base::{Bytes, Refusal, Stamp, Trouble, Unit};
 use ts_pattern::{Junction, Pattern, Run};
 
-const D02: &[u8] = b"2011-01-02 00:00:00";
+const JANUARY_2: &[u8] = b"2011-01-02 00:00:00";
 
-const D03: &[u8] = b"2011-01-03 00:00:00";
+const JANUARY_3: &[u8] = b"2011-01-03 00:00:00";
 
-const D08: &[u8] = b"2011-01-08 00:00:00";
+const JANUARY_8: &[u8] = b"2011-01-08 00:00:00";
 
-const D10: &[u8] = b"2011-01-10 00:00:00";
+const JANUARY_10: &[u8] = b"2011-01-10 00:00:00";
 
 const FIRST: &[u8] = b"0001-01-01 00:00:00";
 
@@ -69,12 +69,12 @@ fn always(alloc: Global, start: &'static [u8], unit: Unit) -> Result<Calendar, F
 fn a_calendar_that_breaks_a_rule_is_refused(rt: HostRuntime) -> Result<(), Fail> {
     let bad = Some(Refusal::BadCalendar { place: 0 });
     let off = Some(Refusal::AllOff);
-    let week = D02;
+    let week = JANUARY_2;
     let rows: [(&[u8], &[u8], Unit, bool, Option<Refusal>); 9] = [
         (week, week, Day, true, None),
-        (week, D08, Day, true, None),
+        (week, JANUARY_8, Day, true, None),
         (week, b"2011-01-09 00:00:00", Day, true, bad),
-        (week, D10, Day, true, bad),
+        (week, JANUARY_10, Day, true, bad),
         (week, b"2011-01-01 23:59:59", Day, true, bad),
         (week, b"2012-01-28 00:00:00", Year, true, None),
         (week, b"2012-01-29 00:00:00", Year, true, bad),
@@ -99,11 +99,11 @@ fn a_calendar_that_breaks_a_rule_is_refused(rt: HostRuntime) -> Result<(), Fail>
 #[test]
 fn intervals_move_with_their_unit(rt: HostRuntime) -> Result<(), Fail> {
     let rows: [(Unit, &'static [u8], i64, &[u8]); 12] = [
-        (Second, D02, -1, b"2011-01-01 23:59:59"),
+        (Second, JANUARY_2, -1, b"2011-01-01 23:59:59"),
         (Minute, b"2011-01-02 00:00:30", 2, b"2011-01-02 00:02:30"),
         (Hour, b"2011-01-02 00:30:00", 25, b"2011-01-03 01:30:00"),
         (Day, b"2012-02-28 12:00:00", 2, b"2012-03-01 12:00:00"),
-        (Week, D02, -1, b"2010-12-26 00:00:00"),
+        (Week, JANUARY_2, -1, b"2010-12-26 00:00:00"),
         (Month, b"2012-01-28 10:00:00", 1, b"2012-02-28 10:00:00"),
         (Month, b"2012-01-28 10:00:00", -1, b"2011-12-28 10:00:00"),
         (Month, b"2012-01-28 10:00:00", -13, b"2010-12-28 10:00:00"),
@@ -236,13 +236,13 @@ fn an_interval_holds_the_stamps_up_to_the_next(rt: HostRuntime) -> Result<(), Fa
 
 #[test]
 fn on_follows_the_pattern_from_the_start(rt: HostRuntime) -> Result<(), Fail> {
-    let week = starting(D02, Day, false, &[1, 5, 1]);
+    let week = starting(JANUARY_2, Day, false, &[1, 5, 1]);
     let months = starting(b"2012-01-28 00:00:00", Month, true, &[1, 1]);
     let rows: [(Laid, &[u8], bool); 10] = [
         (week, b"2011-01-02 12:00:00", false),
-        (week, D03, true),
+        (week, JANUARY_3, true),
         (week, b"2011-01-07 23:59:59.99999", true),
-        (week, D08, false),
+        (week, JANUARY_8, false),
         (week, b"2011-01-10 10:00:00", true),
         (week, b"2010-12-31 10:00:00", false),
         (months, b"2012-02-27 00:00:00", true),
@@ -291,20 +291,20 @@ fn joined(
 
 #[test]
 fn calendars_meet_in_the_smaller_unit(rt: HostRuntime) -> Result<(), Fail> {
-    let week = starting(D02, Day, false, &[1, 5, 1]);
+    let week = starting(JANUARY_2, Day, false, &[1, 5, 1]);
     let hours = starting(b"2011-01-05 06:00:00", Hour, true, &[1]);
     let thirds = starting(b"2012-03-10 00:00:00", Month, true, &[1, 2]);
-    let years = starting(D10, Year, true, &[1, 1]);
-    let days = starting(D03, Day, true, &[1]);
+    let years = starting(JANUARY_10, Year, true, &[1, 1]);
+    let days = starting(JANUARY_3, Day, true, &[1]);
     let late = Laid {
-        start: D02,
-        patt_start: D08,
+        start: JANUARY_2,
+        patt_start: JANUARY_8,
         unit: Day,
         on: true,
         counts: &[1, 6],
     };
-    let even = starting(D02, Day, true, &[1, 1]);
-    let odd = starting(D02, Day, false, &[1, 1]);
+    let even = starting(JANUARY_2, Day, true, &[1, 1]);
+    let odd = starting(JANUARY_2, Day, false, &[1, 1]);
     let rows: [(Junction, Laid, Laid, &[u8]); 5] = [
         (
             Junction::And,
@@ -349,10 +349,10 @@ fn calendars_meet_in_the_smaller_unit(rt: HostRuntime) -> Result<(), Fail> {
 
 #[test]
 fn calendars_that_cannot_meet_are_refused(rt: HostRuntime) -> Result<(), Fail> {
-    let days = starting(D02, Day, true, &[1, 1]);
-    let turned = starting(D02, Day, false, &[1, 1]);
-    let long = starting(D02, Day, true, &[527_039]);
-    let months = starting(D02, Month, true, &[1]);
+    let days = starting(JANUARY_2, Day, true, &[1, 1]);
+    let turned = starting(JANUARY_2, Day, false, &[1, 1]);
+    let long = starting(JANUARY_2, Day, true, &[527_039]);
+    let months = starting(JANUARY_2, Month, true, &[1]);
     let later_months = starting(b"2011-03-03 00:00:00", Month, true, &[1]);
     let hours = starting(b"2011-01-05 06:00:00", Hour, true, &[1]);
     let half_hours = starting(b"2011-01-05 06:30:00", Hour, true, &[1]);
@@ -380,8 +380,14 @@ fn calendars_that_cannot_meet_are_refused(rt: HostRuntime) -> Result<(), Fail> {
 #[test]
 fn two_calendars_have_a_grid_in_common(rt: HostRuntime) -> Result<(), Fail> {
     let rows: [(Unit, &[u8], Unit, &[u8], Result<(Unit, i64), Refusal>); 6] = [
-        (Day, D02, Hour, b"2011-01-05 06:00:00", Ok((Hour, 78))),
-        (Hour, b"2011-01-05 06:00:00", Day, D02, Ok((Hour, -78))),
+        (Day, JANUARY_2, Hour, b"2011-01-05 06:00:00", Ok((Hour, 78))),
+        (
+            Hour,
+            b"2011-01-05 06:00:00",
+            Day,
+            JANUARY_2,
+            Ok((Hour, -78)),
+        ),
         (
             Year,
             b"2011-01-10 00:00:00",
@@ -389,9 +395,9 @@ fn two_calendars_have_a_grid_in_common(rt: HostRuntime) -> Result<(), Fail> {
             b"2012-03-10 00:00:00",
             Ok((Month, 14)),
         ),
-        (Week, D02, Week, b"2011-01-16 00:00:00", Ok((Week, 2))),
-        (Week, D02, Week, D03, Err(Refusal::NotAligned)),
-        (Day, D02, Month, D02, Err(Refusal::UnitMismatch)),
+        (Week, JANUARY_2, Week, b"2011-01-16 00:00:00", Ok((Week, 2))),
+        (Week, JANUARY_2, Week, JANUARY_3, Err(Refusal::NotAligned)),
+        (Day, JANUARY_2, Month, JANUARY_2, Err(Refusal::UnitMismatch)),
     ];
     for (left, first, right, second, want) in rows {
         let left = always(rt.alloc(), first, left)?;

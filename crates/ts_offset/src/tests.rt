@@ -8,23 +8,23 @@ use ts_calendar::Calendar;
 use ts_pattern::{Pattern, Run};
 
 // 2011-01-03 is a Monday.
-const D01: &[u8] = b"2011-01-01 00:00:00";
+const JANUARY_1: &[u8] = b"2011-01-01 00:00:00";
 
-const D02: &[u8] = b"2011-01-02 00:00:00";
+const JANUARY_2: &[u8] = b"2011-01-02 00:00:00";
 
-const D03: &[u8] = b"2011-01-03 00:00:00";
+const JANUARY_3: &[u8] = b"2011-01-03 00:00:00";
 
-const D04: &[u8] = b"2011-01-04 00:00:00";
+const JANUARY_4: &[u8] = b"2011-01-04 00:00:00";
 
-const D06: &[u8] = b"2011-01-06 00:00:00";
+const JANUARY_6: &[u8] = b"2011-01-06 00:00:00";
 
-const D07: &[u8] = b"2011-01-07 00:00:00";
+const JANUARY_7: &[u8] = b"2011-01-07 00:00:00";
 
-const D08: &[u8] = b"2011-01-08 00:00:00";
+const JANUARY_8: &[u8] = b"2011-01-08 00:00:00";
 
-const D10: &[u8] = b"2011-01-10 00:00:00";
+const JANUARY_10: &[u8] = b"2011-01-10 00:00:00";
 
-const D14: &[u8] = b"2011-01-14 00:00:00";
+const JANUARY_14: &[u8] = b"2011-01-14 00:00:00";
 
 const FIRST: &[u8] = b"0001-01-01 00:00:00";
 
@@ -45,7 +45,7 @@ pub(crate) struct Laid {
 
 /// Five days on from Monday 2011-01-03, two off.
 const WORK: Laid = Laid {
-    start: D02,
+    start: JANUARY_2,
     unit: Day,
     on: false,
     counts: &[1, 5, 1],
@@ -53,7 +53,7 @@ const WORK: Laid = Laid {
 
 /// Days whose last one goes on into the next round.
 const DAYS: Laid = Laid {
-    start: D02,
+    start: JANUARY_2,
     unit: Day,
     on: true,
     counts: &[2, 3, 1],
@@ -77,7 +77,7 @@ const LAST_YEARS: Laid = Laid {
 
 /// One minute in 527040.
 const RARE_MINUTES: Laid = Laid {
-    start: D01,
+    start: JANUARY_1,
     unit: Minute,
     on: true,
     counts: &[1, 527_039],
@@ -92,7 +92,7 @@ const RARE_SECONDS: Laid = Laid {
 };
 /// All days.
 const ALL_DAYS: Laid = Laid {
-    start: D02,
+    start: JANUARY_2,
     unit: Day,
     on: true,
     counts: &[1],
@@ -124,7 +124,7 @@ const YEARS: Laid = Laid {
 
 /// All seconds.
 const SECONDS: Laid = Laid {
-    start: D03,
+    start: JANUARY_3,
     unit: Second,
     on: true,
     counts: &[1],
@@ -176,15 +176,15 @@ fn grid(alloc: Global, laid: Laid, origin: &[u8]) -> Result<Grid, Fail> {
 #[test]
 fn an_index_counts_the_starts_after_the_first_stamp(rt: HostRuntime) -> Result<(), Fail> {
     let rows: [(Laid, &[u8], &[u8], i64); 17] = [
-        (WORK, D03, D10, 5),
-        (WORK, D10, D03, -5),
-        (WORK, D03, D03, 0),
-        (WORK, D02, D03, 1),
-        (WORK, D02, b"2011-01-02 23:59:59.99999", 0),
-        (WORK, D07, b"2011-01-09 12:00:00", 0),
+        (WORK, JANUARY_3, JANUARY_10, 5),
+        (WORK, JANUARY_10, JANUARY_3, -5),
+        (WORK, JANUARY_3, JANUARY_3, 0),
+        (WORK, JANUARY_2, JANUARY_3, 1),
+        (WORK, JANUARY_2, b"2011-01-02 23:59:59.99999", 0),
+        (WORK, JANUARY_7, b"2011-01-09 12:00:00", 0),
         (WORK, b"2010-12-01 00:00:00", b"2011-01-04 10:00:00", 2),
         (WORK, b"2011-01-04 10:00:00", b"2010-12-01 00:00:00", -2),
-        (WORK, D03, LAST_DAY, 2_084_229),
+        (WORK, JANUARY_3, LAST_DAY, 2_084_229),
         (MONTHS, b"2012-01-28 00:00:00", b"2012-03-28 00:00:00", 2),
         (
             MONTHS,
@@ -198,8 +198,8 @@ fn an_index_counts_the_starts_after_the_first_stamp(rt: HostRuntime) -> Result<(
             b"0001-02-28 00:00:00",
             2,
         ),
-        (RARE_MINUTES, D01, b"2012-01-02 00:00:00", 1),
-        (RARE_MINUTES, b"2012-01-02 00:00:00", D01, -1),
+        (RARE_MINUTES, JANUARY_1, b"2012-01-02 00:00:00", 1),
+        (RARE_MINUTES, b"2012-01-02 00:00:00", JANUARY_1, -1),
         (RARE_SECONDS, FIRST, LAST_SECOND, 598_698),
         (FIRST_SECONDS, FIRST, LAST_SECOND, 315_537_897_599),
         (FIRST_SECONDS, LAST_SECOND, FIRST, -315_537_897_599),
@@ -215,10 +215,10 @@ fn an_index_counts_the_starts_after_the_first_stamp(rt: HostRuntime) -> Result<(
 #[test]
 fn a_stamp_is_sought_among_later_starts(rt: HostRuntime) -> Result<(), Fail> {
     let rows: [(Laid, &[u8], u32, Option<&[u8]>); 9] = [
-        (WORK, b"2011-01-07 12:00:00", 1, Some(D10)),
-        (WORK, D03, 1, Some(D04)),
-        (WORK, D03, 5, Some(D10)),
-        (WORK, FIRST, 1, Some(D03)),
+        (WORK, b"2011-01-07 12:00:00", 1, Some(JANUARY_10)),
+        (WORK, JANUARY_3, 1, Some(JANUARY_4)),
+        (WORK, JANUARY_3, 5, Some(JANUARY_10)),
+        (WORK, FIRST, 1, Some(JANUARY_3)),
         (WORK, b"9999-12-30 00:00:00", 1, Some(LAST_DAY)),
         (WORK, LAST_DAY, 1, None),
         (
@@ -227,7 +227,7 @@ fn a_stamp_is_sought_among_later_starts(rt: HostRuntime) -> Result<(), Fail> {
             13,
             Some(b"2013-02-28 00:00:00"),
         ),
-        (RARE_MINUTES, D01, 1, Some(b"2012-01-02 00:00:00")),
+        (RARE_MINUTES, JANUARY_1, 1, Some(b"2012-01-02 00:00:00")),
         (FIRST_SECONDS, FIRST, u32::MAX, Some(b"0137-02-07 06:28:15")),
     ];
     for (laid, after, n, start) in rows {
@@ -241,19 +241,24 @@ fn a_stamp_is_sought_among_later_starts(rt: HostRuntime) -> Result<(), Fail> {
 #[test]
 fn a_range_lists_the_starts_of_both_ends_too(rt: HostRuntime) -> Result<(), Fail> {
     let rows: [(Laid, &[u8], &[u8], &[&[u8]]); 3] = [
-        (WORK, D06, D10, &[D06, D07, D10]),
+        (
+            WORK,
+            JANUARY_6,
+            JANUARY_10,
+            &[JANUARY_6, JANUARY_7, JANUARY_10],
+        ),
         (
             DAYS,
             b"2000-01-01 00:00:00",
-            D14,
+            JANUARY_14,
             &[
-                D02,
-                D03,
-                D07,
-                D08,
+                JANUARY_2,
+                JANUARY_3,
+                JANUARY_7,
+                JANUARY_8,
                 b"2011-01-09 00:00:00",
                 b"2011-01-13 00:00:00",
-                D14,
+                JANUARY_14,
             ],
         ),
         (
@@ -290,14 +295,14 @@ fn rows_of(outcome: Result<Vec<Stamp>, Trouble>) -> Result<usize, Option<Refusal
 fn a_range_has_as_many_starts_as_it_holds(rt: HostRuntime) -> Result<(), Fail> {
     let large = Err(Some(Refusal::TooLarge { rows: 1_000_001 }));
     let rows: [(Laid, &[u8], &[u8], Result<usize, Option<Refusal>>); 8] = [
-        (WORK, b"2011-01-06 00:00:00.00001", D10, Ok(2)),
-        (WORK, D06, b"2011-01-09 23:59:59.99999", Ok(2)),
-        (WORK, D08, b"2011-01-09 12:00:00", Ok(0)),
-        (WORK, D10, D06, Ok(0)),
-        (WORK, FIRST, D03, Ok(1)),
+        (WORK, b"2011-01-06 00:00:00.00001", JANUARY_10, Ok(2)),
+        (WORK, JANUARY_6, b"2011-01-09 23:59:59.99999", Ok(2)),
+        (WORK, JANUARY_8, b"2011-01-09 12:00:00", Ok(0)),
+        (WORK, JANUARY_10, JANUARY_6, Ok(0)),
+        (WORK, FIRST, JANUARY_3, Ok(1)),
         (RARE_SECONDS, FIRST, LAST_SECOND, Ok(598_699)),
-        (SECONDS, D03, b"2011-01-14 13:46:39", Ok(1_000_000)),
-        (SECONDS, D03, b"2011-01-14 13:46:40", large),
+        (SECONDS, JANUARY_3, b"2011-01-14 13:46:39", Ok(1_000_000)),
+        (SECONDS, JANUARY_3, b"2011-01-14 13:46:40", large),
     ];
     for (laid, from, to, count) in rows {
         let counter = counter(rt.alloc(), laid)?;
@@ -350,11 +355,11 @@ fn moved(alloc: Global, laid: Laid, origin: &[u8]) -> Result<Option<Stamp>, Fail
 #[test]
 fn an_origin_moves_to_an_on_start(rt: HostRuntime) -> Result<(), Fail> {
     let rows: [(Laid, &[u8], Option<&[u8]>); 11] = [
-        (WORK, D03, Some(D03)),
-        (WORK, b"2011-01-04 10:00:00", Some(D04)),
-        (WORK, b"2011-01-08 10:00:00", Some(D10)),
-        (WORK, D02, Some(D03)),
-        (WORK, FIRST, Some(D03)),
+        (WORK, JANUARY_3, Some(JANUARY_3)),
+        (WORK, b"2011-01-04 10:00:00", Some(JANUARY_4)),
+        (WORK, b"2011-01-08 10:00:00", Some(JANUARY_10)),
+        (WORK, JANUARY_2, Some(JANUARY_3)),
+        (WORK, FIRST, Some(JANUARY_3)),
         (WORK, LAST, Some(LAST_DAY)),
         (
             QUARTERS,
@@ -390,15 +395,15 @@ fn a_stamp_has_the_offset_of_its_interval(rt: HostRuntime) -> Result<(), Fail> {
     let off = Err(Refusal::OffStamp);
     let before = Err(Refusal::BeforeOrigin);
     let rows: [(Laid, &[u8], &[u8], Result<u64, Refusal>); 18] = [
-        (WORK, D03, D08, off),
-        (WORK, D03, b"2011-01-09 23:59:59.99999", off),
-        (WORK, D03, b"2011-01-04 10:30:00", Ok(1)),
-        (WORK, D03, b"2011-01-04 23:59:59.99999", Ok(1)),
-        (WORK, D03, b"2011-01-02 12:00:00", off),
-        (WORK, D03, b"2010-12-29 12:00:00", off),
-        (ALL_DAYS, D03, b"2011-01-02 12:00:00", before),
-        (ALL_DAYS, D03, b"2011-01-01 12:00:00", off),
-        (ALL_DAYS, D03, D03, Ok(0)),
+        (WORK, JANUARY_3, JANUARY_8, off),
+        (WORK, JANUARY_3, b"2011-01-09 23:59:59.99999", off),
+        (WORK, JANUARY_3, b"2011-01-04 10:30:00", Ok(1)),
+        (WORK, JANUARY_3, b"2011-01-04 23:59:59.99999", Ok(1)),
+        (WORK, JANUARY_3, b"2011-01-02 12:00:00", off),
+        (WORK, JANUARY_3, b"2010-12-29 12:00:00", off),
+        (ALL_DAYS, JANUARY_3, b"2011-01-02 12:00:00", before),
+        (ALL_DAYS, JANUARY_3, b"2011-01-01 12:00:00", off),
+        (ALL_DAYS, JANUARY_3, JANUARY_3, Ok(0)),
         (
             QUARTERS,
             b"2012-02-01 00:00:00",
@@ -424,7 +429,7 @@ fn a_stamp_has_the_offset_of_its_interval(rt: HostRuntime) -> Result<(), Fail> {
             off,
         ),
         (YEARS, b"2012-02-28 00:00:00", LAST, Ok(7987)),
-        (RARE_MINUTES, b"2011-01-01 00:01:00", D01, before),
+        (RARE_MINUTES, b"2011-01-01 00:01:00", JANUARY_1, before),
         (
             RARE_MINUTES,
             b"2011-01-01 00:01:00",
@@ -489,14 +494,14 @@ fn an_offset_has_a_stamp(rt: HostRuntime) -> Result<(), Fail> {
 
 #[test]
 fn the_starts_of_a_grid_follow_one_another(rt: HostRuntime) -> Result<(), Fail> {
-    let grid = grid(rt.alloc(), WORK, D03)?;
+    let grid = grid(rt.alloc(), WORK, JANUARY_3)?;
     let rows: [(u64, &[u8]); 8] = [
-        (0, D03),
-        (1, D04),
+        (0, JANUARY_3),
+        (1, JANUARY_4),
         (2, b"2011-01-05 00:00:00"),
-        (3, D06),
-        (4, D07),
-        (5, D10),
+        (3, JANUARY_6),
+        (4, JANUARY_7),
+        (5, JANUARY_10),
         (6, b"2011-01-11 00:00:00"),
         (2_084_229, LAST_DAY),
     ];
@@ -512,9 +517,9 @@ fn the_starts_of_a_grid_follow_one_another(rt: HostRuntime) -> Result<(), Fail> 
 
 #[test]
 fn the_starts_of_a_grid_come_to_an_end(rt: HostRuntime) -> Result<(), Fail> {
-    let grid = grid(rt.alloc(), WORK, D03)?;
+    let grid = grid(rt.alloc(), WORK, JANUARY_3)?;
     let mut starts = grid.starts_from(4);
-    for text in [D07, D10, b"2011-01-11 00:00:00"] {
+    for text in [JANUARY_7, JANUARY_10, b"2011-01-11 00:00:00"] {
         assert_eq!(rt; starts.next(), Some(stamp(text)?), "{text:?}");
     }
     let mut starts = grid.starts_from(2_084_229);
@@ -526,16 +531,16 @@ fn the_starts_of_a_grid_come_to_an_end(rt: HostRuntime) -> Result<(), Fail> {
 
 #[test]
 fn on_starts_before_any_stamp_are_counted(rt: HostRuntime) -> Result<(), Fail> {
-    let shape = Shape::Regular(grid(rt.alloc(), WORK, D03)?);
+    let shape = Shape::Regular(grid(rt.alloc(), WORK, JANUARY_3)?);
     let Shape::Regular(grid) = &shape else {
         return Err(Fail::from("no grid"));
     };
     let rows: [(&[u8], u64); 6] = [
         (FIRST, 0),
-        (D03, 0),
+        (JANUARY_3, 0),
         (b"2011-01-03 00:00:00.00001", 1),
         (b"2011-01-08 12:00:00", 5),
-        (D10, 5),
+        (JANUARY_10, 5),
         (LAST, 2_084_230),
     ];
     for (text, before) in rows {
