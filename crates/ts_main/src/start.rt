@@ -1,6 +1,7 @@
 // What comes before the top call, and after it.
 use crate::advice::{advise, complain, show};
 use crate::volume_file::{open_volume, sync_folder};
+use std::io::IsTerminal;
 use std::{env, io};
 use ts_file::FileSite;
 use ts_shell::{Job, read_job};
@@ -8,7 +9,13 @@ use ts_shell::{Job, read_job};
 const HELP: &str = "\
 usage: ts VOLUME init PAGES      makes an empty store with 1 to 65536 element pages
        ts VOLUME run < SCRIPT    carries out the statements of a script, one reply each
-       ts --help | --version
+       ts --help                 says this
+       ts --version              says the version
+
+examples:
+       ts meters.volume init 8
+       echo 'ListSeries(meters);' | ts meters.volume run
+       ts meters.volume run      reads statements from the terminal, to the end of input
 
 The status is 0 where all was done; else a line on standard error says what happened and what to do.";
 
@@ -60,13 +67,29 @@ pub(crate) fn prepare<'a>(rt: &HostRuntime, words: &'a [String]) -> Start<'a> {
         }
         Ok((file, len)) => match job {
             None => Start::Ended(advise(rt, path, 2)),
-            Some(job) => Start::Opened(Opened {
-                job,
-                path,
-                words,
-                site: FileSite::new(file, len, rt.stdout()),
-            }),
+            Some(job) => {
+                if job == Job::Run {
+                    greet(rt, path);
+                }
+                Start::Opened(Opened {
+                    job,
+                    path,
+                    words,
+                    site: FileSite::new(file, len, rt.stdout()),
+                })
+            }
         },
+    }
+}
+
+/// Says to somebody at a terminal what a run waits for.
+fn greet(rt: &HostRuntime, path: &str) {
+    if rt.stdin().is_terminal() {
+        complain(
+            rt,
+            path,
+            "reading statements from the terminal, each ended by `;`, until the end of input (Ctrl-D)",
+        );
     }
 }
 
