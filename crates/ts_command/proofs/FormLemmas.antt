@@ -1,28 +1,33 @@
 -- What phrases give has its form.
-use Rattle.std.proofs.Common.{◌≡◌, ◌≤◌, ℕ, zero, suc, ◌==◌, ◌&&◌, IsTrue, List, [], ◌∷◌, length, take, Some, Ok, Err, refl, sym, ap, arith, inl, inr, codes, ℤ, pos, ◌≤ℤ◌, int_le, ◌+◌, ◌++◌, ◌∙◌, subst, None, false}
+use Rattle.std.proofs.Common.{◌≡◌, ℕ, ◌==◌, ◌&&◌, true, IsTrue, List, [], ◌∷◌, Some, refl, arith, inl, inr, codes, ℤ, pos, ◌≤ℤ◌, int_le}
 use Rattle.std.proofs.lemmas.Bool.{cases_Bool}
-use Rattle.std.proofs.lemmas.List.{append_cancel_right}
 use Rattle.std.proofs.lemmas.Bool.Decides.{nat_tests}
 use Rattle.std.specs.List.{AllByRecursion}
 use Rattle.ts_base.specs.Name.{is_name, is_key, name_if_any, key_if_any}
-use Rattle.std.specs.Str.{bytes_eq}
-use Rattle.std.proofs.lemmas.Slice.Eq.{bytes_eq-Decides}
-use Rattle.ts_command.specs.Tokens.{unblanked, front, number_length, magnitude_length}
-use Rattle.ts_command.specs.Text.{said}
+use Rattle.ts_base.specs.StampText.{read_stamp, moment_in}
+use Rattle.ts_base.specs.Moment.{units_of as moment_units}
+use Rattle.ts_row.specs.declared.kind.Column.{Column}
+use Rattle.ts_row.specs.declared.value.Literal.{Literal}
+use Rattle.ts_row.specs.declared.value.Literal.TheVariants as literals
+use Rattle.ts_text.specs.Phrase.{Phrase, a_sign, behind, in_brackets, pair, triple, closed}
+use Rattle.ts_text.specs.declared.token.TokenKind.{TokenKind}
+use Rattle.ts_text.specs.declared.token.TokenKind.TheVariants.{Word, Number, Text, Sign}
+use Rattle.ts_text.proofs.PhraseLemmas.{Yields, Shrinks, shrinks_of, chain, given, Any}
+use Rattle.ts_text.proofs.TokenLemmas.{of_token}
+use Rattle.ts_text.proofs.SignLemmas.{sign_yields, behind_yields, brackets_yield, pair_yields, triple_yields, made_yields}
+use Rattle.ts_text.proofs.ListLemmas.{closed_yields}
+use Rattle.ts_command.specs.Tokens.{front, number_length, magnitude_length, fraction_length, closing}
+use Rattle.ts_command.specs.Text.{undoubled, said}
 use Rattle.ts_command.specs.Number.{units_of, scale_of}
 use Rattle.ts_command.specs.Form.{IsColumn, HasForm}
-use Rattle.ts_command.specs.Phrase.{Read, Phrase, go_on, ◌>>=◌, give, a_sign, if_comma, phrases, repeated, behind}
-use Rattle.ts_command.specs.Grammar.{a_literal, literal_in, a_column, a_name, name_in, a_key, key_in, a_stamp, stamp_in, a_type, type_in, kind_behind, a_small, small_in, a_word, word_in, a_whole, whole_in, within, a_stamp_column, a_routine, routine_in, arguments, the_end, a_command}
-use Rattle.ts_command.specs.declared.token.TokenKind.{TokenKind}
-use Rattle.ts_command.specs.declared.token.TokenKind.TheVariants.{Word, Number, Text, Sign}
+use Rattle.ts_command.specs.Grammar.{a_literal, literal_in, a_column, a_name, name_in, a_key, key_in, a_stamp, stamp_in, a_text, text_in, a_type, type_in, kind_behind, a_small, small_in, a_word, word_in, a_whole, whole_in, within, a_stamp_column, a_routine, routine_in, n_call, k_call, kn_call, ks_call, kss_call, ki_call, nt_call, nni_call, ksv_call, ncc_call, arguments, a_call}
+use Rattle.ts_command.specs.Routines.{routine_of, type_of}
 use Rattle.ts_command.specs.declared.routine.Routine.{Routine}
 use Rattle.ts_command.specs.declared.routine.Routine.TheVariants as calls
 use Rattle.ts_command.specs.declared.routine.TypeName.{TypeName}
 use Rattle.ts_command.specs.declared.routine.TypeName.TheVariants.{SmallInt, Integer, BigInt, Decimal, VarChar}
-use Rattle.ts_command.specs.declared.command.Command.{Command}
-use Rattle.ts_command.proofs.SpellingLemmas.{Takes, Stops, takes_none, takes_on, stops_on, stops_here}
-use Rattle.ts_command.proofs.FollowLemmas.{Alike, Follows, front_unblanked, unblanked_past, blanks_before}
-use Rattle.ts_command.proofs.PhraseLemmas.{Reads, Yields, Shrinks, shrinks_of, of_token, chain, chain_to, given, passes, leads, no_comma, phrases_enough, Any, sign_yields, behind_yields}
+use Rattle.ts_command.specs.declared.command.Command.TheVariants as commands
+use Rattle.ts_command.proofs.FrontLemmas.{front_laws, open_sign, close_sign, comma_sign}
 
 -- the bytes of a name
 name_is : (word a : List ℕ) → name_if_any word ≡ Some a → IsTrue (is_name a)
@@ -37,10 +42,10 @@ key_is text a is = elim (cases_Bool (is_key text)) [
   | inr f ↦ absurd (let no = rw f at is in cc)
 ]
 
-abbrev IsName : List ℕ → Type 0
+abbrev pub IsName : List ℕ → Type 0
 IsName name = IsTrue (is_name name)
 
-abbrev IsKey : List ℕ → Type 0
+abbrev pub IsKey : List ℕ → Type 0
 IsKey key = IsTrue (is_key key)
 
 name_of : (kind : TokenKind) (word a : List ℕ) → name_in kind word ≡ Some a → IsName a
@@ -55,43 +60,49 @@ key_of Number text a is = absurd (cc)
 key_of Text text a is = key_is (said text) a is
 key_of Sign text a is = absurd (cc)
 
-pub name_yields : Yields IsName a_name
-unfolding a_name
-name_yields = of_token IsName name_in (λ here kind n a at e. name_of kind (take n here) a e)
+-- the tokens, each with one that may stand there
+pub name_yields : Yields front IsName a_name
+unfolding a_name front
+name_yields = of_token front front_laws IsName name_in (record { first = 97; more = []; kind = Word; found = 97 ∷ []; holds = refl; stands = refl; accepted = refl }) name_of
 
-pub key_yields : Yields IsKey a_key
-unfolding a_key
-key_yields = of_token IsKey key_in (λ here kind n a at e. key_of kind (take n here) a e)
+pub key_yields : Yields front IsKey a_key
+unfolding a_key front closing undoubled
+key_yields = of_token front front_laws IsKey key_in (record { first = 39; more = 97 ∷ 39 ∷ []; kind = Text; found = 97 ∷ []; holds = refl; stands = refl; accepted = refl }) key_of
 
-pub stamp_yields : Yields Any a_stamp
-unfolding a_stamp
-stamp_yields = of_token Any stamp_in (λ here kind n a at e. tt)
+pub stamp_yields : Yields front Any a_stamp
+unfolding a_stamp front closing undoubled read_stamp
+stamp_yields = of_token front front_laws Any stamp_in (record { first = 39; more = codes "1970-01-01 00:00:00'"; kind = Text; found = moment_units (moment_in (codes "1970-01-01 00:00:00")); holds = tt; stands = refl; accepted = refl }) (λ kind text a e. tt)
 
-pub literal_yields : Yields Any a_literal
-unfolding a_literal
-literal_yields = of_token Any literal_in (λ here kind n a at e. tt)
+pub text_yields : Yields front Any a_text
+unfolding a_text front closing undoubled
+text_yields = of_token front front_laws Any text_in (record { first = 39; more = 39 ∷ []; kind = Text; found = []; holds = tt; stands = refl; accepted = refl }) (λ kind text a e. tt)
 
-type_yields : Yields Any a_type
-unfolding a_type
-type_yields = of_token Any type_in (λ here kind n a at e. tt)
+pub literal_yields : Yields front Any a_literal
+unfolding a_literal front
+literal_yields = of_token front front_laws Any literal_in (record { first = 110; more = codes "ull"; kind = Word; found = literals.Null; holds = tt; stands = refl; accepted = refl }) (λ kind text a e. tt)
 
-word_yields : (wanted : List ℕ) → Yields Any (a_word wanted)
-unfolding a_word
-word_yields wanted = of_token Any (word_in wanted) (λ here kind n a at e. tt)
+type_yields : Yields front Any a_type
+unfolding a_type front type_of
+type_yields = of_token front front_laws Any type_in (record { first = 105; more = codes "nteger"; kind = Word; found = Integer; holds = tt; stands = refl; accepted = refl }) (λ kind text a e. tt)
 
-routine_yields : Yields Any a_routine
-unfolding a_routine
-routine_yields = of_token Any routine_in (λ here kind n a at e. tt)
+datetime_yields : Yields front Any (a_word (codes "datetime"))
+unfolding a_word front
+datetime_yields = of_token front front_laws Any (word_in (codes "datetime")) (record { first = 100; more = codes "atetime"; kind = Word; found = tt; holds = tt; stands = refl; accepted = refl }) (λ kind text a e. tt)
 
-small_yields : Yields Any a_small
-unfolding a_small
-small_yields = of_token Any small_in (λ here kind n a at e. tt)
+routine_yields : Yields front Any a_routine
+unfolding a_routine front routine_of
+routine_yields = of_token front front_laws Any routine_in (record { first = 71; more = codes "etElem"; kind = Word; found = calls.GetElem; holds = tt; stands = refl; accepted = refl }) (λ kind text a e. tt)
 
-abbrev IsQuota : ℤ → Type 0
-IsQuota quota = (pos 1 ≤ℤ quota) × (quota ≤ℤ pos 65536)
+small_yields : Yields front Any a_small
+unfolding a_small front number_length magnitude_length fraction_length
+small_yields = of_token front front_laws Any small_in (record { first = 49; more = []; kind = Number; found = 1; holds = tt; stands = refl; accepted = refl }) (λ kind text a e. tt)
 
-quota_within : (number a : ℤ) → within (pos 1) (pos 65536) number ≡ Some a → IsQuota a
-quota_within number a is = elim (cases_Bool (int_le (pos 1) number && int_le number (pos 65536))) [
+-- a number between the two
+abbrev pub IsWithin : ℤ → ℤ → ℤ → Type 0
+IsWithin least most number = (least ≤ℤ number) × (number ≤ℤ most)
+
+within_is : (least most number a : ℤ) → within least most number ≡ Some a → IsWithin least most a
+within_is least most number a is = elim (cases_Bool (int_le least number && int_le number most)) [
   | inl t ↦
       let at : Some number ≡ Some a = rw t at is in
       let same : number ≡ a = cc in
@@ -99,226 +110,142 @@ quota_within number a is = elim (cases_Bool (int_le (pos 1) number && int_le num
   | inr f ↦ absurd (let no = rw f at is in cc)
 ]
 
-quota_of : (kind : TokenKind) (number : List ℕ) (a : ℤ) → whole_in (pos 1) (pos 65536) kind number ≡ Some a → IsQuota a
-quota_of Word number a is = absurd (cc)
-quota_of Number number a is = elim (cases_Bool (scale_of number == 0)) [
-  | inl t ↦ quota_within (units_of number) a (rw t at is)
+whole_of : (least most : ℤ) (kind : TokenKind) (number : List ℕ) (a : ℤ) → whole_in least most kind number ≡ Some a → IsWithin least most a
+whole_of least most Word number a is = absurd (cc)
+whole_of least most Number number a is = elim (cases_Bool (scale_of number == 0)) [
+  | inl t ↦ within_is least most (units_of number) a (rw t at is)
   | inr f ↦ absurd (let no = rw f at is in cc)
 ]
-quota_of Text number a is = absurd (cc)
-quota_of Sign number a is = absurd (cc)
+whole_of least most Text number a is = absurd (cc)
+whole_of least most Sign number a is = absurd (cc)
 
-quota_yields : Yields IsQuota (a_whole (pos 1) (pos 65536))
-unfolding a_whole
-quota_yields = of_token IsQuota (whole_in (pos 1) (pos 65536)) (λ here kind n a at e. quota_of kind (take n here) a e)
+-- a whole number, where 1 is one
+pub whole_yields : (least most : ℤ) → int_le least (pos 1) ≡ true → int_le (pos 1) most ≡ true → Yields front (IsWithin least most) (a_whole least most)
+unfolding a_whole front number_length magnitude_length fraction_length
+whole_yields least most below above =
+    of_token front front_laws (IsWithin least most) (whole_in least most)
+    (record { first = 49; more = []; kind = Number; found = pos 1; holds = within_is least most (pos 1) (pos 1) one; stands = refl; accepted = one }) (whole_of least most) where
+      one : within least most (pos 1) ≡ Some (pos 1)
+      one = rw (below, above) refl
 
-kind_yields : (type : TypeName) → Yields Any (kind_behind type)
+-- the numbers of a type
+kind_yields : (type : TypeName) → Yields front Any (kind_behind type)
 unfolding kind_behind
-kind_yields SmallInt = given Any _ tt
-kind_yields Integer = given Any _ tt
-kind_yields BigInt = given Any _ tt
+kind_yields SmallInt = given front Any _ tt
+kind_yields Integer = given front Any _ tt
+kind_yields BigInt = given front Any _ tt
 kind_yields Decimal =
-    chain Any Any (behind 40 a_small) _ (behind_yields Any 40 a_small small_yields)
-    (λ digits d. chain Any Any (behind 44 a_small) _ (behind_yields Any 44 a_small small_yields)
-    (λ scale s. chain Any Any (a_sign 41) _ (sign_yields 41) (λ end any. given Any _ tt)))
+    chain front front_laws Any Any (behind 40 a_small) _ (behind_yields front front_laws Any 40 open_sign a_small small_yields)
+    (λ digits d. chain front front_laws Any Any (behind 44 a_small) _ (behind_yields front front_laws Any 44 comma_sign a_small small_yields)
+    (λ scale s. chain front front_laws Any Any (a_sign 41) _ (sign_yields front front_laws 41 close_sign) (λ end any. given front Any _ tt)))
 kind_yields VarChar =
-    chain Any Any (behind 40 a_small) _ (behind_yields Any 40 a_small small_yields)
-    (λ size s. chain Any Any (a_sign 41) _ (sign_yields 41) (λ end any. given Any _ tt))
+    chain front front_laws Any Any (behind 40 a_small) _ (behind_yields front front_laws Any 40 open_sign a_small small_yields)
+    (λ size s. chain front front_laws Any Any (a_sign 41) _ (sign_yields front front_laws 41 close_sign) (λ end any. given front Any _ tt))
 
-pub column_yields : Yields IsColumn a_column
+pub column_yields : Yields front IsColumn a_column
 unfolding a_column
 column_yields =
-    chain IsName IsColumn a_name _ name_yields
-    (λ name n. chain Any IsColumn a_type _ type_yields
-    (λ type any. chain Any IsColumn (kind_behind type) _ (kind_yields type) (λ kind k. given IsColumn _ n)))
+    chain front front_laws IsName IsColumn a_name _ name_yields
+    (λ name n. chain front front_laws Any IsColumn a_type _ type_yields
+    (λ type any. chain front front_laws Any IsColumn (kind_behind type) _ (kind_yields type) (λ kind k. given front IsColumn _ n)))
 
-stamp_column_yields : Yields IsName a_stamp_column
+stamp_column_yields : Yields front IsName a_stamp_column
 unfolding a_stamp_column
 stamp_column_yields =
-    chain IsName IsName a_name _ name_yields
-    (λ name n. chain Any IsName (a_word (codes "datetime")) _ (word_yields (codes "datetime")) (λ type any. given IsName _ n))
+    chain front front_laws IsName IsName a_name _ name_yields
+    (λ name n. chain front front_laws Any IsName (a_word (codes "datetime")) _ datetime_yields (λ type any. given front IsName _ n))
 
 pub literal_shrinks : Shrinks a_literal
-literal_shrinks = shrinks_of Any a_literal literal_yields
+literal_shrinks = shrinks_of front Any a_literal literal_yields
 
 pub column_shrinks : Shrinks a_column
-column_shrinks = shrinks_of IsColumn a_column column_yields
+column_shrinks = shrinks_of front IsColumn a_column column_yields
 
-list_yields : {A : Type 0} (P : A → Type 0) (phrase : Phrase A) → Yields P phrase → (n : ℕ) → Yields (AllByRecursion P) (phrases phrase n)
-list_yields {A} P phrase one zero = given (AllByRecursion P) [] tt
-list_yields {A} P phrase one (suc n) = go (chain P (AllByRecursion P) phrase _ one (λ first f. chain (AllByRecursion P) (AllByRecursion P) (phrases phrase n) _ (list_yields P phrase one n) (λ others o. given (AllByRecursion P) (first ∷ others) (f, o)))) where
-  inner : Phrase (List A)
-  inner = phrase >>= (λ first. phrases phrase n >>= (λ others. give (first ∷ others)))
+-- the shapes of calls
+bracketed : {A : Type 0} (P : A → Type 0) (phrase : Phrase A) → Yields front P phrase → Yields front P (in_brackets phrase)
+bracketed P phrase one = brackets_yield front front_laws P open_sign close_sign phrase one
 
-  with_comma : (bytes : List ℕ) (comma : Unit {0} × List ℕ) → a_sign 44 bytes ≡ Ok comma → phrases phrase (suc n) bytes ≡ inner comma.1
-  with_comma bytes comma e = ap (λ (r : Read (Unit {0})). if_comma r inner bytes) e
+paired : {A B : Type 0} (P : A → Type 0) (Q : B → Type 0) (first : Phrase A) (second : Phrase B) → Yields front P first → Yields front Q second → Yields front (λ (p : A × B). P p.0 × Q p.1) (pair first second)
+paired P Q first second one two = pair_yields front front_laws P Q comma_sign first second one two
 
-  go : Yields (AllByRecursion P) inner → Yields (AllByRecursion P) (phrases phrase (suc n))
-  go list = record {
-    reads = record {
-      ok = λ bytes found is. by_sign bytes found (a_sign 44 bytes) refl is;
-      err = λ bytes left is. err_sign bytes left (a_sign 44 bytes) refl is;
-      fails = λ before here there is alike. fails_sign before here there alike (a_sign 44 (before ++ here)) refl is;
-    };
-    keeps = λ used rest other found is follows. keeps_sign used rest other found follows (a_sign 44 (used ++ rest)) refl is;
-  } where
-    by_sign : (bytes : List ℕ) (found : List A × List ℕ) (read : Read (Unit {0})) → a_sign 44 bytes ≡ read → phrases phrase (suc n) bytes ≡ Ok found → AllByRecursion P found.0 × Takes bytes found.1
-    by_sign bytes found (Err left) e is = (given (AllByRecursion P) [] tt).reads.ok bytes found (rw e at is)
-    by_sign bytes found (Ok comma) e is =
-        let more = list.reads.ok comma.1 found (rw e at is) in
-        (more.0, takes_on bytes comma.1 found.1 ((sign_yields 44).reads.ok bytes comma e).1 more.1)
+behind_comma : {A : Type 0} (P : A → Type 0) (phrase : Phrase A) → Yields front P phrase → Yields front P (behind 44 phrase)
+behind_comma P phrase one = behind_yields front front_laws P 44 comma_sign phrase one
 
-    err_sign : (bytes : List ℕ) (left : ℕ) (read : Read (Unit {0})) → a_sign 44 bytes ≡ read → phrases phrase (suc n) bytes ≡ Err left → Stops bytes left
-    err_sign bytes left (Err before) e is = absurd (let no = rw e at is in cc)
-    err_sign bytes left (Ok comma) e is = stops_on bytes comma.1 left ((sign_yields 44).reads.ok bytes comma e).1 (list.reads.err comma.1 left (rw e at is))
+listed : {A : Type 0} (P : A → Type 0) (phrase : Phrase A) → Yields front P phrase → Yields front (AllByRecursion P) (closed 41 phrase)
+listed P phrase one = closed_yields front front_laws P 41 comma_sign close_sign refl phrase one
 
-    fails_sign : (before here there : List ℕ) → Alike here there → (read : Read (Unit {0})) → a_sign 44 (before ++ here) ≡ read → phrases phrase (suc n) (before ++ here) ≡ Err (length here) → phrases phrase (suc n) (before ++ there) ≡ Err (length there)
-    fails_sign before here there alike (Err left) e is = absurd (let no = rw e at is in cc)
-    fails_sign before here there alike (Ok comma) e is =
-        let at : inner comma.1 ≡ Err (length here) = sym (with_comma (before ++ here) comma e) ∙ is in
-        let way = passes Any (a_sign 44) (sign_yields 44) before here comma e (list.reads.err comma.1 (length here) at) in
-        let again = list.reads.fails way.middle here there (ap inner (sym way.rest) ∙ at) alike in
-        with_comma (before ++ there) (comma.0, way.middle ++ there) (way.goes there alike) ∙ again
+n_yields : Yields front IsName n_call
+unfolding n_call
+n_yields = bracketed IsName a_name name_yields
 
-    keeps_sign : (used rest other : List ℕ) (found : List A) → Follows rest other → (read : Read (Unit {0})) → a_sign 44 (used ++ rest) ≡ read → phrases phrase (suc n) (used ++ rest) ≡ Ok (found, rest) → phrases phrase (suc n) (used ++ other) ≡ Ok (found, other)
-    keeps_sign used rest other found follows (Err left) e is =
-        let at : Ok ([], used ++ rest) ≡ Ok (found, rest) = sym (ap (λ (r : Read (Unit {0})). if_comma r inner (used ++ rest)) e) ∙ is in
-        let pair : List A × List ℕ = ([], used ++ rest) in
-        let wanted : List A × List ℕ = (found, rest) in
-        let same : pair ≡ wanted = cc in
-        let value : [] ≡ found = ap (λ (p : List A × List ℕ). p.0) same in
-        let none : used ≡ [] = append_cancel_right used [] rest (ap (λ (p : List A × List ℕ). p.1) same) in
-        let before : a_sign 44 rest ≡ Err left = subst (λ (l : List ℕ). a_sign 44 (l ++ rest) ≡ Err left) none e in
-        ap (λ (l : List ℕ). phrases phrase (suc n) (l ++ other)) none
-        ∙ ap (λ (r : Read (Unit {0})). if_comma r inner other) (no_comma rest other left follows before)
-        ∙ ap (λ (l : List A). Ok (l, other)) value
-    keeps_sign used rest other found follows (Ok comma) e is =
-        let at : inner comma.1 ≡ Ok (found, rest) = sym (with_comma (used ++ rest) comma e) ∙ is in
-        let way = leads Any (a_sign 44) (sign_yields 44) used rest comma e (list.reads.ok comma.1 (found, rest) at).1 in
-        let again = list.keeps way.middle rest other found (ap inner (sym way.split) ∙ at) follows in
-        with_comma (used ++ other) (comma.0, way.middle ++ other) (way.goes other follows) ∙ again
+k_yields : Yields front IsKey k_call
+unfolding k_call
+k_yields = bracketed IsKey a_key key_yields
 
-repeated_yields : {A : Type 0} (P : A → Type 0) (phrase : Phrase A) → Yields P phrase → Yields (AllByRecursion P) (repeated phrase)
-unfolding repeated
-repeated_yields {A} P phrase one = record {
-  reads = record {
-    ok = λ bytes found is. (list_yields P phrase one (length bytes)).reads.ok bytes found is;
-    err = λ bytes left is. (list_yields P phrase one (length bytes)).reads.err bytes left is;
-    fails = λ before here there is alike.
-        let n : ℕ = length (before ++ here) + length (before ++ there) in
-        enough (before ++ there) n (omega arith) ∙ (list_yields P phrase one n).reads.fails before here there (sym (enough (before ++ here) n (omega arith)) ∙ is) alike;
-  };
-  keeps = λ used rest other found is follows.
-      let n : ℕ = length (used ++ rest) + length (used ++ other) in
-      enough (used ++ other) n (omega arith) ∙ (list_yields P phrase one n).keeps used rest other found (sym (enough (used ++ rest) n (omega arith)) ∙ is) follows;
-} where
-  enough : (bytes : List ℕ) (n : ℕ) → length bytes ≤ n → phrases phrase (length bytes) bytes ≡ phrases phrase n bytes
-  enough bytes n le = phrases_enough phrase (shrinks_of P phrase one) (length bytes) n bytes (omega arith) le
+kn_yields : Yields front (λ (p : List ℕ × List ℕ). IsKey p.0 × IsName p.1) kn_call
+unfolding kn_call
+kn_yields = bracketed _ (pair a_key a_name) (paired IsKey IsName a_key a_name key_yields name_yields)
 
-behind_comma : {A : Type 0} (P : A → Type 0) (phrase : Phrase A) → Yields P phrase → Yields P (behind 44 phrase)
-behind_comma P phrase one = behind_yields P 44 phrase one
+ks_yields : Yields front (λ (p : List ℕ × ℤ). IsKey p.0 × Any p.1) ks_call
+unfolding ks_call
+ks_yields = bracketed _ (pair a_key a_stamp) (paired IsKey Any a_key a_stamp key_yields stamp_yields)
 
--- the arguments of each routine
-arguments_yield : (routine : Routine) → Yields HasForm (arguments routine)
+nni_yields : (least most : ℤ) → int_le least (pos 1) ≡ true → int_le (pos 1) most ≡ true → Yields front (λ (p : List ℕ × List ℕ × ℤ). IsName p.0 × IsName p.1 × IsWithin least most p.2) (nni_call least most)
+unfolding nni_call
+nni_yields least most below above =
+    bracketed _ (triple a_name a_name (a_whole least most))
+    (triple_yields front front_laws IsName IsName (IsWithin least most) comma_sign a_name a_name (a_whole least most) name_yields name_yields (whole_yields least most below above))
+
+-- the shapes of routines that come next
+kss_yields : Yields front (λ (p : List ℕ × ℤ × ℤ). IsKey p.0 × Any p.1 × Any p.2) kss_call
+unfolding kss_call
+kss_yields = bracketed _ (triple a_key a_stamp a_stamp) (triple_yields front front_laws IsKey Any Any comma_sign a_key a_stamp a_stamp key_yields stamp_yields stamp_yields)
+
+ki_yields : (least most : ℤ) → int_le least (pos 1) ≡ true → int_le (pos 1) most ≡ true → Yields front (λ (p : List ℕ × ℤ). IsKey p.0 × IsWithin least most p.1) (ki_call least most)
+unfolding ki_call
+ki_yields least most below above = bracketed _ (pair a_key (a_whole least most)) (paired IsKey (IsWithin least most) a_key (a_whole least most) key_yields (whole_yields least most below above))
+
+nt_yields : Yields front (λ (p : List ℕ × List ℕ). IsName p.0 × Any p.1) nt_call
+unfolding nt_call
+nt_yields = bracketed _ (pair a_name a_text) (paired IsName Any a_name a_text name_yields text_yields)
+
+ksv_yields : Yields front (λ (p : List ℕ × ℤ × List Literal). IsKey p.0) ksv_call
+unfolding ksv_call
+ksv_yields =
+    chain front front_laws IsKey (λ (p : List ℕ × ℤ × List Literal). IsKey p.0) (behind 40 a_key) _ (behind_yields front front_laws IsKey 40 open_sign a_key key_yields)
+    (λ key k. chain front front_laws Any (λ (p : List ℕ × ℤ × List Literal). IsKey p.0) (behind 44 a_stamp) _ (behind_comma Any a_stamp stamp_yields)
+    (λ stamp s. chain front front_laws (AllByRecursion Any) (λ (p : List ℕ × ℤ × List Literal). IsKey p.0) (closed 41 a_literal) _ (listed Any a_literal literal_yields) (λ values v. given front (λ (p : List ℕ × ℤ × List Literal). IsKey p.0) (key, stamp, values) k)))
+
+abbrev IsRowType : List ℕ × List ℕ × List Column → Type 0
+IsRowType p = HasForm (commands.CreateRowType p.0 p.1 p.2)
+
+ncc_yields : Yields front IsRowType ncc_call
+unfolding ncc_call
+ncc_yields =
+    chain front front_laws IsName IsRowType (behind 40 a_name) _ (behind_yields front front_laws IsName 40 open_sign a_name name_yields)
+    (λ name n. chain front front_laws IsName IsRowType (behind 44 a_stamp_column) _ (behind_comma IsName a_stamp_column stamp_column_yields)
+    (λ stamp s. chain front front_laws IsColumn IsRowType (behind 44 a_column) _ (behind_comma IsColumn a_column column_yields)
+    (λ first f. chain front front_laws (AllByRecursion IsColumn) IsRowType (closed 41 a_column) _ (listed IsColumn a_column column_yields)
+    (λ others o. given front IsRowType (name, stamp, first ∷ others) (n, s, omega arith, (f, o))))))
+
+-- each routine's command has its form
+arguments_yield : (routine : Routine) → Yields front HasForm (arguments routine)
 unfolding arguments
-arguments_yield calls.CreateRowType =
-    chain IsName HasForm a_name _ name_yields
-    (λ name n. chain IsName HasForm (behind 44 a_stamp_column) _ (behind_comma IsName a_stamp_column stamp_column_yields)
-    (λ stamp s. chain IsColumn HasForm (behind 44 a_column) _ (behind_comma IsColumn a_column column_yields)
-    (λ first f. chain (AllByRecursion IsColumn) HasForm (repeated a_column) _ (repeated_yields IsColumn a_column column_yields)
-    (λ others o. given HasForm _ (n, s, omega arith, (f, o))))))
-arguments_yield calls.DropRowType = chain IsName HasForm a_name _ name_yields (λ name n. given HasForm _ n)
-arguments_yield calls.TSContainerCreate =
-    chain IsName HasForm a_name _ name_yields
-    (λ name n. chain IsName HasForm (behind 44 a_name) _ (behind_comma IsName a_name name_yields)
-    (λ row_type r. chain IsQuota HasForm (behind 44 (a_whole (pos 1) (pos 65536))) _ (behind_comma IsQuota (a_whole (pos 1) (pos 65536)) quota_yields)
-    (λ quota q. given HasForm _ (n, r, q.0, q.1))))
-arguments_yield calls.TSContainerDestroy = chain IsName HasForm a_name _ name_yields (λ name n. given HasForm _ n)
-arguments_yield calls.TSContainerUsage = chain IsName HasForm a_name _ name_yields (λ name n. given HasForm _ n)
-arguments_yield calls.TSCreateIrr =
-    chain IsKey HasForm a_key _ key_yields
-    (λ key k. chain IsName HasForm (behind 44 a_name) _ (behind_comma IsName a_name name_yields) (λ container n. given HasForm _ (k, n)))
-arguments_yield calls.DropSeries = chain IsKey HasForm a_key _ key_yields (λ key k. given HasForm _ k)
-arguments_yield calls.ListSeries = chain IsName HasForm a_name _ name_yields (λ container n. given HasForm _ n)
-arguments_yield calls.InsElem =
-    chain IsKey HasForm a_key _ key_yields
-    (λ key k. chain Any HasForm (behind 44 a_stamp) _ (behind_comma Any a_stamp stamp_yields)
-    (λ stamp s. chain (AllByRecursion Any) HasForm (repeated a_literal) _ (repeated_yields Any a_literal literal_yields) (λ values v. given HasForm _ k)))
-arguments_yield calls.UpdElem =
-    chain IsKey HasForm a_key _ key_yields
-    (λ key k. chain Any HasForm (behind 44 a_stamp) _ (behind_comma Any a_stamp stamp_yields)
-    (λ stamp s. chain (AllByRecursion Any) HasForm (repeated a_literal) _ (repeated_yields Any a_literal literal_yields) (λ values v. given HasForm _ k)))
-arguments_yield calls.GetElem =
-    chain IsKey HasForm a_key _ key_yields
-    (λ key k. chain Any HasForm (behind 44 a_stamp) _ (behind_comma Any a_stamp stamp_yields) (λ stamp s. given HasForm _ k))
-arguments_yield calls.GetLastElem = chain IsKey HasForm a_key _ key_yields (λ key k. given HasForm _ k)
-arguments_yield calls.GetNelems = chain IsKey HasForm a_key _ key_yields (λ key k. given HasForm _ k)
+arguments_yield calls.CreateRowType = made_yields front front_laws _ HasForm ncc_call _ ncc_yields (λ a form. form)
+arguments_yield calls.DropRowType = made_yields front front_laws _ HasForm n_call _ n_yields (λ a form. form)
+arguments_yield calls.TSContainerCreate = made_yields front front_laws _ HasForm (nni_call (pos 1) (pos 65536)) _ (nni_yields (pos 1) (pos 65536) refl refl) (λ a form. (form.0, form.1, form.2.0, form.2.1))
+arguments_yield calls.TSContainerDestroy = made_yields front front_laws _ HasForm n_call _ n_yields (λ a form. form)
+arguments_yield calls.TSContainerUsage = made_yields front front_laws _ HasForm n_call _ n_yields (λ a form. form)
+arguments_yield calls.TSCreateIrr = made_yields front front_laws _ HasForm kn_call _ kn_yields (λ a form. form)
+arguments_yield calls.DropSeries = made_yields front front_laws _ HasForm k_call _ k_yields (λ a form. form)
+arguments_yield calls.ListSeries = made_yields front front_laws _ HasForm n_call _ n_yields (λ a form. form)
+arguments_yield calls.InsElem = made_yields front front_laws _ HasForm ksv_call _ ksv_yields (λ a form. form)
+arguments_yield calls.UpdElem = made_yields front front_laws _ HasForm ksv_call _ ksv_yields (λ a form. form)
+arguments_yield calls.GetElem = made_yields front front_laws _ HasForm ks_call _ ks_yields (λ a form. form.0)
+arguments_yield calls.GetLastElem = made_yields front front_laws _ HasForm k_call _ k_yields (λ a form. form)
+arguments_yield calls.GetNelems = made_yields front front_laws _ HasForm k_call _ k_yields (λ a form. form)
 
--- whole tokens, and then blanks and the `;`
-pub record Ends (bytes rest : List ℕ) : Type 0 where
-  pub before : List ℕ
-  pub takes : Takes bytes before
-  pub close : unblanked before ≡ 59 ∷ []
-
-ends_on : (bytes middle rest : List ℕ) → Takes bytes middle → Ends middle rest → Ends bytes rest
-ends_on bytes middle rest first next = record { before = next.before; takes = takes_on bytes middle next.before first next.takes; close = next.close }
-
--- no token stands at the end
-end_begins_none : front (59 ∷ []) ≡ None
-unfolding front number_length magnitude_length
-end_begins_none = refl
-
-no_end : (there : List ℕ) (t : TokenKind × ℕ) → front there ≡ Some t → bytes_eq there (59 ∷ []) ≡ false
-no_end there t is = elim (cases_Bool (bytes_eq there (59 ∷ []))) [
-  | inl same ↦
-      let no : None ≡ Some t = sym end_begins_none ∙ ap front (sym ((bytes_eq-Decides there (59 ∷ [])).0 same)) ∙ is in
-      absurd (cc)
-  | inr differs ↦ differs
-]
-
--- the end of a statement that gives a command
-end_reads : (command : Command) → HasForm command → Reads Ends HasForm (the_end >>= (λ (done : Unit {0}). give command))
-unfolding the_end
-end_reads command form = record {
-  ok = λ bytes found is. by_end bytes found is;
-  err = λ bytes left is. err_end bytes left is;
-  fails = λ before here there is alike. fails_end before here there is alike;
-} where
-  by_end : (bytes : List ℕ) (found : Command × List ℕ) → go_on (the_end bytes) (λ done. give command) ≡ Ok found → HasForm found.0 × Ends bytes found.1
-  by_end bytes found is = elim (cases_Bool (bytes_eq (unblanked bytes) (59 ∷ []))) [
-    | inl t ↦
-        let pair : Command × List ℕ = (command, []) in
-        let at : Ok pair ≡ Ok found = rw t at is in
-        let same : pair ≡ found = cc in
-        let first : command ≡ found.0 = ap (λ (p : Command × List ℕ). p.0) same in
-        (rw (← first) form, record { before = bytes; takes = takes_none bytes; close = (bytes_eq-Decides (unblanked bytes) (59 ∷ [])).0 t })
-    | inr f ↦ absurd (let no = rw f at is in cc)
-  ]
-
-  err_end : (bytes : List ℕ) (left : ℕ) → go_on (the_end bytes) (λ done. give command) ≡ Err left → Stops bytes left
-  err_end bytes left is = elim (cases_Bool (bytes_eq (unblanked bytes) (59 ∷ []))) [
-    | inl t ↦ absurd (let no = rw t at is in cc)
-    | inr f ↦
-        let at : Err (length (unblanked bytes)) ≡ Err left = rw f at is in
-        let same : length (unblanked bytes) ≡ left = cc in
-        stops_here bytes left (sym same)
-  ]
-
-  fails_end : (before here there : List ℕ) → go_on (the_end (before ++ here)) (λ done. give command) ≡ Err (length here) → Alike here there → go_on (the_end (before ++ there)) (λ done. give command) ≡ Err (length there)
-  fails_end before here there is alike = elim (cases_Bool (bytes_eq (unblanked (before ++ here)) (59 ∷ []))) [
-    | inl t ↦ absurd (let no = rw t at is in cc)
-    | inr f ↦
-        let at : Err (length (unblanked (before ++ here))) ≡ Err (length here) = rw f at is in
-        let size : length (unblanked (before ++ here)) ≡ length here = cc in
-        let found = blanks_before before here size in
-        let there_is : unblanked (before ++ there) ≡ there = unblanked_past before there found.0 ∙ front_unblanked there (alike.kind, alike.size) alike.is in
-        rw (there_is, no_end there (alike.kind, alike.size) alike.is) refl
-  ]
-
--- a statement
-pub command_reads : Reads Ends HasForm a_command
-unfolding a_command
-command_reads =
-    chain_to Ends Any HasForm a_routine _ ends_on routine_yields
-    (λ routine any. chain_to Ends HasForm HasForm (behind 40 (arguments routine)) _ ends_on (behind_yields HasForm 40 (arguments routine) (arguments_yield routine))
-    (λ command form. chain_to Ends Any HasForm (a_sign 41) _ ends_on (sign_yields 41) (λ close any. end_reads command form)))
+-- a call
+pub call_yields : Yields front HasForm a_call
+unfolding a_call
+call_yields = chain front front_laws Any HasForm a_routine arguments routine_yields (λ routine any. arguments_yield routine)

@@ -7,27 +7,17 @@ use Rattle.std.proofs.lemmas.List.Folds.{list_all-append}
 use Rattle.std.specs.List.{prefix_len, list_all}
 use Rattle.std.specs.Char.{is_ascii_digit}
 use Rattle.ts_base.specs.Name.{is_blank, begins_word, continues_word, is_text_byte}
-use Rattle.ts_command.specs.Number.{digit_count}
+use Rattle.ts_text.specs.Digits.{digit_count}
 use Rattle.ts_command.specs.NumberForm.{IsMagnitude, HasSign, IsNumber}
 use Rattle.ts_command.specs.Tokens.{number_length, magnitude_length, closing, later, or_before, of_kind, front}
-use Rattle.ts_command.specs.declared.token.TokenKind.{TokenKind}
-use Rattle.ts_command.specs.declared.token.TokenKind.TheVariants.{Word, Number, Text}
+use Rattle.ts_text.specs.declared.token.TokenKind.{TokenKind}
+use Rattle.ts_text.specs.declared.token.TokenKind.TheVariants.{Word, Number, Text}
 use Rattle.ts_command.proofs.NumberFormLemmas.{digits_parts, digits_made, count-append, number_form, number_longest}
-use Rattle.ts_command.proofs.TokenLengths.{token_is, of_kind_is}
-
--- a word ends at the same byte
-word_keeps : (p : ℕ → Bool) (v s other : List ℕ) (b : ℕ) → prefix_len p (v ++ b ∷ s) ≡ length v → prefix_len p (v ++ b ∷ other) ≡ length v
-word_keeps p [] s other b is = elim (cases_Bool (p b)) [
-  | inl t ↦ absurd (let no = rw t at is in omega (arith, no))
-  | inr f ↦ rw f refl
-]
-word_keeps p (x ∷ v) s other b is = elim (cases_Bool (p x)) [
-  | inl t ↦ let at = rw t at is in let more = word_keeps p v s other b (omega (arith, at)) in rw t (omega (arith, more))
-  | inr f ↦ absurd (let no = rw f at is in omega (arith, no))
-]
+use Rattle.ts_text.proofs.PlainLemmas.{token_is, run_keeps}
+use Rattle.ts_command.proofs.TokenLengths.{of_kind_is}
 
 -- a text has a byte that closes it
-closing_some : (s : List ℕ) (n : ℕ) → closing s ≡ Some n → 1 ≤ n
+pub closing_some : (s : List ℕ) (n : ℕ) → closing s ≡ Some n → 1 ≤ n
 unfolding closing
 closing_some [] n is = absurd (cc)
 closing_some (b ∷ []) n is = elim (cases_Bool (b == 39)) [
@@ -53,11 +43,11 @@ closing_some (b ∷ c ∷ s) n is = elim (cases_Bool (b == 39)) [
   by_more (Some m) e = let same : 1 + m ≡ n = cc in omega arith
 
 -- so many bytes later
-later_is : (i : ℕ) (end : Option ℕ) (n : ℕ) → later i end ≡ Some (i + n) → end ≡ Some n
+pub later_is : (i : ℕ) (end : Option ℕ) (n : ℕ) → later i end ≡ Some (i + n) → end ≡ Some n
 later_is i None n is = absurd (cc)
 later_is i (Some m) n is = let same : i + m ≡ i + n = cc in ap Some (omega (arith, same))
 
-doubled_is : (end : Option ℕ) (n : ℕ) → or_before (Some 1) (later 2 end) ≡ Some (2 + n) → end ≡ Some n
+pub doubled_is : (end : Option ℕ) (n : ℕ) → or_before (Some 1) (later 2 end) ≡ Some (2 + n) → end ≡ Some n
 doubled_is None n is = let same : 1 ≡ 2 + n = cc in absurd (omega (arith, same))
 doubled_is (Some m) n is = let same : 2 + m ≡ 2 + n = cc in ap Some (omega (arith, same))
 
@@ -104,7 +94,7 @@ closing_keeps (c ∷ d ∷ v) s other b text is = elim (cases_Bool (c == 39)) [
 ]
 
 -- a digit or a point
-abbrev goes_on : ℕ → Bool
+abbrev pub goes_on : ℕ → Bool
 goes_on b = is_ascii_digit b || b == 46
 
 digits_pass : (text : List ℕ) → list_all is_ascii_digit text ≡ true → list_all goes_on text ≡ true
@@ -125,7 +115,7 @@ at_seam x t b all =
     (and_parts (goes_on b) (list_all goes_on t) parts.1).0
 
 -- behind its first byte a number has digits and a point
-tail_byte : (c : ℕ) (x t : List ℕ) (b : ℕ) → IsMagnitude (c ∷ (x ++ b ∷ t)) ⊎ HasSign (c ∷ (x ++ b ∷ t)) → goes_on b ≡ true
+pub tail_byte : (c : ℕ) (x t : List ℕ) (b : ℕ) → IsMagnitude (c ∷ (x ++ b ∷ t)) ⊎ HasSign (c ∷ (x ++ b ∷ t)) → goes_on b ≡ true
 tail_byte c x t b (inl form) = at_seam (c ∷ x) t b (magnitude_passes (c ∷ (x ++ b ∷ t)) form)
 tail_byte c x t b (inr sign) =
     let rest : x ++ b ∷ t ≡ sign.magnitude = let e = sign.split in cc in
@@ -214,7 +204,7 @@ unfolding front
 token_keeps c v s other b kind begins is = elim (cases_Bool (begins_word c)) [
   | inl t ↦
       let at = token_is Word kind (1 + prefix_len continues_word (v ++ b ∷ s)) (length (c ∷ v)) (rw t at is) in
-      let same = word_keeps continues_word v s other b (omega (arith, at.1)) in
+      let same = run_keeps continues_word v s other b (omega (arith, at.1)) in
       rw (t, same) (ap (λ (k : TokenKind). Some (k, 1 + length v)) at.0 ∙ ap (λ (n : ℕ). Some (kind, n)) (omega arith))
   | inr f1 ↦ elim (cases_Bool (c == 39)) [
     | inl t ↦

@@ -1,14 +1,10 @@
 pub mod TokenLemmas
-pub mod NumberLemmas
 pub mod TextLemmas
 pub mod TokenLengths
-pub mod PhraseLemmas
 pub mod FormLemmas
 pub mod TextFormLemmas
 pub mod WordLemmas
-pub mod SpellingLemmas
-pub mod StatementLemmas
 pub mod NumberFormLemmas
 pub mod PrintedLemmas
 pub mod KeptLemmas
-pub mod FollowLemmas
+pub mod FrontLemmas

@@ -22,16 +22,19 @@ use Rattle.ts_row.specs.declared.value.Literal.TheVariants as literals
 use Rattle.ts_row.specs.RowType.{is_kind, scale_of}
 use Rattle.ts_row.specs.Row.{Values, holds, holds_size, fits}
 use Rattle.ts_row.specs.Printed.{last_digits, size_text, number_text, quoted, value_text, row_text, literal_of, literals_of}
-use Rattle.ts_command.specs.Tokens.{unblanked, digits_in_front, fraction_length, magnitude_length, signed_length, number_length, closing, later, or_before, of_kind, front}
-use Rattle.ts_command.specs.Number.{units_of, scale_of as digits_behind, magnitude_of}
+use Rattle.ts_command.specs.Tokens.{fraction_length, magnitude_length, signed_length, number_length, closing, later, or_before, of_kind, front}
+use Rattle.ts_text.specs.Plain.{digits_in_front}
+use Rattle.ts_text.specs.Blanks.{unblanked}
+use Rattle.ts_command.specs.Number.{units_of, scale_of as digits_behind}
+use Rattle.ts_text.specs.Digits.{magnitude_of}
 use Rattle.ts_command.specs.Text.{undoubled, said}
-use Rattle.ts_command.specs.Phrase.{taken, taken_front, token, a_sign, repeated}
+use Rattle.ts_text.specs.Phrase.{taken, taken_front, token, a_sign, repeated}
 use Rattle.ts_command.specs.Grammar.{a_literal, literal_in}
 use Rattle.ts_command.specs.Printed.{ends_value}
-use Rattle.ts_command.specs.declared.token.TokenKind.{TokenKind}
-use Rattle.ts_command.specs.declared.token.TokenKind.TheVariants.{Word, Number, Text}
+use Rattle.ts_text.specs.declared.token.TokenKind.{TokenKind}
+use Rattle.ts_text.specs.declared.token.TokenKind.TheVariants.{Word, Number, Text}
 use Rattle.ts_command.proofs.FormLemmas.{literal_shrinks}
-use Rattle.ts_command.proofs.PhraseLemmas.{repeated_none, repeated_more}
+use Rattle.ts_text.proofs.ListLemmas.{repeated_none, repeated_more}
 use Rattle.ts_command.proofs.NumberFormLemmas.{stops}
 use Rattle.ts_command.proofs.TextLemmas.{undoubled-cons}
 use Rattle.ts_command.proofs.TokenLemmas.{text_byte, single_quote, doubled_quote}
@@ -47,7 +50,7 @@ ends_of : (b : ℕ) → (is_blank b || b == 44 || b == 41) ≡ true → Ends b
 ends_of b is = record { word = grind (arith, nat_tests); digit = grind (arith, nat_tests); point = grind (arith, nat_tests); quote = grind (arith, nat_tests) }
 
 -- a token that stands in front is taken
-token-taken : {A : Type 0} (accept : TokenKind → List ℕ → Option A) (text rest : List ℕ) (kind : TokenKind) (a : A) → unblanked (text ++ rest) ≡ text ++ rest → front (text ++ rest) ≡ Some (kind, length text) → accept kind text ≡ Some a → token accept (text ++ rest) ≡ Ok (a, rest)
+token-taken : {A : Type 0} (accept : TokenKind → List ℕ → Option A) (text rest : List ℕ) (kind : TokenKind) (a : A) → unblanked (text ++ rest) ≡ text ++ rest → front (text ++ rest) ≡ Some (kind, length text) → accept kind text ≡ Some a → token front accept (text ++ rest) ≡ Ok (a, rest)
 token-taken {A} accept text rest kind a here is as_this =
     ap (λ (l : List ℕ). taken_front accept l (front l)) here
     ∙ ap (taken_front accept (text ++ rest)) is
@@ -326,11 +329,11 @@ value-read sized BigInt (values.Text text) (b ∷ rest) valid held ends = absurd
 value-read sized (Decimal digits scale) (values.Text text) (b ∷ rest) valid held ends = absurd (cc)
 
 comma_front : (s : List ℕ) → a_sign 44 (44 ∷ s) ≡ Ok (tt, s)
-unfolding a_sign front
+unfolding a_sign
 comma_front s = refl
 
 no_comma : (s : List ℕ) → a_sign 44 (41 ∷ s) ≡ Err (length (41 ∷ s))
-unfolding a_sign front
+unfolding a_sign
 no_comma s = refl
 
 -- a value behind a comma, and the others

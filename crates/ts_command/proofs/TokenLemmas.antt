@@ -13,7 +13,7 @@ text_byte b [] other text = rw other refl
 text_byte b (c ∷ t) other text = rw (other, text) refl
 
 -- a byte that no text has
-other_byte : (b : ℕ) (t : List ℕ) → (b == 39) ≡ false → is_text_byte b ≡ false → closing (b ∷ t) ≡ None
+pub other_byte : (b : ℕ) (t : List ℕ) → (b == 39) ≡ false → is_text_byte b ≡ false → closing (b ∷ t) ≡ None
 unfolding closing
 other_byte b [] other text = rw other refl
 other_byte b (c ∷ t) other text = rw (other, text) refl

@@ -9,10 +9,12 @@ use Rattle.std.specs.List.{prefix_len}
 use Rattle.std.specs.Char.{is_ascii_digit}
 use Rattle.ts_base.specs.Name.{begins_word, continues_word, is_text_byte}
 use Rattle.std.proofs.lemmas.List.Sums.{prefix_len-le-length}
-use Rattle.ts_command.specs.Tokens.{digits_in_front, with_point, fraction_length, magnitude_length, number_length, signed_length, closing, later, or_before, of_kind, front}
-use Rattle.ts_command.specs.Number.{digit_count}
-use Rattle.ts_command.specs.declared.token.TokenKind.{TokenKind}
-use Rattle.ts_command.specs.declared.token.TokenKind.TheVariants.{Word, Number, Text, Sign}
+use Rattle.ts_command.specs.Tokens.{with_point, fraction_length, magnitude_length, number_length, signed_length, closing, later, or_before, of_kind, front}
+use Rattle.ts_text.specs.Plain.{digits_in_front}
+use Rattle.ts_text.specs.Digits.{digit_count}
+use Rattle.ts_text.specs.declared.token.TokenKind.{TokenKind}
+use Rattle.ts_text.specs.declared.token.TokenKind.TheVariants.{Word, Number, Text, Sign}
+use Rattle.ts_text.proofs.PlainLemmas.{token_is}
 
 pub digits_in_front-le : (room : ℕ) (s : List ℕ) → digits_in_front room s ≤ room
 digits_in_front-le room s = omega (arith, prefix_len-le-length is_ascii_digit (take room s), length-take room s)
@@ -85,14 +87,7 @@ number_digits (b ∷ s) n e = elim (cases_eq b 45) [
         rw (← is_m) (most.0, omega (arith, most.1))
   ]
 
--- a token's kind and length
-pub token_is : (kind found : TokenKind) (m n : ℕ) → ◌≡◌ {A = Option (TokenKind × ℕ)} (Some (kind, m)) (Some (found, n)) → (kind ≡ found) × (m ≡ n)
-token_is kind found m n is =
-    let one : TokenKind × ℕ = (kind, m) in
-    let other : TokenKind × ℕ = (found, n) in
-    let pair : one ≡ other = cc in
-    (ap (λ (p : TokenKind × ℕ). p.0) pair, ap (λ (p : TokenKind × ℕ). p.1) pair)
-
+-- what is so long
 pub of_kind_is : (kind found : TokenKind) (size : Option ℕ) (n : ℕ) → of_kind kind size ≡ Some (found, n) → (kind ≡ found) × (size ≡ Some n)
 of_kind_is kind found None n is = absurd (cc)
 of_kind_is kind found (Some m) n is = let same = token_is kind found m n is in (same.0, ap Some same.1)

@@ -1,5 +1,5 @@
 -- The grammar of statements.
-use Rattle.std.specs.Prelude.{ℕ, ◌-◌, ◌==◌, ◌&&◌, nat_le, if◌then◌else◌, List, [], ◌∷◌, length, Option, Some, None, Result, Ok, Err, codes, ℤ, pos, int_le}
+use Rattle.std.specs.Prelude.{ℕ, ◌==◌, ◌&&◌, nat_le, if◌then◌else◌, List, [], ◌∷◌, length, Option, Some, None, Result, codes, ℤ, pos, int_le}
 use Rattle.std.specs.List.{list_all}
 use Rattle.std.specs.Char.{is_ascii_digit}
 use Rattle.std.specs.Str.{bytes_eq}
@@ -10,12 +10,13 @@ use Rattle.ts_row.specs.declared.kind.ColumnKind.{ColumnKind}
 use Rattle.ts_row.specs.declared.kind.ColumnKind.TheVariants as kinds
 use Rattle.ts_row.specs.declared.value.Literal.{Literal}
 use Rattle.ts_row.specs.declared.value.Literal.TheVariants as literals
-use Rattle.ts_command.specs.Tokens.{unblanked}
-use Rattle.ts_command.specs.Phrase.{Read, Phrase, ◌>>=◌, give, token, a_sign, behind, repeated}
-use Rattle.ts_command.specs.Number.{units_of, scale_of, magnitude_of}
+use Rattle.ts_text.specs.Digits.{magnitude_of}
+use Rattle.ts_text.specs.Phrase.{Phrase, ◌>>=◌, give, token, a_sign, behind, in_brackets, pair, triple, made, closed, ended, outcome}
+use Rattle.ts_text.specs.declared.token.TokenKind.{TokenKind}
+use Rattle.ts_text.specs.declared.token.TokenKind.TheVariants.{Word, Number, Text, Sign}
+use Rattle.ts_command.specs.Tokens.{front}
+use Rattle.ts_command.specs.Number.{units_of, scale_of}
 use Rattle.ts_command.specs.Text.{said}
-use Rattle.ts_command.specs.declared.token.TokenKind.{TokenKind}
-use Rattle.ts_command.specs.declared.token.TokenKind.TheVariants.{Word, Number, Text, Sign}
 use Rattle.ts_command.specs.declared.routine.Routine.{Routine}
 use Rattle.ts_command.specs.declared.routine.Routine.TheVariants as calls
 use Rattle.ts_command.specs.Routines.{routine_of, type_of}
@@ -30,7 +31,7 @@ name_in Word word = name_if_any word
 name_in kind token = None
 
 unfoldable pub a_name : Phrase (List ℕ)
-a_name = token name_in
+a_name = token front name_in
 
 -- a text of 1 to 64 bytes
 abbrev pub key_in : TokenKind → List ℕ → Option (List ℕ)
@@ -38,7 +39,7 @@ key_in Text text = key_if_any (said text)
 key_in kind token = None
 
 unfoldable pub a_key : Phrase (List ℕ)
-a_key = token key_in
+a_key = token front key_in
 
 -- a text that names a stamp
 abbrev pub stamp_in : TokenKind → List ℕ → Option ℤ
@@ -46,7 +47,15 @@ stamp_in Text text = read_stamp (said text)
 stamp_in kind token = None
 
 unfoldable pub a_stamp : Phrase ℤ
-a_stamp = token stamp_in
+a_stamp = token front stamp_in
+
+-- the bytes of a text
+abbrev pub text_in : TokenKind → List ℕ → Option (List ℕ)
+text_in Text text = Some (said text)
+text_in kind token = None
+
+unfoldable pub a_text : Phrase (List ℕ)
+a_text = token front text_in
 
 -- a word, a number or a text that a column's value is written as
 abbrev pub literal_in : TokenKind → List ℕ → Option Literal
@@ -56,7 +65,7 @@ literal_in Text text = Some (literals.Text (said text))
 literal_in Sign sign = None
 
 unfoldable pub a_literal : Phrase Literal
-a_literal = token literal_in
+a_literal = token front literal_in
 
 -- the number, if it lies between the two
 abbrev pub within : ℤ → ℤ → ℤ → Option ℤ
@@ -68,7 +77,7 @@ whole_in least most Number number = if scale_of number == 0 then within least mo
 whole_in least most kind token = None
 
 unfoldable pub a_whole : ℤ → ℤ → Phrase ℤ
-a_whole least most = token (whole_in least most)
+a_whole least most = token front (whole_in least most)
 
 -- a number of 1 to 3 digits, without sign and point
 abbrev pub small_in : TokenKind → List ℕ → Option ℕ
@@ -76,7 +85,7 @@ small_in Number number = if nat_le (length number) 3 && list_all is_ascii_digit 
 small_in kind token = None
 
 unfoldable pub a_small : Phrase ℕ
-a_small = token small_in
+a_small = token front small_in
 
 -- this word
 abbrev pub word_in : List ℕ → TokenKind → List ℕ → Option (Unit {0})
@@ -84,7 +93,7 @@ word_in wanted Word word = if bytes_eq word wanted then Some tt else None
 word_in wanted kind token = None
 
 unfoldable pub a_word : List ℕ → Phrase (Unit {0})
-a_word wanted = token (word_in wanted)
+a_word wanted = token front (word_in wanted)
 
 -- the name of the stamp's column
 unfoldable pub a_stamp_column : Phrase (List ℕ)
@@ -99,7 +108,7 @@ type_in Word word = type_of word
 type_in kind token = None
 
 unfoldable pub a_type : Phrase TypeName
-a_type = token type_in
+a_type = token front type_in
 
 -- the numbers of a type
 unfoldable pub kind_behind : TypeName → Phrase ColumnKind
@@ -129,73 +138,85 @@ routine_in Word word = routine_of word
 routine_in kind token = None
 
 unfoldable pub a_routine : Phrase Routine
-a_routine = token routine_in
+a_routine = token front routine_in
 
--- one argument, two or three, with commas between them, as a command
-abbrev pub one : {A : Type 0} → Phrase A → (A → Command) → Phrase Command
-one first make = do
-  a ← first
-  give (make a)
+-- The shapes of calls, each with its brackets: N is a name, K a key, S a stamp, T a text, I a whole number in a range, V a
+-- value and C a column with its type.
 
-abbrev pub two : {A B : Type 0} → Phrase A → Phrase B → (A → B → Command) → Phrase Command
-two first second make = do
-  a ← first
-  b ← behind 44 second
-  give (make a b)
+-- N
+unfoldable pub n_call : Phrase (List ℕ)
+n_call = in_brackets a_name
 
-abbrev pub three : {A B C : Type 0} → Phrase A → Phrase B → Phrase C → (A → B → C → Command) → Phrase Command
-three first second third make = do
-  a ← first
-  b ← behind 44 second
-  c ← behind 44 third
-  give (make a b c)
+-- K
+unfoldable pub k_call : Phrase (List ℕ)
+k_call = in_brackets a_key
 
--- the arguments of each routine, as its command
-unfoldable pub arguments : Routine → Phrase Command
-arguments calls.CreateRowType = do
-  name ← a_name
+-- K, N
+unfoldable pub kn_call : Phrase (List ℕ × List ℕ)
+kn_call = in_brackets (pair a_key a_name)
+
+-- K, S
+unfoldable pub ks_call : Phrase (List ℕ × ℤ)
+ks_call = in_brackets (pair a_key a_stamp)
+
+-- K, S, S
+unfoldable pub kss_call : Phrase (List ℕ × ℤ × ℤ)
+kss_call = in_brackets (triple a_key a_stamp a_stamp)
+
+-- K, I
+unfoldable pub ki_call : ℤ → ℤ → Phrase (List ℕ × ℤ)
+ki_call least most = in_brackets (pair a_key (a_whole least most))
+
+-- N, T
+unfoldable pub nt_call : Phrase (List ℕ × List ℕ)
+nt_call = in_brackets (pair a_name a_text)
+
+-- N, N, I
+unfoldable pub nni_call : ℤ → ℤ → Phrase (List ℕ × List ℕ × ℤ)
+nni_call least most = in_brackets (triple a_name a_name (a_whole least most))
+
+-- K, S, V, ..: any number of values
+unfoldable pub ksv_call : Phrase (List ℕ × ℤ × List Literal)
+ksv_call = do
+  key ← behind 40 a_key
+  stamp ← behind 44 a_stamp
+  values ← closed 41 a_literal
+  give (key, stamp, values)
+
+-- N, C, C, ..: the stamp's column and one value column at least
+unfoldable pub ncc_call : Phrase (List ℕ × List ℕ × List Column)
+ncc_call = do
+  name ← behind 40 a_name
   stamp ← behind 44 a_stamp_column
   first ← behind 44 a_column
-  others ← repeated a_column
-  give (commands.CreateRowType name stamp (first ∷ others))
-arguments calls.DropRowType = one a_name commands.DropRowType
-arguments calls.TSContainerCreate = three a_name a_name (a_whole (pos 1) (pos 65536)) commands.TSContainerCreate
-arguments calls.TSContainerDestroy = one a_name commands.TSContainerDestroy
-arguments calls.TSContainerUsage = one a_name commands.TSContainerUsage
-arguments calls.TSCreateIrr = two a_key a_name commands.TSCreateIrr
-arguments calls.DropSeries = one a_key commands.DropSeries
-arguments calls.ListSeries = one a_name commands.ListSeries
-arguments calls.InsElem = do
-  key ← a_key
-  stamp ← behind 44 a_stamp
-  values ← repeated a_literal
-  give (commands.InsElem key stamp values)
-arguments calls.UpdElem = do
-  key ← a_key
-  stamp ← behind 44 a_stamp
-  values ← repeated a_literal
-  give (commands.UpdElem key stamp values)
-arguments calls.GetElem = two a_key a_stamp commands.GetElem
-arguments calls.GetLastElem = one a_key commands.GetLastElem
-arguments calls.GetNelems = one a_key commands.GetNelems
+  others ← closed 41 a_column
+  give (name, stamp, first ∷ others)
 
--- the `;` that ends the statement, and nothing behind it
-unfoldable pub the_end : Phrase (Unit {0})
-the_end = λ bytes. if bytes_eq (unblanked bytes) (59 ∷ []) then Ok (tt, []) else Err (length (unblanked bytes))
+-- what each routine is called with, as its command
+unfoldable pub arguments : Routine → Phrase Command
+arguments calls.CreateRowType = made ncc_call (λ a. commands.CreateRowType a.0 a.1 a.2)
+arguments calls.DropRowType = made n_call commands.DropRowType
+arguments calls.TSContainerCreate = made (nni_call (pos 1) (pos 65536)) (λ a. commands.TSContainerCreate a.0 a.1 a.2)
+arguments calls.TSContainerDestroy = made n_call commands.TSContainerDestroy
+arguments calls.TSContainerUsage = made n_call commands.TSContainerUsage
+arguments calls.TSCreateIrr = made kn_call (λ a. commands.TSCreateIrr a.0 a.1)
+arguments calls.DropSeries = made k_call commands.DropSeries
+arguments calls.ListSeries = made n_call commands.ListSeries
+arguments calls.InsElem = made ksv_call (λ a. commands.InsElem a.0 a.1 a.2)
+arguments calls.UpdElem = made ksv_call (λ a. commands.UpdElem a.0 a.1 a.2)
+arguments calls.GetElem = made ks_call (λ a. commands.GetElem a.0 a.1)
+arguments calls.GetLastElem = made k_call commands.GetLastElem
+arguments calls.GetNelems = made k_call commands.GetNelems
 
--- a statement
-unfoldable pub a_command : Phrase Command
-a_command = do
+-- a routine and what it is called with
+unfoldable pub a_call : Phrase Command
+a_call = do
   routine ← a_routine
-  command ← behind 40 (arguments routine)
-  close ← a_sign 41
-  end ← the_end
-  give command
+  arguments routine
 
--- a command, or the place of the first byte that can't stand there, in a text of so many bytes
-abbrev pub outcome : ℕ → Read Command → Result Command ℕ
-outcome size (Ok found) = Ok found.0
-outcome size (Err left) = Err (size - left)
+-- a statement: a call and the `;` that ends it
+unfoldable pub a_command : Phrase Command
+a_command = ended (59 ∷ []) a_call
 
 -- the command that a statement is, or the place of its refusal
 abbrev pub command_of : List ℕ → Result Command ℕ

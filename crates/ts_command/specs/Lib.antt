@@ -2,12 +2,10 @@ pub mod Tokens
 pub mod Number
 pub mod Text
 pub mod Routines
-pub mod Phrase
 pub mod Grammar
 pub mod Misfit
 pub mod Form
 pub mod TextForm
-pub mod Spelling
 pub mod Script
 pub mod NumberForm
 pub mod Printed

@@ -1,17 +1,9 @@
--- Why a phrase isn't read.
+-- Why a statement isn't read.
 use Rattle.std.specs.Prelude.{◌≡◌, ℕ, Result, Err}
 use Rattle.ts_base.specs.declared.fault.Trouble.{Trouble}
 use Rattle.ts_base.specs.declared.fault.Trouble.TheVariants.{Refused, Memory as NoMemory}
 use Rattle.ts_base.specs.declared.refusal.Refusal.TheVariants.{Syntax}
 use Rattle.ts_command.specs.declared.command.Command.{Command}
-use Rattle.ts_command.specs.Phrase.{Read}
-use Rattle.ts_command.specs.declared.misfit.Misfit.{Misfit}
-use Rattle.ts_command.specs.declared.misfit.Misfit.TheVariants.{At, Memory}
-
--- the misfit comes of what was read; want of memory may come at any time
-abbrev pub Refuses : {A : Type 0} → Misfit → Read A → Type 0
-Refuses (At left) read = read ≡ Err left
-Refuses (Memory error) read = Unit {0}
 
 -- A refusal is of the statement, at its place; want of memory may come at any time; nothing else comes.
 abbrev pub IsCause : Trouble → Result Command ℕ → Type 0

@@ -1,15 +1,6 @@
 -- The number that a token writes.
-use Rattle.std.specs.Prelude.{ℕ, ◌+◌, ◌-◌, ◌==◌, if◌then◌else◌, List, length, slice_index, filter, position, count_by, Option, Some, None, ℤ, pos, neg_ℤ}
-use Rattle.std.specs.Char.{is_ascii_digit}
-use Rattle.ts_base.specs.StampText.{number_of}
-
--- how many digits a token has
-abbrev pub digit_count : List ℕ → ℕ
-digit_count token = count_by is_ascii_digit token
-
--- the number that its digits write, whatever stands between them
-abbrev pub magnitude_of : List ℕ → ℕ
-magnitude_of token = number_of (filter is_ascii_digit token)
+use Rattle.std.specs.Prelude.{ℕ, ◌+◌, ◌-◌, ◌==◌, if◌then◌else◌, List, length, slice_index, position, Option, Some, None, ℤ, pos, neg_ℤ}
+use Rattle.ts_text.specs.Digits.{magnitude_of}
 
 -- the number without its point, with its sign
 abbrev pub units_of : List ℕ → ℤ

@@ -1,35 +1,37 @@
 -- The routines and the types of value columns, by their names.
-use Rattle.std.specs.Prelude.{ℕ, List, [], ◌∷◌, codes, find, Option}
+use Rattle.std.specs.Prelude.{ℕ, List, [], ◌∷◌, codes, find, if◌then◌else◌, Option, Some, None}
 use Rattle.std.specs.Str.{bytes_eq}
 use Rattle.ts_command.specs.declared.routine.Routine.{Routine}
 use Rattle.ts_command.specs.declared.routine.TypeName.{TypeName}
 use Rattle.ts_command.specs.declared.routine.TypeName.TheVariants.{SmallInt, Integer, BigInt, Decimal, VarChar}
 use Rattle.ts_command.specs.declared.routine.Routine.TheVariants as calls
 
--- the name of a routine
-abbrev pub spelling : Routine → List ℕ
-spelling calls.CreateRowType = codes "CreateRowType"
-spelling calls.DropRowType = codes "DropRowType"
-spelling calls.TSContainerCreate = codes "TSContainerCreate"
-spelling calls.TSContainerDestroy = codes "TSContainerDestroy"
-spelling calls.TSContainerUsage = codes "TSContainerUsage"
-spelling calls.TSCreateIrr = codes "TSCreateIrr"
-spelling calls.DropSeries = codes "DropSeries"
-spelling calls.ListSeries = codes "ListSeries"
-spelling calls.InsElem = codes "InsElem"
-spelling calls.UpdElem = codes "UpdElem"
-spelling calls.GetElem = codes "GetElem"
-spelling calls.GetLastElem = codes "GetLastElem"
-spelling calls.GetNelems = codes "GetNelems"
-
-abbrev pub routines : List Routine
+-- each routine by its name
+abbrev pub routines : List (List ℕ × Routine)
 routines =
-    calls.InsElem ∷ calls.GetElem ∷ calls.GetNelems ∷ calls.UpdElem ∷ calls.GetLastElem ∷ calls.CreateRowType ∷ calls.DropRowType ∷ calls.TSContainerCreate ∷ calls.TSContainerDestroy ∷ calls.TSContainerUsage ∷
-    calls.TSCreateIrr ∷ calls.DropSeries ∷ calls.ListSeries ∷ []
+    (codes "InsElem", calls.InsElem) ∷
+    (codes "GetElem", calls.GetElem) ∷
+    (codes "GetNelems", calls.GetNelems) ∷
+    (codes "UpdElem", calls.UpdElem) ∷
+    (codes "GetLastElem", calls.GetLastElem) ∷
+    (codes "CreateRowType", calls.CreateRowType) ∷
+    (codes "DropRowType", calls.DropRowType) ∷
+    (codes "TSContainerCreate", calls.TSContainerCreate) ∷
+    (codes "TSContainerDestroy", calls.TSContainerDestroy) ∷
+    (codes "TSContainerUsage", calls.TSContainerUsage) ∷
+    (codes "TSCreateIrr", calls.TSCreateIrr) ∷
+    (codes "DropSeries", calls.DropSeries) ∷
+    (codes "ListSeries", calls.ListSeries) ∷
+    []
+
+-- the first routine of a list that has this name
+abbrev pub named : List (List ℕ × Routine) → List ℕ → Option Routine
+named [] word = None
+named (line ∷ lines) word = if bytes_eq word line.0 then Some line.1 else named lines word
 
 -- the routine of this name, if there is one
 unfoldable pub routine_of : List ℕ → Option Routine
-routine_of word = find (λ routine. bytes_eq (spelling routine) word) routines
+routine_of word = named routines word
 
 -- the name of a type
 abbrev pub type_spelling : TypeName → List ℕ

@@ -1,19 +1,10 @@
 -- The tokens of a statement, each the longest that stands there.
-use Rattle.std.specs.Prelude.{ℕ, ◌+◌, ◌-◌, ◌==◌, ◌||◌, if◌then◌else◌, List, [], ◌∷◌, length, take, drop, Option, Some, None}
+use Rattle.std.specs.Prelude.{ℕ, ◌+◌, ◌-◌, ◌==◌, ◌||◌, if◌then◌else◌, List, [], ◌∷◌, drop, Option, Some, None}
 use Rattle.std.specs.List.{prefix_len}
-use Rattle.std.specs.Char.{is_ascii_digit}
-use Rattle.ts_base.specs.Name.{begins_word, continues_word, is_blank, is_text_byte}
-use Rattle.ts_command.specs.declared.token.TokenKind.{TokenKind}
-use Rattle.ts_command.specs.declared.token.TokenKind.TheVariants.{Word, Number, Text, Sign}
-
--- the bytes without the blanks in front
-abbrev pub unblanked : List ℕ → List ℕ
-unblanked [] = []
-unblanked (b ∷ bytes) = if is_blank b then unblanked bytes else b ∷ bytes
-
--- how many digits stand in front, of which at most so many count
-abbrev pub digits_in_front : ℕ → List ℕ → ℕ
-digits_in_front room bytes = prefix_len is_ascii_digit (take room bytes)
+use Rattle.ts_base.specs.Name.{begins_word, continues_word, is_text_byte}
+use Rattle.ts_text.specs.Plain.{digits_in_front}
+use Rattle.ts_text.specs.declared.token.TokenKind.{TokenKind}
+use Rattle.ts_text.specs.declared.token.TokenKind.TheVariants.{Word, Number, Text, Sign}
 
 -- a point and digits, if there is a digit
 abbrev pub with_point : ℕ → ℕ

@@ -1,16 +1,16 @@
 // The columns of a row type: a name and a type each.
 ghost use Rattle.std.specs.Prelude.{◌≡◌, Ok, IfOk, IfErr};
-ghost use Rattle.ts_command.specs.Phrase.{repeated, onto};
+ghost use Rattle.ts_text.specs.Phrase.{repeated, onto};
 ghost use Rattle.ts_command.specs.Grammar.{a_stamp_column, a_column, kind_behind};
-ghost use Rattle.ts_command.specs.Misfit.{Refuses};
+ghost use Rattle.ts_text.specs.Misfit.{Refuses};
 
 use crate::Columns;
-use crate::misfit::Misfit;
-use crate::phrase::{behind_sign, read_name, read_sign, read_small, read_type, read_word};
+use crate::phrase::{read_name, read_small, read_type, read_word};
 use crate::routine::TypeName;
 use std::alloc::Global;
 use ts_base::Name;
 use ts_row::{Column, ColumnKind};
+use ts_text::{Misfit, behind_sign, read_sign};
 
 /// The name of the stamp's column.
 #[tactic(auto, unfolding(crate::specs::Grammar::a_stamp_column))]

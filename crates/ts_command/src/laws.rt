@@ -5,37 +5,33 @@ ghost use Rattle.ts_base.specs.Name.{is_word};
 ghost use Rattle.ts_items.specs.Items.{items_from, place_from};
 ghost use Rattle.ts_command.specs.TextForm.{closes, ClosesNoLater, ClosesNowhere};
 ghost use Rattle.ts_command.specs.NumberForm.{IsNumber};
-ghost use Rattle.ts_command.specs.Tokens.{unblanked, closing, number_length, front};
-ghost use Rattle.ts_command.specs.Spelling.{Lexeme, Spells};
+ghost use Rattle.ts_command.specs.Tokens.{closing, number_length, front};
+ghost use Rattle.ts_text.specs.Spelling.{AreItsTokens};
+ghost use Rattle.ts_text.specs.Place.{RefusesInPlace};
 ghost use Rattle.ts_row.specs.RowType.{is_kind, scale_of};
 ghost use Rattle.ts_row.specs.Row.{Values, holds, fits, value_if_any, row_of};
 ghost use Rattle.ts_row.specs.Printed.{value_text, row_text};
-ghost use Rattle.ts_command.specs.Phrase.{repeated};
+ghost use Rattle.ts_text.specs.Phrase.{repeated};
 ghost use Rattle.ts_command.specs.Printed.{ends_value};
 ghost use Rattle.ts_command.specs.Grammar.{a_literal, command_of};
 ghost use Rattle.ts_command.specs.Script.{request_of, requests};
 
 use crate::Command;
-use crate::token::TokenKind;
 use ts_row::{
     Column, ColumnKind, Literal, Value, printed_digits_write_the_size, printed_values_fit_again,
 };
+use ts_text::TokenKind;
 
 /// A statement that is a command is tokens with blanks between them, then blanks and the `;`. Where it is refused,
 /// whole tokens with their blanks stand before the place.
 pub fn a_statement_is_its_tokens()
-    ensures command { (text : List ℕ) (command : Command) → command_of text ≡ Ok command →
-        (lexemes : List Lexeme) × (rest : List ℕ) × Spells text lexemes rest × (unblanked rest ≡ 59 ∷ []) }
-    ensures place { (text : List ℕ) (place : ℕ) → command_of text ≡ Err place →
-        (lexemes : List Lexeme) × (rest : List ℕ) × Spells text lexemes rest × (place ≡ length text - length (unblanked rest)) }
+    ensures { AreItsTokens front (59 ∷ []) command_of }
 {}
 
-/// With the token that stands at the place of a refusal no statement goes on: whatever comes behind it, it is refused at
-/// this place.
-pub fn no_statement_goes_on_with_the_token_at_the_place()
-    ensures { (text more : List ℕ) (place size : ℕ) (kind : TokenKind) → command_of text ≡ Err place →
-        front (drop place text) ≡ Some (kind, size) → front (take size (drop place text) ++ more) ≡ Some (kind, size) →
-        command_of (take place text ++ (take size (drop place text) ++ more)) ≡ Err place }
+/// Where a statement is refused, what stands before the place goes on to a statement; with the token that stands at the
+/// place none does: whatever comes behind it, it is refused at this place.
+pub fn statements_are_refused_in_place()
+    ensures { RefusesInPlace front command_of }
 {}
 
 /// What the front of a script asks for comes first in what the script asks for.

@@ -3,9 +3,10 @@ ghost use Rattle.std.specs.Prelude.{◌≡◌, ◌^◌, ◌<◌, ◌≤◌, ◌=
 ghost use Rattle.std.specs.List.{list_all};
 ghost use Rattle.std.specs.Char.{is_ascii_digit};
 ghost use Rattle.ts_command.specs.Grammar.{small_in};
-ghost use Rattle.ts_command.specs.Number.{digit_count, magnitude_of, units_of, scale_of};
+ghost use Rattle.ts_command.specs.Number.{units_of, scale_of};
+ghost use Rattle.ts_text.specs.Digits.{digit_count, magnitude_of};
 
-use crate::token::TokenKind;
+use ts_text::{TokenKind, are_digits, magnitude};
 
 /// The number without its point.
 pub(crate) fn units(token: &[u8]) -> i128
@@ -55,26 +56,4 @@ pub(crate) fn small(token: &[u8]) -> Option<u16>
         return Some(magnitude(token) as u16);
     }
     None
-}
-
-fn are_digits(token: &[u8]) -> bool
-    ensures { result ≡ list_all is_ascii_digit token.now }
-{
-    token.iter().all(|byte| byte.is_ascii_digit())
-}
-
-// The number that the digits write.
-fn magnitude(token: &[u8]) -> u128
-    requires { digit_count token.now ≤ 38 }
-    ensures value { result ≡ magnitude_of token.now }
-    ensures bound { result < 10 ^ digit_count token.now }
-    ensures most { result < 10 ^ 38 }
-{
-    let mut value = 0;
-    for byte in token {
-        if byte.is_ascii_digit() {
-            value = value * 10 + u128::from(*byte - b'0');
-        }
-    }
-    value
 }

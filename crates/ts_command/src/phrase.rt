@@ -1,26 +1,18 @@
 // The phrases of one token. Each is read from a place on, and gives what it says and the bytes behind it.
 ghost use Rattle.std.specs.Prelude.{◌≡◌, ◌<◌, ◌≤◌, [], Ok, Err, IfOk, IfErr, IfSome, IfNone, length};
-ghost use Rattle.ts_command.specs.Tokens.{unblanked};
-ghost use Rattle.ts_command.specs.Phrase.{a_sign};
-ghost use Rattle.ts_command.specs.Grammar.{a_name, a_key, a_stamp, a_literal, a_whole, a_small, a_word, a_type, a_routine, the_end, whole_in};
-ghost use Rattle.ts_command.specs.Number.{digit_count, units_of, scale_of};
-ghost use Rattle.ts_command.specs.Misfit.{Refuses};
+ghost use Rattle.ts_command.specs.Grammar.{a_name, a_key, a_stamp, a_text, a_literal, a_whole, a_small, a_word, a_type, a_routine, whole_in};
+ghost use Rattle.ts_command.specs.Number.{units_of, scale_of};
+ghost use Rattle.ts_text.specs.Digits.{digit_count};
+ghost use Rattle.ts_text.specs.Misfit.{Refuses};
 
-use crate::misfit::Misfit;
 use crate::number::{scale, small, units};
 use crate::routine::{Routine, TypeName, are_same, routine_of, type_of};
 use crate::text::{bytes_of, key_of, stamp_of};
-use crate::token::{TokenKind, front, skip_blanks};
+use crate::token::front;
 use std::alloc::Global;
-use ts_base::{Key, Name, Stamp};
+use ts_base::{Bytes, Key, Name, Stamp};
 use ts_row::Literal;
-
-// What stands here can't.
-fn misfit(here: &[u8]) -> Misfit
-    ensures { result ≡ Misfit.At (length here.now) }
-{
-    Misfit::At { left: here.len() }
-}
+use ts_text::{Misfit, TokenKind, skip_blanks};
 
 /// A name.
 #[tactic(auto, unfolding(crate::specs::Grammar::a_name))]
@@ -35,34 +27,7 @@ pub(crate) fn read_name(alloc: Global, bytes: &[u8]) -> Result<(Name, &[u8]), Mi
             return Ok((name, rest));
         }
     }
-    Err(misfit(here))
-}
-
-/// The bytes behind this sign, if it stands there.
-#[tactic(auto, unfolding(crate::specs::Phrase::a_sign))]
-pub(crate) fn behind_sign(bytes: &[u8], wanted: u8) -> Option<&[u8]>
-    ensures some { IfSome result (λ rest. a_sign wanted bytes.now ≡ Ok (tt, rest.now)) }
-    ensures none { IfNone result (a_sign wanted bytes.now ≡ Err (length (unblanked bytes.now))) }
-{
-    let here = skip_blanks(bytes);
-    if let Some((TokenKind::Sign, length)) = front(here) {
-        let (sign, rest) = here.split_at(length);
-        if sign[0] == wanted {
-            return Some(rest);
-        }
-    }
-    None
-}
-
-/// The bytes behind this sign.
-pub(crate) fn read_sign(bytes: &[u8], wanted: u8) -> Result<&[u8], Misfit>
-    ensures ok { IfOk result (λ rest. a_sign wanted bytes.now ≡ Ok (tt, rest.now)) }
-    ensures cause { IfErr result (λ misfit. Refuses misfit (a_sign wanted bytes.now)) }
-{
-    match behind_sign(bytes, wanted) {
-        Some(rest) => Ok(rest),
-        None => Err(misfit(skip_blanks(bytes))),
-    }
+    Err(Misfit::here(here))
 }
 
 /// A key.
@@ -78,7 +43,7 @@ pub(crate) fn read_key(alloc: Global, bytes: &[u8]) -> Result<(Key, &[u8]), Misf
             return Ok((key, rest));
         }
     }
-    Err(misfit(here))
+    Err(Misfit::here(here))
 }
 
 /// A stamp.
@@ -94,7 +59,21 @@ pub(crate) fn read_stamp(alloc: Global, bytes: &[u8]) -> Result<(Stamp, &[u8]), 
             return Ok((stamp, rest));
         }
     }
-    Err(misfit(here))
+    Err(Misfit::here(here))
+}
+
+/// A text.
+#[tactic(auto, unfolding(crate::specs::Grammar::a_text))]
+pub(crate) fn read_text(alloc: Global, bytes: &[u8]) -> Result<(Bytes, &[u8]), Misfit>
+    ensures ok { IfOk result (λ found. a_text bytes.now ≡ Ok (found.0, found.1.now)) }
+    ensures cause { IfErr result (λ misfit. Refuses misfit (a_text bytes.now)) }
+{
+    let here = skip_blanks(bytes);
+    if let Some((TokenKind::Text, length)) = front(here) {
+        let (text, rest) = here.split_at(length);
+        return Ok((bytes_of(alloc, text)?, rest));
+    }
+    Err(Misfit::here(here))
 }
 
 /// A number of 1 to 3 digits, without sign and point.
@@ -110,7 +89,7 @@ pub(crate) fn read_small(bytes: &[u8]) -> Result<(u16, &[u8]), Misfit>
             return Ok((small, rest));
         }
     }
-    Err(misfit(here))
+    Err(Misfit::here(here))
 }
 
 /// The bytes behind this word.
@@ -126,7 +105,7 @@ pub(crate) fn read_word<'a>(bytes: &'a [u8], wanted: &[u8]) -> Result<&'a [u8], 
             return Ok(rest);
         }
     }
-    Err(misfit(here))
+    Err(Misfit::here(here))
 }
 
 /// The name of a value column's type.
@@ -142,7 +121,7 @@ pub(crate) fn read_type(bytes: &[u8]) -> Result<(TypeName, &[u8]), Misfit>
             return Ok((name, rest));
         }
     }
-    Err(misfit(here))
+    Err(Misfit::here(here))
 }
 
 /// The name of a routine.
@@ -158,20 +137,7 @@ pub(crate) fn read_routine(bytes: &[u8]) -> Result<(Routine, &[u8]), Misfit>
             return Ok((routine, rest));
         }
     }
-    Err(misfit(here))
-}
-
-/// The `;` that ends the statement, and nothing behind it.
-#[tactic(auto, unfolding(crate::specs::Grammar::the_end))]
-pub(crate) fn read_end(bytes: &[u8]) -> Result<(), Misfit>
-    ensures ok { IfOk result (λ done. the_end bytes.now ≡ Ok (tt, [])) }
-    ensures cause { IfErr result (λ misfit. Refuses misfit (the_end bytes.now)) }
-{
-    let here = skip_blanks(bytes);
-    if are_same(here, b";") {
-        return Ok(());
-    }
-    Err(misfit(here))
+    Err(Misfit::here(here))
 }
 
 /// A value of a row.
@@ -182,14 +148,14 @@ pub(crate) fn read_literal(alloc: Global, bytes: &[u8]) -> Result<(Literal, &[u8
 {
     let here = skip_blanks(bytes);
     let Some((kind, length)) = front(here) else {
-        return Err(misfit(here));
+        return Err(Misfit::here(here));
     };
     let (token, rest) = here.split_at(length);
     match kind {
         TokenKind::Word if are_same(token, b"null") => Ok((Literal::Null, rest)),
         TokenKind::Number => Ok((number_of(token), rest)),
         TokenKind::Text => Ok((Literal::Text(bytes_of(alloc, token)?), rest)),
-        _ => Err(misfit(here)),
+        _ => Err(Misfit::here(here)),
     }
 }
 
@@ -217,7 +183,7 @@ pub(crate) fn read_whole(bytes: &[u8], least: i64, most: i64) -> Result<(i64, &[
             return Ok((whole, rest));
         }
     }
-    Err(misfit(here))
+    Err(Misfit::here(here))
 }
 
 fn whole(token: &[u8], least: i64, most: i64) -> Option<i64>

@@ -1,7 +1,7 @@
 // The routines that a statement may call, and the types of value columns, by their names.
 ghost use Rattle.std.specs.Prelude.{◌≡◌};
 ghost use Rattle.std.specs.Str.{bytes_eq};
-ghost use Rattle.ts_command.specs.Routines.{spelling, routine_of, type_spelling, type_of};
+ghost use Rattle.ts_command.specs.Routines.{routine_of, type_spelling, type_of};
 
 #[derive(Clone, Copy, Debug, PartialEq, Eq)]
 pub(crate) enum Routine {
@@ -20,47 +20,6 @@ pub(crate) enum Routine {
     GetNelems,
 }
 
-const ROUTINES: [Routine; 13] = [
-    Routine::InsElem,
-    Routine::GetElem,
-    Routine::GetNelems,
-    Routine::UpdElem,
-    Routine::GetLastElem,
-    Routine::CreateRowType,
-    Routine::DropRowType,
-    Routine::TSContainerCreate,
-    Routine::TSContainerDestroy,
-    Routine::TSContainerUsage,
-    Routine::TSCreateIrr,
-    Routine::DropSeries,
-    Routine::ListSeries,
-];
-
-impl Routine {
-    ghost use Rattle.ts_command.specs.Routines.{spelling};
-
-    /// Its name.
-    pub(crate) fn spelling(self) -> &'static [u8]
-        ensures { result.now ≡ spelling self }
-    {
-        match self {
-            Routine::CreateRowType => b"CreateRowType",
-            Routine::DropRowType => b"DropRowType",
-            Routine::TSContainerCreate => b"TSContainerCreate",
-            Routine::TSContainerDestroy => b"TSContainerDestroy",
-            Routine::TSContainerUsage => b"TSContainerUsage",
-            Routine::TSCreateIrr => b"TSCreateIrr",
-            Routine::DropSeries => b"DropSeries",
-            Routine::ListSeries => b"ListSeries",
-            Routine::InsElem => b"InsElem",
-            Routine::UpdElem => b"UpdElem",
-            Routine::GetElem => b"GetElem",
-            Routine::GetLastElem => b"GetLastElem",
-            Routine::GetNelems => b"GetNelems",
-        }
-    }
-}
-
 /// Whether the two are the same bytes.
 pub(crate) fn are_same(first: &[u8], second: &[u8]) -> bool
     ensures { result ≡ bytes_eq first.now second.now }
@@ -73,10 +32,47 @@ pub(crate) fn are_same(first: &[u8], second: &[u8]) -> bool
 pub(crate) fn routine_of(word: &[u8]) -> Option<Routine>
     ensures { result ≡ routine_of word.now }
 {
-    ROUTINES
-        .iter()
-        .copied()
-        .find(|routine| are_same(routine.spelling(), word))
+    if are_same(word, b"InsElem") {
+        return Some(Routine::InsElem);
+    }
+    if are_same(word, b"GetElem") {
+        return Some(Routine::GetElem);
+    }
+    if are_same(word, b"GetNelems") {
+        return Some(Routine::GetNelems);
+    }
+    if are_same(word, b"UpdElem") {
+        return Some(Routine::UpdElem);
+    }
+    if are_same(word, b"GetLastElem") {
+        return Some(Routine::GetLastElem);
+    }
+    if are_same(word, b"CreateRowType") {
+        return Some(Routine::CreateRowType);
+    }
+    if are_same(word, b"DropRowType") {
+        return Some(Routine::DropRowType);
+    }
+    if are_same(word, b"TSContainerCreate") {
+        return Some(Routine::TSContainerCreate);
+    }
+    if are_same(word, b"TSContainerDestroy") {
+        return Some(Routine::TSContainerDestroy);
+    }
+    if are_same(word, b"TSContainerUsage") {
+        return Some(Routine::TSContainerUsage);
+    }
+    if are_same(word, b"TSCreateIrr") {
+        return Some(Routine::TSCreateIrr);
+    }
+    if are_same(word, b"DropSeries") {
+        return Some(Routine::DropSeries);
+    }
+    if are_same(word, b"ListSeries") {
+        Some(Routine::ListSeries)
+    } else {
+        None
+    }
 }
 
 /// A type of value columns, without its numbers.

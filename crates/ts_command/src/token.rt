@@ -1,37 +1,12 @@
 // The tokens of a statement: words, numbers, texts and signs. Each is the longest that stands there.
 ghost use Rattle.std.specs.Prelude.{◌≡◌, ◌==◌, ◌+◌, ◌<◌, ◌≤◌, IfSome, IsTrue, length, slice_index};
-ghost use Rattle.std.specs.Char.{is_ascii_digit};
-ghost use Rattle.std.specs.List.{prefix_len};
-ghost use Rattle.ts_base.specs.Name.{continues_word};
-ghost use Rattle.ts_command.specs.Tokens.{unblanked, digits_in_front, fraction_length, magnitude_length, number_length, closing, front};
+ghost use Rattle.ts_command.specs.Tokens.{fraction_length, magnitude_length, number_length, closing, front};
 
-use ts_base::{begins_word, continues_word, is_blank, is_text_byte};
+use ts_base::{begins_word, is_text_byte};
+use ts_text::{TokenKind, digits_in_front, word_bytes};
 
 /// The most digits of a number.
 const DIGITS: usize = 38;
-
-#[derive(Clone, Copy, Debug, PartialEq, Eq)]
-pub(crate) enum TokenKind {
-    Word,
-    Number,
-    Text,
-    Sign,
-}
-
-/// The bytes without the blanks in front.
-pub(crate) fn skip_blanks(bytes: &[u8]) -> &[u8]
-    ensures value { result.now ≡ unblanked bytes.now }
-    ensures shorter { length result.now ≤ length bytes.now }
-{
-    let mut rest = bytes;
-    while let [first, more @ ..] = rest {
-        if !is_blank(*first) {
-            break;
-        }
-        rest = more;
-    }
-    rest
-}
 
 /// The token that stands in front, if one does: its kind and its length.
 #[tactic(auto, unfolding(crate::specs::Tokens::front))]
@@ -57,30 +32,6 @@ pub(crate) fn front(bytes: &[u8]) -> Option<(TokenKind, usize)>
             None => None,
         },
     }
-}
-
-// How many bytes in front may go on a word.
-fn word_bytes(bytes: &[u8]) -> usize
-    ensures value { result ≡ prefix_len continues_word bytes.now }
-    ensures within { result ≤ length bytes.now }
-{
-    bytes
-        .iter()
-        .take_while(|byte| continues_word(**byte))
-        .count()
-}
-
-// How many digits stand in front, of which at most so many count.
-fn digits_in_front(room: usize, bytes: &[u8]) -> usize
-    ensures value { result ≡ digits_in_front room bytes.now }
-    ensures within { result ≤ length bytes.now }
-    ensures room { result ≤ room }
-{
-    bytes
-        .iter()
-        .take(room)
-        .take_while(|byte| byte.is_ascii_digit())
-        .count()
 }
 
 // The length of a point and digits in front, or 0.

@@ -7,9 +7,7 @@ pub mod MultipleLemmas
 pub mod AlgebraLemmas
 pub mod WholeLemmas
 pub mod PlanLemmas
-pub mod TokenLemmas
 pub mod GrammarLemmas
 pub mod MergeLemmas
 pub mod PrintLemmas
-pub mod SpellingLemmas
 pub mod PatternTextLemmas

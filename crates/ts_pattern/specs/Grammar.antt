@@ -1,19 +1,21 @@
 -- The text of a pattern, as in `{1 off,5 on,1 off},day`: its grammar, what it reads as, and how it is printed.
-use Rattle.std.specs.Prelude.{◌≡◌, ℕ, zero, suc, ◌-◌, ◌^◌, Bool, ◌&&◌, true, false, nat_lt, if◌then◌else◌, List, [], ◌∷◌, ◌++◌, length, drop, Option, Some, None, Result, Ok, Err, codes}
+use Rattle.std.specs.Prelude.{ℕ, ◌^◌, Bool, ◌&&◌, true, false, nat_le, nat_lt, if◌then◌else◌, List, [], ◌∷◌, ◌++◌, length, Option, Some, None, Result, Ok, Err, codes}
 use Rattle.std.specs.List.{list_all}
 use Rattle.std.specs.Str.{bytes_eq}
 use Rattle.std.specs.Fmt.{decimal}
+use Rattle.ts_base.specs.StampText.{all_digits, number_of}
 use Rattle.ts_base.specs.declared.unit.Unit as unit
 use Rattle.ts_base.specs.declared.unit.Unit.TheVariants.{Second, Minute, Hour, Day, Week, Month, Year}
 use Rattle.ts_base.specs.declared.refusal.Refusal.{Refusal}
 use Rattle.ts_base.specs.declared.refusal.Refusal.TheVariants.{BadPattern}
+use Rattle.ts_text.specs.Phrase.{Phrase, ◌>>=◌, give, token, behind, closed, ended, outcome}
+use Rattle.ts_text.specs.Plain.{plain_front}
+use Rattle.ts_text.specs.declared.token.TokenKind.{TokenKind}
+use Rattle.ts_text.specs.declared.token.TokenKind.TheVariants.{Word, Number}
 use Rattle.ts_pattern.specs.declared.run.Run.{Run}
-use Rattle.ts_pattern.specs.declared.read.Misread.{Misread}
-use Rattle.ts_pattern.specs.declared.read.Misread.TheVariants.{Left, NoMemory}
 use Rattle.ts_pattern.specs.Plan.{Plan}
 use Rattle.ts_pattern.specs.Runs.{run, total, flag_at}
 use Rattle.ts_pattern.specs.Algebra.{plan_of_flags}
-use Rattle.ts_pattern.specs.Tokens.{◌>>=◌, unblanked, after_sign, word_len, word_of, count_in, end_in}
 
 -- the flag that a word names
 abbrev pub flag_of_word : List ℕ → Option Bool
@@ -38,72 +40,71 @@ unit_among (u ∷ units) word = if bytes_eq word (unit_name u) then Some u else 
 abbrev pub unit_of_word : List ℕ → Option unit.Unit
 unit_of_word = unit_among (Second ∷ Minute ∷ Hour ∷ Day ∷ Week ∷ Month ∷ Year ∷ [])
 
--- what the word at the front names, and the text behind it
-abbrev pub named : {A : Type 0} → Option A → List ℕ → Result (A × List ℕ) ℕ
-named None text = Err (length text)
-named (Some x) text = Ok (x, drop (word_len text) text)
-
 -- on or off
-abbrev pub flag_in : List ℕ → Result (Bool × List ℕ) ℕ
-flag_in text = named (flag_of_word (word_of (unblanked text))) (unblanked text)
+abbrev pub flag_as : TokenKind → List ℕ → Option Bool
+flag_as Word word = flag_of_word word
+flag_as kind token = None
+
+unfoldable pub flag_in : Phrase Bool
+flag_in = token plain_front flag_as
 
 -- a unit
-abbrev pub unit_in : List ℕ → Result (unit.Unit × List ℕ) ℕ
-unit_in text = named (unit_of_word (word_of (unblanked text))) (unblanked text)
+abbrev pub unit_as : TokenKind → List ℕ → Option unit.Unit
+unit_as Word word = unit_of_word word
+unit_as kind token = None
+
+unfoldable pub unit_in : Phrase unit.Unit
+unit_in = token plain_front unit_as
+
+-- 1 to 9 digits that don't write 0
+abbrev pub is_count : List ℕ → Bool
+is_count digits =
+    all_digits digits && (nat_le 1 (length digits) && nat_le (length digits) 9 && nat_lt 0 (number_of digits))
+
+-- a count
+abbrev pub count_as : TokenKind → List ℕ → Option ℕ
+count_as Number digits = if is_count digits then Some (number_of digits) else None
+count_as kind token = None
+
+unfoldable pub count_in : Phrase ℕ
+count_in = token plain_front count_as
 
 -- a count and a flag
-unfoldable pub run_in : List ℕ → Result (Run × List ℕ) ℕ
-run_in text = do
-  count ← count_in text
-  on ← flag_in count.1
-  Ok (run on.0 count.0, on.1)
+unfoldable pub run_in : Phrase Run
+run_in = do
+  count ← count_in
+  on ← flag_in
+  give (run on count)
 
--- a run before further ones
-abbrev pub run_before : Run → List Run × List ℕ → Result (List Run × List ℕ) ℕ
-run_before r rest = Ok (r ∷ rest.0, rest.1)
+-- runs with a comma between any two of them, in braces
+unfoldable pub runs_in : Phrase (List Run)
+runs_in = do
+  first ← behind 123 run_in
+  others ← closed 125 run_in
+  give (first ∷ others)
 
--- behind a run: a comma and further runs, or the closing brace
-abbrev pub runs_behind : (List ℕ → Result (List Run × List ℕ) ℕ) → Run → List ℕ → Result (List ℕ) ℕ → Result (List Run × List ℕ) ℕ
-runs_behind further r rest (Ok next) = further next >>= run_before r
-runs_behind further r rest (Err left) = after_sign 125 rest >>= (λ last. Ok (r ∷ [], last))
-
--- runs with a comma between any two of them, and the closing brace; at most so many runs
-unfoldable pub runs_in : ℕ → List ℕ → Result (List Run × List ℕ) ℕ
-runs_in zero text = Err (length (unblanked text))
-runs_in (suc more) text = run_in text >>= (λ first. runs_behind (λ next. runs_in more next) first.0 first.1 (after_sign 44 first.1))
-
--- a pattern at the front of a text: the runs as they are written, and the text behind
-unfoldable pub pattern_in : List ℕ → Result (Plan × List ℕ) ℕ
-pattern_in text = do
-  inside ← after_sign 123 text
-  runs ← runs_in (length inside) inside
-  comma ← after_sign 44 runs.1
-  u ← unit_in comma
-  Ok (record { unit = u.0; runs = runs.0 }, u.1)
+-- a pattern: the runs as they are written
+unfoldable pub pattern_in : Phrase Plan
+pattern_in = do
+  runs ← runs_in
+  u ← behind 44 unit_in
+  give (record { unit = u; runs = runs })
 
 -- a text that is a pattern's, or the place of what can't stand there
-unfoldable pub written_plan : List ℕ → Result Plan ℕ
-written_plan text = do
-  written ← pattern_in text
-  end ← end_in written.1
-  Ok written.0
-
--- a reading fails with this, or there is no memory
-abbrev pub Misreads : {A : Type 0} → Result A ℕ → Misread → Type 0
-Misreads reading (Left left) = reading ≡ Err left
-Misreads reading (NoMemory error) = Unit {0}
+abbrev pub written_plan : List ℕ → Result Plan ℕ
+written_plan text = outcome (length text) (ended [] pattern_in text)
 
 -- the pattern of runs as they are written
 abbrev pub plan_of_written : Plan → Result Plan Refusal
 plan_of_written p = plan_of_flags p.unit (flag_at p.runs) (total p.runs)
 
 -- what a text reads as
-abbrev pub plan_or_place : List ℕ → Result Plan ℕ → Result Plan Refusal
-plan_or_place text (Ok written) = plan_of_written written
-plan_or_place text (Err left) = Err (BadPattern (length text - left))
+abbrev pub plan_or_place : Result Plan ℕ → Result Plan Refusal
+plan_or_place (Ok written) = plan_of_written written
+plan_or_place (Err place) = Err (BadPattern place)
 
 abbrev pub read_plan : List ℕ → Result Plan Refusal
-read_plan text = plan_or_place text (written_plan text)
+read_plan text = plan_or_place (written_plan text)
 
 -- how a run is printed
 abbrev pub printed_run : Run → List ℕ

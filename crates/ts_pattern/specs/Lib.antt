@@ -5,6 +5,5 @@ pub mod Multiples
 pub mod Algebra
 pub mod Growth
 pub mod Line
-pub mod Tokens
 pub mod Grammar
 pub mod Spelling

@@ -1,33 +1,18 @@
--- Texts as tokens with blanks between them, and which tokens are a pattern's.
-use Rattle.std.specs.Prelude.{◌≡◌, ℕ, ◌&&◌, ◌<◌, Bool, nat_le, nat_lt, if◌then◌else◌, List, [], ◌∷◌, ◌++◌, length, map, IsTrue, codes, true}
+-- Which tokens are a pattern's.
+use Rattle.std.specs.Prelude.{◌≡◌, ℕ, ◌<◌, Bool, if◌then◌else◌, List, [], ◌∷◌, length, map, codes, true}
 use Rattle.std.specs.List.{list_all}
-use Rattle.ts_base.specs.Name.{is_blank}
-use Rattle.ts_base.specs.StampText.{all_digits, number_of}
+use Rattle.ts_base.specs.StampText.{number_of}
 use Rattle.ts_base.specs.declared.unit.Unit as unit
+use Rattle.ts_text.specs.Parted.{IsParted}
 use Rattle.ts_pattern.specs.declared.run.Run.{Run}
 use Rattle.ts_pattern.specs.Plan.{Plan}
 use Rattle.ts_pattern.specs.Runs.{run}
-use Rattle.ts_pattern.specs.Grammar.{unit_name}
-
--- nothing but blanks
-abbrev pub are_blanks : List ℕ → Bool
-are_blanks = list_all is_blank
-
--- the text is these tokens in their order, with any number of blanks before, between and after
-abbrev pub IsParted : List (List ℕ) → List ℕ → Type 0
-IsParted [] text = IsTrue (are_blanks text)
-IsParted (token ∷ tokens) text =
-    (blanks : List ℕ) × (rest : List ℕ) × IsTrue (are_blanks blanks) × (text ≡ blanks ++ (token ++ rest)) × IsParted tokens rest
+use Rattle.ts_pattern.specs.Grammar.{unit_name, is_count}
 
 -- a run as a text has it: the digits of a count, and on or off
 pub record Word : Type 0 where
   pub digits : List ℕ
   pub on : Bool
-
--- 1 to 9 digits that don't write 0
-abbrev pub is_count : List ℕ → Bool
-is_count digits =
-    all_digits digits && (nat_le 1 (length digits) && nat_le (length digits) 9 && nat_lt 0 (number_of digits))
 
 -- the word of a flag
 abbrev pub flag_word : Bool → List ℕ

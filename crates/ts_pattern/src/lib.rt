@@ -1,7 +1,7 @@
 //! Patterns: runs of intervals that are on or off, repeated without end. What contracts see of a pattern is its unit
 //! and its merged runs (`specs/Plan`); NOT, AND, OR and the change to a smaller unit are exact at every interval
 //! (`specs/Algebra`), within 527040 intervals and 512 runs. The code goes from run end to run end and never writes
-//! the flags out. Stands on ts_base alone; knows nothing of dates. Read `specs/Runs.antt`, `specs/Algebra.antt`,
+//! the flags out. Stands on ts_text and ts_base; knows nothing of dates. Read `specs/Runs.antt`, `specs/Algebra.antt`,
 //! then `pattern.rt`.
 #![tactic(auto)]
 
@@ -14,13 +14,14 @@ mod read;
 mod run;
 mod runs;
 mod text;
-mod tokens;
 mod units;
 
 pub use junction::Junction;
 pub use pattern::{MOST_INTERVALS, MOST_RUNS, Pattern};
-pub use read::{Misread, WrittenPattern, pattern_in};
+pub use read::{WrittenPattern, pattern_in};
 pub use run::Run;
-pub use text::{pattern_texts_are_tokens, printed_patterns_are_read};
-pub use tokens::{after_sign, after_word, split_word, unblanked};
+pub use text::{
+    a_pattern_is_its_tokens, pattern_texts_are_tokens, patterns_are_refused_in_place,
+    printed_patterns_are_read,
+};
 pub use units::{factor, smaller_unit};

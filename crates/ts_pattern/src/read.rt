@@ -1,51 +1,18 @@
 // Reading the text of a pattern.
-ghost use Rattle.std.specs.Prelude.{◌≡◌, ℕ, ◌+◌, ◌-◌, ◌*◌, ◌^◌, ◌<◌, ◌≤◌, Ok, Err, Some, None, MatchResult, MatchOption, IfOk, IfErr, OnOk, length, IsTrue, alloc_error};
-ghost use Rattle.ts_base.specs.Name.{continues_word};
-ghost use Rattle.ts_pattern.specs.Runs.{total, run};
-ghost use Rattle.ts_pattern.specs.Grammar.{Misreads, are_counts};
+ghost use Rattle.std.specs.Prelude.{◌≡◌, ◌+◌, ◌^◌, ◌<◌, ◌≤◌, Ok, IfOk, IfErr, IfSome, OnOk, [], length, IsTrue};
+ghost use Rattle.ts_text.specs.Misfit.{Refuses};
+ghost use Rattle.ts_text.specs.Phrase.{ended, repeated, onto};
+ghost use Rattle.ts_text.specs.declared.token.TokenKind.TheVariants.{Number};
+ghost use Rattle.ts_pattern.specs.Grammar.{are_counts, count_as};
 ghost use Rattle.ts_pattern.specs.Grammar;
 
 use crate::Run;
-use crate::tokens::{after_sign, count_in, split_word, unblanked};
-use std::alloc::{AllocError, AllocFailed, Global};
+use std::alloc::Global;
 use ts_base::Unit;
-
-/// Why a text is not read: how many bytes are left from the place on that doesn't fit, or no memory.
-#[derive(Clone, Copy, Debug, PartialEq, Eq)]
-pub enum Misread {
-    Left(usize),
-    NoMemory(AllocError),
-}
-
-impl From<usize> for Misread {
-    ghost use Rattle.ts_pattern.specs.declared.read.Misread.TheVariants.{Left};
-
-    ghost from_gives = { λ left misread. misread ≡ Left left };
-
-    fn from(left: usize) -> Misread {
-        Misread::Left(left)
-    }
-}
-
-impl<T: Drop> From<AllocFailed<T>> for Misread {
-    ghost use Rattle.ts_pattern.specs.declared.read.Misread.TheVariants.{NoMemory};
-
-    ghost from_gives = { λ _ misread. misread ≡ NoMemory alloc_error };
-
-    fn from(failed: AllocFailed<T>) -> Misread {
-        Misread::NoMemory(AllocError::from(failed))
-    }
-}
-
-impl From<AllocError> for Misread {
-    ghost use Rattle.ts_pattern.specs.declared.read.Misread.TheVariants.{NoMemory};
-
-    ghost from_gives = { λ error misread. misread ≡ NoMemory error };
-
-    fn from(error: AllocError) -> Misread {
-        Misread::NoMemory(error)
-    }
-}
+use ts_text::{
+    Misfit, TokenKind, are_digits, behind_sign, number, plain_front, read_end, read_sign,
+    skip_blanks,
+};
 
 fn flag_of_word(word: &[u8]) -> Option<bool>
     ensures { result ≡ Grammar.flag_of_word word.now }
@@ -89,59 +56,112 @@ fn unit_of_word(word: &[u8]) -> Option<Unit>
 }
 
 // On or off.
-fn flag_in(text: &[u8]) -> Result<(bool, &[u8]), usize>
-    ensures value { MatchResult result (λ x. Grammar.flag_in text.now ≡ Ok (x.0, x.1.now)) (λ left. Grammar.flag_in text.now ≡ Err left) }
+#[tactic(auto, unfolding(crate::specs::Grammar::flag_in))]
+fn flag_in(text: &[u8]) -> Result<(bool, &[u8]), Misfit>
+    ensures ok { IfOk result (λ x. Grammar.flag_in text.now ≡ Ok (x.0, x.1.now)) }
+    ensures cause { IfErr result (λ misfit. Refuses misfit (Grammar.flag_in text.now)) }
     ensures shorter { IfOk result (λ x. length x.1.now ≤ length text.now) }
 {
-    let text = unblanked(text);
-    let (word, rest) = split_word(text);
-    match flag_of_word(word) {
-        Some(on) => Ok((on, rest)),
-        None => Err(text.len()),
+    let here = skip_blanks(text);
+    if let Some((TokenKind::Word, length)) = plain_front(here) {
+        let (word, rest) = here.split_at(length);
+        if let Some(on) = flag_of_word(word) {
+            return Ok((on, rest));
+        }
     }
+    Err(Misfit::here(here))
 }
 
-fn unit_in(text: &[u8]) -> Result<(Unit, &[u8]), usize>
-    ensures { MatchResult result (λ x. Grammar.unit_in text.now ≡ Ok (x.0, x.1.now)) (λ left. Grammar.unit_in text.now ≡ Err left) }
+#[tactic(auto, unfolding(crate::specs::Grammar::unit_in))]
+fn unit_in(text: &[u8]) -> Result<(Unit, &[u8]), Misfit>
+    ensures ok { IfOk result (λ x. Grammar.unit_in text.now ≡ Ok (x.0, x.1.now)) }
+    ensures cause { IfErr result (λ misfit. Refuses misfit (Grammar.unit_in text.now)) }
 {
-    let text = unblanked(text);
-    let (word, rest) = split_word(text);
-    match unit_of_word(word) {
-        Some(unit) => Ok((unit, rest)),
-        None => Err(text.len()),
+    let here = skip_blanks(text);
+    if let Some((TokenKind::Word, length)) = plain_front(here) {
+        let (word, rest) = here.split_at(length);
+        if let Some(unit) = unit_of_word(word) {
+            return Ok((unit, rest));
+        }
     }
+    Err(Misfit::here(here))
+}
+
+// A number of 1 to 9 digits that isn't 0.
+#[tactic(auto, unfolding(crate::specs::Grammar::count_in))]
+fn count_in(text: &[u8]) -> Result<(u32, &[u8]), Misfit>
+    ensures ok { IfOk result (λ x. Grammar.count_in text.now ≡ Ok (x.0, x.1.now)) }
+    ensures cause { IfErr result (λ misfit. Refuses misfit (Grammar.count_in text.now)) }
+    ensures shorter { IfOk result (λ x. length x.1.now ≤ length text.now) }
+    ensures range { IfOk result (λ x. (0 < x.0) × (x.0 < 10 ^ 9)) }
+{
+    let here = skip_blanks(text);
+    if let Some((TokenKind::Number, length)) = plain_front(here) {
+        let (digits, rest) = here.split_at(length);
+        if let Some(count) = count_of(digits) {
+            return Ok((count, rest));
+        }
+    }
+    Err(Misfit::here(here))
+}
+
+// The count that digits write.
+fn count_of(digits: &[u8]) -> Option<u32>
+    ensures value { result ≡ count_as Number digits.now }
+    ensures range { IfSome result (λ count. (0 < count) × (count < 10 ^ 9)) }
+{
+    if digits.len() < 1 || digits.len() > 9 || !are_digits(digits) {
+        return None;
+    }
+    let count = number(digits);
+    if count > 0 { Some(count) } else { None }
 }
 
 // A count and a flag.
 #[tactic(auto, unfolding(crate::specs::Grammar::run_in))]
-fn run_in(text: &[u8]) -> Result<(Run, &[u8]), usize>
-    ensures value { MatchResult result (λ x. Grammar.run_in text.now ≡ Ok (x.0, x.1.now)) (λ left. Grammar.run_in text.now ≡ Err left) }
+fn run_in(text: &[u8]) -> Result<(Run, &[u8]), Misfit>
+    ensures ok { IfOk result (λ x. Grammar.run_in text.now ≡ Ok (x.0, x.1.now)) }
+    ensures cause { IfErr result (λ misfit. Refuses misfit (Grammar.run_in text.now)) }
+    ensures shorter { IfOk result (λ x. length x.1.now ≤ length text.now) }
     ensures range { IfOk result (λ x. (0 < x.0.count) × (x.0.count < 10 ^ 9)) }
-    ensures shorter { IfOk result (λ x. length x.1.now < length text.now) }
 {
     let (count, rest) = count_in(text)?;
     let (on, rest) = flag_in(rest)?;
     Ok((Run { on, count }, rest))
 }
 
-// Runs with a comma between any two of them, and the closing brace.
-fn runs_in(alloc: Global, text: &[u8]) -> Result<(Vec<Run>, &[u8]), Misread>
-    ensures value { MatchResult result (λ x. Grammar.runs_in (length text.now) text.now ≡ Ok (x.0.items, x.1.now))
-        (Misreads (Grammar.runs_in (length text.now) text.now)) }
+// Further runs, as many as commas stand there.
+fn read_runs<'a>(runs: &mut Vec<Run>, text: &'a [u8]) -> Result<&'a [u8], Misfit>
+    requires { IsTrue (are_counts runs.old.items) }
+    ensures ok { IfOk result (λ rest. onto runs.old.items (repeated Grammar.run_in text.now) ≡ Ok (runs.new.items, rest.now)) }
+    ensures cause { IfErr result (λ misfit. Refuses misfit (repeated Grammar.run_in text.now)) }
+    ensures counts { OnOk result (IsTrue (are_counts runs.new.items)) }
+    ensures few { IfOk result (λ rest. length runs.new.items + length rest.now ≤ length runs.old.items + length text.now) }
+    ensures some { length runs.old.items ≤ length runs.new.items }
+{
+    let mut rest = text;
+    while let Some(behind) = behind_sign(rest, b',') {
+        let (run, more) = run_in(behind)?;
+        runs.push(run)?;
+        rest = more;
+    }
+    Ok(rest)
+}
+
+// Runs with a comma between any two of them, in braces.
+#[tactic(auto, unfolding(crate::specs::Grammar::runs_in))]
+fn runs_in(alloc: Global, text: &[u8]) -> Result<(Vec<Run>, &[u8]), Misfit>
+    ensures ok { IfOk result (λ x. Grammar.runs_in text.now ≡ Ok (x.0.items, x.1.now)) }
+    ensures cause { IfErr result (λ misfit. Refuses misfit (Grammar.runs_in text.now)) }
     ensures some { IfOk result (λ x. 0 < length x.0.items) }
     ensures few { IfOk result (λ x. length x.0.items ≤ length text.now) }
     ensures counts { IfOk result (λ x. IsTrue (are_counts x.0.items)) }
 {
+    let (first, rest) = run_in(read_sign(text, b'{')?)?;
     let mut runs = Vec::new(alloc);
-    let mut rest = text;
-    'runs: loop {
-        let (run, behind) = run_in(rest)?;
-        runs.push(run)?;
-        let Ok(next) = after_sign(behind, b',') else {
-            return Ok((runs, after_sign(behind, b'}')?));
-        };
-        rest = next;
-    }
+    runs.push(first)?;
+    let rest = read_runs(&mut runs, rest)?;
+    Ok((runs, read_sign(rest, b'}')?))
 }
 
 /// A pattern as it is written: a unit, and runs that need not be merged nor within the limits.
@@ -156,29 +176,23 @@ pub struct WrittenPattern {
 
 /// The pattern at the front of a text, and the text behind it.
 #[tactic(auto, unfolding(crate::specs::Grammar::pattern_in))]
-pub fn pattern_in(alloc: Global, text: &[u8]) -> Result<(WrittenPattern, &[u8]), Misread>
+pub fn pattern_in(alloc: Global, text: &[u8]) -> Result<(WrittenPattern, &[u8]), Misfit>
     requires { length text.now < 2 ^ 32 }
-    ensures { MatchResult result (λ x. Grammar.pattern_in text.now ≡ Ok (record { unit = x.0.unit; runs = x.0.runs.items }, x.1.now))
-        (Misreads (Grammar.pattern_in text.now)) }
+    ensures ok { IfOk result (λ x. Grammar.pattern_in text.now ≡ Ok (record { unit = x.0.unit; runs = x.0.runs.items }, x.1.now)) }
+    ensures cause { IfErr result (λ misfit. Refuses misfit (Grammar.pattern_in text.now)) }
 {
-    let inside = after_sign(text, b'{')?;
-    let (runs, rest) = runs_in(alloc, inside)?;
-    let rest = after_sign(rest, b',')?;
-    let (unit, rest) = unit_in(rest)?;
+    let (runs, rest) = runs_in(alloc, text)?;
+    let (unit, rest) = unit_in(read_sign(rest, b',')?)?;
     Ok((WrittenPattern { unit, runs }, rest))
 }
 
 /// The pattern that a text writes.
-#[tactic(auto, unfolding(crate::specs::Grammar::written_plan))]
-pub(crate) fn written_pattern(alloc: Global, text: &[u8]) -> Result<WrittenPattern, Misread>
+pub(crate) fn written_pattern(alloc: Global, text: &[u8]) -> Result<WrittenPattern, Misfit>
     requires { length text.now < 2 ^ 32 }
-    ensures { MatchResult result (λ x. Grammar.written_plan text.now ≡ Ok (record { unit = x.unit; runs = x.runs.items }))
-        (Misreads (Grammar.written_plan text.now)) }
+    ensures ok { IfOk result (λ x. ended [] Grammar.pattern_in text.now ≡ Ok (record { unit = x.unit; runs = x.runs.items }, [])) }
+    ensures cause { IfErr result (λ misfit. Refuses misfit (ended [] Grammar.pattern_in text.now)) }
 {
     let (written, rest) = pattern_in(alloc, text)?;
-    let rest = unblanked(rest);
-    if rest.len() != 0 {
-        return Err(Misread::Left(rest.len()));
-    }
+    read_end(rest, &[])?;
     Ok(written)
 }

@@ -1,6 +1,8 @@
 // Patterns as texts: `{1 off,5 on,1 off},day`.
 ghost use Rattle.std.specs.Prelude.{◌≡◌, ◌≢◌, ℕ, ◌+◌, ◌-◌, ◌*◌, ◌^◌, ◌<◌, ◌≤◌, ◌↔◌, List, [], ◌∷◌, ◌++◌, Ok, length, IsTrue, IfOk, OnOk, OnErr};
-ghost use Rattle.std.specs.Fmt.{decimal};
+ghost use Rattle.ts_text.specs.Place.{RefusesInPlace};
+ghost use Rattle.ts_text.specs.Plain.{plain_front};
+ghost use Rattle.ts_text.specs.Spelling.{AreItsTokens};
 ghost use Rattle.ts_pattern.specs.Runs.{total, flag_at, runs_of, is_pattern};
 ghost use Rattle.ts_pattern.specs.Algebra.{Answers};
 ghost use Rattle.ts_pattern.specs.Grammar.{are_counts, plan_of_written, read_plan, written_plan, printed_run, printed_runs, printed_plan};
@@ -11,9 +13,10 @@ ghost use Rattle.ts_pattern.specs.Spelling.{IsPatternText};
 use crate::join::extend;
 use crate::pattern::too_long;
 use crate::read::written_pattern;
-use crate::{MOST_INTERVALS, MOST_RUNS, Misread, Pattern, Run, WrittenPattern};
+use crate::{MOST_INTERVALS, MOST_RUNS, Pattern, Run, WrittenPattern};
 use std::alloc::{AllocError, Global};
 use ts_base::{Bytes, Refusal, Trouble, Unit};
+use ts_text::{Misfit, print_number};
 
 impl Pattern {
     /// The pattern that a text writes.
@@ -23,11 +26,11 @@ impl Pattern {
     {
         match written_pattern(alloc, text) {
             Ok(written) => written.into_pattern(),
-            Err(Misread::Left(left)) => {
+            Err(Misfit::At { left }) => {
                 let place = text.len().saturating_sub(left) as u32;
                 Err(Trouble::Refused(Refusal::BadPattern { place }))
             }
-            Err(Misread::NoMemory(error)) => Err(Trouble::Memory(error)),
+            Err(Misfit::Memory(error)) => Err(Trouble::Memory(error)),
         }
     }
 
@@ -121,20 +124,9 @@ fn print_runs(runs: &[Run], out: &mut Bytes) -> Result<(), AllocError>
 fn print_run(run: Run, out: &mut Bytes) -> Result<(), AllocError>
     ensures { OnOk result (out.new ≡ out.old ++ printed_run run) }
 {
-    print_count(run.count, out)?;
+    print_number(run.count, out)?;
     out.push(b' ')?;
     out.extend_from_slice(if run.on { b"on" } else { b"off" })
-}
-
-// A number in decimal digits.
-fn print_count(count: u32, out: &mut Bytes) -> Result<(), AllocError>
-    ensures { OnOk result (out.new ≡ out.old ++ decimal count) }
-{
-    if count < 10 {
-        return out.push(b'0' + count as u8);
-    }
-    print_count(count / 10, out)?;
-    out.push(b'0' + (count % 10) as u8)
 }
 
 /// What is printed of a pattern is read as the same pattern.
@@ -145,4 +137,15 @@ pub fn printed_patterns_are_read()
 /// A text is read as a pattern exactly where it is that pattern's tokens with blanks between them.
 pub fn pattern_texts_are_tokens()
     ensures { (text : List ℕ) → (p : Plan) → written_plan text ≡ Ok p ↔ IsPatternText p text }
+{}
+
+/// A pattern's text is its tokens with blanks between them; where a text is refused, whole tokens stand before the place.
+pub fn a_pattern_is_its_tokens()
+    ensures { AreItsTokens plain_front [] written_plan }
+{}
+
+/// Where a text is refused as a pattern, what stands before the place goes on to a pattern's text; with the token that
+/// stands at the place none does.
+pub fn patterns_are_refused_in_place()
+    ensures { RefusesInPlace plain_front written_plan }
 {}

@@ -2,10 +2,8 @@
 use std::alloc::{AllocError, Global};
 use std::test::Fail;
 use ts_base::{Bytes, Refusal, Trouble, Unit};
-use ts_pattern::{
-    Junction, Misread, Pattern, Run, WrittenPattern, after_sign, after_word, factor, pattern_in,
-    smaller_unit, split_word, unblanked,
-};
+use ts_pattern::{Junction, Pattern, Run, WrittenPattern, factor, pattern_in, smaller_unit};
+use ts_text::{Misfit, TokenKind, plain_front, read_sign, read_word, skip_blanks};
 
 // The text is printed as this, or refused for this reason.
 pub(crate) fn is_answer(found: &Result<Bytes, Trouble>, wanted: Result<&[u8], Refusal>) -> bool {
@@ -205,14 +203,14 @@ fn not_turns_each_flag(rt: HostRuntime) {
 #[test]
 fn tokens_stand_behind_blanks(rt: HostRuntime) -> Result<(), Fail> {
     let text = b"\t pattern_1 ( {1 on},day )".as_slice();
-    assert_eq!(rt; after_word(text, b"pattern"), Err(24));
-    let rest = after_word(text, b"pattern_1").map_err(|_| "no word")?;
-    assert_eq!(rt; after_sign(rest, b')'), Err(14));
-    let rest = after_sign(rest, b'(').map_err(|_| "no sign")?;
+    assert_eq!(rt; read_word(text, b"pattern"), Err(Misfit::At { left: 24 }));
+    let rest = read_word(text, b"pattern_1").map_err(|_| "no word")?;
+    assert_eq!(rt; read_sign(rest, b')'), Err(Misfit::At { left: 14 }));
+    let rest = read_sign(rest, b'(').map_err(|_| "no sign")?;
     let (written, rest) = pattern_in(rt.alloc(), rest).map_err(|_| "no pattern")?;
     assert_eq!(rt; written.unit, Unit::Day);
-    assert_eq!(rt; unblanked(rest), b")".as_slice());
-    assert_eq!(rt; split_word(b"ab1 c"), (b"ab1".as_slice(), b" c".as_slice()));
+    assert_eq!(rt; skip_blanks(rest), b")".as_slice());
+    assert_eq!(rt; plain_front(b"ab1 c"), Some((TokenKind::Word, 3)));
     Ok(())
 }
 
@@ -230,7 +228,7 @@ fn the_types_may_go_to_other_threads() {
     goes_to_threads::<Run>();
     goes_to_threads::<Junction>();
     goes_to_threads::<WrittenPattern>();
-    goes_to_threads::<Misread>();
+    goes_to_threads::<Misfit>();
 }
 
 fn goes_to_threads<T: Send + Sync>() {}

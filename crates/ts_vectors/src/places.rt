@@ -14,7 +14,7 @@ fn place(alloc: Global, text: &[u8]) -> Option<u32> {
 
 #[test]
 fn a_refusal_tells_the_first_place_that_cannot_stand(rt: HostRuntime) {
-    let page: [(&[u8], u32); 48] = [
+    let page: [(&[u8], u32); 51] = [
         (b"", 0),
         (b" ;", 1),
         (b"#;", 0),
@@ -63,6 +63,13 @@ fn a_refusal_tells_the_first_place_that_cannot_stand(rt: HostRuntime) {
         (b"GetElem('x');", 11),
         (b"GetElem(x,'2011-02-28 00:00:00');", 8),
         (b"GetElem('x','2011-02-28 00:00:00',1);", 33),
+        // The shapes of calls that come next, each by a routine that isn't built yet.
+        (b"CreatePattern(p,'{1 on},day');", 0),
+        (
+            b" DelClip('x','2011-02-28 00:00:00','2011-03-01 00:00:00');",
+            1,
+        ),
+        (b"GetNthElem('x',0);", 0),
     ];
     for (text, wanted) in page {
         assert_eq!(rt; place(rt.alloc(), text), Some(wanted), "{text:?}");

@@ -1,5 +1,5 @@
 use Rattle.std.proofs.Common.{◌≡◌, length}
-use Rattle.ts_command.specs.Phrase.{repeated, onto}
+use Rattle.ts_text.specs.Phrase.{repeated, onto}
 use Rattle.ts_command.specs.Grammar.{a_column}
 use Rattle.ts_command.proofs.column.read_columns.Given as goal
 

@@ -1,8 +1,12 @@
-use Rattle.ts_command.proofs.StatementLemmas.{tokens_of_command, tokens_before}
+use Rattle.std.proofs.Common.{[], ◌∷◌}
+use Rattle.ts_text.proofs.PlaceLemmas.{is_its_tokens}
+use Rattle.ts_command.specs.Form.{HasForm}
+use Rattle.ts_command.specs.Tokens.{front}
+use Rattle.ts_command.specs.Grammar.{a_call, a_command}
+use Rattle.ts_command.proofs.FrontLemmas.{front_laws, front_ending}
+use Rattle.ts_command.proofs.FormLemmas.{call_yields}
 use Rattle.ts_command.proofs.laws.a_statement_is_its_tokens.Goals as goal
 
-pub returns-clause-command : goal.returns-clause-command
-returns-clause-command c = tokens_of_command
-
-pub returns-clause-place : goal.returns-clause-place
-returns-clause-place c = tokens_before
+pub returns : goal.returns
+unfolding a_command
+returns c = is_its_tokens front front_laws HasForm (59 ∷ []) front_ending a_call call_yields

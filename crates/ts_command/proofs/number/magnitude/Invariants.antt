@@ -1,9 +1,0 @@
-use Rattle.std.proofs.Common.{◌≡◌, ◌^◌, ◌<◌, take}
-use Rattle.ts_command.specs.Number.{magnitude_of, digit_count}
-use Rattle.ts_command.proofs.number.magnitude.Given as goal
-
-abbrev pub invariant-loop-byte : goal.invariant-loop-byte
-invariant-loop-byte l = record {
-  value : l.value ≡ magnitude_of (take l.byte-index l.token);
-  bound : l.value < 10 ^ digit_count (take l.byte-index l.token);
-}

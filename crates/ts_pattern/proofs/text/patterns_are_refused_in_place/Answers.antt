@@ -1,0 +1,11 @@
+use Rattle.std.proofs.Common.{[]}
+use Rattle.ts_text.specs.Plain.{plain_front}
+use Rattle.ts_text.proofs.PhraseLemmas.{Any}
+use Rattle.ts_text.proofs.PlaceLemmas.{in_place}
+use Rattle.ts_text.proofs.PlainLemmas.{plain_laws, plain_ending}
+use Rattle.ts_pattern.specs.Grammar.{pattern_in}
+use Rattle.ts_pattern.proofs.GrammarLemmas.{pattern_yields}
+use Rattle.ts_pattern.proofs.text.patterns_are_refused_in_place.Goals as goal
+
+pub returns : goal.returns
+returns c = in_place plain_front plain_laws Any [] plain_ending pattern_in pattern_yields

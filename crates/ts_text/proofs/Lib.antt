@@ -1,0 +1,10 @@
+pub mod DigitLemmas
+pub mod SpellingLemmas
+pub mod FollowLemmas
+pub mod PhraseLemmas
+pub mod TokenLemmas
+pub mod SignLemmas
+pub mod ListLemmas
+pub mod PlaceLemmas
+pub mod PlainLemmas
+pub mod PartedLemmas

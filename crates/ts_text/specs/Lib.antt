@@ -1,0 +1,9 @@
+pub mod Blanks
+pub mod Digits
+pub mod Front
+pub mod Misfit
+pub mod Parted
+pub mod Phrase
+pub mod Place
+pub mod Plain
+pub mod Spelling

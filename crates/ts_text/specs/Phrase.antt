@@ -1,0 +1,130 @@
+-- How phrases of a grammar are read.
+use Rattle.std.specs.Prelude.{ℕ, zero, suc, ◌-◌, ◌==◌, if◌then◌else◌, List, [], ◌∷◌, ◌++◌, length, take, drop, Option, Some, None, Result, Ok, Err}
+use Rattle.std.specs.Str.{bytes_eq}
+use Rattle.ts_text.specs.Blanks.{unblanked}
+use Rattle.ts_text.specs.Front.{Front}
+use Rattle.ts_text.specs.declared.token.TokenKind.{TokenKind}
+
+-- what a phrase is read as, and the bytes behind it; or how many bytes are left from the first that can't stand there
+abbrev pub Read : Type 0 → Type 0
+Read A = Result (A × List ℕ) ℕ
+
+-- a part of a grammar, as it reads the bytes from its place on
+abbrev pub Phrase : Type 0 → Type 0
+Phrase A = List ℕ → Read A
+
+-- what was read, and then the next phrase
+abbrev pub go_on : {A B : Type 0} → Read A → (A → Phrase B) → Read B
+go_on (Ok found) next = next found.0 found.1
+go_on (Err left) next = Err left
+
+infixl 10 ◌>>=◌
+-- one phrase, and then the next
+abbrev pub ◌>>=◌ : {A B : Type 0} → Phrase A → (A → Phrase B) → Phrase B
+first >>= next = λ bytes. go_on (first bytes) next
+
+-- nothing more is read
+abbrev pub give : {A : Type 0} → A → Phrase A
+give found = λ bytes. Ok (found, bytes)
+
+-- a token of so many bytes, taken as this; or it can't stand here
+abbrev pub taken : {A : Type 0} → List ℕ → ℕ → Option A → Read A
+taken here size None = Err (length here)
+taken here size (Some found) = Ok (found, drop size here)
+
+-- the token that stands here, if one does
+abbrev pub taken_front : {A : Type 0} → (TokenKind → List ℕ → Option A) → List ℕ → Option (TokenKind × ℕ) → Read A
+taken_front accept here None = Err (length here)
+taken_front accept here (Some token) = taken here token.1 (accept token.0 (take token.1 here))
+
+-- behind blanks, a token that may stand there, as what it is taken
+abbrev pub token : {A : Type 0} → Front → (TokenKind → List ℕ → Option A) → Phrase A
+token front accept = λ bytes. taken_front accept (unblanked bytes) (front (unblanked bytes))
+
+-- the bytes behind a byte in front
+abbrev pub behind_byte : ℕ → List ℕ → Read (Unit {0})
+behind_byte wanted [] = Err 0
+behind_byte wanted (b ∷ bytes) = if b == wanted then Ok (tt, bytes) else Err (suc (length bytes))
+
+-- this sign
+unfoldable pub a_sign : ℕ → Phrase (Unit {0})
+a_sign wanted = λ bytes. behind_byte wanted (unblanked bytes)
+
+-- a phrase behind a sign
+abbrev pub behind : {A : Type 0} → ℕ → Phrase A → Phrase A
+behind wanted phrase = do
+  sign ← a_sign wanted
+  phrase
+
+-- a phrase in round brackets
+abbrev pub in_brackets : {A : Type 0} → Phrase A → Phrase A
+in_brackets phrase = do
+  found ← behind 40 phrase
+  close ← a_sign 41
+  give found
+
+-- two phrases with a comma between
+abbrev pub pair : {A B : Type 0} → Phrase A → Phrase B → Phrase (A × B)
+pair first second = do
+  a ← first
+  b ← behind 44 second
+  give (a, b)
+
+-- three
+abbrev pub triple : {A B C : Type 0} → Phrase A → Phrase B → Phrase C → Phrase (A × B × C)
+triple first second third = do
+  a ← first
+  b ← behind 44 second
+  c ← behind 44 third
+  give (a, b, c)
+
+-- what a phrase gives, as something else
+abbrev pub made : {A B : Type 0} → Phrase A → (A → B) → Phrase B
+made phrase make = do
+  found ← phrase
+  give (make found)
+
+-- a list, if a comma stands here, and else none
+abbrev pub if_comma : {A : Type 0} → Read (Unit {0}) → Phrase (List A) → Phrase (List A)
+if_comma (Ok comma) list = λ bytes. list comma.1
+if_comma (Err left) list = λ bytes. Ok ([], bytes)
+
+-- at most so many phrases, each behind a comma
+abbrev pub phrases : {A : Type 0} → Phrase A → ℕ → Phrase (List A)
+phrases phrase zero = give []
+phrases phrase (suc n) = λ bytes. if_comma (a_sign 44 bytes) (do
+  first ← phrase
+  others ← phrases phrase n
+  give (first ∷ others)) bytes
+
+-- as many phrases as commas stand there
+unfoldable pub repeated : {A : Type 0} → Phrase A → Phrase (List A)
+repeated phrase = λ bytes. phrases phrase (length bytes) bytes
+
+-- as many phrases as commas stand there, and the sign that closes them
+abbrev pub closed : {A : Type 0} → ℕ → Phrase A → Phrase (List A)
+closed close phrase = do
+  found ← repeated phrase
+  end ← a_sign close
+  give found
+
+-- what was read, behind a list
+abbrev pub onto : {A : Type 0} → List A → Read (List A) → Read (List A)
+onto front (Ok found) = Ok (front ++ found.0, found.1)
+onto front (Err left) = Err left
+
+-- what ends a text, and nothing behind it
+unfoldable pub the_end : List ℕ → Phrase (Unit {0})
+the_end ending = λ bytes. if bytes_eq (unblanked bytes) ending then Ok (tt, []) else Err (length (unblanked bytes))
+
+-- a text is this phrase and what ends it
+abbrev pub ended : {A : Type 0} → List ℕ → Phrase A → Phrase A
+ended ending phrase = do
+  found ← phrase
+  end ← the_end ending
+  give found
+
+-- what is found, or the place of the first byte that can't stand there, in a text of so many bytes
+abbrev pub outcome : {A : Type 0} → ℕ → Read A → Result A ℕ
+outcome size (Ok found) = Ok found.0
+outcome size (Err left) = Err (size - left)
