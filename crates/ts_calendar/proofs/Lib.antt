@@ -3,6 +3,7 @@ pub mod LineLemmas
 pub mod HeldLemmas
 pub mod FirstLemmas
 pub mod StepLemmas
+pub mod DatedLemmas
 pub mod LawLemmas
 pub mod JoinedLemmas
 pub mod StampTextLemmas

@@ -33,7 +33,7 @@ line-high : (day clock : ℕ) (n : ℤ) → pos 1 ≤ℤ year_in n → pos 10_00
 line-high day clock n low h = rw (int_lt_yes (pos 0) (year_in n) (omega (arith, signed_arith)), int_lt_no (year_in n) (pos 10_000) h) refl
 
 -- in between
-line-mid : (day clock : ℕ) (n : ℤ) → pos 1 ≤ℤ year_in n → year_in n ≤ℤ pos 9999
+pub line-mid : (day clock : ℕ) (n : ℤ) → pos 1 ≤ℤ year_in n → year_in n ≤ℤ pos 9999
     → month_line day clock n ≡ days_from_civil (year_in n) (month_in n) day *ℤ pos 8_640_000_000 +ℤ pos clock
 line-mid day clock n low high =
     rw (int_lt_yes (pos 0) (year_in n) (omega (arith, signed_arith)), int_lt_yes (year_in n) (pos 10_000) (omega (arith, signed_arith))) refl
@@ -45,7 +45,7 @@ early-valid n day low high some few =
     ((omega (arith, signed_arith), omega (arith, signed_arith)), (omega arith, omega (arith, signed_arith)), (some, omega (arith, dim)))
 
 -- such a day is a stamp
-mid-stamp : (day clock : ℕ) (n : ℤ) → pos 1 ≤ℤ year_in n → year_in n ≤ℤ pos 9999 → 1 ≤ day → day ≤ 28 → clock < 8_640_000_000
+pub mid-stamp : (day clock : ℕ) (n : ℤ) → pos 1 ≤ℤ year_in n → year_in n ≤ℤ pos 9999 → 1 ≤ day → day ≤ 28 → clock < 8_640_000_000
     → IsStamp (days_from_civil (year_in n) (month_in n) day *ℤ pos 8_640_000_000 +ℤ pos clock)
 mid-stamp day clock n low high some few time =
     let bounds = days_bounds (year_in n) (month_in n) day (early-valid n day low high some few) low in
@@ -78,7 +78,7 @@ month_line-rises day clock i j some few time lt =
     omega (arith, signed_arith, line-high day clock i first past, line-high day clock j from over)))
 
 -- months later on the line
-months-line : (t m : ℤ) → IsStamp t → day_of_month t ≤ 28
+pub months-line : (t m : ℤ) → IsStamp t → day_of_month t ≤ 28
     → months_after t m ≡ stamp_if_any (month_line (day_of_month t) (clock_of t) (month_of (civil_of (day_of t)) +ℤ m))
 unfolding months_after
 months-line t m stamp early =

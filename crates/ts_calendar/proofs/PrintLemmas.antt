@@ -5,10 +5,10 @@ use Rattle.ts_base.specs.Moment.{IsStamp, civil_of, day_of, clock_of}
 use Rattle.ts_base.specs.StampText.{read_stamp, stamp_text}
 use Rattle.ts_base.proofs.RoundTrip.{read_stamp-text}
 use Rattle.ts_pattern.specs.Grammar.{printed_plan}
-use Rattle.ts_pattern.specs.Spelling.{IsParted, Word}
-use Rattle.ts_pattern.proofs.PrintLemmas.{plan-inside, plan-itself}
-use Rattle.ts_pattern.proofs.SpellingLemmas.{parted-blanks}
-use Rattle.ts_pattern.proofs.PatternTextLemmas.{pattern-found}
+use Rattle.ts_text.specs.Parted.{IsParted}
+use Rattle.ts_text.proofs.PartedLemmas.{parted-blanks}
+use Rattle.ts_pattern.specs.Spelling.{Word}
+use Rattle.ts_pattern.proofs.PrintLemmas.{plan-itself, words_of, words-are, plan-parted}
 use Rattle.ts_calendar.specs.declared.text.PatternPart.{PatternPart}
 use Rattle.ts_calendar.specs.declared.text.PatternPart.TheVariants.{Named, Own}
 use Rattle.ts_calendar.specs.declared.text.CalendarText.{CalendarText}
@@ -44,19 +44,17 @@ part-printed (Named name) h = record {
     ([], name ++ 41 ∷ [], refl, refl, ([], 41 ∷ [], refl, refl, ([], [], refl, refl, refl))),
   );
 }
-part-printed (Own p) h =
-    let made = pattern-found (printed_plan p ++ 41 ∷ []) (41 ∷ []) p (plan-inside p [] h) in
-    record {
-      words = made.words;
-      is = made.written;
-      parted = (
-        [],
-        40 ∷ (printed_plan p ++ 41 ∷ []),
-        refl,
-        append_assoc (codes "pattern(") (printed_plan p) (41 ∷ []),
-        ([], printed_plan p ++ 41 ∷ [], refl, refl, made.parted ((41 ∷ []) ∷ []) ([], [], refl, refl, refl)),
-      );
-    }
+part-printed (Own p) h = record {
+  words = words_of p.runs;
+  is = words-are p h;
+  parted = (
+    [],
+    40 ∷ (printed_plan p ++ 41 ∷ []),
+    refl,
+    append_assoc (codes "pattern(") (printed_plan p) (41 ∷ []),
+    ([], printed_plan p ++ 41 ∷ [], refl, refl, plan-parted p (41 ∷ []) ((41 ∷ []) ∷ []) h ([], [], refl, refl, refl)),
+  );
+}
 
 regroup : (a s b p d t : List ℕ) → a ++ s ++ b ++ p ++ d ++ t ≡ a ++ (s ++ (b ++ (p ++ (d ++ t))))
 regroup a s b p d t = simp append_assoc
@@ -147,5 +145,5 @@ part-itself (Own p) h = ap own_part (plan-itself p h)
 
 pub read-printed : (c : CalendarText) → IsSound c → read_calendar (printed_calendar c) ≡ Ok c
 read-printed c h =
-    ap (calendar_or_place (printed_calendar c)) (read (printed_calendar c) c (text-printed c h))
+    ap calendar_or_place (read (printed_calendar c) c (text-printed c h))
     ∙ ap (with_part c) (part-itself c.part h.part_is)

@@ -10,7 +10,7 @@ use Rattle.std.proofs.lemmas.List.Folds.{list_all_at}
 use Rattle.ts_base.specs.Name.{is_blank}
 use Rattle.ts_base.specs.StampText.{has_stamp_form, has_stamp_length, has_stamp_signs, has_stamp_digits, all_digits, read_stamp}
 use Rattle.ts_base.proofs.TextLemmas.{form_facts}
-use Rattle.ts_pattern.specs.Tokens.{unblanked}
+use Rattle.ts_text.specs.Blanks.{unblanked}
 use Rattle.ts_calendar.specs.Text.{trimmed}
 
 -- no closing bracket

@@ -1,23 +1,33 @@
 -- A calendar is read exactly from its tokens.
-use Rattle.std.proofs.Common.{◌≡◌, ℕ, ◌≤◌, inl, inr, true, nat_le, List, [], ◌∷◌, ◌++◌, map, length, take, drop, reverse, refl, sym, ap, ◌∙◌, arith, subst, append_assoc, IsTrue, Option, Some, None, Result, Ok, Err, ℤ}
+use Rattle.std.proofs.Common.{◌≡◌, ℕ, ◌≤◌, inl, inr, Bool, true, false, nat_le, List, [], ◌∷◌, ◌++◌, map, length, take, drop, reverse, refl, sym, ap, ◌∙◌, arith, subst, append_assoc, IsTrue, Option, Some, None, Ok, Err, ℤ}
 use Rattle.std.specs.Prelude.{codes}
 use Rattle.std.specs.List.{list_all}
+use Rattle.std.specs.Str.{bytes_eq}
 use Rattle.std.proofs.lemmas.Bool.{and_parts, cases_Bool}
 use Rattle.std.proofs.lemmas.Bool.Decides.{nat_tests}
 use Rattle.std.proofs.lemmas.List.{reverse-append, reverse-reverse, take-append-drop}
+use Rattle.std.proofs.lemmas.Slice.Eq.{bytes_eq-Decides}
 use Rattle.std.proofs.Math.Seq.{take-append_seam, drop-append_seam}
 use Rattle.ts_base.specs.Name.{is_blank, is_word, is_name, name_if_any}
 use Rattle.ts_base.specs.StampText.{read_stamp}
+use Rattle.ts_text.specs.Blanks.{unblanked, are_blanks}
+use Rattle.ts_text.specs.Parted.{IsParted}
+use Rattle.ts_text.specs.Phrase.{Read, Phrase, go_on, ◌>>=◌, give, a_sign, behind, in_brackets, made, the_end, ended, outcome}
+use Rattle.ts_text.specs.Plain.{plain_front, a_word}
+use Rattle.ts_text.specs.declared.token.TokenKind.{TokenKind}
+use Rattle.ts_text.specs.declared.token.TokenKind.TheVariants.{Word as TheWord, Number, Text, Sign}
+use Rattle.ts_text.proofs.SpellingLemmas.{blanked, unblanked_past, unblanked-le}
+use Rattle.ts_text.proofs.SignLemmas.{sign_at}
+use Rattle.ts_text.proofs.PlainLemmas.{plain_laws, word_stands}
+use Rattle.ts_text.proofs.PartedLemmas.{bind-ok, pair-parts, are_blanks-append, parted-blanks, parted-token, IsSolid, token-first, token-found, token-read, sign-found, sign-read, word-found, word-read, stops-word, end-found, end-read}
 use Rattle.ts_pattern.specs.Plan.{Plan}
-use Rattle.ts_pattern.specs.Tokens.{◌>>=◌, unblanked, after_sign, after_word, word_of, end_in}
 use Rattle.ts_pattern.specs.Grammar.{pattern_in}
-use Rattle.ts_pattern.specs.Spelling.{are_blanks, IsParted, Word, pattern_before, run_of}
-use Rattle.ts_pattern.proofs.SpellingLemmas.{bind-ok, same-read, pair-parts, length-unblanked, unblanked-split, unblanked-blanks, are_blanks-append, parted-blanks, parted-token, IsSolid, token-first, sign-found, sign-read, word-read, word-found, stops-word, certain-read, certain-found}
-use Rattle.ts_pattern.proofs.PatternTextLemmas.{named-ok, named-read, pattern-found, pattern-read, end-found, end-read}
+use Rattle.ts_pattern.specs.Spelling.{Word, pattern_before, run_of}
+use Rattle.ts_pattern.proofs.PatternTextLemmas.{pattern-found, pattern-read}
 use Rattle.ts_calendar.specs.declared.text.PatternPart.{PatternPart}
 use Rattle.ts_calendar.specs.declared.text.PatternPart.TheVariants.{Named, Own}
 use Rattle.ts_calendar.specs.declared.text.CalendarText.{CalendarText}
-use Rattle.ts_calendar.specs.Text.{calendar_text, inside_len, trimmed, inside, stamp_or_not, stamp_in, date_in, name_in, name_part_in, pattern_part_in, part_behind, part_in, dates_in, written_calendar}
+use Rattle.ts_calendar.specs.Text.{calendar_text, inside_len, trimmed, inside, stamp_or_not, stamp_in, date_in, name_as, name_in, name_part_in, pattern_part_in, part_as, part_word_in, part_behind, part_in, dates_in, calendar_in, written_calendar}
 use Rattle.ts_calendar.specs.Spelling.{part_tokens, IsPart, IsCalendarText}
 use Rattle.ts_calendar.proofs.StampTextLemmas.{is_inner, IsPlain, stamp-plain}
 
@@ -33,13 +43,13 @@ are_blanks-reverse (x ∷ b) h =
 -- a text is what is left of it, and then blanks
 trimmed-split : (t : List ℕ) → (blanks : List ℕ) × IsTrue (are_blanks blanks) × (t ≡ trimmed t ++ blanks)
 trimmed-split t =
-    let s = unblanked-split (reverse t) in
-    (reverse s.0, are_blanks-reverse s.0 s.1, sym (reverse-reverse t) ∙ ap reverse s.2 ∙ reverse-append s.0 (unblanked (reverse t)))
+    let s = blanked (reverse t) in
+    (reverse s.blanks, are_blanks-reverse s.blanks s.all, sym (reverse-reverse t) ∙ ap reverse s.split ∙ reverse-append s.blanks (unblanked (reverse t)))
 
 trimmed-blanks : (t blanks : List ℕ) → are_blanks blanks ≡ true → trimmed (t ++ blanks) ≡ trimmed t
 trimmed-blanks t blanks h =
     ap (λ x. reverse (unblanked x)) (reverse-append t blanks)
-    ∙ ap reverse (unblanked-blanks (reverse blanks) (reverse t) (are_blanks-reverse blanks h))
+    ∙ ap reverse (unblanked_past (reverse blanks) (reverse t) (are_blanks-reverse blanks h))
 
 -- stamps
 
@@ -100,7 +110,7 @@ plain-solid (b ∷ s) h = elim (cases_Bool (is_blank b)) [
 ]
   where
     short : (s : List ℕ) → length (unblanked s) ≤ length s
-    short s = length-unblanked s
+    short s = unblanked-le s
 
 -- a stamp that is read
 stamp-read : (text bytes : List ℕ) (s : ℤ) (tokens : List (List ℕ)) → read_stamp bytes ≡ Some s → (p : IsParted (bytes ∷ (41 ∷ []) ∷ tokens) text)
@@ -127,22 +137,26 @@ record IsDateFound (word text : List ℕ) (s : ℤ) (rest : List ℕ) : Type 0 w
   value : read_stamp bytes ≡ Some s
   parted : (tokens : List (List ℕ)) → IsParted tokens rest → IsParted (word ∷ (40 ∷ []) ∷ bytes ∷ (41 ∷ []) ∷ tokens) text
 
+-- the phrases of a date
+abbrev in_date : Phrase ℤ
+in_date = in_brackets stamp_in
+
 date-found : (word text rest : List ℕ) (s : ℤ) → date_in word text ≡ Ok (s, rest) → IsDateFound word text s rest
 unfolding date_in
 date-found word text rest s h =
-    let first = bind-ok (after_word word text) (λ behind. after_sign 40 behind >>= (λ bracket. stamp_in bracket >>= (λ stamp. after_sign 41 stamp.1 >>= (λ last. Ok (stamp.0, last))))) (s, rest) h in
-    let second = bind-ok (after_sign 40 first.0) (λ bracket. stamp_in bracket >>= (λ stamp. after_sign 41 stamp.1 >>= (λ last. Ok (stamp.0, last)))) (s, rest) first.2 in
-    let third = bind-ok (stamp_in second.0) (λ stamp. after_sign 41 stamp.1 >>= (λ last. Ok (stamp.0, last))) (s, rest) second.2 in
-    let fourth = bind-ok (after_sign 41 third.0.1) (λ last. Ok (third.0.0, last)) (s, rest) third.2 in
-    let made = pair-parts third.0.0 s fourth.0 rest fourth.2 in
-    let stamp = stamp-found second.0 third.0.1 third.0.0 third.1 in
+    let first = bind-ok (a_word word text) (λ name. in_date) (s, rest) h in
+    let second = bind-ok (behind 40 stamp_in first.0.1) (λ found. a_sign 41 >>= (λ close. give found)) (s, rest) first.2 in
+    let bracket = bind-ok (a_sign 40 first.0.1) (λ sign. stamp_in) second.0 second.1 in
+    let third = bind-ok (a_sign 41 second.0.1) (λ close. give second.0.0) (s, rest) second.2 in
+    let same = pair-parts second.0.0 s third.0.1 rest third.2 in
+    let stamp = stamp-found bracket.0.1 second.0.1 second.0.0 bracket.2 in
     record {
       bytes = stamp.bytes;
-      value = stamp.value ∙ ap Some made.0;
-      parted = λ tokens p. certain-found text word first.0 ((40 ∷ []) ∷ stamp.bytes ∷ (41 ∷ []) ∷ tokens) first.1
-          (sign-found 40 first.0 second.0 (stamp.bytes ∷ (41 ∷ []) ∷ tokens) second.1
+      value = stamp.value ∙ ap Some same.0;
+      parted = λ tokens p. word-found word text first.0.1 ((40 ∷ []) ∷ stamp.bytes ∷ (41 ∷ []) ∷ tokens) first.1
+          (sign-found 40 first.0.1 bracket.0.1 (stamp.bytes ∷ (41 ∷ []) ∷ tokens) bracket.1
           (stamp.parted ((41 ∷ []) ∷ tokens)
-          (sign-found 41 third.0.1 fourth.0 tokens fourth.1 (subst (λ t. IsParted tokens t) (sym made.1) p))));
+          (sign-found 41 second.0.1 third.0.1 tokens third.1 (subst (λ t. IsParted tokens t) (sym same.1) p))));
     }
 
 record IsDateRead (word text : List ℕ) (s : ℤ) (tokens : List (List ℕ)) : Type 0 where
@@ -154,18 +168,23 @@ date-read : (word text bytes : List ℕ) (s : ℤ) (tokens : List (List ℕ)) �
     → IsParted (word ∷ (40 ∷ []) ∷ bytes ∷ (41 ∷ []) ∷ tokens) text → IsDateRead word text s tokens
 unfolding date_in
 date-read word text bytes s tokens w h p =
-    let first = certain-read text word ((40 ∷ []) ∷ bytes ∷ (41 ∷ []) ∷ tokens) w p (stops-word ((40 ∷ []) ∷ bytes ∷ (41 ∷ []) ∷ tokens) p.1 refl p.4) in
+    let first = word-read word text ((40 ∷ []) ∷ bytes ∷ (41 ∷ []) ∷ tokens) w p (stops-word ((40 ∷ []) ∷ bytes ∷ (41 ∷ []) ∷ tokens) p.1 refl p.4) in
     let q = p.4 in
     let second = sign-read 40 p.1 (bytes ∷ (41 ∷ []) ∷ tokens) refl q in
     let third = stamp-read q.1 bytes s tokens h q.4 in
     let last = q.4.4 in
+    let fourth = close-read last.1 in
     record {
       rest = last.1;
-      value = ap (λ x. x >>= (λ behind. after_sign 40 behind >>= (λ bracket. stamp_in bracket >>= (λ stamp. after_sign 41 stamp.1 >>= (λ last. Ok (stamp.0, last)))))) first
-          ∙ ap (λ x. x >>= (λ bracket. stamp_in bracket >>= (λ stamp. after_sign 41 stamp.1 >>= (λ last. Ok (stamp.0, last))))) second
-          ∙ ap (λ x. x >>= (λ (stamp : ℤ × List ℕ). after_sign 41 stamp.1 >>= (λ last. Ok (stamp.0, last)))) third;
+      value = ap (λ (x : Read (Unit {0})). go_on x (λ name. in_date)) first
+          ∙ ap (λ (x : Read (Unit {0})). go_on (go_on x (λ sign. stamp_in)) (λ found. a_sign 41 >>= (λ close. give found))) second
+          ∙ ap (λ (x : Read ℤ). go_on x (λ found. a_sign 41 >>= (λ close. give found))) third
+          ∙ ap (λ (x : Read (Unit {0})). go_on x (λ close. give s)) fourth;
       parted = last.4;
     }
+  where
+    close-read : (rest : List ℕ) → a_sign 41 (41 ∷ rest) ≡ Ok (tt, rest)
+    close-read rest = sign_at 41 (41 ∷ rest) rest refl
 
 -- the part
 
@@ -183,51 +202,90 @@ record IsPartFound (text : List ℕ) (part : PatternPart) (rest : List ℕ) : Ty
   is : IsPart part words
   parted : are_blanks rest ≡ true → IsParted (part_tokens part words) text
 
-name-found : (text behind rest : List ℕ) (part : PatternPart) → after_word (codes "pattname") text ≡ Ok behind → name_part_in behind ≡ Ok (part, rest) → IsPartFound text part rest
-unfolding name_part_in
-name-found text behind rest part w h =
-    let first = bind-ok (after_sign 40 behind) (λ bracket. name_in bracket >>= (λ name. after_sign 41 name.1 >>= (λ last. Ok (Named name.0, last)))) (part, rest) h in
-    let second = bind-ok (name_in first.0) (λ name. after_sign 41 name.1 >>= (λ last. Ok (Named name.0, last))) (part, rest) first.2 in
-    let third = bind-ok (after_sign 41 second.0.1) (λ last. Ok (Named second.0.0, last)) (part, rest) second.2 in
-    let made = pair-parts (Named second.0.0) part third.0 rest third.2 in
-    let name = second.0.0 in
-    let word = word_of (unblanked first.0) in
-    let is = named-ok (name_if_any word) (unblanked first.0) second.0.1 name second.1 in
-    let good = name-is word name is.0 in
-    subst (λ (x : PatternPart). IsPartFound text x rest) made.0 (record {
-      words = [];
-      is = ap is_name (sym good.0) ∙ good.1;
-      parted = λ b. certain-found text (codes "pattname") behind ((40 ∷ []) ∷ name ∷ (41 ∷ []) ∷ []) w
-          (sign-found 40 behind first.0 (name ∷ (41 ∷ []) ∷ []) first.1
-          (word-found first.0 name ((41 ∷ []) ∷ []) good.0 (subst (λ t. IsParted ((41 ∷ []) ∷ []) t) (sym is.1)
-          (sign-found 41 second.0.1 third.0 [] third.1 (subst (λ t. IsParted [] t) (sym made.1) b)))));
-    })
+-- what a word names
+name_found : (kind : TokenKind) (text n : List ℕ) → name_as kind text ≡ Some n → (text ≡ n) × (is_name text ≡ true)
+name_found TheWord text n h = name-is text n h
+name_found Number text n h = absurd (cc)
+name_found Text text n h = absurd (cc)
+name_found Sign text n h = absurd (cc)
 
-own-found : (text behind rest : List ℕ) (part : PatternPart) → after_word (codes "pattern") text ≡ Ok behind → pattern_part_in behind ≡ Ok (part, rest) → IsPartFound text part rest
-unfolding pattern_part_in
-own-found text behind rest part w h =
-    let first = bind-ok (after_sign 40 behind) (λ bracket. pattern_in bracket >>= (λ pattern. after_sign 41 pattern.1 >>= (λ last. Ok (Own pattern.0, last)))) (part, rest) h in
-    let second = bind-ok (pattern_in first.0) (λ pattern. after_sign 41 pattern.1 >>= (λ last. Ok (Own pattern.0, last))) (part, rest) first.2 in
-    let third = bind-ok (after_sign 41 second.0.1) (λ last. Ok (Own second.0.0, last)) (part, rest) second.2 in
-    let made = pair-parts (Own second.0.0) part third.0 rest third.2 in
-    let p = second.0.0 in
-    let is = pattern-found first.0 second.0.1 p second.1 in
-    subst (λ (x : PatternPart). IsPartFound text x rest) made.0 (record {
-      words = is.words;
-      is = is.written;
-      parted = λ b. certain-found text (codes "pattern") behind ((40 ∷ []) ∷ pattern_before is.words p.unit ((41 ∷ []) ∷ [])) w
-          (sign-found 40 behind first.0 (pattern_before is.words p.unit ((41 ∷ []) ∷ [])) first.1
-          (is.parted ((41 ∷ []) ∷ [])
-          (sign-found 41 second.0.1 third.0 [] third.1 (subst (λ t. IsParted [] t) (sym made.1) b))));
-    })
+-- the word before a name, or before a pattern
+abbrev part_name : Bool → List ℕ
+part_name true = codes "pattname"
+part_name false = codes "pattern"
+
+part_word : (kind : TokenKind) (text : List ℕ) (is_named : Bool) → part_as kind text ≡ Some is_named → text ≡ part_name is_named
+part_word TheWord text is_named h = elim (cases_Bool (bytes_eq text (codes "pattname"))) [
+  | inl t ↦ let at = rw t at h in let same : true ≡ is_named = cc in (bytes_eq-Decides text (codes "pattname")).0 t ∙ ap part_name same
+  | inr f ↦ elim (cases_Bool (bytes_eq text (codes "pattern"))) [
+    | inl t ↦ let at = rw (f, t) at h in let same : false ≡ is_named = cc in (bytes_eq-Decides text (codes "pattern")).0 t ∙ ap part_name same
+    | inr f2 ↦ absurd (let no = rw (f, f2) at h in cc)
+  ]
+]
+part_word Number text is_named h = absurd (cc)
+part_word Text text is_named h = absurd (cc)
+part_word Sign text is_named h = absurd (cc)
+
+-- what stands in brackets
+record InBrackets {A : Type 0} (phrase : Phrase A) (text : List ℕ) (a : A) (rest : List ℕ) : Type 0 where
+  inside_at : List ℕ
+  behind_at : List ℕ
+  opens : a_sign 40 text ≡ Ok (tt, inside_at)
+  inner : phrase inside_at ≡ Ok (a, behind_at)
+  closes : a_sign 41 behind_at ≡ Ok (tt, rest)
+
+brackets-found : {A B : Type 0} (phrase : Phrase A) (make : A → B) (text rest : List ℕ) (b : B) → made (in_brackets phrase) make text ≡ Ok (b, rest) → (a : A) × (make a ≡ b) × InBrackets phrase text a rest
+brackets-found {A} {B} phrase make text rest b h =
+    let found = bind-ok (in_brackets phrase text) (λ found. give (make found)) (b, rest) h in
+    let same = pair-parts (make found.0.0) b found.0.1 rest found.2 in
+    let second = bind-ok (behind 40 phrase text) (λ found. a_sign 41 >>= (λ close. give found)) found.0 found.1 in
+    let bracket = bind-ok (a_sign 40 text) (λ sign. phrase) second.0 second.1 in
+    let third = bind-ok (a_sign 41 second.0.1) (λ close. give second.0.0) found.0 second.2 in
+    let kept = pair-parts second.0.0 found.0.0 third.0.1 found.0.1 third.2 in (
+      second.0.0,
+      ap make kept.0 ∙ same.0,
+      record { inside_at = bracket.0.1; behind_at = second.0.1; opens = bracket.1; inner = bracket.2; closes = third.1 ∙ ap (λ (l : List ℕ). Ok (tt, l)) (kept.1 ∙ same.1) },
+    )
+
+brackets-read : {A B : Type 0} (phrase : Phrase A) (make : A → B) (text rest : List ℕ) (a : A) → InBrackets phrase text a rest → made (in_brackets phrase) make text ≡ Ok (make a, rest)
+brackets-read {A} {B} phrase make text rest a is =
+    ap (λ (x : Read (Unit {0})). go_on (go_on (go_on x (λ sign. phrase)) (λ found. a_sign 41 >>= (λ close. give found))) (λ found. give (make found))) is.opens
+    ∙ ap (λ (x : Read A). go_on (go_on x (λ found. a_sign 41 >>= (λ close. give found))) (λ found. give (make found))) is.inner
+    ∙ ap (λ (x : Read (Unit {0})). go_on (go_on x (λ close. give a)) (λ found. give (make found))) is.closes
 
 part-found : (text rest : List ℕ) (part : PatternPart) → part_in text ≡ Ok (part, rest) → IsPartFound text part rest
-part-found text rest part h = go (after_word (codes "pattname") text) refl h where
-  go : (r : Result (List ℕ) ℕ) → after_word (codes "pattname") text ≡ r → part_behind r text ≡ Ok (part, rest) → IsPartFound text part rest
-  go (Ok behind) e h = name-found text behind rest part e h
-  go (Err left) e h =
-      let word = bind-ok (after_word (codes "pattern") text) pattern_part_in (part, rest) h in
-      own-found text word.0 rest part word.1 word.2
+unfolding part_in part_word_in name_part_in pattern_part_in name_in
+part-found text rest part h =
+    let first = bind-ok (part_word_in text) part_behind (part, rest) h in
+    let word = token-found plain_front plain_laws part_as text first.0.1 first.0.0 first.1 in
+    go first.0.0 first.0.1 (λ tokens p. subst (λ (l : List ℕ). IsParted (l ∷ tokens) text) (part_word word.kind word.text first.0.0 word.accepted) (parted-token text word.text first.0.1 tokens word.whole p)) first.2
+  where
+    go : (is_named : Bool) (behind_word : List ℕ) → ((tokens : List (List ℕ)) → IsParted tokens behind_word → IsParted (part_name is_named ∷ tokens) text) → part_behind is_named behind_word ≡ Ok (part, rest) → IsPartFound text part rest
+    go true behind_word word h =
+        let is = brackets-found name_in Named behind_word rest part h in
+        let b = is.2 in
+        let name = token-found plain_front plain_laws name_as b.inside_at b.behind_at is.0 b.inner in
+        let good = name_found name.kind name.text is.0 name.accepted in
+        subst (λ (x : PatternPart). IsPartFound text x rest) is.1 (record {
+          words = [];
+          is = ap is_name (sym good.0) ∙ good.1;
+          parted = λ blank. word ((40 ∷ []) ∷ is.0 ∷ (41 ∷ []) ∷ [])
+              (sign-found 40 behind_word b.inside_at (is.0 ∷ (41 ∷ []) ∷ []) b.opens
+              (subst (λ (l : List ℕ). IsParted (l ∷ (41 ∷ []) ∷ []) b.inside_at) good.0
+              (parted-token b.inside_at name.text b.behind_at ((41 ∷ []) ∷ []) name.whole (sign-found 41 b.behind_at rest [] b.closes blank))));
+        })
+    go false behind_word word h =
+        let is = brackets-found pattern_in Own behind_word rest part h in
+        let b = is.2 in
+        let p = is.0 in
+        let pattern = pattern-found b.inside_at b.behind_at p b.inner in
+        subst (λ (x : PatternPart). IsPartFound text x rest) is.1 (record {
+          words = pattern.words;
+          is = pattern.written;
+          parted = λ blank. word ((40 ∷ []) ∷ pattern_before pattern.words p.unit ((41 ∷ []) ∷ []))
+              (sign-found 40 behind_word b.inside_at (pattern_before pattern.words p.unit ((41 ∷ []) ∷ [])) b.opens
+              (pattern.parted ((41 ∷ []) ∷ []) (sign-found 41 b.behind_at rest [] b.closes blank)));
+        })
 
 record IsPartRead (text : List ℕ) (part : PatternPart) : Type 0 where
   rest : List ℕ
@@ -235,88 +293,109 @@ record IsPartRead (text : List ℕ) (part : PatternPart) : Type 0 where
   blank : are_blanks rest ≡ true
 
 part-read : (text : List ℕ) (part : PatternPart) (words : List Word) → IsPart part words → IsParted (part_tokens part words) text → IsPartRead text part
-unfolding name_part_in pattern_part_in
+unfolding part_in part_word_in name_part_in pattern_part_in name_in
 part-read text (Named name) words h p =
     let tokens = (40 ∷ []) ∷ name ∷ (41 ∷ []) ∷ [] in
-    let word = certain-read text (codes "pattname") tokens refl p (stops-word tokens p.1 refl p.4) in
+    let word = token-read plain_front plain_laws part_as text (codes "pattname") tokens TheWord true p (word_stands (codes "pattname") p.1 refl (stops-word tokens p.1 refl p.4)) refl in
     let q = p.4 in
-    let bracket = sign-read 40 p.1 (name ∷ (41 ∷ []) ∷ []) refl q in
     let n = q.4 in
-    let is_word : is_word name ≡ true = (and_parts (is_word name) (nat_le (length name) 32) h).0 in
-    let read_name = word-read q.1 name ((41 ∷ []) ∷ []) is_word n (stops-word ((41 ∷ []) ∷ []) n.1 refl n.4) in
-    let found_name = named-read name_if_any name q.1 name n.1 (name-some name h) read_name in
-    let last = sign-read 41 n.1 [] refl n.4 in
+    let is_a_word : is_word name ≡ true = (and_parts (is_word name) (nat_le (length name) 32) h).0 in
+    let inside_is = token-read plain_front plain_laws name_as q.1 name ((41 ∷ []) ∷ []) TheWord name n (word_stands name n.1 is_a_word (stops-word ((41 ∷ []) ∷ []) n.1 refl n.4)) (name-some name h) in
     record {
       rest = n.4.1;
-      value = ap (λ r. part_behind r text) word
-          ∙ ap (λ x. x >>= (λ bracket. name_in bracket >>= (λ name. after_sign 41 name.1 >>= (λ last. Ok (Named name.0, last))))) bracket
-          ∙ ap (λ x. x >>= (λ (name : List ℕ × List ℕ). after_sign 41 name.1 >>= (λ last. Ok (Named name.0, last)))) found_name
-          ∙ ap (λ x. x >>= (λ last. Ok (Named name, last))) last;
+      value = ap (λ (r : Read Bool). go_on r part_behind) word
+          ∙ brackets-read name_in Named p.1 n.4.1 name (record {
+            inside_at = q.1;
+            behind_at = n.1;
+            opens = sign-read 40 p.1 (name ∷ (41 ∷ []) ∷ []) refl q;
+            inner = inside_is;
+            closes = sign-read 41 n.1 [] refl n.4;
+          });
       blank = n.4.4;
     }
 part-read text (Own u) words h p =
     let inner = pattern_before words u.unit ((41 ∷ []) ∷ []) in
     let tokens = (40 ∷ []) ∷ inner in
-    let stop = stops-word tokens p.1 refl p.4 in
-    let word = certain-read text (codes "pattern") tokens refl p stop in
-    let other : after_word (codes "pattname") text ≡ Err (length (unblanked text)) =
-    not_name text (word-read text (codes "pattern") tokens refl p stop).word_is in
+    let word = token-read plain_front plain_laws part_as text (codes "pattern") tokens TheWord false p (word_stands (codes "pattern") p.1 refl (stops-word tokens p.1 refl p.4)) refl in
     let q = p.4 in
-    let bracket = sign-read 40 p.1 inner refl q in
     let pattern = pattern-read words u.unit ((41 ∷ []) ∷ []) q.1 h.some h.counts refl q.4 in
-    let last = sign-read 41 pattern.rest [] refl pattern.parted in
-    let made : Plan = record { unit = u.unit; runs = map run_of words } in
-    let plan_is : made ≡ u = ap (λ rs. record { unit = u.unit; runs = rs }) h.value in
+    let made_plan : Plan = record { unit = u.unit; runs = map run_of words } in
+    let plan_is : made_plan ≡ u = ap (λ rs. record { unit = u.unit; runs = rs }) h.value in
     record {
       rest = pattern.parted.1;
-      value = ap (λ r. part_behind r text) other
-          ∙ ap (λ r. r >>= pattern_part_in) word
-          ∙ ap (λ x. x >>= (λ bracket. pattern_in bracket >>= (λ pattern. after_sign 41 pattern.1 >>= (λ last. Ok (Own pattern.0, last))))) bracket
-          ∙ ap (λ x. x >>= (λ (pattern : Plan × List ℕ). after_sign 41 pattern.1 >>= (λ last. Ok (Own pattern.0, last)))) pattern.value
-          ∙ ap (λ x. x >>= (λ last. Ok (Own made, last))) last
+      value = ap (λ (r : Read Bool). go_on r part_behind) word
+          ∙ brackets-read pattern_in Own p.1 pattern.parted.1 made_plan (record {
+            inside_at = q.1;
+            behind_at = pattern.rest;
+            opens = sign-read 40 p.1 inner refl q;
+            inner = pattern.value;
+            closes = sign-read 41 pattern.rest [] refl pattern.parted;
+          })
           ∙ ap (λ (v : Plan). Ok (Own v, pattern.parted.1)) plan_is;
       blank = pattern.parted.4;
     }
-  where
-    not_name : (text : List ℕ) → word_of (unblanked text) ≡ codes "pattern" → after_word (codes "pattname") text ≡ Err (length (unblanked text))
-    not_name text e = rw e refl
 
 -- the whole text
 
+-- the two dates that were read
+record AreDates (text : List ℕ) (start patt_start : ℤ) (rest : List ℕ) : Type 0 where
+  start_text : List ℕ
+  patt_start_text : List ℕ
+  start_is : read_stamp start_text ≡ Some start
+  patt_start_is : read_stamp patt_start_text ≡ Some patt_start
+  parted : (tokens : List (List ℕ)) → IsParted tokens rest → IsParted (codes "startdate" ∷ (40 ∷ []) ∷ start_text ∷ (41 ∷ []) ∷ (44 ∷ []) ∷ codes "pattstart" ∷ (40 ∷ []) ∷ patt_start_text ∷ (41 ∷ []) ∷ (44 ∷ []) ∷ tokens) text
+
+dates-found : (text rest : List ℕ) (start patt_start : ℤ) → dates_in text ≡ Ok ((start, patt_start), rest) → AreDates text start patt_start rest
+unfolding dates_in
+dates-found text rest start patt_start h =
+    let d : ℤ × ℤ = (start, patt_start) in
+    let first = bind-ok (date_in (codes "startdate") text) (λ start. behind 44 (date_in (codes "pattstart")) >>= (λ patt_start. a_sign 44 >>= (λ comma. give (start, patt_start)))) (d, rest) h in
+    let third = bind-ok (behind 44 (date_in (codes "pattstart")) first.0.1) (λ patt_start. a_sign 44 >>= (λ comma. give (first.0.0, patt_start))) (d, rest) first.2 in
+    let second = bind-ok (a_sign 44 first.0.1) (λ sign. date_in (codes "pattstart")) third.0 third.1 in
+    let fourth = bind-ok (a_sign 44 third.0.1) (λ comma. give (first.0.0, third.0.0)) (d, rest) third.2 in
+    let made_dates : ℤ × ℤ = (first.0.0, third.0.0) in
+    let same = pair-parts made_dates d fourth.0.1 rest fourth.2 in
+    let one = date-found (codes "startdate") text first.0.1 first.0.0 first.1 in
+    let two = date-found (codes "pattstart") second.0.1 third.0.1 third.0.0 second.2 in
+    record {
+      start_text = one.bytes;
+      patt_start_text = two.bytes;
+      start_is = one.value ∙ ap (λ (x : ℤ × ℤ). Some x.0) same.0;
+      patt_start_is = two.value ∙ ap (λ (x : ℤ × ℤ). Some x.1) same.0;
+      parted = λ tokens p. one.parted ((44 ∷ []) ∷ codes "pattstart" ∷ (40 ∷ []) ∷ two.bytes ∷ (41 ∷ []) ∷ (44 ∷ []) ∷ tokens)
+          (sign-found 44 first.0.1 second.0.1 (codes "pattstart" ∷ (40 ∷ []) ∷ two.bytes ∷ (41 ∷ []) ∷ (44 ∷ []) ∷ tokens) second.1
+          (two.parted ((44 ∷ []) ∷ tokens)
+          (sign-found 44 third.0.1 fourth.0.1 tokens fourth.1 (subst (λ t. IsParted tokens t) (sym same.1) p))));
+    }
+
 pub found : (text : List ℕ) (c : CalendarText) → written_calendar text ≡ Ok c → IsCalendarText c text
-unfolding written_calendar dates_in
-found text c h =
-    let dates = bind-ok (dates_in text) (λ dates. part_in dates.2 >>= (λ part. end_in part.1 >>= (λ end. Ok (calendar_text dates.0 dates.1 part.0)))) c h in
-    let part = bind-ok (part_in dates.0.2) (λ part. end_in part.1 >>= (λ end. Ok (calendar_text dates.0.0 dates.0.1 part.0))) c dates.2 in
-    let end = bind-ok (end_in part.0.1) (λ (end : Unit {0}). Ok (calendar_text dates.0.0 dates.0.1 part.0.0)) c part.2 in
-    let is : calendar_text dates.0.0 dates.0.1 part.0.0 ≡ c = same-read (calendar_text dates.0.0 dates.0.1 part.0.0) c end.2 in
-    let d = dates.0 in
-    let first = bind-ok (date_in (codes "startdate") text) (λ start. after_sign 44 start.1 >>= (λ first. date_in (codes "pattstart") first >>= (λ patt_start. after_sign 44 patt_start.1 >>= (λ second. Ok (start.0, patt_start.0, second))))) d dates.1 in
-    let second = bind-ok (after_sign 44 first.0.1) (λ x. date_in (codes "pattstart") x >>= (λ patt_start. after_sign 44 patt_start.1 >>= (λ second. Ok (first.0.0, patt_start.0, second)))) d first.2 in
-    let third = bind-ok (date_in (codes "pattstart") second.0) (λ patt_start. after_sign 44 patt_start.1 >>= (λ second. Ok (first.0.0, patt_start.0, second))) d second.2 in
-    let fourth = bind-ok (after_sign 44 third.0.1) (λ x. Ok (first.0.0, third.0.0, x)) d third.2 in
-    let given : (first.0.0, third.0.0, fourth.0) ≡ d = same-read (first.0.0, third.0.0, fourth.0) d fourth.2 in
-    let start = date-found (codes "startdate") text first.0.1 first.0.0 first.1 in
-    let patt = date-found (codes "pattstart") second.0 third.0.1 third.0.0 third.1 in
-    let made = part-found d.2 part.0.1 part.0.0 part.1 in
-    let blank = end-found part.0.1 end.0 end.1 in
-    let tail = part_tokens part.0.0 made.words in
-    subst (λ (x : CalendarText). IsCalendarText x text) is (record {
-      start_text = start.bytes;
-      patt_start_text = patt.bytes;
-      words = made.words;
-      start_is = start.value ∙ ap (λ x. Some x.0) given;
-      patt_start_is = patt.value ∙ ap (λ x. Some x.1) given;
-      part_is = made.is;
-      parted = start.parted ((44 ∷ []) ∷ codes "pattstart" ∷ (40 ∷ []) ∷ patt.bytes ∷ (41 ∷ []) ∷ (44 ∷ []) ∷ tail)
-          (sign-found 44 first.0.1 second.0 (codes "pattstart" ∷ (40 ∷ []) ∷ patt.bytes ∷ (41 ∷ []) ∷ (44 ∷ []) ∷ tail) second.1
-          (patt.parted ((44 ∷ []) ∷ tail)
-          (sign-found 44 third.0.1 fourth.0 tail fourth.1
-          (subst (λ t. IsParted tail t) (sym (ap (λ x. x.2) given)) (made.parted blank)))));
-    })
+unfolding calendar_in
+found text c h = by_read (ended [] calendar_in text) refl h where
+  by_read : (read : Read CalendarText) → ended [] calendar_in text ≡ read → outcome (length text) read ≡ Ok c → IsCalendarText c text
+  by_read (Err left) e is = absurd (cc)
+  by_read (Ok x) e is =
+      let whole = bind-ok (calendar_in text) (λ found. the_end [] >>= (λ end. give found)) x e in
+      let end = bind-ok (the_end [] whole.0.1) (λ end. give whole.0.0) x whole.2 in
+      let same : x.0 ≡ c = cc in
+      let dates = bind-ok (dates_in text) (λ dates. part_in >>= (λ part. give (calendar_text dates.0 dates.1 part))) whole.0 whole.1 in
+      let part = bind-ok (part_in dates.0.1) (λ part. give (calendar_text dates.0.0.0 dates.0.0.1 part)) whole.0 dates.2 in
+      let kept = pair-parts (calendar_text dates.0.0.0 dates.0.0.1 part.0.0) whole.0.0 part.0.1 whole.0.1 part.2 in
+      let is_c : calendar_text dates.0.0.0 dates.0.0.1 part.0.0 ≡ c = kept.0 ∙ (pair-parts whole.0.0 x.0 end.0.1 x.1 end.2).0 ∙ same in
+      let both = dates-found text dates.0.1 dates.0.0.0 dates.0.0.1 dates.1 in
+      let one = part-found dates.0.1 part.0.1 part.0.0 part.1 in
+      let blank : IsParted [] part.0.1 = subst (λ (l : List ℕ). IsParted [] l) (sym kept.1) (end-found whole.0.1 end.0 end.1) in
+      subst (λ (y : CalendarText). IsCalendarText y text) is_c (record {
+        start_text = both.start_text;
+        patt_start_text = both.patt_start_text;
+        words = one.words;
+        start_is = both.start_is;
+        patt_start_is = both.patt_start_is;
+        part_is = one.is;
+        parted = both.parted (part_tokens part.0.0 one.words) (one.parted blank);
+      })
 
 pub read : (text : List ℕ) (c : CalendarText) → IsCalendarText c text → written_calendar text ≡ Ok c
-unfolding written_calendar dates_in
+unfolding calendar_in dates_in
 read text c t =
     let tail = part_tokens c.part t.words in
     let start = date-read (codes "startdate") text t.start_text c.start
@@ -325,11 +404,13 @@ read text c t =
     let patt = date-read (codes "pattstart") start.parted.1 t.patt_start_text c.patt_start ((44 ∷ []) ∷ tail) refl t.patt_start_is start.parted.4 in
     let second = sign-read 44 patt.rest tail refl patt.parted in
     let part = part-read patt.parted.1 c.part t.words t.part_is patt.parted.4 in
-    let dates : dates_in text ≡ Ok (c.start, c.patt_start, patt.parted.1) =
-    ap (λ x. x >>= (λ start. after_sign 44 start.1 >>= (λ first. date_in (codes "pattstart") first >>= (λ patt_start. after_sign 44 patt_start.1 >>= (λ second. Ok (start.0, patt_start.0, second)))))) start.value
-    ∙ ap (λ x. x >>= (λ first. date_in (codes "pattstart") first >>= (λ patt_start. after_sign 44 patt_start.1 >>= (λ second. Ok (c.start, patt_start.0, second))))) first
-    ∙ ap (λ x. x >>= (λ (patt_start : ℤ × List ℕ). after_sign 44 patt_start.1 >>= (λ second. Ok (c.start, patt_start.0, second)))) patt.value
-    ∙ ap (λ x. x >>= (λ second. Ok (c.start, c.patt_start, second))) second in
-    ap (λ x. x >>= (λ (dates : ℤ × ℤ × List ℕ). part_in dates.2 >>= (λ part. end_in part.1 >>= (λ (end : Unit {0}). Ok (calendar_text dates.0 dates.1 part.0))))) dates
-    ∙ ap (λ x. x >>= (λ (part : PatternPart × List ℕ). end_in part.1 >>= (λ (end : Unit {0}). Ok (calendar_text c.start c.patt_start part.0)))) part.value
-    ∙ ap (λ x. x >>= (λ (end : Unit {0}). Ok (calendar_text c.start c.patt_start c.part))) (end-read part.rest part.blank)
+    let dates : dates_in text ≡ Ok ((c.start, c.patt_start), patt.parted.1) =
+    ap (λ (x : Read ℤ). go_on x (λ start. behind 44 (date_in (codes "pattstart")) >>= (λ patt_start. a_sign 44 >>= (λ comma. give (start, patt_start))))) start.value
+    ∙ ap (λ (x : Read (Unit {0})). go_on (go_on x (λ sign. date_in (codes "pattstart"))) (λ patt_start. a_sign 44 >>= (λ comma. give (c.start, patt_start)))) first
+    ∙ ap (λ (x : Read ℤ). go_on x (λ patt_start. a_sign 44 >>= (λ comma. give (c.start, patt_start)))) patt.value
+    ∙ ap (λ (x : Read (Unit {0})). go_on x (λ comma. give (c.start, c.patt_start))) second in
+    let whole : calendar_in text ≡ Ok (calendar_text c.start c.patt_start c.part, part.rest) =
+    ap (λ (x : Read (ℤ × ℤ)). go_on x (λ dates. part_in >>= (λ part. give (calendar_text dates.0 dates.1 part)))) dates
+    ∙ ap (λ (x : Read PatternPart). go_on x (λ part. give (calendar_text c.start c.patt_start part))) part.value in
+    ap (λ (x : Read CalendarText). outcome (length text) (go_on x (λ found. the_end [] >>= (λ end. give found)))) whole
+    ∙ ap (λ (x : Read (Unit {0})). outcome (length text) (go_on x (λ end. give (calendar_text c.start c.patt_start c.part)))) (end-read part.rest part.blank)

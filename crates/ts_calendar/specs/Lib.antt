@@ -1,5 +1,6 @@
 pub mod Plan
 pub mod Intervals
+pub mod Dated
 pub mod Line
 pub mod First
 pub mod Calendar

@@ -2,7 +2,8 @@
 use Rattle.std.specs.Prelude.{◌≡◌, ℕ, List, [], ◌∷◌, Some, IsTrue, codes}
 use Rattle.ts_base.specs.Name.{is_name}
 use Rattle.ts_base.specs.StampText.{read_stamp}
-use Rattle.ts_pattern.specs.Spelling.{IsParted, Word, AreRuns, pattern_before}
+use Rattle.ts_text.specs.Parted.{IsParted}
+use Rattle.ts_pattern.specs.Spelling.{Word, AreRuns, pattern_before}
 use Rattle.ts_calendar.specs.declared.text.PatternPart.{PatternPart}
 use Rattle.ts_calendar.specs.declared.text.PatternPart.TheVariants.{Named, Own}
 use Rattle.ts_calendar.specs.declared.text.CalendarText.{CalendarText}

@@ -1,6 +1,7 @@
 -- The text of a calendar, as in `startdate(S), pattstart(S), pattname(N)`: its grammar, what it reads as, and how it
 -- is printed.
-use Rattle.std.specs.Prelude.{ℕ, ◌-◌, ◌==◌, not, ℤ, List, [], ◌∷◌, ◌++◌, length, take, drop, reverse, Option, Some, None, Result, Ok, Err, IsTrue, codes}
+use Rattle.std.specs.Prelude.{ℕ, ◌==◌, not, Bool, true, false, if◌then◌else◌, ℤ, List, [], ◌∷◌, ◌++◌, length, take, drop, reverse, Option, Some, None, Result, Ok, Err, IsTrue, codes}
+use Rattle.std.specs.Str.{bytes_eq}
 use Rattle.std.specs.List.{prefix_len}
 use Rattle.ts_base.specs.Name.{is_name, name_if_any}
 use Rattle.ts_base.specs.StampText.{read_stamp, stamp_text}
@@ -9,8 +10,12 @@ use Rattle.ts_base.specs.declared.refusal.Refusal.TheVariants.{BadCalendar}
 use Rattle.ts_base.specs.Moment.{IsStamp}
 use Rattle.ts_pattern.specs.Plan.{Plan}
 use Rattle.ts_pattern.specs.Runs.{is_pattern}
-use Rattle.ts_pattern.specs.Tokens.{◌>>=◌, unblanked, after_sign, after_word, word_of, end_in}
-use Rattle.ts_pattern.specs.Grammar.{named, pattern_in, plan_of_written, printed_plan}
+use Rattle.ts_pattern.specs.Grammar.{pattern_in, plan_of_written, printed_plan}
+use Rattle.ts_text.specs.Blanks.{unblanked}
+use Rattle.ts_text.specs.Phrase.{Read, Phrase, ◌>>=◌, give, token, a_sign, behind, in_brackets, made, ended, outcome}
+use Rattle.ts_text.specs.Plain.{plain_front, a_word}
+use Rattle.ts_text.specs.declared.token.TokenKind.{TokenKind}
+use Rattle.ts_text.specs.declared.token.TokenKind.TheVariants.{Word}
 use Rattle.ts_calendar.specs.declared.text.PatternPart.{PatternPart}
 use Rattle.ts_calendar.specs.declared.text.PatternPart.TheVariants.{Named, Own}
 use Rattle.ts_calendar.specs.declared.text.CalendarText.{CalendarText}
@@ -32,68 +37,72 @@ abbrev pub inside : List ℕ → List ℕ
 inside text = trimmed (take (inside_len text) text)
 
 -- what the bytes before the bracket are, and the text from the bracket on
-abbrev pub stamp_or_not : Option ℤ → List ℕ → Result (ℤ × List ℕ) ℕ
+abbrev pub stamp_or_not : Option ℤ → List ℕ → Read ℤ
 stamp_or_not None text = Err (length text)
 stamp_or_not (Some s) text = Ok (s, drop (inside_len text) text)
 
 -- a stamp before a closing bracket
-abbrev pub stamp_in : List ℕ → Result (ℤ × List ℕ) ℕ
-stamp_in text = stamp_or_not (read_stamp (inside (unblanked text))) (unblanked text)
+abbrev pub stamp_in : Phrase ℤ
+stamp_in = λ text. stamp_or_not (read_stamp (inside (unblanked text))) (unblanked text)
 
 -- a certain word, and a stamp in brackets
-unfoldable pub date_in : List ℕ → List ℕ → Result (ℤ × List ℕ) ℕ
-date_in word text = do
-  behind ← after_word word text
-  bracket ← after_sign 40 behind
-  stamp ← stamp_in bracket
-  last ← after_sign 41 stamp.1
-  Ok (stamp.0, last)
+unfoldable pub date_in : List ℕ → Phrase ℤ
+date_in word = do
+  name ← a_word word
+  in_brackets stamp_in
 
 -- a name: a word of 1 to 32 bytes
-abbrev pub name_in : List ℕ → Result (List ℕ × List ℕ) ℕ
-name_in text = named (name_if_any (word_of (unblanked text))) (unblanked text)
+abbrev pub name_as : TokenKind → List ℕ → Option (List ℕ)
+name_as Word word = name_if_any word
+name_as kind token = None
+
+unfoldable pub name_in : Phrase (List ℕ)
+name_in = token plain_front name_as
 
 -- the name of a pattern, in brackets
-unfoldable pub name_part_in : List ℕ → Result (PatternPart × List ℕ) ℕ
-name_part_in text = do
-  bracket ← after_sign 40 text
-  name ← name_in bracket
-  last ← after_sign 41 name.1
-  Ok (Named name.0, last)
+unfoldable pub name_part_in : Phrase PatternPart
+name_part_in = made (in_brackets name_in) Named
 
 -- a pattern as it is written, in brackets
-unfoldable pub pattern_part_in : List ℕ → Result (PatternPart × List ℕ) ℕ
-pattern_part_in text = do
-  bracket ← after_sign 40 text
-  pattern ← pattern_in bracket
-  last ← after_sign 41 pattern.1
-  Ok (Own pattern.0, last)
+unfoldable pub pattern_part_in : Phrase PatternPart
+pattern_part_in = made (in_brackets pattern_in) Own
 
--- behind the word `pattname` the name of a pattern, else behind `pattern` a pattern
-abbrev pub part_behind : Result (List ℕ) ℕ → List ℕ → Result (PatternPart × List ℕ) ℕ
-part_behind (Ok behind) text = name_part_in behind
-part_behind (Err left) text = after_word (codes "pattern") text >>= pattern_part_in
+-- whether a name follows, or a pattern
+abbrev pub part_as : TokenKind → List ℕ → Option Bool
+part_as Word word = if bytes_eq word (codes "pattname") then Some true else (if bytes_eq word (codes "pattern") then Some false else None)
+part_as kind token = None
 
--- which pattern
-abbrev pub part_in : List ℕ → Result (PatternPart × List ℕ) ℕ
-part_in text = part_behind (after_word (codes "pattname") text) text
+unfoldable pub part_word_in : Phrase Bool
+part_word_in = token plain_front part_as
+
+abbrev pub part_behind : Bool → Phrase PatternPart
+part_behind true = name_part_in
+part_behind false = pattern_part_in
+
+-- which pattern: behind the word `pattname` its name, behind `pattern` a pattern
+unfoldable pub part_in : Phrase PatternPart
+part_in = do
+  is_named ← part_word_in
+  part_behind is_named
 
 -- the two dates, each with a comma behind it
-unfoldable pub dates_in : List ℕ → Result (ℤ × ℤ × List ℕ) ℕ
-dates_in text = do
-  start ← date_in (codes "startdate") text
-  first ← after_sign 44 start.1
-  patt_start ← date_in (codes "pattstart") first
-  second ← after_sign 44 patt_start.1
-  Ok (start.0, patt_start.0, second)
+unfoldable pub dates_in : Phrase (ℤ × ℤ)
+dates_in = do
+  start ← date_in (codes "startdate")
+  patt_start ← behind 44 (date_in (codes "pattstart"))
+  comma ← a_sign 44
+  give (start, patt_start)
 
--- a text that is a calendar's, with a pattern as it is written, or the place of what can't stand there
-unfoldable pub written_calendar : List ℕ → Result CalendarText ℕ
-written_calendar text = do
-  dates ← dates_in text
-  part ← part_in dates.2
-  end ← end_in part.1
-  Ok (calendar_text dates.0 dates.1 part.0)
+-- a calendar, with a pattern as it is written
+unfoldable pub calendar_in : Phrase CalendarText
+calendar_in = do
+  dates ← dates_in
+  part ← part_in
+  give (calendar_text dates.0 dates.1 part)
+
+-- a text that is a calendar's, or the place of what can't stand there
+abbrev pub written_calendar : List ℕ → Result CalendarText ℕ
+written_calendar text = outcome (length text) (ended [] calendar_in text)
 
 -- the pattern with its runs merged
 abbrev pub own_part : Result Plan Refusal → Result PatternPart Refusal
@@ -114,12 +123,12 @@ abbrev pub calendar_of_written : CalendarText → Result CalendarText Refusal
 calendar_of_written c = with_part c (part_of_written c.part)
 
 -- what a text reads as
-abbrev pub calendar_or_place : List ℕ → Result CalendarText ℕ → Result CalendarText Refusal
-calendar_or_place text (Ok written) = calendar_of_written written
-calendar_or_place text (Err left) = Err (BadCalendar (length text - left))
+abbrev pub calendar_or_place : Result CalendarText ℕ → Result CalendarText Refusal
+calendar_or_place (Ok written) = calendar_of_written written
+calendar_or_place (Err place) = Err (BadCalendar place)
 
 abbrev pub read_calendar : List ℕ → Result CalendarText Refusal
-read_calendar text = calendar_or_place text (written_calendar text)
+read_calendar text = calendar_or_place (written_calendar text)
 
 -- how the pattern is printed
 abbrev pub printed_part : PatternPart → List ℕ

@@ -7,7 +7,9 @@
 
 mod calendar;
 mod civil;
+mod dated;
 mod grid;
+mod join;
 mod laws;
 mod read;
 mod steps;
@@ -16,6 +18,7 @@ mod tests;
 mod text;
 #[cfg(test)]
 mod text_tests;
+mod valid;
 
 pub use calendar::Calendar;
 pub use grid::CommonGrid;

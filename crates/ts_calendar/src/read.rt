@@ -1,17 +1,18 @@
 // Reading the text of a calendar. What can't stand where it is found is told by how many bytes are left from it on.
-ghost use Rattle.std.specs.Prelude.{◌≡◌, ◌^◌, ◌<◌, ◌≤◌, Ok, Err, MatchResult, IfOk, length};
+ghost use Rattle.std.specs.Prelude.{◌≡◌, ◌^◌, ◌<◌, ◌≤◌, Ok, IfOk, IfErr, [], length};
 ghost use Rattle.ts_pattern.specs.Algebra.{Answers};
-ghost use Rattle.ts_pattern.specs.Grammar.{Misreads};
-ghost use Rattle.ts_pattern.specs.Tokens.{after_sign, after_word, end_in};
+ghost use Rattle.ts_text.specs.Misfit.{Refuses};
+ghost use Rattle.ts_text.specs.Phrase.{a_sign, the_end, ended};
+ghost use Rattle.ts_text.specs.Plain.{a_word};
+ghost use Rattle.ts_text.specs.declared.token.TokenKind.TheVariants.{Word};
 ghost use Rattle.ts_calendar.specs.Text;
 ghost use Rattle.ts_calendar.specs.Written.{text_of, part_of};
 
 use crate::{CalendarText, PatternPart};
 use std::alloc::Global;
 use ts_base::{Name, Stamp, Trouble, is_blank};
-use ts_pattern::{
-    Misread, WrittenPattern, after_sign, after_word, pattern_in, split_word, unblanked,
-};
+use ts_pattern::{WrittenPattern, pattern_in};
+use ts_text::{Misfit, TokenKind, plain_front, read_end, read_sign, read_word, skip_blanks};
 
 /// A part as it is written: the runs of a pattern need not be merged nor within the limits.
 #[derive(Drop)]
@@ -57,10 +58,11 @@ impl WrittenPart {
 }
 
 /// What a text says, as it is written.
-#[tactic(auto, unfolding(crate::specs::Text::written_calendar))]
-pub(crate) fn written_calendar(alloc: Global, text: &[u8]) -> Result<WrittenCalendar, Misread>
+#[tactic(auto, unfolding(crate::specs::Text::calendar_in))]
+pub(crate) fn written_calendar(alloc: Global, text: &[u8]) -> Result<WrittenCalendar, Misfit>
     requires { length text.now < 2 ^ 32 }
-    ensures { MatchResult result (λ c. Text.written_calendar text.now ≡ Ok (text_of c)) (Misreads (Text.written_calendar text.now)) }
+    ensures ok { IfOk result (λ c. ended [] Text.calendar_in text.now ≡ Ok (text_of c, [])) }
+    ensures cause { IfErr result (λ misfit. Refuses misfit (ended [] Text.calendar_in text.now)) }
 {
     let mut rest = Rest { text };
     let (start, patt_start) = rest.dates()?;
@@ -80,39 +82,36 @@ struct Rest<'a> {
 }
 
 impl<'a> Rest<'a> {
-    fn sign(&mut self, sign: u8) -> Result<(), usize>
-        ensures value { MatchResult result (λ _. after_sign sign self.old.text.now ≡ Ok self.new.text.now)
-            (λ left. after_sign sign self.old.text.now ≡ Err left) }
+    fn sign(&mut self, sign: u8) -> Result<(), Misfit>
+        ensures ok { IfOk result (λ _. a_sign sign self.old.text.now ≡ Ok (tt, self.new.text.now)) }
+        ensures cause { IfErr result (λ misfit. Refuses misfit (a_sign sign self.old.text.now)) }
         ensures shorter { IfOk result (λ _. length self.new.text.now ≤ length self.old.text.now) }
     {
-        self.text = after_sign(self.text, sign)?;
+        self.text = read_sign(self.text, sign)?;
         Ok(())
     }
 
-    fn word(&mut self, word: &[u8]) -> Result<(), usize>
-        ensures value { MatchResult result (λ _. after_word word.now self.old.text.now ≡ Ok self.new.text.now)
-            (λ left. after_word word.now self.old.text.now ≡ Err left) }
+    fn word(&mut self, word: &[u8]) -> Result<(), Misfit>
+        ensures ok { IfOk result (λ _. a_word word.now self.old.text.now ≡ Ok (tt, self.new.text.now)) }
+        ensures cause { IfErr result (λ misfit. Refuses misfit (a_word word.now self.old.text.now)) }
         ensures shorter { IfOk result (λ _. length self.new.text.now ≤ length self.old.text.now) }
     {
-        self.text = after_word(self.text, word)?;
+        self.text = read_word(self.text, word)?;
         Ok(())
     }
 
-    fn end(&self) -> Result<(), usize>
-        ensures { MatchResult result (λ _. end_in self.now.text.now ≡ Ok tt) (λ left. end_in self.now.text.now ≡ Err left) }
+    fn end(&self) -> Result<(), Misfit>
+        ensures ok { IfOk result (λ _. the_end [] self.now.text.now ≡ Ok (tt, [])) }
+        ensures cause { IfErr result (λ misfit. Refuses misfit (the_end [] self.now.text.now)) }
     {
-        let rest = unblanked(self.text);
-        if rest.len() != 0 {
-            return Err(rest.len());
-        }
-        Ok(())
+        read_end(self.text, &[])
     }
 
     // The start and the pattern start, each with a comma behind it.
     #[tactic(auto, unfolding(crate::specs::Text::dates_in))]
-    fn dates(&mut self) -> Result<(Stamp, Stamp), usize>
-        ensures value { MatchResult result (λ x. Text.dates_in self.old.text.now ≡ Ok (x.0, x.1, self.new.text.now))
-            (λ left. Text.dates_in self.old.text.now ≡ Err left) }
+    fn dates(&mut self) -> Result<(Stamp, Stamp), Misfit>
+        ensures ok { IfOk result (λ x. Text.dates_in self.old.text.now ≡ Ok ((x.0, x.1), self.new.text.now)) }
+        ensures cause { IfErr result (λ misfit. Refuses misfit (Text.dates_in self.old.text.now)) }
         ensures shorter { IfOk result (λ _. length self.new.text.now ≤ length self.old.text.now) }
     {
         let start = self.date(b"startdate")?;
@@ -124,9 +123,9 @@ impl<'a> Rest<'a> {
 
     // A certain word, and a stamp in brackets.
     #[tactic(auto, unfolding(crate::specs::Text::date_in))]
-    fn date(&mut self, word: &[u8]) -> Result<Stamp, usize>
-        ensures value { MatchResult result (λ s. Text.date_in word.now self.old.text.now ≡ Ok (s, self.new.text.now))
-            (λ left. Text.date_in word.now self.old.text.now ≡ Err left) }
+    fn date(&mut self, word: &[u8]) -> Result<Stamp, Misfit>
+        ensures ok { IfOk result (λ s. Text.date_in word.now self.old.text.now ≡ Ok (s, self.new.text.now)) }
+        ensures cause { IfErr result (λ misfit. Refuses misfit (Text.date_in word.now self.old.text.now)) }
         ensures shorter { IfOk result (λ _. length self.new.text.now ≤ length self.old.text.now) }
     {
         self.word(word)?;
@@ -137,43 +136,59 @@ impl<'a> Rest<'a> {
     }
 
     // A stamp before a closing bracket.
-    fn stamp(&mut self) -> Result<Stamp, usize>
-        ensures value { MatchResult result (λ s. Text.stamp_in self.old.text.now ≡ Ok (s, self.new.text.now))
-            (λ left. Text.stamp_in self.old.text.now ≡ Err left) }
+    fn stamp(&mut self) -> Result<Stamp, Misfit>
+        ensures ok { IfOk result (λ s. Text.stamp_in self.old.text.now ≡ Ok (s, self.new.text.now)) }
+        ensures cause { IfErr result (λ misfit. Refuses misfit (Text.stamp_in self.old.text.now)) }
         ensures shorter { IfOk result (λ _. length self.new.text.now ≤ length self.old.text.now) }
     {
-        let text = unblanked(self.text);
+        let text = skip_blanks(self.text);
         let (bytes, rest) = text.split_at(inside_len(text));
         match Stamp::read(trimmed(bytes)) {
             Some(stamp) => {
                 self.text = rest;
                 Ok(stamp)
             }
-            None => Err(text.len()),
+            None => Err(Misfit::here(text)),
         }
     }
 
     // Which pattern.
-    fn part(&mut self, alloc: Global) -> Result<WrittenPart, Misread>
+    #[tactic(auto, unfolding(crate::specs::Text::part_in))]
+    fn part(&mut self, alloc: Global) -> Result<WrittenPart, Misfit>
         requires { length self.old.text.now < 2 ^ 32 }
-        ensures { MatchResult result (λ p. Text.part_in self.old.text.now ≡ Ok (part_of p, self.new.text.now)) (Misreads (Text.part_in self.old.text.now)) }
+        ensures ok { IfOk result (λ p. Text.part_in self.old.text.now ≡ Ok (part_of p, self.new.text.now)) }
+        ensures cause { IfErr result (λ misfit. Refuses misfit (Text.part_in self.old.text.now)) }
     {
-        match after_word(self.text, b"pattname") {
-            Ok(rest) => {
+        if self.part_word()? {
+            self.name_part(alloc)
+        } else {
+            self.pattern_part(alloc)
+        }
+    }
+
+    // Whether a name follows, or a pattern.
+    #[tactic(auto, unfolding(crate::specs::Text::part_word_in))]
+    fn part_word(&mut self) -> Result<bool, Misfit>
+        ensures ok { IfOk result (λ is_named. Text.part_word_in self.old.text.now ≡ Ok (is_named, self.new.text.now)) }
+        ensures cause { IfErr result (λ misfit. Refuses misfit (Text.part_word_in self.old.text.now)) }
+        ensures shorter { IfOk result (λ _. length self.new.text.now ≤ length self.old.text.now) }
+    {
+        let here = skip_blanks(self.text);
+        if let Some((TokenKind::Word, length)) = plain_front(here) {
+            let (word, rest) = here.split_at(length);
+            if let Some(is_named) = names_pattern(word) {
                 self.text = rest;
-                self.name_part(alloc)
-            }
-            Err(_) => {
-                self.word(b"pattern")?;
-                self.pattern_part(alloc)
+                return Ok(is_named);
             }
         }
+        Err(Misfit::here(here))
     }
 
     // The name of a pattern, in brackets.
     #[tactic(auto, unfolding(crate::specs::Text::name_part_in))]
-    fn name_part(&mut self, alloc: Global) -> Result<WrittenPart, Misread>
-        ensures { MatchResult result (λ p. Text.name_part_in self.old.text.now ≡ Ok (part_of p, self.new.text.now)) (Misreads (Text.name_part_in self.old.text.now)) }
+    fn name_part(&mut self, alloc: Global) -> Result<WrittenPart, Misfit>
+        ensures ok { IfOk result (λ p. Text.name_part_in self.old.text.now ≡ Ok (part_of p, self.new.text.now)) }
+        ensures cause { IfErr result (λ misfit. Refuses misfit (Text.name_part_in self.old.text.now)) }
     {
         self.sign(b'(')?;
         let name = self.name(alloc)?;
@@ -182,31 +197,48 @@ impl<'a> Rest<'a> {
     }
 
     // A word of 1 to 32 bytes.
-    fn name(&mut self, alloc: Global) -> Result<Name, Misread>
-        ensures { MatchResult result (λ n. Text.name_in self.old.text.now ≡ Ok (n, self.new.text.now)) (Misreads (Text.name_in self.old.text.now)) }
+    #[tactic(auto, unfolding(crate::specs::Text::name_in))]
+    fn name(&mut self, alloc: Global) -> Result<Name, Misfit>
+        ensures ok { IfOk result (λ n. Text.name_in self.old.text.now ≡ Ok (n, self.new.text.now)) }
+        ensures cause { IfErr result (λ misfit. Refuses misfit (Text.name_in self.old.text.now)) }
     {
-        let text = unblanked(self.text);
-        let (word, rest) = split_word(text);
-        match Name::read(alloc, word)? {
-            Some(name) => {
+        let here = skip_blanks(self.text);
+        if let Some((TokenKind::Word, length)) = plain_front(here) {
+            let (word, rest) = here.split_at(length);
+            if let Some(name) = Name::read(alloc, word)? {
                 self.text = rest;
-                Ok(name)
+                return Ok(name);
             }
-            None => Err(Misread::Left(text.len())),
         }
+        Err(Misfit::here(here))
     }
 
     // A pattern as it is written, in brackets.
     #[tactic(auto, unfolding(crate::specs::Text::pattern_part_in))]
-    fn pattern_part(&mut self, alloc: Global) -> Result<WrittenPart, Misread>
+    fn pattern_part(&mut self, alloc: Global) -> Result<WrittenPart, Misfit>
         requires { length self.old.text.now < 2 ^ 32 }
-        ensures { MatchResult result (λ p. Text.pattern_part_in self.old.text.now ≡ Ok (part_of p, self.new.text.now)) (Misreads (Text.pattern_part_in self.old.text.now)) }
+        ensures ok { IfOk result (λ p. Text.pattern_part_in self.old.text.now ≡ Ok (part_of p, self.new.text.now)) }
+        ensures cause { IfErr result (λ misfit. Refuses misfit (Text.pattern_part_in self.old.text.now)) }
     {
         self.sign(b'(')?;
         let (pattern, rest) = pattern_in(alloc, self.text)?;
         self.text = rest;
         self.sign(b')')?;
         Ok(WrittenPart::Own(pattern))
+    }
+}
+
+// Whether a word says that a name follows, or that a pattern does.
+fn names_pattern(word: &[u8]) -> Option<bool>
+    ensures { result ≡ Text.part_as Word word.now }
+{
+    if word == b"pattname".as_slice() {
+        return Some(true);
+    }
+    if word == b"pattern".as_slice() {
+        Some(false)
+    } else {
+        None
     }
 }
 

@@ -1,5 +1,5 @@
 // Intervals of one unit, counted from a stamp on.
-ghost use Rattle.std.specs.Prelude.{◌≡◌, ◌+◌, ◌*◌, ◌≤◌, ◌<◌, pos, negsuc, ℤ, ◌+ℤ◌, ◌*ℤ◌, ◌≤ℤ◌, IsTrue, IfSome, IfNone, Some};
+ghost use Rattle.std.specs.Prelude.{◌≡◌, ◌+◌, ◌*◌, ◌≤◌, ◌<◌, pos, negsuc, ℤ, ◌+ℤ◌, ◌*ℤ◌, ◌≤ℤ◌, IsTrue, IsSome, IfSome, IfNone, Some};
 ghost use Rattle.std.specs.Int.{int_div_euclid};
 ghost use Rattle.ts_pattern.specs.Units.{size, is_monthly};
 ghost use Rattle.ts_calendar.specs.Calendar.{steps_between, first_step, starts_at};
@@ -11,22 +11,50 @@ ghost use Rattle.ts_calendar.specs.Line.{IsLineAround, comes_after};
 ghost use Rattle.ts_base.specs.declared.unit.Unit.TheVariants.{Month, Year};
 
 use crate::civil::{month_number, units_of};
-use ts_base::{Stamp, Unit, month_start};
+use crate::dated::Dated;
+use ts_base::{Stamp, Unit};
 
 /// The start of interval k, where interval 0 starts at `first`, if it lies in the years 1 to 9999.
-pub(crate) fn start_in(unit: Unit, first: Stamp, k: i64) -> Option<Stamp>
-    requires { IsEarly unit first }
-    ensures { result ≡ start_in unit first k }
+pub(crate) fn start_in(unit: Unit, first: &Dated, k: i64) -> Option<Stamp>
+    requires { IsEarly unit first.now }
+    ensures { result ≡ start_in unit first.now k }
 {
     match unit {
-        Unit::Second => start_after(first, k, 100_000),
-        Unit::Minute => start_after(first, k, 6_000_000),
-        Unit::Hour => start_after(first, k, 360_000_000),
-        Unit::Day => start_after(first, k, 8_640_000_000),
-        Unit::Week => start_after(first, k, 60_480_000_000),
-        Unit::Month => month_start(first, k),
-        Unit::Year => year_start(first, k),
+        Unit::Second => start_after(first.stamp(), k, 100_000),
+        Unit::Minute => start_after(first.stamp(), k, 6_000_000),
+        Unit::Hour => start_after(first.stamp(), k, 360_000_000),
+        Unit::Day => start_after(first.stamp(), k, 8_640_000_000),
+        Unit::Week => start_after(first.stamp(), k, 60_480_000_000),
+        Unit::Month => first.months_later(k, 1),
+        Unit::Year => first.months_later(k, 12),
     }
+}
+
+/// The start of interval k, where it exists.
+pub(crate) fn existing_start(unit: Unit, first: &Dated, k: i64) -> Stamp
+    requires early { IsEarly unit first.now }
+    requires exists { IsSome (start_in unit first.now k) }
+    ensures { start_in unit first.now k ≡ Some result }
+{
+    match unit {
+        Unit::Second => existing_after(first, k, 100_000),
+        Unit::Minute => existing_after(first, k, 6_000_000),
+        Unit::Hour => existing_after(first, k, 360_000_000),
+        Unit::Day => existing_after(first, k, 8_640_000_000),
+        Unit::Week => existing_after(first, k, 60_480_000_000),
+        Unit::Month => first.existing_months_later(k, 1),
+        Unit::Year => first.existing_months_later(k, 12),
+    }
+}
+
+fn existing_after(first: &Dated, k: i64, units: i64) -> Stamp
+    requires { IsSome (stamp_if_any (first.now +ℤ k *ℤ units)) }
+    ensures { stamp_if_any (first.now +ℤ k *ℤ units) ≡ Some result }
+{
+    let Some(stamp) = Stamp::of(first.units() + k * units) else {
+        unreachable!()
+    };
+    stamp
 }
 
 fn start_after(first: Stamp, k: i64, units: i64) -> Option<Stamp>
@@ -37,28 +65,14 @@ fn start_after(first: Stamp, k: i64, units: i64) -> Option<Stamp>
     Stamp::of(units)
 }
 
-fn year_start(first: Stamp, years: i64) -> Option<Stamp>
-    requires { day_of_month first ≤ 28 }
-    ensures { result ≡ months_after first (years *ℤ pos 12) }
-{
-    let year = month_number(first).div_euclid(12);
-    if years < 1 - year {
-        return None;
-    }
-    if years > 9_999 - year {
-        return None;
-    }
-    month_start(first, years * 12)
-}
-
 /// The interval that begins at or before a stamp and ends after it, be it beyond the years.
-pub(crate) fn interval_around(unit: Unit, first: Stamp, stamp: Stamp) -> i64
-    requires { IsEarly unit first }
-    ensures around { IsLineAround unit first stamp result }
-    ensures stamps { IsStamp first × IsStamp stamp }
+pub(crate) fn interval_around(unit: Unit, first: &Dated, stamp: Stamp) -> i64
+    requires { IsEarly unit first.now }
+    ensures around { IsLineAround unit first.now stamp result }
+    ensures stamps { IsStamp first.now × IsStamp stamp }
     ensures near { IsNear result × IsNear (result +ℤ pos 1) }
 {
-    let units = units_of(stamp) - units_of(first);
+    let units = units_of(stamp) - first.units();
     match unit {
         Unit::Second => units.div_euclid(100_000),
         Unit::Minute => units.div_euclid(6_000_000),
@@ -70,24 +84,24 @@ pub(crate) fn interval_around(unit: Unit, first: Stamp, stamp: Stamp) -> i64
     }
 }
 
-fn month_around(first: Stamp, stamp: Stamp) -> i64
-    requires { day_of_month first ≤ 28 }
-    ensures around { IsLineAround Month first stamp result }
+fn month_around(first: &Dated, stamp: Stamp) -> i64
+    requires { day_of_month first.now ≤ 28 }
+    ensures around { IsLineAround Month first.now stamp result }
     ensures near { IsNear result × IsNear (result +ℤ pos 1) }
 {
-    let k = month_number(stamp) - month_number(first);
+    let k = month_number(stamp) - first.month_number();
     if is_after(start_in(Unit::Month, first, k), stamp) {
         return k - 1;
     }
     k
 }
 
-fn year_around(first: Stamp, stamp: Stamp) -> i64
-    requires { day_of_month first ≤ 28 }
-    ensures around { IsLineAround Year first stamp result }
+fn year_around(first: &Dated, stamp: Stamp) -> i64
+    requires { day_of_month first.now ≤ 28 }
+    ensures around { IsLineAround Year first.now stamp result }
     ensures near { IsNear result × IsNear (result +ℤ pos 1) }
 {
-    let k = (month_number(stamp) - month_number(first)).div_euclid(12);
+    let k = (month_number(stamp) - first.month_number()).div_euclid(12);
     if is_after(start_in(Unit::Year, first, k), stamp) {
         return k - 1;
     }
@@ -105,10 +119,10 @@ fn is_after(start: Option<Stamp>, stamp: Stamp) -> bool
 }
 
 /// How many intervals lead from one stamp to another, if a whole number does.
-pub(crate) fn steps_between(unit: Unit, from: Stamp, to: Stamp) -> Option<i64>
-    requires { IsEarly unit from }
-    ensures value { result ≡ steps_between unit from to }
-    ensures stamps { IsStamp from × IsStamp to }
+pub(crate) fn steps_between(unit: Unit, from: &Dated, to: Stamp) -> Option<i64>
+    requires { IsEarly unit from.now }
+    ensures value { result ≡ steps_between unit from.now to }
+    ensures stamps { IsStamp from.now × IsStamp to }
     ensures near { IfSome result IsNear }
 {
     let k = interval_around(unit, from, to);
@@ -120,9 +134,9 @@ pub(crate) fn steps_between(unit: Unit, from: Stamp, to: Stamp) -> Option<i64>
 }
 
 /// The first interval from `from` on that isn't before a stamp, if it exists.
-pub(crate) fn first_step(unit: Unit, from: Stamp, start: Stamp) -> Option<i64>
-    requires { IsEarly unit from }
-    ensures value { result ≡ first_step unit from start }
+pub(crate) fn first_step(unit: Unit, from: &Dated, start: Stamp) -> Option<i64>
+    requires { IsEarly unit from.now }
+    ensures value { result ≡ first_step unit from.now start }
     ensures near { IfSome result IsNear }
 {
     let k = interval_around(unit, from, start);

@@ -9,7 +9,8 @@ ghost use Rattle.ts_calendar.specs.Text.{read_calendar, written_calendar, printe
 use crate::read::written_calendar;
 use std::alloc::{AllocError, Global};
 use ts_base::{Bytes, Name, Refusal, Stamp, Trouble};
-use ts_pattern::{Misread, Pattern};
+use ts_pattern::Pattern;
+use ts_text::Misfit;
 
 /// Which intervals of a calendar are on: those of a pattern that has a name, or of one that stands in the text.
 #[derive(Drop)]
@@ -34,11 +35,11 @@ impl CalendarText {
     {
         match written_calendar(alloc, text) {
             Ok(written) => written.into_text(),
-            Err(Misread::Left(left)) => {
+            Err(Misfit::At { left }) => {
                 let place = text.len().saturating_sub(left) as u32;
                 Err(Trouble::Refused(Refusal::BadCalendar { place }))
             }
-            Err(Misread::NoMemory(error)) => Err(Trouble::Memory(error)),
+            Err(Misfit::Memory(error)) => Err(Trouble::Memory(error)),
         }
     }
 

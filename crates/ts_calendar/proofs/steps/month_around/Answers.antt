@@ -7,7 +7,7 @@ use Rattle.ts_calendar.proofs.steps.month_around.Goals as goal
 
 pub returns-clause-around : goal.returns-clause-around
 returns-clause-around c =
-    let first = c.args.first in
+    let first = c.args.first.now in
     let s = c.args.stamp in
     let k = to_z w64 (of_z w64 (to_z w64 (of_z w64 c.month_number.result) -ℤ to_z w64 (of_z w64 c.month_number-2.result))) in
     let k_is : k ≡ month_at s -ℤ month_at first =
@@ -18,7 +18,7 @@ returns-clause-around c =
 
 pub returns-then-is_after-clause-around : goal.returns-then-is_after-clause-around
 returns-then-is_after-clause-around c =
-    let first = c.args.first in
+    let first = c.args.first.now in
     let s = c.args.stamp in
     let k = to_z w64 (of_z w64 (to_z w64 (of_z w64 c.month_number.result) -ℤ to_z w64 (of_z w64 c.month_number-2.result))) in
     let j = to_z w64 (of_z w64 (k -ℤ pos 1)) in

@@ -10,7 +10,7 @@ returns-then-starts_at-clause-value c =
     let k = to_z w64 (of_z w64 c.interval_around-k.result) in
     let fits : FitsSigned w64 c.interval_around-k.result = search rules in
     let here = sym (ap (starts_at c.args.to) c.start_in.ensures) ∙ sym c.starts_at.ensures ∙ c.if-starts_at.true in
-    sym (steps-some c.args.unit c.args.from c.args.to k e.stamps.0 c.requires (rw (to_z-of_z fits) e.around) (rw (to_z-of_z fits) e.near.0) here)
+    sym (steps-some c.args.unit c.args.from.now c.args.to k e.stamps.0 c.requires (rw (to_z-of_z fits) e.around) (rw (to_z-of_z fits) e.near.0) here)
 
 pub returns-else-starts_at-clause-value : goal.returns-else-starts_at-clause-value
 returns-else-starts_at-clause-value c =
@@ -18,4 +18,4 @@ returns-else-starts_at-clause-value c =
     let k = to_z w64 (of_z w64 c.interval_around-k.result) in
     let fits : FitsSigned w64 c.interval_around-k.result = search rules in
     let here = sym (ap (starts_at c.args.to) c.start_in.ensures) ∙ sym c.starts_at.ensures ∙ c.if-starts_at.false in
-    sym (steps-none c.args.unit c.args.from c.args.to k e.stamps.0 c.requires (rw (to_z-of_z fits) e.around) here)
+    sym (steps-none c.args.unit c.args.from.now c.args.to k e.stamps.0 c.requires (rw (to_z-of_z fits) e.around) here)

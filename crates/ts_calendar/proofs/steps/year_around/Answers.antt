@@ -8,7 +8,7 @@ use Rattle.ts_calendar.proofs.steps.year_around.Goals as goal
 
 pub returns-clause-around : goal.returns-clause-around
 returns-clause-around c =
-    let first = c.args.first in
+    let first = c.args.first.now in
     let s = c.args.stamp in
     let diff : to_z w64 (of_z w64 (to_z w64 (of_z w64 c.month_number.result) -ℤ to_z w64 (of_z w64 c.month_number-2.result))) ≡ month_at s -ℤ month_at first =
     omega (arith, signed_casts, c.month_number.ensures.value, c.month_number.ensures.bounds, c.month_number-2.ensures.value, c.month_number-2.ensures.bounds) in
@@ -34,7 +34,7 @@ returns-then-is_after-clause-near c = (
 
 pub returns-then-is_after-clause-around : goal.returns-then-is_after-clause-around
 returns-then-is_after-clause-around c =
-    let first = c.args.first in
+    let first = c.args.first.now in
     let s = c.args.stamp in
     let diff : to_z w64 (of_z w64 (to_z w64 (of_z w64 c.month_number.result) -ℤ to_z w64 (of_z w64 c.month_number-2.result))) ≡ month_at s -ℤ month_at first =
     omega (arith, signed_casts, c.month_number.ensures.value, c.month_number.ensures.bounds, c.month_number-2.ensures.value, c.month_number-2.ensures.bounds) in

@@ -6,5 +6,5 @@ pub returns-clause-around : goal.returns-clause-around
 returns-clause-around c =
     let e = c.interval_around.ensures in
     let fits : FitsSigned w64 c.interval_around.result = search rules in
-    rw (to_z-of_z fits) (around-starts c.args.self.now c.args.stamp c.interval_around.result c.patt_start.ensures.laid e.stamps.1
-    (rw c.pattern.ensures at (rw c.unit.ensures at (rw c.patt_start.ensures.value at e.around))))
+    rw (to_z-of_z fits) (around-starts c.args.self.now c.args.stamp c.interval_around.result c.first.ensures.laid e.stamps.1
+    (rw c.pattern.ensures at (rw c.unit.ensures at (rw c.first.ensures.value at e.around))))

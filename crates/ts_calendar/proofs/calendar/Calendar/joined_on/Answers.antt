@@ -19,9 +19,9 @@ unreachable-requires c =
     let parts = grid-parts a b g c.requires.grid in
     let start_is : c.later-start.result ≡ int_max a.start b.start =
     c.later-start.ensures ∙ ap (λ x. int_max x c.start-2.result) c.start.ensures.value ∙ ap (int_max a.start) c.start-2.ensures.value in
-    let first = ap (λ x. first_step g.unit x (int_max a.start b.start)) (sym c.patt_start.ensures.value)
-    ∙ ap (first_step g.unit c.patt_start.result) (sym start_is) ∙ sym c.first_step.ensures.value in
-    grid-reaches a b g.unit g.steps c.patt_start.ensures.laid c.requires.early c.start.ensures.valid c.start-2.ensures.valid parts.1 (first ∙ c.in_default.is)
+    let first = ap (λ x. first_step g.unit x (int_max a.start b.start)) (sym c.first-first.ensures.value)
+    ∙ ap (first_step g.unit c.first-first.result.now) (sym start_is) ∙ sym c.first_step.ensures.value in
+    grid-reaches a b g.unit g.steps c.first-first.ensures.laid c.requires.early c.start.ensures.valid c.start-2.ensures.valid parts.1 (first ∙ c.in_default.is)
 
 pub unreachable-requires-in_default-start_in : goal.unreachable-requires-in_default-start_in
 unreachable-requires-in_default-start_in c =
@@ -31,15 +31,15 @@ unreachable-requires-in_default-start_in c =
     let parts = grid-parts a b g c.requires.grid in
     let start_is : c.later-start.result ≡ int_max a.start b.start =
     c.later-start.ensures ∙ ap (λ x. int_max x c.start-2.result) c.start.ensures.value ∙ ap (int_max a.start) c.start-2.ensures.value in
-    let first = ap (λ x. first_step g.unit x (int_max a.start b.start)) (sym c.patt_start.ensures.value)
-    ∙ ap (first_step g.unit c.patt_start.result) (sym start_is) ∙ sym c.first_step.ensures.value in
+    let first = ap (λ x. first_step g.unit x (int_max a.start b.start)) (sym c.first-first.ensures.value)
+    ∙ ap (first_step g.unit c.first-first.result.now) (sym start_is) ∙ sym c.first_step.ensures.value in
     let shift = c.in-Some.shift in
     let fits : FitsSigned w64 shift = search rules in
     let moved = to_z-of_z fits in
     let there = to_z w64 (of_z w64 shift) in
-    let is = first-is g.unit a.patt_start (int_max a.start b.start) shift c.patt_start.ensures.laid.stamp c.requires.early (first ∙ c.in-Some.is) in
+    let is = first-is g.unit a.patt_start (int_max a.start b.start) shift c.first-first.ensures.laid.stamp c.requires.early (first ∙ c.in-Some.is) in
     let some = is.exists_at in
-    let none = ap (start_in g.unit a.patt_start) (sym moved) ∙ ap (λ x. start_in g.unit x there) (sym c.patt_start-2.ensures.value) ∙ sym c.start_in.ensures ∙ c.in_default-start_in.is in
+    let none = ap (start_in g.unit a.patt_start) (sym moved) ∙ ap (λ x. start_in g.unit x there) (sym c.first-first.ensures.value) ∙ sym c.start_in.ensures ∙ c.in_default-start_in.is in
     cc
 
 pub joined_at-requires-clause-stamp : goal.joined_at-requires-clause-stamp
@@ -50,16 +50,16 @@ joined_at-requires-clause-stamp c =
     let parts = grid-parts a b g c.requires.grid in
     let start_is : c.later-start.result ≡ int_max a.start b.start =
     c.later-start.ensures ∙ ap (λ x. int_max x c.start-2.result) c.start.ensures.value ∙ ap (int_max a.start) c.start-2.ensures.value in
-    let first = ap (λ x. first_step g.unit x (int_max a.start b.start)) (sym c.patt_start.ensures.value)
-    ∙ ap (first_step g.unit c.patt_start.result) (sym start_is) ∙ sym c.first_step.ensures.value in
+    let first = ap (λ x. first_step g.unit x (int_max a.start b.start)) (sym c.first-first.ensures.value)
+    ∙ ap (first_step g.unit c.first-first.result.now) (sym start_is) ∙ sym c.first_step.ensures.value in
     let shift = c.in-Some.shift in
     let fits : FitsSigned w64 shift = search rules in
     let moved = to_z-of_z fits in
     let there = to_z w64 (of_z w64 shift) in
     let patt_start = c.in-Some-start_in.patt_start in
     let start : start_in g.unit a.patt_start there ≡ Some patt_start =
-    ap (λ x. start_in g.unit x there) (sym c.patt_start-2.ensures.value) ∙ sym c.start_in.ensures ∙ c.in-Some-start_in.is in
-    let here = start-is g.unit a.patt_start there patt_start c.patt_start.ensures.laid.stamp c.requires.early start in
+    ap (λ x. start_in g.unit x there) (sym c.first-first.ensures.value) ∙ sym c.start_in.ensures ∙ c.in-Some-start_in.is in
+    let here = start-is g.unit a.patt_start there patt_start c.first-first.ensures.laid.stamp c.requires.early start in
     rw here.0 here.1
 
 pub joined_at-requires-clause-early : goal.joined_at-requires-clause-early
@@ -70,18 +70,18 @@ joined_at-requires-clause-early c = λ u e.
     let parts = grid-parts a b g c.requires.grid in
     let start_is : c.later-start.result ≡ int_max a.start b.start =
     c.later-start.ensures ∙ ap (λ x. int_max x c.start-2.result) c.start.ensures.value ∙ ap (int_max a.start) c.start-2.ensures.value in
-    let first = ap (λ x. first_step g.unit x (int_max a.start b.start)) (sym c.patt_start.ensures.value)
-    ∙ ap (first_step g.unit c.patt_start.result) (sym start_is) ∙ sym c.first_step.ensures.value in
+    let first = ap (λ x. first_step g.unit x (int_max a.start b.start)) (sym c.first-first.ensures.value)
+    ∙ ap (first_step g.unit c.first-first.result.now) (sym start_is) ∙ sym c.first_step.ensures.value in
     let shift = c.in-Some.shift in
     let fits : FitsSigned w64 shift = search rules in
     let moved = to_z-of_z fits in
     let there = to_z w64 (of_z w64 shift) in
     let patt_start = c.in-Some-start_in.patt_start in
     let start : start_in g.unit a.patt_start there ≡ Some patt_start =
-    ap (λ x. start_in g.unit x there) (sym c.patt_start-2.ensures.value) ∙ sym c.start_in.ensures ∙ c.in-Some-start_in.is in
+    ap (λ x. start_in g.unit x there) (sym c.first-first.ensures.value) ∙ sym c.start_in.ensures ∙ c.in-Some-start_in.is in
     let both : Some g.unit ≡ Some u = sym parts.0 ∙ e in
     let same : g.unit ≡ u = cc in
-    subst (λ v. IsEarly v patt_start) same (early-kept g.unit a.patt_start there patt_start c.patt_start.ensures.laid.stamp c.requires.early start)
+    subst (λ v. IsEarly v patt_start) same (early-kept g.unit a.patt_start there patt_start c.first-first.ensures.laid.stamp c.requires.early start)
 
 pub joined_at-requires-clause-valid : goal.joined_at-requires-clause-valid
 joined_at-requires-clause-valid c = λ p e on.
@@ -91,15 +91,15 @@ joined_at-requires-clause-valid c = λ p e on.
     let parts = grid-parts a b g c.requires.grid in
     let start_is : c.later-start.result ≡ int_max a.start b.start =
     c.later-start.ensures ∙ ap (λ x. int_max x c.start-2.result) c.start.ensures.value ∙ ap (int_max a.start) c.start-2.ensures.value in
-    let first = ap (λ x. first_step g.unit x (int_max a.start b.start)) (sym c.patt_start.ensures.value)
-    ∙ ap (first_step g.unit c.patt_start.result) (sym start_is) ∙ sym c.first_step.ensures.value in
+    let first = ap (λ x. first_step g.unit x (int_max a.start b.start)) (sym c.first-first.ensures.value)
+    ∙ ap (first_step g.unit c.first-first.result.now) (sym start_is) ∙ sym c.first_step.ensures.value in
     let shift = c.in-Some.shift in
     let fits : FitsSigned w64 shift = search rules in
     let moved = to_z-of_z fits in
     let there = to_z w64 (of_z w64 shift) in
     let patt_start = c.in-Some-start_in.patt_start in
     let start : start_in g.unit a.patt_start there ≡ Some patt_start =
-    ap (λ x. start_in g.unit x there) (sym c.patt_start-2.ensures.value) ∙ sym c.start_in.ensures ∙ c.in-Some-start_in.is in
+    ap (λ x. start_in g.unit x there) (sym c.first-first.ensures.value) ∙ sym c.start_in.ensures ∙ c.in-Some-start_in.is in
     let other = to_z w64 (of_z w64 (to_z w64 (of_z w64 shift) -ℤ to_z w64 (of_z w64 g.steps))) in
     let other_is : shift -ℤ g.steps ≡ other = omega (arith, signed_casts, c.in-Some.ensures.near, c.requires.near) in
     let reached = joined-reaches c.args.junction a b g.unit g.steps shift patt_start parts.0 parts.1 (first ∙ c.in-Some.is)
@@ -109,7 +109,7 @@ joined_at-requires-clause-valid c = λ p e on.
     ap (λ k. joined_plan j a.pattern k b.pattern (shift -ℤ g.steps)) (sym moved)
     ∙ ap (λ k. joined_plan j a.pattern there b.pattern k) other_is ∙ e in
     let x : CalendarPlan = record { start = c.later-start.result; patt_start = patt_start; pattern = p } in
-    joined-valid j a b x c.patt_start.ensures.laid.stamp c.patt_start.ensures.laid.early
+    joined-valid j a b x c.first-first.ensures.laid.stamp c.first-first.ensures.laid.early
     (reached ∙ ap (λ s. with_pattern s patt_start (joined_plan j a.pattern shift b.pattern (shift -ℤ g.steps))) (sym start_is)
     ∙ with-on c.later-start.result patt_start (joined_plan j a.pattern shift b.pattern (shift -ℤ g.steps)) p plan on)
 
@@ -121,15 +121,15 @@ answer c =
     let parts = grid-parts a b g c.requires.grid in
     let start_is : c.later-start.result ≡ int_max a.start b.start =
     c.later-start.ensures ∙ ap (λ x. int_max x c.start-2.result) c.start.ensures.value ∙ ap (int_max a.start) c.start-2.ensures.value in
-    let first = ap (λ x. first_step g.unit x (int_max a.start b.start)) (sym c.patt_start.ensures.value)
-    ∙ ap (first_step g.unit c.patt_start.result) (sym start_is) ∙ sym c.first_step.ensures.value in
+    let first = ap (λ x. first_step g.unit x (int_max a.start b.start)) (sym c.first-first.ensures.value)
+    ∙ ap (first_step g.unit c.first-first.result.now) (sym start_is) ∙ sym c.first_step.ensures.value in
     let shift = c.in-Some.shift in
     let fits : FitsSigned w64 shift = search rules in
     let moved = to_z-of_z fits in
     let there = to_z w64 (of_z w64 shift) in
     let patt_start = c.in-Some-start_in.patt_start in
     let start : start_in g.unit a.patt_start there ≡ Some patt_start =
-    ap (λ x. start_in g.unit x there) (sym c.patt_start-2.ensures.value) ∙ sym c.start_in.ensures ∙ c.in-Some-start_in.is in
+    ap (λ x. start_in g.unit x there) (sym c.first-first.ensures.value) ∙ sym c.start_in.ensures ∙ c.in-Some-start_in.is in
     let other = to_z w64 (of_z w64 (to_z w64 (of_z w64 shift) -ℤ to_z w64 (of_z w64 g.steps))) in
     let other_is : shift -ℤ g.steps ≡ other = omega (arith, signed_casts, c.in-Some.ensures.near, c.requires.near) in
     let reached = joined-reaches c.args.junction a b g.unit g.steps shift patt_start parts.0 parts.1 (first ∙ c.in-Some.is)
@@ -151,19 +151,19 @@ returns-clause-join c =
     let parts = grid-parts a b g c.requires.grid in
     let start_is : c.later-start.result ≡ int_max a.start b.start =
     c.later-start.ensures ∙ ap (λ x. int_max x c.start-2.result) c.start.ensures.value ∙ ap (int_max a.start) c.start-2.ensures.value in
-    let first = ap (λ x. first_step g.unit x (int_max a.start b.start)) (sym c.patt_start.ensures.value)
-    ∙ ap (first_step g.unit c.patt_start.result) (sym start_is) ∙ sym c.first_step.ensures.value in
+    let first = ap (λ x. first_step g.unit x (int_max a.start b.start)) (sym c.first-first.ensures.value)
+    ∙ ap (first_step g.unit c.first-first.result.now) (sym start_is) ∙ sym c.first_step.ensures.value in
     let shift = c.in-Some.shift in
     let fits : FitsSigned w64 shift = search rules in
     let moved = to_z-of_z fits in
     let there = to_z w64 (of_z w64 shift) in
     let patt_start = c.in-Some-start_in.patt_start in
     let start : start_in g.unit a.patt_start there ≡ Some patt_start =
-    ap (λ x. start_in g.unit x there) (sym c.patt_start-2.ensures.value) ∙ sym c.start_in.ensures ∙ c.in-Some-start_in.is in
+    ap (λ x. start_in g.unit x there) (sym c.first-first.ensures.value) ∙ sym c.start_in.ensures ∙ c.in-Some-start_in.is in
     let other = to_z w64 (of_z w64 (to_z w64 (of_z w64 shift) -ℤ to_z w64 (of_z w64 g.steps))) in
     let other_is : other ≡ there -ℤ g.steps = omega (arith, signed_casts, c.in-Some.ensures.near, c.requires.near) in
     let e = c.joined_at.ensures in
-    join-ok c.args.junction a b g.unit g.steps there other patt_start c.later-start.result c.patt_start.ensures.laid c.requires.early parts.0 parts.1 start start_is other_is
+    join-ok c.args.junction a b g.unit g.steps there other patt_start c.later-start.result c.first-first.ensures.laid c.requires.early parts.0 parts.1 start start_is other_is
     c.joined_at.result e.parts e.unit e.flags e.length
 
 pub returns-clause-valid : goal.returns-clause-valid
@@ -171,11 +171,11 @@ returns-clause-valid c =
     let a = c.args.self.now in
     let b = c.args.other.now in
     answers-ok (joined_calendar c.args.junction a b) c.joined_at.result (answer c)
-    (λ x e. joined-valid c.args.junction a b x c.patt_start.ensures.laid.stamp c.patt_start.ensures.laid.early e)
+    (λ x e. joined-valid c.args.junction a b x c.first-first.ensures.laid.stamp c.first-first.ensures.laid.early e)
 
 pub returns-clause-in_time : goal.returns-clause-in_time
 returns-clause-in_time c =
     let a = c.args.self.now in
     let b = c.args.other.now in
     answers-in-time (joined_calendar c.args.junction a b) c.joined_at.result (answer c)
-    (joined-in-time c.args.junction a b c.patt_start.ensures.laid c.start.ensures.valid c.start-2.ensures.valid)
+    (joined-in-time c.args.junction a b c.first-first.ensures.laid c.start.ensures.valid c.start-2.ensures.valid)

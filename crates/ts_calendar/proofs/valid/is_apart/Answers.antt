@@ -4,12 +4,12 @@ use Rattle.jiff_core.proofs.SignedLemmas.{signed_casts}
 use Rattle.ts_pattern.specs.Runs.{total}
 use Rattle.ts_calendar.specs.Intervals.{start_in, starts_from}
 use Rattle.ts_calendar.proofs.StampLemmas.{int_lt_no}
-use Rattle.ts_calendar.proofs.calendar.is_apart.Goals as goal
+use Rattle.ts_calendar.proofs.valid.is_apart.Goals as goal
 
 pub returns-clause-value : goal.returns-clause-value
 returns-clause-value c =
     let plan = c.args.pattern.now in
-    let first = c.args.patt_start in
+    let first = c.args.patt_start.now in
     let k = to_z w64 (of_z w64 (pos 0 -ℤ to_z w64 c.length.result)) in
     let k_is : k ≡ neg_ℤ (pos (total plan.runs)) = omega (arith, signed_casts, c.length.ensures.value) in
     let ordered : c.args.start ≤ℤ first =
