@@ -1,8 +1,7 @@
 -- An overlay has the last change of each page that records name.
-use Rattle.std.proofs.Common.{◌≡◌, ℕ, suc, ◌+◌, ◌<◌, ◌≤◌, Option, Some, cond, eqb, List, [], ◌∷◌, ◌++◌, All, length, get_or, reverse, refl, ap, sym, ◌∙◌, subst, arith, append_assoc}
+use Rattle.std.proofs.Common.{◌≡◌, ℕ, suc, ◌+◌, Some, cond, eqb, List, [], ◌∷◌, ◌++◌, All, reverse, refl, ap, sym, ◌∙◌, arith, append_assoc}
 use Rattle.std.specs.List.{flat_map}
 use Rattle.std.proofs.lemmas.List.{reverse-append, append-nil}
-use Rattle.ts_journal.specs.declared.batch.Change.{Change}
 use Rattle.ts_journal.specs.Entry.{Entry, IsRising, change_of, put, put_all}
 use Rattle.ts_journal.specs.Journal.{overlay_from, overlay_of, last_change}
 use Rattle.ts_journal.proofs.BatchLemmas.{put_rising}

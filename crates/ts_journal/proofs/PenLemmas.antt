@@ -1,13 +1,14 @@
 -- Pieces put behind what is on its way.
-use Rattle.std.proofs.Common.{◌≡◌, ℕ, ◌+◌, ◌≤◌, Bool, Result, Ok, Err, IsErr, List, [], ◌++◌, length, refl, sym, ◌∙◌, ap, subst, arith, append_assoc, length-append}
+use Rattle.std.proofs.Common.{◌≡◌, ℕ, ◌+◌, ◌≤◌, Bool, Result, Ok, Err, IsErr, OnOk, IsTrue, List, [], ◌++◌, length, take, refl, sym, ◌∙◌, ap, subst, arith, append_assoc, length-append}
 use Rattle.std.proofs.lemmas.Bool.{false≢true}
 use Rattle.std.proofs.lemmas.List.{append-nil}
-use Rattle.ts_disk.specs.Device.{Device, Lawful, WrittenAt}
+use Rattle.ts_disk.specs.Device.{Device, Lawful, WrittenAt, overwritten}
+use Rattle.ts_disk.proofs.Ranges.{overwritten-append}
 use Rattle.ts_disk.specs.declared.volume.Failed.{Failed}
 use Rattle.ts_journal.specs.declared.pen.Pen.{Pen}
 use Rattle.ts_journal.specs.Moment.{Writes}
 use Rattle.ts_journal.specs.Pen.{pending, Adds}
-use Rattle.ts_journal.proofs.WriteLemmas.{writes_one, writes_none, writes_then, writes_stopped}
+use Rattle.ts_journal.proofs.WriteLemmas.{writes_one, writes_none, writes_then, writes_stopped, writes_failed}
 
 pub adds_none : (tells : Bool) (p : Pen) (v : Device) → Lawful tells v → Adds tells [] (Ok tt) p p v v
 adds_none tells p v lawful = record {
@@ -96,3 +97,29 @@ adds_size tells xs p q v w adds =
 
 pub adds_within : (tells : Bool) (xs : List ℕ) (p q : Pen) (v w : Device) → Adds tells xs (Ok tt) p q v w → w.size ≡ v.size
 adds_within tells xs p q v w adds = adds.added.writes.within.keeps.size
+
+-- a flush writes all that was on its way
+pub all_flushed : (tells : Bool) (r : Result Unit Failed) (p q : Pen) (v w : Device) → OnOk r (q.filled ≡ 0) → Adds tells [] r p q v w → Writes tells p.at (pending p) r v w
+all_flushed tells (Ok done) p q v w none adds =
+    let a = adds.added in
+    let empty : pending q ≡ [] = ap (λ (n : ℕ). take n q.bytes) none in
+    subst (λ (l : List ℕ). Writes {E = Failed} tells p.at l (Ok tt) v w) (sym (append-nil a.written) ∙ ap (λ (l : List ℕ). a.written ++ l) (sym empty) ∙ a.all ∙ append-nil (pending p)) a.writes
+all_flushed tells (Err e) p q v w none adds = subst (λ (l : List ℕ). Writes tells p.at l (Err e) v w) (append-nil (pending p)) adds.stopped
+
+-- an error is passed on
+pub stopped_as : (tells : Bool) (bytes : List ℕ) (at : ℕ) (e : Failed) (r : Result Unit Failed) (v w : Device) → IsErr r → Writes tells at bytes (Err e) v w → Writes tells at bytes r v w
+stopped_as tells bytes at e r v w err writes = writes_failed tells at bytes r v w err writes.within (writes.cause refl)
+
+-- bytes on their way count as written
+abbrev pub ahead : Pen → List ℕ → List ℕ
+ahead p held = overwritten p.at (pending p) held
+
+-- a piece more, as if it were written
+pub ahead_added : (tells : Bool) (piece : List ℕ) (p q : Pen) (v w : Device) → Lawful tells v → IsTrue tells → p.at + length (pending p) + length piece ≤ v.size → Adds tells piece (Ok tt) p q v w
+    → ahead q w.held ≡ overwritten (p.at + length (pending p)) piece (ahead p v.held)
+ahead_added tells piece p q v w lawful told room adds =
+    let a = adds.added in
+    let size : length v.held ≡ v.size = lawful.size told in
+    let long : length a.written + length (pending q) ≡ length (pending p) + length piece = sym (length-append a.written (pending q)) ∙ ap length a.all ∙ length-append (pending p) piece in
+    (λ j. overwritten (a.place j) (pending q) (a.writes.written told j)) ∙ overwritten-append p.at a.written (pending q) v.held (omega (arith, long, room, size))
+    ∙ ap (λ (l : List ℕ). overwritten p.at l v.held) a.all ∙ sym (overwritten-append p.at (pending p) piece v.held (omega (arith, room, size)))

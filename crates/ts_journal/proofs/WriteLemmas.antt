@@ -1,5 +1,5 @@
 -- A run of writes, one piece behind the other.
-use Rattle.std.proofs.Common.{◌≡◌, ℕ, ◌+◌, ◌≤◌, Bool, IsTrue, Result, Ok, Err, OnOk, IsOk, IsErr, List, [], ◌++◌, length, refl, sym, ◌∙◌, subst, arith, length-append}
+use Rattle.std.proofs.Common.{◌≡◌, ℕ, ◌+◌, ◌≤◌, Bool, IsTrue, Result, Ok, Err, OnOk, OnErr, IsOk, IsErr, List, [], ◌++◌, length, refl, sym, ◌∙◌, subst, arith, length-append}
 use Rattle.std.proofs.lemmas.Bool.{false≢true}
 use Rattle.ts_disk.specs.Device.{Device, Lawful, Torn, Follows, WrittenAt, Synced, Rose, overwritten}
 use Rattle.ts_disk.proofs.Moments.{started, calls_on, leaves_map, then_on}
@@ -51,6 +51,14 @@ rose_after v w x first rose = omega (arith, first, rose)
 pub on_ok_map : {E : Type 0} (r : Result Unit E) (P Q : Type 0) → (P → Q) → OnOk r P → OnOk r Q
 on_ok_map (Ok done) P Q f p = f p
 on_ok_map (Err e) P Q f p = tt
+
+pub on_err_const : {E : Type 0} (r : Result Unit E) (P : Type 0) → P → OnErr r P
+on_err_const (Ok done) P p = tt
+on_err_const (Err e) P p = p
+
+pub on_err_both : {E : Type 0} (r : Result Unit E) (P Q R : Type 0) → (P → Q → R) → OnErr r P → OnErr r Q → OnErr r R
+on_err_both (Ok done) P Q R f p q = tt
+on_err_both (Err e) P Q R f p q = f p q
 
 pub writes_joined : {E : Type 0} (tells : Bool) (at : ℕ) (bytes : List ℕ) (r : Result Unit E) (v w : Device) → WritesWithin tells at (length bytes) v w → OnOk r (IsTrue tells → w.held ≡ overwritten at bytes v.held) → (IsErr r → Rose v.faults w.faults) → (IsOk r → w.faults ≡ v.faults) → Writes tells at bytes r v w
 writes_joined tells at bytes r v w run written cause no_fault = record { within = run; written = written; cause = cause; no_fault = no_fault }

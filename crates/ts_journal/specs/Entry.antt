@@ -12,10 +12,12 @@ use Rattle.ts_journal.specs.declared.batch.Change.TheVariants.{Image, Free}
 abbrev pub Entry : Type 0
 Entry = ℕ × Change
 
--- what contracts see of a batch: its entries, and how many more it has room for without taking memory
+-- what contracts see of a batch: its entries, how many more it has room for without taking memory, and how many of these may
+-- be images
 pub record Entries : Type 0 where
   pub entries : List Entry
   pub spare : ℕ
+  pub image_spare : ℕ
 
 -- what becomes of the page of that number
 abbrev pub change_of : ℕ → List Entry → Option Change

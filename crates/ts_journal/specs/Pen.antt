@@ -1,5 +1,5 @@
 -- Bytes on their way to the disk.
-use Rattle.std.specs.Prelude.{◌≡◌, ℕ, ◌+◌, Bool, List, ◌++◌, length, take, Result, Ok, OnOk, OnErr}
+use Rattle.std.specs.Prelude.{◌≡◌, ◌⊎◌, ℕ, ◌+◌, Bool, List, [], ◌++◌, length, take, Result, Ok, OnOk, OnErr}
 use Rattle.ts_disk.specs.Device.{Device}
 use Rattle.ts_disk.specs.declared.volume.Failed.{Failed}
 use Rattle.ts_journal.specs.declared.pen.Pen.{Pen}
@@ -20,3 +20,14 @@ pub record Added (tells : Bool) (bytes : List ℕ) (p q : Pen) (v w : Device) : 
 pub record Adds (tells : Bool) (piece : List ℕ) (result : Result Unit Failed) (p q : Pen) (v w : Device) : Type 0 where
   pub added : OnOk result (Added tells (pending p ++ piece) p q v w)
   pub stopped : OnErr result (Writes tells p.at (pending p ++ piece) result v w)
+
+-- all is still on its way, or all is written
+abbrev pub Moved : Bool → Pen → Pen → Device → Device → Type 0
+Moved tells p q v w =
+    ((q ≡ p) × Writes {E = Failed} tells p.at [] (Ok tt) v w) ⊎ ((pending q ≡ []) × Writes {E = Failed} tells p.at (pending p) (Ok tt) v w)
+
+-- the next piece goes to this place; what was on its way is written, or the place is right behind it
+pub record Moves (tells : Bool) (target : ℕ) (result : Result Unit Failed) (p q : Pen) (v w : Device) : Type 0 where
+  pub moved : OnOk result (Moved tells p q v w)
+  pub place : OnOk result (q.at + length (pending q) ≡ target)
+  pub stopped : OnErr result (Writes tells p.at (pending p) result v w)

@@ -6,8 +6,10 @@
 
 mod batch;
 mod home;
+mod images;
 mod journal;
 mod laws;
+mod numbers;
 mod pen;
 mod record;
 #[cfg(test)]

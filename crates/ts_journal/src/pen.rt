@@ -3,8 +3,8 @@ ghost use Rattle.std.specs.Prelude.{◌≤◌};
 
 use ts_disk::{Failed, Volume};
 
-/// Five pages: the record of a command that changes few pages goes to the disk in one write.
-const BUFFER: usize = 20480;
+/// Three pages: the record of a command, four pages at most, goes to the disk in two writes, and that of one or two pages in one.
+const BUFFER: usize = 12288;
 
 /// What isn't written yet, and where it goes.
 #[derive(Drop)]
@@ -12,13 +12,13 @@ pub(crate) struct Pen {
     bytes: [u8; BUFFER],
     filled: usize,
     at: u64,
-    ghost within: { filled ≤ 20480 },
+    ghost within: { filled ≤ 12288 },
 }
 
 impl Pen {
     ghost use Rattle.std.specs.Prelude.{◌≡◌, ◌+◌, ◌++◌, [], length, OnOk};
     ghost use Rattle.ts_page.specs.Volume.{page_size};
-    ghost use Rattle.ts_journal.specs.Pen.{pending, Adds};
+    ghost use Rattle.ts_journal.specs.Pen.{pending, Adds, Moves};
 
     pub(crate) fn at(place: u64) -> Pen
         ensures place { result.at ≡ place }
@@ -47,7 +47,7 @@ impl Pen {
         requires short { more ≤ page_size }
         requires room { self.old.at + length (pending self.old) ≤ (V.device vol.old).size }
         ensures written { Adds V.tells [] result self.old self.new (V.device vol.old) (V.device vol.new) }
-        ensures room { OnOk result (self.new.filled + more ≤ 20480) }
+        ensures room { OnOk result (self.new.filled + more ≤ 12288) }
     {
         if more > BUFFER - self.filled {
             return self.flush(vol);
@@ -55,12 +55,28 @@ impl Pen {
         Ok(())
     }
 
-    /// Writes what is on its way.
+    /// Goes on at this place. What is on its way goes to the disk first, unless the place is right behind it.
+    pub(crate) fn move_to<V: Volume>(&mut self, vol: &mut V, place: u64) -> Result<(), Failed>
+        requires { self.old.at + length (pending self.old) ≤ (V.device vol.old).size }
+        ensures { Moves V.tells place result self.old self.new (V.device vol.old) (V.device vol.new) }
+    {
+        let _size = vol.len();
+        if place != self.at + self.filled as u64 {
+            self.flush(vol)?;
+            self.at = place;
+        }
+        Ok(())
+    }
+
+    /// Writes what is on its way, if anything is.
     pub(crate) fn flush<V: Volume>(&mut self, vol: &mut V) -> Result<(), Failed>
         requires { self.old.at + length (pending self.old) ≤ (V.device vol.old).size }
         ensures written { Adds V.tells [] result self.old self.new (V.device vol.old) (V.device vol.new) }
         ensures emptied { OnOk result (self.new.filled ≡ 0) }
     {
+        if self.filled == 0 {
+            return Ok(());
+        }
         let _size = vol.len();
         vol.write_at(self.at, &self.bytes[..self.filled])?;
         self.at += self.filled as u64;
@@ -70,7 +86,7 @@ impl Pen {
 
     // Puts a piece behind the others in the buffer.
     fn hold(&mut self, piece: &[u8])
-        requires { self.old.filled + length piece.now ≤ 20480 }
+        requires { self.old.filled + length piece.now ≤ 12288 }
         ensures pending { pending self.new ≡ pending self.old ++ piece.now }
         ensures place { self.new.at ≡ self.old.at }
     {

@@ -3,3 +3,4 @@ pub mod EntryLemmas
 pub mod ParsedLemmas
 pub mod JournalLemmas
 pub mod OpenedLemmas
+pub mod CallerLemmas

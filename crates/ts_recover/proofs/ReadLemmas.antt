@@ -3,7 +3,7 @@ use Rattle.std.proofs.Common.{◌≡◌, ℕ, ◌+◌, ◌≤◌, Bool, IsTrue, 
 use Rattle.ts_disk.specs.Device.{Device, Lawful, LeavesOnly, ReadAt}
 use Rattle.ts_disk.proofs.Moments.{started, calls_on, leaves_map, then_on}
 use Rattle.ts_journal.specs.Moment.{Keeps, OnlyReads}
-use Rattle.ts_journal.proofs.WriteLemmas.{keeps_refl, keeps_then}
+use Rattle.ts_journal.proofs.CallerLemmas.{keeps_refl, keeps_then}
 
 -- what is Ok is no error
 pub no_error : {T E : Type 0} (x : T) (e : E) → Ok x ≡ Err e → ⊥

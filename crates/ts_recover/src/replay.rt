@@ -100,6 +100,7 @@ pub fn settle<V: Volume>(replayed: &mut Replayed, vol: &mut V) -> Result<(), Fai
     ensures overlay { OnOk result (replayed.new.overlay.entries ≡ []) }
     // The memory of the overlay's entries is free for others.
     ensures spare { OnOk result (replayed.old.overlay.spare + length replayed.old.overlay.entries ≤ replayed.new.overlay.spare) }
+    ensures image_spare { OnOk result (replayed.old.overlay.image_spare ≤ replayed.new.overlay.image_spare) }
     ensures durable { OnOk result (Only (V.device vol.new).held (V.device vol.new).images) }
     ensures err { OnErr result (replayed.new ≡ replayed.old) }
     ensures pages { replayed.new.pages ≡ replayed.old.pages }

@@ -6,10 +6,11 @@ use Rattle.ts_page.proofs.PagesLemmas.{lawful_same, same_trans, same_from_equal}
 use Rattle.ts_journal.specs.Entry.{Entry, AreAllowed}
 use Rattle.ts_journal.specs.Journal.{IsVolumeSize, page_count, records, pages, StandsOver, ReadsButFreed}
 use Rattle.ts_journal.specs.Moment.{OnlyReads}
-use Rattle.ts_recover.proofs.OpenedLemmas.{still_only}
+use Rattle.ts_recover.proofs.CallerLemmas.{still_only}
 use Rattle.ts_store.specs.OpenBatch.{State, IsOver, IsIdle, IsFresh, Closes, read_pages, contents_over}
 use Rattle.ts_store.specs.Undisturbed.{Undisturbed}
-pub use Rattle.ts_recover.proofs.ReadLemmas.{reads_none, reads_then}
+pub use Rattle.ts_journal.proofs.CallerLemmas.{keeps_refl, keeps_then}
+pub use Rattle.ts_recover.proofs.CallerLemmas.{reads_none, reads_then}
 pub use Rattle.ts_store.proofs.ReadLemmas.{read_closed, same_but_freed}
 pub use Rattle.ts_store.proofs.CommitLemmas.{counted}
 

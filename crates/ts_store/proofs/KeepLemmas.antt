@@ -10,8 +10,8 @@ use Rattle.ts_journal.specs.declared.batch.Change.{Change}
 use Rattle.ts_journal.specs.declared.batch.Change.TheVariants.{Image, Free}
 use Rattle.ts_journal.specs.Entry.{Entry, entry_bytes, entries_bytes, IsAllowed, AreAllowed, IsRising, content, put, put_all}
 use Rattle.ts_journal.specs.Journal.{own_page}
-use Rattle.ts_journal.proofs.BatchLemmas.{put_rising}
-use Rattle.ts_recover.proofs.ParsedLemmas.{put_allowed}
+use Rattle.ts_journal.proofs.CallerLemmas.{put_rising}
+use Rattle.ts_recover.proofs.CallerLemmas.{put_allowed}
 use Rattle.ts_store.specs.OpenBatch.{State, IsSound, change_read, over, read_pages, contents_over}
 use Rattle.ts_store.proofs.ReadLemmas.{over_put, read_clean}
 

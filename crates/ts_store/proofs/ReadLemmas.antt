@@ -7,9 +7,7 @@ use Rattle.ts_journal.specs.declared.batch.Change.{Change}
 use Rattle.ts_journal.specs.declared.batch.Change.TheVariants.{Image, Free}
 use Rattle.ts_journal.specs.Entry.{Entry, AreAllowed, IsRising, is_region, change_of, content, put, put_page, put_pages}
 use Rattle.ts_journal.specs.Journal.{own_page, pages, StandsOver, ReadsButFreed, SameOrFreed}
-use Rattle.ts_journal.proofs.BatchLemmas.{none_below}
-use Rattle.ts_journal.proofs.ParseLemmas.{no_region}
-use Rattle.ts_journal.proofs.OverlayLemmas.{change_of-put, shown, pages_shown}
+use Rattle.ts_journal.proofs.CallerLemmas.{none_below, no_region, change_of-put, shown, pages_shown}
 use Rattle.ts_store.specs.OpenBatch.{State, changed, change_or, change_read, over, read_pages}
 
 -- what is read after one change more

@@ -25,7 +25,7 @@ impl<'a, V: Volume> Pages for On<'a, V> {
     ghost use Rattle.std.proofs.Common.{refl, ◌∙◌};
     ghost use Rattle.ts_page.specs.Pages.{Got};
     ghost use Rattle.ts_store.specs.OpenBatch.{change_read};
-    ghost use Rattle.ts_recover.proofs.ReadLemmas.{reads_none, reads_then};
+    ghost use Rattle.ts_recover.proofs.CallerLemmas.{reads_none, reads_then};
     ghost use Rattle.ts_store.specs.Undisturbed.{Undisturbed};
 
     ghost tells = { V.tells };

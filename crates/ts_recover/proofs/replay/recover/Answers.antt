@@ -3,9 +3,8 @@ use Rattle.ts_disk.specs.Device.{Device}
 use Rattle.ts_journal.specs.Journal.{IsVolumeSize, page_count, StaysUnread}
 use Rattle.ts_journal.specs.Entry.{AreAllowed}
 use Rattle.ts_recover.specs.Reading.{JournalRead}
-use Rattle.ts_journal.proofs.CommitLemmas.{volume_long, stays_unread}
+use Rattle.ts_journal.proofs.CallerLemmas.{volume_long, stays_unread, journal_malformed, journal_is_none}
 use Rattle.std.proofs.lemmas.Option.{none-some}
-use Rattle.ts_journal.proofs.StandLemmas.{journal_malformed, journal_is_none}
 use Rattle.ts_recover.proofs.replay.recover.Goals as goal
 
 pub read_journal-requires-clause-size : goal.read_journal-requires-clause-size

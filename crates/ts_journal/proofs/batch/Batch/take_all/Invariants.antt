@@ -1,12 +1,13 @@
-use Rattle.std.proofs.Common.{◌≡◌, vec_len, vec_capacity}
-use Rattle.ts_journal.proofs.StoredLemmas.{Taking}
+use Rattle.std.proofs.Common.{◌≡◌, ◌+◌, ◌≤◌, take}
+use Rattle.ts_journal.specs.Entry.{put_all}
+use Rattle.ts_journal.proofs.JoinedLemmas.{IsLeft}
 use Rattle.ts_journal.proofs.batch.Batch.take_all.Given as goal
 
-abbrev pub invariant-loop-no : goal.invariant-loop-no
-invariant-loop-no l = record {
-  taking : Taking l.fn.other.entries l.fn.self.entries l.fn.self.spare l.entries.items l.self.entries l.self.spare;
-  kept : vec_capacity l.entries ≡ vec_capacity l.initial.entries;
+abbrev pub invariant-loop-place : goal.invariant-loop-place
+invariant-loop-place l = record {
+  numbers : l.other-inside.numbers ≡ l.initial.other-inside.numbers;
+  left : IsLeft l.place l.other-inside.images.entries l.other-inside.numbers.entries l.fn.other.entries;
+  taken : l.self.entries ≡ put_all l.fn.self.entries (take l.place l.fn.other.entries);
+  spare : l.fn.self.spare ≤ l.self.spare + l.place;
+  image_spare : l.fn.self.image_spare ≤ l.self.image_spare + l.place;
 }
-
-abbrev pub decreases-loop-no : goal.decreases-loop-no
-decreases-loop-no l = vec_len l.entries

@@ -1,6 +1,6 @@
 use Rattle.std.proofs.Common.{◌≢◌, ◌<◌, []}
 use Rattle.ts_journal.specs.Entry.{AreAllowed}
-use Rattle.ts_recover.proofs.tests.many.Given as goal
+use Rattle.ts_journal_vectors.proofs.long_record.many.Given as goal
 
 abbrev pub invariant-loop-no : goal.invariant-loop-no
 invariant-loop-no l = record {

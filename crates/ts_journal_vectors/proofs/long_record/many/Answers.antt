@@ -1,10 +1,10 @@
-use Rattle.std.proofs.Common.{◌≡◌, ◌≢◌, ℕ, ◌<◌, ◌≤◌, List, [], ◌∷◌, cond, ltb, eqb, inr, sym, subst, arith}
+use Rattle.std.proofs.Common.{◌≢◌, ℕ, ◌<◌, ◌≤◌, List, [], ◌∷◌, cond, ltb, eqb, inr, sym, subst, arith}
 use Rattle.std.proofs.lemmas.Bool.{cond_both}
 use Rattle.ts_journal.specs.declared.batch.Change.{Change}
 use Rattle.ts_journal.specs.declared.batch.Change.TheVariants.{Image, Free}
 use Rattle.ts_journal.specs.Entry.{Entry, IsAllowed, AreAllowed, put}
-use Rattle.ts_recover.proofs.ParsedLemmas.{put_allowed}
-use Rattle.ts_recover.proofs.tests.many.Goals as goal
+use Rattle.ts_recover.proofs.CallerLemmas.{put_allowed}
+use Rattle.ts_journal_vectors.proofs.long_record.many.Goals as goal
 
 an_element : (count number : ℕ) (change : Change) → 930 ≤ number → number < count → IsAllowed count (number, change)
 an_element count number (Image page) element below = record { below = below; outside = inr (omega arith); freeable = tt }
