@@ -1,5 +1,5 @@
 -- How a command on pages ends: it is stopped, or only read.
-use Rattle.std.proofs.Common.{◌≡◌, ℕ, ◌+◌, ◌*◌, ◌≤◌, Bool, true, false, IsTrue, Result, Ok, Err, OnOk, IfErr, IsErrOf, IsErrAnd, List, [], ◌++◌, length, refl, ap, sym, ◌∙◌, subst, arith}
+use Rattle.std.proofs.Common.{◌≡◌, ℕ, ◌+◌, ◌≤◌, Bool, IsTrue, Result, Ok, Err, IsErrAnd, List, [], ◌++◌, length, refl, ap, sym, ◌∙◌, subst, arith}
 use Rattle.ts_base.specs.declared.refusal.Refusal.{Refusal}
 use Rattle.ts_base.specs.declared.fault.Trouble.{Trouble}
 use Rattle.ts_base.specs.declared.fault.Trouble.TheVariants as troubles
@@ -8,13 +8,14 @@ use Rattle.ts_page.specs.Pages.{Contents}
 use Rattle.ts_space.specs.Directory.{Directory}
 use Rattle.ts_model.specs.Definitions.{Definitions}
 use Rattle.ts_layout.specs.Meaning.{Layout, HoldsLayout, catalogue_of}
+use Rattle.ts_layout.specs.Placed.{AreKept}
 use Rattle.ts_answer.specs.Answer.{outcome}
 use Rattle.ts_answer.specs.declared.effect.Effect.{Effect}
 use Rattle.ts_answer.specs.declared.effect.Effect.TheVariants.{Nothing}
 use Rattle.ts_answer.specs.declared.stop.Stop.{Stop}
 use Rattle.ts_answer.specs.declared.stop.Stop.TheVariants as stops
 use Rattle.ts_answer.specs.Stop.{trouble_stop}
-use Rattle.ts_answer.specs.View.{View, view, IsViewOf, Shows}
+use Rattle.ts_answer.specs.View.{View, view, IsViewOf, Shows, KeepsRules}
 use Rattle.ts_answer.specs.Tried.{IsRefusedAs}
 use Rattle.ts_answer.specs.CarriedOut.{CarriedOut, ReadOut, IsStopped, Stays, Grows, most_growth}
 use Rattle.ts_answer.specs.Reading.{IsSaid}
@@ -29,6 +30,11 @@ shows_still tells d space v w l shows count stays = record {
   kept = held_same d d space space v.count w.count v.free w.free l shows.kept refl refl count stays.free;
   holds = λ told. subst (λ (p : ℕ → List ℕ). HoldsLayout p l) (sym (λ i k. stays.pages told k i)) (shows.holds told);
 }
+
+-- the same rules are kept on them
+pub kept_still : (d : Definitions) (space : Directory) (tells : Bool) (v w : Contents) → KeepsRules (view d space v) → w.count ≡ v.count → Stays tells v w → KeepsRules (view d space w)
+kept_still d space tells v w kept count stays =
+    subst (λ (n : ℕ). AreKept d space w.free n) (sym count) (subst (λ (ns : List ℕ). AreKept d space ns v.count) (sym stays.free) kept)
 
 -- pages that stay, with so many bytes more
 pub grows_still : (tells : Bool) (v w : Contents) → Stays tells v w → w.change_bytes ≤ v.change_bytes + most_growth → Grows 1 v w
@@ -47,6 +53,7 @@ module _ (tells : Bool) (command : Command) (out : List ℕ) (x : View) where
   pub stopped : (r : Result Effect Stop) (stop : Stop) (c : Contents) → IsErrAnd r (λ s. s ≡ stop) → IsStopped tells command stop x c → c.count ≡ x.pages.count → c.change_bytes ≤ x.pages.change_bytes + most_growth → CarriedOut tells command r out x c
   stopped (Ok effect) stop c is why count bytes = absurd is
   stopped (Err other) stop c is why count bytes = record {
+    keeps = tt;
     done = tt;
     applies = tt;
     reads = tt;
@@ -85,7 +92,8 @@ module _ (tells : Bool) (command : Command) (out : List ℕ) (x : View) where
 module _ (tells : Bool) (command : Command) (d : Definitions) (space : Directory) (v w : Contents) (out : List ℕ) where
   pub read_carried : ReadOut tells command (Ok tt) out (view d space v) w → CarriedOut tells command (Ok Nothing) out (view d space v) w
   read_carried read = record {
-    done = λ l shows. record {
+    keeps = λ kept. kept_still d space tells v w kept read.count read.stays;
+    done = λ told l shows. record {
       layout = l;
       shows = shows_still tells d space v w l shows read.count read.stays;
       comes = λ told. read.said told l shows;
@@ -115,7 +123,8 @@ module _ (tells : Bool) (command : Command) (d : Definitions) (space : Directory
 
   pub carried_after : (r : Result Effect Stop) → CarriedOut tells command r out (view d space v) w → CarriedOut tells command r out (view d space u) w
   carried_after (Ok effect) carried = record {
-    done = λ l shows. let comes = carried.done l (shows_still tells d space u v l shows count stay) in record { layout = comes.layout; shows = comes.shows; comes = comes.comes };
+    keeps = λ kept. carried.keeps (kept_still d space tells u v kept count stay);
+    done = λ told l shows. let comes = carried.done told l (shows_still tells d space u v l shows count stay) in record { layout = comes.layout; shows = comes.shows; comes = comes.comes };
     applies = carried.applies;
     reads = carried.reads;
     stays = λ none. later_stays (carried.stays none);
@@ -126,6 +135,7 @@ module _ (tells : Bool) (command : Command) (d : Definitions) (space : Directory
     no_fault = carried.no_fault ∙ faults;
   }
   carried_after (Err stop) carried = record {
+    keeps = tt;
     done = tt;
     applies = tt;
     reads = tt;

@@ -6,3 +6,4 @@ mod ReadingLemmas
 mod ReplyLemmas
 mod TriedLemmas
 mod ViewLemmas
+mod WrittenLemmas

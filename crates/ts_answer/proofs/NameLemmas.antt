@@ -1,15 +1,14 @@
 -- Names of a kind: in the slots, and in the catalogue.
-use Rattle.std.proofs.Common.{◌≡◌, ℕ, ◌<◌, ◌≤◌, Some, None, Ok, Err, List, ap, sym, ◌∙◌, subst, refl, arith}
+use Rattle.std.proofs.Common.{◌≡◌, ℕ, ◌<◌, Some, None, Ok, Err, List, ap, sym, ◌∙◌, subst, refl, arith}
 use Rattle.std.specs.FinMap.{get, len}
 use Rattle.ts_base.specs.declared.refusal.Refusal.TheVariants as refusals
-use Rattle.ts_base.specs.declared.fault.Trouble.{Trouble}
 use Rattle.ts_base.specs.declared.fault.Trouble.TheVariants.{Refused}
 use Rattle.ts_model.specs.declared.kind.Kind.{Kind}
 use Rattle.ts_model.specs.declared.kind.Kind.TheVariants as kinds
 use Rattle.ts_model.specs.Definitions.{Definitions, limit, slots, slot_of, vacant_slot}
 use Rattle.ts_layout.specs.Meaning.{Layout, IsSound, container_of, series_of, catalogue_of}
-use Rattle.ts_layout.proofs.LookupLemmas.{row_type_found, no_row_type_found, row_type_full, row_type_vacant, container_found, no_container_found, container_full, container_vacant, series_found, no_series_found, series_full, series_vacant}
-use Rattle.ts_answer.specs.Answer.{Tried, ◌>>=◌, wanted, a_new_name}
+use Rattle.ts_layout.proofs.CallerLemmas.{row_type_found, no_row_type_found, row_type_full, row_type_vacant, container_found, no_container_found, container_full, container_vacant, series_found, no_series_found, series_full, series_vacant}
+use Rattle.ts_answer.specs.Answer.{wanted, a_new_name}
 use Rattle.ts_answer.specs.Kinds.{In, named}
 use Rattle.ts_answer.specs.Slots.{IsFreeSlot, IsSlotNamed, IsValue, Stands}
 use Rattle.ts_answer.specs.Tried.{IsTried}

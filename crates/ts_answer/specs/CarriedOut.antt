@@ -1,6 +1,5 @@
 -- What it is to carry out a command on pages. Nothing here speaks of a device, a journal or a commit.
 use Rattle.std.specs.Prelude.{◌≡◌, ℕ, ◌<◌, ◌≤◌, ◌+◌, ◌*◌, Bool, true, false, IsTrue, None, Result, Ok, Err, IfOk, OnOk, IfErr, List, [], length, slice_set}
-use Rattle.ts_base.specs.declared.refusal.Refusal.{Refusal}
 use Rattle.ts_disk.specs.Device.{Rose}
 use Rattle.ts_command.specs.declared.command.Command.{Command}
 use Rattle.ts_page.specs.Pages.{Contents, EqualPages}
@@ -16,7 +15,7 @@ use Rattle.ts_answer.specs.declared.stop.Stop.TheVariants.{Refused, Failed, Memo
 use Rattle.ts_answer.specs.Answer.{outcome}
 use Rattle.ts_answer.specs.Commands.{is_writing}
 use Rattle.ts_answer.specs.Decided.{FitsSlot}
-use Rattle.ts_answer.specs.View.{View, Shows}
+use Rattle.ts_answer.specs.View.{View, Shows, KeepsRules}
 
 -- the definitions, and the lists of places, once a command's effect is applied
 abbrev pub definitions_after : Effect → Definitions → Definitions
@@ -94,8 +93,10 @@ IsStopped tells command (Memory error) x c = c.faults ≡ x.pages.faults
 -- A command was carried out on pages, with this reply, or not. What was in memory stays, but for room: its effect isn't applied.
 -- Only pages with an effect are to be kept: after all else the caller drops what was changed.
 pub record CarriedOut (tells : Bool) (command : Command) (result : Result Effect Stop) (out : List ℕ) (x : View) (c : Contents) : Type 0 where
-  -- from each layout that is seen one comes that is seen with the effect, on every keeper of pages
-  pub done : IfOk result (λ effect. (l : Layout) → Shows tells x l → Comes tells command effect out x c l)
+  -- on every keeper of pages, what is in memory keeps its rules with the effect
+  pub keeps : IfOk result (λ effect. KeepsRules x → KeepsRules (view_after effect x c))
+  -- where the pages are told, from each layout that is seen one comes that is seen with the effect
+  pub done : IfOk result (λ effect. IsTrue tells → (l : Layout) → Shows tells x l → Comes tells command effect out x c l)
   pub applies : IfOk result (λ effect. CanApply effect x.definitions)
   -- a reading has no effect, and what has none leaves the pages
   pub reads : IfOk result (λ effect. is_writing command ≡ false → is_nothing effect ≡ true)

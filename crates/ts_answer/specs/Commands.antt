@@ -1,9 +1,12 @@
 -- What a command may change: whether it writes, what it writes and what it names. Every command has its case.
-use Rattle.std.specs.Prelude.{ℕ, Bool, true, false, List, [], ◌∷◌}
+use Rattle.std.specs.Prelude.{◌≡◌, ℕ, Bool, true, false, List, [], ◌∷◌, Contains}
+use Rattle.std.specs.FinMap.{get}
 use Rattle.ts_command.specs.declared.command.Command.{Command}
 use Rattle.ts_command.specs.declared.command.Command.TheVariants as commands
 use Rattle.ts_model.specs.declared.kind.Kind.{Kind}
 use Rattle.ts_model.specs.declared.kind.Kind.TheVariants as kinds
+use Rattle.ts_model.specs.Catalogue.{Catalogue}
+use Rattle.ts_answer.specs.Kinds.{named}
 
 -- whether the routine writes; else it only reads
 abbrev pub is_writing : Command → Bool
@@ -50,3 +53,8 @@ objects (commands.UpdElem key stamp literals) = writes kinds.Series key
 objects (commands.GetElem key stamp) = reads kinds.Series key
 objects (commands.GetLastElem key) = reads kinds.Series key
 objects (commands.GetNelems key) = reads kinds.Series key
+
+-- the catalogue after has as many pages, and the same under the name of each object but these
+pub record StaysBut (wrote : List Object) (cat after : Catalogue) : Type 0 where
+  pub pages : after.pages ≡ cat.pages
+  pub others : (object : Object) → ¬ Contains wrote object → get (named object.0 after) object.1 ≡ get (named object.0 cat) object.1

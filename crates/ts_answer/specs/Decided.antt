@@ -1,12 +1,14 @@
 -- What is decided on a command that changes definitions: a slot of a kind and what goes there, or a refusal.
-use Rattle.std.specs.Prelude.{◌≡◌, ℕ, ◌<◌, Option, IfSome, Result, Ok, List}
+use Rattle.std.specs.Prelude.{◌≡◌, ℕ, ◌+◌, ◌<◌, Option, IfSome, Result, Ok, List, length}
 use Rattle.ts_base.specs.declared.fault.Trouble.{Trouble}
 use Rattle.ts_command.specs.declared.command.Command.{Command}
+use Rattle.ts_space.specs.Directory.{Directory}
 use Rattle.ts_model.specs.declared.kind.Kind.{Kind}
 use Rattle.ts_model.specs.declared.def.Def.{Def}
 use Rattle.ts_model.specs.Definitions.{Definitions, limit, kind_of, name_of, slots, with_slot, IsNewName}
 use Rattle.ts_layout.specs.Meaning.{Layout, IsSound, catalogue_of}
 use Rattle.ts_layout.specs.Changed.{layout_with, KeepsHeadings}
+use Rattle.ts_layout.specs.Placed.{AreKept}
 use Rattle.ts_answer.specs.Answer.{Answered, outcome}
 use Rattle.ts_answer.specs.Tried.{IsTried}
 use Rattle.ts_answer.specs.View.{IsDefinedBy}
@@ -15,6 +17,9 @@ use Rattle.ts_answer.specs.View.{IsDefinedBy}
 pub record DefinesAs (line : List ℕ) (kind : Kind) (slot : ℕ) (def : Option Def) (l : Layout) (answered : Answered) : Type 0 where
   pub rules : IsSound (layout_with kind slot def l)
   pub headings : KeepsHeadings (with_slot kind slot def l.definitions) l
+  -- what is kept in memory with these definitions keeps its rules
+  pub kept : (space : Directory) (free : List ℕ) (count : ℕ) → count ≡ 930 + length l.element_pages → AreKept l.definitions space free count
+      → AreKept (with_slot kind slot def l.definitions) space free count
   pub comes : answered ≡ (line, catalogue_of (layout_with kind slot def l))
 
 -- what is decided is what the catalogue of each layout with these definitions answers

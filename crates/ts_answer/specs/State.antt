@@ -1,6 +1,6 @@
 -- The state that a run of a script goes through: what answers its requests, and what it leaves on the volume. All that speaks of
 -- runs, moments and steps cites these.
-use Rattle.std.specs.Prelude.{ℕ, List, Bool, if◌then◌else◌, Option, Some, None}
+use Rattle.std.specs.Prelude.{ℕ, List, if◌then◌else◌, Option, Some, None}
 use Rattle.ts_replies.specs.Acknowledged.{memory_line}
 use Rattle.ts_command.specs.Script.{Request}
 use Rattle.ts_model.specs.Catalogue.{Catalogue}

@@ -6,6 +6,7 @@ use Rattle.ts_model.specs.Definitions.{Definitions}
 use Rattle.ts_layout.specs.Meaning.{Layout, Free, element_page, HoldsLayout, IsSound}
 use Rattle.ts_layout.specs.Surveyed.{ListsPlaces}
 use Rattle.ts_layout.specs.OnePage.{AreFilled}
+use Rattle.ts_layout.specs.Placed.{AreKept}
 
 pub record View : Type 0 where
   pub definitions : Definitions
@@ -43,3 +44,12 @@ pub record Shows (tells : Bool) (x : View) (l : Layout) : Type 0 where
 -- some layout is seen
 abbrev pub ShowsSome : Bool → View → Type 0
 ShowsSome tells x = (l : Layout) × Shows tells x l
+
+-- what is in memory keeps its rules, whatever the pages hold
+abbrev pub KeepsRules : View → Type 0
+KeepsRules x = AreKept x.definitions x.space x.pages.free x.pages.count
+
+-- What is seen of a volume: on every keeper of pages, that what is in memory keeps its rules; and where the pages are told, a layout.
+pub record IsSeen (tells : Bool) (x : View) : Type 0 where
+  pub kept : KeepsRules x
+  pub layout : IsTrue tells → ShowsSome tells x

@@ -8,7 +8,7 @@ ghost use Rattle.ts_replies.specs.Acknowledged.{AreApart};
 ghost use Rattle.ts_command.specs.Script.{Request};
 ghost use Rattle.ts_answer.specs.Reply.{refusal_line, count_line, counts_line, series_text};
 ghost use Rattle.ts_answer.specs.Answer.{answer, outcome};
-ghost use Rattle.ts_answer.specs.Commands.{is_writing};
+ghost use Rattle.ts_answer.specs.Commands.{is_writing, objects, StaysBut};
 ghost use Rattle.ts_answer.specs.CarriedOut.{Grows};
 
 /// No reply begins with the memory line, nor the memory line with a reply, and no reply is empty: so what was said
@@ -26,6 +26,11 @@ pub fn a_refused_request_changes_nothing()
 /// The routines that only read change nothing, whatever they answer.
 pub fn reading_changes_nothing()
     ensures { (cat : Catalogue) (command : Command) → is_writing command ≡ false → (answer cat (Ok command)).1 ≡ cat }
+{}
+
+/// What a command changes in the catalogue is what it wrote: every other object stands there as before.
+pub fn what_is_not_written_stays()
+    ensures { (cat : Catalogue) (command : Command) → StaysBut (objects command).wrote cat (answer cat (Ok command)).1 }
 {}
 
 /// Commands after one another grow a record by no more than each of them, and those of a whole transaction fit one: it

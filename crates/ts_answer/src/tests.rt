@@ -7,6 +7,7 @@ fn the_laws_are_called(_rt: HostRuntime) -> Result<(), Fail> {
     replies_and_the_memory_line_are_apart();
     a_refused_request_changes_nothing();
     reading_changes_nothing();
+    what_is_not_written_stays();
     commands_fit_one_record();
     lines_are_printed_so();
     Ok(())

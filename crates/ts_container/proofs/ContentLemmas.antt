@@ -8,7 +8,7 @@ use Rattle.ts_cells.specs.IrregularPage.{IsIrregularPage}
 use Rattle.ts_model.specs.Definitions.{Definitions}
 use Rattle.ts_layout.specs.Meaning.{ElementPage, Free, Cells, HoldsElements, heading_at}
 use Rattle.ts_container.specs.Elements.{slot_in}
-use Rattle.ts_layout.proofs.HeadLemmas.{head_is, head_free}
+use Rattle.ts_layout.proofs.CallerLemmas.{head_is, head_free}
 
 none_some : (o : Option ℕ) (a : ℕ) → o ≡ None → o ≡ Some a → ⊥
 none_some o a none some = cc

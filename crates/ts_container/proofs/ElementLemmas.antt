@@ -15,7 +15,7 @@ use Rattle.ts_cells.specs.IrregularPage.{HasExtent}
 use Rattle.ts_layout.specs.Meaning.{ElementPage, Free, Cells, element_page, HoldsElements}
 use Rattle.ts_layout.specs.Surveyed.{place_of, places_on, places_from, free_from}
 use Rattle.ts_container.specs.Elements.{IsSomething, Describes, ListsUnless, Listed, IsSeen, AllRead, HoldNoElements}
-use Rattle.ts_layout.proofs.ElementPageLemmas.{within_list, before, at_end, after, kept, one_fewer, free_from-append, places_from-append, absent, present, some_more, free_is_no_cells}
+use Rattle.ts_layout.proofs.CallerLemmas.{within_list, before, at_end, after, kept, one_fewer, free_from-append, places_from-append, absent, present, some_more, free_is_no_cells}
 
 -- a free page is added
 unless_free : (second : Option ℕ) (space : Directory) (es : List ElementPage) → ListsUnless second space es → ListsUnless second space (es ++ Free ∷ [])

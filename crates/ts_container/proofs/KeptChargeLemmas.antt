@@ -12,7 +12,7 @@ use Rattle.ts_model.specs.Definitions.{Definitions, SeriesDef, at_slot, IsDefini
 use Rattle.ts_layout.specs.Meaning.{heading_in}
 use Rattle.ts_layout.specs.Charges.{container_charge}
 use Rattle.ts_layout.specs.OnePage.{charge_in}
-use Rattle.ts_layout.proofs.ListedLemmas.{charge_own, charge_others}
+use Rattle.ts_layout.proofs.CallerLemmas.{charge_own, charge_others}
 use Rattle.ts_container.specs.KeptCharges.{AreCharges, with_charge}
 
 -- what a container of these columns is charged

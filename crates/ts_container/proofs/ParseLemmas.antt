@@ -13,8 +13,7 @@ use Rattle.ts_container.specs.declared.slot.Reading.TheVariants.{Bad, Empty}
 use Rattle.ts_layout.specs.Slot.{column_bytes, columns_bytes, def_bytes, slot_size}
 use Rattle.ts_container.specs.Reading.{IsReadingOf}
 use Rattle.ts_layout.specs.Limits.{IsDef}
-use Rattle.ts_layout.proofs.ColumnLemmas.{AreNamed, named_first, named_others, first_column}
-use Rattle.ts_layout.proofs.SlotLemmas.{slot_empty, slot_filled}
+use Rattle.ts_layout.proofs.CallerLemmas.{AreNamed, named_first, named_others, first_column, slot_empty, slot_filled}
 
 -- what is two things is one
 pub one : {A : Type 0} (o : Option A) (a b : A) → o ≡ Some a → o ≡ Some b → a ≡ b

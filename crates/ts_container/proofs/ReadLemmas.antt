@@ -17,9 +17,7 @@ use Rattle.ts_layout.specs.Limits.{IsDef, IsSlotOf}
 use Rattle.ts_layout.specs.Meaning.{def_at, bytes_of_slot}
 use Rattle.ts_container.specs.Reading.{HoldNone, AreReadTo, HoldBelow, filled, both_found, Admitted, SlotRead, PageRead, HasZerosBehind}
 use Rattle.ts_layout.specs.Rank.{rank, rank_of_page}
-use Rattle.ts_layout.proofs.SlotLemmas.{slot_filled, own, apart_by_rank, this_or_other}
-use Rattle.ts_layout.proofs.SlotBytesLemmas.{slot_one}
-use Rattle.ts_layout.proofs.PlaceLemmas.{def_at-with_slot, def_at-other, length-with_slot, Stands, stands, rank_next}
+use Rattle.ts_layout.proofs.CallerLemmas.{slot_filled, own, apart_by_rank, this_or_other, slot_one, def_at-with_slot, def_at-other, length-with_slot, Stands, stands, rank_next}
 
 -- a slot with what was read into it
 filled_same : (kind : Kind) (slot : ℕ) (o : Option Def) (d : Definitions) → IsSlotOf kind o → slot < length (slots kind d) → def_at kind slot d ≡ None → def_at kind slot (filled kind slot o d) ≡ o

@@ -5,7 +5,7 @@ use Rattle.ts_row.specs.RowType.{Heading}
 use Rattle.ts_cells.specs.Cell.{page_room}
 use Rattle.ts_model.specs.Definitions.{Definitions, ContainerDef, at_slot}
 use Rattle.ts_layout.specs.Meaning.{KeepLimits, heading_of_container, heading_in}
-use Rattle.ts_layout.proofs.ChargeLemmas.{room_some}
+use Rattle.ts_layout.proofs.CallerLemmas.{room_some}
 
 room_from : (d : Definitions) → KeepLimits d → (slot : ℕ) (h : Heading) → slot < 64 → (o : Option ContainerDef) → at_slot slot d.containers ≡ o → Some h ≡ option_and_then (heading_of_container d) o → 0 < page_room h.columns
 room_from d limits slot h within None there is = absurd (let never : ⊥ = cc in never)

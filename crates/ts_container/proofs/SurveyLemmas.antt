@@ -8,7 +8,7 @@ use Rattle.std.specs.Option.{option_map}
 use Rattle.std.proofs.lemmas.List.{length-map, length-replicate}
 use Rattle.ts_model.specs.Definitions.{Definitions, RowTypeDef, ContainerDef, SeriesDef, limit, slots, at_slot, of_row_type, of_container, of_series, no_definitions}
 use Rattle.ts_layout.specs.Limits.{IsSlotOf}
-use Rattle.ts_layout.proofs.PlaceLemmas.{at_slot-map}
+use Rattle.ts_layout.proofs.CallerLemmas.{at_slot-map}
 use Rattle.ts_container.specs.declared.fault.SurveyFault.{SurveyFault}
 use Rattle.ts_container.specs.declared.fault.SurveyFault.TheVariants.{NotAStore, Failed}
 use Rattle.ts_container.specs.declared.definitions.Found.{Found}

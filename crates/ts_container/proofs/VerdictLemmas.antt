@@ -5,7 +5,7 @@ use Rattle.ts_space.specs.Place.{count_of}
 use Rattle.ts_space.specs.Directory.{Directory, places_of}
 use Rattle.ts_model.specs.Definitions.{Definitions, as_row_type, as_container, as_series, IsDefinitions}
 use Rattle.ts_layout.specs.Slot.{header_bytes}
-use Rattle.ts_layout.specs.Meaning.{ElementPage, element_page, elements_of, Layout, HoldsDefinitions, HoldsElements, KeepLimits, AreThere, AreSound, sum_of_quotas, HasOnePageEach, KeepsQuotas, IsLaidOut, HoldAll}
+use Rattle.ts_layout.specs.Meaning.{ElementPage, element_page, elements_of, Layout, HoldsDefinitions, HoldsElements, KeepLimits, AreThere, AreSound, sum_of_quotas, HasOnePageEach, KeepsQuotas, IsSound, IsLaidOut, HoldAll}
 use Rattle.ts_container.specs.Reading.{HoldNone}
 use Rattle.ts_layout.specs.Charges.{KeepQuotas}
 use Rattle.ts_container.specs.Elements.{ListsAll, ListsUnless, HoldNoElements, AllRead, ElementsRead, IsSeen}
@@ -17,10 +17,8 @@ use Rattle.ts_model.specs.Table.{Slots}
 use Rattle.ts_model.specs.Parts.{tables_of, AreParts}
 use Rattle.ts_model.proofs.PartsLemmas.{read-table, row_type-name, container-name, series-name}
 use Rattle.ts_layout.specs.OnePage.{AreFilled}
-use Rattle.ts_layout.proofs.ElementPageLemmas.{within_list}
+use Rattle.ts_layout.proofs.CallerLemmas.{within_list, unique, kept_in, AllAlike, pages_alike, one_alike, as_many, count_places, quotas_kept, quotas_listed}
 use Rattle.ts_container.proofs.SurveyLemmas.{reads_more, reads_err, reads_refused}
-use Rattle.ts_layout.proofs.UniqueLemmas.{unique}
-use Rattle.ts_layout.proofs.ShapeLemmas.{AllAlike, pages_alike, one_alike, as_many, count_places, quotas_kept, quotas_listed}
 
 -- how many element pages there are
 size_of : (count : ℕ) (l : Layout) → count ≡ 930 + length l.element_pages → length l.element_pages ≡ count - 930
@@ -108,29 +106,38 @@ filled_seen tells count d v es size seen i slot fs is =
     let here = subst (HoldsElements d one.0) is one.1 in
     (here.0, here.1, here.2.fill)
 
--- the layout that was read
-pub is_found : (tells : Bool) (count : ℕ) (d : Definitions) (v : Contents) (space : Directory) (spare : List ℕ) (second : Option ℕ) → 931 ≤ count → count ≤ 66466 → (IsTrue tells → v.page 0 ≡ header_bytes (count - 930)) → (IsTrue tells → HoldsDefinitions v.page d) → AreSound (count - 930) d
+-- the layout that was read: on every keeper of pages it keeps the rules, and where the pages are told they hold it
+pub is_found : (tells : Bool) (count : ℕ) (d : Definitions) (v : Contents) (space : Directory) (spare : List ℕ) (second : Option ℕ) → 931 ≤ count → count ≤ 66466 → length space.lists ≡ 4096 → (IsTrue tells → v.page 0 ≡ header_bytes (count - 930)) → (IsTrue tells → HoldsDefinitions v.page d) → AreSound (count - 930) d
     → AllRead tells (count - 930) d v space spare second → second ≡ None → KeepQuotas d space → IsFound tells count v d space spare
-is_found tells count d v space spare second low high header holds sound read is kept =
+is_found tells count d v space spare second low high slots header holds sound read is kept =
     let es : List ElementPage = read.elements in
     let lists = all_listed second space es is read.listed.lists in
-    let l : Layout = record { definitions = d; element_pages = es } in (
-      l,
-      record { definitions = refl; places = lists.places; free = read.listed.free; filled = filled_seen tells (count - 930) d v es read.size read.seen },
-      omega (arith, read.size, low),
-      record {
-        some = omega (arith, read.size, low);
-        most = omega (arith, read.size, high);
-        definitions = subst (λ (n : ℕ). AreSound n d) (sym read.size) sound;
-        one_page = lists.one;
-        charges = quotas_kept d space es sound.tables (counted space es lists) kept;
-      },
-      λ told. record {
-        header = header told ∙ ap header_bytes (sym read.size);
-        definitions = holds told;
-        elements = told_pages tells (count - 930) d v es told read.size read.seen;
-      },
-    )
+    let l : Layout = record { definitions = d; element_pages = es } in
+    let filled = filled_seen tells (count - 930) d v es read.size read.seen in
+    let size : count ≡ 930 + length es = omega (arith, read.size, low) in
+    let rules : IsSound l = record {
+      some = omega (arith, read.size, low);
+      most = omega (arith, read.size, high);
+      definitions = subst (λ (n : ℕ). AreSound n d) (sym read.size) sound;
+      one_page = lists.one;
+      charges = quotas_kept d space es sound.tables (counted space es lists) kept;
+    } in
+    record {
+      kept = kept_in l space spare count rules filled lists.places slots read.listed.free size;
+      layout = λ told. (
+        l,
+        record { definitions = refl; places = lists.places; free = read.listed.free; filled = filled },
+        record {
+          size = size;
+          bytes = record {
+            header = header told ∙ ap header_bytes (sym read.size);
+            definitions = holds told;
+            elements = told_pages tells (count - 930) d v es told read.size read.seen;
+          };
+          rules = rules;
+        },
+      );
+    }
 
 -- a call that failed as this one
 pub err_is : {T : Type 0} (r : Result T SurveyFault) (e : SurveyFault) → IsErrAnd r (λ x. x ≡ e) → r ≡ Err e

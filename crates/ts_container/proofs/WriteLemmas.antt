@@ -9,7 +9,7 @@ use Rattle.ts_page.specs.Head.{bytes_at}
 use Rattle.std.specs.Prelude.{Contains}
 use Rattle.std.proofs.lemmas.List.Elements.{All-contains}
 use Rattle.ts_page.specs.Pages.{Contents, EqualPages, with_page, IsLawful, IsListed, Got, Put}
-use Rattle.ts_layout.proofs.SlotLemmas.{slot_empty, this_or_other, apart_by_rank, sizes}
+use Rattle.ts_layout.proofs.CallerLemmas.{slot_empty, this_or_other, apart_by_rank, sizes, def_at-with_slot, def_at-cleared, def_at-other, page_low, page_high, slot_end}
 use Rattle.ts_model.specs.declared.kind.Kind.{Kind}
 use Rattle.ts_model.specs.declared.kind.Kind.TheVariants as kinds
 use Rattle.ts_model.specs.declared.def.Def.{Def}
@@ -18,7 +18,6 @@ use Rattle.ts_layout.specs.Slot.{slot_size, slot_bytes, page_of_slot, byte_of_sl
 use Rattle.ts_layout.specs.Meaning.{def_at, bytes_of_slot, HoldsDefinitions}
 use Rattle.ts_layout.specs.Changed.{with_slot_bytes}
 use Rattle.ts_container.specs.Survey.{SlotWritten}
-use Rattle.ts_layout.proofs.PlaceLemmas.{def_at-with_slot, def_at-cleared, def_at-other, page_low, page_high, slot_end}
 
 -- bytes that were written, those below and those above them
 same_bytes : (at size : ℕ) (page slot : List ℕ) → at + size ≤ length page → length slot ≡ size → bytes_at at size (take at page ++ (slot ++ drop (at + size) page)) ≡ slot

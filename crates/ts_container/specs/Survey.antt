@@ -1,5 +1,5 @@
 -- The calls that read pages or write a slot, over what a keeper of pages means.
-use Rattle.std.specs.Prelude.{◌≡◌, ℕ, ◌+◌, ◌-◌, ◌≤◌, Bool, IsTrue, Option, Some, None, Result, IsOk, IfOk, IfErr, OnOk, OnErr, IsErrOf, List, length}
+use Rattle.std.specs.Prelude.{◌≡◌, ℕ, ◌-◌, ◌≤◌, Bool, IsTrue, Option, Some, None, Result, IsOk, IfOk, IfErr, OnOk, OnErr, IsErrOf, List}
 use Rattle.ts_base.specs.declared.fault.StoreFault.{StoreFault}
 use Rattle.ts_base.specs.declared.fault.StoreFault.TheVariants.{Failed as StoreFailed}
 use Rattle.ts_disk.specs.Device.{Rose}
@@ -12,9 +12,10 @@ use Rattle.ts_space.specs.Directory.{Directory}
 use Rattle.ts_container.specs.declared.fault.SurveyFault.{SurveyFault}
 use Rattle.ts_container.specs.declared.fault.SurveyFault.TheVariants.{NotAStore, Failed, Memory}
 use Rattle.ts_layout.specs.Slot.{header_bytes, page_of_slot}
-use Rattle.ts_layout.specs.Meaning.{Layout, HoldsDefinitions, HoldsLayout, AreSound, IsSound, IsLaidOut}
+use Rattle.ts_layout.specs.Meaning.{Layout, HoldsDefinitions, AreSound, IsLaidOut}
 use Rattle.ts_layout.specs.Surveyed.{ListsPlaces, free_pages}
 use Rattle.ts_layout.specs.OnePage.{AreFilled}
+use Rattle.ts_layout.specs.Placed.{AreKept}
 use Rattle.ts_container.specs.Reading.{AreReadTo, HoldNone}
 use Rattle.ts_layout.specs.Changed.{with_slot_bytes}
 
@@ -59,11 +60,11 @@ pub record IsSurveyOf (d : Definitions) (space : Directory) (spare : List ℕ) (
   pub free : spare ≡ free_pages l
   pub filled : AreFilled l
 
--- The pages, so many in all, are laid out as what was found: on every keeper of pages it keeps the rules, and where the
--- pages are told they hold it.
-abbrev pub IsFound : Bool → ℕ → Contents → Definitions → Directory → List ℕ → Type 0
-IsFound tells count v d space free =
-    (l : Layout) × IsSurveyOf d space free l × (count ≡ 930 + length l.element_pages) × IsSound l × (IsTrue tells → HoldsLayout v.page l)
+-- What was found of the pages, so many in all: it keeps its rules on every keeper of pages, and where the pages are told it is what
+-- a layout has that keeps the rules and that they hold.
+pub record IsFound (tells : Bool) (count : ℕ) (v : Contents) (d : Definitions) (space : Directory) (free : List ℕ) : Type 0 where
+  pub kept : AreKept d space free count
+  pub layout : IsTrue tells → (l : Layout) × IsSurveyOf d space free l × IsLaidOut count v.page l
 
 -- no layout serves for the pages
 abbrev pub HoldNoLayout : ℕ → (ℕ → List ℕ) → Type 0

@@ -47,7 +47,8 @@ impl Charges {
     /// What the container in a slot is charged.
     pub fn of(&self, slot: u8) -> u64
         requires { slot < 64 }
-        ensures { result ≡ slice_index self.now slot }
+        ensures ok { result ≡ slice_index self.now slot }
+        ensures slots { length self.now ≡ 64 }
     {
         self.sums[slot as usize]
     }

@@ -45,6 +45,8 @@ pub fn survey<P: Pages>(alloc: Global, pages: &mut P, count: u32) -> Result<Surv
     if !keep_quotas(&defs, &elements.space) {
         return Err(SurveyFault::NotAStore { page: CONTAINERS });
     }
+    // A directory has a list for each slot.
+    let _slots = elements.space.places(0);
     Ok(Surveyed {
         defs,
         space: elements.space,

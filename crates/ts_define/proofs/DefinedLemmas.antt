@@ -12,10 +12,7 @@ use Rattle.ts_layout.specs.Limits.{IsDef}
 use Rattle.ts_layout.specs.Meaning.{Layout, IsSound, IsThere, reference, catalogue_of, def_at, heading_in, sum_of_quotas}
 use Rattle.ts_layout.specs.Changed.{CanCreate, HasNoPage}
 use Rattle.ts_layout.specs.OnePage.{AreFilled}
-use Rattle.ts_layout.proofs.CreatedLemmas.{row_type_sound, row_type_keeps_headings, row_type_catalogue, container_sound, container_keeps_headings, container_catalogue, series_sound, series_keeps_headings, series_catalogue}
-use Rattle.ts_layout.proofs.DroppedLemmas.{row_type_dropped_sound, row_type_dropped_headings, row_type_dropped_catalogue, container_dropped_sound, container_dropped_headings, container_dropped_catalogue}
-use Rattle.ts_layout.proofs.PlaceLemmas.{at_slot-map}
-use Rattle.ts_layout.proofs.LookupLemmas.{row_type_found, container_found, vacant_found}
+use Rattle.ts_layout.proofs.CallerLemmas.{row_type_sound, row_type_keeps_headings, row_type_catalogue, container_sound, container_keeps_headings, container_catalogue, series_sound, series_keeps_headings, series_catalogue, row_type_dropped_sound, row_type_dropped_headings, row_type_dropped_catalogue, container_dropped_sound, container_dropped_headings, container_dropped_catalogue, row_type_kept, container_kept, series_kept, row_type_dropped_kept, container_dropped_kept, at_slot-map, row_type_found, container_found, vacant_found}
 use Rattle.ts_answer.specs.Answer.{Answered}
 use Rattle.ts_answer.specs.Decided.{DefinesAs}
 use Rattle.ts_answer.specs.Kinds.{IsUsed, HasNoPages, with_def, without}
@@ -69,6 +66,7 @@ module _ (line : List ℕ) (l : Layout) (rules : IsSound l) (filled : AreFilled 
       record {
         rules = row_type_sound slot name heading l rules can;
         headings = row_type_keeps_headings slot name heading l rules can;
+        kept = λ space free count size kept. row_type_kept l rules space free count size kept slot name heading can;
         comes = says line _ _ (row_type_catalogue slot name heading l rules can);
       }
   defined (defs.Container name row_type quota) slot target free limits is fits =
@@ -76,6 +74,7 @@ module _ (line : List ℕ) (l : Layout) (rules : IsSound l) (filled : AreFilled 
       record {
         rules = container_sound slot name row_type quota l rules can fits;
         headings = container_keeps_headings slot name row_type quota l rules can;
+        kept = λ space free count size kept. container_kept l rules space free count size kept slot name row_type quota can fits;
         comes = says line _ _ (container_catalogue slot name row_type quota l rules can target is);
       }
   defined (defs.Series key container) slot target free limits is fits =
@@ -84,6 +83,7 @@ module _ (line : List ℕ) (l : Layout) (rules : IsSound l) (filled : AreFilled 
       record {
         rules = series_sound slot key container l rules can none;
         headings = series_keeps_headings slot key container l rules can none;
+        kept = λ space free count size kept. series_kept l rules space free count size kept slot key container can none;
         comes = says line _ _ (series_catalogue slot key container l rules can none target is);
       }
 
@@ -95,6 +95,7 @@ module _ (line : List ℕ) (l : Layout) (rules : IsSound l) (filled : AreFilled 
       record {
         rules = row_type_dropped_sound l slot name rules named.is none;
         headings = row_type_dropped_headings l slot name rules named.is none;
+        kept = λ space free count size kept. row_type_dropped_kept l rules space free count size kept slot name named.is none;
         comes = says line _ _ (row_type_dropped_catalogue l slot name rules named.is none);
       }
   dropped kinds.Container slot name pageless named unused =
@@ -102,6 +103,7 @@ module _ (line : List ℕ) (l : Layout) (rules : IsSound l) (filled : AreFilled 
       record {
         rules = container_dropped_sound l slot name rules named.is none;
         headings = container_dropped_headings l slot name rules named.is none;
+        kept = λ space free count size kept. container_dropped_kept l rules space free count size kept slot name named.is none;
         comes = says line _ _ (container_dropped_catalogue l slot name rules named.is none);
       }
   dropped kinds.Series slot name pageless named unused = absurd pageless

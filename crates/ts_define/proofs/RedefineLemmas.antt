@@ -1,5 +1,5 @@
 -- A command that changes one slot of the definitions, on pages.
-use Rattle.std.proofs.Common.{◌≡◌, ℕ, ◌+◌, ◌*◌, ◌-◌, ◌<◌, ◌≤◌, Bool, true, IsTrue, Option, Result, Ok, List, ◌++◌, [], All, length, refl, ap, sym, ◌∙◌, subst, arith}
+use Rattle.std.proofs.Common.{◌≡◌, ℕ, ◌+◌, ◌-◌, ◌<◌, ◌≤◌, Bool, true, IsTrue, Option, Ok, List, All, length, refl, ap, sym, ◌∙◌, subst, arith}
 use Rattle.ts_command.specs.declared.command.Command.{Command}
 use Rattle.ts_page.specs.Pages.{Contents}
 use Rattle.ts_model.specs.declared.kind.Kind.{Kind}
@@ -9,10 +9,12 @@ use Rattle.ts_space.specs.Directory.{Directory, used_of}
 use Rattle.ts_layout.specs.Slot.{page_of_slot}
 use Rattle.ts_layout.specs.Meaning.{Layout, Free, element_page, HoldsLayout, IsSound}
 use Rattle.ts_layout.specs.Changed.{with_slot_bytes, layout_with, KeepsHeadings}
-use Rattle.ts_layout.proofs.LayoutLemmas.{layout_written}
+use Rattle.ts_layout.specs.OnePage.{bare}
+use Rattle.ts_layout.specs.Placed.{AreKept}
+use Rattle.ts_layout.proofs.CallerLemmas.{layout_written, bare_sound, bare_filled, bare_size}
 use Rattle.ts_container.specs.Survey.{SlotWritten}
 use Rattle.ts_answer.specs.declared.effect.Effect.TheVariants.{Slot}
-use Rattle.ts_answer.specs.View.{view, Shows}
+use Rattle.ts_answer.specs.View.{view, IsDefinedBy, Shows, KeepsRules}
 use Rattle.ts_answer.specs.CarriedOut.{CarriedOut, Comes}
 use Rattle.ts_answer.specs.Commands.{is_writing}
 use Rattle.ts_answer.specs.Decided.{IsDecision, FitsSlot}
@@ -28,6 +30,16 @@ slot_work tells told kind slot def l v w within rules headings holds written =
 -- what was decided is written into its slot, and this line is said
 module _ (tells : Bool) (line : List ℕ) (kind : Kind) (slot : ℕ) (def : Option Def) (command : Command) (d : Definitions) (space : Directory) (v w : Contents) (decision : IsDecision line kind command (Ok (slot, def)) d v.count) (fits : FitsSlot kind slot def d)
     (written : SlotWritten tells kind slot def (Ok tt) v w) where
+  -- what is in memory keeps its rules, whatever the pages hold: its definitions are those of a layout without elements
+  keeps : KeepsRules (view d space v) → KeepsRules (view (with_slot kind slot def d) space w)
+  keeps kept =
+      let some = kept.some in
+      let most = kept.most in
+      let size = bare_size v.count d (omega (arith, some)) in
+      let by : IsDefinedBy d v.count (bare (v.count - 930) d) = record { definitions = refl; size = size; rules = bare_sound (v.count - 930) d (omega (arith, some)) (omega (arith, most)) kept.sound; filled = bare_filled (v.count - 930) d } in
+      let now = (decision (bare (v.count - 930) d) by).ok.2.kept space v.free v.count size kept in
+      subst (λ (n : ℕ). AreKept (with_slot kind slot def d) space w.free n) (sym written.count) (subst (λ (ns : List ℕ). AreKept (with_slot kind slot def d) space ns v.count) (sym written.free) now)
+
   comes : (l : Layout) → Shows tells (view d space v) l → Comes tells command (Slot kind slot def) line (view d space v) w l
   comes l shows =
       let kept = shows.kept in
@@ -52,7 +64,8 @@ module _ (tells : Bool) (line : List ℕ) (kind : Kind) (slot : ℕ) (def : Opti
 
   pub redefined : is_writing command ≡ true → (out : List ℕ) → out ≡ line → w.change_bytes ≤ v.change_bytes + 4101 → CarriedOut tells command (Ok (Slot kind slot def)) out (view d space v) w
   redefined writes out said bytes = record {
-    done = λ l shows. subst (λ (text : List ℕ). Comes tells command (Slot kind slot def) text (view d space v) w l) (sym said) (comes l shows);
+    keeps = keeps;
+    done = λ told l shows. subst (λ (text : List ℕ). Comes tells command (Slot kind slot def) text (view d space v) w l) (sym said) (comes l shows);
     applies = fits;
     reads = λ reads. absurd (cc);
     stays = λ none. absurd (cc);

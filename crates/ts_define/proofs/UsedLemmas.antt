@@ -1,20 +1,17 @@
 -- What definitions refer to, by slots and by names.
-use Rattle.std.proofs.Common.{◌≡◌, ℕ, zero, suc, ◌<◌, true, false, nat_lt, Option, Some, None, List, [], ◌∷◌, length, refl, ap, sym, ◌∙◌, subst, arith}
+use Rattle.std.proofs.Common.{◌≡◌, ℕ, zero, suc, true, false, nat_lt, Some, List, [], ◌∷◌, length, refl, ap, sym, ◌∙◌, subst, arith}
 use Rattle.std.proofs.lemmas.Bool.{lt-ltb}
 use Rattle.std.specs.Prelude.{Contains}
-use Rattle.std.specs.Option.{option_map, option_to_list}
+use Rattle.std.specs.Option.{option_map}
 use Rattle.ts_model.specs.declared.kind.Kind.{Kind}
 use Rattle.ts_model.specs.declared.kind.Kind.TheVariants as kinds
 use Rattle.ts_model.specs.declared.def.Def.{Def}
 use Rattle.ts_model.specs.declared.def.Def.TheVariants as defs
 use Rattle.ts_model.specs.Catalogue.{Series, series_in}
-use Rattle.ts_model.specs.Definitions.{Definitions, ContainerDef, SeriesDef, of_row_type, of_container, of_series, at_slot, limit, slots, slot_of}
-use Rattle.ts_layout.specs.Meaning.{Layout, IsSound, def_at, reference, catalogue_of}
+use Rattle.ts_model.specs.Definitions.{Definitions, ContainerDef, SeriesDef, of_row_type, of_container, of_series, at_slot, slots, slot_of}
+use Rattle.ts_layout.specs.Meaning.{Layout, IsSound, catalogue_of}
 use Rattle.ts_layout.specs.Changed.{NoContainerHas, NoSeriesStandsIn}
-use Rattle.ts_layout.proofs.PlaceLemmas.{at_slot-map}
-use Rattle.ts_layout.proofs.SlotLemmas.{own}
-use Rattle.ts_layout.proofs.LayoutLemmas.{within_table}
-use Rattle.ts_layout.proofs.LookupLemmas.{row_type_used, row_type_unused, container_used, container_unused}
+use Rattle.ts_layout.proofs.CallerLemmas.{at_slot-map, own, within_table, row_type_used, row_type_unused, container_used, container_unused}
 use Rattle.ts_answer.specs.Kinds.{Refers, IsUsed, IsUsedBy, is_used}
 
 -- the one thing of a list is this

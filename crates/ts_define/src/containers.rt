@@ -7,7 +7,7 @@ ghost use Rattle.ts_model.specs.declared.kind.Kind.TheVariants.{Container as Con
 ghost use Rattle.ts_answer.specs.CarriedOut.{CarriedOut};
 ghost use Rattle.ts_answer.specs.Decided.{IsDecision, FitsSlot};
 ghost use Rattle.ts_answer.specs.Reply.{ok_line};
-ghost use Rattle.ts_answer.specs.View.{view, ShowsSome};
+ghost use Rattle.ts_answer.specs.View.{view, IsSeen};
 
 use crate::slots::{slot_for, slot_named};
 use crate::write::redefine;
@@ -30,7 +30,7 @@ pub fn create_container<P: Pages>(
     quota: i64,
     out: &mut Reply,
 ) -> Result<Effect, Stop>
-    requires seen { ShowsSome P.tells (view defs.now.definitions space.now (P.contents pages.old)) }
+    requires seen { IsSeen P.tells (view defs.now.definitions space.now (P.contents pages.old)) }
     requires form { HasForm (TSContainerCreate name.now row_type.now quota) }
     requires empty { out.old ≡ [] }
     ensures carried { CarriedOut P.tells (TSContainerCreate name.now row_type.now quota) result out.new (view defs.now.definitions space.now (P.contents pages.old)) (P.contents pages.new) }

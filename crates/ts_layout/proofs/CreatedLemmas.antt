@@ -3,6 +3,7 @@ use Rattle.std.proofs.Common.{◌≡◌, ◌≢◌, ℕ, zero, suc, ◌+◌, ◌
 use Rattle.std.specs.Option.{option_map, option_and_then, unwrap_or}
 use Rattle.std.specs.FinMap.{insert, empty, from_entries}
 use Rattle.std.specs.Ordering.{int_cmp}
+use Rattle.std.proofs.lemmas.Bool.{cases_eq}
 use Rattle.std.proofs.lemmas.Bool.Decides.{nat_tests}
 use Rattle.std.proofs.lemmas.List.Sums.{sum_by-set}
 use Rattle.ts_row.specs.RowType.{Heading}
@@ -13,11 +14,11 @@ use Rattle.ts_model.specs.declared.def.Def.{Def}
 use Rattle.ts_model.specs.declared.def.Def.TheVariants as defs
 use Rattle.ts_model.specs.Catalogue.{Container, Series}
 use Rattle.ts_model.specs.Definitions.{RowTypeDef, ContainerDef, SeriesDef, of_row_type, of_container, of_series, name_of, slots, slot_of, at_slot, with_slot, by_name}
-use Rattle.ts_layout.specs.Meaning.{Layout, ElementPage, Free, Cells, heading_of_container, heading_in, quota_in, sum_of_quotas, elements_on, elements_of, elements_at, sum_filled, charge_of_series, charge_of_container, KeepsQuotas, IsSound, name_at, container_of, series_of, catalogue_of}
+use Rattle.ts_layout.specs.Meaning.{Layout, ElementPage, Free, Cells, heading_of_container, heading_in, heading_at, quota_in, sum_of_quotas, elements_on, elements_of, elements_at, sum_filled, charge_of_series, charge_of_container, KeepsQuotas, IsSound, name_at, container_of, series_of, catalogue_of}
 use Rattle.ts_layout.specs.Changed.{layout_with, KeepsHeadings, HasNoPage, CanCreate}
 use Rattle.ts_layout.proofs.LayoutLemmas.{none≢some}
 use Rattle.ts_layout.proofs.FilledLemmas.{at_filled, still_filled, other_filled, table_filled, by_name_same, no_such_name, slot_there, by_name_filled}
-use Rattle.ts_layout.proofs.ReferLemmas.{empty_in, container_refers, series_refers, and_then_same, limits_filled, references_filled}
+use Rattle.ts_layout.proofs.ReferLemmas.{KeepColumns, empty_in, container_refers, series_refers, and_then_same, limits_filled, references_filled}
 
 -- a sum to which a filled slot adds nothing
 pub sum_filled_more : {A : Type 0} (f : ℕ → A → ℕ) (first slot : ℕ) (a : A) (table : List (Option A)) → at_slot slot table ≡ None → f (first + slot) a ≡ 0 → sum_filled f first (set table slot (Some a)) ≡ sum_filled f first table
@@ -67,15 +68,21 @@ module _ (slot : ℕ) (name : List ℕ) (h : Heading) (l : Layout) (sound : IsSo
       let r = container_refers l.definitions sound.definitions.tables sound.definitions.references i c here in
       still_filled l.definitions.row_types slot c.row_type (Some (record { name = name; heading = h })) r.0 (empty_in of_row_type slot l.definitions.row_types can.empty) r.1 ∙ sym r.1
 
-  row_type_headings : (i : ℕ) (c : ContainerDef) → at_slot i l.definitions.containers ≡ Some c → heading_of_container (with_slot kinds.RowType slot (Some (defs.RowType name h)) l.definitions) c ≡ heading_of_container l.definitions c
+  pub row_type_headings : (i : ℕ) (c : ContainerDef) → at_slot i l.definitions.containers ≡ Some c → heading_of_container (with_slot kinds.RowType slot (Some (defs.RowType name h)) l.definitions) c ≡ heading_of_container l.definitions c
   row_type_headings i c here = ap (option_map (λ (r : RowTypeDef). r.heading)) (row_type_stays i c here)
 
-  pub row_type_keeps_headings : KeepsHeadings (with_slot kinds.RowType slot (Some (defs.RowType name h)) l.definitions) l
-  row_type_keeps_headings i s es is =
+  row_type_columns : (s : ℕ) → heading_at (with_slot kinds.RowType slot (Some (defs.RowType name h)) l.definitions) s ≡ heading_at l.definitions s
+  row_type_columns s =
       and_then_same (λ (x : SeriesDef). heading_in (with_slot kinds.RowType slot (Some (defs.RowType name h)) l.definitions) x.container) (λ (x : SeriesDef). heading_in l.definitions x.container) (at_slot s l.definitions.series)
       (λ x there.
       and_then_same (heading_of_container (with_slot kinds.RowType slot (Some (defs.RowType name h)) l.definitions)) (heading_of_container l.definitions) (at_slot x.container l.definitions.containers)
       (λ c here. row_type_headings x.container c here))
+
+  pub row_type_keeps_headings : KeepsHeadings (with_slot kinds.RowType slot (Some (defs.RowType name h)) l.definitions) l
+  row_type_keeps_headings i s es is = row_type_columns s
+
+  pub row_type_keeps_columns : KeepColumns l.definitions (with_slot kinds.RowType slot (Some (defs.RowType name h)) l.definitions)
+  row_type_keeps_columns s heading there = row_type_columns s ∙ there
 
   pub row_type_sound : IsSound (layout_with kinds.RowType slot (Some (defs.RowType name h)) l)
   row_type_sound = record {
@@ -120,13 +127,19 @@ module _ (slot : ℕ) (name : List ℕ) (row_type quota : ℕ) (l : Layout) (sou
       let c = series_refers l.definitions sound.definitions.tables sound.definitions.references i s here in
       still_filled l.definitions.containers slot s.container (Some (record { name = name; row_type = row_type; quota = quota })) c.0 (empty_in of_container slot l.definitions.containers can.empty) c.1 ∙ sym c.1
 
-  pub container_keeps_headings : KeepsHeadings (with_slot kinds.Container slot (Some (defs.Container name row_type quota)) l.definitions) l
-  container_keeps_headings i s es is =
+  container_columns : (s : ℕ) → heading_at (with_slot kinds.Container slot (Some (defs.Container name row_type quota)) l.definitions) s ≡ heading_at l.definitions s
+  container_columns s =
       and_then_same (λ (x : SeriesDef). heading_in (with_slot kinds.Container slot (Some (defs.Container name row_type quota)) l.definitions) x.container) (λ (x : SeriesDef). heading_in l.definitions x.container) (at_slot s l.definitions.series)
       (λ x there. ap (option_and_then (heading_of_container l.definitions)) (container_stays s x there))
 
+  pub container_keeps_headings : KeepsHeadings (with_slot kinds.Container slot (Some (defs.Container name row_type quota)) l.definitions) l
+  container_keeps_headings i s es is = container_columns s
+
+  pub container_keeps_columns : KeepColumns l.definitions (with_slot kinds.Container slot (Some (defs.Container name row_type quota)) l.definitions)
+  container_keeps_columns s heading there = container_columns s ∙ there
+
   -- the new container has no series yet
-  no_series_yet : (i : ℕ) (s : SeriesDef) → at_slot i l.definitions.series ≡ Some s → s.container ≡ slot → ⊥
+  pub no_series_yet : (i : ℕ) (s : SeriesDef) → at_slot i l.definitions.series ≡ Some s → s.container ≡ slot → ⊥
   no_series_yet i s here same =
       let c = series_refers l.definitions sound.definitions.tables sound.definitions.references i s here in
       none≢some (at_slot s.container l.definitions.containers) c.0 (ap (λ (n : ℕ). at_slot n l.definitions.containers) same ∙ empty_in of_container slot l.definitions.containers can.empty) c.1
@@ -183,16 +196,26 @@ module _ (slot : ℕ) (name : List ℕ) (row_type quota : ℕ) (l : Layout) (sou
       λ j. record { pages = length l.element_pages; row_types = (catalogue_of l).row_types; containers = containers j; series = series j }
 
 -- a series without elements is charged nothing
-no_elements_charge : (b : Bool) (room : ℕ) (es : List Element) → es ≡ [] → (if b then irregular_charge room (length es) else 0) ≡ 0
+pub no_elements_charge : (b : Bool) (room : ℕ) (es : List Element) → es ≡ [] → (if b then irregular_charge room (length es) else 0) ≡ 0
 no_elements_charge true room es none = ap (λ (l : List Element). irregular_charge room (length l)) none
 no_elements_charge false room es none = refl
 
 -- a series more
 module _ (slot : ℕ) (key : List ℕ) (container : ℕ) (l : Layout) (sound : IsSound l) (can : CanCreate slot (defs.Series key container) l.definitions) (none : HasNoPage slot l.element_pages) where
+  series_columns : (s : ℕ) → s ≢ slot → heading_at (with_slot kinds.Series slot (Some (defs.Series key container)) l.definitions) s ≡ heading_at l.definitions s
+  series_columns s other =
+      ap (option_and_then (λ (x : SeriesDef). heading_in l.definitions x.container)) (other_filled l.definitions.series slot s (Some (record { key = key; container = container })) other)
+
   pub series_keeps_headings : KeepsHeadings (with_slot kinds.Series slot (Some (defs.Series key container)) l.definitions) l
-  series_keeps_headings i s es is =
-      ap (option_and_then (λ (x : SeriesDef). heading_in l.definitions x.container))
-      (other_filled l.definitions.series slot s (Some (record { key = key; container = container })) (λ same. none i es (is ∙ ap (λ (n : ℕ). Cells n es) same)))
+  series_keeps_headings i s es is = series_columns s (λ same. none i es (is ∙ ap (λ (n : ℕ). Cells n es) same))
+
+  pub series_keeps_columns : KeepColumns l.definitions (with_slot kinds.Series slot (Some (defs.Series key container)) l.definitions)
+  series_keeps_columns s heading there = elim (cases_eq s slot) [
+    | inl same ↦
+        let unheaded : heading_at l.definitions slot ≡ None = ap (option_and_then (λ (x : SeriesDef). heading_in l.definitions x.container)) (empty_in of_series slot l.definitions.series can.empty) in
+        absurd (none≢some (heading_at l.definitions s) heading (ap (heading_at l.definitions) same ∙ unheaded) there)
+    | inr other ↦ series_columns s other ∙ there
+  ]
 
   series_charged : KeepsQuotas (layout_with kinds.Series slot (Some (defs.Series key container)) l)
   series_charged i c head here heading =

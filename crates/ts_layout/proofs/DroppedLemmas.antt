@@ -8,12 +8,12 @@ use Rattle.ts_model.specs.declared.kind.Kind.TheVariants as kinds
 use Rattle.ts_model.specs.declared.def.Def.{Def}
 use Rattle.ts_model.specs.Definitions.{RowTypeDef, ContainerDef, SeriesDef, of_row_type, of_container, of_series, slots, slot_of, at_slot, with_slot, by_name}
 use Rattle.ts_model.proofs.SlotLemmas.{by_name-clear}
-use Rattle.ts_layout.specs.Meaning.{Layout, def_at, reference, heading_of_container, heading_in, quota_in, sum_of_quotas, elements_at, IsSound, container_of, series_of, catalogue_of}
+use Rattle.ts_layout.specs.Meaning.{Layout, def_at, reference, heading_of_container, heading_in, heading_at, quota_in, sum_of_quotas, elements_at, IsSound, container_of, series_of, catalogue_of}
 use Rattle.ts_layout.specs.Changed.{layout_with, KeepsHeadings, NoContainerHas, NoSeriesStandsIn}
 use Rattle.ts_layout.proofs.LayoutLemmas.{none≢some, within_table}
 use Rattle.ts_layout.proofs.SlotLemmas.{own}
 use Rattle.ts_layout.proofs.FilledLemmas.{at_cleared, other_filled, table_cleared, by_name_same, slot_there}
-use Rattle.ts_layout.proofs.ReferLemmas.{and_then_same, limits_cleared, references_cleared}
+use Rattle.ts_layout.proofs.ReferLemmas.{KeepColumns, and_then_same, limits_cleared, references_cleared}
 use Rattle.ts_layout.proofs.CreatedLemmas.{same_name_at}
 
 one_target : (a b : Kind × ℕ) → Some a ≡ Some b → a ≡ b
@@ -61,15 +61,21 @@ module _ (l : Layout) (slot : ℕ) (name : List ℕ) (sound : IsSound l) (is : s
   row_type_stays : (i : ℕ) (c : ContainerDef) → at_slot i l.definitions.containers ≡ Some c → at_slot c.row_type (set l.definitions.row_types slot None) ≡ at_slot c.row_type l.definitions.row_types
   row_type_stays i c here = other_filled l.definitions.row_types slot c.row_type None (none i c here)
 
-  row_type_headings : (i : ℕ) (c : ContainerDef) → at_slot i l.definitions.containers ≡ Some c → heading_of_container (with_slot kinds.RowType slot None l.definitions) c ≡ heading_of_container l.definitions c
-  row_type_headings i c here = ap (option_map (λ (r : RowTypeDef). r.heading)) (row_type_stays i c here)
+  pub row_type_dropped_heading : (i : ℕ) (c : ContainerDef) → at_slot i l.definitions.containers ≡ Some c → heading_of_container (with_slot kinds.RowType slot None l.definitions) c ≡ heading_of_container l.definitions c
+  row_type_dropped_heading i c here = ap (option_map (λ (r : RowTypeDef). r.heading)) (row_type_stays i c here)
 
-  pub row_type_dropped_headings : KeepsHeadings (with_slot kinds.RowType slot None l.definitions) l
-  row_type_dropped_headings i s es page =
+  row_type_dropped_at : (s : ℕ) → heading_at (with_slot kinds.RowType slot None l.definitions) s ≡ heading_at l.definitions s
+  row_type_dropped_at s =
       and_then_same (λ (x : SeriesDef). heading_in (with_slot kinds.RowType slot None l.definitions) x.container) (λ (x : SeriesDef). heading_in l.definitions x.container) (at_slot s l.definitions.series)
       (λ x there.
       and_then_same (heading_of_container (with_slot kinds.RowType slot None l.definitions)) (heading_of_container l.definitions) (at_slot x.container l.definitions.containers)
-      (λ c here. row_type_headings x.container c here))
+      (λ c here. row_type_dropped_heading x.container c here))
+
+  pub row_type_dropped_headings : KeepsHeadings (with_slot kinds.RowType slot None l.definitions) l
+  row_type_dropped_headings i s es page = row_type_dropped_at s
+
+  pub row_type_dropped_columns : KeepColumns l.definitions (with_slot kinds.RowType slot None l.definitions)
+  row_type_dropped_columns s heading there = row_type_dropped_at s ∙ there
 
   pub row_type_dropped_sound : IsSound (layout_with kinds.RowType slot None l)
   row_type_dropped_sound = record {
@@ -86,7 +92,7 @@ module _ (l : Layout) (slot : ℕ) (name : List ℕ) (sound : IsSound l) (is : s
       quotas = sound.definitions.quotas;
     };
     one_page = sound.one_page;
-    charges = λ i c head here heading. sound.charges i c head here (sym (row_type_headings i c here) ∙ heading);
+    charges = λ i c head here heading. sound.charges i c head here (sym (row_type_dropped_heading i c here) ∙ heading);
   }
 
   pub row_type_dropped_catalogue : catalogue_of (layout_with kinds.RowType slot None l) ≡ record (catalogue_of l) { row_types = remove (catalogue_of l).row_types name }
@@ -109,10 +115,21 @@ module _ (l : Layout) (slot : ℕ) (name : List ℕ) (sound : IsSound l) (is : s
   container_stays : (i : ℕ) (s : SeriesDef) → at_slot i l.definitions.series ≡ Some s → at_slot s.container (set l.definitions.containers slot None) ≡ at_slot s.container l.definitions.containers
   container_stays i s here = other_filled l.definitions.containers slot s.container None (none i s here)
 
-  pub container_dropped_headings : KeepsHeadings (with_slot kinds.Container slot None l.definitions) l
-  container_dropped_headings i s es page =
+  container_dropped_at : (s : ℕ) → heading_at (with_slot kinds.Container slot None l.definitions) s ≡ heading_at l.definitions s
+  container_dropped_at s =
       and_then_same (λ (x : SeriesDef). heading_in (with_slot kinds.Container slot None l.definitions) x.container) (λ (x : SeriesDef). heading_in l.definitions x.container) (at_slot s l.definitions.series)
       (λ x there. ap (option_and_then (heading_of_container l.definitions)) (container_stays s x there))
+
+  pub container_dropped_headings : KeepsHeadings (with_slot kinds.Container slot None l.definitions) l
+  container_dropped_headings i s es page = container_dropped_at s
+
+  pub container_dropped_columns : KeepColumns l.definitions (with_slot kinds.Container slot None l.definitions)
+  container_dropped_columns s heading there = container_dropped_at s ∙ there
+
+  pub container_before : (i : ℕ) (c : ContainerDef) → at_slot i (set l.definitions.containers slot None) ≡ Some c → at_slot i l.definitions.containers ≡ Some c
+  container_before i c here =
+      let within : slot < length l.definitions.containers = omega (arith, container_within, sound.definitions.tables.containers.size) in
+      (at_cleared l.definitions.containers slot i c within here).1
 
   quotas_fewer : sum_of_quotas (set l.definitions.containers slot None) ≤ sum_of_quotas l.definitions.containers
   quotas_fewer =

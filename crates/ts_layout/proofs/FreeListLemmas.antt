@@ -2,6 +2,7 @@
 use Rattle.std.proofs.Common.{◌≡◌, ◌≢◌, ℕ, zero, suc, ◌+◌, ◌<◌, List, [], ◌∷◌, map, length, get_or, set, refl, sym, ap, subst, ◌∙◌, arith, length-set, inr}
 use Rattle.std.specs.Prelude.{All, AllPairs}
 use Rattle.std.proofs.lemmas.List.{length-map}
+use Rattle.std.proofs.lemmas.List.Kept.{AllPairs-cons}
 use Rattle.std.proofs.lemmas.List.Elements.{All-nil, All-cons, All-head, All-tail}
 use Rattle.ts_cells.specs.Cell.{Element}
 use Rattle.ts_layout.specs.Meaning.{ElementPage, Free, Cells, Layout, element_page, HasOnePageEach}
@@ -28,6 +29,22 @@ free_each first (Cells s es ∷ pages) = let rest = free_each (suc first) pages 
 
 pub free_found : (l : Layout) (free : List ℕ) → free ≡ free_pages l → AreFreePages free l.element_pages
 free_found l free is = subst (λ (x : List ℕ). AreFreePages x l.element_pages) (sym is) (record { each = free_each 930 l.element_pages; count = refl })
+
+-- each free page, by its number
+pub free_at : (first : ℕ) (es : List ElementPage) (k d : ℕ) → k < length (free_from first es) → (i : ℕ) × (i < length es) × (get_or (free_from first es) k d ≡ first + i) × (element_page i es ≡ Free)
+free_at first [] k d within = absurd (omega (arith, within))
+free_at first (Free ∷ es) zero d within = (0, omega arith, omega arith, refl)
+free_at first (Free ∷ es) (suc k) d within =
+    let found = free_at (suc first) es k d (omega (arith, within)) in (suc found.0, omega (arith, found.1), omega (arith, found.2), found.3)
+free_at first (Cells slot fs ∷ es) k d within =
+    let found = free_at (suc first) es k d within in (suc found.0, omega (arith, found.1), omega (arith, found.2), found.3)
+
+-- no page stands twice among the free ones
+pub free_different : (first : ℕ) (es : List ElementPage) → AllPairs (λ a b. a ≢ b) (free_from first es)
+free_different first [] = λ i j d before within. absurd (omega (arith, within))
+free_different first (Free ∷ es) =
+    AllPairs-cons (λ a b. a ≢ b) first (free_from (suc first) es) (λ k d within same. let found = free_at (suc first) es k d within in absurd (omega (arith, same, found.2))) (free_different (suc first) es)
+free_different first (Cells slot fs ∷ es) = free_different (suc first) es
 
 -- one free page fewer, as many, and one more
 fewer : (first i slot : ℕ) (es : List Element) (pages : List ElementPage) → i < length pages → element_page i pages ≡ Free → length (free_from first (set pages i (Cells slot es))) + 1 ≡ length (free_from first pages)

@@ -1,31 +1,34 @@
-pub mod PlaceLemmas
-pub mod FieldLemmas
-pub mod ColumnLemmas
-pub mod SlotLemmas
-pub mod LimitLemmas
-pub mod HeadLemmas
-pub mod ElementPageLemmas
-pub mod SlotBytesLemmas
-pub mod UniqueLemmas
-pub mod ChargeLemmas
-pub mod ShapeLemmas
-pub mod LayoutLemmas
-pub mod FilledLemmas
-pub mod ReferLemmas
-pub mod CreatedLemmas
-pub mod CountLemmas
-pub mod LookupLemmas
-pub mod DroppedLemmas
-pub mod OnePageLemmas
-pub mod WrittenLemmas
-pub mod NamedLemmas
-pub mod RisingLemmas
-pub mod SeriesLemmas
-pub mod UsedLemmas
-pub mod FreeLemmas
-pub mod ListedLemmas
-pub mod QuotaLemmas
-pub mod NamedChargeLemmas
-pub mod SeriesDroppedLemmas
-pub mod FreeListLemmas
-pub mod HeldLemmas
+pub mod CallerLemmas
+mod PlaceLemmas
+mod FieldLemmas
+mod ColumnLemmas
+mod SlotLemmas
+mod LimitLemmas
+mod HeadLemmas
+mod ElementPageLemmas
+mod SlotBytesLemmas
+mod UniqueLemmas
+mod ChargeLemmas
+mod ShapeLemmas
+mod LayoutLemmas
+mod FilledLemmas
+mod ReferLemmas
+mod CreatedLemmas
+mod CountLemmas
+mod LookupLemmas
+mod DroppedLemmas
+mod OnePageLemmas
+mod WrittenLemmas
+mod NamedLemmas
+mod RisingLemmas
+mod SeriesLemmas
+mod UsedLemmas
+mod FreeLemmas
+mod ListedLemmas
+mod QuotaLemmas
+mod NamedChargeLemmas
+mod SeriesDroppedLemmas
+mod FreeListLemmas
+mod HeldLemmas
+mod PlacedLemmas
+mod QuotasKeptLemmas

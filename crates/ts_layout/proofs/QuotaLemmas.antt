@@ -5,7 +5,7 @@ use Rattle.std.proofs.lemmas.Bool.{cases_eq}
 use Rattle.std.proofs.lemmas.List.Sums.{sum_by-set}
 use Rattle.ts_row.specs.RowType.{Heading}
 use Rattle.ts_space.specs.declared.place.Place.{Place}
-use Rattle.ts_space.specs.Directory.{Directory, places_of}
+use Rattle.ts_space.specs.Directory.{Directory, places_of, used_of}
 use Rattle.ts_space.specs.Charge.{irregular_charge, irregular_places_charge}
 use Rattle.ts_cells.specs.Cell.{Element, page_room}
 use Rattle.ts_model.specs.Definitions.{Definitions, ContainerDef, SeriesDef, at_slot}
@@ -28,7 +28,7 @@ place_count : (number : ℕ) (es : List Element) (p : Place) → place_of number
 place_count number [] p is = absurd (let never : ⊥ = cc in never)
 place_count number (e ∷ es) p is = let own : p ≡ record { at = e.0; page = number; count = suc (length es) } = cc in ap (λ (x : Place). x.count) own
 
-there_of : (d : Definitions) (o : Option SeriesDef) (h : Heading) → option_and_then (λ s. heading_in d s.container) o ≡ Some h → IsSome o
+pub there_of : (d : Definitions) (o : Option SeriesDef) (h : Heading) → option_and_then (λ s. heading_in d s.container) o ≡ Some h → IsSome o
 there_of d None h is = absurd (let never : ⊥ = cc in never)
 there_of d (Some s) h is = refl
 
@@ -71,36 +71,45 @@ single_more d space slot s single within there =
       ];
     }
 
+-- quotas are kept where the places of one series change, and its container is charged its quota at most
+pub quotas_put : (d : Definitions) (space space' : Directory) (pages slot : ℕ) (s : SeriesDef) (c : ContainerDef) (h : Heading) → AreSound pages d → KeepQuotas d space → at_slot slot d.series ≡ Some s → at_slot s.container d.containers ≡ Some c → heading_of_container d c ≡ Some h
+    → ((t : ℕ) → t < 4096 → t ≢ slot → places_of t space' ≡ places_of t space) → container_charge d space' s.container (page_room h.columns) ≤ c.quota → KeepQuotas d space'
+quotas_put d space space' pages slot s c h sound kept there at heading others paid k small e g there' heading' = elim (cases_eq k s.container) [
+  | inl same ↦
+      let cs : c ≡ e = same_some (at_slot k d.containers) c e (ap (λ (n : ℕ). at_slot n d.containers) same ∙ at) there' in
+      let hs : h ≡ g = same_some (heading_of_container d e) h g (ap (heading_of_container d) (sym cs) ∙ heading) heading' in
+      subst (λ (n : ℕ). container_charge d space' n (page_room g.columns) ≤ e.quota) (sym same)
+      (subst (λ (x : Heading). container_charge d space' s.container (page_room x.columns) ≤ e.quota) hs
+      (subst (λ (x : ContainerDef). container_charge d space' s.container (page_room h.columns) ≤ x.quota) cs paid))
+  | inr other ↦ subst (λ (n : ℕ). n ≤ e.quota) (sym (charge_others d space space' slot s k (page_room g.columns) sound.tables there others other)) (kept k small e g there' heading')
+]
+
 quotas_more : (d : Definitions) (space : Directory) (pages slot : ℕ) (s : SeriesDef) (c : ContainerDef) (h : Heading) → AreSound pages d → KeepQuotas d space → length space.lists ≡ 4096 → slot < 4096 → at_slot slot d.series ≡ Some s → at_slot s.container d.containers ≡ Some c → heading_of_container d c ≡ Some h → places_of slot space ≡ []
     → container_charge d space s.container (page_room h.columns) + irregular_charge (page_room h.columns) 1 ≤ c.quota → KeepQuotas d (with_first slot space)
-quotas_more d space pages slot s c h sound kept size within there at heading empty paid k small e g there' heading' =
+quotas_more d space pages slot s c h sound kept size within there at heading empty paid =
     let space' : Directory = with_first slot space in
     let own : places_of slot space' ≡ first_place ∷ [] = get_or-set_same space.lists slot (first_place ∷ []) [] (omega (arith, within, size)) in
     let others : (t : ℕ) → t < 4096 → t ≢ slot → places_of t space' ≡ places_of t space = λ t below other. get_or-set_other space.lists slot t (first_place ∷ []) [] other in
-    elim (cases_eq k s.container) [
-      | inl same ↦
-          let both = charge_own d space space' slot s (page_room h.columns) sound.tables there others in
-          let before : irregular_places_charge (page_room h.columns) (places_of slot space) ≡ 0 = ap (irregular_places_charge (page_room h.columns)) empty in
-          let after : irregular_places_charge (page_room h.columns) (places_of slot space') ≡ irregular_charge (page_room h.columns) 1 = ap (irregular_places_charge (page_room h.columns)) own in
-          let base : container_charge d space' s.container (page_room h.columns) ≤ c.quota = omega (arith, both, before, after, paid) in
-          let cs : c ≡ e = same_some (at_slot k d.containers) c e (ap (λ (n : ℕ). at_slot n d.containers) same ∙ at) there' in
-          let hs : h ≡ g = same_some (heading_of_container d e) h g (ap (heading_of_container d) (sym cs) ∙ heading) heading' in
-          subst (λ (n : ℕ). container_charge d space' n (page_room g.columns) ≤ e.quota) (sym same)
-          (subst (λ (x : Heading). container_charge d space' s.container (page_room x.columns) ≤ e.quota) hs
-          (subst (λ (x : ContainerDef). container_charge d space' s.container (page_room h.columns) ≤ x.quota) cs base))
-      | inr other ↦ subst (λ (n : ℕ). n ≤ e.quota) (sym (charge_others d space space' slot s k (page_room g.columns) sound.tables there others other)) (kept k small e g there' heading')
-    ]
+    let both = charge_own d space space' slot s (page_room h.columns) sound.tables there others in
+    let before : irregular_places_charge (page_room h.columns) (places_of slot space) ≡ 0 = ap (irregular_places_charge (page_room h.columns)) empty in
+    let after : irregular_places_charge (page_room h.columns) (places_of slot space') ≡ irregular_charge (page_room h.columns) 1 = ap (irregular_places_charge (page_room h.columns)) own in
+    quotas_put d space space' pages slot s c h sound kept there at heading others (omega (arith, both, before, after, paid))
+
+-- one element more of a series without places leaves a page free
+pub more_within : (d : Definitions) (space : Directory) (pages slot : ℕ) (s : SeriesDef) (c : ContainerDef) (h : Heading) → AreSound pages d → KeepQuotas d space → HasOnePlaceEach d space → at_slot slot d.series ≡ Some s → at_slot s.container d.containers ≡ Some c → heading_of_container d c ≡ Some h → places_of slot space ≡ []
+    → container_charge d space s.container (page_room h.columns) + irregular_charge (page_room h.columns) 1 ≤ c.quota → used_of space < pages
+more_within d space pages slot s c h sound quotas single there at heading empty paid =
+    let within : slot < 4096 = let z = slot_within d.series slot s there in omega (arith, z, sound.tables.series.size) in
+    let kept = quotas_more d space pages slot s c h sound quotas single.slots within there at heading empty paid in
+    let used = used_within d (with_first slot space) pages sound kept (single_more d space slot s single within there) in
+    let more = sum_by-set length space.lists slot (first_place ∷ []) [] (omega (arith, within, single.slots)) in
+    let none : length (get_or space.lists slot []) ≡ 0 = ap length empty in
+    omega (arith, used, more, none)
 
 -- a page is free
 pub page_free : (l : Layout) (space : Directory) (slot : ℕ) (s : SeriesDef) (c : ContainerDef) (h : Heading) → IsSound l → AreFilled l → ListsPlaces space l → length space.lists ≡ 4096 → at_slot slot l.definitions.series ≡ Some s → at_slot s.container l.definitions.containers ≡ Some c → heading_of_container l.definitions c ≡ Some h
     → places_of slot space ≡ [] → container_charge l.definitions space s.container (page_room h.columns) + irregular_charge (page_room h.columns) 1 ≤ c.quota → 0 < length (free_pages l)
 page_free l space slot s c h sound filled lists size there at heading empty paid =
-    let d : Definitions = l.definitions in
-    let within : slot < 4096 = let z = slot_within d.series slot s there in omega (arith, z, sound.definitions.tables.series.size) in
-    let single = single_places l space sound filled lists size in
-    let kept = quotas_more d space (length l.element_pages) slot s c h sound.definitions (listed_quotas l space sound lists) size within there at heading empty paid in
-    let used = used_within d (with_first slot space) (length l.element_pages) sound.definitions kept (single_more d space slot s single within there) in
-    let more = sum_by-set length space.lists slot (first_place ∷ []) [] (omega (arith, within, size)) in
-    let none : length (get_or space.lists slot []) ≡ 0 = ap length empty in
+    let used = more_within l.definitions space (length l.element_pages) slot s c h sound.definitions (listed_quotas l space sound lists) (single_places l space sound filled lists size) there at heading empty paid in
     let all = free_counted l space sound.definitions.tables filled lists size in
-    omega (arith, used, more, none, all)
+    omega (arith, used, all)

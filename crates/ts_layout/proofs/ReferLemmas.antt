@@ -3,15 +3,20 @@ use Rattle.std.proofs.Common.{◌≡◌, ℕ, ◌<◌, Option, Some, None, IsSom
 use Rattle.std.specs.Option.{option_map, option_and_then}
 use Rattle.std.proofs.lemmas.Bool.{cases_lt}
 use Rattle.std.proofs.lemmas.List.{get_or_past}
+use Rattle.ts_row.specs.RowType.{Heading}
 use Rattle.ts_model.specs.declared.kind.Kind.{Kind}
 use Rattle.ts_model.specs.declared.kind.Kind.TheVariants as kinds
 use Rattle.ts_model.specs.declared.def.Def.{Def}
 use Rattle.ts_model.specs.Definitions.{Definitions, RowTypeDef, ContainerDef, SeriesDef, of_row_type, of_container, of_series, kind_of, limit, slots, at_slot, with_slot, IsDefinitions}
 use Rattle.ts_layout.specs.Limits.{IsDef, IsSlotOf}
-use Rattle.ts_layout.specs.Meaning.{def_at, KeepLimits, reference, IsThere, AreThere}
+use Rattle.ts_layout.specs.Meaning.{def_at, heading_at, KeepLimits, reference, IsThere, AreThere}
 use Rattle.ts_layout.proofs.PlaceLemmas.{at_slot-map, def_at-with_slot, def_at-cleared, def_at-other}
 use Rattle.ts_layout.proofs.SlotLemmas.{this_or_other, apart_by_rank, own, sizes}
 use Rattle.ts_layout.proofs.LayoutLemmas.{none≢some, one_of, within_table}
+
+-- each series that has columns has the same ones by other definitions
+abbrev pub KeepColumns : Definitions → Definitions → Type 0
+KeepColumns d d' = (slot : ℕ) (h : Heading) → heading_at d slot ≡ Some h → heading_at d' slot ≡ Some h
 
 pub empty_slot : {A B : Type 0} (f : A → B) (o : Option A) → option_map f o ≡ None → o ≡ None
 empty_slot f None none = refl

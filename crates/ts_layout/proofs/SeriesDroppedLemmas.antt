@@ -86,7 +86,7 @@ places_dropped l space space' slot empty others lists s within = elim (cases_eq 
 ]
 
 -- the columns of every other series stay
-heading_stays : (d : Definitions) (slot s : ℕ) → s ≢ slot → heading_at (with_slot kinds.Series slot None d) s ≡ heading_at d s
+pub heading_stays : (d : Definitions) (slot s : ℕ) → s ≢ slot → heading_at (with_slot kinds.Series slot None d) s ≡ heading_at d s
 heading_stays d slot s other = ap (option_and_then (λ (x : SeriesDef). heading_in d x.container)) (get_or-set_other d.series slot s None None other)
 
 pub filled_dropped : (l : Layout) (slot : ℕ) → AreFilled l → AreFilled (without_series slot l)
@@ -166,7 +166,7 @@ there_kept d slot rules small there kinds.Series i def within is = elim (cases_e
   | inr other ↦ refers_kept d slot def (there kinds.Series i def within (sym (def_at-other kinds.Series kinds.Series slot i None d (λ kind. other)) ∙ is))
 ]
 
-sound_kept : (d : Definitions) (slot pages : ℕ) → slot < 4096 → AreSound pages d → AreSound pages (with_slot kinds.Series slot None d)
+pub sound_kept : (d : Definitions) (slot pages : ℕ) → slot < 4096 → AreSound pages d → AreSound pages (with_slot kinds.Series slot None d)
 sound_kept d slot pages small sound = record {
   tables = record { row_types = sound.tables.row_types; containers = sound.tables.containers; series = table_kept d.series slot sound.tables.series };
   limits = limits_kept d slot sound.tables small sound.limits;

@@ -7,3 +7,4 @@ pub mod Lookup
 pub mod Surveyed
 pub mod Charges
 pub mod OnePage
+pub mod Placed

@@ -1,5 +1,5 @@
 -- Series that stand on one page at most, and layouts of which one such page changes.
-use Rattle.std.specs.Prelude.{◌≡◌, ℕ, ◌+◌, ◌<◌, ◌≤◌, ◌==◌, if◌then◌else◌, ◌⊎◌, Some, None, IsSome, option_map, unwrap_or, List, [], ◌∷◌, length, map, All, slice_set}
+use Rattle.std.specs.Prelude.{◌≡◌, ℕ, ◌+◌, ◌<◌, ◌≤◌, ◌==◌, if◌then◌else◌, ◌⊎◌, Some, None, IsSome, option_map, unwrap_or, List, [], ◌∷◌, length, map, All, replicate, slice_set}
 use Rattle.std.specs.FinMap.{from_entries}
 use Rattle.ts_row.specs.RowType.{Heading}
 use Rattle.ts_space.specs.declared.place.Place.{Place}
@@ -82,3 +82,7 @@ IsFreeIn pages number = (i : ℕ) × (number ≡ 930 + i) × (i < length pages) 
 pub record AreFreePages (numbers : List ℕ) (pages : List ElementPage) : Type 0 where
   pub each : All (IsFreeIn pages) numbers
   pub count : length numbers ≡ length (free_from 930 pages)
+
+-- a layout of these definitions, with so many free pages and no elements
+abbrev pub bare : ℕ → Definitions → Layout
+bare pages d = record { definitions = d; element_pages = replicate pages Free }

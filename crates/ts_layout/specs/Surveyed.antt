@@ -1,9 +1,8 @@
 -- What is kept in memory of a volume: its definitions, the directory of its pages and its free pages.
-use Rattle.std.specs.Prelude.{◌≡◌, ℕ, suc, ◌<◌, ◌==◌, if◌then◌else◌, List, [], ◌∷◌, ◌++◌, length}
+use Rattle.std.specs.Prelude.{◌≡◌, ℕ, suc, ◌<◌, ◌==◌, if◌then◌else◌, List, [], ◌∷◌, ◌++◌}
 use Rattle.ts_space.specs.declared.place.Place.{Place}
 pub use Rattle.ts_space.specs.Place.{place_of}
 use Rattle.ts_space.specs.Directory.{Directory, places_of}
-use Rattle.ts_cells.specs.Cell.{Element}
 use Rattle.ts_layout.specs.Meaning.{ElementPage, Free, Cells, Layout}
 
 -- the place of a page, if it has elements of the series in a slot

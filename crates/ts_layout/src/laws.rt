@@ -4,6 +4,7 @@ ghost use Rattle.std.specs.List.{list_any};
 ghost use Rattle.std.specs.FinMap.{empty, get, insert, remove, len, values};
 ghost use Rattle.ts_row.specs.RowType.{Heading};
 ghost use Rattle.ts_page.specs.Pages.{EqualPages, with_page};
+ghost use Rattle.ts_space.specs.Directory.{Directory};
 ghost use Rattle.ts_model.specs.declared.kind.Kind.{Kind as TheKind};
 ghost use Rattle.ts_model.specs.declared.def.Def.{Def as TheDef};
 ghost use Rattle.ts_model.specs.Catalogue.{Catalogue, Container, Series as TheSeries, heading_of, series_in, quotas};
@@ -24,6 +25,7 @@ ghost use Rattle.ts_layout.specs.Meaning.{
   catalogue_of,
 };
 ghost use Rattle.ts_layout.specs.Changed.{with_slot_bytes, SameOutsideJournal, layout_with, KeepsHeadings, HasNoPage, NoContainerHas, NoSeriesStandsIn, CanCreate};
+ghost use Rattle.ts_layout.specs.Placed.{AreKept};
 ghost use Rattle.ts_layout.specs.Lookup.{IsRowTypeAt, IsContainerAt, IsSeriesAt};
 
 /// Pages are laid out in one way at most, and so mean one catalogue at most.
@@ -57,6 +59,10 @@ pub fn a_row_type_is_created()
     ensures headings { (slot : ℕ) (name : List ℕ) (heading : Heading) (l : Layout) → IsSound l →
         CanCreate slot (TheDef.RowType name heading) l.definitions →
         KeepsHeadings (with_slot TheKind.RowType slot (Some (TheDef.RowType name heading)) l.definitions) l }
+    ensures kept { (l : Layout) → IsSound l → (space : Directory) (free : List ℕ) (count : ℕ) → count ≡ 930 + length l.element_pages →
+        AreKept l.definitions space free count → (slot : ℕ) (name : List ℕ) (heading : Heading) →
+        CanCreate slot (TheDef.RowType name heading) l.definitions →
+        AreKept (with_slot TheKind.RowType slot (Some (TheDef.RowType name heading)) l.definitions) space free count }
     ensures catalogue { (slot : ℕ) (name : List ℕ) (heading : Heading) (l : Layout) → IsSound l →
         CanCreate slot (TheDef.RowType name heading) l.definitions →
         catalogue_of (layout_with TheKind.RowType slot (Some (TheDef.RowType name heading)) l)
@@ -72,6 +78,11 @@ pub fn a_container_is_created()
     ensures headings { (slot : ℕ) (name : List ℕ) (row_type quota : ℕ) (l : Layout) → IsSound l →
         CanCreate slot (TheDef.Container name row_type quota) l.definitions →
         KeepsHeadings (with_slot TheKind.Container slot (Some (TheDef.Container name row_type quota)) l.definitions) l }
+    ensures kept { (l : Layout) → IsSound l → (space : Directory) (free : List ℕ) (count : ℕ) → count ≡ 930 + length l.element_pages →
+        AreKept l.definitions space free count → (slot : ℕ) (name : List ℕ) (row_type quota : ℕ) →
+        CanCreate slot (TheDef.Container name row_type quota) l.definitions →
+        sum_of_quotas l.definitions.containers + quota ≤ length l.element_pages →
+        AreKept (with_slot TheKind.Container slot (Some (TheDef.Container name row_type quota)) l.definitions) space free count }
     ensures catalogue { (slot : ℕ) (name : List ℕ) (row_type quota : ℕ) (l : Layout) → IsSound l →
         CanCreate slot (TheDef.Container name row_type quota) l.definitions →
         (holder : List ℕ) → slot_of holder (slots TheKind.RowType l.definitions) ≡ Some row_type →
@@ -87,6 +98,10 @@ pub fn a_series_is_created()
     ensures headings { (slot : ℕ) (key : List ℕ) (container : ℕ) (l : Layout) → IsSound l →
         CanCreate slot (TheDef.Series key container) l.definitions → HasNoPage slot l.element_pages →
         KeepsHeadings (with_slot TheKind.Series slot (Some (TheDef.Series key container)) l.definitions) l }
+    ensures kept { (l : Layout) → IsSound l → (space : Directory) (free : List ℕ) (count : ℕ) → count ≡ 930 + length l.element_pages →
+        AreKept l.definitions space free count → (slot : ℕ) (key : List ℕ) (container : ℕ) →
+        CanCreate slot (TheDef.Series key container) l.definitions → HasNoPage slot l.element_pages →
+        AreKept (with_slot TheKind.Series slot (Some (TheDef.Series key container)) l.definitions) space free count }
     ensures catalogue { (slot : ℕ) (key : List ℕ) (container : ℕ) (l : Layout) → IsSound l →
         CanCreate slot (TheDef.Series key container) l.definitions → HasNoPage slot l.element_pages →
         (holder : List ℕ) → slot_of holder (slots TheKind.Container l.definitions) ≡ Some container →
@@ -201,6 +216,10 @@ pub fn a_row_type_is_dropped()
         NoContainerHas slot l.definitions → IsSound (layout_with TheKind.RowType slot None l) }
     ensures headings { (l : Layout) (slot : ℕ) (name : List ℕ) → IsSound l → slot_of name (slots TheKind.RowType l.definitions) ≡ Some slot →
         NoContainerHas slot l.definitions → KeepsHeadings (with_slot TheKind.RowType slot None l.definitions) l }
+    ensures kept { (l : Layout) → IsSound l → (space : Directory) (free : List ℕ) (count : ℕ) → count ≡ 930 + length l.element_pages →
+        AreKept l.definitions space free count → (slot : ℕ) (name : List ℕ) →
+        slot_of name (slots TheKind.RowType l.definitions) ≡ Some slot → NoContainerHas slot l.definitions →
+        AreKept (with_slot TheKind.RowType slot None l.definitions) space free count }
     ensures catalogue { (l : Layout) (slot : ℕ) (name : List ℕ) → IsSound l → slot_of name (slots TheKind.RowType l.definitions) ≡ Some slot →
         NoContainerHas slot l.definitions →
         catalogue_of (layout_with TheKind.RowType slot None l) ≡ record (catalogue_of l) { row_types = remove (catalogue_of l).row_types name } }
@@ -212,6 +231,10 @@ pub fn a_container_is_dropped()
         NoSeriesStandsIn slot l.definitions → IsSound (layout_with TheKind.Container slot None l) }
     ensures headings { (l : Layout) (slot : ℕ) (name : List ℕ) → IsSound l → slot_of name (slots TheKind.Container l.definitions) ≡ Some slot →
         NoSeriesStandsIn slot l.definitions → KeepsHeadings (with_slot TheKind.Container slot None l.definitions) l }
+    ensures kept { (l : Layout) → IsSound l → (space : Directory) (free : List ℕ) (count : ℕ) → count ≡ 930 + length l.element_pages →
+        AreKept l.definitions space free count → (slot : ℕ) (name : List ℕ) →
+        slot_of name (slots TheKind.Container l.definitions) ≡ Some slot → NoSeriesStandsIn slot l.definitions →
+        AreKept (with_slot TheKind.Container slot None l.definitions) space free count }
     ensures catalogue { (l : Layout) (slot : ℕ) (name : List ℕ) → IsSound l → slot_of name (slots TheKind.Container l.definitions) ≡ Some slot →
         NoSeriesStandsIn slot l.definitions →
         catalogue_of (layout_with TheKind.Container slot None l) ≡ record (catalogue_of l) { containers = remove (catalogue_of l).containers name } }

@@ -3,18 +3,21 @@
 //! slots, what a slot that is filled or emptied and a page of elements that is written or freed change, and what
 //! containers are charged. Reads and writes no page; stands on ts_cells, ts_space, ts_model and ts_page. Read
 //! `specs/Slot.antt` and `specs/Meaning.antt`, then `laws.rt`; for what changes with a page of elements
-//! `specs/OnePage.antt` and `element_laws.rt`.
+//! `specs/OnePage.antt` and `page_laws.rt`; for what is kept in memory `specs/Placed.antt` and `memory_laws.rt`.
 #![tactic(auto)]
 
-mod element_laws;
+mod charge_laws;
+mod free_laws;
 mod laws;
+mod memory_laws;
+mod page_laws;
 mod place;
 
-pub use element_laws::{
-    a_place_tells_of_its_page, a_series_is_dropped_with_its_page,
-    a_series_stands_on_one_page_at_most, charges_follow_the_directory,
-    elements_are_written_on_a_page, free_pages_are_taken_and_freed, pages_are_free_or_placed,
-    pages_that_hold_are_filled, the_places_of_other_series_stay, the_quotas_leave_room,
+pub use charge_laws::{
+    charges_follow_the_directory, quotas_follow_the_directory, the_quotas_leave_room,
+};
+pub use free_laws::{
+    free_pages_are_taken_and_freed, pages_are_free_or_placed, the_places_of_other_series_stay,
 };
 pub use laws::{
     a_container_is_created, a_container_is_dropped, a_container_is_used_by_its_slot,
@@ -22,6 +25,15 @@ pub use laws::{
     a_row_type_is_used_by_its_slot, a_series_is_created, a_written_slot_changes_definitions_alone,
     containers_stand_in_slots, pages_mean_one_catalogue, references_are_names,
     row_types_stand_in_slots, series_stand_in_slots, slots_are_counted,
+};
+pub use memory_laws::{
+    a_layout_is_kept, a_series_is_dropped_with_its_place, places_and_free_pages_stay_apart,
+    sound_definitions_are_those_of_a_layout, the_same_lists_are_kept,
+};
+pub use page_laws::{
+    a_place_tells_of_its_page, a_series_is_dropped_with_its_page,
+    a_series_stands_on_one_page_at_most, elements_are_written_on_a_page,
+    pages_that_hold_are_filled,
 };
 pub use place::{
     CONTAINERS, ELEMENTS, ROW_TYPES, Slots, byte_of_slot, page_of_slot, slot_size, slots_in_page,

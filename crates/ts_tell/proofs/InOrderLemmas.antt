@@ -22,10 +22,7 @@ use Rattle.ts_model.proofs.IndexLemmas.{empty-list}
 use Rattle.ts_layout.specs.Meaning.{Layout, IsSound, series_of, catalogue_of}
 use Rattle.ts_layout.specs.Surveyed.{ListsPlaces}
 use Rattle.ts_layout.specs.OnePage.{AreFilled}
-use Rattle.ts_layout.proofs.LayoutLemmas.{one_of}
-use Rattle.ts_layout.proofs.SlotLemmas.{own as own_def}
-use Rattle.ts_layout.proofs.LookupLemmas.{container_found, container_of_series}
-use Rattle.ts_layout.proofs.SeriesLemmas.{len_counted}
+use Rattle.ts_layout.proofs.CallerLemmas.{one_of, own as own_def, container_found, container_of_series, len_counted}
 use Rattle.ts_answer.specs.Reply.{series_line}
 use Rattle.ts_tell.specs.Listed.{listed_if, listed_at}
 

@@ -1,5 +1,5 @@
 -- What the routines that only read memory say.
-use Rattle.std.proofs.Common.{◌≡◌, ℕ, ◌<◌, ◌≤◌, Option, Some, Ok, List, [], ◌++◌, map, length, ap, sym, ◌∙◌, subst}
+use Rattle.std.proofs.Common.{◌≡◌, ℕ, ◌<◌, ◌≤◌, Option, Some, List, [], ◌++◌, map, length, ap, sym, ◌∙◌}
 use Rattle.std.specs.Option.{option_map, option_and_then, unwrap_or}
 use Rattle.std.specs.List.{flat_map}
 use Rattle.std.specs.FinMap.{len}
@@ -8,31 +8,24 @@ use Rattle.ts_space.specs.Place.{count_of}
 use Rattle.ts_space.specs.Directory.{Directory, places_of}
 use Rattle.ts_cells.specs.Cell.{page_room}
 use Rattle.ts_model.specs.declared.kind.Kind.TheVariants as kinds
-use Rattle.ts_model.specs.Catalogue.{Catalogue, Container, Series, series_in}
+use Rattle.ts_model.specs.Catalogue.{Container, Series, series_in}
 use Rattle.ts_model.specs.Charge.{container_charge as charge_by_name}
 use Rattle.ts_model.specs.Definitions.{Definitions, RowTypeDef, ContainerDef, at_slot}
-use Rattle.ts_layout.specs.Meaning.{Layout, KeepLimits, quota_in, heading_in, heading_of_container, catalogue_of}
+use Rattle.ts_layout.specs.Meaning.{Layout, quota_in, heading_in, heading_of_container, catalogue_of}
 use Rattle.ts_layout.specs.Charges.{container_charge}
 use Rattle.ts_layout.specs.OnePage.{charge_in}
-use Rattle.ts_layout.proofs.LookupLemmas.{container_found, row_type_of_container}
-use Rattle.ts_layout.proofs.SeriesLemmas.{few, len_counted, counted}
-use Rattle.ts_layout.proofs.ShapeLemmas.{charge_same}
-use Rattle.ts_layout.proofs.NamedChargeLemmas.{charge_named}
+use Rattle.ts_layout.proofs.CallerLemmas.{container_found, row_type_of_container, len_counted, counted, charge_same, charge_named}
 use Rattle.ts_answer.specs.Answer.{Answered}
 use Rattle.ts_answer.specs.Reading.{IsKept, SaysOnly}
 use Rattle.ts_answer.specs.Reply.{count_line, counts_line, series_line, series_text}
-use Rattle.ts_answer.specs.Slots.{IsSlotNamed, Stands}
+use Rattle.ts_answer.specs.Slots.{Stands}
 use Rattle.ts_answer.specs.View.{IsHeldOf}
 use Rattle.ts_tell.specs.Listed.{listed_in}
 use Rattle.ts_tell.proofs.InOrderLemmas.{listed_in_order}
 
 -- each series has one place at most
 pub kept_few : (d : Definitions) (space : Directory) → IsKept d space → (slot : ℕ) → slot < 4096 → length (places_of slot space) ≤ 1
-kept_few d space kept slot within = few kept.2 space slot kept.3.rules.one_page kept.3.places within
-
--- the rules that a charge asks for
-pub kept_limits : (d : Definitions) (space : Directory) → IsKept d space → KeepLimits d
-kept_limits d space kept = subst KeepLimits (sym kept.3.definitions) kept.3.rules.definitions.limits
+kept_few d space kept slot within = kept.2.placed.few slot within
 
 -- the same reply, of the catalogue that stays
 says : (l : Layout) (out text : List ℕ) → out ≡ text → SaysOnly out l tt (text, catalogue_of l)

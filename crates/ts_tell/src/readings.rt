@@ -6,13 +6,14 @@ ghost use Rattle.ts_space.specs.Place.{count_of};
 ghost use Rattle.ts_space.specs.Directory.{places_of};
 ghost use Rattle.ts_model.specs.Definitions.{at_slot};
 ghost use Rattle.ts_layout.specs.Meaning.{quota_in};
+ghost use Rattle.ts_container.specs.KeptCharges.{AreCharges};
 ghost use Rattle.ts_answer.specs.Reply.{series_line};
 ghost use Rattle.ts_answer.specs.Reading.{IsKept, IsSaid};
 ghost use Rattle.ts_tell.specs.Listed.{listed_at, listed_in};
 
 use std::alloc::AllocError;
 use ts_base::{Key, Name, Reply, Trouble};
-use ts_container::charge_of_container;
+use ts_container::Charges;
 use ts_define::{series_named, slot_named};
 use ts_model::{Def, Defs, Kind};
 use ts_say::{say_count, say_counts, say_series};
@@ -33,15 +34,17 @@ pub fn count_elements(defs: &Defs, space: &Space, key: &Key, out: &mut Reply) ->
 pub fn container_usage(
     defs: &Defs,
     space: &Space,
+    charges: &Charges,
     name: &Name,
     out: &mut Reply,
 ) -> Result<(), Trouble>
     requires kept { IsKept defs.now.definitions space.now }
+    requires charged { AreCharges charges.now defs.now.definitions space.now }
     requires empty { out.old ≡ [] }
     ensures { IsSaid (TSContainerUsage name.now) result out.new defs.now.definitions space.now }
 {
     let slot = slot_named(defs, Kind::Container, name)?;
-    let charge = charge_of_container(defs, space, slot as u8);
+    let charge = charges.of(slot as u8);
     say_counts(out, charge, quota_in(defs, slot) as u64)?;
     Ok(())
 }

@@ -1,5 +1,5 @@
 use Rattle.std.proofs.Common.{arith}
-use Rattle.ts_layout.proofs.ChargeLemmas.{charges_more}
+use Rattle.ts_layout.proofs.CallerLemmas.{charges_more}
 use Rattle.ts_container.proofs.charges.charge_of.Goals as goal
 
 pub loop-slot-preserved : goal.loop-slot-preserved

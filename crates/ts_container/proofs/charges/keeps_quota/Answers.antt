@@ -2,7 +2,7 @@ use Rattle.std.proofs.Common.{◌<◌, ◌≤◌, ap, sym, subst, ◌∙◌, ℕ
 use Rattle.std.specs.Option.{option_copied}
 use Rattle.std.proofs.lemmas.Bool.Decides.{nat_tests}
 use Rattle.ts_layout.specs.Charges.{container_charge}
-use Rattle.ts_layout.proofs.ChargeLemmas.{container_at, heading_there, room_some, quota_kept}
+use Rattle.ts_layout.proofs.CallerLemmas.{container_at, heading_there, room_some, quota_kept}
 use Rattle.ts_container.proofs.charges.keeps_quota.Goals as goal
 
 pub charge_of-requires-clause-room : goal.charge_of-requires-clause-room

@@ -1,9 +1,8 @@
 use Rattle.std.proofs.Common.{ℕ, ◌≡◌, ◌<◌, ◌^◌, Some, None, List, take, drop, get_or, ap, ◌∙◌, arith, inl, inr}
 use Rattle.ts_model.specs.declared.def.Def.TheVariants as defs
 use Rattle.ts_layout.specs.Slot.{def_bytes}
-use Rattle.ts_layout.proofs.FieldLemmas.{container_name, container_row_type, length-name}
+use Rattle.ts_layout.proofs.CallerLemmas.{container_name, container_row_type, length-name, containers_only}
 use Rattle.ts_container.proofs.ParseLemmas.{one, none_some}
-use Rattle.ts_layout.proofs.LimitLemmas.{containers_only}
 use Rattle.ts_container.proofs.container_slot.parse_container.Goals as goal
 
 pub returns-then-row_type-ge-ROW_TYPES-clause-found : goal.returns-then-row_type-ge-ROW_TYPES-clause-found

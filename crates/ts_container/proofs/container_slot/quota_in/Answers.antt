@@ -1,6 +1,6 @@
 use Rattle.std.proofs.Common.{ℕ, List, ◌∷◌, [], get_or, ap, ◌∙◌}
 use Rattle.std.specs.Int.{w32, from_be_bytes}
-use Rattle.ts_layout.proofs.FieldLemmas.{container_quota}
+use Rattle.ts_layout.proofs.CallerLemmas.{container_quota}
 use Rattle.ts_container.proofs.container_slot.quota_in.Goals as goal
 
 pub returns : goal.returns

@@ -1,6 +1,6 @@
 use Rattle.std.proofs.Common.{Some, sym, ap, ◌∙◌}
 use Rattle.std.specs.Option.{option_copied}
-use Rattle.ts_layout.proofs.LimitLemmas.{container_limit}
+use Rattle.ts_layout.proofs.CallerLemmas.{container_limit}
 use Rattle.ts_container.proofs.content.row_type_in.Goals as goal
 
 pub get-requires-in-Some-Container : goal.get-requires-in-Some-Container

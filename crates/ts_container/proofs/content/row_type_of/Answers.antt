@@ -1,6 +1,6 @@
 use Rattle.std.proofs.Common.{Some, sym, ap, ◌∙◌, arith}
 use Rattle.std.specs.Option.{option_copied}
-use Rattle.ts_layout.proofs.LimitLemmas.{series_limit, heading_past}
+use Rattle.ts_layout.proofs.CallerLemmas.{series_limit, heading_past}
 use Rattle.ts_container.proofs.content.row_type_of.Goals as goal
 
 pub returns-then-slot-limit-clause-value : goal.returns-then-slot-limit-clause-value

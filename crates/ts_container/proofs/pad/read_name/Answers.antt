@@ -1,6 +1,6 @@
 use Rattle.std.proofs.Common.{ℕ, ◌≡◌, ◌+◌, ◌-◌, List, length, take, drop, get_or, ap, ◌∙◌, arith}
 use Rattle.std.proofs.lemmas.Result.{IfOk-weaker}
-use Rattle.ts_layout.proofs.FieldLemmas.{name_text}
+use Rattle.ts_layout.proofs.CallerLemmas.{name_text}
 use Rattle.ts_container.proofs.ParseLemmas.{name_is}
 use Rattle.ts_container.proofs.pad.read_name.Goals as goal
 

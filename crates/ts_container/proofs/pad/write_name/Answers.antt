@@ -1,7 +1,7 @@
 use Rattle.std.proofs.Common.{◌∷◌, length, ap, ◌∙◌}
 use Rattle.ts_layout.specs.Slot.{padded}
 use Rattle.ts_container.proofs.PartLemmas.{behind_padded}
-use Rattle.ts_layout.proofs.FieldLemmas.{length-name}
+use Rattle.ts_layout.proofs.CallerLemmas.{length-name}
 use Rattle.ts_container.proofs.pad.write_name.Goals as goal
 
 pub returns-clause-bytes : goal.returns-clause-bytes

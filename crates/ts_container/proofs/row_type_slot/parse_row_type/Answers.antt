@@ -3,10 +3,8 @@ use Rattle.ts_row.specs.RowType.{bad_column}
 use Rattle.ts_row.specs.declared.kind.Column.{Column}
 use Rattle.ts_model.specs.declared.def.Def.TheVariants as defs
 use Rattle.ts_layout.specs.Slot.{def_bytes, columns_bytes}
-use Rattle.ts_layout.proofs.FieldLemmas.{row_type_name, row_type_stamp, row_type_count, length-name}
+use Rattle.ts_layout.proofs.CallerLemmas.{row_type_name, row_type_stamp, row_type_count, length-name, row_types_only, behind_stamp}
 use Rattle.ts_container.proofs.ParseLemmas.{one, none_some, both_ways, few_columns, good_columns}
-use Rattle.ts_layout.proofs.LimitLemmas.{row_types_only}
-use Rattle.ts_layout.proofs.ColumnLemmas.{behind_stamp}
 use Rattle.ts_container.proofs.row_type_slot.parse_row_type.Goals as goal
 
 pub returns-then-count-gt-COLUMNS-clause-found : goal.returns-then-count-gt-COLUMNS-clause-found

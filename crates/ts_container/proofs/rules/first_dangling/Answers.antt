@@ -1,5 +1,5 @@
 use Rattle.ts_model.specs.declared.kind.Kind.TheVariants as kinds
-use Rattle.ts_layout.proofs.UniqueLemmas.{all_there}
+use Rattle.ts_layout.proofs.CallerLemmas.{all_there}
 use Rattle.ts_container.proofs.rules.first_dangling.Goals as goal
 
 pub returns-in-Some : goal.returns-in-Some

@@ -1,9 +1,8 @@
 use Rattle.std.proofs.Common.{ℕ, ◌≡◌, ◌≤◌, ◌+◌, ◌-◌, Some, None, List, length, take, drop, get_or, ap, ◌∙◌, arith, inl, inr}
 use Rattle.ts_model.specs.declared.def.Def.TheVariants as defs
 use Rattle.ts_layout.specs.Slot.{def_bytes, series_bytes}
-use Rattle.ts_layout.proofs.FieldLemmas.{series_length, series_key, series_container}
+use Rattle.ts_layout.proofs.CallerLemmas.{series_length, series_key, series_container, length-key, series_only}
 use Rattle.ts_container.proofs.ParseLemmas.{one, none_some, key_is}
-use Rattle.ts_layout.proofs.LimitLemmas.{length-key, series_only}
 use Rattle.ts_container.proofs.series_slot.parse_series.Goals as goal
 
 -- the text where the key stands

@@ -55,4 +55,4 @@ returns-clause-ok g c =
     let sound = c.in_ok-defs.ensures.read in
     let x = c.in_ok-elements.elements in
     let all = all_before tells (c.args.count - 930) c.in_ok-defs.defs.definitions u v x.space x.free.items x.second (reads_ok tells c.in_ok-defs.defs (tt {0}) u v sound.call) c.in_ok-elements.ensures.read.read in
-    is_found tells c.args.count c.in_ok-defs.defs.definitions u x.space x.free.items x.second c.requires.some c.requires.most (sound.header refl) sound.known sound.read all c.in_default.is (c.if-not-keep_quotas.ensures.0 refl)
+    is_found tells c.args.count c.in_ok-defs.defs.definitions u x.space x.free.items x.second c.requires.some c.requires.most c.places-slots.ensures.slots (sound.header refl) sound.known sound.read all c.in_default.is (c.if-not-keep_quotas.ensures.0 refl)

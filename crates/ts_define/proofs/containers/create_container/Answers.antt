@@ -11,7 +11,7 @@ returns-clause-carried g c =
     let d = c.args.defs.now.definitions in
     let space = c.args.space.now in
     let count = (g.P.Pages.contents c.args.pages.now).count in
-    let kept = c.requires.seen.1.kept in
+    let kept = c.requires.seen.kept in
     let decision = subst (λ (q : ℤ). IsDecision ok_line Containers (TSContainerCreate c.args.name.now c.args.row_type.now q) c.new_container-decided.result d count) (to_z-of_z w64 c.args.quota c.ranges.quota)
-    (c.new_container-decided.ensures.decision count (omega (arith, kept.size, kept.free, c.spare.ensures, c.used.ensures))) in
+    (c.new_container-decided.ensures.decision count (omega (arith, kept.some, kept.placed.all, c.spare.ensures, c.used.ensures))) in
     c.redefine.ensures.carried (TSContainerCreate c.args.name.now c.args.row_type.now c.args.quota) d space decision c.new_container-decided.ensures.fits refl

@@ -11,7 +11,7 @@ use Rattle.ts_model.specs.declared.kind.Kind.TheVariants.{Container as Container
 use Rattle.ts_model.specs.declared.def.Def.{Def}
 use Rattle.ts_model.specs.declared.def.Def.TheVariants as defs
 use Rattle.ts_layout.specs.Meaning.{Layout, catalogue_of, sum_of_quotas}
-use Rattle.ts_layout.proofs.LookupLemmas.{quotas_same}
+use Rattle.ts_layout.proofs.CallerLemmas.{quotas_same}
 use Rattle.ts_answer.specs.Answer.{Answered, outcome, carried_out, create_container, within_pages}
 use Rattle.ts_answer.specs.Decided.{DefinesAs}
 use Rattle.ts_answer.specs.Kinds.{with_def}

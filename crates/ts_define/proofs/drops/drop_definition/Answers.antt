@@ -1,4 +1,3 @@
-use Rattle.std.proofs.Common.{Ok, refl}
 use Rattle.ts_base.specs.declared.refusal.Refusal.TheVariants.{InUse}
 use Rattle.ts_model.specs.Definitions.{Definitions}
 use Rattle.ts_answer.specs.Answer.{drop_definition}

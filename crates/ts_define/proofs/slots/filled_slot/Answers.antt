@@ -1,4 +1,4 @@
-use Rattle.std.proofs.Common.{sym, ◌∙◌}
+use Rattle.std.proofs.Common.{sym}
 use Rattle.ts_answer.proofs.CallerLemmas.{name_wanted, name_unknown}
 use Rattle.ts_define.proofs.slots.filled_slot.Goals as goal
 

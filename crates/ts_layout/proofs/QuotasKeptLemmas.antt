@@ -1,0 +1,195 @@
+-- Quotas stay kept by the directory, whatever the pages hold, when definitions change.
+use Rattle.std.proofs.Common.{◌≡◌, ◌≢◌, ℕ, suc, ◌+◌, ◌-◌, ◌<◌, ◌≤◌, ◌==◌, Bool, true, false, if◌then◌else◌, Option, Some, None, List, [], ◌∷◌, length, get_or, set, length-set, get_or-set_same, get_or-set_other, refl, sym, ap, subst, ◌∙◌, arith, inl, inr, ◌⊎◌, ⊎_elim, lit≤}
+use Rattle.std.specs.Option.{option_and_then}
+use Rattle.std.proofs.lemmas.Bool.{cases_eq}
+use Rattle.std.proofs.lemmas.Bool.Decides.{nat_tests}
+use Rattle.ts_row.specs.RowType.{Heading}
+use Rattle.ts_space.specs.declared.place.Place.{Place}
+use Rattle.ts_space.specs.Directory.{Directory, places_of}
+use Rattle.ts_space.specs.Charge.{irregular_charge, irregular_places_charge}
+use Rattle.ts_cells.specs.Cell.{page_room}
+use Rattle.ts_model.specs.declared.kind.Kind.TheVariants as kinds
+use Rattle.ts_model.specs.declared.def.Def.TheVariants as defs
+use Rattle.ts_model.specs.Definitions.{Definitions, ContainerDef, SeriesDef, of_series, slots, slot_of, at_slot, with_slot, IsDefinitions}
+use Rattle.ts_layout.specs.Meaning.{Layout, heading_of_container, heading_in, heading_at, AreSound, IsSound, sum_of_quotas}
+use Rattle.ts_layout.specs.Changed.{CanCreate, HasNoPage, NoContainerHas, NoSeriesStandsIn}
+use Rattle.ts_layout.specs.Charges.{charge_listed, charges_listed, container_charge, KeepQuotas}
+use Rattle.ts_layout.specs.OnePage.{HasOnePlaceEach}
+use Rattle.ts_layout.specs.Placed.{ArePlaced, AreKept}
+use Rattle.ts_layout.proofs.LayoutLemmas.{none≢some}
+use Rattle.ts_layout.proofs.FilledLemmas.{at_filled}
+use Rattle.ts_layout.proofs.ReferLemmas.{empty_in}
+use Rattle.ts_layout.proofs.CreatedLemmas.{row_type_headings, row_type_keeps_columns, row_type_sound, no_series_yet, container_keeps_columns, container_sound, series_keeps_columns, series_sound}
+use Rattle.ts_layout.proofs.DroppedLemmas.{row_type_dropped_heading, row_type_dropped_columns, row_type_dropped_sound, container_dropped_columns, container_dropped_sound, container_before}
+use Rattle.ts_layout.proofs.PlacedLemmas.{kept_defined, placed_same, placed_freed, placed_still, placed_without}
+use Rattle.ts_layout.proofs.QuotaLemmas.{more_within, there_of}
+use Rattle.ts_layout.proofs.SeriesDroppedLemmas.{sound_kept}
+
+-- no series costs more, so all together don't
+charges_less : (space space' : Directory) (container room first : ℕ) (table' table : List (Option SeriesDef)) → length table' ≡ length table → ((j : ℕ) → j < length table → charge_listed space' container room (first + j) (at_slot j table') ≤ charge_listed space container room (first + j) (at_slot j table))
+    → charges_listed space' container room first table' ≤ charges_listed space container room first table
+charges_less space space' container room first [] [] size each = lit≤ tt
+charges_less space space' container room first [] (o ∷ table) size each = absurd (omega (arith, size))
+charges_less space space' container room first (o ∷ table') [] size each = absurd (omega (arith, size))
+charges_less space space' container room first (o' ∷ table') (o ∷ table) size each =
+    let at : first + 0 ≡ first = omega arith in
+    let here : charge_listed space' container room first o' ≤ charge_listed space container room first o =
+    subst (λ (n : ℕ). charge_listed space' container room n o' ≤ charge_listed space container room n o) at (each 0 (omega arith)) in
+    let rest = charges_less space space' container room (suc first) table' table (omega (arith, size))
+    (λ j low.
+    let next : first + suc j ≡ suc first + j = omega arith in
+    subst (λ (n : ℕ). charge_listed space' container room n (at_slot j table') ≤ charge_listed space container room n (at_slot j table)) next (each (suc j) (omega (arith, low)))) in
+    omega (arith, here, rest)
+
+-- a container in which no series stands is charged nothing
+none_listed : (space : Directory) (container room first : ℕ) (table : List (Option SeriesDef)) → ((i : ℕ) (s : SeriesDef) → at_slot i table ≡ Some s → s.container ≡ container → ⊥) → charges_listed space container room first table ≡ 0
+none_listed space container room first [] none = refl
+none_listed space container room first (None ∷ table) none = let rest = none_listed space container room (suc first) table (λ i s here. none (suc i) s here) in omega (arith, rest)
+none_listed space container room first (Some s ∷ table) none =
+    let other : s.container ≢ container = none 0 s refl in
+    let f : (s.container == container) ≡ false = grind (arith, nat_tests) in
+    let here : charge_listed space container room first (Some s) ≡ 0 = rw f refl in
+    let rest = none_listed space container room (suc first) table (λ i t there. none (suc i) t there) in
+    omega (arith, here, rest)
+
+-- a series without places costs nothing
+placeless : (space : Directory) (container room slot : ℕ) (o : Option SeriesDef) → places_of slot space ≡ [] → charge_listed space container room slot o ≡ 0
+placeless space container room slot None none = refl
+placeless space container room slot (Some s) none = cost (s.container == container) where
+  cost : (b : Bool) → (if b then irregular_places_charge room (places_of slot space) else 0) ≡ 0
+  cost true = ap (irregular_places_charge room) none
+  cost false = refl
+
+same_places : (space space' : Directory) (container room slot : ℕ) (o : Option SeriesDef) → places_of slot space' ≡ places_of slot space → charge_listed space' container room slot o ≡ charge_listed space container room slot o
+same_places space space' container room slot None same = refl
+same_places space space' container room slot (Some s) same = ap (λ (ps : List Place). if s.container == container then irregular_places_charge room ps else 0) same
+
+-- one series that is made or dropped, and has no place then
+pub series_quotas : (d : Definitions) (space space' : Directory) (slot : ℕ) (o : Option SeriesDef) → IsDefinitions d → KeepQuotas d space → places_of slot space' ≡ [] → ((t : ℕ) → t < 4096 → t ≢ slot → places_of t space' ≡ places_of t space) → KeepQuotas (record d { series = set d.series slot o }) space'
+series_quotas d space space' slot o rules kept none others k small c h there heading =
+    let before = kept k small c h there heading in
+    let room : ℕ = page_room h.columns in
+    let less : container_charge (record d { series = set d.series slot o }) space' k room ≤ container_charge d space k room =
+    charges_less space space' k room 0 (set d.series slot o) d.series (length-set d.series slot o) (λ j low. elim (cases_eq j slot) [
+      | inl same ↦
+          let at : 0 + j ≡ slot = omega (arith, same) in
+          let nothing = placeless space' k room (0 + j) (at_slot j (set d.series slot o)) (ap (λ (n : ℕ). places_of n space') at ∙ none) in
+          omega (arith, nothing)
+      | inr other ↦
+          let at : 0 + j ≡ j = omega arith in
+          let stays = same_places space space' k room (0 + j) (at_slot j (set d.series slot o)) (ap (λ (n : ℕ). places_of n space') at ∙ others j (omega (arith, low, rules.series.size)) other ∙ ap (λ (n : ℕ). places_of n space) (sym at)) in
+          let def = ap (charge_listed space k room (0 + j)) (get_or-set_other d.series slot j o None other) in
+          omega (arith, stays, def)
+    ]) in
+    omega (arith, before, less)
+
+-- the same charges, and containers that were there with the same columns
+same_quotas : (d d' : Definitions) (space : Directory) → KeepQuotas d space → ((slot : ℕ) (c : ContainerDef) (h : Heading) → at_slot slot d'.containers ≡ Some c → heading_of_container d' c ≡ Some h → (at_slot slot d.containers ≡ Some c) × (heading_of_container d c ≡ Some h)) → d'.series ≡ d.series → KeepQuotas d' space
+same_quotas d d' space kept before series k small c h there heading =
+    let was = before k c h there heading in
+    subst (λ (t : List (Option SeriesDef)). charges_listed space k (page_room h.columns) 0 t ≤ c.quota) (sym series) (kept k small c h was.0 was.1)
+
+-- how many pages a layout has
+pages_of : (count : ℕ) (l : Layout) → count ≡ 930 + length l.element_pages → length l.element_pages ≡ count - 930
+pages_of count l size = omega (arith, size)
+
+-- what is kept stays kept where a definition is made or dropped
+module _ (l : Layout) (sound : IsSound l) (space : Directory) (free : List ℕ) (count : ℕ) (size : count ≡ 930 + length l.element_pages) (kept : AreKept l.definitions space free count) where
+  rules_then : (d : Definitions) → AreSound (length l.element_pages) d → AreSound (count - 930) d
+  rules_then d rules = subst (λ (n : ℕ). AreSound n d) (pages_of count l size) rules
+
+  pub row_type_kept : (slot : ℕ) (name : List ℕ) (h : Heading) → CanCreate slot (defs.RowType name h) l.definitions → AreKept (with_slot kinds.RowType slot (Some (defs.RowType name h)) l.definitions) space free count
+  row_type_kept slot name h can =
+      let d' : Definitions = with_slot kinds.RowType slot (Some (defs.RowType name h)) l.definitions in
+      kept_defined l.definitions d' space free count kept (rules_then d' (row_type_sound slot name h l sound can).definitions) (row_type_keeps_columns slot name h l sound can)
+      (same_quotas l.definitions d' space kept.quotas (λ k c g there heading. (there, sym (row_type_headings slot name h l sound can k c there) ∙ heading)) refl)
+
+  pub row_type_dropped_kept : (slot : ℕ) (name : List ℕ) → slot_of name (slots kinds.RowType l.definitions) ≡ Some slot → NoContainerHas slot l.definitions → AreKept (with_slot kinds.RowType slot None l.definitions) space free count
+  row_type_dropped_kept slot name is none =
+      let d' : Definitions = with_slot kinds.RowType slot None l.definitions in
+      kept_defined l.definitions d' space free count kept (rules_then d' (row_type_dropped_sound l slot name sound is none).definitions) (row_type_dropped_columns l slot name sound is none)
+      (same_quotas l.definitions d' space kept.quotas (λ k c g there heading. (there, sym (row_type_dropped_heading l slot name sound is none k c there) ∙ heading)) refl)
+
+  pub container_dropped_kept : (slot : ℕ) (name : List ℕ) → slot_of name (slots kinds.Container l.definitions) ≡ Some slot → NoSeriesStandsIn slot l.definitions → AreKept (with_slot kinds.Container slot None l.definitions) space free count
+  container_dropped_kept slot name is none =
+      let d' : Definitions = with_slot kinds.Container slot None l.definitions in
+      kept_defined l.definitions d' space free count kept (rules_then d' (container_dropped_sound l slot name sound is none).definitions) (container_dropped_columns l slot name sound is none)
+      (same_quotas l.definitions d' space kept.quotas (λ k c g there heading. (container_before l slot name sound is none k c there, heading)) refl)
+
+  pub container_kept : (slot : ℕ) (name : List ℕ) (row_type quota : ℕ) → CanCreate slot (defs.Container name row_type quota) l.definitions → sum_of_quotas l.definitions.containers + quota ≤ length l.element_pages → AreKept (with_slot kinds.Container slot (Some (defs.Container name row_type quota)) l.definitions) space free count
+  container_kept slot name row_type quota can room =
+      let d' : Definitions = with_slot kinds.Container slot (Some (defs.Container name row_type quota)) l.definitions in
+      kept_defined l.definitions d' space free count kept (rules_then d' (container_sound slot name row_type quota l sound can room).definitions) (container_keeps_columns slot name row_type quota l sound can)
+      (λ k small c g there heading.
+      let within : slot < length l.definitions.containers = omega (arith, can.within, sound.definitions.tables.containers.size) in
+      elim (at_filled l.definitions.containers slot k (record { name = name; row_type = row_type; quota = quota }) c within there) [
+        | inl new ↦
+            let none = none_listed space k (page_room g.columns) 0 l.definitions.series (λ i s here same. no_series_yet slot name row_type quota l sound can i s here (same ∙ new.0)) in
+            omega (arith, none)
+        | inr old ↦ kept.quotas k small c g old.1 heading
+      ])
+
+  pub series_kept : (slot : ℕ) (key : List ℕ) (container : ℕ) → CanCreate slot (defs.Series key container) l.definitions → HasNoPage slot l.element_pages → AreKept (with_slot kinds.Series slot (Some (defs.Series key container)) l.definitions) space free count
+  series_kept slot key container can none =
+      let d' : Definitions = with_slot kinds.Series slot (Some (defs.Series key container)) l.definitions in
+      kept_defined l.definitions d' space free count kept (rules_then d' (series_sound slot key container l sound can none).definitions) (series_keeps_columns slot key container l sound can none)
+      (series_quotas l.definitions space space slot (Some (record { key = key; container = container })) sound.definitions.tables kept.quotas (empty_place slot can.within (empty_in of_series slot l.definitions.series can.empty)) (λ t low other. refl))
+    where
+      empty_place : (slot : ℕ) → slot < 4096 → at_slot slot l.definitions.series ≡ None → places_of slot space ≡ []
+      empty_place slot within empty = of_list (places_of slot space) refl where
+        of_list : (ps : List Place) → places_of slot space ≡ ps → ps ≡ []
+        of_list [] is = refl
+        of_list (p ∷ []) is =
+            let one = kept.placed.places slot p within is in
+            absurd (none≢some (heading_at l.definitions slot) one.heading (ap (option_and_then (λ (s : SeriesDef). heading_in l.definitions s.container)) empty) one.columns)
+        of_list (p ∷ q ∷ ps) is = absurd (let few = kept.placed.few slot within in let many = ap (λ (qs : List Place). length qs) is in omega (arith, few, many))
+
+-- what is kept stays kept where the places of one series change: its definitions stay, or it goes with its places
+module _ (d : Definitions) (space space' : Directory) (free free' : List ℕ) (count slot : ℕ) (kept : AreKept d space free count) where
+  pub edited_kept : ArePlaced d space' free' count → KeepQuotas d space' → AreKept d space' free' count
+  edited_kept placed quotas = record { some = kept.some; most = kept.most; sound = kept.sound; placed = placed; quotas = quotas }
+
+  pub series_dropped_kept : slot < 4096 → space'.lists ≡ set space.lists slot [] → ((p : Place) × (places_of slot space ≡ p ∷ []) × (free' ≡ p.page ∷ free)) ⊎ ((places_of slot space ≡ []) × (free' ≡ free)) → AreKept (with_slot kinds.Series slot None d) space' free' count
+  series_dropped_kept within lists either =
+      let none : places_of slot space' ≡ [] = ap (λ (ls : List (List Place)). get_or ls slot []) lists ∙ get_or-set_same space.lists slot [] [] (omega (arith, within, kept.placed.slots)) in
+      let others : (t : ℕ) → t < 4096 → t ≢ slot → places_of t space' ≡ places_of t space = λ t low other. ap (λ (ls : List (List Place)). get_or ls t []) lists ∙ get_or-set_other space.lists slot t [] [] other in
+      let placed : ArePlaced d space' free' count = ⊎_elim (λ one. placed_freed d space space' free free' count slot kept.placed within [] lists one.0 one.1 refl one.2) (λ still. placed_still d space space' free free' count slot kept.placed within [] lists still.0 refl still.1) either in
+      record {
+        some = kept.some;
+        most = kept.most;
+        sound = sound_kept d slot (count - 930) within kept.sound;
+        placed = placed_without d space' free' count slot placed none;
+        quotas = series_quotas d space space' slot None kept.sound.tables kept.quotas none others;
+      }
+
+-- the same lists of places; memory that was taken plays no part
+alike_quotas : (d : Definitions) (space space' : Directory) → IsDefinitions d → KeepQuotas d space → space'.lists ≡ space.lists → KeepQuotas d space'
+alike_quotas d space space' rules kept lists k small c h there heading =
+    let before = kept k small c h there heading in
+    let less : container_charge d space' k (page_room h.columns) ≤ container_charge d space k (page_room h.columns) =
+    charges_less space space' k (page_room h.columns) 0 d.series d.series refl (λ j low.
+    let same = same_places space space' k (page_room h.columns) (0 + j) (at_slot j d.series) (ap (λ (ls : List (List Place)). get_or ls (0 + j) []) lists) in omega (arith, same)) in
+    omega (arith, before, less)
+
+pub kept_alike : (d d' : Definitions) (space space' : Directory) (free free' : List ℕ) (count count' : ℕ) → AreKept d space free count → d' ≡ d → space'.lists ≡ space.lists → free' ≡ free → count' ≡ count → AreKept d' space' free' count'
+kept_alike d d' space space' free free' count count' kept definitions lists frees counts =
+    let alike : AreKept d space' free count = record {
+      some = kept.some;
+      most = kept.most;
+      sound = kept.sound;
+      placed = placed_same d space space' free free count count kept.placed lists refl refl;
+      quotas = alike_quotas d space space' kept.sound.tables kept.quotas lists;
+    } in
+    subst (λ (x : Definitions). AreKept x space' free' count') (sym definitions) (subst (λ (n : ℕ). AreKept d space' free' n) (sym counts) (subst (λ (ns : List ℕ). AreKept d space' ns count) (sym frees) alike))
+
+-- a page is free wherever a quota allows the first element of a series
+pub spare_left : (d : Definitions) (space : Directory) (free : List ℕ) (count slot : ℕ) (s : SeriesDef) (c : ContainerDef) (h : Heading) → AreKept d space free count → at_slot slot d.series ≡ Some s → at_slot s.container d.containers ≡ Some c → heading_of_container d c ≡ Some h → places_of slot space ≡ []
+    → container_charge d space s.container (page_room h.columns) + irregular_charge (page_room h.columns) 1 ≤ c.quota → 0 < length free
+spare_left d space free count slot s c h kept there at heading empty paid =
+    let single : HasOnePlaceEach d space = record {
+      slots = kept.placed.slots;
+      few = kept.placed.few;
+      some = λ t p low is. let one = kept.placed.places t p low is in (one.some, there_of d (at_slot t d.series) one.heading one.columns);
+    } in
+    let used = more_within d space (count - 930) slot s c h kept.sound kept.quotas single there at heading empty paid in
+    omega (arith, used, kept.placed.all)

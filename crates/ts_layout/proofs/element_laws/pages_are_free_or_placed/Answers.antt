@@ -1,5 +1,0 @@
-use Rattle.ts_layout.proofs.FreeLemmas.{free_counted}
-use Rattle.ts_layout.proofs.element_laws.pages_are_free_or_placed.Goals as goal
-
-pub returns : goal.returns
-returns c l space sound = free_counted l space sound.definitions.tables

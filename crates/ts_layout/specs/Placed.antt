@@ -1,0 +1,46 @@
+-- What is kept in memory of a volume, whatever its pages hold: definitions that keep their rules, places and free pages that are all
+-- different and all there are, and charges by these places that keep the quotas.
+use Rattle.std.specs.Prelude.{◌≡◌, ◌≢◌, ℕ, ◌+◌, ◌-◌, ◌<◌, ◌≤◌, Some, List, [], ◌∷◌, length, Contains, All, AllPairs}
+use Rattle.ts_row.specs.RowType.{Heading}
+use Rattle.ts_page.specs.Pages.{IsElementPage}
+use Rattle.ts_space.specs.declared.place.Place.{Place}
+use Rattle.ts_space.specs.Directory.{Directory, places_of, used_of}
+use Rattle.ts_cells.specs.Cell.{page_room}
+use Rattle.ts_model.specs.Definitions.{Definitions}
+use Rattle.ts_layout.specs.Meaning.{heading_at, AreSound}
+use Rattle.ts_layout.specs.Charges.{KeepQuotas}
+
+-- a place within the limits of the series in a slot: of an element page, with one element at least and no more than a page has
+-- room for by the columns of the series
+pub record IsPlaceIn (d : Definitions) (count slot : ℕ) (p : Place) : Type 0 where
+  pub element : IsElementPage p.page
+  pub below : p.page < count
+  pub some : 1 ≤ p.count
+  pub heading : Heading
+  pub columns : heading_at d slot ≡ Some heading
+  pub room : p.count ≤ page_room heading.columns
+
+-- a number of an element page, where there are so many pages in all
+abbrev pub IsElementNumber : ℕ → ℕ → Type 0
+IsElementNumber count number = IsElementPage number × (number < count)
+
+-- Each series has one place at most, within its limits. The pages of all places and the free pages are different ones, and are all
+-- element pages together.
+pub record ArePlaced (d : Definitions) (space : Directory) (free : List ℕ) (count : ℕ) : Type 0 where
+  pub slots : length space.lists ≡ 4096
+  pub few : (slot : ℕ) → slot < 4096 → length (places_of slot space) ≤ 1
+  pub places : (slot : ℕ) (p : Place) → slot < 4096 → places_of slot space ≡ p ∷ [] → IsPlaceIn d count slot p
+  pub numbers : All (IsElementNumber count) free
+  -- no two series have the same page, no series has a free one, and no page is twice among the free ones
+  pub apart : (s t : ℕ) (p q : Place) → s < 4096 → t < 4096 → places_of s space ≡ p ∷ [] → places_of t space ≡ q ∷ [] → p.page ≡ q.page → s ≡ t
+  pub used : (slot : ℕ) (p : Place) → slot < 4096 → places_of slot space ≡ p ∷ [] → ¬ Contains free p.page
+  pub different : AllPairs (λ a b. a ≢ b) free
+  pub all : length free + used_of space ≡ count - 930
+
+-- all that holds of what is kept, on every volume
+pub record AreKept (d : Definitions) (space : Directory) (free : List ℕ) (count : ℕ) : Type 0 where
+  pub some : 931 ≤ count
+  pub most : count ≤ 66466
+  pub sound : AreSound (count - 930) d
+  pub placed : ArePlaced d space free count
+  pub quotas : KeepQuotas d space
