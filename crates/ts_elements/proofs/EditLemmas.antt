@@ -18,9 +18,7 @@ use Rattle.ts_model.specs.Charge.{page_elements, container_charge as charge_by_n
 use Rattle.ts_layout.specs.Meaning.{Layout, IsSound, elements_at, series_of, catalogue_of}
 use Rattle.ts_layout.specs.Surveyed.{ListsPlaces}
 use Rattle.ts_layout.specs.OnePage.{AreFilled}
-use Rattle.ts_layout.proofs.SeriesLemmas.{len_counted, counted}
-use Rattle.ts_layout.proofs.ShapeLemmas.{charge_same}
-use Rattle.ts_layout.proofs.NamedChargeLemmas.{charge_named, charge_with, columns_named, quota_named}
+use Rattle.ts_layout.proofs.CallerLemmas.{len_counted, counted, charge_same, charge_named, charge_with, columns_named, quota_named}
 use Rattle.ts_answer.specs.Answer.{Tried, Answered, ◌>>=◌, wanted, a_row, refused_if, on_one_page, within_quota, with_element, insert_element, update_element, carried_out, outcome}
 use Rattle.ts_answer.specs.Reply.{stamp_line}
 use Rattle.ts_answer.proofs.CallerLemmas.{wanted-there, refused, passed, page-kept, page-passed, quota-kept, quota-passed, on_ok, on_err}

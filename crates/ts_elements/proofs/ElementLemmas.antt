@@ -25,20 +25,12 @@ use Rattle.ts_irregular.specs.Edit.{element_at, with_element}
 use Rattle.ts_irregular.specs.OnePage.{place_of as page_place, HasOnePage, IsOn, IsSeen, AreSeen}
 use Rattle.ts_irregular.specs.Call.{IsPagePut, AreKept, IsEdited}
 use Rattle.ts_model.specs.declared.kind.Kind.TheVariants as kinds
-use Rattle.ts_model.specs.Definitions.{Definitions, RowTypeDef, ContainerDef, SeriesDef, at_slot}
+use Rattle.ts_model.specs.Definitions.{Definitions, RowTypeDef, ContainerDef, SeriesDef, at_slot, IsDefinitions}
 use Rattle.ts_layout.specs.Meaning.{ElementPage, Free, Cells, Layout, element_page, HoldsLayout, HoldsElements, IsSound, heading_of_container, heading_in, heading_at, series_of, catalogue_of, charge_of_container}
 use Rattle.ts_layout.specs.Surveyed.{place_of, ListsPlaces}
 use Rattle.ts_layout.specs.OnePage.{by_stamp, with_cells, IsPageFor, HasPage, AreFilled, KeepsQuotaOf, AreFreePages}
 use Rattle.ts_layout.specs.Charges.{container_charge}
-use Rattle.ts_layout.proofs.LookupLemmas.{series_found, container_of_series, row_type_of_container}
-use Rattle.ts_layout.proofs.LayoutLemmas.{one_of}
-use Rattle.ts_layout.proofs.SeriesLemmas.{few, page_none, page_one, counted, catalogue_written}
-use Rattle.ts_layout.proofs.OnePageLemmas.{free_cells, places_written, rules_written, filled_after}
-use Rattle.ts_layout.proofs.FreeListLemmas.{page_taken, page_kept}
-use Rattle.ts_layout.proofs.HeldLemmas.{place_tells, place_holds, place_filled, others_stay}
-use Rattle.ts_layout.proofs.ShapeLemmas.{charge_same}
-use Rattle.ts_layout.proofs.ListedLemmas.{charge_own}
-use Rattle.ts_layout.proofs.WrittenLemmas.{cells_written}
+use Rattle.ts_layout.proofs.CallerLemmas.{series_found, container_of_series, row_type_of_container, one_of, few, page_none, page_one, counted, catalogue_written, free_cells, places_written, rules_written, filled_after, page_taken, page_kept, place_tells, place_holds, place_filled, others_stay, charge_same, charge_own, cells_written}
 use Rattle.ts_answer.specs.Answer.{with_element as with_element_of}
 use Rattle.ts_answer.specs.Slots.{IsSlotNamed}
 use Rattle.ts_elements.specs.Elements.{IsSeries, first_charge, HasRoomFor}
@@ -237,15 +229,19 @@ kept_free tells slot columns (p ∷ ps) [] now v w kept = let free = ap (λ (ns 
 kept_free tells slot columns (p ∷ ps) (e ∷ es) now v w kept = let free = ap (λ (ns : List ℕ). length ns) kept.0 in omega (arith, free)
 
 -- what a container is charged once a series of it has its page with these elements
+pub charge_edit : (d : Definitions) (space space' : Directory) (slot number : ℕ) (after : List Element) (s : SeriesDef) (q : ℕ) → IsDefinitions d → at_slot slot d.series ≡ Some s → ((t : ℕ) → t < 4096 → t ≢ slot → places_of t space' ≡ places_of t space)
+    → places_of slot space' ≡ page_place number after → 1 ≤ length after → length after ≤ q → container_charge d space' s.container q + irregular_charge q (count_of (places_of slot space)) ≡ container_charge d space s.container q + 1
+charge_edit d space space' slot number after s q rules there others now some fits =
+    let own = charge_own d space space' slot s q rules there others in
+    let count = ap (λ (ps : List Place). count_of ps) now ∙ ap (λ (ps : List Place). count_of ps) (same_place number after) ∙ count_place number after in
+    let one = ap (irregular_charge q) count ∙ charge_few q (length after) some fits in
+    omega (arith, own, one)
+
 module _ (l : Layout) (space space' : Directory) (key : List ℕ) (slot number : ℕ) (after : List Element) (sound : IsSound l) (lists : ListsPlaces space l) (within : slot < 4096) (on : SeriesIn l key slot) (changes : ChangesOnly slot space space')
     (now : places_of slot space' ≡ page_place number after) (some : 1 ≤ length after) (fits : length after ≤ page_room on.h.columns) where
   charge_then : container_charge l.definitions space' on.s.container (page_room on.h.columns) + irregular_charge (page_room on.h.columns) (count_of (places_of slot space)) ≡ container_charge l.definitions space on.s.container (page_room on.h.columns) + 1
   charge_then =
-      let q = page_room on.h.columns in
-      let own = charge_own l.definitions space space' slot on.s q sound.definitions.tables on.is.there (λ s below other. others_stay slot s space space' changes other) in
-      let count = ap (λ (ps : List Place). count_of ps) now ∙ ap (λ (ps : List Place). count_of ps) (same_place number after) ∙ count_place number after in
-      let one = ap (irregular_charge q) count ∙ charge_few q (length after) some fits in
-      omega (arith, own, one)
+      charge_edit l.definitions space space' slot number after on.s (page_room on.h.columns) sound.definitions.tables on.is.there (λ s below other. others_stay slot s space space' changes other) now some fits
 
   -- an element more, for which there is room
   pub pays_more : HasRoomFor slot l.definitions space → container_charge l.definitions space' on.s.container (page_room on.h.columns) ≤ on.c.quota

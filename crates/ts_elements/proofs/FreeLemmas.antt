@@ -1,9 +1,9 @@
 -- The free pages that are seen.
-use Rattle.std.proofs.Common.{◌≡◌, ℕ, ◌+◌, ◌-◌, ◌<◌, Bool, List, All, get_or, length, ap, ◌∙◌, arith}
+use Rattle.std.proofs.Common.{◌≡◌, ℕ, ◌-◌, Bool, List, All, get_or, length, ap, ◌∙◌, arith}
 use Rattle.ts_page.specs.Pages.{IsListed}
 use Rattle.ts_layout.specs.Meaning.{ElementPage, Layout, Free, element_page}
 use Rattle.ts_layout.specs.OnePage.{IsFreeIn, AreFreePages}
-use Rattle.ts_layout.proofs.FreeLemmas.{free_counted}
+use Rattle.ts_layout.proofs.CallerLemmas.{free_counted}
 use Rattle.ts_answer.specs.View.{View, IsViewOf}
 
 -- the free pages that are kept are all free ones

@@ -1,12 +1,12 @@
--- The last element of a series.
-use Rattle.std.proofs.Common.{◌≡◌, ℕ, ◌-◌, ◌<◌, Bool, IsTrue, Option, Some, Ok, List, [], ◌∷◌, length, refl, ap, sym, ◌∙◌, subst, arith}
+-- The last element of a series, and the one at a stamp, on a page that isn't judged again.
+use Rattle.std.proofs.Common.{◌≡◌, ℕ, ◌-◌, ◌<◌, ℤ, Bool, IsTrue, Option, Some, is_some, List, [], ◌∷◌, length, refl, ap, sym, ◌∙◌, subst, arith}
 use Rattle.std.specs.List.{slice_get}
 use Rattle.std.specs.Option.{option_to_list}
 use Rattle.std.specs.Ordering.{int_cmp}
 use Rattle.std.specs.Cmp.{int_cmp_is, int_cmp_total}
 use Rattle.std.specs.declared.cmp.Ordering.{Ordering}
 use Rattle.std.specs.declared.cmp.Ordering.TheVariants.{Less}
-use Rattle.std.specs.FinMap.{put, entries, empty, from_entries, entries-insert, len-entries, len-empty}
+use Rattle.std.specs.FinMap.{get, put, entries, empty, from_entries, entries-insert, len-entries, len-empty, get-from_entries}
 use Rattle.std.specs.FinMap.Entries.{by_order}
 use Rattle.ts_row.specs.RowType.{Heading}
 use Rattle.ts_row.specs.Row.{Values}
@@ -15,16 +15,16 @@ use Rattle.ts_space.specs.Directory.{Directory, places_of}
 use Rattle.ts_cells.specs.Cell.{Element}
 use Rattle.ts_cells.specs.IrregularPage.{AreRising}
 use Rattle.ts_irregular.specs.OnePage.{IsOn, AreOn}
-use Rattle.ts_irregular.specs.Call.{IsLast}
+use Rattle.ts_irregular.specs.Call.{IsLast, IsRowThere}
 use Rattle.ts_model.proofs.IndexLemmas.{empty-list}
 use Rattle.ts_model.specs.Catalogue.{Series, columns_of}
 use Rattle.ts_layout.specs.Meaning.{Layout, HoldsLayout, IsSound, heading_at, elements_of, elements_at, catalogue_of}
 use Rattle.ts_layout.specs.Surveyed.{ListsPlaces}
-use Rattle.ts_layout.proofs.SeriesLemmas.{elements_none, page_one, few, all_rising}
+use Rattle.ts_layout.proofs.CallerLemmas.{elements_none, page_one, few, all_rising}
 use Rattle.ts_answer.specs.Answer.{last_element}
 use Rattle.ts_answer.specs.Reply.{elements_text}
 use Rattle.ts_answer.specs.View.{View, Shows}
-use Rattle.ts_elements.specs.Elements.{IsShelfIn}
+use Rattle.ts_elements.specs.Elements.{IsShelfIn, IsThere}
 use Rattle.ts_elements.proofs.ElementLemmas.{on_page}
 use Rattle.ts_elements.proofs.SeenLemmas.{columns_in}
 
@@ -63,3 +63,16 @@ last_text tells x l key slot h series last told shows is columns within found =
     let entries_are = entries_rising es (all_rising l slot kept.rules.one_page kept.filled) in
     let elements = ap (λ (s : Series). last_element s.elements) is.stands.is.2 ∙ ap (λ (fs : List Element). option_to_list (slice_get fs (length fs - 1))) entries_are ∙ ap option_to_list (sym (found told es on)) in
     λ i. elements_text (is.columns i) (elements i)
+
+-- what is found at a stamp is what the layout has there
+pub row_there : (tells : Bool) (x : View) (slot : ℕ) (stamp : ℤ) (h : Heading) (row : Option Values) → heading_at x.definitions slot ≡ Some h → slot < 4096 → IsRowThere tells slot h.columns stamp (places_of slot x.space) x.pages row
+    → IsTrue tells → (l : Layout) → Shows tells x l → get (elements_at slot l.element_pages) stamp ≡ row
+row_there tells x slot stamp h row columns within found told l shows =
+    let kept = shows.kept in
+    let es = elements_of slot l.element_pages in
+    let on = on_pages l x.space slot h x.pages.page (places_of slot x.space) kept.rules kept.places within (columns_in x l kept slot h columns within) (shows.holds told) refl in
+    get-from_entries int_cmp_total es stamp ∙ sym (found told es on)
+
+pub told_there : (tells : Bool) (x : View) (slot : ℕ) (stamp : ℤ) (h : Heading) (row : Option Values) → heading_at x.definitions slot ≡ Some h → slot < 4096 → IsRowThere tells slot h.columns stamp (places_of slot x.space) x.pages row
+    → IsThere tells slot stamp (is_some row) x
+told_there tells x slot stamp h row columns within found told l shows = ap is_some (row_there tells x slot stamp h row columns within found told l shows)

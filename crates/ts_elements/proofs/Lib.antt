@@ -2,6 +2,7 @@ pub mod EditLemmas
 pub mod ElementLemmas
 pub mod FreeLemmas
 pub mod LastLemmas
+pub mod MemoryLemmas
 pub mod PutLemmas
 pub mod RowLemmas
 pub mod SeenLemmas

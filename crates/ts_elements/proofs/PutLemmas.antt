@@ -1,7 +1,6 @@
 -- An element that is put, on pages.
-use Rattle.std.proofs.Common.{◌≡◌, ℕ, ◌+◌, ◌*◌, ◌<◌, ◌≤◌, Bool, true, false, IsTrue, ℤ, Option, Some, None, IsSome, Result, Ok, Err, List, [], ◌==◌, if◌then◌else◌, length, set, length-set, set-set, Vec, Global, refl, ap, sym, ◌∙◌, subst, arith}
+use Rattle.std.proofs.Common.{◌≡◌, ℕ, ◌+◌, ◌≤◌, Bool, true, false, IsTrue, ℤ, Some, None, Ok, Err, List, [], length, set, length-set, set-set, Vec, Global, refl, ap, sym, ◌∙◌, subst, arith}
 use Rattle.std.proofs.lemmas.List.{set-get_or}
-use Rattle.ts_base.specs.declared.fault.StoreFault.{StoreFault}
 use Rattle.ts_base.specs.declared.refusal.Refusal.{Refusal}
 use Rattle.ts_base.specs.declared.refusal.Refusal.TheVariants as refusals
 use Rattle.ts_command.specs.declared.command.Command.{Command}
@@ -11,9 +10,8 @@ use Rattle.ts_row.specs.declared.value.Literal.{Literal}
 use Rattle.ts_row.specs.RowType.{Heading}
 use Rattle.ts_row.specs.Row.{Values}
 use Rattle.ts_space.specs.declared.place.Place.{Place}
-use Rattle.ts_space.specs.Place.{count_of, IsRising}
+use Rattle.ts_space.specs.Place.{IsRising}
 use Rattle.ts_space.specs.Directory.{Directory, places_of, ChangesOnly}
-use Rattle.ts_space.specs.Charge.{irregular_charge}
 use Rattle.ts_cells.specs.Cell.{Element, page_room}
 use Rattle.ts_irregular.specs.Edit.{with_element}
 use Rattle.ts_irregular.specs.OnePage.{place_of as page_place}
@@ -22,53 +20,21 @@ use Rattle.ts_model.specs.Catalogue.{Catalogue}
 use Rattle.ts_model.specs.Definitions.{Definitions}
 use Rattle.ts_layout.specs.Meaning.{Layout, Cells, heading_at, series_of, catalogue_of}
 use Rattle.ts_layout.specs.Charges.{container_charge}
-use Rattle.ts_layout.proofs.LayoutLemmas.{one_of}
-use Rattle.ts_layout.proofs.FreeLemmas.{free_counted}
-use Rattle.ts_layout.proofs.QuotaLemmas.{page_free}
-use Rattle.ts_layout.proofs.HeldLemmas.{slots_stay}
+use Rattle.ts_layout.proofs.CallerLemmas.{one_of, free_counted, slots_stay}
 use Rattle.ts_answer.specs.declared.effect.Effect.TheVariants.{Places}
 use Rattle.ts_answer.specs.declared.stop.Stop.TheVariants as stops
 use Rattle.ts_answer.specs.Answer.{a_row, outcome, with_element as with_element_of}
 use Rattle.ts_answer.specs.Commands.{is_writing}
 use Rattle.ts_answer.specs.Reply.{stamp_line}
-use Rattle.ts_answer.specs.View.{View, IsViewOf, Shows}
+use Rattle.ts_answer.specs.View.{View, IsViewOf, Shows, KeepsRules}
 use Rattle.ts_answer.specs.CarriedOut.{CarriedOut, Comes}
 use Rattle.ts_answer.proofs.CallerLemmas.{held_same, refuses_still, stopped}
 use Rattle.ts_elements.specs.Elements.{IsShelf, HasRow, HasRoomFor, HasNoRoom, IsThere, IsPutOrThere}
-use Rattle.ts_elements.proofs.SeenLemmas.{series_seen, columns_seen, series_defined, finds_there}
-use Rattle.ts_elements.proofs.ElementLemmas.{SeriesIn, charge_few, GoesOn, goes_on, with_some, kept_free, pays_more, put_layout, put_places, put_filled, put_rules, put_holds, put_catalogue}
+use Rattle.ts_elements.proofs.SeenLemmas.{series_seen, columns_seen, finds_there}
+use Rattle.ts_elements.proofs.ElementLemmas.{SeriesIn, GoesOn, goes_on, with_some, kept_free, pays_more, put_layout, put_places, put_filled, put_rules, put_holds, put_catalogue}
+use Rattle.ts_elements.proofs.MemoryLemmas.{Pays, pays_for_more, edit_kept}
 use Rattle.ts_elements.proofs.EditLemmas.{insert_taken, insert_full, insert_done}
 use Rattle.ts_elements.proofs.FreeLemmas.{free_in, all_free}
-
--- a page is free for the first element
-spare_there : (l : Layout) (x : View) (key : List ℕ) (slot : ℕ) → IsViewOf x l → length x.space.lists ≡ 4096 → (on : SeriesIn l key slot) → HasRoomFor slot l.definitions x.space → places_of slot x.space ≡ [] → 0 < length x.pages.free
-spare_there l x key slot kept slots on room none =
-    let q = page_room on.h.columns in
-    let below = room.page on.s on.c on.h on.is in
-    let quota = room.quota on.s on.c on.h on.is in
-    let one = charge_few q 1 (omega arith) (omega (arith, below)) in
-    let paid : container_charge l.definitions x.space on.s.container q + irregular_charge q 1 ≤ on.c.quota =
-    subst (λ (n : ℕ). container_charge l.definitions x.space on.s.container q + n ≤ on.c.quota) (sym one) (subst (λ (ps : List Place). container_charge l.definitions x.space on.s.container q + (if count_of ps == 0 then 1 else 0) ≤ on.c.quota) none quota) in
-    let free = page_free l x.space slot on.s on.c on.h kept.rules kept.filled kept.places slots on.is.there on.is.container on.is.heading none paid in
-    let counted = free_counted l x.space kept.rules.definitions.tables kept.filled kept.places slots in
-    omega (arith, free, counted, kept.free)
-
--- room on the page, and a page for the first element
-module _ (x : View) (l : Layout) (kept : IsViewOf x l) (slot : ℕ) (within : slot < 4096) (h : Heading) (columns : heading_at x.definitions slot ≡ Some h) (room : HasRoomFor slot x.definitions x.space) where
-  room_in : HasRoomFor slot l.definitions x.space
-  room_in = subst (λ (d : Definitions). HasRoomFor slot d x.space) kept.definitions room
-
-  pub room_there : count_of (places_of slot x.space) < page_room h.columns
-  room_there =
-      let known = series_defined x l kept slot within (subst (λ (o : Option Heading). IsSome o) (sym columns) refl) in
-      let on = known.1 in
-      let is : on.h ≡ h = one_of (heading_at x.definitions slot) on.h h (columns_seen x l kept slot known.0 on) columns in
-      subst (λ (y : Heading). count_of (places_of slot x.space) < page_room y.columns) is (room_in.page on.s on.c on.h on.is)
-
-  pub page_there : length x.space.lists ≡ 4096 → places_of slot x.space ≡ [] → 0 < length x.pages.free
-  page_there slots none =
-      let known = series_defined x l kept slot within (subst (λ (o : Option Heading). IsSome o) (sym columns) refl) in
-      spare_there l x known.0 slot kept slots known.1 room_in none
 
 -- a row is put at a stamp of a series, by a command that answers its stamp
 module _ (tells : Bool) (command : Command) (key : List ℕ) (slot : ℕ) (stamp : ℤ) (h : Heading) (row : Values) (x : View) (shelf : IsShelf slot h key x.definitions) (lawful : IsLawful tells x.pages) (slots : length x.space.lists ≡ 4096) (with : Directory) (changes : ChangesOnly slot x.space with)
@@ -133,10 +99,11 @@ module _ (tells : Bool) (command : Command) (key : List ℕ) (slot : ℕ) (stamp
               (sym (put_catalogue tells l x.space with key slot stamp row x.pages w kept.rules kept.filled kept.places shelf.named.within on paid changes edited goes told (shows.holds told)));
         }
 
-  pub put_carried : is_writing command ≡ true → w.faults ≡ x.pages.faults → w.change_bytes ≤ x.pages.change_bytes + 4101 → (places : Vec Place Global) → places.items ≡ places_of slot with → IsRising places.items → (out : List ℕ) → out ≡ stamp_line stamp
+  pub put_carried : (KeepsRules x → Pays x key slot) → is_writing command ≡ true → w.faults ≡ x.pages.faults → w.change_bytes ≤ x.pages.change_bytes + 4101 → (places : Vec Place Global) → places.items ≡ places_of slot with → IsRising places.items → (out : List ℕ) → out ≡ stamp_line stamp
       → CarriedOut tells command (Ok (Places slot places)) out x w
-  put_carried writes no_fault bytes places is rising out said = record {
-    done = λ l shows. subst (λ (text : List ℕ). Comes tells command (Places slot places) text x w l) (sym said) (comes_with l shows places is);
+  put_carried pays_kept writes no_fault bytes places is rising out said = record {
+    keeps = λ kept. edit_kept x kept tells key slot shelf.named h shelf.columns stamp row (places_of slot with) w count put (pays_kept kept) places is;
+    done = λ told l shows. subst (λ (text : List ℕ). Comes tells command (Places slot places) text x w l) (sym said) (comes_with l shows places is);
     applies = (shelf.named.within, rising);
     reads = λ reads. absurd (cc);
     stays = λ none. absurd (cc);
@@ -186,7 +153,7 @@ module _ (tells : Bool) (key : List ℕ) (literals : List Literal) (slot : ℕ) 
       pays_more l x.space put.0 key slot number after shows.kept.rules shows.kept.places has.shelf.named.within on put.1 now some fits (room_in l shows.kept))
       (λ told l shows on heads.
       insert_done l x.space key slot stamp literals shows.kept.rules on row (gives l shows.kept on) shows.kept.filled shows.kept.places has.shelf.named.within (absent told l shows) (room_in l shows.kept))
-      refl no_fault bytes places put.2 put.3 out said
+      (λ kept. pays_for_more x kept key slot room) refl no_fault bytes places put.2 put.3 out said
 
   -- an element is there already
   pub there_carried : (w : Contents) → w.count ≡ x.pages.count → w.faults ≡ x.pages.faults → w.change_bytes ≤ x.pages.change_bytes + 4101 → IsThereAlready tells slot h.columns stamp (places_of slot x.space) (places_of slot x.space) x.pages w

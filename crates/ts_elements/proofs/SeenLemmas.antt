@@ -1,9 +1,8 @@
 -- The series that is seen: its columns, its page, and its elements.
-use Rattle.std.proofs.Common.{◌≡◌, ℕ, ◌<◌, Bool, IsTrue, ℤ, Option, Some, None, IsSome, is_some, Result, Ok, List, [], ◌∷◌, map, length, refl, ap, sym, ◌∙◌, subst, arith}
+use Rattle.std.proofs.Common.{◌≡◌, ℕ, ◌<◌, Bool, IsTrue, ℤ, Option, Some, None, IsSome, is_some, Ok, List, [], ◌∷◌, map, length, refl, ap, sym, ◌∙◌, subst, arith}
 use Rattle.std.specs.Option.{option_to_list}
 use Rattle.std.specs.Cmp.{int_cmp_total}
 use Rattle.std.specs.FinMap.{get, get-from_entries}
-use Rattle.ts_base.specs.declared.fault.StoreFault.{StoreFault}
 use Rattle.ts_command.specs.declared.command.Command.{Command}
 use Rattle.ts_page.specs.Pages.{Contents}
 use Rattle.ts_row.specs.RowType.{Heading}
@@ -12,17 +11,14 @@ use Rattle.ts_space.specs.declared.place.Place.{Place}
 use Rattle.ts_space.specs.Directory.{Directory, places_of}
 use Rattle.ts_cells.specs.Cell.{Element}
 use Rattle.ts_irregular.specs.Edit.{element_at}
-use Rattle.ts_irregular.specs.OnePage.{HasOnePage, AreSeen}
+use Rattle.ts_irregular.specs.OnePage.{AreSeen}
 use Rattle.ts_irregular.specs.Call.{Reads, IsFound}
 use Rattle.ts_model.specs.Catalogue.{Series, columns_of}
 use Rattle.ts_model.specs.declared.kind.Kind.TheVariants as kinds
-use Rattle.ts_model.specs.Definitions.{Definitions, IsDefinitions, SeriesDef, at_slot}
-use Rattle.ts_layout.specs.Meaning.{Layout, KeepLimits, HoldsLayout, IsSound, heading_in, heading_at, elements_of, elements_at, series_of, catalogue_of}
+use Rattle.ts_model.specs.Definitions.{Definitions, at_slot}
+use Rattle.ts_layout.specs.Meaning.{Layout, HoldsLayout, IsSound, heading_at, elements_of, elements_at, series_of, catalogue_of}
 use Rattle.ts_layout.specs.Surveyed.{ListsPlaces}
-use Rattle.ts_layout.proofs.SeriesLemmas.{elements_none, page_one, few}
-use Rattle.ts_layout.proofs.LookupLemmas.{series_at}
-use Rattle.ts_layout.proofs.LayoutLemmas.{one_of, chained}
-use Rattle.ts_layout.proofs.NamedChargeLemmas.{columns_named}
+use Rattle.ts_layout.proofs.CallerLemmas.{elements_none, page_one, few, one_of, columns_named}
 use Rattle.ts_answer.specs.Answer.{Answered, wanted, outcome, element_at as element_at_stamp}
 use Rattle.ts_answer.specs.Reply.{elements_text}
 use Rattle.ts_answer.specs.Slots.{IsSlotNamed, Stands}
@@ -30,7 +26,7 @@ use Rattle.ts_answer.specs.Tried.{IsTried}
 use Rattle.ts_answer.specs.View.{View, IsViewOf, Shows}
 use Rattle.ts_answer.specs.CarriedOut.{ReadOut}
 use Rattle.ts_elements.specs.Elements.{IsShelfIn, IsThere}
-use Rattle.ts_elements.proofs.ElementLemmas.{SeriesIn, series_in_slot, one_page, on_page}
+use Rattle.ts_elements.proofs.ElementLemmas.{SeriesIn, series_in_slot, on_page}
 
 -- none isn't some
 pub not_some : {A : Type 0} (o : Option A) → None ≡ o → IsSome o → ⊥
@@ -49,30 +45,9 @@ module _ (x : View) (l : Layout) (kept : IsViewOf x l) (slot : ℕ) where
   pub columns_seen : (key : List ℕ) (on : SeriesIn l key slot) → heading_at x.definitions slot ≡ Some on.h
   columns_seen key on = ap (λ (d : Definitions). heading_at d slot) kept.definitions ∙ on.columns
 
-  -- a series that is found has columns
-  pub defined_named : (key : List ℕ) → IsSlotNamed kinds.Series slot key x.definitions → IsSome (heading_at x.definitions slot)
-  defined_named key named = subst (λ (o : Option Heading). IsSome o) (sym (columns_seen key (series_seen key named))) refl
-
-  -- a slot that has columns has a series
-  pub series_defined : slot < 4096 → IsSome (heading_at x.definitions slot) → (key : List ℕ) × SeriesIn l key slot
-  series_defined within defined =
-      let h = some_of (heading_at x.definitions slot) defined in
-      let s = chained (λ (y : SeriesDef). heading_in l.definitions y.container) (at_slot slot l.definitions.series) h.0 (ap (λ (d : Definitions). heading_at d slot) (sym kept.definitions) ∙ h.1) in
-      (s.0.key, series_seen s.0.key (subst (λ (d : Definitions). IsSlotNamed kinds.Series slot s.0.key d) (sym kept.definitions) (record { within = within; is = (series_at l slot s.0 kept.rules s.1).named })))
-
   module _ (h : Heading) (columns : heading_at x.definitions slot ≡ Some h) (within : slot < 4096) where
     pub columns_in : heading_at l.definitions slot ≡ Some h
     columns_in = ap (λ (d : Definitions). heading_at d slot) (sym kept.definitions) ∙ columns
-
-    pub has_one_page : HasOnePage h.columns x.pages (places_of slot x.space)
-    has_one_page = one_page l x.space slot h x.pages (places_of slot x.space) kept.rules kept.filled kept.places within columns_in kept.size kept.listed refl
-
--- all that is asked for a shelf
-pub limits_seen : (x : View) (l : Layout) → IsViewOf x l → KeepLimits x.definitions
-limits_seen x l kept = subst KeepLimits (sym kept.definitions) kept.rules.definitions.limits
-
-pub rules_seen : (x : View) (l : Layout) → IsViewOf x l → IsDefinitions x.definitions
-rules_seen x l kept = subst IsDefinitions (sym kept.definitions) kept.rules.definitions.tables
 
 -- the elements that are seen are those of the layout
 seen_elements : (tells : Bool) (told : IsTrue tells) (l : Layout) (space : Directory) (slot : ℕ) (h : Heading) (pages : ℕ → List ℕ) (ps : List Place) (es : List Element) → IsSound l → ListsPlaces space l → slot < 4096 → heading_at l.definitions slot ≡ Some h → HoldsLayout pages l → places_of slot space ≡ ps

@@ -1,8 +1,6 @@
 -- A series that is dropped, on pages.
-use Rattle.std.specs.Prelude.{Contains}
-use Rattle.std.proofs.Common.{◌≡◌, ◌≢◌, ℕ, ◌+◌, ◌*◌, ◌-◌, ◌<◌, ◌≤◌, Bool, IsTrue, Some, None, Ok, List, [], ◌∷◌, All, map, set, length, length-set, refl, ap, sym, ◌∙◌, subst, arith}
+use Rattle.std.proofs.Common.{◌≡◌, ◌≢◌, ℕ, ◌+◌, ◌-◌, ◌<◌, ◌≤◌, Bool, IsTrue, Some, None, Ok, List, [], ◌∷◌, All, map, set, length, length-set, refl, ap, sym, ◌∙◌, subst, arith}
 use Rattle.std.proofs.lemmas.List.{length-map, get_or-set_same, get_or-set_other}
-use Rattle.std.proofs.lemmas.List.Elements.{All-contains}
 use Rattle.std.specs.FinMap.{get, remove}
 use Rattle.ts_command.specs.declared.command.Command.TheVariants.{DropSeries}
 use Rattle.ts_page.specs.Head.{zero_page}
@@ -11,29 +9,23 @@ use Rattle.ts_page.proofs.PagesLemmas.{zero_is_free}
 use Rattle.ts_space.specs.declared.place.Place.{Place}
 use Rattle.ts_space.specs.Directory.{Directory, places_of}
 use Rattle.ts_model.specs.declared.kind.Kind.TheVariants as kinds
-use Rattle.ts_model.specs.Definitions.{Definitions, slots, slot_of, with_slot}
+use Rattle.ts_model.specs.Definitions.{with_slot}
 use Rattle.ts_model.specs.Catalogue.{Catalogue, Series as SomeSeries}
 use Rattle.ts_layout.specs.Slot.{page_of_slot}
-use Rattle.ts_layout.specs.Meaning.{ElementPage, Layout, Free, Cells, element_page, HoldsLayout, IsSound, series_of, catalogue_of}
+use Rattle.ts_layout.specs.Meaning.{ElementPage, Layout, Free, element_page, HoldsLayout, IsSound, series_of, catalogue_of}
 use Rattle.ts_container.specs.Survey.{SlotWritten}
 use Rattle.ts_layout.specs.Changed.{with_slot_bytes}
 use Rattle.ts_layout.specs.OnePage.{HasNoPage, HasPage, AreFreePages, freed, without_series}
-use Rattle.ts_layout.proofs.PlaceLemmas.{page_low, page_high}
-use Rattle.ts_layout.proofs.OnePageLemmas.{free_cells}
-use Rattle.ts_layout.proofs.WrittenLemmas.{there_now, elsewhere, definitions_stay}
-use Rattle.ts_layout.proofs.SeriesLemmas.{few, page_none, page_one}
-use Rattle.ts_layout.proofs.HeldLemmas.{place_tells}
-use Rattle.ts_layout.proofs.FreeLemmas.{free_counted}
-use Rattle.ts_layout.proofs.FreeListLemmas.{page_given, none_freed}
-use Rattle.ts_layout.proofs.SeriesDroppedLemmas.{page_dropped, none_dropped, places_dropped, rules_dropped, filled_dropped, catalogue_dropped}
+use Rattle.ts_layout.proofs.CallerLemmas.{page_low, page_high, there_now, elsewhere, definitions_stay, page_none, page_one, place_tells, free_counted, page_given, none_freed, page_dropped, none_dropped, places_dropped, rules_dropped, filled_dropped, catalogue_dropped}
 use Rattle.ts_answer.specs.declared.effect.Effect.TheVariants.{Series}
 use Rattle.ts_answer.specs.Reply.{ok_line}
 use Rattle.ts_answer.specs.Answer.{drop_series, carried_out, outcome}
-use Rattle.ts_answer.specs.View.{View, IsViewOf, Shows, ShowsSome}
+use Rattle.ts_answer.specs.View.{View, IsViewOf, Shows}
 use Rattle.ts_answer.specs.CarriedOut.{CarriedOut, Comes}
 use Rattle.ts_answer.specs.Slots.{IsSlotNamed}
-use Rattle.ts_elements.specs.SeriesDropped.{AreFreed, CanFree}
+use Rattle.ts_elements.specs.SeriesDropped.{AreFreed}
 use Rattle.ts_answer.proofs.CallerLemmas.{wanted-there, on_ok}
+use Rattle.ts_elements.proofs.MemoryLemmas.{drop_kept}
 use Rattle.ts_elements.proofs.SeenLemmas.{series_seen}
 use Rattle.ts_elements.proofs.FreeLemmas.{free_in, all_free}
 
@@ -41,27 +33,6 @@ use Rattle.ts_elements.proofs.FreeLemmas.{free_in, all_free}
 drops : (key : List ℕ) (cat : Catalogue) (s : SomeSeries) → get cat.series key ≡ Some s → outcome (Ok (DropSeries key)) cat ≡ Ok (ok_line, record cat { series = remove cat.series key })
 unfolding outcome carried_out drop_series
 drops key cat s there = on_ok _ s _ (wanted-there key cat.series s there)
-
--- a page of elements isn't a free one
-page_used : (slot : ℕ) (p : Place) (free : List ℕ) (pages : List ElementPage) → HasPage slot p pages → All (λ number. element_page (number - 930) pages ≡ Free) free → ¬ Contains free p.page
-page_used slot p free pages held listed there =
-    let found = All-contains (λ (number : ℕ). element_page (number - 930) pages ≡ Free) free p.page listed there in
-    let at = (place_tells slot p pages held).0 in
-    let same : p.page - 930 ≡ held.number = omega (arith, at) in
-    free_cells slot held.elements (sym found ∙ ap (λ (n : ℕ). element_page n pages) same ∙ held.page)
-
--- the page of a series can be freed
-pub can_free : (tells : Bool) (x : View) (slot : ℕ) → ShowsSome tells x → slot < 4096 → CanFree slot x.space x.pages
-can_free tells x slot seen within =
-    let l = seen.0 in
-    let kept = seen.1.kept in
-    record {
-      few = few l x.space slot kept.rules.one_page kept.places within;
-      page = λ p is.
-          let held = page_one l x.space slot p kept.rules.one_page kept.places within is in
-          let at = (place_tells slot p l.element_pages held).0 in
-          (omega (arith, at), omega (arith, at, held.within, kept.size), page_used slot p x.pages.free l.element_pages held kept.listed);
-    }
 
 -- what the volume holds once the page and the slot are written
 above_slot : (slot n : ℕ) → slot < 4096 → 930 ≤ n → n ≢ page_of_slot kinds.Series slot
@@ -172,7 +143,8 @@ module _ (tells : Bool) (x : View) (key : List ℕ) (slot : ℕ) (named : IsSlot
 
   pub series_dropped : (out : List ℕ) → out ≡ ok_line → w.count ≡ x.pages.count → w.faults ≡ x.pages.faults → w.change_bytes ≤ x.pages.change_bytes + 4106 → CarriedOut tells (DropSeries key) (Ok (Series slot)) out x w
   series_dropped out said count no_fault bytes = record {
-    done = λ l shows. subst (λ (text : List ℕ). Comes tells (DropSeries key) (Series slot) text x w l) (sym said) (comes_without l shows);
+    keeps = λ kept. drop_kept x kept tells slot named.within between w gone emptied count;
+    done = λ told l shows. subst (λ (text : List ℕ). Comes tells (DropSeries key) (Series slot) text x w l) (sym said) (comes_without l shows);
     applies = named.within;
     reads = λ reads. absurd (cc);
     stays = λ none. absurd (cc);

@@ -1,5 +1,5 @@
 // The routines that edit the element at a stamp.
-ghost use Rattle.std.specs.Prelude.{◌≡◌, ◌≢◌, ◌+◌, ◌<◌, ◌≤◌, ℕ, List, [], IsTrue, Some, IfOk, IfErr, OnOk, length};
+ghost use Rattle.std.specs.Prelude.{◌≡◌, ◌+◌, ◌<◌, ◌≤◌, ℕ, List, [], IsTrue, Some, IfOk, IfErr, OnOk, length};
 ghost use Rattle.ts_row.specs.declared.value.Literal.{Literal as TheLiteral};
 ghost use Rattle.ts_row.specs.Row.{fits};
 ghost use Rattle.ts_command.specs.declared.command.Command.TheVariants.{InsElem, UpdElem};
@@ -7,22 +7,24 @@ ghost use Rattle.ts_page.specs.Pages.{Answered};
 ghost use Rattle.ts_space.specs.Place.{count_of};
 ghost use Rattle.ts_cells.specs.Cell.{page_room};
 ghost use Rattle.ts_space.specs.Directory.{places_of};
-ghost use Rattle.ts_irregular.specs.OnePage.{HasOnePage, HasRoom};
-ghost use Rattle.ts_model.specs.Definitions.{Definitions, IsDefinitions};
+ghost use Rattle.ts_irregular.specs.OnePage.{HasOnePage};
+ghost use Rattle.ts_model.specs.Definitions.{Definitions};
 ghost use Rattle.ts_layout.specs.Meaning.{KeepLimits, heading_at};
-ghost use Rattle.ts_answer.specs.View.{view, ShowsSome};
+ghost use Rattle.ts_container.specs.KeptCharges.{AreCharges};
+ghost use Rattle.ts_layout.specs.OnePage.{charge_in};
+ghost use Rattle.ts_answer.specs.View.{view, IsSeen};
 ghost use Rattle.ts_answer.specs.CarriedOut.{CarriedOut};
-ghost use Rattle.ts_elements.specs.Elements.{HasRow, HasRoomFor, HasNoRoom, IsPutOrThere, IsReplaced, edit_of};
+ghost use Rattle.ts_elements.specs.Elements.{IsCharged, HasRow, HasRoomFor, HasNoRoom, IsPutOrThere, IsReplacedOrMissing, edit_of};
 
 use crate::shelf::{row_for, shelf_of};
 use ts_answer::{Effect, Stop};
 use ts_base::{Key, Refusal, Reply, Stamp, StoreFault};
 use ts_cells::page_room;
 use ts_command::Literals;
-use ts_container::{charge_of_container, row_type_in};
-use ts_irregular::{irregular_get, irregular_insert, irregular_set};
+use ts_container::{Charges, row_type_in};
+use ts_irregular::{irregular_find, irregular_insert, irregular_replace};
 use ts_model::{Def, Defs, Kind};
-use ts_page::Pages;
+use ts_page::{Page, Pages};
 use ts_row::{Row, Shelf};
 use ts_say::say_stamp;
 use ts_space::{Place, Space};
@@ -41,13 +43,15 @@ pub fn edit_element<P: Pages>(
     pages: &mut P,
     defs: &Defs,
     space: &mut Space,
+    charges: &Charges,
     edit: EditKind,
     key: &Key,
     stamp: Stamp,
     values: &Literals,
     out: &mut Reply,
 ) -> Result<Effect, Stop>
-    requires seen { ShowsSome P.tells (view defs.now.definitions space.old (P.contents pages.old)) }
+    requires seen { IsSeen P.tells (view defs.now.definitions space.old (P.contents pages.old)) }
+    requires charged { AreCharges charges.now defs.now.definitions space.old }
     requires empty { out.old ≡ [] }
     ensures carried { CarriedOut P.tells (edit_of edit key.now stamp values.now) result out.new (view defs.now.definitions space.old (P.contents pages.old)) (P.contents pages.new) }
     ensures lists { space.new.lists ≡ space.old.lists }
@@ -56,7 +60,7 @@ pub fn edit_element<P: Pages>(
     let shelf = shelf_of(pages, defs, space, key)?;
     let row = row_for(shelf.kind, values)?;
     match edit {
-        EditKind::Insert => insert_at(pages, defs, space, &shelf, stamp, &row, out),
+        EditKind::Insert => insert_at(pages, defs, space, charges, &shelf, stamp, &row, out),
         EditKind::Update => update_at(pages, space, &shelf, stamp, &row, out),
     }
 }
@@ -66,12 +70,14 @@ fn insert_at<P: Pages>(
     pages: &mut P,
     defs: &Defs,
     space: &mut Space,
+    charges: &Charges,
     shelf: &Shelf,
     stamp: Stamp,
     row: &Row,
     out: &mut Reply,
 ) -> Result<Effect, Stop>
-    requires seen { ShowsSome P.tells (view defs.now.definitions space.old (P.contents pages.old)) }
+    requires seen { IsSeen P.tells (view defs.now.definitions space.old (P.contents pages.old)) }
+    requires charged { AreCharges charges.now defs.now.definitions space.old }
     requires slot { shelf.now.series < 4096 }
     requires columns { heading_at defs.now.definitions shelf.now.series ≡ Some shelf.now.kind.now }
     requires one { HasOnePage shelf.now.kind.now.columns (P.contents pages.old) (places_of shelf.now.series space.old) }
@@ -82,9 +88,10 @@ fn insert_at<P: Pages>(
     ensures lists { space.new.lists ≡ space.old.lists }
     ensures undisturbed { P.undisturbed pages.old pages.new }
 {
-    match room_for(defs, space, shelf.series) {
+    match room_for(defs, space, charges, shelf.series) {
         Err(refusal) => {
-            if irregular_get(pages, space, shelf, stamp)?.is_some() {
+            let mut page = Page::zero();
+            if irregular_find(pages, &mut page, space, shelf, stamp)?.is_some() {
                 return Err(Stop::Refused(Refusal::Duplicate));
             }
             Err(Stop::Refused(refusal))
@@ -152,15 +159,14 @@ fn update_at<P: Pages>(
     ensures lists { space.new.lists ≡ space.old.lists }
     ensures undisturbed { P.undisturbed pages.old pages.new }
 {
-    if irregular_get(pages, space, shelf, stamp)?.is_none() {
-        return Err(Stop::Refused(Refusal::Missing));
-    }
     say_stamp(out, stamp)?;
-    let places = replace(pages, space, shelf, stamp, row)?;
-    Ok(Effect::Places {
-        slot: shelf.series,
-        places,
-    })
+    match replace(pages, space, shelf, stamp, row)? {
+        Some(places) => Ok(Effect::Places {
+            slot: shelf.series,
+            places,
+        }),
+        None => Err(Stop::Refused(Refusal::Missing)),
+    }
 }
 
 // Puts a row where one is, and gives the places of its series; the directory stays as it was.
@@ -170,13 +176,11 @@ fn replace<P: Pages>(
     shelf: &Shelf,
     stamp: Stamp,
     row: &Row,
-) -> Result<Vec<Place>, StoreFault>
+) -> Result<Option<Vec<Place>>, StoreFault>
     requires slot { shelf.now.series < 4096 }
     requires one { HasOnePage shelf.now.kind.now.columns (P.contents pages.old) (places_of shelf.now.series space.old) }
     requires fits { IsTrue (fits shelf.now.kind.now.columns row.now) }
-    requires room { HasRoom P.tells shelf.now.series shelf.now.kind.now.columns (P.contents pages.old).page stamp (places_of shelf.now.series space.old) }
-    requires some { places_of shelf.now.series space.old ≢ [] }
-    ensures replaced { IfOk result (λ places. IsReplaced P.tells shelf.now.series shelf.now.kind.now.columns stamp row.now space.old (P.contents pages.old) (P.contents pages.new) places) }
+    ensures replaced { IfOk result (IsReplacedOrMissing P.tells shelf.now.series shelf.now.kind.now.columns stamp row.now space.old (P.contents pages.old) (P.contents pages.new)) }
     ensures call { Answered result (P.contents pages.old) (P.contents pages.new) }
     ensures bytes { (P.contents pages.new).change_bytes ≤ (P.contents pages.old).change_bytes + 4101 }
     ensures lists { space.new.lists ≡ space.old.lists }
@@ -186,10 +190,12 @@ fn replace<P: Pages>(
     // A directory has a list for each slot.
     let _slots = space.places(shelf.series);
     let earlier = space.saved(shelf.series)?;
-    irregular_set(pages, space, shelf, stamp, Some(row))?;
+    if !irregular_replace(pages, space, shelf, stamp, row)? {
+        return Ok(None);
+    }
     let after = space.saved(shelf.series);
     space.restore(shelf.series, earlier);
-    Ok(after?)
+    Ok(Some(after?))
 }
 
 // How many elements stand on the page of a series.
@@ -203,11 +209,21 @@ fn count_in(places: &[Place]) -> u64
     }
 }
 
+// What a container is charged.
+fn charge_of(_defs: &Defs, _space: &Space, charges: &Charges, container: u8) -> u64
+    requires slot { container < 64 }
+    requires charged { IsCharged charges.now _defs.now.definitions _space.now }
+    ensures value { result ≡ charge_in _defs.now.definitions _space.now container }
+    ensures bound { result ≤ 65536 }
+{
+    charges.of(container)
+}
+
 // Whether one element more of a series goes on its page and into the quota of its container.
-fn room_for(defs: &Defs, space: &Space, slot: u16) -> Result<(), Refusal>
+fn room_for(defs: &Defs, space: &Space, charges: &Charges, slot: u16) -> Result<(), Refusal>
     requires slot { slot < 4096 }
     requires limits { KeepLimits defs.now.definitions }
-    requires rules { IsDefinitions defs.now.definitions }
+    requires charged { IsCharged charges.now defs.now.definitions space.now }
     requires few { (slot : ℕ) → slot < 4096 → length (places_of slot space.now) ≤ 1 }
     ensures room { OnOk result (HasRoomFor slot defs.now.definitions space.now) }
     ensures none { IfErr result (HasNoRoom slot defs.now.definitions space.now) }
@@ -231,7 +247,7 @@ fn room_for(defs: &Defs, space: &Space, slot: u16) -> Result<(), Refusal>
         });
     }
     let first = if count == 0 { 1 } else { 0 };
-    let charge = charge_of_container(defs, space, *container) + first;
+    let charge = charge_of(defs, space, charges, *container) + first;
     if charge > *quota as u64 {
         return Err(Refusal::ContainerFull {
             charge,

@@ -3,7 +3,7 @@ ghost use Rattle.std.specs.Prelude.{◌≡◌, ◌+◌, ◌<◌, ◌≤◌, [], 
 ghost use Rattle.ts_command.specs.declared.command.Command.TheVariants.{DropSeries};
 ghost use Rattle.ts_page.specs.Pages.{Answered};
 ghost use Rattle.ts_space.specs.Directory.{places_of};
-ghost use Rattle.ts_answer.specs.View.{view, ShowsSome};
+ghost use Rattle.ts_answer.specs.View.{view, IsSeen};
 ghost use Rattle.ts_answer.specs.CarriedOut.{CarriedOut};
 ghost use Rattle.ts_elements.specs.SeriesDropped.{AreFreed, CanFree};
 
@@ -26,7 +26,7 @@ pub fn drop_series<P: Pages>(
     key: &Key,
     out: &mut Reply,
 ) -> Result<Effect, Stop>
-    requires seen { ShowsSome P.tells (view defs.now.definitions space.now (P.contents pages.old)) }
+    requires seen { IsSeen P.tells (view defs.now.definitions space.now (P.contents pages.old)) }
     requires empty { out.old ≡ [] }
     ensures carried { CarriedOut P.tells (DropSeries key.now) result out.new (view defs.now.definitions space.now (P.contents pages.old)) (P.contents pages.new) }
     ensures undisturbed { P.undisturbed pages.old pages.new }

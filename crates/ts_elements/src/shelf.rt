@@ -6,7 +6,7 @@ ghost use Rattle.ts_irregular.specs.OnePage.{HasOnePage, IsReadable};
 ghost use Rattle.ts_layout.specs.Meaning.{Layout, catalogue_of};
 ghost use Rattle.ts_answer.specs.Answer.{wanted, a_row};
 ghost use Rattle.ts_answer.specs.Tried.{IsTried};
-ghost use Rattle.ts_answer.specs.View.{view, ShowsSome, IsViewOf};
+ghost use Rattle.ts_answer.specs.View.{view, IsSeen, IsViewOf};
 ghost use Rattle.ts_elements.specs.Elements.{IsShelf, IsShelfIn};
 
 use ts_base::{Key, Trouble};
@@ -25,7 +25,7 @@ pub(crate) fn shelf_of<'a, P: Pages>(
     _space: &Space,
     key: &Key,
 ) -> Result<Shelf<'a>, Trouble>
-    requires seen { ShowsSome P.tells (view defs.now.definitions _space.now (P.contents _pages.now)) }
+    requires seen { IsSeen P.tells (view defs.now.definitions _space.now (P.contents _pages.now)) }
     ensures found { IfOk result (λ shelf. IsShelf shelf.series shelf.kind.now key.now defs.now.definitions) }
     ensures one { IfOk result (λ shelf. HasOnePage shelf.kind.now.columns (P.contents _pages.now) (places_of shelf.series _space.now)) }
     ensures readable { IfOk result (λ shelf. IsReadable (P.contents _pages.now) (places_of shelf.series _space.now)) }

@@ -9,12 +9,9 @@ use Rattle.ts_page.specs.Pages.{Contents, SameButFreed}
 use Rattle.ts_page.proofs.PagesLemmas.{lawful_same}
 use Rattle.ts_journal.specs.Journal.{own_page, pages, ReadsButFreed}
 use Rattle.ts_journal.specs.Moment.{Keeps, OnlyReads}
-use Rattle.ts_journal.proofs.WriteLemmas.{keeps_refl, keeps_then}
-use Rattle.ts_recover.proofs.ReadLemmas.{reads_then, reads_none}
+use Rattle.ts_store.proofs.CallerLemmas.{keeps_refl, keeps_then, reads_then, reads_none, read_closed, same_but_freed, over_still, idle_dropped, read_dropped, read_committed}
 use Rattle.ts_store.specs.OpenBatch.{State, IsOver, IsIdle, Closes, BeforeOrRead, over, read_pages, contents_over}
 use Rattle.ts_store.specs.Undisturbed.{Undisturbed}
-use Rattle.ts_store.proofs.ReadLemmas.{read_closed, same_but_freed}
-use Rattle.ts_store.proofs.CallerLemmas.{over_still, idle_dropped, read_dropped, read_committed}
 use Rattle.ts_engine.specs.declared.fault.StepFault.{StepFault}
 use Rattle.ts_engine.specs.declared.fault.StepFault.TheVariants.{Disk, Memory, Closed}
 use Rattle.ts_engine.specs.Engine.{Kept}
@@ -41,11 +38,12 @@ module _ (tells : Bool) (e f : Kept) (v w : Device) (before : IsOver tells e.sto
         now.1,
       )) (moments told)
 
-  pub committed : (tables : f.tables ≡ e.tables) → (space : f.space ≡ e.space) → (spent : f.spent ≡ e.spent) → Closes e.store f.store → IsOver tells f.store w
+  pub committed : (tables : f.tables ≡ e.tables) → (space : f.space ≡ e.space) → (charges : f.charges ≡ e.charges) → (spent : f.spent ≡ e.spent) → Closes e.store f.store → IsOver tells f.store w
       → (IsTrue tells → ReadsButFreed v.size e.store.overlay (read_pages e.store v.held) w.held) → w.faults ≡ v.faults → Finished tells (Ok tt) (Ok tt) e f v w
-  committed tables space spent closes over reads no_fault = record {
+  committed tables space charges spent closes over reads no_fault = record {
     tables = tables;
     space = space;
+    charges = charges;
     done = refl;
     over = over;
     count = closes.pages;
@@ -61,10 +59,11 @@ module _ (tells : Bool) (e f : Kept) (v w : Device) (before : IsOver tells e.sto
     no_fault = no_fault;
   }
 
-  pub uncommitted : (tables : f.tables ≡ e.tables) → (space : f.space ≡ e.space) → (spent : f.spent ≡ Some w.faults) → Rose v.faults w.faults → Finished tells (Ok tt) (Err Disk) e f v w
-  uncommitted tables space spent rose = record {
+  pub uncommitted : (tables : f.tables ≡ e.tables) → (space : f.space ≡ e.space) → (charges : f.charges ≡ e.charges) → (spent : f.spent ≡ Some w.faults) → Rose v.faults w.faults → Finished tells (Ok tt) (Err Disk) e f v w
+  uncommitted tables space charges spent rose = record {
     tables = tables;
     space = space;
+    charges = charges;
     done = tt;
     over = tt;
     count = tt;
@@ -91,6 +90,7 @@ module _ (tells : Bool) (worked : Result Unit StoreFault) (done : IsOk worked) (
   same_finish (Ok done) x = record {
     tables = x.tables;
     space = x.space;
+    charges = x.charges;
     done = x.done;
     over = x.over;
     count = x.count;
@@ -108,6 +108,7 @@ module _ (tells : Bool) (worked : Result Unit StoreFault) (done : IsOk worked) (
   same_finish (Err Disk) x = record {
     tables = x.tables;
     space = x.space;
+    charges = x.charges;
     done = tt;
     over = tt;
     count = tt;
@@ -125,6 +126,7 @@ module _ (tells : Bool) (worked : Result Unit StoreFault) (done : IsOk worked) (
   same_finish (Err (Memory error)) x = record {
     tables = x.tables;
     space = x.space;
+    charges = x.charges;
     done = tt;
     over = tt;
     count = tt;
@@ -161,6 +163,7 @@ module _ (tells : Bool) (worked : Result Unit StoreFault) (e g f : Kept) (v : De
   unworked failed spent = record {
     tables = ap (λ (x : Kept). x.tables) spent ∙ ap (λ (x : Kept). x.tables) is;
     space = ap (λ (x : Kept). x.space) spent ∙ ap (λ (x : Kept). x.space) is;
+    charges = ap (λ (x : Kept). x.charges) spent ∙ ap (λ (x : Kept). x.charges) is;
     done = tt;
     over = tt;
     count = tt;
@@ -180,6 +183,7 @@ module _ (tells : Bool) (worked : Result Unit StoreFault) (e g f : Kept) (v : De
   dropped error drop = record {
     tables = ap (λ (x : Kept). x.tables) drop ∙ ap (λ (x : Kept). x.tables) is;
     space = ap (λ (x : Kept). x.space) drop ∙ ap (λ (x : Kept). x.space) is;
+    charges = ap (λ (x : Kept). x.charges) drop ∙ ap (λ (x : Kept). x.charges) is;
     done = tt;
     over = tt;
     count = tt;

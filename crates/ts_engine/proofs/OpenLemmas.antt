@@ -1,18 +1,14 @@
 -- An opening: what it finds, and what a stop within it leaves.
-use Rattle.std.proofs.Common.{◌≡◌, inl, ℕ, ◌+◌, ◌-◌, ◌≤◌, Bool, IsTrue, Result, Ok, Err, IfErr, IsErrAnd, None, List, slice_index, [], All, AllPairs, length, get_or, refl, ap, sym, ◌∙◌, subst, arith}
+use Rattle.std.proofs.Common.{◌≡◌, inl, ℕ, ◌+◌, ◌-◌, ◌<◌, ◌≤◌, Bool, IsTrue, Result, Ok, Err, IfErr, IsErrAnd, None, List, slice_index, [], All, length, get_or, refl, ap, sym, ◌∙◌, subst, arith}
 use Rattle.ts_disk.specs.Device.{Device, Lawful, Only, Rose, LeavesOnly}
 use Rattle.ts_disk.proofs.Moments.{then_on, leaves_map}
-use Rattle.ts_page.specs.Pages.{IsListed, IsLawful}
+use Rattle.ts_page.specs.Pages.{Contents, IsLawful}
 use Rattle.ts_journal.specs.Entry.{AreAllowed}
 use Rattle.ts_journal.specs.Journal.{page_count, pages, ReadsButFreed}
 use Rattle.ts_journal.specs.Moment.{Keeps, OnlyReads, SamePages}
-use Rattle.ts_journal.proofs.WriteLemmas.{keeps_then}
-use Rattle.ts_recover.proofs.ReadLemmas.{reads_then}
+use Rattle.ts_store.proofs.CallerLemmas.{keeps_then, reads_then, read_closed, counted, read_dropped, read_committed}
 use Rattle.ts_store.specs.OpenBatch.{State, IsOver, IsIdle, Settles, read_pages, contents_over}
 use Rattle.ts_store.specs.Undisturbed.{Undisturbed}
-use Rattle.ts_store.proofs.ReadLemmas.{read_closed}
-use Rattle.ts_store.proofs.CommitLemmas.{counted}
-use Rattle.ts_store.proofs.CallerLemmas.{read_dropped, read_committed}
 use Rattle.ts_model.specs.Catalogue.{Catalogue}
 use Rattle.ts_model.specs.Definitions.{Definitions, Tables}
 use Rattle.ts_space.specs.Directory.{Directory, used_of}
@@ -21,12 +17,16 @@ use Rattle.ts_container.specs.declared.fault.SurveyFault.TheVariants.{NotAStore,
 use Rattle.ts_layout.specs.Meaning.{ElementPage, Free, element_page, HoldsElements, HoldsLayout, catalogue_of}
 use Rattle.ts_container.specs.Survey.{IsFound, IfRefused, HoldNoLayout}
 use Rattle.ts_layout.specs.Surveyed.{free_pages}
-use Rattle.ts_layout.proofs.FreeLemmas.{free_counted}
+use Rattle.ts_layout.proofs.CallerLemmas.{free_counted, free_at, kept_alike}
 use Rattle.ts_engine.specs.declared.engine.Engine.{Engine}
 use Rattle.ts_engine.specs.Volume.{MeansCatalogue, MeansNothing}
+use Rattle.ts_container.specs.KeptCharges.{AreCharges}
+use Rattle.ts_layout.specs.Placed.{AreKept}
+use Rattle.ts_engine.specs.Charged.{CanCount}
+use Rattle.ts_engine.proofs.ChargedLemmas.{can_count}
 use Rattle.ts_engine.specs.Engine.{Kept, IsKeptOf, IsReady}
 use Rattle.ts_engine.specs.Start.{StillMeans, StartFault, ReadFault, Opened}
-use Rattle.ts_engine.proofs.MeansLemmas.{holds_still, means_layout, still_means, free_at, free_different}
+use Rattle.ts_engine.proofs.MeansLemmas.{holds_still, means_layout, still_means}
 
 -- an answer that is an error by another call
 pub if_err : {T : Type 0} (r : Result T SurveyFault) (fault : SurveyFault) (P : SurveyFault → Type 0) → IsErrAnd r (λ x. x ≡ fault) → P fault → IfErr r P
@@ -62,21 +62,23 @@ survey_fault tells (NotAStore page) number s v w lawful idle same cause quiet re
 pub admitted : (tells : Bool) (s t : State) (d : Device) (x : Definitions) (space : Directory) (free : List ℕ) → IsIdle tells s d → IsFound tells s.pages (contents_over s d) x space free
     → t ≡ record s { free = free; kept_free = free } → IsOver tells t d
 admitted tells s t d x space free idle found is =
-    let l = found.0 in
     let next : State = record s { free = free; kept_free = free } in
     let over = idle.over in
+    let placed = found.kept.placed in
     let lawful : IsLawful tells (contents_over next d) = record {
-      different = subst (λ (ns : List ℕ). AllPairs (λ a b. a ≡ b → ⊥) ns) (sym found.1.free) (free_different 930 l.element_pages);
-      listed = subst (λ (ns : List ℕ). All (IsListed tells (contents_over next d)) ns) (sym found.1.free) (λ k e within.
-          let one = free_at 930 l.element_pages k e within in
+      different = placed.different;
+      listed = λ k e within.
+          let one = placed.numbers k e within in
           record {
-            element = omega (arith, one.2);
-            below = omega (arith, one.1, one.2, found.2);
+            element = one.0;
+            below = one.1;
             free = λ told.
+                let known = found.layout told in
+                let at = free_at 930 known.0.element_pages k e (subst (λ (ns : List ℕ). k < length ns) known.1.free within) in
                 let P : ℕ → Type 0 = λ n. slice_index (read_pages s d.held n) 0 ≡ 0 in
-                subst P (sym one.2) (let Q : ElementPage → Type 0 = λ e. HoldsElements l.definitions (read_pages s d.held (930 + one.0)) e in
-                subst Q one.3 ((found.4 told).elements one.0 one.1));
-          });
+                subst P (sym (ap (λ (ns : List ℕ). get_or ns k e) known.1.free ∙ at.2)) (let Q : ElementPage → Type 0 = λ e. HoldsElements known.0.definitions (read_pages s d.held (930 + at.0)) e in
+                subst Q at.3 (known.2.bytes.elements at.0 at.1));
+          };
     } in
     subst (λ (z : State). IsOver tells z d) (sym is)
     (record { size = over.size; volume = over.volume; settled = over.settled; stands = over.stands; allowed = over.allowed; lawful = lawful })
@@ -88,7 +90,18 @@ found_dropped tells count s t u v w x space free idle calls dropped found same =
     let back : State = record t { batch = []; free = t.kept_free } in
     let pages : read_pages back w.held ≡ read_pages s v.held = λ i k. read_dropped tells s t v w calls idle.batch k i in
     subst (λ (z : State). IsFound tells z.pages (contents_over z w) x space free) (sym dropped)
-    (found.0, found.1, calls.pages ∙ sym same ∙ found.2, found.3, λ told. subst (λ (p : ℕ → List ℕ). HoldsLayout p found.0) (sym pages) (found.4 told))
+    (record {
+      kept = subst (λ (n : ℕ). AreKept x space free n) (sym (calls.pages ∙ sym same)) found.kept;
+      layout = λ told. let known = found.layout told in (
+        known.0,
+        known.1,
+        record { size = calls.pages ∙ sym same ∙ known.2.size; bytes = subst (λ (p : ℕ → List ℕ). HoldsLayout p known.0) (sym pages) known.2.bytes; rules = known.2.rules },
+      );
+    })
+
+-- what containers are charged can be counted
+pub counted_found : (tells : Bool) (count : ℕ) (c : Contents) (x : Definitions) (space : Directory) (free : List ℕ) → IsFound tells count c x space free → CanCount x space.lists
+counted_found tells count c x space free found = can_count x space free count found.kept
 
 -- a volume that was surveyed: its pages can be taken, and then its journal is settled
 module _ (tells : Bool) (s t : State) (v : Device) (x : Definitions) (space : Directory) (free : List ℕ) (idle : IsIdle tells s v) (found : IsFound tells s.pages (contents_over s v) x space free)
@@ -103,10 +116,11 @@ module _ (tells : Bool) (s t : State) (v : Device) (x : Definitions) (space : Di
   allowed = subst (λ (n : ℕ). AreAllowed n t.overlay) (sym (counted v.size t.pages over_admitted.size)) over_admitted.allowed
 
   -- the layout that was found is that of what the volume means
-  pub means_found : Lawful tells v → IsTrue tells → MeansCatalogue v.held (catalogue_of found.0)
+  pub means_found : Lawful tells v → (told : IsTrue tells) → MeansCatalogue v.held (catalogue_of (found.layout told).0)
   means_found lawful told =
-      means_layout v.size (read_pages s v.held) v.held found.0 idle.over.volume (lawful.size told) ((idle.over.stands told).rs, (idle.over.stands told).stands.records)
-      (λ k. inl (sym (read_closed s v.held idle.batch (idle.over.stands told) k))) (counted v.size s.pages idle.over.size ∙ found.2) (found.4 told) found.3
+      let known = found.layout told in
+      means_layout v.size (read_pages s v.held) v.held known.0 idle.over.volume (lawful.size told) ((idle.over.stands told).rs, (idle.over.stands told).stands.records)
+      (λ k. inl (sym (read_closed s v.held idle.batch (idle.over.stands told) k))) (counted v.size s.pages idle.over.size ∙ known.2.size) known.2.bytes known.2.rules
 
   -- the volume means the same at each moment
   pub settle_moments : Lawful tells v → (w : Device) → (IsTrue tells → LeavesOnly v w (SamePages v t.overlay)) → IsTrue tells → (cat : Catalogue) → MeansCatalogue v.held cat → LeavesOnly v w (StillMeans cat v)
@@ -114,44 +128,57 @@ module _ (tells : Bool) (s t : State) (v : Device) (x : Definitions) (space : Di
   settle_moments lawful w moments told cat means =
       leaves_map v w (SamePages v t.overlay) (StillMeans cat v) (λ image said now. (still_means v.size v.held t.overlay image cat (lawful.size told) allowed now.0 means, now.1)) (moments told)
 
-  module _ (u : State) (w : Device) (tables : Tables) (lawful : Lawful tells v) (slots : length space.lists ≡ 4096) (same : tables.definitions ≡ x) (over : IsOver tells u w) (settled : Settles t u)
+  module _ (u : State) (w : Device) (tables : Tables) (charges : List ℕ) (charged : AreCharges charges tables.definitions space) (lawful : Lawful tells v) (slots : length space.lists ≡ 4096) (same : tables.definitions ≡ x) (over : IsOver tells u w) (settled : Settles t u)
       (reads : IsTrue tells → ReadsButFreed v.size t.overlay (pages v.held) w.held) where
     abbrev pub engine : Kept
-    engine = record { store = u; tables = tables; space = space; spent = None }
+    engine = record { store = u; tables = tables; space = space; charges = charges; spent = None }
 
     none_left : u.batch ≡ []
     none_left = settled.batch ∙ none_open
 
-    holds : IsTrue tells → HoldsLayout (read_pages u w.held) found.0
+    holds : (told : IsTrue tells) → HoldsLayout (read_pages u w.held) (found.layout told).0
     unfolding over_admitted none_open none_left
     holds told =
         let here : read_pages t v.held ≡ pages v.held = λ i k. read_closed t v.held none_open (over_admitted.stands told) k i in
         let before : read_pages t v.held ≡ read_pages s v.held = ap (λ (z : State). read_pages z v.held) admit in
         let alike = read_committed tells told t u v w over_admitted none_left over (subst (λ (p : ℕ → List ℕ). ReadsButFreed v.size t.overlay p w.held) (sym here) (reads told)) in
-        holds_still (read_pages t v.held) (read_pages u w.held) found.0 alike (subst (λ (p : ℕ → List ℕ). HoldsLayout p found.0) (sym before) (found.4 told))
+        let known = found.layout told in
+        holds_still (read_pages t v.held) (read_pages u w.held) known.0 alike (subst (λ (p : ℕ → List ℕ). HoldsLayout p known.0) (sym before) known.2.bytes)
 
-    free_is : u.free ≡ free_pages found.0
-    free_is = settled.free ∙ ap (λ (z : State). z.free) admit ∙ found.1.free
+    free_is : u.free ≡ free
+    free_is = settled.free ∙ ap (λ (z : State). z.free) admit
 
-    kept : IsKeptOf engine found.0
-    unfolding free_is
-    kept = record {
-      definitions = same ∙ found.1.definitions;
-      size = settled.pages ∙ ap (λ (z : State). z.pages) admit ∙ found.2;
-      places = found.1.places;
-      listed = subst (λ (ns : List ℕ). All (λ number. element_page (number - 930) found.0.element_pages ≡ Free) ns) (sym free_is) (λ k d within.
-          let one = free_at 930 found.0.element_pages k d within in
-          subst (λ (n : ℕ). element_page n found.0.element_pages ≡ Free) (let e : one.0 ≡ get_or (free_pages found.0) k d - 930 = omega (arith, one.2) in e) one.3);
-      free = ap (λ (ns : List ℕ). length ns + used_of space) free_is ∙ free_counted found.0 space found.3.definitions.tables found.1.filled found.1.places slots;
-      rules = found.3;
-      filled = found.1.filled;
-    }
+    pages_are : u.pages ≡ s.pages
+    pages_are = settled.pages ∙ ap (λ (z : State). z.pages) admit
+
+    kept : (told : IsTrue tells) → IsKeptOf engine (found.layout told).0
+    kept told =
+        let known = found.layout told in
+        let l = known.0 in
+        let free_there : u.free ≡ free_pages l = free_is ∙ known.1.free in
+        record {
+          definitions = same ∙ known.1.definitions;
+          size = pages_are ∙ known.2.size;
+          places = known.1.places;
+          listed = subst (λ (ns : List ℕ). All (λ number. element_page (number - 930) l.element_pages ≡ Free) ns) (sym free_there) (λ k d within.
+              let one = free_at 930 l.element_pages k d within in
+              subst (λ (n : ℕ). element_page n l.element_pages ≡ Free) (let e : one.0 ≡ get_or (free_pages l) k d - 930 = omega (arith, one.2) in e) one.3);
+          free = ap (λ (ns : List ℕ). length ns + used_of space) free_there ∙ free_counted l space known.2.rules.definitions.tables known.1.filled known.1.places slots;
+          rules = known.2.rules;
+          filled = known.1.filled;
+        }
+
+    -- what is kept keeps its rules
+    rules : AreKept tables.definitions space u.free u.pages
+    rules = kept_alike x tables.definitions space space free u.free s.pages u.pages found.kept same refl free_is pages_are
 
     pub ready : IsReady tells engine w
-    unfolding none_left holds kept
+    unfolding none_left holds kept rules
     ready = record {
       idle = record { over = over; batch = none_left; kept_free = settled.kept_free ∙ ap (λ (z : State). z.kept_free) admit ∙ sym (settled.free ∙ ap (λ (z : State). z.free) admit) };
-      keeps = (found.0, kept, holds);
+      kept = rules;
+      layout = λ told. ((found.layout told).0, kept told, holds told);
+      charges = charged;
       unspent = refl;
     }
 
@@ -159,12 +186,12 @@ module _ (tells : Bool) (s t : State) (v : Device) (x : Definitions) (space : Di
     unfolding allowed means_found
     settled_opened keeps moments no_fault = record {
       ready = ready;
-      means = λ told. (catalogue_of found.0, means_found lawful told);
+      means = λ told. (catalogue_of (found.layout told).0, means_found lawful told);
       at = λ told cat means. record { ready = ready; means = still_means v.size v.held t.overlay w.held cat (lawful.size told) allowed (reads told) means };
       fault = tt;
       others = keeps;
       moments = settle_moments lawful w moments;
-      nothing = λ told none. absurd (none (catalogue_of found.0) (means_found lawful told));
+      nothing = λ told none. absurd (none (catalogue_of (found.layout told).0) (means_found lawful told));
       no_fault = no_fault;
     }
 

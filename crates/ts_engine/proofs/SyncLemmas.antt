@@ -3,7 +3,7 @@ use Rattle.std.proofs.Common.{◌≡◌, inl, inr, ⊎_elim, ℕ, ◌+◌, ◌�
 use Rattle.ts_disk.specs.Device.{Device, Lawful, Only, Synced, FirstSync, LeavesOnly}
 use Rattle.ts_disk.proofs.Moments.{started, calls_on, then_on, leaves_map}
 use Rattle.ts_journal.specs.Moment.{Keeps, OnlyReads}
-use Rattle.ts_journal.proofs.WriteLemmas.{keeps_then}
+use Rattle.ts_store.proofs.CallerLemmas.{keeps_then}
 use Rattle.ts_model.specs.Catalogue.{Catalogue}
 use Rattle.ts_container.specs.declared.fault.SurveyFault.{SurveyFault}
 use Rattle.ts_container.specs.declared.fault.SurveyFault.TheVariants.{NotAStore, Failed, Memory}

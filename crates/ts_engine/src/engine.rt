@@ -13,9 +13,10 @@ use std::marker::Model;
 use std::thread::Threads;
 use ts_base::Reply;
 use ts_command::Command;
-use ts_container::SurveyFault;
+use ts_container::{Charges, SurveyFault};
 use ts_disk::Volume;
 use ts_model::Defs;
+use ts_page::Page;
 use ts_space::Space;
 use ts_store::Store;
 
@@ -25,6 +26,9 @@ pub struct Engine {
     pub(crate) store: Store,
     pub(crate) defs: Defs,
     pub(crate) space: Space,
+    pub(crate) charges: Charges,
+    /// Room to read a page.
+    pub(crate) page: Page,
     pub(crate) spent: Option<u64>,
     pub(crate) alloc: Global,
 }
@@ -34,7 +38,7 @@ impl Model for Engine {
 
     ghost Value = { Kept };
 
-    ghost view = { λ e. record { store = e.store; tables = e.defs; space = e.space; spent = e.spent } };
+    ghost view = { λ e. record { store = e.store; tables = e.defs; space = e.space; charges = e.charges; spent = e.spent } };
 }
 
 impl Engine {

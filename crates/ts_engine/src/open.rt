@@ -10,9 +10,9 @@ ghost use Rattle.ts_engine.specs.Start.{Opened, ReadFault, read_as};
 
 use crate::engine::Engine;
 use std::alloc::Global;
-use ts_container::{SurveyFault, Surveyed, survey};
+use ts_container::{Charges, SurveyFault, Surveyed, survey};
 use ts_disk::Volume;
-use ts_page::PAGE;
+use ts_page::{PAGE, Page};
 use ts_recover::{RecoverFault, recover};
 use ts_store::{On, Store};
 
@@ -21,9 +21,10 @@ pub(crate) fn open<V: Volume>(alloc: Global, vol: &mut V) -> Result<Engine, Surv
     requires settled { Only (V.device vol.old).held (V.device vol.old).images }
     ensures opened { Opened V.tells result (V.device vol.old) (V.device vol.new) }
 {
+    let charges = Charges::new(alloc)?;
     let mut store = read_journal(alloc, vol)?;
     let surveyed = survey_over(alloc, &mut store, vol)?;
-    settle(alloc, store, surveyed, vol)
+    settle(alloc, store, surveyed, charges, vol)
 }
 
 // The store of a volume, none of whose pages can be taken yet.
@@ -93,6 +94,7 @@ fn settle<V: Volume>(
     alloc: Global,
     mut store: Store,
     surveyed: Surveyed,
+    mut charges: Charges,
     vol: &mut V,
 ) -> Result<Engine, SurveyFault>
     requires idle { IsIdle V.tells store (V.device vol.old) }
@@ -102,12 +104,15 @@ fn settle<V: Volume>(
     let Surveyed { defs, space, free } = surveyed;
     // A directory has a list for each slot.
     let _slots = space.places(0);
+    charges.count(&defs, &space);
     store.admit(free);
     match store.settle(vol) {
         Ok(()) => Ok(Engine {
             store,
             defs,
             space,
+            charges,
+            page: Page::zero(),
             spent: None,
             alloc,
         }),

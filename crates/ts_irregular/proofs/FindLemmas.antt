@@ -1,5 +1,5 @@
 -- A page that was judged before is read by its head.
-use Rattle.std.proofs.Common.{◌≡◌, ℕ, ℤ, ◌≤◌, Bool, Option, Some, None, Result, Ok, List, [], ◌∷◌, length, drop, inr, sym, ap, subst, ◌∙◌, arith}
+use Rattle.std.proofs.Common.{◌≡◌, ℕ, ℤ, ◌≤◌, Bool, IsTrue, Option, Some, None, Result, Ok, List, [], ◌∷◌, length, drop, inr, sym, ap, subst, ◌∙◌, arith}
 use Rattle.ts_space.specs.declared.place.Place.{Place}
 use Rattle.ts_page.specs.Head.{head_of}
 use Rattle.ts_page.specs.Pages.{Contents, IsElementPage, Got}
@@ -26,13 +26,19 @@ untold_on slot columns page place es none on =
     let clash : ◌≡◌ {A = Option (ℕ × ℕ)} None (Some (slot, length es)) = none ∙ ap told_in (head_told slot columns es page on.bytes) in
     cc
 
+-- what was read has the elements that the pages have where its places tell of them
+pub read_on : (tells : Bool) (slot : ℕ) (columns : List Column) (places : List Place) (place : Place) (bytes : List ℕ) (v w : Contents) → places ≡ place ∷ [] → IsElementPage place.page → Got tells place.page bytes (Ok tt) v w
+    → IsTrue tells → (es : List Element) → AreOn slot columns v.page places es → IsOn slot columns bytes place es
+read_on tells slot columns places place bytes v w one element got t es on =
+    let here : IsOn slot columns (v.page place.page) place es = subst (λ (l : List Place). AreOn slot columns v.page l es) one on in
+    let page : bytes ≡ v.page place.page = got.read t (inr (omega (arith, element))) in
+    subst (λ (b : List ℕ). IsOn slot columns b place es) (sym page) here
+
 -- the row that is found by the head is the one among those elements
 pub row_there : (tells : Bool) (slot count : ℕ) (columns : List Column) (stamp : ℤ) (places : List Place) (place : Place) (bytes : List ℕ) (row : Option Values) (v w : Contents) → places ≡ place ∷ [] → IsElementPage place.page → Got tells place.page bytes (Ok tt) v w
     → ((es : List Element) → IsOn slot columns bytes place es → length es ≡ count)
     → ((es : List Element) → AreInOrder columns es → length es ≡ count → drop 32 bytes ≡ behind_head columns es → row ≡ element_at stamp es)
     → IsRowThere tells slot columns stamp places v row
-row_there tells slot count columns stamp places place bytes row v w one element got told found = λ yes es on.
-    let here : IsOn slot columns (v.page place.page) place es = subst (λ (l : List Place). AreOn slot columns v.page l es) one on in
-    let page : bytes ≡ v.page place.page = got.read yes (inr (omega (arith, element))) in
-    let read : IsOn slot columns bytes place es = subst (λ (b : List ℕ). IsOn slot columns b place es) (sym page) here in
+row_there tells slot count columns stamp places place bytes row v w one element got told found = λ t es on.
+    let read = read_on tells slot columns places place bytes v w one element got t es on in
     found es read.bytes.fill.elements (told es read) (behind_told slot columns es bytes read.bytes)

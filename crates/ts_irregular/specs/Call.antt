@@ -1,5 +1,5 @@
 -- What the calls do to pages and places.
-use Rattle.std.specs.Prelude.{◌≡◌, ◌⊎◌, ℕ, ◌≤◌, ℤ, Bool, true, false, IsTrue, Option, Some, None, Result, List, [], ◌∷◌, length}
+use Rattle.std.specs.Prelude.{◌≡◌, ◌⊎◌, ℕ, ◌≤◌, ℤ, Bool, true, false, IsTrue, Option, Some, None, IsSome, Result, List, [], ◌∷◌, length}
 use Rattle.ts_base.specs.declared.fault.StoreFault.{StoreFault}
 use Rattle.ts_space.specs.declared.place.Place.{Place}
 use Rattle.ts_space.specs.Directory.{Directory}
@@ -92,6 +92,23 @@ pub record IsThereAlready (tells : Bool) (slot : ℕ) (columns : List Column) (s
 abbrev pub IsInserted : Bool → ℕ → List Column → ℤ → Values → List Place → List Place → Contents → Contents → Bool → Type 0
 IsInserted tells slot columns stamp row old new v w true = IsPutNew tells slot columns stamp row old new v w
 IsInserted tells slot columns stamp row old new v w false = IsThereAlready tells slot columns stamp old new v w
+
+-- among the elements that are seen one is at the stamp, and the row is put in its place
+pub record IsPutOver (tells : Bool) (slot : ℕ) (columns : List Column) (stamp : ℤ) (row : Values) (old new : List Place) (v w : Contents) : Type 0 where
+  pub edited : IsEdited tells slot columns stamp (Some row) old new v w
+  pub there : IsSome (element_at stamp edited.elements)
+
+-- among the elements that are seen none is at the stamp, and everything stays
+pub record IsMissing (tells : Bool) (slot : ℕ) (columns : List Column) (stamp : ℤ) (old new : List Place) (v w : Contents) : Type 0 where
+  pub found : IsFound tells slot columns stamp old v None
+  pub places : new ≡ old
+  pub free : w.free ≡ v.free
+  pub pages : IsTrue tells → EqualPages v.page w.page
+
+-- a row is put in place of one, or none is there
+abbrev pub IsReplaced : Bool → ℕ → List Column → ℤ → Values → List Place → List Place → Contents → Contents → Bool → Type 0
+IsReplaced tells slot columns stamp row old new v w true = IsPutOver tells slot columns stamp row old new v w
+IsReplaced tells slot columns stamp row old new v w false = IsMissing tells slot columns stamp old new v w
 
 -- an edit that fails leaves the pages and all places; one page may be taken
 pub record IsNotEdited (tells : Bool) (old new : Directory) (v w : Contents) : Type 0 where

@@ -16,9 +16,10 @@ use ts_row::{Row, RowType, Shelf};
 use ts_space::{Place, Space};
 
 /// The row of the element at a stamp of a series that has no page or one. The page isn't judged again: its head is compared with
-/// its place, and the stamp is searched. All pages stay.
+/// its place, and the stamp is searched. All pages stay; `page` is room to read one.
 pub fn irregular_find<P: Pages>(
     pages: &mut P,
+    page: &mut Page,
     space: &Space,
     shelf: &Shelf,
     stamp: Stamp,
@@ -34,14 +35,13 @@ pub fn irregular_find<P: Pages>(
     let Some(place) = space.places(shelf.series).first() else {
         return Ok(None);
     };
-    let mut page = Page::zero();
-    pages.get(place.page, &mut page)?;
-    let count = count_told(shelf, place, &page);
+    pages.get(place.page, page)?;
+    let count = count_told(shelf, place, page);
     Ok(row_at(shelf.kind, &page.bytes[HEAD..], count, stamp)?)
 }
 
-// How many elements of the series a page has by its head; none where that disagrees with its place.
-fn count_told(shelf: &Shelf, place: &Place, page: &Page) -> usize
+/// How many elements of the series a page has by its head; none where that disagrees with its place.
+pub(crate) fn count_told(shelf: &Shelf, place: &Place, page: &Page) -> usize
     ensures told { (es : List Element) → IsOn shelf.now.series shelf.now.kind.now.columns page.now.bytes place.now es → length es ≡ result }
     ensures room { result ≤ page_room shelf.now.kind.now.columns }
 {

@@ -8,10 +8,10 @@ ghost use Rattle.ts_irregular.specs.OnePage.{IsReadable};
 ghost use Rattle.ts_irregular.specs.Edit.{last_of};
 ghost use Rattle.ts_irregular.specs.Call.{Reads, IsLast};
 
+use crate::find::count_told;
 use crate::get::row_at;
 use crate::page::HEAD;
 use crate::search::units_at;
-use crate::see::see;
 use std::alloc::AllocError;
 use ts_base::{Stamp, StoreFault};
 use ts_cells::cell_size;
@@ -19,9 +19,11 @@ use ts_page::{Page, Pages};
 use ts_row::{Row, RowType, Shelf};
 use ts_space::Space;
 
-/// The last element of a series that has no page or one. All pages stay.
+/// The last element of a series that has no page or one. The page isn't judged again: its head is compared with its place. All
+/// pages stay; `page` is room to read one.
 pub fn irregular_last<P: Pages>(
     pages: &mut P,
+    page: &mut Page,
     space: &Space,
     shelf: &Shelf,
 ) -> Result<Option<(Stamp, Row)>, StoreFault>
@@ -35,9 +37,8 @@ pub fn irregular_last<P: Pages>(
     let Some(place) = space.places(shelf.series).first() else {
         return Ok(None);
     };
-    let mut page = Page::zero();
-    pages.get(place.page, &mut page)?;
-    let count = see(shelf, place, &mut page);
+    pages.get(place.page, page)?;
+    let count = count_told(shelf, place, page);
     Ok(last_among(shelf.kind, &page.bytes[HEAD..], count)?)
 }
 

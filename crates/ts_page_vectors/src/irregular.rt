@@ -127,7 +127,13 @@ impl Series {
             series: SLOT,
             kind: &self.kind,
         };
-        match irregular_find(&mut self.pages, &self.space, &shelf, stamp)? {
+        match irregular_find(
+            &mut self.pages,
+            &mut Page::zero(),
+            &self.space,
+            &shelf,
+            stamp,
+        )? {
             Some(row) => Ok(Some(integer_of(&row)?)),
             None => Ok(None),
         }

@@ -61,10 +61,11 @@ module _ (tells : Bool) (e : Kept) (v w : Device) (size : w.size ≡ v.size) (he
   pub ready_same : IsReady tells e v → IsReady tells e w
   ready_same ready =
       let idle = ready.idle in
-      let layout = ready.keeps in
       record {
         idle = record { over = over_same idle.over; batch = idle.batch; kept_free = idle.kept_free };
-        keeps = (layout.0, layout.1, λ told. subst (λ (l : List ℕ). HoldsLayout (read_pages e.store l) layout.0) (sym held) (layout.2 told));
+        kept = ready.kept;
+        layout = λ told. let layout = ready.layout told in (layout.0, layout.1, subst (λ (l : List ℕ). HoldsLayout (read_pages e.store l) layout.0) (sym held) layout.2);
+        charges = ready.charges;
         unspent = ready.unspent;
       }
 

@@ -9,8 +9,7 @@ use Rattle.ts_disk.proofs.Replays.{Torn-overwritten}
 use Rattle.ts_journal.specs.Journal.{page_count, records, pages}
 use Rattle.ts_model.specs.Catalogue.{empty_catalogue}
 use Rattle.ts_layout.specs.Slot.{header_bytes}
-use Rattle.ts_layout.proofs.FieldLemmas.{length-padded}
-use Rattle.ts_layout.proofs.LayoutLemmas.{same_catalogue}
+use Rattle.ts_layout.proofs.CallerLemmas.{length-padded, same_catalogue}
 use Rattle.ts_shell.specs.Making.{IsEmptyOrNone, EmptyFrom}
 use Rattle.ts_shell.proofs.NewLemmas.{page_at, IsNew, no_journal, pages_own, new_means}
 

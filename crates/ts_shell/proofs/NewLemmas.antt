@@ -8,7 +8,7 @@ use Rattle.ts_page.specs.Head.{bytes_at, zero_page}
 use Rattle.ts_journal.specs.Gate.{is_open}
 use Rattle.ts_journal.specs.Entry.{is_region}
 use Rattle.ts_journal.specs.Journal.{region, records, own_page, pages, put_records}
-use Rattle.ts_journal.proofs.ImageLemmas.{gate_part, same_gate, records_closed}
+use Rattle.ts_journal.proofs.CallerLemmas.{gate_part, same_gate, records_closed}
 use Rattle.ts_model.specs.declared.kind.Kind.{Kind}
 use Rattle.ts_model.specs.declared.kind.Kind.TheVariants as kinds
 use Rattle.ts_model.specs.declared.def.Def.{Def}
@@ -17,7 +17,7 @@ use Rattle.ts_model.specs.Catalogue.{empty_catalogue}
 use Rattle.ts_layout.specs.Limits.{IsSlotOf}
 use Rattle.ts_layout.specs.Slot.{header_bytes, slot_size, slot_bytes, page_of_slot, byte_of_slot, slots_in_page, bytes_of_slots}
 use Rattle.ts_layout.specs.Meaning.{Free, Cells, Layout, def_at, HoldsDefinitions, HoldsElements, IsSound, container_of, series_of, catalogue_of, sum_of_quotas}
-use Rattle.ts_layout.proofs.PlaceLemmas.{page_low, page_high, slot_end, fits_page}
+use Rattle.ts_layout.proofs.CallerLemmas.{page_low, page_high, slot_end, fits_page}
 use Rattle.ts_engine.specs.Volume.{MeansCatalogue}
 
 -- page number n as it stands in its place

@@ -1,4 +1,4 @@
-use Rattle.std.proofs.Common.{◌≡◌, Ok, List, ap, ◌∙◌, sym, subst}
+use Rattle.std.proofs.Common.{Ok, List, ap, ◌∙◌, sym, subst}
 use Rattle.ts_row.specs.declared.kind.Column.{Column}
 use Rattle.ts_layout.specs.Meaning.{catalogue_of}
 use Rattle.ts_answer.specs.Answer.{Tried, Answered, a_row}

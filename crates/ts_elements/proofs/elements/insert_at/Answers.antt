@@ -1,35 +1,38 @@
-use Rattle.std.proofs.Common.{◌≤◌, Bool, Option, Vec, Global, length, sym, ◌∙◌, subst}
+use Rattle.std.proofs.Common.{Bool, Option, Vec, Global, sym, ◌∙◌, subst}
 use Rattle.ts_base.specs.declared.refusal.Refusal.TheVariants.{Duplicate}
 use Rattle.ts_command.specs.declared.command.Command.TheVariants.{InsElem}
 use Rattle.ts_space.specs.declared.place.Place.{Place}
 use Rattle.ts_space.specs.Directory.{places_of}
 use Rattle.ts_irregular.proofs.KeptLemmas.{one_readable}
-use Rattle.ts_layout.proofs.SeriesLemmas.{few}
 use Rattle.ts_answer.specs.Reply.{stamp_line}
 use Rattle.ts_answer.specs.View.{view}
-use Rattle.ts_elements.specs.Elements.{IsThere, IsPutOrThere}
+use Rattle.ts_elements.specs.Elements.{IsCharged, IsThere, IsPutOrThere}
 use Rattle.ts_answer.proofs.CallerLemmas.{said_line}
-use Rattle.ts_elements.proofs.SeenLemmas.{finds_there}
-use Rattle.ts_elements.proofs.PutLemmas.{room_there, page_there, refused_taken, refused_full, insert_carried, there_carried, looked_carried}
+use Rattle.ts_elements.proofs.MemoryLemmas.{few_kept, room_kept, page_kept}
+use Rattle.ts_elements.proofs.LastLemmas.{told_there}
+use Rattle.ts_elements.proofs.PutLemmas.{refused_taken, refused_full, insert_carried, there_carried, looked_carried}
 use Rattle.ts_elements.proofs.elements.insert_at.Goals as goal
 
 pub room_for-requires-clause-few : goal.room_for-requires-clause-few
-room_for-requires-clause-few g c slot within =
-    let kept = c.requires.seen.1.kept in
-    few c.requires.seen.0 c.args.space.now slot kept.rules.one_page kept.places within
+room_for-requires-clause-few g c = c.requires.seen.kept.placed.few
 
-pub irregular_get-requires-clause-one : goal.irregular_get-requires-clause-one
-irregular_get-requires-clause-one g c = one_readable c.args.shelf.now.kind.now.columns (g.P.Pages.contents c.args.pages.now) (places_of c.args.shelf.now.series c.args.space.now) c.requires.one
+pub room_for-requires-clause-charged : goal.room_for-requires-clause-charged
+unfolding IsCharged
+room_for-requires-clause-charged g c =
+    let x = view c.args.defs.now.definitions c.args.space.now (g.P.Pages.contents c.args.pages.now) in (c.requires.charged, few_kept x c.requires.seen.kept)
+
+pub irregular_find-requires-clause-one : goal.irregular_find-requires-clause-one
+irregular_find-requires-clause-one g c = one_readable c.args.shelf.now.kind.now.columns (g.P.Pages.contents c.args.pages.now) (places_of c.args.shelf.now.series c.args.space.now) c.requires.one
 
 pub put-requires-clause-room : goal.put-requires-clause-room
 put-requires-clause-room g c =
     let x = view c.args.defs.now.definitions c.args.space.now (g.P.Pages.contents c.args.pages.now) in
-    room_there x c.requires.seen.0 c.requires.seen.1.kept c.args.shelf.now.series c.requires.slot c.args.shelf.now.kind.now c.requires.columns c.in-Ok.ensures.room
+    room_kept x c.requires.seen.kept c.args.shelf.now.series c.requires.slot c.args.shelf.now.kind.now c.requires.columns c.in-Ok.ensures.room
 
 pub put-requires-clause-spare : goal.put-requires-clause-spare
 put-requires-clause-spare g c =
     let x = view c.args.defs.now.definitions c.args.space.now (g.P.Pages.contents c.args.pages.now) in
-    page_there x c.requires.seen.0 c.requires.seen.1.kept c.args.shelf.now.series c.requires.slot c.args.shelf.now.kind.now c.requires.columns c.in-Ok.ensures.room c.in-Ok.ensures.slots
+    page_kept x c.requires.seen.kept c.args.shelf.now.series c.requires.slot c.args.shelf.now.kind.now c.requires.columns c.in-Ok.ensures.room
 
 pub returns-in-Some-clause-carried : goal.returns-in-Some-clause-carried
 returns-in-Some-clause-carried g c key literals has =
@@ -48,16 +51,16 @@ pub returns-then-is_some-clause-carried : goal.returns-then-is_some-clause-carri
 returns-then-is_some-clause-carried g c key literals has =
     let tells = g.P.Pages.tells in
     let x = view c.args.defs.now.definitions c.args.space.now (g.P.Pages.contents c.args.pages.now) in
-    let found = finds_there tells x c.args.shelf.now.series c.args.stamp c.args.shelf.now.kind.now c.in_ok-irregular_get-in-Err.field-0 c.requires.columns c.requires.slot c.in_ok-irregular_get-in-Err.ensures.found in
+    let found = told_there tells x c.args.shelf.now.series c.args.stamp c.args.shelf.now.kind.now c.in_ok-irregular_find-in-Err.field-0 c.requires.columns c.requires.slot c.in_ok-irregular_find-in-Err.ensures.found in
     let there = subst (λ (b : Bool). IsThere tells c.args.shelf.now.series c.args.stamp b x) (sym c.is_some.ensures ∙ c.if-is_some.true) found in
-    looked_carried tells (InsElem key c.args.stamp literals) x (g.P.Pages.contents c.irregular_get.new.pages) c.in_ok-irregular_get-in-Err.field-0 c.in_ok-irregular_get-in-Err.ensures.call Duplicate
+    looked_carried tells (InsElem key c.args.stamp literals) x (g.P.Pages.contents c.irregular_find.new.pages) c.in_ok-irregular_find-in-Err.field-0 c.in_ok-irregular_find-in-Err.ensures.call Duplicate
     (refused_taken tells key literals c.args.shelf.now.series c.args.stamp c.args.shelf.now.kind.now c.args.row.now x has there) c.args.out.now
 
 pub returns-else-is_some-clause-carried : goal.returns-else-is_some-clause-carried
 returns-else-is_some-clause-carried g c key literals has =
     let tells = g.P.Pages.tells in
     let x = view c.args.defs.now.definitions c.args.space.now (g.P.Pages.contents c.args.pages.now) in
-    let found = finds_there tells x c.args.shelf.now.series c.args.stamp c.args.shelf.now.kind.now c.in_ok-irregular_get-in-Err.field-0 c.requires.columns c.requires.slot c.in_ok-irregular_get-in-Err.ensures.found in
+    let found = told_there tells x c.args.shelf.now.series c.args.stamp c.args.shelf.now.kind.now c.in_ok-irregular_find-in-Err.field-0 c.requires.columns c.requires.slot c.in_ok-irregular_find-in-Err.ensures.found in
     let absent = subst (λ (b : Bool). IsThere tells c.args.shelf.now.series c.args.stamp b x) (sym c.is_some.ensures ∙ c.if-is_some.false) found in
-    looked_carried tells (InsElem key c.args.stamp literals) x (g.P.Pages.contents c.irregular_get.new.pages) c.in_ok-irregular_get-in-Err.field-0 c.in_ok-irregular_get-in-Err.ensures.call c.in-Err.refusal
+    looked_carried tells (InsElem key c.args.stamp literals) x (g.P.Pages.contents c.irregular_find.new.pages) c.in_ok-irregular_find-in-Err.field-0 c.in_ok-irregular_find-in-Err.ensures.call c.in-Err.refusal
     (refused_full tells key literals c.args.shelf.now.series c.args.stamp c.args.shelf.now.kind.now c.args.row.now x has c.in-Err.refusal absent c.in-Err.ensures.none) c.args.out.now

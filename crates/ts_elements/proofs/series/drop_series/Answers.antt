@@ -4,7 +4,8 @@ use Rattle.ts_answer.specs.Answer.{outcome, carried_out, drop_series}
 use Rattle.ts_answer.specs.Reply.{ok_line}
 use Rattle.ts_answer.specs.View.{view}
 use Rattle.ts_answer.proofs.CallerLemmas.{stopped_first, tried_stopped, defined_by, refused_as, said_line}
-use Rattle.ts_elements.proofs.SeriesDropLemmas.{can_free, series_dropped}
+use Rattle.ts_elements.proofs.MemoryLemmas.{can_free}
+use Rattle.ts_elements.proofs.SeriesDropLemmas.{series_dropped}
 use Rattle.ts_elements.proofs.series.drop_series.Goals as goal
 
 pub returns-in_err-slot-clause-carried : goal.returns-in_err-slot-clause-carried
@@ -18,7 +19,7 @@ returns-in_err-slot-clause-carried g c =
 
 pub free_page-requires-clause-can : goal.free_page-requires-clause-can
 free_page-requires-clause-can g c =
-    can_free g.P.Pages.tells (view c.args.defs.now.definitions c.args.space.now (g.P.Pages.contents c.args.pages.now)) c.in_ok-slot.slot c.requires.seen c.in_ok-slot.ensures.found.within
+    can_free (view c.args.defs.now.definitions c.args.space.now (g.P.Pages.contents c.args.pages.now)) c.requires.seen.kept c.in_ok-slot.slot c.in_ok-slot.ensures.found.within
 
 pub returns-clause-carried : goal.returns-clause-carried
 returns-clause-carried g c =

@@ -1,20 +1,20 @@
-use Rattle.std.proofs.Common.{refl, sym}
+use Rattle.std.proofs.Common.{sym}
 use Rattle.ts_space.specs.Directory.{places_of}
 use Rattle.ts_irregular.proofs.KeptLemmas.{one_readable}
 use Rattle.ts_answer.specs.View.{view}
 use Rattle.ts_answer.proofs.CallerLemmas.{defined_by, fails}
-use Rattle.ts_elements.proofs.SeenLemmas.{limits_seen, rules_seen, not_some, defined_named, has_one_page, shelf_tried}
+use Rattle.ts_elements.proofs.MemoryLemmas.{defined_kept, one_page_kept}
+use Rattle.ts_elements.proofs.SeenLemmas.{not_some, shelf_tried}
 use Rattle.ts_elements.proofs.shelf.shelf_of.Goals as goal
 
 pub row_type_of-requires : goal.row_type_of-requires
 row_type_of-requires g c =
-    let x = view c.args.defs.now.definitions c.args._space.now (g.P.Pages.contents c.args._pages.now) in
-    record { limits = limits_seen x c.requires.seen.0 c.requires.seen.1.kept; rules = rules_seen x c.requires.seen.0 c.requires.seen.1.kept }
+    record { limits = c.requires.seen.kept.sound.limits; rules = c.requires.seen.kept.sound.tables }
 
 pub unreachable-requires : goal.unreachable-requires
 unreachable-requires g c =
     let x = view c.args.defs.now.definitions c.args._space.now (g.P.Pages.contents c.args._pages.now) in
-    not_some _ c.in_default.ensures.value (defined_named x c.requires.seen.0 c.requires.seen.1.kept c.in_ok-slot.slot c.args.key.now c.in_ok-slot.ensures.found)
+    not_some _ c.in_default.ensures.value (defined_kept x c.requires.seen.kept c.in_ok-slot.slot c.in_ok-slot.ensures.found.within c.args.key.now c.in_ok-slot.ensures.found)
 
 pub returns-in_err-slot-clause-tried : goal.returns-in_err-slot-clause-tried
 returns-in_err-slot-clause-tried g c l kept = fails c.in_err-slot.field-0.0 c.from_residual.ensures.1 (c.in_err-slot.ensures.tried _ l (defined_by kept))
@@ -27,9 +27,9 @@ returns-clause-tried g c l kept =
 pub returns-clause-one : goal.returns-clause-one
 returns-clause-one g c =
     let x = view c.args.defs.now.definitions c.args._space.now (g.P.Pages.contents c.args._pages.now) in
-    has_one_page x c.requires.seen.0 c.requires.seen.1.kept c.in_ok-slot.slot c.in-Some.kind.now (sym c.in-Some.ensures.value) c.in_ok-slot.ensures.found.within
+    one_page_kept x c.requires.seen.kept c.in_ok-slot.slot c.in_ok-slot.ensures.found.within c.in-Some.kind.now (sym c.in-Some.ensures.value)
 
 pub returns-clause-readable : goal.returns-clause-readable
 returns-clause-readable g c =
     let x = view c.args.defs.now.definitions c.args._space.now (g.P.Pages.contents c.args._pages.now) in
-    one_readable c.in-Some.kind.now.columns x.pages (places_of c.in_ok-slot.slot x.space) (has_one_page x c.requires.seen.0 c.requires.seen.1.kept c.in_ok-slot.slot c.in-Some.kind.now (sym c.in-Some.ensures.value) c.in_ok-slot.ensures.found.within)
+    one_readable c.in-Some.kind.now.columns x.pages (places_of c.in_ok-slot.slot x.space) (one_page_kept x c.requires.seen.kept c.in_ok-slot.slot c.in_ok-slot.ensures.found.within c.in-Some.kind.now (sym c.in-Some.ensures.value))

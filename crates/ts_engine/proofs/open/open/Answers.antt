@@ -1,7 +1,17 @@
-use Rattle.std.proofs.Common.{◌∙◌}
-use Rattle.ts_recover.proofs.ReadLemmas.{reads_then}
+use Rattle.std.proofs.Common.{refl, ◌∙◌}
+use Rattle.ts_store.proofs.CallerLemmas.{reads_none, reads_then}
+use Rattle.ts_container.specs.declared.fault.SurveyFault.TheVariants.{Memory}
 use Rattle.ts_engine.proofs.OpenLemmas.{refused, opened_after, fault_after, opened_err}
 use Rattle.ts_engine.proofs.open.open.Goals as goal
+
+pub returns-in_err-charges : goal.returns-in_err-charges
+returns-in_err-charges g c =
+    let tells = g.V.Volume.tells in
+    let v = g.V.Volume.device c.args.vol.now in
+    record {
+      opened = opened_err tells c.from_residual.result (Memory c.in_err-charges.field-0.0) v v c.from_residual.ensures.1
+          (refused tells (Memory c.in_err-charges.field-0.0) v v c.requires.settled (reads_none tells v (g.met.V.Volume.lawful c.args.vol.now)) refl);
+    }
 
 pub returns-in_err-store : goal.returns-in_err-store
 returns-in_err-store g c =
@@ -9,7 +19,7 @@ returns-in_err-store g c =
     let v = g.V.Volume.device c.args.vol.now in
     let w = g.V.Volume.device c.read_journal.new.vol in
     record {
-      opened = opened_err tells c.from_residual.result c.in_err-store.field-0.0 v w c.from_residual.ensures.1
+      opened = opened_err tells c.from_residual-in_err-store.result c.in_err-store.field-0.0 v w c.from_residual-in_err-store.ensures.1
           (refused tells c.in_err-store.field-0.0 v w c.requires.settled c.read_journal.ensures.others c.in_err-store.ensures.fault);
     }
 

@@ -1,6 +1,7 @@
 use Rattle.std.proofs.Common.{refl}
+use Rattle.ts_store.specs.OpenBatch.{contents_over}
 use Rattle.ts_layout.specs.Meaning.{catalogue_of}
-use Rattle.ts_engine.proofs.OpenLemmas.{admitted, means_found, settle_moments, settled_opened, unsettled}
+use Rattle.ts_engine.proofs.OpenLemmas.{admitted, means_found, settle_moments, counted_found, settled_opened, unsettled}
 use Rattle.ts_engine.proofs.open.settle.Goals as goal
 
 pub settle-requires-clause-over : goal.settle-requires-clause-over
@@ -15,7 +16,7 @@ returns-in-Ok g c =
     let w = g.V.Volume.device c.settle.new.vol in
     record {
       opened = settled_opened tells c.args.store c.admit.new.self v c.args.surveyed.defs.definitions c.args.surveyed.space c.args.surveyed.free.items c.requires.idle c.requires.found c.admit.ensures
-          c.settle.new.self w c.args.surveyed.defs (g.met.V.Volume.lawful c.args.vol.now) c.places-slots.ensures.slots refl c.in-Ok.ensures.over c.in-Ok.ensures.settled c.in-Ok.ensures.ok c.settle.ensures.others c.settle.ensures.moments (c.in-Ok.ensures.no_fault refl);
+          c.settle.new.self w c.args.surveyed.defs c.count.new.self c.count.ensures (g.met.V.Volume.lawful c.args.vol.now) c.places-slots.ensures.slots refl c.in-Ok.ensures.over c.in-Ok.ensures.settled c.in-Ok.ensures.ok c.settle.ensures.others c.settle.ensures.moments (c.in-Ok.ensures.no_fault refl);
     }
 
 pub returns-in-Err : goal.returns-in-Err
@@ -28,7 +29,16 @@ returns-in-Err g c =
           (settle_moments tells c.args.store c.admit.new.self v c.args.surveyed.defs.definitions c.args.surveyed.space c.args.surveyed.free.items c.requires.idle c.requires.found c.admit.ensures
           (g.met.V.Volume.lawful c.args.vol.now) w c.settle.ensures.moments)
           (λ told. (
-            catalogue_of c.requires.found.0,
+            catalogue_of (c.requires.found.layout told).0,
             means_found tells c.args.store c.admit.new.self v c.args.surveyed.defs.definitions c.args.surveyed.space c.args.surveyed.free.items c.requires.idle c.requires.found c.admit.ensures (g.met.V.Volume.lawful c.args.vol.now) told,
           ));
     }
+
+pub count-requires-clause-limits : goal.count-requires-clause-limits
+count-requires-clause-limits g c = (counted_found g.V.Volume.tells c.args.store.pages (contents_over c.args.store (g.V.Volume.device c.args.vol.now)) c.args.surveyed.defs.definitions c.args.surveyed.space c.args.surveyed.free.items c.requires.found).limits
+
+pub count-requires-clause-rules : goal.count-requires-clause-rules
+count-requires-clause-rules g c = (counted_found g.V.Volume.tells c.args.store.pages (contents_over c.args.store (g.V.Volume.device c.args.vol.now)) c.args.surveyed.defs.definitions c.args.surveyed.space c.args.surveyed.free.items c.requires.found).rules
+
+pub count-requires-clause-few : goal.count-requires-clause-few
+count-requires-clause-few g c = (counted_found g.V.Volume.tells c.args.store.pages (contents_over c.args.store (g.V.Volume.device c.args.vol.now)) c.args.surveyed.defs.definitions c.args.surveyed.space c.args.surveyed.free.items c.requires.found).few

@@ -1,8 +1,8 @@
-use Rattle.std.proofs.Common.{List, ap, ◌∙◌}
+use Rattle.std.proofs.Common.{List, ap, ◌∙◌, arith}
 use Rattle.std.specs.List.{slice_get}
 use Rattle.ts_space.specs.declared.place.Place.{Place}
 use Rattle.ts_irregular.proofs.KeptLemmas.{readable_place}
-use Rattle.ts_irregular.proofs.HeadLemmas.{all_behind}
+use Rattle.ts_irregular.proofs.HeadLemmas.{part_behind, length-page}
 use Rattle.ts_irregular.proofs.FindLemmas.{row_there}
 use Rattle.ts_irregular.proofs.find.irregular_find.Goals as goal
 
@@ -12,4 +12,4 @@ returns-clause-found g c =
     let one = readable_place v _ c.in-Some.place.now (c.in-Some.ensures.value ∙ ap (λ (l : List Place). slice_get l 0) c.places.ensures.ok) c.requires.one in
     row_there g.P.Pages.tells c.args.shelf.now.series c.count_told-count.result c.args.shelf.now.kind.now.columns c.args.stamp _ c.in-Some.place.now c.get.new.into.bytes c.in_ok-row_at.field-0 v (g.P.Pages.contents c.get.new.self)
     one.0 one.1 c.in_ok-get.ensures.got c.count_told-count.ensures.told
-    (λ es order count behind. c.in_ok-row_at.ensures.found es order count (all_behind c.get.new.into.bytes ∙ behind))
+    (λ es order count behind. c.in_ok-row_at.ensures.found es order count (part_behind 4064 c.get.new.into.bytes (length-page c.args.shelf.now.kind.now.columns es c.get.new.into.bytes order.each (omega (arith, count, c.count_told-count.ensures.room)) behind) ∙ behind))

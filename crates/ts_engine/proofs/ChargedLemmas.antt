@@ -1,0 +1,112 @@
+-- What containers are charged, by definitions and places that are the same, or of which one series changes.
+use Rattle.std.proofs.Common.{◌≡◌, ◌≢◌, ℕ, suc, ◌+◌, ◌<◌, ◌≤◌, ◌^◌, ◌==◌, if◌then◌else◌, Option, Some, None, List, [], ◌∷◌, length, set, get_or, slice_index_or, get_or-set_same, get_or-set_other, length-set, inl, inr, Vec, Global, refl, sym, ap, ◌∙◌, subst, arith}
+use Rattle.std.specs.Option.{option_map, unwrap_or}
+use Rattle.std.proofs.lemmas.Bool.{cases_eq, cases_lt}
+use Rattle.std.proofs.lemmas.List.{get_or_past}
+use Rattle.ts_row.specs.RowType.{Heading}
+use Rattle.ts_space.specs.declared.place.Place.{Place}
+use Rattle.ts_space.specs.Directory.{Directory, places_of}
+use Rattle.ts_space.specs.Charge.{irregular_places_charge}
+use Rattle.ts_cells.specs.Cell.{page_room}
+use Rattle.ts_model.specs.declared.kind.Kind.TheVariants as kinds
+use Rattle.ts_model.specs.declared.def.Def.TheVariants as defs
+use Rattle.ts_model.specs.Definitions.{Definitions, SeriesDef, at_slot, of_series}
+use Rattle.ts_layout.specs.Meaning.{def_at, KeepLimits, heading_in}
+use Rattle.ts_layout.specs.Charges.{charges_listed, container_charge}
+use Rattle.ts_layout.specs.OnePage.{charge_in}
+use Rattle.ts_layout.specs.Placed.{AreKept}
+use Rattle.ts_layout.proofs.CallerLemmas.{at_slot-map}
+use Rattle.ts_container.specs.KeptCharges.{AreCharges}
+use Rattle.ts_container.proofs.RoomLemmas.{room_in}
+use Rattle.ts_answer.specs.declared.effect.Effect.{Effect}
+use Rattle.ts_answer.specs.declared.effect.Effect.TheVariants.{Places}
+use Rattle.ts_answer.specs.CarriedOut.{definitions_after, lists_after}
+use Rattle.ts_elements.specs.Elements.{AreFew}
+use Rattle.ts_engine.specs.Charged.{CanCount, IsContainerOf}
+use Rattle.ts_engine.specs.Engine.{Kept}
+use Rattle.ts_engine.specs.Ended.{CanCharge}
+
+-- directories with the same places
+module _ (space space' : Directory) (same : (t : ℕ) → places_of t space' ≡ places_of t space) where
+  listed_alike : (container room first : ℕ) (table : List (Option SeriesDef)) → charges_listed space' container room first table ≡ charges_listed space container room first table
+  listed_alike container room first [] = refl
+  listed_alike container room first (None ∷ table) = ap (λ (n : ℕ). 0 + n) (listed_alike container room (suc first) table)
+  listed_alike container room first (Some s ∷ table) =
+      let rest = listed_alike container room (suc first) table in
+      λ i. (if s.container == container then irregular_places_charge room (same first i) else 0) + rest i
+
+  alike_in : (d : Definitions) (k : ℕ) (o : Option Heading) → unwrap_or (option_map (λ h. container_charge d space' k (page_room h.columns)) o) 0 ≡ unwrap_or (option_map (λ h. container_charge d space k (page_room h.columns)) o) 0
+  alike_in d k None = refl
+  alike_in d k (Some h) = listed_alike k (page_room h.columns) 0 d.series
+
+-- charges stay right with the same lists and definitions
+pub charges_same : (sums sums' : List ℕ) (d d' : Definitions) (space space' : Directory) → AreCharges sums d space → sums' ≡ sums → d' ≡ d → space'.lists ≡ space.lists → AreCharges sums' d' space'
+charges_same sums sums' d d' space space' are same definitions lists slot below =
+    ap (λ (xs : List ℕ). get_or xs slot 0) same ∙ are slot below
+    ∙ sym (alike_in space space' (λ t. ap (λ (ls : List (List Place)). slice_index_or ls t []) lists) d slot (heading_in d slot)) ∙ ap (λ (x : Definitions). charge_in x space' slot) (sym definitions)
+
+-- by what is kept in memory
+pub can_count : (d : Definitions) (space : Directory) (free : List ℕ) (count : ℕ) → AreKept d space free count → CanCount d space.lists
+can_count d space free count kept = record { limits = kept.sound.limits; rules = kept.sound.tables; few = kept.placed.few }
+
+-- and stays so where nothing that counts changes
+pub can_charge_then : (effect : Effect) (e f : Kept) → CanCharge effect e → f.tables.definitions ≡ e.tables.definitions → f.space ≡ e.space → f.charges ≡ e.charges → CanCharge effect f
+can_charge_then effect e f can definitions space charges = record {
+  charged = charges_same e.charges f.charges e.tables.definitions f.tables.definitions e.space f.space can.charged charges definitions (ap (λ (s : Directory). s.lists) space);
+  few = subst (λ (d : Definitions). AreFew d f.space) (sym definitions) (subst (λ (s : Directory). AreFew e.tables.definitions s) (sym space) can.few);
+  before = subst (λ (d : Definitions). CanCount d f.space.lists) (sym definitions) (subst (λ (s : Directory). CanCount e.tables.definitions s.lists) (sym space) can.before);
+  after = subst (λ (d : Definitions). CanCount (definitions_after effect d) (lists_after effect f.space.lists)) (sym definitions)
+      (subst (λ (s : Directory). CanCount (definitions_after effect e.tables.definitions) (lists_after effect s.lists)) (sym space) can.after);
+}
+
+-- the places of a series are one at most, as they can be counted then
+pub one_place : (effect : Effect) (slot : ℕ) (places : Vec Place Global) (d : Definitions) (lists : List (List Place)) → effect ≡ Places slot places → slot < 4096 → length lists ≡ 4096 → CanCount (definitions_after effect d) (lists_after effect lists) → length places.items ≤ 1
+one_place effect slot places d lists is within size can =
+    let after = subst (λ (e : Effect). CanCount (definitions_after e d) (lists_after e lists)) is can in
+    subst (λ (ps : List Place). length ps ≤ 1) (get_or-set_same lists slot places.items [] (omega (arith, within, size))) (after.few slot within)
+
+-- each series has one place at most, once one has others
+pub few_after : (lists : List (List Place)) (slot : ℕ) (ps : List Place) → ((t : ℕ) → t < 4096 → length (slice_index_or lists t []) ≤ 1) → length ps ≤ 1 → (t : ℕ) → t < 4096 → length (slice_index_or (set lists slot ps) t []) ≤ 1
+few_after lists slot ps few one t within =
+    elim (cases_eq t slot) [
+      | inl is ↦
+          elim (cases_lt slot (length lists)) [
+            | inl inside ↦ subst (λ (qs : List Place). length qs ≤ 1) (sym (ap (λ (i : ℕ). get_or (set lists slot ps) i []) is ∙ get_or-set_same lists slot ps [] inside)) one
+            | inr past ↦ subst (λ (qs : List Place). length qs ≤ 1) (sym (get_or_past (set lists slot ps) t [] (omega (arith, is, past, length-set lists slot ps)))) (omega arith)
+          ]
+      | inr other ↦ subst (λ (qs : List Place). length qs ≤ 1) (sym (get_or-set_other lists slot t ps [] other)) (few t within)
+    ]
+
+-- the places of every other series stay
+pub others_same : (lists lists' : List (List Place)) (slot : ℕ) (ps : List Place) → lists' ≡ set lists slot ps → (t : ℕ) → t < 4096 → t ≢ slot → slice_index_or lists' t [] ≡ slice_index_or lists t []
+others_same lists lists' slot ps is t within other = ap (λ (ls : List (List Place)). get_or ls t []) is ∙ get_or-set_other lists slot t ps [] other
+
+-- the series in a slot, as its container is read
+series_there : (o : Option SeriesDef) (key : List ℕ) (container : ℕ) → option_map of_series o ≡ Some (defs.Series key container) → o ≡ Some (record { key = key; container = container })
+series_there None key container is = absurd (cc)
+series_there (Some s) key container is =
+    let keys : s.key ≡ key = cc in
+    let containers : s.container ≡ container = cc in
+    λ i. Some (record { key = keys i; container = containers i })
+
+pub container_is : (d : Definitions) (slot : ℕ) (key : List ℕ) (container : ℕ) (h : Heading) (room : ℕ) → def_at kinds.Series slot d ≡ Some (defs.Series key container) → container < 64 → Some h ≡ heading_in d container → room ≡ page_room h.columns → IsContainerOf slot d container room
+container_is d slot key container h room there below heading size = record {
+  series = record { key = key; container = container };
+  heading = h;
+  there = series_there (at_slot slot d.series) key container (sym (at_slot-map of_series slot d.series) ∙ there);
+  is = refl;
+  below = below;
+  has = sym heading;
+  has_room = sym size;
+}
+
+-- a page has room for one element at least
+pub room_is : (d : Definitions) → KeepLimits d → (slot container room : ℕ) → IsContainerOf slot d container room → 0 < room
+room_is d limits slot container room is = subst (λ (n : ℕ). 0 < n) is.has_room (room_in d limits container is.heading is.below (sym is.has))
+
+-- a sum and what one series costs fit their type
+pub sum_fits : (d : Definitions) (space : Directory) (sums : List ℕ) (container more : ℕ) → container < 64 → AreCharges sums d space → AreFew d space → more < 2 ^ 32 → get_or sums container 0 + more < 2 ^ 64
+sum_fits d space sums container more below are few small =
+    let is = are container below in
+    let little = few container below in
+    omega (arith, is, little, small)

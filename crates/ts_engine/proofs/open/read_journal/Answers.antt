@@ -1,0 +1,15 @@
+use Rattle.std.proofs.Common.{sym, ◌∙◌}
+use Rattle.ts_store.proofs.CallerLemmas.{over_recovered}
+use Rattle.ts_engine.proofs.open.read_journal.Goals as goal
+
+pub returns-in_ok-new-in-Ok-clause-idle : goal.returns-in_ok-new-in-Ok-clause-idle
+returns-in_ok-new-in-Ok-clause-idle g c =
+    let v = g.V.Volume.device c.args.vol.now in
+    let w = g.V.Volume.device c.recover.new.vol in
+    let found = c.in-Ok.ensures in
+    let fresh = c.in_ok-new-in-Ok.ensures in
+    record {
+      over = over_recovered g.V.Volume.tells c.in-Ok.replayed.pages c.in-Ok.replayed.journal c.in-Ok.replayed.overlay.entries c.in_ok-new-in-Ok.field-0 v w fresh found.others found.count found.size c.requires.settled found.ok found.allowed;
+      batch = fresh.batch;
+      kept_free = fresh.kept_free ∙ sym fresh.free;
+    }
