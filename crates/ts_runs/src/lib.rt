@@ -7,6 +7,8 @@
 #[cfg(test)]
 mod items;
 #[cfg(test)]
+mod journal;
+#[cfg(test)]
 mod program;
 #[cfg(test)]
 mod statuses;

@@ -1,0 +1,181 @@
+// The journal as a script fills it: a record for each update, a checkpoint where the next one has no room, and what a stop
+// around it, or within an opening over a full journal, leaves.
+use crate::program::{run, volume};
+use std::alloc::Global;
+use std::test::Fail;
+use std::thread::Threads;
+use ts_disk::{MemorySite, Pick, Volume};
+
+const PICKS: [Pick; 5] = [
+    Pick::Old,
+    Pick::New,
+    Pick::Half,
+    Pick::Fill(0),
+    Pick::Fill(255),
+];
+
+/// Makes one element. What it leaves in the journal goes to its place at the next opening.
+const ELEMENT: &[u8] = b"CreateRowType(rd, t datetime, v integer);TSContainerCreate(c1, rd, 8);\
+    TSCreateIrr('x', c1);InsElem('x','2011-01-03 00:00:00',0);";
+
+/// A record of one image begins with its open gate, the number of bytes that its entry has, 4101, and the entry's kind.
+const RECORD: &[u8] = b"GATEOPEN\0\0\x10\x05\x01";
+
+/// Where the journal begins, and how many bytes each of the records has.
+const REGION: usize = 4096;
+
+const RECORD_BYTES: usize = 4113;
+
+// Gives the element the values from 1 on, one after the other.
+fn updates(alloc: Global, count: u32) -> Result<Vec<u8>, Fail> {
+    let mut script = Vec::new(alloc);
+    for number in 0..count {
+        let value = number.saturating_add(1);
+        let statement = format!(in alloc; "UpdElem('x','2011-01-03 00:00:00',{value});")?;
+        script.extend_from_slice(statement.as_bytes())?;
+    }
+    Ok(script)
+}
+
+fn bytes_of(alloc: Global, site: &mut MemorySite) -> Result<Vec<u8>, Fail> {
+    let mut bytes = vec![in alloc; 0u8; site.len() as usize]?;
+    if site.read_at(0, &mut bytes).is_err() {
+        return Err(Fail::from("the read failed"));
+    }
+    Ok(bytes)
+}
+
+// The bytes of a volume with the element.
+fn with_element(rt: &(impl Threads + Sync), alloc: Global) -> Result<Vec<u8>, Fail> {
+    let mut site = volume(rt, alloc, "8")?;
+    run(rt, alloc, &mut site, ELEMENT)?;
+    bytes_of(alloc, &mut site)
+}
+
+// A volume of these bytes after so many updates in one run, which ends at the call of this number.
+fn updated(
+    rt: &(impl Threads + Sync),
+    alloc: Global,
+    bytes: &[u8],
+    count: u32,
+    end: u64,
+) -> Result<MemorySite, Fail> {
+    let mut site = MemorySite::new(Vec::from_slice(alloc, bytes)?)?;
+    site.fuse(end);
+    run(rt, alloc, &mut site, &updates(alloc, count)?)?;
+    Ok(site)
+}
+
+/// No run here has as many calls.
+const NEVER: u64 = 1_000_000;
+
+// How many of the records stand one behind the other.
+fn records(bytes: &[u8]) -> usize {
+    for number in 0..256usize {
+        let record = bytes.get(REGION + RECORD_BYTES * number..);
+        if !record.is_some_and(|record| record.starts_with(RECORD)) {
+            return number;
+        }
+    }
+    256
+}
+
+// Whether an opening finds the element with this value, or with the next one.
+fn has_value(
+    rt: &(impl Threads + Sync),
+    alloc: Global,
+    bytes: Vec<u8>,
+    value: usize,
+) -> Result<bool, Fail> {
+    let mut site = MemorySite::new(bytes)?;
+    let status = run(rt, alloc, &mut site, b"GetElem('x','2011-01-03 00:00:00');")?;
+    let next = value.saturating_add(1);
+    let now = format!(in alloc; "2011-01-03 00:00:00.00000 {value}\nok 1\n")?;
+    let then = format!(in alloc; "2011-01-03 00:00:00.00000 {next}\nok 1\n")?;
+    Ok(status == 0 && (site.said() == now.as_bytes() || site.said() == then.as_bytes()))
+}
+
+#[test]
+fn a_checkpoint_comes_where_the_next_record_has_no_room(rt: HostRuntime) -> Result<(), Fail> {
+    let alloc = rt.alloc();
+    let bytes = with_element(&rt, alloc)?;
+    let mut full = updated(&rt, alloc, &bytes, 254, NEVER)?;
+    assert_eq!(rt; records(&bytes_of(alloc, &mut full)?), 254);
+    let mut first = updated(&rt, alloc, &bytes, 255, NEVER)?;
+    assert_eq!(rt; records(&bytes_of(alloc, &mut first)?), 1);
+    Ok(())
+}
+
+// Stops in the ten calls before a checkpoint, in its four and in the ten behind it, where the record before it is of the
+// update of this number.
+fn stops_around(
+    rt: &(impl Threads + Sync),
+    alloc: Global,
+    last: u32,
+    picks: &[Pick],
+) -> Result<bool, Fail> {
+    let bytes = &with_element(rt, alloc)?;
+    let checkpoint = updated(rt, alloc, bytes, last, NEVER)?.calls();
+    for call in checkpoint.saturating_sub(10)..checkpoint.saturating_add(14) {
+        let site = updated(rt, alloc, bytes, 260, call)?;
+        if site.calls() <= call {
+            return Ok(false);
+        }
+        let acknowledged = site.said().iter().filter(|byte| **byte == b'\n').count();
+        for pick in picks {
+            if !has_value(rt, alloc, site.image(call, *pick)?, acknowledged)? {
+                return Ok(false);
+            }
+        }
+    }
+    Ok(true)
+}
+
+#[test]
+fn a_stop_around_a_checkpoint_leaves_one_update_or_the_next(rt: HostRuntime) -> Result<(), Fail> {
+    assert!(rt; stops_around(&rt, rt.alloc(), 254, &PICKS[..3])?);
+    Ok(())
+}
+
+#[test]
+fn so_does_one_that_leaves_bytes_of_neither(rt: HostRuntime) -> Result<(), Fail> {
+    assert!(rt; stops_around(&rt, rt.alloc(), 254, &PICKS[3..])?);
+    Ok(())
+}
+
+// Stops in each call of an opening over these bytes. One that only reads leaves them as the call before it did.
+fn stops_in_opening(
+    rt: &(impl Threads + Sync),
+    alloc: Global,
+    bytes: &[u8],
+    value: usize,
+) -> Result<bool, Fail> {
+    let mut site = MemorySite::new(Vec::from_slice(alloc, bytes)?)?;
+    run(rt, alloc, &mut site, b"")?;
+    let mut last = Vec::from_slice(alloc, bytes)?;
+    for call in 0..site.calls() {
+        let image = site.image(call, Pick::Half)?;
+        if image == last {
+            continue;
+        }
+        last = image;
+        for pick in PICKS {
+            if !has_value(rt, alloc, site.image(call, pick)?, value)? {
+                return Ok(false);
+            }
+        }
+    }
+    has_value(rt, alloc, bytes_of(alloc, &mut site)?, value)
+}
+
+#[test]
+fn a_stop_in_an_opening_over_a_full_journal_leaves_its_updates(
+    rt: HostRuntime,
+) -> Result<(), Fail> {
+    let alloc = rt.alloc();
+    let bytes = with_element(&rt, alloc)?;
+    let full = bytes_of(alloc, &mut updated(&rt, alloc, &bytes, 254, NEVER)?)?;
+    // The value of the last update, and of none behind it.
+    assert!(rt; stops_in_opening(&rt, alloc, &full, 254)?);
+    Ok(())
+}
