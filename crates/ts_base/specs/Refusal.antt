@@ -1,7 +1,7 @@
 -- Why a command is refused.
 use Rattle.std.specs.Prelude.{ℕ, List, codes}
 use Rattle.ts_base.specs.declared.refusal.Refusal.{Refusal}
-use Rattle.ts_base.specs.declared.refusal.Refusal.TheVariants.{Syntax, TooLong, Unended, UnknownName, NameTaken, BadRowType, BadPattern, BadCalendar, AllOff, UnitMismatch, PatternTooLong, NotAligned, OffStamp, BeforeOrigin, PastEnd, Duplicate, Missing, SecondFull, RowMismatch, ContainerFull, VolumeFull, InUse, TooMany, TooLarge, NotRegular, BadExpression, UnknownColumn}
+use Rattle.ts_base.specs.declared.refusal.Refusal.TheVariants.{Syntax, TooLong, Unended, UnknownName, NameTaken, BadRowType, BadPattern, BadCalendar, AllOff, UnitMismatch, PatternTooLong, NotAligned, OffStamp, BeforeOrigin, PastEnd, Duplicate, Missing, SecondFull, RowMismatch, ContainerFull, VolumeFull, InUse, TooMany, TooLarge, NotRegular, BadExpression, UnknownColumn, OldFormat}
 
 -- the number in the line `error NN Name`
 abbrev pub refusal_code : Refusal → ℕ
@@ -32,6 +32,7 @@ refusal_code (TooLarge rows) = 34
 refusal_code NotRegular = 40
 refusal_code (BadExpression place) = 41
 refusal_code UnknownColumn = 42
+refusal_code OldFormat = 44
 
 -- the name in that line
 abbrev pub refusal_name : Refusal → List ℕ
@@ -62,3 +63,4 @@ refusal_name (TooLarge rows) = codes "TooLarge"
 refusal_name NotRegular = codes "NotRegular"
 refusal_name (BadExpression place) = codes "BadExpression"
 refusal_name UnknownColumn = codes "UnknownColumn"
+refusal_name OldFormat = codes "OldFormat"

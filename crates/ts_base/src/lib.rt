@@ -18,7 +18,10 @@ mod unit;
 pub use bytes::Bytes;
 pub use fault::{SeriesFault, StoreFault, Trouble};
 pub use months::month_start;
-pub use name::{Key, Name, begins_word, continues_word, is_blank, is_text, is_text_byte, is_word};
+pub use name::{
+    KEY_BYTES, Key, NAME_BYTES, Name, begins_word, continues_word, is_blank, is_text, is_text_byte,
+    is_word,
+};
 pub use refusal::Refusal;
 pub use reply::Reply;
 pub use stamp::Stamp;

@@ -7,10 +7,10 @@ use std::alloc::{AllocError, Global};
 use std::marker::Model;
 
 /// The most bytes of a name.
-const NAME_BYTES: usize = 32;
+pub const NAME_BYTES: usize = 32;
 
 /// The most bytes of a key.
-const KEY_BYTES: usize = 64;
+pub const KEY_BYTES: usize = 64;
 
 /// What an object of the store is called: a word of 1 to 32 bytes.
 #[derive(Debug, Drop)]

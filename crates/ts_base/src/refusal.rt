@@ -52,6 +52,8 @@ pub enum Refusal {
     NotRegular,
     BadExpression { place: u32 },
     UnknownColumn,
+    /// The format of the volume has no such thing.
+    OldFormat,
 }
 
 impl Refusal {
@@ -87,6 +89,7 @@ impl Refusal {
             Refusal::NotRegular => 40,
             Refusal::BadExpression { .. } => 41,
             Refusal::UnknownColumn => 42,
+            Refusal::OldFormat => 44,
         }
     }
 
@@ -122,6 +125,7 @@ impl Refusal {
             Refusal::NotRegular => b"NotRegular",
             Refusal::BadExpression { .. } => b"BadExpression",
             Refusal::UnknownColumn => b"UnknownColumn",
+            Refusal::OldFormat => b"OldFormat",
         }
     }
 }

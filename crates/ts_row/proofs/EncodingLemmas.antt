@@ -1,14 +1,9 @@
 -- Bytes that are written into a slice part by part, and numbers as bytes.
-use Rattle.std.proofs.Common.{◌≡◌, ℕ, ◌+◌, ◌-◌, ◌^◌, ◌<◌, ◌≤◌, List, [], ◌∷◌, ◌++◌, length, take, drop, set, replicate, IsTrue, ap, ◌∙◌, arith, lit<, length-append, length-drop}
+use Rattle.std.proofs.Common.{◌≡◌, ℕ, ◌+◌, ◌-◌, ◌^◌, ◌<◌, ◌≤◌, List, [], ◌∷◌, ◌++◌, length, take, drop, set, replicate, ap, ◌∙◌, arith, lit<, length-append, length-drop}
 use borrow.Rule.Slice.PartMut.{put_mid}
-use Rattle.std.proofs.lemmas.Bool.Decides.{nat_tests}
 use Rattle.std.proofs.lemmas.List.{drop_all, drop-replicate, append-nil}
 use Rattle.std.proofs.lemmas.Slice.{take-put_mid}
 use Rattle.std.proofs.Math.Nat.{pow-le-pow_right}
-use Rattle.ts_row.specs.declared.kind.ColumnKind.{ColumnKind}
-use Rattle.ts_row.specs.declared.kind.ColumnKind.TheVariants.{SmallInt, Integer, BigInt, Decimal, VarChar}
-use Rattle.ts_row.specs.RowType.{is_kind}
-use Rattle.ts_row.specs.Row.{holds_size}
 
 -- the first byte, and the rest written behind it
 pub put_behind_one : (x n : ℕ) (cell bytes : List ℕ) → length bytes + 1 ≡ length cell → n ≡ length cell → put_mid 1 (n - 1) (set cell 0 x) bytes ≡ x ∷ bytes
@@ -37,18 +32,12 @@ put_parts w n into cell rest width room long =
     ap (λ l. l ++ (rest ++ drop (n - w) (drop w (put_mid 0 w into cell)))) front
     ∙ ap (λ l. cell ++ (rest ++ l)) behind ∙ ap (λ l. cell ++ l) (append-nil rest)
 
--- numbers that a column holds have 64 bits
-pub size_bound : (kind : ColumnKind) (n : ℕ) → IsTrue (is_kind kind) → IsTrue (holds_size kind n) → n < 2 ^ 63
-size_bound SmallInt n valid held = grind (arith, nat_tests)
-size_bound Integer n valid held = grind (arith, nat_tests)
-size_bound BigInt n valid held = grind (arith, nat_tests)
-size_bound (Decimal digits scale) n valid held =
-    let few : digits ≤ 18 = grind (arith, nat_tests) in
+-- numbers of at most 18 digits have 64 bits
+pub short_bound : (digits n : ℕ) → n < 10 ^ digits → digits ≤ 18 → n < 2 ^ 63
+short_bound digits n below few =
     let step : 10 ^ digits ≤ 10 ^ 18 = pow-le-pow_right (lit< tt) {i = digits} {j = 18} few in
     let top : 10 ^ 18 < 2 ^ 63 = lit< tt in
-    let below : n < 10 ^ digits = grind (arith, nat_tests) in
     omega arith
-size_bound (VarChar most) n valid held = cc
 
 -- for `grind`
 pub ruleset behind_one = (put_behind_one)

@@ -4,6 +4,7 @@ pub mod EncodingLemmas
 pub mod RowLemmas
 pub mod PrintLemmas
 pub mod DecodingLemmas
+pub mod SixteenLemmas
 pub mod ValueBytesLemmas
 pub mod RowBytesLemmas
 pub mod DigitsLemmas

@@ -20,6 +20,26 @@ ten_pow_small k below =
     let top : 10 ^ 38 < 2 ^ 128 = lit< tt in
     omega arith
 
+-- so are up to 18 digits of 64 bits
+pub ten_pow_short : (k : ℕ) → k ≤ 18 → 10 ^ k < 2 ^ 64
+ten_pow_short k few =
+    let step : 10 ^ k ≤ 10 ^ 18 = pow-le-pow_right (lit< tt) {i = k} {j = 18} few in
+    let top : 10 ^ 18 < 2 ^ 64 = lit< tt in
+    omega arith
+
+-- a size that a column holds is that of a number of 128 bits with a sign
+pub held_bound : (kind : ColumnKind) (n : ℕ) → IsTrue (is_kind kind) → IsTrue (holds_size kind n) → n < 2 ^ 127
+held_bound SmallInt n valid held = grind (arith, nat_tests)
+held_bound Integer n valid held = grind (arith, nat_tests)
+held_bound BigInt n valid held = grind (arith, nat_tests)
+held_bound (Decimal digits scale) n valid held =
+    let few : digits ≤ 28 = grind (arith, nat_tests) in
+    let step : 10 ^ digits ≤ 10 ^ 28 = pow-le-pow_right (lit< tt) {i = digits} {j = 28} few in
+    let top : 10 ^ 28 < 2 ^ 127 = lit< tt in
+    let below : n < 10 ^ digits = grind (arith, nat_tests) in
+    omega arith
+held_bound (VarChar most) n valid held = cc
+
 -- no column holds a size past 128 bits
 pub holds_size_wide : (kind : ColumnKind) (n : ℕ) → IsTrue (is_kind kind) → 2 ^ 128 ≤ n → holds_size kind n ≡ false
 holds_size_wide SmallInt n valid wide = grind (arith, nat_tests)
@@ -77,4 +97,6 @@ lower_too_far n p below above =
 -- both, for `grind`
 pub ruleset scales = (rescaled-raise, rescaled-lower)
 
-pub ruleset powers = (ten_pow_positive, ten_pow_small)
+pub ruleset powers = (ten_pow_positive, ten_pow_small, ten_pow_short)
+
+pub ruleset held = (held_fits, held_bound)

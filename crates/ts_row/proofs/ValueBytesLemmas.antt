@@ -1,9 +1,10 @@
 -- Values and their bytes: what is written is read as the same value, and what is read was written so.
-use Rattle.std.proofs.Common.{◌≡◌, ℕ, zero, suc, ◌+◌, ◌-◌, ◌^◌, ◌<◌, ◌≤◌, Bool, true, false, ◌&&◌, ◌==◌, nat_le, if◌then◌else◌, Some, None, List, [], ◌∷◌, ◌++◌, length, take, drop, get_or, replicate, IsTrue, ℤ, unsigned_abs, refl, sym, ap, ◌∙◌, arith, lit<, length-append, length-take, length-drop}
-use Rattle.std.specs.Int.{w16, w32, w64, to_be_bytes, from_be_bytes, cast_unsigned, cast_signed}
+use Rattle.std.proofs.Common.{◌≡◌, ℕ, zero, suc, ◌+◌, ◌-◌, ◌^◌, ◌<◌, ◌≤◌, Bool, true, false, ◌&&◌, ◌==◌, nat_le, nat_lt, if◌then◌else◌, Some, None, List, [], ◌∷◌, ◌++◌, length, take, drop, get_or, replicate, IsTrue, ℤ, unsigned_abs, refl, sym, ap, ◌∙◌, arith, lit<, length-append, length-take, length-drop}
+use Rattle.std.specs.Int.{w16, w32, w64, w128, to_be_bytes, from_be_bytes, cast_unsigned, cast_signed}
 use Rattle.std.proofs.lemmas.Bool.Decides.{nat_tests}
 use Rattle.std.proofs.lemmas.Int.{to_z-of_z, of_z-to_z, fits_signed_from_abs}
 use Rattle.std.proofs.lemmas.Nat.{be_bytes_2, be_bytes_4, be_bytes_8, from_be_bytes-to_be_bytes_2, from_be_bytes-to_be_bytes_4, from_be_bytes-to_be_bytes_8}
+use Rattle.ts_row.proofs.SixteenLemmas.{from_be_bytes-to_be_bytes_16, from_be_bytes_16-below, to_be_bytes-from_be_bytes_16}
 use Rattle.std.proofs.lemmas.List.{length-replicate, take-append-drop}
 use Rattle.std.proofs.Math.Seq.{take-append_seam, drop-append_seam}
 use Rattle.std.proofs.Math.Facts.{Fits-of_z, Fits-lt-pow}
@@ -16,7 +17,8 @@ use Rattle.ts_row.specs.RowType.{is_kind, column_width}
 use Rattle.ts_row.specs.Row.{holds, holds_size, holds_text}
 use Rattle.ts_row.specs.Encoding.{number_bytes, text_bytes, value_bytes}
 use Rattle.ts_row.specs.Decoding.{all_zero, number_in, number_if_held, text_in, filled_in, value_in}
-use Rattle.ts_row.proofs.EncodingLemmas.{size_bound}
+use Rattle.ts_row.proofs.EncodingLemmas.{short_bound}
+use Rattle.ts_row.proofs.LiteralLemmas.{held_bound}
 
 -- a number of 16 bits, written and read
 read_written_16 : (z : ℤ) → unsigned_abs z < 2 ^ 15 → cast_signed w16 (from_be_bytes w16 (to_be_bytes w16 (cast_unsigned w16 z))) ≡ z
@@ -36,6 +38,17 @@ read_written_64 z bound =
     let fit = fits_signed_from_abs w64 z bound in
     ap (cast_signed w64) (from_be_bytes-to_be_bytes_8 (cast_unsigned w64 z) (Fits-lt-pow (Fits-of_z fit))) ∙ to_z-of_z w64 z fit
 
+-- of 128 bits
+read_written_128 : (z : ℤ) → unsigned_abs z < 2 ^ 127 → cast_signed w128 (from_be_bytes w128 (to_be_bytes w128 (cast_unsigned w128 z))) ≡ z
+read_written_128 z bound =
+    let fit = fits_signed_from_abs w128 z bound in
+    ap (cast_signed w128) (from_be_bytes-to_be_bytes_16 (cast_unsigned w128 z) (Fits-lt-pow (Fits-of_z fit))) ∙ to_z-of_z w128 z fit
+
+-- of a decimal
+read_written_decimal : (long : Bool) (z : ℤ) → (long ≡ false → unsigned_abs z < 2 ^ 63) → unsigned_abs z < 2 ^ 127 → (if long then cast_signed w128 (from_be_bytes w128 (if long then to_be_bytes w128 (cast_unsigned w128 z) else to_be_bytes w64 (cast_unsigned w64 z))) else cast_signed w64 (from_be_bytes w64 (if long then to_be_bytes w128 (cast_unsigned w128 z) else to_be_bytes w64 (cast_unsigned w64 z)))) ≡ z
+read_written_decimal true z short wide = read_written_128 z wide
+read_written_decimal false z short wide = read_written_64 z (short refl)
+
 -- two bytes, read and written
 written_read_16 : (bytes : List ℕ) → length bytes ≡ 2 → ((i : ℕ) → get_or bytes i 0 < 256) → to_be_bytes w16 (cast_unsigned w16 (cast_signed w16 (from_be_bytes w16 bytes))) ≡ bytes
 written_read_16 bytes long small =
@@ -54,12 +67,24 @@ written_read_64 bytes long small =
     let bound : from_be_bytes w64 bytes < 2 ^ 64 = omega (arith, small 0, small 1, small 2, small 3, small 4, small 5, small 6, small 7) in
     ap (to_be_bytes w64) (of_z-to_z w64 (from_be_bytes w64 bytes) bound) ∙ be_bytes_8 bytes (from_be_bytes w64 bytes) long small refl
 
+-- sixteen bytes
+written_read_128 : (bytes : List ℕ) → length bytes ≡ 16 → ((i : ℕ) → get_or bytes i 0 < 256) → to_be_bytes w128 (cast_unsigned w128 (cast_signed w128 (from_be_bytes w128 bytes))) ≡ bytes
+written_read_128 bytes long small =
+    ap (to_be_bytes w128) (of_z-to_z w128 (from_be_bytes w128 bytes) (from_be_bytes_16-below bytes long small)) ∙ to_be_bytes-from_be_bytes_16 bytes long small
+
+-- those of a decimal
+written_read_decimal : (long : Bool) (bytes : List ℕ) → length bytes + 1 ≡ (if long then 17 else 9) → ((i : ℕ) → get_or bytes i 0 < 256) → (if long then to_be_bytes w128 (cast_unsigned w128 (if long then cast_signed w128 (from_be_bytes w128 bytes) else cast_signed w64 (from_be_bytes w64 bytes))) else to_be_bytes w64 (cast_unsigned w64 (if long then cast_signed w128 (from_be_bytes w128 bytes) else cast_signed w64 (from_be_bytes w64 bytes)))) ≡ bytes
+written_read_decimal true bytes size small = written_read_128 bytes (omega arith) small
+written_read_decimal false bytes size small = written_read_64 bytes (omega arith) small
+
 -- a number that a column holds, written and read
 number_in-number_bytes : (kind : ColumnKind) (z : ℤ) → IsTrue (is_kind kind) → holds_size kind (unsigned_abs z) ≡ true → number_in kind (number_bytes kind z) ≡ z
 number_in-number_bytes SmallInt z valid held = read_written_16 z (grind (arith, nat_tests))
 number_in-number_bytes Integer z valid held = read_written_32 z (grind (arith, nat_tests))
-number_in-number_bytes BigInt z valid held = read_written_64 z (size_bound BigInt (unsigned_abs z) valid held)
-number_in-number_bytes (Decimal digits scale) z valid held = read_written_64 z (size_bound (Decimal digits scale) (unsigned_abs z) valid held)
+number_in-number_bytes BigInt z valid held = read_written_64 z (grind (arith, nat_tests))
+number_in-number_bytes (Decimal digits scale) z valid held =
+    let below : unsigned_abs z < 10 ^ digits = grind (arith, nat_tests) in
+    read_written_decimal (nat_lt 18 digits) z (λ short. short_bound digits (unsigned_abs z) below (grind (arith, nat_tests))) (held_bound (Decimal digits scale) (unsigned_abs z) valid held)
 number_in-number_bytes (VarChar most) z valid held = cc
 
 -- a kind has numbers
@@ -72,7 +97,7 @@ number_bytes-number_in : (kind : ColumnKind) (bytes : List ℕ) → has_numbers 
 number_bytes-number_in SmallInt bytes has long small = written_read_16 bytes (omega arith) small
 number_bytes-number_in Integer bytes has long small = written_read_32 bytes (omega arith) small
 number_bytes-number_in BigInt bytes has long small = written_read_64 bytes (omega arith) small
-number_bytes-number_in (Decimal digits scale) bytes has long small = written_read_64 bytes (omega arith) small
+number_bytes-number_in (Decimal digits scale) bytes has long small = written_read_decimal (nat_lt 18 digits) bytes long small
 number_bytes-number_in (VarChar most) bytes has long small = cc
 
 -- zeros are zeros
@@ -100,12 +125,17 @@ value_in-zeros : (kind : ColumnKind) (n : ℕ) → 0 < n → value_in kind (repl
 value_in-zeros kind zero some = absurd (omega arith)
 value_in-zeros kind (suc n) some = rw (all_zero-replicate n) refl
 
+-- a decimal has bytes
+decimal_width-positive : (long : Bool) → 0 < (if long then 17 else 9)
+decimal_width-positive true = lit< tt
+decimal_width-positive false = lit< tt
+
 -- each column has a byte
 column_width-positive : (kind : ColumnKind) → 0 < column_width kind
 column_width-positive SmallInt = lit< tt
 column_width-positive Integer = lit< tt
 column_width-positive BigInt = lit< tt
-column_width-positive (Decimal digits scale) = lit< tt
+column_width-positive (Decimal digits scale) = decimal_width-positive (nat_lt 18 digits)
 column_width-positive (VarChar most) = omega arith
 
 -- a text that fits, written and read
@@ -147,13 +177,18 @@ value_in-value_bytes kind (Number z) valid held =
     ∙ ap (number_if_held kind) (number_in-number_bytes kind z valid held) ∙ rw held refl
 value_in-value_bytes kind (Text text) valid held = filled_in-text kind text held
 
+-- the bytes of a decimal's number
+length-decimal : (long : Bool) (z : ℤ) → length (1 ∷ (if long then to_be_bytes w128 (cast_unsigned w128 z) else to_be_bytes w64 (cast_unsigned w64 z))) ≡ (if long then 17 else 9)
+length-decimal true z = refl
+length-decimal false z = refl
+
 -- the bytes of a value are as many as the column has
 pub length-value_bytes : (kind : ColumnKind) (v : Value) → holds kind v ≡ true → length (value_bytes kind v) ≡ column_width kind
 length-value_bytes kind Null held = length-replicate (column_width kind) 0
 length-value_bytes SmallInt (Number z) held = refl
 length-value_bytes Integer (Number z) held = refl
 length-value_bytes BigInt (Number z) held = refl
-length-value_bytes (Decimal digits scale) (Number z) held = refl
+length-value_bytes (Decimal digits scale) (Number z) held = length-decimal (nat_lt 18 digits) z
 length-value_bytes (VarChar most) (Number z) held = cc
 length-value_bytes SmallInt (Text text) held = cc
 length-value_bytes Integer (Text text) held = cc

@@ -1,12 +1,13 @@
 -- The value and the row that bytes give, read from their first byte on.
-use Rattle.std.specs.Prelude.{ℕ, Bool, ◌&&◌, ◌==◌, nat_le, if◌then◌else◌, ℤ, unsigned_abs, Option, Some, None, List, [], ◌∷◌, length, take, drop}
+use Rattle.std.specs.Prelude.{ℕ, Bool, ◌&&◌, ◌==◌, nat_le, nat_lt, if◌then◌else◌, ℤ, unsigned_abs, Option, Some, None, List, [], ◌∷◌, length, take, drop}
 use Rattle.std.specs.Option.{option_map}
 use Rattle.std.specs.List.{list_all}
-use Rattle.std.specs.Int.{w16, w32, w64, from_be_bytes, cast_signed}
+use Rattle.std.specs.Int.{w16, w32, w64, w128, from_be_bytes, cast_signed}
 use Rattle.ts_base.specs.Name.{is_text}
 use Rattle.ts_row.specs.declared.kind.ColumnKind.{ColumnKind}
 use Rattle.ts_row.specs.declared.kind.ColumnKind.TheVariants.{SmallInt, Integer, BigInt, Decimal, VarChar}
 use Rattle.ts_row.specs.declared.kind.Column.{Column}
+use Rattle.ts_row.specs.declared.kind.TheConstants.{SHORT_DIGITS}
 use Rattle.ts_row.specs.declared.value.Value.{Value}
 use Rattle.ts_row.specs.declared.value.Value.TheVariants.{Null, Number, Text}
 use Rattle.ts_row.specs.RowType.{column_width}
@@ -21,7 +22,8 @@ abbrev pub number_in : ColumnKind → List ℕ → ℤ
 number_in SmallInt bytes = cast_signed w16 (from_be_bytes w16 bytes)
 number_in Integer bytes = cast_signed w32 (from_be_bytes w32 bytes)
 number_in BigInt bytes = cast_signed w64 (from_be_bytes w64 bytes)
-number_in (Decimal digits scale) bytes = cast_signed w64 (from_be_bytes w64 bytes)
+number_in (Decimal digits scale) bytes =
+    if nat_lt SHORT_DIGITS digits then cast_signed w128 (from_be_bytes w128 bytes) else cast_signed w64 (from_be_bytes w64 bytes)
 number_in (VarChar most) bytes = cast_signed w64 0
 
 -- the number, if the column holds it

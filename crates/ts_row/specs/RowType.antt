@@ -1,5 +1,5 @@
 -- Row types: the columns that they may have, and the first column that breaks a rule.
-use Rattle.std.specs.Prelude.{◌≡◌, ℕ, zero, suc, ◌+◌, Bool, true, ◌&&◌, nat_lt, nat_le, nat_eq, not, max, if◌then◌else◌, Option, Some, None, List, [], ◌∷◌, length, map, take}
+use Rattle.std.specs.Prelude.{◌≡◌, ℕ, zero, suc, ◌+◌, Bool, true, false, ◌&&◌, nat_lt, nat_le, nat_eq, not, max, if◌then◌else◌, Option, Some, None, List, [], ◌∷◌, length, map, take}
 use Rattle.std.specs.List.{list_all, list_any, sum_by}
 use Rattle.std.specs.Cmp.Lexicographic.{pointwise}
 use Rattle.ts_base.specs.declared.fault.Trouble.{Trouble}
@@ -8,26 +8,39 @@ use Rattle.ts_base.specs.declared.refusal.Refusal.TheVariants.{BadRowType}
 use Rattle.ts_row.specs.declared.kind.ColumnKind.{ColumnKind}
 use Rattle.ts_row.specs.declared.kind.ColumnKind.TheVariants.{SmallInt, Integer, BigInt, Decimal, VarChar}
 use Rattle.ts_row.specs.declared.kind.Column.{Column}
+use Rattle.ts_row.specs.declared.kind.TheConstants.{MOST_DIGITS, SHORT_DIGITS}
 
 -- the name of the stamp's column, and the value columns
 pub record Heading : Type 0 where
   pub stamp : List ℕ
   pub columns : List Column
 
+-- a decimal has over 18 digits
+abbrev pub is_long : ColumnKind → Bool
+is_long SmallInt = false
+is_long Integer = false
+is_long BigInt = false
+is_long (Decimal digits scale) = nat_lt SHORT_DIGITS digits
+is_long (VarChar most) = false
+
+-- some column is a decimal of over 18 digits
+abbrev pub has_long_decimal : List Column → Bool
+has_long_decimal columns = list_any (λ c. is_long c.kind) columns
+
 -- the bytes that a column has in a row: one for NULL or not, then those of its values
 abbrev pub column_width : ColumnKind → ℕ
 column_width SmallInt = 3
 column_width Integer = 5
 column_width BigInt = 9
-column_width (Decimal digits scale) = 9
+column_width (Decimal digits scale) = if nat_lt SHORT_DIGITS digits then 17 else 9
 column_width (VarChar most) = most + 2
 
--- a decimal has 1 to 18 digits, and at most these after the point; a text has 1 to 255 bytes at most
+-- a decimal has 1 to 28 digits, and at most these after the point; a text has 1 to 255 bytes at most
 abbrev pub is_kind : ColumnKind → Bool
 is_kind SmallInt = true
 is_kind Integer = true
 is_kind BigInt = true
-is_kind (Decimal digits scale) = nat_le 1 digits && nat_le digits 18 && nat_le scale digits
+is_kind (Decimal digits scale) = nat_le 1 digits && nat_le digits MOST_DIGITS && nat_le scale digits
 is_kind (VarChar most) = nat_le 1 most && nat_le most 255
 
 -- the digits after the point

@@ -1,12 +1,12 @@
 // The row that bytes are: each function takes the first column and goes on with the others, at most 32 in all.
-ghost use Rattle.std.specs.Prelude.{◌≡◌, ◌+◌, ◌++◌, IsTrue, IfOk, MatchOption, length, true, false};
+ghost use Rattle.std.specs.Prelude.{◌≡◌, ◌+◌, ◌++◌, nat_lt, if◌then◌else◌, IsTrue, IfOk, MatchOption, length, true, false};
 ghost use Rattle.std.specs.List.{list_all};
-ghost use Rattle.std.specs.Int.{cast_signed, from_be_bytes, w64};
+ghost use Rattle.std.specs.Int.{cast_signed, from_be_bytes, w64, w128};
 ghost use Rattle.ts_row.specs.RowType.{column_width, is_kind};
 ghost use Rattle.ts_row.specs.Decoding.{all_zero, number_in, text_in, filled_in, value_in, row_in};
 
 use crate::zeros::is_zero;
-use crate::{Column, ColumnKind, Row, Value};
+use crate::{Column, ColumnKind, Row, SHORT_DIGITS, Value};
 use std::alloc::{AllocError, Global};
 use ts_base::{Bytes, is_text};
 
@@ -100,9 +100,34 @@ pub(crate) fn decode_number(kind: ColumnKind, bytes: &[u8]) -> i128
         ColumnKind::Integer => {
             i32::from_be_bytes([bytes[0], bytes[1], bytes[2], bytes[3]]) as i128
         }
-        ColumnKind::BigInt | ColumnKind::Decimal { .. } => eight_bytes(bytes) as i128,
+        ColumnKind::BigInt => eight_bytes(bytes) as i128,
+        ColumnKind::Decimal { digits, .. } => decode_decimal(digits, bytes),
         ColumnKind::VarChar { .. } => 0,
     }
+}
+
+// The number of a decimal that bytes are.
+fn decode_decimal(digits: u16, bytes: &[u8]) -> i128
+    requires { length bytes.now ≡ (if nat_lt SHORT_DIGITS digits then 16 else 8) }
+    ensures { result ≡ (if nat_lt SHORT_DIGITS digits then cast_signed w128 (from_be_bytes w128 bytes.now)
+        else cast_signed w64 (from_be_bytes w64 bytes.now)) }
+{
+    if digits > SHORT_DIGITS {
+        sixteen_bytes(bytes)
+    } else {
+        eight_bytes(bytes) as i128
+    }
+}
+
+// The number that sixteen bytes are.
+fn sixteen_bytes(bytes: &[u8]) -> i128
+    requires { length bytes.now ≡ 16 }
+    ensures { result ≡ cast_signed w128 (from_be_bytes w128 bytes.now) }
+{
+    i128::from_be_bytes([
+        bytes[0], bytes[1], bytes[2], bytes[3], bytes[4], bytes[5], bytes[6], bytes[7], bytes[8],
+        bytes[9], bytes[10], bytes[11], bytes[12], bytes[13], bytes[14], bytes[15],
+    ])
 }
 
 // The number that eight bytes are.

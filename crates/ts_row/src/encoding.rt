@@ -1,12 +1,12 @@
 // The bytes of rows: each function takes the first column and goes on with the others, at most 32 in all.
-ghost use Rattle.std.specs.Prelude.{◌≡◌, ◌+◌, ◌-◌, ◌^◌, ◌<◌, ◌≤◌, IsTrue, ◌∷◌, ◌++◌, length, unsigned_abs, replicate};
+ghost use Rattle.std.specs.Prelude.{◌≡◌, ◌+◌, ◌-◌, ◌^◌, ◌<◌, ◌≤◌, nat_lt, if◌then◌else◌, IsTrue, ◌∷◌, ◌++◌, length, unsigned_abs, replicate};
 ghost use Rattle.std.specs.List.{list_all};
-ghost use Rattle.std.specs.Int.{w64, to_be_bytes, cast_unsigned};
+ghost use Rattle.std.specs.Int.{w64, w128, to_be_bytes, cast_unsigned};
 ghost use Rattle.ts_row.specs.RowType.{column_width, is_kind, width_of};
 ghost use Rattle.ts_row.specs.Row.{holds, holds_size, fits};
 ghost use Rattle.ts_row.specs.Encoding.{number_bytes, value_bytes, row_bytes};
 
-use crate::{Column, ColumnKind, Value};
+use crate::{Column, ColumnKind, SHORT_DIGITS, Value};
 
 /// Writes the bytes of a row.
 #[tactic(auto, using(crate::proofs::EncodingLemmas::parts))]
@@ -42,7 +42,6 @@ fn encode_value(kind: ColumnKind, value: &Value, cell: &mut [u8])
 }
 
 // Writes the bytes of a number.
-#[tactic(auto, using(crate::proofs::EncodingLemmas::size_bound))]
 fn encode_number(kind: ColumnKind, number: i128, cell: &mut [u8])
     requires kind { IsTrue (is_kind kind) }
     requires holds { IsTrue (holds_size kind (unsigned_abs number)) }
@@ -52,13 +51,28 @@ fn encode_number(kind: ColumnKind, number: i128, cell: &mut [u8])
     match kind {
         ColumnKind::SmallInt => encode_filled(&(number as i16).to_be_bytes(), cell),
         ColumnKind::Integer => encode_filled(&(number as i32).to_be_bytes(), cell),
-        ColumnKind::BigInt | ColumnKind::Decimal { .. } => encode_long(number, cell),
+        ColumnKind::BigInt => encode_eight(number, cell),
+        ColumnKind::Decimal { digits, .. } => encode_decimal(digits, number, cell),
         ColumnKind::VarChar { .. } => unreachable!(),
     }
 }
 
+// Writes a number of a decimal.
+fn encode_decimal(digits: u16, number: i128, cell: &mut [u8])
+    requires below { unsigned_abs number < 10 ^ digits }
+    requires room { length cell.old ≡ (if nat_lt SHORT_DIGITS digits then 17 else 9) }
+    ensures { cell.new ≡ 1 ∷ (if nat_lt SHORT_DIGITS digits then to_be_bytes w128 (cast_unsigned w128 number)
+        else to_be_bytes w64 (cast_unsigned w64 number)) }
+{
+    if digits > SHORT_DIGITS {
+        encode_filled(&number.to_be_bytes(), cell);
+    } else {
+        encode_eight(number, cell);
+    }
+}
+
 // Writes a number of 64 bits.
-fn encode_long(number: i128, cell: &mut [u8])
+fn encode_eight(number: i128, cell: &mut [u8])
     requires fits { unsigned_abs number < 2 ^ 63 }
     requires room { length cell.old ≡ 9 }
     ensures { cell.new ≡ 1 ∷ to_be_bytes w64 (cast_unsigned w64 number) }

@@ -1,8 +1,14 @@
-ghost use Rattle.std.specs.Prelude.{◌≡◌, ◌<◌, ◌≤◌, ◌^◌, IsTrue};
-ghost use Rattle.ts_row.specs.RowType.{column_width, is_kind, scale_of};
+ghost use Rattle.std.specs.Prelude.{◌≡◌, ◌<◌, ◌≤◌, ◌^◌, nat_lt, if◌then◌else◌, IsTrue};
+ghost use Rattle.ts_row.specs.RowType.{column_width, is_kind, is_long, scale_of};
 ghost use Rattle.ts_row.specs.Row.{holds_size, holds_text, takes_scale};
 
 use ts_base::{Name, is_text};
+
+/// The most digits of a decimal.
+pub const MOST_DIGITS: u16 = 28;
+
+/// The most digits of a decimal whose numbers have eight bytes; with more they have sixteen.
+pub const SHORT_DIGITS: u16 = 18;
 
 /// The type of a value column.
 #[derive(Clone, Copy, Debug, PartialEq, Eq)]
@@ -31,8 +37,19 @@ impl ColumnKind {
         match self {
             ColumnKind::SmallInt => 3,
             ColumnKind::Integer => 5,
-            ColumnKind::BigInt | ColumnKind::Decimal { .. } => 9,
+            ColumnKind::BigInt => 9,
+            ColumnKind::Decimal { digits, .. } => decimal_width(digits),
             ColumnKind::VarChar { length } => length as usize + 2,
+        }
+    }
+
+    /// Whether it is a decimal of over 18 digits.
+    pub fn is_long(self) -> bool
+        ensures { result ≡ is_long self }
+    {
+        match self {
+            ColumnKind::Decimal { digits, .. } => digits > SHORT_DIGITS,
+            _ => false,
         }
     }
 
@@ -51,7 +68,9 @@ impl ColumnKind {
         ensures { result ≡ is_kind self }
     {
         match self {
-            ColumnKind::Decimal { digits, scale } => 1 <= digits && digits <= 18 && scale <= digits,
+            ColumnKind::Decimal { digits, scale } => {
+                1 <= digits && digits <= MOST_DIGITS && scale <= digits
+            }
             ColumnKind::VarChar { length } => 1 <= length && length <= 255,
             _ => true,
         }
@@ -66,7 +85,7 @@ impl ColumnKind {
             ColumnKind::SmallInt => size <= 32_767,
             ColumnKind::Integer => size <= 2_147_483_647,
             ColumnKind::BigInt => size <= 9_223_372_036_854_775_807,
-            ColumnKind::Decimal { digits, .. } => size < 10u128.pow(digits as u32),
+            ColumnKind::Decimal { digits, .. } => size < power_of_ten(digits),
             ColumnKind::VarChar { .. } => false,
         }
     }
@@ -90,5 +109,25 @@ impl ColumnKind {
             ColumnKind::VarChar { .. } => false,
             _ => scale == 0,
         }
+    }
+}
+
+// The bytes that a decimal has in a row.
+fn decimal_width(digits: u16) -> usize
+    ensures { result ≡ (if nat_lt SHORT_DIGITS digits then 17 else 9) }
+{
+    if digits > SHORT_DIGITS { 17 } else { 9 }
+}
+
+// Ten to the power of a decimal's digits; up to 18 digits it is made in 64 bits.
+#[tactic(auto, using(crate::proofs::LiteralLemmas::powers))]
+fn power_of_ten(digits: u16) -> u128
+    requires { digits ≤ MOST_DIGITS }
+    ensures { result ≡ 10 ^ digits }
+{
+    if digits > SHORT_DIGITS {
+        10u128.pow(digits as u32)
+    } else {
+        10u64.pow(digits as u32) as u128
     }
 }

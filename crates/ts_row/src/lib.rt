@@ -19,7 +19,7 @@ mod rules;
 mod value;
 mod zeros;
 
-pub use kind::{Column, ColumnKind};
+pub use kind::{Column, ColumnKind, MOST_DIGITS, SHORT_DIGITS};
 pub use laws::{printed_digits_write_the_size, printed_values_fit_again};
 pub use print::print_value;
 pub use row::{Elem, Row, Shelf};

@@ -74,11 +74,12 @@ fn number_of(kind: ColumnKind, units: i128, written: u8) -> Option<Value>
     ensures { result ≡ value_if_any kind (NumberLiteral units written) }
 {
     let size = size_of(kind, units.unsigned_abs(), written)?;
-    Some(Value::Number(with_sign(units, size as u64)))
+    Some(Value::Number(with_sign(units, size)))
 }
 
 // A number of this size with the sign of another.
-fn with_sign(units: i128, size: u64) -> i128
+fn with_sign(units: i128, size: u128) -> i128
+    requires { size < 2 ^ 127 }
     ensures { result ≡ with_sign units size }
 {
     let size = size as i128;
@@ -86,11 +87,11 @@ fn with_sign(units: i128, size: u64) -> i128
 }
 
 // The size of the number, if the column takes it.
-#[tactic(auto, using(crate::proofs::LiteralLemmas::held_fits))]
+#[tactic(auto, using(crate::proofs::LiteralLemmas::held))]
 fn size_of(kind: ColumnKind, size: u128, written: u8) -> Option<u128>
     requires { IsTrue (is_kind kind) }
     ensures value { result ≡ size_if_any kind size written }
-    ensures bound { IfSome result (λ n. n < 2 ^ 64) }
+    ensures bound { IfSome result (λ n. n < 2 ^ 127) }
 {
     if !kind.takes_scale(written) {
         return None;

@@ -1,5 +1,5 @@
 ghost use Rattle.std.specs.Prelude.{◌≡◌, ◌↔◌, ◌≤◌, ◌++◌, IsTrue, IfOk, IfSome, IfErr, OnOk, OnErr, MatchResult, Ok, None, length};
-ghost use Rattle.ts_row.specs.RowType.{is_row_type, width_of, bad_column, IsBadRowType};
+ghost use Rattle.ts_row.specs.RowType.{is_row_type, width_of, has_long_decimal, bad_column, IsBadRowType};
 ghost use Rattle.ts_row.specs.Row.{row_of, IsRowTrouble, fits};
 ghost use Rattle.ts_row.specs.Encoding.{row_bytes, IsMeaning, AreRowBytes};
 ghost use Rattle.ts_row.specs.Printed.{row_text};
@@ -77,6 +77,13 @@ impl RowType {
         ensures bound { result ≤ 1000 }
     {
         self.width
+    }
+
+    /// Whether some column is a decimal of over 18 digits.
+    pub fn has_long_decimal(&self) -> bool
+        ensures { result ≡ has_long_decimal self.now.columns }
+    {
+        self.columns.iter().any(|column| column.kind.is_long())
     }
 
     pub fn copy(&self) -> Result<Self, AllocError>

@@ -1,5 +1,5 @@
 -- One value, a comma and the others.
-use Rattle.std.proofs.Common.{◌≤◌, length, arith, rules, inl, inr}
+use Rattle.std.proofs.Common.{length, arith, rules}
 use Rattle.std.proofs.lemmas.Grind.{common_steps}
 use Rattle.std.proofs.lemmas.Result.{on_ok_weaker}
 use Rattle.ts_row.proofs.PrintLemmas.{print_last, print_more, both_some}
