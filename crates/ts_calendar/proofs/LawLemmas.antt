@@ -1,6 +1,6 @@
 -- Intervals that exist lie near 0, one after the other; steps lead where that interval starts.
-use Rattle.std.proofs.Common.{◌≡◌, ℕ, ◌+◌, ◌<◌, ◌≤◌, Bool, true, false, not, refl, sym, ap, ◌∙◌, arith, rules, ℤ, pos, negsuc, ◌+ℤ◌, ◌*ℤ◌, ◌≤ℤ◌, ◌<ℤ◌, Some, None, Option}
-use Rattle.std.specs.Prelude.{int_lt, is_some, IsSome}
+use Rattle.std.proofs.Common.{◌≡◌, ℕ, true, not, ap, ◌∙◌, arith, ℤ, pos, negsuc, ◌+ℤ◌, ◌*ℤ◌, ◌≤ℤ◌, ◌<ℤ◌, Some, None, Option}
+use Rattle.std.specs.Prelude.{is_some, IsSome}
 use Rattle.std.proofs.lemmas.Int.{by_lt_z, ints}
 use Rattle.jiff_core.proofs.SignedLemmas.{signed_arith}
 use Rattle.ts_base.specs.declared.unit.Unit as unit
@@ -10,7 +10,7 @@ use Rattle.ts_base.specs.Months.{day_of_month}
 use Rattle.ts_calendar.specs.Plan.{CalendarPlan}
 use Rattle.ts_calendar.specs.Intervals.{IsEarly, IsLaid, IsAround, start_in, start_at, starts_from}
 use Rattle.ts_calendar.specs.Line.{line_at, month_line, IsLineAround}
-use Rattle.ts_calendar.specs.First.{IsNear, reach, near_count}
+use Rattle.ts_calendar.specs.First.{IsNear}
 use Rattle.ts_calendar.specs.Calendar.{starts_at, steps_between, first_step, IsFirstStep}
 use Rattle.ts_calendar.proofs.StampLemmas.{int_lt_yes, int_lt_no, stamp-some, dated}
 use Rattle.ts_calendar.proofs.LineLemmas.{line-start, line-rises, line-zero, year_in, month_at}

@@ -8,5 +8,6 @@ pub mod LawLemmas
 pub mod JoinedLemmas
 pub mod StampTextLemmas
 pub mod TextLemmas
+pub mod PlaceLemmas
 pub mod ValidLemmas
 pub mod PrintLemmas

@@ -6,7 +6,7 @@ use Rattle.ts_base.specs.StampText.{read_stamp, stamp_text}
 use Rattle.ts_base.proofs.RoundTrip.{read_stamp-text}
 use Rattle.ts_pattern.specs.Grammar.{printed_plan}
 use Rattle.ts_text.specs.Parted.{IsParted}
-use Rattle.ts_text.proofs.PartedLemmas.{parted-blanks}
+use Rattle.ts_text.proofs.CallerLemmas.{parted-blanks}
 use Rattle.ts_pattern.specs.Spelling.{Word}
 use Rattle.ts_pattern.proofs.PrintLemmas.{plan-itself, words_of, words-are, plan-parted}
 use Rattle.ts_calendar.specs.declared.text.PatternPart.{PatternPart}

@@ -16,10 +16,7 @@ use Rattle.ts_text.specs.Phrase.{Read, Phrase, go_on, ◌>>=◌, give, a_sign, b
 use Rattle.ts_text.specs.Plain.{plain_front, a_word}
 use Rattle.ts_text.specs.declared.token.TokenKind.{TokenKind}
 use Rattle.ts_text.specs.declared.token.TokenKind.TheVariants.{Word as TheWord, Number, Text, Sign}
-use Rattle.ts_text.proofs.SpellingLemmas.{blanked, unblanked_past, unblanked-le}
-use Rattle.ts_text.proofs.SignLemmas.{sign_at}
-use Rattle.ts_text.proofs.PlainLemmas.{plain_laws, word_stands}
-use Rattle.ts_text.proofs.PartedLemmas.{bind-ok, pair-parts, are_blanks-append, parted-blanks, parted-token, IsSolid, token-first, token-found, token-read, sign-found, sign-read, word-found, word-read, stops-word, end-found, end-read}
+use Rattle.ts_text.proofs.CallerLemmas.{blanked, unblanked_past, unblanked-le, sign_at, plain_laws, word_stands, bind-ok, pair-parts, are_blanks-append, parted-blanks, parted-token, IsSolid, token-first, token-found, token-read, sign-found, sign-read, word-found, word-read, stops-word, end-found, end-read}
 use Rattle.ts_pattern.specs.Plan.{Plan}
 use Rattle.ts_pattern.specs.Grammar.{pattern_in}
 use Rattle.ts_pattern.specs.Spelling.{Word, pattern_before, run_of}
@@ -41,7 +38,7 @@ are_blanks-reverse (x ∷ b) h =
     ∙ are_blanks-append (reverse b) (x ∷ []) (are_blanks-reverse b parts.1) (rw parts.0 refl)
 
 -- a text is what is left of it, and then blanks
-trimmed-split : (t : List ℕ) → (blanks : List ℕ) × IsTrue (are_blanks blanks) × (t ≡ trimmed t ++ blanks)
+pub trimmed-split : (t : List ℕ) → (blanks : List ℕ) × IsTrue (are_blanks blanks) × (t ≡ trimmed t ++ blanks)
 trimmed-split t =
     let s = blanked (reverse t) in
     (reverse s.blanks, are_blanks-reverse s.blanks s.all, sym (reverse-reverse t) ∙ ap reverse s.split ∙ reverse-append s.blanks (unblanked (reverse t)))
@@ -53,7 +50,7 @@ trimmed-blanks t blanks h =
 
 -- stamps
 
-named-stamp : (o : Option ℤ) (t rest : List ℕ) (s : ℤ) → stamp_or_not o t ≡ Ok (s, rest) → (o ≡ Some s) × (drop (inside_len t) t ≡ rest)
+pub named-stamp : (o : Option ℤ) (t rest : List ℕ) (s : ℤ) → stamp_or_not o t ≡ Ok (s, rest) → (o ≡ Some s) × (drop (inside_len t) t ≡ rest)
 named-stamp None t rest s h = absurd (cc)
 named-stamp (Some x) t rest s h =
     let there = pair-parts x s (drop (inside_len t) t) rest h in
@@ -113,7 +110,7 @@ plain-solid (b ∷ s) h = elim (cases_Bool (is_blank b)) [
     short s = unblanked-le s
 
 -- a stamp that is read
-stamp-read : (text bytes : List ℕ) (s : ℤ) (tokens : List (List ℕ)) → read_stamp bytes ≡ Some s → (p : IsParted (bytes ∷ (41 ∷ []) ∷ tokens) text)
+pub stamp-read : (text bytes : List ℕ) (s : ℤ) (tokens : List (List ℕ)) → read_stamp bytes ≡ Some s → (p : IsParted (bytes ∷ (41 ∷ []) ∷ tokens) text)
     → stamp_in text ≡ Ok (s, 41 ∷ p.4.1)
 stamp-read text bytes s tokens h p =
     let plain = stamp-plain bytes s h in
@@ -138,7 +135,7 @@ record IsDateFound (word text : List ℕ) (s : ℤ) (rest : List ℕ) : Type 0 w
   parted : (tokens : List (List ℕ)) → IsParted tokens rest → IsParted (word ∷ (40 ∷ []) ∷ bytes ∷ (41 ∷ []) ∷ tokens) text
 
 -- the phrases of a date
-abbrev in_date : Phrase ℤ
+abbrev pub in_date : Phrase ℤ
 in_date = in_brackets stamp_in
 
 date-found : (word text rest : List ℕ) (s : ℤ) → date_in word text ≡ Ok (s, rest) → IsDateFound word text s rest

@@ -1,5 +1,5 @@
 -- The AND and the OR of two calendars are valid calendars.
-use Rattle.std.proofs.Common.{◌≡◌, ℕ, zero, suc, ◌<◌, ◌≤◌, inl, inr, Bool, true, false, cond, ◌≢◌, length, nat_lt, refl, sym, ap, ◌∙◌, arith, Option, Some, None, Result, Ok, Err, IfOk, ℤ, pos, negsuc, ◌+ℤ◌, ◌-ℤ◌, ◌*ℤ◌, ◌≤ℤ◌, ◌<ℤ◌}
+use Rattle.std.proofs.Common.{◌≡◌, ℕ, ◌<◌, ◌≤◌, inl, inr, Bool, true, false, cond, ◌≢◌, length, nat_lt, refl, sym, ap, ◌∙◌, arith, Option, Some, None, Result, Ok, Err, IfOk, ℤ, pos, ◌+ℤ◌, ◌-ℤ◌, ◌*ℤ◌, ◌≤ℤ◌, ◌<ℤ◌}
 use Rattle.std.specs.Prelude.{int_lt, neg_ℤ}
 use Rattle.std.specs.Int.{int_max}
 use Rattle.std.proofs.lemmas.Bool.{cases_Bool, cases_lt}
@@ -26,7 +26,7 @@ use Rattle.ts_calendar.specs.Plan.{CalendarPlan}
 use Rattle.ts_calendar.specs.Intervals.{IsEarly, IsLaid, start_in, starts_from}
 use Rattle.ts_calendar.specs.Line.{line_at, month_line}
 use Rattle.ts_calendar.specs.First.{reach, near_count}
-use Rattle.ts_calendar.specs.Calendar.{is_late, is_apart, IsValid, IsJoin, valid_calendar, steps_between, first_step, found_or, with_pattern, joined_calendar}
+use Rattle.ts_calendar.specs.Calendar.{is_late, IsValid, IsJoin, valid_calendar, steps_between, first_step, found_or, with_pattern, joined_calendar}
 use Rattle.ts_calendar.proofs.StampLemmas.{int_lt_yes, int_lt_no, int_lt-false, stamp-is}
 use Rattle.ts_calendar.proofs.LineLemmas.{line-start, month_at, day-kept, date-moved}
 use Rattle.ts_calendar.proofs.HeldLemmas.{start-is}

@@ -5,5 +5,6 @@ pub mod Line
 pub mod First
 pub mod Calendar
 pub mod Text
+pub mod Front
 pub mod Written
 pub mod Spelling

@@ -56,6 +56,7 @@ abbrev pub name_as : TokenKind → List ℕ → Option (List ℕ)
 name_as Word word = name_if_any word
 name_as kind token = None
 
+-- the name of a pattern
 unfoldable pub name_in : Phrase (List ℕ)
 name_in = token plain_front name_as
 
@@ -72,9 +73,11 @@ abbrev pub part_as : TokenKind → List ℕ → Option Bool
 part_as Word word = if bytes_eq word (codes "pattname") then Some true else (if bytes_eq word (codes "pattern") then Some false else None)
 part_as kind token = None
 
+-- the word before a name or a pattern
 unfoldable pub part_word_in : Phrase Bool
 part_word_in = token plain_front part_as
 
+-- what stands behind that word
 abbrev pub part_behind : Bool → Phrase PatternPart
 part_behind true = name_part_in
 part_behind false = pattern_part_in
@@ -109,6 +112,7 @@ abbrev pub own_part : Result Plan Refusal → Result PatternPart Refusal
 own_part (Ok p) = Ok (Own p)
 own_part (Err why) = Err why
 
+-- the part with the runs of its pattern merged
 abbrev pub part_of_written : PatternPart → Result PatternPart Refusal
 part_of_written (Named name) = Ok (Named name)
 part_of_written (Own p) = own_part (plan_of_written p)
@@ -127,6 +131,7 @@ abbrev pub calendar_or_place : Result CalendarText ℕ → Result CalendarText R
 calendar_or_place (Ok written) = calendar_of_written written
 calendar_or_place (Err place) = Err (BadCalendar place)
 
+-- the calendar that a text reads as, or why there is none
 abbrev pub read_calendar : List ℕ → Result CalendarText Refusal
 read_calendar text = calendar_or_place (written_calendar text)
 

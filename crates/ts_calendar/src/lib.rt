@@ -13,14 +13,13 @@ mod join;
 mod laws;
 mod read;
 mod steps;
-#[cfg(test)]
-mod tests;
 mod text;
-#[cfg(test)]
-mod text_tests;
 mod valid;
 
 pub use calendar::Calendar;
 pub use grid::CommonGrid;
 pub use laws::{starts_rise, steps_lead_there};
-pub use text::{CalendarText, PatternPart, calendar_texts_are_tokens, printed_calendars_are_read};
+pub use text::{
+    CalendarText, PatternPart, calendar_texts_are_tokens, calendars_are_refused_in_place,
+    printed_calendars_are_read,
+};

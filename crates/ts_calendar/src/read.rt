@@ -1,7 +1,7 @@
 // Reading the text of a calendar. What can't stand where it is found is told by how many bytes are left from it on.
 ghost use Rattle.std.specs.Prelude.{◌≡◌, ◌^◌, ◌<◌, ◌≤◌, Ok, IfOk, IfErr, [], length};
 ghost use Rattle.ts_pattern.specs.Algebra.{Answers};
-ghost use Rattle.ts_text.specs.Misfit.{Refuses};
+ghost use Rattle.ts_text.specs.Misfit.{Refuses, RefusesExactly};
 ghost use Rattle.ts_text.specs.Phrase.{a_sign, the_end, ended};
 ghost use Rattle.ts_text.specs.Plain.{a_word};
 ghost use Rattle.ts_text.specs.declared.token.TokenKind.TheVariants.{Word};
@@ -84,7 +84,7 @@ struct Rest<'a> {
 impl<'a> Rest<'a> {
     fn sign(&mut self, sign: u8) -> Result<(), Misfit>
         ensures ok { IfOk result (λ _. a_sign sign self.old.text.now ≡ Ok (tt, self.new.text.now)) }
-        ensures cause { IfErr result (λ misfit. Refuses misfit (a_sign sign self.old.text.now)) }
+        ensures cause { IfErr result (λ misfit. RefusesExactly misfit (a_sign sign self.old.text.now)) }
         ensures shorter { IfOk result (λ _. length self.new.text.now ≤ length self.old.text.now) }
     {
         self.text = read_sign(self.text, sign)?;
@@ -93,7 +93,7 @@ impl<'a> Rest<'a> {
 
     fn word(&mut self, word: &[u8]) -> Result<(), Misfit>
         ensures ok { IfOk result (λ _. a_word word.now self.old.text.now ≡ Ok (tt, self.new.text.now)) }
-        ensures cause { IfErr result (λ misfit. Refuses misfit (a_word word.now self.old.text.now)) }
+        ensures cause { IfErr result (λ misfit. RefusesExactly misfit (a_word word.now self.old.text.now)) }
         ensures shorter { IfOk result (λ _. length self.new.text.now ≤ length self.old.text.now) }
     {
         self.text = read_word(self.text, word)?;
@@ -102,7 +102,7 @@ impl<'a> Rest<'a> {
 
     fn end(&self) -> Result<(), Misfit>
         ensures ok { IfOk result (λ _. the_end [] self.now.text.now ≡ Ok (tt, [])) }
-        ensures cause { IfErr result (λ misfit. Refuses misfit (the_end [] self.now.text.now)) }
+        ensures cause { IfErr result (λ misfit. RefusesExactly misfit (the_end [] self.now.text.now)) }
     {
         read_end(self.text, &[])
     }
@@ -111,7 +111,7 @@ impl<'a> Rest<'a> {
     #[tactic(auto, unfolding(crate::specs::Text::dates_in))]
     fn dates(&mut self) -> Result<(Stamp, Stamp), Misfit>
         ensures ok { IfOk result (λ x. Text.dates_in self.old.text.now ≡ Ok ((x.0, x.1), self.new.text.now)) }
-        ensures cause { IfErr result (λ misfit. Refuses misfit (Text.dates_in self.old.text.now)) }
+        ensures cause { IfErr result (λ misfit. RefusesExactly misfit (Text.dates_in self.old.text.now)) }
         ensures shorter { IfOk result (λ _. length self.new.text.now ≤ length self.old.text.now) }
     {
         let start = self.date(b"startdate")?;
@@ -125,7 +125,7 @@ impl<'a> Rest<'a> {
     #[tactic(auto, unfolding(crate::specs::Text::date_in))]
     fn date(&mut self, word: &[u8]) -> Result<Stamp, Misfit>
         ensures ok { IfOk result (λ s. Text.date_in word.now self.old.text.now ≡ Ok (s, self.new.text.now)) }
-        ensures cause { IfErr result (λ misfit. Refuses misfit (Text.date_in word.now self.old.text.now)) }
+        ensures cause { IfErr result (λ misfit. RefusesExactly misfit (Text.date_in word.now self.old.text.now)) }
         ensures shorter { IfOk result (λ _. length self.new.text.now ≤ length self.old.text.now) }
     {
         self.word(word)?;
@@ -138,7 +138,7 @@ impl<'a> Rest<'a> {
     // A stamp before a closing bracket.
     fn stamp(&mut self) -> Result<Stamp, Misfit>
         ensures ok { IfOk result (λ s. Text.stamp_in self.old.text.now ≡ Ok (s, self.new.text.now)) }
-        ensures cause { IfErr result (λ misfit. Refuses misfit (Text.stamp_in self.old.text.now)) }
+        ensures cause { IfErr result (λ misfit. RefusesExactly misfit (Text.stamp_in self.old.text.now)) }
         ensures shorter { IfOk result (λ _. length self.new.text.now ≤ length self.old.text.now) }
     {
         let text = skip_blanks(self.text);
@@ -170,7 +170,7 @@ impl<'a> Rest<'a> {
     #[tactic(auto, unfolding(crate::specs::Text::part_word_in))]
     fn part_word(&mut self) -> Result<bool, Misfit>
         ensures ok { IfOk result (λ is_named. Text.part_word_in self.old.text.now ≡ Ok (is_named, self.new.text.now)) }
-        ensures cause { IfErr result (λ misfit. Refuses misfit (Text.part_word_in self.old.text.now)) }
+        ensures cause { IfErr result (λ misfit. RefusesExactly misfit (Text.part_word_in self.old.text.now)) }
         ensures shorter { IfOk result (λ _. length self.new.text.now ≤ length self.old.text.now) }
     {
         let here = skip_blanks(self.text);

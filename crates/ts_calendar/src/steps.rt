@@ -10,9 +10,18 @@ ghost use Rattle.ts_base.specs.Months.{months_after, day_of_month};
 ghost use Rattle.ts_calendar.specs.Line.{IsLineAround, comes_after};
 ghost use Rattle.ts_base.specs.declared.unit.Unit.TheVariants.{Month, Year};
 
-use crate::civil::{month_number, units_of};
+use crate::civil::{DAY, month_number, units_of};
 use crate::dated::Dated;
 use ts_base::{Stamp, Unit};
+
+/// The units of each clock unit, in hundred thousandths of a second.
+const SECOND: i64 = 100_000;
+
+const MINUTE: i64 = 6_000_000;
+
+const HOUR: i64 = 360_000_000;
+
+const WEEK: i64 = 60_480_000_000;
 
 /// The start of interval k, where interval 0 starts at `first`, if it lies in the years 1 to 9999.
 pub(crate) fn start_in(unit: Unit, first: &Dated, k: i64) -> Option<Stamp>
@@ -20,11 +29,11 @@ pub(crate) fn start_in(unit: Unit, first: &Dated, k: i64) -> Option<Stamp>
     ensures { result ≡ start_in unit first.now k }
 {
     match unit {
-        Unit::Second => start_after(first.stamp(), k, 100_000),
-        Unit::Minute => start_after(first.stamp(), k, 6_000_000),
-        Unit::Hour => start_after(first.stamp(), k, 360_000_000),
-        Unit::Day => start_after(first.stamp(), k, 8_640_000_000),
-        Unit::Week => start_after(first.stamp(), k, 60_480_000_000),
+        Unit::Second => start_after(first.stamp(), k, SECOND),
+        Unit::Minute => start_after(first.stamp(), k, MINUTE),
+        Unit::Hour => start_after(first.stamp(), k, HOUR),
+        Unit::Day => start_after(first.stamp(), k, DAY),
+        Unit::Week => start_after(first.stamp(), k, WEEK),
         Unit::Month => first.months_later(k, 1),
         Unit::Year => first.months_later(k, 12),
     }
@@ -37,11 +46,11 @@ pub(crate) fn existing_start(unit: Unit, first: &Dated, k: i64) -> Stamp
     ensures { start_in unit first.now k ≡ Some result }
 {
     match unit {
-        Unit::Second => existing_after(first, k, 100_000),
-        Unit::Minute => existing_after(first, k, 6_000_000),
-        Unit::Hour => existing_after(first, k, 360_000_000),
-        Unit::Day => existing_after(first, k, 8_640_000_000),
-        Unit::Week => existing_after(first, k, 60_480_000_000),
+        Unit::Second => existing_after(first, k, SECOND),
+        Unit::Minute => existing_after(first, k, MINUTE),
+        Unit::Hour => existing_after(first, k, HOUR),
+        Unit::Day => existing_after(first, k, DAY),
+        Unit::Week => existing_after(first, k, WEEK),
         Unit::Month => first.existing_months_later(k, 1),
         Unit::Year => first.existing_months_later(k, 12),
     }
@@ -74,11 +83,11 @@ pub(crate) fn interval_around(unit: Unit, first: &Dated, stamp: Stamp) -> i64
 {
     let units = units_of(stamp) - first.units();
     match unit {
-        Unit::Second => units.div_euclid(100_000),
-        Unit::Minute => units.div_euclid(6_000_000),
-        Unit::Hour => units.div_euclid(360_000_000),
-        Unit::Day => units.div_euclid(8_640_000_000),
-        Unit::Week => units.div_euclid(60_480_000_000),
+        Unit::Second => units.div_euclid(SECOND),
+        Unit::Minute => units.div_euclid(MINUTE),
+        Unit::Hour => units.div_euclid(HOUR),
+        Unit::Day => units.div_euclid(DAY),
+        Unit::Week => units.div_euclid(WEEK),
         Unit::Month => month_around(first, stamp),
         Unit::Year => year_around(first, stamp),
     }

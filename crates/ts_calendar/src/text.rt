@@ -3,6 +3,8 @@ ghost use Rattle.std.specs.Prelude.{◌≡◌, ◌↔◌, ℕ, List, ◌++◌, �
 ghost use Rattle.ts_pattern.specs.Algebra.{Answers};
 ghost use Rattle.ts_base.specs.StampText.{stamp_text};
 ghost use Rattle.ts_calendar.specs.declared.text.CalendarText.{CalendarText};
+ghost use Rattle.ts_text.specs.Place.{RefusesInPlace};
+ghost use Rattle.ts_calendar.specs.Front.{calendar_fronts};
 ghost use Rattle.ts_calendar.specs.Spelling.{IsCalendarText};
 ghost use Rattle.ts_calendar.specs.Text.{read_calendar, written_calendar, printed_calendar, printed_part, IsSound};
 
@@ -121,4 +123,12 @@ pub fn calendar_texts_are_tokens()
 /// What is printed of a calendar is read as the same.
 pub fn printed_calendars_are_read()
     ensures { (c : CalendarText) → IsSound c → read_calendar (printed_calendar c) ≡ Ok c }
+{}
+
+/// Where a text is refused as a calendar, what stands before the place goes on to a calendar's text; with the token that
+/// stands at the place none does: whatever comes behind it that leaves it this token, the text is refused at this place. In
+/// the brackets of a date the bytes up to the next closing bracket count as one token. Nothing is said of bytes that begin
+/// no token.
+pub fn calendars_are_refused_in_place()
+    ensures { RefusesInPlace calendar_fronts written_calendar }
 {}

@@ -9,18 +9,15 @@ use Rattle.ts_base.specs.Moment.{units_of as moment_units}
 use Rattle.ts_row.specs.declared.kind.Column.{Column}
 use Rattle.ts_row.specs.declared.value.Literal.{Literal}
 use Rattle.ts_row.specs.declared.value.Literal.TheVariants as literals
-use Rattle.ts_text.specs.Phrase.{Phrase, a_sign, behind, in_brackets, pair, triple, closed}
+use Rattle.ts_text.specs.Phrase.{Phrase, word_in, a_sign, behind, in_brackets, pair, triple, closed}
 use Rattle.ts_text.specs.declared.token.TokenKind.{TokenKind}
 use Rattle.ts_text.specs.declared.token.TokenKind.TheVariants.{Word, Number, Text, Sign}
-use Rattle.ts_text.proofs.PhraseLemmas.{Yields, Shrinks, shrinks_of, chain, given, Any}
-use Rattle.ts_text.proofs.TokenLemmas.{of_token}
-use Rattle.ts_text.proofs.SignLemmas.{sign_yields, behind_yields, brackets_yield, pair_yields, triple_yields, made_yields}
-use Rattle.ts_text.proofs.ListLemmas.{closed_yields}
+use Rattle.ts_text.proofs.CallerLemmas.{Yields, Shrinks, shrinks_of, chain, given, Any, of_token, sign_yields, behind_yields, brackets_yield, pair_yields, triple_yields, made_yields, closed_yields}
 use Rattle.ts_command.specs.Tokens.{front, number_length, magnitude_length, fraction_length, closing}
 use Rattle.ts_command.specs.Text.{undoubled, said}
 use Rattle.ts_command.specs.Number.{units_of, scale_of}
 use Rattle.ts_command.specs.Form.{IsColumn, HasForm}
-use Rattle.ts_command.specs.Grammar.{a_literal, literal_in, a_column, a_name, name_in, a_key, key_in, a_stamp, stamp_in, a_text, text_in, a_type, type_in, kind_behind, a_small, small_in, a_word, word_in, a_whole, whole_in, within, a_stamp_column, a_routine, routine_in, n_call, k_call, kn_call, ks_call, kss_call, ki_call, nt_call, nni_call, ksv_call, ncc_call, arguments, a_call}
+use Rattle.ts_command.specs.Grammar.{a_literal, literal_in, a_column, a_name, name_in, a_key, key_in, a_stamp, stamp_in, a_type, type_in, kind_behind, a_small, small_in, a_word, a_whole, whole_in, within, a_stamp_column, a_routine, routine_in, a_name_call, a_key_call, a_key_name_call, a_key_stamp_call, a_names_whole_call, a_key_stamp_values_call, a_name_columns_call, arguments, a_call}
 use Rattle.ts_command.specs.Routines.{routine_of, type_of}
 use Rattle.ts_command.specs.declared.routine.Routine.{Routine}
 use Rattle.ts_command.specs.declared.routine.Routine.TheVariants as calls
@@ -72,10 +69,6 @@ key_yields = of_token front front_laws IsKey key_in (record { first = 39; more =
 pub stamp_yields : Yields front Any a_stamp
 unfolding a_stamp front closing undoubled read_stamp
 stamp_yields = of_token front front_laws Any stamp_in (record { first = 39; more = codes "1970-01-01 00:00:00'"; kind = Text; found = moment_units (moment_in (codes "1970-01-01 00:00:00")); holds = tt; stands = refl; accepted = refl }) (λ kind text a e. tt)
-
-pub text_yields : Yields front Any a_text
-unfolding a_text front closing undoubled
-text_yields = of_token front front_laws Any text_in (record { first = 39; more = 39 ∷ []; kind = Text; found = []; holds = tt; stands = refl; accepted = refl }) (λ kind text a e. tt)
 
 pub literal_yields : Yields front Any a_literal
 unfolding a_literal front
@@ -174,44 +167,31 @@ behind_comma P phrase one = behind_yields front front_laws P 44 comma_sign phras
 listed : {A : Type 0} (P : A → Type 0) (phrase : Phrase A) → Yields front P phrase → Yields front (AllByRecursion P) (closed 41 phrase)
 listed P phrase one = closed_yields front front_laws P 41 comma_sign close_sign refl phrase one
 
-n_yields : Yields front IsName n_call
-unfolding n_call
-n_yields = bracketed IsName a_name name_yields
+name_call_yields : Yields front IsName a_name_call
+unfolding a_name_call
+name_call_yields = bracketed IsName a_name name_yields
 
-k_yields : Yields front IsKey k_call
-unfolding k_call
-k_yields = bracketed IsKey a_key key_yields
+key_call_yields : Yields front IsKey a_key_call
+unfolding a_key_call
+key_call_yields = bracketed IsKey a_key key_yields
 
-kn_yields : Yields front (λ (p : List ℕ × List ℕ). IsKey p.0 × IsName p.1) kn_call
-unfolding kn_call
-kn_yields = bracketed _ (pair a_key a_name) (paired IsKey IsName a_key a_name key_yields name_yields)
+key_name_call_yields : Yields front (λ (p : List ℕ × List ℕ). IsKey p.0 × IsName p.1) a_key_name_call
+unfolding a_key_name_call
+key_name_call_yields = bracketed _ (pair a_key a_name) (paired IsKey IsName a_key a_name key_yields name_yields)
 
-ks_yields : Yields front (λ (p : List ℕ × ℤ). IsKey p.0 × Any p.1) ks_call
-unfolding ks_call
-ks_yields = bracketed _ (pair a_key a_stamp) (paired IsKey Any a_key a_stamp key_yields stamp_yields)
+key_stamp_call_yields : Yields front (λ (p : List ℕ × ℤ). IsKey p.0 × Any p.1) a_key_stamp_call
+unfolding a_key_stamp_call
+key_stamp_call_yields = bracketed _ (pair a_key a_stamp) (paired IsKey Any a_key a_stamp key_yields stamp_yields)
 
-nni_yields : (least most : ℤ) → int_le least (pos 1) ≡ true → int_le (pos 1) most ≡ true → Yields front (λ (p : List ℕ × List ℕ × ℤ). IsName p.0 × IsName p.1 × IsWithin least most p.2) (nni_call least most)
-unfolding nni_call
-nni_yields least most below above =
+names_whole_call_yields : (least most : ℤ) → int_le least (pos 1) ≡ true → int_le (pos 1) most ≡ true → Yields front (λ (p : List ℕ × List ℕ × ℤ). IsName p.0 × IsName p.1 × IsWithin least most p.2) (a_names_whole_call least most)
+unfolding a_names_whole_call
+names_whole_call_yields least most below above =
     bracketed _ (triple a_name a_name (a_whole least most))
     (triple_yields front front_laws IsName IsName (IsWithin least most) comma_sign a_name a_name (a_whole least most) name_yields name_yields (whole_yields least most below above))
 
--- the shapes of routines that come next
-kss_yields : Yields front (λ (p : List ℕ × ℤ × ℤ). IsKey p.0 × Any p.1 × Any p.2) kss_call
-unfolding kss_call
-kss_yields = bracketed _ (triple a_key a_stamp a_stamp) (triple_yields front front_laws IsKey Any Any comma_sign a_key a_stamp a_stamp key_yields stamp_yields stamp_yields)
-
-ki_yields : (least most : ℤ) → int_le least (pos 1) ≡ true → int_le (pos 1) most ≡ true → Yields front (λ (p : List ℕ × ℤ). IsKey p.0 × IsWithin least most p.1) (ki_call least most)
-unfolding ki_call
-ki_yields least most below above = bracketed _ (pair a_key (a_whole least most)) (paired IsKey (IsWithin least most) a_key (a_whole least most) key_yields (whole_yields least most below above))
-
-nt_yields : Yields front (λ (p : List ℕ × List ℕ). IsName p.0 × Any p.1) nt_call
-unfolding nt_call
-nt_yields = bracketed _ (pair a_name a_text) (paired IsName Any a_name a_text name_yields text_yields)
-
-ksv_yields : Yields front (λ (p : List ℕ × ℤ × List Literal). IsKey p.0) ksv_call
-unfolding ksv_call
-ksv_yields =
+key_stamp_values_call_yields : Yields front (λ (p : List ℕ × ℤ × List Literal). IsKey p.0) a_key_stamp_values_call
+unfolding a_key_stamp_values_call
+key_stamp_values_call_yields =
     chain front front_laws IsKey (λ (p : List ℕ × ℤ × List Literal). IsKey p.0) (behind 40 a_key) _ (behind_yields front front_laws IsKey 40 open_sign a_key key_yields)
     (λ key k. chain front front_laws Any (λ (p : List ℕ × ℤ × List Literal). IsKey p.0) (behind 44 a_stamp) _ (behind_comma Any a_stamp stamp_yields)
     (λ stamp s. chain front front_laws (AllByRecursion Any) (λ (p : List ℕ × ℤ × List Literal). IsKey p.0) (closed 41 a_literal) _ (listed Any a_literal literal_yields) (λ values v. given front (λ (p : List ℕ × ℤ × List Literal). IsKey p.0) (key, stamp, values) k)))
@@ -219,9 +199,9 @@ ksv_yields =
 abbrev IsRowType : List ℕ × List ℕ × List Column → Type 0
 IsRowType p = HasForm (commands.CreateRowType p.0 p.1 p.2)
 
-ncc_yields : Yields front IsRowType ncc_call
-unfolding ncc_call
-ncc_yields =
+name_columns_call_yields : Yields front IsRowType a_name_columns_call
+unfolding a_name_columns_call
+name_columns_call_yields =
     chain front front_laws IsName IsRowType (behind 40 a_name) _ (behind_yields front front_laws IsName 40 open_sign a_name name_yields)
     (λ name n. chain front front_laws IsName IsRowType (behind 44 a_stamp_column) _ (behind_comma IsName a_stamp_column stamp_column_yields)
     (λ stamp s. chain front front_laws IsColumn IsRowType (behind 44 a_column) _ (behind_comma IsColumn a_column column_yields)
@@ -231,19 +211,19 @@ ncc_yields =
 -- each routine's command has its form
 arguments_yield : (routine : Routine) → Yields front HasForm (arguments routine)
 unfolding arguments
-arguments_yield calls.CreateRowType = made_yields front front_laws _ HasForm ncc_call _ ncc_yields (λ a form. form)
-arguments_yield calls.DropRowType = made_yields front front_laws _ HasForm n_call _ n_yields (λ a form. form)
-arguments_yield calls.TSContainerCreate = made_yields front front_laws _ HasForm (nni_call (pos 1) (pos 65536)) _ (nni_yields (pos 1) (pos 65536) refl refl) (λ a form. (form.0, form.1, form.2.0, form.2.1))
-arguments_yield calls.TSContainerDestroy = made_yields front front_laws _ HasForm n_call _ n_yields (λ a form. form)
-arguments_yield calls.TSContainerUsage = made_yields front front_laws _ HasForm n_call _ n_yields (λ a form. form)
-arguments_yield calls.TSCreateIrr = made_yields front front_laws _ HasForm kn_call _ kn_yields (λ a form. form)
-arguments_yield calls.DropSeries = made_yields front front_laws _ HasForm k_call _ k_yields (λ a form. form)
-arguments_yield calls.ListSeries = made_yields front front_laws _ HasForm n_call _ n_yields (λ a form. form)
-arguments_yield calls.InsElem = made_yields front front_laws _ HasForm ksv_call _ ksv_yields (λ a form. form)
-arguments_yield calls.UpdElem = made_yields front front_laws _ HasForm ksv_call _ ksv_yields (λ a form. form)
-arguments_yield calls.GetElem = made_yields front front_laws _ HasForm ks_call _ ks_yields (λ a form. form.0)
-arguments_yield calls.GetLastElem = made_yields front front_laws _ HasForm k_call _ k_yields (λ a form. form)
-arguments_yield calls.GetNelems = made_yields front front_laws _ HasForm k_call _ k_yields (λ a form. form)
+arguments_yield calls.CreateRowType = made_yields front front_laws _ HasForm a_name_columns_call _ name_columns_call_yields (λ a form. form)
+arguments_yield calls.DropRowType = made_yields front front_laws _ HasForm a_name_call _ name_call_yields (λ a form. form)
+arguments_yield calls.TSContainerCreate = made_yields front front_laws _ HasForm (a_names_whole_call (pos 1) (pos 65536)) _ (names_whole_call_yields (pos 1) (pos 65536) refl refl) (λ a form. (form.0, form.1, form.2.0, form.2.1))
+arguments_yield calls.TSContainerDestroy = made_yields front front_laws _ HasForm a_name_call _ name_call_yields (λ a form. form)
+arguments_yield calls.TSContainerUsage = made_yields front front_laws _ HasForm a_name_call _ name_call_yields (λ a form. form)
+arguments_yield calls.TSCreateIrr = made_yields front front_laws _ HasForm a_key_name_call _ key_name_call_yields (λ a form. form)
+arguments_yield calls.DropSeries = made_yields front front_laws _ HasForm a_key_call _ key_call_yields (λ a form. form)
+arguments_yield calls.ListSeries = made_yields front front_laws _ HasForm a_name_call _ name_call_yields (λ a form. form)
+arguments_yield calls.InsElem = made_yields front front_laws _ HasForm a_key_stamp_values_call _ key_stamp_values_call_yields (λ a form. form)
+arguments_yield calls.UpdElem = made_yields front front_laws _ HasForm a_key_stamp_values_call _ key_stamp_values_call_yields (λ a form. form)
+arguments_yield calls.GetElem = made_yields front front_laws _ HasForm a_key_stamp_call _ key_stamp_call_yields (λ a form. form.0)
+arguments_yield calls.GetLastElem = made_yields front front_laws _ HasForm a_key_call _ key_call_yields (λ a form. form)
+arguments_yield calls.GetNelems = made_yields front front_laws _ HasForm a_key_call _ key_call_yields (λ a form. form)
 
 -- a call
 pub call_yields : Yields front HasForm a_call

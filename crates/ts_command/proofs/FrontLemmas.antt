@@ -6,11 +6,9 @@ use Rattle.std.proofs.lemmas.Bool.Decides.{nat_tests}
 use Rattle.std.specs.List.{prefix_len}
 use Rattle.std.specs.Char.{is_ascii_digit}
 use Rattle.ts_base.specs.Name.{is_blank, begins_word, continues_word, is_text_byte}
-use Rattle.ts_text.specs.Front.{IsFront, IsSign}
 use Rattle.ts_text.specs.declared.token.TokenKind.{TokenKind}
 use Rattle.ts_text.specs.declared.token.TokenKind.TheVariants.{Word, Number, Text}
-use Rattle.ts_text.proofs.PlainLemmas.{token_is, run_stays, blank_ends_word}
-use Rattle.ts_text.proofs.PlaceLemmas.{IsEnding}
+use Rattle.ts_text.proofs.CallerLemmas.{IsFront, IsSign, token_is, run_stays, blank_ends_word, IsEnding}
 use Rattle.ts_command.specs.NumberForm.{IsNumber}
 use Rattle.ts_command.specs.Tokens.{number_length, magnitude_length, closing, later, front}
 use Rattle.ts_command.proofs.NumberFormLemmas.{number_form, number_longest}

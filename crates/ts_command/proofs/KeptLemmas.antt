@@ -13,7 +13,7 @@ use Rattle.ts_command.specs.Tokens.{number_length, magnitude_length, closing, la
 use Rattle.ts_text.specs.declared.token.TokenKind.{TokenKind}
 use Rattle.ts_text.specs.declared.token.TokenKind.TheVariants.{Word, Number, Text}
 use Rattle.ts_command.proofs.NumberFormLemmas.{digits_parts, digits_made, count-append, number_form, number_longest}
-use Rattle.ts_text.proofs.PlainLemmas.{token_is, run_keeps}
+use Rattle.ts_text.proofs.CallerLemmas.{token_is, run_keeps}
 use Rattle.ts_command.proofs.TokenLengths.{of_kind_is}
 
 -- a text has a byte that closes it

@@ -1,7 +1,8 @@
 -- What is printed of a value is one token, and says the value.
-use Rattle.std.proofs.Common.{◌≡◌, ◌⊎◌, ℕ, zero, suc, nat_lt, nat_le, ◌+◌, ◌-◌, ◌*◌, ◌/◌, ◌%◌, ◌^◌, ◌<◌, ◌≤◌, ◌==◌, ◌||◌, true, false, ℤ, pos, negsuc, int_lt, unsigned_abs, IsTrue, List, [], ◌∷◌, ◌++◌, length, length-append, append_assoc, take, drop, slice_index, filter, Option, Some, Ok, Err, refl, sym, ◌∙◌, ap, arith, lit<, inl, inr, codes}
+use Rattle.std.proofs.Common.{◌≡◌, ◌⊎◌, ℕ, zero, suc, nat_lt, nat_le, ◌+◌, ◌-◌, ◌*◌, ◌/◌, ◌%◌, ◌^◌, ◌<◌, ◌≤◌, ◌==◌, ◌||◌, true, false, ℤ, pos, negsuc, int_lt, unsigned_abs, IsTrue, List, [], ◌∷◌, ◌++◌, length, length-append, append_assoc, take, drop, slice_index, filter, Option, Some, Ok, Err, refl, sym, subst, ◌∙◌, ap, arith, lit<, inl, inr, codes}
 use Rattle.std.proofs.Math.Seq.{take-append_seam, drop-append_seam}
-use Rattle.std.proofs.Math.Nat.{pow-suc, pow-le-pow_right, div-le_self}
+use Rattle.std.proofs.Math.Nat.{pow-suc, pow-le-pow_right, div-le_self, one-le-pow}
+use Rattle.std.proofs.lemmas.Nat.{pow-add, div_below}
 use Rattle.std.proofs.lemmas.Bool.{cases_Bool, and_parts}
 use Rattle.std.proofs.lemmas.Bool.Decides.{nat_tests}
 use Rattle.std.proofs.lemmas.Fmt.{decimal_by_steps_wide}
@@ -34,7 +35,7 @@ use Rattle.ts_command.specs.Printed.{ends_value}
 use Rattle.ts_text.specs.declared.token.TokenKind.{TokenKind}
 use Rattle.ts_text.specs.declared.token.TokenKind.TheVariants.{Word, Number, Text}
 use Rattle.ts_command.proofs.FormLemmas.{literal_shrinks}
-use Rattle.ts_text.proofs.ListLemmas.{repeated_none, repeated_more}
+use Rattle.ts_text.proofs.CallerLemmas.{repeated_none, repeated_more}
 use Rattle.ts_command.proofs.NumberFormLemmas.{stops}
 use Rattle.ts_command.proofs.TextLemmas.{undoubled-cons}
 use Rattle.ts_command.proofs.TokenLemmas.{text_byte, single_quote, doubled_quote}
@@ -158,13 +159,20 @@ first_of : (digits rest : List ℕ) → list_all is_ascii_digit digits ≡ true 
 first_of [] rest all some = absurd (omega arith)
 first_of (d ∷ digits) rest all some = record { first = d; more = digits ++ rest; split = refl; digit = (and_parts (is_ascii_digit d) (list_all is_ascii_digit digits) all).0 }
 
-size-magnitude : (scale n : ℕ) → n < 10 ^ 19 → scale ≤ 18 → Magnitude scale (size_text scale n)
+-- the digits that a number of at most 29 has in front of its point
+whole_part : (n scale : ℕ) → n < 10 ^ 29 → scale ≤ 28 → n / 10 ^ scale < 10 ^ suc (28 - scale)
+whole_part n scale below few =
+    let digits : suc (28 - scale) + scale ≡ 29 = omega arith in
+    let all : 10 ^ suc (28 - scale) * 10 ^ scale ≡ 10 ^ 29 = sym (pow-add 10 (suc (28 - scale)) scale) ∙ ap (λ k. 10 ^ k) digits in
+    div_below n (10 ^ scale) (10 ^ suc (28 - scale)) (one-le-pow scale 10 (lit< tt)) (subst (λ m. n < m) (sym all) below)
+
+size-magnitude : (scale n : ℕ) → n < 10 ^ 29 → scale ≤ 28 → Magnitude scale (size_text scale n)
 size-magnitude zero n below few =
-    let wide : 10 ^ 19 < 10 ^ 64 = lit< tt in
+    let wide : 10 ^ 29 < 10 ^ 64 = lit< tt in
     let less : n / 10 ^ 0 ≤ n = div-le_self n (10 ^ 0) in
     let text : List ℕ = decimal (n / 10 ^ 0) in
     let digits = decimal-digits (n / 10 ^ 0) (omega arith) in
-    let short = digits.few 18 (omega arith) in
+    let short = digits.few 28 (omega arith) in
     let first = first_of text [] digits.all digits.some in
     let same : text ++ [] ≡ text = append-nil text in
     rw same (record {
@@ -176,13 +184,13 @@ size-magnitude zero n below few =
       point = inl (refl, no_point text digits.all);
     })
 size-magnitude (suc count) n below few =
-    let wide : 10 ^ 19 < 10 ^ 64 = lit< tt in
+    let wide : 10 ^ 29 < 10 ^ 64 = lit< tt in
     let less : n / 10 ^ suc count ≤ n = div-le_self n (10 ^ suc count) in
     let text : List ℕ = decimal (n / 10 ^ suc count) in
     let fraction : List ℕ = last_digits (suc count) n in
     let digits = decimal-digits (n / 10 ^ suc count) (omega arith) in
     let behind = last_digits-all (suc count) n in
-    let short = digits.few 18 (omega arith) in
+    let short = digits.few (28 - suc count) (whole_part n (suc count) below few) in
     let first = first_of text (46 ∷ fraction) digits.all digits.some in
     let some : (suc count == 0) ≡ false = grind (arith, nat_tests) in
     let size : length (text ++ 46 ∷ fraction) ≡ length text + (1 + length fraction) = length-append text (46 ∷ fraction) ∙ omega arith in
@@ -246,16 +254,16 @@ signed-read scale n text rest b is value ends =
       by_point (inr some) = behind_some (45 ∷ text) (1 + position_or_len (λ b. b == 46) text) scale refl (omega (arith, some))
 
 -- numbers of a column are short
-held_small : (kind : ColumnKind) (n : ℕ) → IsTrue (is_kind kind) → IsTrue (holds_size kind n) → (n < 10 ^ 19) × (scale_of kind ≤ 18)
-held_small SmallInt n valid held = let most : 32_767 < 10 ^ 19 = lit< tt in (grind (arith, nat_tests), omega arith)
-held_small Integer n valid held = let most : 2_147_483_647 < 10 ^ 19 = lit< tt in (grind (arith, nat_tests), omega arith)
-held_small BigInt n valid held = let most : 9_223_372_036_854_775_807 < 10 ^ 19 = lit< tt in (grind (arith, nat_tests), omega arith)
+held_small : (kind : ColumnKind) (n : ℕ) → IsTrue (is_kind kind) → IsTrue (holds_size kind n) → (n < 10 ^ 29) × (scale_of kind ≤ 28)
+held_small SmallInt n valid held = let most : 32_767 < 10 ^ 29 = lit< tt in (grind (arith, nat_tests), omega arith)
+held_small Integer n valid held = let most : 2_147_483_647 < 10 ^ 29 = lit< tt in (grind (arith, nat_tests), omega arith)
+held_small BigInt n valid held = let most : 9_223_372_036_854_775_807 < 10 ^ 29 = lit< tt in (grind (arith, nat_tests), omega arith)
 held_small (Decimal digits scale) n valid held =
-    let few : digits ≤ 18 = grind (arith, nat_tests) in
+    let few : digits ≤ 28 = grind (arith, nat_tests) in
     let part : scale ≤ digits = grind (arith, nat_tests) in
     let below : n < 10 ^ digits = grind (arith, nat_tests) in
-    let power : 10 ^ digits ≤ 10 ^ 18 = pow-le-pow_right (lit< tt) {i = digits} {j = 18} few in
-    let wide : 10 ^ 18 < 10 ^ 19 = lit< tt in
+    let power : 10 ^ digits ≤ 10 ^ 28 = pow-le-pow_right (lit< tt) {i = digits} {j = 28} few in
+    let wide : 10 ^ 28 < 10 ^ 29 = lit< tt in
     (omega arith, omega arith)
 held_small (VarChar most) n valid held = absurd (cc)
 
@@ -263,14 +271,14 @@ abbrev Sized : Type 0
 Sized = (scale : ℕ) (z : ℤ) → unsigned_abs z < 2 ^ 128 → number_of (filter is_ascii_digit (number_text scale z)) ≡ unsigned_abs z
 
 -- a number of a column
-number-read : Sized → (scale : ℕ) (z : ℤ) (b : ℕ) (rest : List ℕ) → unsigned_abs z < 10 ^ 19 → scale ≤ 18 → Ends b → a_literal (number_text scale z ++ b ∷ rest) ≡ Ok (literals.Number z scale, b ∷ rest)
+number-read : Sized → (scale : ℕ) (z : ℤ) (b : ℕ) (rest : List ℕ) → unsigned_abs z < 10 ^ 29 → scale ≤ 28 → Ends b → a_literal (number_text scale z ++ b ∷ rest) ≡ Ok (literals.Number z scale, b ∷ rest)
 number-read sized scale (pos n) b rest below few ends =
     let plus : int_lt (pos n) (pos 0) ≡ false = grind (arith, nat_tests) in
-    let wide : 10 ^ 19 < 2 ^ 128 = lit< tt in
+    let wide : 10 ^ 29 < 2 ^ 128 = lit< tt in
     let value = rw plus at (sized scale (pos n) (omega arith)) in
     rw plus (unsigned-read scale n (size_text scale n) rest b (size-magnitude scale n below few) value ends)
 number-read sized scale (negsuc n) b rest below few ends =
-    let wide : 10 ^ 19 < 2 ^ 128 = lit< tt in
+    let wide : 10 ^ 29 < 2 ^ 128 = lit< tt in
     let value = sized scale (negsuc n) (omega arith) in
     signed-read scale n (size_text scale (suc n)) rest b (size-magnitude scale (suc n) below few) value ends
 

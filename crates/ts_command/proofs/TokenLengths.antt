@@ -14,7 +14,7 @@ use Rattle.ts_text.specs.Plain.{digits_in_front}
 use Rattle.ts_text.specs.Digits.{digit_count}
 use Rattle.ts_text.specs.declared.token.TokenKind.{TokenKind}
 use Rattle.ts_text.specs.declared.token.TokenKind.TheVariants.{Word, Number, Text, Sign}
-use Rattle.ts_text.proofs.PlainLemmas.{token_is}
+use Rattle.ts_text.proofs.CallerLemmas.{token_is}
 
 pub digits_in_front-le : (room : ℕ) (s : List ℕ) → digits_in_front room s ≤ room
 digits_in_front-le room s = omega (arith, prefix_len-le-length is_ascii_digit (take room s), length-take room s)

@@ -6,7 +6,7 @@ use Rattle.ts_base.specs.Name.{begins_word, continues_word, is_word}
 use Rattle.ts_items.proofs.RunLemmas.{front_passes}
 use Rattle.ts_command.specs.Tokens.{closing, later, number_length, front}
 use Rattle.ts_text.specs.declared.token.TokenKind.TheVariants.{Word, Number, Text, Sign}
-use Rattle.ts_text.proofs.PlainLemmas.{token_is}
+use Rattle.ts_text.proofs.CallerLemmas.{token_is}
 use Rattle.ts_command.proofs.TokenLengths.{of_kind_is}
 
 -- more of the list doesn't

@@ -11,7 +11,7 @@ use Rattle.ts_row.specs.declared.kind.ColumnKind.TheVariants as kinds
 use Rattle.ts_row.specs.declared.value.Literal.{Literal}
 use Rattle.ts_row.specs.declared.value.Literal.TheVariants as literals
 use Rattle.ts_text.specs.Digits.{magnitude_of}
-use Rattle.ts_text.specs.Phrase.{Phrase, ◌>>=◌, give, token, a_sign, behind, in_brackets, pair, triple, made, closed, ended, outcome}
+use Rattle.ts_text.specs.Phrase.{Phrase, ◌>>=◌, give, token, word_in, a_sign, behind, in_brackets, pair, triple, made, closed, ended, outcome}
 use Rattle.ts_text.specs.declared.token.TokenKind.{TokenKind}
 use Rattle.ts_text.specs.declared.token.TokenKind.TheVariants.{Word, Number, Text, Sign}
 use Rattle.ts_command.specs.Tokens.{front}
@@ -30,6 +30,7 @@ abbrev pub name_in : TokenKind → List ℕ → Option (List ℕ)
 name_in Word word = name_if_any word
 name_in kind token = None
 
+-- a name
 unfoldable pub a_name : Phrase (List ℕ)
 a_name = token front name_in
 
@@ -38,6 +39,7 @@ abbrev pub key_in : TokenKind → List ℕ → Option (List ℕ)
 key_in Text text = key_if_any (said text)
 key_in kind token = None
 
+-- a key
 unfoldable pub a_key : Phrase (List ℕ)
 a_key = token front key_in
 
@@ -46,16 +48,9 @@ abbrev pub stamp_in : TokenKind → List ℕ → Option ℤ
 stamp_in Text text = read_stamp (said text)
 stamp_in kind token = None
 
+-- a stamp
 unfoldable pub a_stamp : Phrase ℤ
 a_stamp = token front stamp_in
-
--- the bytes of a text
-abbrev pub text_in : TokenKind → List ℕ → Option (List ℕ)
-text_in Text text = Some (said text)
-text_in kind token = None
-
-unfoldable pub a_text : Phrase (List ℕ)
-a_text = token front text_in
 
 -- a word, a number or a text that a column's value is written as
 abbrev pub literal_in : TokenKind → List ℕ → Option Literal
@@ -64,6 +59,7 @@ literal_in Number number = Some (literals.Number (units_of number) (scale_of num
 literal_in Text text = Some (literals.Text (said text))
 literal_in Sign sign = None
 
+-- a value as a statement writes it
 unfoldable pub a_literal : Phrase Literal
 a_literal = token front literal_in
 
@@ -76,6 +72,7 @@ abbrev pub whole_in : ℤ → ℤ → TokenKind → List ℕ → Option ℤ
 whole_in least most Number number = if scale_of number == 0 then within least most (units_of number) else None
 whole_in least most kind token = None
 
+-- a whole number between the two
 unfoldable pub a_whole : ℤ → ℤ → Phrase ℤ
 a_whole least most = token front (whole_in least most)
 
@@ -84,14 +81,11 @@ abbrev pub small_in : TokenKind → List ℕ → Option ℕ
 small_in Number number = if nat_le (length number) 3 && list_all is_ascii_digit number then Some (magnitude_of number) else None
 small_in kind token = None
 
+-- a small number, as a type has
 unfoldable pub a_small : Phrase ℕ
 a_small = token front small_in
 
 -- this word
-abbrev pub word_in : List ℕ → TokenKind → List ℕ → Option (Unit {0})
-word_in wanted Word word = if bytes_eq word wanted then Some tt else None
-word_in wanted kind token = None
-
 unfoldable pub a_word : List ℕ → Phrase (Unit {0})
 a_word wanted = token front (word_in wanted)
 
@@ -107,6 +101,7 @@ abbrev pub type_in : TokenKind → List ℕ → Option TypeName
 type_in Word word = type_of word
 type_in kind token = None
 
+-- the type of a value column, without its numbers
 unfoldable pub a_type : Phrase TypeName
 a_type = token front type_in
 
@@ -125,6 +120,7 @@ kind_behind VarChar = do
   end ← a_sign 41
   give (kinds.VarChar length)
 
+-- a value column: its name and its type
 unfoldable pub a_column : Phrase Column
 a_column = do
   name ← a_name
@@ -137,55 +133,43 @@ abbrev pub routine_in : TokenKind → List ℕ → Option Routine
 routine_in Word word = routine_of word
 routine_in kind token = None
 
+-- the routine that is called
 unfoldable pub a_routine : Phrase Routine
 a_routine = token front routine_in
 
--- The shapes of calls, each with its brackets: N is a name, K a key, S a stamp, T a text, I a whole number in a range, V a
--- value and C a column with its type.
+-- The shapes of calls, each with its brackets.
 
--- N
-unfoldable pub n_call : Phrase (List ℕ)
-n_call = in_brackets a_name
+-- a name
+unfoldable pub a_name_call : Phrase (List ℕ)
+a_name_call = in_brackets a_name
 
--- K
-unfoldable pub k_call : Phrase (List ℕ)
-k_call = in_brackets a_key
+-- a key
+unfoldable pub a_key_call : Phrase (List ℕ)
+a_key_call = in_brackets a_key
 
--- K, N
-unfoldable pub kn_call : Phrase (List ℕ × List ℕ)
-kn_call = in_brackets (pair a_key a_name)
+-- a key and a name
+unfoldable pub a_key_name_call : Phrase (List ℕ × List ℕ)
+a_key_name_call = in_brackets (pair a_key a_name)
 
--- K, S
-unfoldable pub ks_call : Phrase (List ℕ × ℤ)
-ks_call = in_brackets (pair a_key a_stamp)
+-- a key and a stamp
+unfoldable pub a_key_stamp_call : Phrase (List ℕ × ℤ)
+a_key_stamp_call = in_brackets (pair a_key a_stamp)
 
--- K, S, S
-unfoldable pub kss_call : Phrase (List ℕ × ℤ × ℤ)
-kss_call = in_brackets (triple a_key a_stamp a_stamp)
+-- two names and a whole number between the two
+unfoldable pub a_names_whole_call : ℤ → ℤ → Phrase (List ℕ × List ℕ × ℤ)
+a_names_whole_call least most = in_brackets (triple a_name a_name (a_whole least most))
 
--- K, I
-unfoldable pub ki_call : ℤ → ℤ → Phrase (List ℕ × ℤ)
-ki_call least most = in_brackets (pair a_key (a_whole least most))
-
--- N, T
-unfoldable pub nt_call : Phrase (List ℕ × List ℕ)
-nt_call = in_brackets (pair a_name a_text)
-
--- N, N, I
-unfoldable pub nni_call : ℤ → ℤ → Phrase (List ℕ × List ℕ × ℤ)
-nni_call least most = in_brackets (triple a_name a_name (a_whole least most))
-
--- K, S, V, ..: any number of values
-unfoldable pub ksv_call : Phrase (List ℕ × ℤ × List Literal)
-ksv_call = do
+-- a key, a stamp and any number of values
+unfoldable pub a_key_stamp_values_call : Phrase (List ℕ × ℤ × List Literal)
+a_key_stamp_values_call = do
   key ← behind 40 a_key
   stamp ← behind 44 a_stamp
   values ← closed 41 a_literal
   give (key, stamp, values)
 
--- N, C, C, ..: the stamp's column and one value column at least
-unfoldable pub ncc_call : Phrase (List ℕ × List ℕ × List Column)
-ncc_call = do
+-- a name, the stamp's column and one value column at least
+unfoldable pub a_name_columns_call : Phrase (List ℕ × List ℕ × List Column)
+a_name_columns_call = do
   name ← behind 40 a_name
   stamp ← behind 44 a_stamp_column
   first ← behind 44 a_column
@@ -194,19 +178,19 @@ ncc_call = do
 
 -- what each routine is called with, as its command
 unfoldable pub arguments : Routine → Phrase Command
-arguments calls.CreateRowType = made ncc_call (λ a. commands.CreateRowType a.0 a.1 a.2)
-arguments calls.DropRowType = made n_call commands.DropRowType
-arguments calls.TSContainerCreate = made (nni_call (pos 1) (pos 65536)) (λ a. commands.TSContainerCreate a.0 a.1 a.2)
-arguments calls.TSContainerDestroy = made n_call commands.TSContainerDestroy
-arguments calls.TSContainerUsage = made n_call commands.TSContainerUsage
-arguments calls.TSCreateIrr = made kn_call (λ a. commands.TSCreateIrr a.0 a.1)
-arguments calls.DropSeries = made k_call commands.DropSeries
-arguments calls.ListSeries = made n_call commands.ListSeries
-arguments calls.InsElem = made ksv_call (λ a. commands.InsElem a.0 a.1 a.2)
-arguments calls.UpdElem = made ksv_call (λ a. commands.UpdElem a.0 a.1 a.2)
-arguments calls.GetElem = made ks_call (λ a. commands.GetElem a.0 a.1)
-arguments calls.GetLastElem = made k_call commands.GetLastElem
-arguments calls.GetNelems = made k_call commands.GetNelems
+arguments calls.CreateRowType = made a_name_columns_call (λ a. commands.CreateRowType a.0 a.1 a.2)
+arguments calls.DropRowType = made a_name_call commands.DropRowType
+arguments calls.TSContainerCreate = made (a_names_whole_call (pos 1) (pos 65536)) (λ a. commands.TSContainerCreate a.0 a.1 a.2)
+arguments calls.TSContainerDestroy = made a_name_call commands.TSContainerDestroy
+arguments calls.TSContainerUsage = made a_name_call commands.TSContainerUsage
+arguments calls.TSCreateIrr = made a_key_name_call (λ a. commands.TSCreateIrr a.0 a.1)
+arguments calls.DropSeries = made a_key_call commands.DropSeries
+arguments calls.ListSeries = made a_name_call commands.ListSeries
+arguments calls.InsElem = made a_key_stamp_values_call (λ a. commands.InsElem a.0 a.1 a.2)
+arguments calls.UpdElem = made a_key_stamp_values_call (λ a. commands.UpdElem a.0 a.1 a.2)
+arguments calls.GetElem = made a_key_stamp_call (λ a. commands.GetElem a.0 a.1)
+arguments calls.GetLastElem = made a_key_call commands.GetLastElem
+arguments calls.GetNelems = made a_key_call commands.GetNelems
 
 -- a routine and what it is called with
 unfoldable pub a_call : Phrase Command

@@ -2,7 +2,7 @@
 ghost use Rattle.std.specs.Prelude.{◌≡◌, Ok, IfOk, IfErr};
 ghost use Rattle.ts_text.specs.Phrase.{repeated, onto};
 ghost use Rattle.ts_command.specs.Grammar.{a_stamp_column, a_column, kind_behind};
-ghost use Rattle.ts_text.specs.Misfit.{Refuses};
+ghost use Rattle.ts_text.specs.Misfit.{Refuses, RefusesExactly};
 
 use crate::Columns;
 use crate::phrase::{read_name, read_small, read_type, read_word};
@@ -39,7 +39,7 @@ pub(crate) fn read_column(alloc: Global, bytes: &[u8]) -> Result<(Column, &[u8])
 #[tactic(auto, unfolding(crate::specs::Grammar::kind_behind))]
 fn read_kind(type_name: TypeName, bytes: &[u8]) -> Result<(ColumnKind, &[u8]), Misfit>
     ensures ok { IfOk result (λ found. kind_behind type_name bytes.now ≡ Ok (found.0, found.1.now)) }
-    ensures cause { IfErr result (λ misfit. Refuses misfit (kind_behind type_name bytes.now)) }
+    ensures cause { IfErr result (λ misfit. RefusesExactly misfit (kind_behind type_name bytes.now)) }
 {
     match type_name {
         TypeName::SmallInt => Ok((ColumnKind::SmallInt, bytes)),
@@ -53,7 +53,7 @@ fn read_kind(type_name: TypeName, bytes: &[u8]) -> Result<(ColumnKind, &[u8]), M
 #[tactic(auto, unfolding(crate::specs::Grammar::kind_behind))]
 fn read_decimal(bytes: &[u8]) -> Result<(ColumnKind, &[u8]), Misfit>
     ensures ok { IfOk result (λ found. kind_behind TypeName.Decimal bytes.now ≡ Ok (found.0, found.1.now)) }
-    ensures cause { IfErr result (λ misfit. Refuses misfit (kind_behind TypeName.Decimal bytes.now)) }
+    ensures cause { IfErr result (λ misfit. RefusesExactly misfit (kind_behind TypeName.Decimal bytes.now)) }
 {
     let (digits, rest) = read_small(read_sign(bytes, b'(')?)?;
     let (scale, rest) = read_small(read_sign(rest, b',')?)?;
@@ -64,7 +64,7 @@ fn read_decimal(bytes: &[u8]) -> Result<(ColumnKind, &[u8]), Misfit>
 #[tactic(auto, unfolding(crate::specs::Grammar::kind_behind))]
 fn read_varchar(bytes: &[u8]) -> Result<(ColumnKind, &[u8]), Misfit>
     ensures ok { IfOk result (λ found. kind_behind TypeName.VarChar bytes.now ≡ Ok (found.0, found.1.now)) }
-    ensures cause { IfErr result (λ misfit. Refuses misfit (kind_behind TypeName.VarChar bytes.now)) }
+    ensures cause { IfErr result (λ misfit. RefusesExactly misfit (kind_behind TypeName.VarChar bytes.now)) }
 {
     let (length, rest) = read_small(read_sign(bytes, b'(')?)?;
     let rest = read_sign(rest, b')')?;

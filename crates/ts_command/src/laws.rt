@@ -7,7 +7,7 @@ ghost use Rattle.ts_command.specs.TextForm.{closes, ClosesNoLater, ClosesNowhere
 ghost use Rattle.ts_command.specs.NumberForm.{IsNumber};
 ghost use Rattle.ts_command.specs.Tokens.{closing, number_length, front};
 ghost use Rattle.ts_text.specs.Spelling.{AreItsTokens};
-ghost use Rattle.ts_text.specs.Place.{RefusesInPlace};
+ghost use Rattle.ts_text.specs.Place.{everywhere, RefusesInPlace};
 ghost use Rattle.ts_row.specs.RowType.{is_kind, scale_of};
 ghost use Rattle.ts_row.specs.Row.{Values, holds, fits, value_if_any, row_of};
 ghost use Rattle.ts_row.specs.Printed.{value_text, row_text};
@@ -29,9 +29,10 @@ pub fn a_statement_is_its_tokens()
 {}
 
 /// Where a statement is refused, what stands before the place goes on to a statement; with the token that stands at the
-/// place none does: whatever comes behind it, it is refused at this place.
+/// place none does: whatever comes behind it that leaves it this token, it is refused at this place. Nothing is said of
+/// bytes that begin no token.
 pub fn statements_are_refused_in_place()
-    ensures { RefusesInPlace front command_of }
+    ensures { RefusesInPlace (everywhere front) command_of }
 {}
 
 /// What the front of a script asks for comes first in what the script asks for.

@@ -6,7 +6,10 @@ ghost use Rattle.ts_command.specs.Grammar.{a_call, a_command, arguments, command
 ghost use Rattle.ts_command.specs.Misfit.{IsCause};
 
 use crate::Command;
-use crate::call::{read_k, read_kn, read_ks, read_ksv, read_n, read_ncc, read_nni};
+use crate::call::{
+    read_key_call, read_key_name_call, read_key_stamp_call, read_key_stamp_values_call,
+    read_name_call, read_name_columns_call, read_names_whole_call,
+};
 use crate::phrase::read_routine;
 use crate::routine::Routine;
 use std::alloc::Global;
@@ -20,72 +23,116 @@ fn read_arguments(alloc: Global, routine: Routine, bytes: &[u8]) -> Result<(Comm
     ensures cause { IfErr result (λ misfit. Refuses misfit (arguments routine bytes.now)) }
 {
     match routine {
-        Routine::CreateRowType => {
-            let ((name, stamp, columns), rest) = read_ncc(alloc, bytes)?;
-            Ok((
-                Command::CreateRowType {
-                    name,
-                    stamp,
-                    columns,
-                },
-                rest,
-            ))
-        }
+        Routine::CreateRowType => read_create_row_type(alloc, bytes),
         Routine::DropRowType => {
-            let (name, rest) = read_n(alloc, bytes)?;
+            let (name, rest) = read_name_call(alloc, bytes)?;
             Ok((Command::DropRowType { name }, rest))
         }
-        Routine::TSContainerCreate => {
-            let ((name, row_type, quota), rest) = read_nni(alloc, bytes, 1, 65536)?;
-            Ok((
-                Command::TSContainerCreate {
-                    name,
-                    row_type,
-                    quota,
-                },
-                rest,
-            ))
-        }
+        Routine::TSContainerCreate => read_create_container(alloc, bytes),
         Routine::TSContainerDestroy => {
-            let (name, rest) = read_n(alloc, bytes)?;
+            let (name, rest) = read_name_call(alloc, bytes)?;
             Ok((Command::TSContainerDestroy { name }, rest))
         }
         Routine::TSContainerUsage => {
-            let (name, rest) = read_n(alloc, bytes)?;
+            let (name, rest) = read_name_call(alloc, bytes)?;
             Ok((Command::TSContainerUsage { name }, rest))
         }
-        Routine::TSCreateIrr => {
-            let ((key, container), rest) = read_kn(alloc, bytes)?;
-            Ok((Command::TSCreateIrr { key, container }, rest))
-        }
+        Routine::TSCreateIrr => read_create_series(alloc, bytes),
         Routine::DropSeries => {
-            let (key, rest) = read_k(alloc, bytes)?;
+            let (key, rest) = read_key_call(alloc, bytes)?;
             Ok((Command::DropSeries { key }, rest))
         }
         Routine::ListSeries => {
-            let (container, rest) = read_n(alloc, bytes)?;
+            let (container, rest) = read_name_call(alloc, bytes)?;
             Ok((Command::ListSeries { container }, rest))
         }
-        Routine::InsElem => match read_ksv(alloc, bytes) {
-            Ok(((key, stamp, values), rest)) => Ok((Command::InsElem { key, stamp, values }, rest)),
-            Err(misfit) => Err(misfit),
-        },
-        Routine::UpdElem => match read_ksv(alloc, bytes) {
-            Ok(((key, stamp, values), rest)) => Ok((Command::UpdElem { key, stamp, values }, rest)),
-            Err(misfit) => Err(misfit),
-        },
-        Routine::GetElem => match read_ks(alloc, bytes) {
-            Ok(((key, stamp), rest)) => Ok((Command::GetElem { key, stamp }, rest)),
-            Err(misfit) => Err(misfit),
-        },
+        Routine::InsElem => read_insert(alloc, bytes),
+        Routine::UpdElem => read_update(alloc, bytes),
+        Routine::GetElem => read_get(alloc, bytes),
         Routine::GetLastElem => {
-            let (key, rest) = read_k(alloc, bytes)?;
+            let (key, rest) = read_key_call(alloc, bytes)?;
             Ok((Command::GetLastElem { key }, rest))
         }
         Routine::GetNelems => {
-            let (key, rest) = read_k(alloc, bytes)?;
+            let (key, rest) = read_key_call(alloc, bytes)?;
             Ok((Command::GetNelems { key }, rest))
         }
+    }
+}
+
+// A row type: its name, the stamp's column and the value columns.
+#[tactic(auto, unfolding(crate::specs::Grammar::arguments))]
+fn read_create_row_type(alloc: Global, bytes: &[u8]) -> Result<(Command, &[u8]), Misfit>
+    ensures ok { IfOk result (λ found. arguments Routine.CreateRowType bytes.now ≡ Ok (found.0, found.1.now)) }
+    ensures cause { IfErr result (λ misfit. Refuses misfit (arguments Routine.CreateRowType bytes.now)) }
+{
+    let ((name, stamp, columns), rest) = read_name_columns_call(alloc, bytes)?;
+    let command = Command::CreateRowType {
+        name,
+        stamp,
+        columns,
+    };
+    Ok((command, rest))
+}
+
+// A container: its name, that of its row type, and its quota.
+#[tactic(auto, unfolding(crate::specs::Grammar::arguments))]
+fn read_create_container(alloc: Global, bytes: &[u8]) -> Result<(Command, &[u8]), Misfit>
+    ensures ok { IfOk result (λ found. arguments Routine.TSContainerCreate bytes.now ≡ Ok (found.0, found.1.now)) }
+    ensures cause { IfErr result (λ misfit. Refuses misfit (arguments Routine.TSContainerCreate bytes.now)) }
+{
+    let ((name, row_type, quota), rest) = read_names_whole_call(alloc, bytes, 1, 65536)?;
+    let command = Command::TSContainerCreate {
+        name,
+        row_type,
+        quota,
+    };
+    Ok((command, rest))
+}
+
+// A series: its key, and the name of its container.
+#[tactic(auto, unfolding(crate::specs::Grammar::arguments))]
+fn read_create_series(alloc: Global, bytes: &[u8]) -> Result<(Command, &[u8]), Misfit>
+    ensures ok { IfOk result (λ found. arguments Routine.TSCreateIrr bytes.now ≡ Ok (found.0, found.1.now)) }
+    ensures cause { IfErr result (λ misfit. Refuses misfit (arguments Routine.TSCreateIrr bytes.now)) }
+{
+    let ((key, container), rest) = read_key_name_call(alloc, bytes)?;
+    Ok((Command::TSCreateIrr { key, container }, rest))
+}
+
+// An element to be put in: its key, its stamp and its values.
+#[tactic(auto, unfolding(crate::specs::Grammar::arguments))]
+fn read_insert(alloc: Global, bytes: &[u8]) -> Result<(Command, &[u8]), Misfit>
+    ensures ok { IfOk result (λ found. arguments Routine.InsElem bytes.now ≡ Ok (found.0, found.1.now)) }
+    ensures cause { IfErr result (λ misfit. Refuses misfit (arguments Routine.InsElem bytes.now)) }
+{
+    match read_key_stamp_values_call(alloc, bytes) {
+        Ok(((key, stamp, values), rest)) => Ok((Command::InsElem { key, stamp, values }, rest)),
+        Err(misfit) => Err(misfit),
+    }
+}
+
+// The same of an element to be changed.
+#[tactic(auto, unfolding(crate::specs::Grammar::arguments))]
+fn read_update(alloc: Global, bytes: &[u8]) -> Result<(Command, &[u8]), Misfit>
+    ensures ok { IfOk result (λ found. arguments Routine.UpdElem bytes.now ≡ Ok (found.0, found.1.now)) }
+    ensures cause { IfErr result (λ misfit. Refuses misfit (arguments Routine.UpdElem bytes.now)) }
+{
+    match read_key_stamp_values_call(alloc, bytes) {
+        Ok(((key, stamp, values), rest)) => Ok((Command::UpdElem { key, stamp, values }, rest)),
+        Err(misfit) => Err(misfit),
+    }
+}
+
+// An element to be shown: its key and its stamp.
+#[tactic(auto, unfolding(crate::specs::Grammar::arguments))]
+fn read_get(alloc: Global, bytes: &[u8]) -> Result<(Command, &[u8]), Misfit>
+    ensures ok { IfOk result (λ found. arguments Routine.GetElem bytes.now ≡ Ok (found.0, found.1.now)) }
+    ensures cause { IfErr result (λ misfit. Refuses misfit (arguments Routine.GetElem bytes.now)) }
+{
+    match read_key_stamp_call(alloc, bytes) {
+        Ok(((key, stamp), rest)) => Ok((Command::GetElem { key, stamp }, rest)),
+        Err(misfit) => Err(misfit),
     }
 }
 

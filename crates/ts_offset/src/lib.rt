@@ -14,11 +14,7 @@ mod shape;
 mod span;
 mod starts;
 mod sums;
-#[cfg(test)]
-mod tests;
 mod walk;
-#[cfg(test)]
-mod walk_tests;
 
 pub use counter::Counter;
 pub use grid::Grid;

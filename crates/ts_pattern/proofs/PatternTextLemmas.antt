@@ -16,9 +16,7 @@ use Rattle.ts_text.specs.Phrase.{Read, go_on, ◌>>=◌, give, a_sign, behind, c
 use Rattle.ts_text.specs.Plain.{plain_front}
 use Rattle.ts_text.specs.declared.token.TokenKind.{TokenKind}
 use Rattle.ts_text.specs.declared.token.TokenKind.TheVariants.{Word as TheWord, Number, Text, Sign}
-use Rattle.ts_text.proofs.PlainLemmas.{plain_laws, word_stands, digits_stand}
-use Rattle.ts_text.proofs.PartedLemmas.{bind-ok, pair-parts, parted-token, token-found, token-read, sign-found, sign-read, ends-token, digits-end, StopsWord, stops-word, end-found, end-read}
-use Rattle.ts_text.proofs.ListLemmas.{IsListed, listed_found, listed_read}
+use Rattle.ts_text.proofs.CallerLemmas.{plain_laws, word_stands, digits_stand, bind-ok, pair-parts, parted-token, token-found, token-read, sign-found, sign-read, ends-token, digits-end, StopsWord, stops-word, end-found, end-read, IsListed, listed_found, listed_read}
 use Rattle.ts_pattern.specs.declared.run.Run.{Run}
 use Rattle.ts_pattern.specs.Plan.{Plan}
 use Rattle.ts_pattern.specs.Runs.{run}

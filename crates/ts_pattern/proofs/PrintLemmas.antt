@@ -9,7 +9,7 @@ use Rattle.std.proofs.lemmas.Str.Parse.{IsNumeralModel, numerals_by_fold}
 use Rattle.std.proofs.lemmas.Fmt.{digits_decimal, digits_value-decimal, decimal_nonempty, length-decimal-le}
 use Rattle.ts_base.specs.StampText.{all_digits, number_of, with_digit}
 use Rattle.ts_text.specs.Parted.{IsParted}
-use Rattle.ts_text.proofs.PartedLemmas.{parted-here, parted-space}
+use Rattle.ts_text.proofs.CallerLemmas.{parted-here, parted-space}
 use Rattle.ts_pattern.specs.declared.run.Run.{Run}
 use Rattle.ts_pattern.specs.Plan.{Plan}
 use Rattle.ts_pattern.specs.Runs.{total, flag_at, runs_of, are_merged, is_pattern, differs_from}

@@ -45,6 +45,7 @@ abbrev pub flag_as : TokenKind → List ℕ → Option Bool
 flag_as Word word = flag_of_word word
 flag_as kind token = None
 
+-- the flag of a run
 unfoldable pub flag_in : Phrase Bool
 flag_in = token plain_front flag_as
 
@@ -53,6 +54,7 @@ abbrev pub unit_as : TokenKind → List ℕ → Option unit.Unit
 unit_as Word word = unit_of_word word
 unit_as kind token = None
 
+-- the unit of a pattern
 unfoldable pub unit_in : Phrase unit.Unit
 unit_in = token plain_front unit_as
 
@@ -66,6 +68,7 @@ abbrev pub count_as : TokenKind → List ℕ → Option ℕ
 count_as Number digits = if is_count digits then Some (number_of digits) else None
 count_as kind token = None
 
+-- the count of a run
 unfoldable pub count_in : Phrase ℕ
 count_in = token plain_front count_as
 
@@ -103,6 +106,7 @@ abbrev pub plan_or_place : Result Plan ℕ → Result Plan Refusal
 plan_or_place (Ok written) = plan_of_written written
 plan_or_place (Err place) = Err (BadPattern place)
 
+-- the pattern that a text reads as, or why there is none
 abbrev pub read_plan : List ℕ → Result Plan Refusal
 read_plan text = plan_or_place (written_plan text)
 

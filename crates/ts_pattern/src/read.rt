@@ -1,6 +1,6 @@
 // Reading the text of a pattern.
 ghost use Rattle.std.specs.Prelude.{◌≡◌, ◌+◌, ◌^◌, ◌<◌, ◌≤◌, Ok, IfOk, IfErr, IfSome, OnOk, [], length, IsTrue};
-ghost use Rattle.ts_text.specs.Misfit.{Refuses};
+ghost use Rattle.ts_text.specs.Misfit.{Refuses, RefusesExactly};
 ghost use Rattle.ts_text.specs.Phrase.{ended, repeated, onto};
 ghost use Rattle.ts_text.specs.declared.token.TokenKind.TheVariants.{Number};
 ghost use Rattle.ts_pattern.specs.Grammar.{are_counts, count_as};
@@ -59,7 +59,7 @@ fn unit_of_word(word: &[u8]) -> Option<Unit>
 #[tactic(auto, unfolding(crate::specs::Grammar::flag_in))]
 fn flag_in(text: &[u8]) -> Result<(bool, &[u8]), Misfit>
     ensures ok { IfOk result (λ x. Grammar.flag_in text.now ≡ Ok (x.0, x.1.now)) }
-    ensures cause { IfErr result (λ misfit. Refuses misfit (Grammar.flag_in text.now)) }
+    ensures cause { IfErr result (λ misfit. RefusesExactly misfit (Grammar.flag_in text.now)) }
     ensures shorter { IfOk result (λ x. length x.1.now ≤ length text.now) }
 {
     let here = skip_blanks(text);
@@ -75,7 +75,7 @@ fn flag_in(text: &[u8]) -> Result<(bool, &[u8]), Misfit>
 #[tactic(auto, unfolding(crate::specs::Grammar::unit_in))]
 fn unit_in(text: &[u8]) -> Result<(Unit, &[u8]), Misfit>
     ensures ok { IfOk result (λ x. Grammar.unit_in text.now ≡ Ok (x.0, x.1.now)) }
-    ensures cause { IfErr result (λ misfit. Refuses misfit (Grammar.unit_in text.now)) }
+    ensures cause { IfErr result (λ misfit. RefusesExactly misfit (Grammar.unit_in text.now)) }
 {
     let here = skip_blanks(text);
     if let Some((TokenKind::Word, length)) = plain_front(here) {
@@ -91,7 +91,7 @@ fn unit_in(text: &[u8]) -> Result<(Unit, &[u8]), Misfit>
 #[tactic(auto, unfolding(crate::specs::Grammar::count_in))]
 fn count_in(text: &[u8]) -> Result<(u32, &[u8]), Misfit>
     ensures ok { IfOk result (λ x. Grammar.count_in text.now ≡ Ok (x.0, x.1.now)) }
-    ensures cause { IfErr result (λ misfit. Refuses misfit (Grammar.count_in text.now)) }
+    ensures cause { IfErr result (λ misfit. RefusesExactly misfit (Grammar.count_in text.now)) }
     ensures shorter { IfOk result (λ x. length x.1.now ≤ length text.now) }
     ensures range { IfOk result (λ x. (0 < x.0) × (x.0 < 10 ^ 9)) }
 {
@@ -121,7 +121,7 @@ fn count_of(digits: &[u8]) -> Option<u32>
 #[tactic(auto, unfolding(crate::specs::Grammar::run_in))]
 fn run_in(text: &[u8]) -> Result<(Run, &[u8]), Misfit>
     ensures ok { IfOk result (λ x. Grammar.run_in text.now ≡ Ok (x.0, x.1.now)) }
-    ensures cause { IfErr result (λ misfit. Refuses misfit (Grammar.run_in text.now)) }
+    ensures cause { IfErr result (λ misfit. RefusesExactly misfit (Grammar.run_in text.now)) }
     ensures shorter { IfOk result (λ x. length x.1.now ≤ length text.now) }
     ensures range { IfOk result (λ x. (0 < x.0.count) × (x.0.count < 10 ^ 9)) }
 {

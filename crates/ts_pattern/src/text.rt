@@ -1,6 +1,6 @@
 // Patterns as texts: `{1 off,5 on,1 off},day`.
 ghost use Rattle.std.specs.Prelude.{◌≡◌, ◌≢◌, ℕ, ◌+◌, ◌-◌, ◌*◌, ◌^◌, ◌<◌, ◌≤◌, ◌↔◌, List, [], ◌∷◌, ◌++◌, Ok, length, IsTrue, IfOk, OnOk, OnErr};
-ghost use Rattle.ts_text.specs.Place.{RefusesInPlace};
+ghost use Rattle.ts_text.specs.Place.{everywhere, RefusesInPlace};
 ghost use Rattle.ts_text.specs.Plain.{plain_front};
 ghost use Rattle.ts_text.specs.Spelling.{AreItsTokens};
 ghost use Rattle.ts_pattern.specs.Runs.{total, flag_at, runs_of, is_pattern};
@@ -145,7 +145,8 @@ pub fn a_pattern_is_its_tokens()
 {}
 
 /// Where a text is refused as a pattern, what stands before the place goes on to a pattern's text; with the token that
-/// stands at the place none does.
+/// stands at the place none does: whatever comes behind it that leaves it this token, the text is refused at this place.
+/// Nothing is said of bytes that begin no token.
 pub fn patterns_are_refused_in_place()
-    ensures { RefusesInPlace plain_front written_plan }
+    ensures { RefusesInPlace (everywhere plain_front) written_plan }
 {}

@@ -37,6 +37,12 @@ nine_room n s below few =
     let small : 10 ^ digit_count s ≤ 10 ^ 9 = pow-le-pow_right {n = 10} (omega arith) {i = digit_count s} {j = 9} (omega (arith, count_by-le-length is_ascii_digit s)) in
     omega (arith, small)
 
+-- a number of at most ten digits is below theirs
+pub ten_room : (n : ℕ) (s : List ℕ) → n < 10 ^ digit_count s → length s ≤ 10 → n < 10 ^ 10
+ten_room n s below few =
+    let small : 10 ^ digit_count s ≤ 10 ^ 10 = pow-le-pow_right {n = 10} (omega arith) {i = digit_count s} {j = 10} (omega (arith, count_by-le-length is_ascii_digit s)) in
+    omega (arith, small)
+
 -- no more digits than bytes
 pub digits-le : (s : List ℕ) → digit_count s ≤ length s
 digits-le s = count_by-le-length is_ascii_digit s

@@ -1,13 +1,14 @@
 -- What may stand behind tokens in place of what stands there: the same token, or a blank.
-use Rattle.std.proofs.Common.{◌≡◌, ◌⊎◌, ℕ, zero, suc, ◌<◌, true, List, [], ◌∷◌, ◌++◌, length, append_assoc, take, Some, refl, sym, ◌∙◌, ap, subst, arith, inl, inr}
+use Rattle.std.proofs.Common.{◌≡◌, ◌⊎◌, ℕ, zero, suc, ◌<◌, ◌≤◌, true, List, [], ◌∷◌, ◌++◌, length, length-append, append_assoc, take, Some, refl, sym, ◌∙◌, ap, subst, arith, inl, inr}
 use Rattle.std.proofs.Math.Seq.{take-append_seam}
 use Rattle.std.proofs.lemmas.Bool.{and_parts}
 use Rattle.ts_base.specs.Name.{is_blank}
 use Rattle.ts_text.specs.Blanks.{unblanked, are_blanks}
-use Rattle.ts_text.specs.Front.{Front, IsFront}
+use Rattle.ts_text.specs.Front.{Front}
+use Rattle.ts_text.proofs.FrontLemmas.{IsFront}
 use Rattle.ts_text.specs.Spelling.{Lexeme, spelled, AreTokens}
 use Rattle.ts_text.specs.declared.token.TokenKind.{TokenKind}
-use Rattle.ts_text.proofs.SpellingLemmas.{Stops, blanked, split_same}
+use Rattle.ts_text.proofs.SpellingLemmas.{Takes, Stops, takes_none, takes_on, unblanked-le, blanked, split_same}
 
 -- the same token begins both
 pub record Alike (front : Front) (here there : List ℕ) : Type 0 where
@@ -47,7 +48,7 @@ front_unblanked front laws [] t is = refl
 front_unblanked front laws (b ∷ bytes) t is = rw (laws.shows b bytes t is) refl
 
 -- of two lists whose fronts are the same
-heads_same : (b c : ℕ) (s t : List ℕ) (n : ℕ) → 0 < n → take n (c ∷ t) ≡ take n (b ∷ s) → c ≡ b
+pub heads_same : (b c : ℕ) (s t : List ℕ) (n : ℕ) → 0 < n → take n (c ∷ t) ≡ take n (b ∷ s) → c ≡ b
 heads_same b c s t zero some same = absurd (omega arith)
 heads_same b c s t (suc n) some same = cc
 
@@ -113,6 +114,59 @@ follows_on front laws (l ∷ lexemes) rest other tokens f =
     split : (end : List ℕ) → spelled (l ∷ lexemes) ++ end ≡ l.blanks ++ (l.token ++ (spelled lexemes ++ end))
     split end = ap (λ (s : List ℕ). s ++ end) (append_assoc l.blanks l.token (spelled lexemes)) ∙ append_assoc l.blanks (l.token ++ spelled lexemes) end ∙ ap (λ (s : List ℕ). l.blanks ++ s) (append_assoc l.token (spelled lexemes) end)
 
+-- Bytes stand before the rest; with another rest that begins like it, they begin as before.
+pub record Carries (front : Front) (bytes rest : List ℕ) : Type 0 where
+  pub used : List ℕ
+  pub whole : bytes ≡ used ++ rest
+  pub follows : (other : List ℕ) → Follows front rest other → Follows front bytes (used ++ other)
+
+-- What is told of the bytes that are taken: none may be taken, and one after the other; and they stay.
+pub record IsTaking (front : Front) (T : List ℕ → List ℕ → Type 0) : Type 0 where
+  pub none : (bytes : List ℕ) → T bytes bytes
+  pub on : (bytes middle rest : List ℕ) → T bytes middle → T middle rest → T bytes rest
+  pub carries : (bytes rest : List ℕ) → T bytes rest → Carries front bytes rest
+
+-- tokens with their blanks
+pub tokens_taking : (front : Front) → IsFront front → IsTaking front (Takes front)
+tokens_taking front laws = record {
+  none = takes_none front;
+  on = takes_on front;
+  carries = λ bytes rest takes. record {
+    used = spelled takes.lexemes;
+    whole = takes.spells.whole;
+    follows = λ other f. subst (λ (l : List ℕ). Follows front l (spelled takes.lexemes ++ other)) (sym takes.spells.whole) (follows_on front laws takes.lexemes rest other takes.spells.tokens f);
+  };
+}
+
+carries_on : (front : Front) (bytes middle rest : List ℕ) → Carries front bytes middle → Carries front middle rest → Carries front bytes rest
+carries_on front bytes middle rest first next = record {
+  used = first.used ++ next.used;
+  whole = first.whole ∙ ap (λ (l : List ℕ). first.used ++ l) next.whole ∙ sym (append_assoc first.used next.used rest);
+  follows = λ other f. subst (λ (l : List ℕ). Follows front bytes l) (sym (append_assoc first.used next.used other)) (first.follows (next.used ++ other) (next.follows other f));
+}
+
+-- no more than that they stay
+pub bytes_taking : (front : Front) → IsTaking front (Carries front)
+bytes_taking front = record {
+  none = λ bytes. record { used = []; whole = refl; follows = λ other f. f };
+  on = carries_on front;
+  carries = λ bytes rest takes. takes;
+}
+
+pub stops_on : (front : Front) (T : List ℕ → List ℕ → Type 0) → IsTaking front T → (bytes middle : List ℕ) (left : ℕ) → T bytes middle → Stops T middle left → Stops T bytes left
+stops_on front T taking bytes middle left first next = record { rest = next.rest; takes = taking.on bytes middle next.rest first next.takes; here = next.here }
+
+-- the first byte that isn't blank can't stand there
+pub stops_here : (front : Front) (T : List ℕ → List ℕ → Type 0) → IsTaking front T → (bytes : List ℕ) (left : ℕ) → left ≡ length (unblanked bytes) → Stops T bytes left
+stops_here front T taking bytes left here = record { rest = bytes; takes = taking.none bytes; here = here }
+
+-- no more bytes are left than there were
+pub taken-le : (front : Front) (T : List ℕ → List ℕ → Type 0) → IsTaking front T → (bytes rest : List ℕ) → T bytes rest → length rest ≤ length bytes
+taken-le front T taking bytes rest takes = let way = taking.carries bytes rest takes in omega (arith, ap length way.whole, length-append way.used rest)
+
+pub stops-le : (front : Front) (T : List ℕ → List ℕ → Type 0) → IsTaking front T → (bytes : List ℕ) (left : ℕ) → Stops T bytes left → left ≤ length bytes
+stops-le front T taking bytes left stops = omega (arith, stops.here, unblanked-le stops.rest, taken-le front T taking bytes stops.rest stops.takes)
+
 -- Bytes were taken, then it stops at `here`: what lies between, and what may come in place of `here`.
 pub record Between (front : Front) (before here used rest : List ℕ) : Type 0 where
   pub middle : List ℕ
@@ -120,24 +174,24 @@ pub record Between (front : Front) (before here used rest : List ℕ) : Type 0 w
   pub before_is : before ≡ used ++ middle
   pub follows : (there : List ℕ) → Follows front here there → Follows front rest (middle ++ there)
 
-pub between : (front : Front) → IsFront front → (before here used rest : List ℕ) → before ++ here ≡ used ++ rest → Stops front rest (length here) → Between front before here used rest
-between front laws before here used rest whole stops = record {
+pub between : (front : Front) (T : List ℕ → List ℕ → Type 0) → IsTaking front T → (before here used rest : List ℕ) → before ++ here ≡ used ++ rest → Stops T rest (length here) → Between front before here used rest
+between front T taking before here used rest whole stops = record {
   middle = middle;
   rest_is = rest_is;
   before_is = parts.0;
   follows = λ there f. go there f;
 } where
-  lexemes : List Lexeme
-  lexemes = stops.takes.lexemes
+  way : Carries front rest stops.rest
+  way = taking.carries rest stops.rest stops.takes
 
   blanks : List ℕ
   blanks = (blanked stops.rest).blanks
 
   middle : List ℕ
-  middle = spelled lexemes ++ blanks
+  middle = way.used ++ blanks
 
   split : rest ≡ middle ++ unblanked stops.rest
-  split = stops.takes.spells.whole ∙ ap (λ (l : List ℕ). spelled lexemes ++ l) (blanked stops.rest).split ∙ sym (append_assoc (spelled lexemes) blanks (unblanked stops.rest))
+  split = way.whole ∙ ap (λ (l : List ℕ). way.used ++ l) (blanked stops.rest).split ∙ sym (append_assoc way.used blanks (unblanked stops.rest))
 
   parts : (before ≡ used ++ middle) × (here ≡ unblanked stops.rest)
   parts = split_same before (used ++ middle) here (unblanked stops.rest) (whole ∙ ap (λ (l : List ℕ). used ++ l) split ∙ sym (append_assoc used middle (unblanked stops.rest))) stops.here
@@ -151,6 +205,4 @@ between front laws before here used rest whole stops = record {
   go : (there : List ℕ) → Follows front here there → Follows front rest (middle ++ there)
   go there f =
       let near : Follows front stops.rest (blanks ++ there) = subst (λ (l : List ℕ). Follows front l (blanks ++ there)) (sym stops_at) (behind_blanks front blanks here there (blanked stops.rest).all f) in
-      let far = follows_on front laws lexemes stops.rest (blanks ++ there) stops.takes.spells.tokens near in
-      let far_is : spelled lexemes ++ (blanks ++ there) ≡ middle ++ there = sym (append_assoc (spelled lexemes) blanks there) in
-      subst (λ (l : List ℕ). Follows front l (middle ++ there)) (sym stops.takes.spells.whole) (subst (λ (l : List ℕ). Follows front (spelled lexemes ++ stops.rest) l) far_is far)
+      subst (λ (l : List ℕ). Follows front rest l) (sym (append_assoc way.used blanks there)) (way.follows (blanks ++ there) near)

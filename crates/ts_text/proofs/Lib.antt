@@ -1,10 +1,12 @@
-pub mod DigitLemmas
-pub mod SpellingLemmas
-pub mod FollowLemmas
-pub mod PhraseLemmas
-pub mod TokenLemmas
-pub mod SignLemmas
-pub mod ListLemmas
-pub mod PlaceLemmas
-pub mod PlainLemmas
-pub mod PartedLemmas
+pub mod CallerLemmas
+mod DigitLemmas
+mod FrontLemmas
+mod SpellingLemmas
+mod FollowLemmas
+mod PhraseLemmas
+mod TokenLemmas
+mod SignLemmas
+mod ListLemmas
+mod PlaceLemmas
+mod PlainLemmas
+mod PartedLemmas

@@ -3,14 +3,15 @@ use Rattle.std.proofs.Common.{◌≡◌, ℕ, zero, suc, ◌+◌, ◌<◌, ◌�
 use Rattle.std.proofs.lemmas.List.{append-nil}
 use Rattle.std.specs.List.{AllByRecursion}
 use Rattle.ts_text.specs.Blanks.{unblanked}
-use Rattle.ts_text.specs.Front.{Front, IsFront, IsSign}
+use Rattle.ts_text.specs.Front.{Front}
+use Rattle.ts_text.proofs.FrontLemmas.{IsFront, IsSign}
 use Rattle.ts_text.specs.Phrase.{Read, Phrase, go_on, ◌>>=◌, give, a_sign, behind, phrases, repeated, closed, onto}
-use Rattle.ts_text.specs.Misfit.{Refuses}
+use Rattle.ts_text.specs.Misfit.{Refuses, RefusesExactly}
 use Rattle.ts_text.specs.declared.misfit.Misfit.{Misfit}
 use Rattle.ts_text.specs.declared.misfit.Misfit.TheVariants.{At, Memory}
-use Rattle.ts_text.proofs.SpellingLemmas.{Stops, Takes, stops_on, takes_on}
-use Rattle.ts_text.proofs.FollowLemmas.{Alike, Follows}
-use Rattle.ts_text.proofs.PhraseLemmas.{Shrinks, Goes, Yields, shrinks_of, passes, leads, chain, given, Any, yields_same}
+use Rattle.ts_text.proofs.SpellingLemmas.{Stops, Takes, takes_on}
+use Rattle.ts_text.proofs.FollowLemmas.{Alike, Follows, tokens_taking, stops_on}
+use Rattle.ts_text.proofs.PhraseLemmas.{Shrinks, Goes, Yields, Nowhere, shrinks_of, passes, leads, chain, given, Any, yields_same}
 use Rattle.ts_text.proofs.SignLemmas.{sign_is, sign_left, sign_other, sign_shrinks, no_sign, sign_yields}
 
 -- Shrinking phrases are as many as commas, whatever number is allowed beyond the bytes.
@@ -75,6 +76,11 @@ onto_end {A} phrase before bytes left none = ap (onto before) (repeated_none phr
 refused : {A B : Type 0} (misfit : Misfit) (read : Read A) (whole : Read B) → ((left : ℕ) → read ≡ Err left → whole ≡ Err left) → Refuses misfit read → Refuses misfit whole
 refused (At left) read whole goes is = goes left is
 refused (Memory error) read whole goes is = tt
+
+-- where nothing takes memory, a misfit comes of what was read
+pub exactly_refused : {A : Type 0} (misfit : Misfit) (read : Read A) → RefusesExactly misfit read → Refuses misfit read
+exactly_refused (At left) read is = is
+exactly_refused (Memory error) read is = tt
 
 onto_refused : {A : Type 0} (before : List A) (read : Read (List A)) (left : ℕ) → onto before read ≡ Err left → read ≡ Err left
 onto_refused before (Ok x) left is = absurd (cc)
@@ -186,7 +192,7 @@ list_yields {A} front laws P close comma sign differs phrase one (suc n) = go (l
   go more = record {
     ok = λ bytes found is. ok_sign bytes found (a_sign 44 bytes) refl is;
     err = λ bytes left is. err_sign bytes left (a_sign 44 bytes) refl is;
-    fails = λ before here there is alike. fails_sign before here there alike (a_sign 44 (before ++ here)) refl is;
+    fails = λ before here there is free alike. fails_sign before here there free alike (a_sign 44 (before ++ here)) refl is;
     keeps = λ used rest other found is follows. keeps_sign used rest other found follows (a_sign 44 (used ++ rest)) refl is;
     goes = λ before here is. goes_sign before here (a_sign 44 (before ++ here)) refl is;
     some = some_is;
@@ -201,20 +207,20 @@ list_yields {A} front laws P close comma sign differs phrase one (suc n) = go (l
         let after = list.ok comma.1 found (sym (closed_more close phrase n bytes comma e) ∙ is) in
         (after.0, takes_on front bytes comma.1 found.1 (commas.ok bytes comma e).1 after.1)
 
-    err_sign : (bytes : List ℕ) (left : ℕ) (read : Read (Unit {0})) → a_sign 44 bytes ≡ read → whole bytes ≡ Err left → Stops front bytes left
+    err_sign : (bytes : List ℕ) (left : ℕ) (read : Read (Unit {0})) → a_sign 44 bytes ≡ read → whole bytes ≡ Err left → Stops (Takes front) bytes left
     err_sign bytes left (Err before) e is = ends.err bytes left (sym (closed_none close phrase (suc n) bytes before e) ∙ is)
-    err_sign bytes left (Ok comma) e is = stops_on front bytes comma.1 left (commas.ok bytes comma e).1 (list.err comma.1 left (sym (closed_more close phrase n bytes comma e) ∙ is))
+    err_sign bytes left (Ok comma) e is = stops_on front (Takes front) (tokens_taking front laws) bytes comma.1 left (commas.ok bytes comma e).1 (list.err comma.1 left (sym (closed_more close phrase n bytes comma e) ∙ is))
 
-    fails_sign : (before here there : List ℕ) → Alike front here there → (read : Read (Unit {0})) → a_sign 44 (before ++ here) ≡ read → whole (before ++ here) ≡ Err (length here) → whole (before ++ there) ≡ Err (length there)
-    fails_sign before here there alike (Err left) e is =
+    fails_sign : (before here there : List ℕ) → (Nowhere before → ⊥) → Alike front here there → (read : Read (Unit {0})) → a_sign 44 (before ++ here) ≡ read → whole (before ++ here) ≡ Err (length here) → whole (before ++ there) ≡ Err (length there)
+    fails_sign before here there free alike (Err left) e is =
         let at : End (before ++ here) ≡ Err (length here) = sym (closed_none close phrase (suc n) (before ++ here) left e) ∙ is in
         let size : left ≡ length here = sign_left 44 (before ++ here) left e ∙ sym (End_left (before ++ here) (length here) at) in
-        let none : a_sign 44 (before ++ there) ≡ Err (length there) = commas.fails before here there (e ∙ ap Err size) alike in
-        closed_none close phrase (suc n) (before ++ there) (length there) none ∙ ends.fails before here there at alike
-    fails_sign before here there alike (Ok comma) e is =
+        let none : a_sign 44 (before ++ there) ≡ Err (length there) = commas.fails before here there (e ∙ ap Err size) free alike in
+        closed_none close phrase (suc n) (before ++ there) (length there) none ∙ ends.fails before here there at free alike
+    fails_sign before here there free alike (Ok comma) e is =
         let at : inner close phrase n comma.1 ≡ Err (length here) = sym (closed_more close phrase n (before ++ here) comma e) ∙ is in
-        let way = passes front laws Any (a_sign 44) commas before here comma e (list.err comma.1 (length here) at) in
-        let again = list.fails way.middle here there (ap (inner close phrase n) (sym way.rest) ∙ at) alike in
+        let way = passes front (Takes front) (tokens_taking front laws) Nowhere Any (a_sign 44) commas before here comma e (list.err comma.1 (length here) at) in
+        let again = list.fails way.middle here there (ap (inner close phrase n) (sym way.rest) ∙ at) (λ none. none) alike in
         closed_more close phrase n (before ++ there) (comma.0, way.middle ++ there) (way.goes there (inl alike)) ∙ again
 
     keeps_sign : (used rest other : List ℕ) (found : List A) → Follows front rest other → (read : Read (Unit {0})) → a_sign 44 (used ++ rest) ≡ read → whole (used ++ rest) ≡ Ok (found, rest) → whole (used ++ other) ≡ Ok (found, other)
@@ -224,7 +230,7 @@ list_yields {A} front laws P close comma sign differs phrase one (suc n) = go (l
         closed_none close phrase (suc n) (used ++ other) none.0 none.1 ∙ again
     keeps_sign used rest other found follows (Ok comma) e is =
         let at : inner close phrase n comma.1 ≡ Ok (found, rest) = sym (closed_more close phrase n (used ++ rest) comma e) ∙ is in
-        let way = leads front laws Any (a_sign 44) commas used rest comma e (list.ok comma.1 (found, rest) at).1 in
+        let way = leads front (Takes front) (tokens_taking front laws) Nowhere Any (a_sign 44) commas used rest comma e (list.ok comma.1 (found, rest) at).1 in
         let again = list.keeps way.middle rest other found (ap (inner close phrase n) (sym way.split) ∙ at) follows in
         closed_more close phrase n (used ++ other) (comma.0, way.middle ++ other) (way.goes other follows) ∙ again
 
@@ -247,7 +253,7 @@ list_yields {A} front laws P close comma sign differs phrase one (suc n) = go (l
     goes_sign before here (Err left) e is = by_end before (ends.goes before here (sym (closed_none close phrase (suc n) (before ++ here) left e) ∙ is))
     goes_sign before here (Ok comma) e is =
         let at : inner close phrase n comma.1 ≡ Err (length here) = sym (closed_more close phrase n (before ++ here) comma e) ∙ is in
-        let way = passes front laws Any (a_sign 44) commas before here comma e (list.err comma.1 (length here) at) in
+        let way = passes front (Takes front) (tokens_taking front laws) Nowhere Any (a_sign 44) commas before here comma e (list.err comma.1 (length here) at) in
         let goes = list.goes way.middle here (ap (inner close phrase n) (sym way.rest) ∙ at) in
         record {
           more = goes.more;
@@ -266,9 +272,9 @@ unfolding repeated
 closed_yields {A} front laws P close comma sign differs phrase one = record {
   ok = λ bytes found is. (few (length bytes)).ok bytes found is;
   err = λ bytes left is. (few (length bytes)).err bytes left is;
-  fails = λ before here there is alike.
+  fails = λ before here there is free alike.
       let n : ℕ = length (before ++ here) + length (before ++ there) in
-      enough (before ++ there) n (omega arith) ∙ (few n).fails before here there (sym (enough (before ++ here) n (omega arith)) ∙ is) alike;
+      enough (before ++ there) n (omega arith) ∙ (few n).fails before here there (sym (enough (before ++ here) n (omega arith)) ∙ is) free alike;
   keeps = λ used rest other found is follows.
       let n : ℕ = length (used ++ rest) + length (used ++ other) in
       enough (used ++ other) n (omega arith) ∙ (few n).keeps used rest other found (sym (enough (used ++ rest) n (omega arith)) ∙ is) follows;

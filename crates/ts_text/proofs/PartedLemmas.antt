@@ -4,20 +4,21 @@ use Rattle.std.proofs.lemmas.Bool.{and_parts, cases_Bool}
 use Rattle.std.proofs.lemmas.Slice.Eq.{bytes_eq-Decides}
 use Rattle.std.specs.Str.{bytes_eq}
 use Rattle.std.proofs.lemmas.Bool.Decides.{nat_tests}
-use Rattle.std.proofs.lemmas.List.{length-take}
+use Rattle.std.proofs.lemmas.List.{length-take, append-nil, append_cancel_right}
 use Rattle.std.specs.List.{prefix_len}
 use Rattle.std.specs.Char.{is_ascii_digit}
 use Rattle.ts_base.specs.Name.{is_blank, is_word, continues_word}
 use Rattle.ts_text.specs.Blanks.{unblanked, are_blanks}
-use Rattle.ts_text.specs.Front.{Front, IsFront}
+use Rattle.ts_text.specs.Front.{Front}
+use Rattle.ts_text.proofs.FrontLemmas.{IsFront}
 use Rattle.ts_text.specs.Parted.{IsParted}
-use Rattle.ts_text.specs.Phrase.{Read, Phrase, go_on, taken, taken_front, token, a_sign, the_end}
+use Rattle.ts_text.specs.Phrase.{Read, Phrase, go_on, taken, taken_front, token, word_in, a_sign, the_end}
 use Rattle.ts_text.specs.declared.token.TokenKind.{TokenKind}
 use Rattle.ts_text.proofs.SpellingLemmas.{blanked, unblanked_past}
 use Rattle.ts_text.proofs.TokenLemmas.{token_at}
 use Rattle.ts_text.proofs.SignLemmas.{sign_is, sign_at}
 use Rattle.ts_text.proofs.PlaceLemmas.{end_at, end_is}
-use Rattle.ts_text.specs.Plain.{plain_front, word_in, a_word}
+use Rattle.ts_text.specs.Plain.{plain_front, a_word}
 use Rattle.ts_text.specs.declared.token.TokenKind.TheVariants.{Word, Number, Text, Sign}
 use Rattle.ts_text.proofs.PlainLemmas.{plain_laws, word_stands, blank_ends_word}
 
@@ -207,3 +208,36 @@ word-read word bytes tokens h p none =
     let same : bytes_eq word word ≡ true = (bytes_eq-Decides word word).1 refl in
     let accepted : word_in word Word word ≡ Some tt = rw same refl in
     token-read plain_front plain_laws (word_in word) bytes word tokens Word tt p (word_stands word p.1 h none) accepted
+
+-- bytes that are these tokens with blanks before each, whatever tokens come behind them
+abbrev pub StandsBefore : List (List ℕ) → List ℕ → Type 0
+StandsBefore tokens used = (more : List (List ℕ)) (rest : List ℕ) → IsParted more rest → IsParted (tokens ++ more) (used ++ rest)
+
+pub before-then : (first next : List (List ℕ)) (used middle : List ℕ) → StandsBefore first used → StandsBefore next middle → StandsBefore (first ++ next) (used ++ middle)
+before-then first next used middle one two = λ more rest p.
+    let far = one (next ++ more) (middle ++ rest) (two more rest p) in
+    subst (λ (t : List (List ℕ)). IsParted t ((used ++ middle) ++ rest)) (sym (append_assoc first next more))
+    (subst (λ (l : List ℕ). IsParted (first ++ (next ++ more)) l) (sym (append_assoc used middle rest)) far)
+
+-- one token behind the blanks of a text, up to the rest
+pub before-token : (text token used rest : List ℕ) → text ≡ used ++ rest → unblanked text ≡ token ++ rest → StandsBefore (token ∷ []) used
+before-token text token used rest whole here = λ more other p.
+    let split = blanked text in
+    let is : used ≡ split.blanks ++ token = append_cancel_right used (split.blanks ++ token) rest (sym whole ∙ split.split ∙ ap (λ (l : List ℕ). split.blanks ++ l) here ∙ sym (append_assoc split.blanks token rest)) in
+    subst (λ (l : List ℕ). IsParted (token ∷ more) (l ++ other)) (sym is) (split.blanks, other, split.all, append_assoc split.blanks token other, p)
+
+pub before-sign : (sign : ℕ) (used rest : List ℕ) → a_sign sign (used ++ rest) ≡ Ok (tt, rest) → StandsBefore ((sign ∷ []) ∷ []) used
+before-sign sign used rest is = before-token (used ++ rest) (sign ∷ []) used rest refl (sign_is sign (used ++ rest) rest is)
+
+pub before-word : (word used rest : List ℕ) → a_word word (used ++ rest) ≡ Ok (tt, rest) → StandsBefore (word ∷ []) used
+unfolding a_word
+before-word word used rest is =
+    let found = token-found plain_front plain_laws (word_in word) (used ++ rest) rest tt is in
+    before-token (used ++ rest) word used rest refl (found.whole ∙ ap (λ (l : List ℕ). l ++ rest) (accepted-word word found.kind found.text found.accepted))
+
+-- tokens, and all the rest as one more
+pub parted-rest : (tokens : List (List ℕ)) (before here : List ℕ) → IsParted tokens before → unblanked here ≡ here → IsParted (tokens ++ here ∷ []) (before ++ here)
+parted-rest [] before here p shows = (before, [], p, ap (λ (l : List ℕ). before ++ l) (sym (append-nil here)), refl)
+parted-rest (token ∷ tokens) before here p shows =
+    let more = parted-rest tokens p.1 here p.4 shows in
+    (p.0, p.1 ++ here, p.2, ap (λ (l : List ℕ). l ++ here) p.3 ∙ append_assoc p.0 (token ++ p.1) here ∙ ap (λ (l : List ℕ). p.0 ++ l) (append_assoc token p.1 here), more)

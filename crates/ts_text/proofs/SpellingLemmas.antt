@@ -6,7 +6,8 @@ use Rattle.std.proofs.lemmas.List.{append-nil, append_cancel_left, length-take}
 use Rattle.std.proofs.lemmas.Grind.{flat_map-append}
 use Rattle.ts_base.specs.Name.{is_blank}
 use Rattle.ts_text.specs.Blanks.{unblanked, are_blanks}
-use Rattle.ts_text.specs.Front.{Front, IsFront}
+use Rattle.ts_text.specs.Front.{Front}
+use Rattle.ts_text.proofs.FrontLemmas.{IsFront}
 use Rattle.ts_text.specs.Spelling.{Lexeme, spelled, AreTokens, Spells}
 use Rattle.ts_text.specs.declared.token.TokenKind.{TokenKind}
 
@@ -15,10 +16,10 @@ pub record Takes (front : Front) (bytes rest : List ℕ) : Type 0 where
   pub lexemes : List Lexeme
   pub spells : Spells front bytes lexemes rest
 
--- tokens, and then so many bytes from the first that can't stand there
-pub record Stops (front : Front) (bytes : List ℕ) (left : ℕ) : Type 0 where
+-- something is taken, and then so many bytes stand there from the first that can't
+pub record Stops (T : List ℕ → List ℕ → Type 0) (bytes : List ℕ) (left : ℕ) : Type 0 where
   pub rest : List ℕ
-  pub takes : Takes front bytes rest
+  pub takes : T bytes rest
   pub here : left ≡ length (unblanked rest)
 
 -- no token
@@ -50,9 +51,6 @@ takes_on front bytes middle rest first next = record {
   };
 }
 
-pub stops_on : (front : Front) (bytes middle : List ℕ) (left : ℕ) → Takes front bytes middle → Stops front middle left → Stops front bytes left
-stops_on front bytes middle left first next = record { rest = next.rest; takes = takes_on front bytes middle next.rest first next.takes; here = next.here }
-
 -- no more bytes are left than there were
 pub takes-le : (front : Front) (bytes rest : List ℕ) → Takes front bytes rest → length rest ≤ length bytes
 takes-le front bytes rest takes = omega (arith, ap length takes.spells.whole, length-append (spelled takes.lexemes) rest)
@@ -63,13 +61,6 @@ unblanked-le (b ∷ bytes) = elim (cases_Bool (is_blank b)) [
   | inl t ↦ rw t (omega (arith, unblanked-le bytes))
   | inr f ↦ rw f (omega arith)
 ]
-
-pub stops-le : (front : Front) (bytes : List ℕ) (left : ℕ) → Stops front bytes left → left ≤ length bytes
-stops-le front bytes left stops = omega (arith, stops.here, unblanked-le stops.rest, takes-le front bytes stops.rest stops.takes)
-
--- the first byte that isn't blank can't stand there
-pub stops_here : (front : Front) (bytes : List ℕ) (left : ℕ) → left ≡ length (unblanked bytes) → Stops front bytes left
-stops_here front bytes left here = record { rest = bytes; takes = takes_none front bytes; here = here }
 
 -- the blanks in front
 pub record Blanked (bytes : List ℕ) : Type 0 where

@@ -5,11 +5,12 @@ use Rattle.std.proofs.lemmas.List.{append-nil, length-take}
 use Rattle.std.proofs.lemmas.List.Folds.{list_all-append}
 use Rattle.ts_base.specs.Name.{is_blank}
 use Rattle.ts_text.specs.Blanks.{unblanked, are_blanks}
-use Rattle.ts_text.specs.Front.{Front, IsFront}
+use Rattle.ts_text.specs.Front.{Front}
+use Rattle.ts_text.proofs.FrontLemmas.{IsFront}
 use Rattle.ts_text.specs.Phrase.{taken, taken_front, token}
 use Rattle.ts_text.specs.declared.token.TokenKind.{TokenKind}
-use Rattle.ts_text.proofs.SpellingLemmas.{Takes, takes_token, stops_here, unblanked-le, blanked, unblanked_past, split_same, blanks_before}
-use Rattle.ts_text.proofs.FollowLemmas.{Alike, Follows, front_unblanked, keeps_token}
+use Rattle.ts_text.proofs.SpellingLemmas.{Takes, takes_token, unblanked-le, blanked, unblanked_past, split_same, blanks_before}
+use Rattle.ts_text.proofs.FollowLemmas.{Alike, Follows, tokens_taking, stops_here, front_unblanked, keeps_token}
 use Rattle.ts_text.proofs.PhraseLemmas.{Goes, Yields}
 
 -- a token takes at least one byte
@@ -84,8 +85,8 @@ example_goes {A} front laws P accept example blanks all = record {
 pub of_token : {A : Type 0} (front : Front) → IsFront front → (P : A → Type 0) (accept : TokenKind → List ℕ → Option A) → Example front P accept → ((kind : TokenKind) (text : List ℕ) (a : A) → accept kind text ≡ Some a → P a) → Yields front P (token front accept)
 of_token {A} front laws P accept example gives = record {
   ok = λ bytes found is. by_front bytes found (front (unblanked bytes)) refl is;
-  err = λ bytes left is. stops_here front bytes left (token_left front accept bytes left is);
-  fails = λ before here there is alike. fails before here there is alike;
+  err = λ bytes left is. stops_here front (Takes front) (tokens_taking front laws) bytes left (token_left front accept bytes left is);
+  fails = λ before here there is free alike. fails before here there is alike;
   keeps = λ used rest other a is follows. keeps_front used rest other a follows (front (unblanked (used ++ rest))) refl is;
   goes = λ before here is. example_goes front laws P accept example before (blanks_before before here (sym (token_left front accept (before ++ here) (length here) is))).0;
   some = example_goes front laws P accept example [] refl;

@@ -4,6 +4,7 @@ use Rattle.std.specs.Str.{bytes_eq}
 use Rattle.ts_text.specs.Blanks.{unblanked}
 use Rattle.ts_text.specs.Front.{Front}
 use Rattle.ts_text.specs.declared.token.TokenKind.{TokenKind}
+use Rattle.ts_text.specs.declared.token.TokenKind.TheVariants.{Word}
 
 -- what a phrase is read as, and the bytes behind it; or how many bytes are left from the first that can't stand there
 abbrev pub Read : Type 0 → Type 0
@@ -40,6 +41,11 @@ taken_front accept here (Some token) = taken here token.1 (accept token.0 (take 
 -- behind blanks, a token that may stand there, as what it is taken
 abbrev pub token : {A : Type 0} → Front → (TokenKind → List ℕ → Option A) → Phrase A
 token front accept = λ bytes. taken_front accept (unblanked bytes) (front (unblanked bytes))
+
+-- a token that is this word
+abbrev pub word_in : List ℕ → TokenKind → List ℕ → Option (Unit {0})
+word_in wanted Word word = if bytes_eq word wanted then Some tt else None
+word_in wanted kind token = None
 
 -- the bytes behind a byte in front
 abbrev pub behind_byte : ℕ → List ℕ → Read (Unit {0})

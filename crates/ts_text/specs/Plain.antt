@@ -3,8 +3,7 @@ use Rattle.std.specs.Prelude.{ℕ, ◌+◌, ◌==◌, ◌||◌, Bool, if◌then�
 use Rattle.std.specs.List.{prefix_len}
 use Rattle.std.specs.Char.{is_ascii_digit}
 use Rattle.ts_base.specs.Name.{begins_word, continues_word}
-use Rattle.std.specs.Str.{bytes_eq}
-use Rattle.ts_text.specs.Phrase.{Phrase, token}
+use Rattle.ts_text.specs.Phrase.{Phrase, token, word_in}
 use Rattle.ts_text.specs.declared.token.TokenKind.{TokenKind}
 use Rattle.ts_text.specs.declared.token.TokenKind.TheVariants.{Word, Number, Sign}
 
@@ -26,9 +25,5 @@ plain_front (b ∷ bytes) =
     else None))
 
 -- this word
-abbrev pub word_in : List ℕ → TokenKind → List ℕ → Option (Unit {0})
-word_in wanted Word word = if bytes_eq word wanted then Some tt else None
-word_in wanted kind token = None
-
 unfoldable pub a_word : List ℕ → Phrase (Unit {0})
 a_word wanted = token plain_front (word_in wanted)

@@ -1,6 +1,6 @@
 // The tokens of patterns, calendars and lists of aggregates.
 ghost use Rattle.std.specs.Prelude.{◌≡◌, ◌≤◌, Ok, IfOk, IfErr, IfSome, length};
-ghost use Rattle.ts_text.specs.Misfit.{Refuses};
+ghost use Rattle.ts_text.specs.Misfit.{RefusesExactly};
 ghost use Rattle.ts_text.specs.Plain.{is_sign, plain_front, a_word};
 
 use crate::blanks::skip_blanks;
@@ -39,7 +39,7 @@ fn is_sign(byte: u8) -> bool
 #[tactic(auto, unfolding(crate::specs::Plain::a_word))]
 pub fn read_word<'a>(bytes: &'a [u8], wanted: &[u8]) -> Result<&'a [u8], Misfit>
     ensures ok { IfOk result (λ rest. a_word wanted.now bytes.now ≡ Ok (tt, rest.now)) }
-    ensures cause { IfErr result (λ misfit. Refuses misfit (a_word wanted.now bytes.now)) }
+    ensures cause { IfErr result (λ misfit. RefusesExactly misfit (a_word wanted.now bytes.now)) }
     ensures shorter { IfOk result (λ rest. length rest.now ≤ length bytes.now) }
 {
     let here = skip_blanks(bytes);

@@ -2,7 +2,7 @@
 ghost use Rattle.std.specs.Prelude.{◌≡◌, ◌<◌, [], Ok, Err, IfOk, IfErr, IfSome, IfNone, length};
 ghost use Rattle.ts_text.specs.Blanks.{unblanked};
 ghost use Rattle.ts_text.specs.Phrase.{a_sign, the_end};
-ghost use Rattle.ts_text.specs.Misfit.{Refuses};
+ghost use Rattle.ts_text.specs.Misfit.{RefusesExactly};
 
 use crate::blanks::skip_blanks;
 use crate::misfit::Misfit;
@@ -23,7 +23,7 @@ pub fn behind_sign(bytes: &[u8], wanted: u8) -> Option<&[u8]>
 /// The bytes behind this sign.
 pub fn read_sign(bytes: &[u8], wanted: u8) -> Result<&[u8], Misfit>
     ensures ok { IfOk result (λ rest. a_sign wanted bytes.now ≡ Ok (tt, rest.now)) }
-    ensures cause { IfErr result (λ misfit. Refuses misfit (a_sign wanted bytes.now)) }
+    ensures cause { IfErr result (λ misfit. RefusesExactly misfit (a_sign wanted bytes.now)) }
     ensures shorter { IfOk result (λ rest. length rest.now < length bytes.now) }
 {
     match behind_sign(bytes, wanted) {
@@ -36,7 +36,7 @@ pub fn read_sign(bytes: &[u8], wanted: u8) -> Result<&[u8], Misfit>
 #[tactic(auto, unfolding(crate::specs::Phrase::the_end))]
 pub fn read_end(bytes: &[u8], ending: &[u8]) -> Result<(), Misfit>
     ensures ok { IfOk result (λ done. the_end ending.now bytes.now ≡ Ok (tt, [])) }
-    ensures cause { IfErr result (λ misfit. Refuses misfit (the_end ending.now bytes.now)) }
+    ensures cause { IfErr result (λ misfit. RefusesExactly misfit (the_end ending.now bytes.now)) }
 {
     let here = skip_blanks(bytes);
     if here == ending {

@@ -1,5 +1,4 @@
 use Rattle.std.proofs.Common.{◌≡◌, ◌∙◌, ◌+ℤ◌, ◌*ℤ◌, sym, ap, arith, to_z, of_z, w64}
-use Rattle.std.specs.Prelude.{is_some}
 use Rattle.jiff_core.proofs.SignedLemmas.{signed_casts}
 use Rattle.ts_base.specs.Moment.{stamp_if_any}
 use Rattle.ts_calendar.proofs.StampLemmas.{stamp-some}

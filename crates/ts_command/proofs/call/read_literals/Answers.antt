@@ -3,8 +3,7 @@ use Rattle.std.proofs.lemmas.Result.{err_from_is_err_and}
 use Rattle.ts_text.specs.Phrase.{repeated}
 use Rattle.ts_command.specs.Grammar.{a_literal}
 use Rattle.ts_command.proofs.FormLemmas.{literal_shrinks}
-use Rattle.ts_text.proofs.SignLemmas.{sign_shrinks}
-use Rattle.ts_text.proofs.ListLemmas.{onto_more, onto_end, onto_nothing, list_refused}
+use Rattle.ts_text.proofs.CallerLemmas.{sign_shrinks, onto_more, onto_end, onto_nothing, list_refused}
 use Rattle.ts_command.proofs.call.read_literals.Goals as goal
 
 pub returns-in_err-value-clause-cause : goal.returns-in_err-value-clause-cause

@@ -2,8 +2,7 @@ use Rattle.std.proofs.Common.{◌∙◌, sym, arith}
 use Rattle.std.proofs.lemmas.Result.{err_from_is_err_and}
 use Rattle.ts_command.specs.Grammar.{a_column}
 use Rattle.ts_command.proofs.FormLemmas.{column_shrinks}
-use Rattle.ts_text.proofs.SignLemmas.{sign_shrinks}
-use Rattle.ts_text.proofs.ListLemmas.{onto_more, onto_end, list_refused}
+use Rattle.ts_text.proofs.CallerLemmas.{sign_shrinks, onto_more, onto_end, list_refused}
 use Rattle.ts_command.proofs.column.read_columns.Goals as goal
 
 pub returns-in_err-column-clause-cause : goal.returns-in_err-column-clause-cause

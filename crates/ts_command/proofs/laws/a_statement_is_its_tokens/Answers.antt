@@ -1,5 +1,5 @@
 use Rattle.std.proofs.Common.{[], ◌∷◌}
-use Rattle.ts_text.proofs.PlaceLemmas.{is_its_tokens}
+use Rattle.ts_text.proofs.CallerLemmas.{is_its_tokens}
 use Rattle.ts_command.specs.Form.{HasForm}
 use Rattle.ts_command.specs.Tokens.{front}
 use Rattle.ts_command.specs.Grammar.{a_call, a_command}

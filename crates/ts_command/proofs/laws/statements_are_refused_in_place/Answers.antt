@@ -1,5 +1,5 @@
 use Rattle.std.proofs.Common.{[], ◌∷◌}
-use Rattle.ts_text.proofs.PlaceLemmas.{in_place}
+use Rattle.ts_text.proofs.CallerLemmas.{in_place}
 use Rattle.ts_command.specs.Form.{HasForm}
 use Rattle.ts_command.specs.Tokens.{front}
 use Rattle.ts_command.specs.Grammar.{a_call, a_command}

@@ -1,5 +1,5 @@
 use Rattle.std.proofs.Common.{arith}
-use Rattle.ts_text.proofs.DigitLemmas.{few_room}
+use Rattle.ts_text.proofs.CallerLemmas.{few_room}
 use Rattle.ts_command.proofs.number.small.Goals as goal
 
 pub overflow_cast-result : goal.overflow_cast-result

@@ -1,5 +1,5 @@
 use Rattle.std.proofs.Common.{◌≡◌, ◌≤◌, ℕ, List, [], ◌∷◌, length, Ok, Err}
-use Rattle.ts_text.proofs.PlaceLemmas.{left-le, found-holds}
+use Rattle.ts_text.proofs.CallerLemmas.{left-le, found-holds}
 use Rattle.ts_command.specs.Form.{HasForm}
 use Rattle.ts_command.specs.Tokens.{front}
 use Rattle.ts_command.specs.Grammar.{a_call, a_command}

@@ -1,7 +1,7 @@
 use Rattle.std.proofs.Common.{◌≡◌, ◌+◌, ◌++◌, ◌∷◌, [], ◌∙◌, sym, ap, arith, length, length-append, List}
 use Rattle.std.proofs.lemmas.Result.{err_from_is_err_and}
 use Rattle.ts_text.specs.Phrase.{repeated, onto}
-use Rattle.ts_text.proofs.ListLemmas.{onto_more, onto_end, list_refused}
+use Rattle.ts_text.proofs.CallerLemmas.{exactly_refused, onto_more, onto_end, list_refused}
 use Rattle.ts_pattern.specs.declared.run.Run.{Run}
 use Rattle.ts_pattern.specs.Grammar.{run_in, are_counts}
 use Rattle.ts_pattern.proofs.GrammarLemmas.{run_shrinks, are_counts-push}
@@ -13,7 +13,7 @@ one_more rs r = omega (arith, length-append {A = Run})
 pub returns-in_err-run-clause-cause : goal.returns-in_err-run-clause-cause
 returns-in_err-run-clause-cause c =
     let p = err_from_is_err_and c.from_residual.result c.from_residual.ensures.1 in
-    rw (p.1, p.2) (list_refused run_in run_shrinks c.loop-behind.runs.items c.args.runs.now.items c.args.text.now c.loop-behind.rest.now c.in-Some.behind.now c.in_err-run.field-0.0 c.loop-behind.invariant.same c.in-Some.ensures.some c.in_err-run.ensures.cause)
+    rw (p.1, p.2) (list_refused run_in run_shrinks c.loop-behind.runs.items c.args.runs.now.items c.args.text.now c.loop-behind.rest.now c.in-Some.behind.now c.in_err-run.field-0.0 c.loop-behind.invariant.same c.in-Some.ensures.some (exactly_refused c.in_err-run.field-0.0 (run_in c.in-Some.behind.now) c.in_err-run.ensures.cause))
 
 pub loop-behind-preserved : goal.loop-behind-preserved
 loop-behind-preserved c =

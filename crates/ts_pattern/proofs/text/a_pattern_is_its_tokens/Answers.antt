@@ -1,8 +1,6 @@
 use Rattle.std.proofs.Common.{[]}
 use Rattle.ts_text.specs.Plain.{plain_front}
-use Rattle.ts_text.proofs.PhraseLemmas.{Any}
-use Rattle.ts_text.proofs.PlaceLemmas.{is_its_tokens}
-use Rattle.ts_text.proofs.PlainLemmas.{plain_laws, plain_ending}
+use Rattle.ts_text.proofs.CallerLemmas.{Any, is_its_tokens, plain_laws, plain_ending}
 use Rattle.ts_pattern.specs.Grammar.{pattern_in}
 use Rattle.ts_pattern.proofs.GrammarLemmas.{pattern_yields}
 use Rattle.ts_pattern.proofs.text.a_pattern_is_its_tokens.Goals as goal

@@ -1,4 +1,4 @@
-use Rattle.std.proofs.Common.{◌≡◌, ◌∙◌, ◌-ℤ◌, sym, ap, arith, Some, None, Ok, rules, FitsSigned, to_z, of_z, to_z-of_z, w64, subst}
+use Rattle.std.proofs.Common.{◌≡◌, ◌∙◌, ◌-ℤ◌, sym, ap, arith, Some, Ok, rules, FitsSigned, to_z, of_z, to_z-of_z, w64, subst}
 use Rattle.std.specs.Int.{int_max}
 use Rattle.jiff_core.proofs.SignedLemmas.{signed_casts}
 use Rattle.ts_pattern.specs.Algebra.{Answers, joined_plan}
