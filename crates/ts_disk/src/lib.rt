@@ -2,17 +2,17 @@
 //! and each of them in memory. What a call does is said of one record, what a volume means at a moment
 //! (`specs/Device`), and so is what a stop may leave, at every moment since a time. `MemorySite` meets every clause
 //! with no assumption, and tells after a run what a stop within any of its calls leaves. Stands on nothing; knows
-//! nothing of pages. Read `specs/Device.antt`, then `volume.rt`; `gated.rt` is the smallest store over it.
+//! nothing of pages. Read `specs/Device.antt`, then `volume.rt`.
 #![tactic(auto)]
 
 mod calls;
-mod gated;
+mod count;
 mod memory_site;
 mod memory_source;
 mod volume;
 
 pub use calls::Pick;
-pub use gated::{GatedFault, put_gated};
+pub use count::raise;
 pub use memory_site::MemorySite;
 pub use memory_source::{BlankSource, MemorySource};
 pub use volume::{Failed, PullFailed, SayFailed, Site, Source, Volume};

@@ -6,7 +6,7 @@ ghost use Rattle.ts_disk.specs.Picks.{pick_write, pick_grow, pick_within, pick_a
 ghost use Rattle.ts_disk.specs.Device.{Rose, overwritten};
 
 use crate::calls::{Call, Pick};
-use crate::{Failed, SayFailed, Site, Volume};
+use crate::{Failed, SayFailed, Site, Volume, raise};
 use std::alloc::{AllocError, Global};
 
 /// A volume and an output in memory. It keeps its first bytes and the list of its calls, so that what a stop leaves
@@ -172,14 +172,6 @@ where
     let kept = calls.push(call).is_ok();
     prove!(kept);
     Ok(())
-}
-
-// One failure more.
-pub(crate) fn raise(count: &mut u64)
-    ensures rose { Rose count.old count.new }
-    ensures no_less { count.old ≤ count.new }
-{
-    *count = count.saturating_add(1);
 }
 
 fn overwrite(bytes: &mut Vec<u8>, at: usize, from: &[u8])

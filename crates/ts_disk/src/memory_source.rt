@@ -1,10 +1,8 @@
 // Sources in memory: bytes in pieces, and spaces without end.
 ghost use Rattle.std.specs.Prelude.{◌≡◌, ◌+◌, ◌≤◌, ◌<◌, ℕ, List, length, OnOk, OnErr, IfOk, IsErr, IsTrue, [], ◌∷◌, ◌++◌, take, drop, true, false, min, is_err, replicate};
-ghost use Rattle.ts_disk.specs.Device.{Rose};
 ghost use Rattle.ts_disk.specs.Input.{Pulled};
 
-use crate::memory_site::raise;
-use crate::{PullFailed, Source};
+use crate::{PullFailed, Source, raise};
 use std::alloc::AllocError;
 
 /// Bytes in memory, given in pieces of at most one size.

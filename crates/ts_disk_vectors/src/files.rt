@@ -1,11 +1,20 @@
 // A real file, standard output and standard input.
+use crate::steps::{Step, count_done, two_at};
 use std::fs::{self, OpenOptions};
 use std::test::Fail;
-use ts_disk::{Failed, Site, Source, Volume};
+use ts_disk::{Failed, Source, Volume};
 use ts_file::{FileSite, StdSource};
 
 #[test]
 fn a_file_holds_what_is_written(rt: HostRuntime) -> Result<(), Fail> {
+    let steps = [
+        Step::Resize(8192),
+        Step::Write(5000, b"page"),
+        Step::Sync,
+        Step::Write(0, b"head"),
+        Step::Sync,
+        Step::Say(b"said\n"),
+    ];
     let file = OpenOptions::new()
         .read(true)
         .write(true)
@@ -13,20 +22,18 @@ fn a_file_holds_what_is_written(rt: HostRuntime) -> Result<(), Fail> {
         .truncate(true)
         .open(&rt, "a_file_holds_what_is_written.ts")?;
     let mut site = FileSite::new(file, 0, rt.stdout());
-    assert_eq!(rt; site.len(), 0);
-    assert!(rt; site.resize(8192).is_ok());
-    assert_eq!(rt; site.len(), 8192);
-    assert!(rt; site.write_at(5000, b"page").is_ok());
-    assert!(rt; site.sync().is_ok());
-    assert!(rt; site.write_at(0, b"head").is_ok());
-    assert!(rt; site.sync().is_ok());
-    let mut into = [1u8; 6];
-    assert!(rt; site.read_at(4999, &mut into).is_ok());
-    assert_eq!(rt; into.as_slice(), b"\0page\0".as_slice());
-    assert!(rt; site.say(b"said\n").is_ok());
-    assert_eq!(rt; site.faults(), 0);
+    assert!(rt; count_done(&mut site, &steps) == 6);
+    for (at, wanted) in [
+        (4999, *b"\0p"),
+        (5002, *b"ge"),
+        (5004, *b"\0\0"),
+        (2, *b"ad"),
+    ] {
+        assert!(rt; two_at(&mut site, at) == Some(wanted));
+    }
+    assert!(rt; site.len() == 8192 && site.faults() == 0);
     let left = fs::read(&rt, "a_file_holds_what_is_written.ts")?;
-    assert_eq!(rt; left.len(), 8192);
+    assert!(rt; left.len() == 8192);
     fs::remove_file(&rt, "a_file_holds_what_is_written.ts")?;
     Ok(())
 }
@@ -39,11 +46,11 @@ fn a_write_that_is_not_taken_fails(rt: HostRuntime) -> Result<(), Fail> {
         .read(true)
         .open(&rt, "a_write_that_is_not_taken_fails.ts")?;
     let mut site = FileSite::new(file, 8, rt.stdout());
-    assert_eq!(rt; site.len(), 8);
-    assert!(rt; site.write_at(0, b"5") == Err(Failed));
+    assert!(rt; count_done(&mut site, &[Step::Write(0, b"5")]) == 0);
+    // The file ends before the length that was told.
     let mut beyond = [0u8; 8];
-    assert!(rt; site.read_at(0, &mut beyond) == Err(Failed));
-    assert_eq!(rt; site.faults(), 2);
+    assert!(rt; site.len() == 8 && site.read_at(0, &mut beyond) == Err(Failed));
+    assert!(rt; site.faults() == 2);
     fs::remove_file(&rt, "a_write_that_is_not_taken_fails.ts")?;
     Ok(())
 }

@@ -1,11 +1,11 @@
 // A real file and standard output.
 ghost use Rattle.std.specs.Prelude.{◌≡◌, ◌+◌, ◌≤◌, ◌<◌, false, length, ◌^◌, IsTrue, IsErr};
-ghost use Rattle.ts_disk.specs.Device.{Rose, Resized, ReadAt, WrittenAt, Synced, Says};
+ghost use Rattle.ts_disk.specs.Device.{Resized, ReadAt, WrittenAt, Synced, Says};
 
 use std::fs::File;
 use std::io::{self, Stdout, Write};
 use std::os::unix::fs::FileExt;
-use ts_disk::{Failed, SayFailed, Site, Volume};
+use ts_disk::{Failed, SayFailed, Site, Volume, raise};
 
 /// An open file and standard output.
 #[derive(Drop)]
@@ -61,14 +61,6 @@ impl FileSite {
         }
         self.file.sync_data()
     }
-}
-
-// One failure more, as far as the count goes.
-pub(crate) fn raise(count: &mut u64)
-    ensures rose { Rose count.old count.new }
-    ensures no_less { count.old ≤ count.new }
-{
-    *count = count.saturating_add(1);
 }
 
 // Reads until the buffer is full. The end of the file within it is a failure.

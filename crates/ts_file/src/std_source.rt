@@ -2,9 +2,8 @@
 ghost use Rattle.std.specs.Prelude.{◌≡◌, ◌<◌, length, false, IsErr};
 ghost use Rattle.ts_disk.specs.Input.{Pulled};
 
-use crate::file_site::raise;
 use std::io::{Read, Stdin};
-use ts_disk::{PullFailed, Source};
+use ts_disk::{PullFailed, Source, raise};
 
 /// Standard input. It tells no bytes.
 #[derive(Drop)]

@@ -9,6 +9,7 @@ pub use Rattle.ts_page.specs.Pages.{is_region}
 use Rattle.ts_journal.specs.declared.batch.Change.{Change}
 use Rattle.ts_journal.specs.declared.batch.Change.TheVariants.{Image, Free}
 
+-- the number of a page, and what becomes of that page
 abbrev pub Entry : Type 0
 Entry = ℕ × Change
 
@@ -46,6 +47,7 @@ abbrev pub IsWhole : Change → Type 0
 IsWhole (Image page) = length page.bytes ≡ page_size
 IsWhole Free = Unit {0}
 
+-- each image is
 abbrev pub AreWhole : List Entry → Type 0
 AreWhole [] = Unit {0}
 AreWhole (e ∷ es) = IsWhole e.1 × AreWhole es

@@ -115,6 +115,8 @@ impl Images {
     pub(crate) fn reserve(&mut self, more: usize) -> Result<(), AllocError>
         ensures ok { OnOk result (more ≤ self.new.spare) }
         ensures others { self.new.entries ≡ self.old.entries }
+        ensures err { OnErr result (self.new.spare ≡ self.old.spare) }
+        ensures spare { self.old.spare ≤ self.new.spare }
     {
         self.items.reserve(more)
     }

@@ -12,8 +12,6 @@ mod laws;
 mod numbers;
 mod pen;
 mod record;
-#[cfg(test)]
-mod tests;
 
 pub use batch::{Batch, Change};
 pub use journal::{CommitFault, FRAME, Journal};

@@ -1,18 +1,19 @@
 // Bytes on their way to the disk: pieces that follow each other go there in few writes.
 ghost use Rattle.std.specs.Prelude.{◌≤◌};
+ghost use Rattle.ts_journal.specs.Buffer.{buffer_size};
 
 use ts_disk::{Failed, Volume};
 
 /// Three pages: the record of a command, four pages at most, goes to the disk in two writes, and that of one or two pages in one.
 const BUFFER: usize = 12288;
 
-/// What isn't written yet, and where it goes.
+/// What isn't written yet, and where it goes. One pen serves all records, so that its buffer is filled with zeros once.
 #[derive(Drop)]
 pub(crate) struct Pen {
     bytes: [u8; BUFFER],
     filled: usize,
     at: u64,
-    ghost within: { filled ≤ 12288 },
+    ghost within: { filled ≤ buffer_size },
 }
 
 impl Pen {
@@ -20,15 +21,23 @@ impl Pen {
     ghost use Rattle.ts_page.specs.Volume.{page_size};
     ghost use Rattle.ts_journal.specs.Pen.{pending, Adds, Moves};
 
-    pub(crate) fn at(place: u64) -> Pen
-        ensures place { result.at ≡ place }
-        ensures empty { pending result ≡ [] }
+    pub(crate) fn new() -> Pen
+        ensures { pending result ≡ [] }
     {
         Pen {
             bytes: [0; BUFFER],
             filled: 0,
-            at: place,
+            at: 0,
         }
+    }
+
+    /// Begins anew at this place. What a failed call left on its way is dropped.
+    pub(crate) fn begin(&mut self, place: u64)
+        ensures place { self.new.at ≡ place }
+        ensures empty { pending self.new ≡ [] }
+    {
+        self.filled = 0;
+        self.at = place;
     }
 
     /// Puts a piece behind what is on its way. Where the buffer has no room for both, the first goes to the disk.
@@ -47,7 +56,7 @@ impl Pen {
         requires short { more ≤ page_size }
         requires room { self.old.at + length (pending self.old) ≤ (V.device vol.old).size }
         ensures written { Adds V.tells [] result self.old self.new (V.device vol.old) (V.device vol.new) }
-        ensures room { OnOk result (self.new.filled + more ≤ 12288) }
+        ensures room { OnOk result (self.new.filled + more ≤ buffer_size) }
     {
         if more > BUFFER - self.filled {
             return self.flush(vol);
@@ -86,7 +95,7 @@ impl Pen {
 
     // Puts a piece behind the others in the buffer.
     fn hold(&mut self, piece: &[u8])
-        requires { self.old.filled + length piece.now ≤ 12288 }
+        requires { self.old.filled + length piece.now ≤ buffer_size }
         ensures pending { pending self.new ≡ pending self.old ++ piece.now }
         ensures place { self.new.at ≡ self.old.at }
     {

@@ -1,24 +1,13 @@
 // A record of four images and of pages that are freed: committed, read again and brought home.
-ghost use Rattle.std.specs.Prelude.{◌<◌, ◌≢◌, [], IfOk, IsTrue};
-ghost use Rattle.ts_disk.specs.Device.{Only};
-ghost use Rattle.ts_disk.specs.Memory.{site_device};
+ghost use Rattle.std.specs.Prelude.{◌<◌, ◌≢◌, [], IfOk};
 ghost use Rattle.ts_journal.specs.Entry.{AreAllowed};
 
+use crate::volumes::{blank, commit_there, read_there, settle_there};
 use std::alloc::{AllocError, Global};
 use std::test::Fail;
-use ts_disk::{MemorySite, Volume};
+use ts_disk::MemorySite;
 use ts_journal::{Batch, Change};
 use ts_page::Page;
-use ts_recover::{RecoverFault, recover, settle};
-
-// A volume of so many pages.
-fn blank(alloc: Global, pages: u32) -> Result<MemorySite, AllocError>
-    ensures { IfOk result (λ m. Only (site_device m).held (site_device m).images) }
-{
-    let mut bytes = Vec::new(alloc);
-    bytes.resize(pages as usize * 4096, 0)?;
-    MemorySite::new(bytes)
-}
 
 // Images of the first four element pages, and each page behind them freed.
 fn many(alloc: Global, end: u32) -> Result<Batch, AllocError>
@@ -38,43 +27,6 @@ fn many(alloc: Global, end: u32) -> Result<Batch, AllocError>
     Ok(batch)
 }
 
-// Opens a volume and commits a batch there, if it has so many pages.
-fn commit_there<V: Volume>(
-    alloc: Global,
-    vol: &mut V,
-    pages: u32,
-    batch: &Batch,
-) -> Result<bool, RecoverFault>
-    requires settled { Only (V.device vol.old).held (V.device vol.old).images }
-    requires changes { batch.now.entries ≢ [] }
-    requires allowed { AreAllowed pages batch.now.entries }
-    ensures { IfOk result (λ done. IsTrue done → Only (V.device vol.new).held (V.device vol.new).images) }
-{
-    let mut replayed = recover(alloc, vol)?;
-    if replayed.pages != pages {
-        return Ok(false);
-    }
-    Ok(replayed.journal.commit(vol, batch).is_ok())
-}
-
-// How many bytes the entries have that an opening reads, and the room behind their record.
-fn read_there<V: Volume>(alloc: Global, vol: &mut V) -> Result<(u64, u32), RecoverFault>
-    requires { Only (V.device vol.old).held (V.device vol.old).images }
-    ensures { Only (V.device vol.new).held (V.device vol.new).images }
-{
-    let replayed = recover(alloc, vol)?;
-    Ok((replayed.overlay.bytes(), replayed.journal.room()))
-}
-
-// Opens a volume and settles it. Answers the room then.
-fn settle_there<V: Volume>(alloc: Global, vol: &mut V) -> Result<u32, RecoverFault>
-    requires settled { Only (V.device vol.old).held (V.device vol.old).images }
-{
-    let mut replayed = recover(alloc, vol)?;
-    settle(&mut replayed, vol)?;
-    Ok(replayed.journal.room())
-}
-
 /// What was counted of a record.
 #[derive(Clone, Copy, Debug, PartialEq, Eq)]
 struct Counted {
@@ -89,7 +41,7 @@ struct Counted {
 fn count(alloc: Global, end: u32) -> Result<Option<Counted>, Fail>
     requires { 930 < end }
 {
-    let mut site = blank(alloc, end)?;
+    let mut site = MemorySite::new(blank(alloc, end as usize * 4096)?)?;
     let batch = many(alloc, end)?;
     if !commit_there(alloc, &mut site, end, &batch)? {
         return Ok(None);

@@ -13,10 +13,11 @@ head_size = 32
 abbrev pub last_region_page : ℕ
 last_region_page = 256
 
--- where the journal's region begins in a volume, and how many bytes it has
+-- where the journal's region begins in a volume
 abbrev pub region_start : ℕ
 region_start = 4096
 
+-- how many bytes it has
 abbrev pub region_size : ℕ
 region_size = 1048576
 

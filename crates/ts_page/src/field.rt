@@ -22,7 +22,7 @@ pub(crate) fn eight_bytes(bytes: &[u8], at: usize) -> u64
 }
 
 /// Each byte is 0.
-pub fn are_zero(bytes: &[u8]) -> bool
+pub(crate) fn are_zero(bytes: &[u8]) -> bool
     ensures { result ≡ are_zero bytes.now }
 {
     bytes.iter().all(|byte| *byte == 0)

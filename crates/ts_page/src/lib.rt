@@ -10,11 +10,8 @@ mod laws;
 mod memory_pages;
 mod page;
 mod pages;
-#[cfg(test)]
-mod tests;
 mod volume;
 
-pub use field::are_zero;
 pub use laws::a_head_is_read_as_it_is_written;
 pub use memory_pages::MemoryPages;
 pub use page::{Head, Page};

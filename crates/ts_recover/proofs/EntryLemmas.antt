@@ -1,11 +1,11 @@
 -- The entry at a place, by its kind and its number.
-use Rattle.std.proofs.Common.{◌≡◌, ℕ, ◌+◌, ◌-◌, ◌≤◌, Bool, true, false, ◌&&◌, not, leb, ltb, eqb, cond, Some, None, List, length, take, drop, replicate, get_or, refl, ap, sym, ◌∙◌, arith, length-drop}
+use Rattle.std.proofs.Common.{◌≡◌, ℕ, ◌+◌, ◌-◌, ◌≤◌, Bool, true, false, ◌&&◌, not, leb, ltb, eqb, Some, None, List, length, take, drop, get_or, ap, sym, ◌∙◌, arith, length-drop}
 use Rattle.std.specs.Int.{from_be_bytes, w32}
 use Rattle.std.proofs.lemmas.Bool.{cond-true, cond-false, le-leb, lt-leb}
 use Rattle.std.proofs.lemmas.List.{take-take, drop-take, drop-drop, get_or-take, length-replicate, length-take-le}
 use Rattle.ts_page.specs.Head.{bytes_at, zero_page}
 use Rattle.ts_journal.specs.declared.batch.Change.TheVariants.{Image, Free}
-use Rattle.ts_journal.specs.Entry.{Entry, is_region}
+use Rattle.ts_journal.specs.Entry.{is_region}
 use Rattle.ts_journal.specs.Record.{entry_if_any, first_entry}
 
 pub zero_length : length zero_page ≡ 4096

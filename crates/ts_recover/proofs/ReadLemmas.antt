@@ -1,8 +1,8 @@
 -- A run of reads.
-use Rattle.std.proofs.Common.{◌≡◌, ℕ, ◌+◌, ◌≤◌, Bool, IsTrue, Result, Ok, Err, List, refl, ◌∙◌, arith}
-use Rattle.ts_disk.specs.Device.{Device, Lawful, LeavesOnly, ReadAt}
+use Rattle.std.proofs.Common.{◌≡◌, ℕ, Bool, Result, Ok, Err, List, refl, ◌∙◌, arith}
+use Rattle.ts_disk.specs.Device.{Device, Lawful, ReadAt}
 use Rattle.ts_disk.proofs.Moments.{started, calls_on, leaves_map, then_on}
-use Rattle.ts_journal.specs.Moment.{Keeps, OnlyReads}
+use Rattle.ts_journal.specs.Moment.{OnlyReads}
 use Rattle.ts_journal.proofs.CallerLemmas.{keeps_refl, keeps_then}
 
 -- what is Ok is no error

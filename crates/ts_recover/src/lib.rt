@@ -5,7 +5,5 @@
 
 mod read;
 mod replay;
-#[cfg(test)]
-mod tests;
 
 pub use replay::{RecoverFault, Replayed, recover, settle};

@@ -1,4 +1,4 @@
-use Rattle.std.proofs.Common.{◌≡◌, ℕ, List, take, drop, length, ap, sym, ◌∙◌}
+use Rattle.std.proofs.Common.{ℕ, List, take, drop, ap, ◌∙◌}
 use Rattle.std.specs.Str.{bytes_eq}
 use Rattle.ts_journal.specs.Gate.{is_open, open_gate}
 use Rattle.ts_recover.proofs.read.read_gate.Goals as goal

@@ -1,7 +1,5 @@
-use Rattle.std.proofs.Common.{length, ◌∙◌, ◌≡◌, ◌+◌, ◌-◌, ◌*◌, ◌/◌, ◌≤◌, ℕ, None, inr, refl, subst, sym, arith}
-use Rattle.ts_disk.specs.Device.{Device}
-use Rattle.ts_journal.specs.Journal.{IsVolumeSize, page_count, StaysUnread}
-use Rattle.ts_journal.specs.Entry.{AreAllowed}
+use Rattle.std.proofs.Common.{◌∙◌, ◌-◌, ◌/◌, ℕ, inr, refl, subst, sym, arith}
+use Rattle.ts_journal.specs.Journal.{IsVolumeSize, StaysUnread}
 use Rattle.ts_recover.specs.Reading.{JournalRead}
 use Rattle.ts_journal.proofs.CallerLemmas.{volume_long, stays_unread, journal_malformed, journal_is_none}
 use Rattle.std.proofs.lemmas.Option.{none-some}

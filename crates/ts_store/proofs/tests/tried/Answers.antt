@@ -3,4 +3,4 @@ use Rattle.ts_store.proofs.tests.tried.Goals as goal
 
 pub returns-clause-idle : goal.returns-clause-idle
 returns-clause-idle g c =
-    idle_dropped g.V.Volume.tells c.args.store.now c.replaced_on.new.store c.discard.new.self (g.V.Volume.device c.args.vol.now) (g.V.Volume.device c.replaced_on.new.vol) c.requires.idle c.replaced_on.ensures c.discard.ensures
+    idle_dropped g.V.Volume.tells c.args.store.now c.edited_on.new.store c.discard.new.self (g.V.Volume.device c.args.vol.now) (g.V.Volume.device c.edited_on.new.vol) c.requires.idle c.edited_on.ensures.undisturbed c.discard.ensures

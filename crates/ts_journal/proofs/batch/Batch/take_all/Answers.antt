@@ -31,4 +31,5 @@ loop-place-preserved c =
       taken = c.in-Ok.ensures.ok ∙ ap (put no (change_in c.remove-image.result)) inv.taken ∙ ap (λ (e : Entry). put e.0 e.1 (put_all old (take i all))) (sym entry) ∙ sym (put_all-more old all i no_entry inside);
       spare = omega (arith, inv.spare, c.in-Ok.ensures.spare);
       image_spare = omega (arith, inv.image_spare, c.in-Ok.ensures.image_spare);
+      kept_images = omega (arith, inv.kept_images, c.remove-image.ensures.spare);
     }

@@ -10,4 +10,5 @@ invariant-loop-place l = record {
   taken : l.self.entries ≡ put_all l.fn.self.entries (take l.place l.fn.other.entries);
   spare : l.fn.self.spare ≤ l.self.spare + l.place;
   image_spare : l.fn.self.image_spare ≤ l.self.image_spare + l.place;
+  kept_images : l.fn.other.image_spare ≤ l.other-inside.images.spare;
 }

@@ -1,6 +1,0 @@
-use Rattle.ts_store.proofs.CallerLemmas.{idle_dropped}
-use Rattle.ts_store.proofs.tests.looked.Goals as goal
-
-pub returns-clause-idle : goal.returns-clause-idle
-returns-clause-idle g c =
-    idle_dropped g.V.Volume.tells c.args.store.now c.seen_on.new.store c.discard.new.self (g.V.Volume.device c.args.vol.now) (g.V.Volume.device c.seen_on.new.vol) c.requires.idle c.seen_on.ensures c.discard.ensures
