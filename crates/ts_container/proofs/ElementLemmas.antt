@@ -14,7 +14,7 @@ use Rattle.ts_cells.specs.declared.extent.Extent.{Extent}
 use Rattle.ts_cells.specs.IrregularPage.{HasExtent}
 use Rattle.ts_layout.specs.Meaning.{ElementPage, Free, Cells, element_page, HoldsElements}
 use Rattle.ts_layout.specs.Surveyed.{place_of, places_on, places_from, free_from}
-use Rattle.ts_container.specs.Elements.{IsSomething, Describes, ListsUnless, Listed, IsSeen, AllRead, HoldNoElements}
+use Rattle.ts_container.specs.Elements.{IsSomething, Describes, ListsUnless, Listed, IsReadAs, AllRead, HoldNoElements}
 use Rattle.ts_layout.proofs.CallerLemmas.{within_list, before, at_end, after, kept, one_fewer, free_from-append, places_from-append, absent, present, some_more, free_is_no_cells}
 
 -- a free page is added
@@ -181,11 +181,11 @@ read_more tells d v number space space' spare spare' second second' content byte
       size = omega (arith, length-append read.elements (e ∷ []), read.size, low);
       listed = adds read.elements e at found.2 (something d bytes e found.1) read.listed;
       seen = λ j below. elim (cases_lt j (number - 930)) [
-        | inl lower ↦ subst (λ (x : ElementPage). IsSeen tells v d (930 + j) x) (sym (before read.elements e j (omega (arith, lower, read.size)))) (read.seen j lower)
+        | inl lower ↦ subst (λ (x : ElementPage). IsReadAs tells v d (930 + j) x) (sym (before read.elements e j (omega (arith, lower, read.size)))) (read.seen j lower)
         | inr last ↦
             let end : j ≡ length read.elements = omega (arith, last, below, read.size) in
-            subst (λ (x : ElementPage). IsSeen tells v d (930 + j) x) (sym (at_end read.elements e j end))
-            (subst (λ (n : ℕ). IsSeen tells v d n e) (let z : number ≡ 930 + j = omega (arith, at, end) in z) (bytes, found.1, told))
+            subst (λ (x : ElementPage). IsReadAs tells v d (930 + j) x) (sym (at_end read.elements e j end))
+            (subst (λ (n : ℕ). IsReadAs tells v d n e) (let z : number ≡ 930 + j = omega (arith, at, end) in z) (bytes, found.1, told))
       ];
     }
 

@@ -8,7 +8,8 @@ use Rattle.ts_page.specs.Head.{bytes_at}
 use Rattle.ts_model.specs.declared.kind.Kind.{Kind}
 use Rattle.ts_model.specs.declared.kind.Kind.TheVariants as kinds
 use Rattle.ts_model.specs.declared.def.Def.{Def}
-use Rattle.ts_model.specs.Definitions.{Definitions, kind_of, name_of, limit, slots, slot_of, has_name, of_row_type, of_container, of_series, IsDefinitions}
+use Rattle.ts_model.specs.Definitions.{Definitions, kind_of, name_of, limit, slots, slot_of, has_name, to_def, table_of, IsDefinitions}
+use Rattle.ts_model.proofs.PartsLemmas.{table-rules}
 use Rattle.ts_container.specs.declared.definitions.Found.{Found}
 use Rattle.ts_container.specs.declared.definitions.Found.TheVariants as found
 use Rattle.ts_layout.specs.declared.place.Slots.{Slots}
@@ -37,13 +38,15 @@ pub read_more : (kind : Kind) (slot reached : ℕ) (o : Option Def) (d : Definit
 read_more kind slot reached o d within at is read = record {
   sizes = λ kind'. filled_sizes kind kind' slot o d ∙ read.sizes kind';
   empty = λ kind' slot' above. filled_other kind kind' slot slot' o d (apart_by_rank kind kind' slot slot' (λ same. omega (arith, above, at, same))) ∙ read.empty kind' slot' (omega (arith, above));
-  limits = λ kind' slot' within'.
-      elim (this_or_other kind kind' slot slot' within within') [
-        | inl same ↦
-            let here = filled_same kind slot o d is (omega (arith, within, read.sizes kind)) (read.empty kind slot (omega (arith, at))) in
-            subst (λ (p : Kind × ℕ). IsSlotOf p.0 (def_at p.0 p.1 (filled kind slot o d))) (λ i. (sym same.0 i, sym same.1 i)) (subst (IsSlotOf kind) (sym here) is)
-        | inr other ↦ subst (IsSlotOf kind') (sym (filled_other kind kind' slot slot' o d (apart_by_rank kind kind' slot slot' other))) (read.limits kind' slot' within')
-      ];
+  limits = record {
+    each = λ kind' slot' within'.
+        elim (this_or_other kind kind' slot slot' within within') [
+          | inl same ↦
+              let here = filled_same kind slot o d is (omega (arith, within, read.sizes kind)) (read.empty kind slot (omega (arith, at))) in
+              subst (λ (p : Kind × ℕ). IsSlotOf p.0 (def_at p.0 p.1 (filled kind slot o d))) (λ i. (sym same.0 i, sym same.1 i)) (subst (IsSlotOf kind) (sym here) is)
+          | inr other ↦ subst (IsSlotOf kind') (sym (filled_other kind kind' slot slot' o d (apart_by_rank kind kind' slot slot' other))) (read.limits.each kind' slot' within')
+        ];
+  };
 }
 
 -- and it holds what was read
@@ -67,18 +70,10 @@ counted number size on is same = (λ i. bytes_of_slots (sym is i)) ∙ ap (λ (n
 
 -- no two definitions of one kind have one name
 pub apart : (d : Definitions) → IsDefinitions d → (kind : Kind) (i j : ℕ) (a b : Def) → def_at kind i d ≡ Some a → def_at kind j d ≡ Some b → name_of a ≡ name_of b → i ≡ j
-apart d rules kinds.RowType i j a b first second same =
-    let x = own of_row_type i d.row_types a first in
-    let y = own of_row_type j d.row_types b second in
-    rules.row_types.apart i j x.0 y.0 x.1 y.1 (ap name_of x.2 ∙ same ∙ sym (ap name_of y.2))
-apart d rules kinds.Container i j a b first second same =
-    let x = own of_container i d.containers a first in
-    let y = own of_container j d.containers b second in
-    rules.containers.apart i j x.0 y.0 x.1 y.1 (ap name_of x.2 ∙ same ∙ sym (ap name_of y.2))
-apart d rules kinds.Series i j a b first second same =
-    let x = own of_series i d.series a first in
-    let y = own of_series j d.series b second in
-    rules.series.apart i j x.0 y.0 x.1 y.1 (ap name_of x.2 ∙ same ∙ sym (ap name_of y.2))
+apart d rules kind i j a b first second same =
+    let x = own (to_def kind) i (table_of kind d) a first in
+    let y = own (to_def kind) j (table_of kind d) b second in
+    (table-rules d rules kind).apart i j x.0 y.0 x.1 y.1 (ap name_of x.2 ∙ same ∙ sym (ap name_of y.2))
 
 -- the definition of a name that was found
 named : (o : Option Def) (name : List ℕ) → has_name name o ≡ true → (def : Def) × (o ≡ Some def) × (name_of def ≡ name)
@@ -104,14 +99,14 @@ repeated_none kind slot reached taken def d pages within at kinded is read bytes
     let other = named (def_at kind taken d) (name_of def) place.1 in
     let within' : taken < limit kind = omega (arith, place.0, read.sizes kind) in
     let below : rank kind taken < reached = read_below kind taken reached other.0 d read other.1 in
-    let there : def_at kind taken d' ≡ Some other.0 = slot_one kind (def_at kind taken d') (Some other.0) (limits kind taken within') (subst (IsSlotOf kind) other.1 (read.limits kind taken within'))
+    let there : def_at kind taken d' ≡ Some other.0 = slot_one kind (def_at kind taken d') (Some other.0) (limits.each kind taken within') (subst (IsSlotOf kind) other.1 (read.limits.each kind taken within'))
     (sym (holds.slots kind taken within') ∙ held kind taken within' below ∙ ap (slot_bytes kind) other.1) in
-    let here : def_at kind slot d' ≡ Some def = slot_one kind (def_at kind slot d') (Some def) (limits kind slot within) (kinded, is) (sym (holds.slots kind slot within) ∙ bytes ∙ sym (slot_filled kind def)) in
+    let here : def_at kind slot d' ≡ Some def = slot_one kind (def_at kind slot d') (Some def) (limits.each kind slot within) (kinded, is) (sym (holds.slots kind slot within) ∙ bytes ∙ sym (slot_filled kind def)) in
     lower_is_other kind taken slot reached below at (apart d' rules kind taken slot other.0 def there here other.2)
 
 -- pages with a slot that is none hold no definitions
 pub bad_none : (kind : Kind) (slot : ℕ) (pages : ℕ → List ℕ) → slot < limit kind → ((o : Option Def) → IsSlotOf kind o → bytes_of_slot kind slot pages ≡ slot_bytes kind o → ⊥) → HoldNone pages
-bad_none kind slot pages within none = λ d holds limits rules. none (def_at kind slot d) (limits kind slot within) (holds.slots kind slot within)
+bad_none kind slot pages within none = λ d holds limits rules. none (def_at kind slot d) (limits.each kind slot within) (holds.slots kind slot within)
 
 -- what was read as far as some rank was read further
 pub read_on : (reached further : ℕ) (d : Definitions) → reached ≤ further → AreReadTo reached d → AreReadTo further d

@@ -6,7 +6,8 @@ use Rattle.ts_model.specs.declared.kind.Kind.{Kind}
 use Rattle.ts_model.specs.declared.kind.Kind.TheVariants as kinds
 use Rattle.std.specs.Option.{option_map}
 use Rattle.std.proofs.lemmas.List.{length-map, length-replicate}
-use Rattle.ts_model.specs.Definitions.{Definitions, RowTypeDef, ContainerDef, SeriesDef, limit, slots, at_slot, of_row_type, of_container, of_series, no_definitions}
+use Rattle.ts_model.specs.Definitions.{Definitions, KindDef, to_def, table_of, limit, slots, no_definitions}
+use Rattle.ts_model.proofs.PartsLemmas.{empty-table, nothing-defined}
 use Rattle.ts_layout.specs.Limits.{IsSlotOf}
 use Rattle.ts_layout.proofs.CallerLemmas.{at_slot-map}
 use Rattle.ts_container.specs.declared.fault.SurveyFault.{SurveyFault}
@@ -101,24 +102,14 @@ pub known_none : (pages : ℕ → List ℕ) (d : Definitions) → KnownBelow Non
 known_none pages d = (λ kind slot within below. absurd (omega arith), λ n low below. absurd (omega arith))
 
 -- no definitions were read yet
-empty_at : {A : Type 0} (n i : ℕ) → at_slot {A = A} i (replicate n None) ≡ None
-empty_at zero i = refl
-empty_at (suc n) zero = refl
-empty_at {A} (suc n) (suc i) = empty_at {A = A} n i
-
-none_at : (kind : Kind) (slot : ℕ) → def_at kind slot no_definitions ≡ None
-none_at kinds.RowType slot = at_slot-map of_row_type slot (replicate 64 None) ∙ ap (option_map of_row_type) (empty_at 64 slot)
-none_at kinds.Container slot = at_slot-map of_container slot (replicate 64 None) ∙ ap (option_map of_container) (empty_at 64 slot)
-none_at kinds.Series slot = at_slot-map of_series slot (replicate 4096 None) ∙ ap (option_map of_series) (empty_at 4096 slot)
-
 sizes_none : (kind : Kind) → length (slots kind no_definitions) ≡ limit kind
-sizes_none kinds.RowType = length-map no_definitions.row_types (option_map of_row_type) ∙ length-replicate {A = Option RowTypeDef} 64 None
-sizes_none kinds.Container = length-map no_definitions.containers (option_map of_container) ∙ length-replicate {A = Option ContainerDef} 64 None
-sizes_none kinds.Series = length-map no_definitions.series (option_map of_series) ∙ length-replicate {A = Option SeriesDef} 4096 None
+sizes_none kind =
+    length-map (table_of kind no_definitions) (option_map (to_def kind)) ∙ ap (λ (t : List (Option (KindDef kind))). length t) (empty-table kind)
+    ∙ length-replicate {A = Option (KindDef kind)} (limit kind) None
 
 pub none_read : (d : Definitions) → d ≡ no_definitions → AreReadTo 0 d
 none_read d is = subst (AreReadTo 0) (sym is) (record {
   sizes = sizes_none;
-  empty = λ kind slot above. none_at kind slot;
-  limits = λ kind slot within. subst (IsSlotOf kind) (sym (none_at kind slot)) tt;
+  empty = λ kind slot above. nothing-defined kind slot;
+  limits = record { each = λ kind slot within. subst (IsSlotOf kind) (sym (nothing-defined kind slot)) tt };
 })

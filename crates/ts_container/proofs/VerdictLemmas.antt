@@ -3,19 +3,16 @@ use Rattle.std.proofs.Common.{◌≡◌, ℕ, ◌+◌, ◌-◌, ◌<◌, ◌≤�
 use Rattle.ts_page.specs.Pages.{Contents, EqualPages}
 use Rattle.ts_space.specs.Place.{count_of}
 use Rattle.ts_space.specs.Directory.{Directory, places_of}
-use Rattle.ts_model.specs.Definitions.{Definitions, as_row_type, as_container, as_series, IsDefinitions}
+use Rattle.ts_model.specs.Definitions.{Definitions, IsDefinitions}
 use Rattle.ts_layout.specs.Slot.{header_bytes}
 use Rattle.ts_layout.specs.Meaning.{ElementPage, element_page, elements_of, Layout, HoldsDefinitions, HoldsElements, KeepLimits, AreThere, AreSound, sum_of_quotas, HasOnePageEach, KeepsQuotas, IsSound, IsLaidOut, HoldAll}
 use Rattle.ts_container.specs.Reading.{HoldNone}
 use Rattle.ts_layout.specs.Charges.{KeepQuotas}
-use Rattle.ts_container.specs.Elements.{ListsAll, ListsUnless, HoldNoElements, AllRead, ElementsRead, IsSeen}
+use Rattle.ts_container.specs.Elements.{ListsAll, ListsUnless, HoldNoElements, AllRead, ElementsRead, IsReadAs}
 use Rattle.ts_container.specs.Survey.{Reads, IfRefused, HoldUnless, DefinitionsRead, SoundRead, IsFound, HoldNoLayout}
 use Rattle.ts_container.specs.declared.fault.SurveyFault.{SurveyFault}
 use Rattle.ts_container.specs.declared.fault.SurveyFault.TheVariants.{NotAStore, Failed, Memory}
 use Rattle.ts_container.specs.declared.surveyed.Surveyed.{Surveyed}
-use Rattle.ts_model.specs.Table.{Slots}
-use Rattle.ts_model.specs.Parts.{tables_of, AreParts}
-use Rattle.ts_model.proofs.PartsLemmas.{read-table, row_type-name, container-name, series-name}
 use Rattle.ts_layout.specs.OnePage.{AreFilled}
 use Rattle.ts_layout.proofs.CallerLemmas.{within_list, unique, kept_in, AllAlike, pages_alike, one_alike, as_many, count_places, quotas_kept, quotas_listed}
 use Rattle.ts_container.proofs.SurveyLemmas.{reads_more, reads_err, reads_refused}
@@ -60,14 +57,14 @@ pub no_elements : (count : ℕ) (pages : ℕ → List ℕ) (d : Definitions) →
 no_elements count pages d holds sound none l laid = none l.element_pages (size_of count l laid.size) (its_pages count pages d holds sound l laid)
 
 -- what was seen of pages that are told, they hold
-pub told_pages : (tells : Bool) (count : ℕ) (d : Definitions) (v : Contents) (es : List ElementPage) → IsTrue tells → length es ≡ count → ((j : ℕ) → j < count → IsSeen tells v d (930 + j) (element_page j es)) → HoldAll d v.page es
+pub told_pages : (tells : Bool) (count : ℕ) (d : Definitions) (v : Contents) (es : List ElementPage) → IsTrue tells → length es ≡ count → ((j : ℕ) → j < count → IsReadAs tells v d (930 + j) (element_page j es)) → HoldAll d v.page es
 told_pages tells count d v es told size seen j within =
     let at : j < count = omega (arith, within, size) in
     let one = seen j at in
     subst (λ (b : List ℕ). HoldsElements d b (element_page j es)) (sym (one.2 told)) one.1
 
 -- the pages that were read are like those of each layout
-likewise : (tells : Bool) (count : ℕ) (d : Definitions) (v : Contents) (es : List ElementPage) → IsTrue tells → length es ≡ count - 930 → ((j : ℕ) → j < count - 930 → IsSeen tells v d (930 + j) (element_page j es))
+likewise : (tells : Bool) (count : ℕ) (d : Definitions) (v : Contents) (es : List ElementPage) → IsTrue tells → length es ≡ count - 930 → ((j : ℕ) → j < count - 930 → IsReadAs tells v d (930 + j) (element_page j es))
     → HoldsDefinitions v.page d → AreSound (count - 930) d → (l : Layout) → IsLaidOut count v.page l → AllAlike es l.element_pages
 likewise tells count d v es told size seen holds sound l laid =
     pages_alike d v.page es l.element_pages (size ∙ sym (size_of count l laid.size)) (told_pages tells (count - 930) d v es told size seen) (its_pages count v.page d holds sound l laid)
@@ -100,7 +97,7 @@ not_paid tells count d v space spare second told holds sound read is over l laid
     over (quotas_listed d space l.element_pages sound.tables (λ slot within. counted space read.elements lists slot within ∙ as_many slot read.elements l.element_pages like) kept)
 
 -- each page that was read is filled
-filled_seen : (tells : Bool) (count : ℕ) (d : Definitions) (v : Contents) (es : List ElementPage) → length es ≡ count → ((j : ℕ) → j < count → IsSeen tells v d (930 + j) (element_page j es)) → AreFilled (record { definitions = d; element_pages = es })
+filled_seen : (tells : Bool) (count : ℕ) (d : Definitions) (v : Contents) (es : List ElementPage) → length es ≡ count → ((j : ℕ) → j < count → IsReadAs tells v d (930 + j) (element_page j es)) → AreFilled (record { definitions = d; element_pages = es })
 filled_seen tells count d v es size seen i slot fs is =
     let one = seen i (omega (arith, within_list es i slot fs is, size)) in
     let here = subst (HoldsElements d one.0) is one.1 in
@@ -178,14 +175,6 @@ sound_refused tells count number repeated u v w first second none = record {
 -- what is known of the pages as they were before
 pub known_before : (tells : Bool) (repeated : Option ℕ) (d : Definitions) (u v : Contents) → Reads tells (Ok (tt {0})) u v → (IsTrue tells → HoldUnless repeated v.page d) → IsTrue tells → HoldUnless repeated u.page d
 known_before tells repeated d u v first known told = subst (λ (p : ℕ → List ℕ). HoldUnless repeated p d) (same_pages u.page v.page (first.pages told)) (known told)
-
--- the rules of the tables, as they are kept
-pub rules_of : (a b c : Slots) → AreParts a b c → IsDefinitions (tables_of a b c).definitions
-rules_of a b c parts = record {
-  row_types = read-table as_row_type (λ r. r.name) 64 a.slots row_type-name parts.row_types.rules;
-  containers = read-table as_container (λ x. x.name) 64 b.slots container-name parts.containers.rules;
-  series = read-table as_series (λ s. s.key) 4096 c.slots series-name parts.series.rules;
-}
 
 -- where there is no number
 pub there_unless : (o : Option ℕ) (A B : Type 0) → o ≡ None → MatchOption o A (λ _. B) → A

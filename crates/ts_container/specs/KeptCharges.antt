@@ -1,12 +1,21 @@
 -- What each container is charged, kept as a list of sums.
-use Rattle.std.specs.Prelude.{◌≡◌, ℕ, ◌+◌, ◌-◌, ◌<◌, List, slice_index, slice_set}
+use Rattle.std.specs.Prelude.{◌≡◌, ℕ, ◌+◌, ◌-◌, ◌<◌, ◌≤◌, List, slice_index, slice_set}
+use Rattle.ts_page.specs.Volume.{most_element_pages}
 use Rattle.ts_space.specs.Directory.{Directory}
-use Rattle.ts_model.specs.Definitions.{Definitions}
+use Rattle.ts_model.specs.Definitions.{Definitions, container_slots}
 use Rattle.ts_layout.specs.OnePage.{charge_in}
 
 -- each sum is what the container in its slot is charged, by the directory
 abbrev pub AreCharges : List ℕ → Definitions → Directory → Type 0
-AreCharges sums d space = (slot : ℕ) → slot < 64 → slice_index sums slot ≡ charge_in d space slot
+AreCharges sums d space = (slot : ℕ) → slot < container_slots → slice_index sums slot ≡ charge_in d space slot
+
+-- no container is charged more pages than a volume has
+abbrev pub AreFew : Definitions → Directory → Type 0
+AreFew d space = (slot : ℕ) → slot < container_slots → charge_in d space slot ≤ most_element_pages
+
+-- the sums are what containers are charged, and that is little
+unfoldable pub IsCharged : List ℕ → Definitions → Directory → Type 0
+IsCharged sums d space = AreCharges sums d space × AreFew d space
 
 -- the sums with what one series of a container cost in place of what it cost before
 abbrev pub with_charge : ℕ → ℕ → ℕ → List ℕ → List ℕ

@@ -1,5 +1,6 @@
 -- What is read of slots and of the pages where they stand.
 use Rattle.std.specs.Prelude.{◌≡◌, ℕ, ◌+◌, ◌-◌, ◌<◌, ◌≤◌, Option, Some, None, List, length, drop, replicate}
+use Rattle.ts_page.specs.Volume.{page_size}
 use Rattle.ts_model.specs.declared.kind.Kind.{Kind}
 use Rattle.ts_model.specs.declared.def.Def.{Def}
 use Rattle.ts_model.specs.Definitions.{Definitions, kind_of, name_of, limit, slots, slot_of, with_slot, IsDefinitions}
@@ -69,7 +70,7 @@ SlotRead kind slot bytes old new found.Bad = ((o : Option Def) → IsSlotOf kind
 
 -- zeros behind the slots of a page
 abbrev pub HasZerosBehind : ℕ → List ℕ → Type 0
-HasZerosBehind number page = drop (bytes_of_slots (slots_in_page number)) page ≡ replicate (4096 - bytes_of_slots (slots_in_page number)) 0
+HasZerosBehind number page = drop (bytes_of_slots (slots_in_page number)) page ≡ replicate (page_size - bytes_of_slots (slots_in_page number)) 0
 
 -- a definition page is read into the definitions that were read of the pages before it
 abbrev pub PageRead : ℕ → List ℕ → Definitions → Definitions → Found → Type 0

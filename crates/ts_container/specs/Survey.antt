@@ -3,6 +3,7 @@ use Rattle.std.specs.Prelude.{◌≡◌, ℕ, ◌-◌, ◌≤◌, Bool, IsTrue, 
 use Rattle.ts_base.specs.declared.fault.StoreFault.{StoreFault}
 use Rattle.ts_base.specs.declared.fault.StoreFault.TheVariants.{Failed as StoreFailed}
 use Rattle.ts_disk.specs.Device.{Rose}
+use Rattle.ts_page.specs.Volume.{first_element_page}
 use Rattle.ts_page.specs.Pages.{Contents, EqualPages, with_page}
 use Rattle.ts_model.specs.declared.kind.Kind.{Kind}
 use Rattle.ts_model.specs.declared.def.Def.{Def}
@@ -73,8 +74,8 @@ HoldNoLayout count pages = (l : Layout) → IsLaidOut count pages l → ⊥
 -- the header and the definitions are read
 pub record SoundRead (tells : Bool) (count : ℕ) (result : Result Defs SurveyFault) (v w : Contents) : Type 0 where
   pub call : Reads tells result v w
-  pub read : IfOk result (λ x. AreSound (count - 930) x.definitions)
-  pub header : IsOk result → IsTrue tells → v.page 0 ≡ header_bytes (count - 930)
+  pub read : IfOk result (λ x. AreSound (count - first_element_page) x.definitions)
+  pub header : IsOk result → IsTrue tells → v.page 0 ≡ header_bytes (count - first_element_page)
   pub known : IfOk result (λ x. IsTrue tells → HoldsDefinitions v.page x.definitions)
   pub refused : IfErr result (λ e. IfRefused e (IsTrue tells → HoldNoLayout count v.page))
 

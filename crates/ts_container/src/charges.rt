@@ -1,10 +1,10 @@
 // What containers are charged for the pages of their series.
-ghost use Rattle.std.specs.Prelude.{◌≡◌, ◌≤◌, ◌<◌, ◌*◌, ◌^◌, ◌↔◌, ℕ, IsTrue, length};
-ghost use Rattle.ts_model.specs.Definitions.{at_slot, IsDefinitions};
+ghost use Rattle.std.specs.Prelude.{◌≡◌, ◌≤◌, ◌<◌, ◌*◌, ◌^◌, ◌↔◌, IsTrue, length};
+ghost use Rattle.ts_model.specs.Definitions.{container_slots, series_slots, at_slot, IsDefinitions};
 ghost use Rattle.ts_space.specs.Directory.{places_of};
 ghost use Rattle.ts_space.specs.Charge.{irregular_places_charge};
 ghost use Rattle.ts_layout.specs.Meaning.{KeepLimits};
-ghost use Rattle.ts_layout.specs.Charges.{charge_listed, container_charge, KeepsQuotaAt, KeepQuotas};
+ghost use Rattle.ts_layout.specs.Charges.{HasOnePlaceAtMost, charge_listed, container_charge, KeepsQuotaAt, KeepQuotas};
 ghost use Rattle.ts_layout.specs.OnePage.{charge_in};
 
 use crate::content::row_type_in;
@@ -13,11 +13,11 @@ use ts_model::{Def, Defs, Kind};
 use ts_space::{Space, charge_irregular};
 
 /// What all series of the container in a slot are charged together; nothing where there is none.
-pub fn charge_of_container(defs: &Defs, space: &Space, slot: u8) -> u64
-    requires slot { slot < 64 }
+pub(crate) fn charge_of_container(defs: &Defs, space: &Space, slot: u8) -> u64
+    requires slot { slot < container_slots }
     requires limits { KeepLimits defs.now.definitions }
     requires rules { IsDefinitions defs.now.definitions }
-    requires few { (slot : ℕ) → slot < 4096 → length (places_of slot space.now) ≤ 1 }
+    requires few { HasOnePlaceAtMost space.now }
     ensures value { result ≡ charge_in defs.now.definitions space.now slot }
     ensures bound { result ≤ 2 ^ 44 }
 {
@@ -31,7 +31,7 @@ pub fn charge_of_container(defs: &Defs, space: &Space, slot: u8) -> u64
 pub(crate) fn keep_quotas(defs: &Defs, space: &Space) -> bool
     requires limits { KeepLimits defs.now.definitions }
     requires rules { IsDefinitions defs.now.definitions }
-    requires few { (slot : ℕ) → slot < 4096 → length (places_of slot space.now) ≤ 1 }
+    requires few { HasOnePlaceAtMost space.now }
     ensures { IsTrue result ↔ KeepQuotas defs.now.definitions space.now }
 {
     for slot in 0..64 {
@@ -44,10 +44,10 @@ pub(crate) fn keep_quotas(defs: &Defs, space: &Space) -> bool
 
 // Whether the container in a slot, if there is one, is charged its quota at most.
 fn keeps_quota(defs: &Defs, space: &Space, slot: u8) -> bool
-    requires slot { slot < 64 }
+    requires slot { slot < container_slots }
     requires limits { KeepLimits defs.now.definitions }
     requires rules { IsDefinitions defs.now.definitions }
-    requires few { (slot : ℕ) → slot < 4096 → length (places_of slot space.now) ≤ 1 }
+    requires few { HasOnePlaceAtMost space.now }
     ensures { IsTrue result ↔ KeepsQuotaAt defs.now.definitions space.now slot }
 {
     let Some(Def::Container { quota, .. }) = defs.get(Kind::Container, slot as u16) else {
@@ -63,7 +63,7 @@ fn keeps_quota(defs: &Defs, space: &Space, slot: u8) -> bool
 fn charge_of(defs: &Defs, space: &Space, container: u8, room: usize) -> u64
     requires room { 0 < room }
     requires rules { IsDefinitions defs.now.definitions }
-    requires few { (slot : ℕ) → slot < 4096 → length (places_of slot space.now) ≤ 1 }
+    requires few { HasOnePlaceAtMost space.now }
     ensures value { result ≡ container_charge defs.now.definitions space.now container room }
     ensures bound { result ≤ 2 ^ 44 }
 {
@@ -76,7 +76,7 @@ fn charge_of(defs: &Defs, space: &Space, container: u8, room: usize) -> u64
 
 // What the series in a slot is charged to a container; nothing where it isn't one of that container.
 fn charge_at(defs: &Defs, space: &Space, container: u8, room: usize, slot: u16) -> u64
-    requires slot { slot < 4096 }
+    requires slot { slot < series_slots }
     requires room { 0 < room }
     requires few { length (places_of slot space.now) ≤ 1 }
     ensures value { result ≡ charge_listed space.now container room slot (at_slot slot defs.now.definitions.series) }
@@ -92,7 +92,7 @@ fn charge_at(defs: &Defs, space: &Space, container: u8, room: usize, slot: u16) 
 
 // What the places of a series cost.
 fn charge_of_places(space: &Space, slot: u16, room: usize) -> u64
-    requires slot { slot < 4096 }
+    requires slot { slot < series_slots }
     requires room { 0 < room }
     requires few { length (places_of slot space.now) ≤ 1 }
     ensures value { result ≡ irregular_places_charge room (places_of slot space.now) }

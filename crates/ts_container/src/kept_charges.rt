@@ -4,8 +4,9 @@ ghost use Rattle.ts_row.specs.RowType.{Heading};
 ghost use Rattle.ts_space.specs.Directory.{Directory, places_of};
 ghost use Rattle.ts_space.specs.Charge.{irregular_places_charge};
 ghost use Rattle.ts_cells.specs.Cell.{page_room};
-ghost use Rattle.ts_model.specs.Definitions.{Definitions, SeriesDef, at_slot, IsDefinitions};
+ghost use Rattle.ts_model.specs.Definitions.{Definitions, SeriesDef, container_slots, series_slots, at_slot, IsDefinitions};
 ghost use Rattle.ts_layout.specs.Meaning.{KeepLimits, heading_in};
+ghost use Rattle.ts_layout.specs.Charges.{HasOnePlaceAtMost};
 ghost use Rattle.ts_container.specs.KeptCharges.{AreCharges, with_charge};
 
 use crate::charges::charge_of_container;
@@ -24,18 +25,19 @@ pub struct Charges {
 
 impl Model for Charges {
     ghost use Rattle.std.specs.Prelude.{◌≡◌, ℕ, List, length};
+    ghost use Rattle.ts_model.specs.Definitions.{container_slots};
 
     ghost Value = { List ℕ };
 
     ghost view = { λ c. c.sums.items };
 
-    ghost invariant = { λ c. length c.sums.items ≡ 64 };
+    ghost invariant = { λ c. length c.sums.items ≡ container_slots };
 }
 
 impl Charges {
     /// Nothing is charged to any container.
     pub fn new(alloc: Global) -> Result<Charges, AllocError>
-        ensures { IfOk result (λ charges. charges ≡ replicate 64 0) }
+        ensures { IfOk result (λ charges. charges ≡ replicate container_slots 0) }
     {
         let mut sums = Vec::with_capacity(alloc, SLOTS)?;
         for _slot in 0..SLOTS {
@@ -46,9 +48,9 @@ impl Charges {
 
     /// What the container in a slot is charged.
     pub fn of(&self, slot: u8) -> u64
-        requires { slot < 64 }
+        requires { slot < container_slots }
         ensures ok { result ≡ slice_index self.now slot }
-        ensures slots { length self.now ≡ 64 }
+        ensures slots { length self.now ≡ container_slots }
     {
         self.sums[slot as usize]
     }
@@ -57,7 +59,7 @@ impl Charges {
     pub fn count(&mut self, defs: &Defs, space: &Space)
         requires limits { KeepLimits defs.now.definitions }
         requires rules { IsDefinitions defs.now.definitions }
-        requires few { (slot : ℕ) → slot < 4096 → length (places_of slot space.now) ≤ 1 }
+        requires few { HasOnePlaceAtMost space.now }
         ensures { AreCharges self.new defs.now.definitions space.now }
     {
         for slot in 0..64 {
@@ -67,7 +69,7 @@ impl Charges {
 
     /// The places of one series of a container change: what the series cost, and what it costs then.
     pub fn change(&mut self, slot: u8, old: u64, new: u64)
-        requires slot { slot < 64 }
+        requires slot { slot < container_slots }
         requires part { old ≤ slice_index self.old slot }
         requires fits { slice_index self.old slot + new < 2 ^ 64 }
         ensures { self.new ≡ with_charge slot old new self.old }
@@ -80,11 +82,11 @@ impl Charges {
 /// Where the places of one series change, the charge of its container changes with them, and no other does.
 pub fn a_charge_changes_with_a_series()
     ensures part { (d : Definitions) (space : Directory) (slot : ℕ) (s : SeriesDef) (h : Heading) (sums : List ℕ) →
-        IsDefinitions d → at_slot slot d.series ≡ Some s → s.container < 64 → heading_in d s.container ≡ Some h → AreCharges sums d space →
+        IsDefinitions d → at_slot slot d.series ≡ Some s → s.container < container_slots → heading_in d s.container ≡ Some h → AreCharges sums d space →
         irregular_places_charge (page_room h.columns) (places_of slot space) ≤ slice_index sums s.container }
     ensures changed { (d : Definitions) (space space' : Directory) (slot : ℕ) (s : SeriesDef) (h : Heading) (sums : List ℕ) →
-        IsDefinitions d → at_slot slot d.series ≡ Some s → s.container < 64 → heading_in d s.container ≡ Some h → length sums ≡ 64 →
-        ((t : ℕ) → t < 4096 → t ≢ slot → places_of t space' ≡ places_of t space) → AreCharges sums d space →
+        IsDefinitions d → at_slot slot d.series ≡ Some s → s.container < container_slots → heading_in d s.container ≡ Some h → length sums ≡ container_slots →
+        ((t : ℕ) → t < series_slots → t ≢ slot → places_of t space' ≡ places_of t space) → AreCharges sums d space →
         AreCharges (with_charge s.container (irregular_places_charge (page_room h.columns) (places_of slot space))
         (irregular_places_charge (page_room h.columns) (places_of slot space')) sums) d space' }
 {}

@@ -22,7 +22,6 @@ mod slot;
 mod surveyed;
 mod write;
 
-pub use charges::charge_of_container;
 pub use content::{row_type_in, row_type_of};
 pub use fault::SurveyFault;
 pub use header::write_header;

@@ -120,7 +120,12 @@ pub(crate) fn parse_row_type(alloc: Global, page: &[u8]) -> Result<Option<Def>, 
         return Ok(None);
     }
     match RowType::make(alloc, stamp, columns) {
-        Ok(kind) => Ok(Some(Def::RowType { name, kind })),
+        Ok(kind) => {
+            if kind.has_long_decimal() {
+                return Ok(None);
+            }
+            Ok(Some(Def::RowType { name, kind }))
+        }
         Err(Trouble::Refused(_)) => Ok(None),
         Err(Trouble::Memory(error)) => Err(error),
     }

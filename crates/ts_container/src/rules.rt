@@ -1,9 +1,9 @@
 // The rules that definitions keep together.
 ghost use Rattle.std.specs.Prelude.{◌≡◌, ◌↔◌, ◌<◌, ◌≤◌, ◌^◌, Some, IsTrue, MatchOption, length};
 ghost use Rattle.ts_model.specs.declared.def.Def.{Def};
-ghost use Rattle.ts_model.specs.Definitions.{limit, at_slot, IsDefinitions};
+ghost use Rattle.ts_model.specs.Definitions.{limit, at_slot, references};
 ghost use Rattle.ts_layout.specs.Limits.{IsDef};
-ghost use Rattle.ts_layout.specs.Meaning.{def_at, reference, IsThere, AreThere, KeepLimits, quota_in, sum_of_quotas, AreThereIn};
+ghost use Rattle.ts_layout.specs.Meaning.{def_at, IsThere, AreThere, KeepLimits, quota_in, sum_of_quotas, AreThereIn};
 
 use ts_layout::page_of_slot;
 use ts_model::{Def, Defs, Kind};
@@ -41,7 +41,7 @@ fn is_sound_at(defs: &Defs, kind: Kind, slot: u16) -> bool
     requires limits { KeepLimits defs.now.definitions }
     requires slot { slot < limit kind }
     ensures { IsTrue result ↔ ((def : Def) → def_at kind slot defs.now.definitions ≡ Some def
-        → IsThere defs.now.definitions (reference def)) }
+        → IsThere defs.now.definitions (references def)) }
 {
     match defs.get(kind, slot) {
         None => true,
@@ -52,7 +52,7 @@ fn is_sound_at(defs: &Defs, kind: Kind, slot: u16) -> bool
 // Whether something stands in the slot that a definition refers to.
 fn is_there(defs: &Defs, def: &Def) -> bool
     requires { IsDef def.now }
-    ensures { IsTrue result ↔ IsThere defs.now.definitions (reference def.now) }
+    ensures { IsTrue result ↔ IsThere defs.now.definitions (references def.now) }
 {
     match def {
         Def::RowType { .. } => true,

@@ -1,5 +1,6 @@
 // The survey of a volume's pages.
-ghost use Rattle.std.specs.Prelude.{◌≡◌, ◌≤◌, ◌-◌, ◌⊎◌, None, IsSome, IfOk, IfErr, IsTrue};
+ghost use Rattle.std.specs.Prelude.{◌≡◌, ◌+◌, ◌≤◌, ◌-◌, ◌⊎◌, None, IsSome, IfOk, IfErr, IsTrue};
+ghost use Rattle.ts_page.specs.Volume.{first_element_page, most_element_pages};
 ghost use Rattle.ts_model.specs.Definitions.{IsDefinitions};
 ghost use Rattle.ts_container.specs.Survey.{Reads, IfRefused, IsFound, HoldNoLayout, SoundRead};
 
@@ -29,8 +30,8 @@ pub struct Surveyed {
 /// directory and the free pages, or the first bad page. They stay as they are, and so does the list of free ones.
 pub fn survey<P: Pages>(alloc: Global, pages: &mut P, count: u32) -> Result<Surveyed, SurveyFault>
     requires count { count ≡ (P.contents pages.old).count }
-    requires some { 931 ≤ count }
-    requires most { count ≤ 66466 }
+    requires some { first_element_page + 1 ≤ count }
+    requires most { count ≤ first_element_page + most_element_pages }
     ensures ok { IfOk result (λ s. IsFound P.tells count (P.contents pages.old) s.defs.definitions s.space s.free.items) }
     ensures refused { IfErr result (λ e. IfRefused e (IsTrue P.tells → HoldNoLayout count (P.contents pages.old).page)) }
     ensures call { Reads P.tells result (P.contents pages.old) (P.contents pages.new) }
@@ -62,7 +63,7 @@ fn survey_definitions<P: Pages>(
     page: &mut Page,
 ) -> Result<Defs, SurveyFault>
     requires within { count ≤ (P.contents pages.old).count }
-    requires some { 931 ≤ count }
+    requires some { first_element_page + 1 ≤ count }
     ensures read { SoundRead P.tells count result (P.contents pages.old) (P.contents pages.new) }
     ensures undisturbed { P.undisturbed pages.old pages.new }
 {

@@ -1,4 +1,3 @@
 pub mod DefinedLemmas
 pub mod RedefineLemmas
 pub mod RowTypeLemmas
-pub mod UsedLemmas

@@ -6,10 +6,10 @@ use Rattle.ts_base.specs.Name.{is_name}
 use Rattle.ts_row.specs.declared.kind.Column.{Column}
 use Rattle.ts_row.specs.RowType.{Heading, is_row_type, bad_column, IsBadRowType}
 use Rattle.ts_command.specs.Form.{IsColumn}
-use Rattle.ts_answer.specs.Answer.{a_row_type}
+use Rattle.ts_answer.specs.Answer.{no_bad_column}
 use Rattle.ts_answer.specs.Tried.{IsTried, IsRefusedAs}
-use Rattle.ts_answer.proofs.CallerLemmas.{good-row_type, bad-row_type}
-use Rattle.ts_define.specs.RowTypes.{MakesRowType}
+use Rattle.ts_answer.proofs.CallerLemmas.{good-columns, bad-columns}
+use Rattle.ts_define.specs.RowTypes.{MakesHeading}
 
 -- two tests that are passed
 both : (a b : Bool) → IsTrue a → IsTrue b → IsTrue (a && b)
@@ -22,19 +22,19 @@ all_names [] all = refl
 all_names (c ∷ columns) all = both (is_name c.name) (list_all (λ x. is_name x.name) columns) all.0 (all_names columns all.1)
 
 -- the row type of copies
-pub made_row_type : (result : Result Heading Trouble) (stamp copied : List ℕ) (columns others : List Column) → copied ≡ stamp → others ≡ columns → IfOk result (λ made. made ≡ record { stamp = copied; columns = others })
-    → OnOk result (IsTrue (is_row_type copied others)) → MatchResult result (λ made. bad_column copied others ≡ None) (IsBadRowType copied others) → IsTried result (a_row_type stamp columns) (MakesRowType stamp columns)
-made_row_type (Ok made) stamp copied columns others same alike is rules good =
+pub made_heading : (result : Result Heading Trouble) (stamp copied : List ℕ) (columns others : List Column) → copied ≡ stamp → others ≡ columns → IfOk result (λ made. made ≡ record { stamp = copied; columns = others })
+    → OnOk result (IsTrue (is_row_type copied others)) → MatchResult result (λ made. bad_column copied others ≡ None) (IsBadRowType copied others) → IsTried result (no_bad_column (bad_column stamp columns)) (MakesHeading stamp columns)
+made_heading (Ok made) stamp copied columns others same alike is rules good =
     let P : List ℕ → List Column → Type 0 = λ s cs. IsTrue (is_row_type s cs) in
     record {
       ok = (
         tt,
-        good-row_type stamp columns (sym (λ i. bad_column (same i) (alike i)) ∙ good),
+        good-columns stamp columns (sym (λ i. bad_column (same i) (alike i)) ∙ good),
         record { made = is ∙ (λ i. record { stamp = same i; columns = alike i }); rules = subst (P stamp) alike (subst (λ (s : List ℕ). P s others) same rules) },
       );
       err = tt;
     }
-made_row_type (Err trouble) stamp copied columns others same alike is rules bad = record {
+made_heading (Err trouble) stamp copied columns others same alike is rules bad = record {
   ok = tt;
-  err = subst (λ (t : Trouble). IsRefusedAs t (a_row_type stamp columns)) (sym bad.2) (bad-row_type stamp columns bad.0 (sym (λ i. bad_column (same i) (alike i)) ∙ bad.1));
+  err = subst (λ (t : Trouble). IsRefusedAs t (no_bad_column (bad_column stamp columns))) (sym bad.2) (bad-columns stamp columns bad.0 (sym (λ i. bad_column (same i) (alike i)) ∙ bad.1));
 }

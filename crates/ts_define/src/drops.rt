@@ -1,11 +1,12 @@
 // Definitions to which nothing refers are dropped, of each kind alike.
-ghost use Rattle.std.specs.Prelude.{◌≡◌, ◌<◌, ℕ, true, false, IfOk};
-ghost use Rattle.ts_model.specs.Definitions.{limit};
+ghost use Rattle.std.specs.Prelude.{◌≡◌, ◌<◌, ℕ, true, false, Some, IfOk};
+ghost use Rattle.ts_model.specs.declared.def.Def.{Def as TheDef};
+ghost use Rattle.ts_model.specs.Definitions.{limit, def_at, Refers, IsUsed, IsUsedBy};
 ghost use Rattle.ts_model.specs.declared.kind.Kind.{Kind as TheKind};
 ghost use Rattle.ts_layout.specs.Meaning.{Layout, catalogue_of};
 ghost use Rattle.ts_answer.specs.Answer.{drop_definition};
 ghost use Rattle.ts_answer.specs.Decided.{DefinesAs, FitsSlot};
-ghost use Rattle.ts_answer.specs.Kinds.{Refers, IsUsed, IsUsedBy, HasNoPages};
+ghost use Rattle.ts_model.specs.Kinds.{HasNoPages};
 ghost use Rattle.ts_answer.specs.Reply.{ok_line};
 ghost use Rattle.ts_answer.specs.Tried.{IsTried};
 ghost use Rattle.ts_answer.specs.View.{IsDefinedBy};
@@ -33,9 +34,13 @@ fn has_user(defs: &Defs, kind: Kind, slot: u16) -> bool
     ensures some { result ≡ true → IsUsed kind slot defs.now.definitions }
     ensures none { result ≡ false → IsUsed kind slot defs.now.definitions → ⊥ }
 {
-    has_user_in(defs, Kind::RowType, kind, slot)
-        || has_user_in(defs, Kind::Container, kind, slot)
-        || has_user_in(defs, Kind::Series, kind, slot)
+    if has_user_in(defs, Kind::RowType, kind, slot) {
+        return true;
+    }
+    if has_user_in(defs, Kind::Container, kind, slot) {
+        return true;
+    }
+    has_user_in(defs, Kind::Series, kind, slot)
 }
 
 // Whether some definition of the first kind does.
@@ -44,13 +49,23 @@ fn has_user_in(defs: &Defs, users: Kind, kind: Kind, slot: u16) -> bool
     ensures none { result ≡ false → IsUsedBy users kind slot defs.now.definitions → ⊥ }
 {
     for user in 0..users.limit() {
-        if let Some(def) = defs.get(users, user) {
-            if refers(def, kind, slot) {
-                return true;
-            }
+        if is_user(defs, users, user, kind, slot) {
+            return true;
         }
     }
     false
+}
+
+// Whether a slot is filled with a definition that does.
+fn is_user(defs: &Defs, users: Kind, user: u16, kind: Kind, slot: u16) -> bool
+    requires { user < limit users }
+    ensures some { result ≡ true → (def : TheDef) × (def_at users user defs.now.definitions ≡ Some def) × Refers def kind slot }
+    ensures none { result ≡ false → (def : TheDef) → def_at users user defs.now.definitions ≡ Some def → Refers def kind slot → ⊥ }
+{
+    match defs.get(users, user) {
+        Some(def) => refers(def, kind, slot),
+        None => false,
+    }
 }
 
 // Whether a definition does.

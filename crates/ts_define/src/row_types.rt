@@ -1,17 +1,18 @@
 // The routine that creates a row type.
 ghost use Rattle.std.specs.Prelude.{◌≡◌, ℕ, IfOk};
+ghost use Rattle.ts_row.specs.RowType.{bad_column};
 ghost use Rattle.ts_command.specs.declared.command.Command.TheVariants.{CreateRowType};
 ghost use Rattle.ts_command.specs.Form.{HasForm};
 ghost use Rattle.ts_model.specs.declared.kind.Kind.TheVariants.{RowType as RowTypes};
-ghost use Rattle.ts_answer.specs.Answer.{a_row_type};
+ghost use Rattle.ts_answer.specs.Answer.{no_bad_column, a_row_type};
 ghost use Rattle.ts_answer.specs.Decided.{IsDecision, FitsSlot};
 ghost use Rattle.ts_answer.specs.Reply.{ok_line};
 ghost use Rattle.ts_answer.specs.Tried.{IsTried};
-ghost use Rattle.ts_define.specs.RowTypes.{MakesRowType};
+ghost use Rattle.ts_define.specs.RowTypes.{MakesHeading, MakesRowType};
 
 use crate::slots::slot_for;
 use std::alloc::{AllocError, Global};
-use ts_base::{Name, Trouble};
+use ts_base::{Name, Refusal, Trouble};
 use ts_command::Columns;
 use ts_model::{Def, Defs, Kind};
 use ts_row::{Column, RowType};
@@ -34,9 +35,20 @@ pub fn new_row_type(
     Ok((slot, Some(Def::RowType { name: copied, kind })))
 }
 
-// The row type of these columns, or the first that breaks a rule.
+// The row type of these columns, or the first that breaks a rule, or that a decimal has over 18 digits.
 fn row_type_of(alloc: Global, stamp: &Name, columns: &Columns) -> Result<RowType, Trouble>
     ensures { IsTried result (a_row_type stamp.now columns.now) (MakesRowType stamp.now columns.now) }
+{
+    let kind = heading_of(alloc, stamp, columns)?;
+    if kind.has_long_decimal() {
+        return Err(Trouble::Refused(Refusal::OldFormat));
+    }
+    Ok(kind)
+}
+
+// The row type of these columns, or the first that breaks a rule.
+fn heading_of(alloc: Global, stamp: &Name, columns: &Columns) -> Result<RowType, Trouble>
+    ensures { IsTried result (no_bad_column (bad_column stamp.now columns.now)) (MakesHeading stamp.now columns.now) }
 {
     let copied = copy_columns(alloc, columns.as_slice())?;
     let stamp = stamp.copy()?;

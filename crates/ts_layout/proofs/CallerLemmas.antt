@@ -9,9 +9,9 @@ pub use Rattle.ts_layout.proofs.LimitLemmas.{container_limit, containers_only, h
 pub use Rattle.ts_layout.proofs.UniqueLemmas.{all_there, unique}
 pub use Rattle.ts_layout.proofs.WrittenLemmas.{cells_written, definitions_stay, elsewhere, there_now}
 -- definitions by name, made and dropped
-pub use Rattle.ts_layout.proofs.LookupLemmas.{container_found, container_full, container_of_series, container_unused, container_used, container_vacant, no_container_found, no_row_type_found, no_series_found, quotas_same, row_type_found, row_type_full, row_type_of_container, row_type_unused, row_type_used, row_type_vacant, series_at, series_found, series_full, series_vacant, vacant_found}
-pub use Rattle.ts_layout.proofs.CreatedLemmas.{container_catalogue, container_keeps_headings, container_sound, row_type_catalogue, row_type_keeps_headings, row_type_sound, series_catalogue, series_keeps_headings, series_sound}
-pub use Rattle.ts_layout.proofs.DroppedLemmas.{container_dropped_catalogue, container_dropped_headings, container_dropped_sound, row_type_dropped_catalogue, row_type_dropped_headings, row_type_dropped_sound}
+pub use Rattle.ts_layout.proofs.LookupLemmas.{name_found, no_name_found, kind_full, kind_vacant, container_found, container_of_series, quotas_same, row_type_of_container, series_at, series_found, used_by_name, unused_by_name, vacant_found}
+pub use Rattle.ts_layout.proofs.ValueLemmas.{container_named, series_named}
+pub use Rattle.ts_layout.proofs.ChangedLemmas.{made_sound, made_headings, made_catalogue, dropped_sound, dropped_headings, dropped_catalogue}
 pub use Rattle.ts_layout.proofs.NamedLemmas.{slot_within}
 -- element pages, and the elements and places of a series
 pub use Rattle.ts_layout.proofs.HeadLemmas.{head_free, head_is}
@@ -31,6 +31,6 @@ pub use Rattle.ts_layout.proofs.NamedChargeLemmas.{charge_named, charge_with, co
 pub use Rattle.ts_layout.proofs.QuotaLemmas.{quotas_put}
 -- what is kept in memory
 pub use Rattle.ts_layout.proofs.PlacedLemmas.{bare_filled, bare_size, bare_sound, kept_in, placed_kept, placed_taken}
-pub use Rattle.ts_layout.proofs.QuotasKeptLemmas.{container_dropped_kept, container_kept, edited_kept, kept_alike, row_type_dropped_kept, row_type_kept, series_dropped_kept, series_kept, spare_left}
+pub use Rattle.ts_layout.proofs.QuotasKeptLemmas.{dropped_kept, made_kept, edited_kept, kept_alike, series_dropped_kept, spare_left}
 -- layouts and their catalogues
 pub use Rattle.ts_layout.proofs.LayoutLemmas.{chained, layout_stays, layout_written, one_of, same_catalogue, within_table}

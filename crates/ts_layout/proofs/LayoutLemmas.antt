@@ -78,7 +78,7 @@ columns_valid d slot h limits rules is =
     let r : RowTypeDef = row.row_type in
     let within : row.container.row_type < 64 = omega (arith, within_table d.row_types row.container.row_type r row.row_type_there, rules.row_types.size) in
     let there : def_at kinds.RowType row.container.row_type d ≡ Some (of_row_type r) = at_slot-map of_row_type row.container.row_type d.row_types ∙ ap (option_map of_row_type) row.row_type_there in
-    let good = (let P : Option Def → Type 0 = IsSlotOf kinds.RowType in subst P there (limits kinds.RowType row.container.row_type within)).1.rules in
+    let good = (let P : Option Def → Type 0 = IsSlotOf kinds.RowType in subst P there (limits.each kinds.RowType row.container.row_type within)).1.rules in
     subst (λ (x : Heading). valid x.columns) row.heading (row_type_columns r.heading.stamp r.heading.columns good)
 
 -- a page of one series has one list of elements

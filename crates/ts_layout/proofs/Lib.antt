@@ -13,10 +13,10 @@ mod ShapeLemmas
 mod LayoutLemmas
 mod FilledLemmas
 mod ReferLemmas
-mod CreatedLemmas
+mod ValueLemmas
+mod ChangedLemmas
 mod CountLemmas
 mod LookupLemmas
-mod DroppedLemmas
 mod OnePageLemmas
 mod WrittenLemmas
 mod NamedLemmas

@@ -1,6 +1,7 @@
 -- What stands in the slots is what the catalogue has under the names, and the other way round.
-use Rattle.std.proofs.Common.{◌≡◌, ℕ, ◌<◌, Bool, true, false, Option, Some, None, List, [], refl, sym, ap, subst, ◌∙◌, arith}
-use Rattle.std.specs.List.{list_any, filter}
+use Rattle.std.specs.Prelude.{Contains}
+use Rattle.std.proofs.Common.{◌≡◌, ℕ, zero, suc, ◌<◌, Bool, true, false, Option, Some, None, List, [], ◌∷◌, refl, sym, ap, subst, ◌∙◌, arith}
+use Rattle.std.specs.List.{list_any}
 use Rattle.std.specs.Ordering.{eq_by_cmp}
 use Rattle.std.proofs.lemmas.List.Quantifiers.{position-Some}
 use Rattle.std.specs.Option.{is_none, option_map, option_and_then, unwrap_or}
@@ -10,141 +11,94 @@ use Rattle.ts_row.specs.RowType.{Heading}
 use Rattle.ts_model.specs.declared.kind.Kind.{Kind}
 use Rattle.ts_model.specs.declared.kind.Kind.TheVariants as kinds
 use Rattle.ts_model.specs.declared.def.Def.{Def}
-use Rattle.ts_model.specs.Catalogue.{Container, Series, name_cmp, heading_of, series_in, quotas}
-use Rattle.ts_model.specs.Definitions.{RowTypeDef, ContainerDef, SeriesDef, of_row_type, of_container, of_series, slots, slot_of, vacant_slot, at_slot, limit}
+use Rattle.ts_model.specs.Catalogue.{Named, Container, name_cmp, heading_of, quotas}
+use Rattle.ts_model.specs.Kinds.{In, named, is_used}
+use Rattle.ts_model.specs.Definitions.{Definitions, RowTypeDef, ContainerDef, SeriesDef, KindDef, to_def, table_of, name_in, slots, slot_of, vacant_slot, at_slot, limit, references, Refers, IsUsed, IsUsedBy}
 use Rattle.ts_model.proofs.OrderLemmas.{eq_ties, ties-refl, ties-same}
-use Rattle.ts_layout.specs.Meaning.{Layout, def_at, quota_in, sum_of_quotas, heading_of_container, heading_in, heading_at, IsSound, container_of, series_of, catalogue_of}
-use Rattle.ts_layout.specs.Changed.{NoContainerHas, NoSeriesStandsIn}
-use Rattle.ts_layout.specs.Lookup.{IsRowTypeAt, IsContainerAt, IsSeriesAt}
-use Rattle.ts_layout.proofs.SlotLemmas.{sizes}
+use Rattle.ts_model.proofs.PartsLemmas.{table-rules}
+use Rattle.ts_layout.specs.Meaning.{Layout, def_at, quota_in, sum_of_quotas, heading_of_container, heading_in, heading_at, IsSound, name_at, container_of, series_of, value_of, named_in, catalogue_of}
+use Rattle.ts_layout.specs.Lookup.{IsNamedAt}
+use Rattle.ts_layout.proofs.SlotLemmas.{own, sizes}
+use Rattle.ts_layout.proofs.LayoutLemmas.{none≢some, within_table}
 use Rattle.ts_layout.proofs.FilledLemmas.{slot_there, slot_here, get_none, got_none, get_slot, got_some}
-use Rattle.ts_layout.proofs.ReferLemmas.{filled_in, container_refers, series_refers}
-use Rattle.ts_layout.proofs.CountLemmas.{any_values, none_filtered, filtered_none, empty_is, len_full, len_fewer, any_here, any_there, sum_of_values}
-use Rattle.ts_layout.proofs.CreatedLemmas.{name_there}
+use Rattle.ts_layout.proofs.ReferLemmas.{filled_in, some_in, each_there, first_of, container_refers, series_refers}
+use Rattle.ts_layout.proofs.CountLemmas.{any_values, empty_is, len_full, len_fewer, any_here, any_there, sum_of_values}
+use Rattle.ts_layout.proofs.ValueLemmas.{name_there}
 
--- row types and their names
-pub row_type_at : (l : Layout) (slot : ℕ) (a : RowTypeDef) → IsSound l → at_slot slot l.definitions.row_types ≡ Some a → IsRowTypeAt l slot a.name a
-row_type_at l slot a sound here =
-    let apart = sound.definitions.tables.row_types.apart in
+-- what the catalogue of a layout has of a kind
+pub named_is : (kind : Kind) (l : Layout) → named kind (catalogue_of l) ≡ named_in kind l
+named_is kinds.RowType l = refl
+named_is kinds.Container l = refl
+named_is kinds.Series l = refl
+
+get_is : (kind : Kind) (l : Layout) (name : List ℕ) → get (named kind (catalogue_of l)) name ≡ get (named_in kind l) name
+get_is kind l name = ap (λ (m : Named (In kind)). get m name) (named_is kind l)
+
+-- definitions and their names
+pub name_stands : (kind : Kind) (l : Layout) (slot : ℕ) (a : KindDef kind) → IsSound l → at_slot slot (table_of kind l.definitions) ≡ Some a → IsNamedAt kind l slot (name_in kind a) a
+name_stands kind l slot a sound here =
+    let table : List (Option (KindDef kind)) = table_of kind l.definitions in
+    let apart = (table-rules l.definitions sound.definitions.tables kind).apart in
     record {
       there = here;
-      def = filled_in of_row_type slot l.definitions.row_types a here;
+      def = filled_in (to_def kind) slot table a here;
       its_name = refl;
-      named = slot_here (λ (r : RowTypeDef). r.name) of_row_type (λ x. refl) l.definitions.row_types slot a apart here;
-      listed = get_slot (λ (r : RowTypeDef). r.name) of_row_type (λ x. refl) (λ (n : ℕ) (r : RowTypeDef). r.heading) l.definitions.row_types slot a apart here;
+      named = slot_here (name_in kind) (to_def kind) (λ x. refl) table slot a apart here;
+      listed = get_is kind l (name_in kind a) ∙ get_slot (name_in kind) (to_def kind) (λ x. refl) (value_of kind l) table slot a apart here;
     }
 
-pub row_type_found : (l : Layout) (name : List ℕ) (slot : ℕ) → IsSound l → slot_of name (slots kinds.RowType l.definitions) ≡ Some slot → (a : RowTypeDef) × IsRowTypeAt l slot name a
-row_type_found l name slot sound is =
-    let there = slot_there (λ (r : RowTypeDef). r.name) of_row_type (λ x. refl) l.definitions.row_types name slot is in
-    (there.0, subst (λ (n : List ℕ). IsRowTypeAt l slot n there.0) there.2 (row_type_at l slot there.0 sound there.1))
+pub name_found : (kind : Kind) (l : Layout) (name : List ℕ) (slot : ℕ) → IsSound l → slot_of name (slots kind l.definitions) ≡ Some slot → (a : KindDef kind) × IsNamedAt kind l slot name a
+name_found kind l name slot sound is =
+    let there = slot_there (name_in kind) (to_def kind) (λ x. refl) (table_of kind l.definitions) name slot is in
+    (there.0, subst (λ (n : List ℕ). IsNamedAt kind l slot n there.0) there.2 (name_stands kind l slot there.0 sound there.1))
 
-pub row_type_listed : (l : Layout) (name : List ℕ) (x : Heading) → IsSound l → get (catalogue_of l).row_types name ≡ Some x → (slot : ℕ) × (a : RowTypeDef) × IsRowTypeAt l slot name a × (x ≡ a.heading)
-row_type_listed l name x sound is =
-    let there = got_some (λ (r : RowTypeDef). r.name) of_row_type (λ x. refl) (λ (n : ℕ) (r : RowTypeDef). r.heading) l.definitions.row_types name x sound.definitions.tables.row_types.apart is in
-    (there.0, there.1, subst (λ (n : List ℕ). IsRowTypeAt l there.0 n there.1) there.4 (row_type_at l there.0 there.1 sound there.3), there.5)
+pub name_listed : (kind : Kind) (l : Layout) (name : List ℕ) (x : In kind) → IsSound l → get (named kind (catalogue_of l)) name ≡ Some x → (slot : ℕ) × (a : KindDef kind) × IsNamedAt kind l slot name a × (x ≡ value_of kind l slot a)
+name_listed kind l name x sound is =
+    let apart = (table-rules l.definitions sound.definitions.tables kind).apart in
+    let there = got_some (name_in kind) (to_def kind) (λ x. refl) (value_of kind l) (table_of kind l.definitions) name x apart (sym (get_is kind l name) ∙ is) in
+    (there.0, there.1, subst (λ (n : List ℕ). IsNamedAt kind l there.0 n there.1) there.4 (name_stands kind l there.0 there.1 sound there.3), there.5)
 
-pub no_row_type_found : (l : Layout) (name : List ℕ) → slot_of name (slots kinds.RowType l.definitions) ≡ None → get (catalogue_of l).row_types name ≡ None
-no_row_type_found l name none = get_none (λ (r : RowTypeDef). r.name) of_row_type (λ x. refl) (λ (n : ℕ) (r : RowTypeDef). r.heading) l.definitions.row_types name none
+pub no_name_found : (kind : Kind) (l : Layout) (name : List ℕ) → slot_of name (slots kind l.definitions) ≡ None → get (named kind (catalogue_of l)) name ≡ None
+no_name_found kind l name none = get_is kind l name ∙ get_none (name_in kind) (to_def kind) (λ x. refl) (value_of kind l) (table_of kind l.definitions) name none
 
-pub no_row_type_listed : (l : Layout) (name : List ℕ) → get (catalogue_of l).row_types name ≡ None → slot_of name (slots kinds.RowType l.definitions) ≡ None
-no_row_type_listed l name none = got_none (λ (r : RowTypeDef). r.name) of_row_type (λ x. refl) (λ (n : ℕ) (r : RowTypeDef). r.heading) l.definitions.row_types name none
+pub no_name_listed : (kind : Kind) (l : Layout) (name : List ℕ) → get (named kind (catalogue_of l)) name ≡ None → slot_of name (slots kind l.definitions) ≡ None
+no_name_listed kind l name none = got_none (name_in kind) (to_def kind) (λ x. refl) (value_of kind l) (table_of kind l.definitions) name (sym (get_is kind l name) ∙ none)
 
-pub row_type_full : (l : Layout) → IsSound l → vacant_slot (slots kinds.RowType l.definitions) ≡ None → len (catalogue_of l).row_types ≡ 64
-row_type_full l sound full = len_full (λ (r : RowTypeDef). r.name) (λ (n : ℕ) (r : RowTypeDef). r.heading) of_row_type l.definitions.row_types sound.definitions.tables.row_types.apart full ∙ sound.definitions.tables.row_types.size
+-- how many they are
+pub kind_full : (kind : Kind) (l : Layout) → IsSound l → vacant_slot (slots kind l.definitions) ≡ None → len (named kind (catalogue_of l)) ≡ limit kind
+kind_full kind l sound full =
+    let rules = table-rules l.definitions sound.definitions.tables kind in
+    ap (λ (m : Named (In kind)). len m) (named_is kind l) ∙ len_full (name_in kind) (value_of kind l) (to_def kind) (table_of kind l.definitions) rules.apart full ∙ rules.size
 
-pub row_type_vacant : (l : Layout) (slot : ℕ) → IsSound l → vacant_slot (slots kinds.RowType l.definitions) ≡ Some slot → len (catalogue_of l).row_types < 64
-row_type_vacant l slot sound vacant =
-    let fewer = len_fewer (λ (r : RowTypeDef). r.name) (λ (n : ℕ) (r : RowTypeDef). r.heading) of_row_type l.definitions.row_types slot sound.definitions.tables.row_types.apart vacant in
-    let size = sound.definitions.tables.row_types.size in
-    omega (arith, fewer, size)
+pub kind_vacant : (kind : Kind) (l : Layout) (slot : ℕ) → IsSound l → vacant_slot (slots kind l.definitions) ≡ Some slot → len (named kind (catalogue_of l)) < limit kind
+kind_vacant kind l slot sound vacant =
+    let rules = table-rules l.definitions sound.definitions.tables kind in
+    let same = ap (λ (m : Named (In kind)). len m) (named_is kind l) in
+    let fewer = len_fewer (name_in kind) (value_of kind l) (to_def kind) (table_of kind l.definitions) slot rules.apart vacant in
+    omega (arith, same, fewer, rules.size)
 
--- containers and their names
-pub container_at : (l : Layout) (slot : ℕ) (a : ContainerDef) → IsSound l → at_slot slot l.definitions.containers ≡ Some a → IsContainerAt l slot a.name a
-container_at l slot a sound here =
-    let apart = sound.definitions.tables.containers.apart in
-    record {
-      there = here;
-      def = filled_in of_container slot l.definitions.containers a here;
-      its_name = refl;
-      named = slot_here (λ (c : ContainerDef). c.name) of_container (λ x. refl) l.definitions.containers slot a apart here;
-      listed = get_slot (λ (c : ContainerDef). c.name) of_container (λ x. refl) (λ (n : ℕ) (c : ContainerDef). container_of l.definitions c) l.definitions.containers slot a apart here;
-    }
+-- of row types, containers and series
+pub container_found : (l : Layout) (name : List ℕ) (slot : ℕ) → IsSound l → slot_of name (slots kinds.Container l.definitions) ≡ Some slot → (a : ContainerDef) × IsNamedAt kinds.Container l slot name a
+container_found l name slot sound is = name_found kinds.Container l name slot sound is
 
-pub container_found : (l : Layout) (name : List ℕ) (slot : ℕ) → IsSound l → slot_of name (slots kinds.Container l.definitions) ≡ Some slot → (a : ContainerDef) × IsContainerAt l slot name a
-container_found l name slot sound is =
-    let there = slot_there (λ (c : ContainerDef). c.name) of_container (λ x. refl) l.definitions.containers name slot is in
-    (there.0, subst (λ (n : List ℕ). IsContainerAt l slot n there.0) there.2 (container_at l slot there.0 sound there.1))
+pub series_at : (l : Layout) (slot : ℕ) (a : SeriesDef) → IsSound l → at_slot slot l.definitions.series ≡ Some a → IsNamedAt kinds.Series l slot a.key a
+series_at l slot a sound here = name_stands kinds.Series l slot a sound here
 
-pub container_listed : (l : Layout) (name : List ℕ) (x : Container) → IsSound l → get (catalogue_of l).containers name ≡ Some x → (slot : ℕ) × (a : ContainerDef) × IsContainerAt l slot name a × (x ≡ container_of l.definitions a)
-container_listed l name x sound is =
-    let there = got_some (λ (c : ContainerDef). c.name) of_container (λ x. refl) (λ (n : ℕ) (c : ContainerDef). container_of l.definitions c) l.definitions.containers name x sound.definitions.tables.containers.apart is in
-    (there.0, there.1, subst (λ (n : List ℕ). IsContainerAt l there.0 n there.1) there.4 (container_at l there.0 there.1 sound there.3), there.5)
-
-pub no_container_found : (l : Layout) (name : List ℕ) → slot_of name (slots kinds.Container l.definitions) ≡ None → get (catalogue_of l).containers name ≡ None
-no_container_found l name none = get_none (λ (c : ContainerDef). c.name) of_container (λ x. refl) (λ (n : ℕ) (c : ContainerDef). container_of l.definitions c) l.definitions.containers name none
-
-pub no_container_listed : (l : Layout) (name : List ℕ) → get (catalogue_of l).containers name ≡ None → slot_of name (slots kinds.Container l.definitions) ≡ None
-no_container_listed l name none = got_none (λ (c : ContainerDef). c.name) of_container (λ x. refl) (λ (n : ℕ) (c : ContainerDef). container_of l.definitions c) l.definitions.containers name none
-
-pub container_full : (l : Layout) → IsSound l → vacant_slot (slots kinds.Container l.definitions) ≡ None → len (catalogue_of l).containers ≡ 64
-container_full l sound full = len_full (λ (c : ContainerDef). c.name) (λ (n : ℕ) (c : ContainerDef). container_of l.definitions c) of_container l.definitions.containers sound.definitions.tables.containers.apart full ∙ sound.definitions.tables.containers.size
-
-pub container_vacant : (l : Layout) (slot : ℕ) → IsSound l → vacant_slot (slots kinds.Container l.definitions) ≡ Some slot → len (catalogue_of l).containers < 64
-container_vacant l slot sound vacant =
-    let fewer = len_fewer (λ (c : ContainerDef). c.name) (λ (n : ℕ) (c : ContainerDef). container_of l.definitions c) of_container l.definitions.containers slot sound.definitions.tables.containers.apart vacant in
-    let size = sound.definitions.tables.containers.size in
-    omega (arith, fewer, size)
-
--- series and their names
-pub series_at : (l : Layout) (slot : ℕ) (a : SeriesDef) → IsSound l → at_slot slot l.definitions.series ≡ Some a → IsSeriesAt l slot a.key a
-series_at l slot a sound here =
-    let apart = sound.definitions.tables.series.apart in
-    record {
-      there = here;
-      def = filled_in of_series slot l.definitions.series a here;
-      its_key = refl;
-      named = slot_here (λ (s : SeriesDef). s.key) of_series (λ x. refl) l.definitions.series slot a apart here;
-      listed = get_slot (λ (s : SeriesDef). s.key) of_series (λ x. refl) (series_of l) l.definitions.series slot a apart here;
-    }
-
-pub series_found : (l : Layout) (name : List ℕ) (slot : ℕ) → IsSound l → slot_of name (slots kinds.Series l.definitions) ≡ Some slot → (a : SeriesDef) × IsSeriesAt l slot name a
-series_found l name slot sound is =
-    let there = slot_there (λ (s : SeriesDef). s.key) of_series (λ x. refl) l.definitions.series name slot is in
-    (there.0, subst (λ (n : List ℕ). IsSeriesAt l slot n there.0) there.2 (series_at l slot there.0 sound there.1))
-
-pub series_listed : (l : Layout) (name : List ℕ) (x : Series) → IsSound l → get (catalogue_of l).series name ≡ Some x → (slot : ℕ) × (a : SeriesDef) × IsSeriesAt l slot name a × (x ≡ series_of l slot a)
-series_listed l name x sound is =
-    let there = got_some (λ (s : SeriesDef). s.key) of_series (λ x. refl) (series_of l) l.definitions.series name x sound.definitions.tables.series.apart is in
-    (there.0, there.1, subst (λ (n : List ℕ). IsSeriesAt l there.0 n there.1) there.4 (series_at l there.0 there.1 sound there.3), there.5)
-
-pub no_series_found : (l : Layout) (name : List ℕ) → slot_of name (slots kinds.Series l.definitions) ≡ None → get (catalogue_of l).series name ≡ None
-no_series_found l name none = get_none (λ (s : SeriesDef). s.key) of_series (λ x. refl) (series_of l) l.definitions.series name none
-
-pub no_series_listed : (l : Layout) (name : List ℕ) → get (catalogue_of l).series name ≡ None → slot_of name (slots kinds.Series l.definitions) ≡ None
-no_series_listed l name none = got_none (λ (s : SeriesDef). s.key) of_series (λ x. refl) (series_of l) l.definitions.series name none
-
-pub series_full : (l : Layout) → IsSound l → vacant_slot (slots kinds.Series l.definitions) ≡ None → len (catalogue_of l).series ≡ 4096
-series_full l sound full = len_full (λ (s : SeriesDef). s.key) (series_of l) of_series l.definitions.series sound.definitions.tables.series.apart full ∙ sound.definitions.tables.series.size
-
-pub series_vacant : (l : Layout) (slot : ℕ) → IsSound l → vacant_slot (slots kinds.Series l.definitions) ≡ Some slot → len (catalogue_of l).series < 4096
-series_vacant l slot sound vacant =
-    let fewer = len_fewer (λ (s : SeriesDef). s.key) (series_of l) of_series l.definitions.series slot sound.definitions.tables.series.apart vacant in
-    let size = sound.definitions.tables.series.size in
-    omega (arith, fewer, size)
+pub series_found : (l : Layout) (name : List ℕ) (slot : ℕ) → IsSound l → slot_of name (slots kinds.Series l.definitions) ≡ Some slot → (a : SeriesDef) × IsNamedAt kinds.Series l slot name a
+series_found l name slot sound is = name_found kinds.Series l name slot sound is
 
 -- the row type of a container, the container of a series, and the columns of a series
-pub row_type_of_container : (l : Layout) (slot : ℕ) (c : ContainerDef) → IsSound l → at_slot slot l.definitions.containers ≡ Some c → (r : RowTypeDef) × IsRowTypeAt l c.row_type (container_of l.definitions c).row_type r
+pub row_type_of_container : (l : Layout) (slot : ℕ) (c : ContainerDef) → IsSound l → at_slot slot l.definitions.containers ≡ Some c → (r : RowTypeDef) × IsNamedAt kinds.RowType l c.row_type (container_of l.definitions c).row_type r
 row_type_of_container l slot c sound here =
     let r = container_refers l.definitions sound.definitions.tables sound.definitions.references slot c here in
     let name : (container_of l.definitions c).row_type ≡ r.0.name = ap (λ (o : Option RowTypeDef). unwrap_or (option_map (λ (x : RowTypeDef). x.name) o) []) r.1 in
-    (r.0, subst (λ (n : List ℕ). IsRowTypeAt l c.row_type n r.0) (sym name) (row_type_at l c.row_type r.0 sound r.1))
+    (r.0, subst (λ (n : List ℕ). IsNamedAt kinds.RowType l c.row_type n r.0) (sym name) (name_stands kinds.RowType l c.row_type r.0 sound r.1))
 
-pub container_of_series : (l : Layout) (slot : ℕ) (s : SeriesDef) → IsSound l → at_slot slot l.definitions.series ≡ Some s → (c : ContainerDef) × IsContainerAt l s.container (series_of l slot s).container c
+pub container_of_series : (l : Layout) (slot : ℕ) (s : SeriesDef) → IsSound l → at_slot slot l.definitions.series ≡ Some s → (c : ContainerDef) × IsNamedAt kinds.Container l s.container (series_of l slot s).container c
 container_of_series l slot s sound here =
     let c = series_refers l.definitions sound.definitions.tables sound.definitions.references slot s here in
     let name : (series_of l slot s).container ≡ c.0.name = ap (λ (o : Option ContainerDef). unwrap_or (option_map (λ (x : ContainerDef). x.name) o) []) c.1 in
-    (c.0, subst (λ (n : List ℕ). IsContainerAt l s.container n c.0) (sym name) (container_at l s.container c.0 sound c.1))
+    (c.0, subst (λ (n : List ℕ). IsNamedAt kinds.Container l s.container n c.0) (sym name) (name_stands kinds.Container l s.container c.0 sound c.1))
 
 pub columns_of_series : (l : Layout) (slot : ℕ) (s : SeriesDef) → IsSound l → at_slot slot l.definitions.series ≡ Some s → heading_of (catalogue_of l) (series_of l slot s) ≡ heading_at l.definitions slot
 columns_of_series l slot s sound here =
@@ -175,71 +129,83 @@ true_false b is not_so = cc
 one_slot : (o : Option ℕ) (i j : ℕ) → o ≡ Some i → o ≡ Some j → i ≡ j
 one_slot o i j first second = cc
 
--- whether a container has a row type
-pub row_type_used : (l : Layout) (slot : ℕ) (name : List ℕ) (i : ℕ) (c : ContainerDef) → IsSound l → slot_of name (slots kinds.RowType l.definitions) ≡ Some slot → at_slot i l.definitions.containers ≡ Some c → c.row_type ≡ slot → list_any (λ x. bytes_eq x.row_type name) (values (catalogue_of l).containers) ≡ true
-row_type_used l slot name i c sound is here same =
-    let named : (container_of l.definitions c).row_type ≡ name = name_there (λ (r : RowTypeDef). r.name) of_row_type (λ r. refl) l.definitions.row_types name c.row_type (is ∙ ap (λ (n : ℕ). Some n) (sym same)) in
-    any_values (λ (x : Container). bytes_eq x.row_type name) (entries (catalogue_of l).containers)
-    ∙ any_here (λ (x : ContainerDef). x.name) (λ (n : ℕ) (x : ContainerDef). container_of l.definitions x) (λ (e : List ℕ × Container). bytes_eq e.1.row_type name) i c l.definitions.containers sound.definitions.tables.containers.apart here
-    (same_bytes (container_of l.definitions c).row_type name named)
+-- one kind's definitions refer to another's by slots, and in the catalogue by names
+module _ (l : Layout) (sound : IsSound l) (user target : Kind) (field : In user → List ℕ) (ref : KindDef user → ℕ) (refers : (a : KindDef user) → Refers (to_def user a) target (ref a))
+    (names : (i : ℕ) (a : KindDef user) → field (value_of user l i a) ≡ name_at (name_in target) (ref a) (table_of target l.definitions)) (slot : ℕ) (name : List ℕ) (is : slot_of name (slots target l.definitions) ≡ Some slot) where
+  abbrev in_use : Bool
+  in_use = list_any (λ (v : In user). bytes_eq (field v) name) (values (named_in user l))
 
-pub row_type_user : (l : Layout) (slot : ℕ) (name : List ℕ) → IsSound l → slot_of name (slots kinds.RowType l.definitions) ≡ Some slot → list_any (λ x. bytes_eq x.row_type name) (values (catalogue_of l).containers) ≡ true → (i : ℕ) × (c : ContainerDef) × (at_slot i l.definitions.containers ≡ Some c) × (c.row_type ≡ slot)
-row_type_user l slot name sound is some =
-    let there = any_there (λ (x : ContainerDef). x.name) (λ (n : ℕ) (x : ContainerDef). container_of l.definitions x) (λ (e : List ℕ × Container). bytes_eq e.1.row_type name) l.definitions.containers sound.definitions.tables.containers.apart
-    (sym (any_values (λ (x : Container). bytes_eq x.row_type name) (entries (catalogue_of l).containers)) ∙ some) in
-    let r = row_type_of_container l there.0 there.1 sound there.2 in
-    let named : slot_of name (slots kinds.RowType l.definitions) ≡ Some there.1.row_type =
-    ap (λ (n : List ℕ). slot_of n (slots kinds.RowType l.definitions)) (sym (bytes_same (container_of l.definitions there.1).row_type name there.3)) ∙ r.1.named in
-    (there.0, there.1, there.2, one_slot (slot_of name (slots kinds.RowType l.definitions)) there.1.row_type slot named is)
+  user_low : (i : ℕ) (a : KindDef user) → at_slot i (table_of user l.definitions) ≡ Some a → i < limit user
+  user_low i a here = omega (arith, within_table (table_of user l.definitions) i a here, (table-rules l.definitions sound.definitions.tables user).size)
 
-pub row_type_unused : (l : Layout) (slot : ℕ) (name : List ℕ) → IsSound l → slot_of name (slots kinds.RowType l.definitions) ≡ Some slot → NoContainerHas slot l.definitions → list_any (λ x. bytes_eq x.row_type name) (values (catalogue_of l).containers) ≡ false
-row_type_unused l slot name sound is none =
-    not_true (list_any (λ x. bytes_eq x.row_type name) (values (catalogue_of l).containers)) (λ some.
-    let user = row_type_user l slot name sound is some in
-    none user.0 user.1 user.2 user.3)
+  pub name_used : (i : ℕ) (a : KindDef user) → at_slot i (table_of user l.definitions) ≡ Some a → ref a ≡ slot → in_use ≡ true
+  name_used i a here same =
+      let named : field (value_of user l i a) ≡ name = names i a ∙ name_there (name_in target) (to_def target) (λ r. refl) (table_of target l.definitions) name (ref a) (is ∙ ap (λ (n : ℕ). Some n) (sym same)) in
+      any_values (λ (v : In user). bytes_eq (field v) name) (entries (named_in user l))
+      ∙ any_here (name_in user) (value_of user l) (λ (e : List ℕ × In user). bytes_eq (field e.1) name) i a (table_of user l.definitions) (table-rules l.definitions sound.definitions.tables user).apart here
+      (same_bytes (field (value_of user l i a)) name named)
 
-pub row_type_idle : (l : Layout) (slot : ℕ) (name : List ℕ) → IsSound l → slot_of name (slots kinds.RowType l.definitions) ≡ Some slot → list_any (λ x. bytes_eq x.row_type name) (values (catalogue_of l).containers) ≡ false → NoContainerHas slot l.definitions
-row_type_idle l slot name sound is none i c here same =
-    true_false (list_any (λ x. bytes_eq x.row_type name) (values (catalogue_of l).containers)) (row_type_used l slot name i c sound is here same) none
+  pub name_user : in_use ≡ true → (i : ℕ) × (a : KindDef user) × (at_slot i (table_of user l.definitions) ≡ Some a) × (ref a ≡ slot)
+  name_user some =
+      let there = any_there (name_in user) (value_of user l) (λ (e : List ℕ × In user). bytes_eq (field e.1) name) (table_of user l.definitions) (table-rules l.definitions sound.definitions.tables user).apart
+      (sym (any_values (λ (v : In user). bytes_eq (field v) name) (entries (named_in user l))) ∙ some) in
+      let a : KindDef user = there.1 in
+      let refers_there = sound.definitions.references user there.0 (to_def user a) (user_low there.0 a there.2) (filled_in (to_def user) there.0 (table_of user l.definitions) a there.2) in
+      let held = some_in (def_at target (ref a) l.definitions) (each_there l.definitions (references (to_def user a)) target (ref a) refers_there (refers a)) in
+      let b = own (to_def target) (ref a) (table_of target l.definitions) held.0 held.1 in
+      let its_name : name_at (name_in target) (ref a) (table_of target l.definitions) ≡ name_in target b.0 = ap (λ (o : Option (KindDef target)). unwrap_or (option_map (name_in target) o) []) b.1 in
+      let same : name_in target b.0 ≡ name = sym its_name ∙ sym (names there.0 a) ∙ bytes_same (field (value_of user l there.0 a)) name there.3 in
+      let named : slot_of name (slots target l.definitions) ≡ Some (ref a) = ap (λ (n : List ℕ). slot_of n (slots target l.definitions)) (sym same) ∙ (name_stands target l (ref a) b.0 sound b.1).named in
+      (there.0, a, there.2, one_slot (slot_of name (slots target l.definitions)) (ref a) slot named is)
 
--- whether a series stands in a container
-pub container_used : (l : Layout) (slot : ℕ) (name : List ℕ) (i : ℕ) (s : SeriesDef) → IsSound l → slot_of name (slots kinds.Container l.definitions) ≡ Some slot → at_slot i l.definitions.series ≡ Some s → s.container ≡ slot → series_in name (catalogue_of l) ≡ [] → ⊥
-container_used l slot name i s sound is here same none =
-    let named : (series_of l i s).container ≡ name = name_there (λ (c : ContainerDef). c.name) of_container (λ c. refl) l.definitions.containers name s.container (is ∙ ap (λ (n : ℕ). Some n) (sym same)) in
-    let some : list_any (λ (e : List ℕ × Series). bytes_eq e.1.container name) (entries (catalogue_of l).series) ≡ true =
-    any_here (λ (x : SeriesDef). x.key) (series_of l) (λ (e : List ℕ × Series). bytes_eq e.1.container name) i s l.definitions.series sound.definitions.tables.series.apart here
-    (same_bytes (series_of l i s).container name named) in
-    true_false (list_any (λ (e : List ℕ × Series). bytes_eq e.1.container name) (entries (catalogue_of l).series)) some
-    (filtered_none (λ (e : List ℕ × Series). bytes_eq e.1.container name) (entries (catalogue_of l).series) none)
+  -- a user by its slot is one in use
+  pub user_of : (i : ℕ) (a : KindDef user) → at_slot i (table_of user l.definitions) ≡ Some a → ref a ≡ slot → IsUsed target slot l.definitions
+  user_of i a here same =
+      (user, (i, to_def user a, user_low i a here, filled_in (to_def user) i (table_of user l.definitions) a here, subst (λ (n : ℕ). Refers (to_def user a) target n) same (refers a)))
 
-pub container_idle : (l : Layout) (slot : ℕ) (name : List ℕ) → IsSound l → slot_of name (slots kinds.Container l.definitions) ≡ Some slot → series_in name (catalogue_of l) ≡ [] → NoSeriesStandsIn slot l.definitions
-container_idle l slot name sound is none i s here same = container_used l slot name i s sound is here same none
+-- the one thing that a definition refers to
+only_one : (x y : Kind × ℕ) → Contains (x ∷ []) y → x ≡ y
+only_one x y (zero, below, is) = is
+only_one x y (suc k, below, is) = absurd (omega (arith, below))
 
-pub container_user : (l : Layout) (slot : ℕ) (name : List ℕ) → IsSound l → slot_of name (slots kinds.Container l.definitions) ≡ Some slot → list_any (λ e. bytes_eq e.1.container name) (entries (catalogue_of l).series) ≡ true → (i : ℕ) × (s : SeriesDef) × (at_slot i l.definitions.series ≡ Some s) × (s.container ≡ slot)
-container_user l slot name sound is some =
-    let there = any_there (λ (x : SeriesDef). x.key) (series_of l) (λ (e : List ℕ × Series). bytes_eq e.1.container name) l.definitions.series sound.definitions.tables.series.apart some in
-    let c = container_of_series l there.0 there.1 sound there.2 in
-    let named : slot_of name (slots kinds.Container l.definitions) ≡ Some there.1.container =
-    ap (λ (n : List ℕ). slot_of n (slots kinds.Container l.definitions)) (sym (bytes_same (series_of l there.0 there.1).container name there.3)) ∙ c.1.named in
-    (there.0, there.1, there.2, one_slot (slot_of name (slots kinds.Container l.definitions)) there.1.container slot named is)
+nothing : (y : Kind × ℕ) → Contains [] y → ⊥
+nothing y (k, below, is) = absurd (omega (arith, below))
 
-pub container_unused : (l : Layout) (slot : ℕ) (name : List ℕ) → IsSound l → slot_of name (slots kinds.Container l.definitions) ≡ Some slot → NoSeriesStandsIn slot l.definitions → series_in name (catalogue_of l) ≡ []
-container_unused l slot name sound is none =
-    none_filtered (λ (e : List ℕ × Series). bytes_eq e.1.container name) (entries (catalogue_of l).series)
-    (not_true (list_any (λ (e : List ℕ × Series). bytes_eq e.1.container name) (entries (catalogue_of l).series)) (λ some.
-    let user = container_user l slot name sound is some in
-    none user.0 user.1 user.2 user.3))
+-- what is used by a definition of a kind, is used by names
+used_by : (user kind : Kind) (slot : ℕ) (name : List ℕ) (l : Layout) → IsSound l → slot_of name (slots kind l.definitions) ≡ Some slot → IsUsedBy user kind slot l.definitions → is_used kind name (catalogue_of l) ≡ true
+used_by kinds.RowType kind slot name l sound is (i, def, low, here, refers) =
+    let o = own (to_def kinds.RowType) i l.definitions.row_types def here in
+    absurd (nothing (kind, slot) (subst (λ (x : Def). Refers x kind slot) (sym o.2) refers))
+used_by kinds.Container kind slot name l sound is (i, def, low, here, refers) =
+    let o = own (to_def kinds.Container) i l.definitions.containers def here in
+    let same = only_one (kinds.RowType, o.0.row_type) (kind, slot) (subst (λ (x : Def). Refers x kind slot) (sym o.2) refers) in
+    subst (λ (t : Kind × ℕ). slot_of name (slots t.0 l.definitions) ≡ Some t.1 → is_used t.0 name (catalogue_of l) ≡ true) same
+    (λ found. name_used l sound kinds.Container kinds.RowType (λ c. c.row_type) (λ c. c.row_type) (λ a. first_of (kinds.RowType, a.row_type) (kinds.RowType, a.row_type) [] refl) (λ n a. refl) o.0.row_type name found i o.0 o.1 refl) is
+used_by kinds.Series kind slot name l sound is (i, def, low, here, refers) =
+    let o = own (to_def kinds.Series) i l.definitions.series def here in
+    let same = only_one (kinds.Container, o.0.container) (kind, slot) (subst (λ (x : Def). Refers x kind slot) (sym o.2) refers) in
+    subst (λ (t : Kind × ℕ). slot_of name (slots t.0 l.definitions) ≡ Some t.1 → is_used t.0 name (catalogue_of l) ≡ true) same
+    (λ found. name_used l sound kinds.Series kinds.Container (λ s. s.container) (λ s. s.container) (λ a. first_of (kinds.Container, a.container) (kinds.Container, a.container) [] refl) (λ n a. refl) o.0.container name found i o.0 o.1 refl) is
 
-some_listed : {A : Type 0} (p : A → Bool) (xs : List A) → (filter p xs ≡ [] → ⊥) → list_any p xs ≡ true
-some_listed p xs some =
-    elim (list_any p xs) as (λ (b : Bool). list_any p xs ≡ b → b ≡ true) [
-      | true ↦ λ is. refl
-      | false ↦ λ is. absurd (some (none_filtered p xs is))
-    ] refl
+module _ (kind : Kind) (slot : ℕ) (name : List ℕ) (l : Layout) (sound : IsSound l) (is : slot_of name (slots kind l.definitions) ≡ Some slot) where
+  pub used_by_name : IsUsed kind slot l.definitions → is_used kind name (catalogue_of l) ≡ true
+  used_by_name used = used_by used.0 kind slot name l sound is used.1
 
-pub container_busy : (l : Layout) (slot : ℕ) (name : List ℕ) → IsSound l → slot_of name (slots kinds.Container l.definitions) ≡ Some slot → (series_in name (catalogue_of l) ≡ [] → ⊥) → (i : ℕ) × (s : SeriesDef) × (at_slot i l.definitions.series ≡ Some s) × (s.container ≡ slot)
-container_busy l slot name sound is some =
-    container_user l slot name sound is (some_listed (λ (e : List ℕ × Series). bytes_eq e.1.container name) (entries (catalogue_of l).series) some)
+-- and the other way round
+pub used_by_slot : (kind : Kind) (slot : ℕ) (name : List ℕ) (l : Layout) → IsSound l → slot_of name (slots kind l.definitions) ≡ Some slot → is_used kind name (catalogue_of l) ≡ true → IsUsed kind slot l.definitions
+used_by_slot kinds.RowType slot name l sound is some =
+    let user = name_user l sound kinds.Container kinds.RowType (λ c. c.row_type) (λ c. c.row_type) (λ a. first_of (kinds.RowType, a.row_type) (kinds.RowType, a.row_type) [] refl) (λ n a. refl) slot name is some in
+    user_of l sound kinds.Container kinds.RowType (λ c. c.row_type) (λ c. c.row_type) (λ a. first_of (kinds.RowType, a.row_type) (kinds.RowType, a.row_type) [] refl) (λ n a. refl) slot name is user.0 user.1 user.2 user.3
+used_by_slot kinds.Container slot name l sound is some =
+    let user = name_user l sound kinds.Series kinds.Container (λ s. s.container) (λ s. s.container) (λ a. first_of (kinds.Container, a.container) (kinds.Container, a.container) [] refl) (λ n a. refl) slot name is some in
+    user_of l sound kinds.Series kinds.Container (λ s. s.container) (λ s. s.container) (λ a. first_of (kinds.Container, a.container) (kinds.Container, a.container) [] refl) (λ n a. refl) slot name is user.0 user.1 user.2 user.3
+used_by_slot kinds.Series slot name l sound is some = absurd (cc)
+
+pub unused_by_name : (kind : Kind) (slot : ℕ) (name : List ℕ) (l : Layout) → IsSound l → slot_of name (slots kind l.definitions) ≡ Some slot → (IsUsed kind slot l.definitions → ⊥) → is_used kind name (catalogue_of l) ≡ false
+unused_by_name kind slot name l sound is unused = not_true (is_used kind name (catalogue_of l)) (λ some. unused (used_by_slot kind slot name l sound is some))
+
+pub unused_by_slot : (kind : Kind) (slot : ℕ) (name : List ℕ) (l : Layout) → IsSound l → slot_of name (slots kind l.definitions) ≡ Some slot → is_used kind name (catalogue_of l) ≡ false → IsUsed kind slot l.definitions → ⊥
+unused_by_slot kind slot name l sound is none used = true_false (is_used kind name (catalogue_of l)) (used_by_name kind slot name l sound is used) none
 
 -- a slot that is the lowest empty one
 pub vacant_found : (kind : Kind) (slot : ℕ) (l : Layout) → IsSound l → vacant_slot (slots kind l.definitions) ≡ Some slot → (slot < limit kind) × (def_at kind slot l.definitions ≡ None)

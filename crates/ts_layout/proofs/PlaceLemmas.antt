@@ -7,8 +7,8 @@ use Rattle.std.proofs.lemmas.List.{length-map}
 use Rattle.ts_model.specs.declared.kind.Kind.{Kind}
 use Rattle.ts_model.specs.declared.kind.Kind.TheVariants as kinds
 use Rattle.ts_model.specs.declared.def.Def.{Def}
-use Rattle.ts_model.specs.declared.def.Def.TheVariants as defs
-use Rattle.ts_model.specs.Definitions.{Definitions, kind_of, limit, slots, at_slot, with_slot, of_row_type, of_container, of_series, as_row_type, as_container, as_series}
+use Rattle.ts_model.specs.Definitions.{Definitions, KindDef, kind_of, to_def, from_def, table_of, limit, slots, at_slot, with_slot}
+use Rattle.ts_model.proofs.PartsLemmas.{back, table-here, table-other, same_or_other}
 use Rattle.ts_layout.specs.declared.place.Slots.{Slots}
 use Rattle.ts_layout.specs.Slot.{slot_size, slots_in_page, page_of_slot, byte_of_slot}
 use Rattle.ts_layout.specs.Meaning.{def_at}
@@ -20,22 +20,6 @@ at_slot-map f i [] = refl
 at_slot-map f zero (o ∷ table) = refl
 at_slot-map f (suc i) (o ∷ table) = at_slot-map f i table
 
--- a definition of a kind, as that kind and back
-back_row_type : (def : Def) → kind_of def ≡ kinds.RowType → option_map of_row_type (option_and_then as_row_type (Some def)) ≡ Some def
-back_row_type (defs.RowType name h) is = refl
-back_row_type (defs.Container name r q) is = absurd (cc)
-back_row_type (defs.Series key c) is = absurd (cc)
-
-back_container : (def : Def) → kind_of def ≡ kinds.Container → option_map of_container (option_and_then as_container (Some def)) ≡ Some def
-back_container (defs.RowType name h) is = absurd (cc)
-back_container (defs.Container name r q) is = refl
-back_container (defs.Series key c) is = absurd (cc)
-
-back_series : (def : Def) → kind_of def ≡ kinds.Series → option_map of_series (option_and_then as_series (Some def)) ≡ Some def
-back_series (defs.RowType name h) is = absurd (cc)
-back_series (defs.Container name r q) is = absurd (cc)
-back_series (defs.Series key c) is = refl
-
 -- a slot that was set
 set_same : {A : Type 0} (f : A → Def) (o : Option A) (i : ℕ) (table : List (Option A)) → i < length table → at_slot i (map (option_map f) (set table i o)) ≡ option_map f o
 set_same f o i table within = at_slot-map f i (set table i o) ∙ ap (option_map f) (get_or-set_same table i o None within)
@@ -43,39 +27,46 @@ set_same f o i table within = at_slot-map f i (set table i o) ∙ ap (option_map
 set_other : {A : Type 0} (f : A → Def) (o : Option A) (i j : ℕ) (table : List (Option A)) → j ≢ i → at_slot j (map (option_map f) (set table i o)) ≡ at_slot j (map (option_map f) table)
 set_other f o i j table other = at_slot-map f j (set table i o) ∙ ap (option_map f) (get_or-set_other table i j o None other) ∙ sym (at_slot-map f j table)
 
+-- the table of a kind, seen as definitions
+abbrev as_defs : (kind : Kind) → List (Option (KindDef kind)) → List (Option Def)
+as_defs kind table = map (option_map (to_def kind)) table
+
 pub def_at-with_slot : (kind : Kind) (slot : ℕ) (def : Def) (d : Definitions) → kind_of def ≡ kind → slot < length (slots kind d) → def_at kind slot (with_slot kind slot (Some def) d) ≡ Some def
-def_at-with_slot kinds.RowType slot def d is within = set_same of_row_type _ slot d.row_types (omega (arith, length-map d.row_types (option_map of_row_type))) ∙ back_row_type def is
-def_at-with_slot kinds.Container slot def d is within = set_same of_container _ slot d.containers (omega (arith, length-map d.containers (option_map of_container))) ∙ back_container def is
-def_at-with_slot kinds.Series slot def d is within = set_same of_series _ slot d.series (omega (arith, length-map d.series (option_map of_series))) ∙ back_series def is
+def_at-with_slot kind slot def d is within =
+    ap (λ (t : List (Option (KindDef kind))). at_slot slot (as_defs kind t)) (table-here kind (set (table_of kind d) slot (from_def kind def)) d)
+    ∙ set_same (to_def kind) (from_def kind def) slot (table_of kind d) (omega (arith, within, length-map (table_of kind d) (option_map (to_def kind))))
+    ∙ back kind def is
 
 pub def_at-cleared : (kind : Kind) (slot : ℕ) (d : Definitions) → slot < length (slots kind d) → def_at kind slot (with_slot kind slot None d) ≡ None
-def_at-cleared kinds.RowType slot d within = set_same of_row_type _ slot d.row_types (omega (arith, length-map d.row_types (option_map of_row_type)))
-def_at-cleared kinds.Container slot d within = set_same of_container _ slot d.containers (omega (arith, length-map d.containers (option_map of_container)))
-def_at-cleared kinds.Series slot d within = set_same of_series _ slot d.series (omega (arith, length-map d.series (option_map of_series)))
+def_at-cleared kind slot d within =
+    ap (λ (t : List (Option (KindDef kind))). at_slot slot (as_defs kind t)) (table-here kind (set (table_of kind d) slot None) d)
+    ∙ set_same (to_def kind) None slot (table_of kind d) (omega (arith, within, length-map (table_of kind d) (option_map (to_def kind))))
 
 -- every other slot stays
 pub def_at-other : (kind kind' : Kind) (slot slot' : ℕ) (o : Option Def) (d : Definitions) → ((kind' ≡ kind) → (slot' ≡ slot) → ⊥) → def_at kind' slot' (with_slot kind slot o d) ≡ def_at kind' slot' d
-def_at-other kinds.RowType kinds.RowType slot slot' o d other = set_other of_row_type _ slot slot' d.row_types (other refl)
-def_at-other kinds.RowType kinds.Container slot slot' o d other = refl
-def_at-other kinds.RowType kinds.Series slot slot' o d other = refl
-def_at-other kinds.Container kinds.RowType slot slot' o d other = refl
-def_at-other kinds.Container kinds.Container slot slot' o d other = set_other of_container _ slot slot' d.containers (other refl)
-def_at-other kinds.Container kinds.Series slot slot' o d other = refl
-def_at-other kinds.Series kinds.RowType slot slot' o d other = refl
-def_at-other kinds.Series kinds.Container slot slot' o d other = refl
-def_at-other kinds.Series kinds.Series slot slot' o d other = set_other of_series _ slot slot' d.series (other refl)
+def_at-other kind kind' slot slot' o d other =
+    let own : Option (KindDef kind) = option_and_then (from_def kind) o in
+    elim (same_or_other kind' kind) [
+      | inl same ↦
+          subst (λ (k : Kind). def_at k slot' (with_slot kind slot o d) ≡ def_at k slot' d) (sym same)
+          (ap (λ (t : List (Option (KindDef kind))). at_slot slot' (as_defs kind t)) (table-here kind (set (table_of kind d) slot own) d)
+          ∙ set_other (to_def kind) own slot slot' (table_of kind d) (other same))
+      | inr differs ↦
+          ap (λ (t : List (Option (KindDef kind'))). at_slot slot' (as_defs kind' t)) (table-other kind kind' (set (table_of kind d) slot own) d differs)
+    ]
 
 -- the tables keep their lengths
 pub length-with_slot : (kind kind' : Kind) (slot : ℕ) (o : Option Def) (d : Definitions) → length (slots kind' (with_slot kind slot o d)) ≡ length (slots kind' d)
-length-with_slot kinds.RowType kinds.RowType slot o d = length-map _ (option_map of_row_type) ∙ length-set d.row_types slot _ ∙ sym (length-map d.row_types (option_map of_row_type))
-length-with_slot kinds.RowType kinds.Container slot o d = refl
-length-with_slot kinds.RowType kinds.Series slot o d = refl
-length-with_slot kinds.Container kinds.RowType slot o d = refl
-length-with_slot kinds.Container kinds.Container slot o d = length-map _ (option_map of_container) ∙ length-set d.containers slot _ ∙ sym (length-map d.containers (option_map of_container))
-length-with_slot kinds.Container kinds.Series slot o d = refl
-length-with_slot kinds.Series kinds.RowType slot o d = refl
-length-with_slot kinds.Series kinds.Container slot o d = refl
-length-with_slot kinds.Series kinds.Series slot o d = length-map _ (option_map of_series) ∙ length-set d.series slot _ ∙ sym (length-map d.series (option_map of_series))
+length-with_slot kind kind' slot o d =
+    let own : Option (KindDef kind) = option_and_then (from_def kind) o in
+    elim (same_or_other kind' kind) [
+      | inl same ↦
+          subst (λ (k : Kind). length (slots k (with_slot kind slot o d)) ≡ length (slots k d)) (sym same)
+          (ap (λ (t : List (Option (KindDef kind))). length (as_defs kind t)) (table-here kind (set (table_of kind d) slot own) d)
+          ∙ length-map _ (option_map (to_def kind)) ∙ length-set (table_of kind d) slot own ∙ sym (length-map (table_of kind d) (option_map (to_def kind))))
+      | inr differs ↦
+          ap (λ (t : List (Option (KindDef kind'))). length (as_defs kind' t)) (table-other kind kind' (set (table_of kind d) slot own) d differs)
+    ]
 
 -- two slots of one rank are one
 pub rank_one : (kind kind' : Kind) (slot slot' : ℕ) → slot < limit kind → slot' < limit kind' → rank kind slot ≡ rank kind' slot' → (kind ≡ kind') × (slot ≡ slot')

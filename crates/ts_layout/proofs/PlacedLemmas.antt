@@ -20,7 +20,7 @@ use Rattle.ts_layout.specs.Charges.{KeepQuotas}
 use Rattle.ts_layout.specs.Placed.{IsPlaceIn, IsElementNumber, ArePlaced, AreKept}
 use Rattle.ts_layout.proofs.OnePageLemmas.{free_cells, same_cells}
 use Rattle.ts_layout.proofs.ReferLemmas.{KeepColumns}
-use Rattle.ts_layout.proofs.CreatedLemmas.{no_elements_of, no_elements_charge}
+use Rattle.ts_layout.proofs.ValueLemmas.{no_elements_of, no_elements_charge}
 use Rattle.ts_layout.proofs.SeriesLemmas.{few, page_one}
 use Rattle.ts_layout.proofs.HeldLemmas.{place_tells, place_used}
 use Rattle.ts_layout.proofs.FreeLemmas.{free_counted}

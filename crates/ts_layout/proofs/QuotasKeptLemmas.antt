@@ -8,19 +8,17 @@ use Rattle.ts_space.specs.declared.place.Place.{Place}
 use Rattle.ts_space.specs.Directory.{Directory, places_of}
 use Rattle.ts_space.specs.Charge.{irregular_charge, irregular_places_charge}
 use Rattle.ts_cells.specs.Cell.{page_room}
+use Rattle.ts_model.specs.declared.kind.Kind.{Kind}
 use Rattle.ts_model.specs.declared.kind.Kind.TheVariants as kinds
-use Rattle.ts_model.specs.declared.def.Def.TheVariants as defs
-use Rattle.ts_model.specs.Definitions.{Definitions, ContainerDef, SeriesDef, of_series, slots, slot_of, at_slot, with_slot, IsDefinitions}
-use Rattle.ts_layout.specs.Meaning.{Layout, heading_of_container, heading_in, heading_at, AreSound, IsSound, sum_of_quotas}
-use Rattle.ts_layout.specs.Changed.{CanCreate, HasNoPage, NoContainerHas, NoSeriesStandsIn}
+use Rattle.ts_model.specs.declared.def.Def.{Def}
+use Rattle.ts_model.specs.Definitions.{Definitions, ContainerDef, SeriesDef, kind_of, from_def, limit, at_slot, with_slot, IsUsed, IsDefinitions}
+use Rattle.ts_layout.specs.Meaning.{Layout, heading_of_container, heading_in, heading_at, AreSound, IsSound}
+use Rattle.ts_layout.specs.Changed.{layout_with, CanMake, CanDrop, HasNoPage}
 use Rattle.ts_layout.specs.Charges.{charge_listed, charges_listed, container_charge, KeepQuotas}
 use Rattle.ts_layout.specs.OnePage.{HasOnePlaceEach}
 use Rattle.ts_layout.specs.Placed.{ArePlaced, AreKept}
 use Rattle.ts_layout.proofs.LayoutLemmas.{none≢some}
-use Rattle.ts_layout.proofs.FilledLemmas.{at_filled}
-use Rattle.ts_layout.proofs.ReferLemmas.{empty_in}
-use Rattle.ts_layout.proofs.CreatedLemmas.{row_type_headings, row_type_keeps_columns, row_type_sound, no_series_yet, container_keeps_columns, container_sound, series_keeps_columns, series_sound}
-use Rattle.ts_layout.proofs.DroppedLemmas.{row_type_dropped_heading, row_type_dropped_columns, row_type_dropped_sound, container_dropped_columns, container_dropped_sound, container_before}
+use Rattle.ts_layout.proofs.ChangedLemmas.{heading_stays, changed_columns, container_before, no_series_stands, made_unused, made_pageless, made_sound, dropped_within, dropped_pageless, dropped_sound}
 use Rattle.ts_layout.proofs.PlacedLemmas.{kept_defined, placed_same, placed_freed, placed_still, placed_without}
 use Rattle.ts_layout.proofs.QuotaLemmas.{more_within, there_of}
 use Rattle.ts_layout.proofs.SeriesDroppedLemmas.{sound_kept}
@@ -65,11 +63,9 @@ same_places space space' container room slot None same = refl
 same_places space space' container room slot (Some s) same = ap (λ (ps : List Place). if s.container == container then irregular_places_charge room ps else 0) same
 
 -- one series that is made or dropped, and has no place then
-pub series_quotas : (d : Definitions) (space space' : Directory) (slot : ℕ) (o : Option SeriesDef) → IsDefinitions d → KeepQuotas d space → places_of slot space' ≡ [] → ((t : ℕ) → t < 4096 → t ≢ slot → places_of t space' ≡ places_of t space) → KeepQuotas (record d { series = set d.series slot o }) space'
-series_quotas d space space' slot o rules kept none others k small c h there heading =
-    let before = kept k small c h there heading in
-    let room : ℕ = page_room h.columns in
-    let less : container_charge (record d { series = set d.series slot o }) space' k room ≤ container_charge d space k room =
+series_charges : (d : Definitions) (space space' : Directory) (slot : ℕ) (o : Option SeriesDef) → IsDefinitions d → places_of slot space' ≡ [] → ((t : ℕ) → t < 4096 → t ≢ slot → places_of t space' ≡ places_of t space) → (k room : ℕ)
+    → container_charge (record d { series = set d.series slot o }) space' k room ≤ container_charge d space k room
+series_charges d space space' slot o rules none others k room =
     charges_less space space' k room 0 (set d.series slot o) d.series (length-set d.series slot o) (λ j low. elim (cases_eq j slot) [
       | inl same ↦
           let at : 0 + j ≡ slot = omega (arith, same) in
@@ -80,14 +76,19 @@ series_quotas d space space' slot o rules kept none others k small c h there hea
           let stays = same_places space space' k room (0 + j) (at_slot j (set d.series slot o)) (ap (λ (n : ℕ). places_of n space') at ∙ others j (omega (arith, low, rules.series.size)) other ∙ ap (λ (n : ℕ). places_of n space) (sym at)) in
           let def = ap (charge_listed space k room (0 + j)) (get_or-set_other d.series slot j o None other) in
           omega (arith, stays, def)
-    ]) in
+    ])
+
+pub series_quotas : (d : Definitions) (space space' : Directory) (slot : ℕ) (o : Option SeriesDef) → IsDefinitions d → KeepQuotas d space → places_of slot space' ≡ [] → ((t : ℕ) → t < 4096 → t ≢ slot → places_of t space' ≡ places_of t space) → KeepQuotas (record d { series = set d.series slot o }) space'
+series_quotas d space space' slot o rules kept none others k small c h there heading =
+    let before = kept k small c h there heading in
+    let less = series_charges d space space' slot o rules none others k (page_room h.columns) in
     omega (arith, before, less)
 
--- the same charges, and containers that were there with the same columns
-same_quotas : (d d' : Definitions) (space : Directory) → KeepQuotas d space → ((slot : ℕ) (c : ContainerDef) (h : Heading) → at_slot slot d'.containers ≡ Some c → heading_of_container d' c ≡ Some h → (at_slot slot d.containers ≡ Some c) × (heading_of_container d c ≡ Some h)) → d'.series ≡ d.series → KeepQuotas d' space
-same_quotas d d' space kept before series k small c h there heading =
-    let was = before k c h there heading in
-    subst (λ (t : List (Option SeriesDef)). charges_listed space k (page_room h.columns) 0 t ≤ c.quota) (sym series) (kept k small c h was.0 was.1)
+-- what containers are charged where a slot changes: no more, where a series that changes has no place
+changed_less : (kind : Kind) (slot : ℕ) (o : Option Def) (d : Definitions) (space : Directory) (k room : ℕ) → IsDefinitions d → (kind ≡ kinds.Series → places_of slot space ≡ []) → container_charge (with_slot kind slot o d) space k room ≤ container_charge d space k room
+changed_less kinds.RowType slot o d space k room rules none = omega arith
+changed_less kinds.Container slot o d space k room rules none = omega arith
+changed_less kinds.Series slot o d space k room rules none = series_charges d space space slot (option_and_then (from_def kinds.Series) o) rules (none refl) (λ t low other. refl) k room
 
 -- how many pages a layout has
 pages_of : (count : ℕ) (l : Layout) → count ≡ 930 + length l.element_pages → length l.element_pages ≡ count - 930
@@ -98,51 +99,38 @@ module _ (l : Layout) (sound : IsSound l) (space : Directory) (free : List ℕ) 
   rules_then : (d : Definitions) → AreSound (length l.element_pages) d → AreSound (count - 930) d
   rules_then d rules = subst (λ (n : ℕ). AreSound n d) (pages_of count l size) rules
 
-  pub row_type_kept : (slot : ℕ) (name : List ℕ) (h : Heading) → CanCreate slot (defs.RowType name h) l.definitions → AreKept (with_slot kinds.RowType slot (Some (defs.RowType name h)) l.definitions) space free count
-  row_type_kept slot name h can =
-      let d' : Definitions = with_slot kinds.RowType slot (Some (defs.RowType name h)) l.definitions in
-      kept_defined l.definitions d' space free count kept (rules_then d' (row_type_sound slot name h l sound can).definitions) (row_type_keeps_columns slot name h l sound can)
-      (same_quotas l.definitions d' space kept.quotas (λ k c g there heading. (there, sym (row_type_headings slot name h l sound can k c there) ∙ heading)) refl)
+  -- an empty slot has no places
+  empty_place : (slot : ℕ) → slot < 4096 → at_slot slot l.definitions.series ≡ None → places_of slot space ≡ []
+  empty_place slot within empty = of_list (places_of slot space) refl where
+    of_list : (ps : List Place) → places_of slot space ≡ ps → ps ≡ []
+    of_list [] is = refl
+    of_list (p ∷ []) is =
+        let one = kept.placed.places slot p within is in
+        absurd (none≢some (heading_at l.definitions slot) one.heading (ap (option_and_then (λ (s : SeriesDef). heading_in l.definitions s.container)) empty) one.columns)
+    of_list (p ∷ q ∷ ps) is = absurd (let few = kept.placed.few slot within in let many = ap (λ (qs : List Place). length qs) is in omega (arith, few, many))
 
-  pub row_type_dropped_kept : (slot : ℕ) (name : List ℕ) → slot_of name (slots kinds.RowType l.definitions) ≡ Some slot → NoContainerHas slot l.definitions → AreKept (with_slot kinds.RowType slot None l.definitions) space free count
-  row_type_dropped_kept slot name is none =
-      let d' : Definitions = with_slot kinds.RowType slot None l.definitions in
-      kept_defined l.definitions d' space free count kept (rules_then d' (row_type_dropped_sound l slot name sound is none).definitions) (row_type_dropped_columns l slot name sound is none)
-      (same_quotas l.definitions d' space kept.quotas (λ k c g there heading. (there, sym (row_type_dropped_heading l slot name sound is none k c there) ∙ heading)) refl)
-
-  pub container_dropped_kept : (slot : ℕ) (name : List ℕ) → slot_of name (slots kinds.Container l.definitions) ≡ Some slot → NoSeriesStandsIn slot l.definitions → AreKept (with_slot kinds.Container slot None l.definitions) space free count
-  container_dropped_kept slot name is none =
-      let d' : Definitions = with_slot kinds.Container slot None l.definitions in
-      kept_defined l.definitions d' space free count kept (rules_then d' (container_dropped_sound l slot name sound is none).definitions) (container_dropped_columns l slot name sound is none)
-      (same_quotas l.definitions d' space kept.quotas (λ k c g there heading. (container_before l slot name sound is none k c there, heading)) refl)
-
-  pub container_kept : (slot : ℕ) (name : List ℕ) (row_type quota : ℕ) → CanCreate slot (defs.Container name row_type quota) l.definitions → sum_of_quotas l.definitions.containers + quota ≤ length l.element_pages → AreKept (with_slot kinds.Container slot (Some (defs.Container name row_type quota)) l.definitions) space free count
-  container_kept slot name row_type quota can room =
-      let d' : Definitions = with_slot kinds.Container slot (Some (defs.Container name row_type quota)) l.definitions in
-      kept_defined l.definitions d' space free count kept (rules_then d' (container_sound slot name row_type quota l sound can room).definitions) (container_keeps_columns slot name row_type quota l sound can)
+  changed_kept : (kind : Kind) (slot : ℕ) (o : Option Def) → slot < limit kind → (IsUsed kind slot l.definitions → ⊥) → (kind ≡ kinds.Series → (at_slot slot l.definitions.series ≡ None) × HasNoPage slot l.element_pages)
+      → IsSound (layout_with kind slot o l) → AreKept (with_slot kind slot o l.definitions) space free count
+  changed_kept kind slot o within unused pageless then_sound =
+      let d' : Definitions = with_slot kind slot o l.definitions in
+      let placeless : kind ≡ kinds.Series → places_of slot space ≡ [] = λ series. empty_place slot (subst (λ (k : Kind). slot < limit k) series within) (pageless series).0 in
+      kept_defined l.definitions d' space free count kept (rules_then d' then_sound.definitions) (changed_columns kind slot o l sound unused pageless)
       (λ k small c g there heading.
-      let within : slot < length l.definitions.containers = omega (arith, can.within, sound.definitions.tables.containers.size) in
-      elim (at_filled l.definitions.containers slot k (record { name = name; row_type = row_type; quota = quota }) c within there) [
-        | inl new ↦
-            let none = none_listed space k (page_room g.columns) 0 l.definitions.series (λ i s here same. no_series_yet slot name row_type quota l sound can i s here (same ∙ new.0)) in
-            omega (arith, none)
-        | inr old ↦ kept.quotas k small c g old.1 heading
+      let less = changed_less kind slot o l.definitions space k (page_room g.columns) sound.definitions.tables placeless in
+      elim (container_before kind slot o l sound unused pageless k c there) [
+        | inl old ↦
+            let before = kept.quotas k small c g old (sym (heading_stays kind slot o l sound unused pageless k c old) ∙ heading) in
+            omega (arith, less, before)
+        | inr new ↦
+            let none = none_listed space k (page_room g.columns) 0 l.definitions.series (λ i s here same. no_series_stands kind slot o l sound unused pageless new.0 i s here (same ∙ new.1)) in
+            omega (arith, less, none)
       ])
 
-  pub series_kept : (slot : ℕ) (key : List ℕ) (container : ℕ) → CanCreate slot (defs.Series key container) l.definitions → HasNoPage slot l.element_pages → AreKept (with_slot kinds.Series slot (Some (defs.Series key container)) l.definitions) space free count
-  series_kept slot key container can none =
-      let d' : Definitions = with_slot kinds.Series slot (Some (defs.Series key container)) l.definitions in
-      kept_defined l.definitions d' space free count kept (rules_then d' (series_sound slot key container l sound can none).definitions) (series_keeps_columns slot key container l sound can none)
-      (series_quotas l.definitions space space slot (Some (record { key = key; container = container })) sound.definitions.tables kept.quotas (empty_place slot can.within (empty_in of_series slot l.definitions.series can.empty)) (λ t low other. refl))
-    where
-      empty_place : (slot : ℕ) → slot < 4096 → at_slot slot l.definitions.series ≡ None → places_of slot space ≡ []
-      empty_place slot within empty = of_list (places_of slot space) refl where
-        of_list : (ps : List Place) → places_of slot space ≡ ps → ps ≡ []
-        of_list [] is = refl
-        of_list (p ∷ []) is =
-            let one = kept.placed.places slot p within is in
-            absurd (none≢some (heading_at l.definitions slot) one.heading (ap (option_and_then (λ (s : SeriesDef). heading_in l.definitions s.container)) empty) one.columns)
-        of_list (p ∷ q ∷ ps) is = absurd (let few = kept.placed.few slot within in let many = ap (λ (qs : List Place). length qs) is in omega (arith, few, many))
+  pub made_kept : (slot : ℕ) (def : Def) → CanMake slot def l → AreKept (with_slot (kind_of def) slot (Some def) l.definitions) space free count
+  made_kept slot def can = changed_kept (kind_of def) slot (Some def) can.fits.within (made_unused slot def l sound can) (made_pageless slot def l sound can) (made_sound slot def l sound can)
+
+  pub dropped_kept : (kind : Kind) (slot : ℕ) (name : List ℕ) → CanDrop kind slot name l → AreKept (with_slot kind slot None l.definitions) space free count
+  dropped_kept kind slot name can = changed_kept kind slot None (dropped_within kind slot name l sound can) can.unused (dropped_pageless kind slot name l sound can) (dropped_sound kind slot name l sound can)
 
 -- what is kept stays kept where the places of one series change: its definitions stay, or it goes with its places
 module _ (d : Definitions) (space space' : Directory) (free free' : List ℕ) (count slot : ℕ) (kept : AreKept d space free count) where

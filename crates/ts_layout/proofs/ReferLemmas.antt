@@ -1,5 +1,6 @@
 -- What definitions refer to, and the rules of definitions of which one slot is filled or emptied.
-use Rattle.std.proofs.Common.{◌≡◌, ℕ, ◌<◌, Option, Some, None, IsSome, List, map, refl, sym, ap, subst, ◌∙◌, arith, inl, inr}
+use Rattle.std.specs.Prelude.{Contains}
+use Rattle.std.proofs.Common.{◌≡◌, ℕ, zero, suc, ◌<◌, Option, Some, None, IsSome, List, [], ◌∷◌, map, refl, sym, ap, subst, ◌∙◌, arith, inl, inr}
 use Rattle.std.specs.Option.{option_map, option_and_then}
 use Rattle.std.proofs.lemmas.Bool.{cases_lt}
 use Rattle.std.proofs.lemmas.List.{get_or_past}
@@ -7,9 +8,9 @@ use Rattle.ts_row.specs.RowType.{Heading}
 use Rattle.ts_model.specs.declared.kind.Kind.{Kind}
 use Rattle.ts_model.specs.declared.kind.Kind.TheVariants as kinds
 use Rattle.ts_model.specs.declared.def.Def.{Def}
-use Rattle.ts_model.specs.Definitions.{Definitions, RowTypeDef, ContainerDef, SeriesDef, of_row_type, of_container, of_series, kind_of, limit, slots, at_slot, with_slot, IsDefinitions}
+use Rattle.ts_model.specs.Definitions.{Definitions, RowTypeDef, ContainerDef, SeriesDef, of_row_type, of_container, of_series, kind_of, limit, slots, at_slot, with_slot, references, IsUsed, IsDefinitions}
 use Rattle.ts_layout.specs.Limits.{IsDef, IsSlotOf}
-use Rattle.ts_layout.specs.Meaning.{def_at, heading_at, KeepLimits, reference, IsThere, AreThere}
+use Rattle.ts_layout.specs.Meaning.{def_at, heading_at, KeepLimits, IsThere, AreThere}
 use Rattle.ts_layout.proofs.PlaceLemmas.{at_slot-map, def_at-with_slot, def_at-cleared, def_at-other}
 use Rattle.ts_layout.proofs.SlotLemmas.{this_or_other, apart_by_rank, own, sizes}
 use Rattle.ts_layout.proofs.LayoutLemmas.{none≢some, one_of, within_table}
@@ -30,15 +31,28 @@ empty_in f i table none = empty_slot f (at_slot i table) (sym (at_slot-map f i t
 pub filled_in : {A : Type 0} (f : A → Def) (i : ℕ) (table : List (Option A)) (a : A) → at_slot i table ≡ Some a → at_slot i (map (option_map f) table) ≡ Some (f a)
 filled_in f i table a here = at_slot-map f i table ∙ ap (option_map f) here
 
-some_in : {A : Type 0} (o : Option A) → IsSome o → (a : A) × (o ≡ Some a)
+-- what is in a list of one, and in one that is longer
+pub first_of : (x y : Kind × ℕ) (rest : List (Kind × ℕ)) → x ≡ y → Contains (x ∷ rest) y
+first_of x y rest same = (0, omega arith, same)
+
+further : (x y : Kind × ℕ) (rest : List (Kind × ℕ)) → Contains rest y → Contains (x ∷ rest) y
+further x y rest there = let low = there.1 in (suc there.0, omega (arith, low), there.2)
+
+pub some_in : {A : Type 0} (o : Option A) → IsSome o → (a : A) × (o ≡ Some a)
 some_in None is = absurd (cc)
 some_in (Some a) is = (a, refl)
+
+-- each of the slots that are there is filled
+pub each_there : (d : Definitions) (targets : List (Kind × ℕ)) (kind : Kind) (slot : ℕ) → IsThere d targets → (let target : Kind × ℕ = (kind, slot) in Contains targets target) → IsSome (def_at kind slot d)
+each_there d [] kind slot there (k, below, is) = absurd (omega (arith, below))
+each_there d (t ∷ rest) kind slot there (zero, below, is) = subst (λ (p : Kind × ℕ). IsSome (def_at p.0 p.1 d)) is there.0
+each_there d (t ∷ rest) kind slot there (suc k, below, is) = each_there d rest kind slot there.1 (k, omega (arith, below), is)
 
 -- a container's row type
 pub container_refers : (d : Definitions) → IsDefinitions d → AreThere d → (i : ℕ) (c : ContainerDef) → at_slot i d.containers ≡ Some c → (r : RowTypeDef) × (at_slot c.row_type d.row_types ≡ Some r)
 container_refers d rules there i c here =
     let within : i < 64 = omega (arith, within_table d.containers i c here, rules.containers.size) in
-    let some = some_in (def_at kinds.RowType c.row_type d) (there kinds.Container i (of_container c) within (filled_in of_container i d.containers c here)) in
+    let some = some_in (def_at kinds.RowType c.row_type d) (there kinds.Container i (of_container c) within (filled_in of_container i d.containers c here)).0 in
     let mine = own of_row_type c.row_type d.row_types some.0 some.1 in
     (mine.0, mine.1)
 
@@ -46,7 +60,7 @@ container_refers d rules there i c here =
 pub series_refers : (d : Definitions) → IsDefinitions d → AreThere d → (i : ℕ) (s : SeriesDef) → at_slot i d.series ≡ Some s → (c : ContainerDef) × (at_slot s.container d.containers ≡ Some c)
 series_refers d rules there i s here =
     let within : i < 4096 = omega (arith, within_table d.series i s here, rules.series.size) in
-    let some = some_in (def_at kinds.Container s.container d) (there kinds.Series i (of_series s) within (filled_in of_series i d.series s here)) in
+    let some = some_in (def_at kinds.Container s.container d) (there kinds.Series i (of_series s) within (filled_in of_series i d.series s here)).0 in
     let mine = own of_container s.container d.containers some.0 some.1 in
     (mine.0, mine.1)
 
@@ -56,7 +70,7 @@ and_then_same f g None same = refl
 and_then_same f g (Some a) same = same a refl
 
 -- a slot where something is, is one
-within_kind : (d : Definitions) → IsDefinitions d → (kind : Kind) (slot : ℕ) → IsSome (def_at kind slot d) → slot < limit kind
+pub within_kind : (d : Definitions) → IsDefinitions d → (kind : Kind) (slot : ℕ) → IsSome (def_at kind slot d) → slot < limit kind
 within_kind d rules kind slot some =
     elim (cases_lt slot (limit kind)) [
       | inl low ↦ low
@@ -71,17 +85,17 @@ module _ (kind : Kind) (slot : ℕ) (def : Def) (d : Definitions) (within : slot
   filled_here = def_at-with_slot kind slot def d is (omega (arith, within, sizes d rules kind))
 
   pub limits_filled : IsDef def → KeepLimits d → KeepLimits (with_slot kind slot (Some def) d)
-  limits_filled good limits kind' slot' within' =
-      elim (this_or_other kind kind' slot slot' within within') [
-        | inl this ↦
-            subst (λ (p : Kind × ℕ). IsSlotOf p.0 (def_at p.0 p.1 (with_slot kind slot (Some def) d))) (λ i. (sym this.0 i, sym this.1 i))
-            (subst (IsSlotOf kind) (sym filled_here) (is, good))
-        | inr other ↦ subst (IsSlotOf kind') (sym (def_at-other kind kind' slot slot' (Some def) d (apart_by_rank kind kind' slot slot' other))) (limits kind' slot' within')
-      ]
+  limits_filled good limits = record {
+    each = λ kind' slot' within'. elim (this_or_other kind kind' slot slot' within within') [
+      | inl this ↦
+          subst (λ (p : Kind × ℕ). IsSlotOf p.0 (def_at p.0 p.1 (with_slot kind slot (Some def) d))) (λ i. (sym this.0 i, sym this.1 i))
+          (subst (IsSlotOf kind) (sym filled_here) (is, good))
+      | inr other ↦ subst (IsSlotOf kind') (sym (def_at-other kind kind' slot slot' (Some def) d (apart_by_rank kind kind' slot slot' other))) (limits.each kind' slot' within')
+    ];
+  }
 
-  there_filled : (target : Option (Kind × ℕ)) → IsThere d target → IsThere (with_slot kind slot (Some def) d) target
-  there_filled None there = tt
-  there_filled (Some target) there =
+  one_filled : (target : Kind × ℕ) → IsSome (def_at target.0 target.1 d) → IsSome (def_at target.0 target.1 (with_slot kind slot (Some def) d))
+  one_filled target there =
       elim (this_or_other kind target.0 slot target.1 within (within_kind d rules target.0 target.1 there)) [
         | inl this ↦
             subst (λ (p : Kind × ℕ). IsSome (def_at p.0 p.1 (with_slot kind slot (Some def) d))) (λ i. (sym this.0 i, sym this.1 i))
@@ -89,14 +103,18 @@ module _ (kind : Kind) (slot : ℕ) (def : Def) (d : Definitions) (within : slot
         | inr other ↦ subst (λ (o : Option Def). IsSome o) (sym (def_at-other kind target.0 slot target.1 (Some def) d (apart_by_rank kind target.0 slot target.1 other))) there
       ]
 
-  pub references_filled : IsThere d (reference def) → AreThere d → AreThere (with_slot kind slot (Some def) d)
+  there_filled : (targets : List (Kind × ℕ)) → IsThere d targets → IsThere (with_slot kind slot (Some def) d) targets
+  there_filled [] there = tt
+  there_filled (target ∷ rest) there = (one_filled target there.0, there_filled rest there.1)
+
+  pub references_filled : IsThere d (references def) → AreThere d → AreThere (with_slot kind slot (Some def) d)
   references_filled refers there kind' slot' def' within' here =
-      there_filled (reference def')
+      there_filled (references def')
       (elim (this_or_other kind kind' slot slot' within within') [
         | inl this ↦
             let again : def_at kind' slot' (with_slot kind slot (Some def) d) ≡ Some def =
             subst (λ (p : Kind × ℕ). def_at p.0 p.1 (with_slot kind slot (Some def) d) ≡ Some def) (λ i. (sym this.0 i, sym this.1 i)) filled_here in
-            subst (λ (x : Def). IsThere d (reference x)) (one_of (def_at kind' slot' (with_slot kind slot (Some def) d)) def def' again here) refers
+            subst (λ (x : Def). IsThere d (references x)) (one_of (def_at kind' slot' (with_slot kind slot (Some def) d)) def def' again here) refers
         | inr other ↦ there kind' slot' def' within' (sym (def_at-other kind kind' slot slot' (Some def) d (apart_by_rank kind kind' slot slot' other)) ∙ here)
       ])
 
@@ -106,24 +124,31 @@ module _ (kind : Kind) (slot : ℕ) (d : Definitions) (within : slot < limit kin
   cleared_here = def_at-cleared kind slot d (omega (arith, within, sizes d rules kind))
 
   pub limits_cleared : KeepLimits d → KeepLimits (with_slot kind slot None d)
-  limits_cleared limits kind' slot' within' =
-      elim (this_or_other kind kind' slot slot' within within') [
-        | inl this ↦
-            subst (λ (p : Kind × ℕ). IsSlotOf p.0 (def_at p.0 p.1 (with_slot kind slot None d))) (λ i. (sym this.0 i, sym this.1 i))
-            (subst (IsSlotOf kind) (sym cleared_here) tt)
-        | inr other ↦ subst (IsSlotOf kind') (sym (def_at-other kind kind' slot slot' None d (apart_by_rank kind kind' slot slot' other))) (limits kind' slot' within')
-      ]
+  limits_cleared limits = record {
+    each = λ kind' slot' within'. elim (this_or_other kind kind' slot slot' within within') [
+      | inl this ↦
+          subst (λ (p : Kind × ℕ). IsSlotOf p.0 (def_at p.0 p.1 (with_slot kind slot None d))) (λ i. (sym this.0 i, sym this.1 i))
+          (subst (IsSlotOf kind) (sym cleared_here) tt)
+      | inr other ↦ subst (IsSlotOf kind') (sym (def_at-other kind kind' slot slot' None d (apart_by_rank kind kind' slot slot' other))) (limits.each kind' slot' within')
+    ];
+  }
 
-  there_cleared : (target : Option (Kind × ℕ)) → (target ≡ Some (kind, slot) → ⊥) → IsThere d target → IsThere (with_slot kind slot None d) target
-  there_cleared None free there = tt
-  there_cleared (Some target) free there =
+  one_cleared : (target : Kind × ℕ) → (target ≡ (kind, slot) → ⊥) → IsSome (def_at target.0 target.1 d) → IsSome (def_at target.0 target.1 (with_slot kind slot None d))
+  one_cleared target free there =
       elim (this_or_other kind target.0 slot target.1 within (within_kind d rules target.0 target.1 there)) [
-        | inl this ↦ absurd (free (λ i. Some (this.0 i, this.1 i)))
+        | inl this ↦ absurd (free (λ i. (this.0 i, this.1 i)))
         | inr other ↦ subst (λ (o : Option Def). IsSome o) (sym (def_at-other kind target.0 slot target.1 None d (apart_by_rank kind target.0 slot target.1 other))) there
       ]
 
-  pub references_cleared : ((kind' : Kind) (slot' : ℕ) (def' : Def) → def_at kind' slot' d ≡ Some def' → reference def' ≡ Some (kind, slot) → ⊥) → AreThere d → AreThere (with_slot kind slot None d)
-  references_cleared free there kind' slot' def' within' here =
+  there_cleared : (targets : List (Kind × ℕ)) → (Contains targets (kind, slot) → ⊥) → IsThere d targets → IsThere (with_slot kind slot None d) targets
+  there_cleared [] free there = tt
+  there_cleared (target ∷ rest) free there = (
+    one_cleared target (λ same. free (first_of target (kind, slot) rest same)) there.0,
+    there_cleared rest (λ more. free (further target (kind, slot) rest more)) there.1,
+  )
+
+  pub references_cleared : (IsUsed kind slot d → ⊥) → AreThere d → AreThere (with_slot kind slot None d)
+  references_cleared unused there kind' slot' def' within' here =
       elim (this_or_other kind kind' slot slot' within within') [
         | inl this ↦
             let again : def_at kind' slot' (with_slot kind slot None d) ≡ None =
@@ -131,5 +156,5 @@ module _ (kind : Kind) (slot : ℕ) (d : Definitions) (within : slot < limit kin
             absurd (none≢some (def_at kind' slot' (with_slot kind slot None d)) def' again here)
         | inr other ↦
             let before : def_at kind' slot' d ≡ Some def' = sym (def_at-other kind kind' slot slot' None d (apart_by_rank kind kind' slot slot' other)) ∙ here in
-            there_cleared (reference def') (free kind' slot' def' before) (there kind' slot' def' within' before)
+            there_cleared (references def') (λ refers. unused (kind', (slot', def', within', before, refers))) (there kind' slot' def' within' before)
       ]

@@ -13,15 +13,14 @@ use Rattle.ts_model.specs.Catalogue.{name_cmp, Series}
 use Rattle.ts_model.specs.declared.kind.Kind.TheVariants as kinds
 use Rattle.ts_model.specs.declared.def.Def.{Def}
 use Rattle.ts_model.specs.declared.def.Def.TheVariants as defs
-use Rattle.ts_model.specs.Definitions.{Definitions, SeriesDef, at_slot, with_slot, filled_from, by_name, IsTable, IsDefinitions}
+use Rattle.ts_model.specs.declared.kind.Kind.{Kind}
+use Rattle.ts_model.specs.Definitions.{Definitions, SeriesDef, at_slot, with_slot, filled_from, by_name, Refers, IsUsed, IsTable}
 use Rattle.ts_model.proofs.SlotLemmas.{by_name-clear}
-use Rattle.ts_layout.specs.Limits.{IsSlotOf}
 use Rattle.ts_layout.specs.Slot.{header_bytes}
-use Rattle.ts_layout.specs.Meaning.{ElementPage, Free, Cells, Layout, element_page, elements_on, elements_of, elements_at, heading_in, heading_at, def_at, HoldsDefinitions, HoldsElements, HoldsLayout, KeepLimits, reference, IsThere, AreThere, AreSound, IsSound, sum_filled, charge_of_series, charge_of_container, name_at, series_of, catalogue_of}
+use Rattle.ts_layout.specs.Meaning.{ElementPage, Free, Cells, Layout, element_page, elements_on, elements_of, elements_at, heading_in, heading_at, HoldsDefinitions, HoldsElements, HoldsLayout, AreSound, IsSound, sum_filled, charge_of_series, charge_of_container, name_at, series_of, catalogue_of}
 use Rattle.ts_layout.specs.Surveyed.{places_on, places_from, ListsPlaces}
 use Rattle.ts_layout.specs.OnePage.{by_stamp, HasNoPage, AreFilled, freed, without_series}
-use Rattle.ts_layout.proofs.PlaceLemmas.{def_at-cleared, def_at-other}
-use Rattle.ts_layout.proofs.SlotLemmas.{sizes}
+use Rattle.ts_layout.proofs.ReferLemmas.{limits_cleared, references_cleared}
 use Rattle.ts_layout.proofs.OnePageLemmas.{HasNone, free_cells, same_cells, none_places, none_elements, none_from}
 use Rattle.ts_layout.proofs.NamedLemmas.{filled_same, slot_within}
 use Rattle.ts_layout.proofs.SeriesLemmas.{has_cells}
@@ -140,37 +139,28 @@ table_kept table slot rules = record {
   apart = λ i j a b here there same. rules.apart i j a b (still_there table slot i a here).1 (still_there table slot j b there).1 same;
 }
 
-limits_kept : (d : Definitions) (slot : ℕ) → IsDefinitions d → slot < 4096 → KeepLimits d → KeepLimits (with_slot kinds.Series slot None d)
-limits_kept d slot rules small limits kinds.RowType i within = limits kinds.RowType i within
-limits_kept d slot rules small limits kinds.Container i within = limits kinds.Container i within
-limits_kept d slot rules small limits kinds.Series i within = elim (cases_eq i slot) [
-  | inl same ↦
-      let empty = def_at-cleared kinds.Series slot d (omega (arith, small, sizes d rules kinds.Series)) in
-      subst (λ (n : ℕ). IsSlotOf kinds.Series (def_at kinds.Series n (with_slot kinds.Series slot None d))) (sym same) (let P : Option Def → Type 0 = IsSlotOf kinds.Series in subst P (sym empty) tt)
-  | inr other ↦ let P : Option Def → Type 0 = IsSlotOf kinds.Series in subst P (sym (def_at-other kinds.Series kinds.Series slot i None d (λ kind. other))) (limits kinds.Series i within)
-]
-
 -- nothing refers to a series
-refers_kept : (d : Definitions) (slot : ℕ) (def : Def) → IsThere d (reference def) → IsThere (with_slot kinds.Series slot None d) (reference def)
-refers_kept d slot (defs.RowType name kind) there = there
-refers_kept d slot (defs.Container name row_type quota) there = there
-refers_kept d slot (defs.Series key container) there = there
+no_row_type : kinds.RowType ≡ kinds.Series → ⊥
+no_row_type same = cc
 
-there_kept : (d : Definitions) (slot : ℕ) → IsDefinitions d → slot < 4096 → AreThere d → AreThere (with_slot kinds.Series slot None d)
-there_kept d slot rules small there kinds.RowType i def within is = refers_kept d slot def (there kinds.RowType i def within is)
-there_kept d slot rules small there kinds.Container i def within is = refers_kept d slot def (there kinds.Container i def within is)
-there_kept d slot rules small there kinds.Series i def within is = elim (cases_eq i slot) [
-  | inl same ↦
-      let empty = def_at-cleared kinds.Series slot d (omega (arith, small, sizes d rules kinds.Series)) in
-      absurd (none_some def (sym empty ∙ ap (λ (n : ℕ). def_at kinds.Series n (with_slot kinds.Series slot None d)) (sym same) ∙ is))
-  | inr other ↦ refers_kept d slot def (there kinds.Series i def within (sym (def_at-other kinds.Series kinds.Series slot i None d (λ kind. other)) ∙ is))
-]
+no_container : kinds.Container ≡ kinds.Series → ⊥
+no_container same = cc
+
+no_one_refers : (slot : ℕ) (def : Def) → Refers def kinds.Series slot → ⊥
+no_one_refers slot (defs.RowType name kind) (k, below, is) = absurd (omega (arith, below))
+no_one_refers slot (defs.Container name row_type quota) (zero, below, is) = no_row_type (ap (λ (t : Kind × ℕ). t.0) is)
+no_one_refers slot (defs.Container name row_type quota) (suc k, below, is) = absurd (omega (arith, below))
+no_one_refers slot (defs.Series key container) (zero, below, is) = no_container (ap (λ (t : Kind × ℕ). t.0) is)
+no_one_refers slot (defs.Series key container) (suc k, below, is) = absurd (omega (arith, below))
+
+series_unused : (slot : ℕ) (d : Definitions) → IsUsed kinds.Series slot d → ⊥
+series_unused slot d (user, (i, def, low, here, refers)) = no_one_refers slot def refers
 
 pub sound_kept : (d : Definitions) (slot pages : ℕ) → slot < 4096 → AreSound pages d → AreSound pages (with_slot kinds.Series slot None d)
 sound_kept d slot pages small sound = record {
   tables = record { row_types = sound.tables.row_types; containers = sound.tables.containers; series = table_kept d.series slot sound.tables.series };
-  limits = limits_kept d slot sound.tables small sound.limits;
-  references = there_kept d slot sound.tables small sound.references;
+  limits = limits_cleared kinds.Series slot d small sound.tables sound.limits;
+  references = references_cleared kinds.Series slot d small sound.tables (series_unused slot d) sound.references;
   quotas = sound.quotas;
 }
 

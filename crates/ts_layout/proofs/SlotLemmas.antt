@@ -1,12 +1,13 @@
 -- Slots of all kinds, and what stands in them.
-use Rattle.std.proofs.Common.{◌≡◌, None, replicate, refl, Some, ◌≢◌, ℕ, ◌<◌, inl, inr, ◌⊎◌, Option, map, List, sym, ◌∙◌, length}
+use Rattle.std.proofs.Common.{◌≡◌, None, replicate, refl, Some, ◌≢◌, ℕ, ◌<◌, inl, inr, ◌⊎◌, Option, map, List, sym, ap, ◌∙◌, length}
 use Rattle.std.specs.Option.{option_map}
 use Rattle.std.proofs.lemmas.Bool.{cases_eq}
 use Rattle.std.proofs.lemmas.List.{length-map}
 use Rattle.ts_page.specs.Head.{zero_page}
 use Rattle.ts_model.specs.declared.kind.Kind.{Kind}
 use Rattle.ts_model.specs.declared.def.Def.{Def}
-use Rattle.ts_model.specs.Definitions.{slots, limit, at_slot, Definitions, of_row_type, of_container, of_series, IsDefinitions}
+use Rattle.ts_model.specs.Definitions.{slots, limit, at_slot, Definitions, KindDef, to_def, from_def, table_of, IsDefinitions}
+use Rattle.ts_model.proofs.PartsLemmas.{forth, table-rules}
 use Rattle.ts_model.specs.declared.kind.Kind.TheVariants as kinds
 use Rattle.ts_layout.specs.Slot.{slot_bytes, slot_size, def_bytes}
 use Rattle.ts_layout.specs.Rank.{rank}
@@ -46,6 +47,15 @@ own f i table def is = own_of f (at_slot i table) def (sym (at_slot-map f i tabl
 
 -- each table has its slots
 pub sizes : (d : Definitions) → IsDefinitions d → (kind : Kind) → length (slots kind d) ≡ limit kind
-sizes d rules kinds.RowType = length-map d.row_types (option_map of_row_type) ∙ rules.row_types.size
-sizes d rules kinds.Container = length-map d.containers (option_map of_container) ∙ rules.containers.size
-sizes d rules kinds.Series = length-map d.series (option_map of_series) ∙ rules.series.size
+sizes d rules kind = length-map (table_of kind d) (option_map (to_def kind)) ∙ (table-rules d rules kind).size
+
+-- the same slot from the same definition
+same_slot : {A : Type 0} (f : A → Def) (back : Def → Option A) → ((a : A) → back (f a) ≡ Some a) → (o p : Option A) → option_map f o ≡ option_map f p → o ≡ p
+same_slot f back is None None same = refl
+same_slot f back is None (Some b) same = absurd (cc)
+same_slot f back is (Some a) None same = absurd (cc)
+same_slot f back is (Some a) (Some b) same = let e : f a ≡ f b = cc in sym (is a) ∙ ap back e ∙ is b
+
+pub same_in : (kind : Kind) (i : ℕ) (t u : List (Option (KindDef kind))) → at_slot i (map (option_map (to_def kind)) t) ≡ at_slot i (map (option_map (to_def kind)) u) → at_slot i t ≡ at_slot i u
+same_in kind i t u same =
+    same_slot (to_def kind) (from_def kind) (forth kind) (at_slot i t) (at_slot i u) (sym (at_slot-map (to_def kind) i t) ∙ same ∙ at_slot-map (to_def kind) i u)

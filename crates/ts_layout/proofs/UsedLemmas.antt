@@ -33,13 +33,13 @@ some_container (Some c) some = (c, refl)
 pub has_heading : (d : Definitions) → AreThere d → (slot : ℕ) (c : ContainerDef) → slot < 64 → at_slot slot d.containers ≡ Some c → (h : Heading) × (heading_of_container d c ≡ Some h)
 has_heading d references slot c within there =
     let here : def_at kinds.Container slot d ≡ Some (of_container c) = at_slot-map of_container slot d.containers ∙ ap (option_map of_container) there in
-    let is = references kinds.Container slot (of_container c) within here in
+    let is = (references kinds.Container slot (of_container c) within here).0 in
     some_heading (at_slot c.row_type d.row_types) (subst (λ (o : Option Def). IsSome o) (at_slot-map of_row_type c.row_type d.row_types) is)
 
 pub has_container : (d : Definitions) → AreThere d → (slot : ℕ) (s : SeriesDef) → slot < 4096 → at_slot slot d.series ≡ Some s → (c : ContainerDef) × (at_slot s.container d.containers ≡ Some c)
 has_container d references slot s within there =
     let here : def_at kinds.Series slot d ≡ Some (of_series s) = at_slot-map of_series slot d.series ∙ ap (option_map of_series) there in
-    let is = references kinds.Series slot (of_series s) within here in
+    let is = (references kinds.Series slot (of_series s) within here).0 in
     some_container (at_slot s.container d.containers) (subst (λ (o : Option Def). IsSome o) (at_slot-map of_container s.container d.containers) is)
 
 -- sums over a table of containers, by slot

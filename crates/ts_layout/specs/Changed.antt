@@ -1,12 +1,14 @@
 -- What one slot that is filled or emptied changes in a layout, and what pages that mean the same may differ in.
-use Rattle.std.specs.Prelude.{◌≡◌, ℕ, ◌<◌, ◌⊎◌, Option, Some, None, List, ◌+◌, ◌++◌, take, drop}
+use Rattle.std.specs.Prelude.{◌≡◌, ℕ, ◌<◌, ◌≤◌, ◌⊎◌, Option, Some, None, option_and_then, List, ◌+◌, ◌++◌, length, take, drop}
 use Rattle.ts_page.specs.Pages.{IsOutsideJournal, IsElementPage, HasFreeHead}
 use Rattle.ts_cells.specs.Cell.{Element}
 use Rattle.ts_model.specs.declared.kind.Kind.{Kind}
+use Rattle.ts_model.specs.declared.kind.Kind.TheVariants as kinds
 use Rattle.ts_model.specs.declared.def.Def.{Def}
-use Rattle.ts_model.specs.Definitions.{Definitions, ContainerDef, SeriesDef, limit, kind_of, name_of, slots, with_slot, at_slot, slot_of}
+use Rattle.ts_model.specs.Kinds.{HasNoPages}
+use Rattle.ts_model.specs.Definitions.{Definitions, limit, kind_of, name_of, from_def, slots, with_slot, slot_of, references, IsUsed}
 use Rattle.ts_layout.specs.Limits.{IsDef}
-use Rattle.ts_layout.specs.Meaning.{Layout, ElementPage, Cells, element_page, def_at, heading_at, reference, IsThere}
+use Rattle.ts_layout.specs.Meaning.{Layout, ElementPage, Cells, element_page, def_at, heading_at, quota_in, sum_of_quotas, IsThere}
 use Rattle.ts_layout.specs.Slot.{slot_bytes, slot_size, byte_of_slot}
 
 -- outside the journal the same pages, but for the bytes behind the heads of free element pages
@@ -32,18 +34,26 @@ KeepsHeadings d l =
 abbrev pub HasNoPage : ℕ → List ElementPage → Type 0
 HasNoPage slot pages = (i : ℕ) (es : List Element) → element_page i pages ≡ Cells slot es → ⊥
 
--- no container has the row type in a slot
-abbrev pub NoContainerHas : ℕ → Definitions → Type 0
-NoContainerHas slot d = (i : ℕ) (c : ContainerDef) → at_slot i d.containers ≡ Some c → c.row_type ≡ slot → ⊥
-
--- no series stands in the container in a slot
-abbrev pub NoSeriesStandsIn : ℕ → Definitions → Type 0
-NoSeriesStandsIn slot d = (i : ℕ) (s : SeriesDef) → at_slot i d.series ≡ Some s → s.container ≡ slot → ⊥
-
 -- this definition can be put into a slot: the slot is empty, the name is new, and what it refers to is there
 pub record CanCreate (slot : ℕ) (def : Def) (d : Definitions) : Type 0 where
   pub within : slot < limit (kind_of def)
   pub empty : def_at (kind_of def) slot d ≡ None
   pub new : slot_of (name_of def) (slots (kind_of def) d) ≡ None
   pub limits : IsDef def
-  pub refers : IsThere d (reference def)
+  pub refers : IsThere d (references def)
+
+-- how many pages a definition is granted: a container its quota
+abbrev pub granted : Option Def → ℕ
+granted def = quota_in (option_and_then (from_def kinds.Container) def)
+
+-- it can be made in a layout: there are pages for its quota, and no page has elements of a series in that slot
+pub record CanMake (slot : ℕ) (def : Def) (l : Layout) : Type 0 where
+  pub fits : CanCreate slot def l.definitions
+  pub pages : sum_of_quotas l.definitions.containers + granted (Some def) ≤ length l.element_pages
+  pub pageless : kind_of def ≡ kinds.Series → HasNoPage slot l.element_pages
+
+-- what has this name can be dropped: it has a slot and no pages, and nothing refers to it
+pub record CanDrop (kind : Kind) (slot : ℕ) (name : List ℕ) (l : Layout) : Type 0 where
+  pub named : slot_of name (slots kind l.definitions) ≡ Some slot
+  pub pageless : HasNoPages kind
+  pub unused : IsUsed kind slot l.definitions → ⊥

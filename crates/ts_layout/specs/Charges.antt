@@ -1,11 +1,15 @@
 -- What containers are charged, by the directory.
-use Rattle.std.specs.Prelude.{◌≡◌, ℕ, suc, ◌+◌, ◌<◌, ◌≤◌, ◌==◌, if◌then◌else◌, Option, Some, None, List, [], ◌∷◌}
+use Rattle.std.specs.Prelude.{◌≡◌, ℕ, suc, ◌+◌, ◌<◌, ◌≤◌, ◌==◌, if◌then◌else◌, Option, Some, None, List, [], ◌∷◌, length}
 use Rattle.ts_row.specs.RowType.{Heading}
 use Rattle.ts_space.specs.Directory.{Directory, places_of}
 use Rattle.ts_space.specs.Charge.{irregular_places_charge}
 use Rattle.ts_cells.specs.Cell.{page_room}
-use Rattle.ts_model.specs.Definitions.{Definitions, ContainerDef, SeriesDef, at_slot}
+use Rattle.ts_model.specs.Definitions.{Definitions, ContainerDef, SeriesDef, at_slot, container_slots, series_slots}
 use Rattle.ts_layout.specs.Meaning.{heading_of_container}
+
+-- each series has one place at most
+abbrev pub HasOnePlaceAtMost : Directory → Type 0
+HasOnePlaceAtMost space = (slot : ℕ) → slot < series_slots → length (places_of slot space) ≤ 1
 
 -- what stands in a slot is charged to a container, where a page has room for so many elements
 abbrev pub charge_listed : Directory → ℕ → ℕ → ℕ → Option SeriesDef → ℕ
@@ -28,4 +32,4 @@ KeepsQuotaAt d space slot =
 
 -- each container is
 abbrev pub KeepQuotas : Definitions → Directory → Type 0
-KeepQuotas d space = (slot : ℕ) → slot < 64 → KeepsQuotaAt d space slot
+KeepQuotas d space = (slot : ℕ) → slot < container_slots → KeepsQuotaAt d space slot

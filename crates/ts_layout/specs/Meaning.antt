@@ -4,19 +4,21 @@ use Rattle.std.specs.Prelude.{◌≡◌, ℕ, suc, ◌+◌, ◌-◌, ◌<◌, �
 use Rattle.std.specs.List.{flat_map}
 use Rattle.std.specs.FinMap.{from_entries}
 use Rattle.ts_row.specs.RowType.{Heading}
+use Rattle.ts_page.specs.Volume.{page_size, first_element_page, most_element_pages}
 use Rattle.ts_page.specs.Head.{bytes_at}
 use Rattle.ts_page.specs.Pages.{IsFreePage}
 use Rattle.ts_space.specs.Charge.{irregular_charge}
 use Rattle.ts_cells.specs.Cell.{Element, page_room}
 use Rattle.ts_cells.specs.IrregularPage.{IsIrregularPage}
-use Rattle.ts_model.specs.Catalogue.{Catalogue, Container, Series, Elements}
+use Rattle.ts_model.specs.Catalogue.{Named, Catalogue, Container, Series, Elements}
+use Rattle.ts_model.specs.Kinds.{In}
 use Rattle.ts_model.specs.declared.kind.Kind.{Kind}
 use Rattle.ts_model.specs.declared.kind.Kind.TheVariants as kinds
 use Rattle.ts_model.specs.declared.def.Def.{Def}
-use Rattle.ts_model.specs.declared.def.Def.TheVariants as defs
-use Rattle.ts_model.specs.Definitions.{Definitions, ContainerDef, SeriesDef, limit, slots, at_slot, by_name, IsDefinitions}
+use Rattle.ts_model.specs.Definitions.{Definitions, ContainerDef, SeriesDef, KindDef, limit, name_in, table_of, at_slot, by_name, references, IsDefinitions}
+pub use Rattle.ts_model.specs.Definitions.{def_at}
 use Rattle.ts_layout.specs.Limits.{IsSlotOf}
-use Rattle.ts_layout.specs.Slot.{slot_size, slot_bytes, page_of_slot, byte_of_slot, slots_in_page, bytes_of_slots, header_bytes}
+use Rattle.ts_layout.specs.Slot.{slot_size, slot_bytes, page_of_slot, byte_of_slot, first_definition_page, slots_in_page, bytes_of_slots, header_bytes}
 
 -- an element page: free, or with the elements of the series in a slot
 pub data ElementPage : Type 0 where
@@ -44,10 +46,6 @@ heading_in d slot = option_and_then (heading_of_container d) (at_slot slot d.con
 abbrev pub heading_at : Definitions → ℕ → Option Heading
 heading_at d slot = option_and_then (λ s. heading_in d s.container) (at_slot slot d.series)
 
--- what stands in a slot of a kind
-abbrev pub def_at : Kind → ℕ → Definitions → Option Def
-def_at kind slot d = at_slot slot (slots kind d)
-
 -- the bytes of a slot
 abbrev pub bytes_of_slot : Kind → ℕ → (ℕ → List ℕ) → List ℕ
 bytes_of_slot kind slot pages = bytes_at (byte_of_slot kind slot) (slot_size kind) (pages (page_of_slot kind slot))
@@ -55,8 +53,8 @@ bytes_of_slot kind slot pages = bytes_at (byte_of_slot kind slot) (slot_size kin
 -- the bytes of definitions, each in its slot; what is in no slot is zero
 pub record HoldsDefinitions (pages : ℕ → List ℕ) (d : Definitions) : Type 0 where
   pub slots : (kind : Kind) (slot : ℕ) → slot < limit kind → bytes_of_slot kind slot pages ≡ slot_bytes kind (def_at kind slot d)
-  pub behind : (number : ℕ) → 257 ≤ number → number < 930
-      → drop (bytes_of_slots (slots_in_page number)) (pages number) ≡ replicate (4096 - bytes_of_slots (slots_in_page number)) 0
+  pub behind : (number : ℕ) → first_definition_page ≤ number → number < first_element_page
+      → drop (bytes_of_slots (slots_in_page number)) (pages number) ≡ replicate (page_size - bytes_of_slots (slots_in_page number)) 0
 
 -- a page that is free, whatever follows its first byte, or the page of elements of a series
 abbrev pub HoldsElements : Definitions → List ℕ → ElementPage → Type 0
@@ -66,42 +64,37 @@ HoldsElements d page (Cells slot es) =
 
 -- element pages, from page 930 on, with these elements
 abbrev pub HoldAll : Definitions → (ℕ → List ℕ) → List ElementPage → Type 0
-HoldAll d pages es = (j : ℕ) → j < length es → HoldsElements d (pages (930 + j)) (element_page j es)
+HoldAll d pages es = (j : ℕ) → j < length es → HoldsElements d (pages (first_element_page + j)) (element_page j es)
 
 -- the bytes of a volume that is laid out so; the journal's pages are no part of it
 pub record HoldsLayout (pages : ℕ → List ℕ) (l : Layout) : Type 0 where
   pub header : pages 0 ≡ header_bytes (length l.element_pages)
   pub definitions : HoldsDefinitions pages l.definitions
-  pub elements : (i : ℕ) → i < length l.element_pages → HoldsElements l.definitions (pages (930 + i)) (element_page i l.element_pages)
+  pub elements : (i : ℕ) → i < length l.element_pages → HoldsElements l.definitions (pages (first_element_page + i)) (element_page i l.element_pages)
 
 -- what stands in the slots of each kind is of that kind and keeps its limits
-abbrev pub KeepLimits : Definitions → Type 0
-KeepLimits d = (kind : Kind) (slot : ℕ) → slot < limit kind → IsSlotOf kind (def_at kind slot d)
+pub record KeepLimits (d : Definitions) : Type 0 where
+  pub each : (kind : Kind) (slot : ℕ) → slot < limit kind → IsSlotOf kind (def_at kind slot d)
 
--- what a definition refers to: a container to the slot of its row type, a series to that of its container
-abbrev pub reference : Def → Option (Kind × ℕ)
-reference (defs.RowType name kind) = None
-reference (defs.Container name row_type quota) = Some (kinds.RowType, row_type)
-reference (defs.Series key container) = Some (kinds.Container, container)
+-- something stands in each of some slots
+abbrev pub IsThere : Definitions → List (Kind × ℕ) → Type 0
+IsThere d [] = Unit {0}
+IsThere d (target ∷ rest) = IsSome (def_at target.0 target.1 d) × IsThere d rest
 
--- something stands in the slot that a definition refers to
-abbrev pub IsThere : Definitions → Option (Kind × ℕ) → Type 0
-IsThere d None = Unit {0}
-IsThere d (Some target) = IsSome (def_at target.0 target.1 d)
-
--- each definition refers to a filled slot
+-- each definition refers to filled slots
 abbrev pub AreThere : Definitions → Type 0
-AreThere d = (kind : Kind) (slot : ℕ) (def : Def) → slot < limit kind → def_at kind slot d ≡ Some def → IsThere d (reference def)
+AreThere d = (kind : Kind) (slot : ℕ) (def : Def) → slot < limit kind → def_at kind slot d ≡ Some def → IsThere d (references def)
 
--- each definition of a kind refers to a filled slot
+-- each definition of a kind does
 abbrev pub AreThereIn : Kind → Definitions → Type 0
-AreThereIn kind d = (slot : ℕ) (def : Def) → slot < limit kind → def_at kind slot d ≡ Some def → IsThere d (reference def)
+AreThereIn kind d = (slot : ℕ) (def : Def) → slot < limit kind → def_at kind slot d ≡ Some def → IsThere d (references def)
 
--- the quotas of all containers together
+-- the quota of a container; 0 where there is none
 abbrev pub quota_in : Option ContainerDef → ℕ
 quota_in None = 0
 quota_in (Some c) = c.quota
 
+-- the same of a whole table
 abbrev pub sum_of_quotas : List (Option ContainerDef) → ℕ
 sum_of_quotas table = sum_by quota_in table
 
@@ -150,14 +143,14 @@ KeepsQuotas l =
 -- the rules of a volume
 pub record IsSound (l : Layout) : Type 0 where
   pub some : 1 ≤ length l.element_pages
-  pub most : length l.element_pages ≤ 65536
+  pub most : length l.element_pages ≤ most_element_pages
   pub definitions : AreSound (length l.element_pages) l.definitions
   pub one_page : HasOnePageEach l.element_pages
   pub charges : KeepsQuotas l
 
 -- pages, so many in all, that are laid out so and keep the rules
 pub record IsLaidOut (count : ℕ) (pages : ℕ → List ℕ) (l : Layout) : Type 0 where
-  pub size : count ≡ 930 + length l.element_pages
+  pub size : count ≡ first_element_page + length l.element_pages
   pub bytes : HoldsLayout pages l
   pub rules : IsSound l
 
@@ -169,23 +162,34 @@ name_at name slot table = unwrap_or (option_map name (at_slot slot table)) []
 abbrev pub elements_at : ℕ → List ElementPage → Elements
 elements_at slot pages = from_entries (elements_of slot pages)
 
--- a container and a series with names in place of slots
+-- a container with the name of its row type
 abbrev pub container_of : Definitions → ContainerDef → Container
 container_of d c = record { row_type = name_at (λ r. r.name) c.row_type d.row_types; quota = c.quota }
 
+-- a series with the name of its container, and its elements
 abbrev pub series_of : Layout → ℕ → SeriesDef → Series
 series_of l slot s = record {
   container = name_at (λ c. c.name) s.container l.definitions.containers;
   elements = elements_at slot l.element_pages;
 }
 
+-- what a definition in a slot of a kind is in the catalogue
+abbrev pub value_of : (kind : Kind) → Layout → ℕ → KindDef kind → In kind
+value_of kinds.RowType l slot r = r.heading
+value_of kinds.Container l slot c = container_of l.definitions c
+value_of kinds.Series l slot s = series_of l slot s
+
+-- the definitions of a kind under their names
+abbrev pub named_in : (kind : Kind) → Layout → Named (In kind)
+named_in kind l = by_name (name_in kind) (value_of kind l) (table_of kind l.definitions)
+
 -- the catalogue of a layout
 abbrev pub catalogue_of : Layout → Catalogue
 catalogue_of l = record {
   pages = length l.element_pages;
-  row_types = by_name (λ r. r.name) (λ slot r. r.heading) l.definitions.row_types;
-  containers = by_name (λ c. c.name) (λ slot c. container_of l.definitions c) l.definitions.containers;
-  series = by_name (λ s. s.key) (series_of l) l.definitions.series;
+  row_types = named_in kinds.RowType l;
+  containers = named_in kinds.Container l;
+  series = named_in kinds.Series l;
 }
 
 -- pages, so many in all, mean the catalogue that they are laid out from

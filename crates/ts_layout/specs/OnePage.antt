@@ -2,16 +2,17 @@
 use Rattle.std.specs.Prelude.{◌≡◌, ℕ, ◌+◌, ◌<◌, ◌≤◌, ◌==◌, if◌then◌else◌, ◌⊎◌, Some, None, IsSome, option_map, unwrap_or, List, [], ◌∷◌, length, map, All, replicate, slice_set}
 use Rattle.std.specs.FinMap.{from_entries}
 use Rattle.ts_row.specs.RowType.{Heading}
+use Rattle.ts_page.specs.Volume.{first_element_page}
 use Rattle.ts_space.specs.declared.place.Place.{Place}
 use Rattle.ts_space.specs.Directory.{Directory, places_of}
 use Rattle.ts_cells.specs.Cell.{Element, page_room}
 use Rattle.ts_cells.specs.IrregularPage.{FillPage}
 use Rattle.ts_model.specs.Catalogue.{Elements}
 use Rattle.ts_model.specs.declared.kind.Kind.TheVariants as kinds
-use Rattle.ts_model.specs.Definitions.{Definitions, ContainerDef, SeriesDef, at_slot, with_slot}
+use Rattle.ts_model.specs.Definitions.{Definitions, ContainerDef, SeriesDef, at_slot, with_slot, series_slots}
 use Rattle.ts_layout.specs.Meaning.{ElementPage, Free, Cells, Layout, element_page, elements_of, heading_in, heading_at, heading_of_container, charge_of_container}
 use Rattle.ts_layout.specs.Surveyed.{place_of, free_from}
-use Rattle.ts_layout.specs.Charges.{container_charge}
+use Rattle.ts_layout.specs.Charges.{HasOnePlaceAtMost, container_charge}
 pub use Rattle.ts_layout.specs.Changed.{HasNoPage}
 
 -- elements by their stamps
@@ -42,7 +43,7 @@ pub record HasPage (slot : ℕ) (p : Place) (pages : List ElementPage) : Type 0 
   pub elements : List Element
   pub within : number < length pages
   pub page : element_page number pages ≡ Cells slot elements
-  pub place : place_of (930 + number) elements ≡ p ∷ []
+  pub place : place_of (first_element_page + number) elements ≡ p ∷ []
   pub all : elements_of slot pages ≡ elements
 
 -- the container of the series in a slot is charged its quota at most
@@ -58,9 +59,9 @@ charge_in d space slot = unwrap_or (option_map (λ h. container_charge d space s
 
 -- each series in the directory is defined, and has one place at most, of one element at least
 pub record HasOnePlaceEach (d : Definitions) (space : Directory) : Type 0 where
-  pub slots : length space.lists ≡ 4096
-  pub few : (slot : ℕ) → slot < 4096 → length (places_of slot space) ≤ 1
-  pub some : (slot : ℕ) (p : Place) → slot < 4096 → places_of slot space ≡ p ∷ [] → (1 ≤ p.count) × IsSome (at_slot slot d.series)
+  pub slots : length space.lists ≡ series_slots
+  pub few : HasOnePlaceAtMost space
+  pub some : (slot : ℕ) (p : Place) → slot < series_slots → places_of slot space ≡ p ∷ [] → (1 ≤ p.count) × IsSome (at_slot slot d.series)
 
 -- an element page, free where it has elements of the series in a slot
 abbrev pub freed : ℕ → ElementPage → ElementPage
@@ -76,12 +77,12 @@ without_series slot l = record {
 
 -- the number of a free element page
 abbrev pub IsFreeIn : List ElementPage → ℕ → Type 0
-IsFreeIn pages number = (i : ℕ) × (number ≡ 930 + i) × (i < length pages) × (element_page i pages ≡ Free)
+IsFreeIn pages number = (i : ℕ) × (number ≡ first_element_page + i) × (i < length pages) × (element_page i pages ≡ Free)
 
 -- the numbers of as many free pages as there are
 pub record AreFreePages (numbers : List ℕ) (pages : List ElementPage) : Type 0 where
   pub each : All (IsFreeIn pages) numbers
-  pub count : length numbers ≡ length (free_from 930 pages)
+  pub count : length numbers ≡ length (free_from first_element_page pages)
 
 -- a layout of these definitions, with so many free pages and no elements
 abbrev pub bare : ℕ → Definitions → Layout

@@ -2,13 +2,14 @@
 -- different and all there are, and charges by these places that keep the quotas.
 use Rattle.std.specs.Prelude.{◌≡◌, ◌≢◌, ℕ, ◌+◌, ◌-◌, ◌<◌, ◌≤◌, Some, List, [], ◌∷◌, length, Contains, All, AllPairs}
 use Rattle.ts_row.specs.RowType.{Heading}
+use Rattle.ts_page.specs.Volume.{first_element_page, most_element_pages}
 use Rattle.ts_page.specs.Pages.{IsElementPage}
 use Rattle.ts_space.specs.declared.place.Place.{Place}
 use Rattle.ts_space.specs.Directory.{Directory, places_of, used_of}
 use Rattle.ts_cells.specs.Cell.{page_room}
-use Rattle.ts_model.specs.Definitions.{Definitions}
+use Rattle.ts_model.specs.Definitions.{Definitions, series_slots}
 use Rattle.ts_layout.specs.Meaning.{heading_at, AreSound}
-use Rattle.ts_layout.specs.Charges.{KeepQuotas}
+use Rattle.ts_layout.specs.Charges.{HasOnePlaceAtMost, KeepQuotas}
 
 -- a place within the limits of the series in a slot: of an element page, with one element at least and no more than a page has
 -- room for by the columns of the series
@@ -27,20 +28,20 @@ IsElementNumber count number = IsElementPage number × (number < count)
 -- Each series has one place at most, within its limits. The pages of all places and the free pages are different ones, and are all
 -- element pages together.
 pub record ArePlaced (d : Definitions) (space : Directory) (free : List ℕ) (count : ℕ) : Type 0 where
-  pub slots : length space.lists ≡ 4096
-  pub few : (slot : ℕ) → slot < 4096 → length (places_of slot space) ≤ 1
-  pub places : (slot : ℕ) (p : Place) → slot < 4096 → places_of slot space ≡ p ∷ [] → IsPlaceIn d count slot p
+  pub slots : length space.lists ≡ series_slots
+  pub few : HasOnePlaceAtMost space
+  pub places : (slot : ℕ) (p : Place) → slot < series_slots → places_of slot space ≡ p ∷ [] → IsPlaceIn d count slot p
   pub numbers : All (IsElementNumber count) free
   -- no two series have the same page, no series has a free one, and no page is twice among the free ones
-  pub apart : (s t : ℕ) (p q : Place) → s < 4096 → t < 4096 → places_of s space ≡ p ∷ [] → places_of t space ≡ q ∷ [] → p.page ≡ q.page → s ≡ t
-  pub used : (slot : ℕ) (p : Place) → slot < 4096 → places_of slot space ≡ p ∷ [] → ¬ Contains free p.page
+  pub apart : (s t : ℕ) (p q : Place) → s < series_slots → t < series_slots → places_of s space ≡ p ∷ [] → places_of t space ≡ q ∷ [] → p.page ≡ q.page → s ≡ t
+  pub used : (slot : ℕ) (p : Place) → slot < series_slots → places_of slot space ≡ p ∷ [] → ¬ Contains free p.page
   pub different : AllPairs (λ a b. a ≢ b) free
-  pub all : length free + used_of space ≡ count - 930
+  pub all : length free + used_of space ≡ count - first_element_page
 
 -- all that holds of what is kept, on every volume
 pub record AreKept (d : Definitions) (space : Directory) (free : List ℕ) (count : ℕ) : Type 0 where
-  pub some : 931 ≤ count
-  pub most : count ≤ 66466
-  pub sound : AreSound (count - 930) d
+  pub some : first_element_page + 1 ≤ count
+  pub most : count ≤ first_element_page + most_element_pages
+  pub sound : AreSound (count - first_element_page) d
   pub placed : ArePlaced d space free count
   pub quotas : KeepQuotas d space

@@ -6,7 +6,9 @@ use Rattle.ts_row.specs.declared.kind.ColumnKind.{ColumnKind}
 use Rattle.ts_row.specs.declared.kind.ColumnKind.TheVariants.{SmallInt, Integer, BigInt, Decimal, VarChar}
 use Rattle.ts_row.specs.declared.kind.Column.{Column}
 use Rattle.ts_row.specs.RowType.{Heading}
+use Rattle.ts_page.specs.Volume.{page_size}
 use Rattle.ts_page.specs.Head.{zero_page}
+use Rattle.ts_model.specs.Definitions.{container_slots, series_slots}
 use Rattle.ts_layout.specs.declared.place.Slots.{Slots}
 use Rattle.ts_model.specs.declared.kind.Kind.{Kind}
 use Rattle.ts_model.specs.declared.kind.Kind.TheVariants as kinds
@@ -33,6 +35,7 @@ kind_bytes (VarChar most) = 5 ∷ most ∷ 0 ∷ []
 abbrev pub column_bytes : Column → List ℕ
 column_bytes c = kind_bytes c.kind ++ name_bytes c.name
 
+-- all of them, one after the other
 abbrev pub columns_bytes : List Column → List ℕ
 columns_bytes columns = flat_map column_bytes columns
 
@@ -56,39 +59,62 @@ def_bytes (defs.RowType name kind) = row_type_bytes name kind
 def_bytes (defs.Container name row_type quota) = container_bytes name row_type quota
 def_bytes (defs.Series key container) = series_bytes key container
 
+-- The definition pages: those of row types, one each; those of no kind yet; one of all containers; those of series, so many in each.
+abbrev pub first_definition_page : ℕ
+first_definition_page = 257
+
+abbrev pub first_unused_page : ℕ
+first_unused_page = 321
+
+abbrev pub container_page : ℕ
+container_page = 833
+
+abbrev pub first_series_page : ℕ
+first_series_page = 834
+
+abbrev pub series_in_page : ℕ
+series_in_page = 43
+
+-- the bytes of a container, and of a series
+abbrev pub container_size : ℕ
+container_size = 60
+
+abbrev pub series_size : ℕ
+series_size = 94
+
 -- the bytes of a slot of a kind
 abbrev pub slot_size : Kind → ℕ
-slot_size kinds.RowType = 4096
-slot_size kinds.Container = 60
-slot_size kinds.Series = 94
+slot_size kinds.RowType = page_size
+slot_size kinds.Container = container_size
+slot_size kinds.Series = series_size
 
 -- a slot of a kind: empty, or with a definition
 abbrev pub slot_bytes : Kind → Option Def → List ℕ
 slot_bytes kinds.RowType None = zero_page
-slot_bytes kinds.Container None = replicate 60 0
-slot_bytes kinds.Series None = replicate 94 0
+slot_bytes kinds.Container None = replicate container_size 0
+slot_bytes kinds.Series None = replicate series_size 0
 slot_bytes kind (Some def) = def_bytes def
 
 -- the page of a slot: row types have one each from page 257 on, containers share page 833, and of series 43 stand in
 -- each page from 834 on
 abbrev pub page_of_slot : Kind → ℕ → ℕ
-page_of_slot kinds.RowType slot = 257 + slot
-page_of_slot kinds.Container slot = 833
-page_of_slot kinds.Series slot = 834 + slot / 43
+page_of_slot kinds.RowType slot = first_definition_page + slot
+page_of_slot kinds.Container slot = container_page
+page_of_slot kinds.Series slot = first_series_page + slot / series_in_page
 
 -- the first byte of a slot in its page
 abbrev pub byte_of_slot : Kind → ℕ → ℕ
 byte_of_slot kinds.RowType slot = 0
-byte_of_slot kinds.Container slot = 60 * slot
-byte_of_slot kinds.Series slot = 94 * (slot % 43)
+byte_of_slot kinds.Container slot = container_size * slot
+byte_of_slot kinds.Series slot = series_size * (slot % series_in_page)
 
 -- the slots that stand in a definition page, from its first byte on; in the pages 321 to 832 there are none
 abbrev pub slots_in_page : ℕ → Slots
 slots_in_page number =
-    if nat_lt number 321 then record { kind = kinds.RowType; first = number - 257; count = 1 }
-    else (if nat_lt number 833 then record { kind = kinds.RowType; first = 0; count = 0 }
-    else (if number == 833 then record { kind = kinds.Container; first = 0; count = 64 }
-    else record { kind = kinds.Series; first = 43 * (number - 834); count = min 43 (4096 - 43 * (number - 834)) }))
+    if nat_lt number first_unused_page then record { kind = kinds.RowType; first = number - first_definition_page; count = 1 }
+    else (if nat_lt number container_page then record { kind = kinds.RowType; first = 0; count = 0 }
+    else (if number == container_page then record { kind = kinds.Container; first = 0; count = container_slots }
+    else record { kind = kinds.Series; first = series_in_page * (number - first_series_page); count = min series_in_page (series_slots - series_in_page * (number - first_series_page)) }))
 
 -- how many bytes of a definition page are slots
 abbrev pub bytes_of_slots : Slots → ℕ
@@ -96,4 +122,4 @@ bytes_of_slots on = slot_size on.kind * on.count
 
 -- the header of a volume: the word `TSVOLUME`, the format 1, the number of element pages
 unfoldable pub header_bytes : ℕ → List ℕ
-header_bytes pages = padded 4096 (codes "TSVOLUME" ++ (1 ∷ to_be_bytes w32 pages))
+header_bytes pages = padded page_size (codes "TSVOLUME" ++ (1 ∷ to_be_bytes w32 pages))

@@ -1,8 +1,10 @@
 -- What is kept in memory of a volume: its definitions, the directory of its pages and its free pages.
 use Rattle.std.specs.Prelude.{◌≡◌, ℕ, suc, ◌<◌, ◌==◌, if◌then◌else◌, List, [], ◌∷◌, ◌++◌}
+use Rattle.ts_page.specs.Volume.{first_element_page}
 use Rattle.ts_space.specs.declared.place.Place.{Place}
 pub use Rattle.ts_space.specs.Place.{place_of}
 use Rattle.ts_space.specs.Directory.{Directory, places_of}
+use Rattle.ts_model.specs.Definitions.{series_slots}
 use Rattle.ts_layout.specs.Meaning.{ElementPage, Free, Cells, Layout}
 
 -- the place of a page, if it has elements of the series in a slot
@@ -23,8 +25,8 @@ free_from first (Cells s es ∷ rest) = free_from (suc first) rest
 
 -- the directory lists for each series exactly its pages
 abbrev pub ListsPlaces : Directory → Layout → Type 0
-ListsPlaces space l = (slot : ℕ) → slot < 4096 → places_of slot space ≡ places_from slot 930 l.element_pages
+ListsPlaces space l = (slot : ℕ) → slot < series_slots → places_of slot space ≡ places_from slot first_element_page l.element_pages
 
 -- all free pages, the first one first
 abbrev pub free_pages : Layout → List ℕ
-free_pages l = free_from 930 l.element_pages
+free_pages l = free_from first_element_page l.element_pages

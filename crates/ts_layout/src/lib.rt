@@ -20,11 +20,9 @@ pub use free_laws::{
     free_pages_are_taken_and_freed, pages_are_free_or_placed, the_places_of_other_series_stay,
 };
 pub use laws::{
-    a_container_is_created, a_container_is_dropped, a_container_is_used_by_its_slot,
-    a_journal_and_freed_bytes_mean_nothing, a_row_type_is_created, a_row_type_is_dropped,
-    a_row_type_is_used_by_its_slot, a_series_is_created, a_written_slot_changes_definitions_alone,
-    containers_stand_in_slots, pages_mean_one_catalogue, references_are_names,
-    row_types_stand_in_slots, series_stand_in_slots, slots_are_counted,
+    a_definition_is_dropped, a_definition_is_made, a_definition_is_used_by_its_slot,
+    a_journal_and_freed_bytes_mean_nothing, a_written_slot_changes_definitions_alone,
+    names_stand_in_slots, pages_mean_one_catalogue, references_are_names, slots_are_counted,
 };
 pub use memory_laws::{
     a_layout_is_kept, a_series_is_dropped_with_its_place, places_and_free_pages_stay_apart,

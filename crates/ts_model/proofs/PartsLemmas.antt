@@ -1,88 +1,123 @@
 -- The definitions as three tables: what each is of the whole, and what a slot of one changes.
-use Rattle.std.proofs.Common.{◌≡◌, ℕ, zero, suc, ◌<◌, Bool, Option, Some, None, List, [], ◌∷◌, length, set, map, replicate, inl, inr, refl, ap, sym, ◌∙◌, subst, arith, length-set, set-set}
+use Rattle.std.proofs.Common.{◌≡◌, ℕ, zero, suc, ◌<◌, Bool, Option, Some, None, List, [], ◌∷◌, length, set, map, replicate, inl, inr, ◌⊎◌, refl, ap, sym, ◌∙◌, subst, arith, length-set, set-set}
 use Rattle.std.proofs.lemmas.List.{length-map, length-replicate}
 use Rattle.std.specs.Option.{IfSome, option_map, option_and_then}
 use Rattle.ts_model.specs.declared.def.Def.{Def}
 use Rattle.ts_model.specs.declared.def.Def.TheVariants as defs
 use Rattle.ts_model.specs.declared.kind.Kind.{Kind}
 use Rattle.ts_model.specs.declared.kind.Kind.TheVariants as kinds
-use Rattle.ts_model.specs.Definitions.{RowTypeDef, ContainerDef, SeriesDef, at_slot, name_of, kind_of, as_row_type, as_container, as_series, of_row_type, of_container, of_series, limit, IsTable, IsNewName}
+use Rattle.ts_model.specs.Definitions.{Definitions, KindDef, at_slot, name_of, name_in, kind_of, to_def, from_def, table_of, with_table, def_at, limit, no_definitions, IsTable, IsNewName, IsDefinitions}
 use Rattle.ts_model.specs.Table.{Slots, AreApart}
-use Rattle.ts_model.specs.Parts.{AreOfKind, IsPart}
+use Rattle.ts_model.specs.Parts.{tables_of, AreOfKind, IsPart, AreParts}
 use Rattle.ts_model.proofs.SlotLemmas.{some≢none, find-missing}
 use Rattle.ts_model.proofs.TableLemmas.{slot_of-find, new-name, apart-clear, apart-fill, at-filled, at-other, none-in}
 
 same-def : (a b : Def) → Some a ≡ Some b → a ≡ b
 same-def a b e = cc
 
-module _ {A : Type 0} (kind : Kind) (read : Def → Option A) (write : A → Def) (back : (d : Def) → kind_of d ≡ kind → option_map write (read d) ≡ Some d) where
+-- a definition as one of its kind, and back
+back-own : (d : Def) → option_map (to_def (kind_of d)) (from_def (kind_of d) d) ≡ Some d
+back-own (defs.RowType name kind) = refl
+back-own (defs.Container name row_type quota) = refl
+back-own (defs.Series key container) = refl
+
+pub back : (kind : Kind) (d : Def) → kind_of d ≡ kind → option_map (to_def kind) (from_def kind d) ≡ Some d
+back kind d is = subst (λ (k : Kind). option_map (to_def k) (from_def k d) ≡ Some d) is (back-own d)
+
+-- one of a kind as a definition, and back
+pub forth : (kind : Kind) (a : KindDef kind) → from_def kind (to_def kind a) ≡ Some a
+forth kinds.RowType a = refl
+forth kinds.Container a = refl
+forth kinds.Series a = refl
+
+-- the tables of kinds, of which one is another
+pub table-here : (kind : Kind) (table : List (Option (KindDef kind))) (d : Definitions) → table_of kind (with_table kind table d) ≡ table
+table-here kinds.RowType table d = refl
+table-here kinds.Container table d = refl
+table-here kinds.Series table d = refl
+
+pub table-other : (kind other : Kind) (table : List (Option (KindDef kind))) (d : Definitions) → (other ≡ kind → ⊥) → table_of other (with_table kind table d) ≡ table_of other d
+table-other kinds.RowType kinds.RowType table d differs = absurd (differs refl)
+table-other kinds.RowType kinds.Container table d differs = refl
+table-other kinds.RowType kinds.Series table d differs = refl
+table-other kinds.Container kinds.RowType table d differs = refl
+table-other kinds.Container kinds.Container table d differs = absurd (differs refl)
+table-other kinds.Container kinds.Series table d differs = refl
+table-other kinds.Series kinds.RowType table d differs = refl
+table-other kinds.Series kinds.Container table d differs = refl
+table-other kinds.Series kinds.Series table d differs = absurd (differs refl)
+
+-- a kind is another one or the same
+pub same_or_other : (a b : Kind) → (a ≡ b) ⊎ (a ≡ b → ⊥)
+same_or_other kinds.RowType kinds.RowType = inl refl
+same_or_other kinds.RowType kinds.Container = inr (λ same. cc)
+same_or_other kinds.RowType kinds.Series = inr (λ same. cc)
+same_or_other kinds.Container kinds.RowType = inr (λ same. cc)
+same_or_other kinds.Container kinds.Container = inl refl
+same_or_other kinds.Container kinds.Series = inr (λ same. cc)
+same_or_other kinds.Series kinds.RowType = inr (λ same. cc)
+same_or_other kinds.Series kinds.Container = inr (λ same. cc)
+same_or_other kinds.Series kinds.Series = inl refl
+
+-- the rules of each table, and of all
+pub table-rules : (d : Definitions) → IsDefinitions d → (kind : Kind) → IsTable (name_in kind) (limit kind) (table_of kind d)
+table-rules d rules kinds.RowType = rules.row_types
+table-rules d rules kinds.Container = rules.containers
+table-rules d rules kinds.Series = rules.series
+
+pub all-rules : (d : Definitions) → ((kind : Kind) → IsTable (name_in kind) (limit kind) (table_of kind d)) → IsDefinitions d
+all-rules d each = record { row_types = each kinds.RowType; containers = each kinds.Container; series = each kinds.Series }
+
+-- tables are one by one those of definitions
+pub all-tables : (d e : Definitions) → ((kind : Kind) → table_of kind d ≡ table_of kind e) → d ≡ e
+all-tables d e each = λ i. record { row_types = each kinds.RowType i; containers = each kinds.Container i; series = each kinds.Series i }
+
+-- a table of definitions of one kind, read as the kind's own
+module _ (kind : Kind) where
+  abbrev pub own-table : List (Option Def) → List (Option (KindDef kind))
+  own-table table = map (option_and_then (from_def kind)) table
+
   of-kind-rest : (x : Option Def) (table : List (Option Def)) → AreOfKind kind (x ∷ table) → AreOfKind kind table
   of-kind-rest x table all i def here = all (suc i) def here
 
-  -- what is read of a table of one kind is written as the same table
-  pub read-back : (table : List (Option Def)) → AreOfKind kind table → map (option_map write) (map (option_and_then read) table) ≡ table
+  -- what is read is written as the same table
+  pub read-back : (table : List (Option Def)) → AreOfKind kind table → map (option_map (to_def kind)) (own-table table) ≡ table
   read-back [] all = refl
   read-back (None ∷ table) all = ap (λ (l : List (Option Def)). None ∷ l) (read-back table (of-kind-rest None table all))
-  read-back (Some d ∷ table) all = λ i. back d (all 0 d refl) i ∷ read-back table (of-kind-rest (Some d) table all) i
+  read-back (Some d ∷ table) all = λ i. back kind d (all 0 d refl) i ∷ read-back table (of-kind-rest (Some d) table all) i
 
-module _ {A : Type 0} (read : Def → Option A) where
-  at-read : (table : List (Option Def)) (i : ℕ) → at_slot i (map (option_and_then read) table) ≡ option_and_then read (at_slot i table)
+  at-read : (table : List (Option Def)) (i : ℕ) → at_slot i (own-table table) ≡ option_and_then (from_def kind) (at_slot i table)
   at-read [] i = refl
   at-read (x ∷ table) zero = refl
   at-read (x ∷ table) (suc i) = at-read table i
 
-  some-read : (o : Option Def) (a : A) → option_and_then read o ≡ Some a → (d : Def) × (o ≡ Some d) × (read d ≡ Some a)
+  some-read : (o : Option Def) (a : KindDef kind) → option_and_then (from_def kind) o ≡ Some a → (d : Def) × (o ≡ Some d) × (from_def kind d ≡ Some a)
   some-read None a h = absurd (some≢none a (sym h))
   some-read (Some d) a h = (d, refl, h)
 
-  -- no name twice, of what is read of a table
-  pub read-table : (name : A → List ℕ) (count : ℕ) (table : List (Option Def)) → ((d : Def) (a : A) → read d ≡ Some a → name_of d ≡ name a) → IsTable name_of count table → IsTable name count (map (option_and_then read) table)
-  read-table name count table names rules = record {
-    size = length-map table (option_and_then read) ∙ rules.size;
+  -- what is read has the same name
+  read-name : (d : Def) (a : KindDef kind) → kind_of d ≡ kind → from_def kind d ≡ Some a → name_of d ≡ name_in kind a
+  read-name d a is h = ap name_of (same-def d (to_def kind a) (sym (back kind d is) ∙ ap (option_map (to_def kind)) h))
+
+  -- no name twice, of what is read
+  pub read-table : (count : ℕ) (table : List (Option Def)) → AreOfKind kind table → IsTable name_of count table → IsTable (name_in kind) count (own-table table)
+  read-table count table all rules = record {
+    size = length-map table (option_and_then (from_def kind)) ∙ rules.size;
     apart = λ i j a b here there same.
         let first = some-read (at_slot i table) a (sym (at-read table i) ∙ here) in
         let second = some-read (at_slot j table) b (sym (at-read table j) ∙ there) in
-        rules.apart i j first.0 second.0 first.1 second.1 (names first.0 a first.2 ∙ same ∙ sym (names second.0 b second.2));
+        rules.apart i j first.0 second.0 first.1 second.1
+        (read-name first.0 a (all i first.0 first.1) first.2 ∙ same ∙ sym (read-name second.0 b (all j second.0 second.1) second.2));
   }
 
-  pub read-set : (table : List (Option Def)) (i : ℕ) (x : Option Def) → map (option_and_then read) (set table i x) ≡ set (map (option_and_then read) table) i (option_and_then read x)
+  pub read-set : (table : List (Option Def)) (i : ℕ) (x : Option Def) → own-table (set table i x) ≡ set (own-table table) i (option_and_then (from_def kind) x)
   read-set [] i x = refl
   read-set (y ∷ table) zero x = refl
-  read-set (y ∷ table) (suc i) x = ap (λ (l : List (Option A)). option_and_then read y ∷ l) (read-set table i x)
+  read-set (y ∷ table) (suc i) x = ap (λ (l : List (Option (KindDef kind))). option_and_then (from_def kind) y ∷ l) (read-set table i x)
 
-  pub read-none : (n : ℕ) → map (option_and_then read) (replicate n None) ≡ replicate n None
+  pub read-none : (n : ℕ) → own-table (replicate n None) ≡ replicate n None
   read-none zero = refl
-  read-none (suc n) = ap (λ (l : List (Option A)). None ∷ l) (read-none n)
-
-pub row_type-back : (d : Def) → kind_of d ≡ kinds.RowType → option_map of_row_type (as_row_type d) ≡ Some d
-row_type-back (defs.RowType name kind) h = refl
-row_type-back (defs.Container name row_type quota) h = absurd (cc)
-row_type-back (defs.Series key container) h = absurd (cc)
-
-pub container-back : (d : Def) → kind_of d ≡ kinds.Container → option_map of_container (as_container d) ≡ Some d
-container-back (defs.RowType name kind) h = absurd (cc)
-container-back (defs.Container name row_type quota) h = refl
-container-back (defs.Series key container) h = absurd (cc)
-
-pub series-back : (d : Def) → kind_of d ≡ kinds.Series → option_map of_series (as_series d) ≡ Some d
-series-back (defs.RowType name kind) h = absurd (cc)
-series-back (defs.Container name row_type quota) h = absurd (cc)
-series-back (defs.Series key container) h = refl
-
-pub row_type-name : (d : Def) (r : RowTypeDef) → as_row_type d ≡ Some r → name_of d ≡ r.name
-row_type-name (defs.RowType name kind) r h = ap (λ (o : Option RowTypeDef). elim o [ Some x ↦ x.name | None ↦ name ]) h
-row_type-name (defs.Container name row_type quota) r h = absurd (cc)
-row_type-name (defs.Series key container) r h = absurd (cc)
-
-pub container-name : (d : Def) (r : ContainerDef) → as_container d ≡ Some r → name_of d ≡ r.name
-container-name (defs.RowType name kind) r h = absurd (cc)
-container-name (defs.Container name row_type quota) r h = ap (λ (o : Option ContainerDef). elim o [ Some x ↦ x.name | None ↦ name ]) h
-container-name (defs.Series key container) r h = absurd (cc)
-
-pub series-name : (d : Def) (r : SeriesDef) → as_series d ≡ Some r → name_of d ≡ r.key
-series-name (defs.RowType name kind) r h = absurd (cc)
-series-name (defs.Container name row_type quota) r h = absurd (cc)
-series-name (defs.Series key container) r h = ap (λ (o : Option SeriesDef). elim o [ Some x ↦ x.key | None ↦ key ]) h
+  read-none (suc n) = ap (λ (l : List (Option (KindDef kind))). None ∷ l) (read-none n)
 
 -- a table of one kind with one slot set
 part-apart : (table : List (Option Def)) (slot : ℕ) (def : Option Def) → slot < length table → AreApart table → IfSome def (λ d. IsNewName (name_of d) slot table) → AreApart (set table slot def)
@@ -121,3 +156,25 @@ part-new kind count room is = record {
     apart = λ i j a b here there same. absurd (some≢none a (sym here ∙ none-in count i));
   };
 }
+
+-- the rules of the tables, as they are kept
+pub parts-rules : (a b c : Slots) → AreParts a b c → IsDefinitions (tables_of a b c).definitions
+parts-rules a b c parts = record {
+  row_types = read-table kinds.RowType 64 a.slots parts.row_types.kinds parts.row_types.rules;
+  containers = read-table kinds.Container 64 b.slots parts.containers.kinds parts.containers.rules;
+  series = read-table kinds.Series 4096 c.slots parts.series.kinds parts.series.rules;
+}
+
+-- where nothing is defined, each table is empty
+pub empty-table : (kind : Kind) → table_of kind no_definitions ≡ replicate (limit kind) None
+empty-table kinds.RowType = refl
+empty-table kinds.Container = refl
+empty-table kinds.Series = refl
+
+none-defined : (kind : Kind) (n slot : ℕ) → at_slot slot (map (option_map (to_def kind)) (replicate n None)) ≡ None
+none-defined kind zero slot = refl
+none-defined kind (suc n) zero = refl
+none-defined kind (suc n) (suc slot) = none-defined kind n slot
+
+pub nothing-defined : (kind : Kind) (slot : ℕ) → def_at kind slot no_definitions ≡ None
+nothing-defined kind slot = ap (λ (t : List (Option (KindDef kind))). at_slot slot (map (option_map (to_def kind)) t)) (empty-table kind) ∙ none-defined kind (limit kind) slot

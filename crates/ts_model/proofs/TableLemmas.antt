@@ -10,7 +10,7 @@ use Rattle.std.specs.FinMap.{find, values, from_entries, len, len-empty, len-ins
 use Rattle.ts_model.specs.Catalogue.{name_cmp}
 use Rattle.ts_model.specs.declared.def.Def.{Def}
 use Rattle.ts_model.specs.Definitions.{at_slot, name_of, slot_of, vacant_slot, slots_by_name, filled_from, IsTable, IsNewName}
-use Rattle.ts_model.specs.Table.{Slots, padded, place_of, lower, IsKept, AreApart}
+use Rattle.ts_model.specs.Table.{Slots, padded, place_of, lower, IsIndexed, AreApart}
 use Rattle.ts_model.proofs.SlotLemmas.{some≢none, find-filled, find-other, find-missing, filled-padded}
 use Rattle.ts_model.proofs.IndexLemmas.{index, index-find, index-slot_of, index-fill, index-clear, index-filled, index-none, index-length, find-position, unshifted}
 use Rattle.ts_model.proofs.VacantLemmas.{vacant-clear, vacant-none}
@@ -123,8 +123,8 @@ apart-fill items slot a within apart new i j b c here there same =
     ]
 
 -- a filled slot is emptied
-pub kept-clear : (count : ℕ) (items : List (Option Def)) (order : List ℕ) (vacant : Option ℕ) (room more slot place : ℕ) (a : Def) → IsKept count items order vacant room → at_slot slot items ≡ Some a → place ≡ place_of (name_of a) (index items) → more ≡ room
-    → IsKept count (set items slot None) (remove order place) (Some (lower vacant slot)) more
+pub kept-clear : (count : ℕ) (items : List (Option Def)) (order : List ℕ) (vacant : Option ℕ) (room more slot place : ℕ) (a : Def) → IsIndexed count items order vacant room → at_slot slot items ≡ Some a → place ≡ place_of (name_of a) (index items) → more ≡ room
+    → IsIndexed count (set items slot None) (remove order place) (Some (lower vacant slot)) more
 kept-clear count items order vacant room more slot place a kept here at same =
     let within = filled-within items slot a here in
     let size = length-set items slot (let o : Option Def = None in o) in
@@ -141,9 +141,9 @@ kept-clear count items order vacant room more slot place a kept here at same =
     }
 
 -- an empty slot is filled
-pub kept-fill : (count : ℕ) (items : List (Option Def)) (order : List ℕ) (vacant lowest : Option ℕ) (room more slot place : ℕ) (a : Def) → IsKept count items order vacant room → length items ≡ count → slot < count → at_slot slot items ≡ None → slot_of (name_of a) (padded count items) ≡ None
+pub kept-fill : (count : ℕ) (items : List (Option Def)) (order : List ℕ) (vacant lowest : Option ℕ) (room more slot place : ℕ) (a : Def) → IsIndexed count items order vacant room → length items ≡ count → slot < count → at_slot slot items ≡ None → slot_of (name_of a) (padded count items) ≡ None
     → place ≡ place_of (name_of a) (index items) → room ≤ more → lowest ≡ vacant_slot (set items slot (Some a))
-    → IsKept count (set items slot (Some a)) (insert order place slot) lowest more
+    → IsIndexed count (set items slot (Some a)) (insert order place slot) lowest more
 kept-fill count items order vacant lowest room more slot place a kept full below empty new at grown low =
     let within : slot < length items = omega (arith, full, below) in
     let size = length-set items slot (Some a) in
@@ -158,7 +158,7 @@ kept-fill count items order vacant lowest room more slot place a kept full below
     }
 
 -- memory is taken for all slots
-pub kept-empty : (count room : ℕ) (order : List ℕ) (vacant : Option ℕ) → count ≤ 4096 → count ≤ room → order ≡ values (slots_by_name []) → vacant ≡ vacant_slot (padded count []) → IsKept count (replicate count None) order vacant room
+pub kept-empty : (count room : ℕ) (order : List ℕ) (vacant : Option ℕ) → count ≤ 4096 → count ≤ room → order ≡ values (slots_by_name []) → vacant ≡ vacant_slot (padded count []) → IsIndexed count (replicate count None) order vacant room
 kept-empty count room order vacant most enough same lowest =
     let all : count - 0 ≡ count = omega arith in
     let full = length-replicate count (let o : Option Def = None in o) in
@@ -172,7 +172,7 @@ kept-empty count room order vacant most enough same lowest =
     }
 
 -- no memory was taken yet
-pub kept-new : (count room : ℕ) → 0 < count → count ≤ 4096 → IsKept count [] [] (Some 0) room
+pub kept-new : (count room : ℕ) → 0 < count → count ≤ 4096 → IsIndexed count [] [] (Some 0) room
 kept-new count room some most = record {
   most = most;
   size = inl refl;

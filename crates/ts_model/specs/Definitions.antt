@@ -1,5 +1,5 @@
 -- The definitions of row types, containers and series, in numbered slots.
-use Rattle.std.specs.Prelude.{◌≡◌, ℕ, ◌+◌, ◌⊎◌, Bool, true, false, List, [], ◌∷◌, length, map, replicate, slice_index_or, slice_set, position, is_none, Option, Some, None, option_map, option_and_then, bytes_eq}
+use Rattle.std.specs.Prelude.{◌≡◌, ℕ, ◌+◌, ◌<◌, ◌⊎◌, Bool, true, false, List, [], ◌∷◌, length, map, replicate, slice_index_or, slice_set, position, is_none, Option, Some, None, option_map, option_and_then, bytes_eq, Contains}
 use Rattle.std.specs.FinMap.{from_entries}
 use Rattle.ts_row.specs.RowType.{Heading}
 use Rattle.ts_model.specs.Catalogue.{Named}
@@ -41,11 +41,21 @@ pub record Tables : Type 0 where
   pub definitions : Definitions
   pub room : Room
 
+-- how many slots there are for row types, for containers and for series
+abbrev pub row_type_slots : ℕ
+row_type_slots = 64
+
+abbrev pub container_slots : ℕ
+container_slots = 64
+
+abbrev pub series_slots : ℕ
+series_slots = 4096
+
 -- how many slots a kind has
 abbrev pub limit : Kind → ℕ
-limit kinds.RowType = 64
-limit kinds.Container = 64
-limit kinds.Series = 4096
+limit kinds.RowType = row_type_slots
+limit kinds.Container = container_slots
+limit kinds.Series = series_slots
 
 -- what a definition defines
 abbrev pub kind_of : Def → Kind
@@ -59,39 +69,88 @@ name_of (defs.RowType name kind) = name
 name_of (defs.Container name row_type quota) = name
 name_of (defs.Series key container) = key
 
--- the definitions of the three kinds as one type, and back
+-- the definitions of a kind
+abbrev pub KindDef : Kind → Type 0
+KindDef kinds.RowType = RowTypeDef
+KindDef kinds.Container = ContainerDef
+KindDef kinds.Series = SeriesDef
+
+-- a row type as a definition of any kind
 abbrev pub of_row_type : RowTypeDef → Def
 of_row_type r = defs.RowType r.name r.heading
 
+-- a container as one
 abbrev pub of_container : ContainerDef → Def
 of_container c = defs.Container c.name c.row_type c.quota
 
+-- a series as one
 abbrev pub of_series : SeriesDef → Def
 of_series s = defs.Series s.key s.container
 
-abbrev pub as_row_type : Def → Option RowTypeDef
-as_row_type (defs.RowType name kind) = Some (record { name = name; heading = kind })
-as_row_type other = None
+-- the same of each kind
+abbrev pub to_def : (kind : Kind) → KindDef kind → Def
+to_def kinds.RowType = of_row_type
+to_def kinds.Container = of_container
+to_def kinds.Series = of_series
 
-abbrev pub as_container : Def → Option ContainerDef
-as_container (defs.Container name row_type quota) = Some (record { name = name; row_type = row_type; quota = quota })
-as_container other = None
+-- a definition as one of the kind, if it is one
+abbrev pub from_def : (kind : Kind) → Def → Option (KindDef kind)
+from_def kinds.RowType (defs.RowType name kind) = Some (record { name = name; heading = kind })
+from_def kinds.RowType other = None
+from_def kinds.Container (defs.Container name row_type quota) = Some (record { name = name; row_type = row_type; quota = quota })
+from_def kinds.Container other = None
+from_def kinds.Series (defs.Series key container) = Some (record { key = key; container = container })
+from_def kinds.Series other = None
 
-abbrev pub as_series : Def → Option SeriesDef
-as_series (defs.Series key container) = Some (record { key = key; container = container })
-as_series other = None
+-- the table of a kind: its slots
+abbrev pub table_of : (kind : Kind) → Definitions → List (Option (KindDef kind))
+table_of kinds.RowType d = d.row_types
+table_of kinds.Container d = d.containers
+table_of kinds.Series d = d.series
 
--- the slots of a kind
+-- the definitions with another table of a kind
+abbrev pub with_table : (kind : Kind) → List (Option (KindDef kind)) → Definitions → Definitions
+with_table kinds.RowType table d = record d { row_types = table }
+with_table kinds.Container table d = record d { containers = table }
+with_table kinds.Series table d = record d { series = table }
+
+-- the name, or the key, of a definition of a kind
+abbrev pub name_in : (kind : Kind) → KindDef kind → List ℕ
+name_in kind a = name_of (to_def kind a)
+
+-- the slots of a kind, as definitions of any
 abbrev pub slots : Kind → Definitions → List (Option Def)
-slots kinds.RowType d = map (option_map of_row_type) d.row_types
-slots kinds.Container d = map (option_map of_container) d.containers
-slots kinds.Series d = map (option_map of_series) d.series
+slots kind d = map (option_map (to_def kind)) (table_of kind d)
+
+-- what stands in a slot
+abbrev pub at_slot : {A : Type 0} → ℕ → List (Option A) → Option A
+at_slot slot table = slice_index_or table slot None
+
+-- what stands in a slot of a kind
+abbrev pub def_at : Kind → ℕ → Definitions → Option Def
+def_at kind slot d = at_slot slot (slots kind d)
+
+-- what a definition refers to: a container to the slot of its row type, a series to that of its container
+abbrev pub references : Def → List (Kind × ℕ)
+references (defs.RowType name kind) = []
+references (defs.Container name row_type quota) = (kinds.RowType, row_type) ∷ []
+references (defs.Series key container) = (kinds.Container, container) ∷ []
+
+-- a definition refers to what stands in a slot of a kind
+abbrev pub Refers : Def → Kind → ℕ → Type 0
+Refers def kind slot = let target : Kind × ℕ = (kind, slot) in Contains (references def) target
+
+-- a definition of some kind refers to it
+abbrev pub IsUsedBy : Kind → Kind → ℕ → Definitions → Type 0
+IsUsedBy user kind slot d = (i : ℕ) × (def : Def) × (i < limit user) × (def_at user i d ≡ Some def) × Refers def kind slot
+
+-- some definition refers to it
+abbrev pub IsUsed : Kind → ℕ → Definitions → Type 0
+IsUsed kind slot d = (user : Kind) × IsUsedBy user kind slot d
 
 -- the definitions with this one, or none, in a slot of a kind, and all other slots as they were
 abbrev pub with_slot : Kind → ℕ → Option Def → Definitions → Definitions
-with_slot kinds.RowType slot def d = record d { row_types = slice_set d.row_types slot (option_and_then as_row_type def) }
-with_slot kinds.Container slot def d = record d { containers = slice_set d.containers slot (option_and_then as_container def) }
-with_slot kinds.Series slot def d = record d { series = slice_set d.series slot (option_and_then as_series def) }
+with_slot kind slot def d = with_table kind (slice_set (table_of kind d) slot (option_and_then (from_def kind) def)) d
 
 -- whether a slot of a kind can be filled without taking memory
 abbrev pub has_room : Kind → Room → Bool
@@ -105,16 +164,13 @@ with_room kinds.RowType room = record room { row_types = true }
 with_room kinds.Container room = record room { containers = true }
 with_room kinds.Series room = record room { series = true }
 
--- nothing defined, and no room
+-- nothing defined
 abbrev pub no_definitions : Definitions
-no_definitions = record { row_types = replicate 64 None; containers = replicate 64 None; series = replicate 4096 None }
+no_definitions = record { row_types = replicate row_type_slots None; containers = replicate container_slots None; series = replicate series_slots None }
 
+-- the same without room
 abbrev pub no_tables : Tables
 no_tables = record { definitions = no_definitions; room = record { row_types = false; containers = false; series = false } }
-
--- what stands in a slot
-abbrev pub at_slot : {A : Type 0} → ℕ → List (Option A) → Option A
-at_slot slot table = slice_index_or table slot None
 
 -- a slot is filled with what has this name
 abbrev pub has_name : List ℕ → Option Def → Bool
@@ -154,6 +210,6 @@ pub record IsTable {A : Type 0} (name : A → List ℕ) (count : ℕ) (table : L
 
 -- the rules that all definitions keep
 pub record IsDefinitions (d : Definitions) : Type 0 where
-  pub row_types : IsTable (λ r. r.name) 64 d.row_types
-  pub containers : IsTable (λ c. c.name) 64 d.containers
-  pub series : IsTable (λ s. s.key) 4096 d.series
+  pub row_types : IsTable (λ r. r.name) row_type_slots d.row_types
+  pub containers : IsTable (λ c. c.name) container_slots d.containers
+  pub series : IsTable (λ s. s.key) series_slots d.series

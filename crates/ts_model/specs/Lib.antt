@@ -1,5 +1,6 @@
 pub mod Catalogue
 pub mod Charge
 pub mod Definitions
+pub mod Kinds
 pub mod Table
 pub mod Parts

@@ -3,16 +3,16 @@ use Rattle.std.specs.Prelude.{◌≡◌, ℕ, List, map, Option, Some, option_an
 use Rattle.ts_model.specs.declared.kind.Kind.{Kind}
 use Rattle.ts_model.specs.declared.kind.Kind.TheVariants as kinds
 use Rattle.ts_model.specs.declared.def.Def.{Def}
-use Rattle.ts_model.specs.Definitions.{Tables, at_slot, kind_of, name_of, as_row_type, as_container, as_series, limit, IsTable}
+use Rattle.ts_model.specs.Definitions.{Tables, at_slot, kind_of, name_of, from_def, limit, IsTable}
 use Rattle.ts_model.specs.Table.{Slots}
 
 -- the definitions that three tables have, and the kinds that they have room for
 abbrev pub tables_of : Slots → Slots → Slots → Tables
 tables_of row_types containers series = record {
   definitions = record {
-    row_types = map (option_and_then as_row_type) row_types.slots;
-    containers = map (option_and_then as_container) containers.slots;
-    series = map (option_and_then as_series) series.slots;
+    row_types = map (option_and_then (from_def kinds.RowType)) row_types.slots;
+    containers = map (option_and_then (from_def kinds.Container)) containers.slots;
+    series = map (option_and_then (from_def kinds.Series)) series.slots;
   };
   room = record { row_types = row_types.room; containers = containers.room; series = series.room };
 }

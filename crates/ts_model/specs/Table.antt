@@ -22,7 +22,7 @@ AreApart items = (i j : ℕ) (a b : Def) → at_slot i items ≡ Some a → at_s
 
 -- what a table of at most 4096 slots keeps: all of them or, before it took memory, none, the numbers of the filled ones
 -- in the order of their names, and the lowest empty one
-pub record IsKept (count : ℕ) (items : List (Option Def)) (order : List ℕ) (vacant : Option ℕ) (capacity : ℕ) : Type 0 where
+pub record IsIndexed (count : ℕ) (items : List (Option Def)) (order : List ℕ) (vacant : Option ℕ) (capacity : ℕ) : Type 0 where
   pub most : count ≤ 4096
   pub size : (length items ≡ 0) ⊎ (length items ≡ count)
   pub apart : AreApart items

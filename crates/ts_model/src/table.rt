@@ -21,13 +21,13 @@ pub(crate) struct Table {
 
 impl Model for Table {
     ghost use Rattle.std.specs.Prelude.{vec_capacity, length, ◌==◌};
-    ghost use Rattle.ts_model.specs.Table.{Slots, padded, IsKept};
+    ghost use Rattle.ts_model.specs.Table.{Slots, padded, IsIndexed};
 
     ghost Value = { Slots };
 
     ghost view = { λ t. record { count = t.count; slots = padded t.count t.slots.items; room = length t.slots.items == t.count } };
 
-    ghost invariant = { λ t. IsKept t.count t.slots.items t.order.items t.vacant (vec_capacity t.order) };
+    ghost invariant = { λ t. IsIndexed t.count t.slots.items t.order.items t.vacant (vec_capacity t.order) };
 }
 
 impl Table {

@@ -1,5 +1,5 @@
 use Rattle.std.proofs.Common.{ℕ, ◌≡◌, ◌-◌, ◌++◌, Some, None, List, length, take, drop, replicate, get_or, sym, ap, ◌∙◌, arith}
-use Rattle.ts_row.specs.RowType.{bad_column}
+use Rattle.ts_row.specs.RowType.{Heading, bad_column, has_long_decimal}
 use Rattle.ts_row.specs.declared.kind.Column.{Column}
 use Rattle.ts_model.specs.declared.def.Def.TheVariants as defs
 use Rattle.ts_layout.specs.Slot.{def_bytes, columns_bytes}
@@ -31,6 +31,17 @@ returns-then-not-branch-clause-found c =
     let count = ap (λ (l : List ℕ). get_or l 67 0) bytes ∙ row_type_count name h (length-name name is.name) (length-name h.stamp is.stamp) in
     let found = c.in_ok-parse_columns.ensures.found h.columns (replicate (4028 - length (columns_bytes h.columns)) 0) (sym count) is.columns (behind_stamp c.args.page.now name h is bytes) in
     absurd (both_ways found.0 c.if-not-branch.true))
+
+pub returns-then-has_long_decimal-clause-found : goal.returns-then-has_long_decimal-clause-found
+returns-then-has_long_decimal-clause-found c =
+    row_types_only (λ def. c.args.page.now ≡ def_bytes def → None ≡ Some def) (λ name h is bytes.
+    let count = ap (λ (l : List ℕ). get_or l 67 0) bytes ∙ row_type_count name h (length-name name is.name) (length-name h.stamp is.stamp) in
+    let stamped = one c.in_ok-stamp.field-0 c.in-Some-2.stamp h.stamp c.in-Some-2.is
+    (c.in_ok-stamp.ensures h.stamp is.stamp (ap (λ (l : List ℕ). take 33 (drop 34 l)) bytes ∙ row_type_stamp name h (length-name name is.name) (length-name h.stamp is.stamp))) in
+    let found = c.in_ok-parse_columns.ensures.found h.columns (replicate (4028 - length (columns_bytes h.columns)) 0) (sym count) is.columns (behind_stamp c.args.page.now name h is bytes) in
+    let columns = found.1 ∙ ap (λ (l : List Column). l ++ h.columns) c.in_ok-columns.ensures.items in
+    let heading : c.in-Ok.kind ≡ h = c.in-Ok.ensures.ok ∙ (λ i. record { stamp = stamped i; columns = columns i }) in
+    absurd (both_ways c.if-has_long_decimal.true (c.has_long_decimal.ensures ∙ ap (λ (g : Heading). has_long_decimal g.columns) heading ∙ is.format)))
 
 pub returns-in-Ok-clause-found : goal.returns-in-Ok-clause-found
 returns-in-Ok-clause-found c =

@@ -1,7 +1,8 @@
 use Rattle.std.proofs.Common.{Ok, sym, subst, ◌∙◌, arith, refl}
 use Rattle.ts_model.specs.Definitions.{Tables, IsDefinitions}
 use Rattle.ts_container.proofs.SurveyLemmas.{reads_more, reads_ok}
-use Rattle.ts_container.proofs.VerdictLemmas.{err_is, sound_err, sound_refused, known_before, rules_of, there_unless, known_apart, not_apart, not_granted}
+use Rattle.ts_model.proofs.PartsLemmas.{parts-rules}
+use Rattle.ts_container.proofs.VerdictLemmas.{err_is, sound_err, sound_refused, known_before, there_unless, known_apart, not_apart, not_granted}
 use Rattle.ts_container.proofs.surveyed.survey_definitions.Goals as goal
 
 pub returns-in_err-repeated-clause-read : goal.returns-in_err-repeated-clause-read
@@ -20,7 +21,7 @@ returns-in-Some-clause-read g c =
     let w = g.P.Pages.contents c.read_definitions.new.pages in
     let d = c.read_definitions.new.defs.definitions in
     let defs = c.in_ok-repeated.ensures.read in
-    let rules = subst (λ (t : Tables). IsDefinitions t.definitions) c.defs.view_is (rules_of _ _ _ c.defs.invariant) in
+    let rules = subst (λ (t : Tables). IsDefinitions t.definitions) c.defs.view_is (parts-rules _ _ _ c.defs.invariant) in
     sound_refused g.P.Pages.tells c.args.count c.in-Some.bad c.in_ok-repeated.repeated u v w c.in_ok-read.ensures.got.call defs.call
     (λ told. not_apart c.args.count u.page d c.in_ok-repeated.repeated c.first_dangling.result (known_before g.P.Pages.tells c.in_ok-repeated.repeated d u v c.in_ok-read.ensures.got.call defs.known told) defs.read.limits rules c.first_dangling.ensures (c.in-Some.ensures.some refl))
 
@@ -32,7 +33,7 @@ returns-then-sum_of_quotas-count-clause-read g c =
     let w = g.P.Pages.contents c.read_definitions.new.pages in
     let d = c.read_definitions.new.defs.definitions in
     let defs = c.in_ok-repeated.ensures.read in
-    let rules = subst (λ (t : Tables). IsDefinitions t.definitions) c.defs.view_is (rules_of _ _ _ c.defs.invariant) in
+    let rules = subst (λ (t : Tables). IsDefinitions t.definitions) c.defs.view_is (parts-rules _ _ _ c.defs.invariant) in
     let nones = c.in_default.ensures.none refl in
     sound_refused g.P.Pages.tells c.args.count 833 c.in_ok-repeated.repeated u v w c.in_ok-read.ensures.got.call defs.call
     (λ told. not_granted c.args.count u.page d (known_apart c.in_ok-repeated.repeated u.page d nones.0 (known_before g.P.Pages.tells c.in_ok-repeated.repeated d u v c.in_ok-read.ensures.got.call defs.known told)) defs.read.limits rules
@@ -45,7 +46,7 @@ returns-clause-read g c =
     let w = g.P.Pages.contents c.read_definitions.new.pages in
     let d = c.read_definitions.new.defs.definitions in
     let defs = c.in_ok-repeated.ensures.read in
-    let rules = subst (λ (t : Tables). IsDefinitions t.definitions) c.defs.view_is (rules_of _ _ _ c.defs.invariant) in
+    let rules = subst (λ (t : Tables). IsDefinitions t.definitions) c.defs.view_is (parts-rules _ _ _ c.defs.invariant) in
     let nones = c.in_default.ensures.none refl in
     record {
       call = reads_more g.P.Pages.tells tt (Ok c.read_definitions.new.defs) u v w c.in_ok-read.ensures.got.call (reads_ok g.P.Pages.tells c.in_ok-repeated.repeated c.read_definitions.new.defs v w defs.call);

@@ -5,21 +5,21 @@ use Rattle.ts_base.specs.declared.refusal.Refusal.TheVariants as refusals
 use Rattle.ts_base.specs.declared.fault.Trouble.{Trouble}
 use Rattle.ts_base.specs.declared.fault.Trouble.TheVariants.{Refused}
 use Rattle.ts_command.specs.declared.command.Command.TheVariants.{TSContainerCreate}
-use Rattle.ts_model.specs.Catalogue.{quotas}
-use Rattle.ts_model.specs.Definitions.{Definitions, slots, slot_of}
-use Rattle.ts_model.specs.declared.kind.Kind.TheVariants.{Container as Containers}
+use Rattle.ts_model.specs.Catalogue.{Container, quotas}
+use Rattle.ts_model.specs.Kinds.{with_named}
+use Rattle.ts_model.specs.Definitions.{Definitions, ContainerDef, slots, slot_of}
+use Rattle.ts_model.specs.declared.kind.Kind.TheVariants.{RowType, Container as Containers}
 use Rattle.ts_model.specs.declared.def.Def.{Def}
 use Rattle.ts_model.specs.declared.def.Def.TheVariants as defs
 use Rattle.ts_layout.specs.Meaning.{Layout, catalogue_of, sum_of_quotas}
-use Rattle.ts_layout.proofs.CallerLemmas.{quotas_same}
+use Rattle.ts_layout.proofs.CallerLemmas.{quotas_same, container_named}
 use Rattle.ts_answer.specs.Answer.{Answered, outcome, carried_out, create_container, within_pages}
 use Rattle.ts_answer.specs.Decided.{DefinesAs}
-use Rattle.ts_answer.specs.Kinds.{with_def}
 use Rattle.ts_answer.specs.Reply.{ok_line}
 use Rattle.ts_answer.specs.Tried.{IsTried}
 use Rattle.ts_answer.specs.View.{IsDefinedBy}
 use Rattle.ts_answer.proofs.CallerLemmas.{goes, stops, no_memory, passes, refuses, comes}
-use Rattle.ts_define.proofs.DefinedLemmas.{defined}
+use Rattle.ts_define.proofs.DefinedLemmas.{defined, named_there}
 use Rattle.ts_define.proofs.containers.new_container.Goals as goal
 
 -- a quota in range
@@ -75,10 +75,13 @@ returns-clause-decision c count pages l by =
     (let name = c.args.name.now in
     let form = c.requires.form in
     let bounds = quota_bounds c.args.quota form.2 form.3 in
-    comes _ _ (subst (λ (x : Def). let a : Answered = (ok_line, with_def (defs.Container name target quota) c.args.row_type.now (catalogue_of l)) in DefinesAs ok_line Containers c.in_ok-slot.slot (Some x) l a)
+    let holder = c.args.row_type.now in
+    let made : ContainerDef = record { name = name; row_type = target; quota = quota } in
+    let value : Container = record { row_type = holder; quota = quota } in
+    comes _ _ (subst (λ (x : Def). let a : Answered = (ok_line, with_named Containers name value (catalogue_of l)) in DefinesAs ok_line Containers c.in_ok-slot.slot (Some x) l a)
     (λ i. defs.Container (sym c.in_ok-copied.ensures i) target (sym size i))
-    (defined ok_line l by.rules by.filled (defs.Container name target quota) c.in_ok-slot.slot c.args.row_type.now free (record { name = form.0; row_type = there.at.within; some = bounds.0; most = bounds.1 }) there.at.is
-    (omega (arith, c.if-sum-pages.false, sum, pages, by.size, all, c.sum_of_quotas-granted.ensures, size)))))))
+    (defined ok_line l by.rules by.filled (defs.Container name target quota) c.in_ok-slot.slot made value refl free (record { name = form.0; row_type = there.at.within; some = bounds.0; most = bounds.1 })
+    (named_there RowType l holder target by.rules there.at.is, tt) (omega (arith, c.if-sum-pages.false, sum, pages, by.size, all, c.sum_of_quotas-granted.ensures, size)) (container_named l made holder there.at.is))))))
 
 pub returns-clause-fits : goal.returns-clause-fits
 returns-clause-fits c =

@@ -1,8 +1,7 @@
 -- No definition before this slot refers to it.
 use Rattle.std.proofs.Common.{◌≡◌, ℕ, ◌<◌, Some}
 use Rattle.ts_model.specs.declared.def.Def.{Def}
-use Rattle.ts_layout.specs.Meaning.{def_at}
-use Rattle.ts_answer.specs.Kinds.{Refers}
+use Rattle.ts_model.specs.Definitions.{def_at, Refers}
 use Rattle.ts_define.proofs.drops.has_user_in.Given as goal
 
 abbrev pub invariant-loop-user : goal.invariant-loop-user

@@ -1,13 +1,13 @@
-use Rattle.std.proofs.Common.{◌≡◌, ℕ, List, [], Some, None, inl, refl, sym, subst}
+use Rattle.std.proofs.Common.{◌≡◌, ℕ, ◌+◌, ◌≤◌, List, Some, None, inl, refl, sym, subst, arith}
 use Rattle.ts_row.specs.RowType.{Heading}
-use Rattle.ts_model.specs.Definitions.{slots, slot_of}
+use Rattle.ts_model.specs.Kinds.{with_named}
+use Rattle.ts_model.specs.Definitions.{RowTypeDef, slots, slot_of}
 use Rattle.ts_model.specs.declared.kind.Kind.TheVariants.{RowType as RowTypes}
 use Rattle.ts_model.specs.declared.def.Def.{Def}
 use Rattle.ts_model.specs.declared.def.Def.TheVariants as defs
 use Rattle.ts_layout.specs.Meaning.{catalogue_of}
 use Rattle.ts_answer.specs.Answer.{Answered, outcome, carried_out, create_row_type}
 use Rattle.ts_answer.specs.Decided.{DefinesAs}
-use Rattle.ts_answer.specs.Kinds.{with_def}
 use Rattle.ts_answer.specs.Reply.{ok_line}
 use Rattle.ts_answer.proofs.CallerLemmas.{goes, stops, no_memory, comes}
 use Rattle.ts_define.proofs.DefinedLemmas.{defined}
@@ -33,9 +33,11 @@ returns-clause-decision c count l by =
     let name = c.args.name.now in
     let heading : Heading = record { stamp = c.args.stamp.now; columns = c.args.columns.now } in
     let form = c.requires.form in
-    comes _ _ (subst (λ (x : Def). let a : Answered = (ok_line, with_def (defs.RowType name heading) [] (catalogue_of l)) in DefinesAs ok_line RowTypes c.in_ok-slot.slot (Some x) l a)
+    let made : RowTypeDef = record { name = name; heading = heading } in
+    comes _ _ (subst (λ (x : Def). let a : Answered = (ok_line, with_named RowTypes name heading (catalogue_of l)) in DefinesAs ok_line RowTypes c.in_ok-slot.slot (Some x) l a)
     (λ i. defs.RowType (sym c.in_ok-copied.ensures i) (sym makes.made i))
-    (defined ok_line l by.rules by.filled (defs.RowType name heading) c.in_ok-slot.slot [] free (record { name = form.0; stamp = form.1; columns = all_names c.args.columns.now form.3; rules = makes.rules }) tt tt))))
+    (defined ok_line l by.rules by.filled (defs.RowType name heading) c.in_ok-slot.slot made heading refl free (record { name = form.0; stamp = form.1; columns = all_names c.args.columns.now form.3; rules = makes.rules; format = makes.format }) tt
+    (omega (arith, by.rules.definitions.quotas)) refl))))
 
 pub returns-clause-fits : goal.returns-clause-fits
 returns-clause-fits c =

@@ -1,14 +1,17 @@
-use Rattle.std.proofs.Common.{◌≡◌, ℕ, List, Some, None, inl, refl, sym, subst}
-use Rattle.ts_model.specs.Definitions.{slots, slot_of}
-use Rattle.ts_model.specs.declared.kind.Kind.TheVariants.{Series as AllSeries}
+use Rattle.std.proofs.Common.{◌≡◌, ℕ, ◌+◌, ◌≤◌, List, Some, None, inl, refl, sym, subst, arith}
+use Rattle.std.specs.FinMap.{empty}
+use Rattle.ts_model.specs.Catalogue.{Series}
+use Rattle.ts_model.specs.Kinds.{with_named}
+use Rattle.ts_model.specs.Definitions.{SeriesDef, slots, slot_of}
+use Rattle.ts_model.specs.declared.kind.Kind.TheVariants.{Container, Series as AllSeries}
 use Rattle.ts_model.specs.declared.def.Def.TheVariants as defs
 use Rattle.ts_layout.specs.Meaning.{catalogue_of}
+use Rattle.ts_layout.proofs.CallerLemmas.{series_named, vacant_found}
 use Rattle.ts_answer.specs.Answer.{Answered, outcome, carried_out, create_irregular}
 use Rattle.ts_answer.specs.Decided.{DefinesAs}
-use Rattle.ts_answer.specs.Kinds.{with_def}
 use Rattle.ts_answer.specs.Reply.{ok_line}
 use Rattle.ts_answer.proofs.CallerLemmas.{goes, stops, no_memory, comes}
-use Rattle.ts_define.proofs.DefinedLemmas.{defined}
+use Rattle.ts_define.proofs.DefinedLemmas.{defined, named_there, no_page}
 use Rattle.ts_define.proofs.series.new_series.Goals as goal
 
 pub returns-in_err-target-clause-decision : goal.returns-in_err-target-clause-decision
@@ -28,9 +31,15 @@ unfolding outcome carried_out create_irregular
 returns-clause-decision c count l by =
     goes _ c.in_ok-target.target (c.in_ok-target.ensures.tried count l by) (λ container there. goes _ c.in_ok-slot.slot (c.in_ok-slot.ensures.tried count l by) (λ new free.
     let key = c.args.key.now in
+    let holder = c.args.container.now in
     let target = c.in_ok-target.target in
-    comes _ _ (subst (λ (x : List ℕ). let a : Answered = (ok_line, with_def (defs.Series key target) c.args.container.now (catalogue_of l)) in DefinesAs ok_line AllSeries c.in_ok-slot.slot (Some (defs.Series x target)) l a) (sym c.in_ok-copied.ensures)
-    (defined ok_line l by.rules by.filled (defs.Series key target) c.in_ok-slot.slot c.args.container.now free (record { key = c.requires.form.0; container = there.at.within }) there.at.is tt))))
+    let slot = c.in_ok-slot.slot in
+    let made : SeriesDef = record { key = key; container = target } in
+    let value : Series = record { container = holder; elements = empty } in
+    let none = no_page slot l by.filled (vacant_found AllSeries slot l by.rules free.lowest).1 in
+    comes _ _ (subst (λ (x : List ℕ). let a : Answered = (ok_line, with_named AllSeries key value (catalogue_of l)) in DefinesAs ok_line AllSeries slot (Some (defs.Series x target)) l a) (sym c.in_ok-copied.ensures)
+    (defined ok_line l by.rules by.filled (defs.Series key target) slot made value refl free (record { key = c.requires.form.0; container = there.at.within }) (named_there Container l holder target by.rules there.at.is, tt)
+    (omega (arith, by.rules.definitions.quotas)) (series_named l slot made holder none there.at.is)))))
 
 pub returns-clause-fits : goal.returns-clause-fits
 returns-clause-fits c =

@@ -1,6 +1,6 @@
 use Rattle.std.proofs.Common.{◌≡◌, ℕ, None, false, replicate, ap, sym, subst, ◌∙◌}
 use Rattle.ts_model.specs.declared.kind.Kind.TheVariants as kinds
-use Rattle.ts_model.specs.Definitions.{as_row_type, as_container, as_series, no_tables}
+use Rattle.ts_model.specs.Definitions.{no_tables}
 use Rattle.ts_model.specs.Table.{Slots}
 use Rattle.ts_model.specs.Parts.{tables_of, IsPart}
 use Rattle.ts_model.proofs.PartsLemmas.{part-new, read-none}
@@ -11,7 +11,7 @@ empty count = record { count = count; slots = replicate count None; room = false
 
 empty-tables : tables_of (empty 64) (empty 64) (empty 4096) ≡ no_tables
 empty-tables = λ i. record {
-  definitions = record { row_types = read-none as_row_type 64 i; containers = read-none as_container 64 i; series = read-none as_series 4096 i };
+  definitions = record { row_types = read-none kinds.RowType 64 i; containers = read-none kinds.Container 64 i; series = read-none kinds.Series 4096 i };
   room = record { row_types = false; containers = false; series = false };
 }
 

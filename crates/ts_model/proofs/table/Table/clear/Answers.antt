@@ -3,7 +3,7 @@ use Rattle.std.specs.Option.{option_copied}
 use Rattle.std.specs.List.{remove}
 use Rattle.std.specs.Vec.{vec_capacity}
 use Rattle.ts_model.specs.Definitions.{at_slot, name_of}
-use Rattle.ts_model.specs.Table.{Slots, place_of, IsKept, AreApart}
+use Rattle.ts_model.specs.Table.{Slots, place_of, IsIndexed, AreApart}
 use Rattle.ts_model.proofs.IndexLemmas.{index, index-length, index-place}
 use Rattle.ts_model.proofs.TableLemmas.{at-padded, padded-table, kept-clear}
 use Rattle.ts_model.proofs.table.Table.clear.Goals as goal
@@ -25,8 +25,8 @@ invariant_of-self c =
     let here : at_slot c.args.slot items ≡ Some def = sym (at-padded c.self.inside.count items c.args.slot) ∙ ap (λ (t : Slots). at_slot c.args.slot t.slots) c.self.view_is ∙ sym c.get.ensures ∙ ap option_copied c.in-Some.is in
     let place : c.place_in-place.result ≡ place_of (name_of def) (index items) = c.place_in-place.ensures.place ∙ (λ i. place_of (c.name.ensures i) (index (c.as_slice.ensures.value i))) in
     let kept = kept-clear c.self.inside.count items c.self.inside.order.items c.self.inside.vacant (vec_capacity c.self.inside.order) (vec_capacity c.remove.new.self) c.args.slot c.place_in-place.result def c.self.invariant here place c.remove.ensures.capacity in
-    subst (λ (order : List ℕ). IsKept c.self.inside.count (set items c.args.slot None) order (Some c.lower.result) (vec_capacity c.remove.new.self)) (sym c.remove.ensures.items)
-    (subst (λ (n : ℕ). IsKept c.self.inside.count (set items c.args.slot None) (remove c.self.inside.order.items c.place_in-place.result) (Some n) (vec_capacity c.remove.new.self)) (sym c.lower.ensures) kept)
+    subst (λ (order : List ℕ). IsIndexed c.self.inside.count (set items c.args.slot None) order (Some c.lower.result) (vec_capacity c.remove.new.self)) (sym c.remove.ensures.items)
+    (subst (λ (n : ℕ). IsIndexed c.self.inside.count (set items c.args.slot None) (remove c.self.inside.order.items c.place_in-place.result) (Some n) (vec_capacity c.remove.new.self)) (sym c.lower.ensures) kept)
 
 pub returns-clause-apart : goal.returns-clause-apart
 returns-clause-apart c =

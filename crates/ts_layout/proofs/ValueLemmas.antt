@@ -1,0 +1,119 @@
+-- What definitions are in the catalogue, by names in place of slots; and series and containers without elements.
+use Rattle.std.specs.Prelude.{Contains}
+use Rattle.std.proofs.Common.{◌≡◌, ◌≢◌, ℕ, zero, suc, ◌+◌, ◌≤◌, ◌==◌, Bool, true, false, if◌then◌else◌, Option, Some, None, List, [], ◌∷◌, ◌++◌, map, length, set, refl, sym, ap, subst, ◌∙◌, arith, add-zero, lit≤}
+use Rattle.std.specs.Option.{option_map, option_and_then, unwrap_or}
+use Rattle.std.specs.FinMap.{insert, remove, empty, from_entries}
+use Rattle.std.specs.Ordering.{int_cmp}
+use Rattle.std.proofs.lemmas.Bool.Decides.{nat_tests}
+use Rattle.ts_space.specs.Charge.{irregular_charge}
+use Rattle.ts_cells.specs.Cell.{Element}
+use Rattle.ts_model.specs.declared.kind.Kind.{Kind}
+use Rattle.ts_model.specs.declared.kind.Kind.TheVariants as kinds
+use Rattle.ts_model.specs.declared.def.Def.{Def}
+use Rattle.ts_model.specs.Catalogue.{Container, Series}
+use Rattle.ts_model.specs.Kinds.{In, with_named, without}
+use Rattle.ts_model.specs.Definitions.{Definitions, RowTypeDef, ContainerDef, SeriesDef, KindDef, to_def, table_of, name_of, slot_of, at_slot, Refers}
+use Rattle.ts_layout.specs.Meaning.{Layout, ElementPage, Free, Cells, elements_on, elements_of, elements_at, sum_filled, charge_of_series, name_at, container_of, series_of, value_of, named_in, catalogue_of}
+use Rattle.ts_layout.specs.Changed.{HasNoPage}
+use Rattle.ts_layout.proofs.FilledLemmas.{slot_there}
+use Rattle.ts_layout.proofs.ReferLemmas.{first_of}
+
+-- the name of what stands in a slot
+pub same_name_at : {A : Type 0} (name : A → List ℕ) (slot : ℕ) (table table' : List (Option A)) → at_slot slot table ≡ at_slot slot table' → name_at name slot table ≡ name_at name slot table'
+same_name_at {A} name slot table table' same = ap (λ (o : Option A). unwrap_or (option_map name o) []) same
+
+-- the name of what stands in the slot that has it
+pub name_there : {A : Type 0} (name : A → List ℕ) (f : A → Def) (named : (a : A) → name_of (f a) ≡ name a) (table : List (Option A)) (q : List ℕ) (slot : ℕ) → slot_of q (map (option_map f) table) ≡ Some slot → name_at name slot table ≡ q
+name_there {A} name f named table q slot is =
+    let there = slot_there name f named table q slot is in
+    ap (λ (o : Option A). unwrap_or (option_map name o) []) there.1 ∙ there.2
+
+-- a definition is the same in the catalogue where what it refers to is the same
+pub same_value : (kind : Kind) (l : Layout) (d : Definitions) (i : ℕ) (a : KindDef kind) → ((target : Kind) (at : ℕ) → Refers (to_def kind a) target at → at_slot at (table_of target d) ≡ at_slot at (table_of target l.definitions))
+    → value_of kind (record l { definitions = d }) i a ≡ value_of kind l i a
+same_value kinds.RowType l d i r same = refl
+same_value kinds.Container l d i c same =
+    λ j. record {
+      row_type = same_name_at (λ (r : RowTypeDef). r.name) c.row_type d.row_types l.definitions.row_types (same kinds.RowType c.row_type (first_of (kinds.RowType, c.row_type) (kinds.RowType, c.row_type) [] refl)) j;
+      quota = c.quota;
+    }
+same_value kinds.Series l d i s same =
+    λ j. record {
+      container = same_name_at (λ (c : ContainerDef). c.name) s.container d.containers l.definitions.containers (same kinds.Container s.container (first_of (kinds.Container, s.container) (kinds.Container, s.container) [] refl)) j;
+      elements = elements_at i l.element_pages;
+    }
+
+-- a catalogue of which the names of one kind change
+pub catalogue_with : (kind : Kind) (name : List ℕ) (value : In kind) (l l' : Layout) → l'.element_pages ≡ l.element_pages → named_in kind l' ≡ insert (named_in kind l) name value → ((k : Kind) → (k ≡ kind → ⊥) → named_in k l' ≡ named_in k l)
+    → catalogue_of l' ≡ with_named kind name value (catalogue_of l)
+catalogue_with kinds.RowType name value l l' pages own others =
+    λ j. record { pages = length (pages j); row_types = own j; containers = others kinds.Container (λ same. cc) j; series = others kinds.Series (λ same. cc) j }
+catalogue_with kinds.Container name value l l' pages own others =
+    λ j. record { pages = length (pages j); row_types = others kinds.RowType (λ same. cc) j; containers = own j; series = others kinds.Series (λ same. cc) j }
+catalogue_with kinds.Series name value l l' pages own others =
+    λ j. record { pages = length (pages j); row_types = others kinds.RowType (λ same. cc) j; containers = others kinds.Container (λ same. cc) j; series = own j }
+
+pub catalogue_without : (kind : Kind) (name : List ℕ) (l l' : Layout) → l'.element_pages ≡ l.element_pages → named_in kind l' ≡ remove (named_in kind l) name → ((k : Kind) → (k ≡ kind → ⊥) → named_in k l' ≡ named_in k l)
+    → catalogue_of l' ≡ without kind name (catalogue_of l)
+catalogue_without kinds.RowType name l l' pages own others =
+    λ j. record { pages = length (pages j); row_types = own j; containers = others kinds.Container (λ same. cc) j; series = others kinds.Series (λ same. cc) j }
+catalogue_without kinds.Container name l l' pages own others =
+    λ j. record { pages = length (pages j); row_types = others kinds.RowType (λ same. cc) j; containers = own j; series = others kinds.Series (λ same. cc) j }
+catalogue_without kinds.Series name l l' pages own others =
+    λ j. record { pages = length (pages j); row_types = others kinds.RowType (λ same. cc) j; containers = others kinds.Container (λ same. cc) j; series = own j }
+
+-- a container in which no series stands is charged nothing
+pub no_charge : (pages : List ElementPage) (container room first : ℕ) (table : List (Option SeriesDef)) → ((i : ℕ) (s : SeriesDef) → at_slot i table ≡ Some s → s.container ≡ container → ⊥) → sum_filled (charge_of_series pages container room) first table ≡ 0
+no_charge pages container room first [] none = refl
+no_charge pages container room first (None ∷ table) none = no_charge pages container room (suc first) table (λ i s here. none (suc i) s here)
+no_charge pages container room first (Some s ∷ table) none =
+    let other : s.container ≢ container = none 0 s refl in
+    let f : (s.container == container) ≡ false = grind (arith, nat_tests) in
+    let here : charge_of_series pages container room first s ≡ 0 = rw f refl in
+    omega (arith, here, no_charge pages container room (suc first) table (λ i t there. none (suc i) t there))
+
+-- a series without a page has no elements
+no_elements_on : (slot : ℕ) (e : ElementPage) → ((es : List Element) → e ≡ Cells slot es → ⊥) → elements_on slot e ≡ []
+no_elements_on slot Free none = refl
+no_elements_on slot (Cells s es) none =
+    let other : s ≢ slot = λ same. none es (ap (λ (n : ℕ). Cells n es) same) in
+    let f : (s == slot) ≡ false = grind (arith, nat_tests) in
+    rw f refl
+
+pub no_elements_of : (slot : ℕ) (pages : List ElementPage) → HasNoPage slot pages → elements_of slot pages ≡ []
+no_elements_of slot [] none = refl
+no_elements_of slot (e ∷ pages) none = λ j. no_elements_on slot e (none 0) j ++ no_elements_of slot pages (λ i es is. none (suc i) es is) j
+
+-- and is charged nothing
+pub no_elements_charge : (b : Bool) (room : ℕ) (es : List Element) → es ≡ [] → (if b then irregular_charge room (length es) else 0) ≡ 0
+no_elements_charge true room es none = ap (λ (l : List Element). irregular_charge room (length l)) none
+no_elements_charge false room es none = refl
+
+-- a sum of which one slot adds nothing then
+pub sum_filled_less : {A : Type 0} (f : ℕ → A → ℕ) (first slot : ℕ) (o : Option A) (table : List (Option A)) → ((a : A) → f (first + slot) a ≡ 0) → sum_filled f first (set table slot o) ≤ sum_filled f first table
+sum_filled_less f first zero o [] none = lit≤ tt
+sum_filled_less f first (suc slot) o [] none = lit≤ tt
+sum_filled_less f first zero None (None ∷ table) none = omega arith
+sum_filled_less f first zero None (Some b ∷ table) none = omega arith
+sum_filled_less f first zero (Some a) (None ∷ table) none =
+    let here : f first a ≡ 0 = subst (λ (n : ℕ). f n a ≡ 0) (add-zero first) (none a) in
+    omega (arith, here)
+sum_filled_less f first zero (Some a) (Some b ∷ table) none =
+    let here : f first a ≡ 0 = subst (λ (n : ℕ). f n a ≡ 0) (add-zero first) (none a) in
+    omega (arith, here)
+sum_filled_less f first (suc slot) o (None ∷ table) none =
+    let e : first + suc slot ≡ suc first + slot = omega arith in
+    sum_filled_less f (suc first) slot o table (λ a. subst (λ (n : ℕ). f n a ≡ 0) e (none a))
+sum_filled_less f first (suc slot) o (Some b ∷ table) none =
+    let e : first + suc slot ≡ suc first + slot = omega arith in
+    let rest = sum_filled_less f (suc first) slot o table (λ a. subst (λ (n : ℕ). f n a ≡ 0) e (none a)) in
+    omega (arith, rest)
+
+-- a container by the name of its row type, and a series without a page by that of its container
+pub container_named : (l : Layout) (c : ContainerDef) (holder : List ℕ) → slot_of holder (map (option_map (to_def kinds.RowType)) l.definitions.row_types) ≡ Some c.row_type → container_of l.definitions c ≡ record { row_type = holder; quota = c.quota }
+container_named l c holder is = λ j. record { row_type = name_there (λ (r : RowTypeDef). r.name) (to_def kinds.RowType) (λ r. refl) l.definitions.row_types holder c.row_type is j; quota = c.quota }
+
+pub series_named : (l : Layout) (slot : ℕ) (s : SeriesDef) (holder : List ℕ) → HasNoPage slot l.element_pages → slot_of holder (map (option_map (to_def kinds.Container)) l.definitions.containers) ≡ Some s.container → series_of l slot s ≡ record { container = holder; elements = empty }
+series_named l slot s holder none is =
+    let nothing : elements_at slot l.element_pages ≡ empty = ap (λ (es : List Element). from_entries {R = int_cmp} es) (no_elements_of slot l.element_pages none) in
+    λ j. record { container = name_there (λ (c : ContainerDef). c.name) (to_def kinds.Container) (λ c. refl) l.definitions.containers holder s.container is j; elements = nothing j }

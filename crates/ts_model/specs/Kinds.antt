@@ -1,0 +1,52 @@
+-- What a catalogue has of each kind of definitions. A further kind is a case more in each.
+use Rattle.std.specs.Prelude.{ℕ, Bool, false, List, bytes_eq}
+use Rattle.std.specs.List.{list_any}
+use Rattle.std.specs.FinMap.{insert, remove, values}
+use Rattle.ts_row.specs.RowType.{Heading}
+use Rattle.ts_model.specs.declared.kind.Kind.{Kind}
+use Rattle.ts_model.specs.declared.kind.Kind.TheVariants as kinds
+use Rattle.ts_model.specs.Catalogue.{Named, Container, Series, Catalogue}
+
+-- what a name of a kind stands for
+abbrev pub In : Kind → Type 0
+In kinds.RowType = Heading
+In kinds.Container = Container
+In kinds.Series = Series
+
+-- what a catalogue has of a kind, under its names
+abbrev pub named : (kind : Kind) → Catalogue → Named (In kind)
+named kinds.RowType cat = cat.row_types
+named kinds.Container cat = cat.containers
+named kinds.Series cat = cat.series
+
+-- the catalogue with a name of a kind
+abbrev pub with_named : (kind : Kind) → List ℕ → In kind → Catalogue → Catalogue
+with_named kinds.RowType name value cat = record cat { row_types = insert cat.row_types name value }
+with_named kinds.Container name value cat = record cat { containers = insert cat.containers name value }
+with_named kinds.Series name value cat = record cat { series = insert cat.series name value }
+
+-- the catalogue without one
+abbrev pub without : Kind → List ℕ → Catalogue → Catalogue
+without kinds.RowType name cat = record cat { row_types = remove cat.row_types name }
+without kinds.Container name cat = record cat { containers = remove cat.containers name }
+without kinds.Series name cat = record cat { series = remove cat.series name }
+
+-- a container has the row type
+abbrev pub has_container : List ℕ → Catalogue → Bool
+has_container row_type cat = list_any (λ c. bytes_eq c.row_type row_type) (values cat.containers)
+
+-- a series stands in the container
+abbrev pub has_series : List ℕ → Catalogue → Bool
+has_series container cat = list_any (λ s. bytes_eq s.container container) (values cat.series)
+
+-- something in the catalogue refers to what a name of a kind stands for
+abbrev pub is_used : Kind → List ℕ → Catalogue → Bool
+is_used kinds.RowType name cat = has_container name cat
+is_used kinds.Container name cat = has_series name cat
+is_used kinds.Series name cat = false
+
+-- the definitions of a kind have no pages of elements
+abbrev pub HasNoPages : Kind → Type 0
+HasNoPages kinds.RowType = Unit {0}
+HasNoPages kinds.Container = Unit {0}
+HasNoPages kinds.Series = ⊥
