@@ -111,3 +111,4 @@ refusal-apart (refusals.TooLarge rows) = record { memory = λ x. refl; reply = r
 refusal-apart refusals.NotRegular = record { memory = λ x. refl; reply = refl }
 refusal-apart (refusals.BadExpression place) = record { memory = λ x. refl; reply = refl }
 refusal-apart refusals.UnknownColumn = record { memory = λ x. refl; reply = refl }
+refusal-apart refusals.OldFormat = record { memory = λ x. refl; reply = refl }

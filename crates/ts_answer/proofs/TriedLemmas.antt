@@ -12,7 +12,7 @@ use Rattle.ts_row.specs.declared.value.Literal.{Literal}
 use Rattle.ts_row.specs.RowType.{bad_column}
 use Rattle.ts_row.specs.Row.{Values, row_of}
 use Rattle.ts_model.specs.Catalogue.{Named}
-use Rattle.ts_answer.specs.Answer.{Tried, ◌>>=◌, refused_if, known, wanted, unused, within_limit, no_bad_column, a_row_type, row_or_mismatch, a_row, within_quota, on_one_page}
+use Rattle.ts_answer.specs.Answer.{Tried, ◌>>=◌, refused_if, known, wanted, unused, within_limit, no_bad_column, row_or_mismatch, a_row, within_quota, on_one_page}
 use Rattle.ts_answer.specs.Tried.{IsTried, IsRefusedAs}
 
 -- the tests, passed and failed
@@ -48,13 +48,11 @@ pub no-room : {X : Type 0} (most : ℕ) (named : Named X) → most ≤ len named
 unfolding within_limit
 no-room most named h = refused _ refusals.TooMany (le-leb most (len named) h)
 
-pub good-row_type : (stamp : List ℕ) (columns : List Column) → bad_column stamp columns ≡ None → a_row_type stamp columns ≡ Ok tt
-unfolding a_row_type
-good-row_type stamp columns h = ap no_bad_column h
+pub good-columns : (stamp : List ℕ) (columns : List Column) → bad_column stamp columns ≡ None → no_bad_column (bad_column stamp columns) ≡ Ok tt
+good-columns stamp columns h = ap no_bad_column h
 
-pub bad-row_type : (stamp : List ℕ) (columns : List Column) (column : ℕ) → bad_column stamp columns ≡ Some column → a_row_type stamp columns ≡ Err (refusals.BadRowType column)
-unfolding a_row_type
-bad-row_type stamp columns column h = ap no_bad_column h
+pub bad-columns : (stamp : List ℕ) (columns : List Column) (column : ℕ) → bad_column stamp columns ≡ Some column → no_bad_column (bad_column stamp columns) ≡ Err (refusals.BadRowType column)
+bad-columns stamp columns column h = ap no_bad_column h
 
 pub good-row : (columns : List Column) (literals : List Literal) (row : Values) → row_of columns literals ≡ Ok row → a_row columns literals ≡ Ok row
 unfolding a_row

@@ -10,7 +10,7 @@ use Rattle.ts_model.specs.declared.kind.Kind.{Kind}
 use Rattle.ts_model.specs.declared.kind.Kind.TheVariants as kinds
 use Rattle.ts_model.specs.Catalogue.{name_cmp, Named, Container, Series, Catalogue}
 use Rattle.ts_model.proofs.OrderLemmas.{total, ties-same}
-use Rattle.ts_answer.specs.Kinds.{named}
+use Rattle.ts_model.specs.Kinds.{named}
 use Rattle.ts_answer.specs.Commands.{Object, objects, StaysBut}
 use Rattle.ts_answer.specs.Answer.{Answered, Tried, ◌>>=◌, settled, outcome, answer, carried_out, create_row_type, drop_definition, create_container, container_usage, create_irregular, drop_series, list_series, insert_element, update_element, get_element, get_last_element, count_elements}
 

@@ -6,7 +6,7 @@ use Rattle.ts_base.specs.declared.refusal.Refusal.{Refusal}
 use Rattle.ts_base.specs.declared.refusal.Refusal.TheVariants as refusals
 use Rattle.ts_row.specs.declared.kind.Column.{Column}
 use Rattle.ts_row.specs.declared.value.Literal.{Literal}
-use Rattle.ts_row.specs.RowType.{bad_column}
+use Rattle.ts_row.specs.RowType.{bad_column, has_long_decimal}
 use Rattle.ts_row.specs.Row.{Values, row_of}
 use Rattle.ts_command.specs.declared.command.Command.{Command}
 use Rattle.ts_command.specs.declared.command.Command.TheVariants as commands
@@ -16,7 +16,7 @@ use Rattle.ts_model.specs.declared.kind.Kind.TheVariants as kinds
 use Rattle.ts_model.specs.Definitions.{limit}
 use Rattle.ts_model.specs.Catalogue.{Named, Elements, Series, Catalogue, columns_of, quota_of, series_in, quotas}
 use Rattle.ts_model.specs.Charge.{page_elements, container_charge}
-use Rattle.ts_answer.specs.Kinds.{named, without, is_used}
+use Rattle.ts_model.specs.Kinds.{named, without, is_used}
 use Rattle.ts_answer.specs.Reply.{ok_line, count_line, counts_line, stamp_line, refusal_line, elements_text, series_text}
 
 -- a value, or the refusal that came first
@@ -65,9 +65,11 @@ abbrev pub no_bad_column : Option ℕ → Tried (Unit {0})
 no_bad_column (Some column) = Err (refusals.BadRowType column)
 no_bad_column None = Ok tt
 
--- the first column that breaks a rule of row types is refused
+-- the first column that breaks a rule of row types is refused, and then a decimal of over 18 digits, which format 1 hasn't
 unfoldable pub a_row_type : List ℕ → List Column → Tried (Unit {0})
-a_row_type stamp columns = no_bad_column (bad_column stamp columns)
+a_row_type stamp columns = do
+  good ← no_bad_column (bad_column stamp columns)
+  refused_if (has_long_decimal columns) refusals.OldFormat
 
 -- a row, or the number of the column for which there is none
 abbrev pub row_or_mismatch : Result Values ℕ → Tried Values

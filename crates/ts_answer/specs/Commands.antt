@@ -6,7 +6,7 @@ use Rattle.ts_command.specs.declared.command.Command.TheVariants as commands
 use Rattle.ts_model.specs.declared.kind.Kind.{Kind}
 use Rattle.ts_model.specs.declared.kind.Kind.TheVariants as kinds
 use Rattle.ts_model.specs.Catalogue.{Catalogue}
-use Rattle.ts_answer.specs.Kinds.{named}
+use Rattle.ts_model.specs.Kinds.{named}
 
 -- whether the routine writes; else it only reads
 abbrev pub is_writing : Command → Bool

@@ -2,7 +2,6 @@ pub mod Answer
 pub mod CarriedOut
 pub mod Commands
 pub mod Decided
-pub mod Kinds
 pub mod Reading
 pub mod Reply
 pub mod Slots

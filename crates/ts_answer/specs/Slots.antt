@@ -2,10 +2,9 @@
 use Rattle.std.specs.Prelude.{◌≡◌, ℕ, ◌<◌, Some, None, List}
 use Rattle.std.specs.FinMap.{get}
 use Rattle.ts_model.specs.declared.kind.Kind.{Kind}
-use Rattle.ts_model.specs.declared.kind.Kind.TheVariants as kinds
-use Rattle.ts_model.specs.Definitions.{Definitions, RowTypeDef, ContainerDef, SeriesDef, limit, slots, slot_of, vacant_slot, at_slot}
-use Rattle.ts_layout.specs.Meaning.{Layout, container_of, series_of, catalogue_of}
-use Rattle.ts_answer.specs.Kinds.{In, named}
+use Rattle.ts_model.specs.Definitions.{Definitions, KindDef, table_of, limit, slots, slot_of, vacant_slot, at_slot}
+use Rattle.ts_layout.specs.Meaning.{Layout, value_of, catalogue_of}
+use Rattle.ts_model.specs.Kinds.{In, named}
 
 -- the lowest empty slot, for a name that is none yet
 pub record IsFreeSlot (kind : Kind) (slot : ℕ) (name : List ℕ) (d : Definitions) : Type 0 where
@@ -20,9 +19,7 @@ pub record IsSlotNamed (kind : Kind) (slot : ℕ) (name : List ℕ) (d : Definit
 
 -- what the definition in a slot is in the catalogue
 abbrev pub IsValue : (kind : Kind) → Layout → ℕ → In kind → Type 0
-IsValue kinds.RowType l slot heading = (r : RowTypeDef) × (at_slot slot l.definitions.row_types ≡ Some r) × (heading ≡ r.heading)
-IsValue kinds.Container l slot container = (c : ContainerDef) × (at_slot slot l.definitions.containers ≡ Some c) × (container ≡ container_of l.definitions c)
-IsValue kinds.Series l slot series = (s : SeriesDef) × (at_slot slot l.definitions.series ≡ Some s) × (series ≡ series_of l slot s)
+IsValue kind l slot value = (a : KindDef kind) × (at_slot slot (table_of kind l.definitions) ≡ Some a) × (value ≡ value_of kind l slot a)
 
 -- a name stands in a slot, and for this in the catalogue
 pub record Stands (kind : Kind) (name : List ℕ) (l : Layout) (slot : ℕ) (value : In kind) : Type 0 where

@@ -10,16 +10,19 @@ use ts_space::Place;
 pub enum Effect {
     /// Nothing, and no page either.
     Nothing,
+    /// Pages alone.
+    Pages,
     /// A slot is filled with a definition, or emptied.
     Slot {
         kind: Kind,
         slot: u16,
         def: Option<Def>,
     },
-    /// A series has these places.
+    /// Of the places of a series the one that begins there goes, and this one comes.
     Places {
         slot: u16,
-        places: Vec<Place>,
+        old: Option<i64>,
+        new: Option<Place>,
     },
     /// A series goes, with all its places.
     Series {

@@ -1,5 +1,5 @@
 -- A series with its page, and what one element more changes of its layout.
-use Rattle.std.proofs.Common.{◌≡◌, ◌≢◌, ℕ, zero, suc, ◌+◌, ◌-◌, ◌*◌, ◌<◌, ◌≤◌, cond, Bool, IsTrue, ℤ, Option, Some, List, [], ◌∷◌, All, AllPairs, length, refl, ap, sym, ◌∙◌, subst, arith}
+use Rattle.std.proofs.Common.{◌≡◌, ◌≢◌, ℕ, zero, suc, ◌+◌, ◌-◌, ◌*◌, ◌<◌, ◌≤◌, cond, Bool, IsTrue, ℤ, Option, Some, List, [], ◌∷◌, All, AllPairs, length, refl, ap, sym, ◌∙◌, subst, arith, set, get_or, get_or-set_other}
 use Rattle.std.specs.Option.{option_map, option_and_then}
 use Rattle.std.specs.Ordering.{int_cmp, int_eq}
 use Rattle.std.specs.Cmp.{int_cmp_total}
@@ -16,21 +16,21 @@ use Rattle.ts_row.specs.RowType.{Heading}
 use Rattle.ts_row.specs.Row.{Values}
 use Rattle.ts_space.specs.declared.place.Place.{Place}
 use Rattle.ts_space.specs.Place.{count_of}
-use Rattle.ts_space.specs.Directory.{Directory, places_of, ChangesOnly}
+use Rattle.ts_space.specs.Directory.{Directory, places_of}
 use Rattle.ts_space.specs.Charge.{irregular_charge}
 use Rattle.ts_space.proofs.ChargeLemmas.{charge_is, ceil_enough, ceil_least}
 use Rattle.ts_cells.specs.Cell.{Element, page_room}
 use Rattle.ts_cells.specs.IrregularPage.{FillPage, IsIrregularPage, irregular_page}
 use Rattle.ts_irregular.specs.Edit.{element_at, with_element}
-use Rattle.ts_irregular.specs.OnePage.{place_of as page_place, HasOnePage, IsOn, IsSeen, AreSeen}
-use Rattle.ts_irregular.specs.Call.{IsPagePut, AreKept, IsEdited}
+use Rattle.ts_irregular.specs.OnePage.{place_of as page_place, HasOnePage, IsOn}
+use Rattle.ts_irregular.specs.Call.{IsPagePut, AreKept, ArePut, IsOneMore}
 use Rattle.ts_model.specs.declared.kind.Kind.TheVariants as kinds
 use Rattle.ts_model.specs.Definitions.{Definitions, RowTypeDef, ContainerDef, SeriesDef, at_slot, IsDefinitions}
-use Rattle.ts_layout.specs.Meaning.{ElementPage, Free, Cells, Layout, element_page, HoldsLayout, HoldsElements, IsSound, heading_of_container, heading_in, heading_at, series_of, catalogue_of, charge_of_container}
+use Rattle.ts_layout.specs.Meaning.{ElementPage, Free, Cells, Layout, element_page, HoldsLayout, HoldsElements, IsSound, heading_of_container, heading_in, heading_at, elements_of, series_of, catalogue_of, charge_of_container}
 use Rattle.ts_layout.specs.Surveyed.{place_of, ListsPlaces}
 use Rattle.ts_layout.specs.OnePage.{by_stamp, with_cells, IsPageFor, HasPage, AreFilled, KeepsQuotaOf, AreFreePages}
 use Rattle.ts_layout.specs.Charges.{container_charge}
-use Rattle.ts_layout.proofs.CallerLemmas.{series_found, container_of_series, row_type_of_container, one_of, few, page_none, page_one, counted, catalogue_written, free_cells, places_written, rules_written, filled_after, page_taken, page_kept, place_tells, place_holds, place_filled, others_stay, charge_same, charge_own, cells_written}
+use Rattle.ts_layout.proofs.CallerLemmas.{elements_none, series_found, container_of_series, row_type_of_container, one_of, few, page_none, page_one, counted, catalogue_written, free_cells, places_written, rules_written, filled_after, page_taken, page_kept, place_tells, place_holds, place_filled, charge_same, charge_own, cells_written}
 use Rattle.ts_answer.specs.Answer.{with_element as with_element_of}
 use Rattle.ts_answer.specs.Slots.{IsSlotNamed}
 use Rattle.ts_elements.specs.Elements.{IsSeries, first_charge, HasRoomFor}
@@ -71,7 +71,7 @@ series_in_slot l key slot rules named =
       h = h;
       is = is;
       columns = heading_there l.definitions slot s c h is;
-      named = found.1.its_key;
+      named = found.1.its_name;
       container = sym holder.1.its_name;
       listed = found.1.listed;
     }
@@ -165,125 +165,121 @@ kept_on tells slot columns p [] now v w some kept = absurd (omega (arith, some))
 kept_on tells slot columns p (e ∷ es) now v w some kept = kept
 
 -- the page on which a series goes on
-pub record GoesOn (tells : Bool) (l : Layout) (slot : ℕ) (columns : List Column) (es after : List Element) (now : List Place) (v w : Contents) : Type 0 where
+pub record GoesOn (tells : Bool) (l : Layout) (slot : ℕ) (columns : List Column) (after : List Element) (now : List Place) (v w : Contents) : Type 0 where
   pub i : ℕ
   pub old : List Element
   pub held : IsPageFor slot i old l.element_pages
   pub put : IsPagePut tells slot columns (930 + i) after now v w
   pub free : AreFreePages w.free (with_cells i slot after l).element_pages
-  pub told : IsTrue tells → HoldsLayout v.page l → es ≡ old
+  pub same : elements_of slot l.element_pages ≡ old
 
-goes_new : (tells : Bool) (l : Layout) (space : Directory) (slot : ℕ) (columns : List Column) (es after : List Element) (now : List Place) (v w : Contents) → IsSound l → AreFilled l → ListsPlaces space l → slot < 4096 → places_of slot space ≡ []
-    → AllPairs (λ a b. a ≢ b) v.free → AreFreePages v.free l.element_pages → 1 ≤ length after → es ≡ [] → AreKept tells slot columns [] after now v w → GoesOn tells l slot columns es after now v w
-goes_new tells l space slot columns es after now v w sound filled lists within is different free some none kept =
-    let new = kept_new tells slot columns after now v w some kept in
-    let taken = page_taken new.0 slot w.free l.element_pages (subst (λ (ns : List ℕ). AllPairs (λ a b. a ≢ b) ns) new.1 different) (subst (λ (ns : List ℕ). AreFreePages ns l.element_pages) new.1 free)
-    (page_none l space slot sound.one_page filled lists within is) in
-    record {
-      i = taken.0;
-      old = [];
-      held = taken.2;
-      put = subst (λ (n : ℕ). IsPagePut tells slot columns n after now v w) taken.1 new.2;
-      free = taken.3 after;
-      told = λ told holds. none;
-    }
-
-goes_there : (tells : Bool) (l : Layout) (space : Directory) (slot : ℕ) (h : Heading) (p : Place) (es after : List Element) (now : List Place) (v w : Contents) → IsSound l → ListsPlaces space l → slot < 4096 → heading_at l.definitions slot ≡ Some h → places_of slot space ≡ p ∷ []
-    → AreFreePages v.free l.element_pages → 1 ≤ length after → IsSeen tells slot h.columns v.page p es → AreKept tells slot h.columns (p ∷ []) after now v w → GoesOn tells l slot h.columns es after now v w
-goes_there tells l space slot h p es after now v w sound lists within columns is free some seen kept =
-    let held = page_one l space slot p sound.one_page lists within is in
-    let on = kept_on tells slot h.columns p after now v w some kept in
-    let number = (place_tells slot p l.element_pages held).0 in
-    record {
-      i = held.number;
-      old = held.elements;
-      held = place_holds slot p l.element_pages held;
-      put = subst (λ (n : ℕ). IsPagePut tells slot h.columns n after now v w) number on.1;
-      free = subst (λ (ns : List ℕ). AreFreePages ns (with_cells held.number slot after l).element_pages) (sym on.0) (page_kept v.free held.number slot held.elements after l.element_pages held.page free);
-      told = λ told holds. seen.told told held.elements (on_page l slot p h held columns v.page holds);
-    }
-
-pub goes_on : (tells : Bool) (l : Layout) (space : Directory) (slot : ℕ) (h : Heading) (ps : List Place) (es after : List Element) (now : List Place) (v w : Contents) → IsSound l → AreFilled l → ListsPlaces space l → slot < 4096 → heading_at l.definitions slot ≡ Some h → places_of slot space ≡ ps
-    → AllPairs (λ a b. a ≢ b) v.free → AreFreePages v.free l.element_pages → 1 ≤ length after → AreSeen tells slot h.columns v.page ps es → AreKept tells slot h.columns ps after now v w → GoesOn tells l slot h.columns es after now v w
-goes_on tells l space slot h [] es after now v w sound filled lists within columns is different free some seen kept =
-    goes_new tells l space slot h.columns es after now v w sound filled lists within is different free some seen kept
-goes_on tells l space slot h (p ∷ []) es after now v w sound filled lists within columns is different free some seen kept =
-    goes_there tells l space slot h p es after now v w sound lists within columns is free some seen kept
-goes_on tells l space slot h (p ∷ q ∷ ps) es after now v w sound filled lists within columns is different free some seen kept =
-    absurd (let most = few l space slot sound.one_page lists within in let count = ap (λ (xs : List Place). length xs) is in omega (arith, most, count))
+module _ (tells : Bool) (l : Layout) (space : Directory) (slot : ℕ) (columns : List Column) (after : List Element) (now : List Place) (v w : Contents) (sound : IsSound l) (filled : AreFilled l) (lists : ListsPlaces space l) (within : slot < 4096)
+    (different : AllPairs (λ a b. a ≢ b) v.free) (free : AreFreePages v.free l.element_pages) (some : 1 ≤ length after) where
+  pub goes_on : (ps : List Place) → places_of slot space ≡ ps → AreKept tells slot columns ps after now v w → GoesOn tells l slot columns after now v w
+  goes_on [] is kept =
+      let new = kept_new tells slot columns after now v w some kept in
+      let taken = page_taken new.0 slot w.free l.element_pages (subst (λ (ns : List ℕ). AllPairs (λ a b. a ≢ b) ns) new.1 different) (subst (λ (ns : List ℕ). AreFreePages ns l.element_pages) new.1 free)
+      (page_none l space slot sound.one_page filled lists within is) in
+      record {
+        i = taken.0;
+        old = [];
+        held = taken.2;
+        put = subst (λ (n : ℕ). IsPagePut tells slot columns n after now v w) taken.1 new.2;
+        free = taken.3 after;
+        same = elements_none l space slot sound.one_page lists within is;
+      }
+  goes_on (p ∷ []) is kept =
+      let held = page_one l space slot p sound.one_page lists within is in
+      let on = kept_on tells slot columns p after now v w some kept in
+      let number = (place_tells slot p l.element_pages held).0 in
+      record {
+        i = held.number;
+        old = held.elements;
+        held = place_holds slot p l.element_pages held;
+        put = subst (λ (n : ℕ). IsPagePut tells slot columns n after now v w) number on.1;
+        free = subst (λ (ns : List ℕ). AreFreePages ns (with_cells held.number slot after l).element_pages) (sym on.0) (page_kept v.free held.number slot held.elements after l.element_pages held.page free);
+        same = held.all;
+      }
+  goes_on (p ∷ q ∷ ps) is kept =
+      absurd (let most = few l space slot sound.one_page lists within in let count = ap (λ (xs : List Place). length xs) is in omega (arith, most, count))
 
 -- the place of elements, and how many it tells of
 same_place : (number : ℕ) (es : List Element) → page_place number es ≡ place_of number es
 same_place number [] = refl
 same_place number (e ∷ es) = refl
 
-count_place : (number : ℕ) (es : List Element) → count_of (place_of number es) ≡ length es
-count_place number [] = refl
-count_place number (e ∷ es) = omega arith
+count_one : (p : Place) → count_of (p ∷ []) ≡ p.count
+count_one p = omega arith
 
--- at most one page is taken
-pub kept_free : (tells : Bool) (slot : ℕ) (columns : List Column) (ps : List Place) (es : List Element) (now : List Place) (v w : Contents) → AreKept tells slot columns ps es now v w → length v.free ≤ length w.free + 1
-kept_free tells slot columns [] [] now v w kept = let free = ap (λ (ns : List ℕ). length ns) kept.free in omega (arith, free)
-kept_free tells slot columns [] (e ∷ es) now v w kept = let free = ap (λ (ns : List ℕ). length ns) kept.1 in omega (arith, free)
-kept_free tells slot columns (p ∷ ps) [] now v w kept = let free = ap (λ (ns : List ℕ). length ns) kept.free in omega (arith, free)
-kept_free tells slot columns (p ∷ ps) (e ∷ es) now v w kept = let free = ap (λ (ns : List ℕ). length ns) kept.0 in omega (arith, free)
+-- with one element more at most one page is taken, and the place tells of as many as there is room for
+pub more_free : (ps : List Place) (new : Place) (v w : Contents) → IsOneMore ps new v w → length v.free ≤ length w.free + 1
+more_free [] new v w more = let free = ap (λ (ns : List ℕ). length ns) more.0 in omega (arith, free)
+more_free (p ∷ ps) new v w more = let free = ap (λ (ns : List ℕ). length ns) more.0 in omega (arith, free)
 
--- what a container is charged once a series of it has its page with these elements
-pub charge_edit : (d : Definitions) (space space' : Directory) (slot number : ℕ) (after : List Element) (s : SeriesDef) (q : ℕ) → IsDefinitions d → at_slot slot d.series ≡ Some s → ((t : ℕ) → t < 4096 → t ≢ slot → places_of t space' ≡ places_of t space)
-    → places_of slot space' ≡ page_place number after → 1 ≤ length after → length after ≤ q → container_charge d space' s.container q + irregular_charge q (count_of (places_of slot space)) ≡ container_charge d space s.container q + 1
-charge_edit d space space' slot number after s q rules there others now some fits =
+pub more_counts : (columns : List Column) (ps : List Place) (new : Place) (c v w : Contents) → HasOnePage columns c ps → count_of ps < page_room columns → IsOneMore ps new v w → (1 ≤ new.count) × (new.count ≤ page_room columns)
+more_counts columns [] new c v w one room more = (omega (arith, more.1), omega (arith, more.1, room))
+more_counts columns (p ∷ []) new c v w one room more = let count = count_one p in (more.2, omega (arith, more.3, room, count))
+more_counts columns (p ∷ q ∷ ps) new c v w one room more = absurd one
+
+-- what a container is charged once a series of it has this place
+pub charge_edit : (d : Definitions) (space space' : Directory) (slot : ℕ) (new : Place) (s : SeriesDef) (q : ℕ) → IsDefinitions d → at_slot slot d.series ≡ Some s → ((t : ℕ) → t < 4096 → t ≢ slot → places_of t space' ≡ places_of t space)
+    → places_of slot space' ≡ new ∷ [] → 1 ≤ new.count → new.count ≤ q → container_charge d space' s.container q + irregular_charge q (count_of (places_of slot space)) ≡ container_charge d space s.container q + 1
+charge_edit d space space' slot new s q rules there others now some fits =
     let own = charge_own d space space' slot s q rules there others in
-    let count = ap (λ (ps : List Place). count_of ps) now ∙ ap (λ (ps : List Place). count_of ps) (same_place number after) ∙ count_place number after in
-    let one = ap (irregular_charge q) count ∙ charge_few q (length after) some fits in
+    let count = ap (λ (ps : List Place). count_of ps) now ∙ count_one new in
+    let one = ap (irregular_charge q) count ∙ charge_few q new.count some fits in
     omega (arith, own, one)
 
-module _ (l : Layout) (space space' : Directory) (key : List ℕ) (slot number : ℕ) (after : List Element) (sound : IsSound l) (lists : ListsPlaces space l) (within : slot < 4096) (on : SeriesIn l key slot) (changes : ChangesOnly slot space space')
-    (now : places_of slot space' ≡ page_place number after) (some : 1 ≤ length after) (fits : length after ≤ page_room on.h.columns) where
-  charge_then : container_charge l.definitions space' on.s.container (page_room on.h.columns) + irregular_charge (page_room on.h.columns) (count_of (places_of slot space)) ≡ container_charge l.definitions space on.s.container (page_room on.h.columns) + 1
-  charge_then =
-      charge_edit l.definitions space space' slot number after on.s (page_room on.h.columns) sound.definitions.tables on.is.there (λ s below other. others_stay slot s space space' changes other) now some fits
+-- a directory of which one list changes
+abbrev pub ChangesList : ℕ → Directory → Directory → Type 0
+ChangesList slot space space' = space'.lists ≡ set space.lists slot (places_of slot space')
 
-  -- an element more, for which there is room
-  pub pays_more : HasRoomFor slot l.definitions space → container_charge l.definitions space' on.s.container (page_room on.h.columns) ≤ on.c.quota
-  pays_more room =
+pub other_places : (slot t : ℕ) (space space' : Directory) → ChangesList slot space space' → t ≢ slot → places_of t space' ≡ places_of t space
+other_places slot t space space' changes other = ap (λ (l : List (List Place)). get_or l t []) changes ∙ get_or-set_other space.lists slot t (places_of slot space') [] other
+
+module _ (l : Layout) (space : Directory) (key : List ℕ) (slot : ℕ) (sound : IsSound l) (lists : ListsPlaces space l) (on : SeriesIn l key slot) where
+  -- what the container is charged is within its quota
+  pub pays_same : container_charge l.definitions space on.s.container (page_room on.h.columns) ≤ on.c.quota
+  pays_same =
+      let same = charge_same l.definitions space l.element_pages on.s.container (page_room on.h.columns) sound.definitions.tables (λ t small. counted l space t lists small) in
+      let quota = sound.charges on.s.container on.c on.h on.is.container on.is.heading in
+      omega (arith, same, quota)
+
+  -- and stays so with an element more, for which there is room
+  pub pays_more : (space' : Directory) (new : Place) → ChangesList slot space space' → places_of slot space' ≡ new ∷ [] → 1 ≤ new.count → new.count ≤ page_room on.h.columns → HasRoomFor slot l.definitions space
+      → container_charge l.definitions space' on.s.container (page_room on.h.columns) ≤ on.c.quota
+  pays_more space' new changes now some fits room =
+      let edited = charge_edit l.definitions space space' slot new on.s (page_room on.h.columns) sound.definitions.tables on.is.there (λ t below other. other_places slot t space space' changes other) now some fits in
       let below = room.page on.s on.c on.h on.is in
       let before = charge_first (page_room on.h.columns) (count_of (places_of slot space)) (omega (arith, below)) (omega (arith, below)) in
       let quota = room.quota on.s on.c on.h on.is in
-      omega (arith, charge_then, before, quota)
-
-  -- the same page
-  pub pays_still : 1 ≤ count_of (places_of slot space) → count_of (places_of slot space) ≤ page_room on.h.columns → container_charge l.definitions space' on.s.container (page_room on.h.columns) ≤ on.c.quota
-  pays_still there room =
-      let q = page_room on.h.columns in
-      let before = charge_few q (count_of (places_of slot space)) there room in
-      let same = charge_same l.definitions space l.element_pages on.s.container q sound.definitions.tables (λ t small. counted l space t lists small) in
-      let quota = sound.charges on.s.container on.c on.h on.is.container on.is.heading in
-      omega (arith, charge_then, before, same, quota)
+      omega (arith, edited, before, quota)
 
 -- a row is put at a stamp of a series
 module _ (tells : Bool) (l : Layout) (space space' : Directory) (key : List ℕ) (slot : ℕ) (stamp : ℤ) (row : Values) (v w : Contents) (sound : IsSound l) (filled : AreFilled l) (lists : ListsPlaces space l) (within : slot < 4096) (on : SeriesIn l key slot)
-    (paid : container_charge l.definitions space' on.s.container (page_room on.h.columns) ≤ on.c.quota) (changes : ChangesOnly slot space space') (edited : IsEdited tells slot on.h.columns stamp (Some row) (places_of slot space) (places_of slot space') v w) where
-  abbrev pub put_elements : List Element
-  put_elements = with_element stamp row edited.elements
+    (paid : container_charge l.definitions space' on.s.container (page_room on.h.columns) ≤ on.c.quota) (changes : ChangesList slot space space')
+    (put : ArePut tells slot on.h.columns (places_of slot space) (with_element stamp row (elements_of slot l.element_pages)) (places_of slot space') v w) where
+  abbrev pub after : List Element
+  after = with_element stamp row (elements_of slot l.element_pages)
 
-  module _ (g : GoesOn tells l slot on.h.columns edited.elements (with_element stamp row edited.elements) (places_of slot space') v w) where
+  module _ (g : GoesOn tells l slot on.h.columns after (places_of slot space') v w) where
     abbrev pub put_layout : Layout
-    put_layout = with_cells g.i slot (with_element stamp row edited.elements) l
+    put_layout = with_cells g.i slot after l
 
     others : (s : ℕ) → s < 4096 → s ≢ slot → places_of s space' ≡ places_of s space
-    others s below other = others_stay slot s space space' changes other
+    others s below other = other_places slot s space space' changes other
 
-    place_now : places_of slot space' ≡ place_of (930 + g.i) (with_element stamp row edited.elements)
-    place_now = g.put.places ∙ same_place (930 + g.i) (with_element stamp row edited.elements)
+    place_now : places_of slot space' ≡ place_of (930 + g.i) after
+    place_now = g.put.places ∙ same_place (930 + g.i) after
 
     pub put_places : ListsPlaces space' put_layout
-    put_places = places_written l space space' slot g.i g.old (with_element stamp row edited.elements) sound.one_page g.held place_now others lists
+    put_places = places_written l space space' slot g.i g.old after sound.one_page g.held place_now others lists
 
-    put_fill : FillPage on.h.columns (with_element stamp row edited.elements)
-    put_fill = record { some = with_some stamp row edited.elements; room = edited.room; elements = edited.order }
+    put_fill : FillPage on.h.columns after
+    put_fill = record { some = with_some stamp row (elements_of slot l.element_pages); room = put.room; elements = put.order }
 
     pub put_filled : AreFilled put_layout
-    put_filled = filled_after l slot g.i (with_element stamp row edited.elements) on.h g.held.within on.columns put_fill filled
+    put_filled = filled_after l slot g.i after on.h g.held.within on.columns put_fill filled
 
     put_quota : KeepsQuotaOf slot put_layout
     put_quota s c h there container heading =
@@ -297,16 +293,16 @@ module _ (tells : Bool) (l : Layout) (space space' : Directory) (key : List ℕ)
         (subst (λ (x : Heading). charge_of_container put_layout on.s.container (page_room x.columns) ≤ on.c.quota) same_h base))
 
     pub put_rules : IsSound put_layout
-    put_rules = rules_written l slot g.i g.old (with_element stamp row edited.elements) sound g.held put_quota
+    put_rules = rules_written l slot g.i g.old after sound g.held put_quota
 
     pub put_holds : IsTrue tells → HoldsLayout v.page l → HoldsLayout w.page put_layout
     put_holds told holds =
-        cells_written l v.page w.page g.i slot (with_element stamp row edited.elements) on.h (irregular_page slot on.h.columns (with_element stamp row edited.elements)) g.held.within on.columns
+        cells_written l v.page w.page g.i slot after on.h (irregular_page slot on.h.columns after) g.held.within on.columns
         (record { number = omega (arith, within); fill = put_fill; bytes = refl }) (g.put.pages told) holds
 
-    -- where the pages are told, the catalogue has the element more
-    pub put_catalogue : IsTrue tells → HoldsLayout v.page l → catalogue_of put_layout ≡ with_element_of key (series_of l slot on.s) stamp row (catalogue_of l)
-    put_catalogue told holds =
-        let adds = by_stamp_with stamp row edited.elements ∙ ap (λ (es : List Element). insert (by_stamp es) stamp row) (g.told told holds) in
-        catalogue_written l slot g.i g.old (with_element stamp row edited.elements) on.s stamp row sound g.held on.is.there adds
+    -- the catalogue has the element more
+    pub put_catalogue : catalogue_of put_layout ≡ with_element_of key (series_of l slot on.s) stamp row (catalogue_of l)
+    put_catalogue =
+        let adds = by_stamp_with stamp row (elements_of slot l.element_pages) ∙ ap (λ (es : List Element). insert (by_stamp es) stamp row) g.same in
+        catalogue_written l slot g.i g.old after on.s stamp row sound g.held on.is.there adds
         ∙ ap (λ (k : List ℕ). with_element_of k (series_of l slot on.s) stamp row (catalogue_of l)) on.named

@@ -1,18 +1,14 @@
 -- What is found before an element is put into a series, and what is put.
-use Rattle.std.specs.Prelude.{◌≡◌, ◌⊎◌, ℕ, ◌+◌, ◌<◌, ◌≤◌, ◌==◌, if◌then◌else◌, Bool, IsTrue, Option, Some, None, is_some, Ok, ℤ, List, Vec}
+use Rattle.std.specs.Prelude.{◌≡◌, ◌⊎◌, ℕ, ◌+◌, ◌<◌, ◌≤◌, ◌==◌, if◌then◌else◌, Bool, IsTrue, Some, is_some, Ok, ℤ, List}
 use Rattle.std.specs.FinMap.{get}
 use Rattle.ts_base.specs.declared.refusal.Refusal.{Refusal}
 use Rattle.ts_base.specs.declared.refusal.Refusal.TheVariants.{ContainerFull}
-use Rattle.ts_page.specs.Pages.{Contents}
-use Rattle.ts_row.specs.declared.kind.Column.{Column}
 use Rattle.ts_row.specs.declared.value.Literal.{Literal}
 use Rattle.ts_row.specs.RowType.{Heading}
 use Rattle.ts_row.specs.Row.{Values}
-use Rattle.ts_space.specs.declared.place.Place.{Place}
-use Rattle.ts_space.specs.Place.{count_of, IsRising}
-use Rattle.ts_space.specs.Directory.{Directory, places_of, ChangesOnly}
+use Rattle.ts_space.specs.Place.{count_of}
+use Rattle.ts_space.specs.Directory.{Directory, places_of}
 use Rattle.ts_cells.specs.Cell.{page_room}
-use Rattle.ts_irregular.specs.Call.{IsPutNew, IsThereAlready, IsPutOver, IsMissing}
 use Rattle.ts_command.specs.declared.command.Command.{Command}
 use Rattle.ts_command.specs.declared.command.Command.TheVariants.{InsElem, UpdElem}
 use Rattle.ts_elements.specs.declared.elements.EditKind.{EditKind}
@@ -23,7 +19,8 @@ use Rattle.ts_model.specs.Definitions.{Definitions, ContainerDef, SeriesDef, at_
 use Rattle.ts_layout.specs.Meaning.{Layout, heading_at, heading_of_container, elements_at, catalogue_of}
 use Rattle.ts_layout.specs.Charges.{container_charge}
 use Rattle.ts_layout.specs.OnePage.{charge_in}
-use Rattle.ts_container.specs.KeptCharges.{AreCharges}
+pub use Rattle.ts_container.specs.KeptCharges.{AreFew}
+unfoldable pub use Rattle.ts_container.specs.KeptCharges.{IsCharged}
 use Rattle.ts_answer.specs.Answer.{a_row}
 use Rattle.ts_answer.specs.Slots.{IsSlotNamed, Stands}
 use Rattle.ts_answer.specs.View.{View, Shows}
@@ -57,14 +54,6 @@ first_charge count = if count == 0 then 1 else 0
 abbrev pub charge_with : Definitions → Directory → ℕ → ℕ → ℕ → ℕ
 charge_with d space slot container room = container_charge d space container room + first_charge (count_of (places_of slot space))
 
--- no container is charged more pages than a volume has
-abbrev pub AreFew : Definitions → Directory → Type 0
-AreFew d space = (slot : ℕ) → slot < 64 → charge_in d space slot ≤ 65536
-
--- the sums are what containers are charged, and that is little
-unfoldable pub IsCharged : List ℕ → Definitions → Directory → Type 0
-IsCharged sums d space = AreCharges sums d space × AreFew d space
-
 -- one element more goes on the page of a series and into the quota of its container
 pub record HasRoomFor (slot : ℕ) (d : Definitions) (space : Directory) : Type 0 where
   pub page : (s : SeriesDef) (c : ContainerDef) (h : Heading) → IsSeries slot s c h d → count_of (places_of slot space) < page_room h.columns
@@ -82,20 +71,6 @@ HasNoRoom slot d space refusal =
 -- by the pages that are told, an element is at a stamp, or none
 abbrev pub IsThere : Bool → ℕ → ℤ → Bool → View → Type 0
 IsThere tells slot stamp there x = IsTrue tells → (l : Layout) → Shows tells x l → is_some (get (elements_at slot l.element_pages) stamp) ≡ there
-
--- a row is put into a series, whose places become these; or one is there, and the pages stay
-abbrev pub IsPutOrThere : {A : Type 0} → Bool → ℕ → List Column → ℤ → Values → Directory → Contents → Contents → Option (Vec Place A) → Type 0
-IsPutOrThere tells slot columns stamp row space v w (Some places) =
-    (with : Directory) × ChangesOnly slot space with × (places.items ≡ places_of slot with) × IsRising places.items
-    × IsPutNew tells slot columns stamp row (places_of slot space) (places_of slot with) v w
-IsPutOrThere tells slot columns stamp row space v w None = IsThereAlready tells slot columns stamp (places_of slot space) (places_of slot space) v w
-
--- a row is put in place of one in a series, whose places become these; or none is there, and the pages stay
-abbrev pub IsReplacedOrMissing : {A : Type 0} → Bool → ℕ → List Column → ℤ → Values → Directory → Contents → Contents → Option (Vec Place A) → Type 0
-IsReplacedOrMissing tells slot columns stamp row space v w (Some places) =
-    (with : Directory) × ChangesOnly slot space with × (places.items ≡ places_of slot with) × IsRising places.items
-    × IsPutOver tells slot columns stamp row (places_of slot space) (places_of slot with) v w
-IsReplacedOrMissing tells slot columns stamp row space v w None = IsMissing tells slot columns stamp (places_of slot space) (places_of slot space) v w
 
 -- the command that edits so
 abbrev pub edit_of : EditKind → List ℕ → ℤ → List Literal → Command

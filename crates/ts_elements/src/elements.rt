@@ -1,11 +1,10 @@
 // The routines that edit the element at a stamp.
-ghost use Rattle.std.specs.Prelude.{◌≡◌, ◌+◌, ◌<◌, ◌≤◌, ℕ, List, [], IsTrue, Some, IfOk, IfErr, OnOk, length};
+ghost use Rattle.std.specs.Prelude.{◌≡◌, ◌<◌, ◌≤◌, ℕ, List, [], ◌∷◌, IsTrue, Some, IfErr, OnOk, length};
 ghost use Rattle.ts_row.specs.declared.value.Literal.{Literal as TheLiteral};
 ghost use Rattle.ts_row.specs.Row.{fits};
 ghost use Rattle.ts_command.specs.declared.command.Command.TheVariants.{InsElem, UpdElem};
-ghost use Rattle.ts_page.specs.Pages.{Answered};
+ghost use Rattle.ts_space.specs.declared.place.Place.{Place as ThePlace};
 ghost use Rattle.ts_space.specs.Place.{count_of};
-ghost use Rattle.ts_cells.specs.Cell.{page_room};
 ghost use Rattle.ts_space.specs.Directory.{places_of};
 ghost use Rattle.ts_irregular.specs.OnePage.{HasOnePage};
 ghost use Rattle.ts_model.specs.Definitions.{Definitions};
@@ -13,12 +12,12 @@ ghost use Rattle.ts_layout.specs.Meaning.{KeepLimits, heading_at};
 ghost use Rattle.ts_container.specs.KeptCharges.{AreCharges};
 ghost use Rattle.ts_layout.specs.OnePage.{charge_in};
 ghost use Rattle.ts_answer.specs.View.{view, IsSeen};
-ghost use Rattle.ts_answer.specs.CarriedOut.{CarriedOut};
-ghost use Rattle.ts_elements.specs.Elements.{IsCharged, HasRow, HasRoomFor, HasNoRoom, IsPutOrThere, IsReplacedOrMissing, edit_of};
+ghost use Rattle.ts_answer.specs.CarriedOut.{CarriedOut, moved};
+ghost use Rattle.ts_elements.specs.Elements.{IsCharged, HasRow, HasRoomFor, HasNoRoom, edit_of};
 
 use crate::shelf::{row_for, shelf_of};
 use ts_answer::{Effect, Stop};
-use ts_base::{Key, Refusal, Reply, Stamp, StoreFault};
+use ts_base::{Key, Refusal, Reply, Stamp};
 use ts_cells::page_room;
 use ts_command::Literals;
 use ts_container::{Charges, row_type_in};
@@ -38,11 +37,12 @@ pub enum EditKind {
     Update,
 }
 
-/// Edits the element at a stamp of a series.
+/// Edits the element at a stamp of a series. `page` is room to read one.
 pub fn edit_element<P: Pages>(
     pages: &mut P,
+    page: &mut Page,
     defs: &Defs,
-    space: &mut Space,
+    space: &Space,
     charges: &Charges,
     edit: EditKind,
     key: &Key,
@@ -50,59 +50,58 @@ pub fn edit_element<P: Pages>(
     values: &Literals,
     out: &mut Reply,
 ) -> Result<Effect, Stop>
-    requires seen { IsSeen P.tells (view defs.now.definitions space.old (P.contents pages.old)) }
-    requires charged { AreCharges charges.now defs.now.definitions space.old }
+    requires seen { IsSeen P.tells (view defs.now.definitions space.now (P.contents pages.old)) }
+    requires charged { AreCharges charges.now defs.now.definitions space.now }
     requires empty { out.old ≡ [] }
-    ensures carried { CarriedOut P.tells (edit_of edit key.now stamp values.now) result out.new (view defs.now.definitions space.old (P.contents pages.old)) (P.contents pages.new) }
-    ensures lists { space.new.lists ≡ space.old.lists }
+    ensures carried { CarriedOut P.tells (edit_of edit key.now stamp values.now) result out.new (view defs.now.definitions space.now (P.contents pages.old)) (P.contents pages.new) }
     ensures undisturbed { P.undisturbed pages.old pages.new }
 {
     let shelf = shelf_of(pages, defs, space, key)?;
     let row = row_for(shelf.kind, values)?;
     match edit {
-        EditKind::Insert => insert_at(pages, defs, space, charges, &shelf, stamp, &row, out),
-        EditKind::Update => update_at(pages, space, &shelf, stamp, &row, out),
+        EditKind::Insert => insert_at(pages, page, defs, space, charges, &shelf, stamp, &row, out),
+        EditKind::Update => update_at(pages, page, space, &shelf, stamp, &row, out),
     }
 }
 
 // Puts a row into a series that has none at this stamp.
 fn insert_at<P: Pages>(
     pages: &mut P,
+    page: &mut Page,
     defs: &Defs,
-    space: &mut Space,
+    space: &Space,
     charges: &Charges,
     shelf: &Shelf,
     stamp: Stamp,
     row: &Row,
     out: &mut Reply,
 ) -> Result<Effect, Stop>
-    requires seen { IsSeen P.tells (view defs.now.definitions space.old (P.contents pages.old)) }
-    requires charged { AreCharges charges.now defs.now.definitions space.old }
+    requires seen { IsSeen P.tells (view defs.now.definitions space.now (P.contents pages.old)) }
+    requires charged { AreCharges charges.now defs.now.definitions space.now }
     requires slot { shelf.now.series < 4096 }
     requires columns { heading_at defs.now.definitions shelf.now.series ≡ Some shelf.now.kind.now }
-    requires one { HasOnePage shelf.now.kind.now.columns (P.contents pages.old) (places_of shelf.now.series space.old) }
+    requires one { HasOnePage shelf.now.kind.now.columns (P.contents pages.old) (places_of shelf.now.series space.now) }
     requires fits { IsTrue (fits shelf.now.kind.now.columns row.now) }
     requires empty { out.old ≡ [] }
     ensures carried { (key : List ℕ) (literals : List TheLiteral) → HasRow key literals shelf.now.series shelf.now.kind.now row.now defs.now.definitions
-        → CarriedOut P.tells (InsElem key stamp literals) result out.new (view defs.now.definitions space.old (P.contents pages.old)) (P.contents pages.new) }
-    ensures lists { space.new.lists ≡ space.old.lists }
+        → CarriedOut P.tells (InsElem key stamp literals) result out.new (view defs.now.definitions space.now (P.contents pages.old)) (P.contents pages.new) }
     ensures undisturbed { P.undisturbed pages.old pages.new }
 {
     match room_for(defs, space, charges, shelf.series) {
         Err(refusal) => {
-            let mut page = Page::zero();
-            if irregular_find(pages, &mut page, space, shelf, stamp)?.is_some() {
+            if irregular_find(pages, page, space, shelf, stamp)?.is_some() {
                 return Err(Stop::Refused(Refusal::Duplicate));
             }
             Err(Stop::Refused(refusal))
         }
         Ok(()) => {
             say_stamp(out, stamp)?;
-            let placed = put(pages, space, shelf, stamp, row)?;
-            match placed {
-                Some(places) => Ok(Effect::Places {
+            let old = start_of(space.places(shelf.series));
+            match irregular_insert(pages, page, space, shelf, stamp, row)? {
+                Some(place) => Ok(Effect::Places {
                     slot: shelf.series,
-                    places,
+                    old,
+                    new: Some(place),
                 }),
                 None => Err(Stop::Refused(Refusal::Duplicate)),
             }
@@ -110,92 +109,44 @@ fn insert_at<P: Pages>(
     }
 }
 
-// Puts a row where none is, and gives the places of its series; the directory stays as it was.
-fn put<P: Pages>(
-    pages: &mut P,
-    space: &mut Space,
-    shelf: &Shelf,
-    stamp: Stamp,
-    row: &Row,
-) -> Result<Option<Vec<Place>>, StoreFault>
-    requires slot { shelf.now.series < 4096 }
-    requires one { HasOnePage shelf.now.kind.now.columns (P.contents pages.old) (places_of shelf.now.series space.old) }
-    requires fits { IsTrue (fits shelf.now.kind.now.columns row.now) }
-    requires room { count_of (places_of shelf.now.series space.old) < page_room shelf.now.kind.now.columns }
-    requires spare { places_of shelf.now.series space.old ≡ [] → 0 < length (P.contents pages.old).free }
-    ensures put { IfOk result (IsPutOrThere P.tells shelf.now.series shelf.now.kind.now.columns stamp row.now space.old (P.contents pages.old) (P.contents pages.new)) }
-    ensures call { Answered result (P.contents pages.old) (P.contents pages.new) }
-    ensures bytes { (P.contents pages.new).change_bytes ≤ (P.contents pages.old).change_bytes + 4101 }
-    ensures lists { space.new.lists ≡ space.old.lists }
-    ensures slots { length space.old.lists ≡ 4096 }
-    ensures undisturbed { P.undisturbed pages.old pages.new }
+// Where the place of a series begins, one at most: another one can come in its stead.
+fn start_of(places: &[Place]) -> Option<i64>
+    requires few { length places.now ≤ 1 }
+    ensures { (place : ThePlace) → moved result (Some place) places.now ≡ place ∷ [] }
 {
-    // A directory has a list for each slot.
-    let _slots = space.places(shelf.series);
-    let before = space.saved(shelf.series)?;
-    if !irregular_insert(pages, space, shelf, stamp, row)? {
-        return Ok(None);
+    match places.first() {
+        Some(place) => Some(place.at),
+        None => None,
     }
-    let after = space.saved(shelf.series);
-    space.restore(shelf.series, before);
-    Ok(Some(after?))
 }
 
 // Puts a row at a stamp of a series that has one there.
 fn update_at<P: Pages>(
     pages: &mut P,
-    space: &mut Space,
+    page: &mut Page,
+    space: &Space,
     shelf: &Shelf,
     stamp: Stamp,
     row: &Row,
     out: &mut Reply,
 ) -> Result<Effect, Stop>
     requires slot { shelf.now.series < 4096 }
-    requires one { HasOnePage shelf.now.kind.now.columns (P.contents pages.old) (places_of shelf.now.series space.old) }
+    requires one { HasOnePage shelf.now.kind.now.columns (P.contents pages.old) (places_of shelf.now.series space.now) }
     requires fits { IsTrue (fits shelf.now.kind.now.columns row.now) }
     requires empty { out.old ≡ [] }
     ensures carried { (d : Definitions) (key : List ℕ) (literals : List TheLiteral) → HasRow key literals shelf.now.series shelf.now.kind.now row.now d
-        → CarriedOut P.tells (UpdElem key stamp literals) result out.new (view d space.old (P.contents pages.old)) (P.contents pages.new) }
-    ensures lists { space.new.lists ≡ space.old.lists }
-    ensures undisturbed { P.undisturbed pages.old pages.new }
-{
-    say_stamp(out, stamp)?;
-    match replace(pages, space, shelf, stamp, row)? {
-        Some(places) => Ok(Effect::Places {
-            slot: shelf.series,
-            places,
-        }),
-        None => Err(Stop::Refused(Refusal::Missing)),
-    }
-}
-
-// Puts a row where one is, and gives the places of its series; the directory stays as it was.
-fn replace<P: Pages>(
-    pages: &mut P,
-    space: &mut Space,
-    shelf: &Shelf,
-    stamp: Stamp,
-    row: &Row,
-) -> Result<Option<Vec<Place>>, StoreFault>
-    requires slot { shelf.now.series < 4096 }
-    requires one { HasOnePage shelf.now.kind.now.columns (P.contents pages.old) (places_of shelf.now.series space.old) }
-    requires fits { IsTrue (fits shelf.now.kind.now.columns row.now) }
-    ensures replaced { IfOk result (IsReplacedOrMissing P.tells shelf.now.series shelf.now.kind.now.columns stamp row.now space.old (P.contents pages.old) (P.contents pages.new)) }
-    ensures call { Answered result (P.contents pages.old) (P.contents pages.new) }
-    ensures bytes { (P.contents pages.new).change_bytes ≤ (P.contents pages.old).change_bytes + 4101 }
-    ensures lists { space.new.lists ≡ space.old.lists }
-    ensures slots { length space.old.lists ≡ 4096 }
+        → CarriedOut P.tells (UpdElem key stamp literals) result out.new (view d space.now (P.contents pages.old)) (P.contents pages.new) }
     ensures undisturbed { P.undisturbed pages.old pages.new }
 {
     // A directory has a list for each slot.
     let _slots = space.places(shelf.series);
-    let earlier = space.saved(shelf.series)?;
-    if !irregular_replace(pages, space, shelf, stamp, row)? {
-        return Ok(None);
+    say_stamp(out, stamp)?;
+    let replaced = irregular_replace(pages, page, space, shelf, stamp, row)?;
+    if replaced {
+        Ok(Effect::Pages)
+    } else {
+        Err(Stop::Refused(Refusal::Missing))
     }
-    let after = space.saved(shelf.series);
-    space.restore(shelf.series, earlier);
-    Ok(Some(after?))
 }
 
 // How many elements stand on the page of a series.

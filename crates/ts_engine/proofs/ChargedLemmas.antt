@@ -1,5 +1,5 @@
 -- What containers are charged, by definitions and places that are the same, or of which one series changes.
-use Rattle.std.proofs.Common.{◌≡◌, ◌≢◌, ℕ, suc, ◌+◌, ◌<◌, ◌≤◌, ◌^◌, ◌==◌, if◌then◌else◌, Option, Some, None, List, [], ◌∷◌, length, set, get_or, slice_index_or, get_or-set_same, get_or-set_other, length-set, inl, inr, Vec, Global, refl, sym, ap, ◌∙◌, subst, arith}
+use Rattle.std.proofs.Common.{◌≡◌, ◌≢◌, ℕ, suc, ◌+◌, ◌<◌, ◌≤◌, ◌^◌, ◌==◌, if◌then◌else◌, Option, Some, None, List, [], ◌∷◌, length, set, get_or, slice_index_or, get_or-set_same, get_or-set_other, length-set, inl, inr, ℤ, refl, sym, ap, ◌∙◌, subst, arith}
 use Rattle.std.specs.Option.{option_map, unwrap_or}
 use Rattle.std.proofs.lemmas.Bool.{cases_eq, cases_lt}
 use Rattle.std.proofs.lemmas.List.{get_or_past}
@@ -20,7 +20,7 @@ use Rattle.ts_container.specs.KeptCharges.{AreCharges}
 use Rattle.ts_container.proofs.RoomLemmas.{room_in}
 use Rattle.ts_answer.specs.declared.effect.Effect.{Effect}
 use Rattle.ts_answer.specs.declared.effect.Effect.TheVariants.{Places}
-use Rattle.ts_answer.specs.CarriedOut.{definitions_after, lists_after}
+use Rattle.ts_answer.specs.CarriedOut.{definitions_after, lists_after, moved}
 use Rattle.ts_elements.specs.Elements.{AreFew}
 use Rattle.ts_engine.specs.Charged.{CanCount, IsContainerOf}
 use Rattle.ts_engine.specs.Engine.{Kept}
@@ -50,20 +50,23 @@ pub can_count : (d : Definitions) (space : Directory) (free : List ℕ) (count :
 can_count d space free count kept = record { limits = kept.sound.limits; rules = kept.sound.tables; few = kept.placed.few }
 
 -- and stays so where nothing that counts changes
-pub can_charge_then : (effect : Effect) (e f : Kept) → CanCharge effect e → f.tables.definitions ≡ e.tables.definitions → f.space ≡ e.space → f.charges ≡ e.charges → CanCharge effect f
-can_charge_then effect e f can definitions space charges = record {
-  charged = charges_same e.charges f.charges e.tables.definitions f.tables.definitions e.space f.space can.charged charges definitions (ap (λ (s : Directory). s.lists) space);
-  few = subst (λ (d : Definitions). AreFew d f.space) (sym definitions) (subst (λ (s : Directory). AreFew e.tables.definitions s) (sym space) can.few);
-  before = subst (λ (d : Definitions). CanCount d f.space.lists) (sym definitions) (subst (λ (s : Directory). CanCount e.tables.definitions s.lists) (sym space) can.before);
+pub can_charge_then : (effect : Effect) (e f : Kept) → CanCharge effect e → f.tables.definitions ≡ e.tables.definitions → f.space.lists ≡ e.space.lists → f.charges ≡ e.charges → CanCharge effect f
+can_charge_then effect e f can definitions lists charges = record {
+  charged = charges_same e.charges f.charges e.tables.definitions f.tables.definitions e.space f.space can.charged charges definitions lists;
+  few = λ slot below. subst (λ (n : ℕ). n ≤ 65536)
+      (sym (ap (λ (d : Definitions). charge_in d f.space slot) definitions
+      ∙ alike_in e.space f.space (λ t. ap (λ (ls : List (List Place)). slice_index_or ls t []) lists) e.tables.definitions slot (heading_in e.tables.definitions slot))) (can.few slot below);
+  before = subst (λ (d : Definitions). CanCount d f.space.lists) (sym definitions) (subst (λ (ls : List (List Place)). CanCount e.tables.definitions ls) (sym lists) can.before);
   after = subst (λ (d : Definitions). CanCount (definitions_after effect d) (lists_after effect f.space.lists)) (sym definitions)
-      (subst (λ (s : Directory). CanCount (definitions_after effect e.tables.definitions) (lists_after effect s.lists)) (sym space) can.after);
+      (subst (λ (ls : List (List Place)). CanCount (definitions_after effect e.tables.definitions) (lists_after effect ls)) (sym lists) can.after);
 }
 
 -- the places of a series are one at most, as they can be counted then
-pub one_place : (effect : Effect) (slot : ℕ) (places : Vec Place Global) (d : Definitions) (lists : List (List Place)) → effect ≡ Places slot places → slot < 4096 → length lists ≡ 4096 → CanCount (definitions_after effect d) (lists_after effect lists) → length places.items ≤ 1
-one_place effect slot places d lists is within size can =
+pub one_place : (effect : Effect) (slot : ℕ) (old : Option ℤ) (new : Option Place) (d : Definitions) (lists : List (List Place)) → effect ≡ Places slot old new → slot < 4096 → length lists ≡ 4096 → CanCount (definitions_after effect d) (lists_after effect lists)
+    → length (moved old new (slice_index_or lists slot [])) ≤ 1
+one_place effect slot old new d lists is within size can =
     let after = subst (λ (e : Effect). CanCount (definitions_after e d) (lists_after e lists)) is can in
-    subst (λ (ps : List Place). length ps ≤ 1) (get_or-set_same lists slot places.items [] (omega (arith, within, size))) (after.few slot within)
+    subst (λ (ps : List Place). length ps ≤ 1) (get_or-set_same lists slot (moved old new (slice_index_or lists slot [])) [] (omega (arith, within, size))) (after.few slot within)
 
 -- each series has one place at most, once one has others
 pub few_after : (lists : List (List Place)) (slot : ℕ) (ps : List Place) → ((t : ℕ) → t < 4096 → length (slice_index_or lists t []) ≤ 1) → length ps ≤ 1 → (t : ℕ) → t < 4096 → length (slice_index_or (set lists slot ps) t []) ≤ 1

@@ -6,7 +6,7 @@ use Rattle.std.proofs.lemmas.Int.{by_lt_z, ints}
 use Rattle.ts_row.specs.declared.kind.Column.{Column}
 use Rattle.ts_row.specs.Row.{Values}
 use Rattle.ts_cells.specs.Cell.{Element, IsElement}
-use Rattle.ts_cells.specs.IrregularPage.{AreElements, AreRising, AreInOrder}
+use Rattle.ts_cells.specs.IrregularPage.{AreElements, AreRising, AreInOrder, first_stamp}
 use Rattle.ts_irregular.specs.Edit.{element_at, with_element, without_element, rank_of}
 
 -- what a test of stamps says
@@ -159,6 +159,15 @@ put_there stamp row (e ∷ es) rise there = by_lt_z e.0 stamp
     (λ below. with_element-same stamp row e es high below
     ∙ ap (λ (z : ℤ). (z, row) ∷ es) (let same : e.0 ≡ stamp = omega (arith, ints, high, below) in same)
     ∙ ap (λ (n : ℕ). take n (e ∷ es) ++ (stamp, row) ∷ drop (n + 1) (e ∷ es)) (sym (rank_of-higher stamp e es high))))
+
+-- and keeps the first stamp
+pub first_kept : (stamp : ℤ) (row : Values) (es : List Element) → AreRising es → is_some (element_at stamp es) ≡ true → first_stamp (with_element stamp row es) ≡ first_stamp es
+first_kept stamp row [] rise there = absurd (cc)
+first_kept stamp row (e ∷ es) rise there = by_lt_z e.0 stamp
+    (λ low. ap first_stamp (with_element-lower stamp row e es low))
+    (λ high. by_lt_z stamp e.0
+    (λ above. absurd (let none = element_at-higher stamp e es above ∙ none_after stamp e es rise high in cc))
+    (λ below. ap first_stamp (with_element-same stamp row e es high below)))
 
 -- none is taken away where none is there
 pub take_none : (stamp : ℤ) (es : List Element) → element_at stamp es ≡ None → without_element stamp es ≡ es

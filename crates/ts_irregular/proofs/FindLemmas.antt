@@ -1,5 +1,5 @@
 -- A page that was judged before is read by its head.
-use Rattle.std.proofs.Common.{◌≡◌, ℕ, ℤ, ◌≤◌, Bool, IsTrue, Option, Some, None, Result, Ok, List, [], ◌∷◌, length, drop, inr, sym, ap, subst, ◌∙◌, arith}
+use Rattle.std.proofs.Common.{◌≡◌, ℕ, ℤ, Bool, IsTrue, Option, Some, None, Ok, List, [], ◌∷◌, length, drop, inr, sym, ap, subst, ◌∙◌, arith}
 use Rattle.ts_space.specs.declared.place.Place.{Place}
 use Rattle.ts_page.specs.Head.{head_of}
 use Rattle.ts_page.specs.Pages.{Contents, IsElementPage, Got}

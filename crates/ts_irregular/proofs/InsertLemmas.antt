@@ -1,71 +1,169 @@
--- What an insert leaves, put together from what its parts leave.
-use Rattle.std.proofs.Common.{◌≡◌, ℕ, ◌≤◌, Bool, true, false, cond, ℤ, Option, Some, None, is_some, Result, Ok, Err, List, [], ◌∷◌, length, inl, refl, sym, ap, subst, arith}
-use Rattle.std.specs.Prelude.{Contains, nat_lt, ◌<◌, ◌||◌}
+-- What an insert and a replacement leave, put together from what their parts leave.
+use Rattle.std.proofs.Common.{◌≡◌, ℕ, ◌+◌, ◌<◌, ◌≤◌, Bool, true, IsTrue, ℤ, Option, Some, None, IsSome, is_some, Result, Ok, Err, OnErr, List, [], ◌∷◌, length, drop, inl, refl, sym, ap, subst, ◌∙◌, arith}
+use borrow.Rule.Slice.PartMut.{mid_of}
 use Rattle.ts_space.specs.declared.place.Place.{Place}
-use Rattle.ts_space.specs.Place.{count_of}
-use Rattle.ts_page.specs.Pages.{Contents, Got, IsElementPage, IsLawful}
+use Rattle.ts_page.specs.Pages.{Contents, EqualPages, Got, Put, Taken, IsElementPage}
 use Rattle.ts_row.specs.declared.kind.Column.{Column}
 use Rattle.ts_row.specs.Row.{Values}
-use Rattle.ts_cells.specs.Cell.{Element, page_room}
-use Rattle.ts_irregular.specs.Edit.{element_at, with_element, taken_for, search_of}
-use Rattle.ts_irregular.specs.OnePage.{HasOnePage, IsTakenFor}
-use Rattle.ts_irregular.specs.Call.{ArePut, IsEdited, IsPutNew, IsThereAlready, IsInserted}
+use Rattle.ts_cells.specs.Cell.{Element, IsElement, page_room}
+use Rattle.ts_cells.specs.IrregularPage.{AreElements, AreInOrder, IsIrregularPage, behind_head, irregular_page, first_stamp}
+use Rattle.ts_irregular.specs.Edit.{element_at, with_element, search_of}
+use Rattle.ts_irregular.specs.OnePage.{IsOn, place_of}
+use Rattle.ts_irregular.specs.Call.{AreKept, ArePut, IsEdited, IsOneMore, IsTold, IsPutNew, IsThereAlready, IsPutOver, IsMissing, AreLeft}
+use Rattle.ts_irregular.proofs.BytesLemmas.{length-inserted, length-replaced}
+use Rattle.ts_irregular.proofs.EditLemmas.{with_in_order, first_kept}
+use Rattle.ts_irregular.proofs.FindLemmas.{read_on}
+use Rattle.ts_irregular.proofs.HeadLemmas.{part_behind, length-page}
+use Rattle.ts_irregular.proofs.KeptLemmas.{put_after, same_after, kept_put, kept_after, place_is, some_same}
+use Rattle.ts_irregular.proofs.PutLemmas.{put_before, put_instead}
 use Rattle.ts_irregular.proofs.SearchLemmas.{search_ok, search_err}
-use Rattle.ts_irregular.proofs.KeptLemmas.{edited_put, edit_keeps_one, found_on}
+use Rattle.ts_irregular.proofs.SeeLemmas.{behind_told}
 
--- where none is at the stamp, none is among those that a page is taken for
-none_for : (b : Bool) (stamp : ℤ) (es : List Element) → element_at stamp es ≡ None → element_at stamp (cond b es []) ≡ None
-none_for true stamp es none = none
-none_for false stamp es none = refl
+some_is : {A : Type 0} (o : Option A) → is_some o ≡ true → IsSome o
+some_is (Some a) some = refl
+some_is None some = absurd (cc)
 
--- a row is put at a stamp that a search didn't find
-pub put_new : (tells : Bool) (slot index : ℕ) (columns : List Column) (stamp : ℤ) (row : Values) (place : Place) (es : List Element) (bytes : List ℕ) (now : List Place) (v u w : Contents)
-    → IsTakenFor slot columns bytes place es → length es ≤ page_room columns → Got tells place.page bytes (Ok tt) v u → IsElementPage place.page → count_of (place ∷ []) < page_room columns
-    → ◌≡◌ {A = Result ℕ ℕ} (Err index) (search_of stamp es) → ArePut tells slot columns (place ∷ []) (with_element stamp row (taken_for (page_room columns) stamp es)) now u w
-    → IsPutNew tells slot columns stamp row (place ∷ []) now v w
-unfolding edited_put
-put_new tells slot index columns stamp row place es bytes now v u w taken room got element space told put = record {
-  edited = edited_put tells slot columns stamp row place es bytes now v u w taken room got element (inl space) put;
-  absent = none_for (nat_lt (length es) (page_room columns) || is_some (element_at stamp es)) stamp es (search_err stamp es index told).0;
-}
+-- a page whose elements are as many and begin at the same stamp keeps its place
+place_stays : (place : Place) (es : List Element) → length es ≡ place.count → first_stamp es ≡ Some place.at → place_of place.page es ≡ place ∷ []
+place_stays place [] count first = absurd (cc)
+place_stays place (e ∷ es) count first = sym (place_is place e es count (some_same first))
 
--- a first element is put where none was
-pub first_new : (tells : Bool) (slot : ℕ) (columns : List Column) (stamp : ℤ) (row : Values) (old now : List Place) (v w : Contents) → old ≡ [] → IsEdited tells slot columns stamp (Some row) [] now v w
-    → IsPutNew tells slot columns stamp row old now v w
-first_new tells slot columns stamp row old now v w none put =
-    let P : List Place → Type 0 = λ l. IsPutNew tells slot columns stamp row l now v w in
-    subst P (sym none) (record { edited = put; absent = ap (element_at stamp) put.seen })
+-- an error leaves the pages
+pub on_any_err : {T E P : Type 0} (result : Result T E) → P → OnErr result P
+on_any_err (Ok t) p = tt
+on_any_err (Err e) p = p
 
-some_there : (o : Option Values) → is_some o ≡ true → (row : Values) × (o ≡ Some row)
-some_there (Some row) some = (row, refl)
-some_there None some = absurd (cc)
+pub left_after : (tells : Bool) (v u w : Contents) → (IsTrue tells → EqualPages v.page u.page) → u.free ≡ v.free → (IsTrue tells → EqualPages u.page w.page) → w.free ≡ u.free → AreLeft tells v w
+left_after tells v u w first free second later = record { pages = λ told. same_after v.page u.page w.page (first told) (second told); free = inl (later ∙ free) }
 
--- a search found the stamp
-pub there_already : (tells : Bool) (slot count index : ℕ) (columns : List Column) (stamp : ℤ) (place : Place) (es : List Element) (bytes : List ℕ) (now : List Place) (v u : Contents)
-    → IsElementPage place.page → Got tells place.page bytes (Ok tt) v u → IsTakenFor slot columns bytes place es → length es ≡ count → count ≤ page_room columns
-    → ◌≡◌ {A = Result ℕ ℕ} (Ok index) (search_of stamp es) → now ≡ place ∷ [] → IsThereAlready tells slot columns stamp (place ∷ []) now v u
-there_already tells slot count index columns stamp place es bytes now v u element got taken size room told known =
-    let there = some_there (element_at stamp es) (search_ok stamp es index told).0 in record {
-      row = there.0;
-      found = found_on tells slot count columns stamp (place ∷ []) place es bytes (Some there.0) v u refl element got taken size room (sym there.1);
-      places = known;
-      free = got.free;
-      pages = got.pages;
+-- the elements that the place of a page tells of, in what it was taken for
+pub record AreRead (columns : List Column) (place : Place) (size : ℕ) (bytes : List ℕ) (es : List Element) : Type 0 where
+  pub order : AreInOrder columns es
+  pub told : length es ≡ place.count
+  pub count : length es ≡ size
+  pub first : first_stamp es ≡ Some place.at
+  pub behind : drop 32 bytes ≡ behind_head columns es
+  pub part : mid_of 32 4064 bytes ≡ behind_head columns es
+
+-- the page of a series was read, and taken for one of so many elements
+module _ (tells : Bool) (slot : ℕ) (columns : List Column) (stamp : ℤ) (place : Place) (got_bytes : List ℕ) (v u : Contents) (element : IsElementPage place.page) (got : Got tells place.page got_bytes (Ok tt) v u)
+    (count : ℕ) (bytes : List ℕ) (taken : (es : List Element) → IsOn slot columns got_bytes place es → (length es ≡ count) × (bytes ≡ got_bytes)) where
+  pub are_read : IsTold tells slot columns (place ∷ []) v (AreRead columns place count bytes)
+  are_read t es on =
+      let read = read_on tells slot columns (place ∷ []) place got_bytes v u refl element got t es on in
+      let own = taken es read in
+      let order = read.bytes.fill.elements in
+      let is : IsIrregularPage slot columns es bytes = subst (λ (b : List ℕ). IsIrregularPage slot columns es b) (sym own.1) read.bytes in
+      let behind = behind_told slot columns es bytes is in
+      record {
+        order = order;
+        told = read.count;
+        count = own.0;
+        first = read.first;
+        behind = behind;
+        part = part_behind 4064 bytes (length-page columns es bytes order.each read.bytes.fill.room behind) ∙ behind;
+      }
+
+  -- and its stamps were searched
+  abbrev pub Searched : Result ℕ ℕ → Type 0
+  Searched found = (es : List Element) → AreInOrder columns es → length es ≡ count → mid_of 32 4064 bytes ≡ behind_head columns es → found ≡ search_of stamp es
+
+  searched_in : (found : Result ℕ ℕ) → Searched found → IsTold tells slot columns (place ∷ []) v (λ es. found ≡ search_of stamp es)
+  searched_in found searched t es on = let r = are_read t es on in searched es r.order r.count r.part
+
+  pub found_told : (index : ℕ) → Searched (Ok index) → IsTold tells slot columns (place ∷ []) v (λ es. IsSome (element_at stamp es))
+  found_told index searched t es on = some_is (element_at stamp es) (search_ok stamp es index (searched_in (Ok index) searched t es on)).0
+
+  pub absent_told : (index : ℕ) → Searched (Err index) → IsTold tells slot columns (place ∷ []) v (λ es. element_at stamp es ≡ None)
+  absent_told index searched t es on = (search_err stamp es index (searched_in (Err index) searched t es on)).0
+
+  pub there_already : (index : ℕ) → Searched (Ok index) → IsThereAlready tells slot columns stamp (place ∷ []) v u
+  there_already index searched = record { there = found_told index searched; same = record { free = got.free; pages = got.pages } }
+
+  pub is_missing : (index : ℕ) → Searched (Err index) → IsMissing tells slot columns stamp (place ∷ []) v u
+  is_missing index searched = record { absent = absent_told index searched; same = record { free = got.free; pages = got.pages } }
+
+  -- the page was put with a row more, or another one
+  module _ (row : Values) (is : IsElement columns (stamp, row)) (page : List ℕ) (w : Contents) (put : Put tells place.page page (Ok tt) u w) where
+    put_told : (es : List Element) (now : Place) → AreInOrder columns es → 1 ≤ length es → length es ≤ page_room columns → page ≡ irregular_page slot columns es → place_of place.page es ≡ now ∷ []
+        → ArePut tells slot columns (place ∷ []) es (now ∷ []) v w
+    put_told es now order some room made listed = record {
+      order = order;
+      room = room;
+      kept = kept_after tells slot columns place es (now ∷ []) v u w got.pages got.free
+          (kept_put tells slot columns place es (now ∷ []) u w some put.free
+          (record { places = sym listed; pages = λ told. put_after place.page page (irregular_page slot columns es) u.page u.page w.page made (λ n. refl) (put.put told) }));
     }
 
--- a series stays one that has no page or one
-pub one_stays : (columns : List Column) (places : List Place) (v w : Contents) → w.free ≡ v.free → w.count ≡ v.count → HasOnePage columns v places → HasOnePage columns w places
-one_stays columns [] v w free count one = tt
-one_stays columns (place ∷ []) v w free count one = record {
-  element = one.element;
-  below = omega (arith, one.below, count);
-  used = λ has. one.used (subst (λ (l : List ℕ). Contains l place.page) free has);
-  some = one.some;
-  room = one.room;
-}
-one_stays columns (place ∷ other ∷ places) v w free count one = absurd one
+    pub put_new : (index : ℕ) (now : Place) → Searched (Err index) → index ≤ count → count < page_room columns → count ≤ place.count
+        → ((es : List Element) → AreInOrder columns es → length es ≡ count → ◌≡◌ {A = Result ℕ ℕ} (search_of stamp es) (Err index) → drop 32 bytes ≡ behind_head columns es → page ≡ irregular_page slot columns (with_element stamp row es))
+        → ((es : List Element) → AreElements columns es → length es ≡ count + 1 → page ≡ irregular_page slot columns es → place_of place.page es ≡ now ∷ [])
+        → now.page ≡ place.page → now.count ≡ count + 1 → IsPutNew tells slot columns stamp row (place ∷ []) now v w
+    put_new index now searched within room few made listed number more = record {
+      more = (put.free ∙ got.free, number, omega (arith, more), omega (arith, more, few));
+      absent = absent_told index searched;
+      put = λ t es on.
+          let r = are_read t es on in
+          let missing = searched es r.order r.count r.part in
+          let whole = made es r.order r.count (sym missing) r.behind in
+          let size : length (with_element stamp row es) ≡ count + 1 =
+          ap length (put_before stamp row es index missing) ∙ length-inserted index count (stamp, row) es r.count within in
+          let order = with_in_order columns stamp row es r.order is in
+          put_told (with_element stamp row es) now order (omega (arith, size)) (omega (arith, size, room)) whole (listed (with_element stamp row es) order.each size whole);
+    }
 
-pub insert_keeps_one : (put tells : Bool) (slot : ℕ) (columns : List Column) (stamp : ℤ) (row : Values) (old new : List Place) (v w : Contents) → IsLawful tells v → w.count ≡ v.count → HasOnePage columns v old
-    → IsInserted tells slot columns stamp row old new v w put → HasOnePage columns w new
-insert_keeps_one true tells slot columns stamp row old new v w lawful count one done = edit_keeps_one tells slot columns stamp (Some row) old new v w lawful count one done.edited
-insert_keeps_one false tells slot columns stamp row old new v w lawful count one done = subst (HasOnePage columns w) (sym done.places) (one_stays columns old v w done.free count one)
+    pub put_over : (index : ℕ) → Searched (Ok index) → index < count → count ≤ page_room columns
+        → ((es : List Element) → AreInOrder columns es → length es ≡ count → ◌≡◌ {A = Result ℕ ℕ} (search_of stamp es) (Ok index) → drop 32 bytes ≡ behind_head columns es → page ≡ irregular_page slot columns (with_element stamp row es))
+        → IsPutOver tells slot columns stamp row (place ∷ []) v w
+    put_over index searched within room made = record {
+      free = put.free ∙ got.free;
+      there = found_told index searched;
+      put = λ t es on.
+          let r = are_read t es on in
+          let found = searched es r.order r.count r.part in
+          let size : length (with_element stamp row es) ≡ count =
+          ap length (put_instead stamp row es index r.order.rising found) ∙ length-replaced index (stamp, row) es (omega (arith, r.count, within)) ∙ r.count in
+          let first = first_kept stamp row es r.order.rising (search_ok stamp es index found).0 ∙ r.first in
+          put_told (with_element stamp row es) place (with_in_order columns stamp row es r.order is) (omega (arith, size, within)) (omega (arith, size, room)) (made es r.order r.count (sym found) r.behind)
+          (place_stays place (with_element stamp row es) (size ∙ sym r.count ∙ r.told) first);
+    }
+
+-- a first element is put on a page that was taken
+pub put_alone : (tells : Bool) (slot number : ℕ) (columns : List Column) (e : Element) (now : Place) (page : List ℕ) (v u w : Contents) → Taken tells number v u → IsElement columns e → page ≡ irregular_page slot columns (e ∷ []) → 1 ≤ page_room columns
+    → Put tells number page (Ok tt) u w → place_of number (e ∷ []) ≡ now ∷ [] → ArePut tells slot columns [] (e ∷ []) (now ∷ []) v w
+put_alone tells slot number columns e now page v u w taken is made room put listed = record {
+  order = record { each = (is, tt); rising = tt };
+  room = omega (arith, room);
+  kept = (
+    number,
+    taken.listed ∙ ap (λ (l : List ℕ). number ∷ l) (sym put.free),
+    record { places = sym listed; pages = λ told. put_after number page (irregular_page slot columns (e ∷ [])) v.page u.page w.page made (taken.pages told) (put.put told) },
+  );
+}
+
+-- and the directory has its place
+pub first_edited : (tells : Bool) (slot : ℕ) (columns : List Column) (stamp : ℤ) (row : Values) (place : Place) (now : List Place) (v w : Contents) → ArePut tells slot columns [] (with_element stamp row []) (place ∷ []) v w → now ≡ place ∷ []
+    → IsEdited tells slot columns stamp (Some row) [] now v w
+first_edited tells slot columns stamp row place now v w put is = record {
+  elements = [];
+  seen = refl;
+  order = put.order;
+  room = put.room;
+  kept = subst (λ (ps : List Place). AreKept tells slot columns [] (with_element stamp row []) ps v w) (sym is) put.kept;
+}
+
+-- a series without a page
+pub first_new : (tells : Bool) (slot : ℕ) (columns : List Column) (stamp : ℤ) (row : Values) (old : List Place) (place : Place) (v w : Contents) → old ≡ [] → IsOneMore [] place v w → ArePut tells slot columns [] (with_element stamp row []) (place ∷ []) v w
+    → IsPutNew tells slot columns stamp row old place v w
+first_new tells slot columns stamp row old place v w none more put =
+    let P : List Place → Type 0 = λ l. IsPutNew tells slot columns stamp row l place v w in
+    subst P (sym none) (record {
+      more = more;
+      absent = λ t es on. ap (element_at stamp) on;
+      put = λ t es on. subst (λ (fs : List Element). ArePut tells slot columns [] (with_element stamp row fs) (place ∷ []) v w) (sym on) put;
+    })
+
+pub none_missing : (tells : Bool) (slot : ℕ) (columns : List Column) (stamp : ℤ) (places : List Place) (v : Contents) → places ≡ [] → IsMissing tells slot columns stamp places v v
+none_missing tells slot columns stamp places v none =
+    let P : List Place → Type 0 = λ l. IsMissing tells slot columns stamp l v v in
+    subst P (sym none) (record { absent = λ t es on. ap (element_at stamp) on; same = record { free = refl; pages = λ told n. refl } })

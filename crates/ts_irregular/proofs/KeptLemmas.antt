@@ -204,10 +204,10 @@ same_page number n bytes pages same =
     ] refl
 
 -- the place that a page with one element at least has
-place_is : (place : Place) (e : Element) (es : List Element) → length (e ∷ es) ≡ place.count → e.0 ≡ place.at → place ∷ [] ≡ place_of place.page (e ∷ es)
+pub place_is : (place : Place) (e : Element) (es : List Element) → length (e ∷ es) ≡ place.count → e.0 ≡ place.at → place ∷ [] ≡ place_of place.page (e ∷ es)
 place_is place e es count first = λ j. record { at = sym first j; page = place.page; count = sym count j } ∷ []
 
-some_same : {a b : ℤ} → ◌≡◌ {A = Option ℤ} (Some a) (Some b) → a ≡ b
+pub some_same : {a b : ℤ} → ◌≡◌ {A = Option ℤ} (Some a) (Some b) → a ≡ b
 some_same e = cc
 
 put_on_same : (tells : Bool) (slot : ℕ) (columns : List Column) (place : Place) (es : List Element) (bytes : List ℕ) (now : List Place) (v u : Contents) → 1 ≤ length es → (es ≡ []) ⊎ IsOn slot columns bytes place es

@@ -1,7 +1,6 @@
 pub mod EditLemmas
 pub mod BytesLemmas
 pub mod SeeLemmas
-pub mod ReplaceLemmas
 pub mod SearchLemmas
 pub mod PutLemmas
 pub mod HeadLemmas

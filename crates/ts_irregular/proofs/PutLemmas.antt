@@ -32,13 +32,21 @@ taken_full room stamp es full none =
     let past : nat_lt (length es) room ≡ false = grind (arith, nat_tests) in
     (λ j. cond (past j || is_some (none j)) es [])
 
+-- a row before the one of an index, and in place of it
+pub put_before : (stamp : ℤ) (row : Values) (es : List Element) (i : ℕ) → ◌≡◌ {A = Result ℕ ℕ} (Err i) (search_of stamp es) → with_element stamp row es ≡ take i es ++ (stamp, row) ∷ drop i es
+put_before stamp row es i missing =
+    let s = search_err stamp es i missing in put_new stamp row es s.0 ∙ ap (λ (n : ℕ). take n es ++ (stamp, row) ∷ drop n es) (sym s.1)
+
+pub put_instead : (stamp : ℤ) (row : Values) (es : List Element) (i : ℕ) → AreRising es → ◌≡◌ {A = Result ℕ ℕ} (Ok i) (search_of stamp es) → with_element stamp row es ≡ take i es ++ (stamp, row) ∷ drop (i + 1) es
+put_instead stamp row es i rise found =
+    let s = search_ok stamp es i found in put_there stamp row es rise s.0 ∙ ap (λ (n : ℕ). take n es ++ (stamp, row) ∷ drop (n + 1) es) (sym s.1)
+
 -- a row over another
 pub put_over : (room : ℕ) (stamp : ℤ) (row : Values) (es : List Element) (i : ℕ) → AreRising es → ◌≡◌ {A = Result ℕ ℕ} (Ok i) (search_of stamp es)
     → with_element stamp row (taken_for room stamp es) ≡ take i es ++ (stamp, row) ∷ drop (i + 1) es
 put_over room stamp row es i rise found =
     let s = search_ok stamp es i found in
-    ap (with_element stamp row) (taken_there room stamp es s.0) ∙ put_there stamp row es rise s.0
-    ∙ ap (λ (n : ℕ). take n es ++ (stamp, row) ∷ drop (n + 1) es) (sym s.1)
+    ap (with_element stamp row) (taken_there room stamp es s.0) ∙ put_instead stamp row es i rise found
 
 pub count_over : (room : ℕ) (stamp : ℤ) (row : Values) (es : List Element) (i : ℕ) → AreRising es → ◌≡◌ {A = Result ℕ ℕ} (Ok i) (search_of stamp es) → i < length es
     → length (with_element stamp row (taken_for room stamp es)) ≡ length es
@@ -47,10 +55,7 @@ count_over room stamp row es i rise found within = ap length (put_over room stam
 -- a row between others
 pub put_between : (room : ℕ) (stamp : ℤ) (row : Values) (es : List Element) (i : ℕ) → ◌≡◌ {A = Result ℕ ℕ} (Err i) (search_of stamp es) → length es < room
     → with_element stamp row (taken_for room stamp es) ≡ take i es ++ (stamp, row) ∷ drop i es
-put_between room stamp row es i missing few =
-    let s = search_err stamp es i missing in
-    ap (with_element stamp row) (taken_room room stamp es few) ∙ put_new stamp row es s.0
-    ∙ ap (λ (n : ℕ). take n es ++ (stamp, row) ∷ drop n es) (sym s.1)
+put_between room stamp row es i missing few = ap (with_element stamp row) (taken_room room stamp es few) ∙ put_before stamp row es i missing
 
 pub count_between : (room : ℕ) (stamp : ℤ) (row : Values) (es : List Element) (i n : ℕ) → ◌≡◌ {A = Result ℕ ℕ} (Err i) (search_of stamp es) → length es < room → length es ≡ n → i ≤ n
     → length (with_element stamp row (taken_for room stamp es)) ≡ n + 1

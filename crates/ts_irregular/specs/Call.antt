@@ -1,5 +1,5 @@
 -- What the calls do to pages and places.
-use Rattle.std.specs.Prelude.{◌≡◌, ◌⊎◌, ℕ, ◌≤◌, ℤ, Bool, true, false, IsTrue, Option, Some, None, IsSome, Result, List, [], ◌∷◌, length}
+use Rattle.std.specs.Prelude.{◌≡◌, ◌⊎◌, ℕ, ◌+◌, ◌≤◌, ℤ, Bool, true, false, IsTrue, Option, Some, None, IsSome, Result, List, [], ◌∷◌, length}
 use Rattle.ts_base.specs.declared.fault.StoreFault.{StoreFault}
 use Rattle.ts_space.specs.declared.place.Place.{Place}
 use Rattle.ts_space.specs.Directory.{Directory}
@@ -9,7 +9,7 @@ use Rattle.ts_row.specs.declared.kind.Column.{Column}
 use Rattle.ts_row.specs.Row.{Values}
 use Rattle.ts_cells.specs.Cell.{Element, page_room}
 use Rattle.ts_cells.specs.IrregularPage.{AreInOrder, irregular_page}
-use Rattle.ts_irregular.specs.Edit.{element_at, last_of, edited}
+use Rattle.ts_irregular.specs.Edit.{element_at, with_element, last_of, edited}
 use Rattle.ts_irregular.specs.OnePage.{place_of, AreOn, AreSeen}
 
 -- pages are read
@@ -75,42 +75,60 @@ pub record IsEdited (tells : Bool) (slot : ℕ) (columns : List Column) (stamp :
   pub room : length (edited stamp row elements) ≤ page_room columns
   pub kept : AreKept tells slot columns old (edited stamp row elements) new v w
 
--- among the elements that are seen none is at the stamp, and the row is put there
-pub record IsPutNew (tells : Bool) (slot : ℕ) (columns : List Column) (stamp : ℤ) (row : Values) (old new : List Place) (v w : Contents) : Type 0 where
-  pub edited : IsEdited tells slot columns stamp (Some row) old new v w
-  pub absent : element_at stamp edited.elements ≡ None
+-- Where the pages are told, this holds of the elements that they have and their places tell of. Of pages that have none such it
+-- says nothing.
+abbrev pub IsTold : Bool → ℕ → List Column → List Place → Contents → (List Element → Type 0) → Type 0
+IsTold tells slot columns places v P = IsTrue tells → (es : List Element) → AreOn slot columns v.page places es → P es
 
--- among the elements that are seen one is at the stamp, and everything stays
-pub record IsThereAlready (tells : Bool) (slot : ℕ) (columns : List Column) (stamp : ℤ) (old new : List Place) (v w : Contents) : Type 0 where
-  pub row : Values
-  pub found : IsFound tells slot columns stamp old v (Some row)
-  pub places : new ≡ old
+-- On every volume: a series that had these places has this one, of its page or of one that was taken, with one element more; or with fewer,
+-- where its page disagreed with its place.
+abbrev pub IsOneMore : List Place → Place → Contents → Contents → Type 0
+IsOneMore [] new v w = (v.free ≡ new.page ∷ w.free) × (new.count ≡ 1)
+IsOneMore (old ∷ others) new v w = (w.free ≡ v.free) × (new.page ≡ old.page) × (1 ≤ new.count) × (new.count ≤ old.count + 1)
+
+-- all pages stay, and the free ones of them
+pub record ArePagesSame (tells : Bool) (v w : Contents) : Type 0 where
   pub free : w.free ≡ v.free
   pub pages : IsTrue tells → EqualPages v.page w.page
 
--- a row is put, or one is there
-abbrev pub IsInserted : Bool → ℕ → List Column → ℤ → Values → List Place → List Place → Contents → Contents → Bool → Type 0
-IsInserted tells slot columns stamp row old new v w true = IsPutNew tells slot columns stamp row old new v w
-IsInserted tells slot columns stamp row old new v w false = IsThereAlready tells slot columns stamp old new v w
+-- a row is put at a stamp at which none of the told elements stands, and the series has this place
+pub record IsPutNew (tells : Bool) (slot : ℕ) (columns : List Column) (stamp : ℤ) (row : Values) (old : List Place) (new : Place) (v w : Contents) : Type 0 where
+  pub more : IsOneMore old new v w
+  pub absent : IsTold tells slot columns old v (λ es. element_at stamp es ≡ None)
+  pub put : IsTold tells slot columns old v (λ es. ArePut tells slot columns old (with_element stamp row es) (new ∷ []) v w)
 
--- among the elements that are seen one is at the stamp, and the row is put in its place
-pub record IsPutOver (tells : Bool) (slot : ℕ) (columns : List Column) (stamp : ℤ) (row : Values) (old new : List Place) (v w : Contents) : Type 0 where
-  pub edited : IsEdited tells slot columns stamp (Some row) old new v w
-  pub there : IsSome (element_at stamp edited.elements)
+-- one of the told elements is at the stamp, and everything stays
+pub record IsThereAlready (tells : Bool) (slot : ℕ) (columns : List Column) (stamp : ℤ) (places : List Place) (v w : Contents) : Type 0 where
+  pub there : IsTold tells slot columns places v (λ es. IsSome (element_at stamp es))
+  pub same : ArePagesSame tells v w
 
--- among the elements that are seen none is at the stamp, and everything stays
-pub record IsMissing (tells : Bool) (slot : ℕ) (columns : List Column) (stamp : ℤ) (old new : List Place) (v w : Contents) : Type 0 where
-  pub found : IsFound tells slot columns stamp old v None
-  pub places : new ≡ old
+-- a row is put, and the series has this place; or one is there
+abbrev pub IsInserted : Bool → ℕ → List Column → ℤ → Values → List Place → Contents → Contents → Option Place → Type 0
+IsInserted tells slot columns stamp row places v w (Some new) = IsPutNew tells slot columns stamp row places new v w
+IsInserted tells slot columns stamp row places v w None = IsThereAlready tells slot columns stamp places v w
+
+-- one of the told elements is at the stamp, and the row is put in its place; all places stay
+pub record IsPutOver (tells : Bool) (slot : ℕ) (columns : List Column) (stamp : ℤ) (row : Values) (places : List Place) (v w : Contents) : Type 0 where
   pub free : w.free ≡ v.free
-  pub pages : IsTrue tells → EqualPages v.page w.page
+  pub there : IsTold tells slot columns places v (λ es. IsSome (element_at stamp es))
+  pub put : IsTold tells slot columns places v (λ es. ArePut tells slot columns places (with_element stamp row es) places v w)
+
+-- none of the told elements is at the stamp, and everything stays
+pub record IsMissing (tells : Bool) (slot : ℕ) (columns : List Column) (stamp : ℤ) (places : List Place) (v w : Contents) : Type 0 where
+  pub absent : IsTold tells slot columns places v (λ es. element_at stamp es ≡ None)
+  pub same : ArePagesSame tells v w
 
 -- a row is put in place of one, or none is there
-abbrev pub IsReplaced : Bool → ℕ → List Column → ℤ → Values → List Place → List Place → Contents → Contents → Bool → Type 0
-IsReplaced tells slot columns stamp row old new v w true = IsPutOver tells slot columns stamp row old new v w
-IsReplaced tells slot columns stamp row old new v w false = IsMissing tells slot columns stamp old new v w
+abbrev pub IsReplaced : Bool → ℕ → List Column → ℤ → Values → List Place → Contents → Contents → Bool → Type 0
+IsReplaced tells slot columns stamp row places v w true = IsPutOver tells slot columns stamp row places v w
+IsReplaced tells slot columns stamp row places v w false = IsMissing tells slot columns stamp places v w
 
--- an edit that fails leaves the pages and all places; one page may be taken
+-- an edit that fails leaves the pages; one may be taken
+pub record AreLeft (tells : Bool) (v w : Contents) : Type 0 where
+  pub pages : IsTrue tells → EqualPages v.page w.page
+  pub free : (w.free ≡ v.free) ⊎ ((number : ℕ) × (v.free ≡ number ∷ w.free))
+
+-- and all places
 pub record IsNotEdited (tells : Bool) (old new : Directory) (v w : Contents) : Type 0 where
   pub places : new.lists ≡ old.lists
   pub pages : IsTrue tells → EqualPages v.page w.page

@@ -67,8 +67,8 @@ pub(crate) fn take_row(kind: &RowType, behind: &mut [u8], count: usize, stamp: S
     }
 }
 
-// Puts an element before that of an index.
-fn insert_cell(
+/// Puts an element before that of an index.
+pub(crate) fn insert_cell(
     kind: &RowType,
     behind: &mut [u8],
     count: usize,
@@ -89,8 +89,8 @@ fn insert_cell(
     write_cell(kind, stamp, row, &mut behind[at..at + size]);
 }
 
-// Puts an element in place of that of an index.
-fn replace_cell(kind: &RowType, behind: &mut [u8], index: usize, stamp: Stamp, row: &Row)
+/// Puts an element in place of that of an index.
+pub(crate) fn replace_cell(kind: &RowType, behind: &mut [u8], index: usize, stamp: Stamp, row: &Row)
     requires size { length behind.old ≡ 4064 }
     requires index { index < page_room kind.now.columns }
     requires fits { IsTrue (fits kind.now.columns row.now) }

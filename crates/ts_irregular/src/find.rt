@@ -2,7 +2,7 @@
 ghost use Rattle.std.specs.Prelude.{◌≡◌, ◌↔◌, ◌<◌, ◌≤◌, IsTrue, IfOk, IfSome, List, length};
 ghost use Rattle.ts_row.specs.Row.{fits};
 ghost use Rattle.ts_space.specs.Directory.{places_of};
-ghost use Rattle.ts_page.specs.Head.{head_of};
+ghost use Rattle.ts_page.specs.Head.{head_of, zero_page};
 ghost use Rattle.ts_cells.specs.Cell.{Element, page_room};
 ghost use Rattle.ts_irregular.specs.OnePage.{IsReadable, IsOn, told_in};
 ghost use Rattle.ts_irregular.specs.Call.{Reads, IsRowThere};
@@ -44,6 +44,7 @@ pub fn irregular_find<P: Pages>(
 pub(crate) fn count_told(shelf: &Shelf, place: &Place, page: &Page) -> usize
     ensures told { (es : List Element) → IsOn shelf.now.series shelf.now.kind.now.columns page.now.bytes place.now es → length es ≡ result }
     ensures room { result ≤ page_room shelf.now.kind.now.columns }
+    ensures few { result ≤ place.now.count }
 {
     let Some((series, count)) = told(page) else {
         return 0;
@@ -55,6 +56,21 @@ pub(crate) fn count_told(shelf: &Shelf, place: &Place, page: &Page) -> usize
         return 0;
     }
     count as usize
+}
+
+/// The same for an edit: where the head disagrees with the place, the page is one without elements.
+pub(crate) fn count_taken(shelf: &Shelf, place: &Place, page: &mut Page) -> usize
+    ensures told { (es : List Element) → IsOn shelf.now.series shelf.now.kind.now.columns page.old.bytes place.now es
+        → (length es ≡ result) × (page.new.bytes ≡ page.old.bytes) }
+    ensures none { result ≡ 0 → page.new.bytes ≡ zero_page }
+    ensures room { result ≤ page_room shelf.now.kind.now.columns }
+    ensures few { result ≤ place.now.count }
+{
+    let count = count_told(shelf, place, page);
+    if count == 0 {
+        *page = Page::zero();
+    }
+    count
 }
 
 // The slot of the series and the number of elements that the head of an irregular page tells.

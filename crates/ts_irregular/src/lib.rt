@@ -1,10 +1,11 @@
-//! The elements of an irregular series on one page: the row at a stamp is read, put or taken away. A page is read whole
-//! and judged against its place in the directory; one that doesn't agree is taken as a page without elements.
-//! `irregular_find` and `irregular_last` compare its head alone, for a page that was judged before. Each call says which elements it saw, and
-//! an edit leaves the page of these with one changed (`specs/Edit`, `specs/OnePage`, `specs/Call`). A `let _width = ..;`
-//! that nothing uses stands for the proof alone: it brings in what the call ensures, which the word above it names. Stands
-//! on ts_cells, ts_space and ts_page; knows nothing of definitions, quotas or journals. Read `specs/Edit.antt`,
-//! `specs/Call.antt`, then `get.rt`, `set.rt`, `insert.rt` and `replace.rt`.
+//! The elements of an irregular series on one page: the row at a stamp is read, put or taken away. `irregular_find`,
+//! `irregular_last`, `irregular_insert` and `irregular_replace` take a page as the one that was judged when the volume was opened: its head is
+//! compared with its place, and its stamps are searched once. `irregular_get` and `irregular_set` judge it whole. All take a page that disagrees
+//! with its place as one without elements. Each call says which elements it saw, and an edit leaves the page of these
+//! with one changed (`specs/Edit`, `specs/OnePage`, `specs/Call`). A `let _width = ..;` that nothing uses stands for the
+//! proof alone: it brings in what the call ensures, which the word above it names. Stands on ts_cells, ts_space and
+//! ts_page; knows nothing of definitions, quotas or journals. Read `specs/Edit.antt`, `specs/Call.antt`, then `find.rt`,
+//! `insert.rt`, `replace.rt`, `get.rt` and `set.rt`.
 #![tactic(auto)]
 
 mod cells;

@@ -1,12 +1,12 @@
 // The page of a series, edited, and its place.
-ghost use Rattle.std.specs.Prelude.{◌≡◌, ◌≤◌, IsTrue, List, [], ◌∷◌, length, drop};
+ghost use Rattle.std.specs.Prelude.{◌≡◌, ◌<◌, ◌≤◌, IsTrue, Ok, Err, List, [], ◌∷◌, length, drop};
 ghost use Rattle.ts_row.specs.Row.{fits};
 ghost use Rattle.ts_cells.specs.Cell.{Element, page_room};
 ghost use Rattle.ts_cells.specs.IrregularPage.{AreElements, AreInOrder, behind_head, irregular_page};
-ghost use Rattle.ts_irregular.specs.Edit.{with_element, without_element, taken_for};
+ghost use Rattle.ts_irregular.specs.Edit.{with_element, without_element, search_of, taken_for};
 ghost use Rattle.ts_irregular.specs.OnePage.{place_of};
 
-use crate::cells::{put_row, take_row};
+use crate::cells::{insert_cell, put_row, replace_cell, take_row};
 use crate::search::units_in;
 use ts_base::Stamp;
 use ts_page::{Head, Page};
@@ -57,6 +57,53 @@ pub(crate) fn take_out(shelf: &Shelf, page: &mut Page, count: usize, stamp: Stam
     count
 }
 
+/// Puts a row at a stamp into a page with so many elements, before the one of an index: none is at the stamp.
+pub(crate) fn insert_into(
+    shelf: &Shelf,
+    page: &mut Page,
+    count: usize,
+    index: usize,
+    stamp: Stamp,
+    row: &Row,
+)
+    requires room { count < page_room shelf.now.kind.now.columns }
+    requires index { index ≤ count }
+    requires fits { IsTrue (fits shelf.now.kind.now.columns row.now) }
+    ensures { (es : List Element) → AreInOrder shelf.now.kind.now.columns es → length es ≡ count → search_of stamp es ≡ Err index
+        → drop 32 page.old.bytes ≡ behind_head shelf.now.kind.now.columns es
+        → page.new.bytes ≡ irregular_page shelf.now.series shelf.now.kind.now.columns (with_element stamp row.now es) }
+{
+    insert_cell(
+        shelf.kind,
+        &mut page.bytes[HEAD..],
+        count,
+        index,
+        stamp,
+        row,
+    );
+    set_count(shelf, page, count + 1);
+}
+
+/// Puts a row at a stamp into a page with so many elements, in place of the one of an index: that is at the stamp.
+pub(crate) fn replace_into(
+    shelf: &Shelf,
+    page: &mut Page,
+    count: usize,
+    index: usize,
+    stamp: Stamp,
+    row: &Row,
+)
+    requires room { count ≤ page_room shelf.now.kind.now.columns }
+    requires index { index < count }
+    requires fits { IsTrue (fits shelf.now.kind.now.columns row.now) }
+    ensures { (es : List Element) → AreInOrder shelf.now.kind.now.columns es → length es ≡ count → search_of stamp es ≡ Ok index
+        → drop 32 page.old.bytes ≡ behind_head shelf.now.kind.now.columns es
+        → page.new.bytes ≡ irregular_page shelf.now.series shelf.now.kind.now.columns (with_element stamp row.now es) }
+{
+    replace_cell(shelf.kind, &mut page.bytes[HEAD..], index, stamp, row);
+    set_count(shelf, page, count);
+}
+
 // Writes the head of a page with so many elements.
 fn set_count(shelf: &Shelf, page: &mut Page, count: usize)
     requires { count ≤ page_room shelf.now.kind.now.columns }
@@ -73,7 +120,9 @@ fn set_count(shelf: &Shelf, page: &mut Page, count: usize)
 pub(crate) fn place_in(shelf: &Shelf, number: u32, count: usize, page: &Page) -> Place
     requires some { 1 ≤ count }
     requires room { count ≤ page_room shelf.now.kind.now.columns }
-    ensures { (es : List Element) → AreElements shelf.now.kind.now.columns es → length es ≡ count
+    ensures number { result.page ≡ number }
+    ensures count { result.count ≡ count }
+    ensures listed { (es : List Element) → AreElements shelf.now.kind.now.columns es → length es ≡ count
         → page.now.bytes ≡ irregular_page shelf.now.series shelf.now.kind.now.columns es → place_of number es ≡ result ∷ [] }
 {
     Place {

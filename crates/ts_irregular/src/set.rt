@@ -9,6 +9,7 @@ ghost use Rattle.ts_irregular.specs.Edit.{with_element, taken_for};
 ghost use Rattle.ts_irregular.specs.OnePage.{HasOnePage, IsPlace, HasRoom};
 ghost use Rattle.ts_irregular.specs.Call.{ArePut, IsEdited, IsNotEdited};
 
+use crate::insert::put_alone;
 use crate::page::{place_in, put_into, take_out};
 use crate::see::see;
 use ts_base::{Stamp, StoreFault};
@@ -46,8 +47,8 @@ pub fn irregular_set<P: Pages>(
     }
 }
 
-/// Puts the first element of a series, on a page that is taken.
-pub(crate) fn put_first<P: Pages>(
+// Puts the first element of a series, on a page that is taken.
+fn put_first<P: Pages>(
     pages: &mut P,
     space: &mut Space,
     shelf: &Shelf,
@@ -66,14 +67,9 @@ pub(crate) fn put_first<P: Pages>(
     ensures others { ChangesOnly shelf.now.series space.old space.new }
     ensures undisturbed { P.undisturbed pages.old pages.new }
 {
-    // It lies in the range.
-    let _units = stamp.units();
     space.reserve(shelf.series, 1)?;
-    let mut page = Page::zero();
-    let count = put_into(shelf, &mut page, 0, stamp, row);
-    let number = pages.take();
-    pages.put(number, &page)?;
-    space.set(shelf.series, place_in(shelf, number, count, &page));
+    let place = put_alone(pages, &mut Page::zero(), shelf, stamp, row)?;
+    space.set(shelf.series, place);
     Ok(())
 }
 
@@ -105,8 +101,8 @@ fn put_on<P: Pages>(
     put_seen(pages, space, shelf, place, &mut page, before, stamp, row)
 }
 
-/// Puts an element on the page of a series that was read: so many elements were seen on it.
-pub(crate) fn put_seen<P: Pages>(
+// Puts an element on the page of a series that was read: so many elements were seen on it.
+fn put_seen<P: Pages>(
     pages: &mut P,
     space: &mut Space,
     shelf: &Shelf,

@@ -1,4 +1,4 @@
-use Rattle.std.proofs.Common.{Bool, Option, Vec, Global, sym, ◌∙◌, subst}
+use Rattle.std.proofs.Common.{◌≡◌, ◌≤◌, Bool, Option, Some, List, [], ◌∷◌, length, sym, ◌∙◌, subst}
 use Rattle.ts_base.specs.declared.refusal.Refusal.TheVariants.{Duplicate}
 use Rattle.ts_command.specs.declared.command.Command.TheVariants.{InsElem}
 use Rattle.ts_space.specs.declared.place.Place.{Place}
@@ -6,7 +6,9 @@ use Rattle.ts_space.specs.Directory.{places_of}
 use Rattle.ts_irregular.proofs.KeptLemmas.{one_readable}
 use Rattle.ts_answer.specs.Reply.{stamp_line}
 use Rattle.ts_answer.specs.View.{view}
-use Rattle.ts_elements.specs.Elements.{IsCharged, IsThere, IsPutOrThere}
+use Rattle.ts_answer.specs.CarriedOut.{moved}
+use Rattle.ts_irregular.specs.Call.{IsInserted}
+use Rattle.ts_elements.specs.Elements.{IsCharged, IsThere}
 use Rattle.ts_answer.proofs.CallerLemmas.{said_line}
 use Rattle.ts_elements.proofs.MemoryLemmas.{few_kept, room_kept, page_kept}
 use Rattle.ts_elements.proofs.LastLemmas.{told_there}
@@ -24,27 +26,43 @@ room_for-requires-clause-charged g c =
 pub irregular_find-requires-clause-one : goal.irregular_find-requires-clause-one
 irregular_find-requires-clause-one g c = one_readable c.args.shelf.now.kind.now.columns (g.P.Pages.contents c.args.pages.now) (places_of c.args.shelf.now.series c.args.space.now) c.requires.one
 
-pub put-requires-clause-room : goal.put-requires-clause-room
-put-requires-clause-room g c =
+pub start_of-old-requires : goal.start_of-old-requires
+start_of-old-requires g c = record { few = subst (λ (ps : List Place). length ps ≤ 1) (sym c.places.ensures.ok) (c.requires.seen.kept.placed.few c.args.shelf.now.series c.requires.slot) }
+
+pub irregular_insert-requires-clause-room : goal.irregular_insert-requires-clause-room
+irregular_insert-requires-clause-room g c =
     let x = view c.args.defs.now.definitions c.args.space.now (g.P.Pages.contents c.args.pages.now) in
     room_kept x c.requires.seen.kept c.args.shelf.now.series c.requires.slot c.args.shelf.now.kind.now c.requires.columns c.in-Ok.ensures.room
 
-pub put-requires-clause-spare : goal.put-requires-clause-spare
-put-requires-clause-spare g c =
+pub irregular_insert-requires-clause-spare : goal.irregular_insert-requires-clause-spare
+irregular_insert-requires-clause-spare g c =
     let x = view c.args.defs.now.definitions c.args.space.now (g.P.Pages.contents c.args.pages.now) in
     page_kept x c.requires.seen.kept c.args.shelf.now.series c.requires.slot c.args.shelf.now.kind.now c.requires.columns c.in-Ok.ensures.room
 
 pub returns-in-Some-clause-carried : goal.returns-in-Some-clause-carried
 returns-in-Some-clause-carried g c key literals has =
+    let tells = g.P.Pages.tells in
+    let shelf = c.args.shelf.now in
     let x = view c.args.defs.now.definitions c.args.space.now (g.P.Pages.contents c.args.pages.now) in
-    insert_carried g.P.Pages.tells key literals c.args.shelf.now.series c.args.stamp c.args.shelf.now.kind.now c.args.row.now x has c.in-Ok.ensures.room (g.met.P.Pages.lawful c.args.pages.now) c.in-Ok.ensures.slots
-    (g.P.Pages.contents c.put.new.pages) c.put.ensures.call.count (c.in_ok-placed-in-Ok.ensures.call.no_fault (λ failed. cc)) c.put.ensures.bytes c.in-Some.places (subst (λ (o : Option (Vec Place Global)). IsPutOrThere g.P.Pages.tells c.args.shelf.now.series c.args.shelf.now.kind.now.columns c.args.stamp c.args.row.now x.space x.pages (g.P.Pages.contents c.put.new.pages) o) c.in-Some.is c.in_ok-placed-in-Ok.ensures.put) c.say_stamp.new.out (said_line (stamp_line c.args.stamp) c.args.out.now c.say_stamp.new.out c.requires.empty c.in_ok-say_stamp-in-Ok.ensures)
+    let w = g.P.Pages.contents c.irregular_insert.new.pages in
+    let done = c.in_ok-place-in-Ok.ensures in
+    insert_carried tells key literals shelf.series c.args.stamp shelf.kind.now c.args.row.now x has c.requires.one c.in-Ok.ensures.room (g.met.P.Pages.lawful c.args.pages.now) c.in-Ok.ensures.slots
+    w done.call.count (done.call.no_fault (λ failed. cc)) done.change c.start_of-old.result c.in-Some.place
+    (λ place. subst (λ (ps : List Place). moved c.start_of-old.result (Some place) ps ≡ place ∷ []) c.places.ensures.ok (c.start_of-old.ensures place))
+    (room_kept x c.requires.seen.kept shelf.series c.requires.slot shelf.kind.now c.requires.columns c.in-Ok.ensures.room)
+    (subst (λ (o : Option Place). IsInserted tells shelf.series shelf.kind.now.columns c.args.stamp c.args.row.now (places_of shelf.series x.space) x.pages w o) c.in-Some.is done.ok)
+    c.say_stamp.new.out (said_line (stamp_line c.args.stamp) c.args.out.now c.say_stamp.new.out c.requires.empty c.in_ok-say_stamp-in-Ok.ensures)
 
 pub returns-in-None-clause-carried : goal.returns-in-None-clause-carried
 returns-in-None-clause-carried g c key literals has =
+    let tells = g.P.Pages.tells in
+    let shelf = c.args.shelf.now in
     let x = view c.args.defs.now.definitions c.args.space.now (g.P.Pages.contents c.args.pages.now) in
-    there_carried g.P.Pages.tells key literals c.args.shelf.now.series c.args.stamp c.args.shelf.now.kind.now c.args.row.now x has
-    (g.P.Pages.contents c.put.new.pages) c.put.ensures.call.count (c.in_ok-placed-in-Ok.ensures.call.no_fault (λ failed. cc)) c.put.ensures.bytes (subst (λ (o : Option (Vec Place Global)). IsPutOrThere g.P.Pages.tells c.args.shelf.now.series c.args.shelf.now.kind.now.columns c.args.stamp c.args.row.now x.space x.pages (g.P.Pages.contents c.put.new.pages) o) c.in-None.is c.in_ok-placed-in-Ok.ensures.put) c.say_stamp.new.out
+    let w = g.P.Pages.contents c.irregular_insert.new.pages in
+    let done = c.in_ok-place-in-Ok.ensures in
+    there_carried tells key literals shelf.series c.args.stamp shelf.kind.now c.args.row.now x has w done.call.count (done.call.no_fault (λ failed. cc)) done.change
+    (subst (λ (o : Option Place). IsInserted tells shelf.series shelf.kind.now.columns c.args.stamp c.args.row.now (places_of shelf.series x.space) x.pages w o) c.in-None.is done.ok)
+    c.say_stamp.new.out
 
 -- there is no room: an element that is there is told first
 pub returns-then-is_some-clause-carried : goal.returns-then-is_some-clause-carried

@@ -1,5 +1,4 @@
-use Rattle.std.proofs.Common.{◌≡◌, List, sym, ◌∙◌, arith}
-use Rattle.ts_row.specs.declared.kind.Column.{Column}
+use Rattle.std.proofs.Common.{sym, ◌∙◌, arith}
 use Rattle.ts_irregular.proofs.FindLemmas.{told_on, untold_on}
 use Rattle.ts_irregular.proofs.find.count_told.Goals as goal
 

@@ -17,4 +17,4 @@ returns-clause-ok g c = λ es rise count same.
     let order = with_in_order columns c.args.stamp c.args.row.now (taken_for (page_room columns) c.args.stamp es) (order_for columns (page_room columns) c.args.stamp es rise) is in
     put_made g.P.Pages.tells c.args.shelf.now.series columns c.args.stamp c.args.row.now c.args.place.now c.place_in-moved.result es c.put_into-count.new.page.bytes c.put_into-count.result _
     (g.P.Pages.contents c.args.pages.now) (g.P.Pages.contents c.put.new.self) order made size c.put_into-count.ensures.some c.put_into-count.ensures.most c.in_ok-put.ensures.put
-    (c.place_in-moved.ensures _ order.each size made) c.move_place.ensures.ok
+    (c.place_in-moved.ensures.listed _ order.each size made) c.move_place.ensures.ok

@@ -24,7 +24,7 @@ returns-in_ok-put-clause-ok g c =
     let order = without_in_order columns c.args.stamp seen.0 seen.1.order in
     edited_taken g.P.Pages.tells c.args.shelf.now.series columns c.args.stamp c.args.place.now c.place_in-moved.result seen.0 c.get.new.into.bytes c.take_out-count.new.page.bytes c.take_out-count.result _
     (g.P.Pages.contents c.args.pages.now) (g.P.Pages.contents c.get.new.self) (g.P.Pages.contents c.put.new.self) seen.1 (omega (arith, seen.2, c.see-before.ensures.room)) c.in_ok-get.ensures.got c.requires.place.element
-    made size (omega (arith, c.if-count-eq0.false)) (omega (arith, c.take_out-count.ensures.most, c.see-before.ensures.room)) c.in_ok-put.ensures.put (c.place_in-moved.ensures _ order.each size made) c.move_place.ensures.ok
+    made size (omega (arith, c.if-count-eq0.false)) (omega (arith, c.take_out-count.ensures.most, c.see-before.ensures.room)) c.in_ok-put.ensures.put (c.place_in-moved.ensures.listed _ order.each size made) c.move_place.ensures.ok
 
 pub returns-in_ok-put-clause-undisturbed : goal.returns-in_ok-put-clause-undisturbed
 returns-in_ok-put-clause-undisturbed g c = g.met.P.Pages.then c.args.pages.now c.get.new.self c.put.new.self c.get.ensures.undisturbed c.put.ensures.undisturbed

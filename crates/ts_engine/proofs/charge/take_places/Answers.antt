@@ -1,5 +1,5 @@
 use Rattle.ts_engine.proofs.ChargedLemmas.{room_is}
-use Rattle.ts_engine.proofs.charge.set_places.Goals as goal
+use Rattle.ts_engine.proofs.charge.take_places.Goals as goal
 
 pub charge_of-before-requires-clause-room : goal.charge_of-before-requires-clause-room
 charge_of-before-requires-clause-room c = room_is c.args.defs.now.definitions c.requires.can.limits c.args.slot c.in-Some.container c.in-Some.room c.in-Some.ensures
