@@ -1,44 +1,11 @@
 // What no clause says: each call once, and the limits.
+use crate::made::def;
 use std::alloc::Global;
-use std::test::Fail;
-use ts_base::{Key, Name};
+use ts_base::StoreFault;
 use ts_model::{Def, Defs, Kind};
-use ts_row::{Column, ColumnKind, RowType};
-
-fn name(alloc: Global, text: &[u8]) -> Result<Name, Fail> {
-    Ok(Name::read(alloc, text)?.ok_or("no name")?)
-}
-
-fn row_type(alloc: Global, text: &[u8]) -> Result<Def, Fail> {
-    let column = Column {
-        name: name(alloc, b"v")?,
-        kind: ColumnKind::Integer,
-    };
-    let kind = RowType::make(alloc, name(alloc, b"t")?, vec![in alloc; column]?)?;
-    Ok(Def::RowType {
-        name: name(alloc, text)?,
-        kind,
-    })
-}
-
-// A definition of a kind with this name or key.
-fn def(alloc: Global, kind: Kind, text: &[u8]) -> Result<Def, Fail> {
-    match kind {
-        Kind::RowType => row_type(alloc, text),
-        Kind::Container => Ok(Def::Container {
-            name: name(alloc, text)?,
-            row_type: 0,
-            quota: 8,
-        }),
-        Kind::Series => Ok(Def::Series {
-            key: Key::read(alloc, text)?.ok_or("no key")?,
-            container: 0,
-        }),
-    }
-}
 
 // Puts a definition into a slot, unless there is no such slot or the name is taken.
-fn put(defs: &mut Defs, slot: u16, def: Def) -> Result<bool, Fail> {
+fn put(defs: &mut Defs, slot: u16, def: Def) -> Result<bool, StoreFault> {
     let kind = def.kind();
     if slot >= kind.limit() {
         return Ok(false);
@@ -54,16 +21,20 @@ fn put(defs: &mut Defs, slot: u16, def: Def) -> Result<bool, Fail> {
 }
 
 // Puts a definition into the lowest empty slot of its kind, and gives that; none where its name is taken or all are filled.
-fn add(alloc: Global, defs: &mut Defs, kind: Kind, text: &[u8]) -> Result<Option<u16>, Fail> {
+fn add(alloc: Global, defs: &mut Defs, kind: Kind, text: &[u8]) -> Result<Option<u16>, StoreFault> {
     let Some(slot) = defs.vacant(kind) else {
         return Ok(None);
     };
-    let added = put(defs, slot, def(alloc, kind, text)?)?;
-    Ok(if added { Some(slot) } else { None })
+    let def = def(alloc, kind, text)?;
+    if put(defs, slot, def)? {
+        Ok(Some(slot))
+    } else {
+        Ok(None)
+    }
 }
 
 // Definitions of a kind with these names, in the slots from 0 on.
-fn defs_of(alloc: Global, kind: Kind, texts: &[&[u8]]) -> Result<Defs, Fail> {
+fn defs_of(alloc: Global, kind: Kind, texts: &[&[u8]]) -> Result<Defs, StoreFault> {
     let mut defs = Defs::new(alloc);
     for text in texts {
         add(alloc, &mut defs, kind, text)?;
@@ -71,100 +42,154 @@ fn defs_of(alloc: Global, kind: Kind, texts: &[&[u8]]) -> Result<Defs, Fail> {
     Ok(defs)
 }
 
-#[test]
-fn a_name_is_found_whole(rt: HostRuntime) -> Result<(), Fail> {
-    // The third has a name that is taken.
-    let defs = defs_of(rt.alloc(), Kind::Container, &[b"ab", b"a", b"ab"])?;
-    let rows: [(Kind, &[u8], Option<u16>); 5] = [
-        (Kind::Container, b"ab", Some(0)),
-        (Kind::Container, b"a", Some(1)),
-        (Kind::Container, b"abc", None),
-        (Kind::Container, b"b", None),
-        (Kind::RowType, b"ab", None),
-    ];
-    for (kind, text, want) in rows {
-        assert_eq!(rt; defs.find(kind, text), want);
-    }
-    assert_eq!(rt; defs.vacant(Kind::Container), Some(2));
-    Ok(())
-}
+/// Containers, of which the third has a name that is taken.
+const CONTAINERS: [&[u8]; 3] = [b"ab", b"a", b"ab"];
 
-#[test]
-fn keys_are_in_the_order_of_their_bytes(rt: HostRuntime) -> Result<(), Fail> {
-    let mut defs = defs_of(rt.alloc(), Kind::Series, &[b"b", b"a", b"ab", b"B"])?;
-    assert_eq!(rt; defs.in_order(Kind::Series), [3, 1, 2, 0].as_slice());
-    defs.set(Kind::Series, 1, None);
-    assert_eq!(rt; defs.in_order(Kind::Series), [3, 2, 0].as_slice());
-    assert_eq!(rt;
-        (defs.find(Kind::Series, b"a"), defs.vacant(Kind::Series)),
-        (None, Some(1))
-    );
-    // The lowest empty slot is filled first.
-    assert_eq!(rt; add(rt.alloc(), &mut defs, Kind::Series, b"c")?, Some(1));
-    assert_eq!(rt; defs.in_order(Kind::Series), [3, 2, 0, 1].as_slice());
-    assert_eq!(rt; defs.vacant(Kind::Series), Some(4));
-    Ok(())
-}
+/// Where names are found among them.
+const FOUND: [(Kind, &[u8], Option<u16>); 5] = [
+    (Kind::Container, b"ab", Some(0)),
+    (Kind::Container, b"a", Some(1)),
+    (Kind::Container, b"abc", None),
+    (Kind::Container, b"b", None),
+    (Kind::RowType, b"ab", None),
+];
 
-#[test]
-fn a_slot_takes_another_definition(rt: HostRuntime) -> Result<(), Fail> {
-    let mut defs = defs_of(rt.alloc(), Kind::Container, &[b"first"])?;
-    let second = def(rt.alloc(), Kind::Container, b"second")?;
-    assert!(rt; put(&mut defs, 0, second)?);
-    let found = (
-        defs.find(Kind::Container, b"first"),
-        defs.find(Kind::Container, b"second"),
-    );
-    assert_eq!(rt; found, (None, Some(0)));
-    assert_eq!(rt; defs.in_order(Kind::Container), [0].as_slice());
-    let name = defs.get(Kind::Container, 0).map(|def| def.name());
-    assert_eq!(rt; name, Some(b"second".as_slice()));
-    Ok(())
-}
-
-// Definitions of a kind, each with a name of its own, until one isn't taken; and how many that are.
-fn full(alloc: Global, kind: Kind) -> Result<(Defs, u16), Fail> {
-    let mut defs = Defs::new(alloc);
-    for i in 0..4097u16 {
-        let text = [
-            b'a' + (i / 512) as u8,
-            b'a' + (i / 64 % 8) as u8,
-            b'a' + (i / 8 % 8) as u8,
-            b'a' + (i % 8) as u8,
-        ];
-        if add(alloc, &mut defs, kind, &text)? != Some(i) {
-            return Ok((defs, i));
+fn are_found(defs: &Defs) -> bool {
+    for (kind, text, wanted) in &FOUND {
+        if defs.find(*kind, text) != *wanted {
+            return false;
         }
     }
-    Err(Fail::from("no end"))
+    defs.vacant(Kind::Container) == Some(2)
+}
+
+fn containers_are_found(alloc: Global) -> bool {
+    match defs_of(alloc, Kind::Container, &CONTAINERS) {
+        Ok(defs) => are_found(&defs),
+        Err(_) => false,
+    }
 }
 
 #[test]
-fn there_are_so_many_of_a_kind_at_most(rt: HostRuntime) -> Result<(), Fail> {
-    let rows = [
-        (Kind::RowType, 64, Kind::Series),
-        (Kind::Series, 4096, Kind::RowType),
-    ];
-    for (kind, most, other) in rows {
-        let (defs, count) = full(rt.alloc(), kind)?;
-        assert_eq!(rt; count, most);
-        assert_eq!(rt; (defs.vacant(kind), defs.vacant(other)), (None, Some(0)));
-        assert_eq!(rt; defs.find(kind, b"aabc"), Some(10));
-    }
-    Ok(())
+fn a_name_is_found_whole(rt: HostRuntime) {
+    assert!(rt; containers_are_found(rt.alloc()));
 }
 
-// The name and the kind of a copy of a definition.
-fn copied(alloc: Global, kind: Kind, text: &[u8]) -> Result<bool, Fail> {
-    let def = def(alloc, kind, text)?;
-    let copy = def.copy()?;
-    Ok(copy.kind() == kind && copy.name() == text)
+const SERIES: [&[u8]; 4] = [b"b", b"a", b"ab", b"B"];
+
+// Whether the series are in this order, and this slot is the lowest empty one.
+fn are_series(defs: &Defs, order: &[u16], vacant: u16) -> bool {
+    defs.in_order(Kind::Series) == order && defs.vacant(Kind::Series) == Some(vacant)
+}
+
+// Whether they are as one goes and another fills its slot, the lowest empty one.
+fn series_keep_their_order(alloc: Global, defs: &mut Defs) -> Result<bool, StoreFault> {
+    let before = are_series(defs, &[3, 1, 2, 0], 4);
+    defs.set(Kind::Series, 1, None);
+    let between = are_series(defs, &[3, 2, 0], 1) && defs.find(Kind::Series, b"a").is_none();
+    let added = add(alloc, defs, Kind::Series, b"c")?;
+    Ok(before && between && added == Some(1) && are_series(defs, &[3, 2, 0, 1], 4))
+}
+
+fn four_series_do(alloc: Global) -> Result<bool, StoreFault> {
+    let mut defs = defs_of(alloc, Kind::Series, &SERIES)?;
+    series_keep_their_order(alloc, &mut defs)
 }
 
 #[test]
-fn a_copy_has_the_same_name(rt: HostRuntime) -> Result<(), Fail> {
-    for kind in [Kind::RowType, Kind::Container, Kind::Series] {
-        assert!(rt; copied(rt.alloc(), kind, b"rd")?);
+fn keys_are_in_the_order_of_their_bytes(rt: HostRuntime) {
+    assert!(rt; matches!(four_series_do(rt.alloc()), Ok(true)));
+}
+
+// Whether the definition in slot 0 is the container of this name, and no other is found.
+fn is_second(defs: &Defs) -> bool {
+    let Some(def) = defs.get(Kind::Container, 0) else {
+        return false;
+    };
+    def.name() == b"second".as_slice()
+        && defs.find(Kind::Container, b"first").is_none()
+        && defs.find(Kind::Container, b"second") == Some(0)
+        && defs.in_order(Kind::Container) == [0].as_slice()
+}
+
+// Puts the container `second` into slot 0.
+fn put_second(alloc: Global, defs: &mut Defs) -> Result<bool, StoreFault> {
+    let second = def(alloc, Kind::Container, b"second")?;
+    put(defs, 0, second)
+}
+
+fn second_stands_there(alloc: Global) -> Result<bool, StoreFault> {
+    let mut defs = defs_of(alloc, Kind::Container, &[b"first"])?;
+    let is_put = put_second(alloc, &mut defs)?;
+    Ok(is_put && is_second(&defs))
+}
+
+#[test]
+fn a_slot_takes_another_definition(rt: HostRuntime) {
+    assert!(rt; matches!(second_stands_there(rt.alloc()), Ok(true)));
+}
+
+// A name of four letters.
+fn letters(number: u16) -> [u8; 4] {
+    [
+        b'a' + (number / 512 % 16) as u8,
+        b'a' + (number / 64 % 8) as u8,
+        b'a' + (number / 8 % 8) as u8,
+        b'a' + (number % 8) as u8,
+    ]
+}
+
+// Adds definitions of a kind, each with a name of its own, until one isn't taken; and how many are.
+fn fill(alloc: Global, defs: &mut Defs, kind: Kind) -> Result<u16, StoreFault> {
+    for number in 0..4097u16 {
+        if add(alloc, defs, kind, &letters(number))?.is_none() {
+            return Ok(number);
+        }
     }
-    Ok(())
+    Ok(4097)
+}
+
+// Whether a kind has no empty slot, and another one has none filled.
+fn is_full(defs: &Defs, kind: Kind, other: Kind) -> bool {
+    defs.vacant(kind).is_none()
+        && defs.vacant(other) == Some(0)
+        && defs.find(kind, b"aabc") == Some(10)
+}
+
+// Whether there may be so many definitions of a kind.
+fn are_most(alloc: Global, kind: Kind, most: u16, other: Kind) -> Result<bool, StoreFault> {
+    let mut defs = Defs::new(alloc);
+    let count = fill(alloc, &mut defs, kind)?;
+    Ok(count == most && is_full(&defs, kind, other))
+}
+
+const MOST: [(Kind, u16, Kind); 2] = [
+    (Kind::RowType, 64, Kind::Series),
+    (Kind::Series, 4096, Kind::RowType),
+];
+
+#[test]
+fn there_are_so_many_of_a_kind_at_most(rt: HostRuntime) {
+    for (kind, most, other) in &MOST {
+        assert!(rt; matches!(are_most(rt.alloc(), *kind, *most, *other), Ok(true)));
+    }
+}
+
+fn copied(alloc: Global, kind: Kind, text: &[u8]) -> Option<Def> {
+    def(alloc, kind, text).ok()?.copy().ok()
+}
+
+// Whether a copy of a definition has its kind and its name.
+fn is_copied(alloc: Global, kind: Kind, text: &[u8]) -> bool {
+    match copied(alloc, kind, text) {
+        Some(copy) => copy.kind() == kind && copy.name() == text,
+        None => false,
+    }
+}
+
+#[test]
+fn a_copy_has_the_same_name(rt: HostRuntime) {
+    for kind in &[Kind::RowType, Kind::Container, Kind::Series] {
+        assert!(rt; is_copied(rt.alloc(), *kind, b"rd"));
+    }
 }

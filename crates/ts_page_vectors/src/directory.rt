@@ -2,8 +2,7 @@
 ghost use Rattle.std.specs.Prelude.{◌+◌, ◌^◌, ◌<◌, ◌≤◌, IfOk, OnOk, length};
 ghost use Rattle.ts_space.specs.Directory.{used_of};
 
-use std::alloc::Global;
-use std::test::Fail;
+use std::alloc::{AllocError, Global};
 use ts_space::{Place, Space, charge_irregular, charge_regular, count_of, search};
 
 /// A change of a directory.
@@ -39,20 +38,20 @@ const D: Place = Place {
 };
 
 // Changes a directory.
-fn take(space: &mut Space, step: Step) -> Result<(), Fail>
+fn take(space: &mut Space, step: Step) -> Result<(), AllocError>
     ensures { OnOk result (used_of space.new ≤ used_of space.old + 1) }
 {
     match step {
         Step::Set(series, place) => {
             if series >= 4096 {
-                return Err(Fail::from("no slot"));
+                return Err(AllocError);
             }
             space.reserve(series, 1)?;
             space.set(series, place);
         }
         Step::Clear(series, at) => {
             if series >= 4096 {
-                return Err(Fail::from("no slot"));
+                return Err(AllocError);
             }
             space.clear(series, at);
         }
@@ -61,7 +60,7 @@ fn take(space: &mut Space, step: Step) -> Result<(), Fail>
 }
 
 // The directory after these steps.
-fn after(alloc: Global, steps: &[Step]) -> Result<Space, Fail>
+fn after(alloc: Global, steps: &[Step]) -> Result<Space, AllocError>
     ensures { IfOk result (λ space. used_of space ≤ length steps.now) }
 {
     let mut space = Space::new(alloc)?;
@@ -71,122 +70,122 @@ fn after(alloc: Global, steps: &[Step]) -> Result<Space, Fail>
     Ok(space)
 }
 
-// How many places there are after these steps.
-fn used_after(alloc: Global, steps: &[Step]) -> Result<u32, Fail> {
-    let space = after(alloc, steps)?;
-    if steps.len() > 100 {
-        return Err(Fail::from("too many steps"));
+/// One takes the place of that which began there, and where none begins nothing is cleared.
+const STEPS: [Step; 7] = [
+    Step::Set(7, C),
+    Step::Set(7, A),
+    Step::Set(7, B),
+    Step::Set(7, D),
+    Step::Clear(7, -7),
+    Step::Clear(7, 1),
+    Step::Set(4095, A),
+];
+
+/// The places of a series after so many of the steps, and how many there are of all series.
+const PLACES: [(usize, u16, &[Place], u32); 9] = [
+    (0, 4095, &[], 0),
+    (1, 7, &[C], 1),
+    (3, 7, &[A, B, C], 3),
+    (4, 7, &[A, D, C], 3),
+    (5, 7, &[D, C], 2),
+    (6, 7, &[D, C], 2),
+    (7, 6, &[], 3),
+    (7, 8, &[], 3),
+    (7, 4095, &[A], 3),
+];
+
+fn has_places(alloc: Global, steps: &[Step], series: u16, wanted: &[Place], used: u32) -> bool {
+    if steps.len() > 100 || series >= 4096 {
+        return false;
     }
-    Ok(space.used())
+    match after(alloc, steps) {
+        Ok(space) => space.places(series) == wanted && space.used() == used,
+        Err(_) => false,
+    }
 }
 
 #[test]
-fn places_are_set_and_cleared(rt: HostRuntime) -> Result<(), Fail> {
-    // One takes the place of that which began there, and where none begins nothing is cleared.
-    let steps = [
-        Step::Set(7, C),
-        Step::Set(7, A),
-        Step::Set(7, B),
-        Step::Set(7, D),
-        Step::Clear(7, -7),
-        Step::Clear(7, 1),
-        Step::Set(4095, A),
-    ];
-    let rows: [(usize, u16, &[Place]); 8] = [
-        (0, 4095, &[]),
-        (3, 7, &[A, B, C]),
-        (4, 7, &[A, D, C]),
-        (5, 7, &[D, C]),
-        (6, 7, &[D, C]),
-        (7, 6, &[]),
-        (7, 8, &[]),
-        (7, 4095, &[A]),
-    ];
-    for (count, series, want) in rows {
-        assert!(rt; count <= 7 && series < 4096);
-        let space = after(rt.alloc(), &steps[..count])?;
-        assert_eq!(rt; space.places(series), want);
+fn places_are_set_and_cleared_and_counted(rt: HostRuntime) {
+    for (count, series, wanted, used) in &PLACES {
+        let steps = &STEPS[..(*count).min(7)];
+        assert!(rt; has_places(rt.alloc(), steps, *series, wanted, *used));
     }
-    Ok(())
 }
 
-#[test]
-fn used_counts_the_places_of_all_series(rt: HostRuntime) -> Result<(), Fail> {
-    let steps = [Step::Set(0, A), Step::Set(4095, A), Step::Clear(0, -7)];
-    for (count, want) in [(0, 0), (1, 1), (2, 2), (3, 1)] {
-        assert_eq!(rt; used_after(rt.alloc(), &steps[..count])?, want);
-    }
-    Ok(())
-}
-
-#[test]
-fn saved_places_are_restored(rt: HostRuntime) -> Result<(), Fail> {
-    let mut space = after(rt.alloc(), &[Step::Set(1, D)])?;
+// Whether the place of a series that was cleared is there again, once it is restored.
+fn are_restored(alloc: Global) -> Result<bool, AllocError> {
+    let mut space = after(alloc, &[Step::Set(1, D)])?;
     let saved = space.saved(1)?;
     space.clear(1, 0);
     space.restore(1, saved);
-    assert_eq!(rt; space.places(1), [D].as_slice());
-    Ok(())
+    Ok(space.places(1) == [D].as_slice())
 }
 
 #[test]
-fn a_place_is_found_where_it_begins(rt: HostRuntime) -> Result<(), Fail> {
-    let space = after(
-        rt.alloc(),
-        &[Step::Set(2, C), Step::Set(2, A), Step::Set(2, B)],
-    )?;
-    // Where none begins, the first above.
-    let rows = [
-        (-8, Err(0)),
-        (-7, Ok(0)),
-        (-6, Err(1)),
-        (0, Ok(1)),
-        (676, Err(2)),
-        (677, Ok(2)),
-        (678, Err(3)),
-    ];
-    for (at, want) in rows {
-        assert_eq!(rt; search(space.places(2), at), want);
+fn saved_places_are_restored(rt: HostRuntime) {
+    assert!(rt; matches!(are_restored(rt.alloc()), Ok(true)));
+}
+
+/// Where a place begins among A, B and C; where none does, the first above.
+const FOUND: [(i64, Result<usize, usize>); 7] = [
+    (-8, Err(0)),
+    (-7, Ok(0)),
+    (-6, Err(1)),
+    (0, Ok(1)),
+    (676, Err(2)),
+    (677, Ok(2)),
+    (678, Err(3)),
+];
+
+fn found(alloc: Global, at: i64) -> Option<Result<usize, usize>> {
+    let space = after(alloc, &STEPS[..3]).ok()?;
+    Some(search(space.places(7), at))
+}
+
+#[test]
+fn a_place_is_found_where_it_begins(rt: HostRuntime) {
+    for (at, wanted) in &FOUND {
+        assert!(rt; found(rt.alloc(), *at) == Some(*wanted));
     }
-    Ok(())
 }
 
 #[test]
 fn counts_are_summed(rt: HostRuntime) {
-    assert_eq!(rt; [count_of(&[]), count_of(&[A, B, D])], [0, 65541]);
+    assert!(rt; count_of(&[]) == 0);
+    assert!(rt; count_of(&[A, B, D]) == 65541);
 }
 
 #[test]
 fn a_regular_series_is_charged_for_the_pages_of_its_offsets(rt: HostRuntime) {
-    let charges = [
-        charge_regular(&[], 677),
-        charge_regular(&[0], 677),
-        charge_regular(&[0, 676], 677),
-        charge_regular(&[0, 676, 677], 677),
-        // Pages between them without elements cost nothing.
-        charge_regular(&[676, 1354, 1355, 2030], 677),
-    ];
-    assert_eq!(rt; charges, [0, 1, 1, 2, 2]);
+    assert!(rt; charge_regular(&[], 677) == 0);
+    assert!(rt; charge_regular(&[0], 677) == 1);
+    assert!(rt; charge_regular(&[0, 676], 677) == 1);
+    assert!(rt; charge_regular(&[0, 676, 677], 677) == 2);
+    // Pages between them without elements cost nothing.
+    assert!(rt; charge_regular(&[676, 1354, 1355, 2030], 677) == 2);
 }
+
+const MOST: u64 = 4_611_686_018_427_387_904;
+
+/// How many elements there are, how many a page has room for, and their charge.
+const IRREGULAR: [(u64, u64, u64); 11] = [
+    (0, 5, 0),
+    (1, 5, 1),
+    (5, 5, 1),
+    (6, 5, 3),
+    (10, 5, 3),
+    (11, 5, 5),
+    (290, 290, 1),
+    (291, 290, 3),
+    (580, 290, 3),
+    (581, 290, 5),
+    (MOST, 1, 9_223_372_036_854_775_807),
+];
 
 #[test]
 fn an_irregular_series_is_charged_for_its_elements(rt: HostRuntime) {
-    let most = 4_611_686_018_427_387_904;
-    let rows = [
-        (0, 5, 0),
-        (1, 5, 1),
-        (5, 5, 1),
-        (6, 5, 3),
-        (10, 5, 3),
-        (11, 5, 5),
-        (290, 290, 1),
-        (291, 290, 3),
-        (580, 290, 3),
-        (581, 290, 5),
-        (most, 1, 9_223_372_036_854_775_807),
-    ];
-    for (n, q, want) in rows {
-        assert!(rt; n <= most && q > 0);
-        assert_eq!(rt; charge_irregular(n, q), want);
+    for (elements, room, wanted) in &IRREGULAR {
+        let (n, q) = (*elements, *room);
+        assert!(rt; n <= MOST && q > 0 && charge_irregular(n, q) == *wanted);
     }
 }

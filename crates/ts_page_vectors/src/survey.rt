@@ -1,24 +1,37 @@
 // What no clause says: the bytes of the format, and the first bad page of each kind.
-ghost use Rattle.std.specs.Prelude.{◌≡◌, ◌<◌, [], IfOk, OnOk};
+ghost use Rattle.std.specs.Prelude.{◌≡◌, [], IfOk, OnOk};
 ghost use Rattle.ts_page.specs.Memory.{memory_contents};
-ghost use Rattle.ts_model.specs.Definitions.{kind_of};
 
+use crate::made::def;
 use std::alloc::{AllocError, Global};
-use std::test::Fail;
-use ts_base::{Key, Name};
+use ts_base::StoreFault;
 use ts_container::{
-    Charges, SurveyFault, a_charge_changes_with_a_series, survey, write_header, write_slot,
+    Charges, SurveyFault, Surveyed, a_charge_changes_with_a_series, survey, write_header,
+    write_slot,
 };
-use ts_model::{Def, Kind};
+use ts_model::Kind;
 use ts_page::{MemoryPages, Page, Pages};
-use ts_row::{Column, ColumnKind, RowType};
 use ts_space::Place;
 
-/// 2011-01-03 00:00:00.
-const DAY_3: i64 = 129_401_280_000_000;
+/// The integer 5 at 2011-01-03 00:00:00.
+const CELL: &[u8] = &[1, 0, 0, 0x75, 0xb0, 0x95, 0x53, 0xf0, 0, 1, 0, 0, 0, 5];
 
-/// The integer 5 at that time.
-const CELL: [u8; 14] = [1, 0, 0, 0x75, 0xb0, 0x95, 0x53, 0xf0, 0, 1, 0, 0, 0, 5];
+/// Bytes that are put into a page: its number, their place and they.
+type Patch = (u32, usize, &'static [u8]);
+
+/// A volume with a row type, a container in slot 3, a series in slot 50 and one element.
+const GOOD: [Patch; 10] = [
+    (0, 0, b"TSVOLUME\x01\x00\x00\x00\x02"),
+    (257, 0, b"\x01\x01r"),
+    (257, 34, b"\x01t"),
+    (257, 67, b"\x01\x02\x00\x00\x01v"),
+    (833, 180, b"\x01\x01c"),
+    (833, 214, b"\x00\x00\x00\x00\x02"),
+    (835, 658, b"\x02\x01k"),
+    (835, 724, b"\x03"),
+    (931, 0, b"\x02\x00\x32\x00\x01"),
+    (931, 32, CELL),
+];
 
 // A volume of zeros with 2 element pages.
 fn zeros(alloc: Global) -> Result<MemoryPages, AllocError>
@@ -29,38 +42,25 @@ fn zeros(alloc: Global) -> Result<MemoryPages, AllocError>
     Ok(MemoryPages::new(pages, Vec::new(alloc)))
 }
 
-/// Bytes that are put into a page.
-#[derive(Clone, Copy)]
-struct Patch<'a> {
-    page: u32,
-    at: usize,
-    bytes: &'a [u8],
-}
-
-fn bytes_at(page: u32, at: usize, bytes: &[u8]) -> Patch<'_> {
-    Patch { page, at, bytes }
-}
-
 // Puts bytes into a page.
-fn put(pages: &mut MemoryPages, patch: &Patch) -> Result<(), Fail>
+fn put(pages: &mut MemoryPages, patch: &Patch) -> Result<(), StoreFault>
     requires count { (memory_contents pages.old).count ≡ 932 }
     requires free { (memory_contents pages.old).free ≡ [] }
     ensures count { (memory_contents pages.new).count ≡ 932 }
     ensures free { (memory_contents pages.new).free ≡ [] }
 {
-    let Patch { page, at, bytes } = *patch;
+    let (page, at, bytes) = *patch;
     if page >= 932 || (page >= 1 && page < 257) || at > 4096 || bytes.len() > 4096 - at {
-        return Err(Fail::new("no such page or bytes"));
+        return Err(StoreFault::Failed);
     }
     let mut changed = Page::zero();
     pages.get(page, &mut changed)?;
     changed.bytes[at..at + bytes.len()].copy_from_slice(bytes);
-    pages.put(page, &changed)?;
-    Ok(())
+    pages.put(page, &changed)
 }
 
 // Puts bytes into pages, one after the other.
-fn put_all(pages: &mut MemoryPages, patches: &[Patch]) -> Result<(), Fail>
+fn put_all(pages: &mut MemoryPages, patches: &[Patch]) -> Result<(), StoreFault>
     requires count { (memory_contents pages.old).count ≡ 932 }
     requires free { (memory_contents pages.old).free ≡ [] }
     ensures count { (memory_contents pages.new).count ≡ 932 }
@@ -72,72 +72,68 @@ fn put_all(pages: &mut MemoryPages, patches: &[Patch]) -> Result<(), Fail>
     Ok(())
 }
 
-// A volume with a row type, a container in slot 3, a series in slot 50 and one element.
-fn good(alloc: Global) -> Result<MemoryPages, Fail>
+// The good volume with these bytes put into its pages.
+fn volume(alloc: Global, patches: &[Patch]) -> Result<MemoryPages, StoreFault>
     ensures count { IfOk result (λ pages. (memory_contents pages).count ≡ 932) }
     ensures free { IfOk result (λ pages. (memory_contents pages).free ≡ []) }
 {
-    let patches = [
-        bytes_at(0, 0, b"TSVOLUME\x01\x00\x00\x00\x02"),
-        bytes_at(257, 0, b"\x01\x01r"),
-        bytes_at(257, 34, b"\x01t"),
-        bytes_at(257, 67, b"\x01\x02\x00\x00\x01v"),
-        bytes_at(833, 180, b"\x01\x01c"),
-        bytes_at(833, 214, b"\x00\x00\x00\x00\x02"),
-        bytes_at(835, 658, b"\x02\x01k"),
-        bytes_at(835, 724, b"\x03"),
-        bytes_at(931, 0, b"\x02\x00\x32\x00\x01"),
-        bytes_at(931, 32, &CELL),
-    ];
     let mut pages = zeros(alloc)?;
-    put_all(&mut pages, &patches)?;
+    put_all(&mut pages, &GOOD)?;
+    put_all(&mut pages, patches)?;
     Ok(pages)
 }
 
-// The first bad page of the good volume with these bytes put into its pages.
-fn bad_with(alloc: Global, patches: &[Patch]) -> Result<Option<u32>, Fail> {
-    let mut pages = good(alloc)?;
-    put_all(&mut pages, patches)?;
-    match survey(alloc, &mut pages, 932) {
-        Ok(_) => Ok(None),
-        Err(SurveyFault::NotAStore { page }) => Ok(Some(page)),
-        Err(_) => Err(Fail::new("the survey failed")),
+// What the survey of such a volume finds.
+fn surveyed(alloc: Global, patches: &[Patch]) -> Result<Surveyed, SurveyFault> {
+    match volume(alloc, patches) {
+        Ok(pages) => {
+            let mut pages = pages;
+            survey(alloc, &mut pages, 932)
+        }
+        Err(_) => Err(SurveyFault::Failed),
     }
 }
 
-fn name(alloc: Global, text: &[u8]) -> Result<Name, Fail> {
-    Ok(Name::read(alloc, text)?.ok_or("no name")?)
+// Its first bad page, if it has one.
+fn bad_page(alloc: Global, patches: &[Patch]) -> Option<Option<u32>> {
+    match surveyed(alloc, patches) {
+        Ok(_) => Some(None),
+        Err(SurveyFault::NotAStore { page }) => Some(Some(page)),
+        Err(_) => None,
+    }
 }
 
-// The row type of the good volume.
-fn row_type(alloc: Global) -> Result<RowType, Fail> {
-    let mut columns = Vec::new(alloc);
-    columns.push(Column {
-        name: name(alloc, b"v")?,
-        kind: ColumnKind::Integer,
-    })?;
-    Ok(RowType::make(alloc, name(alloc, b"t")?, columns)?)
+/// 2011-01-03 00:00:00.
+const ELEMENT: Place = Place {
+    at: 129_401_280_000_000,
+    page: 931,
+    count: 1,
+};
+
+fn is_good(found: &Surveyed) -> bool {
+    found.defs.find(Kind::RowType, b"r") == Some(0)
+        && found.defs.find(Kind::Container, b"c") == Some(3)
+        && found.defs.find(Kind::Series, b"k") == Some(50)
+        && found.defs.vacant(Kind::Series) == Some(0)
+        && found.space.places(50) == [ELEMENT].as_slice()
+        && found.free.as_slice() == [930].as_slice()
+}
+
+fn is_surveyed(alloc: Global) -> bool {
+    match surveyed(alloc, &[]) {
+        Ok(found) => is_good(&found),
+        Err(_) => false,
+    }
 }
 
 #[test]
-fn a_volume_is_surveyed(rt: HostRuntime) -> Result<(), Fail> {
-    let alloc = rt.alloc();
-    let mut pages = good(alloc)?;
-    let Ok(found) = survey(alloc, &mut pages, 932) else {
-        return Err(Fail::new("a good volume is refused"));
-    };
-    assert_eq!(rt; found.defs.find(Kind::RowType, b"r"), Some(0));
-    assert_eq!(rt; found.defs.find(Kind::Container, b"c"), Some(3));
-    assert_eq!(rt; found.defs.find(Kind::Series, b"k"), Some(50));
-    assert_eq!(rt; found.defs.vacant(Kind::Series), Some(0));
-    let place = Place {
-        at: DAY_3,
-        page: 931,
-        count: 1,
-    };
-    assert_eq!(rt; found.space.places(50), [place].as_slice());
-    assert_eq!(rt; found.free.as_slice(), [930].as_slice());
-    Ok(())
+fn a_volume_is_surveyed(rt: HostRuntime) {
+    assert!(rt; is_surveyed(rt.alloc()));
+}
+
+fn has_header(page: &Page) -> bool {
+    &page.bytes[..13] == b"TSVOLUME\x01\x00\x01\x00\x00".as_slice()
+        && page.bytes[13..].iter().all(|byte| *byte == 0)
 }
 
 #[test]
@@ -145,227 +141,215 @@ fn the_header_has_these_bytes(rt: HostRuntime) {
     let mut page = Page::zero();
     page.bytes[4095] = 7;
     write_header(65536, &mut page);
-    assert_eq!(rt;
-        &page.bytes[..13],
-        b"TSVOLUME\x01\x00\x01\x00\x00".as_slice()
-    );
-    assert!(rt; page.bytes[13..].iter().all(|byte| *byte == 0));
+    assert!(rt; has_header(&page));
 }
 
-// The definitions of the good volume.
-fn kind_r(alloc: Global) -> Result<Def, Fail>
-    ensures { IfOk result (λ def. kind_of def ≡ Kind.RowType) }
+/// The definitions of the good volume, and one that comes and goes.
+const SLOTS: [(Kind, u16, &[u8], bool); 5] = [
+    (Kind::RowType, 0, b"r", true),
+    (Kind::Container, 3, b"c", true),
+    (Kind::Series, 50, b"k", true),
+    (Kind::Series, 51, b"k", true),
+    (Kind::Series, 51, b"k", false),
+];
+
+// Writes a definition of this name into a slot, or empties it.
+fn write(
+    alloc: Global,
+    pages: &mut MemoryPages,
+    kind: Kind,
+    slot: u16,
+    text: &[u8],
+    is_there: bool,
+) -> Result<(), StoreFault>
+    requires { (memory_contents pages.old).count ≡ 932 }
+    ensures { OnOk result ((memory_contents pages.new).count ≡ 932) }
 {
-    Ok(Def::RowType {
-        name: name(alloc, b"r")?,
-        kind: row_type(alloc)?,
-    })
+    if slot >= kind.limit() {
+        return Err(StoreFault::Failed);
+    }
+    if !is_there {
+        return write_slot(alloc, pages, kind, slot, None);
+    }
+    let def = def(alloc, kind, text)?;
+    write_slot(alloc, pages, kind, slot, Some(&def))
 }
 
-fn container_c(alloc: Global) -> Result<Def, Fail>
-    ensures { IfOk result (λ def. kind_of def ≡ Kind.Container) }
-{
-    Ok(Def::Container {
-        name: name(alloc, b"c")?,
-        row_type: 0,
-        quota: 2,
-    })
-}
-
-fn series_k(alloc: Global) -> Result<Def, Fail>
-    ensures { IfOk result (λ def. kind_of def ≡ Kind.Series) }
-{
-    Ok(Def::Series {
-        key: Key::read(alloc, b"k")?.ok_or("no key")?,
-        container: 3,
-    })
-}
-
-// The good definitions in their slots, and others beside them that came and went.
-fn written(alloc: Global) -> Result<MemoryPages, Fail>
+// A volume of zeros with these definitions in their slots.
+fn written(alloc: Global) -> Result<MemoryPages, StoreFault>
     ensures { IfOk result (λ pages. (memory_contents pages).count ≡ 932) }
 {
-    let series = series_k(alloc)?;
     let mut pages = zeros(alloc)?;
-    write_slot(alloc, &mut pages, Kind::RowType, 0, Some(&kind_r(alloc)?))?;
-    write_slot(
-        alloc,
-        &mut pages,
-        Kind::Container,
-        3,
-        Some(&container_c(alloc)?),
-    )?;
-    write_slot(alloc, &mut pages, Kind::Series, 50, Some(&series))?;
-    write_slot(alloc, &mut pages, Kind::Series, 51, Some(&series))?;
-    write_slot(alloc, &mut pages, Kind::Series, 51, None)?;
+    for (kind, slot, text, is_there) in &SLOTS {
+        write(alloc, &mut pages, *kind, *slot, text, *is_there)?;
+    }
     Ok(pages)
 }
 
 // A page of a volume.
-fn page_of(pages: &mut MemoryPages, number: u32) -> Result<Page, Fail>
+fn page_of(pages: &mut MemoryPages, number: u32) -> Option<Page>
     requires { (memory_contents pages.old).count ≡ 932 }
-    ensures { OnOk result ((memory_contents pages.new).count ≡ 932) }
 {
     if number >= 932 {
-        return Err(Fail::new("no such page"));
+        return None;
     }
     let mut page = Page::zero();
-    pages.get(number, &mut page)?;
-    Ok(page)
+    pages.get(number, &mut page).ok()?;
+    Some(page)
 }
 
-// The page of that number with the good definitions in their slots, and in the good volume.
-fn compared(alloc: Global, number: u32) -> Result<(Page, Page), Fail> {
-    let page = page_of(&mut written(alloc)?, number)?;
-    let want = page_of(&mut good(alloc)?, number)?;
-    Ok((page, want))
+// Whether a page of a volume with the good definitions in their slots is that of the good volume.
+fn is_written(alloc: Global, number: u32) -> Option<bool> {
+    let page = page_of(&mut written(alloc).ok()?, number)?;
+    let wanted = page_of(&mut volume(alloc, &[]).ok()?, number)?;
+    Some(page == wanted)
 }
 
 #[test]
-fn slots_have_the_bytes_of_the_format(rt: HostRuntime) -> Result<(), Fail> {
-    for number in [257, 258, 833, 834, 835] {
-        let (page, want) = compared(rt.alloc(), number)?;
-        assert!(rt; page == want);
+fn slots_have_the_bytes_of_the_format(rt: HostRuntime) {
+    for number in &[257, 258, 833, 834, 835] {
+        assert!(rt; is_written(rt.alloc(), *number) == Some(true));
     }
-    Ok(())
 }
 
-#[test]
-fn a_slot_beside_another_is_written(rt: HostRuntime) -> Result<(), Fail> {
-    let mut pages = good(rt.alloc())?;
-    let series = series_k(rt.alloc())?;
-    write_slot(rt.alloc(), &mut pages, Kind::Series, 51, Some(&series))?;
-    let page = page_of(&mut pages, 835)?;
-    assert_eq!(rt; &page.bytes[752..755], b"\x02\x01k".as_slice());
-    assert_eq!(rt; &page.bytes[658..661], b"\x02\x01k".as_slice());
-    Ok(())
+// The page of the good series with another one in the next slot.
+fn with_next_series(alloc: Global) -> Option<Page> {
+    let mut pages = volume(alloc, &[]).ok()?;
+    write(alloc, &mut pages, Kind::Series, 51, b"k", true).ok()?;
+    page_of(&mut pages, 835)
 }
 
-#[test]
-fn the_first_page_that_breaks_the_format_is_told(rt: HostRuntime) -> Result<(), Fail> {
-    let rows: [(u32, usize, &[u8], Option<u32>); 20] = [
-        // The header: as it is, another format, another number of pages, a byte behind it.
-        (0, 8, &[1], None),
-        (0, 8, &[2], Some(0)),
-        (0, 12, &[3], Some(0)),
-        (0, 4095, &[1], Some(0)),
-        // A row type: its first byte, a byte behind its name, one column more, a kind of none, a byte behind it.
-        (257, 0, &[2], Some(257)),
-        (257, 3, &[1], Some(257)),
-        (257, 67, &[2], Some(257)),
-        (257, 68, &[6], Some(257)),
-        (257, 4095, &[1], Some(257)),
-        // Pages without slots, and the rest of pages with some.
-        (321, 0, &[1], Some(321)),
-        (832, 4095, &[1], Some(832)),
-        (833, 3840, &[1], Some(833)),
-        (929, 1034, &[1], Some(929)),
-        // A container: a row type past the last slot, no quota, one of too many pages.
-        (833, 214, &[64], Some(833)),
-        (833, 218, &[0], Some(833)),
-        (833, 215, &[0, 1, 0, 1], Some(833)),
-        // A series: its first byte, its key of no bytes, a container past the last slot, one that is empty.
-        (835, 658, &[3], Some(835)),
-        (835, 659, &[0, 0], Some(835)),
-        (835, 724, &[64], Some(835)),
-        (835, 724, &[2], Some(835)),
-    ];
-    for (page, at, bytes, want) in rows {
-        assert_eq!(rt; bad_with(rt.alloc(), &[bytes_at(page, at, bytes)])?, want);
+fn has_both_series(page: Option<Page>) -> bool {
+    match page {
+        Some(page) => {
+            &page.bytes[658..661] == b"\x02\x01k".as_slice()
+                && &page.bytes[752..755] == b"\x02\x01k".as_slice()
+        }
+        None => false,
     }
-    Ok(())
 }
 
 #[test]
-fn a_page_that_repeats_a_name_or_refers_to_nothing_is_told(rt: HostRuntime) -> Result<(), Fail> {
-    // A series of the same key in slot 51 and one in slot 301, a container that refers to nothing, a page that breaks the format.
-    let beside = bytes_at(835, 752, b"\x02\x01k");
-    let behind = bytes_at(841, 0, b"\x02\x01k");
-    let dangling = bytes_at(833, 214, b"\x01");
-    let broken = bytes_at(900, 0, b"\x09");
-    // A row type of the same name in another slot.
-    let twice = [
-        bytes_at(300, 0, b"\x01\x01r"),
-        bytes_at(300, 34, b"\x01t"),
-        bytes_at(300, 67, b"\x01\x01\x00\x00\x01w"),
-    ];
-    let rows: [(&[Patch], Option<u32>); 6] = [
-        (&[beside], Some(835)),
-        (&[behind], Some(841)),
-        (&[behind, dangling], Some(833)),
-        (&[behind, dangling, broken], Some(900)),
-        (&twice, Some(300)),
-        (&[dangling], Some(833)),
-    ];
-    for (patches, want) in rows {
-        assert_eq!(rt; bad_with(rt.alloc(), patches)?, want);
+fn a_slot_beside_another_is_written(rt: HostRuntime) {
+    assert!(rt; has_both_series(with_next_series(rt.alloc())));
+}
+
+/// Bytes for the good volume, and the first page that is bad with them.
+const DEFINITIONS: [(&[Patch], Option<u32>); 30] = [
+    // The header: as it is, another format, another number of pages, a byte behind it.
+    (&[(0, 8, &[1])], None),
+    (&[(0, 8, &[2])], Some(0)),
+    (&[(0, 12, &[3])], Some(0)),
+    (&[(0, 4095, &[1])], Some(0)),
+    // A row type: its first byte, a byte behind its name, one column more, a kind of none, a byte behind it.
+    (&[(257, 0, &[2])], Some(257)),
+    (&[(257, 3, &[1])], Some(257)),
+    (&[(257, 67, &[2])], Some(257)),
+    (&[(257, 68, &[6])], Some(257)),
+    (&[(257, 4095, &[1])], Some(257)),
+    // A decimal of 18 digits, whose cell the element's bytes are too, of 19 and of 28.
+    (&[(257, 68, &[4, 18])], None),
+    (&[(257, 68, &[4, 19])], Some(257)),
+    (&[(257, 68, &[4, 28])], Some(257)),
+    // Pages without slots, and the rest of pages with some.
+    (&[(321, 0, &[1])], Some(321)),
+    (&[(832, 4095, &[1])], Some(832)),
+    (&[(833, 3840, &[1])], Some(833)),
+    (&[(929, 1034, &[1])], Some(929)),
+    // A container: a row type past the last slot, no quota, one of too many pages, one of 3 pages in a volume of 2.
+    (&[(833, 214, &[64])], Some(833)),
+    (&[(833, 218, &[0])], Some(833)),
+    (&[(833, 215, &[0, 1, 0, 1])], Some(833)),
+    (&[(833, 218, &[3])], Some(833)),
+    // A series: its first byte, its key of no bytes, a container past the last slot, one that is empty.
+    (&[(835, 658, &[3])], Some(835)),
+    (&[(835, 659, &[0, 0])], Some(835)),
+    (&[(835, 724, &[64])], Some(835)),
+    (&[(835, 724, &[2])], Some(835)),
+    // A series of the same key in the next slot, and one in the next page but five; a container that refers to nothing
+    // then; and a page that breaks the format.
+    (&[BESIDE], Some(835)),
+    (&[BEHIND], Some(841)),
+    (&[BEHIND, DANGLING], Some(833)),
+    (&[BEHIND, DANGLING, (900, 0, &[9])], Some(900)),
+    (&[DANGLING], Some(833)),
+    // A row type of the same name.
+    (
+        &[
+            (300, 0, b"\x01\x01r"),
+            (300, 34, b"\x01t"),
+            (300, 67, b"\x01\x01\x00\x00\x01w"),
+        ],
+        Some(300),
+    ),
+];
+
+const BESIDE: Patch = (835, 752, b"\x02\x01k");
+
+const BEHIND: Patch = (841, 0, b"\x02\x01k");
+
+const DANGLING: Patch = (833, 214, &[1]);
+
+#[test]
+fn the_first_page_that_breaks_the_format_is_told(rt: HostRuntime) {
+    for (patches, wanted) in &DEFINITIONS {
+        assert!(rt; bad_page(rt.alloc(), patches) == Some(*wanted));
     }
-    Ok(())
 }
 
+/// The same of element pages.
+const ELEMENTS: [(&[Patch], Option<u32>); 14] = [
+    // No kind of page, a regular page, a page of an empty slot.
+    (&[(930, 0, &[3])], Some(930)),
+    (&[(931, 0, &[1])], Some(931)),
+    (&[(931, 2, &[51])], Some(931)),
+    // No elements, one too many, a byte behind them, a cell that is none, a row that is none.
+    (&[(931, 4, &[0])], Some(931)),
+    (&[(931, 4, &[2])], Some(931)),
+    (&[(931, 46, &[1])], Some(931)),
+    (&[(931, 32, &[0])], Some(931)),
+    (&[(931, 41, &[2])], Some(931)),
+    // A free page may have any bytes behind its first.
+    (&[(930, 1, &[9, 9, 9])], None),
+    // Stamps that don't rise, and stamps that do.
+    (&[TWO, SECOND, (931, 53, &[0xf0])], Some(931)),
+    (&[TWO, SECOND, (931, 53, &[0xf1])], None),
+    // A second page of the series, and one of another series of the container, which has a quota of one page then.
+    (&[HEAD, (930, 32, CELL), QUOTA], Some(931)),
+    (&[HEAD, (930, 32, CELL), OTHER, KEY, IN_C, QUOTA], Some(833)),
+    (&[HEAD, (930, 32, CELL), OTHER, KEY, IN_C], None),
+];
+
+const TWO: Patch = (931, 4, &[2]);
+
+const SECOND: Patch = (931, 46, CELL);
+
+const HEAD: Patch = (930, 0, b"\x02\x00\x32\x00\x01");
+
+const OTHER: Patch = (930, 2, b"\x33");
+
+const KEY: Patch = (835, 752, b"\x02\x01l");
+
+const IN_C: Patch = (835, 818, &[3]);
+
+const QUOTA: Patch = (833, 218, &[1]);
+
 #[test]
-fn a_bad_element_page_is_told(rt: HostRuntime) -> Result<(), Fail> {
-    let rows: [(u32, usize, &[u8], Option<u32>); 9] = [
-        // No kind of page, a regular page, a page of an empty slot.
-        (930, 0, &[3], Some(930)),
-        (931, 0, &[1], Some(931)),
-        (931, 2, &[51], Some(931)),
-        // No elements, one too many, a byte behind them, a cell that is none, a row that is none.
-        (931, 4, &[0], Some(931)),
-        (931, 4, &[2], Some(931)),
-        (931, 46, &[1], Some(931)),
-        (931, 32, &[0], Some(931)),
-        (931, 41, &[2], Some(931)),
-        // A free page may have any bytes behind its first.
-        (930, 1, &[9, 9, 9], None),
-    ];
-    for (page, at, bytes, want) in rows {
-        assert_eq!(rt; bad_with(rt.alloc(), &[bytes_at(page, at, bytes)])?, want);
+fn a_bad_element_page_is_told(rt: HostRuntime) {
+    for (patches, wanted) in &ELEMENTS {
+        assert!(rt; bad_page(rt.alloc(), patches) == Some(*wanted));
     }
-    Ok(())
 }
 
-#[test]
-fn stamps_that_do_not_rise_are_told(rt: HostRuntime) -> Result<(), Fail> {
-    for (last, want) in [([0xf0], Some(931)), ([0xf1], None)] {
-        let two = [
-            bytes_at(931, 4, b"\x02"),
-            bytes_at(931, 46, &CELL),
-            bytes_at(931, 53, &last),
-        ];
-        assert_eq!(rt; bad_with(rt.alloc(), &two)?, want);
-    }
-    Ok(())
-}
-
-#[test]
-fn pages_that_are_too_many_are_told(rt: HostRuntime) -> Result<(), Fail> {
-    // A second page of the series, which a page of another series of the container becomes, and a quota.
-    let head = bytes_at(930, 0, b"\x02\x00\x32\x00\x01");
-    let cell = bytes_at(930, 32, &CELL);
-    let other = bytes_at(930, 2, b"\x33");
-    let key = bytes_at(835, 752, b"\x02\x01l");
-    let container = bytes_at(835, 818, b"\x03");
-    let one = bytes_at(833, 218, b"\x01");
-    let three = bytes_at(833, 218, b"\x03");
-    let rows: [(&[Patch], Option<u32>); 4] = [
-        // Quotas of 3 pages in a volume of 2.
-        (&[three], Some(833)),
-        (&[head, cell, one], Some(931)),
-        (&[head, cell, one, other, key, container], Some(833)),
-        (&[head, cell, other, key, container], None),
-    ];
-    for (patches, want) in rows {
-        assert_eq!(rt; bad_with(rt.alloc(), patches)?, want);
-    }
-    Ok(())
-}
-
-#[test]
-fn a_charge_is_changed(rt: HostRuntime) -> Result<(), Fail> {
-    let mut charges = Charges::new(rt.alloc())?;
+// The charges of a container, and of another one, whose first changed.
+fn changed_charges(alloc: Global) -> Result<(u64, u64), AllocError> {
+    let mut charges = Charges::new(alloc)?;
     charges.change(3, 0, 5);
-    assert_eq!(rt; [charges.of(3), charges.of(4)], [5, 0]);
+    Ok((charges.of(3), charges.of(4)))
+}
+
+#[test]
+fn a_charge_is_changed(rt: HostRuntime) {
+    assert!(rt; matches!(changed_charges(rt.alloc()), Ok((5, 0))));
     a_charge_changes_with_a_series();
-    Ok(())
 }

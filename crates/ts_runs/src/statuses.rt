@@ -24,43 +24,6 @@ fn init_makes_a_store_once(rt: HostRuntime) -> Result<(), Fail> {
 }
 
 #[test]
-fn words_that_name_no_job_do_nothing(rt: HostRuntime) -> Result<(), Fail> {
-    let alloc = rt.alloc();
-    let table: [&[&str]; 9] = [
-        &[],
-        &["init"],
-        &["init", "0"],
-        &["init", "65537"],
-        &["init", "eight"],
-        &["init", "00000000008"],
-        &["init", "8", "9"],
-        &["run", "x"],
-        &["check"],
-    ];
-    let mut site = MemorySite::new(Vec::new(alloc))?;
-    let mut source = MemorySource::new(Vec::new(alloc), 1);
-    for words in table {
-        assert_eq!(rt; status(&rt, alloc, words, &mut site, &mut source)?, 2);
-        assert_eq!(rt; site.calls(), 0);
-    }
-    Ok(())
-}
-
-#[test]
-fn what_follows_a_statement_that_is_too_long_is_carried_out(rt: HostRuntime) -> Result<(), Fail> {
-    let alloc = rt.alloc();
-    let mut script = vec![in alloc; b'x'; 65536]?;
-    script.extend_from_slice(b";GetNelems('n');")?;
-    let mut site = volume(&rt, alloc, "8")?;
-    assert_eq!(rt; run(&rt, alloc, &mut site, &script)?, 0);
-    assert_eq!(rt;
-        site.said(),
-        b"error 2 TooLong\nerror 10 UnknownName\n".as_slice()
-    );
-    Ok(())
-}
-
-#[test]
 fn a_script_without_end_is_too_long(rt: HostRuntime) -> Result<(), Fail> {
     let alloc = rt.alloc();
     let mut site = volume(&rt, alloc, "1")?;
@@ -95,27 +58,6 @@ fn a_number_misfits_a_series_of_texts(rt: HostRuntime) -> Result<(), Fail> {
     assert_eq!(rt;
         site.said(),
         b"error 10 UnknownName\nerror 26 RowMismatch\n".as_slice()
-    );
-    Ok(())
-}
-
-// What one run stored, the next one reads.
-#[test]
-fn a_store_lasts_from_run_to_run(rt: HostRuntime) -> Result<(), Fail> {
-    let mut site = volume(&rt, rt.alloc(), "8")?;
-    let scripts: [&[u8]; 3] = [
-        b"CreateRowType(rd, t datetime, v integer);TSContainerCreate(c1, rd, 8);TSCreateIrr('x', c1);TSCreateIrr('y', c1);",
-        b"InsElem('x','2011-01-05 00:00:00',2);InsElem('x','2011-01-03 00:00:00',1);",
-        b"GetElem('x','2011-01-05 00:00:00');InsElem('x','2011-01-05 00:00:00',3);ListSeries(c1);TSContainerUsage(c1);",
-    ];
-    for script in scripts {
-        assert_eq!(rt; run(&rt, rt.alloc(), &mut site, script)?, 0);
-    }
-    assert_eq!(rt;
-        site.said(),
-        b"ok\nok\nok\nok\nok 2011-01-05 00:00:00.00000\nok 2011-01-03 00:00:00.00000\n\
-          2011-01-05 00:00:00.00000 2\nok 1\nerror 23 Duplicate\n'x' irregular 2\n'y' irregular 0\nok 2\nok 1 8\n"
-            .as_slice()
     );
     Ok(())
 }

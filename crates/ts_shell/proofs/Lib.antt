@@ -1,5 +1,4 @@
 mod ApartLemmas
-pub mod NumberLemmas
 pub mod ItemLemmas
 pub mod RanLemmas
 pub mod FeedLemmas

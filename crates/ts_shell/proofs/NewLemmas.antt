@@ -12,7 +12,8 @@ use Rattle.ts_journal.proofs.CallerLemmas.{gate_part, same_gate, records_closed}
 use Rattle.ts_model.specs.declared.kind.Kind.{Kind}
 use Rattle.ts_model.specs.declared.kind.Kind.TheVariants as kinds
 use Rattle.ts_model.specs.declared.def.Def.{Def}
-use Rattle.ts_model.specs.Definitions.{RowTypeDef, ContainerDef, SeriesDef, of_row_type, of_container, of_series, no_definitions, limit, at_slot, filled_from}
+use Rattle.ts_model.specs.Definitions.{RowTypeDef, ContainerDef, SeriesDef, no_definitions, limit, filled_from}
+use Rattle.ts_model.proofs.PartsLemmas.{nothing-defined}
 use Rattle.ts_model.specs.Catalogue.{empty_catalogue}
 use Rattle.ts_layout.specs.Limits.{IsSlotOf}
 use Rattle.ts_layout.specs.Slot.{header_bytes, slot_size, slot_bytes, page_of_slot, byte_of_slot, slots_in_page, bytes_of_slots}
@@ -55,17 +56,6 @@ each_is zero i x = refl
 each_is (suc n) zero x = refl
 each_is (suc n) (suc i) x = each_is n i x
 
--- no slot of an empty table is filled
-none_there : {A : Type 0} (f : A → Def) (n slot : ℕ) → at_slot slot (map (option_map f) (replicate n None)) ≡ None
-none_there f zero slot = refl
-none_there f (suc n) zero = refl
-none_there f (suc n) (suc slot) = none_there f n slot
-
-nothing_defined : (kind : Kind) (slot : ℕ) → def_at kind slot no_definitions ≡ None
-nothing_defined kinds.RowType slot = none_there of_row_type 64 slot
-nothing_defined kinds.Container slot = none_there of_container 64 slot
-nothing_defined kinds.Series slot = none_there of_series 4096 slot
-
 filled_none : {A X : Type 0} (name : A → List ℕ) (value : ℕ → A → X) (first n : ℕ) → filled_from name value first (replicate n None) ≡ []
 filled_none name value first zero = refl
 filled_none name value first (suc n) = filled_none name value (first + 1) n
@@ -95,7 +85,7 @@ no_definitions_held at zeros = record {
       let high = page_high kind slot within in
       ap (bytes_at (byte_of_slot kind slot) (slot_size kind)) (zeros (page_of_slot kind slot) low high)
       ∙ zeros_part (byte_of_slot kind slot) (slot_size kind) (omega (arith, slot_end kind slot within, fits_page (page_of_slot kind slot) low high))
-      ∙ sym (empty_slot kind) ∙ ap (slot_bytes kind) (sym (nothing_defined kind slot));
+      ∙ sym (empty_slot kind) ∙ ap (slot_bytes kind) (sym (nothing-defined kind slot));
   behind = λ number low high. ap (drop (bytes_of_slots (slots_in_page number))) (zeros number low high) ∙ drop-replicate (bytes_of_slots (slots_in_page number)) 4096 0;
 }
 
@@ -115,8 +105,8 @@ empty_is_sound count some limit =
           containers = record { size = length-replicate {A = Option ContainerDef} 64 None; apart = λ i j a b here. absurd (some_is_none a (sym here ∙ each_is 64 i None)) };
           series = record { size = length-replicate {A = Option SeriesDef} 4096 None; apart = λ i j a b here. absurd (some_is_none a (sym here ∙ each_is 4096 i None)) };
         };
-        limits = λ kind slot within. subst (IsSlotOf kind) (sym (nothing_defined kind slot)) tt;
-        references = λ kind slot def within is. absurd (some_is_none def (sym is ∙ nothing_defined kind slot));
+        limits = record { each = λ kind slot within. subst (IsSlotOf kind) (sym (nothing-defined kind slot)) tt };
+        references = λ kind slot def within is. absurd (some_is_none def (sym is ∙ nothing-defined kind slot));
         quotas = (let none : sum_of_quotas (replicate 64 None) ≡ 0 = refl in omega (arith, none));
       };
       one_page = λ i j slot es fs here. absurd (cells_are_free slot es (sym here ∙ each_is count i Free));

@@ -7,7 +7,6 @@
 
 mod fault;
 mod make;
-mod number;
 mod run;
 mod session;
 mod top;

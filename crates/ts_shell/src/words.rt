@@ -2,7 +2,7 @@
 ghost use Rattle.std.specs.Prelude.{◌≡◌, ◌≤◌, IfSome, map, string_bytes};
 ghost use Rattle.ts_shell.specs.Words.{job_of, IsJob, pages_in, decimal};
 
-use crate::number::{are_digits, number};
+use ts_text::{are_digits, magnitude};
 
 /// What the program is asked to do.
 #[derive(Clone, Copy, Debug, PartialEq, Eq)]
@@ -62,7 +62,8 @@ fn read_decimal(text: &[u8]) -> Option<u64>
     ensures { result ≡ decimal text.now }
 {
     if text.len() >= 1 && text.len() <= 10 && are_digits(text) {
-        Some(number(text))
+        let number = magnitude(text);
+        Some(number as u64)
     } else {
         None
     }

@@ -1,6 +1,5 @@
 // Statements and the commands that they are.
-use std::alloc::Global;
-use std::test::Fail;
+use std::alloc::{AllocError, Global};
 use ts_command::{Columns, Command, Literals, read_command};
 use ts_row::{Column, ColumnKind, Literal};
 
@@ -122,74 +121,76 @@ fn is_read(alloc: Global, text: &[u8], row: Row) -> bool {
     }
 }
 
+/// Statements, and the commands that they are.
+static STATEMENTS: [(&[u8], Row); 15] = [
+    (
+        b"CreateRowType(rd, t datetime, v integer);",
+        (
+            "CreateRowType",
+            b"rd",
+            b"t",
+            Rest::Columns(&[(b"v", ColumnKind::Integer)]),
+        ),
+    ),
+    (
+        b"CreateRowType(w,t datetime,a smallint,b bigint,c decimal(018,0),d varchar ( 255 ));",
+        ("CreateRowType", b"w", b"t", Rest::Columns(&WIDE)),
+    ),
+    (
+        b"DropRowType(rd);",
+        ("DropRowType", b"rd", b"", Rest::Nothing),
+    ),
+    (
+        b"TSContainerCreate(c1, rd, 1);",
+        ("TSContainerCreate", b"c1", b"rd", Rest::Quota(1)),
+    ),
+    (
+        b"TSContainerCreate(c1,rd,0065536);",
+        ("TSContainerCreate", b"c1", b"rd", Rest::Quota(65536)),
+    ),
+    (
+        b"TSContainerDestroy(c1);",
+        ("TSContainerDestroy", b"c1", b"", Rest::Nothing),
+    ),
+    (
+        b"TSContainerUsage(_1);",
+        ("TSContainerUsage", b"_1", b"", Rest::Nothing),
+    ),
+    (
+        b"TSCreateIrr('x', c1);",
+        ("TSCreateIrr", b"x", b"c1", Rest::Nothing),
+    ),
+    (
+        b"DropSeries('it''s');",
+        ("DropSeries", b"it's", b"", Rest::Nothing),
+    ),
+    (
+        b"ListSeries(null);",
+        ("ListSeries", b"null", b"", Rest::Nothing),
+    ),
+    (
+        b"InsElem('x','1970-01-01 00:00:00');",
+        ("InsElem", b"x", b"", Rest::Values(0, &[])),
+    ),
+    (
+        b" \n InsElem\t('x' ,'1970-01-01 00:00:00.00001', null,-0,007,-1.50,'', 'a''')\r\n;",
+        ("InsElem", b"x", b"", Rest::Values(1, &SEVERAL)),
+    ),
+    (
+        b"GetElem('x','1969-12-31 23:59:59.99999');",
+        ("GetElem", b"x", b"", Rest::Stamp(-1)),
+    ),
+    (b"GetNelems('''');", ("GetNelems", b"'", b"", Rest::Nothing)),
+    (
+        b"GetNelems('a;b');",
+        ("GetNelems", b"a;b", b"", Rest::Nothing),
+    ),
+];
+
 #[test]
 fn each_routine_is_read_with_its_arguments(rt: HostRuntime) {
-    let page: [(&[u8], Row); 15] = [
-        (
-            b"CreateRowType(rd, t datetime, v integer);",
-            (
-                "CreateRowType",
-                b"rd",
-                b"t",
-                Rest::Columns(&[(b"v", ColumnKind::Integer)]),
-            ),
-        ),
-        (
-            b"CreateRowType(w,t datetime,a smallint,b bigint,c decimal(018,0),d varchar ( 255 ));",
-            ("CreateRowType", b"w", b"t", Rest::Columns(&WIDE)),
-        ),
-        (
-            b"DropRowType(rd);",
-            ("DropRowType", b"rd", b"", Rest::Nothing),
-        ),
-        (
-            b"TSContainerCreate(c1, rd, 1);",
-            ("TSContainerCreate", b"c1", b"rd", Rest::Quota(1)),
-        ),
-        (
-            b"TSContainerCreate(c1,rd,0065536);",
-            ("TSContainerCreate", b"c1", b"rd", Rest::Quota(65536)),
-        ),
-        (
-            b"TSContainerDestroy(c1);",
-            ("TSContainerDestroy", b"c1", b"", Rest::Nothing),
-        ),
-        (
-            b"TSContainerUsage(_1);",
-            ("TSContainerUsage", b"_1", b"", Rest::Nothing),
-        ),
-        (
-            b"TSCreateIrr('x', c1);",
-            ("TSCreateIrr", b"x", b"c1", Rest::Nothing),
-        ),
-        (
-            b"DropSeries('it''s');",
-            ("DropSeries", b"it's", b"", Rest::Nothing),
-        ),
-        (
-            b"ListSeries(null);",
-            ("ListSeries", b"null", b"", Rest::Nothing),
-        ),
-        (
-            b"InsElem('x','1970-01-01 00:00:00');",
-            ("InsElem", b"x", b"", Rest::Values(0, &[])),
-        ),
-        (
-            b" \n InsElem\t('x' ,'1970-01-01 00:00:00.00001', null,-0,007,-1.50,'', 'a''')\r\n;",
-            ("InsElem", b"x", b"", Rest::Values(1, &SEVERAL)),
-        ),
-        (
-            b"GetElem('x','1969-12-31 23:59:59.99999');",
-            ("GetElem", b"x", b"", Rest::Stamp(-1)),
-        ),
-        (b"GetNelems('''');", ("GetNelems", b"'", b"", Rest::Nothing)),
-        (
-            b"GetNelems('a;b');",
-            ("GetNelems", b"a;b", b"", Rest::Nothing),
-        ),
-    ];
-    for (text, wanted) in page {
-        assert!(rt; is_read(rt.alloc(), text, wanted), "{text:?}");
+    for (text, wanted) in &STATEMENTS {
+        assert!(rt; is_read(rt.alloc(), text, *wanted));
     }
 }
 
@@ -215,59 +216,60 @@ const SEVERAL: [Value; 6] = [
     Value::Text(b"a'"),
 ];
 
+/// Statements, and their values.
+static VALUES: [(&[u8], &[Value]); 8] = [
+    (
+        b"InsElem('x','1970-01-01 00:00:00',1.5);",
+        &[Value::Number(15, 1)],
+    ),
+    (
+        b"InsElem('x','1970-01-01 00:00:00',-0.50);",
+        &[Value::Number(-50, 2)],
+    ),
+    (
+        b"InsElem('x','1970-01-01 00:00:00',1.0);",
+        &[Value::Number(10, 1)],
+    ),
+    (
+        b"InsElem('x','1970-01-01 00:00:00',-2147483648);",
+        &[Value::Number(-2147483648, 0)],
+    ),
+    (
+        b"InsElem('x','1970-01-01 00:00:00','''');",
+        &[Value::Text(b"'")],
+    ),
+    (
+        b"InsElem('x','1970-01-01 00:00:00','a;b');",
+        &[Value::Text(b"a;b")],
+    ),
+    (
+        b"InsElem('x','1970-01-01 00:00:00',99999999999999999999999999999999999999);",
+        &[Value::Number(99_999_999_999_999_999_999_999_999_999_999_999_999, 0)],
+    ),
+    (
+        b"InsElem('x','1970-01-01 00:00:00',-0000000000000000000000000000000000000.1);",
+        &[Value::Number(-1, 1)],
+    ),
+];
+
 #[test]
 fn a_value_is_its_longest_token(rt: HostRuntime) {
-    let page: [(&[u8], &[Value]); 8] = [
-        (
-            b"InsElem('x','1970-01-01 00:00:00',1.5);",
-            &[Value::Number(15, 1)],
-        ),
-        (
-            b"InsElem('x','1970-01-01 00:00:00',-0.50);",
-            &[Value::Number(-50, 2)],
-        ),
-        (
-            b"InsElem('x','1970-01-01 00:00:00',1.0);",
-            &[Value::Number(10, 1)],
-        ),
-        (
-            b"InsElem('x','1970-01-01 00:00:00',-2147483648);",
-            &[Value::Number(-2147483648, 0)],
-        ),
-        (
-            b"InsElem('x','1970-01-01 00:00:00','''');",
-            &[Value::Text(b"'")],
-        ),
-        (
-            b"InsElem('x','1970-01-01 00:00:00','a;b');",
-            &[Value::Text(b"a;b")],
-        ),
-        (
-            b"InsElem('x','1970-01-01 00:00:00',99999999999999999999999999999999999999);",
-            &[Value::Number(99_999_999_999_999_999_999_999_999_999_999_999_999, 0)],
-        ),
-        (
-            b"InsElem('x','1970-01-01 00:00:00',-0000000000000000000000000000000000000.1);",
-            &[Value::Number(-1, 1)],
-        ),
-    ];
-    for (text, values) in page {
-        let wanted = (
-            "InsElem",
-            b"x".as_slice(),
-            b"".as_slice(),
-            Rest::Values(0, values),
-        );
-        assert!(rt; is_read(rt.alloc(), text, wanted), "{text:?}");
+    for (text, values) in &VALUES {
+        let wanted: Row = ("InsElem", b"x", b"", Rest::Values(0, values));
+        assert!(rt; is_read(rt.alloc(), text, wanted));
     }
 }
 
-#[test]
-fn lists_are_taken_and_given_back(rt: HostRuntime) -> Result<(), Fail> {
-    let mut values = Vec::new(rt.alloc());
+// How many values and columns lists of one and none have, once they are taken and given back.
+fn given_back(alloc: Global) -> Result<(usize, usize), AllocError> {
+    let mut values = Vec::new(alloc);
     values.push(Literal::Null)?;
-    assert_eq!(rt; Literals::from_vec(values).into_vec().len(), 1);
-    let columns = Columns::from_vec(Vec::new(rt.alloc()));
-    assert_eq!(rt; columns.into_vec().len(), 0);
-    Ok(())
+    let values = Literals::from_vec(values).into_vec().len();
+    let columns = Columns::from_vec(Vec::new(alloc)).into_vec().len();
+    Ok((values, columns))
+}
+
+#[test]
+fn lists_are_taken_and_given_back(rt: HostRuntime) {
+    assert!(rt; matches!(given_back(rt.alloc()), Ok((1, 0))));
 }

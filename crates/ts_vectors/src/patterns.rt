@@ -1,6 +1,5 @@
 // Patterns: their texts, their parts and their limits.
 use std::alloc::{AllocError, Global};
-use std::test::Fail;
 use ts_base::{Bytes, Refusal, Trouble, Unit};
 use ts_pattern::{Junction, Pattern, Run, WrittenPattern, factor, pattern_in, smaller_unit};
 use ts_text::{Misfit, TokenKind, plain_front, read_sign, read_word, skip_blanks};
@@ -31,79 +30,90 @@ fn read(alloc: Global, text: &[u8]) -> Result<Bytes, Trouble> {
     printed(alloc, &pattern)
 }
 
-const fn bad(place: u32) -> Result<&'static [u8], Refusal> {
-    Err(Refusal::BadPattern { place })
-}
-
-pub(crate) const fn too_long(length: u128, runs: u32) -> Result<&'static [u8], Refusal> {
-    Err(Refusal::PatternTooLong { length, runs })
-}
+/// Texts, and what they are printed as.
+static TEXTS: [(&[u8], &[u8]); 8] = [
+    (b"{1 off,5 on,1 off},day", b"{1 off,5 on,1 off},day"),
+    (b"{1on},month", b"{1 on},month"),
+    (b" { 007 on ,\t2 off } ,\r\n year ", b"{7 on,2 off},year"),
+    (b"{1 on,2 on,1 off},week", b"{3 on,1 off},week"),
+    (b"{527040 off},second", b"{527040 off},second"),
+    (b"{527039 off,1 on},minute", b"{527039 off,1 on},minute"),
+    (
+        b" {10 on , 090 on, 527 off}, second",
+        b"{100 on,527 off},second",
+    ),
+    (b"{12 off},year", b"{12 off},year"),
+];
 
 #[test]
 fn a_text_is_read_with_blanks_between_its_tokens_and_printed_merged(rt: HostRuntime) {
-    let rows: [(&[u8], &[u8]); 8] = [
-        (b"{1 off,5 on,1 off},day", b"{1 off,5 on,1 off},day"),
-        (b"{1on},month", b"{1 on},month"),
-        (b" { 007 on ,\t2 off } ,\r\n year ", b"{7 on,2 off},year"),
-        (b"{1 on,2 on,1 off},week", b"{3 on,1 off},week"),
-        (b"{527040 off},second", b"{527040 off},second"),
-        (b"{527039 off,1 on},minute", b"{527039 off,1 on},minute"),
-        (
-            b" {10 on , 090 on, 527 off}, second",
-            b"{100 on,527 off},second",
-        ),
-        (b"{12 off},year", b"{12 off},year"),
-    ];
-    for (text, wanted) in rows {
-        assert!(rt; is_answer(&read(rt.alloc(), text), Ok(wanted)), "{text:?}");
+    for (text, wanted) in &TEXTS {
+        assert!(rt; is_answer(&read(rt.alloc(), text), Ok(wanted)));
     }
 }
+
+/// Texts, and the places where they are refused.
+static BAD: [(&[u8], u32); 20] = [
+    (b"", 0),
+    (b"  ", 2),
+    (b"x", 0),
+    (b"{0 on},day", 1),
+    (b"{000 on},day", 1),
+    (b"{1234567890 on},day", 1),
+    (b"{-1 on},day", 1),
+    (b"{,1 on},day", 1),
+    (b"{},day", 1),
+    (b"{1 ON},day", 3),
+    (b"{1 on2},day", 3),
+    (b"{1 on", 5),
+    (b"{1 on ", 6),
+    (b"{1 on day", 6),
+    (b"{1 on,},day", 6),
+    (b"{1 on} day", 7),
+    (b"{1 on},days", 7),
+    (b"{1 on},day;", 10),
+    (b"{7 on},day x", 11),
+    (b"{527041 on},seconds", 12),
+];
 
 #[test]
 fn a_bad_text_is_refused_at_its_place(rt: HostRuntime) {
-    let rows: [(&[u8], u32); 20] = [
-        (b"", 0),
-        (b"  ", 2),
-        (b"x", 0),
-        (b"{0 on},day", 1),
-        (b"{000 on},day", 1),
-        (b"{1234567890 on},day", 1),
-        (b"{-1 on},day", 1),
-        (b"{,1 on},day", 1),
-        (b"{},day", 1),
-        (b"{1 ON},day", 3),
-        (b"{1 on2},day", 3),
-        (b"{1 on", 5),
-        (b"{1 on ", 6),
-        (b"{1 on day", 6),
-        (b"{1 on,},day", 6),
-        (b"{1 on} day", 7),
-        (b"{1 on},days", 7),
-        (b"{1 on},day;", 10),
-        (b"{7 on},day x", 11),
-        (b"{527041 on},seconds", 12),
-    ];
-    for (text, place) in rows {
-        assert!(rt; is_answer(&read(rt.alloc(), text), bad(place)), "{text:?}");
+    for (text, place) in &BAD {
+        let why = Refusal::BadPattern { place: *place };
+        assert!(rt; is_answer(&read(rt.alloc(), text), Err(why)));
     }
 }
 
+/// Texts of too many intervals, and how many.
+static OVER: [(&[u8], u128); 2] = [
+    (b"{527041 on},second", 527_041),
+    (b"{999999999 on,999999999 on},day", 1_999_999_998),
+];
+
+// Whether a text of 512 runs is printed as it is, and one of 513 is refused.
+fn has_512_runs_at_most(alloc: Global) -> Result<bool, AllocError> {
+    let most = alternating_text(alloc, 512)?;
+    let more = alternating_text(alloc, 513)?;
+    let why = Refusal::PatternTooLong {
+        length: 513,
+        runs: 513,
+    };
+    Ok(
+        is_answer(&read(alloc, most.as_slice()), Ok(most.as_slice()))
+            && is_answer(&read(alloc, more.as_slice()), Err(why)),
+    )
+}
+
 #[test]
-fn a_text_over_a_limit_is_refused_with_its_numbers(rt: HostRuntime) -> Result<(), Fail> {
-    let rows: [(&[u8], u128); 2] = [
-        (b"{527041 on},second", 527_041),
-        (b"{999999999 on,999999999 on},day", 1_999_999_998),
-    ];
-    for (text, length) in rows {
-        assert!(rt; is_answer(&read(rt.alloc(), text), too_long(length, 0)));
+fn a_text_over_a_limit_is_refused_with_its_numbers(rt: HostRuntime) {
+    for (text, length) in &OVER {
+        let why = Refusal::PatternTooLong {
+            length: *length,
+            runs: 0,
+        };
+        assert!(rt; is_answer(&read(rt.alloc(), text), Err(why)));
     }
-    let most = alternating_text(rt.alloc(), 512)?;
-    let found = read(rt.alloc(), most.as_slice())?;
-    assert_eq!(rt; found.as_slice(), most.as_slice());
-    let more = alternating_text(rt.alloc(), 513)?;
-    let found = read(rt.alloc(), more.as_slice());
-    assert!(rt; is_answer(&found, too_long(513, 513)));
-    Ok(())
+    assert!(rt; matches!(has_512_runs_at_most(rt.alloc()), Ok(true)));
 }
 
 // So many runs of one interval, whose flags take turns.
@@ -139,30 +149,40 @@ fn alternating(alloc: Global, count: u32) -> Result<Vec<Run>, AllocError> {
     Ok(runs)
 }
 
-fn are_pattern(runs: Vec<Run>) -> bool {
-    Pattern::of_runs(Unit::Day, runs).is_some()
+/// The counts of runs whose flags take turns, and whether they are a pattern's.
+static COUNTS: [(&[u32], bool); 7] = [
+    (&[], false),
+    (&[1], true),
+    (&[1, 0], false),
+    (&[527_040], true),
+    (&[527_041], false),
+    (&[527_039, 1], true),
+    (&[527_039, 2], false),
+];
+
+fn are_pattern(alloc: Global, counts: &[u32]) -> Result<bool, AllocError> {
+    Ok(Pattern::of_runs(Unit::Day, runs(alloc, counts)?).is_some())
+}
+
+// Whether so many runs of one interval are a pattern's.
+fn are_few(alloc: Global, count: u32) -> Result<bool, AllocError> {
+    Ok(Pattern::of_runs(Unit::Day, alternating(alloc, count)?).is_some())
+}
+
+// Whether two runs of one flag are a pattern's.
+fn are_two_of_one_flag(alloc: Global) -> Result<bool, AllocError> {
+    let twice = [Run { on: true, count: 1 }; 2].to_vec(alloc)?;
+    Ok(Pattern::of_runs(Unit::Day, twice).is_some())
 }
 
 #[test]
-fn runs_within_the_limits_are_a_pattern(rt: HostRuntime) -> Result<(), Fail> {
-    let rows: [(&[u32], bool); 7] = [
-        (&[], false),
-        (&[1], true),
-        (&[1, 0], false),
-        (&[527_040], true),
-        (&[527_041], false),
-        (&[527_039, 1], true),
-        (&[527_039, 2], false),
-    ];
-    for (counts, valid) in rows {
-        assert_eq!(rt; are_pattern(runs(rt.alloc(), counts)?), valid, "{counts:?}");
+fn runs_within_the_limits_are_a_pattern(rt: HostRuntime) {
+    for (counts, valid) in &COUNTS {
+        assert!(rt; matches!(are_pattern(rt.alloc(), counts), Ok(found) if found == *valid));
     }
-    for (count, valid) in [(512, true), (513, false)] {
-        assert_eq!(rt; are_pattern(alternating(rt.alloc(), count)?), valid);
-    }
-    let twice = [Run { on: true, count: 1 }; 2].to_vec(rt.alloc())?;
-    assert!(rt; !are_pattern(twice));
-    Ok(())
+    assert!(rt; matches!(are_few(rt.alloc(), 512), Ok(true)));
+    assert!(rt; matches!(are_few(rt.alloc(), 513), Ok(false)));
+    assert!(rt; matches!(are_two_of_one_flag(rt.alloc()), Ok(false)));
 }
 
 // The flag of an interval of the first round.
@@ -174,18 +194,31 @@ fn flag(pattern: &Pattern, at: u32) -> Option<bool> {
     }
 }
 
-#[test]
-fn a_pattern_tells_its_parts(rt: HostRuntime) -> Result<(), Fail> {
-    let week = pattern(rt.alloc(), b"{1 off,5 on,1 off},day")?;
-    assert_eq!(rt; week.unit(), Unit::Day);
-    assert_eq!(rt; week.runs().len(), 3);
-    assert!(rt; week.has_on());
-    for at in 0..8 {
+// Whether the flags of the first round are those of five intervals between two that are off.
+fn are_flags_of_a_week(week: &Pattern) -> bool {
+    for at in 0..8u32 {
         let wanted = if at < 7 { Some(0 < at && at < 6) } else { None };
-        assert_eq!(rt; flag(&week, at), wanted, "at {at}");
+        if flag(week, at) != wanted {
+            return false;
+        }
     }
-    assert!(rt; !pattern(rt.alloc(), b"{7 off},day")?.has_on());
-    Ok(())
+    true
+}
+
+fn tells_its_parts(alloc: Global) -> Result<bool, Trouble> {
+    let week = pattern(alloc, b"{1 off,5 on,1 off},day")?;
+    let is_told = week.unit() == Unit::Day && week.runs().len() == 3 && week.has_on();
+    Ok(is_told && are_flags_of_a_week(&week))
+}
+
+fn has_on(alloc: Global, text: &[u8]) -> Result<bool, Trouble> {
+    Ok(pattern(alloc, text)?.has_on())
+}
+
+#[test]
+fn a_pattern_tells_its_parts(rt: HostRuntime) {
+    assert!(rt; matches!(tells_its_parts(rt.alloc()), Ok(true)));
+    assert!(rt; matches!(has_on(rt.alloc(), b"{7 off},day"), Ok(false)));
 }
 
 // A copy of the pattern of a text with each flag turned, printed.
@@ -200,26 +233,35 @@ fn not_turns_each_flag(rt: HostRuntime) {
     assert!(rt; is_answer(&found, Ok(b"{1 on,5 off,1 on},day")));
 }
 
+const TOKENS: &[u8] = b"\t pattern_1 ( {1 on},day )";
+
+// What is left of them behind a pattern of days; none where they are none.
+fn behind_pattern(alloc: Global) -> Option<&'static [u8]> {
+    let rest = read_word(TOKENS, b"pattern_1").ok()?;
+    if read_sign(rest, b')') != Err(Misfit::At { left: 14 }) {
+        return None;
+    }
+    let (written, rest) = pattern_in(alloc, read_sign(rest, b'(').ok()?).ok()?;
+    if written.unit == Unit::Day {
+        Some(skip_blanks(rest))
+    } else {
+        None
+    }
+}
+
 #[test]
-fn tokens_stand_behind_blanks(rt: HostRuntime) -> Result<(), Fail> {
-    let text = b"\t pattern_1 ( {1 on},day )".as_slice();
-    assert_eq!(rt; read_word(text, b"pattern"), Err(Misfit::At { left: 24 }));
-    let rest = read_word(text, b"pattern_1").map_err(|_| "no word")?;
-    assert_eq!(rt; read_sign(rest, b')'), Err(Misfit::At { left: 14 }));
-    let rest = read_sign(rest, b'(').map_err(|_| "no sign")?;
-    let (written, rest) = pattern_in(rt.alloc(), rest).map_err(|_| "no pattern")?;
-    assert_eq!(rt; written.unit, Unit::Day);
-    assert_eq!(rt; skip_blanks(rest), b")".as_slice());
-    assert_eq!(rt; plain_front(b"ab1 c"), Some((TokenKind::Word, 3)));
-    Ok(())
+fn tokens_stand_behind_blanks(rt: HostRuntime) {
+    assert!(rt; read_word(TOKENS, b"pattern") == Err(Misfit::At { left: 24 }));
+    assert!(rt; behind_pattern(rt.alloc()) == Some(b")".as_slice()));
+    assert!(rt; plain_front(b"ab1 c") == Some((TokenKind::Word, 3)));
 }
 
 #[test]
 fn larger_units_are_made_of_smaller_ones(rt: HostRuntime) {
-    assert_eq!(rt; factor(Unit::Week, Unit::Hour), 168);
-    assert_eq!(rt; smaller_unit(Unit::Hour, Unit::Week), Some(Unit::Hour));
-    assert_eq!(rt; smaller_unit(Unit::Year, Unit::Month), Some(Unit::Month));
-    assert_eq!(rt; smaller_unit(Unit::Month, Unit::Week), None);
+    assert!(rt; factor(Unit::Week, Unit::Hour) == 168);
+    assert!(rt; smaller_unit(Unit::Hour, Unit::Week) == Some(Unit::Hour));
+    assert!(rt; smaller_unit(Unit::Year, Unit::Month) == Some(Unit::Month));
+    assert!(rt; smaller_unit(Unit::Month, Unit::Week).is_none());
 }
 
 #[test]

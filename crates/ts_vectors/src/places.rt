@@ -1,6 +1,5 @@
 // Statements that are refused, and the places where.
 use std::alloc::{AllocError, Global};
-use std::test::Fail;
 use ts_base::{Refusal, Trouble};
 use ts_command::read_command;
 
@@ -12,130 +11,136 @@ fn place(alloc: Global, text: &[u8]) -> Option<u32> {
     }
 }
 
+/// Statements, and the places where they are refused.
+static STATEMENTS: [(&[u8], u32); 51] = [
+    (b"", 0),
+    (b" ;", 1),
+    (b"#;", 0),
+    (b"getnelems('n');", 0),
+    (b" GetNelem('n');", 1),
+    (b"GetNelems 'n');", 10),
+    (b"GetNelems();", 10),
+    (b"GetNelems(n);", 10),
+    (b"GetNelems('');", 10),
+    (b"GetNelems('n','m');", 13),
+    (b"GetNelems('n';", 13),
+    (b"GetNelems('n')x;", 14),
+    (b"GetNelems('n') , ;", 15),
+    (b"DropRowType();", 12),
+    (b"DropRowType('a');", 12),
+    (b"DropRowType(a,b);", 13),
+    (b"TSContainerCreate(c,r);", 21),
+    (b"TSContainerCreate(c,'r',1);", 20),
+    (b"TSContainerCreate(c,r,0);", 22),
+    (b"TSContainerCreate(c,r,65537);", 22),
+    (b"TSContainerCreate(c,r,5.0);", 22),
+    (b"TSContainerCreate(c,r,1,2);", 23),
+    (b"TSContainerDestroy();", 19),
+    (b"TSContainerDestroy('a');", 19),
+    (b"TSContainerDestroy(a,b);", 20),
+    (b"TSContainerUsage();", 17),
+    (b"TSContainerUsage(1);", 17),
+    (b"TSContainerUsage(a b);", 19),
+    (b"TSCreateIrr('x');", 15),
+    (b"TSCreateIrr(x,c);", 12),
+    (b"TSCreateIrr('x',c,d);", 17),
+    (b"DropSeries();", 11),
+    (b"DropSeries(x);", 11),
+    (b"DropSeries('x','y');", 14),
+    (b"ListSeries();", 11),
+    (b"ListSeries('a');", 11),
+    (b"ListSeries(a,b);", 12),
+    (b"InsElem('x');", 11),
+    (b"InsElem('x',5);", 12),
+    (b"InsElem(x,'2011-02-28 00:00:00',1);", 8),
+    (b"InsElem('x','2011-02-29 00:00:00',1);", 12),
+    (b"InsElem('x','2011-02-28 00:00:00',x);", 34),
+    (b"InsElem('x','2011-02-28 00:00:00',);", 34),
+    (b"InsElem('x','2011-02-28 00:00:00' 1);", 34),
+    (b"InsElem('x','2011-02-28 00:00:00',1,", 36),
+    (b"GetElem('x');", 11),
+    (b"GetElem(x,'2011-02-28 00:00:00');", 8),
+    (b"GetElem('x','2011-02-28 00:00:00',1);", 33),
+    // The shapes of calls that come next, each by a routine that isn't built yet.
+    (b"CreatePattern(p,'{1 on},day');", 0),
+    (
+        b" DelClip('x','2011-02-28 00:00:00','2011-03-01 00:00:00');",
+        1,
+    ),
+    (b"GetNthElem('x',0);", 0),
+];
+
 #[test]
 fn a_refusal_tells_the_first_place_that_cannot_stand(rt: HostRuntime) {
-    let page: [(&[u8], u32); 51] = [
-        (b"", 0),
-        (b" ;", 1),
-        (b"#;", 0),
-        (b"getnelems('n');", 0),
-        (b" GetNelem('n');", 1),
-        (b"GetNelems 'n');", 10),
-        (b"GetNelems();", 10),
-        (b"GetNelems(n);", 10),
-        (b"GetNelems('');", 10),
-        (b"GetNelems('n','m');", 13),
-        (b"GetNelems('n';", 13),
-        (b"GetNelems('n')x;", 14),
-        (b"GetNelems('n') , ;", 15),
-        (b"DropRowType();", 12),
-        (b"DropRowType('a');", 12),
-        (b"DropRowType(a,b);", 13),
-        (b"TSContainerCreate(c,r);", 21),
-        (b"TSContainerCreate(c,'r',1);", 20),
-        (b"TSContainerCreate(c,r,0);", 22),
-        (b"TSContainerCreate(c,r,65537);", 22),
-        (b"TSContainerCreate(c,r,5.0);", 22),
-        (b"TSContainerCreate(c,r,1,2);", 23),
-        (b"TSContainerDestroy();", 19),
-        (b"TSContainerDestroy('a');", 19),
-        (b"TSContainerDestroy(a,b);", 20),
-        (b"TSContainerUsage();", 17),
-        (b"TSContainerUsage(1);", 17),
-        (b"TSContainerUsage(a b);", 19),
-        (b"TSCreateIrr('x');", 15),
-        (b"TSCreateIrr(x,c);", 12),
-        (b"TSCreateIrr('x',c,d);", 17),
-        (b"DropSeries();", 11),
-        (b"DropSeries(x);", 11),
-        (b"DropSeries('x','y');", 14),
-        (b"ListSeries();", 11),
-        (b"ListSeries('a');", 11),
-        (b"ListSeries(a,b);", 12),
-        (b"InsElem('x');", 11),
-        (b"InsElem('x',5);", 12),
-        (b"InsElem(x,'2011-02-28 00:00:00',1);", 8),
-        (b"InsElem('x','2011-02-29 00:00:00',1);", 12),
-        (b"InsElem('x','2011-02-28 00:00:00',x);", 34),
-        (b"InsElem('x','2011-02-28 00:00:00',);", 34),
-        (b"InsElem('x','2011-02-28 00:00:00' 1);", 34),
-        (b"InsElem('x','2011-02-28 00:00:00',1,", 36),
-        (b"GetElem('x');", 11),
-        (b"GetElem(x,'2011-02-28 00:00:00');", 8),
-        (b"GetElem('x','2011-02-28 00:00:00',1);", 33),
-        // The shapes of calls that come next, each by a routine that isn't built yet.
-        (b"CreatePattern(p,'{1 on},day');", 0),
-        (
-            b" DelClip('x','2011-02-28 00:00:00','2011-03-01 00:00:00');",
-            1,
-        ),
-        (b"GetNthElem('x',0);", 0),
-    ];
-    for (text, wanted) in page {
-        assert_eq!(rt; place(rt.alloc(), text), Some(wanted), "{text:?}");
+    for (text, wanted) in &STATEMENTS {
+        assert!(rt; place(rt.alloc(), text) == Some(*wanted));
     }
 }
+
+/// Statements, and the places where they are refused.
+static ROW_TYPES: [(&[u8], u32); 16] = [
+    (b"CreateRowType(r);", 15),
+    (b"CreateRowType(r,t datetime);", 26),
+    (b"CreateRowType(r,t integer,v integer);", 18),
+    (b"CreateRowType(r,t datetime,v datetime);", 29),
+    (b"CreateRowType(r,t datetime,v);", 28),
+    (b"CreateRowType(r,t datetime,);", 27),
+    (b"CreateRowType(r,t datetime,v float);", 29),
+    (b"CreateRowType(r,t datetime,v Integer);", 29),
+    (b"CreateRowType(r,t datetime,v integer(5));", 36),
+    (b"CreateRowType(r,t datetime,v decimal(5));", 38),
+    (b"CreateRowType(r,t datetime,v decimal(-5,2));", 37),
+    (b"CreateRowType(r,t datetime,v decimal(5.0,2));", 37),
+    (b"CreateRowType(r,t datetime,v decimal(1000,2));", 37),
+    (b"CreateRowType(r,t datetime,v varchar);", 36),
+    (b"CreateRowType(r,t datetime,v varchar(0255));", 37),
+    (b"CreateRowType(r,t datetime,v integer w integer);", 37),
+];
 
 #[test]
 fn the_columns_of_a_row_type_are_refused_at_their_tokens(rt: HostRuntime) {
-    let page: [(&[u8], u32); 16] = [
-        (b"CreateRowType(r);", 15),
-        (b"CreateRowType(r,t datetime);", 26),
-        (b"CreateRowType(r,t integer,v integer);", 18),
-        (b"CreateRowType(r,t datetime,v datetime);", 29),
-        (b"CreateRowType(r,t datetime,v);", 28),
-        (b"CreateRowType(r,t datetime,);", 27),
-        (b"CreateRowType(r,t datetime,v float);", 29),
-        (b"CreateRowType(r,t datetime,v Integer);", 29),
-        (b"CreateRowType(r,t datetime,v integer(5));", 36),
-        (b"CreateRowType(r,t datetime,v decimal(5));", 38),
-        (b"CreateRowType(r,t datetime,v decimal(-5,2));", 37),
-        (b"CreateRowType(r,t datetime,v decimal(5.0,2));", 37),
-        (b"CreateRowType(r,t datetime,v decimal(1000,2));", 37),
-        (b"CreateRowType(r,t datetime,v varchar);", 36),
-        (b"CreateRowType(r,t datetime,v varchar(0255));", 37),
-        (b"CreateRowType(r,t datetime,v integer w integer);", 37),
-    ];
-    for (text, wanted) in page {
-        assert_eq!(rt; place(rt.alloc(), text), Some(wanted), "{text:?}");
+    for (text, wanted) in &ROW_TYPES {
+        assert!(rt; place(rt.alloc(), text) == Some(*wanted));
     }
 }
 
+/// Statements, and the places where they are refused.
+static TOKENS: [(&[u8], u32); 21] = [
+    (b"InsElem('x','1970-01-01 00:00:00',1.);", 35),
+    (b"InsElem('x','1970-01-01 00:00:00',.5);", 34),
+    (b"InsElem('x','1970-01-01 00:00:00',-);", 34),
+    (b"InsElem('x','1970-01-01 00:00:00',--1);", 34),
+    (b"InsElem('x','1970-01-01 00:00:00',+1);", 34),
+    (b"InsElem('x','1970-01-01 00:00:00',- 1);", 34),
+    (b"InsElem('x','1970-01-01 00:00:00',1.5.2);", 37),
+    (b"InsElem('x','1970-01-01 00:00:00',1 .5);", 36),
+    (b"InsElem('x','1970-01-01 00:00:00',1a);", 35),
+    (b"InsElem('x','1970-01-01 00:00:00',1 2);", 36),
+    (b"InsElem('x','1970-01-01 00:00:00',NULL);", 34),
+    (b"InsElem('x','1970-01-01 00:00:00',nullx);", 34),
+    (b"InsElem('x','1970-01-01 00:00:00',null null);", 39),
+    (b"InsElem('x','1970-01-01 00:00:00','a' 'b');", 38),
+    (b"InsElem('x','1970-01-01 00:00:00','a\x1f');", 34),
+    (b"InsElem('x','1970-01-01 00:00:00','a\x7f');", 34),
+    // The first half of a doubled quote may end a text.
+    (b"InsElem('x','1970-01-01 00:00:00','a''\n');", 37),
+    (b"InsElem('x','1970-01-01 00:00:00','a'';\n');", 37),
+    (
+        b"InsElem('x','1970-01-01 00:00:00',999999999999999999999999999999999999999);",
+        72,
+    ),
+    (
+        b"InsElem('x','1970-01-01 00:00:00',9999999999999999999999999999999999999.12);",
+        73,
+    ),
+    // A statement's place counts from its own first byte, a blank here.
+    (b" InsElem('x','2011-02-29 00:00:00',1);", 13),
+];
+
 #[test]
 fn a_token_is_the_longest_that_stands_there(rt: HostRuntime) {
-    let page: [(&[u8], u32); 21] = [
-        (b"InsElem('x','1970-01-01 00:00:00',1.);", 35),
-        (b"InsElem('x','1970-01-01 00:00:00',.5);", 34),
-        (b"InsElem('x','1970-01-01 00:00:00',-);", 34),
-        (b"InsElem('x','1970-01-01 00:00:00',--1);", 34),
-        (b"InsElem('x','1970-01-01 00:00:00',+1);", 34),
-        (b"InsElem('x','1970-01-01 00:00:00',- 1);", 34),
-        (b"InsElem('x','1970-01-01 00:00:00',1.5.2);", 37),
-        (b"InsElem('x','1970-01-01 00:00:00',1 .5);", 36),
-        (b"InsElem('x','1970-01-01 00:00:00',1a);", 35),
-        (b"InsElem('x','1970-01-01 00:00:00',1 2);", 36),
-        (b"InsElem('x','1970-01-01 00:00:00',NULL);", 34),
-        (b"InsElem('x','1970-01-01 00:00:00',nullx);", 34),
-        (b"InsElem('x','1970-01-01 00:00:00',null null);", 39),
-        (b"InsElem('x','1970-01-01 00:00:00','a' 'b');", 38),
-        (b"InsElem('x','1970-01-01 00:00:00','a\x1f');", 34),
-        (b"InsElem('x','1970-01-01 00:00:00','a\x7f');", 34),
-        // The first half of a doubled quote may end a text.
-        (b"InsElem('x','1970-01-01 00:00:00','a''\n');", 37),
-        (b"InsElem('x','1970-01-01 00:00:00','a'';\n');", 37),
-        (
-            b"InsElem('x','1970-01-01 00:00:00',999999999999999999999999999999999999999);",
-            72,
-        ),
-        (
-            b"InsElem('x','1970-01-01 00:00:00',9999999999999999999999999999999999999.12);",
-            73,
-        ),
-        // A statement's place counts from its own first byte, a blank here.
-        (b" InsElem('x','2011-02-29 00:00:00',1);", 13),
-    ];
-    for (text, wanted) in page {
-        assert_eq!(rt; place(rt.alloc(), text), Some(wanted), "{text:?}");
+    for (text, wanted) in &TOKENS {
+        assert!(rt; place(rt.alloc(), text) == Some(*wanted));
     }
 }
 
@@ -156,20 +161,21 @@ fn place_around(
     Ok(place(alloc, &text))
 }
 
+/// What stands around so many bytes of one kind, and the place where the statement is refused. A doubled quote is one byte of
+/// the key.
+static LENGTHS: [(&[u8], u8, usize, &[u8], Option<u32>); 6] = [
+    (b"DropRowType(", b'a', 32, b");", None),
+    (b"DropRowType(", b'a', 33, b");", Some(12)),
+    (b"DropSeries('", b'k', 64, b"');", None),
+    (b"DropSeries('", b'k', 65, b"');", Some(11)),
+    (b"DropSeries('", b'\'', 128, b"');", None),
+    (b"DropSeries('", b'\'', 130, b"');", Some(11)),
+];
+
 #[test]
-fn a_name_has_32_bytes_and_a_key_64_at_most(rt: HostRuntime) -> Result<(), Fail> {
-    // A doubled quote is one byte of the key.
-    let page: [(&[u8], u8, usize, &[u8], Option<u32>); 6] = [
-        (b"DropRowType(", b'a', 32, b");", None),
-        (b"DropRowType(", b'a', 33, b");", Some(12)),
-        (b"DropSeries('", b'k', 64, b"');", None),
-        (b"DropSeries('", b'k', 65, b"');", Some(11)),
-        (b"DropSeries('", b'\'', 128, b"');", None),
-        (b"DropSeries('", b'\'', 130, b"');", Some(11)),
-    ];
-    for (before, byte, count, behind, wanted) in page {
-        let found = place_around(rt.alloc(), before, byte, count, behind)?;
-        assert_eq!(rt; found, wanted, "{count}");
+fn a_name_has_32_bytes_and_a_key_64_at_most(rt: HostRuntime) {
+    for (before, byte, count, behind, wanted) in &LENGTHS {
+        let found = place_around(rt.alloc(), before, *byte, *count, behind);
+        assert!(rt; matches!(found, Ok(place) if place == *wanted));
     }
-    Ok(())
 }

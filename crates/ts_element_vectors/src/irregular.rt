@@ -1,0 +1,465 @@
+// Each call once on pages in memory, with what it leaves there.
+ghost use Rattle.std.specs.Prelude.{IfOk, OnOk};
+ghost use Rattle.ts_page.specs.Memory.{memory_contents};
+ghost use Rattle.ts_space.specs.Directory.{places_of};
+ghost use Rattle.ts_irregular.specs.OnePage.{HasOnePage};
+
+use crate::made::{integer_row, integers};
+use std::alloc::Global;
+use ts_base::{Stamp, StoreFault};
+use ts_cells::page_room;
+use ts_irregular::{
+    an_edit_keeps_one_page, edits_are_those_of_a_map, edits_keep_the_order, irregular_find,
+    irregular_get, irregular_insert, irregular_last, irregular_replace, irregular_set,
+};
+use ts_page::{MemoryPages, Page, Pages};
+use ts_row::{Row, RowType, Shelf, Value};
+use ts_space::{Place, Space, count_of};
+
+const SLOT: u16 = 7;
+
+/// 2011-01-03 00:00:00.
+const DAY_3: i64 = 129_401_280_000_000;
+
+/// A change of a series at a stamp.
+#[derive(Clone, Copy)]
+enum Step {
+    Put(i64, i128),
+    Insert(i64, i128),
+    Replace(i64, i128),
+    Take(i64),
+}
+
+/// A series of integers.
+#[derive(Drop)]
+struct Series {
+    pages: MemoryPages,
+    space: Space,
+    kind: RowType,
+    /// What the last insert or replacement told.
+    told: bool,
+    alloc: Global,
+}
+
+impl Series {
+    // Puts an integer at so many units.
+    fn put(&mut self, at: i64, integer: i128) -> Result<(), StoreFault>
+        requires { HasOnePage self.old.kind.columns (memory_contents self.old.pages) (places_of 7 self.old.space) }
+        ensures { OnOk result (HasOnePage self.new.kind.columns (memory_contents self.new.pages) (places_of 7 self.new.space)) }
+    {
+        let stamp = Stamp::of(at).ok_or(StoreFault::Failed)?;
+        let row = integer_row(&self.kind, integer)?;
+        if count_of(self.space.places(SLOT)) >= page_room(&self.kind) as u64 {
+            return Err(StoreFault::Failed);
+        }
+        if self.pages.spare() == 0 {
+            return Err(StoreFault::Failed);
+        }
+        let shelf = Shelf {
+            series: SLOT,
+            kind: &self.kind,
+        };
+        irregular_set(&mut self.pages, &mut self.space, &shelf, stamp, Some(&row))?;
+        Ok(())
+    }
+
+    // Puts an integer at so many units where none is, and tells whether it did.
+    fn insert(&mut self, at: i64, integer: i128) -> Result<bool, StoreFault>
+        requires { HasOnePage self.old.kind.columns (memory_contents self.old.pages) (places_of 7 self.old.space) }
+        ensures { OnOk result (HasOnePage self.new.kind.columns (memory_contents self.new.pages) (places_of 7 self.new.space)) }
+    {
+        let stamp = Stamp::of(at).ok_or(StoreFault::Failed)?;
+        let row = integer_row(&self.kind, integer)?;
+        if count_of(self.space.places(SLOT)) >= page_room(&self.kind) as u64 {
+            return Err(StoreFault::Failed);
+        }
+        if self.pages.spare() == 0 {
+            return Err(StoreFault::Failed);
+        }
+        let shelf = Shelf {
+            series: SLOT,
+            kind: &self.kind,
+        };
+        let (pages, page) = (&mut self.pages, &mut Page::zero());
+        let Some(place) = irregular_insert(pages, page, &self.space, &shelf, stamp, &row)? else {
+            return Ok(false);
+        };
+        self.space.restore(SLOT, vec![in self.alloc; place]?);
+        Ok(true)
+    }
+
+    // Puts an integer at so many units where one is, and tells whether it did.
+    fn replace(&mut self, at: i64, integer: i128) -> Result<bool, StoreFault>
+        requires { HasOnePage self.old.kind.columns (memory_contents self.old.pages) (places_of 7 self.old.space) }
+        ensures { OnOk result (HasOnePage self.new.kind.columns (memory_contents self.new.pages) (places_of 7 self.new.space)) }
+    {
+        let stamp = Stamp::of(at).ok_or(StoreFault::Failed)?;
+        let row = integer_row(&self.kind, integer)?;
+        let shelf = Shelf {
+            series: SLOT,
+            kind: &self.kind,
+        };
+        let (pages, page) = (&mut self.pages, &mut Page::zero());
+        let told = irregular_replace(pages, page, &self.space, &shelf, stamp, &row)?;
+        Ok(told)
+    }
+
+    // The units and the integer of the last element.
+    fn last(&mut self) -> Result<Option<(i64, i128)>, StoreFault>
+        requires { HasOnePage self.old.kind.columns (memory_contents self.old.pages) (places_of 7 self.old.space) }
+    {
+        let shelf = Shelf {
+            series: SLOT,
+            kind: &self.kind,
+        };
+        let (pages, page) = (&mut self.pages, &mut Page::zero());
+        match irregular_last(pages, page, &self.space, &shelf)? {
+            Some((stamp, row)) => Ok(Some((stamp.units(), integer_of(&row)?))),
+            None => Ok(None),
+        }
+    }
+
+    // Takes away the element at so many units.
+    fn take(&mut self, at: i64) -> Result<(), StoreFault>
+        requires { HasOnePage self.old.kind.columns (memory_contents self.old.pages) (places_of 7 self.old.space) }
+        ensures { OnOk result (HasOnePage self.new.kind.columns (memory_contents self.new.pages) (places_of 7 self.new.space)) }
+    {
+        let stamp = Stamp::of(at).ok_or(StoreFault::Failed)?;
+        let shelf = Shelf {
+            series: SLOT,
+            kind: &self.kind,
+        };
+        irregular_set(&mut self.pages, &mut self.space, &shelf, stamp, None)?;
+        Ok(())
+    }
+
+    // The integer at so many units.
+    fn get(&mut self, at: i64) -> Result<Option<i128>, StoreFault>
+        requires { HasOnePage self.old.kind.columns (memory_contents self.old.pages) (places_of 7 self.old.space) }
+        ensures { OnOk result (HasOnePage self.new.kind.columns (memory_contents self.new.pages) (places_of 7 self.new.space)) }
+    {
+        let stamp = Stamp::of(at).ok_or(StoreFault::Failed)?;
+        let shelf = Shelf {
+            series: SLOT,
+            kind: &self.kind,
+        };
+        match irregular_get(&mut self.pages, &self.space, &shelf, stamp)? {
+            Some(row) => Ok(Some(integer_of(&row)?)),
+            None => Ok(None),
+        }
+    }
+
+    // The same, where the page isn't judged again.
+    fn find(&mut self, at: i64) -> Result<Option<i128>, StoreFault>
+        requires { HasOnePage self.old.kind.columns (memory_contents self.old.pages) (places_of 7 self.old.space) }
+        ensures { OnOk result (HasOnePage self.new.kind.columns (memory_contents self.new.pages) (places_of 7 self.new.space)) }
+    {
+        let stamp = Stamp::of(at).ok_or(StoreFault::Failed)?;
+        let shelf = Shelf {
+            series: SLOT,
+            kind: &self.kind,
+        };
+        match irregular_find(
+            &mut self.pages,
+            &mut Page::zero(),
+            &self.space,
+            &shelf,
+            stamp,
+        )? {
+            Some(row) => Ok(Some(integer_of(&row)?)),
+            None => Ok(None),
+        }
+    }
+
+    // Changes it.
+    fn change(&mut self, step: Step) -> Result<(), StoreFault>
+        requires { HasOnePage self.old.kind.columns (memory_contents self.old.pages) (places_of 7 self.old.space) }
+        ensures { OnOk result (HasOnePage self.new.kind.columns (memory_contents self.new.pages) (places_of 7 self.new.space)) }
+    {
+        match step {
+            Step::Put(at, integer) => self.put(at, integer),
+            Step::Insert(at, integer) => {
+                let told = self.insert(at, integer)?;
+                self.told = told;
+                Ok(())
+            }
+            Step::Replace(at, integer) => {
+                let told = self.replace(at, integer)?;
+                self.told = told;
+                Ok(())
+            }
+            Step::Take(at) => self.take(at),
+        }
+    }
+
+    // The bytes of its page.
+    fn page(&mut self) -> Result<Page, StoreFault>
+        requires { HasOnePage self.old.kind.columns (memory_contents self.old.pages) (places_of 7 self.old.space) }
+        ensures { OnOk result (HasOnePage self.new.kind.columns (memory_contents self.new.pages) (places_of 7 self.new.space)) }
+    {
+        let Some(place) = self.space.places(SLOT).first() else {
+            return Err(StoreFault::Failed);
+        };
+        let mut page = Page::zero();
+        self.pages.get(place.page, &mut page)?;
+        Ok(page)
+    }
+}
+
+fn integer_of(row: &Row) -> Result<i128, StoreFault> {
+    match row.values() {
+        [Value::Number(number)] => Ok(*number),
+        _ => Err(StoreFault::Failed),
+    }
+}
+
+// Without elements, beside two free pages.
+fn empty(alloc: Global) -> Result<Series, StoreFault>
+    ensures { IfOk result (λ series. HasOnePage series.kind.columns (memory_contents series.pages) (places_of 7 series.space)) }
+{
+    let pages = vec![in alloc; Page::zero(); 932]?;
+    let free = vec![in alloc; 930, 931]?;
+    Ok(Series {
+        pages: MemoryPages::new(pages, free),
+        space: Space::new(alloc)?,
+        kind: integers(alloc)?,
+        told: true,
+        alloc,
+    })
+}
+
+// A series without elements after these changes.
+fn after(alloc: Global, steps: &[Step]) -> Result<Series, StoreFault>
+    ensures { IfOk result (λ series. HasOnePage series.kind.columns (memory_contents series.pages) (places_of 7 series.space)) }
+{
+    let mut series = empty(alloc)?;
+    for step in steps {
+        series.change(*step)?;
+    }
+    Ok(series)
+}
+
+const FIRST: Step = Step::Put(DAY_3, 5);
+
+const EARLIER: Step = Step::Put(DAY_3 - 2, 6);
+
+const LATER: Step = Step::Put(DAY_3 + 9, 6);
+
+const AGAIN: Step = Step::Put(DAY_3, -8);
+
+const TAKEN: Step = Step::Take(DAY_3);
+
+const STAMPS: [i64; 5] = [DAY_3 - 3, DAY_3 - 2, DAY_3 - 1, DAY_3, DAY_3 + 1];
+
+/// What steps leave: where the page begins and how many elements it has, how many pages are free, what the last insert or
+/// replacement told, and the integers at some stamps.
+struct Left {
+    steps: &'static [Step],
+    place: Option<(i64, u16)>,
+    spare: u32,
+    told: bool,
+    integers: [Option<i128>; 5],
+}
+
+const NOTHING: [Option<i128>; 5] = [None, None, None, None, None];
+
+const FIVE: [Option<i128>; 5] = [None, None, None, Some(5), None];
+
+const TWO: [Option<i128>; 5] = [None, Some(6), None, Some(5), None];
+
+const LEFT: [Left; 14] = [
+    Left {
+        steps: &[],
+        place: None,
+        spare: 2,
+        told: true,
+        integers: NOTHING,
+    },
+    // A first element takes a free page, and the place begins at the earlier one.
+    Left {
+        steps: &[FIRST],
+        place: Some((DAY_3, 1)),
+        spare: 1,
+        told: true,
+        integers: FIVE,
+    },
+    Left {
+        steps: &[FIRST, EARLIER],
+        place: Some((DAY_3 - 2, 2)),
+        spare: 1,
+        told: true,
+        integers: TWO,
+    },
+    // A row that is there is replaced.
+    Left {
+        steps: &[EARLIER, FIRST, AGAIN],
+        place: Some((DAY_3 - 2, 2)),
+        spare: 1,
+        told: true,
+        integers: [None, Some(6), None, Some(-8), None],
+    },
+    Left {
+        steps: &[FIRST, LATER, AGAIN],
+        place: Some((DAY_3, 2)),
+        spare: 1,
+        told: true,
+        integers: [None, None, None, Some(-8), None],
+    },
+    Left {
+        steps: &[Step::Insert(DAY_3, 5), Step::Insert(DAY_3 - 2, 6)],
+        place: Some((DAY_3 - 2, 2)),
+        spare: 1,
+        told: true,
+        integers: TWO,
+    },
+    // An insert leaves the element that is there.
+    Left {
+        steps: &[Step::Insert(DAY_3, 5), Step::Insert(DAY_3, -8)],
+        place: Some((DAY_3, 1)),
+        spare: 1,
+        told: false,
+        integers: FIVE,
+    },
+    // A replacement leaves the place, and where none is there everything.
+    Left {
+        steps: &[FIRST, EARLIER, Step::Replace(DAY_3, -8)],
+        place: Some((DAY_3 - 2, 2)),
+        spare: 1,
+        told: true,
+        integers: [None, Some(6), None, Some(-8), None],
+    },
+    Left {
+        steps: &[FIRST, Step::Replace(DAY_3 + 1, -8)],
+        place: Some((DAY_3, 1)),
+        spare: 1,
+        told: false,
+        integers: FIVE,
+    },
+    // None is there.
+    Left {
+        steps: &[FIRST, LATER, Step::Take(DAY_3 + 8)],
+        place: Some((DAY_3, 2)),
+        spare: 1,
+        told: true,
+        integers: FIVE,
+    },
+    Left {
+        steps: &[FIRST, LATER, TAKEN],
+        place: Some((DAY_3 + 9, 1)),
+        spare: 1,
+        told: true,
+        integers: NOTHING,
+    },
+    Left {
+        steps: &[FIRST, EARLIER, TAKEN],
+        place: Some((DAY_3 - 2, 1)),
+        spare: 1,
+        told: true,
+        integers: [None, Some(6), None, None, None],
+    },
+    // With the last element the page is freed.
+    Left {
+        steps: &[FIRST, TAKEN],
+        place: None,
+        spare: 2,
+        told: true,
+        integers: NOTHING,
+    },
+    Left {
+        steps: &[FIRST, TAKEN, TAKEN],
+        place: None,
+        spare: 2,
+        told: true,
+        integers: NOTHING,
+    },
+];
+
+// Whether this is the page 930 with so many elements from these units on.
+fn is_place(place: Option<&Place>, wanted: Option<(i64, u16)>) -> bool {
+    match (place, wanted) {
+        (Some(place), Some((at, count))) => {
+            place.page == 930 && place.at == at && place.count == count
+        }
+        (None, None) => true,
+        _ => false,
+    }
+}
+
+// Whether both calls that read an integer find these.
+fn reads(series: &mut Series, integers: &[Option<i128>]) -> Result<bool, StoreFault>
+    requires { HasOnePage series.old.kind.columns (memory_contents series.old.pages) (places_of 7 series.old.space) }
+{
+    for (at, wanted) in STAMPS.iter().zip(integers) {
+        if series.get(*at)? != *wanted || series.find(*at)? != *wanted {
+            return Ok(false);
+        }
+    }
+    Ok(true)
+}
+
+fn is_left(alloc: Global, left: &Left) -> Result<bool, StoreFault> {
+    let mut series = after(alloc, left.steps)?;
+    let is_placed = is_place(series.space.places(SLOT).first(), left.place)
+        && series.pages.spare() == left.spare
+        && series.told == left.told;
+    Ok(is_placed && reads(&mut series, &left.integers)?)
+}
+
+#[test]
+fn elements_are_put_and_taken_away_and_read(rt: HostRuntime) {
+    for left in &LEFT {
+        assert!(rt; matches!(is_left(rt.alloc(), left), Ok(true)));
+    }
+}
+
+/// The units and the integer of the last element after these steps.
+const LASTS: [(&[Step], Option<(i64, i128)>); 3] = [
+    (&[], None),
+    (&[FIRST, EARLIER], Some((DAY_3, 5))),
+    (&[EARLIER, FIRST, LATER], Some((DAY_3 + 9, 6))),
+];
+
+fn is_last(alloc: Global, steps: &[Step], wanted: Option<(i64, i128)>) -> Result<bool, StoreFault> {
+    let mut series = after(alloc, steps)?;
+    Ok(series.last()? == wanted)
+}
+
+#[test]
+fn the_last_element_is_told(rt: HostRuntime) {
+    for (steps, wanted) in &LASTS {
+        assert!(rt; matches!(is_last(rt.alloc(), steps, *wanted), Ok(true)));
+    }
+}
+
+const CELL: &[u8] = b"\x01\x00\x00\x75\xb0\x95\x53\xf0\x00\x01\x00\x00\x00\x05";
+
+/// Each leaves one element.
+const ONE_ELEMENT: [&[Step]; 3] = [
+    &[FIRST],
+    &[Step::Insert(DAY_3, 5)],
+    &[Step::Insert(DAY_3, 5), Step::Insert(DAY_3, -8)],
+];
+
+// Whether the page after these changes has the head and the cell of that element alone.
+fn has_one_element(alloc: Global, steps: &[Step]) -> Result<bool, StoreFault> {
+    let mut series = after(alloc, steps)?;
+    let page = series.page()?;
+    let mut wanted = Page::zero();
+    wanted.bytes[..5].copy_from_slice(&[2, 0, 7, 0, 1]);
+    wanted.bytes[32..46].copy_from_slice(CELL);
+    Ok(page == wanted)
+}
+
+#[test]
+fn the_page_has_a_head_and_a_cell(rt: HostRuntime) {
+    for steps in &ONE_ELEMENT {
+        assert!(rt; matches!(has_one_element(rt.alloc(), steps), Ok(true)));
+    }
+}
+
+#[test]
+fn the_laws_are_called() {
+    edits_are_those_of_a_map();
+    edits_keep_the_order();
+    an_edit_keeps_one_page();
+}
