@@ -8,8 +8,6 @@
 mod free_list;
 mod on;
 mod store;
-#[cfg(test)]
-mod tests;
 
 pub use on::On;
 pub use store::Store;

@@ -2,7 +2,7 @@ use Rattle.std.proofs.Common.{length, ap, arith}
 use Rattle.ts_journal.specs.Entry.{entries_bytes}
 use Rattle.ts_store.specs.OpenBatch.{State}
 use Rattle.ts_store.proofs.CallerLemmas.{over_prepared, idle_closed}
-use Rattle.ts_store.proofs.tests.committed.Goals as goal
+use Rattle.ts_store_vectors.proofs.stores.committed.Goals as goal
 
 pub commit-requires-clause-over : goal.commit-requires-clause-over
 commit-requires-clause-over g c = over_prepared g.V.Volume.tells c.args.store.now c.prepare.new.self (g.V.Volume.device c.args.vol.now) c.prepare.ensures.others c.requires.over

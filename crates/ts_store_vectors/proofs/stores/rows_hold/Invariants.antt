@@ -1,9 +1,9 @@
 use Rattle.std.proofs.Common.{◌≡◌, []}
 use Rattle.ts_store.specs.OpenBatch.{IsIdle}
-use Rattle.ts_store.proofs.tests.done_often.Given as goal
+use Rattle.ts_store_vectors.proofs.stores.rows_hold.Given as goal
 
-abbrev pub invariant-loop-time : goal.invariant-loop-time
-invariant-loop-time g l = record {
+abbrev pub invariant-loop-row : goal.invariant-loop-row
+invariant-loop-row g l = record {
   idle : IsIdle g.V.Volume.tells l.store (g.V.Volume.device l.vol);
   free : l.store.free ≡ [];
 }

@@ -1,5 +1,5 @@
 use Rattle.ts_store.proofs.CallerLemmas.{idle_dropped}
-use Rattle.ts_store.proofs.tests.tried.Goals as goal
+use Rattle.ts_store_vectors.proofs.stores.tried.Goals as goal
 
 pub returns-clause-idle : goal.returns-clause-idle
 returns-clause-idle g c =

@@ -1,5 +1,5 @@
 use Rattle.ts_store.proofs.CallerLemmas.{over_recovered, idle_recovered}
-use Rattle.ts_store.proofs.tests.opened.Goals as goal
+use Rattle.ts_store_vectors.proofs.stores.opened.Goals as goal
 
 pub returns-clause-idle : goal.returns-clause-idle
 returns-clause-idle g c =
