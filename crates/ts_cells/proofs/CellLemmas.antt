@@ -1,21 +1,17 @@
 -- A cell and its element: what is written is read again, and two elements with one cell are one.
-use Rattle.std.proofs.Common.{◌≡◌, ℕ, ◌+◌, ◌*◌, ◌^◌, ◌<◌, ◌≤◌, Bool, true, false, cond, IsTrue, ℤ, pos, neg_ℤ, int_lt, Option, Some, None, IfSome, IfNone, List, [], ◌∷◌, ◌++◌, length, take, drop, get_or, refl, sym, ap, subst, ◌∙◌, arith, inl, inr, lit<, length-append, length-take, length-drop}
-use Rattle.std.specs.List.{list_all}
+use Rattle.std.proofs.Common.{◌≡◌, ℕ, ◌+◌, ◌^◌, ◌<◌, Bool, true, false, cond, ℤ, pos, neg_ℤ, int_lt, Option, Some, None, IfSome, IfNone, List, [], ◌∷◌, ◌++◌, length, take, drop, get_or, refl, sym, ap, subst, ◌∙◌, arith, inl, inr, lit<, length-take, length-drop}
 use Rattle.std.specs.Int.{w64, to_be_bytes, from_be_bytes, cast_unsigned, cast_signed}
 use Rattle.std.proofs.lemmas.Int.{to_z-of_z, of_z-to_z, ints}
 use Rattle.std.proofs.Math.Facts.{Fits-of_z}
 use Rattle.std.proofs.lemmas.Nat.{from_be_bytes-to_be_bytes_8, be_bytes_8}
-use Rattle.std.proofs.Math.Seq.{take-append_seam, drop-append_seam, drop-cons}
+use Rattle.std.proofs.Math.Seq.{drop-cons}
 use Rattle.std.proofs.lemmas.List.{take-append-drop, get_or-take, get_or-drop, get_or_past}
 use Rattle.std.proofs.lemmas.Bool.{cases_lt}
 use Rattle.ts_base.specs.Moment.{IsStamp, stamp_if_any}
 use Rattle.ts_row.specs.declared.kind.Column.{Column}
-use Rattle.ts_row.specs.RowType.{is_kind, width_of}
-use Rattle.ts_row.specs.Row.{Values, fits}
+use Rattle.ts_row.specs.Row.{Row}
 use Rattle.ts_row.specs.Encoding.{row_bytes, AreRowBytes}
-use Rattle.ts_row.specs.Decoding.{row_in}
-use Rattle.ts_row.proofs.RowBytesLemmas.{valid, row_in-row_bytes}
-use Rattle.ts_cells.specs.Cell.{Element, IsElement, stamp_bytes, cell_bytes, cell_size}
+use Rattle.ts_cells.specs.Cell.{IsElement, stamp_bytes, cell_bytes, cell_size}
 
 -- the units that the bytes of a stamp are
 pub units_back : (z : ℤ) → IsStamp z → cast_signed w64 (from_be_bytes w64 (stamp_bytes z)) ≡ z
@@ -71,7 +67,7 @@ drop_nine [] = refl
 drop_nine (b ∷ bytes) = refl
 
 -- a byte 1, a stamp and the bytes of a row are a cell
-pub element_of : (columns : List Column) (cell : List ℕ) (z : ℤ) → length cell ≡ cell_size columns → ((i : ℕ) → get_or cell i 0 < 256) → get_or cell 0 0 ≡ 1 → AreRowBytes columns (drop 9 cell) → stamp_if_any (cast_signed w64 (from_be_bytes w64 (take 8 (drop 1 cell)))) ≡ Some z → (row : Values) × IsElement columns (z, row) × (cell ≡ cell_bytes columns (z, row))
+pub element_of : (columns : List Column) (cell : List ℕ) (z : ℤ) → length cell ≡ cell_size columns → ((i : ℕ) → get_or cell i 0 < 256) → get_or cell 0 0 ≡ 1 → AreRowBytes columns (drop 9 cell) → stamp_if_any (cast_signed w64 (from_be_bytes w64 (take 8 (drop 1 cell)))) ≡ Some z → (row : Row) × IsElement columns (z, row) × (cell ≡ cell_bytes columns (z, row))
 element_of columns cell z long small flag row stamp =
     let bytes : List ℕ = take 8 (drop 1 cell) in
     let size : length bytes ≡ 8 = omega (arith, length-take 8 (drop 1 cell), length-drop 1 cell) in

@@ -1,20 +1,17 @@
 -- The head of an irregular page, and what stands behind it.
-use Rattle.std.proofs.Common.{◌≡◌, ◌⊎◌, ℕ, zero, suc, ◌+◌, ◌-◌, ◌*◌, ◌/◌, ◌^◌, ◌<◌, ◌≤◌, Bool, true, false, cond, ◌&&◌, ◌==◌, Option, Some, None, List, [], ◌∷◌, ◌++◌, length, take, drop, replicate, get_or, lit<, le_trans, refl, sym, ap, subst, ◌∙◌, arith, append_assoc, length-append, length-take, length-drop}
-use Rattle.std.proofs.lemmas.List.{length-replicate}
+use Rattle.std.proofs.Common.{◌≡◌, ℕ, zero, suc, ◌-◌, ◌*◌, ◌^◌, ◌<◌, ◌≤◌, Bool, true, false, cond, ◌&&◌, ◌==◌, Some, None, List, [], ◌∷◌, ◌++◌, length, take, drop, replicate, get_or, lit<, le_trans, refl, sym, ap, subst, ◌∙◌, arith, length-take, length-drop}
 use Rattle.std.specs.Int.{w16, to_be_bytes, from_be_bytes}
-use Rattle.std.specs.List.{list_all}
 use Rattle.std.proofs.lemmas.Bool.Decides.{nat_tests}
-use Rattle.std.proofs.lemmas.Nat.{from_be_bytes-to_be_bytes_2, be_bytes_2}
+use Rattle.std.proofs.lemmas.Nat.{be_bytes_2}
 use Rattle.std.proofs.lemmas.List.{take-append-drop}
-use Rattle.std.proofs.Math.Seq.{take-append_seam, drop-append_seam, take-length}
+use Rattle.std.proofs.Math.Seq.{take-append_seam, drop-append_seam}
 use Rattle.std.proofs.Math.Nat.{mul-div-le, mul-le-mul_left, div-le_of_le-mul}
-use Rattle.ts_page.specs.declared.page.Head.{Head}
 use Rattle.ts_page.specs.declared.page.Head.TheVariants.{Free, Regular, Irregular}
-use Rattle.ts_page.specs.Head.{head_of, head_bytes, are_zero, bytes_at, FitsHead}
+use Rattle.ts_page.specs.Head.{head_of, head_bytes, are_zero}
 use Rattle.ts_page.proofs.HeadLemmas.{head_of-written}
 use Rattle.ts_row.specs.declared.kind.Column.{Column}
 use Rattle.ts_cells.specs.Cell.{Element, cell_size, page_room}
-use Rattle.ts_cells.specs.IrregularPage.{AreElements, AreInOrder, cells_bytes, behind_head, irregular_page, irregular_count, IsIrregularPage, FillPage}
+use Rattle.ts_cells.specs.IrregularPage.{AreElements, AreInOrder, cells_bytes, behind_head, irregular_page, irregular_count, IsIrregularPage}
 use Rattle.ts_cells.proofs.PageLemmas.{length-cells_bytes}
 
 pub zero_is : (bytes : List ℕ) → are_zero bytes ≡ true → bytes ≡ replicate (length bytes) 0

@@ -1,32 +1,17 @@
 -- The cells of elements, one behind the other: each has the same size, so each is found, and no two lists have the same cells.
-use Rattle.std.proofs.Common.{◌≡◌, ℕ, zero, suc, ◌+◌, ◌-◌, ◌*◌, ◌<◌, ◌≤◌, true, IsTrue, ℤ, ◌<ℤ◌, Option, Some, None, List, [], ◌∷◌, ◌++◌, length, take, drop, refl, sym, ap, subst, ◌∙◌, arith, append_assoc, length-append, length-take, length-drop, add-one, append-nil, mul-suc, mul-zero}
-use Rattle.std.specs.List.{flat_map}
-use Rattle.std.proofs.lemmas.List.Sums.{sum_by-cons}
+use Rattle.std.proofs.Common.{◌≡◌, ℕ, zero, suc, ◌+◌, ◌*◌, ◌<◌, ℤ, ◌<ℤ◌, Some, List, [], ◌∷◌, ◌++◌, length, take, drop, refl, sym, ap, subst, ◌∙◌, arith, length-append, add-one, append-nil, mul-zero}
 use Rattle.std.specs.Int.{w64, from_be_bytes, cast_signed}
-use Rattle.std.proofs.lemmas.Bool.Decides.{nat_tests}
 use Rattle.std.proofs.lemmas.Grind.{flat_map-append}
-use Rattle.std.proofs.lemmas.List.{take-append-drop, take_at, drop_at}
+use Rattle.std.proofs.lemmas.List.{take_at, drop_at}
 use Rattle.std.proofs.lemmas.List.Concat.{flat_map-cons}
-use Rattle.std.proofs.Math.Seq.{take-append_seam, drop-append_seam, take-add}
+use Rattle.std.proofs.Math.Seq.{take-append_seam, drop-append_seam}
 use Rattle.ts_row.specs.declared.kind.Column.{Column}
-use Rattle.ts_row.specs.RowType.{column_width, width_of}
-use Rattle.ts_row.specs.Row.{Values, holds, fits}
-use Rattle.ts_row.specs.Encoding.{value_bytes, row_bytes}
+use Rattle.ts_row.specs.Encoding.{row_bytes}
 use Rattle.ts_row.specs.Decoding.{row_in}
-use Rattle.ts_row.proofs.RowBytesLemmas.{valid, row_in-row_bytes}
-use Rattle.ts_row.proofs.ValueBytesLemmas.{length-value_bytes}
+use Rattle.ts_row.proofs.RowBytesLemmas.{valid, row_in-row_bytes, length-row_bytes}
 use Rattle.ts_cells.specs.Cell.{Element, IsElement, stamp_bytes, cell_bytes, cell_size}
-use Rattle.ts_cells.specs.IrregularPage.{AreElements, AreRising, AreInOrder, cells_bytes, first_stamp, last_stamp, HasEnds}
+use Rattle.ts_cells.specs.IrregularPage.{AreElements, AreRising, cells_bytes, last_stamp}
 use Rattle.ts_cells.proofs.CellLemmas.{units_back}
-
-length-row_bytes : (columns : List Column) (row : Values) → fits columns row ≡ true → length (row_bytes columns row) ≡ width_of columns
-length-row_bytes [] [] fit = refl
-length-row_bytes [] (v ∷ vs) fit = cc
-length-row_bytes (c ∷ cs) [] fit = cc
-length-row_bytes (c ∷ cs) (v ∷ vs) fit =
-    let held : holds c.kind v ≡ true = grind (arith, nat_tests) in
-    let others : fits cs vs ≡ true = grind (arith, nat_tests) in
-    omega (arith, sum_by-cons (λ (k : Column). column_width k.kind) c cs, length-append (value_bytes c.kind v) (row_bytes cs vs), length-value_bytes c.kind v held, length-row_bytes cs vs others)
 
 -- a cell has its size
 pub length-cell_bytes : (columns : List Column) (e : Element) → IsElement columns e → length (cell_bytes columns e) ≡ cell_size columns

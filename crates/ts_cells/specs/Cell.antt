@@ -1,15 +1,12 @@
 -- A cell of an irregular page: a byte 1, a stamp and a row.
-use Rattle.std.specs.Prelude.{◌≡◌, ℕ, ◌+◌, ◌/◌, ◌==◌, if◌then◌else◌, IsTrue, ℤ, Option, Some, None, List, [], ◌∷◌, ◌++◌, take, drop, slice_index, option_and_then, option_map}
-use Rattle.std.specs.Int.{w64, from_be_bytes, to_be_bytes, cast_signed, cast_unsigned}
-use Rattle.ts_base.specs.Moment.{IsStamp, stamp_if_any}
+use Rattle.std.specs.Prelude.{ℕ, ◌+◌, ◌/◌, IsTrue, ℤ, List, ◌∷◌, ◌++◌}
+use Rattle.std.specs.Int.{w64, to_be_bytes, cast_unsigned}
+use Rattle.ts_base.specs.Moment.{IsStamp}
 use Rattle.ts_row.specs.declared.kind.Column.{Column}
 use Rattle.ts_row.specs.RowType.{width_of}
-use Rattle.ts_row.specs.Row.{Values, fits}
+use Rattle.ts_row.specs.Row.{fits}
 use Rattle.ts_row.specs.Encoding.{row_bytes}
-
--- an element of a series: its stamp, and the values of its row
-abbrev pub Element : Type 0
-Element = ℤ × Values
+pub use Rattle.ts_row.specs.Element.{Element, seen, has_hidden}
 
 -- an element of a row type with these columns
 pub record IsElement (columns : List Column) (e : Element) : Type 0 where

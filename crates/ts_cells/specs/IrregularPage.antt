@@ -1,12 +1,12 @@
 -- An irregular page: the elements of a series in the order of their stamps, or a part of them.
-use Rattle.std.specs.Prelude.{◌≡◌, ℕ, ◌-◌, ◌*◌, ◌<◌, ◌≤◌, ◌^◌, ℤ, ◌<ℤ◌, Bool, Option, Some, None, List, [], ◌∷◌, ◌++◌, length, replicate}
+use Rattle.std.specs.Prelude.{◌≡◌, ℕ, ◌-◌, ◌*◌, ◌<◌, ◌≤◌, ◌^◌, ℤ, ◌<ℤ◌, Option, Some, None, List, [], ◌∷◌, ◌++◌, length, replicate}
 use Rattle.std.specs.List.{flat_map}
 use Rattle.ts_page.specs.Head.{head_bytes}
 use Rattle.ts_page.specs.declared.page.Head.TheVariants.{Free, Regular, Irregular}
 use Rattle.ts_page.specs.declared.page.Head.{Head}
 use Rattle.ts_row.specs.declared.kind.Column.{Column}
 use Rattle.ts_cells.specs.declared.extent.Extent.{Extent}
-use Rattle.ts_cells.specs.Cell.{Element, IsElement, cell_bytes, cell_size, page_room}
+use Rattle.ts_cells.specs.Cell.{Element, has_hidden, IsElement, cell_bytes, cell_size, page_room}
 
 -- each of them is an element of a row type with these columns
 abbrev pub AreElements : List Column → List Element → Type 0
@@ -63,10 +63,11 @@ pub record HasEnds (es : List Element) (first last : ℤ) : Type 0 where
   pub begins : first_stamp es ≡ Some first
   pub ends : last_stamp es ≡ Some last
 
--- so many elements, from this first stamp to this last one
+-- so many elements, from this first stamp to this last one, and whether some of them is hidden
 pub record HasExtent (es : List Element) (extent : Extent) : Type 0 where
   pub count : length es ≡ extent.count
   pub ends : HasEnds es extent.first extent.last
+  pub hides : has_hidden es ≡ extent.hidden
 
 -- the number of elements that the head of an irregular page tells
 abbrev pub irregular_count : Option Head → Option ℕ

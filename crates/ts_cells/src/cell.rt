@@ -2,7 +2,7 @@
 ghost use Rattle.std.specs.Prelude.{◌≡◌, ◌≢◌, ◌+◌, ◌≤◌, IsTrue, IfSome, IfNone, length, ◌∷◌};
 ghost use Rattle.std.specs.Int.{w64, from_be_bytes, cast_signed};
 ghost use Rattle.ts_row.specs.RowType.{width_of};
-ghost use Rattle.ts_row.specs.Row.{Values, fits};
+ghost use Rattle.ts_row.specs.Row.{Row as TheRow, fits, marked};
 ghost use Rattle.ts_cells.specs.Cell.{Element, IsElement, stamp_bytes, cell_bytes, cell_size, page_room};
 
 use ts_base::Stamp;
@@ -33,13 +33,32 @@ pub fn page_room(kind: &RowType) -> usize
 /// The stamp of a cell, where its bytes are those of an element.
 pub fn stamp_of_cell(kind: &RowType, cell: &[u8]) -> Option<Stamp>
     requires { length cell.now ≡ cell_size kind.now.columns }
-    ensures found { IfSome result (λ stamp. (row : Values) × IsElement kind.now.columns (stamp, row) × (cell.now ≡ cell_bytes kind.now.columns (stamp, row))) }
+    ensures found { IfSome result (λ stamp. (row : TheRow) × IsElement kind.now.columns (stamp, row) × (cell.now ≡ cell_bytes kind.now.columns (stamp, row))) }
     ensures none { IfNone result ((e : Element) → IsElement kind.now.columns e → cell.now ≢ cell_bytes kind.now.columns e) }
 {
     if cell[0] != 1 || !kind.is_row(&cell[FRONT..]) {
         return None;
     }
     Stamp::of(units_in(&cell[1..FRONT]))
+}
+
+/// Whether the element of a cell is hidden.
+pub fn is_hidden_cell(kind: &RowType, cell: &[u8]) -> bool
+    requires { length cell.now ≡ cell_size kind.now.columns }
+    ensures { (e : Element) → IsElement kind.now.columns e → cell.now ≡ cell_bytes kind.now.columns e
+        → result ≡ e.1.hidden }
+{
+    kind.is_hidden(&cell[FRONT..])
+}
+
+/// From the cell of an element to that of the same element, hidden or visible. As many bytes stay, whatever they are.
+pub fn mark_cell(kind: &RowType, hidden: bool, cell: &mut [u8])
+    requires { length cell.old ≡ cell_size kind.now.columns }
+    ensures size { length cell.new ≡ length cell.old }
+    ensures marked { (e : Element) → IsElement kind.now.columns e → cell.old ≡ cell_bytes kind.now.columns e
+        → cell.new ≡ cell_bytes kind.now.columns (e.0, marked hidden e.1) }
+{
+    kind.mark(hidden, &mut cell[FRONT..]);
 }
 
 /// Writes the cell of an element.

@@ -1,24 +1,23 @@
-// A page judged by its bytes: how many elements it has, and from when to when.
+// A page judged by its bytes: how many elements it has, from when to when, and whether some are hidden.
 ghost use Rattle.std.specs.Prelude.{◌≡◌, ◌↔◌, ◌*◌, ◌≤◌, IsTrue, IfSome, IfNone, Some, List, ℕ, length};
 ghost use Rattle.ts_page.specs.Head.{head_of};
 ghost use Rattle.ts_cells.specs.Cell.{Element, cell_size, page_room};
-ghost use Rattle.ts_cells.specs.IrregularPage.{IsIrregularPage, AreInOrder, HasExtent, HasEnds, cells_bytes, behind_head, irregular_count};
+ghost use Rattle.ts_cells.specs.IrregularPage.{IsIrregularPage, AreInOrder, HasExtent, cells_bytes, behind_head, irregular_count};
 
-use crate::cell::{cell_size, page_room, stamp_of_cell};
+use crate::cell::{cell_size, is_hidden_cell, page_room, stamp_of_cell};
 use ts_base::Stamp;
-use ts_page::{Head, Page};
+use ts_page::{HEAD, Head, Page};
 use ts_row::{RowType, is_zero};
 
-/// The first byte behind the head of a page.
-const HEAD: usize = 32;
-
-/// How many elements a page has, and the first and the last stamp.
+/// How many elements a page has, the first and the last stamp, and whether some element is hidden.
 #[derive(Clone, Copy, Debug, PartialEq, Eq)]
 pub struct Extent {
     /// At least 1.
     pub count: u16,
     pub first: Stamp,
     pub last: Stamp,
+    /// Some element is hidden.
+    pub hidden: bool,
 }
 
 /// The extent of a page, where it is one of elements of this row type.
@@ -78,19 +77,16 @@ fn extent_in(kind: &RowType, count: u16, behind: &[u8]) -> Option<Extent>
     if !is_zero(rest) {
         return None;
     }
-    let Some((first, last)) = ends_of(kind, cells, count as usize) else {
-        return None;
-    };
-    Some(Extent { count, first, last })
+    extent_of_cells(kind, cells, count)
 }
 
-// The first and the last stamp of so many cells, where they are those of elements whose stamps rise.
-fn ends_of(kind: &RowType, cells: &[u8], count: usize) -> Option<(Stamp, Stamp)>
+// The extent of so many cells, where they are those of elements whose stamps rise.
+fn extent_of_cells(kind: &RowType, cells: &[u8], count: u16) -> Option<Extent>
     requires some { 1 ≤ count }
     requires few { count ≤ 451 }
     requires size { length cells.now ≡ cell_size kind.now.columns * count }
-    ensures found { IfSome result (λ ends. (es : List Element) × AreInOrder kind.now.columns es
-        × (length es ≡ count) × (cells.now ≡ cells_bytes kind.now.columns es) × HasEnds es ends.0 ends.1) }
+    ensures found { IfSome result (λ extent. (es : List Element) × AreInOrder kind.now.columns es
+        × HasExtent es extent × (length es ≡ count) × (cells.now ≡ cells_bytes kind.now.columns es)) }
     ensures none { IfNone result ((es : List Element) → AreInOrder kind.now.columns es → length es ≡ count
         → cells.now ≡ cells_bytes kind.now.columns es → ⊥) }
 {
@@ -101,14 +97,22 @@ fn ends_of(kind: &RowType, cells: &[u8], count: usize) -> Option<(Stamp, Stamp)>
         return None;
     };
     let mut last = first;
-    for i in 1..count {
-        let Some(stamp) = stamp_of_cell(kind, &cells[size * i..size * i + size]) else {
+    let mut hidden = is_hidden_cell(kind, &cells[..size]);
+    for i in 1..count as usize {
+        let cell = &cells[size * i..size * i + size];
+        let Some(stamp) = stamp_of_cell(kind, cell) else {
             return None;
         };
         if stamp.units() <= last.units() {
             return None;
         }
         last = stamp;
+        hidden = hidden || is_hidden_cell(kind, cell);
     }
-    Some((first, last))
+    Some(Extent {
+        count,
+        first,
+        last,
+        hidden,
+    })
 }

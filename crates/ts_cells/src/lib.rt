@@ -1,11 +1,12 @@
 //! The cells of element pages: each is an element of a series, its stamp and its row, in bytes. A cell is written as
-//! `specs/Cell` says, and the page of some elements as `specs/IrregularPage` says; a page is judged without making
-//! its rows. Stands on ts_page, ts_row and ts_base; knows nothing of slots, directories or disks. Read
-//! `specs/Cell.antt`, `specs/IrregularPage.antt`, then `extent.rt`.
+//! `specs/Cell` says, and the page of some elements as `specs/IrregularPage` says. A page is judged without making its
+//! rows, in one pass that tells their number, the first and the last stamp, and whether some are hidden. Stands on
+//! ts_page, ts_row and ts_base; knows nothing of slots, directories or disks. Read `specs/Cell.antt`,
+//! `specs/IrregularPage.antt`, then `extent.rt`.
 #![tactic(auto)]
 
 mod cell;
 mod extent;
 
-pub use cell::{cell_size, page_room, stamp_of_cell, write_cell};
+pub use cell::{cell_size, is_hidden_cell, mark_cell, page_room, stamp_of_cell, write_cell};
 pub use extent::{Extent, extent_of};

@@ -5,10 +5,10 @@ use Rattle.ts_space.specs.declared.place.Place.{Place}
 use Rattle.ts_space.specs.Place.{count_of}
 use Rattle.ts_page.specs.Pages.{Contents, IsLawful, IsListed}
 use Rattle.ts_row.specs.declared.kind.Column.{Column}
-use Rattle.ts_row.specs.Row.{Values}
+use Rattle.ts_row.specs.Row.{Row}
 use Rattle.ts_cells.specs.Cell.{page_room}
 use Rattle.ts_irregular.specs.OnePage.{HasOnePage}
-use Rattle.ts_irregular.specs.Call.{IsOneMore, IsReplaced}
+use Rattle.ts_irregular.specs.Call.{IsOneMore, IsChanged}
 
 -- a series that has one element more has one page
 pub one_more_keeps : (tells : Bool) (columns : List Column) (old : List Place) (new : Place) (v w : Contents) → IsLawful tells v → w.count ≡ v.count → HasOnePage columns v old → count_of old < page_room columns → IsOneMore old new v w → HasOnePage columns w (new ∷ [])
@@ -33,19 +33,7 @@ one_more_keeps tells columns (p ∷ []) new v w lawful count one room more = rec
 }
 one_more_keeps tells columns (p ∷ q ∷ places) new v w lawful count one room more = absurd one
 
--- and so has one that is as it was
-pub same_keeps : (columns : List Column) (places : List Place) (v w : Contents) → w.free ≡ v.free → w.count ≡ v.count → HasOnePage columns v places → HasOnePage columns w places
-same_keeps columns [] v w free count one = tt
-same_keeps columns (place ∷ []) v w free count one = record {
-  element = one.element;
-  below = omega (arith, one.below, count);
-  used = λ has. one.used (subst (λ (l : List ℕ). Contains l place.page) free has);
-  some = one.some;
-  room = one.room;
-}
-same_keeps columns (place ∷ other ∷ places) v w free count one = absurd one
-
--- a replacement leaves the free pages
-pub replaced_free : (tells : Bool) (slot : ℕ) (columns : List Column) (stamp : ℤ) (row : Values) (places : List Place) (v w : Contents) (told : Bool) → IsReplaced tells slot columns stamp row places v w told → w.free ≡ v.free
-replaced_free tells slot columns stamp row places v w true done = done.free
-replaced_free tells slot columns stamp row places v w false done = done.same.free
+-- a replacement and a mark leave the free pages
+pub changed_free : (tells : Bool) (slot : ℕ) (columns : List Column) (stamp : ℤ) (change : Row → Row) (places : List Place) (v w : Contents) (told : Bool) → IsChanged tells slot columns stamp change places v w told → w.free ≡ v.free
+changed_free tells slot columns stamp change places v w true done = done.free
+changed_free tells slot columns stamp change places v w false done = done.same.free

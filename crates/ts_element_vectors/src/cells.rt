@@ -5,8 +5,10 @@ ghost use Rattle.ts_row.specs.Row.{fits};
 use crate::made::{integer_row, integers, row_type};
 use std::alloc::Global;
 use ts_base::Stamp;
-use ts_cells::{Extent, cell_size, extent_of, page_room, stamp_of_cell, write_cell};
-use ts_page::{Head, Page};
+use ts_cells::{
+    Extent, cell_size, extent_of, is_hidden_cell, mark_cell, page_room, stamp_of_cell, write_cell,
+};
+use ts_page::{HEAD, Head, Page};
 use ts_row::{ColumnKind, Row, RowType};
 
 /// 2011-01-03 00:00:00.
@@ -23,7 +25,7 @@ fn put(kind: &RowType, number: usize, stamp: Stamp, row: &Row, page: &mut Page)
 {
     if number < page_room(kind) {
         let size = cell_size(kind);
-        let at = 32 + number * size;
+        let at = HEAD + number * size;
         write_cell(kind, stamp, row, &mut page.bytes[at..at + size]);
     }
 }
@@ -56,8 +58,15 @@ fn a_cell_has_the_bytes_of_the_format(rt: HostRuntime) {
     assert!(rt; has_cell(page_of(rt.alloc(), &[0])));
 }
 
-/// The units of the stamp in that cell with another byte. No cell: another flag, and a stamp past the year 9999.
-const BYTES: [(usize, u8, Option<i64>); 3] = [(0, 1, Some(DAY_3)), (0, 2, None), (1, 0x7f, None)];
+/// The units of the stamp in that cell with another byte. A hidden row has a stamp too. No cell: another flag, a stamp
+/// past the year 9999, and a first byte of no row.
+const BYTES: [(usize, u8, Option<i64>); 5] = [
+    (0, 1, Some(DAY_3)),
+    (9, 3, Some(DAY_3)),
+    (0, 2, None),
+    (1, 0x7f, None),
+    (9, 4, None),
+];
 
 fn stamp_with(kind: &RowType, at: usize, byte: u8) -> Option<i64> {
     if at >= 14 || cell_size(kind) != 14 {
@@ -84,6 +93,27 @@ fn a_cell_is_judged_by_its_bytes(rt: HostRuntime) {
     assert!(rt; are_judged(rt.alloc()) == Some(true));
 }
 
+// Whether the cell is visible, and hidden once it is marked so, in a byte 3 before the integer; and visible again.
+fn is_marked(alloc: Global) -> Option<bool> {
+    let kind = integers(alloc).ok()?;
+    if cell_size(&kind) != 14 {
+        return None;
+    }
+    let mut cell = CELL;
+    let was_visible = !is_hidden_cell(&kind, &cell);
+    mark_cell(&kind, true, &mut cell);
+    let is_hidden = is_hidden_cell(&kind, &cell)
+        && cell[9] == 3
+        && stamp_of_cell(&kind, &cell)?.units() == DAY_3;
+    mark_cell(&kind, false, &mut cell);
+    Some(was_visible && is_hidden && cell == CELL)
+}
+
+#[test]
+fn a_cell_is_hidden_and_seen_again(rt: HostRuntime) {
+    assert!(rt; is_marked(rt.alloc()) == Some(true));
+}
+
 /// A decimal of the most digits, a row of 17 bytes.
 const MOST_DIGITS: ColumnKind = ColumnKind::Decimal {
     digits: 28,
@@ -103,11 +133,18 @@ fn a_page_has_room_for_so_many_cells(rt: HostRuntime) {
     assert!(rt; sizes(rt.alloc(), &[MOST_DIGITS]) == Some((26, 156)));
 }
 
-/// How many elements a page of these has with another byte in its place, and how far the first and the last are behind the
-/// third day.
-const PAGES: [(&[u16], usize, u8, Option<(u16, i64, i64)>); 7] = [
-    // As it is, and with another byte in its head, behind its cells, and at its end.
-    (&[0, 1, 50_000], 0, 2, Some((3, 0, 50_000))),
+/// How many elements a page has, how far the first and the last are behind the third day, and whether some are hidden.
+type Ends = (u16, i64, i64, bool);
+
+/// The same of a page of these elements with another byte in its place.
+const PAGES: [(&[u16], usize, u8, Option<Ends>); 11] = [
+    // As it is; with the first, the second or the last element hidden; and with no row in the first cell.
+    (&[0, 1, 50_000], 0, 2, Some((3, 0, 50_000, false))),
+    (&[0, 1, 50_000], 41, 3, Some((3, 0, 50_000, true))),
+    (&[0, 1, 50_000], 55, 3, Some((3, 0, 50_000, true))),
+    (&[0, 1, 50_000], 69, 3, Some((3, 0, 50_000, true))),
+    (&[0, 1, 50_000], 41, 4, None),
+    // With another byte in its head, behind its cells, and at its end.
     (&[0, 1, 50_000], 20, 1, None),
     (&[0, 1, 50_000], 74, 1, None),
     (&[0, 1, 50_000], 4095, 1, None),
@@ -118,13 +155,18 @@ const PAGES: [(&[u16], usize, u8, Option<(u16, i64, i64)>); 7] = [
 ];
 
 // The same of a page.
-fn extent_in(kind: &RowType, page: &Page) -> Option<(u16, i64, i64)> {
-    let Extent { count, first, last } = extent_of(kind, page)?;
-    Some((count, first.units() - DAY_3, last.units() - DAY_3))
+fn extent_in(kind: &RowType, page: &Page) -> Option<Ends> {
+    let Extent {
+        count,
+        first,
+        last,
+        hidden,
+    } = extent_of(kind, page)?;
+    Some((count, first.units() - DAY_3, last.units() - DAY_3, hidden))
 }
 
 // The same of these elements.
-fn extent(alloc: Global, units: &[u16], at: usize, byte: u8) -> Option<Option<(u16, i64, i64)>> {
+fn extent(alloc: Global, units: &[u16], at: usize, byte: u8) -> Option<Option<Ends>> {
     let mut page = page_of(alloc, units)?;
     if at >= 4096 {
         return None;
@@ -153,7 +195,7 @@ fn a_page_is_judged_by_its_row_type(rt: HostRuntime) {
 }
 
 // The extent of a page of so many elements, one unit after the other.
-fn extent_of_many(alloc: Global, count: usize) -> Option<Option<(u16, i64, i64)>> {
+fn extent_of_many(alloc: Global, count: usize) -> Option<Option<Ends>> {
     let mut units = [0; 291];
     for i in 0..291u16 {
         units[i as usize] = i;
@@ -163,6 +205,6 @@ fn extent_of_many(alloc: Global, count: usize) -> Option<Option<(u16, i64, i64)>
 
 #[test]
 fn a_full_page_is_one_and_a_fuller_is_none(rt: HostRuntime) {
-    assert!(rt; extent_of_many(rt.alloc(), 290) == Some(Some((290, 0, 289))));
+    assert!(rt; extent_of_many(rt.alloc(), 290) == Some(Some((290, 0, 289, false))));
     assert!(rt; extent_of_many(rt.alloc(), 291) == Some(None));
 }

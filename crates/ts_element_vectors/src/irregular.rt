@@ -1,5 +1,5 @@
 // Each call once on pages in memory, with what it leaves there.
-ghost use Rattle.std.specs.Prelude.{IfOk, OnOk};
+ghost use Rattle.std.specs.Prelude.{◌≡◌, IfOk, OnOk, length};
 ghost use Rattle.ts_page.specs.Memory.{memory_contents};
 ghost use Rattle.ts_space.specs.Directory.{places_of};
 ghost use Rattle.ts_irregular.specs.OnePage.{HasOnePage};
@@ -9,8 +9,9 @@ use std::alloc::Global;
 use ts_base::{Stamp, StoreFault};
 use ts_cells::page_room;
 use ts_irregular::{
-    an_edit_keeps_one_page, edits_are_those_of_a_map, edits_keep_the_order, irregular_find,
-    irregular_get, irregular_insert, irregular_last, irregular_replace, irregular_set,
+    a_mark_keeps_the_rest, an_edit_keeps_one_page, edits_are_those_of_a_map, edits_keep_the_order,
+    irregular_find, irregular_get, irregular_insert, irregular_last, irregular_mark,
+    irregular_replace, irregular_set, the_map_has_the_elements,
 };
 use ts_page::{MemoryPages, Page, Pages};
 use ts_row::{Row, RowType, Shelf, Value};
@@ -27,6 +28,7 @@ enum Step {
     Put(i64, i128),
     Insert(i64, i128),
     Replace(i64, i128),
+    Mark(i64, bool),
     Take(i64),
 }
 
@@ -36,7 +38,7 @@ struct Series {
     pages: MemoryPages,
     space: Space,
     kind: RowType,
-    /// What the last insert or replacement told.
+    /// What the last insert, replacement or mark told.
     told: bool,
     alloc: Global,
 }
@@ -104,7 +106,22 @@ impl Series {
         Ok(told)
     }
 
-    // The units and the integer of the last element.
+    // Hides the integer at so many units, or reveals it, and tells whether one is there.
+    fn mark(&mut self, at: i64, hidden: bool) -> Result<bool, StoreFault>
+        requires { HasOnePage self.old.kind.columns (memory_contents self.old.pages) (places_of 7 self.old.space) }
+        ensures { OnOk result (HasOnePage self.new.kind.columns (memory_contents self.new.pages) (places_of 7 self.new.space)) }
+    {
+        let stamp = Stamp::of(at).ok_or(StoreFault::Failed)?;
+        let shelf = Shelf {
+            series: SLOT,
+            kind: &self.kind,
+        };
+        let (pages, page) = (&mut self.pages, &mut Page::zero());
+        let told = irregular_mark(pages, page, &self.space, &shelf, stamp, hidden)?;
+        Ok(told)
+    }
+
+    // The units and the integer of the last element that isn't hidden.
     fn last(&mut self) -> Result<Option<(i64, i128)>, StoreFault>
         requires { HasOnePage self.old.kind.columns (memory_contents self.old.pages) (places_of 7 self.old.space) }
     {
@@ -133,8 +150,8 @@ impl Series {
         Ok(())
     }
 
-    // The integer at so many units.
-    fn get(&mut self, at: i64) -> Result<Option<i128>, StoreFault>
+    // The integer at so many units, and whether it is hidden.
+    fn get(&mut self, at: i64) -> Result<Option<(i128, bool)>, StoreFault>
         requires { HasOnePage self.old.kind.columns (memory_contents self.old.pages) (places_of 7 self.old.space) }
         ensures { OnOk result (HasOnePage self.new.kind.columns (memory_contents self.new.pages) (places_of 7 self.new.space)) }
     {
@@ -144,13 +161,13 @@ impl Series {
             kind: &self.kind,
         };
         match irregular_get(&mut self.pages, &self.space, &shelf, stamp)? {
-            Some(row) => Ok(Some(integer_of(&row)?)),
+            Some(row) => Ok(Some((integer_of(&row)?, row.hidden()))),
             None => Ok(None),
         }
     }
 
     // The same, where the page isn't judged again.
-    fn find(&mut self, at: i64) -> Result<Option<i128>, StoreFault>
+    fn find(&mut self, at: i64) -> Result<Option<(i128, bool)>, StoreFault>
         requires { HasOnePage self.old.kind.columns (memory_contents self.old.pages) (places_of 7 self.old.space) }
         ensures { OnOk result (HasOnePage self.new.kind.columns (memory_contents self.new.pages) (places_of 7 self.new.space)) }
     {
@@ -166,7 +183,7 @@ impl Series {
             &shelf,
             stamp,
         )? {
-            Some(row) => Ok(Some(integer_of(&row)?)),
+            Some(row) => Ok(Some((integer_of(&row)?, row.hidden()))),
             None => Ok(None),
         }
     }
@@ -185,6 +202,11 @@ impl Series {
             }
             Step::Replace(at, integer) => {
                 let told = self.replace(at, integer)?;
+                self.told = told;
+                Ok(())
+            }
+            Step::Mark(at, hidden) => {
+                let told = self.mark(at, hidden)?;
                 self.told = told;
                 Ok(())
             }
@@ -252,7 +274,7 @@ const TAKEN: Step = Step::Take(DAY_3);
 const STAMPS: [i64; 5] = [DAY_3 - 3, DAY_3 - 2, DAY_3 - 1, DAY_3, DAY_3 + 1];
 
 /// What steps leave: where the page begins and how many elements it has, how many pages are free, what the last insert or
-/// replacement told, and the integers at some stamps.
+/// replacement told, and the visible integers at some stamps.
 struct Left {
     steps: &'static [Step],
     place: Option<(i64, u16)>,
@@ -385,12 +407,16 @@ fn is_place(place: Option<&Place>, wanted: Option<(i64, u16)>) -> bool {
     }
 }
 
-// Whether both calls that read an integer find these.
+// Whether both calls that read an integer find these, each visible.
 fn reads(series: &mut Series, integers: &[Option<i128>]) -> Result<bool, StoreFault>
     requires { HasOnePage series.old.kind.columns (memory_contents series.old.pages) (places_of 7 series.old.space) }
 {
     for (at, wanted) in STAMPS.iter().zip(integers) {
-        if series.get(*at)? != *wanted || series.find(*at)? != *wanted {
+        let wanted = match wanted {
+            Some(integer) => Some((*integer, false)),
+            None => None,
+        };
+        if series.get(*at)? != wanted || series.find(*at)? != wanted {
             return Ok(false);
         }
     }
@@ -412,48 +438,153 @@ fn elements_are_put_and_taken_away_and_read(rt: HostRuntime) {
     }
 }
 
-/// The units and the integer of the last element after these steps.
-const LASTS: [(&[Step], Option<(i64, i128)>); 3] = [
-    (&[], None),
-    (&[FIRST, EARLIER], Some((DAY_3, 5))),
-    (&[EARLIER, FIRST, LATER], Some((DAY_3 + 9, 6))),
+const HIDDEN: Step = Step::Mark(DAY_3, true);
+
+const REVEALED: Step = Step::Mark(DAY_3, false);
+
+const LATER_HIDDEN: Step = Step::Mark(DAY_3 + 9, true);
+
+/// What steps leave: what the last insert, replacement or mark told, the integer at the third day and whether it is hidden, and the
+/// units and the integer of the last element that isn't.
+struct Seen {
+    steps: &'static [Step],
+    told: bool,
+    third: Option<(i128, bool)>,
+    last: Option<(i64, i128)>,
+}
+
+const SEEN: [Seen; 14] = [
+    Seen {
+        steps: &[],
+        told: true,
+        third: None,
+        last: None,
+    },
+    Seen {
+        steps: &[FIRST, EARLIER],
+        told: true,
+        third: Some((5, false)),
+        last: Some((DAY_3, 5)),
+    },
+    Seen {
+        steps: &[EARLIER, FIRST, LATER],
+        told: true,
+        third: Some((5, false)),
+        last: Some((DAY_3 + 9, 6)),
+    },
+    // An element that is hidden is there, and another one is the last.
+    Seen {
+        steps: &[EARLIER, FIRST, HIDDEN],
+        told: true,
+        third: Some((5, true)),
+        last: Some((DAY_3 - 2, 6)),
+    },
+    Seen {
+        steps: &[FIRST, LATER, HIDDEN],
+        told: true,
+        third: Some((5, true)),
+        last: Some((DAY_3 + 9, 6)),
+    },
+    Seen {
+        steps: &[EARLIER, FIRST, LATER, LATER_HIDDEN, HIDDEN],
+        told: true,
+        third: Some((5, true)),
+        last: Some((DAY_3 - 2, 6)),
+    },
+    Seen {
+        steps: &[FIRST, LATER, HIDDEN, LATER_HIDDEN],
+        told: true,
+        third: Some((5, true)),
+        last: None,
+    },
+    Seen {
+        steps: &[FIRST, HIDDEN, HIDDEN],
+        told: true,
+        third: Some((5, true)),
+        last: None,
+    },
+    Seen {
+        steps: &[FIRST, HIDDEN, REVEALED],
+        told: true,
+        third: Some((5, false)),
+        last: Some((DAY_3, 5)),
+    },
+    Seen {
+        steps: &[FIRST, REVEALED],
+        told: true,
+        third: Some((5, false)),
+        last: Some((DAY_3, 5)),
+    },
+    // None is there to be hidden.
+    Seen {
+        steps: &[HIDDEN],
+        told: false,
+        third: None,
+        last: None,
+    },
+    Seen {
+        steps: &[FIRST, Step::Mark(DAY_3 + 1, true)],
+        told: false,
+        third: Some((5, false)),
+        last: Some((DAY_3, 5)),
+    },
+    // One that is hidden is in the way of an insert, and a replacement is visible.
+    Seen {
+        steps: &[FIRST, HIDDEN, Step::Insert(DAY_3, -8)],
+        told: false,
+        third: Some((5, true)),
+        last: None,
+    },
+    Seen {
+        steps: &[FIRST, HIDDEN, Step::Replace(DAY_3, -8)],
+        told: true,
+        third: Some((-8, false)),
+        last: Some((DAY_3, -8)),
+    },
 ];
 
-fn is_last(alloc: Global, steps: &[Step], wanted: Option<(i64, i128)>) -> Result<bool, StoreFault> {
-    let mut series = after(alloc, steps)?;
-    Ok(series.last()? == wanted)
+fn is_seen(alloc: Global, seen: &Seen) -> Result<bool, StoreFault> {
+    let mut series = after(alloc, seen.steps)?;
+    let are_read = series.get(DAY_3)? == seen.third && series.find(DAY_3)? == seen.third;
+    Ok(are_read && series.told == seen.told && series.last()? == seen.last)
 }
 
 #[test]
-fn the_last_element_is_told(rt: HostRuntime) {
-    for (steps, wanted) in &LASTS {
-        assert!(rt; matches!(is_last(rt.alloc(), steps, *wanted), Ok(true)));
+fn elements_are_hidden_and_revealed_and_the_last_one_is_told(rt: HostRuntime) {
+    for seen in &SEEN {
+        assert!(rt; matches!(is_seen(rt.alloc(), seen), Ok(true)));
     }
 }
 
 const CELL: &[u8] = b"\x01\x00\x00\x75\xb0\x95\x53\xf0\x00\x01\x00\x00\x00\x05";
 
-/// Each leaves one element.
-const ONE_ELEMENT: [&[Step]; 3] = [
-    &[FIRST],
-    &[Step::Insert(DAY_3, 5)],
-    &[Step::Insert(DAY_3, 5), Step::Insert(DAY_3, -8)],
+const HIDDEN_CELL: &[u8] = b"\x01\x00\x00\x75\xb0\x95\x53\xf0\x00\x03\x00\x00\x00\x05";
+
+/// Each leaves one element, which has this cell.
+const ONE_ELEMENT: [(&[Step], &[u8]); 5] = [
+    (&[FIRST], CELL),
+    (&[Step::Insert(DAY_3, 5)], CELL),
+    (&[Step::Insert(DAY_3, 5), Step::Insert(DAY_3, -8)], CELL),
+    (&[FIRST, HIDDEN], HIDDEN_CELL),
+    (&[FIRST, HIDDEN, REVEALED], CELL),
 ];
 
 // Whether the page after these changes has the head and the cell of that element alone.
-fn has_one_element(alloc: Global, steps: &[Step]) -> Result<bool, StoreFault> {
+fn has_one_element(alloc: Global, steps: &[Step], cell: &[u8]) -> Result<bool, StoreFault>
+    requires { length cell.now ≡ 14 }
+{
     let mut series = after(alloc, steps)?;
     let page = series.page()?;
     let mut wanted = Page::zero();
     wanted.bytes[..5].copy_from_slice(&[2, 0, 7, 0, 1]);
-    wanted.bytes[32..46].copy_from_slice(CELL);
+    wanted.bytes[32..46].copy_from_slice(cell);
     Ok(page == wanted)
 }
 
 #[test]
 fn the_page_has_a_head_and_a_cell(rt: HostRuntime) {
-    for steps in &ONE_ELEMENT {
-        assert!(rt; matches!(has_one_element(rt.alloc(), steps), Ok(true)));
+    for (steps, cell) in &ONE_ELEMENT {
+        assert!(rt; matches!(has_one_element(rt.alloc(), steps, cell), Ok(true)));
     }
 }
 
@@ -462,4 +593,6 @@ fn the_laws_are_called() {
     edits_are_those_of_a_map();
     edits_keep_the_order();
     an_edit_keeps_one_page();
+    a_mark_keeps_the_rest();
+    the_map_has_the_elements();
 }

@@ -414,36 +414,126 @@ fn rows_are_their_bytes(rt: HostRuntime) {
     assert!(rt; is_long_row_again(rt.alloc()) == Some(true));
 }
 
-/// Whether bytes are a row's of one column.
-const ROWS: [(ColumnKind, &[u8], bool); 19] = [
-    (SMALL, b"\x01\x80\x01", true),
-    (SMALL, b"\x01\x80\x00", false),
-    (SMALL, b"\x02\x00\x00", false),
-    (SMALL, b"\x00\x00\x00", true),
-    (SMALL, b"\x00\x00\x01", false),
-    (SMALL, b"\x01\x00", false),
-    (SMALL, b"\x01\x00\x00\x00", false),
-    (INTEGER, b"\x01\x80\x00\x00\x00", false),
-    (DECIMAL, b"\x01\x00\x00\x00\x00\x00\x01\x86\x9f", true),
-    (DECIMAL, b"\x01\x00\x00\x00\x00\x00\x01\x86\xa0", false),
-    (LONG_WHOLE, &[0; 17], true),
-    (LONG_WHOLE, &[0; 9], false),
+/// Rows of one column, by their text: their bytes where they are visible, and where they are hidden.
+const MARKED: [(ColumnKind, &[u8], &[u8], &[u8]); 5] = [
+    (
+        INTEGER,
+        b"5",
+        b"\x01\x00\x00\x00\x05",
+        b"\x03\x00\x00\x00\x05",
+    ),
+    (FOUR, b"null", &[0; 6], b"\x02\x00\x00\x00\x00\x00"),
+    (FOUR, b"'ab'", b"\x01\x02ab\x00\x00", b"\x03\x02ab\x00\x00"),
     (
         LONG_WHOLE,
+        b"9999999999999999999999999999",
+        b"\x01\x00\x00\x00\x00\x20\x4f\xce\x5e\x3e\x25\x02\x61\x0f\xff\xff\xff",
+        b"\x03\x00\x00\x00\x00\x20\x4f\xce\x5e\x3e\x25\x02\x61\x0f\xff\xff\xff",
+    ),
+    (
+        LONG_WHOLE,
+        b"-9999999999999999999999999999",
+        b"\x01\xff\xff\xff\xff\xdf\xb0\x31\xa1\xc1\xda\xfd\x9e\xf0\x00\x00\x01",
+        b"\x03\xff\xff\xff\xff\xdf\xb0\x31\xa1\xc1\xda\xfd\x9e\xf0\x00\x00\x01",
+    ),
+];
+
+// Whether the row with these bytes is hidden, where the bytes and the row tell the same.
+fn is_hidden(row_type: &RowType, bytes: &[u8]) -> Option<bool> {
+    let row = row_type.decode(bytes).ok()??;
+    if row_type.is_hidden(bytes) == row.hidden() {
+        Some(row.hidden())
+    } else {
+        None
+    }
+}
+
+// Whether the row with these bytes has those others once it is marked, as a row and in its bytes; so has its copy.
+fn is_marked(
+    alloc: Global,
+    row_type: &RowType,
+    hidden: bool,
+    from: &[u8],
+    to: &[u8],
+) -> Option<bool> {
+    let mut row = row_type.decode(from).ok()??;
+    row.mark(hidden);
+    let is_written = is_written(alloc, row_type, &row, to)?;
+    let copy_is_marked = row.copy().ok()?.hidden() == hidden;
+    let mut bytes = Vec::from_slice(alloc, from).ok()?;
+    row_type.mark(hidden, bytes.as_mut_slice());
+    Some(is_written && copy_is_marked && bytes.as_slice() == to)
+}
+
+// Whether these are the bytes of one row that is visible and hidden, and this its text.
+fn are_both(
+    alloc: Global,
+    kind: ColumnKind,
+    text: &[u8],
+    visible: &[u8],
+    hidden: &[u8],
+) -> Option<bool> {
+    let row_type = row_type(alloc, &[kind]).ok()?;
+    let are_read = is_row_of(alloc, &row_type, visible, text)?
+        && is_row_of(alloc, &row_type, hidden, text)?;
+    let are_told = !is_hidden(&row_type, visible)? && is_hidden(&row_type, hidden)?;
+    let are_marked = is_marked(alloc, &row_type, true, visible, hidden)?
+        && is_marked(alloc, &row_type, false, hidden, visible)?
+        && is_marked(alloc, &row_type, true, hidden, hidden)?;
+    Some(are_read && are_told && are_marked)
+}
+
+#[test]
+fn a_hidden_row_has_2_more_in_its_first_byte(rt: HostRuntime) {
+    for (kind, text, visible, hidden) in &MARKED {
+        assert!(rt; are_both(rt.alloc(), *kind, text, visible, hidden) == Some(true));
+    }
+}
+
+/// Whether bytes are a row's of these columns.
+const ROWS: [(&[ColumnKind], &[u8], bool); 31] = [
+    (&[SMALL], b"\x01\x80\x01", true),
+    (&[SMALL], b"\x01\x80\x00", false),
+    (&[SMALL], b"\x00\x00\x00", true),
+    (&[SMALL], b"\x00\x00\x01", false),
+    (&[SMALL], b"\x01\x00", false),
+    (&[SMALL], b"\x01\x00\x00\x00", false),
+    (&[INTEGER], b"\x01\x80\x00\x00\x00", false),
+    (&[DECIMAL], b"\x01\x00\x00\x00\x00\x00\x01\x86\x9f", true),
+    (&[DECIMAL], b"\x01\x00\x00\x00\x00\x00\x01\x86\xa0", false),
+    (&[LONG_WHOLE], &[0; 17], true),
+    (&[LONG_WHOLE], &[0; 9], false),
+    (
+        &[LONG_WHOLE],
         b"\x01\x00\x00\x00\x00\x20\x4f\xce\x5e\x3e\x25\x02\x61\x10\x00\x00\x00",
         false,
     ),
-    (FOUR, b"\x01\x02ab\x00\x00", true),
-    (FOUR, b"\x01\x02ab\x00\x01", false),
-    (FOUR, b"\x01\x05abcd", false),
-    (FOUR, b"\x01\x02a\x1f\x00\x00", false),
-    (FOUR, b"\x01\x01\x7f\x00\x00\x00", false),
-    (FOUR, b"", false),
+    (&[FOUR], b"\x01\x02ab\x00\x00", true),
+    (&[FOUR], b"\x01\x02ab\x00\x01", false),
+    (&[FOUR], b"\x01\x05abcd", false),
+    (&[FOUR], b"\x01\x02a\x1f\x00\x00", false),
+    (&[FOUR], b"\x01\x01\x7f\x00\x00\x00", false),
+    (&[FOUR], b"", false),
+    // Hidden, and with a first byte past those of hidden rows.
+    (&[SMALL], b"\x02\x00\x00", true),
+    (&[SMALL], b"\x02\x00\x01", false),
+    (&[SMALL], b"\x03\x80\x01", true),
+    (&[SMALL], b"\x03\x80\x00", false),
+    (&[SMALL], b"\x04\x00\x00", false),
+    (&[SMALL], b"\x05\x00\x01", false),
+    (&[SMALL], b"\xff\x00\x00", false),
+    // The mark stands in the first column alone.
+    (&[SMALL, SMALL], b"\x01\x00\x05\x01\x00\x06", true),
+    (&[SMALL, SMALL], b"\x03\x00\x05\x01\x00\x06", true),
+    (&[SMALL, SMALL], b"\x02\x00\x00\x00\x00\x00", true),
+    (&[SMALL, SMALL], b"\x01\x00\x05\x03\x00\x06", false),
+    (&[SMALL, SMALL], b"\x01\x00\x05\x02\x00\x00", false),
+    (&[SMALL, SMALL], b"\x03\x00\x05\x02\x00\x00", false),
 ];
 
 // Whether they are, where both calls that tell it agree.
-fn is_row(alloc: Global, kind: ColumnKind, bytes: &[u8]) -> Option<bool> {
-    let row_type = row_type(alloc, &[kind]).ok()?;
+fn is_row(alloc: Global, kinds: &[ColumnKind], bytes: &[u8]) -> Option<bool> {
+    let row_type = row_type(alloc, kinds).ok()?;
     let told = row_type.is_row(bytes);
     if row_type.decode(bytes).ok()?.is_some() == told {
         Some(told)
@@ -454,9 +544,23 @@ fn is_row(alloc: Global, kind: ColumnKind, bytes: &[u8]) -> Option<bool> {
 
 #[test]
 fn bytes_of_no_row_are_refused(rt: HostRuntime) {
-    for (kind, bytes, wanted) in &ROWS {
-        assert!(rt; is_row(rt.alloc(), *kind, bytes) == Some(*wanted));
+    for (kinds, bytes, wanted) in &ROWS {
+        assert!(rt; is_row(rt.alloc(), kinds, bytes) == Some(*wanted));
     }
+}
+
+// How many bytes stay of some that are no row's, which are marked.
+fn marked_length(alloc: Global, bytes: &[u8]) -> Option<usize> {
+    let row_type = row_type(alloc, &[SMALL]).ok()?;
+    let mut bytes = Vec::from_slice(alloc, bytes).ok()?;
+    row_type.mark(true, bytes.as_mut_slice());
+    Some(bytes.as_slice().len())
+}
+
+#[test]
+fn bytes_of_no_row_can_be_marked(rt: HostRuntime) {
+    assert!(rt; marked_length(rt.alloc(), b"") == Some(0));
+    assert!(rt; marked_length(rt.alloc(), b"\xff\x00") == Some(2));
 }
 
 /// The texts of values at a scale.
@@ -499,8 +603,9 @@ fn values_are_printed_at_any_scale(rt: HostRuntime) {
 }
 
 /// Whether a decimal has over 18 digits, and the bytes of a row.
-const WIDTHS: [(&[ColumnKind], bool, usize); 4] = [
+const WIDTHS: [(&[ColumnKind], bool, usize); 5] = [
     (&[BIG, WHOLE], false, 18),
+    (&[LONG_WHOLE], true, 17),
     (&[DIGITS_19], true, 17),
     (&[WHOLE, LONG_WHOLE], true, 26),
     (&[LONG], false, 257),

@@ -8,8 +8,8 @@ use Rattle.ts_row.specs.declared.kind.Column.{Column}
 use Rattle.ts_row.specs.declared.value.Value.{Value}
 use Rattle.ts_row.specs.declared.value.Value.TheVariants.{Null, Number, Text}
 use Rattle.ts_row.specs.RowType.{is_kind, scale_of}
-use Rattle.ts_row.specs.Row.{Values, holds_size, holds, fits, rescaled, with_sign, size_if_any, value_if_any, row_from, row_of}
-use Rattle.ts_row.specs.Printed.{literal_of, literals_of}
+use Rattle.ts_row.specs.Row.{Values, Row, holds_size, holds, hold, fits, marked, rescaled, with_sign, size_if_any, value_if_any, values_from, visible_if_any, row_of}
+use Rattle.ts_row.specs.Printed.{literal_of, value_literals, literals_of}
 use Rattle.ts_row.proofs.LiteralLemmas.{rescaled-raise}
 
 first_of_two : (a b : Bool) → IsTrue (a && b) → IsTrue a
@@ -41,18 +41,18 @@ value-again kind Null valid held = refl
 value-again kind (Number z) valid held = rw (size-again kind (unsigned_abs z) held, with_sign-size z) refl
 value-again kind (Text text) valid held = rw held refl
 
--- the literals of a row give it, from any column's number on
-from-again : (number : ℕ) (columns : List Column) (row : Values) → IsTrue (list_all (λ c. is_kind c.kind) columns) → IsTrue (fits columns row) → row_from number columns (literals_of columns row) ≡ Ok row
+-- the literals of values give them, from any column's number on
+from-again : (number : ℕ) (columns : List Column) (values : Values) → IsTrue (list_all (λ c. is_kind c.kind) columns) → IsTrue (hold columns values) → values_from number columns (value_literals columns values) ≡ Ok values
 from-again number [] [] valid fit = refl
 from-again number [] (value ∷ values) valid fit = cc
 from-again number (column ∷ columns) [] valid fit = cc
 from-again number (column ∷ columns) (value ∷ values) valid fit =
     let kind : IsTrue (is_kind column.kind) = first_of_two (is_kind column.kind) (list_all (λ (c : Column). is_kind c.kind) columns) valid in
     let kinds : IsTrue (list_all (λ (c : Column). is_kind c.kind) columns) = second_of_two (is_kind column.kind) (list_all (λ (c : Column). is_kind c.kind) columns) valid in
-    let held : IsTrue (holds column.kind value) = first_of_two (holds column.kind value) (fits columns values) fit in
-    let others : IsTrue (fits columns values) = second_of_two (holds column.kind value) (fits columns values) fit in
+    let held : IsTrue (holds column.kind value) = first_of_two (holds column.kind value) (hold columns values) fit in
+    let others : IsTrue (hold columns values) = second_of_two (holds column.kind value) (hold columns values) fit in
     rw (value-again column.kind value kind held, from-again (number + 1) columns values kinds others) refl
 
--- the literals of a row give it
-pub row-again : (columns : List Column) (row : Values) → IsTrue (list_all (λ c. is_kind c.kind) columns) → IsTrue (fits columns row) → row_of columns (literals_of columns row) ≡ Ok row
-row-again = from-again 1
+-- the literals of a row give the visible one
+pub row-again : (columns : List Column) (row : Row) → IsTrue (list_all (λ c. is_kind c.kind) columns) → IsTrue (fits columns row) → row_of columns (literals_of columns row) ≡ Ok (marked false row)
+row-again columns row valid fit = ap visible_if_any (from-again 1 columns row.values valid fit)

@@ -1,5 +1,5 @@
 -- The row that literals give fits.
-use Rattle.std.proofs.Common.{◌≡◌, ℕ, zero, suc, ◌+◌, true, false, if◌then◌else◌, Option, Some, None, Result, Ok, Err, List, [], ◌∷◌, ℤ, pos, negsuc, unsigned_abs, refl, ap, ◌∙◌, arith}
+use Rattle.std.proofs.Common.{◌≡◌, ℕ, zero, suc, ◌+◌, true, false, if◌then◌else◌, Option, Some, None, Result, Ok, Err, IsOkAnd, List, [], ◌∷◌, ◌++◌, ℤ, pos, negsuc, unsigned_abs, refl, sym, ap, ◌∙◌, arith}
 use Rattle.std.specs.Option.{option_map, option_and_then}
 use Rattle.std.proofs.lemmas.Int.{ints}
 use Rattle.std.proofs.lemmas.Bool.Decides.{nat_tests}
@@ -10,7 +10,9 @@ use Rattle.ts_row.specs.declared.value.Value.TheVariants.{Null, Number, Text}
 use Rattle.ts_row.specs.declared.value.Literal.{Literal}
 use Rattle.ts_row.specs.declared.value.Literal.TheVariants.{Null as NullLiteral, Number as NumberLiteral, Text as TextLiteral}
 use Rattle.ts_row.specs.RowType.{scale_of}
-use Rattle.ts_row.specs.Row.{Values, holds, holds_size, holds_text, fits, takes_scale, rescaled, with_sign, size_if_held, size_if_any, value_if_any, with_first, row_from}
+use Rattle.ts_row.specs.Row.{Values, Row, holds, holds_size, holds_text, hold, fits, visible, takes_scale, rescaled, with_sign, size_if_held, size_if_any, value_if_any, with_first, values_from, visible_if_any, row_of, IsTroubleOf}
+use Rattle.ts_base.specs.declared.fault.Trouble.{Trouble}
+use Rattle.ts_base.specs.declared.fault.Trouble.TheVariants.{Refused, Memory}
 
 -- the size of a number with the sign of another
 unsigned_abs-with_sign : (z : ℤ) (n : ℕ) → unsigned_abs (with_sign z n) ≡ n
@@ -51,24 +53,45 @@ value_if_any-holds kind (TextLiteral text) v is =
       | false ↦ λ not none. cc
     ] refl is
 
--- a row that begins with a value
-with_first-ok : (number : ℕ) (o : Option Value) (rest : Result Values ℕ) (row : Values) → with_first number o rest ≡ Ok row → (v : Value) × (values : Values) × (o ≡ Some v) × (rest ≡ Ok values) × (row ≡ v ∷ values)
-with_first-ok number None rest row is = absurd (cc)
-with_first-ok number (Some v) (Ok values) row is = (v, values, refl, refl, cc)
-with_first-ok number (Some v) (Err later) row is = absurd (cc)
+-- values that begin with one
+with_first-ok : (number : ℕ) (o : Option Value) (rest : Result Values ℕ) (given : Values) → with_first number o rest ≡ Ok given → (v : Value) × (values : Values) × (o ≡ Some v) × (rest ≡ Ok values) × (given ≡ v ∷ values)
+with_first-ok number None rest given is = absurd (cc)
+with_first-ok number (Some v) (Ok values) given is = (v, values, refl, refl, cc)
+with_first-ok number (Some v) (Err later) given is = absurd (cc)
 
--- the row that literals give fits
-pub row_from-fits : (number : ℕ) (columns : List Column) (literals : List Literal) (row : Values) → row_from number columns literals ≡ Ok row → fits columns row ≡ true
-row_from-fits number [] [] row is =
-    let same : row ≡ [] = cc in
+-- the values that literals give are held
+values_from-hold : (number : ℕ) (columns : List Column) (literals : List Literal) (given : Values) → values_from number columns literals ≡ Ok given → hold columns given ≡ true
+values_from-hold number [] [] given is =
+    let same : given ≡ [] = cc in
     rw same refl
-row_from-fits number [] (literal ∷ literals) row is = absurd (cc)
-row_from-fits number (column ∷ columns) [] row is = absurd (cc)
-row_from-fits number (column ∷ columns) (literal ∷ literals) row is =
-    let parts = with_first-ok number (value_if_any column.kind literal) (row_from (number + 1) columns literals) row is in
+values_from-hold number [] (literal ∷ literals) given is = absurd (cc)
+values_from-hold number (column ∷ columns) [] given is = absurd (cc)
+values_from-hold number (column ∷ columns) (literal ∷ literals) given is =
+    let parts = with_first-ok number (value_if_any column.kind literal) (values_from (number + 1) columns literals) given is in
     let first = value_if_any-holds column.kind literal parts.0 parts.2 in
-    let others = row_from-fits (number + 1) columns literals parts.1 parts.3 in
+    let others = values_from-hold (number + 1) columns literals parts.1 parts.3 in
     rw (parts.4, first, others) refl
 
+-- the row that literals give is the visible row of values that are held
+pub given_fits : (columns : List Column) (literals : List Literal) (row : Row) → row_of columns literals ≡ Ok row → fits columns row ≡ true
+given_fits columns literals row is =
+    elim (values_from 1 columns literals) as (λ (given : Result Values ℕ). values_from 1 columns literals ≡ given → visible_if_any given ≡ Ok row → fits columns row ≡ true) [
+      | Ok values ↦ λ same some. let one : row ≡ visible values = cc in ap (fits columns) one ∙ values_from-hold 1 columns literals values same
+      | Err number ↦ λ same none. absurd (cc)
+    ] refl is
+
+-- what is put to the end of no values makes the row
+pub row_of-put : (columns : List Column) (literals : List Literal) (old new : Values) (row : Row) → old ≡ [] → IsOkAnd (values_from 1 columns literals) (λ given. new ≡ old ++ given) → row ≡ visible new → row_of columns literals ≡ Ok row
+row_of-put columns literals old new row empty given is =
+    elim (values_from 1 columns literals) as (λ (r : Result Values ℕ). IsOkAnd r (λ all. new ≡ old ++ all) → visible_if_any r ≡ Ok row) [
+      | Ok all ↦ λ same. ap Ok (ap visible (ap (λ (l : Values). l ++ all) (sym empty) ∙ sym same) ∙ sym is)
+      | Err number ↦ λ none. absurd none
+    ] given
+
+-- why there are no values is why there is no row
+pub trouble_of : (given : Result Values ℕ) (trouble : Trouble) → IsTroubleOf given trouble → IsTroubleOf (visible_if_any given) trouble
+trouble_of given (Refused refusal) why = (why.0, ap visible_if_any why.1, why.2)
+trouble_of given (Memory error) why = tt
+
 -- for `grind`
-pub ruleset fitting = (row_from-fits)
+pub ruleset fitting = (given_fits, row_of-put, trouble_of)

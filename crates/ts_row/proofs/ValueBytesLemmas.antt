@@ -1,5 +1,5 @@
 -- Values and their bytes: what is written is read as the same value, and what is read was written so.
-use Rattle.std.proofs.Common.{◌≡◌, ℕ, zero, suc, ◌+◌, ◌-◌, ◌^◌, ◌<◌, ◌≤◌, Bool, true, false, ◌&&◌, ◌==◌, nat_le, nat_lt, if◌then◌else◌, Some, None, List, [], ◌∷◌, ◌++◌, length, take, drop, get_or, replicate, IsTrue, ℤ, unsigned_abs, refl, sym, ap, ◌∙◌, arith, lit<, length-append, length-take, length-drop}
+use Rattle.std.proofs.Common.{◌≡◌, ℕ, zero, suc, ◌+◌, ◌-◌, ◌^◌, ◌<◌, ◌≤◌, Bool, true, false, ◌&&◌, ◌==◌, nat_le, nat_lt, if◌then◌else◌, Some, None, List, [], ◌∷◌, ◌++◌, length, take, drop, get_or, replicate, IsTrue, ℤ, unsigned_abs, refl, sym, ap, ◌∙◌, arith, lit<, lit≤, length-append, length-take, length-drop}
 use Rattle.std.specs.Int.{w16, w32, w64, w128, to_be_bytes, from_be_bytes, cast_unsigned, cast_signed}
 use Rattle.std.proofs.lemmas.Bool.Decides.{nat_tests}
 use Rattle.std.proofs.lemmas.Int.{to_z-of_z, of_z-to_z, fits_signed_from_abs}
@@ -131,7 +131,7 @@ decimal_width-positive true = lit< tt
 decimal_width-positive false = lit< tt
 
 -- each column has a byte
-column_width-positive : (kind : ColumnKind) → 0 < column_width kind
+pub column_width-positive : (kind : ColumnKind) → 0 < column_width kind
 column_width-positive SmallInt = lit< tt
 column_width-positive Integer = lit< tt
 column_width-positive BigInt = lit< tt
@@ -264,3 +264,14 @@ value_bytes-value_in kind (flag ∷ rest) v is long small =
             | false ↦ λ not is'. cc
           ] refl some
     ] refl is
+
+-- zeros begin with 0
+zeros-flag : (n : ℕ) → 0 < n → (flag : ℕ) × (rest : List ℕ) × (flag ≤ 1) × (replicate n 0 ≡ flag ∷ rest)
+zeros-flag zero some = absurd (omega arith)
+zeros-flag (suc n) some = (0, replicate n 0, lit≤ tt, refl)
+
+-- the bytes of a value begin with 0 or 1
+pub value_bytes-flag : (kind : ColumnKind) (v : Value) → (flag : ℕ) × (rest : List ℕ) × (flag ≤ 1) × (value_bytes kind v ≡ flag ∷ rest)
+value_bytes-flag kind Null = zeros-flag (column_width kind) (column_width-positive kind)
+value_bytes-flag kind (Number z) = (1, number_bytes kind z, lit≤ tt, refl)
+value_bytes-flag kind (Text text) = (1, text_bytes kind text, lit≤ tt, refl)

@@ -1,5 +1,5 @@
 -- The value and the row that bytes give, read from their first byte on.
-use Rattle.std.specs.Prelude.{ℕ, Bool, ◌&&◌, ◌==◌, nat_le, nat_lt, if◌then◌else◌, ℤ, unsigned_abs, Option, Some, None, List, [], ◌∷◌, length, take, drop}
+use Rattle.std.specs.Prelude.{ℕ, Bool, ◌-◌, ◌&&◌, ◌==◌, nat_le, nat_lt, if◌then◌else◌, ℤ, unsigned_abs, Option, Some, None, List, [], ◌∷◌, length, take, drop}
 use Rattle.std.specs.Option.{option_map}
 use Rattle.std.specs.List.{list_all}
 use Rattle.std.specs.Int.{w16, w32, w64, w128, from_be_bytes, cast_signed}
@@ -8,10 +8,11 @@ use Rattle.ts_row.specs.declared.kind.ColumnKind.{ColumnKind}
 use Rattle.ts_row.specs.declared.kind.ColumnKind.TheVariants.{SmallInt, Integer, BigInt, Decimal, VarChar}
 use Rattle.ts_row.specs.declared.kind.Column.{Column}
 use Rattle.ts_row.specs.declared.kind.TheConstants.{SHORT_DIGITS}
+use Rattle.ts_row.specs.declared.mark.TheConstants.{MARK}
 use Rattle.ts_row.specs.declared.value.Value.{Value}
 use Rattle.ts_row.specs.declared.value.Value.TheVariants.{Null, Number, Text}
 use Rattle.ts_row.specs.RowType.{column_width}
-use Rattle.ts_row.specs.Row.{Values, holds_size}
+use Rattle.ts_row.specs.Row.{Values, Row, holds_size, visible}
 
 -- zeros and nothing else
 abbrev pub all_zero : List ℕ → Bool
@@ -48,15 +49,29 @@ value_in kind (flag ∷ rest) =
     if flag == 0 then (if all_zero rest then Some Null else None)
     else (if flag == 1 then filled_in kind rest else None)
 
--- a row that begins with a value
+-- values that begin with this one
 abbrev pub put_first : Option Value → Option Values → Option Values
 put_first None rest = None
 put_first (Some value) rest = option_map (λ values. value ∷ values) rest
 
--- the row that bytes are
-abbrev pub row_in : List Column → List ℕ → Option Values
-row_in [] bytes = if length bytes == 0 then Some [] else None
-row_in (column ∷ columns) bytes =
+-- the values that bytes are
+abbrev pub values_in : List Column → List ℕ → Option Values
+values_in [] bytes = if length bytes == 0 then Some [] else None
+values_in (column ∷ columns) bytes =
     if nat_le (column_width column.kind) (length bytes)
-    then put_first (value_in column.kind (take (column_width column.kind) bytes)) (row_in columns (drop (column_width column.kind) bytes))
+    then put_first (value_in column.kind (take (column_width column.kind) bytes)) (values_in columns (drop (column_width column.kind) bytes))
     else None
+
+-- a first byte is one of a hidden row
+abbrev pub is_mark : ℕ → Bool
+is_mark byte = nat_le MARK byte
+
+-- a first byte without the mark
+abbrev pub unmarked : ℕ → ℕ
+unmarked byte = if is_mark byte then byte - MARK else byte
+
+-- the row that bytes are: its mark in the first byte, and the values that the bytes without it are
+abbrev pub row_in : List Column → List ℕ → Option Row
+row_in columns [] = option_map visible (values_in columns [])
+row_in columns (first ∷ bytes) =
+    option_map (λ values. record { values = values; hidden = is_mark first }) (values_in columns (unmarked first ∷ bytes))

@@ -3,3 +3,4 @@ pub mod Row
 pub mod Encoding
 pub mod Printed
 pub mod Decoding
+pub mod Element

@@ -8,7 +8,7 @@ use Rattle.ts_row.specs.declared.value.Value.TheVariants.{Null, Number, Text}
 use Rattle.ts_row.specs.declared.value.Literal.{Literal}
 use Rattle.ts_row.specs.declared.value.Literal.TheVariants.{Null as NullLiteral, Number as NumberLiteral, Text as TextLiteral}
 use Rattle.ts_row.specs.RowType.{scale_of}
-use Rattle.ts_row.specs.Row.{Values}
+use Rattle.ts_row.specs.Row.{Values, Row}
 
 -- the last digits of a number, this many
 abbrev pub last_digits : ℕ → ℕ → List ℕ
@@ -37,14 +37,18 @@ value_text scale Null = codes "null"
 value_text scale (Number z) = number_text scale z
 value_text scale (Text text) = 39 ∷ flat_map quoted text ++ 39 ∷ []
 
--- the values of a row, each as its column prints it
+-- values, each as its column prints it
 abbrev pub value_texts : List Column → Values → List (List ℕ)
 value_texts (column ∷ columns) (value ∷ values) = value_text (scale_of column.kind) value ∷ value_texts columns values
 value_texts _ _ = []
 
--- the values of a row with commas between them
-abbrev pub row_text : List Column → Values → List ℕ
-row_text columns row = join_with_byte 44 (value_texts columns row)
+-- values with commas between them
+abbrev pub values_text : List Column → Values → List ℕ
+values_text columns values = join_with_byte 44 (value_texts columns values)
+
+-- the values of a row with commas between them; its mark isn't printed
+abbrev pub row_text : List Column → Row → List ℕ
+row_text columns row = values_text columns row.values
 
 -- the literal that the text of a value is
 abbrev pub literal_of : ℕ → Value → Literal
@@ -52,10 +56,14 @@ literal_of scale Null = NullLiteral
 literal_of scale (Number z) = NumberLiteral z scale
 literal_of scale (Text text) = TextLiteral text
 
+-- the literals that the texts of values are
+abbrev pub value_literals : List Column → Values → List Literal
+value_literals (column ∷ columns) (value ∷ values) = literal_of (scale_of column.kind) value ∷ value_literals columns values
+value_literals _ _ = []
+
 -- the literals that the texts of a row's values are
-abbrev pub literals_of : List Column → Values → List Literal
-literals_of (column ∷ columns) (value ∷ values) = literal_of (scale_of column.kind) value ∷ literals_of columns values
-literals_of _ _ = []
+abbrev pub literals_of : List Column → Row → List Literal
+literals_of columns row = value_literals columns row.values
 
 -- a text has become longer at its end, if at all
 abbrev pub Extends : List ℕ → List ℕ → Type 0

@@ -18,6 +18,11 @@ use Rattle.ts_row.specs.RowType.{scale_of}
 abbrev pub Values : Type 0
 Values = List Value
 
+-- a row: its values, and whether it is hidden
+pub record Row : Type 0 where
+  pub values : Values
+  pub hidden : Bool
+
 -- a column holds numbers of this size, of either sign
 abbrev pub holds_size : ColumnKind → ℕ → Bool
 holds_size SmallInt n = nat_le n 32_767
@@ -37,12 +42,24 @@ holds kind Null = true
 holds kind (Number z) = holds_size kind (unsigned_abs z)
 holds kind (Text text) = holds_text kind text
 
--- a row has one value for each column, which holds it
-abbrev pub fits : List Column → Values → Bool
-fits [] [] = true
-fits [] (value ∷ values) = false
-fits (column ∷ columns) [] = false
-fits (column ∷ columns) (value ∷ values) = holds column.kind value && fits columns values
+-- there is one value for each column, which holds it
+abbrev pub hold : List Column → Values → Bool
+hold [] [] = true
+hold [] (value ∷ values) = false
+hold (column ∷ columns) [] = false
+hold (column ∷ columns) (value ∷ values) = holds column.kind value && hold columns values
+
+-- a row has one value for each column, which holds it; it may be hidden or not
+abbrev pub fits : List Column → Row → Bool
+fits columns row = hold columns row.values
+
+-- the visible row of these values
+abbrev pub visible : Values → Row
+visible values = record { values = values; hidden = false }
+
+-- the same values, hidden or visible
+abbrev pub marked : Bool → Row → Row
+marked hidden row = record { values = row.values; hidden = hidden }
 
 -- a column takes numbers that are written with so many digits after a point: an integer only those with no point
 abbrev pub takes_scale : ColumnKind → ℕ → Bool
@@ -79,28 +96,33 @@ value_if_any kind (NumberLiteral units written) =
     option_map (λ n. Number (with_sign units n)) (size_if_any kind (unsigned_abs units) written)
 value_if_any kind (TextLiteral text) = if holds_text kind text then Some (Text text) else None
 
--- a row that begins with a value of column number `number`, if there is one
+-- values that begin with that of column number `number`, if there is one
 abbrev pub with_first : ℕ → Option Value → Result Values ℕ → Result Values ℕ
 with_first number None rest = Err number
 with_first number (Some value) (Ok values) = Ok (value ∷ values)
 with_first number (Some value) (Err later) = Err later
 
--- the row that literals give, where the columns count from `number`; else the first that misfits, is missing or is too many
-abbrev pub row_from : ℕ → List Column → List Literal → Result Values ℕ
-row_from number [] [] = Ok []
-row_from number [] (literal ∷ literals) = Err number
-row_from number (column ∷ columns) [] = Err number
-row_from number (column ∷ columns) (literal ∷ literals) =
-    with_first number (value_if_any column.kind literal) (row_from (number + 1) columns literals)
+-- the values that literals give, where the columns count from `number`; else the first that misfits, is missing or is too many
+abbrev pub values_from : ℕ → List Column → List Literal → Result Values ℕ
+values_from number [] [] = Ok []
+values_from number [] (literal ∷ literals) = Err number
+values_from number (column ∷ columns) [] = Err number
+values_from number (column ∷ columns) (literal ∷ literals) =
+    with_first number (value_if_any column.kind literal) (values_from (number + 1) columns literals)
 
--- the row that literals give, or the number, counted from 1, of the first column that misfits, is missing or is too many
-abbrev pub row_of : List Column → List Literal → Result Values ℕ
-row_of columns literals = row_from 1 columns literals
+-- the visible row of values, where there are values
+abbrev pub visible_if_any : Result Values ℕ → Result Row ℕ
+visible_if_any (Ok values) = Ok (visible values)
+visible_if_any (Err number) = Err number
 
--- why there is no row: the column at which it is refused, or want of memory
-abbrev pub IsTroubleOf : Result Values ℕ → Trouble → Type 0
-IsTroubleOf row (Refused refusal) = (n : ℕ) × (row ≡ Err n) × (refusal ≡ RowMismatch n)
-IsTroubleOf row (Memory error) = Unit {0}
+-- the visible row that literals give, or the number, counted from 1, of the first column that misfits, is missing or is too many
+abbrev pub row_of : List Column → List Literal → Result Row ℕ
+row_of columns literals = visible_if_any (values_from 1 columns literals)
+
+-- why there are none: the column at which they are refused, or want of memory
+abbrev pub IsTroubleOf : {A : Type 0} → Result A ℕ → Trouble → Type 0
+IsTroubleOf given (Refused refusal) = (n : ℕ) × (given ≡ Err n) × (refusal ≡ RowMismatch n)
+IsTroubleOf given (Memory error) = Unit {0}
 
 -- why literals give no row: the first column that misfits, is missing or is too many, or want of memory
 abbrev pub IsRowTrouble : List Column → List Literal → Trouble → Type 0

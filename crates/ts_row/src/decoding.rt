@@ -1,10 +1,11 @@
 // The row that bytes are: each function takes the first column and goes on with the others, at most 32 in all.
-ghost use Rattle.std.specs.Prelude.{◌≡◌, ◌+◌, ◌++◌, nat_lt, if◌then◌else◌, IsTrue, IfOk, MatchOption, length, true, false};
+ghost use Rattle.std.specs.Prelude.{◌≡◌, ◌≤◌, ◌+◌, ◌∷◌, ◌++◌, nat_lt, if◌then◌else◌, IsTrue, IfOk, MatchOption, length, true, false};
 ghost use Rattle.std.specs.List.{list_all};
 ghost use Rattle.std.specs.Int.{cast_signed, from_be_bytes, w64, w128};
 ghost use Rattle.ts_row.specs.RowType.{column_width, is_kind};
-ghost use Rattle.ts_row.specs.Decoding.{all_zero, number_in, text_in, filled_in, value_in, row_in};
+ghost use Rattle.ts_row.specs.Decoding.{all_zero, number_in, text_in, filled_in, value_in, values_in, row_in};
 
+use crate::mark::{is_mark, unmarked};
 use crate::zeros::is_zero;
 use crate::{Column, ColumnKind, Row, SHORT_DIGITS, Value};
 use std::alloc::{AllocError, Global};
@@ -16,53 +17,64 @@ pub(crate) fn decode(
     columns: &[Column],
     from: &[u8],
 ) -> Result<Option<Row>, AllocError>
-    requires { IsTrue (list_all (λ c. is_kind c.kind) columns.now) }
+    requires kinds { IsTrue (list_all (λ c. is_kind c.kind) columns.now) }
+    requires some { 1 ≤ length columns.now }
     ensures { IfOk result (λ found. found ≡ row_in columns.now from.now) }
 {
-    let mut row = Vec::with_capacity(alloc, columns.len())?;
-    if decode_row(alloc, columns, from, &mut row)? {
-        Ok(Some(Row::of(row)))
-    } else {
-        Ok(None)
-    }
-}
-
-// Puts the values that bytes are to the end of a row, and says whether they are a row's.
-fn decode_row(
-    alloc: Global,
-    columns: &[Column],
-    from: &[u8],
-    row: &mut Vec<Value>,
-) -> Result<bool, AllocError>
-    requires kinds { IsTrue (list_all (λ c. is_kind c.kind) columns.now) }
-    ensures { IfOk result (λ found. MatchOption (row_in columns.now from.now) (found ≡ false)
-        (λ values. (found ≡ true) × (row.new.items ≡ row.old.items ++ values))) }
-{
-    let Some((column, columns)) = columns.split_first() else {
-        return Ok(from.is_empty());
-    };
-    let width = column.kind.width();
-    if from.len() < width {
-        return Ok(false);
-    }
-    let (cell, rest) = from.split_at(width);
-    let Some(value) = decode_value(alloc, column.kind, cell)? else {
-        return Ok(false);
-    };
-    row.push(value)?;
-    decode_row(alloc, columns, rest, row)
-}
-
-// The value that the bytes of a column are.
-fn decode_value(alloc: Global, kind: ColumnKind, cell: &[u8]) -> Result<Option<Value>, AllocError>
-    requires kind { IsTrue (is_kind kind) }
-    requires room { length cell.now ≡ column_width kind }
-    ensures { IfOk result (λ found. found ≡ value_in kind cell.now) }
-{
-    let Some((flag, bytes)) = cell.split_first() else {
+    let Some((first, behind)) = from.split_first() else {
         return Ok(None);
     };
-    match *flag {
+    let mut values = Vec::with_capacity(alloc, columns.len())?;
+    if !decode_values(alloc, columns, unmarked(*first), behind, &mut values)? {
+        return Ok(None);
+    }
+    let mut row = Row::of(values);
+    row.mark(is_mark(*first));
+    Ok(Some(row))
+}
+
+// Puts the values that a byte and those behind it are to the end of others, and says whether they are values.
+fn decode_values(
+    alloc: Global,
+    columns: &[Column],
+    flag: u8,
+    behind: &[u8],
+    values: &mut Vec<Value>,
+) -> Result<bool, AllocError>
+    requires kinds { IsTrue (list_all (λ c. is_kind c.kind) columns.now) }
+    ensures { IfOk result (λ found. MatchOption (values_in columns.now (flag ∷ behind.now)) (found ≡ false)
+        (λ more. (found ≡ true) × (values.new.items ≡ values.old.items ++ more))) }
+{
+    let Some((column, columns)) = columns.split_first() else {
+        return Ok(false);
+    };
+    let size = column.kind.width() - 1;
+    if behind.len() < size {
+        return Ok(false);
+    }
+    let (bytes, rest) = behind.split_at(size);
+    let Some(value) = decode_value(alloc, column.kind, flag, bytes)? else {
+        return Ok(false);
+    };
+    values.push(value)?;
+    let Some((flag, behind)) = rest.split_first() else {
+        return Ok(columns.is_empty());
+    };
+    decode_values(alloc, columns, *flag, behind, values)
+}
+
+// The value that the bytes of a column are, if they are one's.
+fn decode_value(
+    alloc: Global,
+    kind: ColumnKind,
+    flag: u8,
+    bytes: &[u8],
+) -> Result<Option<Value>, AllocError>
+    requires kind { IsTrue (is_kind kind) }
+    requires room { length bytes.now + 1 ≡ column_width kind }
+    ensures { IfOk result (λ found. found ≡ value_in kind (flag ∷ bytes.now)) }
+{
+    match flag {
         0 => Ok(if is_zero(bytes) {
             Some(Value::Null)
         } else {

@@ -1,20 +1,20 @@
-// The bytes of rows: each function takes the first column and goes on with the others, at most 32 in all.
+// The bytes of values: each function takes the first column and goes on with the others, at most 32 in all.
 ghost use Rattle.std.specs.Prelude.{◌≡◌, ◌+◌, ◌-◌, ◌^◌, ◌<◌, ◌≤◌, nat_lt, if◌then◌else◌, IsTrue, ◌∷◌, ◌++◌, length, unsigned_abs, replicate};
 ghost use Rattle.std.specs.List.{list_all};
 ghost use Rattle.std.specs.Int.{w64, w128, to_be_bytes, cast_unsigned};
 ghost use Rattle.ts_row.specs.RowType.{column_width, is_kind, width_of};
-ghost use Rattle.ts_row.specs.Row.{holds, holds_size, fits};
-ghost use Rattle.ts_row.specs.Encoding.{number_bytes, value_bytes, row_bytes};
+ghost use Rattle.ts_row.specs.Row.{holds, holds_size, hold};
+ghost use Rattle.ts_row.specs.Encoding.{number_bytes, value_bytes, values_bytes};
 
 use crate::{Column, ColumnKind, SHORT_DIGITS, Value};
 
-/// Writes the bytes of a row.
+/// Writes the bytes of values.
 #[tactic(auto, using(crate::proofs::EncodingLemmas::parts))]
-pub(crate) fn encode_row(columns: &[Column], values: &[Value], into: &mut [u8])
+pub(crate) fn encode_values(columns: &[Column], values: &[Value], into: &mut [u8])
     requires kinds { IsTrue (list_all (λ c. is_kind c.kind) columns.now) }
-    requires fits { IsTrue (fits columns.now values.now) }
+    requires hold { IsTrue (hold columns.now values.now) }
     requires room { length into.old ≡ width_of columns.now }
-    ensures { into.new ≡ row_bytes columns.now values.now }
+    ensures { into.new ≡ values_bytes columns.now values.now }
 {
     let Some((column, columns)) = columns.split_first() else {
         return;
@@ -24,7 +24,7 @@ pub(crate) fn encode_row(columns: &[Column], values: &[Value], into: &mut [u8])
     };
     let width = column.kind.width();
     encode_value(column.kind, value, &mut into[..width]);
-    encode_row(columns, values, &mut into[width..]);
+    encode_values(columns, values, &mut into[width..]);
 }
 
 // Writes the bytes of a value.

@@ -3,7 +3,7 @@ ghost use Rattle.std.specs.Prelude.{◌≡◌, ◌-◌, ◌*◌, ◌/◌, ◌%�
 ghost use Rattle.std.specs.Option.{option_and_then};
 ghost use Rattle.ts_row.specs.RowType.{is_kind};
 ghost use Rattle.ts_row.specs.Row.{rescaled, size_if_any, size_if_fits, value_if_any, with_sign};
-ghost use Rattle.ts_row.specs.Row.{row_from, IsTroubleOf};
+ghost use Rattle.ts_row.specs.Row.{values_from, IsTroubleOf};
 ghost use Rattle.std.specs.List.{list_all};
 ghost use Rattle.ts_base.specs.declared.fault.Trouble.TheVariants.{Refused};
 ghost use Rattle.ts_base.specs.declared.refusal.Refusal.TheVariants.{RowMismatch};
@@ -13,19 +13,19 @@ use crate::{Column, ColumnKind, Literal, Value};
 use std::alloc::AllocError;
 use ts_base::{Refusal, Trouble};
 
-// Puts the values that literals give to the end of a row: that of the first column, then those of the others.
+// Puts the values that literals give to the end of others: that of the first column, then those of the rest.
 // The columns, at most 32 in all, count from `number`.
-pub(crate) fn read_row(
+pub(crate) fn read_values(
     columns: &[Column],
     literals: &[Literal],
     number: u8,
-    row: &mut Vec<Value>,
+    given: &mut Vec<Value>,
 ) -> Result<(), Trouble>
     requires kinds { IsTrue (list_all (λ c. is_kind c.kind) columns.now) }
     requires few { number + length columns.now ≤ 33 }
-    ensures ok { OnOk result (IsOkAnd (row_from number columns.now literals.now)
-        (λ values. row.new.items ≡ row.old.items ++ values)) }
-    ensures cause { IfErr result (IsTroubleOf (row_from number columns.now literals.now)) }
+    ensures ok { OnOk result (IsOkAnd (values_from number columns.now literals.now)
+        (λ values. given.new.items ≡ given.old.items ++ values)) }
+    ensures cause { IfErr result (IsTroubleOf (values_from number columns.now literals.now)) }
 {
     let Some((column, columns)) = columns.split_first() else {
         return if literals.is_empty() {
@@ -40,8 +40,8 @@ pub(crate) fn read_row(
     let Some(value) = value_of(column.kind, literal)? else {
         return Err(mismatch(number));
     };
-    row.push(value)?;
-    read_row(columns, literals, number + 1, row)
+    given.push(value)?;
+    read_values(columns, literals, number + 1, given)
 }
 
 // The refusal of a row at this column.

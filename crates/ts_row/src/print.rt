@@ -1,9 +1,9 @@
-// What is printed of values and rows.
+// What is printed of values.
 ghost use Rattle.std.specs.Prelude.{◌≡◌, ◌↔◌, ◌⊎◌, ◌≤◌, ◌++◌, IsTrue, OnOk, OnErr, length};
 ghost use Rattle.std.specs.List.{list_all, flat_map};
 ghost use Rattle.std.specs.Fmt.{decimal};
 ghost use Rattle.ts_row.specs.RowType.{is_kind};
-ghost use Rattle.ts_row.specs.Printed.{last_digits, fraction_text, size_text, number_text, quoted, value_text, row_text, Extends};
+ghost use Rattle.ts_row.specs.Printed.{last_digits, fraction_text, size_text, number_text, quoted, value_text, values_text, Extends};
 
 use crate::{Column, Value};
 use std::alloc::{AllocError, Global};
@@ -32,13 +32,13 @@ pub fn print_value(
 }
 
 // Prints values, each as its column prints it, with commas between them.
-pub(crate) fn print_row(
+pub(crate) fn print_values(
     columns: &[Column],
     values: &[Value],
     out: &mut Bytes,
 ) -> Result<(), AllocError>
     requires kinds { IsTrue (list_all (λ c. is_kind c.kind) columns.now) }
-    ensures ok { OnOk result (out.new ≡ out.old ++ row_text columns.now values.now) }
+    ensures ok { OnOk result (out.new ≡ out.old ++ values_text columns.now values.now) }
     ensures err { OnErr result (Extends out.old out.new) }
 {
     let Some((column, columns)) = columns.split_first() else {
@@ -52,7 +52,7 @@ pub(crate) fn print_row(
         return Ok(());
     }
     out.push(b',')?;
-    print_row(columns, values, out)
+    print_values(columns, values, out)
 }
 
 // Whether there are no columns or no values.

@@ -1,36 +1,55 @@
 ghost use Rattle.std.specs.Prelude.{◌≡◌, IfOk};
+ghost use Rattle.ts_row.specs.Row.{visible, marked};
 
 use crate::{RowType, Value};
 use std::alloc::{AllocError, Global};
 use std::marker::Model;
 use ts_base::Stamp;
 
-/// The values of an element, one for each value column.
+/// The values of an element, one for each value column, and whether the element is hidden.
 #[derive(Debug, Drop)]
 pub struct Row {
     values: Vec<Value>,
+    hidden: bool,
 }
 
 impl Model for Row {
-    ghost use Rattle.ts_row.specs.Row.{Values};
+    ghost use Rattle.ts_row.specs.Row.{Row};
 
-    ghost Value = { Values };
+    ghost Value = { Row };
 
-    ghost view = { λ r. r.values.items };
+    ghost view = { λ r. record { values = r.values.items; hidden = r.hidden } };
 }
 
 impl Row {
-    /// The row of these values.
+    /// The visible row of these values.
     pub fn of(values: Vec<Value>) -> Row
-        ensures { result ≡ values.items }
+        ensures { result ≡ visible values.items }
     {
-        Row { values }
+        Row {
+            values,
+            hidden: false,
+        }
     }
 
     pub fn values(&self) -> &[Value]
-        ensures { result.now ≡ self.now }
+        ensures { result.now ≡ self.now.values }
     {
         self.values.as_slice()
+    }
+
+    /// Whether the element is hidden.
+    pub fn hidden(&self) -> bool
+        ensures { result ≡ self.now.hidden }
+    {
+        self.hidden
+    }
+
+    /// Hides the element or makes it visible.
+    pub fn mark(&mut self, hidden: bool)
+        ensures { self.new ≡ marked hidden self.old }
+    {
+        self.hidden = hidden;
     }
 
     pub fn copy(&self) -> Result<Self, AllocError>
@@ -38,6 +57,7 @@ impl Row {
     {
         Ok(Row {
             values: copy_values(*self.values.allocator(), self.values.as_slice())?,
+            hidden: self.hidden,
         })
     }
 }

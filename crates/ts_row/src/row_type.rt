@@ -1,14 +1,15 @@
 ghost use Rattle.std.specs.Prelude.{◌≡◌, ◌↔◌, ◌≤◌, ◌++◌, IsTrue, IfOk, IfSome, IfErr, OnOk, OnErr, MatchResult, Ok, None, length};
 ghost use Rattle.ts_row.specs.RowType.{is_row_type, width_of, has_long_decimal, bad_column, IsBadRowType};
 ghost use Rattle.ts_row.specs.Row.{row_of, IsRowTrouble, fits};
-ghost use Rattle.ts_row.specs.Encoding.{row_bytes, IsMeaning, AreRowBytes};
+ghost use Rattle.ts_row.specs.Encoding.{row_bytes, IsMeaning, AreRowBytes, IsMarkOf, Marks};
 ghost use Rattle.ts_row.specs.Printed.{row_text};
 
 use crate::decoding::decode;
-use crate::encoding::encode_row;
+use crate::encoding::encode_values;
 use crate::judging::is_row;
-use crate::literal::read_row;
-use crate::print::print_row;
+use crate::literal::read_values;
+use crate::mark::{is_mark, remarked};
+use crate::print::print_values;
 use crate::rules::{first_bad, width_of};
 use crate::{Column, Literal, Row};
 use std::alloc::{AllocError, Global};
@@ -98,16 +99,16 @@ impl RowType {
         })
     }
 
-    /// The row that literals give; else the first column that misfits, is missing or is too many.
+    /// The visible row that literals give; else the first column that misfits, is missing or is too many.
     #[tactic(auto, using(crate::proofs::RowLemmas::fitting))]
     pub fn row_of(&self, values: &[Literal]) -> Result<Row, Trouble>
         ensures ok { IfOk result (λ row. row_of self.now.columns values.now ≡ Ok row) }
         ensures fits { IfOk result (λ row. IsTrue (fits self.now.columns row)) }
         ensures cause { IfErr result (IsRowTrouble self.now.columns values.now) }
     {
-        let mut row = Vec::with_capacity(*self.columns.allocator(), self.columns.len())?;
-        read_row(self.columns.as_slice(), values, 1, &mut row)?;
-        Ok(Row::of(row))
+        let mut given = Vec::with_capacity(*self.columns.allocator(), self.columns.len())?;
+        read_values(self.columns.as_slice(), values, 1, &mut given)?;
+        Ok(Row::of(given))
     }
 
     /// Writes the bytes of a row.
@@ -116,7 +117,10 @@ impl RowType {
         requires room { length into.old ≡ width_of self.now.columns }
         ensures { into.new ≡ row_bytes self.now.columns row.now }
     {
-        encode_row(self.columns.as_slice(), row.values(), into);
+        encode_values(self.columns.as_slice(), row.values(), into);
+        if row.hidden() {
+            self.mark(true, into);
+        }
     }
 
     /// The row with these bytes, if they are a row's. No two rows that fit have the same bytes.
@@ -134,14 +138,39 @@ impl RowType {
         is_row(self.columns.as_slice(), from)
     }
 
-    /// Prints the values of a row, each as its column prints it, with commas between them. Want of memory changes nothing.
+    /// Whether the row with these bytes is hidden.
+    pub fn is_hidden(&self, from: &[u8]) -> bool
+        ensures { IsMarkOf self.now.columns from.now result }
+    {
+        // There is one at least.
+        let _columns = self.columns();
+        let Some((first, _)) = from.split_first() else {
+            return false;
+        };
+        is_mark(*first)
+    }
+
+    /// From the bytes of a row to those of the same row, hidden or visible. As many bytes stay, whatever they are.
+    pub fn mark(&self, hidden: bool, bytes: &mut [u8])
+        ensures size { length bytes.new ≡ length bytes.old }
+        ensures marked { Marks self.now.columns hidden bytes.old bytes.new }
+    {
+        // There is one at least.
+        let _columns = self.columns();
+        if !bytes.is_empty() {
+            bytes[0] = remarked(bytes[0], hidden);
+        }
+    }
+
+    /// Prints the values of a row, each as its column prints it, with commas between them, and nothing of its mark.
+    /// Want of memory changes nothing.
     #[tactic(auto, using(crate::proofs::PrintLemmas::cut_back))]
     pub fn print(&self, row: &Row, out: &mut Bytes) -> Result<(), AllocError>
         ensures ok { OnOk result (out.new ≡ out.old ++ row_text self.now.columns row.now) }
         ensures err { OnErr result (out.new ≡ out.old) }
     {
         let before = out.as_slice().len();
-        match print_row(self.columns.as_slice(), row.values(), out) {
+        match print_values(self.columns.as_slice(), row.values(), out) {
             Ok(()) => Ok(()),
             Err(error) => {
                 out.truncate(before);

@@ -1,11 +1,9 @@
 -- A head that tells a number of elements, and what stands behind it.
-use Rattle.std.proofs.Common.{◌≡◌, ◌≤◌, ℕ, true, false, Option, Some, None, IfSome, IfNone, List, length, take, drop, refl, sym, ap, subst, ◌∙◌, arith, ◌-◌, length-drop}
+use Rattle.std.proofs.Common.{◌≡◌, ◌≤◌, ℕ, Option, Some, List, length, take, drop, sym, ap, subst, ◌∙◌, arith, ◌-◌, length-drop}
 use Rattle.std.proofs.Math.Seq.{take-length}
 use Rattle.std.proofs.Math.Facts.{Fits-lt-pow}
 use Rattle.ts_row.specs.declared.kind.Column.{Column}
-use Rattle.ts_cells.specs.Cell.{Element, page_room}
-use Rattle.ts_cells.specs.IrregularPage.{IsIrregularPage, HasExtent, irregular_count, behind_head}
-use Rattle.ts_page.specs.Head.{head_of}
+use Rattle.ts_cells.specs.Cell.{page_room}
 use Rattle.ts_cells.proofs.CellLemmas.{if_some_weaker, if_none_weaker}
 use Rattle.ts_cells.proofs.HeadLemmas.{count_is, head_one, page_again, irregular_behind}
 use Rattle.ts_cells.proofs.extent.extent_told.Goals as goal

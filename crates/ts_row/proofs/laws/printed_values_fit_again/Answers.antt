@@ -1,3 +1,4 @@
+use Rattle.std.proofs.Common.{refl}
 use Rattle.ts_row.proofs.AgainLemmas.{value-again, row-again}
 use Rattle.ts_row.proofs.laws.printed_values_fit_again.Goals as goal
 
@@ -6,3 +7,6 @@ returns-clause-value c = value-again
 
 pub returns-clause-row : goal.returns-clause-row
 returns-clause-row c = row-again
+
+pub returns-clause-mark : goal.returns-clause-mark
+returns-clause-mark c = λ columns row hidden. refl

@@ -7,7 +7,8 @@ use Rattle.ts_row.specs.declared.kind.Column.{Column}
 use Rattle.ts_cells.specs.Cell.{page_room}
 use Rattle.ts_irregular.specs.OnePage.{HasOnePage}
 use Rattle.ts_irregular.specs.Call.{IsInserted}
-use Rattle.ts_element_vectors.proofs.InsertLemmas.{one_more_keeps, same_keeps}
+use Rattle.ts_irregular.proofs.CallerLemmas.{one_page_kept}
+use Rattle.ts_element_vectors.proofs.InsertLemmas.{one_more_keeps}
 use Rattle.ts_element_vectors.proofs.irregular.Series.insert.Goals as goal
 
 pub returns-in_default : goal.returns-in_default
@@ -16,7 +17,7 @@ returns-in_default c =
     let v = memory_contents c.args.self.now.pages in
     let w = memory_contents c.irregular_insert.new.pages in
     let there = subst (λ (o : Option Place). IsInserted true 7 columns c.in_ok-stamp.stamp c.in_ok-row.row (places_of 7 c.args.self.now.space) v w o) c.in_default.is c.in_ok-place.ensures.ok in
-    same_keeps columns (places_of 7 c.args.self.now.space) v w there.same.free c.in_ok-place.ensures.call.count c.requires
+    one_page_kept columns (places_of 7 c.args.self.now.space) v w c.in_ok-place.ensures.call.count there.same.free c.requires
 
 pub returns : goal.returns
 returns c =

@@ -3,7 +3,7 @@ use Rattle.std.proofs.Common.{length, arith, rules}
 use Rattle.std.proofs.lemmas.Grind.{common_steps}
 use Rattle.std.proofs.lemmas.Result.{on_ok_weaker}
 use Rattle.ts_row.proofs.PrintLemmas.{print_last, print_more, both_some}
-use Rattle.ts_row.proofs.print.+print_row.Goals as goal
+use Rattle.ts_row.proofs.print.+print_values.Goals as goal
 
 pub returns-then-is_end-clause-ok : goal.returns-then-is_end-clause-ok
 returns-then-is_end-clause-ok t c =
@@ -13,6 +13,6 @@ returns-then-is_end-clause-ok t c =
 pub returns-clause-ok : goal.returns-clause-ok
 returns-clause-ok t c =
     let some = both_some (length c.in-Some.columns.now) (length c.in-Some-split_first.values.now) _ c.is_end.ensures.1 c.if-is_end.false in
-    on_ok_weaker c.print_row.result
+    on_ok_weaker c.print_values.result
     (λ is. print_more c.args.columns.now c.in-Some.columns.now c.in-Some.column.now c.args.values.now c.in-Some-split_first.values.now c.in-Some-split_first.value.now
-    c.args.out.now c.print_scaled.new.out c.push.new.self _ (search rules) (search rules) some.0 some.1 (grind (arith, common_steps)) c.in_ok-push.ensures.ok is) c.print_row.ensures.ok
+    c.args.out.now c.print_scaled.new.out c.push.new.self _ (search rules) (search rules) some.0 some.1 (grind (arith, common_steps)) c.in_ok-push.ensures.ok is) c.print_values.ensures.ok
