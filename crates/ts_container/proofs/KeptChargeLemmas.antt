@@ -8,12 +8,12 @@ use Rattle.ts_space.specs.declared.place.Place.{Place}
 use Rattle.ts_space.specs.Directory.{Directory, places_of}
 use Rattle.ts_space.specs.Charge.{irregular_places_charge}
 use Rattle.ts_cells.specs.Cell.{page_room}
-use Rattle.ts_model.specs.Definitions.{Definitions, SeriesDef, at_slot, IsDefinitions}
+use Rattle.ts_model.specs.Definitions.{Definitions, SeriesDef, at_slot, with_format, IsDefinitions}
 use Rattle.ts_layout.specs.Meaning.{heading_in}
 use Rattle.ts_layout.specs.Charges.{container_charge}
 use Rattle.ts_layout.specs.OnePage.{charge_in}
 use Rattle.ts_layout.proofs.CallerLemmas.{charge_own, charge_others}
-use Rattle.ts_container.specs.KeptCharges.{AreCharges, with_charge}
+use Rattle.ts_container.specs.KeptCharges.{AreCharges, IsCharged, with_charge}
 
 -- what a container of these columns is charged
 charge_is : (d : Definitions) (space : Directory) (k : ℕ) (h : Heading) → heading_in d k ≡ Some h → charge_in d space k ≡ container_charge d space k (page_room h.columns)
@@ -71,3 +71,8 @@ charge_changed d space space' slot s h sums rules there within heading size same
           read ∙ value ∙ sym (charge_is d space' c h heading) ∙ ap (charge_in d space') (sym is)
       | inr other ↦ get_or-set_other sums c k v 0 other ∙ are k below ∙ sym (others_same d space space' slot k s rules there same other (heading_in d k))
     ]
+
+-- by definitions in another format
+pub charged_in : (format : ℕ) (d : Definitions) (space : Directory) (sums : List ℕ) → IsCharged sums d space → IsCharged sums (with_format format d) space
+unfolding IsCharged
+charged_in format d space sums charged = charged

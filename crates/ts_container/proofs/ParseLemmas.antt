@@ -83,11 +83,11 @@ pub few_columns : (stamp : List ℕ) (columns : List Column) → IsTrue (is_row_
 few_columns stamp columns is = grind (arith, nat_tests)
 
 -- zeros are an empty slot
-pub reads_empty : (kind : Kind) (bytes : List ℕ) → length bytes ≡ slot_size kind → bytes ≡ replicate (length bytes) 0 → IsReadingOf kind bytes Empty
-reads_empty kind bytes size zeros = zeros ∙ ap (λ n. replicate n 0) size ∙ sym (slot_empty kind)
+pub reads_empty : (format : ℕ) (kind : Kind) (bytes : List ℕ) → length bytes ≡ slot_size kind → bytes ≡ replicate (length bytes) 0 → IsReadingOf format kind bytes Empty
+reads_empty format kind bytes size zeros = zeros ∙ ap (λ n. replicate n 0) size ∙ sym (slot_empty kind)
 
 -- bytes that are neither zeros nor a definition's are no slot
-pub reads_bad : (kind : Kind) (bytes : List ℕ) → length bytes ≡ slot_size kind → (bytes ≡ replicate (length bytes) 0 → ⊥)
-    → ((def : Def) → kind_of def ≡ kind → IsDef def → bytes ≡ def_bytes def → ⊥) → IsReadingOf kind bytes Bad
-reads_bad kind bytes size some other None is same = some (same ∙ slot_empty kind ∙ ap (λ n. replicate n 0) (sym size))
-reads_bad kind bytes size some other (Some def) is same = other def is.0 is.1 (same ∙ slot_filled kind def)
+pub reads_bad : (format : ℕ) (kind : Kind) (bytes : List ℕ) → length bytes ≡ slot_size kind → (bytes ≡ replicate (length bytes) 0 → ⊥)
+    → ((def : Def) → kind_of def ≡ kind → IsDef format def → bytes ≡ def_bytes def → ⊥) → IsReadingOf format kind bytes Bad
+reads_bad format kind bytes size some other None is same = some (same ∙ slot_empty kind ∙ ap (λ n. replicate n 0) (sym size))
+reads_bad format kind bytes size some other (Some def) is same = other def is.0 is.1 (same ∙ slot_filled kind def)

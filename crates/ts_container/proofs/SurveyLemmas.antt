@@ -1,15 +1,14 @@
 -- Pages read one after the other.
-use Rattle.std.proofs.Common.{◌≡◌, ℕ, zero, suc, ◌+◌, ◌<◌, ◌≤◌, Bool, Option, Some, None, Result, Ok, Err, List, length, replicate, refl, sym, ap, subst, ◌∙◌, arith, inl, inr}
+use Rattle.std.proofs.Common.{◌≡◌, ℕ, ◌+◌, ◌<◌, ◌≤◌, Bool, Option, Some, None, Result, Ok, Err, List, length, map, refl, sym, ap, subst, ◌∙◌, arith, inl, inr}
 use Rattle.std.proofs.lemmas.Bool.{cases_eq}
 use Rattle.ts_page.specs.Pages.{Contents, IsOutsideJournal, Got}
 use Rattle.ts_model.specs.declared.kind.Kind.{Kind}
 use Rattle.ts_model.specs.declared.kind.Kind.TheVariants as kinds
 use Rattle.std.specs.Option.{option_map}
 use Rattle.std.proofs.lemmas.List.{length-map, length-replicate}
-use Rattle.ts_model.specs.Definitions.{Definitions, KindDef, to_def, table_of, limit, slots, no_definitions}
-use Rattle.ts_model.proofs.PartsLemmas.{empty-table, nothing-defined}
+use Rattle.ts_model.specs.Definitions.{Definitions, KindDef, at_slot, to_def, table_of, limit, slots, with_format, no_definitions}
+use Rattle.ts_model.proofs.PartsLemmas.{empty-table, nothing-defined, tables-stay}
 use Rattle.ts_layout.specs.Limits.{IsSlotOf}
-use Rattle.ts_layout.proofs.CallerLemmas.{at_slot-map}
 use Rattle.ts_container.specs.declared.fault.SurveyFault.{SurveyFault}
 use Rattle.ts_container.specs.declared.fault.SurveyFault.TheVariants.{NotAStore, Failed}
 use Rattle.ts_container.specs.declared.definitions.Found.{Found}
@@ -57,15 +56,15 @@ pub reads_refused : {S T : Type 0} (tells : Bool) (x : S) (number : ℕ) (v w : 
 reads_refused tells x number v w reads = record { count = reads.count; faults = reads.faults; pages = reads.pages; free = reads.free; cause = λ failed. absurd (cc); no_fault = λ fine. reads.no_fault (λ failed. cc) }
 
 -- what is known of definition pages below some number
-abbrev pub KnownBelow : Option ℕ → (ℕ → List ℕ) → ℕ → Definitions → Type 0
-KnownBelow None pages number d = HoldBelow (rank_of_page number) pages d × ((n : ℕ) → 257 ≤ n → n < number → HasZerosBehind n (pages n))
-KnownBelow (Some repeated) pages number d = HoldNone pages
+abbrev pub KnownBelow : ℕ → Option ℕ → (ℕ → List ℕ) → ℕ → Definitions → Type 0
+KnownBelow format None pages number d = HoldBelow (rank_of_page number) pages d × ((n : ℕ) → 257 ≤ n → n < number → HasZerosBehind n (pages n))
+KnownBelow format (Some repeated) pages number d = HoldNone format pages
 
 -- one page more
-pub known_more : (before : Option ℕ) (g : Found) (number : ℕ) (page : List ℕ) (pages : ℕ → List ℕ) (old new : Definitions) → (g ≡ found.Bad → ⊥) → pages number ≡ page → PageRead number page old new g
-    → KnownBelow before pages number old → KnownBelow (first_repeated before g number) pages (number + 1) new
-known_more (Some before) g number page pages old new good same read known = known
-known_more None found.Good number page pages old new good same read known = (
+pub known_more : (format : ℕ) (before : Option ℕ) (g : Found) (number : ℕ) (page : List ℕ) (pages : ℕ → List ℕ) (old new : Definitions) → (g ≡ found.Bad → ⊥) → pages number ≡ page → PageRead format number page old new g
+    → KnownBelow format before pages number old → KnownBelow format (first_repeated before g number) pages (number + 1) new
+known_more format (Some before) g number page pages old new good same read known = known
+known_more format None found.Good number page pages old new good same read known = (
   read.2 pages same known.0,
   λ n low below. elim (cases_eq n number) [
     | inl this ↦ subst (λ (k : ℕ). HasZerosBehind k (pages k)) (sym this) (subst (HasZerosBehind number) (sym same) read.0)
@@ -74,14 +73,14 @@ known_more None found.Good number page pages old new good same read known = (
 ) where
   lower : (n number : ℕ) → n < number + 1 → (n ≡ number → ⊥) → n < number
   lower n number below other = omega arith
-known_more None found.Repeated number page pages old new good same read known = read.1 pages same known.0
-known_more None found.Bad number page pages old new good same read known = absurd (good refl)
+known_more format None found.Repeated number page pages old new good same read known = read.1 pages same known.0
+known_more format None found.Bad number page pages old new good same read known = absurd (good refl)
 
 -- a page that isn't bad was read
-pub page_is_read : (g : Found) (number : ℕ) (page : List ℕ) (old new : Definitions) → (g ≡ found.Bad → ⊥) → PageRead number page old new g → AreReadTo (rank_of_page (number + 1)) new
-page_is_read found.Good number page old new good read = read.1
-page_is_read found.Repeated number page old new good read = read.0
-page_is_read found.Bad number page old new good read = absurd (good refl)
+pub page_is_read : (format : ℕ) (g : Found) (number : ℕ) (page : List ℕ) (old new : Definitions) → (g ≡ found.Bad → ⊥) → PageRead format number page old new g → AreReadTo format (rank_of_page (number + 1)) new
+page_is_read format found.Good number page old new good read = read.1
+page_is_read format found.Repeated number page old new good read = read.0
+page_is_read format found.Bad number page old new good read = absurd (good refl)
 
 -- all slots stand below the end
 below_end : (kind : Kind) (slot : ℕ) → slot < limit kind → rank kind slot < 4224
@@ -90,16 +89,16 @@ below_end kinds.Container slot within = omega arith
 below_end kinds.Series slot within = omega arith
 
 -- all definition pages were read
-pub known_all : (repeated : Option ℕ) (pages : ℕ → List ℕ) (d : Definitions) → KnownBelow repeated pages 930 d → HoldUnless repeated pages d
-known_all None pages d known = record {
+pub known_all : (format : ℕ) (repeated : Option ℕ) (pages : ℕ → List ℕ) (d : Definitions) → KnownBelow format repeated pages 930 d → HoldUnless format repeated pages d
+known_all format None pages d known = record {
   slots = λ kind slot within. known.0 kind slot within (below_end kind slot within);
   behind = known.1;
 }
-known_all (Some number) pages d known = known
+known_all format (Some number) pages d known = known
 
 -- nothing stands below the first page
-pub known_none : (pages : ℕ → List ℕ) (d : Definitions) → KnownBelow None pages 257 d
-known_none pages d = (λ kind slot within below. absurd (omega arith), λ n low below. absurd (omega arith))
+pub known_none : (format : ℕ) (pages : ℕ → List ℕ) (d : Definitions) → KnownBelow format None pages 257 d
+known_none format pages d = (λ kind slot within below. absurd (omega arith), λ n low below. absurd (omega arith))
 
 -- no definitions were read yet
 sizes_none : (kind : Kind) → length (slots kind no_definitions) ≡ limit kind
@@ -107,9 +106,13 @@ sizes_none kind =
     length-map (table_of kind no_definitions) (option_map (to_def kind)) ∙ ap (λ (t : List (Option (KindDef kind))). length t) (empty-table kind)
     ∙ length-replicate {A = Option (KindDef kind)} (limit kind) None
 
-pub none_read : (d : Definitions) → d ≡ no_definitions → AreReadTo 0 d
-none_read d is = subst (AreReadTo 0) (sym is) (record {
-  sizes = sizes_none;
-  empty = λ kind slot above. nothing-defined kind slot;
-  limits = record { each = λ kind slot within. subst (IsSlotOf kind) (sym (nothing-defined kind slot)) tt };
-})
+pub none_read : (d : Definitions) → d ≡ with_format d.format no_definitions → AreReadTo d.format 0 d
+none_read d is = subst (AreReadTo d.format 0) (sym is) (record {
+  of_format = refl;
+  sizes = λ kind. ap (λ (t : List (Option (KindDef kind))). length (map (option_map (to_def kind)) t)) (tables-stay kind d.format no_definitions) ∙ sizes_none kind;
+  empty = λ kind slot above. nothing_defined kind slot;
+  limits = record { each = λ kind slot within. subst (IsSlotOf d.format kind) (sym (nothing_defined kind slot)) tt };
+}) where
+  nothing_defined : (kind : Kind) (slot : ℕ) → def_at kind slot (with_format d.format no_definitions) ≡ None
+  nothing_defined kind slot =
+      ap (λ (t : List (Option (KindDef kind))). at_slot slot (map (option_map (to_def kind)) t)) (tables-stay kind d.format no_definitions) ∙ nothing-defined kind slot

@@ -192,6 +192,12 @@ not_free tells c kind slot within lawful free =
     let listed : IsListed tells c (page_of_slot kind slot) = All-contains (IsListed tells c) c.free (page_of_slot kind slot) lawful.listed free in
     omega (arith, listed.element, page_high kind slot within)
 
+-- nor can the first page
+pub first_not_free : (tells : Bool) (c : Contents) → IsLawful tells c → Contains c.free 0 → ⊥
+first_not_free tells c lawful free =
+    let listed : IsListed tells c 0 = All-contains (IsListed tells c) c.free 0 lawful.listed free in
+    omega (arith, listed.element)
+
 -- the same, where the page's number is known by its value
 pub slot_written_at : (tells : Bool) (kind : Kind) (slot number : ℕ) (def : Option Def) (result : Result Unit StoreFault) (v v' w : Contents) (before after : List ℕ) → number ≡ page_of_slot kind slot → slot < limit kind → IfSome def (λ x. kind_of x ≡ kind)
     → Got tells number before (Ok tt) v v' → length before ≡ 4096 → length after ≡ 4096 → after ≡ with_slot_bytes kind slot def before → Put tells number after result v' w → SlotWritten tells kind slot def result v w

@@ -13,18 +13,19 @@ use Rattle.ts_layout.specs.Limits.{IsDef, IsSlotOf}
 use Rattle.ts_layout.specs.Meaning.{def_at, bytes_of_slot, HoldsDefinitions, KeepLimits}
 use Rattle.ts_layout.specs.Rank.{rank, rank_of_page}
 
--- the bytes of an empty slot, those of a definition, or those of neither
-abbrev pub IsReadingOf : Kind → List ℕ → Reading → Type 0
-IsReadingOf kind bytes Empty = bytes ≡ slot_bytes kind None
-IsReadingOf kind bytes (Filled def) = (kind_of def ≡ kind) × IsDef def × (bytes ≡ def_bytes def)
-IsReadingOf kind bytes Bad = (slot : Option Def) → IsSlotOf kind slot → bytes ≡ slot_bytes kind slot → ⊥
+-- in a volume of a format, the bytes of an empty slot, those of a definition, or those of neither
+abbrev pub IsReadingOf : ℕ → Kind → List ℕ → Reading → Type 0
+IsReadingOf format kind bytes Empty = bytes ≡ slot_bytes kind None
+IsReadingOf format kind bytes (Filled def) = (kind_of def ≡ kind) × IsDef format def × (bytes ≡ def_bytes def)
+IsReadingOf format kind bytes Bad = (slot : Option Def) → IsSlotOf format kind slot → bytes ≡ slot_bytes kind slot → ⊥
 
--- pages that hold no definitions that keep their rules
-abbrev pub HoldNone : (ℕ → List ℕ) → Type 0
-HoldNone pages = (d : Definitions) → HoldsDefinitions pages d → KeepLimits d → IsDefinitions d → ⊥
+-- pages that hold no definitions of a format that keep their rules
+abbrev pub HoldNone : ℕ → (ℕ → List ℕ) → Type 0
+HoldNone format pages = (d : Definitions) → d.format ≡ format → HoldsDefinitions pages d → KeepLimits d → IsDefinitions d → ⊥
 
--- definitions that were read as far as some rank: the slots from there on are empty
-pub record AreReadTo (reached : ℕ) (d : Definitions) : Type 0 where
+-- definitions of a format that were read as far as some rank: the slots from there on are empty
+pub record AreReadTo (format : ℕ) (reached : ℕ) (d : Definitions) : Type 0 where
+  pub of_format : d.format ≡ format
   pub sizes : (kind : Kind) → length (slots kind d) ≡ limit kind
   pub empty : (kind : Kind) (slot : ℕ) → reached ≤ rank kind slot → def_at kind slot d ≡ None
   pub limits : KeepLimits d
@@ -60,24 +61,24 @@ Admitted kind slot def old new found.Good = (slot_of (name_of def) (slots kind o
 Admitted kind slot def old new found.Repeated = ((taken : ℕ) × (slot_of (name_of def) (slots kind old) ≡ Some taken)) × (new ≡ old)
 Admitted kind slot def old new found.Bad = ⊥
 
--- the bytes of a slot of the kind, read into a slot
-abbrev pub SlotRead : Kind → ℕ → List ℕ → Definitions → Definitions → Found → Type 0
-SlotRead kind slot bytes old new found.Good = (o : Option Def) × IsSlotOf kind o × (bytes ≡ slot_bytes kind o) × (new ≡ filled kind slot o old)
-SlotRead kind slot bytes old new found.Repeated =
-    (def : Def) × (kind_of def ≡ kind) × IsDef def × (bytes ≡ def_bytes def)
+-- the bytes of a slot of the kind, in a volume of a format, read into a slot
+abbrev pub SlotRead : ℕ → Kind → ℕ → List ℕ → Definitions → Definitions → Found → Type 0
+SlotRead format kind slot bytes old new found.Good = (o : Option Def) × IsSlotOf format kind o × (bytes ≡ slot_bytes kind o) × (new ≡ filled kind slot o old)
+SlotRead format kind slot bytes old new found.Repeated =
+    (def : Def) × (kind_of def ≡ kind) × IsDef format def × (bytes ≡ def_bytes def)
     × ((taken : ℕ) × (slot_of (name_of def) (slots kind old) ≡ Some taken)) × (new ≡ old)
-SlotRead kind slot bytes old new found.Bad = ((o : Option Def) → IsSlotOf kind o → bytes ≡ slot_bytes kind o → ⊥) × (new ≡ old)
+SlotRead format kind slot bytes old new found.Bad = ((o : Option Def) → IsSlotOf format kind o → bytes ≡ slot_bytes kind o → ⊥) × (new ≡ old)
 
 -- zeros behind the slots of a page
 abbrev pub HasZerosBehind : ℕ → List ℕ → Type 0
 HasZerosBehind number page = drop (bytes_of_slots (slots_in_page number)) page ≡ replicate (page_size - bytes_of_slots (slots_in_page number)) 0
 
--- a definition page is read into the definitions that were read of the pages before it
-abbrev pub PageRead : ℕ → List ℕ → Definitions → Definitions → Found → Type 0
-PageRead number page old new found.Good =
-    HasZerosBehind number page × AreReadTo (rank_of_page (number + 1)) new
+-- a definition page of a volume of a format is read into the definitions that were read of the pages before it
+abbrev pub PageRead : ℕ → ℕ → List ℕ → Definitions → Definitions → Found → Type 0
+PageRead format number page old new found.Good =
+    HasZerosBehind number page × AreReadTo format (rank_of_page (number + 1)) new
     × ((pages : ℕ → List ℕ) → pages number ≡ page → HoldBelow (rank_of_page number) pages old → HoldBelow (rank_of_page (number + 1)) pages new)
-PageRead number page old new found.Repeated =
-    AreReadTo (rank_of_page (number + 1)) new
-    × ((pages : ℕ → List ℕ) → pages number ≡ page → HoldBelow (rank_of_page number) pages old → HoldNone pages)
-PageRead number page old new found.Bad = (pages : ℕ → List ℕ) → pages number ≡ page → HoldNone pages
+PageRead format number page old new found.Repeated =
+    AreReadTo format (rank_of_page (number + 1)) new
+    × ((pages : ℕ → List ℕ) → pages number ≡ page → HoldBelow (rank_of_page number) pages old → HoldNone format pages)
+PageRead format number page old new found.Bad = (pages : ℕ → List ℕ) → pages number ≡ page → HoldNone format pages

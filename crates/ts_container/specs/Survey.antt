@@ -1,5 +1,5 @@
 -- The calls that read pages or write a slot, over what a keeper of pages means.
-use Rattle.std.specs.Prelude.{◌≡◌, ℕ, ◌-◌, ◌≤◌, Bool, IsTrue, Option, Some, None, Result, IsOk, IfOk, IfErr, OnOk, OnErr, IsErrOf, List}
+use Rattle.std.specs.Prelude.{◌≡◌, ℕ, ◌-◌, ◌≤◌, Bool, IsTrue, Option, Some, None, Result, IfOk, IfErr, OnOk, OnErr, IsErrOf, List}
 use Rattle.ts_base.specs.declared.fault.StoreFault.{StoreFault}
 use Rattle.ts_base.specs.declared.fault.StoreFault.TheVariants.{Failed as StoreFailed}
 use Rattle.ts_disk.specs.Device.{Rose}
@@ -42,17 +42,17 @@ pub record PageGot (tells : Bool) (number : ℕ) (into : List ℕ) (result : Res
   pub read : OnOk result (IsTrue tells → into ≡ v.page number)
   pub refused : IfErr result (λ e. IfRefused e ⊥)
 
--- pages hold these definitions; where one repeats a name, they hold none that keep the rules
-abbrev pub HoldUnless : Option ℕ → (ℕ → List ℕ) → Definitions → Type 0
-HoldUnless None pages d = HoldsDefinitions pages d
-HoldUnless (Some number) pages d = HoldNone pages
+-- pages hold these definitions; where one repeats a name, they hold none of a format that keep the rules
+abbrev pub HoldUnless : ℕ → Option ℕ → (ℕ → List ℕ) → Definitions → Type 0
+HoldUnless format None pages d = HoldsDefinitions pages d
+HoldUnless format (Some number) pages d = HoldNone format pages
 
--- all definition pages are read
-pub record DefinitionsRead (tells : Bool) (result : Result (Option ℕ) SurveyFault) (d : Definitions) (v w : Contents) : Type 0 where
+-- all definition pages of a volume of a format are read
+pub record DefinitionsRead (tells : Bool) (format : ℕ) (result : Result (Option ℕ) SurveyFault) (d : Definitions) (v w : Contents) : Type 0 where
   pub call : Reads tells result v w
-  pub read : OnOk result (AreReadTo 4224 d)
-  pub known : IfOk result (λ repeated. IsTrue tells → HoldUnless repeated v.page d)
-  pub refused : IfErr result (λ e. IfRefused e (IsTrue tells → HoldNone v.page))
+  pub read : OnOk result (AreReadTo format 4224 d)
+  pub known : IfOk result (λ repeated. IsTrue tells → HoldUnless format repeated v.page d)
+  pub refused : IfErr result (λ e. IfRefused e (IsTrue tells → HoldNone format v.page))
 
 -- what was found is what a layout has
 pub record IsSurveyOf (d : Definitions) (space : Directory) (spare : List ℕ) (l : Layout) : Type 0 where
@@ -75,7 +75,7 @@ HoldNoLayout count pages = (l : Layout) → IsLaidOut count pages l → ⊥
 pub record SoundRead (tells : Bool) (count : ℕ) (result : Result Defs SurveyFault) (v w : Contents) : Type 0 where
   pub call : Reads tells result v w
   pub read : IfOk result (λ x. AreSound (count - first_element_page) x.definitions)
-  pub header : IsOk result → IsTrue tells → v.page 0 ≡ header_bytes (count - first_element_page)
+  pub header : IfOk result (λ x. IsTrue tells → v.page 0 ≡ header_bytes x.definitions.format (count - first_element_page))
   pub known : IfOk result (λ x. IsTrue tells → HoldsDefinitions v.page x.definitions)
   pub refused : IfErr result (λ e. IfRefused e (IsTrue tells → HoldNoLayout count v.page))
 
@@ -88,6 +88,17 @@ pub record SlotWritten (tells : Bool) (kind : Kind) (slot : ℕ) (def : Option D
   pub cause : IsErrOf result StoreFailed → Rose v.faults w.faults
   pub written : OnOk result (IsTrue tells → EqualPages (with_page (page_of_slot kind slot) (with_slot_bytes kind slot def (v.page (page_of_slot kind slot))) v.page) w.page)
   pub definitions : OnOk result (IsTrue tells → (d : Definitions) → IsDefinitions d → HoldsDefinitions v.page d → HoldsDefinitions w.page (with_slot kind slot def d))
+  pub pages_stay : OnErr result (IsTrue tells → EqualPages v.page w.page)
+  -- any answer but the store's failure leaves the count
+  pub no_fault : ¬ IsErrOf result StoreFailed → w.faults ≡ v.faults
+
+-- The header is written: all other pages stay.
+pub record HeaderWritten (tells : Bool) (format element_pages : ℕ) (result : Result Unit StoreFault) (v w : Contents) : Type 0 where
+  pub count : w.count ≡ v.count
+  pub faults : v.faults ≤ w.faults
+  pub free : w.free ≡ v.free
+  pub cause : IsErrOf result StoreFailed → Rose v.faults w.faults
+  pub written : OnOk result (IsTrue tells → EqualPages (with_page 0 (header_bytes format element_pages) v.page) w.page)
   pub pages_stay : OnErr result (IsTrue tells → EqualPages v.page w.page)
   -- any answer but the store's failure leaves the count
   pub no_fault : ¬ IsErrOf result StoreFailed → w.faults ≡ v.faults

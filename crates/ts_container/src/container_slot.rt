@@ -44,12 +44,12 @@ fn write_numbers(row_type: u8, quota: u32, into: &mut [u8])
     pad(&quota.to_be_bytes(), &mut into[1..]);
 }
 
-/// The one container whose 60 bytes these may be.
+/// The one container whose 60 bytes these may be, in every format.
 pub(crate) fn parse_container(alloc: Global, slot: &[u8]) -> Result<Option<Def>, AllocError>
     requires { length slot.now ≡ 60 }
-    ensures rules { IfOk result (λ found. IfSome found (λ def. (kind_of def ≡ Kind.Container) × IsDef def)) }
-    ensures found { IfOk result (λ found. (def : Def) → kind_of def ≡ Kind.Container → IsDef def → slot.now ≡ def_bytes def
-        → found ≡ Some def) }
+    ensures rules { IfOk result (λ found. IfSome found (λ def. (kind_of def ≡ Kind.Container) × ((format : ℕ) → IsDef format def))) }
+    ensures found { IfOk result (λ found. (format : ℕ) (def : Def) → kind_of def ≡ Kind.Container → IsDef format def →
+        slot.now ≡ def_bytes def → found ≡ Some def) }
 {
     let row_type = slot[34];
     let quota = quota_in(slot);

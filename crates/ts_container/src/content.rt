@@ -5,6 +5,7 @@ ghost use Rattle.ts_page.specs.Head.{head_of};
 ghost use Rattle.ts_model.specs.Definitions.{IsDefinitions};
 ghost use Rattle.ts_container.specs.Elements.{Describes, IsWithin, slot_in};
 
+use crate::format::may_hide;
 use ts_cells::{Extent, extent_of};
 use ts_model::{Def, Defs, Kind};
 use ts_page::{Head, Page};
@@ -17,7 +18,7 @@ pub enum Content {
     Series { slot: u16, extent: Extent },
 }
 
-/// What stands on an element page, if it is one of the format.
+/// What stands on an element page, if it is one of the format of the volume.
 pub(crate) fn content_of(page: &Page, defs: &Defs) -> Option<Content>
     requires limits { KeepLimits defs.now.definitions }
     requires rules { IsDefinitions defs.now.definitions }
@@ -50,6 +51,9 @@ fn series_content(page: &Page, defs: &Defs, slot: u16) -> Option<Content>
     let Some(extent) = extent_of(kind, page) else {
         return None;
     };
+    if !may_hide(defs.format(), extent.hidden) {
+        return None;
+    }
     Some(Content::Series { slot, extent })
 }
 

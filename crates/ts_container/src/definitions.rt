@@ -1,6 +1,6 @@
 // The definition pages, read one after the other.
 ghost use Rattle.std.specs.Prelude.{◌≡◌, ◌<◌, ◌≤◌, IfOk, length};
-ghost use Rattle.ts_model.specs.Definitions.{kind_of, limit, no_definitions};
+ghost use Rattle.ts_model.specs.Definitions.{kind_of, limit, with_format, no_definitions};
 ghost use Rattle.ts_layout.specs.Slot.{slot_size};
 ghost use Rattle.ts_layout.specs.Limits.{IsDef};
 ghost use Rattle.ts_container.specs.Reading.{both_found, first_repeated, Admitted, SlotRead, PageRead, AreReadTo};
@@ -39,8 +39,8 @@ impl Found {
     }
 }
 
-/// Reads all definition pages into definitions of which there are none. The answer is the first page that repeats a
-/// name, if one does.
+/// Reads all definition pages into definitions of which there are none, by their format. The answer is the first page that
+/// repeats a name, if one does.
 pub(crate) fn read_definitions<P: Pages>(
     alloc: Global,
     pages: &mut P,
@@ -48,8 +48,8 @@ pub(crate) fn read_definitions<P: Pages>(
     defs: &mut Defs,
 ) -> Result<Option<u32>, SurveyFault>
     requires within { 930 ≤ (P.contents pages.old).count }
-    requires empty { defs.old.definitions ≡ no_definitions }
-    ensures read { DefinitionsRead P.tells result defs.new.definitions (P.contents pages.old) (P.contents pages.new) }
+    requires empty { defs.old.definitions ≡ with_format defs.old.definitions.format no_definitions }
+    ensures read { DefinitionsRead P.tells defs.old.definitions.format result defs.new.definitions (P.contents pages.old) (P.contents pages.new) }
     ensures undisturbed { P.undisturbed pages.old pages.new }
 {
     let mut repeated = None;
@@ -78,8 +78,8 @@ fn first_repeated(before: Option<u32>, found: Found, number: u32) -> Option<u32>
 fn read_page(alloc: Global, number: u32, page: &Page, defs: &mut Defs) -> Result<Found, AllocError>
     requires low { 257 ≤ number }
     requires high { number < 930 }
-    requires before { AreReadTo (rank_of_page number) defs.old.definitions }
-    ensures { IfOk result (PageRead number page.now.bytes defs.old.definitions defs.new.definitions) }
+    requires before { AreReadTo defs.old.definitions.format (rank_of_page number) defs.old.definitions }
+    ensures { IfOk result (PageRead defs.old.definitions.format number page.now.bytes defs.old.definitions defs.new.definitions) }
 {
     let on = slots_in_page(number);
     let size = slot_size(on.kind);
@@ -108,9 +108,9 @@ fn read_into(
 ) -> Result<Found, AllocError>
     requires slot { slot < limit kind }
     requires size { length bytes.now ≡ slot_size kind }
-    ensures { IfOk result (SlotRead kind slot bytes.now defs.old.definitions defs.new.definitions) }
+    ensures { IfOk result (SlotRead defs.old.definitions.format kind slot bytes.now defs.old.definitions defs.new.definitions) }
 {
-    match read_slot(alloc, kind, bytes)? {
+    match read_slot(alloc, defs.format(), kind, bytes)? {
         Reading::Bad => Ok(Found::Bad),
         Reading::Empty => Ok(Found::Good),
         Reading::Filled(def) => admit(kind, slot, def, defs),

@@ -4,10 +4,10 @@ ghost use Rattle.ts_row.specs.RowType.{Heading};
 ghost use Rattle.ts_space.specs.Directory.{Directory, places_of};
 ghost use Rattle.ts_space.specs.Charge.{irregular_places_charge};
 ghost use Rattle.ts_cells.specs.Cell.{page_room};
-ghost use Rattle.ts_model.specs.Definitions.{Definitions, SeriesDef, container_slots, series_slots, at_slot, IsDefinitions};
+ghost use Rattle.ts_model.specs.Definitions.{Definitions, SeriesDef, container_slots, series_slots, at_slot, with_format, IsDefinitions};
 ghost use Rattle.ts_layout.specs.Meaning.{KeepLimits, heading_in};
 ghost use Rattle.ts_layout.specs.Charges.{HasOnePlaceAtMost};
-ghost use Rattle.ts_container.specs.KeptCharges.{AreCharges, with_charge};
+ghost use Rattle.ts_container.specs.KeptCharges.{AreCharges, IsCharged, with_charge};
 
 use crate::charges::charge_of_container;
 use std::alloc::{AllocError, Global};
@@ -89,4 +89,10 @@ pub fn a_charge_changes_with_a_series()
         ((t : ℕ) → t < series_slots → t ≢ slot → places_of t space' ≡ places_of t space) → AreCharges sums d space →
         AreCharges (with_charge s.container (irregular_places_charge (page_room h.columns) (places_of slot space))
         (irregular_places_charge (page_room h.columns) (places_of slot space')) sums) d space' }
+{}
+
+/// Another format changes no charge.
+pub fn charges_are_the_same_in_every_format()
+    ensures { (format : ℕ) (d : Definitions) (space : Directory) (sums : List ℕ) → IsCharged sums d space →
+        IsCharged sums (with_format format d) space }
 {}

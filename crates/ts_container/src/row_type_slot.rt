@@ -10,6 +10,7 @@ ghost use Rattle.ts_model.specs.Definitions.{kind_of};
 ghost use Rattle.ts_layout.specs.Slot.{padded, name_bytes, kind_bytes, column_bytes, columns_bytes, row_type_bytes, def_bytes};
 ghost use Rattle.ts_layout.specs.Limits.{IsDef};
 
+use crate::format::is_of_format;
 use crate::pad::{pad, read_name, write_name};
 use std::alloc::{AllocError, Global};
 use ts_base::{Name, Trouble};
@@ -98,11 +99,15 @@ fn kind_bytes(kind: ColumnKind) -> [u8; 3]
     }
 }
 
-/// The one row type whose page this may be.
-pub(crate) fn parse_row_type(alloc: Global, page: &[u8]) -> Result<Option<Def>, AllocError>
+/// The one row type of the format whose page this may be.
+pub(crate) fn parse_row_type(
+    alloc: Global,
+    format: u8,
+    page: &[u8],
+) -> Result<Option<Def>, AllocError>
     requires { length page.now ≡ 4096 }
-    ensures rules { IfOk result (λ found. IfSome found (λ def. (kind_of def ≡ Kind.RowType) × IsDef def)) }
-    ensures found { IfOk result (λ found. (def : Def) → kind_of def ≡ Kind.RowType → IsDef def → page.now ≡ def_bytes def
+    ensures rules { IfOk result (λ found. IfSome found (λ def. (kind_of def ≡ Kind.RowType) × IsDef format def)) }
+    ensures found { IfOk result (λ found. (def : Def) → kind_of def ≡ Kind.RowType → IsDef format def → page.now ≡ def_bytes def
         → found ≡ Some def) }
 {
     let count = page[67] as usize;
@@ -121,7 +126,7 @@ pub(crate) fn parse_row_type(alloc: Global, page: &[u8]) -> Result<Option<Def>, 
     }
     match RowType::make(alloc, stamp, columns) {
         Ok(kind) => {
-            if kind.has_long_decimal() {
+            if !is_of_format(format, &kind) {
                 return Ok(None);
             }
             Ok(Some(Def::RowType { name, kind }))

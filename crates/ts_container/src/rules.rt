@@ -51,7 +51,7 @@ fn is_sound_at(defs: &Defs, kind: Kind, slot: u16) -> bool
 
 // Whether something stands in the slot that a definition refers to.
 fn is_there(defs: &Defs, def: &Def) -> bool
-    requires { IsDef def.now }
+    requires { IsDef defs.now.definitions.format def.now }
     ensures { IsTrue result ↔ IsThere defs.now.definitions (references def.now) }
 {
     match def {

@@ -1,5 +1,5 @@
 // The slot of a series: 94 bytes.
-ghost use Rattle.std.specs.Prelude.{◌≡◌, ◌≤◌, ◌∷◌, ◌++◌, [], Some, IfOk, IfSome, length};
+ghost use Rattle.std.specs.Prelude.{◌≡◌, ◌≤◌, ◌∷◌, ◌++◌, [], ℕ, Some, IfOk, IfSome, length};
 ghost use Rattle.ts_model.specs.declared.def.Def.{Def};
 ghost use Rattle.ts_model.specs.Definitions.{kind_of};
 ghost use Rattle.ts_layout.specs.Slot.{padded, series_bytes, def_bytes};
@@ -37,12 +37,12 @@ fn write_key(key: &[u8], container: u8, into: &mut [u8])
     pad(&[container], &mut into[64..]);
 }
 
-/// The one series whose 94 bytes these may be.
+/// The one series whose 94 bytes these may be, in every format.
 pub(crate) fn parse_series(alloc: Global, slot: &[u8]) -> Result<Option<Def>, AllocError>
     requires { length slot.now ≡ 94 }
-    ensures rules { IfOk result (λ found. IfSome found (λ def. (kind_of def ≡ Kind.Series) × IsDef def)) }
-    ensures found { IfOk result (λ found. (def : Def) → kind_of def ≡ Kind.Series → IsDef def → slot.now ≡ def_bytes def
-        → found ≡ Some def) }
+    ensures rules { IfOk result (λ found. IfSome found (λ def. (kind_of def ≡ Kind.Series) × ((format : ℕ) → IsDef format def))) }
+    ensures found { IfOk result (λ found. (format : ℕ) (def : Def) → kind_of def ≡ Kind.Series → IsDef format def →
+        slot.now ≡ def_bytes def → found ≡ Some def) }
 {
     let length = slot[1] as usize;
     let container = slot[66];

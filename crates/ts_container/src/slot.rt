@@ -22,15 +22,20 @@ pub enum Reading {
     Filled(Def),
 }
 
-/// Reads a slot: bytes are a definition's exactly where it is written so.
-pub(crate) fn read_slot(alloc: Global, kind: Kind, bytes: &[u8]) -> Result<Reading, AllocError>
+/// Reads a slot of a volume of a format: bytes are a definition's exactly where it is written so.
+pub(crate) fn read_slot(
+    alloc: Global,
+    format: u8,
+    kind: Kind,
+    bytes: &[u8],
+) -> Result<Reading, AllocError>
     requires { length bytes.now ≡ slot_size kind }
-    ensures { IfOk result (IsReadingOf kind bytes.now) }
+    ensures { IfOk result (IsReadingOf format kind bytes.now) }
 {
     if is_zero(bytes) {
         return Ok(Reading::Empty);
     }
-    let Some(def) = parse(alloc, kind, bytes)? else {
+    let Some(def) = parse(alloc, format, kind, bytes)? else {
         return Ok(Reading::Bad);
     };
     if is_written(&def, bytes) {
@@ -39,15 +44,15 @@ pub(crate) fn read_slot(alloc: Global, kind: Kind, bytes: &[u8]) -> Result<Readi
     Ok(Reading::Bad)
 }
 
-// The one definition of the kind whose bytes these may be.
-fn parse(alloc: Global, kind: Kind, bytes: &[u8]) -> Result<Option<Def>, AllocError>
+// The one definition of the kind and the format whose bytes these may be.
+fn parse(alloc: Global, format: u8, kind: Kind, bytes: &[u8]) -> Result<Option<Def>, AllocError>
     requires { length bytes.now ≡ slot_size kind }
-    ensures rules { IfOk result (λ found. IfSome found (λ def. (kind_of def ≡ kind) × IsDef def)) }
-    ensures found { IfOk result (λ found. (def : Def) → kind_of def ≡ kind → IsDef def → bytes.now ≡ def_bytes def
+    ensures rules { IfOk result (λ found. IfSome found (λ def. (kind_of def ≡ kind) × IsDef format def)) }
+    ensures found { IfOk result (λ found. (def : Def) → kind_of def ≡ kind → IsDef format def → bytes.now ≡ def_bytes def
         → found ≡ Some def) }
 {
     match kind {
-        Kind::RowType => parse_row_type(alloc, bytes),
+        Kind::RowType => parse_row_type(alloc, format, bytes),
         Kind::Container => parse_container(alloc, bytes),
         Kind::Series => parse_series(alloc, bytes),
     }

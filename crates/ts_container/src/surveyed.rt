@@ -8,7 +8,7 @@ use crate::charges::keep_quotas;
 use crate::definitions::read_definitions;
 use crate::elements::read_elements;
 use crate::fault::SurveyFault;
-use crate::header::is_header;
+use crate::header::format_of;
 use crate::read::read;
 use crate::rules::{first_dangling, sum_of_quotas};
 use std::alloc::{AllocError, Global};
@@ -26,8 +26,8 @@ pub struct Surveyed {
     pub free: Vec<u32>,
 }
 
-/// Reads all pages of a volume but the journal's, each once: `count` is the number of all. They give the definitions, the
-/// directory and the free pages, or the first bad page. They stay as they are, and so does the list of free ones.
+/// Reads all pages of a volume but the journal's, each once: `count` is the number of all. They give the format, the
+/// definitions, the directory and the free pages, or the first bad page. They stay as they are, and so does the list of free ones.
 pub fn survey<P: Pages>(alloc: Global, pages: &mut P, count: u32) -> Result<Surveyed, SurveyFault>
     requires count { count ≡ (P.contents pages.old).count }
     requires some { first_element_page + 1 ≤ count }
@@ -68,10 +68,11 @@ fn survey_definitions<P: Pages>(
     ensures undisturbed { P.undisturbed pages.old pages.new }
 {
     read(pages, 0, page)?;
-    if !is_header(count - ELEMENTS, page) {
+    let Some(format) = format_of(count - ELEMENTS, page) else {
         return Err(SurveyFault::NotAStore { page: 0 });
-    }
+    };
     let mut defs = Defs::new(alloc);
+    defs.set_format(format);
     let repeated = read_definitions(alloc, pages, page, &mut defs)?;
     if let Some(bad) = lower(repeated, first_dangling(&defs)) {
         return Err(SurveyFault::NotAStore { page: bad });

@@ -1,10 +1,11 @@
-// One slot is written into its page.
+// One slot is written into its page, or the header.
 ghost use Rattle.std.specs.Prelude.{◌≡◌, ◌+◌, ◌<◌, ◌≤◌, IfSome, option_copied, length, replicate};
 ghost use Rattle.ts_model.specs.Definitions.{kind_of, limit};
 ghost use Rattle.ts_layout.specs.Slot.{slot_size, slot_bytes};
 ghost use Rattle.ts_layout.specs.Changed.{with_slot_bytes};
-ghost use Rattle.ts_container.specs.Survey.{SlotWritten};
+ghost use Rattle.ts_container.specs.Survey.{SlotWritten, HeaderWritten};
 
+use crate::header::write_header;
 use crate::slot::write_def;
 use std::alloc::Global;
 use ts_base::StoreFault;
@@ -32,6 +33,19 @@ pub fn write_slot<P: Pages>(
     pages.get(number, &mut page)?;
     put_slot(kind, slot, def, &mut page);
     pages.put(number, &page)
+}
+
+/// Writes the header of a volume with so many element pages, in a format. Every other page stays; after an error all pages
+/// stay.
+pub fn put_header<P: Pages>(pages: &mut P, format: u8, element_pages: u32) -> Result<(), StoreFault>
+    requires { 0 < (P.contents pages.old).count }
+    ensures written { HeaderWritten P.tells format element_pages result (P.contents pages.old) (P.contents pages.new) }
+    ensures bytes { (P.contents pages.new).change_bytes ≤ (P.contents pages.old).change_bytes + 4101 }
+    ensures undisturbed { P.undisturbed pages.old pages.new }
+{
+    let mut page = Page::zero();
+    write_header(format, element_pages, &mut page);
+    pages.put(0, &page)
 }
 
 // Writes a slot into its page.

@@ -3,7 +3,7 @@
 pub use Rattle.ts_layout.proofs.PlaceLemmas.{Stands, at_slot-map, def_at-cleared, def_at-other, def_at-with_slot, fits_page, length-with_slot, page_high, page_low, rank_next, slot_end, stands}
 pub use Rattle.ts_layout.proofs.SlotLemmas.{apart_by_rank, own, sizes, slot_empty, slot_filled, this_or_other}
 pub use Rattle.ts_layout.proofs.SlotBytesLemmas.{slot_one}
-pub use Rattle.ts_layout.proofs.FieldLemmas.{container_name, container_quota, container_row_type, length-name, length-padded, name_text, row_type_count, row_type_name, row_type_stamp, series_container, series_key, series_length}
+pub use Rattle.ts_layout.proofs.FieldLemmas.{container_name, container_quota, container_row_type, header_format, length-name, length-padded, name_text, row_type_count, row_type_name, row_type_stamp, series_container, series_key, series_length}
 pub use Rattle.ts_layout.proofs.ColumnLemmas.{AreNamed, behind_stamp, first_column, named_first, named_others}
 pub use Rattle.ts_layout.proofs.LimitLemmas.{container_limit, containers_only, heading_past, length-key, row_types_only, series_limit, series_only}
 pub use Rattle.ts_layout.proofs.UniqueLemmas.{all_there, unique}
@@ -32,5 +32,7 @@ pub use Rattle.ts_layout.proofs.QuotaLemmas.{quotas_put}
 -- what is kept in memory
 pub use Rattle.ts_layout.proofs.PlacedLemmas.{bare_filled, bare_size, bare_sound, kept_in, placed_kept, placed_taken}
 pub use Rattle.ts_layout.proofs.QuotasKeptLemmas.{dropped_kept, made_kept, edited_kept, kept_alike, series_dropped_kept, spare_left}
+-- formats
+pub use Rattle.ts_layout.proofs.FormatLemmas.{one_list, not_old, of_format_short, of_format_new, elements_of_new, page_of_format, format_edited, layout_renewed, sound_renewed, filled_renewed, kept_renewed}
 -- layouts and their catalogues
 pub use Rattle.ts_layout.proofs.LayoutLemmas.{chained, layout_stays, layout_written, one_of, same_catalogue, within_table}

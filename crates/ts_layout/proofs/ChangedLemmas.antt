@@ -1,23 +1,22 @@
 -- A layout of which one slot is filled with a new definition, or emptied where nothing refers to it: it keeps the rules, and its
 -- catalogue has one name more, or one fewer.
 use Rattle.std.specs.Prelude.{Contains}
-use Rattle.std.proofs.Common.{◌≡◌, ℕ, ◌+◌, ◌<◌, ◌≤◌, ◌==◌, Option, Some, None, List, [], ◌∷◌, length, set, refl, sym, ap, subst, ◌∙◌, arith, inl, inr, ◌⊎◌, zero-add}
+use Rattle.std.proofs.Common.{◌≡◌, ℕ, ◌+◌, ◌<◌, ◌≤◌, ◌==◌, Option, Some, None, List, [], length, set, refl, sym, ap, subst, ◌∙◌, arith, inl, inr, ◌⊎◌, zero-add}
 use Rattle.std.specs.Option.{option_map, option_and_then}
 use Rattle.std.specs.FinMap.{insert, remove}
 use Rattle.std.proofs.lemmas.Bool.{cases_eq}
 use Rattle.std.proofs.lemmas.List.Sums.{sum_by-set}
-use Rattle.ts_row.specs.RowType.{Heading}
-use Rattle.ts_cells.specs.Cell.{Element, page_room}
+use Rattle.ts_cells.specs.Cell.{page_room}
 use Rattle.ts_model.specs.declared.kind.Kind.{Kind}
 use Rattle.ts_model.specs.declared.kind.Kind.TheVariants as kinds
 use Rattle.ts_model.specs.declared.def.Def.{Def}
 use Rattle.ts_model.specs.declared.def.Def.TheVariants as defs
 use Rattle.ts_model.specs.Kinds.{HasNoPages, with_named, without}
-use Rattle.ts_model.specs.Definitions.{Definitions, RowTypeDef, ContainerDef, SeriesDef, KindDef, kind_of, to_def, from_def, table_of, name_of, name_in, limit, slots, slot_of, at_slot, with_slot, with_table, by_name, references, Refers, IsUsed, IsTable, IsDefinitions}
-use Rattle.ts_model.proofs.PartsLemmas.{forth, table-here, table-other, same_or_other, table-rules, all-rules}
+use Rattle.ts_model.specs.Definitions.{Definitions, RowTypeDef, ContainerDef, SeriesDef, KindDef, kind_of, to_def, from_def, table_of, name_of, name_in, limit, slots, slot_of, at_slot, with_slot, with_table, by_name, references, Refers, IsUsed, IsTable, IsFormat, IsDefinitions}
+use Rattle.ts_model.proofs.PartsLemmas.{forth, table-here, table-other, same_or_other, table-rules, all-rules, format-stays}
 use Rattle.ts_model.proofs.SlotLemmas.{by_name-clear}
-use Rattle.ts_layout.specs.Meaning.{Layout, ElementPage, Cells, def_at, heading_of_container, heading_in, heading_at, quota_in, sum_of_quotas, elements_of, sum_filled, charge_of_series, charge_of_container, KeepsQuotas, AreSound, IsSound, value_of, named_in, catalogue_of}
-use Rattle.ts_layout.specs.Changed.{layout_with, granted, KeepsHeadings, HasNoPage, CanCreate, CanMake, CanDrop}
+use Rattle.ts_layout.specs.Meaning.{Layout, ElementPage, Cells, def_at, heading_of_container, heading_in, heading_at, quota_in, sum_of_quotas, elements_of, sum_filled, charge_of_series, KeepsQuotas, AreSound, IsSound, value_of, named_in, catalogue_of}
+use Rattle.ts_layout.specs.Changed.{layout_with, granted, KeepsHeadings, HasNoPage, CanMake, CanDrop}
 use Rattle.ts_layout.proofs.PlaceLemmas.{def_at-other}
 use Rattle.ts_layout.proofs.SlotLemmas.{same_in}
 use Rattle.ts_layout.proofs.LayoutLemmas.{none≢some, within_table}
@@ -167,7 +166,7 @@ module _ (slot : ℕ) (def : Def) (l : Layout) (sound : IsSound l) (can : CanMak
       let table : IsTable (name_in kind) (limit kind) (set (table_of kind l.definitions) slot (from_def kind def)) =
       subst (λ (o : Option (KindDef kind)). IsTable (name_in kind) (limit kind) (set (table_of kind l.definitions) slot o)) (sym (as_made own.0 own.1)) (made_table own.0 own.1) in
       record {
-        tables = all-rules (with_slot kind slot (Some def) l.definitions) (changed_tables kind (set (table_of kind l.definitions) slot (from_def kind def)) l.definitions sound.definitions.tables table);
+        tables = all-rules (with_slot kind slot (Some def) l.definitions) (subst IsFormat (sym (format-stays kind slot (Some def) l.definitions)) sound.definitions.tables.format) (changed_tables kind (set (table_of kind l.definitions) slot (from_def kind def)) l.definitions sound.definitions.tables table);
         limits = limits_filled kind slot def l.definitions can.fits.within refl sound.definitions.tables can.fits.limits sound.definitions.limits;
         references = references_filled kind slot def l.definitions can.fits.within refl sound.definitions.tables can.fits.refers sound.definitions.references;
         quotas = omega (arith, granted_then kind slot (Some def) l.definitions can.fits.within sound.definitions.tables, can.pages);
@@ -199,7 +198,7 @@ module _ (slot : ℕ) (def : Def) (l : Layout) (sound : IsSound l) (can : CanMak
       ])
       ∙ by_name_filled (name_in kind) (to_def kind) (λ x. refl) (value_of kind l) table slot a made_within (empty_in (to_def kind) slot table can.fits.empty) (ap (λ (n : List ℕ). slot_of n (slots kind l.definitions)) (ap name_of is) ∙ can.fits.new)
       ∙ ap (λ (n : List ℕ). insert (named_in kind l) n (value_of kind l slot a)) (ap name_of is) in
-      catalogue_with kind (name_of def) (value_of kind l slot a) l after refl own (others_named kind slot (Some def) l sound made_unused made_pageless)
+      catalogue_with kind (name_of def) (value_of kind l slot a) l after (format-stays kind slot (Some def) l.definitions) refl own (others_named kind slot (Some def) l sound made_unused made_pageless)
 
 -- a definition to which nothing refers is dropped
 not_series : (kind : Kind) → HasNoPages kind → kind ≡ kinds.Series → ⊥
@@ -217,7 +216,7 @@ module _ (kind : Kind) (slot : ℕ) (name : List ℕ) (l : Layout) (sound : IsSo
 
   dropped_rules : AreSound (length l.element_pages) (with_slot kind slot None l.definitions)
   dropped_rules = record {
-    tables = all-rules (with_slot kind slot None l.definitions) (changed_tables kind (set (table_of kind l.definitions) slot None) l.definitions sound.definitions.tables
+    tables = all-rules (with_slot kind slot None l.definitions) (subst IsFormat (sym (format-stays kind slot None l.definitions)) sound.definitions.tables.format) (changed_tables kind (set (table_of kind l.definitions) slot None) l.definitions sound.definitions.tables
         (table_cleared (name_in kind) (limit kind) slot (table_of kind l.definitions) dropped_within (table-rules l.definitions sound.definitions.tables kind)));
     limits = limits_cleared kind slot l.definitions dropped_within sound.definitions.tables sound.definitions.limits;
     references = references_cleared kind slot l.definitions dropped_within sound.definitions.tables can.unused sound.definitions.references;
@@ -240,4 +239,4 @@ module _ (kind : Kind) (slot : ℕ) (name : List ℕ) (l : Layout) (sound : IsSo
       ∙ by_name_same (name_in kind) (value_of kind after) (value_of kind l) (set table slot None) (λ i b here. value_stays kind slot None l sound can.unused dropped_pageless kind i b (at_cleared table slot i b inside here).1)
       ∙ by_name-clear (name_in kind) (value_of kind l) table slot dropped_there.0 (table-rules l.definitions sound.definitions.tables kind).apart dropped_there.1
       ∙ ap (remove (named_in kind l)) dropped_there.2 in
-      catalogue_without kind name l after refl own (others_named kind slot None l sound can.unused dropped_pageless)
+      catalogue_without kind name l after (format-stays kind slot None l.definitions) refl own (others_named kind slot None l sound can.unused dropped_pageless)

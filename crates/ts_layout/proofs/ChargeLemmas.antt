@@ -59,10 +59,10 @@ width_kept stamp h is = grind (arith, nat_tests)
 pub room_some : (d : Definitions) → KeepLimits d → (slot : ℕ) (c : ContainerDef) (h : Heading) → slot < 64 → at_slot slot d.containers ≡ Some c → heading_of_container d c ≡ Some h → 0 < page_room h.columns
 room_some d limits slot c h within there is =
     let container : def_at kinds.Container slot d ≡ Some (of_container c) = at_slot-map of_container slot d.containers ∙ ap (option_map of_container) there in
-    let limit = (let P : Option Def → Type 0 = IsSlotOf kinds.Container in subst P container (limits.each kinds.Container slot within)).1.row_type in
+    let limit = (let P : Option Def → Type 0 = IsSlotOf d.format kinds.Container in subst P container (limits.each kinds.Container slot within)).1.row_type in
     let r = some_heading (at_slot c.row_type d.row_types) h is in
     let row : def_at kinds.RowType c.row_type d ≡ Some (of_row_type r.0) = at_slot-map of_row_type c.row_type d.row_types ∙ ap (option_map of_row_type) r.1 in
-    let rules = (let P : Option Def → Type 0 = IsSlotOf kinds.RowType in subst P row (limits.each kinds.RowType c.row_type limit)).1.rules in
+    let rules = (let P : Option Def → Type 0 = IsSlotOf d.format kinds.RowType in subst P row (limits.each kinds.RowType c.row_type limit)).1.rules in
     let width = width_kept r.0.heading.stamp r.0.heading rules in
     subst (λ (x : Heading). 0 < page_room x.columns) r.2 (room_of (width_of r.0.heading.columns) width) where
       room_of : (w : ℕ) → w ≤ 1000 → 0 < 4064 / (w + 9)

@@ -56,7 +56,7 @@ first_column c cs rest bytes name is =
     )
 
 -- the bytes from 68 on of a row type's page
-pub behind_stamp : (page name : List ℕ) (h : Heading) → IsRowTypeDef (record { name = name; heading = h }) → page ≡ row_type_bytes name h
+pub behind_stamp : {format : ℕ} (page name : List ℕ) (h : Heading) → IsRowTypeDef format (record { name = name; heading = h }) → page ≡ row_type_bytes name h
     → take (length page - 68) (drop 68 page) ≡ columns_bytes h.columns ++ replicate (4028 - length (columns_bytes h.columns)) 0
 unfolding padded
 behind_stamp page name h is bytes =

@@ -7,7 +7,7 @@ use Rattle.std.proofs.lemmas.Nat.{from_be_bytes-to_be_bytes_4}
 use Rattle.std.proofs.Math.Seq.{take-append_seam}
 use Rattle.ts_base.specs.Name.{is_name}
 use Rattle.ts_row.specs.RowType.{Heading}
-use Rattle.ts_layout.specs.Slot.{padded, name_bytes, columns_bytes, row_type_bytes, container_bytes, series_bytes}
+use Rattle.ts_layout.specs.Slot.{padded, name_bytes, columns_bytes, row_type_bytes, container_bytes, series_bytes, header_bytes}
 
 -- a name has at most 32 bytes
 pub length-name : (name : List ℕ) → IsTrue (is_name name) → length name ≤ 32
@@ -93,3 +93,11 @@ row_type_columns name h short stamp =
     sym (drop-drop 34 33 (name_bytes name ++ (name_bytes h.stamp ++ columns)))
     ∙ ap (drop 34) (behind_name name (name_bytes h.stamp ++ columns) short)
     ∙ sym (drop-drop 1 33 (name_bytes h.stamp ++ columns)) ∙ ap (drop 1) (behind_name h.stamp columns stamp)
+
+-- the format in a header
+ninth_byte : (format pages : ℕ) → get_or (header_bytes format pages) 8 0 ≡ format
+unfolding header_bytes padded
+ninth_byte format pages = refl
+
+pub header_format : (format other pages more : ℕ) → header_bytes format pages ≡ header_bytes other more → format ≡ other
+header_format format other pages more same = sym (ninth_byte format pages) ∙ ap (λ (l : List ℕ). get_or l 8 0) same ∙ ninth_byte other more

@@ -19,11 +19,12 @@ use Rattle.ts_model.specs.declared.kind.Kind.TheVariants as kinds
 use Rattle.ts_model.specs.declared.def.Def.{Def}
 use Rattle.ts_model.specs.Catalogue.{Catalogue}
 use Rattle.ts_model.specs.Definitions.{Definitions, RowTypeDef, ContainerDef, SeriesDef, of_row_type, of_series, at_slot, limit, IsDefinitions}
-use Rattle.ts_layout.specs.Limits.{IsSlotOf}
-use Rattle.ts_layout.specs.Slot.{slot_size, page_of_slot, byte_of_slot, slots_in_page, bytes_of_slots}
+use Rattle.ts_layout.specs.Limits.{IsSlotOf, AreOfFormat}
+use Rattle.ts_layout.specs.Slot.{slot_size, page_of_slot, byte_of_slot, slots_in_page, bytes_of_slots, header_bytes}
 use Rattle.ts_layout.specs.Meaning.{Layout, ElementPage, Free, Cells, element_page, def_at, heading_of_container, heading_in, heading_at, HoldsDefinitions, HoldsElements, HoldsLayout, KeepLimits, IsLaidOut, Means, catalogue_of}
 use Rattle.ts_layout.specs.Changed.{SameOutsideJournal, KeepsHeadings, HasNoPage}
 use Rattle.ts_layout.proofs.ElementPageLemmas.{within_list}
+use Rattle.ts_layout.proofs.FieldLemmas.{header_format}
 use Rattle.ts_layout.proofs.ShapeLemmas.{alike}
 use Rattle.ts_layout.proofs.UniqueLemmas.{unique}
 use Rattle.ts_layout.proofs.PlaceLemmas.{at_slot-map, page_low, page_high}
@@ -78,7 +79,7 @@ columns_valid d slot h limits rules is =
     let r : RowTypeDef = row.row_type in
     let within : row.container.row_type < 64 = omega (arith, within_table d.row_types row.container.row_type r row.row_type_there, rules.row_types.size) in
     let there : def_at kinds.RowType row.container.row_type d ≡ Some (of_row_type r) = at_slot-map of_row_type row.container.row_type d.row_types ∙ ap (option_map of_row_type) row.row_type_there in
-    let good = (let P : Option Def → Type 0 = IsSlotOf kinds.RowType in subst P there (limits.each kinds.RowType row.container.row_type within)).1.rules in
+    let good = (let P : Option Def → Type 0 = IsSlotOf d.format kinds.RowType in subst P there (limits.each kinds.RowType row.container.row_type within)).1.rules in
     subst (λ (x : Heading). valid x.columns) row.heading (row_type_columns r.heading.stamp r.heading.columns good)
 
 -- a page of one series has one list of elements
@@ -117,7 +118,8 @@ same_pages (e ∷ es) (f ∷ fs) long same =
 -- pages hold one list of definitions, and one list of element pages by them
 pub same_definitions : (count : ℕ) (pages : ℕ → List ℕ) (k l : Layout) → IsLaidOut count pages k → IsLaidOut count pages l → k.definitions ≡ l.definitions
 same_definitions count pages k l first second =
-    unique pages k.definitions l.definitions first.bytes.definitions first.rules.definitions.limits first.rules.definitions.tables
+    unique pages k.definitions l.definitions
+    (header_format k.definitions.format l.definitions.format (length k.element_pages) (length l.element_pages) (sym first.bytes.header ∙ second.bytes.header)) first.bytes.definitions first.rules.definitions.limits first.rules.definitions.tables
     second.bytes.definitions second.rules.definitions.limits second.rules.definitions.tables
 
 pub same_element_pages : (count : ℕ) (pages : ℕ → List ℕ) (k l : Layout) → IsLaidOut count pages k → IsLaidOut count pages l → k.element_pages ≡ l.element_pages
@@ -169,26 +171,26 @@ layout_stays wanted pages l same holds =
           element_stays l.definitions (wanted (930 + i)) (pages (930 + i)) (element_page i l.element_pages) (930 + i) (same (930 + i) (inr (omega arith))) (holds.elements i within);
     }
 
--- a page holds the same by definitions with the same columns
-by_heading : (d e : Definitions) (page : List ℕ) (p : ElementPage) → ((slot : ℕ) (es : List Element) → p ≡ Cells slot es → heading_at e slot ≡ heading_at d slot) → HoldsElements d page p → HoldsElements e page p
-by_heading d e page Free same holds = holds
-by_heading d e page (Cells slot es) same holds = (holds.0, same slot es refl ∙ holds.1, holds.2)
+-- a page holds the same by definitions of the same format with the same columns
+by_heading : (d e : Definitions) (page : List ℕ) (p : ElementPage) → e.format ≡ d.format → ((slot : ℕ) (es : List Element) → p ≡ Cells slot es → heading_at e slot ≡ heading_at d slot) → HoldsElements d page p → HoldsElements e page p
+by_heading d e page Free format same holds = holds
+by_heading d e page (Cells slot es) format same holds = (holds.0, same slot es refl ∙ holds.1, holds.2, subst (λ (n : ℕ). AreOfFormat n es) (sym format) holds.3)
 
 -- a slot is written: the header and the element pages stay
-pub layout_written : (kind : Kind) (slot : ℕ) (bytes : List ℕ) (v w : ℕ → List ℕ) (d : Definitions) (l : Layout) → slot < limit kind → HoldsLayout v l → EqualPages (with_page (page_of_slot kind slot) bytes v) w → HoldsDefinitions w d → KeepsHeadings d l
+pub layout_written : (kind : Kind) (slot : ℕ) (bytes : List ℕ) (v w : ℕ → List ℕ) (d : Definitions) (l : Layout) → d.format ≡ l.definitions.format → slot < limit kind → HoldsLayout v l → EqualPages (with_page (page_of_slot kind slot) bytes v) w → HoldsDefinitions w d → KeepsHeadings d l
     → HoldsLayout w (record l { definitions = d })
-layout_written kind slot bytes v w d l within holds written definitions headings =
+layout_written kind slot bytes v w d l format within holds written definitions headings =
     let number : ℕ = page_of_slot kind slot in
     let low = page_low kind slot in
     let high = page_high kind slot within in
     let stays : (n : ℕ) → number ≢ n → w n ≡ v n = λ n other. written n ∙ with_other number n bytes v other in
     record {
-      header = stays 0 (λ same. absurd (omega (arith, low, same))) ∙ holds.header;
+      header = stays 0 (λ same. absurd (omega (arith, low, same))) ∙ holds.header ∙ ap (λ (n : ℕ). header_bytes n (length l.element_pages)) (sym format);
       definitions = definitions;
       elements = λ i inside.
           let page : w (930 + i) ≡ v (930 + i) = stays (930 + i) (λ same. absurd (omega (arith, high, same))) in
           subst (λ (p : List ℕ). HoldsElements d p (element_page i l.element_pages)) (sym page)
-          (by_heading l.definitions d (v (930 + i)) (element_page i l.element_pages) (λ s es is. headings i s es is) (holds.elements i inside));
+          (by_heading l.definitions d (v (930 + i)) (element_page i l.element_pages) format (λ s es is. headings i s es is) (holds.elements i inside));
     }
 
 -- a slot without a series has no page

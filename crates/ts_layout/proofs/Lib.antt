@@ -32,3 +32,5 @@ mod FreeListLemmas
 mod HeldLemmas
 mod PlacedLemmas
 mod QuotasKeptLemmas
+mod FormatLemmas
+mod FormatKeptLemmas

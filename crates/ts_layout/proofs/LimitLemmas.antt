@@ -19,27 +19,27 @@ pub length-key : (key : List ℕ) → IsTrue (is_key key) → length key ≤ 64
 length-key key form = grind (arith, nat_tests)
 
 -- the definitions of one kind
-only : (kind : Kind) (P : Def → Type 0) → ((a : KindDef kind) → IsDef (to_def kind a) → P (to_def kind a)) → (def : Def) → kind_of def ≡ kind → IsDef def → P def
-only kind P each def is good = of_own (from_def kind def) (back kind def is) where
+only : (format : ℕ) (kind : Kind) (P : Def → Type 0) → ((a : KindDef kind) → IsDef format (to_def kind a) → P (to_def kind a)) → (def : Def) → kind_of def ≡ kind → IsDef format def → P def
+only format kind P each def is good = of_own (from_def kind def) (back kind def is) where
   of_own : (o : Option (KindDef kind)) → option_map (to_def kind) o ≡ Some def → P def
   of_own None none = absurd (cc)
-  of_own (Some a) some = let same : to_def kind a ≡ def = cc in subst P same (each a (subst IsDef (sym same) good))
+  of_own (Some a) some = let same : to_def kind a ≡ def = cc in subst P same (each a (subst (IsDef format) (sym same) good))
 
-pub row_types_only : (P : Def → Type 0) → ((name : List ℕ) (h : Heading) → IsRowTypeDef (record { name = name; heading = h }) → P (defs.RowType name h)) → (def : Def) → kind_of def ≡ kinds.RowType → IsDef def → P def
-row_types_only P each = only kinds.RowType P (λ r. each r.name r.heading)
+pub row_types_only : (format : ℕ) (P : Def → Type 0) → ((name : List ℕ) (h : Heading) → IsRowTypeDef format (record { name = name; heading = h }) → P (defs.RowType name h)) → (def : Def) → kind_of def ≡ kinds.RowType → IsDef format def → P def
+row_types_only format P each = only format kinds.RowType P (λ r. each r.name r.heading)
 
-pub containers_only : (P : Def → Type 0) → ((name : List ℕ) (row_type quota : ℕ) → IsContainerDef (record { name = name; row_type = row_type; quota = quota }) → P (defs.Container name row_type quota)) → (def : Def) → kind_of def ≡ kinds.Container → IsDef def → P def
-containers_only P each = only kinds.Container P (λ c. each c.name c.row_type c.quota)
+pub containers_only : (format : ℕ) (P : Def → Type 0) → ((name : List ℕ) (row_type quota : ℕ) → IsContainerDef (record { name = name; row_type = row_type; quota = quota }) → P (defs.Container name row_type quota)) → (def : Def) → kind_of def ≡ kinds.Container → IsDef format def → P def
+containers_only format P each = only format kinds.Container P (λ c. each c.name c.row_type c.quota)
 
-pub series_only : (P : Def → Type 0) → ((key : List ℕ) (container : ℕ) → IsSeriesDef (record { key = key; container = container }) → P (defs.Series key container)) → (def : Def) → kind_of def ≡ kinds.Series → IsDef def → P def
-series_only P each = only kinds.Series P (λ s. each s.key s.container)
+pub series_only : (format : ℕ) (P : Def → Type 0) → ((key : List ℕ) (container : ℕ) → IsSeriesDef (record { key = key; container = container }) → P (defs.Series key container)) → (def : Def) → kind_of def ≡ kinds.Series → IsDef format def → P def
+series_only format P each = only format kinds.Series P (λ s. each s.key s.container)
 
 -- the slots that definitions refer to are slots
 pub container_limit : (d : Definitions) → KeepLimits d → (slot : ℕ) → slot < 64 → (name : List ℕ) (row_type quota : ℕ) → def_at kinds.Container slot d ≡ Some (defs.Container name row_type quota) → row_type < 64
-container_limit d limits slot within name row_type quota is = (let P : Option Def → Type 0 = IsSlotOf kinds.Container in subst P is (limits.each kinds.Container slot within)).1.row_type
+container_limit d limits slot within name row_type quota is = (let P : Option Def → Type 0 = IsSlotOf d.format kinds.Container in subst P is (limits.each kinds.Container slot within)).1.row_type
 
 pub series_limit : (d : Definitions) → KeepLimits d → (slot : ℕ) → slot < 4096 → (key : List ℕ) (container : ℕ) → def_at kinds.Series slot d ≡ Some (defs.Series key container) → container < 64
-series_limit d limits slot within key container is = (let P : Option Def → Type 0 = IsSlotOf kinds.Series in subst P is (limits.each kinds.Series slot within)).1.container
+series_limit d limits slot within key container is = (let P : Option Def → Type 0 = IsSlotOf d.format kinds.Series in subst P is (limits.each kinds.Series slot within)).1.container
 
 -- no series stands past the last slot
 pub heading_past : (d : Definitions) → IsDefinitions d → (slot : ℕ) → 4096 ≤ slot → None ≡ heading_at d slot

@@ -7,19 +7,18 @@ use Rattle.std.proofs.lemmas.List.Quantifiers.{position-Some}
 use Rattle.std.specs.Option.{is_none, option_map, option_and_then, unwrap_or}
 use Rattle.std.specs.FinMap.{get, entries, values, len}
 use Rattle.std.specs.Str.{bytes_eq}
-use Rattle.ts_row.specs.RowType.{Heading}
 use Rattle.ts_model.specs.declared.kind.Kind.{Kind}
 use Rattle.ts_model.specs.declared.kind.Kind.TheVariants as kinds
 use Rattle.ts_model.specs.declared.def.Def.{Def}
 use Rattle.ts_model.specs.Catalogue.{Named, Container, name_cmp, heading_of, quotas}
 use Rattle.ts_model.specs.Kinds.{In, named, is_used}
-use Rattle.ts_model.specs.Definitions.{Definitions, RowTypeDef, ContainerDef, SeriesDef, KindDef, to_def, table_of, name_in, slots, slot_of, vacant_slot, at_slot, limit, references, Refers, IsUsed, IsUsedBy}
+use Rattle.ts_model.specs.Definitions.{RowTypeDef, ContainerDef, SeriesDef, KindDef, to_def, table_of, name_in, slots, slot_of, vacant_slot, at_slot, limit, references, Refers, IsUsed, IsUsedBy}
 use Rattle.ts_model.proofs.OrderLemmas.{eq_ties, ties-refl, ties-same}
 use Rattle.ts_model.proofs.PartsLemmas.{table-rules}
 use Rattle.ts_layout.specs.Meaning.{Layout, def_at, quota_in, sum_of_quotas, heading_of_container, heading_in, heading_at, IsSound, name_at, container_of, series_of, value_of, named_in, catalogue_of}
 use Rattle.ts_layout.specs.Lookup.{IsNamedAt}
 use Rattle.ts_layout.proofs.SlotLemmas.{own, sizes}
-use Rattle.ts_layout.proofs.LayoutLemmas.{none≢some, within_table}
+use Rattle.ts_layout.proofs.LayoutLemmas.{within_table}
 use Rattle.ts_layout.proofs.FilledLemmas.{slot_there, slot_here, get_none, got_none, get_slot, got_some}
 use Rattle.ts_layout.proofs.ReferLemmas.{filled_in, some_in, each_there, first_of, container_refers, series_refers}
 use Rattle.ts_layout.proofs.CountLemmas.{any_values, empty_is, len_full, len_fewer, any_here, any_there, sum_of_values}

@@ -9,6 +9,7 @@ use Rattle.ts_space.specs.Charge.{irregular_charge}
 use Rattle.ts_cells.specs.Cell.{Element, page_room}
 use Rattle.ts_cells.specs.IrregularPage.{FillPage}
 use Rattle.ts_model.specs.Definitions.{SeriesDef, at_slot}
+use Rattle.ts_layout.specs.Limits.{AreOfFormat}
 use Rattle.ts_layout.specs.Meaning.{ElementPage, Free, Cells, Layout, element_page, elements_on, elements_of, HoldsElements, heading_at, AreSound, HoldsLayout, HasOnePageEach, IsSound, sum_filled, charge_of_series, charge_of_container}
 use Rattle.ts_layout.specs.Surveyed.{place_of, places_on, places_from, ListsPlaces}
 use Rattle.ts_layout.specs.OnePage.{with_cells, HasNoPage, IsPageFor, AreFilled, KeepsQuotaOf}
@@ -212,13 +213,13 @@ rules_written l slot i old es sound held kept =
 pub filled_pages : (pages : ℕ → List ℕ) (l : Layout) → HoldsLayout pages l → AreFilled l
 filled_pages pages l holds i slot es is =
     let here = subst (HoldsElements l.definitions (pages (930 + i))) is (holds.elements i (within_list l.element_pages i slot es is)) in
-    (here.0, here.1, here.2.fill)
+    (here.0, here.1, here.2.fill, here.3)
 
 -- and so have those after
-pub filled_after : (l : Layout) (slot i : ℕ) (es : List Element) (h : Heading) → i < length l.element_pages → heading_at l.definitions slot ≡ Some h → FillPage h.columns es → AreFilled l → AreFilled (with_cells i slot es l)
-filled_after l slot i es h within there fill filled j s fs is = elim (cases_eq j i) [
+pub filled_after : (l : Layout) (slot i : ℕ) (es : List Element) (h : Heading) → i < length l.element_pages → heading_at l.definitions slot ≡ Some h → FillPage h.columns es → AreOfFormat l.definitions.format es → AreFilled l → AreFilled (with_cells i slot es l)
+filled_after l slot i es h within there fill format filled j s fs is = elim (cases_eq j i) [
   | inl same ↦
       let here = same_cells slot s es fs (sym (page_set l.element_pages i (Cells slot es) within) ∙ ap (λ (m : ℕ). element_page m (set l.element_pages i (Cells slot es))) (sym same) ∙ is) in
-      (h, ap (heading_at l.definitions) (sym here.0) ∙ there, subst (FillPage h.columns) here.1 fill)
+      (h, ap (heading_at l.definitions) (sym here.0) ∙ there, subst (FillPage h.columns) here.1 fill, subst (AreOfFormat l.definitions.format) here.1 format)
   | inr other ↦ filled j s fs (sym (page_other l.element_pages i j (Cells slot es) other) ∙ is)
 ]

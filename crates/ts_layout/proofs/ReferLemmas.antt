@@ -9,6 +9,7 @@ use Rattle.ts_model.specs.declared.kind.Kind.{Kind}
 use Rattle.ts_model.specs.declared.kind.Kind.TheVariants as kinds
 use Rattle.ts_model.specs.declared.def.Def.{Def}
 use Rattle.ts_model.specs.Definitions.{Definitions, RowTypeDef, ContainerDef, SeriesDef, of_row_type, of_container, of_series, kind_of, limit, slots, at_slot, with_slot, references, IsUsed, IsDefinitions}
+use Rattle.ts_model.proofs.PartsLemmas.{format-stays}
 use Rattle.ts_layout.specs.Limits.{IsDef, IsSlotOf}
 use Rattle.ts_layout.specs.Meaning.{def_at, heading_at, KeepLimits, IsThere, AreThere}
 use Rattle.ts_layout.proofs.PlaceLemmas.{at_slot-map, def_at-with_slot, def_at-cleared, def_at-other}
@@ -84,14 +85,14 @@ module _ (kind : Kind) (slot : ℕ) (def : Def) (d : Definitions) (within : slot
   filled_here : def_at kind slot (with_slot kind slot (Some def) d) ≡ Some def
   filled_here = def_at-with_slot kind slot def d is (omega (arith, within, sizes d rules kind))
 
-  pub limits_filled : IsDef def → KeepLimits d → KeepLimits (with_slot kind slot (Some def) d)
+  pub limits_filled : IsDef d.format def → KeepLimits d → KeepLimits (with_slot kind slot (Some def) d)
   limits_filled good limits = record {
-    each = λ kind' slot' within'. elim (this_or_other kind kind' slot slot' within within') [
+    each = λ kind' slot' within'. subst (λ (n : ℕ). IsSlotOf n kind' (def_at kind' slot' (with_slot kind slot (Some def) d))) (sym (format-stays kind slot (Some def) d)) (elim (this_or_other kind kind' slot slot' within within') [
       | inl this ↦
-          subst (λ (p : Kind × ℕ). IsSlotOf p.0 (def_at p.0 p.1 (with_slot kind slot (Some def) d))) (λ i. (sym this.0 i, sym this.1 i))
-          (subst (IsSlotOf kind) (sym filled_here) (is, good))
-      | inr other ↦ subst (IsSlotOf kind') (sym (def_at-other kind kind' slot slot' (Some def) d (apart_by_rank kind kind' slot slot' other))) (limits.each kind' slot' within')
-    ];
+          subst (λ (p : Kind × ℕ). IsSlotOf d.format p.0 (def_at p.0 p.1 (with_slot kind slot (Some def) d))) (λ i. (sym this.0 i, sym this.1 i))
+          (subst (IsSlotOf d.format kind) (sym filled_here) (is, good))
+      | inr other ↦ subst (IsSlotOf d.format kind') (sym (def_at-other kind kind' slot slot' (Some def) d (apart_by_rank kind kind' slot slot' other))) (limits.each kind' slot' within')
+    ]);
   }
 
   one_filled : (target : Kind × ℕ) → IsSome (def_at target.0 target.1 d) → IsSome (def_at target.0 target.1 (with_slot kind slot (Some def) d))
@@ -125,12 +126,12 @@ module _ (kind : Kind) (slot : ℕ) (d : Definitions) (within : slot < limit kin
 
   pub limits_cleared : KeepLimits d → KeepLimits (with_slot kind slot None d)
   limits_cleared limits = record {
-    each = λ kind' slot' within'. elim (this_or_other kind kind' slot slot' within within') [
+    each = λ kind' slot' within'. subst (λ (n : ℕ). IsSlotOf n kind' (def_at kind' slot' (with_slot kind slot None d))) (sym (format-stays kind slot None d)) (elim (this_or_other kind kind' slot slot' within within') [
       | inl this ↦
-          subst (λ (p : Kind × ℕ). IsSlotOf p.0 (def_at p.0 p.1 (with_slot kind slot None d))) (λ i. (sym this.0 i, sym this.1 i))
-          (subst (IsSlotOf kind) (sym cleared_here) tt)
-      | inr other ↦ subst (IsSlotOf kind') (sym (def_at-other kind kind' slot slot' None d (apart_by_rank kind kind' slot slot' other))) (limits.each kind' slot' within')
-    ];
+          subst (λ (p : Kind × ℕ). IsSlotOf d.format p.0 (def_at p.0 p.1 (with_slot kind slot None d))) (λ i. (sym this.0 i, sym this.1 i))
+          (subst (IsSlotOf d.format kind) (sym cleared_here) tt)
+      | inr other ↦ subst (IsSlotOf d.format kind') (sym (def_at-other kind kind' slot slot' None d (apart_by_rank kind kind' slot slot' other))) (limits.each kind' slot' within')
+    ]);
   }
 
   one_cleared : (target : Kind × ℕ) → (target ≡ (kind, slot) → ⊥) → IsSome (def_at target.0 target.1 d) → IsSome (def_at target.0 target.1 (with_slot kind slot None d))

@@ -6,7 +6,7 @@ use Rattle.std.specs.Ordering.{int_cmp, eq_by_cmp, is_eq}
 use Rattle.std.specs.declared.cmp.Ordering.TheVariants.{Less}
 use Rattle.std.specs.Cmp.{int_cmp_is, int_cmp_total}
 use Rattle.std.specs.FinMap.{find, get, len, get-from_entries, len-empty, len-insert}
-use Rattle.ts_row.specs.Row.{Values}
+use Rattle.ts_row.specs.Row.{Row}
 use Rattle.ts_cells.specs.Cell.{Element}
 use Rattle.ts_cells.specs.IrregularPage.{AreRising}
 use Rattle.ts_layout.specs.OnePage.{by_stamp}
@@ -38,9 +38,9 @@ not_found x (e ∷ es) rising before =
 
 -- as many as there are
 pub len_rising : (es : List Element) → AreRising es → len (by_stamp es) ≡ length es
-len_rising [] rising = len-empty int_cmp Values
+len_rising [] rising = len-empty int_cmp Row
 len_rising (e ∷ es) rising =
     let rest = rest_rising e es rising in
     let none : get (by_stamp es) e.0 ≡ None = get-from_entries int_cmp_total es e.0 ∙ not_found e.0 es rest.0 rest.1 in
     let more : len (by_stamp es) + 1 ≡ suc (length es) = let z = len_rising es rest.0 in omega (arith, z) in
-    len-insert int_cmp_total (by_stamp es) e.0 e.1 ∙ ap (λ (o : Option Values). cond (is_some o) (len (by_stamp es)) (len (by_stamp es) + 1)) none ∙ more
+    len-insert int_cmp_total (by_stamp es) e.0 e.1 ∙ ap (λ (o : Option Row). cond (is_some o) (len (by_stamp es)) (len (by_stamp es) + 1)) none ∙ more

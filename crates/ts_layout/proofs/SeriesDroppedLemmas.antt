@@ -92,19 +92,19 @@ pub filled_dropped : (l : Layout) (slot : ℕ) → AreFilled l → AreFilled (wi
 filled_dropped l slot filled i s es is =
     let before = cells_before slot i s es l.element_pages is in
     let fill = filled i s es before.0 in
-    (fill.0, heading_stays l.definitions slot s before.1 ∙ fill.1, fill.2)
+    (fill.0, heading_stays l.definitions slot s before.1 ∙ fill.1, fill.2, fill.3)
 
 -- what a page holds without the series
 holds_kept : (d : Definitions) (slot : ℕ) (page : List ℕ) (e : ElementPage) → HasNone slot e → HoldsElements d page e → HoldsElements (with_slot kinds.Series slot None d) page e
 holds_kept d slot page Free none holds = holds
 holds_kept d slot page (Cells s es) none holds =
-    (holds.0, heading_stays d slot s (λ same. none es (ap (λ (n : ℕ). Cells n es) same)) ∙ holds.1, holds.2)
+    (holds.0, heading_stays d slot s (λ same. none es (ap (λ (n : ℕ). Cells n es) same)) ∙ holds.1, holds.2, holds.3)
 
 -- the bytes after: the page of the series is free, and the others stay
 pub bytes_dropped : (l : Layout) (v w : ℕ → List ℕ) (slot : ℕ) → HoldsDefinitions w (with_slot kinds.Series slot None l.definitions) → w 0 ≡ v 0
     → ((i : ℕ) (es : List Element) → element_page i l.element_pages ≡ Cells slot es → IsFreePage (w (930 + i))) → ((i : ℕ) → i < length l.element_pages → HasNone slot (element_page i l.element_pages) → w (930 + i) ≡ v (930 + i)) → HoldsLayout v l → HoldsLayout w (without_series slot l)
 bytes_dropped l v w slot defined header own others holds = record {
-  header = header ∙ holds.header ∙ ap header_bytes (sym (length-map l.element_pages (freed slot)));
+  header = header ∙ holds.header ∙ ap (header_bytes l.definitions.format) (sym (length-map l.element_pages (freed slot)));
   definitions = defined;
   elements = λ i within.
       let inside : i < length l.element_pages = omega (arith, within, length-map l.element_pages (freed slot)) in
@@ -158,7 +158,7 @@ series_unused slot d (user, (i, def, low, here, refers)) = no_one_refers slot de
 
 pub sound_kept : (d : Definitions) (slot pages : ℕ) → slot < 4096 → AreSound pages d → AreSound pages (with_slot kinds.Series slot None d)
 sound_kept d slot pages small sound = record {
-  tables = record { row_types = sound.tables.row_types; containers = sound.tables.containers; series = table_kept d.series slot sound.tables.series };
+  tables = record { format = sound.tables.format; row_types = sound.tables.row_types; containers = sound.tables.containers; series = table_kept d.series slot sound.tables.series };
   limits = limits_cleared kinds.Series slot d small sound.tables sound.limits;
   references = references_cleared kinds.Series slot d small sound.tables (series_unused slot d) sound.references;
   quotas = sound.quotas;
@@ -231,6 +231,7 @@ catalogue_dropped l slot s sound there =
     let whole : by_name (λ s. s.key) (series_of (without_series slot l)) (set table slot None) ≡ remove (by_name (λ s. s.key) (series_of l) table) s.key =
     ap (λ (es : List (List ℕ × Series)). from_entries {R = name_cmp} es) same ∙ by_name-clear (λ s. s.key) (series_of l) table slot s sound.definitions.tables.series.apart there in
     λ k. record {
+      format = l.definitions.format;
       pages = length-map l.element_pages (freed slot) k;
       row_types = (catalogue_of l).row_types;
       containers = (catalogue_of l).containers;

@@ -2,7 +2,7 @@
 use Rattle.std.proofs.Common.{◌≡◌, ◌≢◌, ℕ, zero, suc, ◌+◌, ◌<◌, ◌≤◌, Option, Some, List, [], ◌∷◌, length, set, refl, sym, ap, subst, ◌∙◌, arith, length-set, inl, inr, ◌⊎◌, lit≤, ℤ}
 use Rattle.std.proofs.lemmas.Bool.{cases_eq}
 use Rattle.std.specs.FinMap.{insert, len}
-use Rattle.ts_row.specs.Row.{Values}
+use Rattle.ts_row.specs.Row.{Row}
 use Rattle.ts_space.specs.declared.place.Place.{Place}
 use Rattle.ts_space.specs.Place.{count_of}
 use Rattle.ts_space.specs.Directory.{Directory, places_of}
@@ -20,7 +20,7 @@ use Rattle.ts_layout.proofs.NamedLemmas.{changed}
 use Rattle.ts_layout.proofs.RisingLemmas.{len_rising}
 
 -- the series of the slot after, and every other one
-series_written : (l : Layout) (slot i : ℕ) (old es : List Element) (s : SeriesDef) (stamp : ℤ) (row : Values) → IsSound l → IsPageFor slot i old l.element_pages → by_stamp es ≡ insert (by_stamp old) stamp row
+series_written : (l : Layout) (slot i : ℕ) (old es : List Element) (s : SeriesDef) (stamp : ℤ) (row : Row) → IsSound l → IsPageFor slot i old l.element_pages → by_stamp es ≡ insert (by_stamp old) stamp row
     → series_of (with_cells i slot es l) slot s ≡ record (series_of l slot s) { elements = insert (elements_at slot l.element_pages) stamp row }
 series_written l slot i old es s stamp row sound held adds =
     let after : elements_at slot (set l.element_pages i (Cells slot es)) ≡ insert (elements_at slot l.element_pages) stamp row =
@@ -34,7 +34,7 @@ series_stays l slot i j old es s held other =
     λ k. record { container = name_at (λ c. c.name) s.container l.definitions.containers; elements = same k }
 
 -- the catalogue after an element was added
-pub catalogue_written : (l : Layout) (slot i : ℕ) (old es : List Element) (s : SeriesDef) (stamp : ℤ) (row : Values) → IsSound l → IsPageFor slot i old l.element_pages → at_slot slot l.definitions.series ≡ Some s → by_stamp es ≡ insert (by_stamp old) stamp row
+pub catalogue_written : (l : Layout) (slot i : ℕ) (old es : List Element) (s : SeriesDef) (stamp : ℤ) (row : Row) → IsSound l → IsPageFor slot i old l.element_pages → at_slot slot l.definitions.series ≡ Some s → by_stamp es ≡ insert (by_stamp old) stamp row
     → catalogue_of (with_cells i slot es l) ≡ record (catalogue_of l) { series = insert (catalogue_of l).series s.key (record (series_of l slot s) { elements = insert (elements_at slot l.element_pages) stamp row }) }
 catalogue_written l slot i old es s stamp row sound held there adds =
     let table : List (Option SeriesDef) = l.definitions.series in
@@ -42,6 +42,7 @@ catalogue_written l slot i old es s stamp row sound held there adds =
     changed (λ s. s.key) (series_of l) (series_of (with_cells i slot es l)) table slot s sound.definitions.tables.series.apart there (λ j b other. series_stays l slot i j old es b held other) in
     let whole = after ∙ ap (λ (x : Series). insert (by_name (λ s. s.key) (series_of l) table) s.key x) (series_written l slot i old es s stamp row sound held adds) in
     λ k. record {
+      format = l.definitions.format;
       pages = length-set l.element_pages i (Cells slot es) k;
       row_types = (catalogue_of l).row_types;
       containers = (catalogue_of l).containers;

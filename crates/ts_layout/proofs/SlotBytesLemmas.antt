@@ -60,7 +60,7 @@ columns_one (c ∷ cs) (d ∷ ds) bytes rest more long named named' is is' =
     λ i. same i ∷ others i
 
 -- of definitions
-row_type_one : (name : List ℕ) (h : Heading) (name' : List ℕ) (h' : Heading) → IsRowTypeDef (record { name = name; heading = h }) → IsRowTypeDef (record { name = name'; heading = h' })
+row_type_one : {f g : ℕ} (name : List ℕ) (h : Heading) (name' : List ℕ) (h' : Heading) → IsRowTypeDef f (record { name = name; heading = h }) → IsRowTypeDef g (record { name = name'; heading = h' })
     → row_type_bytes name h ≡ row_type_bytes name' h' → defs.RowType name h ≡ defs.RowType name' h'
 row_type_one name h name' h' is is' same =
     let short = length-name name is.name in
@@ -99,11 +99,11 @@ series_one key container key' container' is is' same =
     λ i. defs.Series (keys i) (slots i)
 
 -- of one kind
-def_one : (kind : Kind) (a b : Def) → kind_of a ≡ kind → kind_of b ≡ kind → IsDef a → IsDef b → def_bytes a ≡ def_bytes b → a ≡ b
-def_one kinds.RowType (defs.RowType name h) (defs.RowType name' h') is is' good good' same = row_type_one name h name' h' good good' same
-def_one kinds.Container (defs.Container name r q) (defs.Container name' r' q') is is' good good' same = container_one name r q name' r' q' good good' same
-def_one kinds.Series (defs.Series key c) (defs.Series key' c') is is' good good' same = series_one key c key' c' good good' same
-def_one kind a b is is' good good' same = absurd (cc)
+def_one : (f g : ℕ) (kind : Kind) (a b : Def) → kind_of a ≡ kind → kind_of b ≡ kind → IsDef f a → IsDef g b → def_bytes a ≡ def_bytes b → a ≡ b
+def_one f g kinds.RowType (defs.RowType name h) (defs.RowType name' h') is is' good good' same = row_type_one name h name' h' good good' same
+def_one f g kinds.Container (defs.Container name r q) (defs.Container name' r' q') is is' good good' same = container_one name r q name' r' q' good good' same
+def_one f g kinds.Series (defs.Series key c) (defs.Series key' c') is is' good good' same = series_one key c key' c' good good' same
+def_one f g kind a b is is' good good' same = absurd (cc)
 
 -- a definition's first byte isn't 0, an empty slot's is
 first_of_def : (def : Def) → 1 ≤ get_or (def_bytes def) 0 0
@@ -121,10 +121,10 @@ first_of_empty kinds.Series = refl
 pub filled_first : (kind : Kind) (def : Def) → 1 ≤ get_or (slot_bytes kind (Some def)) 0 0
 filled_first kind def = omega (arith, first_of_def def, ap (λ (l : List ℕ). get_or l 0 0) (slot_filled kind def))
 
--- two slots with the same bytes are one
-pub slot_one : (kind : Kind) (a b : Option Def) → IsSlotOf kind a → IsSlotOf kind b → slot_bytes kind a ≡ slot_bytes kind b → a ≡ b
-slot_one kind None None is is' same = refl
-slot_one kind None (Some b) is is' same = absurd (omega (arith, first_of_empty kind, filled_first kind b, ap (λ (l : List ℕ). get_or l 0 0) same))
-slot_one kind (Some a) None is is' same = absurd (omega (arith, first_of_empty kind, filled_first kind a, ap (λ (l : List ℕ). get_or l 0 0) same))
-slot_one kind (Some a) (Some b) is is' same =
-    ap Some (def_one kind a b is.0 is'.0 is.1 is'.1 (sym (slot_filled kind a) ∙ same ∙ slot_filled kind b))
+-- two slots with the same bytes are one, whatever the formats
+pub slot_one : (f g : ℕ) (kind : Kind) (a b : Option Def) → IsSlotOf f kind a → IsSlotOf g kind b → slot_bytes kind a ≡ slot_bytes kind b → a ≡ b
+slot_one f g kind None None is is' same = refl
+slot_one f g kind None (Some b) is is' same = absurd (omega (arith, first_of_empty kind, filled_first kind b, ap (λ (l : List ℕ). get_or l 0 0) same))
+slot_one f g kind (Some a) None is is' same = absurd (omega (arith, first_of_empty kind, filled_first kind a, ap (λ (l : List ℕ). get_or l 0 0) same))
+slot_one f g kind (Some a) (Some b) is is' same =
+    ap Some (def_one f g kind a b is.0 is'.0 is.1 is'.1 (sym (slot_filled kind a) ∙ same ∙ slot_filled kind b))

@@ -26,15 +26,15 @@ same_table kind (o ∷ t) (p ∷ u) long same =
 same_def : (pages : ℕ → List ℕ) (d e : Definitions) → HoldsDefinitions pages d → KeepLimits d → IsDefinitions d → HoldsDefinitions pages e → KeepLimits e → IsDefinitions e → (kind : Kind) (i : ℕ) → def_at kind i d ≡ def_at kind i e
 same_def pages d e holds limits rules holds' limits' rules' kind i =
     elim (cases_lt i (limit kind)) [
-      | inl within ↦ slot_one kind (def_at kind i d) (def_at kind i e) (limits.each kind i within) (limits'.each kind i within) (sym (holds.slots kind i within) ∙ holds'.slots kind i within)
+      | inl within ↦ slot_one d.format e.format kind (def_at kind i d) (def_at kind i e) (limits.each kind i within) (limits'.each kind i within) (sym (holds.slots kind i within) ∙ holds'.slots kind i within)
       | inr past ↦ get_or_past (slots kind d) i None (omega (arith, past, sizes d rules kind)) ∙ sym (get_or_past (slots kind e) i None (omega (arith, past, sizes e rules' kind)))
     ]
 
--- pages hold one list of definitions
-pub unique : (pages : ℕ → List ℕ) (d e : Definitions) → HoldsDefinitions pages d → KeepLimits d → IsDefinitions d → HoldsDefinitions pages e → KeepLimits e → IsDefinitions e → d ≡ e
-unique pages d e holds limits rules holds' limits' rules' =
+-- pages hold one list of definitions of a format
+pub unique : (pages : ℕ → List ℕ) (d e : Definitions) → d.format ≡ e.format → HoldsDefinitions pages d → KeepLimits d → IsDefinitions d → HoldsDefinitions pages e → KeepLimits e → IsDefinitions e → d ≡ e
+unique pages d e format holds limits rules holds' limits' rules' =
     let same = same_def pages d e holds limits rules holds' limits' rules' in
-    all-tables d e (λ kind. same_table kind (table_of kind d) (table_of kind e) ((table-rules d rules kind).size ∙ sym (table-rules e rules' kind).size) (same kind))
+    all-tables d e format (λ kind. same_table kind (table_of kind d) (table_of kind e) ((table-rules d rules kind).size ∙ sym (table-rules e rules' kind).size) (same kind))
 
 -- a row type refers to nothing
 row_type_refers : (d : Definitions) (slot : ℕ) (def : Def) → def_at kinds.RowType slot d ≡ Some def → references def ≡ []

@@ -1,7 +1,6 @@
 -- What definitions are in the catalogue, by names in place of slots; and series and containers without elements.
-use Rattle.std.specs.Prelude.{Contains}
-use Rattle.std.proofs.Common.{◌≡◌, ◌≢◌, ℕ, zero, suc, ◌+◌, ◌≤◌, ◌==◌, Bool, true, false, if◌then◌else◌, Option, Some, None, List, [], ◌∷◌, ◌++◌, map, length, set, refl, sym, ap, subst, ◌∙◌, arith, add-zero, lit≤}
-use Rattle.std.specs.Option.{option_map, option_and_then, unwrap_or}
+use Rattle.std.proofs.Common.{◌≡◌, ◌≢◌, ℕ, zero, suc, ◌+◌, ◌≤◌, ◌==◌, Bool, true, false, if◌then◌else◌, Option, Some, None, List, [], ◌∷◌, ◌++◌, map, length, set, refl, ap, subst, ◌∙◌, arith, add-zero, lit≤}
+use Rattle.std.specs.Option.{option_map, unwrap_or}
 use Rattle.std.specs.FinMap.{insert, remove, empty, from_entries}
 use Rattle.std.specs.Ordering.{int_cmp}
 use Rattle.std.proofs.lemmas.Bool.Decides.{nat_tests}
@@ -10,7 +9,6 @@ use Rattle.ts_cells.specs.Cell.{Element}
 use Rattle.ts_model.specs.declared.kind.Kind.{Kind}
 use Rattle.ts_model.specs.declared.kind.Kind.TheVariants as kinds
 use Rattle.ts_model.specs.declared.def.Def.{Def}
-use Rattle.ts_model.specs.Catalogue.{Container, Series}
 use Rattle.ts_model.specs.Kinds.{In, with_named, without}
 use Rattle.ts_model.specs.Definitions.{Definitions, RowTypeDef, ContainerDef, SeriesDef, KindDef, to_def, table_of, name_of, slot_of, at_slot, Refers}
 use Rattle.ts_layout.specs.Meaning.{Layout, ElementPage, Free, Cells, elements_on, elements_of, elements_at, sum_filled, charge_of_series, name_at, container_of, series_of, value_of, named_in, catalogue_of}
@@ -44,23 +42,23 @@ same_value kinds.Series l d i s same =
     }
 
 -- a catalogue of which the names of one kind change
-pub catalogue_with : (kind : Kind) (name : List ℕ) (value : In kind) (l l' : Layout) → l'.element_pages ≡ l.element_pages → named_in kind l' ≡ insert (named_in kind l) name value → ((k : Kind) → (k ≡ kind → ⊥) → named_in k l' ≡ named_in k l)
+pub catalogue_with : (kind : Kind) (name : List ℕ) (value : In kind) (l l' : Layout) → l'.definitions.format ≡ l.definitions.format → l'.element_pages ≡ l.element_pages → named_in kind l' ≡ insert (named_in kind l) name value → ((k : Kind) → (k ≡ kind → ⊥) → named_in k l' ≡ named_in k l)
     → catalogue_of l' ≡ with_named kind name value (catalogue_of l)
-catalogue_with kinds.RowType name value l l' pages own others =
-    λ j. record { pages = length (pages j); row_types = own j; containers = others kinds.Container (λ same. cc) j; series = others kinds.Series (λ same. cc) j }
-catalogue_with kinds.Container name value l l' pages own others =
-    λ j. record { pages = length (pages j); row_types = others kinds.RowType (λ same. cc) j; containers = own j; series = others kinds.Series (λ same. cc) j }
-catalogue_with kinds.Series name value l l' pages own others =
-    λ j. record { pages = length (pages j); row_types = others kinds.RowType (λ same. cc) j; containers = others kinds.Container (λ same. cc) j; series = own j }
+catalogue_with kinds.RowType name value l l' format pages own others =
+    λ j. record { format = format j; pages = length (pages j); row_types = own j; containers = others kinds.Container (λ same. cc) j; series = others kinds.Series (λ same. cc) j }
+catalogue_with kinds.Container name value l l' format pages own others =
+    λ j. record { format = format j; pages = length (pages j); row_types = others kinds.RowType (λ same. cc) j; containers = own j; series = others kinds.Series (λ same. cc) j }
+catalogue_with kinds.Series name value l l' format pages own others =
+    λ j. record { format = format j; pages = length (pages j); row_types = others kinds.RowType (λ same. cc) j; containers = others kinds.Container (λ same. cc) j; series = own j }
 
-pub catalogue_without : (kind : Kind) (name : List ℕ) (l l' : Layout) → l'.element_pages ≡ l.element_pages → named_in kind l' ≡ remove (named_in kind l) name → ((k : Kind) → (k ≡ kind → ⊥) → named_in k l' ≡ named_in k l)
+pub catalogue_without : (kind : Kind) (name : List ℕ) (l l' : Layout) → l'.definitions.format ≡ l.definitions.format → l'.element_pages ≡ l.element_pages → named_in kind l' ≡ remove (named_in kind l) name → ((k : Kind) → (k ≡ kind → ⊥) → named_in k l' ≡ named_in k l)
     → catalogue_of l' ≡ without kind name (catalogue_of l)
-catalogue_without kinds.RowType name l l' pages own others =
-    λ j. record { pages = length (pages j); row_types = own j; containers = others kinds.Container (λ same. cc) j; series = others kinds.Series (λ same. cc) j }
-catalogue_without kinds.Container name l l' pages own others =
-    λ j. record { pages = length (pages j); row_types = others kinds.RowType (λ same. cc) j; containers = own j; series = others kinds.Series (λ same. cc) j }
-catalogue_without kinds.Series name l l' pages own others =
-    λ j. record { pages = length (pages j); row_types = others kinds.RowType (λ same. cc) j; containers = others kinds.Container (λ same. cc) j; series = own j }
+catalogue_without kinds.RowType name l l' format pages own others =
+    λ j. record { format = format j; pages = length (pages j); row_types = own j; containers = others kinds.Container (λ same. cc) j; series = others kinds.Series (λ same. cc) j }
+catalogue_without kinds.Container name l l' format pages own others =
+    λ j. record { format = format j; pages = length (pages j); row_types = others kinds.RowType (λ same. cc) j; containers = own j; series = others kinds.Series (λ same. cc) j }
+catalogue_without kinds.Series name l l' format pages own others =
+    λ j. record { format = format j; pages = length (pages j); row_types = others kinds.RowType (λ same. cc) j; containers = others kinds.Container (λ same. cc) j; series = own j }
 
 -- a container in which no series stands is charged nothing
 pub no_charge : (pages : List ElementPage) (container room first : ℕ) (table : List (Option SeriesDef)) → ((i : ℕ) (s : SeriesDef) → at_slot i table ≡ Some s → s.container ≡ container → ⊥) → sum_filled (charge_of_series pages container room) first table ≡ 0

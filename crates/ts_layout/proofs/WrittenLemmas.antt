@@ -9,6 +9,7 @@ use Rattle.ts_cells.specs.Cell.{Element}
 use Rattle.ts_cells.specs.IrregularPage.{IsIrregularPage}
 use Rattle.ts_model.specs.Definitions.{Definitions}
 use Rattle.ts_layout.specs.Slot.{slot_size, page_of_slot, byte_of_slot, slots_in_page, bytes_of_slots, header_bytes}
+use Rattle.ts_layout.specs.Limits.{AreOfFormat}
 use Rattle.ts_layout.specs.Meaning.{ElementPage, Cells, Layout, element_page, heading_at, HoldsDefinitions, HoldsElements, HoldsLayout}
 use Rattle.ts_layout.specs.OnePage.{with_element_page, with_cells}
 use Rattle.ts_layout.proofs.PlaceLemmas.{page_high}
@@ -37,7 +38,7 @@ apart_pages i j other is = other (omega (arith, is))
 -- an element page is written
 pub page_written : (l : Layout) (v w : ℕ → List ℕ) (i : ℕ) (e : ElementPage) (page : List ℕ) → i < length l.element_pages → HoldsElements l.definitions page e → EqualPages (with_page (930 + i) page v) w → HoldsLayout v l → HoldsLayout w (with_element_page i e l)
 page_written l v w i e page within is same holds = record {
-  header = elsewhere (930 + i) 0 page v w (below_page 0 i (omega arith)) same ∙ holds.header ∙ ap header_bytes (sym (length-set l.element_pages i e));
+  header = elsewhere (930 + i) 0 page v w (below_page 0 i (omega arith)) same ∙ holds.header ∙ ap (header_bytes l.definitions.format) (sym (length-set l.element_pages i e));
   definitions = definitions_stay v w l.definitions (λ n below. elsewhere (930 + i) n page v w (below_page n i below) same) holds.definitions;
   elements = λ j inside. elim (cases_eq j i) [
     | inl this ↦
@@ -52,6 +53,6 @@ page_written l v w i e page within is same holds = record {
   ];
 }
 
-pub cells_written : (l : Layout) (v w : ℕ → List ℕ) (i slot : ℕ) (es : List Element) (h : Heading) (page : List ℕ) → i < length l.element_pages → heading_at l.definitions slot ≡ Some h → IsIrregularPage slot h.columns es page → EqualPages (with_page (930 + i) page v) w → HoldsLayout v l
+pub cells_written : (l : Layout) (v w : ℕ → List ℕ) (i slot : ℕ) (es : List Element) (h : Heading) (page : List ℕ) → i < length l.element_pages → heading_at l.definitions slot ≡ Some h → IsIrregularPage slot h.columns es page → AreOfFormat l.definitions.format es → EqualPages (with_page (930 + i) page v) w → HoldsLayout v l
     → HoldsLayout w (with_cells i slot es l)
-cells_written l v w i slot es h page within there is same holds = page_written l v w i (Cells slot es) page within (h, there, is) same holds
+cells_written l v w i slot es h page within there is format same holds = page_written l v w i (Cells slot es) page within (h, there, is, format) same holds

@@ -1,4 +1,5 @@
--- What one slot that is filled or emptied changes in a layout, and what pages that mean the same may differ in.
+-- What one slot that is filled or emptied, or another format, changes in a layout, and what pages that mean the same may
+-- differ in.
 use Rattle.std.specs.Prelude.{◌≡◌, ℕ, ◌<◌, ◌≤◌, ◌⊎◌, Option, Some, None, option_and_then, List, ◌+◌, ◌++◌, length, take, drop}
 use Rattle.ts_page.specs.Pages.{IsOutsideJournal, IsElementPage, HasFreeHead}
 use Rattle.ts_cells.specs.Cell.{Element}
@@ -6,7 +7,7 @@ use Rattle.ts_model.specs.declared.kind.Kind.{Kind}
 use Rattle.ts_model.specs.declared.kind.Kind.TheVariants as kinds
 use Rattle.ts_model.specs.declared.def.Def.{Def}
 use Rattle.ts_model.specs.Kinds.{HasNoPages}
-use Rattle.ts_model.specs.Definitions.{Definitions, limit, kind_of, name_of, from_def, slots, with_slot, slot_of, references, IsUsed}
+use Rattle.ts_model.specs.Definitions.{Definitions, limit, kind_of, name_of, from_def, slots, with_slot, with_format, slot_of, references, IsUsed}
 use Rattle.ts_layout.specs.Limits.{IsDef}
 use Rattle.ts_layout.specs.Meaning.{Layout, ElementPage, Cells, element_page, def_at, heading_at, quota_in, sum_of_quotas, IsThere}
 use Rattle.ts_layout.specs.Slot.{slot_bytes, slot_size, byte_of_slot}
@@ -25,6 +26,10 @@ with_slot_bytes kind slot def page =
 abbrev pub layout_with : Kind → ℕ → Option Def → Layout → Layout
 layout_with kind slot def l = record l { definitions = with_slot kind slot def l.definitions }
 
+-- the layout in another format
+abbrev pub layout_in : ℕ → Layout → Layout
+layout_in format l = record l { definitions = with_format format l.definitions }
+
 -- by other definitions the elements on each page have the same columns
 abbrev pub KeepsHeadings : Definitions → Layout → Type 0
 KeepsHeadings d l =
@@ -39,7 +44,7 @@ pub record CanCreate (slot : ℕ) (def : Def) (d : Definitions) : Type 0 where
   pub within : slot < limit (kind_of def)
   pub empty : def_at (kind_of def) slot d ≡ None
   pub new : slot_of (name_of def) (slots (kind_of def) d) ≡ None
-  pub limits : IsDef def
+  pub limits : IsDef d.format def
   pub refers : IsThere d (references def)
 
 -- how many pages a definition is granted: a container its quota

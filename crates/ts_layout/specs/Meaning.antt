@@ -17,7 +17,7 @@ use Rattle.ts_model.specs.declared.kind.Kind.TheVariants as kinds
 use Rattle.ts_model.specs.declared.def.Def.{Def}
 use Rattle.ts_model.specs.Definitions.{Definitions, ContainerDef, SeriesDef, KindDef, limit, name_in, table_of, at_slot, by_name, references, IsDefinitions}
 pub use Rattle.ts_model.specs.Definitions.{def_at}
-use Rattle.ts_layout.specs.Limits.{IsSlotOf}
+use Rattle.ts_layout.specs.Limits.{IsSlotOf, AreOfFormat}
 use Rattle.ts_layout.specs.Slot.{slot_size, slot_bytes, page_of_slot, byte_of_slot, first_definition_page, slots_in_page, bytes_of_slots, header_bytes}
 
 -- an element page: free, or with the elements of the series in a slot
@@ -56,11 +56,11 @@ pub record HoldsDefinitions (pages : ℕ → List ℕ) (d : Definitions) : Type 
   pub behind : (number : ℕ) → first_definition_page ≤ number → number < first_element_page
       → drop (bytes_of_slots (slots_in_page number)) (pages number) ≡ replicate (page_size - bytes_of_slots (slots_in_page number)) 0
 
--- a page that is free, whatever follows its first byte, or the page of elements of a series
+-- a page that is free, whatever follows its first byte, or the page of elements of a series, in the format of the volume
 abbrev pub HoldsElements : Definitions → List ℕ → ElementPage → Type 0
 HoldsElements d page Free = IsFreePage page
 HoldsElements d page (Cells slot es) =
-    (heading : Heading) × (heading_at d slot ≡ Some heading) × IsIrregularPage slot heading.columns es page
+    (heading : Heading) × (heading_at d slot ≡ Some heading) × IsIrregularPage slot heading.columns es page × AreOfFormat d.format es
 
 -- element pages, from page 930 on, with these elements
 abbrev pub HoldAll : Definitions → (ℕ → List ℕ) → List ElementPage → Type 0
@@ -68,13 +68,13 @@ HoldAll d pages es = (j : ℕ) → j < length es → HoldsElements d (pages (fir
 
 -- the bytes of a volume that is laid out so; the journal's pages are no part of it
 pub record HoldsLayout (pages : ℕ → List ℕ) (l : Layout) : Type 0 where
-  pub header : pages 0 ≡ header_bytes (length l.element_pages)
+  pub header : pages 0 ≡ header_bytes l.definitions.format (length l.element_pages)
   pub definitions : HoldsDefinitions pages l.definitions
   pub elements : (i : ℕ) → i < length l.element_pages → HoldsElements l.definitions (pages (first_element_page + i)) (element_page i l.element_pages)
 
--- what stands in the slots of each kind is of that kind and keeps its limits
+-- what stands in the slots of each kind is of that kind and keeps its limits and those of the format
 pub record KeepLimits (d : Definitions) : Type 0 where
-  pub each : (kind : Kind) (slot : ℕ) → slot < limit kind → IsSlotOf kind (def_at kind slot d)
+  pub each : (kind : Kind) (slot : ℕ) → slot < limit kind → IsSlotOf d.format kind (def_at kind slot d)
 
 -- something stands in each of some slots
 abbrev pub IsThere : Definitions → List (Kind × ℕ) → Type 0
@@ -186,6 +186,7 @@ named_in kind l = by_name (name_in kind) (value_of kind l) (table_of kind l.defi
 -- the catalogue of a layout
 abbrev pub catalogue_of : Layout → Catalogue
 catalogue_of l = record {
+  format = l.definitions.format;
   pages = length l.element_pages;
   row_types = named_in kinds.RowType l;
   containers = named_in kinds.Container l;

@@ -10,6 +10,7 @@ use Rattle.ts_cells.specs.IrregularPage.{FillPage}
 use Rattle.ts_model.specs.Catalogue.{Elements}
 use Rattle.ts_model.specs.declared.kind.Kind.TheVariants as kinds
 use Rattle.ts_model.specs.Definitions.{Definitions, ContainerDef, SeriesDef, at_slot, with_slot, series_slots}
+use Rattle.ts_layout.specs.Limits.{AreOfFormat}
 use Rattle.ts_layout.specs.Meaning.{ElementPage, Free, Cells, Layout, element_page, elements_of, heading_in, heading_at, heading_of_container, charge_of_container}
 use Rattle.ts_layout.specs.Surveyed.{place_of, free_from}
 use Rattle.ts_layout.specs.Charges.{HasOnePlaceAtMost, container_charge}
@@ -32,10 +33,11 @@ pub record IsPageFor (slot i : ℕ) (es : List Element) (pages : List ElementPag
   pub within : i < length pages
   pub page : (element_page i pages ≡ Cells slot es) ⊎ ((element_page i pages ≡ Free) × (es ≡ []) × HasNoPage slot pages)
 
--- each page of elements has those of a series that is defined: one at least, in order, and at most as many as it has room for
+-- each page of elements has those of a series that is defined: one at least, in order, at most as many as it has room for,
+-- and of the format
 abbrev pub AreFilled : Layout → Type 0
 AreFilled l = (i slot : ℕ) (es : List Element) → element_page i l.element_pages ≡ Cells slot es
-    → (heading : Heading) × (heading_at l.definitions slot ≡ Some heading) × FillPage heading.columns es
+    → (heading : Heading) × (heading_at l.definitions slot ≡ Some heading) × FillPage heading.columns es × AreOfFormat l.definitions.format es
 
 -- the place tells of the one page that has elements of the series in a slot, and these are all of it
 pub record HasPage (slot : ℕ) (p : Place) (pages : List ElementPage) : Type 0 where

@@ -120,6 +120,6 @@ slots_in_page number =
 abbrev pub bytes_of_slots : Slots → ℕ
 bytes_of_slots on = slot_size on.kind * on.count
 
--- the header of a volume: the word `TSVOLUME`, the format 1, the number of element pages
-unfoldable pub header_bytes : ℕ → List ℕ
-header_bytes pages = padded page_size (codes "TSVOLUME" ++ (1 ∷ to_be_bytes w32 pages))
+-- the header of a volume: the word `TSVOLUME`, the format, the number of element pages
+unfoldable pub header_bytes : ℕ → ℕ → List ℕ
+header_bytes format pages = padded page_size (codes "TSVOLUME" ++ (format ∷ to_be_bytes w32 pages))

@@ -1,12 +1,13 @@
 //! What the pages of a volume mean, and what holds of it: definitions in their slots and elements on their pages are a
 //! layout, and a layout that keeps the rules means one catalogue (`specs/Meaning`). The laws tell where names stand in
-//! slots, what a slot that is filled or emptied and a page of elements that is written or freed change, and what
-//! containers are charged. Reads and writes no page; stands on ts_cells, ts_space, ts_model and ts_page. Read
+//! slots, what a slot that is filled or emptied, a page of elements that is written or freed and another format change, and
+//! what containers are charged. Reads and writes no page; stands on ts_cells, ts_space, ts_model and ts_page. Read
 //! `specs/Slot.antt` and `specs/Meaning.antt`, then `laws.rt`; for what changes with a page of elements
 //! `specs/OnePage.antt` and `page_laws.rt`; for what is kept in memory `specs/Placed.antt` and `memory_laws.rt`.
 #![tactic(auto)]
 
 mod charge_laws;
+mod format_laws;
 mod free_laws;
 mod laws;
 mod memory_laws;
@@ -15,6 +16,10 @@ mod place;
 
 pub use charge_laws::{
     charges_follow_the_directory, quotas_follow_the_directory, the_quotas_leave_room,
+};
+pub use format_laws::{
+    a_catalogue_keeps_its_format, a_volume_takes_the_newest_format,
+    the_elements_of_a_page_are_of_the_format, the_newest_format_has_all,
 };
 pub use free_laws::{
     free_pages_are_taken_and_freed, pages_are_free_or_placed, the_places_of_other_series_stay,

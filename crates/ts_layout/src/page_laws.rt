@@ -2,7 +2,7 @@
 ghost use Rattle.std.specs.Prelude.{◌≡◌, ◌≢◌, ◌+◌, ◌<◌, ◌≤◌, [], ◌∷◌, ℕ, ℤ, List, Some, None, length, All};
 ghost use Rattle.std.specs.FinMap.{insert, remove, len};
 ghost use Rattle.ts_row.specs.RowType.{Heading};
-ghost use Rattle.ts_row.specs.Row.{Values};
+ghost use Rattle.ts_row.specs.Row.{Row};
 ghost use Rattle.ts_page.specs.Pages.{EqualPages, with_page, IsFreePage};
 ghost use Rattle.ts_space.specs.declared.place.Place.{Place};
 ghost use Rattle.ts_space.specs.Place.{count_of};
@@ -11,6 +11,7 @@ ghost use Rattle.ts_cells.specs.Cell.{Element};
 ghost use Rattle.ts_cells.specs.IrregularPage.{IsIrregularPage, FillPage, first_stamp};
 ghost use Rattle.ts_model.specs.declared.kind.Kind.TheVariants.{Series};
 ghost use Rattle.ts_model.specs.Definitions.{SeriesDef, at_slot, with_slot};
+ghost use Rattle.ts_layout.specs.Limits.{AreOfFormat};
 ghost use Rattle.ts_layout.specs.Meaning.{ElementPage, Layout, Cells, element_page, HoldsDefinitions, HoldsLayout, HasOnePageEach, IsSound, heading_at, elements_of, elements_at, series_of, catalogue_of};
 ghost use Rattle.ts_layout.specs.Surveyed.{place_of, ListsPlaces};
 ghost use Rattle.ts_layout.specs.OnePage.{by_stamp, with_cells, HasNoPage, IsPageFor, AreFilled, HasPage, KeepsQuotaOf, AreFreePages, without_series};
@@ -20,7 +21,8 @@ ghost use Rattle.ts_layout.specs.OnePage.{by_stamp, with_cells, HasNoPage, IsPag
 pub fn elements_are_written_on_a_page()
     ensures bytes { (l : Layout) (v w : ℕ → List ℕ) (i slot : ℕ) (es : List Element) (h : Heading) (page : List ℕ) →
         i < length l.element_pages → heading_at l.definitions slot ≡ Some h → IsIrregularPage slot h.columns es page →
-        EqualPages (with_page (930 + i) page v) w → HoldsLayout v l → HoldsLayout w (with_cells i slot es l) }
+        AreOfFormat l.definitions.format es → EqualPages (with_page (930 + i) page v) w → HoldsLayout v l →
+        HoldsLayout w (with_cells i slot es l) }
     ensures places { (l : Layout) (space space' : Directory) (slot i : ℕ) (old es : List Element) → IsSound l →
         IsPageFor slot i old l.element_pages → places_of slot space' ≡ place_of (930 + i) es →
         ((s : ℕ) → s < 4096 → s ≢ slot → places_of s space' ≡ places_of s space) → ListsPlaces space l →
@@ -30,8 +32,9 @@ pub fn elements_are_written_on_a_page()
     ensures one_page { (l : Layout) (slot i : ℕ) (old es : List Element) → IsSound l → IsPageFor slot i old l.element_pages →
         HasOnePageEach (with_cells i slot es l).element_pages }
     ensures filled { (l : Layout) (slot i : ℕ) (es : List Element) (h : Heading) → i < length l.element_pages →
-        heading_at l.definitions slot ≡ Some h → FillPage h.columns es → AreFilled l → AreFilled (with_cells i slot es l) }
-    ensures catalogue { (l : Layout) (slot i : ℕ) (old es : List Element) (s : SeriesDef) (stamp : ℤ) (row : Values) → IsSound l →
+        heading_at l.definitions slot ≡ Some h → FillPage h.columns es → AreOfFormat l.definitions.format es → AreFilled l →
+        AreFilled (with_cells i slot es l) }
+    ensures catalogue { (l : Layout) (slot i : ℕ) (old es : List Element) (s : SeriesDef) (stamp : ℤ) (row : Row) → IsSound l →
         IsPageFor slot i old l.element_pages → at_slot slot l.definitions.series ≡ Some s →
         by_stamp es ≡ insert (by_stamp old) stamp row → catalogue_of (with_cells i slot es l) ≡
         record (catalogue_of l) {

@@ -6,7 +6,7 @@ use Rattle.ts_model.specs.declared.def.Def.{Def}
 use Rattle.ts_model.specs.declared.def.Def.TheVariants as defs
 use Rattle.ts_model.specs.declared.kind.Kind.{Kind}
 use Rattle.ts_model.specs.declared.kind.Kind.TheVariants as kinds
-use Rattle.ts_model.specs.Definitions.{Definitions, KindDef, at_slot, name_of, name_in, kind_of, to_def, from_def, table_of, with_table, def_at, limit, no_definitions, IsTable, IsNewName, IsDefinitions}
+use Rattle.ts_model.specs.Definitions.{Definitions, KindDef, at_slot, name_of, name_in, kind_of, to_def, from_def, table_of, with_table, with_format, with_slot, def_at, limit, no_definitions, IsTable, IsNewName, IsFormat, IsDefinitions}
 use Rattle.ts_model.specs.Table.{Slots, AreApart}
 use Rattle.ts_model.specs.Parts.{tables_of, AreOfKind, IsPart, AreParts}
 use Rattle.ts_model.proofs.SlotLemmas.{some≢none, find-missing}
@@ -47,6 +47,17 @@ table-other kinds.Series kinds.RowType table d differs = refl
 table-other kinds.Series kinds.Container table d differs = refl
 table-other kinds.Series kinds.Series table d differs = absurd (differs refl)
 
+-- another table leaves the format, and another format the tables
+pub format-stays : (kind : Kind) (slot : ℕ) (def : Option Def) (d : Definitions) → (with_slot kind slot def d).format ≡ d.format
+format-stays kinds.RowType slot def d = refl
+format-stays kinds.Container slot def d = refl
+format-stays kinds.Series slot def d = refl
+
+pub tables-stay : (kind : Kind) (format : ℕ) (d : Definitions) → table_of kind (with_format format d) ≡ table_of kind d
+tables-stay kinds.RowType format d = refl
+tables-stay kinds.Container format d = refl
+tables-stay kinds.Series format d = refl
+
 -- a kind is another one or the same
 pub same_or_other : (a b : Kind) → (a ≡ b) ⊎ (a ≡ b → ⊥)
 same_or_other kinds.RowType kinds.RowType = inl refl
@@ -65,12 +76,12 @@ table-rules d rules kinds.RowType = rules.row_types
 table-rules d rules kinds.Container = rules.containers
 table-rules d rules kinds.Series = rules.series
 
-pub all-rules : (d : Definitions) → ((kind : Kind) → IsTable (name_in kind) (limit kind) (table_of kind d)) → IsDefinitions d
-all-rules d each = record { row_types = each kinds.RowType; containers = each kinds.Container; series = each kinds.Series }
+pub all-rules : (d : Definitions) → IsFormat d.format → ((kind : Kind) → IsTable (name_in kind) (limit kind) (table_of kind d)) → IsDefinitions d
+all-rules d format each = record { format = format; row_types = each kinds.RowType; containers = each kinds.Container; series = each kinds.Series }
 
 -- tables are one by one those of definitions
-pub all-tables : (d e : Definitions) → ((kind : Kind) → table_of kind d ≡ table_of kind e) → d ≡ e
-all-tables d e each = λ i. record { row_types = each kinds.RowType i; containers = each kinds.Container i; series = each kinds.Series i }
+pub all-tables : (d e : Definitions) → d.format ≡ e.format → ((kind : Kind) → table_of kind d ≡ table_of kind e) → d ≡ e
+all-tables d e format each = λ i. record { format = format i; row_types = each kinds.RowType i; containers = each kinds.Container i; series = each kinds.Series i }
 
 -- a table of definitions of one kind, read as the kind's own
 module _ (kind : Kind) where
@@ -158,8 +169,9 @@ part-new kind count room is = record {
 }
 
 -- the rules of the tables, as they are kept
-pub parts-rules : (a b c : Slots) → AreParts a b c → IsDefinitions (tables_of a b c).definitions
-parts-rules a b c parts = record {
+pub parts-rules : (format : ℕ) (a b c : Slots) → AreParts format a b c → IsDefinitions (tables_of format a b c).definitions
+parts-rules format a b c parts = record {
+  format = parts.format;
   row_types = read-table kinds.RowType 64 a.slots parts.row_types.kinds parts.row_types.rules;
   containers = read-table kinds.Container 64 b.slots parts.containers.kinds parts.containers.rules;
   series = read-table kinds.Series 4096 c.slots parts.series.kinds parts.series.rules;

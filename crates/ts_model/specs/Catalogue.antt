@@ -6,7 +6,8 @@ use Rattle.std.specs.declared.cmp.Ordering.{Ordering}
 use Rattle.std.specs.FinMap.{FinMap, empty, entries, get, values}
 use Rattle.ts_row.specs.declared.kind.Column.{Column}
 use Rattle.ts_row.specs.RowType.{Heading}
-use Rattle.ts_row.specs.Row.{Values}
+use Rattle.ts_row.specs.Row.{Row}
+use Rattle.ts_model.specs.declared.format.TheConstants.{FORMAT}
 
 -- names and keys in the order of their bytes
 abbrev pub name_cmp : List ℕ → List ℕ → Ordering
@@ -23,23 +24,29 @@ pub record Container : Type 0 where
 
 -- the elements of a series: a row at each of some stamps; `entries` lists them, the stamps strictly rising
 abbrev pub Elements : Type 0
-Elements = FinMap int_cmp Values
+Elements = FinMap int_cmp Row
 
 -- an irregular series: the name of its container, and its elements
 pub record Series : Type 0 where
   pub container : List ℕ
   pub elements : Elements
 
--- what a store holds: so many element pages; row types, containers and series under their names and keys
+-- what a store holds: the format of its volume, and so many element pages; row types, containers and series under their
+-- names and keys
 pub record Catalogue : Type 0 where
+  pub format : ℕ
   pub pages : ℕ
   pub row_types : Named Heading
   pub containers : Named Container
   pub series : Named Series
 
--- a store of so many element pages that holds nothing
-abbrev pub empty_catalogue : ℕ → Catalogue
-empty_catalogue pages = record { pages = pages; row_types = empty; containers = empty; series = empty }
+-- a store of a format, with so many element pages, that holds nothing
+abbrev pub empty_catalogue : ℕ → ℕ → Catalogue
+empty_catalogue format pages = record { format = format; pages = pages; row_types = empty; containers = empty; series = empty }
+
+-- the same catalogue in the newest format
+abbrev pub in_newest_format : Catalogue → Catalogue
+in_newest_format cat = record cat { format = FORMAT }
 
 -- the row type of a series, that of its container
 abbrev pub heading_of : Catalogue → Series → Option Heading

@@ -1,8 +1,9 @@
--- The definitions of row types, containers and series, in numbered slots.
+-- The definitions of row types, containers and series, in numbered slots, and the format of their volume.
 use Rattle.std.specs.Prelude.{◌≡◌, ℕ, ◌+◌, ◌<◌, ◌⊎◌, Bool, true, false, List, [], ◌∷◌, length, map, replicate, slice_index_or, slice_set, position, is_none, Option, Some, None, option_map, option_and_then, bytes_eq, Contains}
 use Rattle.std.specs.FinMap.{from_entries}
 use Rattle.ts_row.specs.RowType.{Heading}
 use Rattle.ts_model.specs.Catalogue.{Named}
+use Rattle.ts_model.specs.declared.format.TheConstants.{OLD_FORMAT, FORMAT}
 use Rattle.ts_model.specs.declared.kind.Kind.{Kind}
 use Rattle.ts_model.specs.declared.kind.Kind.TheVariants as kinds
 use Rattle.ts_model.specs.declared.def.Def.{Def}
@@ -24,8 +25,9 @@ pub record SeriesDef : Type 0 where
   pub key : List ℕ
   pub container : ℕ
 
--- the slots of each kind, each empty or filled with a definition
+-- the format of the volume, and the slots of each kind, each empty or filled with a definition
 pub record Definitions : Type 0 where
+  pub format : ℕ
   pub row_types : List (Option RowTypeDef)
   pub containers : List (Option ContainerDef)
   pub series : List (Option SeriesDef)
@@ -40,6 +42,10 @@ pub record Room : Type 0 where
 pub record Tables : Type 0 where
   pub definitions : Definitions
   pub room : Room
+
+-- a format that a volume may have
+abbrev pub IsFormat : ℕ → Type 0
+IsFormat format = (format ≡ OLD_FORMAT) ⊎ (format ≡ FORMAT)
 
 -- how many slots there are for row types, for containers and for series
 abbrev pub row_type_slots : ℕ
@@ -114,6 +120,10 @@ with_table kinds.RowType table d = record d { row_types = table }
 with_table kinds.Container table d = record d { containers = table }
 with_table kinds.Series table d = record d { series = table }
 
+-- the definitions in another format
+abbrev pub with_format : ℕ → Definitions → Definitions
+with_format format d = record d { format = format }
+
 -- the name, or the key, of a definition of a kind
 abbrev pub name_in : (kind : Kind) → KindDef kind → List ℕ
 name_in kind a = name_of (to_def kind a)
@@ -164,9 +174,9 @@ with_room kinds.RowType room = record room { row_types = true }
 with_room kinds.Container room = record room { containers = true }
 with_room kinds.Series room = record room { series = true }
 
--- nothing defined
+-- nothing defined, in the newest format
 abbrev pub no_definitions : Definitions
-no_definitions = record { row_types = replicate row_type_slots None; containers = replicate container_slots None; series = replicate series_slots None }
+no_definitions = record { format = FORMAT; row_types = replicate row_type_slots None; containers = replicate container_slots None; series = replicate series_slots None }
 
 -- the same without room
 abbrev pub no_tables : Tables
@@ -210,6 +220,7 @@ pub record IsTable {A : Type 0} (name : A → List ℕ) (count : ℕ) (table : L
 
 -- the rules that all definitions keep
 pub record IsDefinitions (d : Definitions) : Type 0 where
+  pub format : IsFormat d.format
   pub row_types : IsTable (λ r. r.name) row_type_slots d.row_types
   pub containers : IsTable (λ c. c.name) container_slots d.containers
   pub series : IsTable (λ s. s.key) series_slots d.series

@@ -1,6 +1,7 @@
 pub mod Catalogue
 pub mod Charge
 pub mod Definitions
+pub mod Format
 pub mod Kinds
 pub mod Table
 pub mod Parts

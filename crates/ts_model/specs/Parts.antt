@@ -1,15 +1,16 @@
--- The definitions as three tables, one a kind.
+-- The definitions as a format and three tables, one a kind.
 use Rattle.std.specs.Prelude.{◌≡◌, ℕ, List, map, Option, Some, option_and_then}
 use Rattle.ts_model.specs.declared.kind.Kind.{Kind}
 use Rattle.ts_model.specs.declared.kind.Kind.TheVariants as kinds
 use Rattle.ts_model.specs.declared.def.Def.{Def}
-use Rattle.ts_model.specs.Definitions.{Tables, at_slot, kind_of, name_of, from_def, limit, IsTable}
+use Rattle.ts_model.specs.Definitions.{Tables, at_slot, kind_of, name_of, from_def, limit, IsTable, IsFormat}
 use Rattle.ts_model.specs.Table.{Slots}
 
--- the definitions that three tables have, and the kinds that they have room for
-abbrev pub tables_of : Slots → Slots → Slots → Tables
-tables_of row_types containers series = record {
+-- the definitions of a format that three tables have, and the kinds that they have room for
+abbrev pub tables_of : ℕ → Slots → Slots → Slots → Tables
+tables_of format row_types containers series = record {
   definitions = record {
+    format = format;
     row_types = map (option_and_then (from_def kinds.RowType)) row_types.slots;
     containers = map (option_and_then (from_def kinds.Container)) containers.slots;
     series = map (option_and_then (from_def kinds.Series)) series.slots;
@@ -27,8 +28,9 @@ pub record IsPart (kind : Kind) (table : Slots) : Type 0 where
   pub kinds : AreOfKind kind table.slots
   pub rules : IsTable name_of (limit kind) table.slots
 
--- the tables of the three kinds
-pub record AreParts (a b c : Slots) : Type 0 where
+-- a format, and the tables of the three kinds
+pub record AreParts (number : ℕ) (a b c : Slots) : Type 0 where
+  pub format : IsFormat number
   pub row_types : IsPart kinds.RowType a
   pub containers : IsPart kinds.Container b
   pub series : IsPart kinds.Series c

@@ -1,15 +1,16 @@
 ghost use Rattle.std.specs.Prelude.{◌≡◌, ◌<◌, ◌⊎◌, true, OnOk, OnErr, IsOk, IfSome, IsSome, EachIndex, slice_index, option_copied};
 ghost use Rattle.std.specs.FinMap.{values};
-ghost use Rattle.ts_model.specs.Definitions.{limit, kind_of, name_of, slots, with_slot, has_room, with_room, no_tables, at_slot, slot_of, vacant_slot, slots_by_name, IsNewName, IsDefinitions};
+ghost use Rattle.ts_model.specs.Definitions.{limit, kind_of, name_of, slots, with_slot, has_room, with_room, no_tables, at_slot, slot_of, vacant_slot, slots_by_name, with_format, IsNewName, IsFormat, IsDefinitions};
 
 use crate::table::Table;
-use crate::{Def, Kind};
+use crate::{Def, FORMAT, Kind};
 use std::alloc::{AllocError, Global};
 use std::marker::Model;
 
 /// Row types, containers and series in numbered slots, each found by its name.
 #[derive(Drop)]
 pub struct Defs {
+    format: u8,
     row_types: Table,
     containers: Table,
     series: Table,
@@ -21,21 +22,38 @@ impl Model for Defs {
 
     ghost Value = { Tables };
 
-    ghost view = { λ d. tables_of d.row_types d.containers d.series };
+    ghost view = { λ d. tables_of d.format d.row_types d.containers d.series };
 
-    ghost invariant = { λ d. AreParts d.row_types d.containers d.series };
+    ghost invariant = { λ d. AreParts d.format d.row_types d.containers d.series };
 }
 
 impl Defs {
-    /// Nothing defined; it takes no memory.
+    /// Nothing defined, in the newest format; it takes no memory.
     pub fn new(alloc: Global) -> Defs
         ensures { result ≡ no_tables }
     {
         Defs {
+            format: FORMAT,
             row_types: Table::new(alloc, Kind::RowType.limit()),
             containers: Table::new(alloc, Kind::Container.limit()),
             series: Table::new(alloc, Kind::Series.limit()),
         }
+    }
+
+    /// The format of the volume.
+    pub fn format(&self) -> u8
+        ensures value { result ≡ self.now.definitions.format }
+        ensures one { IsFormat result }
+    {
+        self.format
+    }
+
+    /// Takes another format. The definitions stay, and it takes no memory.
+    pub fn set_format(&mut self, format: u8)
+        requires { IsFormat format }
+        ensures { self.new ≡ record self.old { definitions = with_format format self.old.definitions } }
+    {
+        self.format = format;
     }
 
     /// The slot that has this name, or this key.

@@ -2,7 +2,7 @@
 use crate::made::def;
 use std::alloc::Global;
 use ts_base::StoreFault;
-use ts_model::{Def, Defs, Kind};
+use ts_model::{Def, Defs, FORMAT, Kind, OLD_FORMAT};
 
 // Puts a definition into a slot, unless there is no such slot or the name is taken.
 fn put(defs: &mut Defs, slot: u16, def: Def) -> Result<bool, StoreFault> {
@@ -192,4 +192,19 @@ fn a_copy_has_the_same_name(rt: HostRuntime) {
     for kind in &[Kind::RowType, Kind::Container, Kind::Series] {
         assert!(rt; is_copied(rt.alloc(), *kind, b"rd"));
     }
+}
+
+// Whether definitions keep their names as they take another format, and that one again.
+fn format_is_set(alloc: Global) -> Result<bool, StoreFault> {
+    let mut defs = defs_of(alloc, Kind::Container, &CONTAINERS)?;
+    let new = defs.format() == FORMAT;
+    defs.set_format(OLD_FORMAT);
+    let old = defs.format() == OLD_FORMAT && are_found(&defs);
+    defs.set_format(FORMAT);
+    Ok(new && old && defs.format() == FORMAT && are_found(&defs))
+}
+
+#[test]
+fn another_format_leaves_the_definitions(rt: HostRuntime) {
+    assert!(rt; matches!(format_is_set(rt.alloc()), Ok(true)));
 }

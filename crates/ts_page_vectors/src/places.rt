@@ -1,12 +1,14 @@
 // Where the format puts slots.
 use ts_layout::{
-    a_definition_is_dropped, a_definition_is_made, a_definition_is_used_by_its_slot,
-    a_journal_and_freed_bytes_mean_nothing, a_place_tells_of_its_page,
-    a_series_is_dropped_with_its_page, a_series_stands_on_one_page_at_most,
+    a_catalogue_keeps_its_format, a_definition_is_dropped, a_definition_is_made,
+    a_definition_is_used_by_its_slot, a_journal_and_freed_bytes_mean_nothing,
+    a_place_tells_of_its_page, a_series_is_dropped_with_its_page,
+    a_series_stands_on_one_page_at_most, a_volume_takes_the_newest_format,
     a_written_slot_changes_definitions_alone, byte_of_slot, charges_follow_the_directory,
     elements_are_written_on_a_page, free_pages_are_taken_and_freed, names_stand_in_slots,
     page_of_slot, pages_are_free_or_placed, pages_mean_one_catalogue, pages_that_hold_are_filled,
     references_are_names, slot_size, slots_are_counted, slots_in_page,
+    the_elements_of_a_page_are_of_the_format, the_newest_format_has_all,
     the_places_of_other_series_stay, the_quotas_leave_room,
 };
 use ts_model::Kind;
@@ -51,6 +53,14 @@ fn the_laws_of_layouts_are_called() {
     names_stand_in_slots();
     references_are_names();
     slots_are_counted();
+}
+
+#[test]
+fn the_laws_of_formats_are_called() {
+    a_catalogue_keeps_its_format();
+    a_volume_takes_the_newest_format();
+    the_newest_format_has_all();
+    the_elements_of_a_page_are_of_the_format();
 }
 
 #[test]

@@ -6,10 +6,11 @@ use crate::made::def;
 use std::alloc::{AllocError, Global};
 use ts_base::StoreFault;
 use ts_container::{
-    Charges, SurveyFault, Surveyed, a_charge_changes_with_a_series, survey, write_header,
+    Charges, SurveyFault, Surveyed, a_charge_changes_with_a_series,
+    charges_are_the_same_in_every_format, is_of_format, put_header, survey, write_header,
     write_slot,
 };
-use ts_model::Kind;
+use ts_model::{Def, FORMAT, Kind, OLD_FORMAT};
 use ts_page::{MemoryPages, Page, Pages};
 use ts_space::Place;
 
@@ -19,7 +20,7 @@ const CELL: &[u8] = &[1, 0, 0, 0x75, 0xb0, 0x95, 0x53, 0xf0, 0, 1, 0, 0, 0, 5];
 /// Bytes that are put into a page: its number, their place and they.
 type Patch = (u32, usize, &'static [u8]);
 
-/// A volume with a row type, a container in slot 3, a series in slot 50 and one element.
+/// A volume of the old format with a row type, a container in slot 3, a series in slot 50 and one element.
 const GOOD: [Patch; 10] = [
     (0, 0, b"TSVOLUME\x01\x00\x00\x00\x02"),
     (257, 0, b"\x01\x01r"),
@@ -117,6 +118,7 @@ fn is_good(found: &Surveyed) -> bool {
         && found.defs.vacant(Kind::Series) == Some(0)
         && found.space.places(50) == [ELEMENT].as_slice()
         && found.free.as_slice() == [930].as_slice()
+        && found.defs.format() == OLD_FORMAT
 }
 
 fn is_surveyed(alloc: Global) -> bool {
@@ -131,17 +133,70 @@ fn a_volume_is_surveyed(rt: HostRuntime) {
     assert!(rt; is_surveyed(rt.alloc()));
 }
 
-fn has_header(page: &Page) -> bool {
-    &page.bytes[..13] == b"TSVOLUME\x01\x00\x01\x00\x00".as_slice()
-        && page.bytes[13..].iter().all(|byte| *byte == 0)
+fn has_header(page: &Page, wanted: &[u8]) -> bool {
+    &page.bytes[..13] == wanted && page.bytes[13..].iter().all(|byte| *byte == 0)
+}
+
+// Whether the header of a format is written with these bytes, and no other.
+fn is_header(format: u8, wanted: &[u8]) -> bool {
+    let mut page = Page::zero();
+    page.bytes[4095] = 7;
+    write_header(format, 65536, &mut page);
+    has_header(&page, wanted)
 }
 
 #[test]
 fn the_header_has_these_bytes(rt: HostRuntime) {
-    let mut page = Page::zero();
-    page.bytes[4095] = 7;
-    write_header(65536, &mut page);
-    assert!(rt; has_header(&page));
+    assert!(rt; is_header(OLD_FORMAT, b"TSVOLUME\x01\x00\x01\x00\x00"));
+    assert!(rt; is_header(FORMAT, b"TSVOLUME\x02\x00\x01\x00\x00"));
+}
+
+/// The byte of the format, and what a survey says of it.
+const FORMATS: [(Patch, Option<u8>); 5] = [
+    ((0, 8, &[0]), None),
+    ((0, 8, &[1]), Some(1)),
+    ((0, 8, &[2]), Some(2)),
+    ((0, 8, &[3]), None),
+    ((0, 8, &[9]), None),
+];
+
+// The format of a volume; none where its header is bad.
+fn format_of(alloc: Global, patch: Patch) -> Option<Option<u8>> {
+    match surveyed(alloc, &[patch]) {
+        Ok(found) => Some(Some(found.defs.format())),
+        Err(SurveyFault::NotAStore { page: 0 }) => Some(None),
+        Err(_) => None,
+    }
+}
+
+#[test]
+fn the_survey_tells_the_format(rt: HostRuntime) {
+    for (patch, wanted) in &FORMATS {
+        assert!(rt; format_of(rt.alloc(), *patch) == Some(*wanted));
+    }
+}
+
+// The good volume with the header of the newest format.
+fn renewed(alloc: Global) -> Result<MemoryPages, StoreFault>
+    ensures { IfOk result (λ pages. (memory_contents pages).count ≡ 932) }
+{
+    let mut pages = volume(alloc, &[])?;
+    put_header(&mut pages, FORMAT, 2)?;
+    Ok(pages)
+}
+
+// Whether a page of it is that of the good volume with another byte in its header.
+fn is_renewed(alloc: Global, number: u32) -> Option<bool> {
+    let page = page_of(&mut renewed(alloc).ok()?, number)?;
+    let wanted = page_of(&mut volume(alloc, &[NEWEST]).ok()?, number)?;
+    Some(page == wanted)
+}
+
+#[test]
+fn a_volume_takes_another_format_by_its_first_page(rt: HostRuntime) {
+    for number in &[0, 257, 833, 931] {
+        assert!(rt; is_renewed(rt.alloc(), *number) == Some(true));
+    }
 }
 
 /// The definitions of the good volume, and one that comes and goes.
@@ -234,23 +289,18 @@ fn a_slot_beside_another_is_written(rt: HostRuntime) {
     assert!(rt; has_both_series(with_next_series(rt.alloc())));
 }
 
-/// Bytes for the good volume, and the first page that is bad with them.
-const DEFINITIONS: [(&[Patch], Option<u32>); 30] = [
-    // The header: as it is, another format, another number of pages, a byte behind it.
-    (&[(0, 8, &[1])], None),
-    (&[(0, 8, &[2])], Some(0)),
+/// Bytes for the good volume, and the first page that is bad with them, if one is.
+type Case = (&'static [Patch], Option<u32>);
+
+fn is_told(alloc: Global, case: &Case) -> bool {
+    let (patches, wanted) = *case;
+    bad_page(alloc, patches) == Some(wanted)
+}
+
+const DEFINITIONS: [Case; 19] = [
+    // The header: another number of pages, a byte behind it.
     (&[(0, 12, &[3])], Some(0)),
     (&[(0, 4095, &[1])], Some(0)),
-    // A row type: its first byte, a byte behind its name, one column more, a kind of none, a byte behind it.
-    (&[(257, 0, &[2])], Some(257)),
-    (&[(257, 3, &[1])], Some(257)),
-    (&[(257, 67, &[2])], Some(257)),
-    (&[(257, 68, &[6])], Some(257)),
-    (&[(257, 4095, &[1])], Some(257)),
-    // A decimal of 18 digits, whose cell the element's bytes are too, of 19 and of 28.
-    (&[(257, 68, &[4, 18])], None),
-    (&[(257, 68, &[4, 19])], Some(257)),
-    (&[(257, 68, &[4, 28])], Some(257)),
     // Pages without slots, and the rest of pages with some.
     (&[(321, 0, &[1])], Some(321)),
     (&[(832, 4095, &[1])], Some(832)),
@@ -273,15 +323,6 @@ const DEFINITIONS: [(&[Patch], Option<u32>); 30] = [
     (&[BEHIND, DANGLING], Some(833)),
     (&[BEHIND, DANGLING, (900, 0, &[9])], Some(900)),
     (&[DANGLING], Some(833)),
-    // A row type of the same name.
-    (
-        &[
-            (300, 0, b"\x01\x01r"),
-            (300, 34, b"\x01t"),
-            (300, 67, b"\x01\x01\x00\x00\x01w"),
-        ],
-        Some(300),
-    ),
 ];
 
 const BESIDE: Patch = (835, 752, b"\x02\x01k");
@@ -292,13 +333,68 @@ const DANGLING: Patch = (833, 214, &[1]);
 
 #[test]
 fn the_first_page_that_breaks_the_format_is_told(rt: HostRuntime) {
-    for (patches, wanted) in &DEFINITIONS {
-        assert!(rt; bad_page(rt.alloc(), patches) == Some(*wanted));
+    for case in &DEFINITIONS {
+        assert!(rt; is_told(rt.alloc(), case));
+    }
+}
+
+/// The same of row types.
+const ROW_TYPES: [Case; 14] = [
+    // The first byte, a byte behind the name, one column more, a kind of none, a byte behind the row type.
+    (&[(257, 0, &[2])], Some(257)),
+    (&[(257, 3, &[1])], Some(257)),
+    (&[(257, 67, &[2])], Some(257)),
+    (&[(257, 68, &[6])], Some(257)),
+    (&[(257, 4095, &[1])], Some(257)),
+    // A decimal of 18 digits, whose cell the element's bytes are too; of 19 and of 28, which have 16 bytes, in the old
+    // format; and of 19, of 28 and of 29 in the newest.
+    (&[(257, 68, &[4, 18])], None),
+    (&[(257, 68, &[4, 19]), LONG], Some(257)),
+    (&[(257, 68, &[4, 28]), LONG], Some(257)),
+    (&[NEWEST, (257, 68, &[4, 19]), LONG], None),
+    (&[NEWEST, (257, 68, &[4, 28]), LONG], None),
+    (&[NEWEST, (257, 68, &[4, 29]), LONG], Some(257)),
+    // A name that is there twice; and behind its page one with a decimal of 19 digits, which in the old format comes first.
+    (&[AGAIN, AGAIN_T, AGAIN_V], Some(258)),
+    (
+        &[AGAIN, AGAIN_T, AGAIN_V, OTHER_Q, OTHER_T, OTHER_V],
+        Some(300),
+    ),
+    (
+        &[NEWEST, AGAIN, AGAIN_T, AGAIN_V, OTHER_Q, OTHER_T, OTHER_V],
+        Some(258),
+    ),
+];
+
+/// The byte of the newest format.
+const NEWEST: Patch = (0, 8, &[2]);
+
+/// The number 5 in 16 bytes.
+const LONG: Patch = (931, 42, b"\0\0\0\0\0\0\0\0\0\0\0\0\0\0\0\x05");
+
+/// A row type with the name of the first, its stamp and its column.
+const AGAIN: Patch = (258, 0, b"\x01\x01r");
+
+const AGAIN_T: Patch = (258, 34, b"\x01t");
+
+const AGAIN_V: Patch = (258, 67, b"\x01\x02\x00\x00\x01v");
+
+/// One with another name and a decimal of 19 digits.
+const OTHER_Q: Patch = (300, 0, b"\x01\x01q");
+
+const OTHER_T: Patch = (300, 34, b"\x01t");
+
+const OTHER_V: Patch = (300, 67, b"\x01\x04\x13\x00\x01v");
+
+#[test]
+fn a_bad_row_type_is_told(rt: HostRuntime) {
+    for case in &ROW_TYPES {
+        assert!(rt; is_told(rt.alloc(), case));
     }
 }
 
 /// The same of element pages.
-const ELEMENTS: [(&[Patch], Option<u32>); 14] = [
+const ELEMENTS: [Case; 14] = [
     // No kind of page, a regular page, a page of an empty slot.
     (&[(930, 0, &[3])], Some(930)),
     (&[(931, 0, &[1])], Some(931)),
@@ -315,9 +411,9 @@ const ELEMENTS: [(&[Patch], Option<u32>); 14] = [
     (&[TWO, SECOND, (931, 53, &[0xf0])], Some(931)),
     (&[TWO, SECOND, (931, 53, &[0xf1])], None),
     // A second page of the series, and one of another series of the container, which has a quota of one page then.
-    (&[HEAD, (930, 32, CELL), QUOTA], Some(931)),
-    (&[HEAD, (930, 32, CELL), OTHER, KEY, IN_C, QUOTA], Some(833)),
-    (&[HEAD, (930, 32, CELL), OTHER, KEY, IN_C], None),
+    (&[HEAD, FIRST, QUOTA], Some(931)),
+    (&[HEAD, FIRST, OTHER, KEY, IN_C, QUOTA], Some(833)),
+    (&[HEAD, FIRST, OTHER, KEY, IN_C], None),
 ];
 
 const TWO: Patch = (931, 4, &[2]);
@@ -325,6 +421,8 @@ const TWO: Patch = (931, 4, &[2]);
 const SECOND: Patch = (931, 46, CELL);
 
 const HEAD: Patch = (930, 0, b"\x02\x00\x32\x00\x01");
+
+const FIRST: Patch = (930, 32, CELL);
 
 const OTHER: Patch = (930, 2, b"\x33");
 
@@ -336,8 +434,35 @@ const QUOTA: Patch = (833, 218, &[1]);
 
 #[test]
 fn a_bad_element_page_is_told(rt: HostRuntime) {
-    for (patches, wanted) in &ELEMENTS {
-        assert!(rt; bad_page(rt.alloc(), patches) == Some(*wanted));
+    for case in &ELEMENTS {
+        assert!(rt; is_told(rt.alloc(), case));
+    }
+}
+
+/// The same of hidden elements.
+const MARKS: [Case; 7] = [
+    // The integer 5 and NULL, hidden: bad in the old format, good in the newest; and a mark that is none.
+    (&[HIDDEN], Some(931)),
+    (&[HIDDEN_NULL], Some(931)),
+    (&[NEWEST, HIDDEN], None),
+    (&[NEWEST, HIDDEN_NULL], None),
+    (&[NEWEST, (931, 41, &[4])], Some(931)),
+    // A container over its quota: a page with a hidden element comes first in the old format.
+    (&[HEAD, FIRST, OTHER, KEY, IN_C, QUOTA, HIDDEN], Some(931)),
+    (
+        &[NEWEST, HEAD, FIRST, OTHER, KEY, IN_C, QUOTA, HIDDEN],
+        Some(833),
+    ),
+];
+
+const HIDDEN: Patch = (931, 41, b"\x03\x00\x00\x00\x05");
+
+const HIDDEN_NULL: Patch = (931, 41, b"\x02\x00\x00\x00\x00");
+
+#[test]
+fn hidden_elements_are_of_the_newest_format(rt: HostRuntime) {
+    for case in &MARKS {
+        assert!(rt; is_told(rt.alloc(), case));
     }
 }
 
@@ -352,4 +477,20 @@ fn changed_charges(alloc: Global) -> Result<(u64, u64), AllocError> {
 fn a_charge_is_changed(rt: HostRuntime) {
     assert!(rt; matches!(changed_charges(rt.alloc()), Ok((5, 0))));
     a_charge_changes_with_a_series();
+    charges_are_the_same_in_every_format();
+}
+
+// Whether a row type of integers is of both formats.
+fn integers_are_of_all(alloc: Global) -> bool {
+    match def(alloc, Kind::RowType, b"r") {
+        Ok(Def::RowType { kind, .. }) => {
+            is_of_format(OLD_FORMAT, &kind) && is_of_format(FORMAT, &kind)
+        }
+        _ => false,
+    }
+}
+
+#[test]
+fn integers_are_of_both_formats(rt: HostRuntime) {
+    assert!(rt; integers_are_of_all(rt.alloc()));
 }

@@ -7,7 +7,7 @@ use Rattle.ts_container.proofs.container_slot.parse_container.Goals as goal
 
 pub returns-then-row_type-ge-ROW_TYPES-clause-found : goal.returns-then-row_type-ge-ROW_TYPES-clause-found
 returns-then-row_type-ge-ROW_TYPES-clause-found c =
-    containers_only (λ def. c.args.slot.now ≡ def_bytes def → None ≡ Some def) (λ name row_type quota is bytes.
+    λ format. containers_only format (λ def. c.args.slot.now ≡ def_bytes def → None ≡ Some def) (λ name row_type quota is bytes.
     let short = length-name name is.name in
     let fits : quota < 2 ^ 32 = omega (arith, is.most) in
     let slot = ap (λ (l : List ℕ). get_or l 34 0) bytes ∙ container_row_type name row_type quota short in
@@ -19,13 +19,13 @@ returns-then-row_type-ge-ROW_TYPES-clause-found c =
 
 pub returns-in_default-clause-found : goal.returns-in_default-clause-found
 returns-in_default-clause-found c =
-    containers_only (λ def. c.args.slot.now ≡ def_bytes def → None ≡ Some def) (λ name row_type quota is bytes.
+    λ format. containers_only format (λ def. c.args.slot.now ≡ def_bytes def → None ≡ Some def) (λ name row_type quota is bytes.
     none_some c.in_ok-name.field-0 name c.in_default.is
     (c.in_ok-name.ensures name is.name (ap (λ (l : List ℕ). take 33 (drop 1 l)) bytes ∙ container_name name row_type quota (length-name name is.name))))
 
 pub returns-clause-found : goal.returns-clause-found
 returns-clause-found c =
-    containers_only (λ def. c.args.slot.now ≡ def_bytes def → Some (defs.Container c.in-Some.name (get_or c.args.slot.now 34 0) c.quota_in-quota.result) ≡ Some def) (λ name row_type quota is bytes.
+    λ format. containers_only format (λ def. c.args.slot.now ≡ def_bytes def → Some (defs.Container c.in-Some.name (get_or c.args.slot.now 34 0) c.quota_in-quota.result) ≡ Some def) (λ name row_type quota is bytes.
     let short = length-name name is.name in
     let fits : quota < 2 ^ 32 = omega (arith, is.most) in
     let same = one c.in_ok-name.field-0 c.in-Some.name name c.in-Some.is

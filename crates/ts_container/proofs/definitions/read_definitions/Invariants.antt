@@ -9,6 +9,6 @@ abbrev pub invariant-loop-number : goal.invariant-loop-number
 invariant-loop-number g l = record {
   call : Reads {T = Unit {0}} g.P.Pages.tells (Ok tt) (g.P.Pages.contents l.fn.pages) (g.P.Pages.contents l.pages);
   undisturbed : g.P.Pages.undisturbed l.fn.pages l.pages;
-  read : AreReadTo (rank_of_page l.number) l.defs.definitions;
-  known : IsTrue g.P.Pages.tells → KnownBelow l.repeated (g.P.Pages.contents l.fn.pages).page l.number l.defs.definitions;
+  read : AreReadTo l.fn.defs.definitions.format (rank_of_page l.number) l.defs.definitions;
+  known : IsTrue g.P.Pages.tells → KnownBelow l.fn.defs.definitions.format l.repeated (g.P.Pages.contents l.fn.pages).page l.number l.defs.definitions;
 }

@@ -14,7 +14,7 @@ text slot key container short is =
 
 pub returns-then-length-gt-KEY-clause-found : goal.returns-then-length-gt-KEY-clause-found
 returns-then-length-gt-KEY-clause-found c =
-    series_only (λ def. c.args.slot.now ≡ def_bytes def → None ≡ Some def) (λ key container is bytes.
+    λ format. series_only format (λ def. c.args.slot.now ≡ def_bytes def → None ≡ Some def) (λ key container is bytes.
     let short = length-key key is.key in
     let count = ap (λ (l : List ℕ). get_or l 1 0) bytes ∙ series_length key container in
     let slot = ap (λ (l : List ℕ). get_or l 66 0) bytes ∙ series_container key container short in
@@ -22,13 +22,13 @@ returns-then-length-gt-KEY-clause-found c =
 
 pub returns-in_default-clause-found : goal.returns-in_default-clause-found
 returns-in_default-clause-found c =
-    series_only (λ def. c.args.slot.now ≡ def_bytes def → None ≡ Some def) (λ key container is bytes.
+    λ format. series_only format (λ def. c.args.slot.now ≡ def_bytes def → None ≡ Some def) (λ key container is bytes.
     none_some c.in_ok-key.field-0 key c.in_default.is
     (c.in_ok-key.ensures ∙ key_is _ key (text c.args.slot.now key container (length-key key is.key) bytes) is.key))
 
 pub returns-clause-found : goal.returns-clause-found
 returns-clause-found c =
-    series_only (λ def. c.args.slot.now ≡ def_bytes def → Some (defs.Series c.in-Some.key (get_or c.args.slot.now 66 0)) ≡ Some def) (λ key container is bytes.
+    λ format. series_only format (λ def. c.args.slot.now ≡ def_bytes def → Some (defs.Series c.in-Some.key (get_or c.args.slot.now 66 0)) ≡ Some def) (λ key container is bytes.
     let short = length-key key is.key in
     let same = one c.in_ok-key.field-0 c.in-Some.key key c.in-Some.is
     (c.in_ok-key.ensures ∙ key_is _ key (text c.args.slot.now key container short bytes) is.key) in

@@ -11,7 +11,7 @@ returns-in_err-elements-clause-refused g c =
     let w = g.P.Pages.contents c.read_elements.new.pages in
     let sound = c.in_ok-defs.ensures.read in
     elements_refused tells c.args.count c.from_residual-in_err-elements.result c.in_err-elements.field-0.0 c.in_ok-defs.defs.definitions u v w
-    (err_is c.from_residual-in_err-elements.result c.in_err-elements.field-0.0 c.from_residual-in_err-elements.ensures.1) (reads_ok tells c.in_ok-defs.defs (tt {0}) u v sound.call) sound.known sound.read c.in_err-elements.ensures.read
+    (err_is c.from_residual-in_err-elements.result c.in_err-elements.field-0.0 c.from_residual-in_err-elements.ensures.1) (reads_ok tells c.in_ok-defs.defs (tt {0}) u v sound.call) sound.header sound.known sound.read c.in_err-elements.ensures.read
 
 pub returns-in-Some-clause-refused : goal.returns-in-Some-clause-refused
 returns-in-Some-clause-refused g c =
@@ -21,7 +21,7 @@ returns-in-Some-clause-refused g c =
     let sound = c.in_ok-defs.ensures.read in
     let x = c.in_ok-elements.elements in
     let all = all_before tells (c.args.count - 930) c.in_ok-defs.defs.definitions u v x.space x.free.items x.second (reads_ok tells c.in_ok-defs.defs (tt {0}) u v sound.call) c.in_ok-elements.ensures.read.read in
-    λ told. not_one tells c.args.count c.in-Some.second c.in_ok-defs.defs.definitions u x.space x.free.items x.second told (sound.known told) sound.read all c.in-Some.is
+    λ told. not_one tells c.args.count c.in-Some.second c.in_ok-defs.defs.definitions u x.space x.free.items x.second told (sound.header told) (sound.known told) sound.read all c.in-Some.is
 
 pub returns-then-not-keep_quotas-clause-refused : goal.returns-then-not-keep_quotas-clause-refused
 returns-then-not-keep_quotas-clause-refused g c =
@@ -31,7 +31,7 @@ returns-then-not-keep_quotas-clause-refused g c =
     let sound = c.in_ok-defs.ensures.read in
     let x = c.in_ok-elements.elements in
     let all = all_before tells (c.args.count - 930) c.in_ok-defs.defs.definitions u v x.space x.free.items x.second (reads_ok tells c.in_ok-defs.defs (tt {0}) u v sound.call) c.in_ok-elements.ensures.read.read in
-    λ told. not_paid tells c.args.count c.in_ok-defs.defs.definitions u x.space x.free.items x.second told (sound.known told) sound.read all c.in_default.is
+    λ told. not_paid tells c.args.count c.in_ok-defs.defs.definitions u x.space x.free.items x.second told (sound.header told) (sound.known told) sound.read all c.in_default.is
     (λ kept. let t = c.if-not-keep_quotas.ensures.1 kept in let no : ⊥ = cc in no)
 
 pub returns-then-not-keep_quotas-clause-call : goal.returns-then-not-keep_quotas-clause-call
@@ -55,4 +55,4 @@ returns-clause-ok g c =
     let sound = c.in_ok-defs.ensures.read in
     let x = c.in_ok-elements.elements in
     let all = all_before tells (c.args.count - 930) c.in_ok-defs.defs.definitions u v x.space x.free.items x.second (reads_ok tells c.in_ok-defs.defs (tt {0}) u v sound.call) c.in_ok-elements.ensures.read.read in
-    is_found tells c.args.count c.in_ok-defs.defs.definitions u x.space x.free.items x.second c.requires.some c.requires.most c.places-slots.ensures.slots (sound.header refl) sound.known sound.read all c.in_default.is (c.if-not-keep_quotas.ensures.0 refl)
+    is_found tells c.args.count c.in_ok-defs.defs.definitions u x.space x.free.items x.second c.requires.some c.requires.most c.places-slots.ensures.slots sound.header sound.known sound.read all c.in_default.is (c.if-not-keep_quotas.ensures.0 refl)

@@ -32,6 +32,7 @@ invariant_of-self c =
     let is = subst (λ (k : Kind). IfSome c.args.def (λ d. kind_of d ≡ k)) c.in-RowType.is c.requires.kind in
     let part = part-set kinds.RowType c.self.inside.row_types c.args.slot c.args.def c.self.invariant.row_types below is (new-name-in c.args.def c.args.slot _ _ same c.requires.name) in
     record {
+      format = c.self.invariant.format;
       row_types = subst (IsPart kinds.RowType) (sym c.set.ensures) part;
       containers = c.self.invariant.containers;
       series = c.self.invariant.series;
@@ -39,7 +40,7 @@ invariant_of-self c =
 
 pub returns-in-RowType-clause-slot : goal.returns-in-RowType-clause-slot
 returns-in-RowType-clause-slot c =
-    ap (λ (l : List (Option RowTypeDef)). let d : Definitions = record { row_types = l; containers = map (option_and_then (from_def kinds.Container)) c.self.inside.containers.slots; series = map (option_and_then (from_def kinds.Series)) c.self.inside.series.slots } in d)
+    ap (λ (l : List (Option RowTypeDef)). let d : Definitions = record { format = c.self.inside.format; row_types = l; containers = map (option_and_then (from_def kinds.Container)) c.self.inside.containers.slots; series = map (option_and_then (from_def kinds.Series)) c.self.inside.series.slots } in d)
     (ap (λ (t : Slots). map (option_and_then (from_def kinds.RowType)) t.slots) c.set.ensures ∙ read-set kinds.RowType c.self.inside.row_types.slots c.args.slot c.args.def)
     ∙ (λ i. with_slot (sym c.in-RowType.is i) c.args.slot c.args.def (c.self.view_is i).definitions)
 
@@ -60,6 +61,7 @@ invariant_of-self-in-Container c =
     let is = subst (λ (k : Kind). IfSome c.args.def (λ d. kind_of d ≡ k)) c.in-Container.is c.requires.kind in
     let part = part-set kinds.Container c.self.inside.containers c.args.slot c.args.def c.self.invariant.containers below is (new-name-in c.args.def c.args.slot _ _ same c.requires.name) in
     record {
+      format = c.self.invariant.format;
       row_types = c.self.invariant.row_types;
       containers = subst (IsPart kinds.Container) (sym c.set-in-Container.ensures) part;
       series = c.self.invariant.series;
@@ -67,7 +69,7 @@ invariant_of-self-in-Container c =
 
 pub returns-in-Container-clause-slot : goal.returns-in-Container-clause-slot
 returns-in-Container-clause-slot c =
-    ap (λ (l : List (Option ContainerDef)). let d : Definitions = record { row_types = map (option_and_then (from_def kinds.RowType)) c.self.inside.row_types.slots; containers = l; series = map (option_and_then (from_def kinds.Series)) c.self.inside.series.slots } in d)
+    ap (λ (l : List (Option ContainerDef)). let d : Definitions = record { format = c.self.inside.format; row_types = map (option_and_then (from_def kinds.RowType)) c.self.inside.row_types.slots; containers = l; series = map (option_and_then (from_def kinds.Series)) c.self.inside.series.slots } in d)
     (ap (λ (t : Slots). map (option_and_then (from_def kinds.Container)) t.slots) c.set-in-Container.ensures ∙ read-set kinds.Container c.self.inside.containers.slots c.args.slot c.args.def)
     ∙ (λ i. with_slot (sym c.in-Container.is i) c.args.slot c.args.def (c.self.view_is i).definitions)
 
@@ -88,6 +90,7 @@ invariant_of-self-in-Series c =
     let is = subst (λ (k : Kind). IfSome c.args.def (λ d. kind_of d ≡ k)) c.in-Series.is c.requires.kind in
     let part = part-set kinds.Series c.self.inside.series c.args.slot c.args.def c.self.invariant.series below is (new-name-in c.args.def c.args.slot _ _ same c.requires.name) in
     record {
+      format = c.self.invariant.format;
       row_types = c.self.invariant.row_types;
       containers = c.self.invariant.containers;
       series = subst (IsPart kinds.Series) (sym c.set-in-Series.ensures) part;
@@ -95,6 +98,6 @@ invariant_of-self-in-Series c =
 
 pub returns-in-Series-clause-slot : goal.returns-in-Series-clause-slot
 returns-in-Series-clause-slot c =
-    ap (λ (l : List (Option SeriesDef)). let d : Definitions = record { row_types = map (option_and_then (from_def kinds.RowType)) c.self.inside.row_types.slots; containers = map (option_and_then (from_def kinds.Container)) c.self.inside.containers.slots; series = l } in d)
+    ap (λ (l : List (Option SeriesDef)). let d : Definitions = record { format = c.self.inside.format; row_types = map (option_and_then (from_def kinds.RowType)) c.self.inside.row_types.slots; containers = map (option_and_then (from_def kinds.Container)) c.self.inside.containers.slots; series = l } in d)
     (ap (λ (t : Slots). map (option_and_then (from_def kinds.Series)) t.slots) c.set-in-Series.ensures ∙ read-set kinds.Series c.self.inside.series.slots c.args.slot c.args.def)
     ∙ (λ i. with_slot (sym c.in-Series.is i) c.args.slot c.args.def (c.self.view_is i).definitions)

@@ -10,7 +10,7 @@ returns-in-RowType-clause-slots c =
     ∙ (λ i. slots (sym c.in-RowType.is i) (c.self.view_is i).definitions)
 
 pub returns-in-RowType-clause-rules : goal.returns-in-RowType-clause-rules
-returns-in-RowType-clause-rules c = subst (λ (t : Tables). IsDefinitions t.definitions) c.self.view_is (parts-rules _ _ _ c.self.invariant)
+returns-in-RowType-clause-rules c = subst (λ (t : Tables). IsDefinitions t.definitions) c.self.view_is (parts-rules _ _ _ _ c.self.invariant)
 
 pub returns-in-Container-clause-slots : goal.returns-in-Container-clause-slots
 returns-in-Container-clause-slots c =
@@ -18,7 +18,7 @@ returns-in-Container-clause-slots c =
     ∙ (λ i. slots (sym c.in-Container.is i) (c.self.view_is i).definitions)
 
 pub returns-in-Container-clause-rules : goal.returns-in-Container-clause-rules
-returns-in-Container-clause-rules c = subst (λ (t : Tables). IsDefinitions t.definitions) c.self.view_is (parts-rules _ _ _ c.self.invariant)
+returns-in-Container-clause-rules c = subst (λ (t : Tables). IsDefinitions t.definitions) c.self.view_is (parts-rules _ _ _ _ c.self.invariant)
 
 pub returns-in-Series-clause-slots : goal.returns-in-Series-clause-slots
 returns-in-Series-clause-slots c =
@@ -26,4 +26,4 @@ returns-in-Series-clause-slots c =
     ∙ (λ i. slots (sym c.in-Series.is i) (c.self.view_is i).definitions)
 
 pub returns-in-Series-clause-rules : goal.returns-in-Series-clause-rules
-returns-in-Series-clause-rules c = subst (λ (t : Tables). IsDefinitions t.definitions) c.self.view_is (parts-rules _ _ _ c.self.invariant)
+returns-in-Series-clause-rules c = subst (λ (t : Tables). IsDefinitions t.definitions) c.self.view_is (parts-rules _ _ _ _ c.self.invariant)

@@ -1,0 +1,160 @@
+-- Layouts in another format.
+use Rattle.std.proofs.Common.{◌≡◌, ◌≢◌, ℕ, ◌+◌, ◌≤◌, true, false, Bool, Option, Some, None, IsSome, List, [], ◌∷◌, length, drop, refl, sym, ap, subst, ◌∙◌, arith, inl, inr}
+use Rattle.ts_row.specs.RowType.{Heading, has_long_decimal}
+use Rattle.ts_row.specs.Element.{Element, has_hidden}
+use Rattle.ts_page.specs.Head.{bytes_at}
+use Rattle.ts_page.specs.Pages.{EqualPages, with_page}
+use Rattle.ts_space.specs.Directory.{Directory}
+use Rattle.ts_cells.specs.IrregularPage.{IsIrregularPage}
+use Rattle.ts_model.specs.declared.format.TheConstants.{OLD_FORMAT, FORMAT}
+use Rattle.ts_model.specs.declared.kind.Kind.{Kind}
+use Rattle.ts_model.specs.declared.kind.Kind.TheVariants as kinds
+use Rattle.ts_model.specs.declared.def.Def.{Def}
+use Rattle.ts_model.specs.declared.def.Def.TheVariants as defs
+use Rattle.ts_model.specs.Definitions.{Definitions, with_format, references, IsDefinitions}
+use Rattle.ts_layout.specs.Slot.{header_bytes, slot_size, slot_bytes, page_of_slot, byte_of_slot, slots_in_page, bytes_of_slots}
+use Rattle.ts_layout.specs.Limits.{IsOfFormat, AreOfFormat, IsDef, IsSlotOf}
+use Rattle.ts_layout.specs.Meaning.{Layout, ElementPage, Free, Cells, element_page, def_at, heading_at, HoldsElements, HoldsLayout, KeepLimits, IsThere, AreSound, IsSound}
+use Rattle.ts_layout.specs.Changed.{layout_in}
+use Rattle.ts_layout.specs.OnePage.{IsPageFor, AreFilled}
+use Rattle.ts_layout.specs.Placed.{AreKept}
+use Rattle.ts_layout.proofs.PlaceLemmas.{page_low}
+use Rattle.ts_layout.proofs.LayoutLemmas.{same_page}
+use Rattle.ts_layout.proofs.OnePageLemmas.{same_cells}
+use Rattle.ts_layout.proofs.WrittenLemmas.{there_now, elsewhere}
+
+-- no other format asks for anything
+pub not_old : FORMAT ≢ OLD_FORMAT
+not_old same = omega (arith, same)
+
+pub of_format_short : (format : ℕ) (h : Heading) → has_long_decimal h.columns ≡ false → IsOfFormat format h
+of_format_short format h short old = short
+
+pub of_format_new : (format : ℕ) (h : Heading) → format ≢ OLD_FORMAT → IsOfFormat format h
+of_format_new format h new old = absurd (new old)
+
+pub elements_of_new : (format : ℕ) (es : List Element) → format ≢ OLD_FORMAT → AreOfFormat format es
+elements_of_new format es new old = absurd (new old)
+
+-- the elements of a page are of the format, and so are those that hide none anew
+not_true : (b : Bool) → (b ≡ true → ⊥) → b ≡ false
+not_true true not = absurd (not refl)
+not_true false not = refl
+
+true_and_false : (b : Bool) → b ≡ false → b ≡ true → ⊥
+true_and_false b is_false is_true = cc
+
+pub format_edited : (format : ℕ) (old es : List Element) → AreOfFormat format old → (has_hidden es ≡ true → has_hidden old ≡ true) → AreOfFormat format es
+format_edited format old es before fewer is = not_true (has_hidden es) (λ hides. true_and_false (has_hidden old) (before is) (fewer hides))
+
+none_hidden : (es : List Element) → es ≡ [] → has_hidden es ≡ false
+none_hidden es none = ap has_hidden none
+
+pub page_of_format : (l : Layout) (slot i : ℕ) (es : List Element) → AreFilled l → IsPageFor slot i es l.element_pages → AreOfFormat l.definitions.format es
+page_of_format l slot i es filled held = elim held.page [
+  | inl here ↦ (filled i slot es here).3
+  | inr free ↦ λ old. none_hidden es free.1
+]
+
+-- what stands in a slot by another format
+def_same : (kind : Kind) (slot format : ℕ) (d : Definitions) → def_at kind slot (with_format format d) ≡ def_at kind slot d
+def_same kinds.RowType slot format d = refl
+def_same kinds.Container slot format d = refl
+def_same kinds.Series slot format d = refl
+
+there_same : (format : ℕ) (d : Definitions) (targets : List (Kind × ℕ)) → IsThere d targets → IsThere (with_format format d) targets
+there_same format d [] there = tt
+there_same format d (target ∷ rest) there = (subst (λ (o : Option Def). IsSome o) (sym (def_same target.0 target.1 format d)) there.0, there_same format d rest there.1)
+
+def_renewed : (format : ℕ) (def : Def) → IsDef format def → IsDef FORMAT def
+def_renewed format (defs.RowType name h) is = record { name = is.name; stamp = is.stamp; columns = is.columns; rules = is.rules; of_format = of_format_new FORMAT h not_old }
+def_renewed format (defs.Container name row_type quota) is = is
+def_renewed format (defs.Series key container) is = is
+
+slot_renewed : (format : ℕ) (kind : Kind) (o : Option Def) → IsSlotOf format kind o → IsSlotOf FORMAT kind o
+slot_renewed format kind None is = tt
+slot_renewed format kind (Some def) is = (is.0, def_renewed format def is.1)
+
+tables_renewed : (d : Definitions) → IsDefinitions d → IsDefinitions (with_format FORMAT d)
+tables_renewed d rules = record { format = inr refl; row_types = rules.row_types; containers = rules.containers; series = rules.series }
+
+limits_renewed : (d : Definitions) → KeepLimits d → KeepLimits (with_format FORMAT d)
+limits_renewed d limits = record {
+  each = λ kind slot within. subst (IsSlotOf FORMAT kind) (sym (def_same kind slot FORMAT d)) (slot_renewed d.format kind (def_at kind slot d) (limits.each kind slot within));
+}
+
+-- a page has one list of elements, in whichever format
+pub one_list : (d : Definitions) (page : List ℕ) (s t : ℕ) (h g : Heading) (es fs : List Element) → KeepLimits d → IsDefinitions d → heading_at d s ≡ Some h → heading_at d t ≡ Some g
+    → IsIrregularPage s h.columns es page → IsIrregularPage t g.columns fs page → es ≡ fs
+one_list d page s t h g es fs limits rules there there' is is' =
+    (same_cells s t es fs
+    (same_page (with_format FORMAT d) page (Cells s es) (Cells t fs) (limits_renewed d limits) (tables_renewed d rules)
+    (h, there, is, elements_of_new FORMAT es not_old) (g, there', is', elements_of_new FORMAT fs not_old))).1
+
+pub rules_renewed : (pages : ℕ) (d : Definitions) → AreSound pages d → AreSound pages (with_format FORMAT d)
+rules_renewed pages d sound = record {
+  tables = tables_renewed d sound.tables;
+  limits = limits_renewed d sound.limits;
+  references = λ kind slot def within here.
+      there_same FORMAT d (references def) (sound.references kind slot def within (sym (def_same kind slot FORMAT d) ∙ here));
+  quotas = sound.quotas;
+}
+
+pub sound_renewed : (l : Layout) → IsSound l → IsSound (layout_in FORMAT l)
+sound_renewed l sound = record {
+  some = sound.some;
+  most = sound.most;
+  definitions = rules_renewed (length l.element_pages) l.definitions sound.definitions;
+  one_page = sound.one_page;
+  charges = sound.charges;
+}
+
+pub filled_renewed : (l : Layout) → AreFilled l → AreFilled (layout_in FORMAT l)
+filled_renewed l filled i slot es is =
+    let fill = filled i slot es is in
+    (fill.0, fill.1, fill.2, elements_of_new FORMAT es not_old)
+
+pub kept_renewed : (d : Definitions) (space : Directory) (free : List ℕ) (count : ℕ) → AreKept d space free count → AreKept (with_format FORMAT d) space free count
+kept_renewed d space free count kept = record {
+  some = kept.some;
+  most = kept.most;
+  sound = rules_renewed _ d kept.sound;
+  placed = record {
+    slots = kept.placed.slots;
+    few = kept.placed.few;
+    places = λ slot p within is.
+        let one = kept.placed.places slot p within is in
+        record { element = one.element; below = one.below; some = one.some; heading = one.heading; columns = one.columns; room = one.room };
+    numbers = kept.placed.numbers;
+    apart = kept.placed.apart;
+    used = kept.placed.used;
+    different = kept.placed.different;
+    all = kept.placed.all;
+  };
+  quotas = kept.quotas;
+}
+
+-- the bytes: the header alone changes
+holds_renewed : (d : Definitions) (page : List ℕ) (e : ElementPage) → HoldsElements d page e → HoldsElements (with_format FORMAT d) page e
+holds_renewed d page Free holds = holds
+holds_renewed d page (Cells slot es) holds = (holds.0, holds.1, holds.2, elements_of_new FORMAT es not_old)
+
+above_first : (n : ℕ) → 257 ≤ n → n ≢ 0
+above_first n low is = omega (arith, low, is)
+
+pub layout_renewed : (l : Layout) (v w : ℕ → List ℕ) → EqualPages (with_page 0 (header_bytes FORMAT (length l.element_pages)) v) w → HoldsLayout v l → HoldsLayout w (layout_in FORMAT l)
+layout_renewed l v w same holds =
+    let bytes : List ℕ = header_bytes FORMAT (length l.element_pages) in
+    let stays : (n : ℕ) → 257 ≤ n → w n ≡ v n = λ n low. elsewhere 0 n bytes v w (above_first n low) same in
+    record {
+      header = there_now 0 bytes v w same;
+      definitions = record {
+        slots = λ kind slot within.
+            ap (bytes_at (byte_of_slot kind slot) (slot_size kind)) (stays (page_of_slot kind slot) (page_low kind slot)) ∙ holds.definitions.slots kind slot within
+            ∙ ap (slot_bytes kind) (sym (def_same kind slot FORMAT l.definitions));
+        behind = λ n low high. ap (λ (p : List ℕ). drop (bytes_of_slots (slots_in_page n)) p) (stays n low) ∙ holds.definitions.behind n low high;
+      };
+      elements = λ i within.
+          subst (λ (p : List ℕ). HoldsElements (with_format FORMAT l.definitions) p (element_page i l.element_pages)) (sym (stays (930 + i) (omega arith)))
+          (holds_renewed l.definitions (v (930 + i)) (element_page i l.element_pages) (holds.elements i within));
+    }
