@@ -9,7 +9,6 @@ use Rattle.std.proofs.lemmas.List.Concat.{flat_map-cons}
 use Rattle.std.proofs.lemmas.Nat.{le-div}
 use Rattle.ts_row.specs.declared.kind.Column.{Column}
 use Rattle.ts_row.specs.RowType.{width_of}
-use Rattle.ts_row.specs.Encoding.{row_bytes}
 use Rattle.ts_cells.specs.Cell.{Element, IsElement, stamp_bytes, cell_bytes, cell_size, page_room}
 use Rattle.ts_cells.specs.IrregularPage.{AreElements, cells_bytes, behind_head}
 use Rattle.ts_cells.proofs.CellLemmas.{units_back}
@@ -71,17 +70,6 @@ units_in columns size i es behind p is =
     ap (λ (l : List ℕ). cast_signed w64 (from_be_bytes w64 (take 8 l))) there
     ∙ ap (λ (l : List ℕ). cast_signed w64 (from_be_bytes w64 l)) (stamp_in columns p.element p.tail)
     ∙ units_back p.element.0 p.is.stamp
-
--- the bytes of its row
-row_in_cell : (columns : List Column) (e : Element) (tail : List ℕ) → drop 9 (cell_bytes columns e ++ tail) ≡ row_bytes columns e.1 ++ tail
-row_in_cell columns e tail = refl
-
-pub row_there : (columns : List Column) (size i : ℕ) (es : List Element) (behind : List ℕ) (p : Part columns i es behind) → size ≡ cell_size columns → take (size * i + size - (size * i + 9)) (drop (size * i + 9) behind) ≡ row_bytes columns p.element.1
-row_there columns size i es behind p is =
-    let wide : length (row_bytes columns p.element.1) ≡ size * i + size - (size * i + 9) = omega (arith, length-cell_bytes columns p.element p.is, is) in
-    let there : drop (size * i + 9) behind ≡ row_bytes columns p.element.1 ++ p.tail =
-    sym (drop-drop 9 (size * i) behind) ∙ ap (λ (s : ℕ). drop 9 (drop (s * i) behind)) is ∙ ap (drop 9) p.bytes ∙ row_in_cell columns p.element p.tail in
-    ap (take (size * i + size - (size * i + 9))) there ∙ take_at (row_bytes columns p.element.1) p.tail (size * i + size - (size * i + 9)) wide
 
 -- a part is written into bytes that were moved up
 insert_bytes : (front back zeros new old : List ℕ) (at size more k : ℕ) → old ≡ front ++ (back ++ zeros) → length front ≡ at → length back ≡ more → size ≤ length zeros → k ≡ size

@@ -4,7 +4,7 @@ use Rattle.std.specs.Prelude.{int_lt}
 use Rattle.std.specs.Ordering.{int_eq}
 use Rattle.std.proofs.lemmas.Int.{by_lt_z, ints}
 use Rattle.ts_row.specs.declared.kind.Column.{Column}
-use Rattle.ts_row.specs.Row.{Values}
+use Rattle.ts_row.specs.Row.{Row}
 use Rattle.ts_cells.specs.Cell.{Element, IsElement}
 use Rattle.ts_cells.specs.IrregularPage.{AreElements, AreRising, AreInOrder, first_stamp}
 use Rattle.ts_irregular.specs.Edit.{element_at, with_element, without_element, rank_of}
@@ -22,7 +22,7 @@ AreRising-tail e [] rise = tt
 AreRising-tail e (f ∷ es) rise = rise.1
 
 -- only the stamps matter
-AreRising-row : (e : Element) (row : Values) (es : List Element) → AreRising (e ∷ es) → AreRising ((e.0, row) ∷ es)
+AreRising-row : (e : Element) (row : Row) (es : List Element) → AreRising (e ∷ es) → AreRising ((e.0, row) ∷ es)
 AreRising-row e row [] rise = tt
 AreRising-row e row (f ∷ es) rise = rise
 
@@ -43,13 +43,13 @@ AreRising-later x (y ∷ front) e after rise =
     omega (arith, ints, first, rest)
 
 -- what the comparison of a stamp with that of an element decides
-element_at-lower : (stamp : ℤ) (e : Element) (es : List Element) → e.0 <ℤ stamp → element_at stamp (e ∷ es) ≡ element_at stamp es
+pub element_at-lower : (stamp : ℤ) (e : Element) (es : List Element) → e.0 <ℤ stamp → element_at stamp (e ∷ es) ≡ element_at stamp es
 element_at-lower stamp e es low = rw (int_lt_no stamp e.0 (omega (arith, ints, low)), int_lt_yes e.0 stamp low) refl
 
-element_at-higher : (stamp : ℤ) (e : Element) (es : List Element) → stamp <ℤ e.0 → element_at stamp (e ∷ es) ≡ element_at stamp es
+pub element_at-higher : (stamp : ℤ) (e : Element) (es : List Element) → stamp <ℤ e.0 → element_at stamp (e ∷ es) ≡ element_at stamp es
 element_at-higher stamp e es high = rw (int_lt_yes stamp e.0 high) refl
 
-element_at-same : (stamp : ℤ) (e : Element) (es : List Element) → stamp ≤ℤ e.0 → e.0 ≤ℤ stamp → element_at stamp (e ∷ es) ≡ Some e.1
+pub element_at-same : (stamp : ℤ) (e : Element) (es : List Element) → stamp ≤ℤ e.0 → e.0 ≤ℤ stamp → element_at stamp (e ∷ es) ≡ Some e.1
 element_at-same stamp e es low high = rw (int_lt_no stamp e.0 high, int_lt_no e.0 stamp low) refl
 
 -- none of later elements is at a stamp
@@ -116,14 +116,23 @@ rank_within stamp (e ∷ es) =
     (λ low. let one = rank_of-lower stamp e es low in omega (arith, one, rest))
     (λ high. let none = rank_of-higher stamp e es high in omega (arith, none))
 
+-- where an element is there, its rank is its index
+pub rank_below_length : (stamp : ℤ) (es : List Element) → AreRising es → is_some (element_at stamp es) ≡ true → suc (rank_of stamp es) ≤ length es
+rank_below_length stamp [] rise there = absurd (cc)
+rank_below_length stamp (e ∷ es) rise there = by_lt_z e.0 stamp
+    (λ low. let one = rank_of-lower stamp e es low in
+    let rest = rank_below_length stamp es (AreRising-tail e es rise) (ap is_some (sym (element_at-lower stamp e es low)) ∙ there) in
+    omega (arith, one, rest))
+    (λ high. let none = rank_of-higher stamp e es high in omega (arith, none))
+
 -- what an edit makes of the first element and the others
-with_element-lower : (stamp : ℤ) (row : Values) (e : Element) (es : List Element) → e.0 <ℤ stamp → with_element stamp row (e ∷ es) ≡ e ∷ with_element stamp row es
+with_element-lower : (stamp : ℤ) (row : Row) (e : Element) (es : List Element) → e.0 <ℤ stamp → with_element stamp row (e ∷ es) ≡ e ∷ with_element stamp row es
 with_element-lower stamp row e es low = rw (int_lt_no stamp e.0 (omega (arith, ints, low)), int_lt_yes e.0 stamp low) refl
 
-with_element-higher : (stamp : ℤ) (row : Values) (e : Element) (es : List Element) → stamp <ℤ e.0 → with_element stamp row (e ∷ es) ≡ (stamp, row) ∷ e ∷ es
+with_element-higher : (stamp : ℤ) (row : Row) (e : Element) (es : List Element) → stamp <ℤ e.0 → with_element stamp row (e ∷ es) ≡ (stamp, row) ∷ e ∷ es
 with_element-higher stamp row e es high = rw (int_lt_yes stamp e.0 high) refl
 
-with_element-same : (stamp : ℤ) (row : Values) (e : Element) (es : List Element) → stamp ≤ℤ e.0 → e.0 ≤ℤ stamp → with_element stamp row (e ∷ es) ≡ (e.0, row) ∷ es
+with_element-same : (stamp : ℤ) (row : Row) (e : Element) (es : List Element) → stamp ≤ℤ e.0 → e.0 ≤ℤ stamp → with_element stamp row (e ∷ es) ≡ (e.0, row) ∷ es
 with_element-same stamp row e es low high = rw (int_lt_no stamp e.0 high, int_lt_no e.0 stamp low) refl
 
 without_element-lower : (stamp : ℤ) (e : Element) (es : List Element) → e.0 <ℤ stamp → without_element stamp (e ∷ es) ≡ e ∷ without_element stamp es
@@ -136,7 +145,7 @@ without_element-same : (stamp : ℤ) (e : Element) (es : List Element) → stamp
 without_element-same stamp e es low high = rw (int_lt_no stamp e.0 high, int_lt_no e.0 stamp low) refl
 
 -- a row at a new stamp goes before the first later element
-pub put_new : (stamp : ℤ) (row : Values) (es : List Element) → element_at stamp es ≡ None → with_element stamp row es ≡ take (rank_of stamp es) es ++ (stamp, row) ∷ drop (rank_of stamp es) es
+pub put_new : (stamp : ℤ) (row : Row) (es : List Element) → element_at stamp es ≡ None → with_element stamp row es ≡ take (rank_of stamp es) es ++ (stamp, row) ∷ drop (rank_of stamp es) es
 put_new stamp row [] none = refl
 put_new stamp row (e ∷ es) none = by_lt_z e.0 stamp
     (λ low. with_element-lower stamp row e es low
@@ -147,7 +156,7 @@ put_new stamp row (e ∷ es) none = by_lt_z e.0 stamp
     (λ below. absurd (let some = element_at-same stamp e es high below in cc)))
 
 -- a row at another one takes the place of the element that is there
-pub put_there : (stamp : ℤ) (row : Values) (es : List Element) → AreRising es → is_some (element_at stamp es) ≡ true → with_element stamp row es ≡ take (rank_of stamp es) es ++ (stamp, row) ∷ drop (rank_of stamp es + 1) es
+pub put_there : (stamp : ℤ) (row : Row) (es : List Element) → AreRising es → is_some (element_at stamp es) ≡ true → with_element stamp row es ≡ take (rank_of stamp es) es ++ (stamp, row) ∷ drop (rank_of stamp es + 1) es
 put_there stamp row [] rise there = absurd (cc)
 put_there stamp row (e ∷ es) rise there = by_lt_z e.0 stamp
     (λ low. with_element-lower stamp row e es low
@@ -161,7 +170,7 @@ put_there stamp row (e ∷ es) rise there = by_lt_z e.0 stamp
     ∙ ap (λ (n : ℕ). take n (e ∷ es) ++ (stamp, row) ∷ drop (n + 1) (e ∷ es)) (sym (rank_of-higher stamp e es high))))
 
 -- and keeps the first stamp
-pub first_kept : (stamp : ℤ) (row : Values) (es : List Element) → AreRising es → is_some (element_at stamp es) ≡ true → first_stamp (with_element stamp row es) ≡ first_stamp es
+pub first_kept : (stamp : ℤ) (row : Row) (es : List Element) → AreRising es → is_some (element_at stamp es) ≡ true → first_stamp (with_element stamp row es) ≡ first_stamp es
 first_kept stamp row [] rise there = absurd (cc)
 first_kept stamp row (e ∷ es) rise there = by_lt_z e.0 stamp
     (λ low. ap first_stamp (with_element-lower stamp row e es low))
@@ -192,7 +201,7 @@ take_there stamp (e ∷ es) rise there = by_lt_z e.0 stamp
     ∙ ap (λ (n : ℕ). take n (e ∷ es) ++ drop (n + 1) (e ∷ es)) (sym (rank_of-higher stamp e es high))))
 
 -- edits keep what holds of each
-with_elements : (columns : List Column) (stamp : ℤ) (row : Values) (es : List Element) → AreElements columns es → IsElement columns (stamp, row) → AreElements columns (with_element stamp row es)
+with_elements : (columns : List Column) (stamp : ℤ) (row : Row) (es : List Element) → AreElements columns es → IsElement columns (stamp, row) → AreElements columns (with_element stamp row es)
 with_elements columns stamp row [] are is = (is, tt)
 with_elements columns stamp row (e ∷ es) are is =
     let P : List Element → Type 0 = AreElements columns in by_lt_z e.0 stamp
@@ -208,7 +217,7 @@ without_elements columns stamp (e ∷ es) are =
     elim (not (int_eq stamp e.0)) as (λ b. AreElements columns (cond b (e ∷ without_element stamp es) (without_element stamp es))) [ true ↦ (are.0, rest) | false ↦ rest ]
 
 -- and the order, behind a first one that is earlier
-with_rising : (x : Element) (stamp : ℤ) (row : Values) (es : List Element) → AreRising (x ∷ es) → x.0 <ℤ stamp → AreRising (x ∷ with_element stamp row es)
+with_rising : (x : Element) (stamp : ℤ) (row : Row) (es : List Element) → AreRising (x ∷ es) → x.0 <ℤ stamp → AreRising (x ∷ with_element stamp row es)
 with_rising x stamp row [] rise early = (early, tt)
 with_rising x stamp row (e ∷ es) rise early =
     let P : List Element → Type 0 = λ l. AreRising (x ∷ l) in by_lt_z e.0 stamp
@@ -217,7 +226,7 @@ with_rising x stamp row (e ∷ es) rise early =
     (λ above. subst P (sym (with_element-higher stamp row e es above)) (early, (above, rise.1)))
     (λ below. subst P (sym (with_element-same stamp row e es high below)) (rise.0, AreRising-row e row es rise.1)))
 
-with_all_rising : (stamp : ℤ) (row : Values) (es : List Element) → AreRising es → AreRising (with_element stamp row es)
+with_all_rising : (stamp : ℤ) (row : Row) (es : List Element) → AreRising es → AreRising (with_element stamp row es)
 with_all_rising stamp row [] rise = tt
 with_all_rising stamp row (e ∷ es) rise = by_lt_z e.0 stamp
     (λ low. subst AreRising (sym (with_element-lower stamp row e es low)) (with_rising e stamp row es rise low))
@@ -239,14 +248,14 @@ without_all_rising stamp (e ∷ es) rise =
     let left = without_all_rising stamp es (AreRising-tail e es rise) in
     elim (not (int_eq stamp e.0)) as (λ b. AreRising (cond b (e ∷ without_element stamp es) (without_element stamp es))) [ true ↦ kept | false ↦ left ]
 
-pub with_in_order : (columns : List Column) (stamp : ℤ) (row : Values) (es : List Element) → AreInOrder columns es → IsElement columns (stamp, row) → AreInOrder columns (with_element stamp row es)
+pub with_in_order : (columns : List Column) (stamp : ℤ) (row : Row) (es : List Element) → AreInOrder columns es → IsElement columns (stamp, row) → AreInOrder columns (with_element stamp row es)
 with_in_order columns stamp row es order is = record { each = with_elements columns stamp row es order.each is; rising = with_all_rising stamp row es order.rising }
 
 pub without_in_order : (columns : List Column) (stamp : ℤ) (es : List Element) → AreInOrder columns es → AreInOrder columns (without_element stamp es)
 without_in_order columns stamp es order = record { each = without_elements columns stamp es order.each; rising = without_all_rising stamp es order.rising }
 
 -- one more at most
-pub length-with : (stamp : ℤ) (row : Values) (es : List Element) → length (with_element stamp row es) ≤ length es + 1
+pub length-with : (stamp : ℤ) (row : Row) (es : List Element) → length (with_element stamp row es) ≤ length es + 1
 length-with stamp row [] = omega arith
 length-with stamp row (e ∷ es) =
     let P : List Element → Type 0 = λ l. length l ≤ length (e ∷ es) + 1 in

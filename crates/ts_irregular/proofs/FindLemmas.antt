@@ -4,7 +4,7 @@ use Rattle.ts_space.specs.declared.place.Place.{Place}
 use Rattle.ts_page.specs.Head.{head_of}
 use Rattle.ts_page.specs.Pages.{Contents, IsElementPage, Got}
 use Rattle.ts_row.specs.declared.kind.Column.{Column}
-use Rattle.ts_row.specs.Row.{Values}
+use Rattle.ts_row.specs.Row.{Row}
 use Rattle.ts_cells.specs.Cell.{Element}
 use Rattle.ts_cells.specs.IrregularPage.{AreInOrder, behind_head}
 use Rattle.ts_irregular.specs.Edit.{element_at}
@@ -35,7 +35,7 @@ read_on tells slot columns places place bytes v w one element got t es on =
     subst (λ (b : List ℕ). IsOn slot columns b place es) (sym page) here
 
 -- the row that is found by the head is the one among those elements
-pub row_there : (tells : Bool) (slot count : ℕ) (columns : List Column) (stamp : ℤ) (places : List Place) (place : Place) (bytes : List ℕ) (row : Option Values) (v w : Contents) → places ≡ place ∷ [] → IsElementPage place.page → Got tells place.page bytes (Ok tt) v w
+pub row_there : (tells : Bool) (slot count : ℕ) (columns : List Column) (stamp : ℤ) (places : List Place) (place : Place) (bytes : List ℕ) (row : Option Row) (v w : Contents) → places ≡ place ∷ [] → IsElementPage place.page → Got tells place.page bytes (Ok tt) v w
     → ((es : List Element) → IsOn slot columns bytes place es → length es ≡ count)
     → ((es : List Element) → AreInOrder columns es → length es ≡ count → drop 32 bytes ≡ behind_head columns es → row ≡ element_at stamp es)
     → IsRowThere tells slot columns stamp places v row

@@ -4,7 +4,7 @@ use borrow.Rule.Slice.PartMut.{put_mid, mid_of}
 use Rattle.std.specs.Int.{from_be_bytes, cast_signed}
 use Rattle.std.proofs.lemmas.Int.{to_z-of_z, ints}
 use Rattle.std.proofs.lemmas.List.{drop_all, drop_at, drop-drop, length-take-le, length-replicate}
-use Rattle.std.proofs.Math.Seq.{take-length}
+use Rattle.std.proofs.Math.Seq.{take-length, take-append_seam}
 use Rattle.ts_page.specs.Head.{head_bytes}
 use Rattle.ts_page.specs.declared.page.Head.TheVariants.{Irregular}
 use Rattle.ts_row.specs.declared.kind.Column.{Column}
@@ -42,6 +42,16 @@ behind_put k page new long =
 pub headed : (slot : ℕ) (columns : List Column) (es : List Element) (n : ℕ) (page old : List ℕ) → length es ≡ n → drop 32 old ≡ behind_head columns es → page ≡ head_bytes (Irregular slot n) ++ drop 32 old → page ≡ irregular_page slot columns es
 unfolding irregular_page
 headed slot columns es n page old count behind is = is ∙ (λ j. head_bytes (Irregular slot (sym count j)) ++ behind j)
+
+-- other cells written behind the head of a page of as many
+pub cells_put : (slot : ℕ) (columns : List Column) (es fs : List Element) (page new : List ℕ) → page ≡ irregular_page slot columns es → length page ≡ 4096 → length es ≡ length fs → new ≡ behind_head columns fs
+    → put_mid 32 4064 page new ≡ irregular_page slot columns fs
+unfolding irregular_page
+cells_put slot columns es fs page new is long count made =
+    let head : take 32 page ≡ head_bytes (Irregular slot (length es)) = ap (take 32) is ∙ take-append_seam (head_bytes (Irregular slot (length es))) (behind_head columns es) in
+    let rest : drop 4064 (drop 32 page) ≡ [] = drop_all 4064 (drop 32 page) (omega (arith, length-drop 32 page, long)) in
+    (λ j. head j ++ (made j ++ rest j)) ∙ ap (λ (l : List ℕ). head_bytes (Irregular slot (length es)) ++ l) (append-nil (behind_head columns fs))
+    ∙ (λ j. head_bytes (Irregular slot (count j)) ++ behind_head columns fs)
 
 -- the place of a page, by the first of its cells
 pub place_listed : (slot : ℕ) (columns : List Column) (es : List Element) (page : List ℕ) (number count : ℕ) (units : ℤ) → AreElements columns es → length es ≡ count → 1 ≤ count → page ≡ irregular_page slot columns es

@@ -1,23 +1,27 @@
 -- What an insert and a replacement leave, put together from what their parts leave.
-use Rattle.std.proofs.Common.{◌≡◌, ℕ, ◌+◌, ◌<◌, ◌≤◌, Bool, true, IsTrue, ℤ, Option, Some, None, IsSome, is_some, Result, Ok, Err, OnErr, List, [], ◌∷◌, length, drop, inl, refl, sym, ap, subst, ◌∙◌, arith}
-use borrow.Rule.Slice.PartMut.{mid_of}
+use Rattle.std.proofs.Common.{◌≡◌, ℕ, ◌+◌, ◌<◌, ◌≤◌, Bool, true, IsTrue, ℤ, Option, Some, None, IsSome, is_some, Result, Ok, Err, OnErr, List, [], ◌∷◌, ◌++◌, length, take, drop, inl, refl, sym, ap, subst, ◌∙◌, arith}
+use borrow.Rule.Slice.PartMut.{mid_of, put_mid}
+use Rattle.std.specs.List.{slice_get}
+use Rattle.std.specs.Result.{result_ok}
+use Rattle.ts_base.specs.Moment.{IsStamp}
 use Rattle.ts_space.specs.declared.place.Place.{Place}
 use Rattle.ts_page.specs.Pages.{Contents, EqualPages, Got, Put, Taken, IsElementPage}
 use Rattle.ts_row.specs.declared.kind.Column.{Column}
-use Rattle.ts_row.specs.Row.{Values}
+use Rattle.ts_row.specs.Row.{Row, fits}
 use Rattle.ts_cells.specs.Cell.{Element, IsElement, page_room}
 use Rattle.ts_cells.specs.IrregularPage.{AreElements, AreInOrder, IsIrregularPage, behind_head, irregular_page, first_stamp}
 use Rattle.ts_irregular.specs.Edit.{element_at, with_element, search_of}
 use Rattle.ts_irregular.specs.OnePage.{IsOn, place_of}
-use Rattle.ts_irregular.specs.Call.{AreKept, ArePut, IsEdited, IsOneMore, IsTold, IsPutNew, IsThereAlready, IsPutOver, IsMissing, AreLeft}
-use Rattle.ts_irregular.proofs.BytesLemmas.{length-inserted, length-replaced}
-use Rattle.ts_irregular.proofs.EditLemmas.{with_in_order, first_kept}
+use Rattle.ts_irregular.specs.Call.{AreKept, ArePut, IsEdited, IsOneMore, IsTold, IsPutNew, IsThereAlready, IsPutOver, IsMissing, IsIndexOf, IsIndexOn, AreLeft}
+use Rattle.ts_irregular.proofs.BytesLemmas.{part, length-inserted, length-replaced}
+use Rattle.ts_irregular.proofs.CellLemmas.{element_is}
+use Rattle.ts_irregular.proofs.EditLemmas.{with_in_order, first_kept, rank_below_length}
 use Rattle.ts_irregular.proofs.FindLemmas.{read_on}
-use Rattle.ts_irregular.proofs.HeadLemmas.{part_behind, length-page}
+use Rattle.ts_irregular.proofs.HeadLemmas.{part_behind, length-page, cells_put}
 use Rattle.ts_irregular.proofs.KeptLemmas.{put_after, same_after, kept_put, kept_after, place_is, some_same}
 use Rattle.ts_irregular.proofs.PutLemmas.{put_before, put_instead}
-use Rattle.ts_irregular.proofs.SearchLemmas.{search_ok, search_err}
-use Rattle.ts_irregular.proofs.SeeLemmas.{behind_told}
+use Rattle.ts_irregular.proofs.SearchLemmas.{search_ok, search_err, at_rank, found as found_by}
+use Rattle.ts_irregular.proofs.SeeLemmas.{behind_told, some_one}
 
 some_is : {A : Type 0} (o : Option A) → is_some o ≡ true → IsSome o
 some_is (Some a) some = refl
@@ -35,6 +39,18 @@ on_any_err (Err e) p = p
 
 pub left_after : (tells : Bool) (v u w : Contents) → (IsTrue tells → EqualPages v.page u.page) → u.free ≡ v.free → (IsTrue tells → EqualPages u.page w.page) → w.free ≡ u.free → AreLeft tells v w
 left_after tells v u w first free second later = record { pages = λ told. same_after v.page u.page w.page (first told) (second told); free = inl (later ∙ free) }
+
+-- elements are put on the page that was read
+put_told : (tells : Bool) (slot : ℕ) (columns : List Column) (place : Place) (page : List ℕ) (v u w : Contents) → (IsTrue tells → EqualPages v.page u.page) → u.free ≡ v.free → Put tells place.page page (Ok tt) u w
+    → (es : List Element) (now : Place) → AreInOrder columns es → 1 ≤ length es → length es ≤ page_room columns → page ≡ irregular_page slot columns es → place_of place.page es ≡ now ∷ []
+    → ArePut tells slot columns (place ∷ []) es (now ∷ []) v w
+put_told tells slot columns place page v u w pages free put es now order some room made listed = record {
+  order = order;
+  room = room;
+  kept = kept_after tells slot columns place es (now ∷ []) v u w pages free
+      (kept_put tells slot columns place es (now ∷ []) u w some put.free
+      (record { places = sym listed; pages = λ told. put_after place.page page (irregular_page slot columns es) u.page u.page w.page made (λ n. refl) (put.put told) }));
+}
 
 -- the elements that the place of a page tells of, in what it was taken for
 pub record AreRead (columns : List Column) (place : Place) (size : ℕ) (bytes : List ℕ) (es : List Element) : Type 0 where
@@ -83,18 +99,16 @@ module _ (tells : Bool) (slot : ℕ) (columns : List Column) (stamp : ℤ) (plac
   pub is_missing : (index : ℕ) → Searched (Err index) → IsMissing tells slot columns stamp (place ∷ []) v u
   is_missing index searched = record { absent = absent_told index searched; same = record { free = got.free; pages = got.pages } }
 
-  -- the page was put with a row more, or another one
-  module _ (row : Values) (is : IsElement columns (stamp, row)) (page : List ℕ) (w : Contents) (put : Put tells place.page page (Ok tt) u w) where
-    put_told : (es : List Element) (now : Place) → AreInOrder columns es → 1 ≤ length es → length es ≤ page_room columns → page ≡ irregular_page slot columns es → place_of place.page es ≡ now ∷ []
-        → ArePut tells slot columns (place ∷ []) es (now ∷ []) v w
-    put_told es now order some room made listed = record {
-      order = order;
-      room = room;
-      kept = kept_after tells slot columns place es (now ∷ []) v u w got.pages got.free
-          (kept_put tells slot columns place es (now ∷ []) u w some put.free
-          (record { places = sym listed; pages = λ told. put_after place.page page (irregular_page slot columns es) u.page u.page w.page made (λ n. refl) (put.put told) }));
-    }
+  -- so the stamp has an index, or none is there
+  pub index_found : (found : Result ℕ ℕ) → Searched found → IsIndexOn tells slot columns stamp place got_bytes v u (result_ok found)
+  index_found (Ok index) searched = record {
+    on = λ t es on. read_on tells slot columns (place ∷ []) place got_bytes v u refl element got t es on;
+    at = searched_in (Ok index) searched;
+  }
+  index_found (Err index) searched = is_missing index searched
 
+  -- the page was put with a row more
+  module _ (row : Row) (is : IsElement columns (stamp, row)) (page : List ℕ) (w : Contents) (put : Put tells place.page page (Ok tt) u w) where
     pub put_new : (index : ℕ) (now : Place) → Searched (Err index) → index ≤ count → count < page_room columns → count ≤ place.count
         → ((es : List Element) → AreInOrder columns es → length es ≡ count → ◌≡◌ {A = Result ℕ ℕ} (search_of stamp es) (Err index) → drop 32 bytes ≡ behind_head columns es → page ≡ irregular_page slot columns (with_element stamp row es))
         → ((es : List Element) → AreElements columns es → length es ≡ count + 1 → page ≡ irregular_page slot columns es → place_of place.page es ≡ now ∷ [])
@@ -109,24 +123,57 @@ module _ (tells : Bool) (slot : ℕ) (columns : List Column) (stamp : ℤ) (plac
           let size : length (with_element stamp row es) ≡ count + 1 =
           ap length (put_before stamp row es index missing) ∙ length-inserted index count (stamp, row) es r.count within in
           let order = with_in_order columns stamp row es r.order is in
-          put_told (with_element stamp row es) now order (omega (arith, size)) (omega (arith, size, room)) whole (listed (with_element stamp row es) order.each size whole);
+          put_told tells slot columns place page v u w got.pages got.free put (with_element stamp row es) now order (omega (arith, size)) (omega (arith, size, room)) whole (listed (with_element stamp row es) order.each size whole);
     }
 
-    pub put_over : (index : ℕ) → Searched (Ok index) → index < count → count ≤ page_room columns
-        → ((es : List Element) → AreInOrder columns es → length es ≡ count → ◌≡◌ {A = Result ℕ ℕ} (search_of stamp es) (Ok index) → drop 32 bytes ≡ behind_head columns es → page ≡ irregular_page slot columns (with_element stamp row es))
-        → IsPutOver tells slot columns stamp row (place ∷ []) v w
-    put_over index searched within room made = record {
-      free = put.free ∙ got.free;
-      there = found_told index searched;
-      put = λ t es on.
-          let r = are_read t es on in
-          let found = searched es r.order r.count r.part in
-          let size : length (with_element stamp row es) ≡ count =
-          ap length (put_instead stamp row es index r.order.rising found) ∙ length-replaced index (stamp, row) es (omega (arith, r.count, within)) ∙ r.count in
-          let first = first_kept stamp row es r.order.rising (search_ok stamp es index found).0 ∙ r.first in
-          put_told (with_element stamp row es) place (with_in_order columns stamp row es r.order is) (omega (arith, size, within)) (omega (arith, size, room)) (made es r.order r.count (sym found) r.behind)
-          (place_stays place (with_element stamp row es) (size ∙ sym r.count ∙ r.told) first);
-    }
+-- the row at a stamp was changed: the page was read, and put with another cell at the index of the stamp
+module _ (tells : Bool) (slot : ℕ) (columns : List Column) (stamp : ℤ) (place : Place) (change : Row → Row) (keeps : (row : Row) → IsTrue (fits columns row) → IsTrue (fits columns (change row)))
+    (bytes new : List ℕ) (index : ℕ) (v u w : Contents) (pages : IsTrue tells → EqualPages v.page u.page) (free : u.free ≡ v.free) (is : IsIndexOf tells slot columns stamp place bytes index v)
+    (put : Put tells place.page (put_mid 32 4064 bytes new) (Ok tt) u w)
+    (changed : (es : List Element) (e : Element) → AreElements columns es → slice_get es index ≡ Some e → e.0 ≡ stamp → mid_of 32 4064 bytes ≡ behind_head columns es
+    → new ≡ behind_head columns (take index es ++ (stamp, change e.1) ∷ drop (index + 1) es)) where
+  -- the element that is there, and the page with its row changed
+  record IsThere (es : List Element) : Type 0 where
+    row : Row
+    there : element_at stamp es ≡ Some row
+    put_there : ArePut tells slot columns (place ∷ []) (with_element stamp (change row) es) (place ∷ []) v w
+
+  is_there : IsTold tells slot columns (place ∷ []) v IsThere
+  is_there t es told =
+      let on = is.on t es told in
+      let found = is.at t es told in
+      let order = on.bytes.fill.elements in
+      let there = search_ok stamp es index found in
+      let behind = behind_told slot columns es bytes on.bytes in
+      let long = length-page columns es bytes order.each on.bytes.fill.room behind in
+      let part_is = part_behind 4064 bytes long ∙ behind in
+      let within : index < length es = let below = rank_below_length stamp es order.rising there.0 in omega (arith, below, there.1) in
+      let p = part columns index es (mid_of 32 4064 bytes) order.each within part_is in
+      let here : p.element.0 ≡ stamp = at_rank columns stamp index es (mid_of 32 4064 bytes) p order.rising there.1 there.0 in
+      let with_it = put_instead stamp (change p.element.1) es index order.rising found in
+      let size : length (with_element stamp (change p.element.1) es) ≡ length es =
+      ap length with_it ∙ length-replaced index (stamp, change p.element.1) es within in
+      let made = changed es p.element order.each (element_is columns index es (mid_of 32 4064 bytes) p) here part_is ∙ ap (behind_head columns) (sym with_it) in
+      let whole = cells_put slot columns es (with_element stamp (change p.element.1) es) bytes new on.bytes.bytes long (sym size) made in
+      let fitting : IsElement columns (stamp, change p.element.1) = record { stamp = subst IsStamp here p.is.stamp; row = keeps p.element.1 p.is.row } in
+      let some = on.bytes.fill.some in
+      record {
+        row = p.element.1;
+        there = found_by columns stamp index es (mid_of 32 4064 bytes) p order.rising here;
+        put_there = put_told tells slot columns place (put_mid 32 4064 bytes new) v u w pages free put (with_element stamp (change p.element.1) es) place
+            (with_in_order columns stamp (change p.element.1) es order fitting) (omega (arith, size, some)) (omega (arith, size, on.bytes.fill.room)) whole
+            (place_stays place (with_element stamp (change p.element.1) es) (size ∙ on.count) (first_kept stamp (change p.element.1) es order.rising there.0 ∙ on.first));
+      }
+
+  pub put_over : IsPutOver tells slot columns stamp change (place ∷ []) v w
+  put_over = record {
+    free = put.free ∙ free;
+    there = λ t es told. some_is (element_at stamp es) (ap is_some (is_there t es told).there);
+    put = λ t es told row at.
+        let here = is_there t es told in
+        let same : here.row ≡ row = some_one (sym here.there ∙ at) in
+        subst (λ (r : Row). ArePut tells slot columns (place ∷ []) (with_element stamp (change r) es) (place ∷ []) v w) same here.put_there;
+  }
 
 -- a first element is put on a page that was taken
 pub put_alone : (tells : Bool) (slot number : ℕ) (columns : List Column) (e : Element) (now : Place) (page : List ℕ) (v u w : Contents) → Taken tells number v u → IsElement columns e → page ≡ irregular_page slot columns (e ∷ []) → 1 ≤ page_room columns
@@ -142,7 +189,7 @@ put_alone tells slot number columns e now page v u w taken is made room put list
 }
 
 -- and the directory has its place
-pub first_edited : (tells : Bool) (slot : ℕ) (columns : List Column) (stamp : ℤ) (row : Values) (place : Place) (now : List Place) (v w : Contents) → ArePut tells slot columns [] (with_element stamp row []) (place ∷ []) v w → now ≡ place ∷ []
+pub first_edited : (tells : Bool) (slot : ℕ) (columns : List Column) (stamp : ℤ) (row : Row) (place : Place) (now : List Place) (v w : Contents) → ArePut tells slot columns [] (with_element stamp row []) (place ∷ []) v w → now ≡ place ∷ []
     → IsEdited tells slot columns stamp (Some row) [] now v w
 first_edited tells slot columns stamp row place now v w put is = record {
   elements = [];
@@ -153,7 +200,7 @@ first_edited tells slot columns stamp row place now v w put is = record {
 }
 
 -- a series without a page
-pub first_new : (tells : Bool) (slot : ℕ) (columns : List Column) (stamp : ℤ) (row : Values) (old : List Place) (place : Place) (v w : Contents) → old ≡ [] → IsOneMore [] place v w → ArePut tells slot columns [] (with_element stamp row []) (place ∷ []) v w
+pub first_new : (tells : Bool) (slot : ℕ) (columns : List Column) (stamp : ℤ) (row : Row) (old : List Place) (place : Place) (v w : Contents) → old ≡ [] → IsOneMore [] place v w → ArePut tells slot columns [] (with_element stamp row []) (place ∷ []) v w
     → IsPutNew tells slot columns stamp row old place v w
 first_new tells slot columns stamp row old place v w none more put =
     let P : List Place → Type 0 = λ l. IsPutNew tells slot columns stamp row l place v w in

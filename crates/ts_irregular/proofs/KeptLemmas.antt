@@ -10,7 +10,7 @@ use Rattle.ts_space.specs.Directory.{Directory, places_of, spare_of, ChangesOnly
 use Rattle.ts_page.specs.Head.{zero_page}
 use Rattle.ts_page.specs.Pages.{Contents, EqualPages, with_page, Got, Put, Freed, Taken, IsElementPage, IsLawful, IsListed}
 use Rattle.ts_row.specs.declared.kind.Column.{Column}
-use Rattle.ts_row.specs.Row.{Values}
+use Rattle.ts_row.specs.Row.{Row}
 use Rattle.ts_cells.specs.Cell.{Element, IsElement, page_room}
 use Rattle.ts_cells.specs.IrregularPage.{AreInOrder, irregular_page}
 use Rattle.ts_irregular.specs.Edit.{element_at, with_element, without_element, edited, taken_for}
@@ -100,7 +100,7 @@ kept_after tells slot columns place (e ∷ es) now v u w same free kept =
     (kept.0 ∙ free, record { places = kept.1.places; pages = λ told. put_after place.page (irregular_page slot columns (e ∷ es)) _ v.page u.page w.page refl (same told) (kept.1.pages told) })
 
 -- a row is put on the page that was read
-unfoldable pub edited_put : (tells : Bool) (slot : ℕ) (columns : List Column) (stamp : ℤ) (row : Values) (place : Place) (es : List Element) (bytes : List ℕ) (now : List Place) (v u w : Contents)
+unfoldable pub edited_put : (tells : Bool) (slot : ℕ) (columns : List Column) (stamp : ℤ) (row : Row) (place : Place) (es : List Element) (bytes : List ℕ) (now : List Place) (v u w : Contents)
     → IsTakenFor slot columns bytes place es → length es ≤ page_room columns → Got tells place.page bytes (Ok tt) v u → IsElementPage place.page → HasRoom tells slot columns v.page stamp (place ∷ [])
     → ArePut tells slot columns (place ∷ []) (with_element stamp row (taken_for (page_room columns) stamp es)) now u w
     → IsEdited tells slot columns stamp (Some row) (place ∷ []) now v w
@@ -113,7 +113,7 @@ edited_put tells slot columns stamp row place es bytes now v u w taken room got 
 }
 
 -- a row is put on a page
-pub put_made : (tells : Bool) (slot : ℕ) (columns : List Column) (stamp : ℤ) (row : Values) (place moved : Place) (es : List Element) (page : List ℕ) (count : ℕ) (now : List Place) (u w : Contents)
+pub put_made : (tells : Bool) (slot : ℕ) (columns : List Column) (stamp : ℤ) (row : Row) (place moved : Place) (es : List Element) (page : List ℕ) (count : ℕ) (now : List Place) (u w : Contents)
     → AreInOrder columns (with_element stamp row (taken_for (page_room columns) stamp es)) → page ≡ irregular_page slot columns (with_element stamp row (taken_for (page_room columns) stamp es))
     → length (with_element stamp row (taken_for (page_room columns) stamp es)) ≡ count → 1 ≤ count → count ≤ page_room columns → Put tells place.page page (Ok tt) u w
     → place_of place.page (with_element stamp row (taken_for (page_room columns) stamp es)) ≡ moved ∷ [] → now ≡ moved ∷ []
@@ -127,10 +127,12 @@ put_made tells slot columns stamp row place moved es page count now u w order ma
 
 -- an edit that fails after the page was only read
 pub not_edited_after : (tells : Bool) (old new : Directory) (v u w : Contents) → (IsTrue tells → EqualPages v.page u.page) → u.free ≡ v.free → IsNotEdited tells old new u w → IsNotEdited tells old new v w
-not_edited_after tells old new v u w same free not = record {
-  places = not.places;
-  pages = λ told. same_after v.page u.page w.page (same told) (not.pages told);
-  free = elim not.free [ inl stays ↦ inl (stays ∙ free) | inr taken ↦ inr (taken.0, sym free ∙ taken.1) ];
+not_edited_after tells old new v u w same free failed = record {
+  places = failed.places;
+  left = record {
+    pages = λ told. same_after v.page u.page w.page (same told) (failed.left.pages told);
+    free = elim failed.left.free [ inl stays ↦ inl (stays ∙ free) | inr taken ↦ inr (taken.0, sym free ∙ taken.1) ];
+  };
 }
 
 -- a page without elements becomes full of none
@@ -139,7 +141,7 @@ taken_for-none true = refl
 taken_for-none false = refl
 
 -- a row is put on a page that was taken
-pub edited_first : (tells : Bool) (slot number : ℕ) (columns : List Column) (stamp : ℤ) (row : Values) (moved : Place) (page : List ℕ) (count : ℕ) (now : List Place) (v u w : Contents)
+pub edited_first : (tells : Bool) (slot number : ℕ) (columns : List Column) (stamp : ℤ) (row : Row) (moved : Place) (page : List ℕ) (count : ℕ) (now : List Place) (v u w : Contents)
     → Taken tells number v u → IsElement columns (stamp, row) → page ≡ irregular_page slot columns (with_element stamp row (taken_for (page_room columns) stamp []))
     → length (with_element stamp row (taken_for (page_room columns) stamp [])) ≡ count → 1 ≤ count → count ≤ page_room columns → Put tells number page (Ok tt) u w
     → place_of number (with_element stamp row (taken_for (page_room columns) stamp [])) ≡ moved ∷ [] → now ≡ moved ∷ []
@@ -275,7 +277,7 @@ keeps_one tells slot columns (place ∷ []) (e ∷ es) now v w lawful count one 
     (one_page columns place.page e es w one.element (omega (arith, one.below, count)) (λ has. one.used (subst (λ (l : List ℕ). Contains l place.page) kept.0 has)) room)
 keeps_one tells slot columns (place ∷ other ∷ places) es now v w lawful count one room kept = absurd one
 
-pub edit_keeps_one : (tells : Bool) (slot : ℕ) (columns : List Column) (stamp : ℤ) (row : Option Values) (old new : List Place) (v w : Contents) → IsLawful tells v → w.count ≡ v.count → HasOnePage columns v old
+pub edit_keeps_one : (tells : Bool) (slot : ℕ) (columns : List Column) (stamp : ℤ) (row : Option Row) (old new : List Place) (v w : Contents) → IsLawful tells v → w.count ≡ v.count → HasOnePage columns v old
     → IsEdited tells slot columns stamp row old new v w → HasOnePage columns w new
 edit_keeps_one tells slot columns stamp row old new v w lawful count one edit = keeps_one tells slot columns old (edited stamp row edit.elements) new v w lawful count one edit.room edit.kept
 
@@ -306,7 +308,7 @@ no_place columns v [] first = refl
 no_place columns v (p ∷ places) first = absurd (cc)
 
 -- the elements that a read of the only page sees
-pub found_on : (tells : Bool) (slot count : ℕ) (columns : List Column) (stamp : ℤ) (places : List Place) (place : Place) (es : List Element) (bytes : List ℕ) (row : Option Values) (v u : Contents) → places ≡ place ∷ [] → IsElementPage place.page
+pub found_on : (tells : Bool) (slot count : ℕ) (columns : List Column) (stamp : ℤ) (places : List Place) (place : Place) (es : List Element) (bytes : List ℕ) (row : Option Row) (v u : Contents) → places ≡ place ∷ [] → IsElementPage place.page
     → Got tells place.page bytes (Ok tt) v u → IsTakenFor slot columns bytes place es → length es ≡ count → count ≤ page_room columns → row ≡ element_at stamp es → IsFound tells slot columns stamp places v row
 found_on tells slot count columns stamp places place es bytes row v u one element got taken size room is =
     let P : List Place → Type 0 = λ l. AreSeen tells slot columns v.page l es in

@@ -1,5 +1,6 @@
 pub mod EditLemmas
 pub mod BytesLemmas
+pub mod CellLemmas
 pub mod SeeLemmas
 pub mod SearchLemmas
 pub mod PutLemmas
@@ -8,3 +9,4 @@ pub mod KeptLemmas
 pub mod InsertLemmas
 pub mod FindLemmas
 pub mod LastLemmas
+pub mod CallerLemmas

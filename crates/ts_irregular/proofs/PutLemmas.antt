@@ -3,7 +3,7 @@ use Rattle.std.proofs.Common.{◌≡◌, ℕ, ◌+◌, ◌-◌, ◌*◌, ◌<◌
 use Rattle.std.specs.Prelude.{nat_lt}
 use Rattle.std.proofs.lemmas.Bool.Decides.{nat_tests}
 use Rattle.ts_row.specs.declared.kind.Column.{Column}
-use Rattle.ts_row.specs.Row.{Values}
+use Rattle.ts_row.specs.Row.{Row}
 use Rattle.ts_cells.specs.Cell.{Element, cell_size}
 use Rattle.ts_cells.specs.IrregularPage.{AreRising, behind_head}
 use Rattle.ts_irregular.specs.Edit.{element_at, with_element, without_element, search_of, taken_for}
@@ -33,36 +33,36 @@ taken_full room stamp es full none =
     (λ j. cond (past j || is_some (none j)) es [])
 
 -- a row before the one of an index, and in place of it
-pub put_before : (stamp : ℤ) (row : Values) (es : List Element) (i : ℕ) → ◌≡◌ {A = Result ℕ ℕ} (Err i) (search_of stamp es) → with_element stamp row es ≡ take i es ++ (stamp, row) ∷ drop i es
+pub put_before : (stamp : ℤ) (row : Row) (es : List Element) (i : ℕ) → ◌≡◌ {A = Result ℕ ℕ} (Err i) (search_of stamp es) → with_element stamp row es ≡ take i es ++ (stamp, row) ∷ drop i es
 put_before stamp row es i missing =
     let s = search_err stamp es i missing in put_new stamp row es s.0 ∙ ap (λ (n : ℕ). take n es ++ (stamp, row) ∷ drop n es) (sym s.1)
 
-pub put_instead : (stamp : ℤ) (row : Values) (es : List Element) (i : ℕ) → AreRising es → ◌≡◌ {A = Result ℕ ℕ} (Ok i) (search_of stamp es) → with_element stamp row es ≡ take i es ++ (stamp, row) ∷ drop (i + 1) es
+pub put_instead : (stamp : ℤ) (row : Row) (es : List Element) (i : ℕ) → AreRising es → ◌≡◌ {A = Result ℕ ℕ} (Ok i) (search_of stamp es) → with_element stamp row es ≡ take i es ++ (stamp, row) ∷ drop (i + 1) es
 put_instead stamp row es i rise found =
     let s = search_ok stamp es i found in put_there stamp row es rise s.0 ∙ ap (λ (n : ℕ). take n es ++ (stamp, row) ∷ drop (n + 1) es) (sym s.1)
 
 -- a row over another
-pub put_over : (room : ℕ) (stamp : ℤ) (row : Values) (es : List Element) (i : ℕ) → AreRising es → ◌≡◌ {A = Result ℕ ℕ} (Ok i) (search_of stamp es)
+pub put_over : (room : ℕ) (stamp : ℤ) (row : Row) (es : List Element) (i : ℕ) → AreRising es → ◌≡◌ {A = Result ℕ ℕ} (Ok i) (search_of stamp es)
     → with_element stamp row (taken_for room stamp es) ≡ take i es ++ (stamp, row) ∷ drop (i + 1) es
 put_over room stamp row es i rise found =
     let s = search_ok stamp es i found in
     ap (with_element stamp row) (taken_there room stamp es s.0) ∙ put_instead stamp row es i rise found
 
-pub count_over : (room : ℕ) (stamp : ℤ) (row : Values) (es : List Element) (i : ℕ) → AreRising es → ◌≡◌ {A = Result ℕ ℕ} (Ok i) (search_of stamp es) → i < length es
+pub count_over : (room : ℕ) (stamp : ℤ) (row : Row) (es : List Element) (i : ℕ) → AreRising es → ◌≡◌ {A = Result ℕ ℕ} (Ok i) (search_of stamp es) → i < length es
     → length (with_element stamp row (taken_for room stamp es)) ≡ length es
 count_over room stamp row es i rise found within = ap length (put_over room stamp row es i rise found) ∙ length-replaced i (stamp, row) es within
 
 -- a row between others
-pub put_between : (room : ℕ) (stamp : ℤ) (row : Values) (es : List Element) (i : ℕ) → ◌≡◌ {A = Result ℕ ℕ} (Err i) (search_of stamp es) → length es < room
+pub put_between : (room : ℕ) (stamp : ℤ) (row : Row) (es : List Element) (i : ℕ) → ◌≡◌ {A = Result ℕ ℕ} (Err i) (search_of stamp es) → length es < room
     → with_element stamp row (taken_for room stamp es) ≡ take i es ++ (stamp, row) ∷ drop i es
 put_between room stamp row es i missing few = ap (with_element stamp row) (taken_room room stamp es few) ∙ put_before stamp row es i missing
 
-pub count_between : (room : ℕ) (stamp : ℤ) (row : Values) (es : List Element) (i n : ℕ) → ◌≡◌ {A = Result ℕ ℕ} (Err i) (search_of stamp es) → length es < room → length es ≡ n → i ≤ n
+pub count_between : (room : ℕ) (stamp : ℤ) (row : Row) (es : List Element) (i n : ℕ) → ◌≡◌ {A = Result ℕ ℕ} (Err i) (search_of stamp es) → length es < room → length es ≡ n → i ≤ n
     → length (with_element stamp row (taken_for room stamp es)) ≡ n + 1
 count_between room stamp row es i n missing few count within = ap length (put_between room stamp row es i missing few) ∙ length-inserted i n (stamp, row) es count within
 
 -- a row on a page that is full of others
-pub put_alone : (room : ℕ) (stamp : ℤ) (row : Values) (es : List Element) (i : ℕ) → ◌≡◌ {A = Result ℕ ℕ} (Err i) (search_of stamp es) → room ≤ length es
+pub put_alone : (room : ℕ) (stamp : ℤ) (row : Row) (es : List Element) (i : ℕ) → ◌≡◌ {A = Result ℕ ℕ} (Err i) (search_of stamp es) → room ≤ length es
     → with_element stamp row (taken_for room stamp es) ≡ (stamp, row) ∷ []
 put_alone room stamp row es i missing full = ap (with_element stamp row) (taken_full room stamp es full (search_err stamp es i missing).0)
 

@@ -1,16 +1,17 @@
 -- What the calls do to pages and places.
-use Rattle.std.specs.Prelude.{◌≡◌, ◌⊎◌, ℕ, ◌+◌, ◌≤◌, ℤ, Bool, true, false, IsTrue, Option, Some, None, IsSome, Result, List, [], ◌∷◌, length}
+use Rattle.std.specs.Prelude.{◌≡◌, ◌⊎◌, ℕ, ◌+◌, ◌≤◌, ℤ, Bool, true, false, IsTrue, Option, Some, None, IsSome, Result, Ok, List, [], ◌∷◌, length}
 use Rattle.ts_base.specs.declared.fault.StoreFault.{StoreFault}
 use Rattle.ts_space.specs.declared.place.Place.{Place}
 use Rattle.ts_space.specs.Directory.{Directory}
 use Rattle.ts_page.specs.Head.{zero_page}
 use Rattle.ts_page.specs.Pages.{Contents, Answered, EqualPages, with_page}
 use Rattle.ts_row.specs.declared.kind.Column.{Column}
-use Rattle.ts_row.specs.Row.{Values}
-use Rattle.ts_cells.specs.Cell.{Element, page_room}
+use Rattle.ts_row.specs.Row.{Row, marked}
+use Rattle.ts_row.specs.Element.{Element}
+use Rattle.ts_cells.specs.Cell.{page_room}
 use Rattle.ts_cells.specs.IrregularPage.{AreInOrder, irregular_page}
-use Rattle.ts_irregular.specs.Edit.{element_at, with_element, last_of, edited}
-use Rattle.ts_irregular.specs.OnePage.{place_of, AreOn, AreSeen}
+use Rattle.ts_irregular.specs.Edit.{element_at, with_element, last_seen, edited, search_of}
+use Rattle.ts_irregular.specs.OnePage.{place_of, IsOn, AreOn, AreSeen}
 
 -- pages are read
 pub record Reads {T : Type 0} (tells : Bool) (result : Result T StoreFault) (v w : Contents) : Type 0 where
@@ -19,21 +20,21 @@ pub record Reads {T : Type 0} (tells : Bool) (result : Result T StoreFault) (v w
   pub free : w.free ≡ v.free
   pub change_bytes : w.change_bytes ≡ v.change_bytes
 
--- this is the row at a stamp among the elements that are seen
-pub record IsFound (tells : Bool) (slot : ℕ) (columns : List Column) (stamp : ℤ) (places : List Place) (v : Contents) (row : Option Values) : Type 0 where
+-- this is the row at a stamp among the elements that the pages are taken for
+pub record IsFound (tells : Bool) (slot : ℕ) (columns : List Column) (stamp : ℤ) (places : List Place) (v : Contents) (row : Option Row) : Type 0 where
   pub elements : List Element
   pub seen : AreSeen tells slot columns v.page places elements
   pub found : row ≡ element_at stamp elements
 
 -- Where the pages are told, this is the row at a stamp among the elements that they have and their places tell of. Of pages that
 -- have none such it says nothing.
-abbrev pub IsRowThere : Bool → ℕ → List Column → ℤ → List Place → Contents → Option Values → Type 0
+abbrev pub IsRowThere : Bool → ℕ → List Column → ℤ → List Place → Contents → Option Row → Type 0
 IsRowThere tells slot columns stamp places v row = IsTrue tells → (es : List Element) → AreOn slot columns v.page places es → row ≡ element_at stamp es
 
--- Where the pages are told, this is the last of the elements that they have and their places tell of. Of pages that have none
--- such it says nothing.
+-- Where the pages are told, this is the last one that isn't hidden of the elements that they have and their places tell of. Of
+-- pages that have none such it says nothing.
 abbrev pub IsLast : Bool → ℕ → List Column → List Place → Contents → Option Element → Type 0
-IsLast tells slot columns places v last = IsTrue tells → (es : List Element) → AreOn slot columns v.page places es → last ≡ last_of es
+IsLast tells slot columns places v last = IsTrue tells → (es : List Element) → AreOn slot columns v.page places es → last ≡ last_seen es
 
 -- a series without elements stays one
 pub record StaysEmpty (tells : Bool) (now : List Place) (v w : Contents) : Type 0 where
@@ -67,8 +68,8 @@ pub record ArePut (tells : Bool) (slot : ℕ) (columns : List Column) (old : Lis
   pub room : length es ≤ page_room columns
   pub kept : AreKept tells slot columns old es new v w
 
--- a row is put at a stamp, or taken away, among the elements that are seen
-pub record IsEdited (tells : Bool) (slot : ℕ) (columns : List Column) (stamp : ℤ) (row : Option Values) (old new : List Place) (v w : Contents) : Type 0 where
+-- a row is put at a stamp, or taken away, among the elements that the pages are taken for
+pub record IsEdited (tells : Bool) (slot : ℕ) (columns : List Column) (stamp : ℤ) (row : Option Row) (old new : List Place) (v w : Contents) : Type 0 where
   pub elements : List Element
   pub seen : AreSeen tells slot columns v.page old elements
   pub order : AreInOrder columns (edited stamp row elements)
@@ -92,7 +93,7 @@ pub record ArePagesSame (tells : Bool) (v w : Contents) : Type 0 where
   pub pages : IsTrue tells → EqualPages v.page w.page
 
 -- a row is put at a stamp at which none of the told elements stands, and the series has this place
-pub record IsPutNew (tells : Bool) (slot : ℕ) (columns : List Column) (stamp : ℤ) (row : Values) (old : List Place) (new : Place) (v w : Contents) : Type 0 where
+pub record IsPutNew (tells : Bool) (slot : ℕ) (columns : List Column) (stamp : ℤ) (row : Row) (old : List Place) (new : Place) (v w : Contents) : Type 0 where
   pub more : IsOneMore old new v w
   pub absent : IsTold tells slot columns old v (λ es. element_at stamp es ≡ None)
   pub put : IsTold tells slot columns old v (λ es. ArePut tells slot columns old (with_element stamp row es) (new ∷ []) v w)
@@ -103,25 +104,34 @@ pub record IsThereAlready (tells : Bool) (slot : ℕ) (columns : List Column) (s
   pub same : ArePagesSame tells v w
 
 -- a row is put, and the series has this place; or one is there
-abbrev pub IsInserted : Bool → ℕ → List Column → ℤ → Values → List Place → Contents → Contents → Option Place → Type 0
+abbrev pub IsInserted : Bool → ℕ → List Column → ℤ → Row → List Place → Contents → Contents → Option Place → Type 0
 IsInserted tells slot columns stamp row places v w (Some new) = IsPutNew tells slot columns stamp row places new v w
 IsInserted tells slot columns stamp row places v w None = IsThereAlready tells slot columns stamp places v w
 
--- one of the told elements is at the stamp, and the row is put in its place; all places stay
-pub record IsPutOver (tells : Bool) (slot : ℕ) (columns : List Column) (stamp : ℤ) (row : Values) (places : List Place) (v w : Contents) : Type 0 where
+-- one of the told elements is at the stamp, and its row is changed; all places stay
+pub record IsPutOver (tells : Bool) (slot : ℕ) (columns : List Column) (stamp : ℤ) (change : Row → Row) (places : List Place) (v w : Contents) : Type 0 where
   pub free : w.free ≡ v.free
   pub there : IsTold tells slot columns places v (λ es. IsSome (element_at stamp es))
-  pub put : IsTold tells slot columns places v (λ es. ArePut tells slot columns places (with_element stamp row es) places v w)
+  pub put : IsTold tells slot columns places v
+      (λ es. (row : Row) → element_at stamp es ≡ Some row → ArePut tells slot columns places (with_element stamp (change row) es) places v w)
 
 -- none of the told elements is at the stamp, and everything stays
 pub record IsMissing (tells : Bool) (slot : ℕ) (columns : List Column) (stamp : ℤ) (places : List Place) (v w : Contents) : Type 0 where
   pub absent : IsTold tells slot columns places v (λ es. element_at stamp es ≡ None)
   pub same : ArePagesSame tells v w
 
+-- the row at a stamp is changed, or none is there
+abbrev pub IsChanged : Bool → ℕ → List Column → ℤ → (Row → Row) → List Place → Contents → Contents → Bool → Type 0
+IsChanged tells slot columns stamp change places v w true = IsPutOver tells slot columns stamp change places v w
+IsChanged tells slot columns stamp change places v w false = IsMissing tells slot columns stamp places v w
+
 -- a row is put in place of one, or none is there
-abbrev pub IsReplaced : Bool → ℕ → List Column → ℤ → Values → List Place → Contents → Contents → Bool → Type 0
-IsReplaced tells slot columns stamp row places v w true = IsPutOver tells slot columns stamp row places v w
-IsReplaced tells slot columns stamp row places v w false = IsMissing tells slot columns stamp places v w
+abbrev pub IsReplaced : Bool → ℕ → List Column → ℤ → Row → List Place → Contents → Contents → Bool → Type 0
+IsReplaced tells slot columns stamp row places v w done = IsChanged tells slot columns stamp (λ old. row) places v w done
+
+-- the element at a stamp is hidden or revealed, with the values that it has, or none is there
+abbrev pub IsMarked : Bool → ℕ → List Column → ℤ → Bool → List Place → Contents → Contents → Bool → Type 0
+IsMarked tells slot columns stamp hidden places v w done = IsChanged tells slot columns stamp (marked hidden) places v w done
 
 -- an edit that fails leaves the pages; one may be taken
 pub record AreLeft (tells : Bool) (v w : Contents) : Type 0 where
@@ -131,5 +141,13 @@ pub record AreLeft (tells : Bool) (v w : Contents) : Type 0 where
 -- and all places
 pub record IsNotEdited (tells : Bool) (old new : Directory) (v w : Contents) : Type 0 where
   pub places : new.lists ≡ old.lists
-  pub pages : IsTrue tells → EqualPages v.page w.page
-  pub free : (w.free ≡ v.free) ⊎ ((number : ℕ) × (v.free ≡ number ∷ w.free))
+  pub left : AreLeft tells v w
+
+-- Where a stamp stands on the page of a series that was read: at this index, the page having these bytes; or nowhere.
+pub record IsIndexOf (tells : Bool) (slot : ℕ) (columns : List Column) (stamp : ℤ) (place : Place) (bytes : List ℕ) (index : ℕ) (v : Contents) : Type 0 where
+  pub on : IsTold tells slot columns (place ∷ []) v (λ es. IsOn slot columns bytes place es)
+  pub at : IsTold tells slot columns (place ∷ []) v (λ es. Ok index ≡ search_of stamp es)
+
+abbrev pub IsIndexOn : Bool → ℕ → List Column → ℤ → Place → List ℕ → Contents → Contents → Option ℕ → Type 0
+IsIndexOn tells slot columns stamp place bytes v w (Some index) = IsIndexOf tells slot columns stamp place bytes index v
+IsIndexOn tells slot columns stamp place bytes v w None = IsMissing tells slot columns stamp (place ∷ []) v w

@@ -2,19 +2,27 @@
 use Rattle.std.specs.Prelude.{ℕ, suc, ◌-◌, slice_get, ℤ, int_lt, not, nat_lt, ◌||◌, if◌then◌else◌, Option, Some, None, is_some, Result, Ok, Err, List, [], ◌∷◌, filter, length}
 use Rattle.std.specs.Ordering.{int_cmp, int_eq}
 use Rattle.std.specs.FinMap.{find, put}
-use Rattle.ts_row.specs.Row.{Values}
-use Rattle.ts_cells.specs.Cell.{Element}
+use Rattle.ts_row.specs.Row.{Row}
+use Rattle.ts_row.specs.Element.{Element, seen}
 
 -- the row of the element at a stamp, if one is there
-abbrev pub element_at : ℤ → List Element → Option Values
+abbrev pub element_at : ℤ → List Element → Option Row
 element_at stamp es = find int_cmp stamp es
+
+-- the row of an element that isn't hidden
+abbrev pub row_if_seen : Row → Option Row
+row_if_seen row = if row.hidden then None else Some row
 
 -- the last element, if there is one
 abbrev pub last_of : List Element → Option Element
 last_of es = slice_get es (length es - 1)
 
+-- the last element that isn't hidden, if there is one
+abbrev pub last_seen : List Element → Option Element
+last_seen es = last_of (seen es)
+
 -- the elements with a row at a stamp: before the first later one, or in place of the one that is there
-abbrev pub with_element : ℤ → Values → List Element → List Element
+abbrev pub with_element : ℤ → Row → List Element → List Element
 with_element stamp row es = put int_cmp stamp row es
 
 -- all elements but the one at a stamp
@@ -22,7 +30,7 @@ abbrev pub without_element : ℤ → List Element → List Element
 without_element stamp es = filter (λ e. not (int_eq stamp e.0)) es
 
 -- the elements with this row at a stamp, or with none
-abbrev pub edited : ℤ → Option Values → List Element → List Element
+abbrev pub edited : ℤ → Option Row → List Element → List Element
 edited stamp None es = without_element stamp es
 edited stamp (Some row) es = with_element stamp row es
 

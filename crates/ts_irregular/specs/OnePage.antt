@@ -7,7 +7,8 @@ use Rattle.ts_page.specs.declared.page.Head.{Head}
 use Rattle.ts_page.specs.declared.page.Head.TheVariants.{Free, Regular, Irregular}
 use Rattle.ts_page.specs.Pages.{Contents, IsElementPage}
 use Rattle.ts_row.specs.declared.kind.Column.{Column}
-use Rattle.ts_cells.specs.Cell.{Element, page_room}
+use Rattle.ts_row.specs.Element.{Element}
+use Rattle.ts_cells.specs.Cell.{page_room}
 use Rattle.ts_cells.specs.IrregularPage.{AreInOrder, IsIrregularPage, first_stamp}
 use Rattle.ts_irregular.specs.Edit.{element_at}
 

@@ -1,11 +1,12 @@
 // The cells behind the head of a page, edited.
 ghost use Rattle.std.specs.Prelude.{◌≡◌, ◌+◌, ◌*◌, ◌<◌, ◌≤◌, IsTrue, List, ◌∷◌, ◌++◌, length, take, drop, replicate};
 ghost use Rattle.ts_row.specs.Row.{fits};
-ghost use Rattle.ts_cells.specs.Cell.{Element, page_room};
+ghost use Rattle.ts_row.specs.Element.{Element};
+ghost use Rattle.ts_cells.specs.Cell.{page_room};
 ghost use Rattle.ts_cells.specs.IrregularPage.{AreElements, AreInOrder, behind_head};
 ghost use Rattle.ts_irregular.specs.Edit.{with_element, without_element, taken_for};
 
-use crate::search::search;
+use crate::stamps::search;
 use ts_base::Stamp;
 use ts_cells::{cell_size, page_room, write_cell};
 use ts_row::{Row, RowType};

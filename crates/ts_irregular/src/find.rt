@@ -3,19 +3,19 @@ ghost use Rattle.std.specs.Prelude.{◌≡◌, ◌↔◌, ◌<◌, ◌≤◌, Is
 ghost use Rattle.ts_row.specs.Row.{fits};
 ghost use Rattle.ts_space.specs.Directory.{places_of};
 ghost use Rattle.ts_page.specs.Head.{head_of, zero_page};
-ghost use Rattle.ts_cells.specs.Cell.{Element, page_room};
+ghost use Rattle.ts_row.specs.Element.{Element};
+ghost use Rattle.ts_cells.specs.Cell.{page_room};
 ghost use Rattle.ts_irregular.specs.OnePage.{IsReadable, IsOn, told_in};
 ghost use Rattle.ts_irregular.specs.Call.{Reads, IsRowThere};
 
 use crate::get::row_at;
-use crate::page::HEAD;
 use ts_base::{Stamp, StoreFault};
 use ts_cells::page_room;
-use ts_page::{Head, Page, Pages};
+use ts_page::{HEAD, Head, Page, Pages};
 use ts_row::{Row, RowType, Shelf};
 use ts_space::{Place, Space};
 
-/// The row of the element at a stamp of a series that has no page or one. The page isn't judged again: its head is compared with
+/// The row of the element at a stamp of a series that has no page or one, hidden or not. The page isn't judged again: its head is compared with
 /// its place, and the stamp is searched. All pages stay; `page` is room to read one.
 pub fn irregular_find<P: Pages>(
     pages: &mut P,
@@ -41,7 +41,7 @@ pub fn irregular_find<P: Pages>(
 }
 
 /// How many elements of the series a page has by its head; none where that disagrees with its place.
-pub(crate) fn count_told(shelf: &Shelf, place: &Place, page: &Page) -> usize
+pub fn count_told(shelf: &Shelf, place: &Place, page: &Page) -> usize
     ensures told { (es : List Element) → IsOn shelf.now.series shelf.now.kind.now.columns page.now.bytes place.now es → length es ≡ result }
     ensures room { result ≤ page_room shelf.now.kind.now.columns }
     ensures few { result ≤ place.now.count }
@@ -58,8 +58,8 @@ pub(crate) fn count_told(shelf: &Shelf, place: &Place, page: &Page) -> usize
     count as usize
 }
 
-/// The same for an edit: where the head disagrees with the place, the page is one without elements.
-pub(crate) fn count_taken(shelf: &Shelf, place: &Place, page: &mut Page) -> usize
+/// `count_told` for an edit: where the head disagrees with the place, the page becomes one without elements, of zeros.
+pub fn count_taken(shelf: &Shelf, place: &Place, page: &mut Page) -> usize
     ensures told { (es : List Element) → IsOn shelf.now.series shelf.now.kind.now.columns page.old.bytes place.now es
         → (length es ≡ result) × (page.new.bytes ≡ page.old.bytes) }
     ensures none { result ≡ 0 → page.new.bytes ≡ zero_page }

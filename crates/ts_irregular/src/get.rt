@@ -2,23 +2,23 @@
 ghost use Rattle.std.specs.Prelude.{◌≡◌, ◌<◌, ◌≤◌, IsTrue, IfOk, IfSome, List, length};
 ghost use Rattle.ts_row.specs.Row.{fits};
 ghost use Rattle.ts_space.specs.Directory.{places_of};
-ghost use Rattle.ts_cells.specs.Cell.{Element, page_room};
+ghost use Rattle.ts_row.specs.Element.{Element};
+ghost use Rattle.ts_cells.specs.Cell.{page_room};
 ghost use Rattle.ts_cells.specs.IrregularPage.{AreInOrder, behind_head};
 ghost use Rattle.ts_irregular.specs.Edit.{element_at};
 ghost use Rattle.ts_irregular.specs.OnePage.{IsReadable};
 ghost use Rattle.ts_irregular.specs.Call.{Reads, IsFound};
 
-use crate::page::HEAD;
-use crate::search::search;
+use crate::cell::row_at_index;
 use crate::see::see;
+use crate::stamps::search;
 use std::alloc::AllocError;
 use ts_base::{Stamp, StoreFault};
-use ts_cells::cell_size;
-use ts_page::{Page, Pages};
+use ts_page::{HEAD, Page, Pages};
 use ts_row::{Row, RowType, Shelf};
 use ts_space::Space;
 
-/// The row of the element at a stamp of a series that has no page or one. All pages stay.
+/// The row of the element at a stamp of a series that has no page or one, hidden or not. All pages stay.
 pub fn irregular_get<P: Pages>(
     pages: &mut P,
     space: &Space,
@@ -43,7 +43,7 @@ pub fn irregular_get<P: Pages>(
 }
 
 /// The row at a stamp among the elements whose cells stand behind the head of a page.
-pub(crate) fn row_at(
+pub fn row_at(
     kind: &RowType,
     behind: &[u8],
     count: usize,
@@ -58,7 +58,5 @@ pub(crate) fn row_at(
     let Ok(index) = search(kind, behind, count, stamp) else {
         return Ok(None);
     };
-    let size = cell_size(kind);
-    let at = size * index;
-    kind.decode(&behind[at + 9..at + size])
+    row_at_index(kind, behind, index)
 }

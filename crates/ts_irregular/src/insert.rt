@@ -10,14 +10,14 @@ ghost use Rattle.ts_irregular.specs.OnePage.{HasOnePage, IsPlace};
 ghost use Rattle.ts_irregular.specs.Call.{ArePut, IsOneMore, IsInserted, AreLeft};
 
 use crate::find::count_taken;
-use crate::page::{HEAD, insert_into, place_in};
-use crate::search::search;
+use crate::page::{insert_into, place_in};
+use crate::stamps::search;
 use ts_base::{Stamp, StoreFault};
-use ts_page::{Page, Pages};
+use ts_page::{HEAD, Page, Pages};
 use ts_row::{Row, Shelf};
 use ts_space::{Place, Space};
 
-/// Puts a row at a stamp at which no element of a series stands, and gives the place that the series has then; where one stands it
+/// Puts a row at a stamp at which no element of a series stands, hidden or not, and gives the place that the series has then; where one stands it
 /// gives none, and all pages are as before. The page isn't judged again: its head is compared with its place, and the stamp is searched
 /// once; one that disagrees is taken as a page without elements. After an error all pages are as before too. `page` is room to read
 /// one.
@@ -48,7 +48,7 @@ pub fn irregular_insert<P: Pages>(
 }
 
 /// Puts the first element of a series on a page that is taken, and gives the place of that.
-pub(crate) fn put_alone<P: Pages>(
+pub fn put_alone<P: Pages>(
     pages: &mut P,
     page: &mut Page,
     shelf: &Shelf,
@@ -75,8 +75,8 @@ pub(crate) fn put_alone<P: Pages>(
     Ok(place_in(shelf, number, 1, page))
 }
 
-// Puts an element on the page of a series, where the page has none at the stamp.
-fn insert_on<P: Pages>(
+/// `irregular_insert` on this page of the series.
+pub fn insert_on<P: Pages>(
     pages: &mut P,
     page: &mut Page,
     shelf: &Shelf,

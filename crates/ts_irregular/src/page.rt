@@ -1,20 +1,18 @@
 // The page of a series, edited, and its place.
-ghost use Rattle.std.specs.Prelude.{◌≡◌, ◌<◌, ◌≤◌, IsTrue, Ok, Err, List, [], ◌∷◌, length, drop};
+ghost use Rattle.std.specs.Prelude.{◌≡◌, ◌<◌, ◌≤◌, IsTrue, Err, List, [], ◌∷◌, length, drop};
 ghost use Rattle.ts_row.specs.Row.{fits};
-ghost use Rattle.ts_cells.specs.Cell.{Element, page_room};
+ghost use Rattle.ts_row.specs.Element.{Element};
+ghost use Rattle.ts_cells.specs.Cell.{page_room};
 ghost use Rattle.ts_cells.specs.IrregularPage.{AreElements, AreInOrder, behind_head, irregular_page};
 ghost use Rattle.ts_irregular.specs.Edit.{with_element, without_element, search_of, taken_for};
 ghost use Rattle.ts_irregular.specs.OnePage.{place_of};
 
-use crate::cells::{insert_cell, put_row, replace_cell, take_row};
-use crate::search::units_in;
+use crate::cells::{insert_cell, put_row, take_row};
+use crate::stamps::units_in;
 use ts_base::Stamp;
-use ts_page::{Head, Page};
+use ts_page::{HEAD, Head, Page};
 use ts_row::{Row, Shelf};
 use ts_space::Place;
-
-/// The first byte behind the head of a page.
-pub(crate) const HEAD: usize = 32;
 
 /// Puts a row at a stamp into a page with so many elements, and gives how many it has then.
 pub(crate) fn put_into(
@@ -42,7 +40,7 @@ pub(crate) fn put_into(
 }
 
 /// Takes the element at a stamp, if one is there, out of a page with so many, and gives how many are left.
-pub(crate) fn take_out(shelf: &Shelf, page: &mut Page, count: usize, stamp: Stamp) -> usize
+pub fn take_out(shelf: &Shelf, page: &mut Page, count: usize, stamp: Stamp) -> usize
     requires room { count ≤ page_room shelf.now.kind.now.columns }
     ensures count { (es : List Element) → AreInOrder shelf.now.kind.now.columns es → length es ≡ count
         → drop 32 page.old.bytes ≡ behind_head shelf.now.kind.now.columns es
@@ -58,7 +56,7 @@ pub(crate) fn take_out(shelf: &Shelf, page: &mut Page, count: usize, stamp: Stam
 }
 
 /// Puts a row at a stamp into a page with so many elements, before the one of an index: none is at the stamp.
-pub(crate) fn insert_into(
+pub fn insert_into(
     shelf: &Shelf,
     page: &mut Page,
     count: usize,
@@ -84,26 +82,6 @@ pub(crate) fn insert_into(
     set_count(shelf, page, count + 1);
 }
 
-/// Puts a row at a stamp into a page with so many elements, in place of the one of an index: that is at the stamp.
-pub(crate) fn replace_into(
-    shelf: &Shelf,
-    page: &mut Page,
-    count: usize,
-    index: usize,
-    stamp: Stamp,
-    row: &Row,
-)
-    requires room { count ≤ page_room shelf.now.kind.now.columns }
-    requires index { index < count }
-    requires fits { IsTrue (fits shelf.now.kind.now.columns row.now) }
-    ensures { (es : List Element) → AreInOrder shelf.now.kind.now.columns es → length es ≡ count → search_of stamp es ≡ Ok index
-        → drop 32 page.old.bytes ≡ behind_head shelf.now.kind.now.columns es
-        → page.new.bytes ≡ irregular_page shelf.now.series shelf.now.kind.now.columns (with_element stamp row.now es) }
-{
-    replace_cell(shelf.kind, &mut page.bytes[HEAD..], index, stamp, row);
-    set_count(shelf, page, count);
-}
-
 // Writes the head of a page with so many elements.
 fn set_count(shelf: &Shelf, page: &mut Page, count: usize)
     requires { count ≤ page_room shelf.now.kind.now.columns }
@@ -117,7 +95,7 @@ fn set_count(shelf: &Shelf, page: &mut Page, count: usize)
 }
 
 /// The place of a page with so many elements.
-pub(crate) fn place_in(shelf: &Shelf, number: u32, count: usize, page: &Page) -> Place
+pub fn place_in(shelf: &Shelf, number: u32, count: usize, page: &Page) -> Place
     requires some { 1 ≤ count }
     requires room { count ≤ page_room shelf.now.kind.now.columns }
     ensures number { result.page ≡ number }

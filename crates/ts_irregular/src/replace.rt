@@ -6,15 +6,14 @@ ghost use Rattle.ts_page.specs.Pages.{Answered};
 ghost use Rattle.ts_irregular.specs.OnePage.{HasOnePage, IsPlace};
 ghost use Rattle.ts_irregular.specs.Call.{IsReplaced, AreLeft};
 
-use crate::find::count_taken;
-use crate::page::{HEAD, replace_into};
-use crate::search::search;
+use crate::cells::replace_cell;
+use crate::index::index_on;
 use ts_base::{Stamp, StoreFault};
-use ts_page::{Page, Pages};
+use ts_page::{HEAD, Page, Pages};
 use ts_row::{Row, Shelf};
 use ts_space::{Place, Space};
 
-/// Puts a row in place of that of the element at a stamp, and tells whether it did; where none stands there all pages are as before. All
+/// Puts a row, with its own mark, in place of that of the element at a stamp, and tells whether it did; where none stands there all pages are as before. All
 /// places stay. The page isn't judged again: its head is compared with its place, and the stamp is searched once; one that disagrees is
 /// taken as a page without elements. After an error all pages are as before too. `page` is room to read one.
 pub fn irregular_replace<P: Pages>(
@@ -41,8 +40,8 @@ pub fn irregular_replace<P: Pages>(
     }
 }
 
-// Puts a row in place of one on the page of a series, where the page has one at the stamp.
-fn replace_on<P: Pages>(
+/// `irregular_replace` on this page of the series.
+pub fn replace_on<P: Pages>(
     pages: &mut P,
     page: &mut Page,
     shelf: &Shelf,
@@ -59,16 +58,10 @@ fn replace_on<P: Pages>(
     ensures change { (P.contents pages.new).change_bytes ≤ (P.contents pages.old).change_bytes + 4101 }
     ensures undisturbed { P.undisturbed pages.old pages.new }
 {
-    // It lies in the range.
-    let _units = stamp.units();
-    pages.get(place.page, page)?;
-    let count = count_taken(shelf, place, page);
-    match search(shelf.kind, &page.bytes[HEAD..], count, stamp) {
-        Ok(index) => {
-            replace_into(shelf, page, count, index, stamp, row);
-            pages.put(place.page, page)?;
-            Ok(true)
-        }
-        Err(_) => Ok(false),
-    }
+    let Some(index) = index_on(pages, page, shelf, place, stamp)? else {
+        return Ok(false);
+    };
+    replace_cell(shelf.kind, &mut page.bytes[HEAD..], index, stamp, row);
+    pages.put(place.page, page)?;
+    Ok(true)
 }

@@ -1,6 +1,7 @@
 // A page judged against its place.
 ghost use Rattle.std.specs.Prelude.{◌≡◌, ◌⊎◌, ◌↔◌, ◌≤◌, IsTrue, List, [], length, drop};
-ghost use Rattle.ts_cells.specs.Cell.{Element, page_room};
+ghost use Rattle.ts_row.specs.Element.{Element};
+ghost use Rattle.ts_cells.specs.Cell.{page_room};
 ghost use Rattle.ts_cells.specs.IrregularPage.{AreInOrder, behind_head};
 ghost use Rattle.ts_page.specs.Head.{head_of};
 ghost use Rattle.ts_irregular.specs.OnePage.{series_in, IsOn, IsTakenFor};

@@ -3,7 +3,8 @@ ghost use Rattle.std.specs.Prelude.{◌≡◌, ◌+◌, ◌<◌, ◌≤◌, IsTr
 ghost use Rattle.ts_row.specs.Row.{fits};
 ghost use Rattle.ts_space.specs.Directory.{places_of, spare_of, ChangesOnly};
 ghost use Rattle.ts_page.specs.Pages.{Answered};
-ghost use Rattle.ts_cells.specs.Cell.{Element, page_room};
+ghost use Rattle.ts_row.specs.Element.{Element};
+ghost use Rattle.ts_cells.specs.Cell.{page_room};
 ghost use Rattle.ts_cells.specs.IrregularPage.{AreInOrder, behind_head};
 ghost use Rattle.ts_irregular.specs.Edit.{with_element, taken_for};
 ghost use Rattle.ts_irregular.specs.OnePage.{HasOnePage, IsPlace, HasRoom};

@@ -4,7 +4,7 @@ use Rattle.std.specs.Ordering.{int_cmp, int_eq}
 use Rattle.std.specs.Cmp.{int_cmp_total, int_eq_equiv}
 use Rattle.std.specs.FinMap.{from_entries, get, same_map, int_cmp-IsAntisymmetric, get-from_entries, get-insert, get-remove}
 use Rattle.std.specs.FinMap.Entries.{find-put, find-where_key}
-use Rattle.ts_row.specs.Row.{Values}
+use Rattle.ts_row.specs.Row.{Row}
 use Rattle.ts_cells.specs.Cell.{Element}
 use Rattle.ts_irregular.specs.Edit.{element_at, with_element, without_element}
 use Rattle.ts_irregular.proofs.laws.edits_are_those_of_a_map.Goals as goal
@@ -18,10 +18,10 @@ returns-clause-found c = found_in
 pub returns-clause-put : goal.returns-clause-put
 returns-clause-put c = λ stamp row es. same_map int_cmp_total int_cmp-IsAntisymmetric _ _ (λ q.
     found_in q (with_element stamp row es) ∙ find-put int_cmp int_cmp_total q stamp row es
-    ∙ ap (λ (o : Option Values). cond (int_eq q stamp) (Some row) o) (sym (found_in q es)) ∙ sym (get-insert int_cmp_total (from_entries es) stamp row q))
+    ∙ ap (λ (o : Option Row). cond (int_eq q stamp) (Some row) o) (sym (found_in q es)) ∙ sym (get-insert int_cmp_total (from_entries es) stamp row q))
 
 -- a test turned
-turned : (b : Bool) (o : Option Values) → cond (not b) o None ≡ cond b None o
+turned : (b : Bool) (o : Option Row) → cond (not b) o None ≡ cond b None o
 turned true o = refl
 turned false o = refl
 

@@ -3,7 +3,7 @@ use Rattle.std.proofs.Common.{◌≡◌, ◌-◌, ◌≤◌, List, length}
 use Rattle.ts_cells.specs.Cell.{Element}
 use Rattle.ts_cells.specs.IrregularPage.{AreInOrder, behind_head}
 use Rattle.ts_irregular.specs.Edit.{rank_of}
-use Rattle.ts_irregular.proofs.search.rank.Given as goal
+use Rattle.ts_irregular.proofs.stamps.rank.Given as goal
 
 abbrev pub invariant-loop-low : goal.invariant-loop-low
 invariant-loop-low l = record {

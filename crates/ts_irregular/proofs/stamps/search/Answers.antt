@@ -3,8 +3,8 @@ use Rattle.ts_base.specs.Moment.{IsStamp}
 use Rattle.ts_row.specs.declared.kind.Column.{Column}
 use Rattle.ts_irregular.proofs.BytesLemmas.{cell_within, part, units_in}
 use Rattle.ts_irregular.proofs.SearchLemmas.{search_there, search_none, stamp_one}
-use Rattle.ts_irregular.proofs.search.search.Goals.{else-rank-count-via-then-rank-count+else-units_at-units, else-rank-count-via-else-rank-count}
-use Rattle.ts_irregular.proofs.search.search.Goals as goal
+use Rattle.ts_irregular.proofs.stamps.search.Goals.{else-rank-count-via-then-rank-count+else-units_at-units, else-rank-count-via-else-rank-count}
+use Rattle.ts_irregular.proofs.stamps.search.Goals as goal
 
 pub units_at-requires-clause-within : goal.units_at-requires-clause-within
 units_at-requires-clause-within c =

@@ -1,7 +1,8 @@
 // The place of a stamp among the cells of a page.
 ghost use Rattle.std.specs.Prelude.{◌≡◌, ◌+◌, ◌*◌, ◌<◌, ◌≤◌, IfOk, IfErr, List, length, take, drop};
 ghost use Rattle.std.specs.Int.{w64, from_be_bytes, cast_signed};
-ghost use Rattle.ts_cells.specs.Cell.{Element, page_room};
+ghost use Rattle.ts_row.specs.Element.{Element};
+ghost use Rattle.ts_cells.specs.Cell.{page_room};
 ghost use Rattle.ts_cells.specs.IrregularPage.{AreInOrder, behind_head};
 ghost use Rattle.ts_irregular.specs.Edit.{rank_of, search_of};
 
@@ -11,12 +12,7 @@ use ts_row::RowType;
 
 /// The index of the cell of the element at a stamp, among so many behind the head of a page; where none is there, that
 /// of the first later one.
-pub(crate) fn search(
-    kind: &RowType,
-    behind: &[u8],
-    count: usize,
-    stamp: Stamp,
-) -> Result<usize, usize>
+pub fn search(kind: &RowType, behind: &[u8], count: usize, stamp: Stamp) -> Result<usize, usize>
     requires size { length behind.now ≡ 4064 }
     requires room { count ≤ page_room kind.now.columns }
     ensures ok { (es : List Element) → AreInOrder kind.now.columns es → length es ≡ count → behind.now ≡ behind_head kind.now.columns es
@@ -56,7 +52,7 @@ fn rank(kind: &RowType, behind: &[u8], count: usize, stamp: Stamp) -> usize
 }
 
 /// The units of the stamp in a cell.
-pub(crate) fn units_at(behind: &[u8], size: usize, index: usize) -> i64
+pub fn units_at(behind: &[u8], size: usize, index: usize) -> i64
     requires within { size * index + size ≤ length behind.now }
     requires size { 9 ≤ size }
     ensures { result ≡ cast_signed w64 (from_be_bytes w64 (take 8 (drop (size * index + 1) behind.now))) }

@@ -4,7 +4,7 @@ use Rattle.ts_row.specs.declared.kind.Column.{Column}
 use Rattle.ts_irregular.proofs.BytesLemmas.{cell_within, part, units_in}
 use Rattle.ts_irregular.proofs.EditLemmas.{rank_within}
 use Rattle.ts_irregular.proofs.SearchLemmas.{rank_more, rank_less}
-use Rattle.ts_irregular.proofs.search.rank.Goals as goal
+use Rattle.ts_irregular.proofs.stamps.rank.Goals as goal
 
 pub loop-low-init : goal.loop-low-init
 loop-low-init c = record {
