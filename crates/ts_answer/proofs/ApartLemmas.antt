@@ -1,5 +1,5 @@
 -- No reply of a routine is taken for the memory line.
-use Rattle.std.proofs.Common.{ℕ, ℤ, Ok, Err, List}
+use Rattle.std.proofs.Common.{ℕ, ℤ, Bool, true, false, Ok, Err, List}
 use Rattle.ts_row.specs.declared.kind.Column.{Column}
 use Rattle.ts_row.specs.declared.value.Literal.{Literal}
 use Rattle.ts_command.specs.declared.command.Command.{Command}
@@ -9,7 +9,7 @@ use Rattle.ts_model.specs.declared.kind.Kind.{Kind}
 use Rattle.ts_model.specs.declared.kind.Kind.TheVariants as kinds
 use Rattle.ts_model.specs.Catalogue.{Catalogue}
 use Rattle.ts_command.specs.Script.{Request}
-use Rattle.ts_answer.specs.Answer.{Tried, Answered, ◌>>=◌, settled, outcome, answer, carried_out, create_row_type, drop_definition, create_container, container_usage, create_irregular, drop_series, list_series, insert_element, update_element, get_element, get_last_element, count_elements}
+use Rattle.ts_answer.specs.Answer.{Tried, Answered, ◌>>=◌, settled, outcome, answer, carried_out, create_row_type, drop_definition, create_container, container_usage, create_irregular, drop_series, list_series, insert_element, update_element, mark_element, get_element, get_last_element, count_elements}
 use Rattle.ts_answer.proofs.ReplyLemmas.{IsApart, Begins, apart-begins, ok-begins, count-begins, counts-begins, stamp-begins, elements-begin, series_text-begins, refusal-apart}
 
 -- what is said of a reply begins with another byte than the memory line
@@ -24,7 +24,7 @@ then (Err refusal) f differs = tt
 
 create_row_type-differs : (name stamp : List ℕ) (columns : List Column) (cat : Catalogue) → Differs (create_row_type name stamp columns cat)
 unfolding create_row_type
-create_row_type-differs name stamp columns cat = then _ _ (λ a. then _ _ (λ b. ok-begins))
+create_row_type-differs name stamp columns cat = then _ _ (λ a. then _ _ (λ b. then _ _ (λ c. ok-begins)))
 
 drop_definition-differs : (kind : Kind) (name : List ℕ) (cat : Catalogue) → Differs (drop_definition kind name cat)
 unfolding drop_definition
@@ -58,6 +58,10 @@ update_element-differs : (key : List ℕ) (stamp : ℤ) (literals : List Literal
 unfolding update_element
 update_element-differs key stamp literals cat = then _ _ (λ a. then _ _ (λ b. then _ _ (λ c. stamp-begins stamp)))
 
+mark_element-differs : (hidden : Bool) (key : List ℕ) (stamp : ℤ) (cat : Catalogue) → Differs (mark_element hidden key stamp cat)
+unfolding mark_element
+mark_element-differs hidden key stamp cat = then _ _ (λ a. then _ _ (λ b. then _ _ (λ c. stamp-begins stamp)))
+
 get_element-differs : (key : List ℕ) (stamp : ℤ) (cat : Catalogue) → Differs (get_element key stamp cat)
 unfolding get_element
 get_element-differs key stamp cat = then _ _ (λ a. elements-begin _ _)
@@ -82,6 +86,8 @@ carried_out-differs (commands.DropSeries key) cat = drop_series-differs key cat
 carried_out-differs (commands.ListSeries container) cat = list_series-differs container cat
 carried_out-differs (commands.InsElem key stamp literals) cat = insert_element-differs key stamp literals cat
 carried_out-differs (commands.UpdElem key stamp literals) cat = update_element-differs key stamp literals cat
+carried_out-differs (commands.HideElem key stamp) cat = mark_element-differs true key stamp cat
+carried_out-differs (commands.RevealElem key stamp) cat = mark_element-differs false key stamp cat
 carried_out-differs (commands.GetElem key stamp) cat = get_element-differs key stamp cat
 carried_out-differs (commands.GetLastElem key) cat = get_last_element-differs key cat
 carried_out-differs (commands.GetNelems key) cat = count_elements-differs key cat

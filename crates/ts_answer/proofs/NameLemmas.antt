@@ -1,6 +1,6 @@
 -- Names of a kind: in the slots, and in the catalogue.
-use Rattle.std.proofs.Common.{◌≡◌, ℕ, ◌<◌, Some, None, Ok, Err, List, ap, sym, ◌∙◌, subst, refl, arith}
-use Rattle.std.specs.FinMap.{get, len}
+use Rattle.std.proofs.Common.{◌≡◌, ℕ, Some, None, Ok, Err, List, ap, sym, ◌∙◌, subst, refl, arith}
+use Rattle.std.specs.FinMap.{get}
 use Rattle.ts_base.specs.declared.refusal.Refusal.TheVariants as refusals
 use Rattle.ts_base.specs.declared.fault.Trouble.TheVariants.{Refused}
 use Rattle.ts_model.specs.declared.kind.Kind.{Kind}

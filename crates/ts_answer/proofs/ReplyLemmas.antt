@@ -7,7 +7,7 @@ use Rattle.ts_base.specs.StampText.{stamp_text}
 use Rattle.ts_base.specs.declared.refusal.Refusal.{Refusal}
 use Rattle.ts_base.specs.declared.refusal.Refusal.TheVariants as refusals
 use Rattle.ts_row.specs.declared.kind.Column.{Column}
-use Rattle.ts_row.specs.Row.{Values}
+use Rattle.ts_row.specs.Element.{Element}
 use Rattle.ts_row.specs.Printed.{row_text}
 use Rattle.ts_replies.specs.Acknowledged.{behind, memory_line}
 use Rattle.ts_answer.specs.Reply.{ok_line, count_line, counts_line, stamp_line, refusal_line, element_line, elements_text, series_line, series_text}
@@ -59,7 +59,7 @@ stamp_text-begins : (stamp : ℤ) → Begins (stamp_text stamp)
 unfolding stamp_text
 stamp_text-begins stamp = record { first = _; rest = _; is = refl; other = digit-other _ }
 
-element-begins : (columns : List Column) (e : ℤ × Values) → Begins (element_line columns e)
+element-begins : (columns : List Column) (e : Element) → Begins (element_line columns e)
 unfolding element_line
 element-begins columns e =
     let stamp = stamp_text e.0 in
@@ -74,7 +74,7 @@ lines-begin : {A : Type 0} (line : A → List ℕ) → ((a : A) → Begins (line
 lines-begin line begins [] last end = end
 lines-begin line begins (a ∷ all) last end = begins-append (line a ++ flat_map line all) last (begins-append (line a) (flat_map line all) (begins a))
 
-pub elements-begin : (columns : List Column) (es : List (ℤ × Values)) → Begins (elements_text columns es)
+pub elements-begin : (columns : List Column) (es : List Element) → Begins (elements_text columns es)
 unfolding elements_text
 elements-begin columns es = lines-begin (element_line columns) (element-begins columns) es (count_line (length es)) (count-begins (length es))
 

@@ -1,8 +1,8 @@
 -- Tests in a row: `?` in code is `>>=` of what is tried.
-use Rattle.std.proofs.Common.{◌≡◌, ℕ, ◌<◌, ◌≤◌, Bool, true, false, Some, None, Result, Ok, Err, IsErrAnd, List, is_some, refl, ap, sym, subst}
+use Rattle.std.proofs.Common.{◌≡◌, ℕ, ◌<◌, ◌≤◌, Bool, true, false, Some, None, Result, Ok, Err, IsErrAnd, List, is_some, ℤ, refl, ap, sym, subst}
 use Rattle.std.specs.declared.alloc.AllocError.{AllocError}
 use Rattle.std.specs.FinMap.{get, len}
-use Rattle.std.proofs.lemmas.Bool.{lt-ltb, le-ltb, le-leb, lt-leb}
+use Rattle.std.proofs.lemmas.Bool.{lt-ltb, le-ltb, le-leb, lt-leb, eq-eqb, ne_eqb}
 use Rattle.ts_base.specs.declared.refusal.Refusal.{Refusal}
 use Rattle.ts_base.specs.declared.refusal.Refusal.TheVariants as refusals
 use Rattle.ts_base.specs.declared.fault.Trouble.{Trouble}
@@ -10,9 +10,10 @@ use Rattle.ts_base.specs.declared.fault.Trouble.TheVariants.{Refused, Memory}
 use Rattle.ts_row.specs.declared.kind.Column.{Column}
 use Rattle.ts_row.specs.declared.value.Literal.{Literal}
 use Rattle.ts_row.specs.RowType.{bad_column}
-use Rattle.ts_row.specs.Row.{Values, row_of}
-use Rattle.ts_model.specs.Catalogue.{Named}
-use Rattle.ts_answer.specs.Answer.{Tried, ◌>>=◌, refused_if, known, wanted, unused, within_limit, no_bad_column, row_or_mismatch, a_row, within_quota, on_one_page}
+use Rattle.ts_row.specs.Row.{Row, row_of}
+use Rattle.ts_model.specs.declared.format.TheConstants.{OLD_FORMAT}
+use Rattle.ts_model.specs.Catalogue.{Named, Elements}
+use Rattle.ts_answer.specs.Answer.{Tried, ◌>>=◌, refused_if, known, wanted, unused, within_limit, no_bad_column, beyond_old_format, present, row_at, row_or_mismatch, a_row, within_quota, on_one_page}
 use Rattle.ts_answer.specs.Tried.{IsTried, IsRefusedAs}
 
 -- the tests, passed and failed
@@ -54,13 +55,31 @@ good-columns stamp columns h = ap no_bad_column h
 pub bad-columns : (stamp : List ℕ) (columns : List Column) (column : ℕ) → bad_column stamp columns ≡ Some column → no_bad_column (bad_column stamp columns) ≡ Err (refusals.BadRowType column)
 bad-columns stamp columns column h = ap no_bad_column h
 
-pub good-row : (columns : List Column) (literals : List Literal) (row : Values) → row_of columns literals ≡ Ok row → a_row columns literals ≡ Ok row
+pub good-row : (columns : List Column) (literals : List Literal) (row : Row) → row_of columns literals ≡ Ok row → a_row columns literals ≡ Ok row
 unfolding a_row
 good-row columns literals row h = ap row_or_mismatch h
 
 pub bad-row : (columns : List Column) (literals : List Literal) (column : ℕ) → row_of columns literals ≡ Err column → a_row columns literals ≡ Err (refusals.RowMismatch column)
 unfolding a_row
 bad-row columns literals column h = ap row_or_mismatch h
+
+pub row-there : (stamp : ℤ) (elements : Elements) (row : Row) → get elements stamp ≡ Some row → row_at stamp elements ≡ Ok row
+unfolding row_at
+row-there stamp elements row h = ap present h
+
+pub row-missing : (stamp : ℤ) (elements : Elements) → get elements stamp ≡ None → row_at stamp elements ≡ Err refusals.Missing
+unfolding row_at
+row-missing stamp elements h = ap present h
+
+-- what format 1 hasn't
+pub format-has : (beyond : Bool) (format : ℕ) → (format ≡ OLD_FORMAT → beyond ≡ false) → beyond_old_format beyond format ≡ Ok tt
+unfolding beyond_old_format
+format-has true format has = passed _ refusals.OldFormat (ne_eqb format OLD_FORMAT (λ old. absurd (let no = has old in cc)))
+format-has false format has = passed _ refusals.OldFormat refl
+
+pub format-hasnt : (format : ℕ) → format ≡ OLD_FORMAT → beyond_old_format true format ≡ Err refusals.OldFormat
+unfolding beyond_old_format
+format-hasnt format old = refused _ refusals.OldFormat (eq-eqb format OLD_FORMAT old)
 
 pub quota-kept : (charge quota : ℕ) → charge ≤ quota → within_quota charge quota ≡ Ok tt
 unfolding within_quota

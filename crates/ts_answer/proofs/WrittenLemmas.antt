@@ -12,7 +12,7 @@ use Rattle.ts_model.specs.Catalogue.{name_cmp, Named, Container, Series, Catalog
 use Rattle.ts_model.proofs.OrderLemmas.{total, ties-same}
 use Rattle.ts_model.specs.Kinds.{named}
 use Rattle.ts_answer.specs.Commands.{Object, objects, StaysBut}
-use Rattle.ts_answer.specs.Answer.{Answered, Tried, ◌>>=◌, settled, outcome, answer, carried_out, create_row_type, drop_definition, create_container, container_usage, create_irregular, drop_series, list_series, insert_element, update_element, get_element, get_last_element, count_elements}
+use Rattle.ts_answer.specs.Answer.{Answered, Tried, ◌>>=◌, settled, outcome, answer, carried_out, create_row_type, drop_definition, create_container, container_usage, create_irregular, drop_series, list_series, insert_element, update_element, mark_element, get_element, get_last_element, count_elements}
 
 -- a map with another value under one name, or none
 apart : {X : Type 0} (b : Bool) (q name : List ℕ) (v m : Option X) → (b ≡ true → ⊥) → cond b v m ≡ m
@@ -31,24 +31,24 @@ other_than kind name object none same also = none (0, omega arith, λ i. (sym sa
 
 module _ (cat : Catalogue) where
   pub stays_whole : (wrote : List Object) → StaysBut wrote cat cat
-  stays_whole wrote = record { pages = refl; others = λ object none. refl }
+  stays_whole wrote = record { format = refl; pages = refl; others = λ object none. refl }
 
   row_types_written : (name : List ℕ) (rows : Named Heading) → ((q : List ℕ) → (q ≡ name → ⊥) → get rows q ≡ get cat.row_types q) → StaysBut ((kinds.RowType, name) ∷ []) cat (record cat { row_types = rows })
-  row_types_written name rows same = record { pages = refl; others = λ object none. at object.0 object.1 (other_than kinds.RowType name object none) } where
+  row_types_written name rows same = record { format = refl; pages = refl; others = λ object none. at object.0 object.1 (other_than kinds.RowType name object none) } where
     at : (kind : Kind) (q : List ℕ) → (kind ≡ kinds.RowType → q ≡ name → ⊥) → get (named kind (record cat { row_types = rows })) q ≡ get (named kind cat) q
     at kinds.RowType q other = same q (other refl)
     at kinds.Container q other = refl
     at kinds.Series q other = refl
 
   containers_written : (name : List ℕ) (rows : Named Container) → ((q : List ℕ) → (q ≡ name → ⊥) → get rows q ≡ get cat.containers q) → StaysBut ((kinds.Container, name) ∷ []) cat (record cat { containers = rows })
-  containers_written name rows same = record { pages = refl; others = λ object none. at object.0 object.1 (other_than kinds.Container name object none) } where
+  containers_written name rows same = record { format = refl; pages = refl; others = λ object none. at object.0 object.1 (other_than kinds.Container name object none) } where
     at : (kind : Kind) (q : List ℕ) → (kind ≡ kinds.Container → q ≡ name → ⊥) → get (named kind (record cat { containers = rows })) q ≡ get (named kind cat) q
     at kinds.RowType q other = refl
     at kinds.Container q other = same q (other refl)
     at kinds.Series q other = refl
 
   series_written : (key : List ℕ) (rows : Named Series) → ((q : List ℕ) → (q ≡ key → ⊥) → get rows q ≡ get cat.series q) → StaysBut ((kinds.Series, key) ∷ []) cat (record cat { series = rows })
-  series_written key rows same = record { pages = refl; others = λ object none. at object.0 object.1 (other_than kinds.Series key object none) } where
+  series_written key rows same = record { format = refl; pages = refl; others = λ object none. at object.0 object.1 (other_than kinds.Series key object none) } where
     at : (kind : Kind) (q : List ℕ) → (kind ≡ kinds.Series → q ≡ key → ⊥) → get (named kind (record cat { series = rows })) q ≡ get (named kind cat) q
     at kinds.RowType q other = refl
     at kinds.Container q other = refl
@@ -70,8 +70,8 @@ module _ (cat : Catalogue) where
   settles wrote (Err refusal) stays = stays_whole wrote
 
   each : (command : Command) → Tries (objects command).wrote (carried_out command cat)
-  unfolding Tries carried_out create_row_type drop_definition create_container container_usage create_irregular drop_series list_series insert_element update_element get_element get_last_element count_elements
-  each (commands.CreateRowType name stamp columns) = tries _ _ _ (λ good. tries _ _ _ (λ new. row_types_written name _ (λ q other. inserted cat.row_types name q _ other)))
+  unfolding Tries carried_out create_row_type drop_definition create_container container_usage create_irregular drop_series list_series insert_element update_element mark_element get_element get_last_element count_elements
+  each (commands.CreateRowType name stamp columns) = tries _ _ _ (λ good. tries _ _ _ (λ has. tries _ _ _ (λ new. row_types_written name _ (λ q other. inserted cat.row_types name q _ other))))
   each (commands.DropRowType name) = tries _ _ _ (λ there. tries _ _ _ (λ idle. row_types_written name _ (λ q other. removed cat.row_types name q other)))
   each (commands.TSContainerCreate name row_type quota) = tries _ _ _ (λ heading. tries _ _ _ (λ new. tries _ _ _ (λ fits. containers_written name _ (λ q other. inserted cat.containers name q _ other))))
   each (commands.TSContainerDestroy name) = tries _ _ _ (λ there. tries _ _ _ (λ idle. containers_written name _ (λ q other. removed cat.containers name q other)))
@@ -82,6 +82,8 @@ module _ (cat : Catalogue) where
   each (commands.InsElem key stamp literals) =
       tries _ _ _ (λ series. tries _ _ _ (λ row. tries _ _ _ (λ free. tries _ _ _ (λ one. tries _ _ _ (λ fits. series_written key _ (λ q other. inserted cat.series key q _ other))))))
   each (commands.UpdElem key stamp literals) = tries _ _ _ (λ series. tries _ _ _ (λ row. tries _ _ _ (λ there. series_written key _ (λ q other. inserted cat.series key q _ other))))
+  each (commands.HideElem key stamp) = tries _ _ _ (λ series. tries _ _ _ (λ marks. tries _ _ _ (λ row. series_written key _ (λ q other. inserted cat.series key q _ other))))
+  each (commands.RevealElem key stamp) = tries _ _ _ (λ series. tries _ _ _ (λ marks. tries _ _ _ (λ row. series_written key _ (λ q other. inserted cat.series key q _ other))))
   each (commands.GetElem key stamp) = tries _ _ _ (λ series. stays_whole [])
   each (commands.GetLastElem key) = tries _ _ _ (λ series. stays_whole [])
   each (commands.GetNelems key) = tries _ _ _ (λ series. stays_whole [])

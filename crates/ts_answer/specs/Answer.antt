@@ -1,18 +1,20 @@
 -- What a catalogue answers to a request of a script: a reply, and the catalogue after it. Each routine tries its refusals in
 -- order; the first that holds is said, and the catalogue stays.
-use Rattle.std.specs.Prelude.{ℕ, ◌+◌, ◌-◌, Bool, true, false, nat_lt, nat_le, if◌then◌else◌, ℤ, unsigned_abs, List, length, map, slice_get, Option, Some, None, option_to_list, Result, Ok, Err, is_some, is_none}
+use Rattle.std.specs.Prelude.{ℕ, ◌+◌, ◌-◌, ◌==◌, ◌&&◌, Bool, true, false, nat_lt, nat_le, if◌then◌else◌, ℤ, unsigned_abs, List, length, map, slice_get, Option, Some, None, option_to_list, Result, Ok, Err, is_some}
 use Rattle.std.specs.FinMap.{empty, entries, get, insert, remove, len}
 use Rattle.ts_base.specs.declared.refusal.Refusal.{Refusal}
 use Rattle.ts_base.specs.declared.refusal.Refusal.TheVariants as refusals
 use Rattle.ts_row.specs.declared.kind.Column.{Column}
 use Rattle.ts_row.specs.declared.value.Literal.{Literal}
 use Rattle.ts_row.specs.RowType.{bad_column, has_long_decimal}
-use Rattle.ts_row.specs.Row.{Values, row_of}
+use Rattle.ts_row.specs.Row.{Row, row_of, marked}
+use Rattle.ts_row.specs.Element.{Element, seen}
 use Rattle.ts_command.specs.declared.command.Command.{Command}
 use Rattle.ts_command.specs.declared.command.Command.TheVariants as commands
 use Rattle.ts_command.specs.Script.{Request}
 use Rattle.ts_model.specs.declared.kind.Kind.{Kind}
 use Rattle.ts_model.specs.declared.kind.Kind.TheVariants as kinds
+use Rattle.ts_model.specs.declared.format.TheConstants.{OLD_FORMAT}
 use Rattle.ts_model.specs.Definitions.{limit}
 use Rattle.ts_model.specs.Catalogue.{Named, Elements, Series, Catalogue, columns_of, quota_of, series_in, quotas}
 use Rattle.ts_model.specs.Charge.{page_elements, container_charge}
@@ -65,20 +67,27 @@ abbrev pub no_bad_column : Option ℕ → Tried (Unit {0})
 no_bad_column (Some column) = Err (refusals.BadRowType column)
 no_bad_column None = Ok tt
 
--- the first column that breaks a rule of row types is refused, and then a decimal of over 18 digits, which format 1 hasn't
-unfoldable pub a_row_type : List ℕ → List Column → Tried (Unit {0})
-a_row_type stamp columns = do
-  good ← no_bad_column (bad_column stamp columns)
-  refused_if (has_long_decimal columns) refusals.OldFormat
+-- What format 1 hasn't, long decimals and hidden elements, is refused on a volume of it.
+unfoldable pub beyond_old_format : Bool → ℕ → Tried (Unit {0})
+beyond_old_format beyond format = refused_if (beyond && format == OLD_FORMAT) refusals.OldFormat
 
 -- a row, or the number of the column for which there is none
-abbrev pub row_or_mismatch : Result Values ℕ → Tried Values
+abbrev pub row_or_mismatch : Result Row ℕ → Tried Row
 row_or_mismatch (Ok row) = Ok row
 row_or_mismatch (Err column) = Err (refusals.RowMismatch column)
 
--- the row of literals; the first column that misfits, is missing or is too many is refused
-unfoldable pub a_row : List Column → List Literal → Tried Values
+-- the visible row of literals; the first column that misfits, is missing or is too many is refused
+unfoldable pub a_row : List Column → List Literal → Tried Row
 a_row columns literals = row_or_mismatch (row_of columns literals)
+
+-- the row of an element, if there is one; else it is missing
+abbrev pub present : Option Row → Tried Row
+present (Some row) = Ok row
+present None = Err refusals.Missing
+
+-- the row of the element at a stamp, hidden or not
+unfoldable pub row_at : ℤ → Elements → Tried Row
+row_at stamp elements = present (get elements stamp)
 
 -- charges beyond a quota are refused
 unfoldable pub within_quota : ℕ → ℕ → Tried (Unit {0})
@@ -93,21 +102,26 @@ unfoldable pub within_pages : ℕ → ℕ → Tried (Unit {0})
 within_pages sum pages = refused_if (nat_lt pages sum) (refusals.VolumeFull sum pages)
 
 -- the catalogue with this element in a series
-abbrev pub with_element : List ℕ → Series → ℤ → Values → Catalogue → Catalogue
+abbrev pub with_element : List ℕ → Series → ℤ → Row → Catalogue → Catalogue
 with_element key s stamp row cat =
     record cat { series = insert cat.series key (record s { elements = insert s.elements stamp row }) }
 
--- the last element, as a list of one or none
-abbrev pub last_element : Elements → List (ℤ × Values)
-last_element elements = option_to_list (slice_get (entries elements) (length (entries elements) - 1))
+-- the elements that readings speak of, in order: the hidden ones aren't seen
+abbrev pub seen_elements : Elements → List Element
+seen_elements elements = seen (entries elements)
 
--- the element at a stamp, as a list of one or none
-abbrev pub element_at : ℤ → Elements → List (ℤ × Values)
-element_at stamp elements = map (λ row. (stamp, row)) (option_to_list (get elements stamp))
+-- the last of them, as a list of one or none
+abbrev pub last_element : Elements → List Element
+last_element elements = option_to_list (slice_get (seen_elements elements) (length (seen_elements elements) - 1))
+
+-- the one at a stamp, as a list of one or none
+abbrev pub element_at : ℤ → Elements → List Element
+element_at stamp elements = seen (map (λ row. (stamp, row)) (option_to_list (get elements stamp)))
 
 unfoldable pub create_row_type : List ℕ → List ℕ → List Column → Catalogue → Tried Answered
 create_row_type name stamp columns cat = do
-  good ← a_row_type stamp columns
+  good ← no_bad_column (bad_column stamp columns)
+  has ← beyond_old_format (has_long_decimal columns) cat.format
   new ← a_new_name kinds.RowType name cat
   Ok (ok_line, record cat { row_types = insert cat.row_types name (record { stamp = stamp; columns = columns }) })
 
@@ -159,8 +173,16 @@ unfoldable pub update_element : List ℕ → ℤ → List Literal → Catalogue 
 update_element key stamp literals cat = do
   series ← wanted key cat.series
   row ← a_row (columns_of cat series) literals
-  there ← refused_if (is_none (get series.elements stamp)) refusals.Missing
+  old ← row_at stamp series.elements
   Ok (stamp_line stamp, with_element key series stamp row cat)
+
+-- the element at a stamp is hidden, or visible again; it has its mark already, or gets it
+unfoldable pub mark_element : Bool → List ℕ → ℤ → Catalogue → Tried Answered
+mark_element hidden key stamp cat = do
+  series ← wanted key cat.series
+  marks ← beyond_old_format true cat.format
+  row ← row_at stamp series.elements
+  Ok (stamp_line stamp, with_element key series stamp (marked hidden row) cat)
 
 unfoldable pub get_element : List ℕ → ℤ → Catalogue → Tried Answered
 get_element key stamp cat = do
@@ -189,6 +211,8 @@ carried_out (commands.DropSeries key) cat = drop_series key cat
 carried_out (commands.ListSeries container) cat = list_series container cat
 carried_out (commands.InsElem key stamp literals) cat = insert_element key stamp literals cat
 carried_out (commands.UpdElem key stamp literals) cat = update_element key stamp literals cat
+carried_out (commands.HideElem key stamp) cat = mark_element true key stamp cat
+carried_out (commands.RevealElem key stamp) cat = mark_element false key stamp cat
 carried_out (commands.GetElem key stamp) cat = get_element key stamp cat
 carried_out (commands.GetLastElem key) cat = get_last_element key cat
 carried_out (commands.GetNelems key) cat = count_elements key cat

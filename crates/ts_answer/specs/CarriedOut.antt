@@ -7,7 +7,7 @@ use Rattle.ts_space.specs.declared.place.Place.{Place}
 use Rattle.ts_space.specs.Place.{put_place, drop_place}
 use Rattle.ts_space.specs.Directory.{Directory, spare_of}
 use Rattle.ts_model.specs.declared.kind.Kind.TheVariants as kinds
-use Rattle.ts_model.specs.Definitions.{Definitions, Room, has_room, with_slot}
+use Rattle.ts_model.specs.Definitions.{Definitions, Room, has_room, with_slot, series_slots}
 use Rattle.ts_layout.specs.Meaning.{Layout, catalogue_of}
 use Rattle.ts_answer.specs.declared.effect.Effect.{Effect}
 use Rattle.ts_answer.specs.declared.effect.Effect.TheVariants.{Nothing, Pages, Slot, Places, Series}
@@ -60,8 +60,8 @@ abbrev pub CanApply : Effect → Definitions → Type 0
 CanApply Nothing d = Unit {0}
 CanApply Pages d = Unit {0}
 CanApply (Slot kind slot def) d = FitsSlot kind slot def d
-CanApply (Places slot old new) d = slot < 4096
-CanApply (Series slot) d = slot < 4096
+CanApply (Places slot old new) d = slot < series_slots
+CanApply (Series slot) d = slot < series_slots
 
 -- there is no effect
 abbrev pub is_nothing : Effect → Bool

@@ -20,6 +20,8 @@ is_writing (commands.DropSeries key) = true
 is_writing (commands.ListSeries container) = false
 is_writing (commands.InsElem key stamp literals) = true
 is_writing (commands.UpdElem key stamp literals) = true
+is_writing (commands.HideElem key stamp) = true
+is_writing (commands.RevealElem key stamp) = true
 is_writing (commands.GetElem key stamp) = false
 is_writing (commands.GetLastElem key) = false
 is_writing (commands.GetNelems key) = false
@@ -50,11 +52,14 @@ objects (commands.DropSeries key) = writes kinds.Series key
 objects (commands.ListSeries container) = reads kinds.Container container
 objects (commands.InsElem key stamp literals) = writes kinds.Series key
 objects (commands.UpdElem key stamp literals) = writes kinds.Series key
+objects (commands.HideElem key stamp) = writes kinds.Series key
+objects (commands.RevealElem key stamp) = writes kinds.Series key
 objects (commands.GetElem key stamp) = reads kinds.Series key
 objects (commands.GetLastElem key) = reads kinds.Series key
 objects (commands.GetNelems key) = reads kinds.Series key
 
--- the catalogue after has as many pages, and the same under the name of each object but these
+-- the catalogue after has the same format and as many pages, and the same under the name of each object but these
 pub record StaysBut (wrote : List Object) (cat after : Catalogue) : Type 0 where
+  pub format : after.format ≡ cat.format
   pub pages : after.pages ≡ cat.pages
   pub others : (object : Object) → ¬ Contains wrote object → get (named object.0 after) object.1 ≡ get (named object.0 cat) object.1

@@ -2,6 +2,7 @@
 use Rattle.std.specs.Prelude.{◌≡◌, ℕ, ◌+◌, ◌<◌, Option, IfSome, Result, Ok, List, length}
 use Rattle.ts_base.specs.declared.fault.Trouble.{Trouble}
 use Rattle.ts_command.specs.declared.command.Command.{Command}
+use Rattle.ts_page.specs.Volume.{first_element_page}
 use Rattle.ts_space.specs.Directory.{Directory}
 use Rattle.ts_model.specs.declared.kind.Kind.{Kind}
 use Rattle.ts_model.specs.declared.def.Def.{Def}
@@ -18,7 +19,7 @@ pub record DefinesAs (line : List ℕ) (kind : Kind) (slot : ℕ) (def : Option 
   pub rules : IsSound (layout_with kind slot def l)
   pub headings : KeepsHeadings (with_slot kind slot def l.definitions) l
   -- what is kept in memory with these definitions keeps its rules
-  pub kept : (space : Directory) (free : List ℕ) (count : ℕ) → count ≡ 930 + length l.element_pages → AreKept l.definitions space free count
+  pub kept : (space : Directory) (free : List ℕ) (count : ℕ) → count ≡ first_element_page + length l.element_pages → AreKept l.definitions space free count
       → AreKept (with_slot kind slot def l.definitions) space free count
   pub comes : answered ≡ (line, catalogue_of (layout_with kind slot def l))
 

@@ -4,7 +4,7 @@ use Rattle.ts_base.specs.StampText.{stamp_text}
 use Rattle.ts_base.specs.declared.refusal.Refusal.{Refusal}
 use Rattle.ts_base.specs.Refusal.{refusal_code, refusal_name}
 use Rattle.ts_row.specs.declared.kind.Column.{Column}
-use Rattle.ts_row.specs.Row.{Values}
+use Rattle.ts_row.specs.Element.{Element}
 use Rattle.ts_row.specs.Printed.{row_text, quoted}
 
 -- `ok`, and the same before a count, two counts or a stamp
@@ -25,11 +25,11 @@ unfoldable pub refusal_line : Refusal → List ℕ
 refusal_line refusal = codes "error " ++ decimal (refusal_code refusal) ++ codes " " ++ refusal_name refusal ++ codes "\n"
 
 -- an element: its stamp and its values
-unfoldable pub element_line : List Column → ℤ × Values → List ℕ
+unfoldable pub element_line : List Column → Element → List ℕ
 element_line columns e = stamp_text e.0 ++ codes " " ++ row_text columns e.1 ++ codes "\n"
 
 -- elements, one a line, and how many they are
-unfoldable pub elements_text : List Column → List (ℤ × Values) → List ℕ
+unfoldable pub elements_text : List Column → List Element → List ℕ
 elements_text columns es = flat_map (element_line columns) es ++ count_line (length es)
 
 -- an irregular series in a list: its key in quotes, a quote in it twice, and how many elements it has

@@ -1,6 +1,7 @@
 -- What a command sees: the definitions, the places of the pages of each series, and pages, whatever keeps them.
 use Rattle.std.specs.Prelude.{◌≡◌, ℕ, ◌+◌, ◌-◌, Bool, IsTrue, List, length, All}
 use Rattle.ts_page.specs.Pages.{Contents}
+use Rattle.ts_page.specs.Volume.{first_element_page}
 use Rattle.ts_space.specs.Directory.{Directory, used_of}
 use Rattle.ts_model.specs.Definitions.{Definitions}
 use Rattle.ts_layout.specs.Meaning.{Layout, Free, element_page, HoldsLayout, IsSound}
@@ -19,9 +20,9 @@ view d space c = record { definitions = d; space = space; pages = c }
 -- Definitions, places, a number of pages and a list of free ones are those of a layout that keeps the rules.
 pub record IsHeldOf (d : Definitions) (space : Directory) (count : ℕ) (numbers : List ℕ) (l : Layout) : Type 0 where
   pub definitions : d ≡ l.definitions
-  pub size : count ≡ 930 + length l.element_pages
+  pub size : count ≡ first_element_page + length l.element_pages
   pub places : ListsPlaces space l
-  pub listed : All (λ number. element_page (number - 930) l.element_pages ≡ Free) numbers
+  pub listed : All (λ number. element_page (number - first_element_page) l.element_pages ≡ Free) numbers
   pub free : length numbers + used_of space ≡ length l.element_pages
   pub rules : IsSound l
   pub filled : AreFilled l
@@ -29,7 +30,7 @@ pub record IsHeldOf (d : Definitions) (space : Directory) (count : ℕ) (numbers
 -- The same of definitions and a number of pages alone.
 pub record IsDefinedBy (d : Definitions) (count : ℕ) (l : Layout) : Type 0 where
   pub definitions : d ≡ l.definitions
-  pub size : count ≡ 930 + length l.element_pages
+  pub size : count ≡ first_element_page + length l.element_pages
   pub rules : IsSound l
   pub filled : AreFilled l
 

@@ -21,8 +21,8 @@ use Rattle.ts_row.specs.declared.value.Value.TheVariants as values
 use Rattle.ts_row.specs.declared.value.Literal.{Literal}
 use Rattle.ts_row.specs.declared.value.Literal.TheVariants as literals
 use Rattle.ts_row.specs.RowType.{is_kind, scale_of}
-use Rattle.ts_row.specs.Row.{Values, holds, holds_size, fits}
-use Rattle.ts_row.specs.Printed.{last_digits, size_text, number_text, quoted, value_text, row_text, literal_of, literals_of}
+use Rattle.ts_row.specs.Row.{Values, holds, holds_size, hold}
+use Rattle.ts_row.specs.Printed.{last_digits, size_text, number_text, quoted, value_text, values_text, literal_of, value_literals}
 use Rattle.ts_command.specs.Tokens.{fraction_length, magnitude_length, signed_length, number_length, closing, later, or_before, of_kind, front}
 use Rattle.ts_text.specs.Plain.{digits_in_front}
 use Rattle.ts_text.specs.Blanks.{unblanked}
@@ -349,23 +349,23 @@ one_more : (text others : List ℕ) (literal : Literal) (found : List Literal ×
 one_more text others literal found one rest = repeated_more a_literal literal_shrinks (44 ∷ (text ++ others)) (text ++ others) (comma_front (text ++ others)) ∙ rw (one, rest) refl
 
 -- the values of a row
-pub row-read : Sized → (columns : List Column) (row : Values) (rest : List ℕ) → 1 ≤ length columns → IsTrue (list_all (λ (c : Column). is_kind c.kind) columns) → IsTrue (fits columns row) →
-    repeated a_literal (44 ∷ (row_text columns row ++ 41 ∷ rest)) ≡ Ok (literals_of columns row, 41 ∷ rest)
-row-read sized [] row rest some valid fit = absurd (omega arith)
-row-read sized (c ∷ columns) [] rest some valid fit = absurd (cc)
-row-read sized (c ∷ []) (v ∷ []) rest some valid fit =
+pub values-read : Sized → (columns : List Column) (values : Values) (rest : List ℕ) → 1 ≤ length columns → IsTrue (list_all (λ (c : Column). is_kind c.kind) columns) → IsTrue (hold columns values) →
+    repeated a_literal (44 ∷ (values_text columns values ++ 41 ∷ rest)) ≡ Ok (value_literals columns values, 41 ∷ rest)
+values-read sized [] values rest some valid fit = absurd (omega arith)
+values-read sized (c ∷ columns) [] rest some valid fit = absurd (cc)
+values-read sized (c ∷ []) (v ∷ []) rest some valid fit =
     let kind = and_parts (is_kind c.kind) true valid in
     let held = and_parts (holds c.kind v) true fit in
     one_more (value_text (scale_of c.kind) v) (41 ∷ rest) (literal_of (scale_of c.kind) v) ([], 41 ∷ rest)
     (value-read sized c.kind v (41 ∷ rest) kind.0 held.0 refl)
     (repeated_none a_literal (41 ∷ rest) (length (41 ∷ rest)) (no_comma rest))
-row-read sized (c ∷ []) (v ∷ u ∷ row) rest some valid fit = absurd (let no = (and_parts (holds c.kind v) (fits [] (u ∷ row)) fit).1 in cc)
-row-read sized (c ∷ d ∷ columns) (v ∷ []) rest some valid fit = absurd (let no = (and_parts (holds c.kind v) (fits (d ∷ columns) []) fit).1 in cc)
-row-read sized (c ∷ d ∷ columns) (v ∷ u ∷ row) rest some valid fit =
+values-read sized (c ∷ []) (v ∷ u ∷ values) rest some valid fit = absurd (let no = (and_parts (holds c.kind v) (hold [] (u ∷ values)) fit).1 in cc)
+values-read sized (c ∷ d ∷ columns) (v ∷ []) rest some valid fit = absurd (let no = (and_parts (holds c.kind v) (hold (d ∷ columns) []) fit).1 in cc)
+values-read sized (c ∷ d ∷ columns) (v ∷ u ∷ values) rest some valid fit =
     let kind = and_parts (is_kind c.kind) (list_all (λ (c : Column). is_kind c.kind) (d ∷ columns)) valid in
-    let held = and_parts (holds c.kind v) (fits (d ∷ columns) (u ∷ row)) fit in
-    let others : List ℕ = 44 ∷ (row_text (d ∷ columns) (u ∷ row) ++ 41 ∷ rest) in
-    ap (λ (l : List ℕ). repeated a_literal (44 ∷ l)) (append_assoc (value_text (scale_of c.kind) v) (44 ∷ row_text (d ∷ columns) (u ∷ row)) (41 ∷ rest))
-    ∙ one_more (value_text (scale_of c.kind) v) others (literal_of (scale_of c.kind) v) (literals_of (d ∷ columns) (u ∷ row), 41 ∷ rest)
+    let held = and_parts (holds c.kind v) (hold (d ∷ columns) (u ∷ values)) fit in
+    let others : List ℕ = 44 ∷ (values_text (d ∷ columns) (u ∷ values) ++ 41 ∷ rest) in
+    ap (λ (l : List ℕ). repeated a_literal (44 ∷ l)) (append_assoc (value_text (scale_of c.kind) v) (44 ∷ values_text (d ∷ columns) (u ∷ values)) (41 ∷ rest))
+    ∙ one_more (value_text (scale_of c.kind) v) others (literal_of (scale_of c.kind) v) (value_literals (d ∷ columns) (u ∷ values), 41 ∷ rest)
     (value-read sized c.kind v others kind.0 held.0 refl)
-    (row-read sized (d ∷ columns) (u ∷ row) rest (omega arith) kind.1 held.1)
+    (values-read sized (d ∷ columns) (u ∷ values) rest (omega arith) kind.1 held.1)

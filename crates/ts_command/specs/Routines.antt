@@ -22,6 +22,8 @@ routines =
     (codes "TSCreateIrr", calls.TSCreateIrr) ∷
     (codes "DropSeries", calls.DropSeries) ∷
     (codes "ListSeries", calls.ListSeries) ∷
+    (codes "HideElem", calls.HideElem) ∷
+    (codes "RevealElem", calls.RevealElem) ∷
     []
 
 -- the first routine of a list that has this name

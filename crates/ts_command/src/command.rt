@@ -47,6 +47,14 @@ pub enum Command {
         stamp: Stamp,
         values: Literals,
     },
+    HideElem {
+        key: Key,
+        stamp: Stamp,
+    },
+    RevealElem {
+        key: Key,
+        stamp: Stamp,
+    },
     GetElem {
         key: Key,
         stamp: Stamp,

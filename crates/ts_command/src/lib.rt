@@ -15,12 +15,13 @@ mod read;
 mod routine;
 mod text;
 mod token;
+mod token_laws;
 
 pub use command::{Columns, Command, Literals};
 pub use laws::{
-    a_number_is_the_longest, a_statement_is_its_tokens, a_text_is_the_longest,
-    a_word_is_the_longest, printed_values_are_read_again, requests_of_a_front_come_first,
+    a_statement_is_its_tokens, printed_values_are_read_again, requests_of_a_front_come_first,
     statements_are_refused_in_place,
 };
 pub use read::read_command;
+pub use token_laws::{a_number_is_the_longest, a_text_is_the_longest, a_word_is_the_longest};
 pub use ts_items::{Cut, Fed, Reader};

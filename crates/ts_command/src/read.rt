@@ -48,6 +48,8 @@ fn read_arguments(alloc: Global, routine: Routine, bytes: &[u8]) -> Result<(Comm
         }
         Routine::InsElem => read_insert(alloc, bytes),
         Routine::UpdElem => read_update(alloc, bytes),
+        Routine::HideElem => read_hide(alloc, bytes),
+        Routine::RevealElem => read_reveal(alloc, bytes),
         Routine::GetElem => read_get(alloc, bytes),
         Routine::GetLastElem => {
             let (key, rest) = read_key_call(alloc, bytes)?;
@@ -120,6 +122,30 @@ fn read_update(alloc: Global, bytes: &[u8]) -> Result<(Command, &[u8]), Misfit>
 {
     match read_key_stamp_values_call(alloc, bytes) {
         Ok(((key, stamp, values), rest)) => Ok((Command::UpdElem { key, stamp, values }, rest)),
+        Err(misfit) => Err(misfit),
+    }
+}
+
+// An element to be hidden: its key and its stamp.
+#[tactic(auto, unfolding(crate::specs::Grammar::arguments))]
+fn read_hide(alloc: Global, bytes: &[u8]) -> Result<(Command, &[u8]), Misfit>
+    ensures ok { IfOk result (λ found. arguments Routine.HideElem bytes.now ≡ Ok (found.0, found.1.now)) }
+    ensures cause { IfErr result (λ misfit. Refuses misfit (arguments Routine.HideElem bytes.now)) }
+{
+    match read_key_stamp_call(alloc, bytes) {
+        Ok(((key, stamp), rest)) => Ok((Command::HideElem { key, stamp }, rest)),
+        Err(misfit) => Err(misfit),
+    }
+}
+
+// The same of an element to be revealed.
+#[tactic(auto, unfolding(crate::specs::Grammar::arguments))]
+fn read_reveal(alloc: Global, bytes: &[u8]) -> Result<(Command, &[u8]), Misfit>
+    ensures ok { IfOk result (λ found. arguments Routine.RevealElem bytes.now ≡ Ok (found.0, found.1.now)) }
+    ensures cause { IfErr result (λ misfit. Refuses misfit (arguments Routine.RevealElem bytes.now)) }
+{
+    match read_key_stamp_call(alloc, bytes) {
+        Ok(((key, stamp), rest)) => Ok((Command::RevealElem { key, stamp }, rest)),
         Err(misfit) => Err(misfit),
     }
 }

@@ -15,6 +15,8 @@ pub(crate) enum Routine {
     ListSeries,
     InsElem,
     UpdElem,
+    HideElem,
+    RevealElem,
     GetElem,
     GetLastElem,
     GetNelems,
@@ -69,7 +71,13 @@ pub(crate) fn routine_of(word: &[u8]) -> Option<Routine>
         return Some(Routine::DropSeries);
     }
     if are_same(word, b"ListSeries") {
-        Some(Routine::ListSeries)
+        return Some(Routine::ListSeries);
+    }
+    if are_same(word, b"HideElem") {
+        return Some(Routine::HideElem);
+    }
+    if are_same(word, b"RevealElem") {
+        Some(Routine::RevealElem)
     } else {
         None
     }

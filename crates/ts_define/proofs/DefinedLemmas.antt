@@ -7,7 +7,7 @@ use Rattle.ts_model.specs.declared.kind.Kind.TheVariants as kinds
 use Rattle.ts_model.specs.declared.def.Def.{Def}
 use Rattle.ts_model.specs.Catalogue.{Catalogue}
 use Rattle.ts_model.specs.Kinds.{In, with_named, without}
-use Rattle.ts_model.specs.Definitions.{Definitions, SeriesDef, KindDef, of_series, at_slot, kind_of, name_of, to_def, slots, slot_of, references}
+use Rattle.ts_model.specs.Definitions.{SeriesDef, KindDef, of_series, at_slot, kind_of, name_of, to_def, slots, slot_of, references}
 use Rattle.ts_layout.specs.Limits.{IsDef}
 use Rattle.ts_layout.specs.Meaning.{Layout, IsSound, IsThere, catalogue_of, def_at, heading_in, sum_of_quotas, value_of}
 use Rattle.ts_layout.specs.Changed.{granted, CanMake, CanDrop, HasNoPage}
@@ -35,7 +35,7 @@ says line cat other same = ap (λ (x : Catalogue). let a : Answered = (line, x) 
 
 module _ (line : List ℕ) (l : Layout) (rules : IsSound l) (filled : AreFilled l) where
   -- a definition is made in a free slot
-  pub defined : (def : Def) (slot : ℕ) (a : KindDef (kind_of def)) (value : In (kind_of def)) → to_def (kind_of def) a ≡ def → IsFreeSlot (kind_of def) slot (name_of def) l.definitions → IsDef def → IsThere l.definitions (references def)
+  pub defined : (def : Def) (slot : ℕ) (a : KindDef (kind_of def)) (value : In (kind_of def)) → to_def (kind_of def) a ≡ def → IsFreeSlot (kind_of def) slot (name_of def) l.definitions → IsDef l.definitions.format def → IsThere l.definitions (references def)
       → sum_of_quotas l.definitions.containers + granted (Some def) ≤ length l.element_pages → value_of (kind_of def) l slot a ≡ value
       → DefinesAs line (kind_of def) slot (Some def) l (line, with_named (kind_of def) (name_of def) value (catalogue_of l))
   defined def slot a value own free limits refers pages is =

@@ -5,7 +5,9 @@ use Rattle.ts_page.specs.Pages.{Contents}
 use Rattle.ts_model.specs.declared.kind.Kind.{Kind}
 use Rattle.ts_model.specs.declared.def.Def.{Def}
 use Rattle.ts_model.specs.Definitions.{Definitions, limit, with_slot}
+use Rattle.ts_model.proofs.PartsLemmas.{format-stays}
 use Rattle.ts_space.specs.Directory.{Directory, used_of}
+use Rattle.ts_layout.specs.Limits.{AreOfFormat}
 use Rattle.ts_layout.specs.Slot.{page_of_slot}
 use Rattle.ts_layout.specs.Meaning.{Layout, Free, element_page, HoldsLayout, IsSound}
 use Rattle.ts_layout.specs.Changed.{with_slot_bytes, layout_with, KeepsHeadings}
@@ -24,7 +26,7 @@ use Rattle.ts_answer.proofs.CallerLemmas.{defined_by}
 slot_work : (tells : Bool) (told : IsTrue tells) (kind : Kind) (slot : ℕ) (def : Option Def) (l : Layout) (v w : Contents) → slot < limit kind → IsSound l → KeepsHeadings (with_slot kind slot def l.definitions) l → HoldsLayout v.page l
     → SlotWritten tells kind slot def (Ok tt) v w → HoldsLayout w.page (layout_with kind slot def l)
 slot_work tells told kind slot def l v w within rules headings holds written =
-    layout_written kind slot (with_slot_bytes kind slot def (v.page (page_of_slot kind slot))) v.page w.page (with_slot kind slot def l.definitions) l within holds (written.written told)
+    layout_written kind slot (with_slot_bytes kind slot def (v.page (page_of_slot kind slot))) v.page w.page (with_slot kind slot def l.definitions) l (format-stays kind slot def l.definitions) within holds (written.written told)
     (written.definitions told l.definitions rules.definitions.tables holds.definitions) headings
 
 -- what was decided is written into its slot, and this line is said
@@ -55,7 +57,7 @@ module _ (tells : Bool) (line : List ℕ) (kind : Kind) (slot : ℕ) (def : Opti
             listed = subst (λ (ns : List ℕ). All (λ number. element_page (number - 930) l.element_pages ≡ Free) ns) (sym written.free) kept.listed;
             free = ap (λ (ns : List ℕ). length ns + used_of space) written.free ∙ kept.free;
             rules = defines.rules;
-            filled = λ i s es is. let known = kept.filled i s es is in (known.0, defines.headings i s es is ∙ known.1, known.2);
+            filled = λ i s es is. let known = kept.filled i s es is in (known.0, defines.headings i s es is ∙ known.1, known.2, subst (λ (n : ℕ). AreOfFormat n es) (sym (format-stays kind slot def l.definitions)) known.3);
           };
           holds = λ told. slot_work tells told kind slot def l v w fits.within kept.rules defines.headings (shows.holds told) written;
         };

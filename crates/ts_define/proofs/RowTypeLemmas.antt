@@ -6,10 +6,11 @@ use Rattle.ts_base.specs.Name.{is_name}
 use Rattle.ts_row.specs.declared.kind.Column.{Column}
 use Rattle.ts_row.specs.RowType.{Heading, is_row_type, bad_column, IsBadRowType}
 use Rattle.ts_command.specs.Form.{IsColumn}
-use Rattle.ts_answer.specs.Answer.{no_bad_column}
+use Rattle.ts_answer.specs.Answer.{no_bad_column, beyond_old_format}
 use Rattle.ts_answer.specs.Tried.{IsTried, IsRefusedAs}
 use Rattle.ts_answer.proofs.CallerLemmas.{good-columns, bad-columns}
-use Rattle.ts_define.specs.RowTypes.{MakesHeading}
+use Rattle.ts_define.specs.Format.{IsInFormat}
+use Rattle.ts_define.specs.RowTypes.{MakesRowType}
 
 -- two tests that are passed
 both : (a b : Bool) → IsTrue a → IsTrue b → IsTrue (a && b)
@@ -22,9 +23,9 @@ all_names [] all = refl
 all_names (c ∷ columns) all = both (is_name c.name) (list_all (λ x. is_name x.name) columns) all.0 (all_names columns all.1)
 
 -- the row type of copies
-pub made_heading : (result : Result Heading Trouble) (stamp copied : List ℕ) (columns others : List Column) → copied ≡ stamp → others ≡ columns → IfOk result (λ made. made ≡ record { stamp = copied; columns = others })
-    → OnOk result (IsTrue (is_row_type copied others)) → MatchResult result (λ made. bad_column copied others ≡ None) (IsBadRowType copied others) → IsTried result (no_bad_column (bad_column stamp columns)) (MakesHeading stamp columns)
-made_heading (Ok made) stamp copied columns others same alike is rules good =
+pub made_row_type : (result : Result Heading Trouble) (stamp copied : List ℕ) (columns others : List Column) → copied ≡ stamp → others ≡ columns → IfOk result (λ made. made ≡ record { stamp = copied; columns = others })
+    → OnOk result (IsTrue (is_row_type copied others)) → MatchResult result (λ made. bad_column copied others ≡ None) (IsBadRowType copied others) → IsTried result (no_bad_column (bad_column stamp columns)) (MakesRowType stamp columns)
+made_row_type (Ok made) stamp copied columns others same alike is rules good =
     let P : List ℕ → List Column → Type 0 = λ s cs. IsTrue (is_row_type s cs) in
     record {
       ok = (
@@ -34,7 +35,14 @@ made_heading (Ok made) stamp copied columns others same alike is rules good =
       );
       err = tt;
     }
-made_heading (Err trouble) stamp copied columns others same alike is rules bad = record {
+made_row_type (Err trouble) stamp copied columns others same alike is rules bad = record {
   ok = tt;
   err = subst (λ (t : Trouble). IsRefusedAs t (no_bad_column (bad_column stamp columns))) (sym bad.2) (bad-columns stamp columns bad.0 (sym (λ i. bad_column (same i) (alike i)) ∙ bad.1));
 }
+
+-- its decimals are of the format, the same one under other names
+pub of_format : (result : Result Unit Trouble) (long other : Bool) (format same : ℕ) → long ≡ other → format ≡ same → IsTried result (beyond_old_format long format) (λ done has. IsInFormat long format)
+    → IsTried result (beyond_old_format other same) (λ done has. IsInFormat other same)
+of_format result long other format same is also tried =
+    subst (λ (n : ℕ). IsTried result (beyond_old_format other n) (λ done has. IsInFormat other n)) also
+    (subst (λ (b : Bool). IsTried result (beyond_old_format b format) (λ done has. IsInFormat b format)) is tried)

@@ -1,15 +1,9 @@
 -- What is made of the columns that a command lists.
-use Rattle.std.specs.Prelude.{◌≡◌, false, IsTrue, List, ℕ}
+use Rattle.std.specs.Prelude.{◌≡◌, IsTrue, List, ℕ}
 use Rattle.ts_row.specs.declared.kind.Column.{Column}
-use Rattle.ts_row.specs.RowType.{Heading, is_row_type, has_long_decimal}
+use Rattle.ts_row.specs.RowType.{Heading, is_row_type}
 
 -- the row type of these columns, of which none is bad
-pub record MakesHeading (stamp : List ℕ) (columns : List Column) (heading : Heading) (good : Unit {0}) : Type 0 where
-  pub made : heading ≡ record { stamp = stamp; columns = columns }
-  pub rules : IsTrue (is_row_type stamp columns)
-
--- the same, and no decimal has over 18 digits
 pub record MakesRowType (stamp : List ℕ) (columns : List Column) (heading : Heading) (good : Unit {0}) : Type 0 where
   pub made : heading ≡ record { stamp = stamp; columns = columns }
   pub rules : IsTrue (is_row_type stamp columns)
-  pub format : has_long_decimal columns ≡ false

@@ -1,18 +1,20 @@
 //! Routines that make and drop definitions. Each decides on a slot of a kind and what goes there, or a refusal: what the
 //! catalogue of each layout with these definitions answers (`specs/Decided` of ts_answer); `redefine` writes it. Tests
-//! on names serve the other routines too. Stands on ts_container for slots on pages and on ts_layout for the rules of a
-//! layout. Read `slots.rt`, `drops.rt`, then `write.rt`.
+//! on names and on the format serve the other routines too. Stands on ts_container for slots on pages and on ts_layout
+//! for the rules of a layout. Read `slots.rt`, `drops.rt`, then `write.rt`.
 #![tactic(auto)]
 
 mod containers;
 mod drops;
+mod format;
 mod row_types;
 mod series;
 mod slots;
 mod write;
 
-pub use containers::create_container;
+pub use containers::new_container;
 pub use drops::drop_definition;
+pub use format::in_format;
 pub use row_types::new_row_type;
 pub use series::new_series;
 pub use slots::{series_named, slot_named};

@@ -4,15 +4,16 @@ ghost use Rattle.ts_row.specs.RowType.{bad_column};
 ghost use Rattle.ts_command.specs.declared.command.Command.TheVariants.{CreateRowType};
 ghost use Rattle.ts_command.specs.Form.{HasForm};
 ghost use Rattle.ts_model.specs.declared.kind.Kind.TheVariants.{RowType as RowTypes};
-ghost use Rattle.ts_answer.specs.Answer.{no_bad_column, a_row_type};
+ghost use Rattle.ts_answer.specs.Answer.{no_bad_column};
 ghost use Rattle.ts_answer.specs.Decided.{IsDecision, FitsSlot};
 ghost use Rattle.ts_answer.specs.Reply.{ok_line};
 ghost use Rattle.ts_answer.specs.Tried.{IsTried};
-ghost use Rattle.ts_define.specs.RowTypes.{MakesHeading, MakesRowType};
+ghost use Rattle.ts_define.specs.RowTypes.{MakesRowType};
 
+use crate::format::in_format;
 use crate::slots::slot_for;
 use std::alloc::{AllocError, Global};
-use ts_base::{Name, Refusal, Trouble};
+use ts_base::{Name, Trouble};
 use ts_command::Columns;
 use ts_model::{Def, Defs, Kind};
 use ts_row::{Column, RowType};
@@ -30,25 +31,15 @@ pub fn new_row_type(
     ensures decision { (count : ℕ) → IsDecision ok_line RowTypes (CreateRowType name.now stamp.now columns.now) result defs.now.definitions count }
 {
     let kind = row_type_of(alloc, stamp, columns)?;
+    in_format(defs, kind.has_long_decimal())?;
     let slot = slot_for(defs, Kind::RowType, name)?;
     let copied = name.copy()?;
     Ok((slot, Some(Def::RowType { name: copied, kind })))
 }
 
-// The row type of these columns, or the first that breaks a rule, or that a decimal has over 18 digits.
-fn row_type_of(alloc: Global, stamp: &Name, columns: &Columns) -> Result<RowType, Trouble>
-    ensures { IsTried result (a_row_type stamp.now columns.now) (MakesRowType stamp.now columns.now) }
-{
-    let kind = heading_of(alloc, stamp, columns)?;
-    if kind.has_long_decimal() {
-        return Err(Trouble::Refused(Refusal::OldFormat));
-    }
-    Ok(kind)
-}
-
 // The row type of these columns, or the first that breaks a rule.
-fn heading_of(alloc: Global, stamp: &Name, columns: &Columns) -> Result<RowType, Trouble>
-    ensures { IsTried result (no_bad_column (bad_column stamp.now columns.now)) (MakesHeading stamp.now columns.now) }
+fn row_type_of(alloc: Global, stamp: &Name, columns: &Columns) -> Result<RowType, Trouble>
+    ensures { IsTried result (no_bad_column (bad_column stamp.now columns.now)) (MakesRowType stamp.now columns.now) }
 {
     let copied = copy_columns(alloc, columns.as_slice())?;
     let stamp = stamp.copy()?;

@@ -2,6 +2,7 @@
 ghost use Rattle.std.specs.Prelude.{◌≡◌, ◌<◌, ◌≤◌, [], IfOk, IfSome, true};
 ghost use Rattle.ts_command.specs.declared.command.Command.{Command as TheCommand};
 ghost use Rattle.ts_page.specs.Pages.{Contents};
+ghost use Rattle.ts_page.specs.Volume.{first_element_page};
 ghost use Rattle.ts_space.specs.Directory.{Directory};
 ghost use Rattle.ts_model.specs.Definitions.{Definitions, limit, kind_of};
 ghost use Rattle.ts_answer.specs.CarriedOut.{CarriedOut};
@@ -27,7 +28,7 @@ pub fn redefine<P: Pages>(
     out: &mut Reply,
 ) -> Result<Effect, Stop>
     requires empty { out.old ≡ [] }
-    requires within { 930 ≤ (P.contents pages.old).count }
+    requires within { first_element_page ≤ (P.contents pages.old).count }
     requires slot { IfOk decided (λ change. change.0 < limit kind) }
     requires kind { IfOk decided (λ change. IfSome change.1 (λ d. kind_of d ≡ kind)) }
     ensures carried { (command : TheCommand) (d : Definitions) (space : Directory) → IsDecision ok_line kind command decided d (P.contents pages.old).count

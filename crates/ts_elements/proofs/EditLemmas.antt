@@ -1,38 +1,39 @@
 -- What a command that edits one element comes to.
-use Rattle.std.proofs.Common.{◌≡◌, ⊎_elim, ℕ, ◌+◌, ◌<◌, ◌≤◌, cond, not, true, false, ℤ, Option, Some, None, is_some, is_none, Ok, Err, List, length, refl, ap, sym, ◌∙◌, arith}
+use Rattle.std.proofs.Common.{◌≡◌, ◌≢◌, ⊎_elim, ℕ, ◌+◌, ◌<◌, ◌≤◌, cond, Bool, true, false, ℤ, Option, Some, None, is_some, Ok, Err, List, length, refl, ap, sym, ◌∙◌, arith}
 use Rattle.std.specs.Cmp.{int_cmp_total}
 use Rattle.std.specs.FinMap.{get, insert, len, len-insert}
 use Rattle.ts_base.specs.declared.refusal.Refusal.{Refusal}
 use Rattle.ts_base.specs.declared.refusal.Refusal.TheVariants as refusals
 use Rattle.ts_row.specs.declared.kind.Column.{Column}
 use Rattle.ts_row.specs.declared.value.Literal.{Literal}
-use Rattle.ts_row.specs.Row.{Values}
+use Rattle.ts_row.specs.Row.{Row, marked}
 use Rattle.ts_space.specs.Place.{count_of}
 use Rattle.ts_space.specs.Directory.{Directory, places_of}
 use Rattle.ts_space.specs.Charge.{irregular_charge}
 use Rattle.ts_cells.specs.Cell.{page_room}
 use Rattle.ts_command.specs.declared.command.Command.{Command}
 use Rattle.ts_command.specs.declared.command.Command.TheVariants.{InsElem, UpdElem}
+use Rattle.ts_model.specs.declared.format.TheConstants.{OLD_FORMAT}
 use Rattle.ts_model.specs.Catalogue.{Catalogue, Elements, Series, columns_of, quota_of}
 use Rattle.ts_model.specs.Charge.{page_elements, container_charge as charge_by_name}
 use Rattle.ts_layout.specs.Meaning.{Layout, IsSound, elements_at, series_of, catalogue_of}
 use Rattle.ts_layout.specs.Surveyed.{ListsPlaces}
 use Rattle.ts_layout.specs.OnePage.{AreFilled}
 use Rattle.ts_layout.proofs.CallerLemmas.{len_counted, counted, charge_same, charge_named, charge_with, columns_named, quota_named}
-use Rattle.ts_answer.specs.Answer.{Tried, Answered, ◌>>=◌, wanted, a_row, refused_if, on_one_page, within_quota, with_element, insert_element, update_element, carried_out, outcome}
+use Rattle.ts_answer.specs.Answer.{Tried, Answered, ◌>>=◌, wanted, a_row, row_at, beyond_old_format, refused_if, on_one_page, within_quota, with_element, insert_element, update_element, mark_element, carried_out, outcome}
 use Rattle.ts_answer.specs.Reply.{stamp_line}
-use Rattle.ts_answer.proofs.CallerLemmas.{wanted-there, refused, passed, page-kept, page-passed, quota-kept, quota-passed, on_ok, on_err}
+use Rattle.ts_answer.proofs.CallerLemmas.{wanted-there, format-has, refused, passed, page-kept, page-passed, quota-kept, quota-passed, on_ok, on_err}
 use Rattle.ts_elements.specs.declared.elements.EditKind.{EditKind}
 use Rattle.ts_elements.specs.declared.elements.EditKind.TheVariants.{Insert, Update}
-use Rattle.ts_elements.specs.Elements.{first_charge, charge_with as charge_with_one, HasRoomFor, HasNoRoom, edit_of}
+use Rattle.ts_elements.specs.Elements.{first_charge, charge_with as charge_with_one, HasRoomFor, HasNoRoom, edit_of, mark_of}
 use Rattle.ts_elements.proofs.ElementLemmas.{SeriesIn, charge_few, charge_first}
 
 -- it begins with the series of a key, and a row for it
-abbrev pub BeginsWithRow : Command → List ℕ → List Literal → (Catalogue → Series → Values → Tried Answered) → Type 0
+abbrev pub BeginsWithRow : Command → List ℕ → List Literal → (Catalogue → Series → Row → Tried Answered) → Type 0
 BeginsWithRow command key literals rest = (cat : Catalogue) → outcome (Ok command) cat ≡ (wanted key cat.series >>= (λ s. a_row (columns_of cat s) literals >>= rest cat s))
 
 -- and goes on with them
-pub edit_goes : (command : Command) (key : List ℕ) (literals : List Literal) (rest : Catalogue → Series → Values → Tried Answered) (begins : BeginsWithRow command key literals rest) (l : Layout) (slot : ℕ) (row : Values) → IsSound l
+pub edit_goes : (command : Command) (key : List ℕ) (literals : List Literal) (rest : Catalogue → Series → Row → Tried Answered) (begins : BeginsWithRow command key literals rest) (l : Layout) (slot : ℕ) (row : Row) → IsSound l
     → (on : SeriesIn l key slot) → a_row on.h.columns literals ≡ Ok row → outcome (Ok command) (catalogue_of l) ≡ rest (catalogue_of l) (series_of l slot on.s) row
 edit_goes command key literals rest begins l slot row sound on good =
     let columns = columns_named l (length l.element_pages) slot on.s on.c on.h sound.definitions on.is.container on.is.heading in
@@ -40,7 +41,7 @@ edit_goes command key literals rest begins l slot row sound on good =
     ∙ on_ok _ row _ (ap (λ (cs : List Column). a_row cs literals) columns ∙ good)
 
 -- an element that is inserted, once there is a row for it
-abbrev pub insert_rest : List ℕ → ℤ → Catalogue → Series → Values → Tried Answered
+abbrev pub insert_rest : List ℕ → ℤ → Catalogue → Series → Row → Tried Answered
 insert_rest key stamp cat s row =
     refused_if (is_some (get s.elements stamp)) refusals.Duplicate >>= (λ free.
     on_one_page (page_elements (columns_of cat s)) (len s.elements + 1) (quota_of cat s) >>= (λ one.
@@ -50,16 +51,20 @@ pub inserts : (key : List ℕ) (stamp : ℤ) (literals : List Literal) → Begin
 unfolding outcome carried_out insert_element
 inserts key stamp literals cat = refl
 
+-- one that is changed
+abbrev pub change_rest : (Row → Row) → List ℕ → ℤ → Catalogue → Series → Tried Answered
+change_rest change key stamp cat s = row_at stamp s.elements >>= (λ old. Ok (stamp_line stamp, with_element key s stamp (change old) cat))
+
 -- one that is replaced
-abbrev pub update_rest : List ℕ → ℤ → Catalogue → Series → Values → Tried Answered
-update_rest key stamp cat s row = refused_if (is_none (get s.elements stamp)) refusals.Missing >>= (λ there. Ok (stamp_line stamp, with_element key s stamp row cat))
+abbrev pub update_rest : List ℕ → ℤ → Catalogue → Series → Row → Tried Answered
+update_rest key stamp cat s row = change_rest (λ old. row) key stamp cat s
 
 pub updates : (key : List ℕ) (stamp : ℤ) (literals : List Literal) → BeginsWithRow (UpdElem key stamp literals) key literals (update_rest key stamp)
 unfolding outcome carried_out update_element
 updates key stamp literals cat = refl
 
 -- each edit
-abbrev pub edit_rest : EditKind → List ℕ → ℤ → Catalogue → Series → Values → Tried Answered
+abbrev pub edit_rest : EditKind → List ℕ → ℤ → Catalogue → Series → Row → Tried Answered
 edit_rest Insert key stamp cat s row = insert_rest key stamp cat s row
 edit_rest Update key stamp cat s row = update_rest key stamp cat s row
 
@@ -68,16 +73,29 @@ edit_begins Insert key stamp literals = inserts key stamp literals
 edit_begins Update key stamp literals = updates key stamp literals
 
 -- something is found, or nothing
-found_none : (o : Option Values) → is_some o ≡ false → o ≡ None
+found_none : (o : Option Row) → is_some o ≡ false → o ≡ None
 found_none None is = refl
 found_none (Some row) is = absurd (cc)
 
 -- a new stamp is one element more
-one_more : (m : Elements) (stamp : ℤ) (row : Values) → get m stamp ≡ None → len (insert m stamp row) ≡ len m + 1
-one_more m stamp row none = len-insert int_cmp_total m stamp row ∙ ap (λ (o : Option Values). cond (is_some o) (len m) (len m + 1)) none
+one_more : (m : Elements) (stamp : ℤ) (row : Row) → get m stamp ≡ None → len (insert m stamp row) ≡ len m + 1
+one_more m stamp row none = len-insert int_cmp_total m stamp row ∙ ap (λ (o : Option Row). cond (is_some o) (len m) (len m + 1)) none
+
+-- a mark is set: where the format has marks, and an element is there
+pub marks : (hidden : Bool) (key : List ℕ) (stamp : ℤ) (cat : Catalogue)
+    → outcome (Ok (mark_of hidden key stamp)) cat ≡ (wanted key cat.series >>= (λ s. beyond_old_format true cat.format >>= (λ has. change_rest (marked hidden) key stamp cat s)))
+unfolding outcome carried_out mark_element
+marks true key stamp cat = refl
+marks false key stamp cat = refl
+
+pub mark_goes : (hidden : Bool) (key : List ℕ) (slot : ℕ) (stamp : ℤ) (l : Layout) (on : SeriesIn l key slot) → l.definitions.format ≢ OLD_FORMAT
+    → outcome (Ok (mark_of hidden key stamp)) (catalogue_of l) ≡ change_rest (marked hidden) key stamp (catalogue_of l) (series_of l slot on.s)
+mark_goes hidden key slot stamp l on new =
+    marks hidden key stamp (catalogue_of l) ∙ on_ok _ (series_of l slot on.s) _ (wanted-there key (catalogue_of l).series (series_of l slot on.s) on.listed)
+    ∙ on_ok _ tt _ (format-has true (catalogue_of l).format (λ old. absurd (new old)))
 
 -- a series that is known, and a row for it
-module _ (l : Layout) (space : Directory) (key : List ℕ) (slot : ℕ) (stamp : ℤ) (literals : List Literal) (sound : IsSound l) (on : SeriesIn l key slot) (row : Values) (good : a_row on.h.columns literals ≡ Ok row) where
+module _ (l : Layout) (space : Directory) (key : List ℕ) (slot : ℕ) (stamp : ℤ) (literals : List Literal) (sound : IsSound l) (on : SeriesIn l key slot) (row : Row) (good : a_row on.h.columns literals ≡ Ok row) where
   columns_is : columns_of (catalogue_of l) (series_of l slot on.s) ≡ on.h.columns
   columns_is = columns_named l (length l.element_pages) slot on.s on.c on.h sound.definitions on.is.container on.is.heading
 
@@ -91,12 +109,9 @@ module _ (l : Layout) (space : Directory) (key : List ℕ) (slot : ℕ) (stamp :
   pub insert_taken : is_some (get (elements_at slot l.element_pages) stamp) ≡ true → outcome (Ok (InsElem key stamp literals)) (catalogue_of l) ≡ Err refusals.Duplicate
   insert_taken there = goes ∙ on_err _ refusals.Duplicate _ (refused _ refusals.Duplicate there)
 
-  -- it is replaced; or none is there
-  pub update_done : is_some (get (elements_at slot l.element_pages) stamp) ≡ true → outcome (Ok (UpdElem key stamp literals)) (catalogue_of l) ≡ Ok (stamp_line stamp, with_element key (series_of l slot on.s) stamp row (catalogue_of l))
-  update_done there = edit_goes (UpdElem key stamp literals) key literals (update_rest key stamp) (updates key stamp literals) l slot row sound on good ∙ on_ok _ tt _ (passed _ refusals.Missing (ap not there))
-
-  pub update_missing : is_some (get (elements_at slot l.element_pages) stamp) ≡ false → outcome (Ok (UpdElem key stamp literals)) (catalogue_of l) ≡ Err refusals.Missing
-  update_missing free = edit_goes (UpdElem key stamp literals) key literals (update_rest key stamp) (updates key stamp literals) l slot row sound on good ∙ on_err _ refusals.Missing _ (refused _ refusals.Missing (ap not free))
+  -- it is replaced
+  pub update_goes : outcome (Ok (UpdElem key stamp literals)) (catalogue_of l) ≡ update_rest key stamp (catalogue_of l) (series_of l slot on.s) row
+  update_goes = edit_goes (UpdElem key stamp literals) key literals (update_rest key stamp) (updates key stamp literals) l slot row sound on good
 
   module _ (filled : AreFilled l) (lists : ListsPlaces space l) (within : slot < 4096) (free : is_some (get (elements_at slot l.element_pages) stamp) ≡ false) where
     abbrev free_rest : Catalogue → Series → Tried Answered

@@ -1,5 +1,5 @@
 -- A series with its page, and what one element more changes of its layout.
-use Rattle.std.proofs.Common.{◌≡◌, ◌≢◌, ℕ, zero, suc, ◌+◌, ◌-◌, ◌*◌, ◌<◌, ◌≤◌, cond, Bool, IsTrue, ℤ, Option, Some, List, [], ◌∷◌, All, AllPairs, length, refl, ap, sym, ◌∙◌, subst, arith, set, get_or, get_or-set_other}
+use Rattle.std.proofs.Common.{◌≡◌, ◌≢◌, ℕ, zero, suc, ◌+◌, ◌-◌, ◌*◌, ◌<◌, ◌≤◌, cond, Bool, false, IsTrue, ℤ, Option, Some, List, [], ◌∷◌, All, AllPairs, length, refl, ap, sym, ◌∙◌, subst, arith, set, get_or, get_or-set_other}
 use Rattle.std.specs.Option.{option_map, option_and_then}
 use Rattle.std.specs.Ordering.{int_cmp, int_eq}
 use Rattle.std.specs.Cmp.{int_cmp_total}
@@ -13,26 +13,30 @@ use Rattle.std.specs.Int.{div_ceil}
 use Rattle.ts_page.specs.Pages.{Contents}
 use Rattle.ts_row.specs.declared.kind.Column.{Column}
 use Rattle.ts_row.specs.RowType.{Heading}
-use Rattle.ts_row.specs.Row.{Values}
+use Rattle.ts_row.specs.Row.{Row}
 use Rattle.ts_space.specs.declared.place.Place.{Place}
 use Rattle.ts_space.specs.Place.{count_of}
 use Rattle.ts_space.specs.Directory.{Directory, places_of}
 use Rattle.ts_space.specs.Charge.{irregular_charge}
 use Rattle.ts_space.proofs.ChargeLemmas.{charge_is, ceil_enough, ceil_least}
-use Rattle.ts_cells.specs.Cell.{Element, page_room}
+use Rattle.ts_row.specs.Element.{Element, has_hidden}
+use Rattle.ts_cells.specs.Cell.{page_room}
 use Rattle.ts_cells.specs.IrregularPage.{FillPage, IsIrregularPage, irregular_page}
 use Rattle.ts_irregular.specs.Edit.{element_at, with_element}
 use Rattle.ts_irregular.specs.OnePage.{place_of as page_place, HasOnePage, IsOn}
 use Rattle.ts_irregular.specs.Call.{IsPagePut, AreKept, ArePut, IsOneMore}
+use Rattle.ts_model.specs.declared.format.TheConstants.{OLD_FORMAT}
 use Rattle.ts_model.specs.declared.kind.Kind.TheVariants as kinds
 use Rattle.ts_model.specs.Definitions.{Definitions, RowTypeDef, ContainerDef, SeriesDef, at_slot, IsDefinitions}
 use Rattle.ts_layout.specs.Meaning.{ElementPage, Free, Cells, Layout, element_page, HoldsLayout, HoldsElements, IsSound, heading_of_container, heading_in, heading_at, elements_of, series_of, catalogue_of, charge_of_container}
+use Rattle.ts_layout.specs.Limits.{AreOfFormat}
 use Rattle.ts_layout.specs.Surveyed.{place_of, ListsPlaces}
 use Rattle.ts_layout.specs.OnePage.{by_stamp, with_cells, IsPageFor, HasPage, AreFilled, KeepsQuotaOf, AreFreePages}
 use Rattle.ts_layout.specs.Charges.{container_charge}
-use Rattle.ts_layout.proofs.CallerLemmas.{elements_none, series_found, container_of_series, row_type_of_container, one_of, few, page_none, page_one, counted, catalogue_written, free_cells, places_written, rules_written, filled_after, page_taken, page_kept, place_tells, place_holds, place_filled, charge_same, charge_own, cells_written}
+use Rattle.ts_layout.proofs.CallerLemmas.{elements_none, series_found, container_of_series, row_type_of_container, one_of, few, page_none, page_one, counted, catalogue_written, free_cells, places_written, rules_written, filled_after, page_taken, page_kept, place_tells, place_holds, place_filled, charge_same, charge_own, cells_written, page_of_format}
 use Rattle.ts_answer.specs.Answer.{with_element as with_element_of}
 use Rattle.ts_answer.specs.Slots.{IsSlotNamed}
+use Rattle.ts_elements.proofs.FormatLemmas.{with_visible}
 use Rattle.ts_elements.specs.Elements.{IsSeries, first_charge, HasRoomFor}
 
 -- the series of a key in its slot, with its container and their columns
@@ -103,10 +107,10 @@ charge_first q (suc n) room positive =
 found_in : (stamp : ℤ) (es : List Element) → get (from_entries {R = int_cmp} es) stamp ≡ element_at stamp es
 found_in stamp es = get-from_entries int_cmp_total es stamp
 
-by_stamp_with : (stamp : ℤ) (row : Values) (es : List Element) → by_stamp (with_element stamp row es) ≡ insert (by_stamp es) stamp row
+by_stamp_with : (stamp : ℤ) (row : Row) (es : List Element) → by_stamp (with_element stamp row es) ≡ insert (by_stamp es) stamp row
 by_stamp_with stamp row es = same_map int_cmp_total int_cmp-IsAntisymmetric _ _ (λ q.
     found_in q (with_element stamp row es) ∙ find-put int_cmp int_cmp_total q stamp row es
-    ∙ ap (λ (o : Option Values). cond (int_eq q stamp) (Some row) o) (sym (found_in q es)) ∙ sym (get-insert int_cmp_total (from_entries es) stamp row q))
+    ∙ ap (λ (o : Option Row). cond (int_eq q stamp) (Some row) o) (sym (found_in q es)) ∙ sym (get-insert int_cmp_total (from_entries es) stamp row q))
 
 -- the elements on the page of a series are those that its place tells of
 module _ (l : Layout) (slot : ℕ) (p : Place) (h : Heading) (held : HasPage slot p l.element_pages) (columns : heading_at l.definitions slot ≡ Some h) where
@@ -149,7 +153,7 @@ by_order_some Less a b c x y z = x
 by_order_some Equal a b c x y z = y
 by_order_some Greater a b c x y z = z
 
-pub with_some : (stamp : ℤ) (row : Values) (es : List Element) → 1 ≤ length (with_element stamp row es)
+pub with_some : (stamp : ℤ) (row : Row) (es : List Element) → 1 ≤ length (with_element stamp row es)
 with_some stamp row [] = omega arith
 with_some stamp row (e ∷ es) =
     by_order_some (int_cmp stamp e.0) ((stamp, row) ∷ e ∷ es) ((e.0, row) ∷ es) (e ∷ with_element stamp row es) (omega arith) (omega arith) (omega arith)
@@ -256,9 +260,9 @@ module _ (l : Layout) (space : Directory) (key : List ℕ) (slot : ℕ) (sound :
       omega (arith, edited, before, quota)
 
 -- a row is put at a stamp of a series
-module _ (tells : Bool) (l : Layout) (space space' : Directory) (key : List ℕ) (slot : ℕ) (stamp : ℤ) (row : Values) (v w : Contents) (sound : IsSound l) (filled : AreFilled l) (lists : ListsPlaces space l) (within : slot < 4096) (on : SeriesIn l key slot)
+module _ (tells : Bool) (l : Layout) (space space' : Directory) (key : List ℕ) (slot : ℕ) (stamp : ℤ) (row : Row) (v w : Contents) (sound : IsSound l) (filled : AreFilled l) (lists : ListsPlaces space l) (within : slot < 4096) (on : SeriesIn l key slot)
     (paid : container_charge l.definitions space' on.s.container (page_room on.h.columns) ≤ on.c.quota) (changes : ChangesList slot space space')
-    (put : ArePut tells slot on.h.columns (places_of slot space) (with_element stamp row (elements_of slot l.element_pages)) (places_of slot space') v w) where
+    (put : ArePut tells slot on.h.columns (places_of slot space) (with_element stamp row (elements_of slot l.element_pages)) (places_of slot space') v w) (mark : l.definitions.format ≡ OLD_FORMAT → row.hidden ≡ false) where
   abbrev pub after : List Element
   after = with_element stamp row (elements_of slot l.element_pages)
 
@@ -278,8 +282,11 @@ module _ (tells : Bool) (l : Layout) (space space' : Directory) (key : List ℕ)
     put_fill : FillPage on.h.columns after
     put_fill = record { some = with_some stamp row (elements_of slot l.element_pages); room = put.room; elements = put.order }
 
+    put_format : AreOfFormat l.definitions.format after
+    put_format old = with_visible stamp row (elements_of slot l.element_pages) (ap has_hidden g.same ∙ page_of_format l slot g.i g.old filled g.held old) (mark old)
+
     pub put_filled : AreFilled put_layout
-    put_filled = filled_after l slot g.i after on.h g.held.within on.columns put_fill filled
+    put_filled = filled_after l slot g.i after on.h g.held.within on.columns put_fill put_format filled
 
     put_quota : KeepsQuotaOf slot put_layout
     put_quota s c h there container heading =
@@ -298,7 +305,7 @@ module _ (tells : Bool) (l : Layout) (space space' : Directory) (key : List ℕ)
     pub put_holds : IsTrue tells → HoldsLayout v.page l → HoldsLayout w.page put_layout
     put_holds told holds =
         cells_written l v.page w.page g.i slot after on.h (irregular_page slot on.h.columns after) g.held.within on.columns
-        (record { number = omega (arith, within); fill = put_fill; bytes = refl }) (g.put.pages told) holds
+        (record { number = omega (arith, within); fill = put_fill; bytes = refl }) put_format (g.put.pages told) holds
 
     -- the catalogue has the element more
     pub put_catalogue : catalogue_of put_layout ≡ with_element_of key (series_of l slot on.s) stamp row (catalogue_of l)

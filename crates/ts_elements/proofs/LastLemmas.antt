@@ -1,23 +1,17 @@
 -- The last element of a series, and the one at a stamp, on a page that isn't judged again.
-use Rattle.std.proofs.Common.{◌≡◌, ℕ, ◌-◌, ◌<◌, ℤ, Bool, true, false, IsTrue, Option, Some, None, IsSome, is_some, List, [], ◌∷◌, length, refl, ap, sym, ◌∙◌, subst, arith}
-use Rattle.std.specs.List.{slice_get}
+use Rattle.std.proofs.Common.{◌≡◌, ℕ, ◌<◌, ℤ, Bool, true, false, IsTrue, Option, Some, None, IsSome, is_some, List, [], ◌∷◌, length, refl, ap, sym, ◌∙◌, subst, arith}
 use Rattle.std.specs.Option.{option_to_list}
-use Rattle.std.specs.Ordering.{int_cmp}
-use Rattle.std.specs.Cmp.{int_cmp_is, int_cmp_total}
-use Rattle.std.specs.declared.cmp.Ordering.{Ordering}
-use Rattle.std.specs.declared.cmp.Ordering.TheVariants.{Less}
-use Rattle.std.specs.FinMap.{get, put, entries, empty, from_entries, entries-insert, len-entries, len-empty, get-from_entries}
-use Rattle.std.specs.FinMap.Entries.{by_order}
+use Rattle.std.specs.Cmp.{int_cmp_total}
+use Rattle.std.specs.FinMap.{get, get-from_entries}
 use Rattle.ts_row.specs.RowType.{Heading}
-use Rattle.ts_row.specs.Row.{Values}
+use Rattle.ts_row.specs.Row.{Row}
 use Rattle.ts_space.specs.declared.place.Place.{Place}
 use Rattle.ts_space.specs.Directory.{Directory, places_of}
-use Rattle.ts_cells.specs.Cell.{Element}
-use Rattle.ts_cells.specs.IrregularPage.{AreRising}
+use Rattle.ts_row.specs.Element.{Element}
 use Rattle.ts_irregular.specs.OnePage.{IsOn, AreOn}
-use Rattle.ts_irregular.specs.Edit.{element_at}
+use Rattle.ts_irregular.specs.Edit.{element_at, last_seen}
 use Rattle.ts_irregular.specs.Call.{IsLast, IsRowThere, IsTold}
-use Rattle.ts_model.proofs.IndexLemmas.{empty-list}
+use Rattle.ts_irregular.proofs.CallerLemmas.{entries_rising}
 use Rattle.ts_model.specs.Catalogue.{Series, columns_of}
 use Rattle.ts_layout.specs.Meaning.{Layout, HoldsLayout, IsSound, heading_at, elements_of, elements_at, catalogue_of}
 use Rattle.ts_layout.specs.Surveyed.{ListsPlaces}
@@ -28,21 +22,6 @@ use Rattle.ts_answer.specs.View.{View, Shows}
 use Rattle.ts_elements.specs.Elements.{IsShelfIn, IsThere}
 use Rattle.ts_elements.proofs.ElementLemmas.{on_page}
 use Rattle.ts_elements.proofs.SeenLemmas.{columns_in}
-
--- rising elements are the entries of their map
-put_first : (e : Element) (es : List Element) → AreRising (e ∷ es) → put int_cmp e.0 e.1 es ≡ e ∷ es
-put_first e [] rising = refl
-put_first e (f ∷ es) rising =
-    ap (λ (r : Ordering). by_order r ((e.0, e.1) ∷ f ∷ es) ((f.0, e.1) ∷ es) (f ∷ put int_cmp e.0 e.1 es)) (sym (int_cmp_is e.0 f.0 Less rising.0))
-
-rest_of : (e : Element) (es : List Element) → AreRising (e ∷ es) → AreRising es
-rest_of e [] rising = tt
-rest_of e (f ∷ es) rising = rising.1
-
-entries_rising : (es : List Element) → AreRising es → entries (from_entries {R = int_cmp} es) ≡ es
-entries_rising [] rising = empty-list (entries (empty {R = int_cmp})) (sym (len-entries (empty {R = int_cmp})) ∙ len-empty int_cmp Values)
-entries_rising (e ∷ es) rising =
-    entries-insert int_cmp_total (from_entries es) e.0 e.1 ∙ ap (put int_cmp e.0 e.1) (entries_rising es (rest_of e es rising)) ∙ put_first e es rising
 
 -- the pages have the elements of the layout
 on_pages : (l : Layout) (space : Directory) (slot : ℕ) (h : Heading) (pages : ℕ → List ℕ) (ps : List Place) → IsSound l → ListsPlaces space l → slot < 4096 → heading_at l.definitions slot ≡ Some h → HoldsLayout pages l → places_of slot space ≡ ps
@@ -62,7 +41,7 @@ last_text tells x l key slot h series last told shows is columns within found =
     let es = elements_of slot l.element_pages in
     let on = on_pages l x.space slot h x.pages.page (places_of slot x.space) kept.rules kept.places within (columns_in x l kept slot h columns within) (shows.holds told) refl in
     let entries_are = entries_rising es (all_rising l slot kept.rules.one_page kept.filled) in
-    let elements = ap (λ (s : Series). last_element s.elements) is.stands.is.2 ∙ ap (λ (fs : List Element). option_to_list (slice_get fs (length fs - 1))) entries_are ∙ ap option_to_list (sym (found told es on)) in
+    let elements = ap (λ (s : Series). last_element s.elements) is.stands.is.2 ∙ ap (λ (fs : List Element). option_to_list (last_seen fs)) entries_are ∙ ap option_to_list (sym (found told es on)) in
     λ i. elements_text (is.columns i) (elements i)
 
 -- what holds of the elements that are told holds of those of the layout
@@ -74,12 +53,12 @@ told_of tells x slot h P columns within holds told l shows =
     (on_pages l x.space slot h x.pages.page (places_of slot x.space) kept.rules kept.places within (columns_in x l kept slot h columns within) (shows.holds told) refl)
 
 -- what is found at a stamp is what the layout has there
-pub row_there : (tells : Bool) (x : View) (slot : ℕ) (stamp : ℤ) (h : Heading) (row : Option Values) → heading_at x.definitions slot ≡ Some h → slot < 4096 → IsRowThere tells slot h.columns stamp (places_of slot x.space) x.pages row
+pub row_there : (tells : Bool) (x : View) (slot : ℕ) (stamp : ℤ) (h : Heading) (row : Option Row) → heading_at x.definitions slot ≡ Some h → slot < 4096 → IsRowThere tells slot h.columns stamp (places_of slot x.space) x.pages row
     → IsTrue tells → (l : Layout) → Shows tells x l → get (elements_at slot l.element_pages) stamp ≡ row
 row_there tells x slot stamp h row columns within found told l shows =
     get-from_entries int_cmp_total (elements_of slot l.element_pages) stamp ∙ sym (told_of tells x slot h (λ es. row ≡ element_at stamp es) columns within found told l shows)
 
-pub told_there : (tells : Bool) (x : View) (slot : ℕ) (stamp : ℤ) (h : Heading) (row : Option Values) → heading_at x.definitions slot ≡ Some h → slot < 4096 → IsRowThere tells slot h.columns stamp (places_of slot x.space) x.pages row
+pub told_there : (tells : Bool) (x : View) (slot : ℕ) (stamp : ℤ) (h : Heading) (row : Option Row) → heading_at x.definitions slot ≡ Some h → slot < 4096 → IsRowThere tells slot h.columns stamp (places_of slot x.space) x.pages row
     → IsThere tells slot stamp (is_some row) x
 told_there tells x slot stamp h row columns within found told l shows = ap is_some (row_there tells x slot stamp h row columns within found told l shows)
 

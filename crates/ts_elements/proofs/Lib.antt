@@ -1,5 +1,7 @@
+pub mod ChangeLemmas
 pub mod EditLemmas
 pub mod ElementLemmas
+pub mod FormatLemmas
 pub mod FreeLemmas
 pub mod LastLemmas
 pub mod MemoryLemmas
@@ -7,4 +9,3 @@ pub mod PutLemmas
 pub mod RowLemmas
 pub mod SeenLemmas
 pub mod SeriesDropLemmas
-pub mod UpdateLemmas

@@ -63,7 +63,7 @@ module _ (x : View) (kept : KeepsRules x) where
   quota_few : (slot : ℕ) (c : ContainerDef) → slot < 64 → at_slot slot x.definitions.containers ≡ Some c → c.quota ≤ 65536
   quota_few slot c within there =
       let container : def_at kinds.Container slot x.definitions ≡ Some (of_container c) = at_slot-map of_container slot x.definitions.containers ∙ ap (option_map of_container) there in
-      (let P : Option Def → Type 0 = IsSlotOf kinds.Container in subst P container (kept.sound.limits.each kinds.Container slot within)).1.most
+      (let P : Option Def → Type 0 = IsSlotOf x.definitions.format kinds.Container in subst P container (kept.sound.limits.each kinds.Container slot within)).1.most
 
   few_in : (slot : ℕ) → slot < 64 → (o : Option Heading) → heading_in x.definitions slot ≡ o → unwrap_or (option_map (λ h. container_charge x.definitions x.space slot (page_room h.columns)) o) 0 ≤ 65536
   few_in slot within None is = omega arith

@@ -5,7 +5,8 @@ use Rattle.std.specs.FinMap.{get}
 use Rattle.ts_command.specs.declared.command.Command.{Command}
 use Rattle.ts_page.specs.Pages.{Contents}
 use Rattle.ts_row.specs.RowType.{Heading}
-use Rattle.ts_row.specs.Row.{Values}
+use Rattle.ts_row.specs.Row.{Row}
+use Rattle.ts_row.specs.Element.{seen}
 use Rattle.ts_irregular.specs.Call.{Reads}
 use Rattle.ts_model.specs.Catalogue.{Series, columns_of}
 use Rattle.ts_model.specs.declared.kind.Kind.TheVariants as kinds
@@ -56,11 +57,12 @@ shelf_tried x l kept key slot h columns tried =
     )
 
 -- the elements at a stamp, as they are said
-pub element_text : (l : Layout) (key : List ℕ) (slot : ℕ) (h : Heading) (series : Series) → IsShelfIn l key slot h series → (stamp : ℤ) (row : Option Values) → get (elements_at slot l.element_pages) stamp ≡ row
-    → elements_text (columns_of (catalogue_of l) series) (element_at_stamp stamp series.elements) ≡ elements_text h.columns (map (λ r. (stamp, r)) (option_to_list row))
-element_text l key slot h series is stamp row found =
-    let rows = ap (λ (s : Series). get s.elements stamp) is.stands.is.2 ∙ found in
-    λ i. elements_text (is.columns i) (map (λ (r : Values). (stamp, r)) (option_to_list (rows i)))
+pub element_text : (l : Layout) (key : List ℕ) (slot : ℕ) (h : Heading) (series : Series) → IsShelfIn l key slot h series → (stamp : ℤ) (row shown : Option Row) → get (elements_at slot l.element_pages) stamp ≡ row
+    → map (λ r. (stamp, r)) (option_to_list shown) ≡ seen (map (λ r. (stamp, r)) (option_to_list row))
+    → elements_text (columns_of (catalogue_of l) series) (element_at_stamp stamp series.elements) ≡ elements_text h.columns (map (λ r. (stamp, r)) (option_to_list shown))
+element_text l key slot h series is stamp row shown found says =
+    let rows = ap (λ (s : Series). seen (map (λ (r : Row). (stamp, r)) (option_to_list (get s.elements stamp)))) is.stands.is.2 ∙ ap (λ (o : Option Row). seen (map (λ (r : Row). (stamp, r)) (option_to_list o))) found ∙ sym says in
+    λ i. elements_text (is.columns i) (rows i)
 
 -- pages were read, and this is said
 pub read_out : {T : Type 0} (tells : Bool) (command : Command) (x : View) (c : Contents) (t : T) (text out : List ℕ) → out ≡ text → Reads tells (Ok t) x.pages c

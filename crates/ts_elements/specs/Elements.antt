@@ -1,16 +1,16 @@
 -- What is found before an element is put into a series, and what is put.
-use Rattle.std.specs.Prelude.{◌≡◌, ◌⊎◌, ℕ, ◌+◌, ◌<◌, ◌≤◌, ◌==◌, if◌then◌else◌, Bool, IsTrue, Some, is_some, Ok, ℤ, List}
+use Rattle.std.specs.Prelude.{◌≡◌, ◌⊎◌, ℕ, ◌+◌, ◌<◌, ◌≤◌, ◌==◌, if◌then◌else◌, Bool, true, false, IsTrue, Some, is_some, Ok, ℤ, List}
 use Rattle.std.specs.FinMap.{get}
 use Rattle.ts_base.specs.declared.refusal.Refusal.{Refusal}
 use Rattle.ts_base.specs.declared.refusal.Refusal.TheVariants.{ContainerFull}
 use Rattle.ts_row.specs.declared.value.Literal.{Literal}
 use Rattle.ts_row.specs.RowType.{Heading}
-use Rattle.ts_row.specs.Row.{Values}
+use Rattle.ts_row.specs.Row.{Row}
 use Rattle.ts_space.specs.Place.{count_of}
 use Rattle.ts_space.specs.Directory.{Directory, places_of}
 use Rattle.ts_cells.specs.Cell.{page_room}
 use Rattle.ts_command.specs.declared.command.Command.{Command}
-use Rattle.ts_command.specs.declared.command.Command.TheVariants.{InsElem, UpdElem}
+use Rattle.ts_command.specs.declared.command.Command.TheVariants.{InsElem, UpdElem, HideElem, RevealElem}
 use Rattle.ts_elements.specs.declared.elements.EditKind.{EditKind}
 use Rattle.ts_elements.specs.declared.elements.EditKind.TheVariants.{Insert, Update}
 use Rattle.ts_model.specs.declared.kind.Kind.TheVariants as kinds
@@ -18,7 +18,6 @@ use Rattle.ts_model.specs.Catalogue.{Series, columns_of}
 use Rattle.ts_model.specs.Definitions.{Definitions, ContainerDef, SeriesDef, at_slot}
 use Rattle.ts_layout.specs.Meaning.{Layout, heading_at, heading_of_container, elements_at, catalogue_of}
 use Rattle.ts_layout.specs.Charges.{container_charge}
-use Rattle.ts_layout.specs.OnePage.{charge_in}
 pub use Rattle.ts_container.specs.KeptCharges.{AreFew}
 unfoldable pub use Rattle.ts_container.specs.KeptCharges.{IsCharged}
 use Rattle.ts_answer.specs.Answer.{a_row}
@@ -36,7 +35,7 @@ pub record IsShelfIn (l : Layout) (key : List ℕ) (slot : ℕ) (h : Heading) (s
   pub columns : columns_of (catalogue_of l) series ≡ h.columns
 
 -- literals give this row for the columns of the series of a key
-pub record HasRow (key : List ℕ) (literals : List Literal) (slot : ℕ) (h : Heading) (row : Values) (d : Definitions) : Type 0 where
+pub record HasRow (key : List ℕ) (literals : List Literal) (slot : ℕ) (h : Heading) (row : Row) (d : Definitions) : Type 0 where
   pub shelf : IsShelf slot h key d
   pub gives : a_row h.columns literals ≡ Ok row
 
@@ -76,3 +75,8 @@ IsThere tells slot stamp there x = IsTrue tells → (l : Layout) → Shows tells
 abbrev pub edit_of : EditKind → List ℕ → ℤ → List Literal → Command
 edit_of Insert key stamp literals = InsElem key stamp literals
 edit_of Update key stamp literals = UpdElem key stamp literals
+
+-- the command that hides an element, or shows it again
+abbrev pub mark_of : Bool → List ℕ → ℤ → Command
+mark_of true key stamp = HideElem key stamp
+mark_of false key stamp = RevealElem key stamp

@@ -7,7 +7,7 @@ ghost use Rattle.ts_space.specs.declared.place.Place.{Place as ThePlace};
 ghost use Rattle.ts_space.specs.Place.{count_of};
 ghost use Rattle.ts_space.specs.Directory.{places_of};
 ghost use Rattle.ts_irregular.specs.OnePage.{HasOnePage};
-ghost use Rattle.ts_model.specs.Definitions.{Definitions};
+ghost use Rattle.ts_model.specs.Definitions.{Definitions, series_slots, container_slots};
 ghost use Rattle.ts_layout.specs.Meaning.{KeepLimits, heading_at};
 ghost use Rattle.ts_container.specs.KeptCharges.{AreCharges};
 ghost use Rattle.ts_layout.specs.OnePage.{charge_in};
@@ -78,7 +78,7 @@ fn insert_at<P: Pages>(
 ) -> Result<Effect, Stop>
     requires seen { IsSeen P.tells (view defs.now.definitions space.now (P.contents pages.old)) }
     requires charged { AreCharges charges.now defs.now.definitions space.now }
-    requires slot { shelf.now.series < 4096 }
+    requires slot { shelf.now.series < series_slots }
     requires columns { heading_at defs.now.definitions shelf.now.series ≡ Some shelf.now.kind.now }
     requires one { HasOnePage shelf.now.kind.now.columns (P.contents pages.old) (places_of shelf.now.series space.now) }
     requires fits { IsTrue (fits shelf.now.kind.now.columns row.now) }
@@ -130,7 +130,7 @@ fn update_at<P: Pages>(
     row: &Row,
     out: &mut Reply,
 ) -> Result<Effect, Stop>
-    requires slot { shelf.now.series < 4096 }
+    requires slot { shelf.now.series < series_slots }
     requires one { HasOnePage shelf.now.kind.now.columns (P.contents pages.old) (places_of shelf.now.series space.now) }
     requires fits { IsTrue (fits shelf.now.kind.now.columns row.now) }
     requires empty { out.old ≡ [] }
@@ -162,7 +162,7 @@ fn count_in(places: &[Place]) -> u64
 
 // What a container is charged.
 fn charge_of(_defs: &Defs, _space: &Space, charges: &Charges, container: u8) -> u64
-    requires slot { container < 64 }
+    requires slot { container < container_slots }
     requires charged { IsCharged charges.now _defs.now.definitions _space.now }
     ensures value { result ≡ charge_in _defs.now.definitions _space.now container }
     ensures bound { result ≤ 65536 }
@@ -172,13 +172,13 @@ fn charge_of(_defs: &Defs, _space: &Space, charges: &Charges, container: u8) -> 
 
 // Whether one element more of a series goes on its page and into the quota of its container.
 fn room_for(defs: &Defs, space: &Space, charges: &Charges, slot: u16) -> Result<(), Refusal>
-    requires slot { slot < 4096 }
+    requires slot { slot < series_slots }
     requires limits { KeepLimits defs.now.definitions }
     requires charged { IsCharged charges.now defs.now.definitions space.now }
-    requires few { (slot : ℕ) → slot < 4096 → length (places_of slot space.now) ≤ 1 }
+    requires few { (slot : ℕ) → slot < series_slots → length (places_of slot space.now) ≤ 1 }
     ensures room { OnOk result (HasRoomFor slot defs.now.definitions space.now) }
     ensures none { IfErr result (HasNoRoom slot defs.now.definitions space.now) }
-    ensures slots { length space.now.lists ≡ 4096 }
+    ensures slots { length space.now.lists ≡ series_slots }
 {
     let places = space.places(slot);
     let Some(Def::Series { container, .. }) = defs.get(Kind::Series, slot) else {

@@ -3,6 +3,7 @@ ghost use Rattle.std.specs.Prelude.{◌≡◌, ◌+◌, ◌<◌, ◌≤◌, [], 
 ghost use Rattle.ts_command.specs.declared.command.Command.TheVariants.{DropSeries};
 ghost use Rattle.ts_page.specs.Pages.{Answered};
 ghost use Rattle.ts_space.specs.Directory.{places_of};
+ghost use Rattle.ts_model.specs.Definitions.{series_slots};
 ghost use Rattle.ts_answer.specs.View.{view, IsSeen};
 ghost use Rattle.ts_answer.specs.CarriedOut.{CarriedOut};
 ghost use Rattle.ts_elements.specs.SeriesDropped.{AreFreed, CanFree};
@@ -40,9 +41,9 @@ pub fn drop_series<P: Pages>(
 
 // Frees the page of a series, if it has one.
 fn free_page<P: Pages>(pages: &mut P, space: &Space, slot: u16) -> Result<(), StoreFault>
-    requires slot { slot < 4096 }
+    requires slot { slot < series_slots }
     requires can { CanFree slot space.now (P.contents pages.old) }
-    ensures slots { length space.now.lists ≡ 4096 }
+    ensures slots { length space.now.lists ≡ series_slots }
     ensures freed { OnOk result (AreFreed P.tells (places_of slot space.now) (P.contents pages.old) (P.contents pages.new)) }
     ensures call { Answered result (P.contents pages.old) (P.contents pages.new) }
     ensures bytes { (P.contents pages.new).change_bytes ≤ (P.contents pages.old).change_bytes + 5 }

@@ -4,7 +4,7 @@ ghost use Rattle.std.specs.List.{flat_map};
 ghost use Rattle.ts_command.specs.declared.command.Command.TheVariants.{GetNelems, ListSeries, TSContainerUsage};
 ghost use Rattle.ts_space.specs.Place.{count_of};
 ghost use Rattle.ts_space.specs.Directory.{places_of};
-ghost use Rattle.ts_model.specs.Definitions.{at_slot};
+ghost use Rattle.ts_model.specs.Definitions.{at_slot, series_slots, container_slots};
 ghost use Rattle.ts_layout.specs.Meaning.{quota_in};
 ghost use Rattle.ts_container.specs.KeptCharges.{AreCharges};
 ghost use Rattle.ts_answer.specs.Reply.{series_line};
@@ -51,7 +51,7 @@ pub fn container_usage(
 
 // The quota of the container in a slot; 0 where there is none.
 fn quota_in(defs: &Defs, slot: u16) -> u32
-    requires { slot < 64 }
+    requires { slot < container_slots }
     ensures { result ≡ quota_in (at_slot slot defs.now.definitions.containers) }
 {
     match defs.get(Kind::Container, slot) {
@@ -84,7 +84,7 @@ fn say_listed(
     container: u16,
     out: &mut Reply,
 ) -> Result<u64, AllocError>
-    requires few { (slot : ℕ) → slot < 4096 → length (places_of slot space.now) ≤ 1 }
+    requires few { (slot : ℕ) → slot < series_slots → length (places_of slot space.now) ≤ 1 }
     ensures said { OnOk result (out.new ≡ out.old ++ flat_map series_line (listed_in defs.now.definitions space.now container)) }
     ensures count { IfOk result (λ n. n ≡ length (listed_in defs.now.definitions space.now container)) }
 {
@@ -103,7 +103,7 @@ fn say_if_listed(
     slot: u16,
     out: &mut Reply,
 ) -> Result<u64, AllocError>
-    requires slot { slot < 4096 }
+    requires slot { slot < series_slots }
     requires few { length (places_of slot space.now) ≤ 1 }
     ensures said { OnOk result (out.new ≡ out.old ++ flat_map series_line (listed_at defs.now.definitions space.now container slot)) }
     ensures count { IfOk result (λ n. n ≡ length (listed_at defs.now.definitions space.now container slot)) }
@@ -125,7 +125,7 @@ fn say_if_listed(
 
 // How many elements the series in a slot has, by the directory.
 fn count_in(space: &Space, slot: u16) -> u64
-    requires slot { slot < 4096 }
+    requires slot { slot < series_slots }
     requires few { length (places_of slot space.now) ≤ 1 }
     ensures { result ≡ count_of (places_of slot space.now) }
 {

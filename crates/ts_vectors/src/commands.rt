@@ -42,6 +42,8 @@ fn routine_of(command: &Command) -> &'static str {
         Command::ListSeries { .. } => "ListSeries",
         Command::InsElem { .. } => "InsElem",
         Command::UpdElem { .. } => "UpdElem",
+        Command::HideElem { .. } => "HideElem",
+        Command::RevealElem { .. } => "RevealElem",
         Command::GetElem { .. } => "GetElem",
         Command::GetLastElem { .. } => "GetLastElem",
         Command::GetNelems { .. } => "GetNelems",
@@ -60,6 +62,8 @@ fn first_of(command: &Command) -> &[u8] {
         Command::ListSeries { container } => container.as_slice(),
         Command::InsElem { key, .. } => key.as_slice(),
         Command::UpdElem { key, .. } => key.as_slice(),
+        Command::HideElem { key, .. } => key.as_slice(),
+        Command::RevealElem { key, .. } => key.as_slice(),
         Command::GetElem { key, .. } => key.as_slice(),
         Command::GetLastElem { key } => key.as_slice(),
         Command::GetNelems { key } => key.as_slice(),
@@ -77,6 +81,8 @@ fn second_of(command: &Command) -> &[u8] {
 
 fn is_rest(command: &Command, rest: Rest) -> bool {
     match (command, rest) {
+        (Command::HideElem { stamp, .. }, Rest::Stamp(units)) => stamp.units() == units,
+        (Command::RevealElem { stamp, .. }, Rest::Stamp(units)) => stamp.units() == units,
         (Command::GetElem { stamp, .. }, Rest::Stamp(units)) => stamp.units() == units,
         (Command::InsElem { stamp, values, .. }, Rest::Values(units, wanted)) => {
             stamp.units() == units && are_values(values.as_slice(), wanted)
@@ -122,7 +128,7 @@ fn is_read(alloc: Global, text: &[u8], row: Row) -> bool {
 }
 
 /// Statements, and the commands that they are.
-static STATEMENTS: [(&[u8], Row); 15] = [
+static STATEMENTS: [(&[u8], Row); 17] = [
     (
         b"CreateRowType(rd, t datetime, v integer);",
         (
@@ -175,6 +181,14 @@ static STATEMENTS: [(&[u8], Row); 15] = [
     (
         b" \n InsElem\t('x' ,'1970-01-01 00:00:00.00001', null,-0,007,-1.50,'', 'a''')\r\n;",
         ("InsElem", b"x", b"", Rest::Values(1, &SEVERAL)),
+    ),
+    (
+        b"HideElem('x', '1970-01-01 00:00:00');",
+        ("HideElem", b"x", b"", Rest::Stamp(0)),
+    ),
+    (
+        b"RevealElem('it''s','1970-01-01 00:00:00.00001');",
+        ("RevealElem", b"it's", b"", Rest::Stamp(1)),
     ),
     (
         b"GetElem('x','1969-12-31 23:59:59.99999');",

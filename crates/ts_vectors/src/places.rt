@@ -12,7 +12,7 @@ fn place(alloc: Global, text: &[u8]) -> Option<u32> {
 }
 
 /// Statements, and the places where they are refused.
-static STATEMENTS: [(&[u8], u32); 51] = [
+static STATEMENTS: [(&[u8], u32); 54] = [
     (b"", 0),
     (b" ;", 1),
     (b"#;", 0),
@@ -61,6 +61,9 @@ static STATEMENTS: [(&[u8], u32); 51] = [
     (b"GetElem('x');", 11),
     (b"GetElem(x,'2011-02-28 00:00:00');", 8),
     (b"GetElem('x','2011-02-28 00:00:00',1);", 33),
+    (b"HideElem('x','2011-02-28 00:00:00',1);", 34),
+    (b"RevealElem('x','2011-02-28 00:00:00',1);", 36),
+    (b"RevealElem('x');", 14),
     // The shapes of calls that come next, each by a routine that isn't built yet.
     (b"CreatePattern(p,'{1 on},day');", 0),
     (

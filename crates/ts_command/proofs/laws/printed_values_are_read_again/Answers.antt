@@ -1,6 +1,6 @@
 use Rattle.ts_row.specs.RowType.{scale_of}
 use Rattle.ts_row.specs.Printed.{literal_of, literals_of}
-use Rattle.ts_command.proofs.PrintedLemmas.{value-read, row-read}
+use Rattle.ts_command.proofs.PrintedLemmas.{value-read, values-read}
 use Rattle.ts_command.proofs.laws.printed_values_are_read_again.Goals as goal
 
 pub returns-clause-value : goal.returns-clause-value
@@ -13,6 +13,6 @@ returns-clause-value c = λ kind value rest valid held ends. (
 pub returns-clause-row : goal.returns-clause-row
 returns-clause-row c = λ columns row rest some valid fit. (
   literals_of columns row,
-  row-read c.printed_digits_write_the_size.ensures columns row rest some valid fit,
+  values-read c.printed_digits_write_the_size.ensures columns row.values rest some valid fit,
   c.printed_values_fit_again.ensures.row columns row valid fit,
 )

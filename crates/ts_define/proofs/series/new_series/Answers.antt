@@ -1,4 +1,4 @@
-use Rattle.std.proofs.Common.{◌≡◌, ℕ, ◌+◌, ◌≤◌, List, Some, None, inl, refl, sym, subst, arith}
+use Rattle.std.proofs.Common.{◌≡◌, ℕ, List, Some, None, inl, refl, sym, subst, arith}
 use Rattle.std.specs.FinMap.{empty}
 use Rattle.ts_model.specs.Catalogue.{Series}
 use Rattle.ts_model.specs.Kinds.{with_named}

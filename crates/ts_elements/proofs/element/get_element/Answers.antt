@@ -28,5 +28,5 @@ returns-clause-read g c =
     c.in_ok-row.ensures.call (λ told l shows.
     let tried = (c.in_ok-shelf.ensures.tried l shows.kept).ok in
     on_ok _ tried.0 _ tried.1 ∙ ap (λ (t : List ℕ). let a : Answered = (t, catalogue_of l) in Ok a)
-    (element_text l c.args.key.now shelf.series shelf.kind.now tried.0 tried.2 c.args.stamp c.in_ok-row.row
-    (row_there tells x shelf.series c.args.stamp shelf.kind.now c.in_ok-row.row named.columns named.named.within c.in_ok-row.ensures.found told l shows)))
+    (element_text l c.args.key.now shelf.series shelf.kind.now tried.0 tried.2 c.args.stamp c.in_ok-row.row c.if_seen.result
+    (row_there tells x shelf.series c.args.stamp shelf.kind.now c.in_ok-row.row named.columns named.named.within c.in_ok-row.ensures.found told l shows) (c.if_seen.ensures.seen c.args.stamp)))

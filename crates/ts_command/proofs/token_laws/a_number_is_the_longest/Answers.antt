@@ -2,7 +2,7 @@ use Rattle.std.proofs.Common.{◌≡◌, ℕ, List, ◌<◌, ◌≤◌, Some, No
 use Rattle.ts_command.specs.NumberForm.{IsNumber}
 use Rattle.ts_command.specs.Tokens.{number_length}
 use Rattle.ts_command.proofs.NumberFormLemmas.{number_form, number_longest}
-use Rattle.ts_command.proofs.laws.a_number_is_the_longest.Goals as goal
+use Rattle.ts_command.proofs.token_laws.a_number_is_the_longest.Goals as goal
 
 no_longer : (bytes : List ℕ) (size : ℕ) → number_length bytes ≡ Some size → (longer : ℕ) → size < longer → longer ≤ length bytes → IsNumber (take longer bytes) → ⊥
 no_longer bytes size is longer past within number =

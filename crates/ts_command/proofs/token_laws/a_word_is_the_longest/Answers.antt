@@ -1,5 +1,5 @@
 use Rattle.ts_command.proofs.WordLemmas.{word_token}
-use Rattle.ts_command.proofs.laws.a_word_is_the_longest.Goals as goal
+use Rattle.ts_command.proofs.token_laws.a_word_is_the_longest.Goals as goal
 
 pub returns-clause-is : goal.returns-clause-is
 returns-clause-is c = λ bytes size is. (word_token bytes size is).0

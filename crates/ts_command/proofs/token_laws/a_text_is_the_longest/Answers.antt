@@ -1,6 +1,6 @@
 use Rattle.std.proofs.Common.{subst}
 use Rattle.ts_command.proofs.TextFormLemmas.{IsLast, closing_is_last}
-use Rattle.ts_command.proofs.laws.a_text_is_the_longest.Goals as goal
+use Rattle.ts_command.proofs.token_laws.a_text_is_the_longest.Goals as goal
 
 pub returns-clause-ends : goal.returns-clause-ends
 returns-clause-ends c = λ bytes end is. (subst (IsLast bytes) is (closing_is_last bytes)).0
