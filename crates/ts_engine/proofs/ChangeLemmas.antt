@@ -84,6 +84,10 @@ is_done : {E : Type 0} (r : Result Unit E) → IsOk r → r ≡ Ok tt
 is_done (Ok done) ok = refl
 is_done (Err e) ok = absurd (cc)
 
+-- it didn't fail
+not_failed : (r : Result Unit StoreFault) → IsOk r → r ≡ Err StoreFailed → ⊥
+not_failed r ok failed = cc
+
 -- taking memory before changes nothing
 module _ (tells : Bool) (worked : Result Unit StoreFault) (done : IsOk worked) (e g f : Kept) (v w : Device) (is : g ≡ record e { store = record e.store { spare = g.store.spare } }) where
   same_finish : (result : Result Unit StepFault) → Finished tells (Ok tt) result (record e { store = record e.store { spare = g.store.spare } }) f v w → Finished tells (Ok tt) result e f v w
@@ -135,7 +139,7 @@ module _ (tells : Bool) (worked : Result Unit StoreFault) (done : IsOk worked) (
     kept_free = tt;
     spent = tt;
     alike = tt;
-    fault = record { pages = x.fault.pages; journal = x.fault.journal; overlay = x.fault.overlay; batch = x.fault.batch; free = x.fault.free; kept_free = x.fault.kept_free; spent = x.fault.spent; reads = x.fault.reads; no_fault = x.fault.no_fault };
+    fault = (record { pages = x.fault.0.pages; journal = x.fault.0.journal; overlay = x.fault.0.overlay; batch = x.fault.0.batch; free = x.fault.0.free; kept_free = x.fault.0.kept_free; spent = x.fault.0.spent; reads = x.fault.0.reads; no_fault = x.fault.0.no_fault }, x.fault.1);
     tried = x.tried;
     moments = x.moments;
     others = x.others;
@@ -179,8 +183,8 @@ module _ (tells : Bool) (worked : Result Unit StoreFault) (e g f : Kept) (v : De
     no_fault = tt;
   }
 
-  pub dropped : (error : AllocError) → f ≡ record g { store = record g.store { batch = []; free = g.store.kept_free } } → Finished tells worked (Err (Memory error)) e f v v
-  dropped error drop = record {
+  pub dropped : (error : AllocError) → (worked ≡ Err StoreFailed → ⊥) → f ≡ record g { store = record g.store { batch = []; free = g.store.kept_free } } → Finished tells worked (Err (Memory error)) e f v v
+  dropped error other drop = record {
     tables = ap (λ (x : Kept). x.tables) drop ∙ ap (λ (x : Kept). x.tables) is;
     space = ap (λ (x : Kept). x.space) drop ∙ ap (λ (x : Kept). x.space) is;
     charges = ap (λ (x : Kept). x.charges) drop ∙ ap (λ (x : Kept). x.charges) is;
@@ -192,17 +196,20 @@ module _ (tells : Bool) (worked : Result Unit StoreFault) (e g f : Kept) (v : De
     kept_free = tt;
     spent = tt;
     alike = tt;
-    fault = record {
-      pages = ap (λ (x : Kept). x.store.pages) drop ∙ ap (λ (x : Kept). x.store.pages) is;
-      journal = ap (λ (x : Kept). x.store.journal) drop ∙ ap (λ (x : Kept). x.store.journal) is;
-      overlay = ap (λ (x : Kept). x.store.overlay) drop ∙ ap (λ (x : Kept). x.store.overlay) is;
-      batch = ap (λ (x : Kept). x.store.batch) drop;
-      free = ap (λ (x : Kept). x.store.free) drop ∙ ap (λ (x : Kept). x.store.kept_free) is;
-      kept_free = ap (λ (x : Kept). x.store.kept_free) drop ∙ ap (λ (x : Kept). x.store.kept_free) is;
-      spent = ap (λ (x : Kept). x.spent) drop ∙ ap (λ (x : Kept). x.spent) is;
-      reads = reads_none tells v lawful;
-      no_fault = refl;
-    };
+    fault = (
+      record {
+        pages = ap (λ (x : Kept). x.store.pages) drop ∙ ap (λ (x : Kept). x.store.pages) is;
+        journal = ap (λ (x : Kept). x.store.journal) drop ∙ ap (λ (x : Kept). x.store.journal) is;
+        overlay = ap (λ (x : Kept). x.store.overlay) drop ∙ ap (λ (x : Kept). x.store.overlay) is;
+        batch = ap (λ (x : Kept). x.store.batch) drop;
+        free = ap (λ (x : Kept). x.store.free) drop ∙ ap (λ (x : Kept). x.store.kept_free) is;
+        kept_free = ap (λ (x : Kept). x.store.kept_free) drop ∙ ap (λ (x : Kept). x.store.kept_free) is;
+        spent = ap (λ (x : Kept). x.spent) drop ∙ ap (λ (x : Kept). x.spent) is;
+        reads = reads_none tells v lawful;
+        no_fault = refl;
+      },
+      other,
+    );
     tried = inl (reads_none tells v lawful);
     moments = before_finish tells worked e.store v lawful before;
     others = keeps_refl tells v;
@@ -215,7 +222,7 @@ rose_before a b c rose le = omega arith
 
 -- Work over an idle store, and the end of its batch.
 module _ (tells : Bool) (Work : Contents → Contents → Type 0) (worked : Result Unit StoreFault) (e g f : Kept) (v x w : Device) (lawful : Lawful tells v) (idle : IsIdle tells e.store v)
-    (calls : Undisturbed tells e.store g.store v x) (work : OnOk worked (Work (contents_over e.store v) (contents_over g.store x))) (cause : worked ≡ Err StoreFailed → Rose v.faults x.faults) (quiet : x.faults ≡ v.faults) where
+    (calls : Undisturbed tells e.store g.store v x) (work : OnOk worked (Work (contents_over e.store v) (contents_over g.store x))) (cause : worked ≡ Err StoreFailed → Rose v.faults x.faults) (quiet : (worked ≡ Err StoreFailed → ⊥) → x.faults ≡ v.faults) where
   -- what is read before the work is what the pages are
   before_work : IsTrue tells → read_pages e.store v.held ≡ pages v.held
   before_work told = λ i k. read_closed e.store v.held idle.batch (idle.over.stands told) k i
@@ -251,8 +258,8 @@ module _ (tells : Bool) (Work : Contents → Contents → Type 0) (worked : Resu
       )) moments)
 
   -- the batch was dropped
-  still : Dropped tells g f x w → IsStill tells e.store f.store v w
-  still drop =
+  still : Dropped tells g f x w → (worked ≡ Err StoreFailed → ⊥) → IsStill tells e.store f.store v w
+  still drop other =
       let back : State = record g.store { batch = []; free = g.store.kept_free } in
       let idle_back : IsIdle tells back x = idle_dropped tells e.store g.store back v x idle calls refl in
       let pages_is : (k : ℕ) → read_pages f.store w.held k ≡ read_pages back x.held k = λ k i. over (drop.batch i) (over (drop.overlay i) (own_page (drop.reads.held i))) k in
@@ -267,7 +274,7 @@ module _ (tells : Bool) (Work : Contents → Contents → Type 0) (worked : Resu
         free = drop.free ∙ calls.kept_free ∙ idle.kept_free;
         same = λ k. pages_is k ∙ read_dropped tells e.store g.store v x calls idle.batch k;
         reads = reads_then tells v x w calls.reads drop.reads;
-        no_fault = drop.no_fault ∙ quiet;
+        no_fault = drop.no_fault ∙ quiet other;
       }
 
   -- nothing was written, or the work was done
@@ -290,7 +297,7 @@ module _ (tells : Bool) (Work : Contents → Contents → Type 0) (worked : Resu
     tried = tt;
     moments = λ told. all_moments told (finished.moments told);
     others = keeps_then tells v x w calls.reads.keeps finished.others;
-    no_fault = finished.no_fault ∙ quiet;
+    no_fault = finished.no_fault ∙ quiet (not_failed worked finished.done);
   }
   changed (Err Disk) unspent finished = record {
     idle = tt;
@@ -306,7 +313,7 @@ module _ (tells : Bool) (Work : Contents → Contents → Type 0) (worked : Resu
     idle = tt;
     done = tt;
     unspent = tt;
-    fault = (still finished.fault, finished.fault.spent ∙ unspent);
+    fault = (still finished.fault.0 finished.fault.1, finished.fault.0.spent ∙ unspent);
     tried = reads_or_work finished.tried;
     moments = λ told. all_moments told (finished.moments told);
     others = keeps_then tells v x w calls.reads.keeps finished.others;

@@ -30,5 +30,5 @@ pub returns-in-Err-Memory : goal.returns-in-Err-Memory
 returns-in-Err-Memory g c =
     record {
       finished = dropped g.V.Volume.tells c.args.worked c.args.self.now c.prepare.new.self c.discard.new.self (g.V.Volume.device c.args.vol.now) (g.met.V.Volume.lawful c.args.vol.now) c.requires.over c.prepare.ensures.others
-          _ c.discard.ensures;
+          _ (λ failed. let memory = c.in-Err-Memory.field-0-is in let same = c.in-Err-Memory.ensures.fails failed in cc) c.discard.ensures;
     }
