@@ -20,6 +20,24 @@ pub(crate) fn advise(rt: &HostRuntime, path: &str, status: u8) -> u8 {
     status
 }
 
+/// Says what a status of `migrate` means for a volume, and answers with it.
+pub(crate) fn advise_migrate(rt: &HostRuntime, path: &str, status: u8) -> u8 {
+    match status {
+        5 => complain(
+            rt,
+            path,
+            "the file failed; all that it holds stays, in its own format or the newest: check the disk, then migrate again",
+        ),
+        7 => complain(
+            rt,
+            path,
+            "there is no memory for it; all stays in its own format: free some, then migrate again",
+        ),
+        _ => return advise(rt, path, status),
+    }
+    status
+}
+
 /// Says a line about a volume. Where standard error is closed, the status alone tells.
 pub(crate) fn complain(rt: &HostRuntime, path: &str, what: impl Display + Drop) {
     let _said = eprintln!(rt; "ts: {path}: {what}");
@@ -28,7 +46,7 @@ pub(crate) fn complain(rt: &HostRuntime, path: &str, what: impl Display + Drop) 
 fn advice(status: u8) -> &'static str {
     match status {
         2 =>
-            "these words name no job; say `ts VOLUME init PAGES` with 1 to 65536 pages, or `ts VOLUME run < SCRIPT`",
+            "these words name no job; say `ts VOLUME init PAGES` with 1 to 65536 pages, `ts VOLUME run < SCRIPT`, or `ts VOLUME migrate`",
         3 =>
             "standard input failed; each command whose reply you have is stored: run the rest again",
         4 =>

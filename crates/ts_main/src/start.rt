@@ -1,5 +1,5 @@
 // What comes before the top call, and after it.
-use crate::advice::{advise, complain, show};
+use crate::advice::{advise, advise_migrate, complain, show};
 use crate::volume_file::{open_volume, sync_folder};
 use std::io::IsTerminal;
 use std::{env, io};
@@ -9,6 +9,7 @@ use ts_shell::{Job, read_job};
 const HELP: &str = "\
 usage: ts VOLUME init PAGES      makes an empty store with 1 to 65536 element pages
        ts VOLUME run < SCRIPT    carries out the statements of a script, one reply each
+       ts VOLUME migrate         brings an older store to the newest format; all that it holds stays
        ts --help                 says this
        ts --version              says the version
 
@@ -16,6 +17,7 @@ examples:
        ts meters.volume init 8
        echo 'ListSeries(meters);' | ts meters.volume run
        ts meters.volume run      reads statements from the terminal, to the end of input
+       ts meters.volume migrate  makes a store of an earlier version take every statement
 
 The status is 0 where all was done; else a line on standard error says what happened and what to do.";
 
@@ -95,9 +97,14 @@ fn greet(rt: &HostRuntime, path: &str) {
 
 /// Makes a new volume's name last, and says what a status means.
 pub(crate) fn finish(rt: &HostRuntime, job: Job, path: &str, status: u8) -> u8 {
-    if job == Job::Run {
-        return advise(rt, path, status);
+    match job {
+        Job::Init(_) => finish_init(rt, path, status),
+        Job::Run => advise(rt, path, status),
+        Job::Migrate => advise_migrate(rt, path, status),
     }
+}
+
+fn finish_init(rt: &HostRuntime, path: &str, status: u8) -> u8 {
     let is_lost = status == 0 && sync_folder(rt, path).is_err();
     if status == 5 || is_lost {
         complain(

@@ -1,18 +1,13 @@
 // The journal as a script fills it: a record for each update, a checkpoint where the next one has no room, and what a stop
 // around it, or within an opening over a full journal, leaves.
-use crate::program::{run, volume};
+ghost use Rattle.std.specs.Prelude.{◌<◌};
+ghost use Rattle.ts_disk.specs.Memory.{site_calls};
+
+use crate::program::{PICKS, bytes_after, bytes_of, run};
 use std::alloc::Global;
 use std::test::Fail;
 use std::thread::Threads;
-use ts_disk::{MemorySite, Pick, Volume};
-
-const PICKS: [Pick; 5] = [
-    Pick::Old,
-    Pick::New,
-    Pick::Half,
-    Pick::Fill(0),
-    Pick::Fill(255),
-];
+use ts_disk::{MemorySite, Pick};
 
 /// Makes one element. What it leaves in the journal goes to its place at the next opening.
 const ELEMENT: &[u8] = b"CreateRowType(rd, t datetime, v integer);TSContainerCreate(c1, rd, 8);\
@@ -35,21 +30,6 @@ fn updates(alloc: Global, count: u32) -> Result<Vec<u8>, Fail> {
         script.extend_from_slice(statement.as_bytes())?;
     }
     Ok(script)
-}
-
-fn bytes_of(alloc: Global, site: &mut MemorySite) -> Result<Vec<u8>, Fail> {
-    let mut bytes = vec![in alloc; 0u8; site.len() as usize]?;
-    if site.read_at(0, &mut bytes).is_err() {
-        return Err(Fail::from("the read failed"));
-    }
-    Ok(bytes)
-}
-
-// The bytes of a volume with the element.
-fn with_element(rt: &(impl Threads + Sync), alloc: Global) -> Result<Vec<u8>, Fail> {
-    let mut site = volume(rt, alloc, "8")?;
-    run(rt, alloc, &mut site, ELEMENT)?;
-    bytes_of(alloc, &mut site)
 }
 
 // A volume of these bytes after so many updates in one run, which ends at the call of this number.
@@ -98,7 +78,7 @@ fn has_value(
 #[test]
 fn a_checkpoint_comes_where_the_next_record_has_no_room(rt: HostRuntime) -> Result<(), Fail> {
     let alloc = rt.alloc();
-    let bytes = with_element(&rt, alloc)?;
+    let bytes = bytes_after(&rt, alloc, ELEMENT)?;
     let mut full = updated(&rt, alloc, &bytes, 254, NEVER)?;
     assert_eq!(rt; records(&bytes_of(alloc, &mut full)?), 254);
     let mut first = updated(&rt, alloc, &bytes, 255, NEVER)?;
@@ -106,26 +86,37 @@ fn a_checkpoint_comes_where_the_next_record_has_no_room(rt: HostRuntime) -> Resu
     Ok(())
 }
 
-// Stops in the ten calls before a checkpoint, in its four and in the ten behind it, where the record before it is of the
-// update of this number.
-fn stops_around(
+// Whether each image of a stop in the last call of a run has so many updates, or the next one too.
+fn all_have(
     rt: &(impl Threads + Sync),
     alloc: Global,
-    last: u32,
-    picks: &[Pick],
-) -> Result<bool, Fail> {
-    let bytes = &with_element(rt, alloc)?;
+    site: &MemorySite,
+    call: u64,
+    updates: usize,
+) -> Result<bool, Fail>
+    requires { call < site_calls site.now }
+{
+    for pick in PICKS {
+        if !has_value(rt, alloc, site.image(call, pick)?, updates)? {
+            return Ok(false);
+        }
+    }
+    Ok(true)
+}
+
+// Stops in the five calls before a checkpoint, in its four and in the five behind it, where the record before it is of the
+// update of this number.
+fn stops_around(rt: &(impl Threads + Sync), alloc: Global, last: u32) -> Result<bool, Fail> {
+    let bytes = &bytes_after(rt, alloc, ELEMENT)?;
     let checkpoint = updated(rt, alloc, bytes, last, NEVER)?.calls();
-    for call in checkpoint.saturating_sub(10)..checkpoint.saturating_add(14) {
+    for call in checkpoint.saturating_sub(5)..checkpoint.saturating_add(9) {
         let site = updated(rt, alloc, bytes, 260, call)?;
         if site.calls() <= call {
             return Ok(false);
         }
         let acknowledged = site.said().iter().filter(|byte| **byte == b'\n').count();
-        for pick in picks {
-            if !has_value(rt, alloc, site.image(call, *pick)?, acknowledged)? {
-                return Ok(false);
-            }
+        if !all_have(rt, alloc, &site, call, acknowledged)? {
+            return Ok(false);
         }
     }
     Ok(true)
@@ -133,17 +124,11 @@ fn stops_around(
 
 #[test]
 fn a_stop_around_a_checkpoint_leaves_one_update_or_the_next(rt: HostRuntime) -> Result<(), Fail> {
-    assert!(rt; stops_around(&rt, rt.alloc(), 254, &PICKS[..3])?);
+    assert!(rt; stops_around(&rt, rt.alloc(), 254)?);
     Ok(())
 }
 
-#[test]
-fn so_does_one_that_leaves_bytes_of_neither(rt: HostRuntime) -> Result<(), Fail> {
-    assert!(rt; stops_around(&rt, rt.alloc(), 254, &PICKS[3..])?);
-    Ok(())
-}
-
-// Stops in each call of an opening over these bytes. One that only reads leaves them as the call before it did.
+// Stops in the last calls of an opening over these bytes; the calls before them only read, and leave the bytes.
 fn stops_in_opening(
     rt: &(impl Threads + Sync),
     alloc: Global,
@@ -152,13 +137,11 @@ fn stops_in_opening(
 ) -> Result<bool, Fail> {
     let mut site = MemorySite::new(Vec::from_slice(alloc, bytes)?)?;
     run(rt, alloc, &mut site, b"")?;
-    let mut last = Vec::from_slice(alloc, bytes)?;
-    for call in 0..site.calls() {
-        let image = site.image(call, Pick::Half)?;
-        if image == last {
-            continue;
+    let first = site.calls().saturating_sub(12);
+    for call in first..site.calls() {
+        if call == first && site.image(call, Pick::Half)?.as_slice() != bytes {
+            return Ok(false);
         }
-        last = image;
         for pick in PICKS {
             if !has_value(rt, alloc, site.image(call, pick)?, value)? {
                 return Ok(false);
@@ -173,7 +156,7 @@ fn a_stop_in_an_opening_over_a_full_journal_leaves_its_updates(
     rt: HostRuntime,
 ) -> Result<(), Fail> {
     let alloc = rt.alloc();
-    let bytes = with_element(&rt, alloc)?;
+    let bytes = bytes_after(&rt, alloc, ELEMENT)?;
     let full = bytes_of(alloc, &mut updated(&rt, alloc, &bytes, 254, NEVER)?)?;
     // The value of the last update, and of none behind it.
     assert!(rt; stops_in_opening(&rt, alloc, &full, 254)?);

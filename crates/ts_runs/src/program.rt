@@ -2,8 +2,17 @@
 use std::alloc::{AllocError, Global};
 use std::test::Fail;
 use std::thread::Threads;
-use ts_disk::{MemorySite, MemorySource, Source, Volume};
+use ts_disk::{MemorySite, MemorySource, Pick, Source, Volume};
 use ts_shell::run_ts;
+
+/// All that a stop may leave of what is pending.
+pub(crate) const PICKS: [Pick; 5] = [
+    Pick::Old,
+    Pick::New,
+    Pick::Half,
+    Pick::Fill(0),
+    Pick::Fill(255),
+];
 
 /// The status of the program with these words.
 pub(crate) fn status<R: Source>(
@@ -44,6 +53,53 @@ pub(crate) fn run(
 ) -> Result<u8, Fail> {
     let mut source = MemorySource::new(Vec::from_slice(alloc, script)?, 7);
     Ok(status(rt, alloc, &["run"], site, &mut source)?)
+}
+
+/// The status of `migrate`, which pulls nothing of the script.
+pub(crate) fn migrate(
+    rt: &(impl Threads + Sync),
+    alloc: Global,
+    site: &mut MemorySite,
+) -> Result<u8, Fail> {
+    let mut source = MemorySource::new(Vec::new(alloc), 1);
+    Ok(status(rt, alloc, &["migrate"], site, &mut source)?)
+}
+
+/// Whether a run answers each of these statements with the reply beside it.
+pub(crate) fn answers(
+    rt: &(impl Threads + Sync),
+    alloc: Global,
+    site: &mut MemorySite,
+    talk: &[(&[u8], &[u8])],
+) -> Result<bool, Fail> {
+    let mut script = Vec::new(alloc);
+    let mut said = Vec::from_slice(alloc, site.said())?;
+    for (statement, reply) in talk {
+        script.extend_from_slice(statement)?;
+        said.extend_from_slice(reply)?;
+    }
+    let status = run(rt, alloc, site, &script)?;
+    Ok(status == 0 && site.said() == said.as_slice())
+}
+
+/// The bytes that a volume holds.
+pub(crate) fn bytes_of(alloc: Global, site: &mut MemorySite) -> Result<Vec<u8>, Fail> {
+    let mut bytes = vec![in alloc; 0u8; site.len() as usize]?;
+    if site.read_at(0, &mut bytes).is_err() {
+        return Err(Fail::from("the read failed"));
+    }
+    Ok(bytes)
+}
+
+/// The bytes of a volume of 8 element pages after a script.
+pub(crate) fn bytes_after(
+    rt: &(impl Threads + Sync),
+    alloc: Global,
+    script: &[u8],
+) -> Result<Vec<u8>, Fail> {
+    let mut site = volume(rt, alloc, "8")?;
+    run(rt, alloc, &mut site, script)?;
+    bytes_of(alloc, &mut site)
 }
 
 /// Writes bytes into a volume behind the store's back.

@@ -67,7 +67,7 @@ fn a_volume_that_means_no_catalogue_is_refused(rt: HostRuntime) -> Result<(), Fa
     let table: [(u64, &[u8]); 5] = [
         // The kind of an element page, the header, a row type, a container, and an open gate with a record of four bytes.
         (FIRST_ELEMENT_PAGE, &[1]),
-        (8, &[2]),
+        (8, &[3]),
         (257 * 4096, &[3]),
         (833 * 4096, &[2]),
         (4096, b"GATEOPEN\0\0\0\x04"),

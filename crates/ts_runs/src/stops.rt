@@ -1,48 +1,45 @@
 // A stop within each call of a run that isn't a read, by each choice for what it tears: what is left holds what was
 // acknowledged by then, or that and the next statement.
-use crate::program::{reads, run, volume};
+ghost use Rattle.std.specs.Prelude.{◌<◌};
+ghost use Rattle.ts_disk.specs.Memory.{site_calls};
+
+use crate::program::{PICKS, bytes_after, reads, run};
 use std::alloc::Global;
 use std::test::Fail;
 use std::thread::Threads;
-use ts_disk::{MemorySite, Pick, Volume};
+use ts_disk::{MemorySite, Pick};
 
 /// Each statement is refused where the store has what it makes.
 const SCRIPT: &[u8] = b"CreateRowType(rd, t datetime, v integer);TSContainerCreate(c1, rd, 8);\
-    TSCreateIrr('x', c1);TSCreateIrr('y', c1);InsElem('x','2011-01-03 00:00:00',1);\
-    InsElem('y','2011-01-03 00:00:01',2);InsElem('x','2011-01-03 00:00:02',3);";
+    TSCreateIrr('x', c1);InsElem('x','2011-01-03 00:00:00',1);InsElem('x','2011-01-03 00:00:02',3);";
 
 /// Reads all that `SCRIPT` makes.
 const READING: &[u8] = b"TSContainerUsage(c1);ListSeries(c1);GetElem('x','2011-01-03 00:00:00');\
-    GetElem('y','2011-01-03 00:00:01');GetElem('x','2011-01-03 00:00:02');";
+    GetElem('x','2011-01-03 00:00:02');";
 
-const MADE: [&[u8]; 7] = [
-    b"ok\n",
+const MADE: [&[u8]; 5] = [
     b"ok\n",
     b"ok\n",
     b"ok\n",
     b"ok 2011-01-03 00:00:00.00000\n",
-    b"ok 2011-01-03 00:00:01.00000\n",
     b"ok 2011-01-03 00:00:02.00000\n",
 ];
 
-const THERE: [&[u8]; 7] = [
+const THERE: [&[u8]; 5] = [
     b"error 11 NameTaken\n",
     b"error 11 NameTaken\n",
     b"error 11 NameTaken\n",
-    b"error 11 NameTaken\n",
-    b"error 23 Duplicate\n",
     b"error 23 Duplicate\n",
     b"error 23 Duplicate\n",
 ];
 
-const READ: &[u8] =
-    b"ok 2 8\n'x' irregular 2\n'y' irregular 1\nok 2\n2011-01-03 00:00:00.00000 1\nok 1\n\
-    2011-01-03 00:00:01.00000 2\nok 1\n2011-01-03 00:00:02.00000 3\nok 1\n";
+const READ: &[u8] = b"ok 1 8\n'x' irregular 2\nok 1\n2011-01-03 00:00:00.00000 1\nok 1\n\
+    2011-01-03 00:00:02.00000 3\nok 1\n";
 
 // What is said to `SCRIPT` and `READING` where so many of its statements were carried out before.
 fn said_after(alloc: Global, count: usize) -> Result<Vec<u8>, Fail> {
     let mut said = Vec::new(alloc);
-    for number in 0..7usize {
+    for number in 0..5usize {
         said.extend_from_slice(if number < count {
             THERE[number]
         } else {
@@ -74,21 +71,41 @@ fn whole_replies(said: &[u8]) -> usize {
     said.iter().filter(|byte| **byte == b'\n').count()
 }
 
-// Runs of the script over a volume that holds what so many of its statements make, each stopped at the call of one number.
-// The calls from 1 on, so many, only read.
+// Whether each image of a stop in the last call of a run, by these choices, holds what so many of the statements make.
+fn all_hold(
+    rt: &(impl Threads + Sync),
+    alloc: Global,
+    site: &MemorySite,
+    call: u64,
+    picks: &[Pick],
+    count: usize,
+) -> Result<bool, Fail>
+    requires { call < site_calls site.now }
+{
+    for pick in picks {
+        if !holds(rt, alloc, site.image(call, *pick)?, count)? {
+            return Ok(false);
+        }
+    }
+    Ok(true)
+}
+
+// Runs of the script over a volume on which this one was carried out, which makes what so many of its statements make; each
+// is stopped at the call of one number. The calls from 1 on, so many, only read.
 fn stops(
     rt: &(impl Threads + Sync),
     alloc: Global,
-    bytes: &[u8],
+    beginning: &[u8],
     there: usize,
-    reads: u64,
-    pick: Pick,
+    picks: &[Pick],
 ) -> Result<bool, Fail> {
+    let bytes = bytes_after(rt, alloc, beginning)?;
+    let reads = reads(rt, alloc, "8")?;
     for call in 0..reads.saturating_add(200) {
         if 1 <= call && call <= reads {
             continue;
         }
-        let mut site = MemorySite::new(Vec::from_slice(alloc, bytes)?)?;
+        let mut site = MemorySite::new(Vec::from_slice(alloc, &bytes)?)?;
         site.fuse(call);
         run(rt, alloc, &mut site, SCRIPT)?;
         if site.calls() <= call {
@@ -97,97 +114,26 @@ fn stops(
                 call > reads.saturating_add(20) && site.said().ends_with(b"00:00:02.00000\n"),
             );
         }
-        let wanted = there.max(whole_replies(site.said()));
-        if !holds(rt, alloc, site.image(call, pick)?, wanted)? {
+        let count = there.max(whole_replies(site.said()));
+        if !all_hold(rt, alloc, &site, call, picks, count)? {
             return Ok(false);
         }
     }
     Ok(false)
 }
 
-// The bytes of a volume after a script.
-fn bytes_after(rt: &(impl Threads + Sync), alloc: Global, script: &[u8]) -> Result<Vec<u8>, Fail> {
-    let mut site = volume(rt, alloc, "8")?;
-    run(rt, alloc, &mut site, script)?;
-    let mut bytes = vec![in alloc; 0u8; site.len() as usize]?;
-    if site.read_at(0, &mut bytes).is_err() {
-        return Err(Fail::from("the read failed"));
-    }
-    Ok(bytes)
-}
-
 /// The first of the statements: the journal holds its record when the run begins.
 const RECORD: &[u8] = b"CreateRowType(rd, t datetime, v integer);";
 
-// Runs over a volume on which this script was carried out, which makes what so many statements make.
-fn stops_in_a_run(
-    rt: &(impl Threads + Sync),
-    alloc: Global,
-    beginning: &[u8],
-    there: usize,
-    pick: Pick,
-) -> Result<bool, Fail> {
-    let bytes = bytes_after(rt, alloc, beginning)?;
-    stops(rt, alloc, &bytes, there, reads(rt, alloc, "8")?, pick)
-}
-
 #[test]
-fn a_stop_in_a_run_leaves_old_bytes(rt: HostRuntime) -> Result<(), Fail> {
-    assert!(rt; stops_in_a_run(&rt, rt.alloc(), b"", 0, Pick::Old)?);
+fn a_stop_in_a_run_leaves_what_was_acknowledged(rt: HostRuntime) -> Result<(), Fail> {
+    assert!(rt; stops(&rt, rt.alloc(), b"", 0, &PICKS)?);
     Ok(())
 }
 
 #[test]
-fn a_stop_in_a_run_leaves_new_bytes(rt: HostRuntime) -> Result<(), Fail> {
-    assert!(rt; stops_in_a_run(&rt, rt.alloc(), b"", 0, Pick::New)?);
-    Ok(())
-}
-
-#[test]
-fn a_stop_in_a_run_leaves_half_of_each_write(rt: HostRuntime) -> Result<(), Fail> {
-    assert!(rt; stops_in_a_run(&rt, rt.alloc(), b"", 0, Pick::Half)?);
-    Ok(())
-}
-
-#[test]
-fn a_stop_in_a_run_leaves_zeros(rt: HostRuntime) -> Result<(), Fail> {
-    assert!(rt; stops_in_a_run(&rt, rt.alloc(), b"", 0, Pick::Fill(0))?);
-    Ok(())
-}
-
-#[test]
-fn a_stop_in_a_run_leaves_ones(rt: HostRuntime) -> Result<(), Fail> {
-    assert!(rt; stops_in_a_run(&rt, rt.alloc(), b"", 0, Pick::Fill(255))?);
-    Ok(())
-}
-
-#[test]
-fn a_stop_over_a_record_leaves_old_bytes(rt: HostRuntime) -> Result<(), Fail> {
-    assert!(rt; stops_in_a_run(&rt, rt.alloc(), RECORD, 1, Pick::Old)?);
-    Ok(())
-}
-
-#[test]
-fn a_stop_over_a_record_leaves_new_bytes(rt: HostRuntime) -> Result<(), Fail> {
-    assert!(rt; stops_in_a_run(&rt, rt.alloc(), RECORD, 1, Pick::New)?);
-    Ok(())
-}
-
-#[test]
-fn a_stop_over_a_record_leaves_half_of_each_write(rt: HostRuntime) -> Result<(), Fail> {
-    assert!(rt; stops_in_a_run(&rt, rt.alloc(), RECORD, 1, Pick::Half)?);
-    Ok(())
-}
-
-#[test]
-fn a_stop_over_a_record_leaves_zeros(rt: HostRuntime) -> Result<(), Fail> {
-    assert!(rt; stops_in_a_run(&rt, rt.alloc(), RECORD, 1, Pick::Fill(0))?);
-    Ok(())
-}
-
-#[test]
-fn a_stop_over_a_record_leaves_ones(rt: HostRuntime) -> Result<(), Fail> {
-    assert!(rt; stops_in_a_run(&rt, rt.alloc(), RECORD, 1, Pick::Fill(255))?);
+fn so_does_a_stop_over_a_record(rt: HostRuntime) -> Result<(), Fail> {
+    assert!(rt; stops(&rt, rt.alloc(), RECORD, 1, &PICKS)?);
     Ok(())
 }
 

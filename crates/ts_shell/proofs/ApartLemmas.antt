@@ -1,6 +1,5 @@
 -- The replies to a script and the memory line tell one another apart.
 use Rattle.std.proofs.Common.{◌≡◌, ℕ, List, Bool, true, false, cond, Option, Some, None}
-use Rattle.ts_command.specs.Script.{Request}
 use Rattle.ts_replies.specs.Acknowledged.{memory_line, TellsApart}
 use Rattle.ts_replies.proofs.Apart.{by_memory_line}
 use Rattle.ts_answer.specs.Answer.{may_lack_memory}

@@ -1,5 +1,5 @@
 -- One request: what is said, and what a stop within it leaves.
-use Rattle.std.proofs.Common.{◌≡◌, ◌⊎◌, inl, inr, ℕ, ◌≤◌, Bool, true, false, IsTrue, codes, List, [], ◌∷◌, ◌++◌, length, take, drop, Option, Some, Result, Ok, Err, IsErr, refl, sym, ◌∙◌, ap, subst, arith, take-append-drop, IsErrOf}
+use Rattle.std.proofs.Common.{◌≡◌, ◌⊎◌, inl, inr, ℕ, ◌≤◌, Bool, false, IsTrue, codes, List, [], ◌∷◌, ◌++◌, length, take, drop, Some, Result, Ok, Err, IsErr, refl, sym, ◌∙◌, ap, subst, arith, take-append-drop, IsErrOf}
 use Rattle.std.specs.Fmt.{digits}
 use Rattle.std.proofs.lemmas.List.{append-nil}
 use Rattle.ts_disk.specs.Device.{Device, Lawful, Within, LeavesOnly, Says, Rose}
@@ -74,10 +74,10 @@ module _ (tells : Bool) (e : Kept) (v w : Device) (size : w.size ≡ v.size) (he
 
 -- a step that the disk doesn't fail leaves the count
 step_leaves : (tells : Bool) (command : Command) (r : Result Unit StepFault) (out : List ℕ) (e f : Kept) (v x : Device) → Stepped tells command r out e f v x → ¬ IsErrOf r faults.Disk → x.faults ≡ v.faults
-step_leaves tells command (Ok y) out e f v x stepped other = stepped.no_fault
+step_leaves tells command (Ok y) out e f v x stepped other = stepped.moves.no_fault
 step_leaves tells command (Err faults.Disk) out e f v x stepped other = absurd (other refl)
-step_leaves tells command (Err (faults.Memory error)) out e f v x stepped other = stepped.fault.2
-step_leaves tells command (Err (faults.Closed count)) out e f v x stepped other = absurd stepped.fault
+step_leaves tells command (Err (faults.Memory error)) out e f v x stepped other = stepped.moves.fault.2
+step_leaves tells command (Err (faults.Closed count)) out e f v x stepped other = absurd stepped.moves.fault
 
 -- an image that means the catalogue before a request or the one after it, and nothing said
 abbrev pub Waits : Catalogue → Request → Device → List ℕ → List ℕ → Type 0
@@ -104,10 +104,10 @@ steps_here tells request line e v lawful ready step = record {
 -- a command is carried out
 pub steps_done : (tells : Bool) (command : Command) (out : List ℕ) (e f : Kept) (v x : Device) → Stepped tells command (Ok tt) out e f v x → Steps tells (Ok command) out e f v x
 steps_done tells command out e f v x stepped = record {
-  ready = stepped.ready;
-  step = λ told cat at. let done = stepped.answered told cat at in ((answer cat (Ok command)).1, inl (done.0, refl), done.1);
-  waits = stepped.moments;
-  keeps = stepped.others;
+  ready = stepped.moves.ready;
+  step = λ told cat at. ((answer cat (Ok command)).1, inl (stepped.answered told cat at, refl), stepped.moves.at told cat at);
+  waits = stepped.moves.moments;
+  keeps = stepped.moves.others;
   no_fault = step_leaves tells command (Ok tt) out e f v x stepped (λ is. absurd (cc));
 }
 
@@ -116,12 +116,13 @@ pub steps_wanting : (tells : Bool) (command : Command) (r : Result Unit StepFaul
 steps_wanting tells command r error out e f v x is stepped =
     let P : Result Unit StepFault → Type 0 = λ s. Stepped tells command s out e f v x in
     let here : Stepped tells command (Err (faults.Memory error)) out e f v x = subst P is stepped in
-    let same = here.fault.0 in
+    let moves = here.moves in
+    let same = moves.fault.0 in
     record {
-      ready = here.fault.1;
-      step = λ told cat at. (cat, inr (refl, refl), record { ready = here.fault.1; means = subst (λ (l : List ℕ). MeansCatalogue l cat) (sym same.disk.held) at.means });
-      waits = here.moments;
-      keeps = here.others;
+      ready = moves.fault.1;
+      step = λ told cat at. (cat, inr (refl, refl), record { ready = moves.fault.1; means = subst (λ (l : List ℕ). MeansCatalogue l cat) (sym same.disk.held) at.means });
+      waits = moves.moments;
+      keeps = moves.others;
       no_fault = step_leaves tells command (Err (faults.Memory error)) out e f v x here (λ is. absurd (cc));
     }
 
@@ -234,22 +235,23 @@ pub failed_ran : (tells : Bool) (command : Command) (r : Result Unit StepFault) 
 failed_ran tells command r out e f v x is stepped =
     let P : Result Unit StepFault → Type 0 = λ s. Stepped tells command s out e f v x in
     let here : Stepped tells command (Err faults.Disk) out e f v x = subst P is stepped in
+    let moves = here.moves in
     record {
       ready = tt;
       answered = tt;
-      fair = λ told cat at. ([], here.others.said ∙ sym (append-nil v.said), (none_good script apart (λ c. Unit {0}) cat (Ok command ∷ []) tt).fair);
+      fair = λ told cat at. ([], moves.others.said ∙ sym (append-nil v.said), (none_good script apart (λ c. Unit {0}) cat (Ok command ∷ []) tt).fair);
       moments = λ told cat at.
           leaves_map v x (Waits cat (Ok command) v) (IsGoodRun script cat (Ok command ∷ []) v.said)
           (λ image said now. ([], now.1 ∙ sym (append-nil v.said), one_waits script apart (MeansCatalogue image) cat (Ok command) now.0))
-          (here.moments told cat at);
-      disk = λ e. here.fault.0;
+          (moves.moments told cat at);
+      disk = λ e. moves.fault.0;
       output = λ e. absurd (cc);
       no_fault = λ no. absurd (no refl);
-      no_say_fault = λ no. here.others.say_faults;
-      size = here.others.size;
-      faults = here.others.faults;
-      say_faults = omega (arith, here.others.say_faults);
-      syncs = here.others.syncs;
+      no_say_fault = λ no. moves.others.say_faults;
+      size = moves.others.size;
+      faults = moves.others.faults;
+      say_faults = omega (arith, moves.others.say_faults);
+      syncs = moves.others.syncs;
     }
 
 -- an engine that no call of the disk's failed before isn't closed
@@ -257,4 +259,4 @@ pub never_closed : (tells : Bool) (command : Command) (r : Result Unit StepFault
 never_closed tells command r count out e f v x is stepped =
     let P : Result Unit StepFault → Type 0 = λ s. Stepped tells command s out e f v x in
     let here : Stepped tells command (Err (faults.Closed count)) out e f v x = subst P is stepped in
-    here.fault
+    here.moves.fault

@@ -3,7 +3,9 @@ pub mod ItemLemmas
 pub mod RanLemmas
 pub mod FeedLemmas
 pub mod RunLemmas
+pub mod OpeningLemmas
 pub mod TopLemmas
+pub mod MigratingLemmas
 pub mod PullLemmas
 pub mod NewLemmas
 pub mod MakingLemmas

@@ -1,5 +1,5 @@
 -- What a stop leaves while a store is made.
-use Rattle.std.proofs.Common.{◌≡◌, ℕ, ◌+◌, ◌-◌, ◌*◌, ◌≤◌, Bool, IsTrue, Some, codes, List, [], ◌∷◌, ◌++◌, length, take, drop, replicate, Result, Ok, refl, sym, ◌∙◌, ap, subst, arith}
+use Rattle.std.proofs.Common.{◌≡◌, ℕ, ◌+◌, ◌-◌, ◌*◌, ◌≤◌, Bool, IsTrue, Some, codes, List, [], ◌∷◌, ◌++◌, length, take, drop, replicate, Result, Ok, inl, inr, refl, sym, ◌∙◌, ap, subst, arith}
 use Rattle.std.specs.Int.{w32, to_be_bytes}
 use Rattle.std.proofs.lemmas.List.{drop-replicate, length-replicate, take-replicate, take_at}
 use Rattle.ts_disk.specs.Device.{Device, Lawful, LeavesOnly, Torn, overwritten, Resized, WrittenAt, Synced}
@@ -7,6 +7,7 @@ use Rattle.ts_disk.proofs.Moments.{started, calls_on}
 use Rattle.ts_disk.proofs.Ranges.{drop_further}
 use Rattle.ts_disk.proofs.Replays.{Torn-overwritten}
 use Rattle.ts_journal.specs.Journal.{page_count, records, pages}
+use Rattle.ts_model.specs.Definitions.{IsFormat}
 use Rattle.ts_model.specs.Catalogue.{empty_catalogue}
 use Rattle.ts_layout.specs.Slot.{header_bytes}
 use Rattle.ts_layout.proofs.CallerLemmas.{length-padded, same_catalogue}
@@ -14,9 +15,9 @@ use Rattle.ts_shell.specs.Making.{IsEmptyOrNone, EmptyFrom}
 use Rattle.ts_shell.proofs.NewLemmas.{page_at, IsNew, no_journal, pages_own, new_means}
 
 -- the header is a page
-pub header_length : (count : ℕ) → length (header_bytes count) ≡ 4096
+pub header_length : (format count : ℕ) → length (header_bytes format count) ≡ 4096
 unfolding header_bytes
-header_length count = length-padded 4096 (codes "TSVOLUME" ++ (1 ∷ to_be_bytes w32 count)) (omega arith)
+header_length format count = length-padded 4096 (codes "TSVOLUME" ++ (format ∷ to_be_bytes w32 count)) (omega arith)
 
 -- what is torn before a page leaves it
 page_behind : (n k : ℕ) (old new : List ℕ) → Torn 0 k old new → k ≤ 4096 * n → page_at n new ≡ page_at n old
@@ -28,24 +29,24 @@ zero_page_at n size room = ap (take 4096) (drop-replicate (4096 * n) size 0) ∙
 
 module _ (count size : ℕ) (some : 1 ≤ count) (limit : count ≤ 65536) (is : size ≡ 4096 * (930 + count)) where
   -- zeros with any first page, if this is the header
-  torn_new : (image : List ℕ) → Torn 0 4096 (replicate size 0) image → page_at 0 image ≡ header_bytes count → IsNew count image
-  torn_new image torn header = record {
+  torn_new : (format : ℕ) (image : List ℕ) → Torn 0 4096 (replicate size 0) image → page_at 0 image ≡ header_bytes format count → IsNew format count image
+  torn_new format image torn header = record {
     size = torn.len ∙ length-replicate size 0 ∙ is;
     header = header;
     zeros = λ n low high. page_behind n 4096 (replicate size 0) image torn (omega (arith, low)) ∙ zero_page_at n size (omega (arith, is, high));
   }
 
   -- the header written over zeros
-  pub written_new : (header held : List ℕ) → header ≡ header_bytes count → length header ≡ 4096 → held ≡ overwritten 0 header (replicate size 0) → IsNew count held
-  written_new header held same whole written =
+  pub written_new : (format : ℕ) (header held : List ℕ) → header ≡ header_bytes format count → length header ≡ 4096 → held ≡ overwritten 0 header (replicate size 0) → IsNew format count held
+  written_new format header held same whole written =
       let zeros : List ℕ = replicate size 0 in
       let long : length zeros ≡ size = length-replicate size 0 in
       let torn : Torn 0 (length header) zeros (overwritten 0 header zeros) = Torn-overwritten 0 header zeros (omega (arith, whole, long, is)) in
       let front : page_at 0 (overwritten 0 header zeros) ≡ header = take_at header (drop (0 + length header) zeros) 4096 whole in
-      subst (IsNew count) (sym written)
-      (torn_new (overwritten 0 header zeros) (subst (λ (k : ℕ). Torn 0 k zeros (overwritten 0 header zeros)) whole torn) (front ∙ same))
+      subst (IsNew format count) (sym written)
+      (torn_new format (overwritten 0 header zeros) (subst (λ (k : ℕ). Torn 0 k zeros (overwritten 0 header zeros)) whole torn) (front ∙ same))
 
-  -- zeros with any first page mean the empty catalogue or none
+  -- zeros with any first page mean the empty catalogue of either format or none
   pub torn_empty : (image : List ℕ) → Torn 0 4096 (replicate size 0) image → IsEmptyOrNone count image
   torn_empty image torn cat means =
       let none : records image ≡ Some [] = no_journal image (page_behind 1 4096 (replicate size 0) image torn (omega arith) ∙ zero_page_at 1 size (omega (arith, is))) in
@@ -53,15 +54,23 @@ module _ (count size : ℕ) (some : 1 ≤ count) (limit : count ≤ 65536) (is :
       let layout = means.pages.0 in
       let laid = means.pages.1 in
       let same : length layout.element_pages ≡ count = omega (arith, laid.size, long) in
-      let header : page_at 0 image ≡ header_bytes count = sym (pages_own image none 0) ∙ laid.bytes.header ∙ ap header_bytes same in
-      same_catalogue (page_count (length image)) (pages image) cat (empty_catalogue count) means.pages (new_means count image some limit (torn_new image torn header)).pages
+      let format = layout.definitions.format in
+      let known : IsFormat format = laid.rules.definitions.tables.format in
+      let header : page_at 0 image ≡ header_bytes format count = sym (pages_own image none 0) ∙ laid.bytes.header ∙ ap (header_bytes format) same in
+      let empty : cat ≡ empty_catalogue format count =
+      same_catalogue (page_count (length image)) (pages image) cat (empty_catalogue format count) means.pages (new_means format count image known some limit (torn_new format image torn header)).pages
+      in
+      elim known [
+        | inl old ↦ inl (empty ∙ ap (λ (n : ℕ). empty_catalogue n count) old)
+        | inr newest ↦ inr (empty ∙ ap (λ (n : ℕ). empty_catalogue n count) newest)
+      ]
 
 -- nothing, grown, is zeros
 pub zeros_grown : (held grown : List ℕ) (size old : ℕ) → length held ≡ old → old ≡ 0 → grown ≡ held ++ replicate (size - old) 0 → grown ≡ replicate size 0
 zeros_grown [] grown size old long empty is = is ∙ ap (λ (n : ℕ). replicate {A = ℕ} n 0) (let e : size - old ≡ size = omega (arith, empty) in e)
 zeros_grown (x ∷ held) grown size old long empty is = absurd (omega (arith, long, empty))
 
--- an image that means the empty catalogue or none, with nothing said
+-- an image that means the empty catalogue of either format or none, with nothing said
 abbrev pub EmptyMoment : ℕ → Device → List ℕ → List ℕ → Type 0
 EmptyMoment count v image said = IsEmptyOrNone count image × (said ≡ v.said)
 

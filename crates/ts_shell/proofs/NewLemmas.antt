@@ -1,6 +1,5 @@
 -- A header and zeros behind it mean the empty catalogue.
-use Rattle.std.proofs.Common.{◌≡◌, ℕ, zero, suc, ◌+◌, ◌-◌, ◌*◌, ◌<◌, ◌≤◌, Bool, false, cond, Option, Some, None, unwrap_or, List, [], map, length, take, drop, replicate, get_or, slice_index, refl, sym, ◌∙◌, ap, subst, arith}
-use Rattle.std.specs.Option.{option_map}
+use Rattle.std.proofs.Common.{◌≡◌, ℕ, zero, suc, ◌+◌, ◌-◌, ◌*◌, ◌<◌, ◌≤◌, Bool, false, cond, Option, Some, None, unwrap_or, List, [], length, take, drop, replicate, get_or, slice_index, refl, sym, ◌∙◌, ap, subst, arith}
 use Rattle.std.specs.FinMap.{from_entries}
 use Rattle.std.proofs.lemmas.Bool.Decides.{nat_tests}
 use Rattle.std.proofs.lemmas.List.{drop-replicate, length-replicate, take-replicate, take-take}
@@ -11,8 +10,7 @@ use Rattle.ts_journal.specs.Journal.{region, records, own_page, pages, put_recor
 use Rattle.ts_journal.proofs.CallerLemmas.{gate_part, same_gate, records_closed}
 use Rattle.ts_model.specs.declared.kind.Kind.{Kind}
 use Rattle.ts_model.specs.declared.kind.Kind.TheVariants as kinds
-use Rattle.ts_model.specs.declared.def.Def.{Def}
-use Rattle.ts_model.specs.Definitions.{RowTypeDef, ContainerDef, SeriesDef, no_definitions, limit, filled_from}
+use Rattle.ts_model.specs.Definitions.{Definitions, RowTypeDef, ContainerDef, SeriesDef, IsFormat, no_definitions, with_format, limit, filled_from}
 use Rattle.ts_model.proofs.PartsLemmas.{nothing-defined}
 use Rattle.ts_model.specs.Catalogue.{empty_catalogue}
 use Rattle.ts_layout.specs.Limits.{IsSlotOf}
@@ -26,9 +24,9 @@ abbrev pub page_at : ℕ → List ℕ → List ℕ
 page_at n bytes = bytes_at (4096 * n) 4096 bytes
 
 -- the bytes of a store in which nothing is: its header, and zeros behind it
-pub record IsNew (count : ℕ) (image : List ℕ) : Type 0 where
+pub record IsNew (format count : ℕ) (image : List ℕ) : Type 0 where
   pub size : length image ≡ 4096 * (930 + count)
-  pub header : page_at 0 image ≡ header_bytes count
+  pub header : page_at 0 image ≡ header_bytes format count
   pub zeros : (n : ℕ) → 1 ≤ n → n < 930 + count → page_at n image ≡ replicate 4096 0
 
 -- eight zeros are no open gate
@@ -77,53 +75,64 @@ empty_slot kinds.Series = refl
 zeros_part : (b n : ℕ) → b + n ≤ 4096 → bytes_at b n (replicate 4096 0) ≡ replicate n 0
 zeros_part b n within = ap (take n) (drop-replicate b 4096 0) ∙ take-replicate {X = ℕ} n (4096 - b) 0 (omega arith)
 
+-- nothing is defined, in whatever format
+abbrev nothing_in : ℕ → Definitions
+nothing_in format = with_format format no_definitions
+
+empty_at : (format : ℕ) (kind : Kind) (slot : ℕ) → def_at kind slot (nothing_in format) ≡ None
+empty_at format kinds.RowType slot = nothing-defined kinds.RowType slot
+empty_at format kinds.Container slot = nothing-defined kinds.Container slot
+empty_at format kinds.Series slot = nothing-defined kinds.Series slot
+
 -- pages of zeros hold no definitions
-no_definitions_held : (at : ℕ → List ℕ) → ((n : ℕ) → 257 ≤ n → n < 930 → at n ≡ replicate 4096 0) → HoldsDefinitions at no_definitions
-no_definitions_held at zeros = record {
+no_definitions_held : (format : ℕ) (at : ℕ → List ℕ) → ((n : ℕ) → 257 ≤ n → n < 930 → at n ≡ replicate 4096 0) → HoldsDefinitions at (nothing_in format)
+no_definitions_held format at zeros = record {
   slots = λ kind slot within.
       let low = page_low kind slot in
       let high = page_high kind slot within in
       ap (bytes_at (byte_of_slot kind slot) (slot_size kind)) (zeros (page_of_slot kind slot) low high)
       ∙ zeros_part (byte_of_slot kind slot) (slot_size kind) (omega (arith, slot_end kind slot within, fits_page (page_of_slot kind slot) low high))
-      ∙ sym (empty_slot kind) ∙ ap (slot_bytes kind) (sym (nothing-defined kind slot));
+      ∙ sym (empty_slot kind) ∙ ap (slot_bytes kind) (sym (empty_at format kind slot));
   behind = λ number low high. ap (drop (bytes_of_slots (slots_in_page number))) (zeros number low high) ∙ drop-replicate (bytes_of_slots (slots_in_page number)) 4096 0;
 }
 
 -- nothing defined, and each element page free
-abbrev pub empty_layout : ℕ → Layout
-empty_layout count = record { definitions = no_definitions; element_pages = replicate count Free }
+abbrev pub empty_layout : ℕ → ℕ → Layout
+empty_layout format count = record { definitions = nothing_in format; element_pages = replicate count Free }
 
-empty_is_sound : (count : ℕ) → 1 ≤ count → count ≤ 65536 → IsSound (empty_layout count)
-empty_is_sound count some limit =
+empty_is_sound : (format count : ℕ) → IsFormat format → 1 ≤ count → count ≤ 65536 → IsSound (empty_layout format count)
+empty_is_sound format count known some limit =
     let size : length (replicate count Free) ≡ count = length-replicate count Free in
     record {
       some = omega (arith, size);
       most = omega (arith, size);
       definitions = record {
         tables = record {
+          format = known;
           row_types = record { size = length-replicate {A = Option RowTypeDef} 64 None; apart = λ i j a b here. absurd (some_is_none a (sym here ∙ each_is 64 i None)) };
           containers = record { size = length-replicate {A = Option ContainerDef} 64 None; apart = λ i j a b here. absurd (some_is_none a (sym here ∙ each_is 64 i None)) };
           series = record { size = length-replicate {A = Option SeriesDef} 4096 None; apart = λ i j a b here. absurd (some_is_none a (sym here ∙ each_is 4096 i None)) };
         };
-        limits = record { each = λ kind slot within. subst (IsSlotOf kind) (sym (nothing-defined kind slot)) tt };
-        references = λ kind slot def within is. absurd (some_is_none def (sym is ∙ nothing-defined kind slot));
+        limits = record { each = λ kind slot within. subst (IsSlotOf format kind) (sym (empty_at format kind slot)) tt };
+        references = λ kind slot def within is. absurd (some_is_none def (sym is ∙ empty_at format kind slot));
         quotas = (let none : sum_of_quotas (replicate 64 None) ≡ 0 = refl in omega (arith, none));
       };
       one_page = λ i j slot es fs here. absurd (cells_are_free slot es (sym here ∙ each_is count i Free));
       charges = λ i c h here. absurd (some_is_none c (sym here ∙ each_is 64 i None));
     }
 
-empty_means : (count : ℕ) → empty_catalogue count ≡ catalogue_of (empty_layout count)
-empty_means count = λ j. record {
+empty_means : (format count : ℕ) → empty_catalogue format count ≡ catalogue_of (empty_layout format count)
+empty_means format count = λ j. record {
+  format = format;
   pages = sym (length-replicate count Free) j;
   row_types = from_entries (sym (filled_none {A = RowTypeDef} (λ r. r.name) (λ slot r. r.heading) 0 64) j);
-  containers = from_entries (sym (filled_none {A = ContainerDef} (λ c. c.name) (λ slot c. container_of no_definitions c) 0 64) j);
-  series = from_entries (sym (filled_none {A = SeriesDef} (λ s. s.key) (series_of (empty_layout count)) 0 4096) j);
+  containers = from_entries (sym (filled_none {A = ContainerDef} (λ c. c.name) (λ slot c. container_of (nothing_in format) c) 0 64) j);
+  series = from_entries (sym (filled_none {A = SeriesDef} (λ s. s.key) (series_of (empty_layout format count)) 0 4096) j);
 }
 
--- a new store means the empty catalogue
-pub new_means : (count : ℕ) (image : List ℕ) → 1 ≤ count → count ≤ 65536 → IsNew count image → MeansCatalogue image (empty_catalogue count)
-new_means count image some limit new =
+-- a new store means the empty catalogue of its format
+pub new_means : (format count : ℕ) (image : List ℕ) → IsFormat format → 1 ≤ count → count ≤ 65536 → IsNew format count image → MeansCatalogue image (empty_catalogue format count)
+new_means format count image known some limit new =
     let none : records image ≡ Some [] = no_journal image (new.zeros 1 (omega arith) (omega arith)) in
     let size : length (replicate count Free) ≡ count = length-replicate count Free in
     let behind : (n : ℕ) → 257 ≤ n → n < 930 + count → pages image n ≡ replicate 4096 0 = λ n low high. pages_own image none n ∙ own n low ∙ new.zeros n (omega arith) high in
@@ -131,19 +140,19 @@ new_means count image some limit new =
       size = (count, some, limit, new.size);
       sound = ([], none);
       pages = (
-        empty_layout count,
+        empty_layout format count,
         record {
           size = omega (arith, new.size, size);
           bytes = record {
-            header = pages_own image none 0 ∙ new.header ∙ ap header_bytes (sym size);
-            definitions = no_definitions_held (pages image) (λ n low high. behind n low (omega arith));
+            header = pages_own image none 0 ∙ new.header ∙ ap (header_bytes format) (sym size);
+            definitions = no_definitions_held format (pages image) (λ n low high. behind n low (omega arith));
             elements = λ i within.
-                subst (HoldsElements no_definitions (pages image (930 + i))) (sym (each_is count i Free))
+                subst (HoldsElements (nothing_in format) (pages image (930 + i))) (sym (each_is count i Free))
                 (ap (λ (l : List ℕ). slice_index l 0) (behind (930 + i) (omega arith) (omega (arith, within, size))));
           };
-          rules = empty_is_sound count some limit;
+          rules = empty_is_sound format count known some limit;
         },
-        empty_means count,
+        empty_means format count,
       );
     }
   where

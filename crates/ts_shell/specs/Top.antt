@@ -4,13 +4,14 @@ use Rattle.ts_disk.specs.Device.{Device, Within, Only, Rose, FirstSync, LeavesOn
 use Rattle.ts_disk.specs.Input.{Input}
 use Rattle.ts_command.specs.Script.{Request, requests, last_request}
 use Rattle.ts_replies.specs.Acknowledged.{Protocol, AllAnswered}
+use Rattle.ts_model.specs.declared.format.TheConstants.{FORMAT}
 use Rattle.ts_model.specs.Catalogue.{Catalogue, empty_catalogue}
-use Rattle.ts_engine.specs.Volume.{MeansCatalogue, MeansNothing}
+use Rattle.ts_engine.specs.Volume.{MeansCatalogue}
 use Rattle.ts_engine.specs.Engine.{Kept, IsAt}
-use Rattle.ts_engine.specs.Start.{LeavesAsItWas}
 use Rattle.ts_shell.specs.declared.fault.RunFault.{RunFault}
 use Rattle.ts_shell.specs.declared.fault.RunFault.TheVariants.{Disk, Output}
 use Rattle.ts_shell.specs.Making.{EmptyFrom}
+use Rattle.ts_shell.specs.Opening.{OpensStore}
 use Rattle.ts_shell.specs.Run.{script, IsGoodRun, SaysFairly}
 
 -- no call was made that does anything
@@ -27,9 +28,10 @@ pub record Untouched (v w : Device) : Type 0 where
 
 -- What `init` with a number of pages does.
 pub record Made (tells : Bool) (pages status : ℕ) (v w : Device) : Type 0 where
-  -- at 0 the only image has that length and means the empty catalogue
-  pub done : status ≡ 0 → (w.size ≡ 4096 * (930 + pages)) × Only w.held w.images × (IsTrue tells → MeansCatalogue w.held (empty_catalogue pages))
-  -- from the end of its first sync that answers Ok on, the second call that does, each image means the empty catalogue or none
+  -- at 0 the only image has that length and means the empty catalogue in the newest format
+  pub done : status ≡ 0 → (w.size ≡ 4096 * (930 + pages)) × Only w.held w.images × (IsTrue tells → MeansCatalogue w.held (empty_catalogue FORMAT pages))
+  -- from the end of its first sync that answers Ok on, the second call that does, each image means the empty catalogue of either
+  -- format or none
   pub moments : IsTrue tells → v.syncs < w.syncs → EmptyFrom pages (v.clock + 2) v w
   -- 10 comes exactly where the volume isn't empty, and then nothing is done
   pub there : status ≡ 10 → 0 < v.size
@@ -143,6 +145,7 @@ pub record RanFrom (cat : Catalogue) (status : ℕ) (v w : Device) (i j : Input)
 
 -- What `run` does.
 pub record ScriptRan (tells told : Bool) (status : ℕ) (v w : Device) (i j : Input) : Type 0 where
+  pub store : OpensStore tells status v w
   -- what was said is replies to the script taken, and what a stop leaves agrees with them
   pub fair : IsTrue tells → IsTrue told → (cat : Catalogue) → MeansCatalogue v.held cat → RanFrom cat status v w i j
   -- at 0 the script is read to its end and every request has its reply
@@ -151,27 +154,18 @@ pub record ScriptRan (tells told : Bool) (status : ℕ) (v w : Device) (i j : In
   pub so_far : (status ≡ 3) ⊎ (status ≡ 8) → IsTrue tells → IsTrue told → (cat : Catalogue) → MeansCatalogue v.held cat → DoneSoFar cat v w i j
   pub pull : status ≡ 3 → Rose i.pull_faults j.pull_faults
   pub output : status ≡ 4 → Rose v.say_faults w.say_faults
-  pub disk : status ≡ 5 → Rose v.faults w.faults
-  -- 6 comes exactly where the volume means no catalogue, but for a fault or want of memory that came first
-  pub no_store : status ≡ 6 → IsTrue tells → MeansNothing v.held
-  pub not_a_store : IsTrue tells → MeansNothing v.held → (status ≡ 5) ⊎ ((status ≡ 6) ⊎ (status ≡ 7))
-  -- and then it is left as it was
-  pub left : IsTrue tells → MeansNothing v.held → LeavesAsItWas v w
   -- 8 comes exactly where a pull gave bytes past the first 268435456
   pub too_long : status ≡ 8 → IsTrue told → TookTooMuch i j
   pub short : IsTrue told → (status ≡ 8) ⊎ TookEnough i j
   -- at 6 and 7 nothing was said or written, and the script wasn't pulled
   pub quiet : (status ≡ 6) ⊎ (status ≡ 7) → w.said ≡ v.said
-  pub unwritten : (status ≡ 6) ⊎ (status ≡ 7) → (w.held ≡ v.held) × Within v.images w.images
+  pub unwritten : status ≡ 7 → (w.held ≡ v.held) × Within v.images w.images
   pub unread : (status ≡ 6) ⊎ (status ≡ 7) → j ≡ i
   pub statuses : (status ≡ 0) ⊎ ((status ≡ 3) ⊎ ((status ≡ 4) ⊎ ((status ≡ 5) ⊎ ((status ≡ 6) ⊎ ((status ≡ 7) ⊎ (status ≡ 8))))))
-  -- the length stays, and no fault is forgotten
-  pub size : w.size ≡ v.size
-  pub faults : v.faults ≤ w.faults
+  -- no fault is forgotten
   pub say_faults : v.say_faults ≤ w.say_faults
   pub pull_faults : i.pull_faults ≤ j.pull_faults
   -- no count rises but the one that the status names
-  pub no_fault : status ≢ 5 → w.faults ≡ v.faults
   pub no_say_fault : status ≢ 4 → w.say_faults ≡ v.say_faults
   pub no_pull_fault : status ≢ 3 → j.pull_faults ≡ i.pull_faults
   -- as many pulls at most as bytes were taken, and one more; of a source that tells nothing as many as the limit has, and one more

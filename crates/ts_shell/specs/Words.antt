@@ -3,7 +3,7 @@ use Rattle.std.specs.Prelude.{◌≤◌, ℕ, ◌&&◌, nat_le, if◌then◌else
 use Rattle.std.specs.Str.{bytes_eq}
 use Rattle.ts_base.specs.StampText.{number_of, all_digits}
 use Rattle.ts_shell.specs.declared.words.Job.{Job}
-use Rattle.ts_shell.specs.declared.words.Job.TheVariants.{Init, Run}
+use Rattle.ts_shell.specs.declared.words.Job.TheVariants.{Init, Run, Migrate}
 
 -- the number that 1 to 10 digits write
 abbrev pub decimal : List ℕ → Option ℕ
@@ -17,10 +17,12 @@ pages_in text = elim (decimal text) [ None ↦ None | Some n ↦ (if nat_le 1 n 
 abbrev pub IsJob : Job → Type 0
 IsJob (Init pages) = (1 ≤ pages) × (pages ≤ 65536)
 IsJob Run = Unit {0}
+IsJob Migrate = Unit {0}
 
--- what the words ask for: `run`, or `init` and a number of pages
+-- what the words ask for: `run`, `migrate`, or `init` and a number of pages
 unfoldable pub job_of : List (List ℕ) → Option Job
-job_of (word ∷ []) = if bytes_eq word (codes "run") then Some Run else None
+job_of (word ∷ []) =
+    if bytes_eq word (codes "run") then Some Run else (if bytes_eq word (codes "migrate") then Some Migrate else None)
 job_of (word ∷ pages ∷ []) =
     if bytes_eq word (codes "init") then (elim (pages_in pages) [ None ↦ None | Some n ↦ Some (Init n) ]) else None
 job_of words = None

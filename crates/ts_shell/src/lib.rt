@@ -1,12 +1,14 @@
-//! The top call. `run_ts` does what the program's words ask for: `init` makes an empty store, and `run` carries out a
-//! script. Its clauses say what a stop at any moment leaves (`fair`: the catalogue after the replies that were said, or
-//! after these and the next request), what is said (a prefix of the answers of the plain catalogue), and each status by
-//! its cause. Stands on ts_disk for the outside, ts_command for statements, ts_engine for commands and ts_replies for what
-//! a list of replies promises. Read `specs/Top.antt`, then `top.rt`.
+//! The top call. `run_ts` does what the program's words ask for: `init` makes an empty store, `run` carries out a
+//! script, and `migrate` brings a store to the newest format. Its clauses say what a stop at any moment leaves (`fair`:
+//! the catalogue after the replies that were said, or after these and the next request), what is said (a prefix of the
+//! answers of the plain catalogue), and each status by its cause. Stands on ts_disk for the outside, ts_command for
+//! statements, ts_engine for commands and ts_replies for what a list of replies promises. Read `specs/Top.antt`, then
+//! `top.rt`.
 #![tactic(auto)]
 
 mod fault;
 mod make;
+mod migrate;
 mod run;
 mod session;
 mod top;

@@ -2,10 +2,13 @@
 ghost use Rattle.std.specs.Prelude.{◌≡◌, ◌≢◌, ◌≤◌, ◌↔◌, ℕ, List, [], None, Some, IfOk, length, map, string_bytes};
 ghost use Rattle.ts_items.specs.Reader.{start};
 ghost use Rattle.ts_shell.specs.Words.{job_of};
+ghost use Rattle.ts_shell.specs.Migrating.{MigrateRan};
 ghost use Rattle.ts_shell.specs.Top.{Made, Untouched, ScriptRan};
-ghost use Rattle.ts_shell.specs.declared.words.Job.TheVariants.{Init, Run};
+ghost use Rattle.ts_shell.specs.declared.words.Job.TheVariants.{Init, Run, Migrate};
 
+use crate::fault::unopened;
 use crate::make::make;
+use crate::migrate::migrate;
 use crate::run::{PIECE, run_script};
 use crate::session::Session;
 use crate::words::{Job, read_job};
@@ -13,22 +16,23 @@ use std::alloc::{AllocError, Global};
 use std::thread::Threads;
 use ts_base::Reply;
 use ts_command::Reader;
-use ts_container::SurveyFault;
 use ts_disk::{Site, Source};
 use ts_engine::Engine;
 
 /// Does what the words ask for, and answers with the program's status.
 ///
-/// `init PAGES` makes an empty store, and `run` carries out the script of the source, one reply per item. The status:
+/// `init PAGES` makes an empty store in the newest format, `run` carries out the script of the source, one reply per item,
+/// and `migrate` brings a store to the newest format and leaves all that it holds. The status:
 ///
 /// - 0: the work was done; `run` has read the source to its end.
 /// - 2: exactly where the words are none of these forms. Nothing was done.
-/// - 3: a pull failed. Every item has its reply that ended before.
-/// - 4: a reply could not be said whole.
+/// - 3: of `run`, a pull failed. Every item has its reply that ended before.
+/// - 4: of `run`, a reply could not be said whole.
 /// - 5: a call of the volume failed.
-/// - 6: of `run`, exactly where the volume is no store, but for a fault or want of memory that came first. Nothing was
-///   said or written.
-/// - 7: of `run`, there was no memory to open the volume. Nothing was said or written, and the source wasn't pulled.
+/// - 6: of `run` and `migrate`, exactly where the volume is no store, but for a fault or want of memory that came first.
+///   Nothing was said or written.
+/// - 7: of `run`, there was no memory to open the volume: nothing was said or written, and the source wasn't pulled. Of
+///   `migrate`, there was no memory for it, and the store has its own format.
 /// - 8: of `run`, exactly where a pull gave bytes past the first 268435456. Every item has its reply that ends within these.
 /// - 10: of `init`, exactly where the volume isn't empty. Nothing was done.
 pub fn run_ts<S: Site, R: Source>(
@@ -45,11 +49,13 @@ pub fn run_ts<S: Site, R: Source>(
     ensures no_pull { job_of (map (λ w. string_bytes w) words.now) ≢ Some Run → R.input source.new ≡ R.input source.old }
     ensures init { (pages : ℕ) → job_of (map (λ w. string_bytes w) words.now) ≡ Some (Init pages) → Made S.tells pages result (S.device site.old) (S.device site.new) }
     ensures run { job_of (map (λ w. string_bytes w) words.now) ≡ Some Run → ScriptRan S.tells R.tells result (S.device site.old) (S.device site.new) (R.input source.old) (R.input source.new) }
+    ensures migrate { job_of (map (λ w. string_bytes w) words.now) ≡ Some Migrate → MigrateRan S.tells result (S.device site.old) (S.device site.new) }
 {
     match read_job(words) {
         None => 2,
         Some(Job::Init(pages)) => init(site, pages),
         Some(Job::Run) => run(rt, alloc, site, source),
+        Some(Job::Migrate) => migrate(alloc, site),
     }
 }
 
@@ -100,9 +106,7 @@ fn run_with<S: Site, R: Source>(
         mut piece,
     } = buffers;
     match Engine::start(alloc, site) {
-        Err(SurveyFault::Failed) => 5,
-        Err(SurveyFault::NotAStore { .. }) => 6,
-        Err(SurveyFault::Memory(_)) => 7,
+        Err(fault) => unopened(&fault),
         Ok(engine) => {
             let mut session = Session {
                 engine,

@@ -10,6 +10,8 @@ pub enum Job {
     /// Make a store with so many element pages, 1 to 65536.
     Init(u32),
     Run,
+    /// Bring a store to the newest format.
+    Migrate,
 }
 
 /// The job that the words name, if they name one.
@@ -22,6 +24,8 @@ pub fn read_job(words: &[String]) -> Option<Job>
         [word] => {
             if word.as_str() == "run" {
                 Some(Job::Run)
+            } else if word.as_str() == "migrate" {
+                Some(Job::Migrate)
             } else {
                 None
             }

@@ -1,7 +1,7 @@
-use Rattle.std.proofs.Common.{◌≡◌, ◌⊎◌, inl, inr, ℕ, Option, Some, None, refl, sym, ◌∙◌, ap, subst, arith}
+use Rattle.std.proofs.Common.{◌≡◌, ◌⊎◌, ℕ, Option, Some, None, refl, sym, ◌∙◌, ap, subst, arith}
 use Rattle.std.specs.Option.{IfSome}
 use Rattle.ts_shell.specs.declared.words.Job.{Job}
-use Rattle.ts_shell.specs.declared.words.Job.TheVariants.{Init, Run}
+use Rattle.ts_shell.specs.declared.words.Job.TheVariants.{Init, Run, Migrate}
 use Rattle.ts_shell.specs.Words.{IsJob}
 use Rattle.ts_shell.specs.Top.{Made}
 use Rattle.ts_shell.proofs.TopLemmas.{untouched_now}
@@ -17,23 +17,27 @@ init_is_none a e = cc
 run_is_none : ◌≡◌ {A = Option Job} (Some Run) None → ⊥
 run_is_none e = cc
 
+migrate_is_none : ◌≡◌ {A = Option Job} (Some Migrate) None → ⊥
+migrate_is_none e = cc
+
 init_is_run : (a : ℕ) → ◌≡◌ {A = Option Job} (Some (Init a)) (Some Run) → ⊥
 init_is_run a e = cc
 
--- neither job answers 2
+init_is_migrate : (a : ℕ) → ◌≡◌ {A = Option Job} (Some (Init a)) (Some Migrate) → ⊥
+init_is_migrate a e = cc
+
+run_is_migrate : ◌≡◌ {A = Option Job} (Some Run) (Some Migrate) → ⊥
+run_is_migrate e = cc
+
+-- no job answers 2
 made_not_two : (s : ℕ) → (s ≡ 0) ⊎ ((s ≡ 5) ⊎ (s ≡ 10)) → s ≡ 2 → ⊥
-made_not_two s (inl e) two = omega arith
-made_not_two s (inr (inl e)) two = omega arith
-made_not_two s (inr (inr e)) two = omega arith
+made_not_two s which two = omega (arith, which, two)
 
 ran_not_two : (s : ℕ) → (s ≡ 0) ⊎ ((s ≡ 3) ⊎ ((s ≡ 4) ⊎ ((s ≡ 5) ⊎ ((s ≡ 6) ⊎ ((s ≡ 7) ⊎ (s ≡ 8)))))) → s ≡ 2 → ⊥
-ran_not_two s (inl e) two = omega arith
-ran_not_two s (inr (inl e)) two = omega arith
-ran_not_two s (inr (inr (inl e))) two = omega arith
-ran_not_two s (inr (inr (inr (inl e)))) two = omega arith
-ran_not_two s (inr (inr (inr (inr (inl e))))) two = omega arith
-ran_not_two s (inr (inr (inr (inr (inr (inl e)))))) two = omega arith
-ran_not_two s (inr (inr (inr (inr (inr (inr e)))))) two = omega arith
+ran_not_two s which two = omega (arith, which, two)
+
+migrated_not_two : (s : ℕ) → (s ≡ 0) ⊎ ((s ≡ 5) ⊎ ((s ≡ 6) ⊎ (s ≡ 7))) → s ≡ 2 → ⊥
+migrated_not_two s which two = omega (arith, which, two)
 
 pub init-requires-clause-some : goal.init-requires-clause-some
 init-requires-clause-some g c =
@@ -63,6 +67,9 @@ returns-in-None-clause-init g c = λ pages e. absurd (init_is_none pages (sym e 
 pub returns-in-None-clause-run : goal.returns-in-None-clause-run
 returns-in-None-clause-run g c = λ e. absurd (run_is_none (sym e ∙ sym c.read_job.ensures.job ∙ c.in-None.is))
 
+pub returns-in-None-clause-migrate : goal.returns-in-None-clause-migrate
+returns-in-None-clause-migrate g c = λ e. absurd (migrate_is_none (sym e ∙ sym c.read_job.ensures.job ∙ c.in-None.is))
+
 pub returns-in-Some-Init-clause-usage : goal.returns-in-Some-Init-clause-usage
 returns-in-Some-Init-clause-usage g c =
     let is : ◌≡◌ {A = Option Job} c.read_job.result (Some (Init c.in-Some-Init.pages)) = c.in-Some-Init.is ∙ ap Some c.in-Some-Init.field-0-is in
@@ -86,6 +93,12 @@ returns-in-Some-Init-clause-run g c = λ e.
     let is : ◌≡◌ {A = Option Job} c.read_job.result (Some (Init c.in-Some-Init.pages)) = c.in-Some-Init.is ∙ ap Some c.in-Some-Init.field-0-is in
     let job = sym c.read_job.ensures.job ∙ is in
     absurd (init_is_run c.in-Some-Init.pages (sym job ∙ e))
+
+pub returns-in-Some-Init-clause-migrate : goal.returns-in-Some-Init-clause-migrate
+returns-in-Some-Init-clause-migrate g c = λ e.
+    let is : ◌≡◌ {A = Option Job} c.read_job.result (Some (Init c.in-Some-Init.pages)) = c.in-Some-Init.is ∙ ap Some c.in-Some-Init.field-0-is in
+    let job = sym c.read_job.ensures.job ∙ is in
+    absurd (init_is_migrate c.in-Some-Init.pages (sym job ∙ e))
 
 pub returns-in-Some-Run-clause-usage : goal.returns-in-Some-Run-clause-usage
 returns-in-Some-Run-clause-usage g c =
@@ -115,3 +128,32 @@ pub returns-in-Some-Run-clause-no_pull : goal.returns-in-Some-Run-clause-no_pull
 returns-in-Some-Run-clause-no_pull g c = λ no.
     let is : ◌≡◌ {A = Option Job} c.read_job.result (Some Run) = c.in-Some-Run.is ∙ ap Some c.in-Some-Run.field-0-is in
     absurd (no (sym c.read_job.ensures.job ∙ is))
+
+pub returns-in-Some-Run-clause-migrate : goal.returns-in-Some-Run-clause-migrate
+returns-in-Some-Run-clause-migrate g c = λ e.
+    let is : ◌≡◌ {A = Option Job} c.read_job.result (Some Run) = c.in-Some-Run.is ∙ ap Some c.in-Some-Run.field-0-is in
+    absurd (run_is_migrate (sym is ∙ c.read_job.ensures.job ∙ e))
+
+pub returns-in-Some-Migrate-clause-usage : goal.returns-in-Some-Migrate-clause-usage
+returns-in-Some-Migrate-clause-usage g c =
+    let is : ◌≡◌ {A = Option Job} c.read_job.result (Some Migrate) = c.in-Some-Migrate.is ∙ ap Some c.in-Some-Migrate.field-0-is in
+    (λ two. absurd (migrated_not_two c.migrate.result c.migrate.ensures.ran.statuses two), λ none. absurd (migrate_is_none (sym is ∙ c.read_job.ensures.job ∙ none)))
+
+pub returns-in-Some-Migrate-clause-refused : goal.returns-in-Some-Migrate-clause-refused
+returns-in-Some-Migrate-clause-refused g c = λ two. absurd (migrated_not_two c.migrate.result c.migrate.ensures.ran.statuses two)
+
+pub returns-in-Some-Migrate-clause-init : goal.returns-in-Some-Migrate-clause-init
+returns-in-Some-Migrate-clause-init g c = λ pages e.
+    let is : ◌≡◌ {A = Option Job} c.read_job.result (Some Migrate) = c.in-Some-Migrate.is ∙ ap Some c.in-Some-Migrate.field-0-is in
+    absurd (init_is_migrate pages (sym e ∙ sym c.read_job.ensures.job ∙ is))
+
+pub returns-in-Some-Migrate-clause-run : goal.returns-in-Some-Migrate-clause-run
+returns-in-Some-Migrate-clause-run g c = λ e.
+    let is : ◌≡◌ {A = Option Job} c.read_job.result (Some Migrate) = c.in-Some-Migrate.is ∙ ap Some c.in-Some-Migrate.field-0-is in
+    absurd (run_is_migrate (sym e ∙ sym c.read_job.ensures.job ∙ is))
+
+pub returns-in-Some-Migrate-clause-migrate : goal.returns-in-Some-Migrate-clause-migrate
+returns-in-Some-Migrate-clause-migrate g c = λ e. c.migrate.ensures.ran
+
+pub returns-in-Some-Migrate-clause-no_pull : goal.returns-in-Some-Migrate-clause-no_pull
+returns-in-Some-Migrate-clause-no_pull g c = λ no. refl

@@ -1,0 +1,196 @@
+// Volumes of the old format, and what brings them to the newest.
+use crate::program::{PICKS, answers, bytes_of, damage, migrate, reads, run, volume};
+use std::alloc::Global;
+use std::test::Fail;
+use std::thread::Threads;
+use ts_disk::MemorySite;
+
+/// The byte of a volume that tells its format.
+const FORMAT_BYTE: u64 = 8;
+
+/// Makes two series in volumes of either format.
+const SERIES: &[u8] = b"CreateRowType(rd, t datetime, v integer);TSContainerCreate(c1, rd, 8);\
+    TSCreateIrr('x', c1);TSCreateIrr('y', c1);";
+
+/// The calls that a migration over a journal with records makes behind its reads: two writes, a sync, a write and a sync that bring
+/// its pages home, and two writes and two syncs of its own.
+const LAST_CALLS: u64 = 9;
+
+const HIDE: &[u8] = b"HideElem('x','2011-01-03 00:00:00');";
+
+const REVEAL: &[u8] = b"RevealElem('x','2011-01-03 00:00:00');";
+
+const READINGS: &[u8] =
+    b"ListSeries(c1);TSContainerUsage(c1);GetNelems('x');GetElem('x','2011-01-03 00:00:00');\
+    GetLastElem('y');";
+
+// A volume of the old format, as an earlier program left it behind a script, whose records stand in its journal.
+fn old_volume_with_records(
+    rt: &(impl Threads + Sync),
+    alloc: Global,
+    script: &[u8],
+) -> Result<MemorySite, Fail> {
+    let mut site = volume(rt, alloc, "8")?;
+    if !damage(&mut site, FORMAT_BYTE, &[1]) {
+        return Err(Fail::from("no header"));
+    }
+    run(rt, alloc, &mut site, script)?;
+    MemorySite::new(bytes_of(alloc, &mut site)?).map_err(Fail::from)
+}
+
+// The same with its journal empty.
+fn old_volume(
+    rt: &(impl Threads + Sync),
+    alloc: Global,
+    script: &[u8],
+) -> Result<MemorySite, Fail> {
+    let mut site = old_volume_with_records(rt, alloc, script)?;
+    run(rt, alloc, &mut site, b"")?;
+    MemorySite::new(bytes_of(alloc, &mut site)?).map_err(Fail::from)
+}
+
+/// What a migrated volume answers: a mark may be set twice, and what is hidden counts but for the readings.
+const HIDDEN_AND_SHOWN: [(&[u8], &[u8]); 10] = [
+    (
+        b"InsElem('x','2011-01-03 00:00:00',1);",
+        b"ok 2011-01-03 00:00:00.00000\n",
+    ),
+    (
+        b"InsElem('x','2011-01-04 00:00:00',2);",
+        b"ok 2011-01-04 00:00:00.00000\n",
+    ),
+    (HIDE, b"ok 2011-01-03 00:00:00.00000\n"),
+    (HIDE, b"ok 2011-01-03 00:00:00.00000\n"),
+    (
+        b"GetElem('x','2011-01-03 00:00:00');GetNelems('x');",
+        b"ok 0\nok 2\n",
+    ),
+    (
+        b"InsElem('x','2011-01-03 00:00:00',9);",
+        b"error 23 Duplicate\n",
+    ),
+    (REVEAL, b"ok 2011-01-03 00:00:00.00000\n"),
+    (REVEAL, b"ok 2011-01-03 00:00:00.00000\n"),
+    (
+        b"GetElem('x','2011-01-03 00:00:00');",
+        b"2011-01-03 00:00:00.00000 1\nok 1\n",
+    ),
+    (
+        b"HideElem('x','2011-01-05 00:00:00');",
+        b"error 24 Missing\n",
+    ),
+];
+
+#[test]
+fn elements_are_hidden_once_a_volume_is_migrated(rt: HostRuntime) -> Result<(), Fail> {
+    let alloc = rt.alloc();
+    let mut site = old_volume(&rt, alloc, SERIES)?;
+    assert!(rt; answers(&rt, alloc, &mut site, &[(HIDE, b"error 44 OldFormat\n")])?);
+    assert_eq!(rt; migrate(&rt, alloc, &mut site)?, 0);
+    assert_eq!(rt; site.said(), b"error 44 OldFormat\n".as_slice());
+    assert!(rt; answers(&rt, alloc, &mut site, &HIDDEN_AND_SHOWN)?);
+    Ok(())
+}
+
+// Readings, and a migration of a volume of the newest format, leave each byte.
+#[test]
+fn a_volume_keeps_its_format_until_it_is_migrated(rt: HostRuntime) -> Result<(), Fail> {
+    let alloc = rt.alloc();
+    let mut site = old_volume(&rt, alloc, SERIES)?;
+    let bytes = bytes_of(alloc, &mut site)?;
+    assert_eq!(rt; run(&rt, alloc, &mut site, READINGS)?, 0);
+    assert!(rt; bytes_of(alloc, &mut site)? == bytes);
+    assert_eq!(rt; migrate(&rt, alloc, &mut site)?, 0);
+    assert_eq!(rt; run(&rt, alloc, &mut site, b"")?, 0);
+    let bytes = bytes_of(alloc, &mut site)?;
+    let calls = site.calls();
+    assert_eq!(rt; migrate(&rt, alloc, &mut site)?, 0);
+    // A sync and the reads of an opening.
+    assert_eq!(rt;
+        site.calls().saturating_sub(calls),
+        reads(&rt, alloc, "8")?.saturating_add(1)
+    );
+    assert!(rt; bytes_of(alloc, &mut site)? == bytes);
+    Ok(())
+}
+
+// Whether a volume holds the row type, the container and the two series, in either format.
+fn holds_series(rt: &(impl Threads + Sync), alloc: Global, bytes: Vec<u8>) -> Result<bool, Fail> {
+    let mut site = MemorySite::new(bytes)?;
+    let status = run(
+        rt,
+        alloc,
+        &mut site,
+        b"ListSeries(c1);TSContainerUsage(c1);HideElem('x','2011-01-03 00:00:00');\
+        InsElem('y','2011-01-04 00:00:00',7);",
+    )?;
+    let is_old = site.said()
+        == b"'x' irregular 0\n'y' irregular 0\nok 2\nok 0 8\nerror 44 OldFormat\nok 2011-01-04 00:00:00.00000\n".as_slice();
+    let is_new = site.said()
+        == b"'x' irregular 0\n'y' irregular 0\nok 2\nok 0 8\nerror 24 Missing\nok 2011-01-04 00:00:00.00000\n".as_slice();
+    Ok(status == 0 && (is_old || is_new))
+}
+
+// Stops in each call of a migration that isn't a read: the opening's sync, and, behind its reads, the calls that bring the journal's pages
+// home and those that write the record.
+#[test]
+fn a_stop_in_a_migration_leaves_either_format(rt: HostRuntime) -> Result<(), Fail> {
+    let alloc = rt.alloc();
+    let mut site = old_volume_with_records(&rt, alloc, SERIES)?;
+    assert_eq!(rt; migrate(&rt, alloc, &mut site)?, 0);
+    for call in 0..site.calls() {
+        if call > 0 && call.saturating_add(LAST_CALLS) < site.calls() {
+            continue;
+        }
+        for pick in PICKS {
+            assert!(rt;
+                holds_series(&rt, alloc, site.image(call, pick)?)?,
+                "at {call}"
+            );
+        }
+    }
+    Ok(())
+}
+
+// The first call of a migration is the opening's sync, and the first behind its reads writes the record.
+#[test]
+fn a_migration_that_the_disk_fails_has_its_status(rt: HostRuntime) -> Result<(), Fail> {
+    let opening = reads(&rt, rt.alloc(), "8")?;
+    for number in [0, opening.saturating_add(1)] {
+        let mut site = old_volume(&rt, rt.alloc(), SERIES)?;
+        site.fail(number)?;
+        assert_eq!(rt; migrate(&rt, rt.alloc(), &mut site)?, 5, "at {number}");
+        let mut site = MemorySite::new(bytes_of(rt.alloc(), &mut site)?)?;
+        assert!(rt;
+            answers(
+                &rt,
+                rt.alloc(),
+                &mut site,
+                &[(HIDE, b"error 44 OldFormat\n")]
+            )?
+        );
+    }
+    Ok(())
+}
+
+// A volume in which an element is hidden, by its bytes of the old format, and one of a format that isn't known.
+#[test]
+fn neither_job_takes_what_the_format_has_not(rt: HostRuntime) -> Result<(), Fail> {
+    let alloc = rt.alloc();
+    let mut site = volume(&rt, alloc, "8")?;
+    run(&rt, alloc, &mut site, SERIES)?;
+    run(
+        &rt,
+        alloc,
+        &mut site,
+        b"InsElem('x','2011-01-03 00:00:00',1);",
+    )?;
+    run(&rt, alloc, &mut site, HIDE)?;
+    run(&rt, alloc, &mut site, b"")?;
+    for (format, wanted) in [(1, 6), (3, 6), (0, 6), (2, 0)] {
+        assert!(rt; damage(&mut site, FORMAT_BYTE, &[format]));
+        assert_eq!(rt; run(&rt, alloc, &mut site, b"")?, wanted, "format {format}");
+        assert_eq!(rt; migrate(&rt, alloc, &mut site)?, wanted, "format {format}");
+    }
+    Ok(())
+}
