@@ -1,0 +1,7 @@
+pub mod ListLemmas
+pub mod EndLemmas
+pub mod GrammarLemmas
+pub mod BindLemmas
+pub mod FoldLemmas
+pub mod SumsLemmas
+pub mod TextLemmas

@@ -1,0 +1,7 @@
+pub mod Answer
+pub mod Grammar
+pub mod Spelling
+pub mod Binding
+pub mod Fold
+pub mod Sums
+pub mod Running

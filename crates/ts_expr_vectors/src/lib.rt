@@ -1,0 +1,13 @@
+//! Worked aggregate lists: their texts with the places of refusals, what they are bound to, and what they make of rows.
+//! There are only tests: they stand apart, since a crate that has tests of its own is proved twice. Stands on ts_expr,
+//! ts_row and ts_base. Read `texts.rt`, `bindings.rt`, then `folds.rt`.
+#![tactic(auto)]
+
+#[cfg(test)]
+mod bindings;
+#[cfg(test)]
+mod folds;
+#[cfg(test)]
+mod made;
+#[cfg(test)]
+mod texts;
