@@ -1,0 +1,95 @@
+// A page goes together with its neighbour.
+ghost use Rattle.std.specs.Prelude.{◌≡◌, ◌+◌, ◌<◌, ◌≤◌, Contains, IsTrue, IfOk, OnOk, List, ◌++◌, length, drop};
+ghost use Rattle.ts_page.specs.Pages.{Answered, EqualPages, IsElementPage, with_page};
+ghost use Rattle.ts_row.specs.Element.{Element};
+ghost use Rattle.ts_cells.specs.Cell.{page_room};
+ghost use Rattle.ts_cells.specs.IrregularPage.{AreElements, behind_head, irregular_page};
+ghost use Rattle.ts_irregular.specs.OnePage.{IsOn};
+ghost use Rattle.ts_irregular.specs.Call.{Reads};
+ghost use Rattle.ts_chain.specs.Places.{CanBeRead};
+
+use crate::page::append_page;
+use ts_base::StoreFault;
+use ts_irregular::count_taken;
+use ts_page::{Page, Pages};
+use ts_row::Shelf;
+use ts_space::Place;
+
+/// Puts the elements of the page before in front of those of a page, and gives how many it has then. That page is read alone; one that
+/// disagrees with its place is taken as a page without elements.
+pub(crate) fn join_before<P: Pages>(
+    pages: &mut P,
+    page: &mut Page,
+    shelf: &Shelf,
+    before: &Place,
+    count: usize,
+) -> Result<usize, StoreFault>
+    requires readable { CanBeRead (P.contents pages.old) before.now }
+    requires room { before.now.count + count ≤ page_room shelf.now.kind.now.columns }
+    ensures joined { IfOk result (λ all. IsTrue P.tells → (es fs : List Element)
+        → IsOn shelf.now.series shelf.now.kind.now.columns ((P.contents pages.old).page before.now.page) before.now es
+        → AreElements shelf.now.kind.now.columns fs → length fs ≡ count → drop 32 page.old.bytes ≡ behind_head shelf.now.kind.now.columns fs
+        → (all ≡ before.now.count + count) × (page.new.bytes ≡ irregular_page shelf.now.series shelf.now.kind.now.columns (es ++ fs))) }
+    ensures least { IfOk result (λ all. count ≤ all) }
+    ensures most { IfOk result (λ all. all ≤ before.now.count + count) }
+    ensures call { Reads P.tells result (P.contents pages.old) (P.contents pages.new) }
+    ensures undisturbed { P.undisturbed pages.old pages.new }
+{
+    let mut all = Page::zero();
+    pages.get(before.page, &mut all)?;
+    let own = count_taken(shelf, before, &mut all);
+    append_page(shelf, &mut all, own, page, count);
+    *page = all;
+    Ok(own + count)
+}
+
+/// Puts those of the page behind after them.
+pub(crate) fn join_behind<P: Pages>(
+    pages: &mut P,
+    page: &mut Page,
+    shelf: &Shelf,
+    behind: &Place,
+    count: usize,
+) -> Result<usize, StoreFault>
+    requires readable { CanBeRead (P.contents pages.old) behind.now }
+    requires room { count + behind.now.count ≤ page_room shelf.now.kind.now.columns }
+    ensures joined { IfOk result (λ all. IsTrue P.tells → (fs es : List Element)
+        → IsOn shelf.now.series shelf.now.kind.now.columns ((P.contents pages.old).page behind.now.page) behind.now es
+        → AreElements shelf.now.kind.now.columns fs → length fs ≡ count → drop 32 page.old.bytes ≡ behind_head shelf.now.kind.now.columns fs
+        → (all ≡ count + behind.now.count) × (page.new.bytes ≡ irregular_page shelf.now.series shelf.now.kind.now.columns (fs ++ es))) }
+    ensures least { IfOk result (λ all. count ≤ all) }
+    ensures most { IfOk result (λ all. all ≤ count + behind.now.count) }
+    ensures call { Reads P.tells result (P.contents pages.old) (P.contents pages.new) }
+    ensures undisturbed { P.undisturbed pages.old pages.new }
+{
+    let mut others = Page::zero();
+    pages.get(behind.page, &mut others)?;
+    let own = count_taken(shelf, behind, &mut others);
+    append_page(shelf, page, count, &others, own);
+    Ok(count + own)
+}
+
+/// Puts two pages, one after the other.
+pub(crate) fn put_two<P: Pages>(
+    pages: &mut P,
+    first: u32,
+    page: &Page,
+    second: u32,
+    others: &Page,
+) -> Result<(), StoreFault>
+    requires first_element { IsElementPage first }
+    requires second_element { IsElementPage second }
+    requires first_below { first < (P.contents pages.old).count }
+    requires second_below { second < (P.contents pages.old).count }
+    requires first_used { ¬ Contains (P.contents pages.old).free first }
+    requires second_used { ¬ Contains (P.contents pages.old).free second }
+    ensures put { OnOk result (IsTrue P.tells →
+        EqualPages (with_page second others.now.bytes (with_page first page.now.bytes (P.contents pages.old).page)) (P.contents pages.new).page) }
+    ensures free { (P.contents pages.new).free ≡ (P.contents pages.old).free }
+    ensures call { Answered result (P.contents pages.old) (P.contents pages.new) }
+    ensures change { (P.contents pages.new).change_bytes ≤ (P.contents pages.old).change_bytes + 8202 }
+    ensures undisturbed { P.undisturbed pages.old pages.new }
+{
+    pages.put(first, page)?;
+    pages.put(second, others)
+}
