@@ -1,10 +1,10 @@
 -- The lists behind a directory: what a change of one of them leaves.
-use Rattle.std.proofs.Common.{◌≡◌, ℕ, zero, suc, replicate, ◌+◌, ◌-◌, ◌*◌, ◌^◌, ◌<◌, ◌≤◌, List, [], length, get_or, set, map, All, sum_by, vec_len, vec_capacity, Vec, Global, refl, ap, sym, ◌∙◌, arith, subst, length-set}
+use Rattle.std.proofs.Common.{◌≡◌, ℕ, zero, suc, replicate, ◌+◌, ◌-◌, ◌*◌, ◌^◌, ◌<◌, ◌≤◌, List, [], ◌∷◌, length, get_or, set, map, All, sum_by, vec_len, vec_capacity, Vec, Global, refl, ap, sym, ◌∙◌, arith, subst, length-set}
 use Rattle.std.proofs.lemmas.List.{length-map, get_or-map, get_or-set_same, set-get_or, map-set}
 use Rattle.std.proofs.lemmas.List.Elements.{All-set, All-get_or, All-map}
 use Rattle.std.proofs.lemmas.List.Sums.{sum_by-cons, sum_by-set, sum_by-le, get_or-le-sum_by}
 use Rattle.ts_space.specs.declared.place.Place.{Place}
-use Rattle.ts_space.specs.Place.{IsRising}
+use Rattle.ts_space.specs.Place.{IsRising, kept_count}
 use Rattle.ts_space.specs.Directory.{Directory, IsDirectory, ChangesOnly, places_of, spare_of, capacity_of, used_of}
 
 abbrev pub Lists : Type 0
@@ -20,7 +20,7 @@ free_of list = vec_capacity list - vec_len list
 abbrev pub directory : Lists → Directory
 directory vs = record { lists = map items_of vs; spares = map free_of vs }
 
-pub slots : (vs : Lists) (n : ℕ) → IsDirectory (map items_of vs) n → length vs ≡ 4096
+pub slots : {cs : List ℕ} (vs : Lists) (n : ℕ) → IsDirectory (map items_of vs) cs n → length vs ≡ 4096
 slots vs n is = sym (length-map vs items_of) ∙ is.slots
 
 -- the list of one slot
@@ -30,7 +30,7 @@ places_read vs i d within = get_or-map items_of vs i d [] within
 pub spare_read : (vs : Lists) (i : ℕ) (d : Vec Place Global) → i < length vs → spare_of i (directory vs) ≡ free_of (get_or vs i d)
 spare_read vs i d within = get_or-map free_of vs i d 0 within
 
-pub rising_read : (vs : Lists) (i n : ℕ) (d : Vec Place Global) → IsDirectory (map items_of vs) n → i < length vs → IsRising (get_or vs i d).items
+pub rising_read : {cs : List ℕ} (vs : Lists) (i n : ℕ) (d : Vec Place Global) → IsDirectory (map items_of vs) cs n → i < length vs → IsRising (get_or vs i d).items
 rising_read vs i n d is within =
     subst IsRising (places_read vs i d within) (All-get_or IsRising (map items_of vs) i [] (omega (arith, within, length-map vs items_of)) is.rising)
 
@@ -58,7 +58,7 @@ changes_set vs i w within = record {
 }
 
 -- how many places it had is part of the whole
-pub count_read : (vs : Lists) (i n : ℕ) (old : Vec Place Global) → IsDirectory (map items_of vs) n → i < length vs → old ≡ get_or vs i old → vec_len old ≤ n
+pub count_read : {cs : List ℕ} (vs : Lists) (i n : ℕ) (old : Vec Place Global) → IsDirectory (map items_of vs) cs n → i < length vs → old ≡ get_or vs i old → vec_len old ≤ n
 count_read vs i n old is within here =
     let part = get_or-le-sum_by length (map items_of vs) i [] (omega (arith, within, length-map vs items_of)) in
     let same : length (get_or (map items_of vs) i []) ≡ length old.items = ap length (places_read vs i old within ∙ sym (ap items_of here)) in
@@ -66,11 +66,28 @@ count_read vs i n old is within here =
     let known = old.ok.0 in
     omega (arith, part, same, total, known)
 
-pub directory_set : (vs : Lists) (i n : ℕ) (old w : Vec Place Global) → IsDirectory (map items_of vs) n → i < length vs → old ≡ get_or vs i old → IsRising w.items
-    → IsDirectory (map items_of (set vs i w)) (n - vec_len old + vec_len w)
-directory_set vs i n old w is within here rising = record {
+-- what is kept of the counts
+pub counts_set : {cs : List ℕ} (vs : Lists) (i k : ℕ) (w : Vec Place Global) → cs ≡ map kept_count (map items_of vs) → k ≡ kept_count w.items
+    → set cs i k ≡ map kept_count (map items_of (set vs i w))
+counts_set vs i k w counts kept =
+    ap (λ (l : List ℕ). set l i k) counts ∙ ap (set (map kept_count (map items_of vs)) i) kept
+    ∙ sym (map-set kept_count (map items_of vs) i w.items) ∙ ap (map kept_count) (sym (map-set items_of vs i w))
+
+-- of one list
+pub count_kept : {cs : List ℕ} (vs : Lists) (i n d : ℕ) (old : Vec Place Global) → IsDirectory (map items_of vs) cs n → i < length vs → old ≡ get_or vs i old → get_or cs i d ≡ kept_count old.items
+count_kept vs i n d old is within here =
+    ap (λ (l : List ℕ). get_or l i d) is.counts_are ∙ get_or-map kept_count (map items_of vs) i [] d (omega (arith, within, length-map vs items_of))
+    ∙ ap kept_count (places_read vs i old within ∙ sym (ap items_of here))
+
+pub counts_long : {cs : List ℕ} (vs : Lists) (n : ℕ) → IsDirectory (map items_of vs) cs n → length cs ≡ 4096
+counts_long vs n is = ap length is.counts_are ∙ length-map (map items_of vs) kept_count ∙ is.slots
+
+pub directory_set : {cs : List ℕ} (vs : Lists) (i n k : ℕ) (old w : Vec Place Global) → IsDirectory (map items_of vs) cs n → i < length vs → old ≡ get_or vs i old → IsRising w.items
+    → k ≡ kept_count w.items → IsDirectory (map items_of (set vs i w)) (set cs i k) (n - vec_len old + vec_len w)
+directory_set vs i n k old w is within here rising kept = record {
   slots = length-map (set vs i w) items_of ∙ length-set vs i w ∙ slots vs n is;
   rising = subst (All IsRising) (sym (map-set items_of vs i w)) (All-set IsRising (map items_of vs) i w.items rising is.rising);
+  counts_are = counts_set vs i k w is.counts_are kept;
   used =
       let same : length (get_or (map items_of vs) i []) ≡ length old.items = ap length (places_read vs i old within ∙ sym (ap items_of here)) in
       let changed = sum_by-set length (map items_of vs) i w.items [] (omega (arith, within, length-map vs items_of)) in
@@ -83,7 +100,7 @@ directory_set vs i n old w is within here rising = record {
 }
 
 -- the whole number of places fits 128 bits
-pub count_fits : (vs : Lists) (n : ℕ) → IsDirectory (map items_of vs) n → n ≤ 4096 * 2 ^ 64
+pub count_fits : {cs : List ℕ} (vs : Lists) (n : ℕ) → IsDirectory (map items_of vs) cs n → n ≤ 4096 * 2 ^ 64
 count_fits vs n is =
     let each : All (λ (l : List Place). length l ≤ 2 ^ 64) (map items_of vs) = All-map (λ (l : List Place). length l ≤ 2 ^ 64) items_of vs (λ k d within. let v = get_or vs k d in let known = v.ok.0 in let few = v.small in omega (arith, known, few)) in
     let bound = sum_by-le length (2 ^ 64) (map items_of vs) each in
@@ -103,7 +120,7 @@ capacity_set vs i old w within here same =
     omega (arith, new_count, old_count, new_spare, old_spare, k, l, m, n, same)
 
 -- the same at what an index gave
-pub old_rising : (vs : Lists) (i n : ℕ) (old : Vec Place Global) → IsDirectory (map items_of vs) n → i < length vs → old ≡ get_or vs i old → IsRising old.items
+pub old_rising : {cs : List ℕ} (vs : Lists) (i n : ℕ) (old : Vec Place Global) → IsDirectory (map items_of vs) cs n → i < length vs → old ≡ get_or vs i old → IsRising old.items
 old_rising vs i n old is within here = subst (λ (v : Vec Place Global). IsRising v.items) (sym here) (rising_read vs i n old is within)
 
 pub old_places : (vs : Lists) (i : ℕ) (old : Vec Place Global) → i < length vs → old ≡ get_or vs i old → places_of i (directory vs) ≡ old.items
@@ -132,6 +149,11 @@ spare_left vs i old w within here same =
     let before = old_spare vs i old within here in
     let k = w.ok.0 in let l = old.ok.0 in let m = w.ok.1 in let n = old.ok.1 in
     omega (arith, new_spare, before, k, l, m, n, same)
+
+-- what no list has
+pub counts_none : (n : ℕ) → replicate n 0 ≡ map kept_count (replicate n [])
+counts_none zero = refl
+counts_none (suc n) = ap (λ (l : List ℕ). 0 ∷ l) (counts_none n)
 
 -- a directory without places
 pub used_none : (n : ℕ) → sum_by (λ (l : List Place). length l) (replicate n []) ≡ 0

@@ -1,8 +1,8 @@
 -- A rising list of places: where one stands, and what a put or a drop leaves.
-use Rattle.std.proofs.Common.{◌≡◌, ℕ, zero, suc, ◌+◌, ◌<◌, ◌≤◌, Bool, true, false, cond, not, Option, Some, None, List, [], ◌∷◌, ◌++◌, length, get_or, set, refl, ap, sym, ◌∙◌, arith, subst, ℤ, pos, ◌<ℤ◌, ◌≤ℤ◌, to_z, of_z, w64, SFits, ◌≢◌, is_some, Ok, Err, Result}
+use Rattle.std.proofs.Common.{inl, inr, ◌≡◌, ℕ, zero, suc, ◌+◌, ◌<◌, ◌≤◌, Bool, true, false, cond, not, Option, Some, None, List, [], ◌∷◌, ◌++◌, length, get_or, set, refl, ap, sym, ◌∙◌, arith, subst, ℤ, pos, ◌<ℤ◌, ◌≤ℤ◌, to_z, of_z, w64, SFits, ◌≢◌, is_some, Ok, Err, Result}
 use Rattle.std.specs.Prelude.{int_lt}
 use Rattle.std.specs.Ordering.{int_eq}
-use Rattle.std.proofs.lemmas.Option.{slice_get-get_or}
+use Rattle.std.proofs.lemmas.Option.{slice_get_cases, slice_get-get_or}
 use Rattle.std.specs.List.{slice_get, filter, insert, remove}
 use Rattle.std.proofs.lemmas.Bool.{cond_both}
 use Rattle.std.proofs.lemmas.Int.{by_lt_z, ints, to_z-of_z}
@@ -230,6 +230,13 @@ search_err at ps i e = picked (is_some (place_at at ps)) (rank_of at ps) e
     picked : (b : Bool) (r : ℕ) → cond b (Ok r) (Err r) ≡ Err i → (b ≡ false) × (i ≡ r)
     picked false r e = (refl, cc)
     picked true r e = absurd (cc)
+
+-- what a search found stands in the list
+pub found_below : (ps : List Place) (at : ℤ) (i : ℕ) → slice_get ps i ≡ place_at at ps → is_some (place_at at ps) ≡ true → i < length ps
+found_below ps at i read found = elim (slice_get_cases ps i).1 [
+  | inl there ↦ there.1
+  | inr none ↦ absurd (let past = none.1 in cc)
+]
 
 pub same_read : (a b : ℤ) → SFits w64 a → SFits w64 b → of_z w64 a ≡ of_z w64 b → a ≡ b
 same_read a b f g e = sym (to_z-of_z w64 a f) ∙ ap (to_z w64) e ∙ to_z-of_z w64 b g

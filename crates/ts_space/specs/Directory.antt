@@ -1,7 +1,7 @@
 -- The directory: for each series, by its slot, the list of its places.
-use Rattle.std.specs.Prelude.{◌≡◌, ℕ, ◌+◌, List, [], length, slice_index, slice_index_or, slice_set, All, sum_by}
+use Rattle.std.specs.Prelude.{◌≡◌, ℕ, ◌+◌, List, [], length, map, slice_index, slice_index_or, slice_set, All, sum_by}
 use Rattle.ts_space.specs.declared.place.Place.{Place}
-use Rattle.ts_space.specs.Place.{IsRising}
+use Rattle.ts_space.specs.Place.{IsRising, kept_count}
 
 -- what contracts see of a space: the places of each series, and how many more its list takes without memory
 pub record Directory : Type 0 where
@@ -24,10 +24,11 @@ capacity_of series space = length (places_of series space) + spare_of series spa
 abbrev pub used_of : Directory → ℕ
 used_of space = sum_by length space.lists
 
--- one list for each of the 4096 slots, each rising, and their number of places
-pub record IsDirectory (lists : List (List Place)) (total : ℕ) : Type 0 where
+-- one list for each of the 4096 slots, each rising, with how many elements each has and how many places all have
+pub record IsDirectory (lists : List (List Place)) (counts : List ℕ) (total : ℕ) : Type 0 where
   pub slots : length lists ≡ 4096
   pub rising : All IsRising lists
+  pub counts_are : counts ≡ map kept_count lists
   pub used : total ≡ sum_by length lists
 
 -- the list of no other series changes, nor its memory; and the number of all places as that of the one list

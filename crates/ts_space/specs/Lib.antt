@@ -1,3 +1,4 @@
 pub mod Place
 pub mod Directory
 pub mod Charge
+pub mod Moved

@@ -1,5 +1,5 @@
 -- The places of one series: the pages that hold its elements, rising in where they begin.
-use Rattle.std.specs.Prelude.{ℕ, suc, ℤ, ◌<ℤ◌, Bool, not, int_lt, Option, is_some, Result, Ok, Err, if◌then◌else◌, List, [], ◌∷◌, ◌++◌, filter, find, length, sum_by}
+use Rattle.std.specs.Prelude.{ℕ, suc, ◌%◌, ◌^◌, ℤ, ◌<ℤ◌, Bool, not, int_lt, Option, is_some, Result, Ok, Err, if◌then◌else◌, List, [], ◌∷◌, ◌++◌, filter, find, length, map, sum_by}
 use Rattle.std.specs.Ordering.{int_eq}
 use Rattle.ts_space.specs.declared.place.Place.{Place}
 
@@ -54,6 +54,14 @@ drop_place at = filter (λ place. not (begins_at at place))
 -- how many elements the pages of these places hold together
 abbrev pub count_of : List Place → ℕ
 count_of = sum_by (λ place. place.count)
+
+-- the same, as a counter of 64 bits has it
+abbrev pub kept_count : List Place → ℕ
+kept_count places = count_of places % 2 ^ 64
+
+-- the numbers of the pages
+abbrev pub pages_of : List Place → List ℕ
+pages_of places = map (λ place. place.page) places
 
 -- the place of a page with these elements, each a stamp and something more: its first stamp, its number and how many it has;
 -- none where it has none

@@ -6,6 +6,7 @@
 
 mod charge;
 mod laws;
+mod moved;
 mod place;
 mod space;
 
@@ -14,5 +15,6 @@ pub use laws::{
     a_chain_is_within_its_charge, a_drop_takes_out_one_place, a_put_changes_one_place,
     more_elements_cost_no_less, places_are_edited_where_they_stand,
 };
+pub use moved::{Come, Moved};
 pub use place::{Place, count_of, search};
 pub use space::Space;

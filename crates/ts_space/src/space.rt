@@ -1,9 +1,11 @@
 // The directory.
 ghost use Rattle.std.specs.Prelude.{◌≡◌, ◌+◌, ◌-◌, ◌^◌, ◌<◌, ◌≤◌, [], None, length, replicate, IfOk, OnOk, OnErr, vec_len, vec_capacity};
-ghost use Rattle.ts_space.specs.Place.{IsRising, place_at, put_place, drop_place};
+ghost use Rattle.ts_space.specs.Place.{IsRising, place_at, put_place, drop_place, count_of};
+ghost use Rattle.ts_space.specs.Moved.{moved_to};
 ghost use Rattle.ts_space.specs.Directory.{Directory, places_of, spare_of, capacity_of, used_of, ChangesOnly};
 
-use crate::place::{Place, drop_at, put};
+use crate::moved::{Moved, exchange};
+use crate::place::{Place, counted, drop_at, put};
 use std::alloc::{AllocError, Global};
 use std::marker::Model;
 
@@ -14,6 +16,9 @@ const SLOTS: usize = 4096;
 pub struct Space {
     alloc: Global,
     lists: Vec<Vec<Place>>,
+    /// How many elements each list has by its places: kept with each change, so that no walk counts
+    /// them.
+    counts: Vec<u64>,
     /// How many places all lists have together.
     used: u128,
 }
@@ -26,7 +31,7 @@ impl Model for Space {
 
     ghost view = { λ s. record { lists = map (λ list. list.items) s.lists.items; spares = map (λ list. vec_capacity list - vec_len list) s.lists.items } };
 
-    ghost invariant = { λ s. IsDirectory (map (λ list. list.items) s.lists.items) s.used };
+    ghost invariant = { λ s. IsDirectory (map (λ list. list.items) s.lists.items) s.counts.items s.used };
 }
 
 impl Space {
@@ -36,12 +41,14 @@ impl Space {
         ensures used { IfOk result (λ space. used_of space ≡ 0) }
     {
         let mut lists = Vec::with_capacity(alloc, SLOTS)?;
+        let counts = vec![in alloc; 0; SLOTS]?;
         for _slot in 0..SLOTS {
             lists.push(Vec::new(alloc))?;
         }
         Ok(Space {
             alloc,
             lists,
+            counts,
             used: 0,
         })
     }
@@ -77,11 +84,14 @@ impl Space {
         ensures memory { capacity_of series self.new ≡ capacity_of series self.old }
         ensures spare { spare_of series self.old ≤ spare_of series self.new + 1 }
     {
-        let places = &mut self.lists[series as usize];
+        let slot = series as usize;
+        let count = self.counts[slot];
+        let places = &mut self.lists[slot];
         let before = places.len();
-        put(places, place);
+        let count = put(places, place, count);
         let after = places.len();
         self.used = self.used - before as u128 + after as u128;
+        self.counts[slot] = count;
     }
 
     /// Drops the place of a series that begins at `at`, if one does.
@@ -92,11 +102,43 @@ impl Space {
         ensures memory { capacity_of series self.new ≡ capacity_of series self.old }
         ensures spare { spare_of series self.old ≤ spare_of series self.new }
     {
-        let list = &mut self.lists[series as usize];
+        let slot = series as usize;
+        let count = self.counts[slot];
+        let list = &mut self.lists[slot];
         let before = list.len();
-        drop_at(list, at);
+        let count = drop_at(list, at, count);
         let after = list.len();
         self.used = self.used - before as u128 + after as u128;
+        self.counts[slot] = count;
+    }
+
+    /// Makes a change of the places of a series.
+    pub fn splice(&mut self, series: u16, moved: &Moved)
+        requires slot { series < 4096 }
+        requires rising { IsRising (moved_to moved.now (places_of series self.old)) }
+        requires room { 2 ≤ spare_of series self.old }
+        ensures ok { places_of series self.new ≡ moved_to moved.now (places_of series self.old) }
+        ensures others { ChangesOnly series self.old self.new }
+        ensures memory { capacity_of series self.new ≡ capacity_of series self.old }
+        ensures spare { spare_of series self.old ≤ spare_of series self.new + 2 }
+    {
+        let slot = series as usize;
+        let count = self.counts[slot];
+        let list = &mut self.lists[slot];
+        let before = list.len();
+        let count = exchange(list, moved, count);
+        let after = list.len();
+        self.used = self.used - before as u128 + after as u128;
+        self.counts[slot] = count;
+    }
+
+    /// How many elements a series has, by its places. Kept, not counted.
+    pub fn count(&self, series: u16) -> u64
+        requires slot { series < 4096 }
+        requires bound { count_of (places_of series self.now) < 2 ^ 64 }
+        ensures { result ≡ count_of (places_of series self.now) }
+    {
+        self.counts[series as usize]
     }
 
     /// How many places all series have together.
@@ -124,10 +166,13 @@ impl Space {
         ensures spare { spare_of series self.new ≡ vec_capacity places - vec_len places }
         ensures others { ChangesOnly series self.old self.new }
     {
-        let kept = &mut self.lists[series as usize];
+        let slot = series as usize;
+        let kept = &mut self.lists[slot];
         let before = kept.len();
         let after = places.len();
+        let count = counted(&places);
         *kept = places;
         self.used = self.used - before as u128 + after as u128;
+        self.counts[slot] = count;
     }
 }

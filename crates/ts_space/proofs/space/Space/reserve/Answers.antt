@@ -10,7 +10,7 @@ invariant_of-self c =
     let vs = c.self.inside.lists.items in
     let within : c.args.series < length vs = omega (arith, slots vs c.self.inside.used c.self.invariant) in
     let same = same_lists vs c.args.series c.index_mut.result.now c.reserve.new.self within c.index_mut.ensures.value c.reserve.ensures.items in
-    subst (λ (lists : List (List Place)). IsDirectory lists c.self.inside.used) (sym same) c.self.invariant
+    subst (λ (lists : List (List Place)). IsDirectory lists c.self.inside.counts.items c.self.inside.used) (sym same) c.self.invariant
 
 pub returns-clause-ok : goal.returns-clause-ok
 returns-clause-ok c =

@@ -1,4 +1,5 @@
-use Rattle.std.proofs.Common.{◌<◌, length, set, arith, subst}
+use Rattle.std.proofs.Common.{◌<◌, ◌∙◌, length, set, ap, arith, subst}
+use Rattle.ts_space.specs.Place.{kept_count}
 use Rattle.ts_space.specs.Directory.{Directory, ChangesOnly}
 use Rattle.ts_space.proofs.DirectoryLemmas.{slots, count_read, places_set, spare_set, changes_set, directory_set, count_fits, directory}
 use Rattle.ts_space.proofs.space.Space.restore.Goals as goal
@@ -19,7 +20,8 @@ invariant_of-self c =
     let n = c.self.inside.used in
     let within : c.args.series < length vs = omega (arith, slots vs n c.self.invariant) in
     rw (c.len-before.ensures, c.len-after.ensures)
-    (directory_set vs c.args.series n c.index_mut-kept.result.now c.args.places c.self.invariant within c.index_mut-kept.ensures.value c.requires.rising)
+    (directory_set vs c.args.series n c.counted-count.result c.index_mut-kept.result.now c.args.places c.self.invariant within c.index_mut-kept.ensures.value c.requires.rising
+    (c.counted-count.ensures ∙ ap kept_count c.deref.ensures.value))
 
 pub returns-clause-ok : goal.returns-clause-ok
 returns-clause-ok c =

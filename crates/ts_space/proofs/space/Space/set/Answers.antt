@@ -17,7 +17,7 @@ invariant_of-self c =
     let value = c.index_mut-places.ensures.value in
     let rising = put_rising old.items c.args.place (old_rising vs c.args.series n old c.self.invariant within value) in
     rw (c.len-before.ensures, c.len-after.ensures)
-    (directory_set vs c.args.series n old c.put.new.list c.self.invariant within value (subst IsRising (sym c.put.ensures.ok) rising))
+    (directory_set vs c.args.series n c.put-count.result old c.put-count.new.list c.self.invariant within value (subst IsRising (sym c.put-count.ensures.ok) rising) c.put-count.ensures.count)
 
 pub returns-clause-ok : goal.returns-clause-ok
 returns-clause-ok c =
@@ -25,21 +25,21 @@ returns-clause-ok c =
     let old = c.index_mut-places.result.now in
     let within : c.args.series < length vs = omega (arith, slots vs c.self.inside.used c.self.invariant) in
     let before = sym (old_places vs c.args.series old within c.index_mut-places.ensures.value) ∙ ap (places_of c.args.series) c.self.view_is in
-    places_set vs c.args.series c.put.new.list within ∙ c.put.ensures.ok ∙ ap (put_place c.args.place) before
+    places_set vs c.args.series c.put-count.new.list within ∙ c.put-count.ensures.ok ∙ ap (put_place c.args.place) before
 
 pub returns-clause-others : goal.returns-clause-others
 returns-clause-others c =
     let vs = c.self.inside.lists.items in
     let within : c.args.series < length vs = omega (arith, slots vs c.self.inside.used c.self.invariant) in
-    let new : Directory = directory (set vs c.args.series c.put.new.list) in
-    subst (λ (old : Directory). ChangesOnly c.args.series old new) c.self.view_is (changes_set vs c.args.series c.put.new.list within)
+    let new : Directory = directory (set vs c.args.series c.put-count.new.list) in
+    subst (λ (old : Directory). ChangesOnly c.args.series old new) c.self.view_is (changes_set vs c.args.series c.put-count.new.list within)
 
 pub returns-clause-memory : goal.returns-clause-memory
 returns-clause-memory c =
     let vs = c.self.inside.lists.items in
     let old = c.index_mut-places.result.now in
     let within : c.args.series < length vs = omega (arith, slots vs c.self.inside.used c.self.invariant) in
-    capacity_set vs c.args.series old c.put.new.list within c.index_mut-places.ensures.value c.put.ensures.memory
+    capacity_set vs c.args.series old c.put-count.new.list within c.index_mut-places.ensures.value c.put-count.ensures.memory
     ∙ ap (capacity_of c.args.series) c.self.view_is
 
 pub returns-clause-spare : goal.returns-clause-spare
@@ -47,8 +47,8 @@ returns-clause-spare c =
     let vs = c.self.inside.lists.items in
     let old = c.index_mut-places.result.now in
     let within : c.args.series < length vs = omega (arith, slots vs c.self.inside.used c.self.invariant) in
-    let left = spare_left vs c.args.series old c.put.new.list within c.index_mut-places.ensures.value c.put.ensures.memory in
+    let left = spare_left vs c.args.series old c.put-count.new.list within c.index_mut-places.ensures.value c.put-count.ensures.memory in
     let bound = length_put old.items c.args.place (old_rising vs c.args.series c.self.inside.used old c.self.invariant within c.index_mut-places.ensures.value) in
-    let known = ap length c.put.ensures.ok in
+    let known = ap length c.put-count.ensures.ok in
     let before = ap (spare_of c.args.series) c.self.view_is in
     omega (arith, left, bound, known, before)
