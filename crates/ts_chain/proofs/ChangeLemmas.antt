@@ -16,7 +16,8 @@ use Rattle.ts_irregular.specs.Call.{AreKept, ArePut}
 use Rattle.ts_irregular.specs.Call as one
 use Rattle.ts_irregular.proofs.CallerLemmas.{element_in, count_kept}
 use Rattle.ts_chain.specs.Chain.{all_in, IsDense, IsChain}
-use Rattle.ts_chain.specs.Places.{AreChained, ArePlaces, IsHolder, pages_of}
+use Rattle.ts_space.specs.Place.{pages_of}
+use Rattle.ts_chain.specs.Places.{AreChained, ArePlaces, IsHolder}
 use Rattle.ts_chain.specs.Call.{AreWritten, IsMissing, IsChanged}
 use Rattle.ts_chain.proofs.EditLemmas.{at_lower, at_same, with_lower, with_higher, with_same, none_later}
 use Rattle.ts_chain.proofs.DenseLemmas.{dense_front, dense_back, dense_left, dense_right, dense_cons, dense_made, dense_tail, meets_left, meets_right}

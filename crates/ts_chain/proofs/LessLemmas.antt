@@ -178,3 +178,28 @@ pub room_before : (places front back : List Place) (index room n : ℕ) (d : Pla
 room_before places front back index room n d parts long some fit =
     let held : (get_or places (index - 1) d).count ≡ (get_or (front ++ back) (index - 1) d).count = ap (λ (ps : List Place). (get_or ps (index - 1) d).count) parts in
     fits_last room n front back (index - 1) d (omega (arith, long, some)) (omega (arith, fit, held))
+
+-- a stamp before the places behind an index
+pub stand_alone : (places : List Place) (index : ℕ) (at : ℤ) (front : List Place) (place : Place) (back : List Place) → length places ≤ index + 1 → places ≡ front ++ place ∷ back → length front ≡ index → AreAbove at back
+stand_alone places index at front place [] last parts same = tt
+stand_alone places index at front place (p ∷ back) last parts same = absurd (omega (arith, last, ap length parts, length-append front (place ∷ p ∷ back), same))
+
+next_of : (places : List Place) (index : ℕ) (d : Place) (front : List Place) (place p : Place) (back : List Place) → places ≡ front ++ place ∷ p ∷ back → length front ≡ index → get_or places (index + 1) d ≡ p
+next_of places index d front place p back parts same =
+    let spot : index + 1 ≡ suc (length front) = omega (arith, same) in
+    (λ j. get_or (parts j) (spot j) d) ∙ get_next front place p back d
+
+pub stand_below : (places : List Place) (index : ℕ) (d : Place) (at : ℤ) → IsRising places → (front : List Place) (place : Place) (back : List Place) → index + 1 < length places → places ≡ front ++ place ∷ back → length front ≡ index → at <ℤ (get_or places (index + 1) d).at → AreAbove at back
+stand_below places index d at rising front place [] within parts same below = tt
+stand_below places index d at rising front place (p ∷ back) within parts same below =
+    let next = ap (λ (q : Place). q.at) (next_of places index d front place p back parts same) in
+    let whole : (front ++ place ∷ []) ++ p ∷ back ≡ front ++ place ∷ p ∷ back = append_assoc front (place ∷ []) (p ∷ back) in
+    let beyond : AreAbove p.at back = rising_at (front ++ place ∷ []) p back (subst IsRising (parts ∙ sym whole) rising) in
+    (omega (arith, ints, next, below), above_than at p.at back (omega (arith, ints, next, below)) beyond)
+
+pub stand_above : (places : List Place) (index : ℕ) (d : Place) (at : ℤ) (front : List Place) (place : Place) (back : List Place) → index + 1 < length places → places ≡ front ++ place ∷ back → length front ≡ index → AreAbove at back → at <ℤ (get_or places (index + 1) d).at
+stand_above places index d at front place [] within parts same above = absurd (omega (arith, within, ap length parts, length-append front (place ∷ []), same))
+stand_above places index d at front place (p ∷ back) within parts same above =
+    let next = ap (λ (q : Place). q.at) (next_of places index d front place p back parts same) in
+    let first = above.0 in
+    omega (arith, ints, next, first)

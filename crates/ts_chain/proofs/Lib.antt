@@ -6,7 +6,7 @@ pub mod PlaceLemmas
 pub mod FindLemmas
 pub mod PagesLemmas
 pub mod ChangeLemmas
-pub mod OnePageLemmas
+pub mod MovedLemmas
 pub mod ReadLemmas
 pub mod LastLemmas
 pub mod PlacingLemmas
@@ -16,9 +16,15 @@ pub mod CellsLemmas
 pub mod JoinLemmas
 pub mod SpreadLemmas
 pub mod TakenLemmas
+pub mod FreeLemmas
 pub mod RemoveLemmas
 pub mod LessLemmas
 pub mod TakeLemmas
 pub mod MergeLemmas
 pub mod AnswerLemmas
 pub mod RestLemmas
+pub mod PutLemmas
+pub mod HalfLemmas
+pub mod PartLemmas
+pub mod EndLemmas
+pub mod InsertLemmas

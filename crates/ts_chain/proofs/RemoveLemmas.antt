@@ -14,7 +14,8 @@ use Rattle.ts_cells.specs.Cell.{page_room}
 use Rattle.ts_cells.specs.IrregularPage.{irregular_page, first_stamp}
 use Rattle.ts_irregular.specs.Edit.{without_element}
 use Rattle.ts_chain.specs.Chain.{all_in, ArePages, AreSized, IsDense, IsChain, IsAround}
-use Rattle.ts_chain.specs.Places.{AreChained, AreMoved, IsCounted, pages_of}
+use Rattle.ts_space.specs.Place.{pages_of}
+use Rattle.ts_chain.specs.Places.{AreChained, AreMoved, IsCounted}
 use Rattle.ts_chain.specs.Call.{AreWritten}
 use Rattle.ts_chain.specs.Window.{AreOnOne}
 use Rattle.ts_chain.proofs.OrderLemmas.{sized_pages, sized_back}

@@ -13,8 +13,10 @@ use Rattle.ts_irregular.specs.Edit.{element_at, without_element}
 use Rattle.ts_irregular.specs.OnePage.{IsOn, IsPlace}
 use Rattle.ts_irregular.proofs.EditLemmas.{take_none}
 use Rattle.ts_irregular.proofs.SeeLemmas.{behind_told}
-use Rattle.ts_chain.specs.declared.moved.Moved.{Moved}
-use Rattle.ts_chain.specs.Places.{AreChained, ArePlaces, IsHolder, moved_to, pages_of}
+use Rattle.ts_space.specs.declared.moved.Moved.{Moved}
+use Rattle.ts_space.specs.Moved.{moved_to}
+use Rattle.ts_space.specs.Place.{pages_of}
+use Rattle.ts_chain.specs.Places.{AreChained, ArePlaces, IsHolder}
 use Rattle.ts_chain.specs.Call.{IsMissing, IsRemoved}
 use Rattle.ts_chain.specs.Window.{IsRestOf}
 use Rattle.ts_chain.proofs.FindLemmas.{cut_told}
@@ -73,7 +75,7 @@ missing_on tells slot columns stamp places index v h rising are none = record {
 }
 
 -- pages that were read
-chained_same : (slot : ℕ) (columns : List Column) (v u : ℕ → List ℕ) (places : List Place) (chain : List (List Element)) → EqualPages v u → AreChained slot columns v places chain → AreChained slot columns u places chain
+pub chained_same : (slot : ℕ) (columns : List Column) (v u : ℕ → List ℕ) (places : List Place) (chain : List (List Element)) → EqualPages v u → AreChained slot columns v places chain → AreChained slot columns u places chain
 chained_same slot columns v u [] [] same on = tt
 chained_same slot columns v u [] (es ∷ chain) same on = absurd on
 chained_same slot columns v u (p ∷ places) [] same on = absurd on

@@ -1,6 +1,7 @@
 -- What the calls do to the pages of a series, whatever their number.
-use Rattle.std.specs.Prelude.{◌≡◌, ℕ, ◌+◌, ◌≤◌, ℤ, Bool, true, false, IsTrue, Option, Some, None, IsSome, Contains, List}
+use Rattle.std.specs.Prelude.{◌≡◌, ℕ, ◌+◌, ◌≤◌, ℤ, Bool, true, false, IsTrue, Option, Some, None, IsSome, Contains, List, ◌++◌, IsPermutation}
 use Rattle.ts_space.specs.declared.place.Place.{Place}
+use Rattle.ts_page.specs.Head.{zero_page}
 use Rattle.ts_page.specs.Pages.{Contents}
 use Rattle.ts_row.specs.declared.kind.Column.{Column}
 use Rattle.ts_row.specs.Row.{Row, marked}
@@ -8,9 +9,11 @@ use Rattle.ts_row.specs.Element.{Element}
 use Rattle.ts_irregular.specs.Edit.{element_at, with_element, without_element, last_seen}
 use Rattle.ts_irregular.specs.Call.{ArePagesSame}
 use Rattle.ts_space.specs.Place.{count_of}
-use Rattle.ts_chain.specs.declared.moved.Moved.{Moved}
+use Rattle.ts_space.specs.declared.moved.Moved.{Moved}
 use Rattle.ts_chain.specs.Chain.{IsChain, all_in}
-use Rattle.ts_chain.specs.Places.{AreChained, AreMoved, pages_of, moved_to}
+use Rattle.ts_space.specs.Place.{pages_of}
+use Rattle.ts_space.specs.Moved.{moved_to}
+use Rattle.ts_chain.specs.Places.{AreChained, AreMoved}
 use Rattle.ts_chain.specs.Placing.{place_for}
 
 -- Where the pages are told, this holds of the chain that they have and their places tell of. Of pages that have none such it says
@@ -75,6 +78,31 @@ pub record IsTakenAway (tells : Bool) (slot : ℕ) (columns : List Column) (stam
 abbrev pub IsRemoved : Bool → ℕ → List Column → ℤ → List Place → Contents → Contents → Option Moved → Type 0
 IsRemoved tells slot columns stamp places v w (Some moved) = IsTakenAway tells slot columns stamp places (moved_to moved places) v w
 IsRemoved tells slot columns stamp places v w None = IsMissing tells slot columns stamp places v w
+
+-- A row is put at a stamp at which none of the told elements stands, and the places become these. Where a page disagrees with its
+-- place the elements can become fewer, never more than one more.
+pub record IsPutNew (tells : Bool) (slot : ℕ) (columns : List Column) (stamp : ℤ) (row : Row) (old new : List Place) (v w : Contents) : Type 0 where
+  pub places : AreMoved columns old new v w
+  pub count : count_of new ≤ count_of old + 1
+  pub absent : IsTold tells slot columns old v (λ chain. element_at stamp (all_in chain) ≡ None)
+  pub put : IsTold tells slot columns old v (λ chain. AreWritten slot columns (with_element stamp row (all_in chain)) old new v w)
+
+-- one of the told elements is at the stamp, and everything stays
+pub record IsThereAlready (tells : Bool) (slot : ℕ) (columns : List Column) (stamp : ℤ) (places : List Place) (v w : Contents) : Type 0 where
+  pub there : IsTold tells slot columns places v (λ chain. IsSome (element_at stamp (all_in chain)))
+  pub same : ArePagesSame tells v w
+  pub bytes : w.change_bytes ≡ v.change_bytes
+
+-- a row is put, and the places become others; or one is there
+abbrev pub IsInserted : Bool → ℕ → List Column → ℤ → Row → List Place → Contents → Contents → Option Moved → Type 0
+IsInserted tells slot columns stamp row places v w (Some moved) = IsPutNew tells slot columns stamp row places (moved_to moved places) v w
+IsInserted tells slot columns stamp row places v w None = IsThereAlready tells slot columns stamp places v w
+
+-- the pages of some places are freed, and no other page changes
+pub record AreFreed (tells : Bool) (places : List Place) (v w : Contents) : Type 0 where
+  pub free : IsPermutation (v.free ++ pages_of places) w.free
+  pub zero : IsTrue tells → (number : ℕ) → Contains (pages_of places) number → w.page number ≡ zero_page
+  pub others : IsTrue tells → (number : ℕ) → ¬ Contains (pages_of places) number → w.page number ≡ v.page number
 
 -- where the pages are told, no page changed but those of these places and those that `take` could give
 abbrev pub ChangesOnlyPages : Bool → List Place → Contents → Contents → Type 0

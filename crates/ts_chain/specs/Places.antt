@@ -1,13 +1,10 @@
 -- The places of a series beside its chain.
-use Rattle.std.specs.Prelude.{◌≡◌, ◌≢◌, ℕ, ◌<◌, ◌≤◌, ℤ, ◌≤ℤ◌, All, AllPairs, List, [], ◌∷◌, ◌++◌, map, length, ◌+◌, take, drop, IsPermutation}
+use Rattle.std.specs.Prelude.{◌≡◌, ◌≢◌, ◌⊎◌, ℕ, ◌<◌, ◌≤◌, ℤ, ◌≤ℤ◌, All, AllPairs, Contains, List, [], ◌∷◌, ◌++◌, length, ◌+◌, IsPermutation}
 use Rattle.ts_space.specs.declared.place.Place.{Place}
-use Rattle.ts_space.specs.Place.{AreAbove, IsRising}
+use Rattle.ts_space.specs.Place.{AreAbove, IsRising, pages_of}
 use Rattle.ts_page.specs.Pages.{Contents, IsElementPage}
 use Rattle.ts_row.specs.declared.kind.Column.{Column}
 use Rattle.ts_row.specs.Element.{Element}
-use Rattle.ts_chain.specs.declared.moved.Come.{Come}
-use Rattle.ts_chain.specs.declared.moved.Come.TheVariants.{Nothing, One, Two}
-use Rattle.ts_chain.specs.declared.moved.Moved.{Moved}
 use Rattle.ts_cells.specs.Cell.{page_room}
 use Rattle.ts_irregular.specs.OnePage.{IsPlace, IsOn}
 
@@ -18,14 +15,16 @@ AreChained slot columns pages [] (es ∷ chain) = ⊥
 AreChained slot columns pages (place ∷ places) [] = ⊥
 AreChained slot columns pages (place ∷ places) (es ∷ chain) = IsOn slot columns (pages place.page) place es × AreChained slot columns pages places chain
 
--- the numbers of the pages
-abbrev pub pages_of : List Place → List ℕ
-pages_of places = map (λ place. place.page) places
-
 -- a place's page can be read: it is an element page
 pub record CanBeRead (c : Contents) (place : Place) : Type 0 where
   pub element : IsElementPage place.page
   pub below : place.page < c.count
+
+-- the page of that number can be freed: it is an element page which `take` can't give
+pub record CanBeFreed (c : Contents) (number : ℕ) : Type 0 where
+  pub element : IsElementPage number
+  pub below : number < c.count
+  pub used : ¬ Contains c.free number
 
 -- each place is that of an element page which `take` can't give, with some elements and no more than there is room for; and no page
 -- has two
@@ -43,15 +42,15 @@ pub record IsHolder (at : ℤ) (places : List Place) (index : ℕ) : Type 0 wher
   pub begins : place.at ≤ℤ at
   pub above : AreAbove at back
 
--- the places that come
-abbrev pub list_of : Come → List Place
-list_of Nothing = []
-list_of (One place) = place ∷ []
-list_of (Two first second) = first ∷ second ∷ []
-
--- the places after a change: from an index on so many are gone, and others stand there
-abbrev pub moved_to : Moved → List Place → List Place
-moved_to moved places = take moved.index places ++ list_of moved.come ++ drop (moved.index + moved.gone) places
+-- The place whose page a stamp is put on: the one that holds it, or the first where all begin later.
+pub record IsTarget (at : ℤ) (places : List Place) (index : ℕ) : Type 0 where
+  pub front : List Place
+  pub place : Place
+  pub back : List Place
+  pub parts : places ≡ front ++ place ∷ back
+  pub index_is : length front ≡ index
+  pub begins : (place.at ≤ℤ at) ⊎ (front ≡ [])
+  pub above : AreAbove at back
 
 -- a place has some elements, and no more than there is room for
 pub record IsCounted (columns : List Column) (place : Place) : Type 0 where

@@ -1,5 +1,5 @@
 -- Pages side by side of a series that become others: what an edit does to these alone, whatever stands before and behind them.
-use Rattle.std.specs.Prelude.{◌≡◌, ℕ, ◌+◌, ◌/◌, ◌≤◌, ℤ, Bool, IsTrue, Some, IsSome, All, IsPermutation, List, [], ◌∷◌, ◌++◌, take, drop, length}
+use Rattle.std.specs.Prelude.{◌≡◌, ℕ, ◌+◌, ◌*◌, ◌/◌, ◌≤◌, ℤ, Bool, IsTrue, Some, None, IsSome, All, IsPermutation, Contains, List, [], ◌∷◌, ◌++◌, take, drop, length}
 use Rattle.ts_space.specs.declared.place.Place.{Place}
 use Rattle.ts_page.specs.Head.{zero_page}
 use Rattle.ts_page.specs.Pages.{Contents, EqualPages, with_page}
@@ -7,11 +7,12 @@ use Rattle.ts_row.specs.declared.kind.Column.{Column}
 use Rattle.ts_row.specs.Row.{Row}
 use Rattle.ts_row.specs.Element.{Element}
 use Rattle.ts_cells.specs.Cell.{page_room}
-use Rattle.ts_cells.specs.IrregularPage.{irregular_page, first_stamp}
+use Rattle.ts_cells.specs.IrregularPage.{AreElements, irregular_page, first_stamp}
 use Rattle.ts_irregular.specs.Edit.{element_at, with_element, without_element}
 use Rattle.ts_irregular.specs.OnePage.{IsOn}
 use Rattle.ts_chain.specs.Chain.{ArePages, IsDense, all_in}
-use Rattle.ts_chain.specs.Places.{AreChained, IsCounted, pages_of}
+use Rattle.ts_space.specs.Place.{count_of, pages_of}
+use Rattle.ts_chain.specs.Places.{AreChained, IsCounted}
 use Rattle.ts_chain.specs.Call.{ChangesOnlyPages}
 
 -- how many elements the first half of a page has that was full and got one more
@@ -80,3 +81,45 @@ pub record IsRest (slot : ℕ) (columns : List Column) (stamp : ℤ) (es : List 
 abbrev pub IsRestOf : Bool → ℕ → List Column → ℤ → Place → ℕ → List ℕ → Contents → Type 0
 IsRestOf tells slot columns stamp place count bytes v =
     IsTrue tells → (es : List Element) → IsOn slot columns (v.page place.page) place es → IsRest slot columns stamp es count bytes
+
+-- the first so many pages of these numbers are freed, and no other page changes
+pub record AreFreedTo (tells : Bool) (numbers : List ℕ) (n : ℕ) (v w : Contents) : Type 0 where
+  pub free : IsPermutation (v.free ++ take n numbers) w.free
+  pub zero : IsTrue tells → (number : ℕ) → Contains (take n numbers) number → w.page number ≡ zero_page
+  pub others : IsTrue tells → (number : ℕ) → ¬ Contains (take n numbers) number → w.page number ≡ v.page number
+  pub count : w.count ≡ v.count
+  pub faults : w.faults ≡ v.faults
+  pub change_bytes : w.change_bytes ≤ v.change_bytes + 5 * n
+
+-- Of the elements of a page none is at a stamp; with a row put there they are one more, and these bytes have their halves.
+pub record AreParted (slot : ℕ) (columns : List Column) (stamp : ℤ) (row : Row) (es : List Element) (page others : List ℕ) : Type 0 where
+  pub absent : element_at stamp es ≡ None
+  pub longer : length (with_element stamp row es) ≡ length es + 1
+  pub page_is : page ≡ irregular_page slot columns (take (half_of columns) (with_element stamp row es))
+  pub others_are : others ≡ irregular_page slot columns (drop (half_of columns) (with_element stamp row es))
+
+-- where the pages are told, this is so of what the page of a place has
+abbrev pub ArePartedOf : Bool → ℕ → List Column → ℤ → Row → Place → List ℕ → List ℕ → Contents → Type 0
+ArePartedOf tells slot columns stamp row place page others v =
+    IsTrue tells → (es : List Element) → IsOn slot columns (v.page place.page) place es → AreParted slot columns stamp row es page others
+
+-- where the first of some places begins, or the one behind them
+abbrev pub begin_of : List Place → Place → ℤ
+begin_of [] next = next.at
+begin_of (p ∷ places) next = p.at
+
+-- two pages have these elements, as many as their places tell
+pub record HaveBoth (slot : ℕ) (columns : List Column) (one two : List Element) (come : Place × Place) (w : Contents) : Type 0 where
+  pub first_count : length one ≡ come.0.count
+  pub second_count : length two ≡ come.1.count
+  pub first_page : w.page come.0.page ≡ irregular_page slot columns one
+  pub second_page : w.page come.1.page ≡ irregular_page slot columns two
+
+-- Some places go, that of a page which is parted in two and those whose elements its halves go together with, and two come: the first half
+-- stands behind all that was before it, and the second in front of all that was behind it.
+pub record AreSpread (tells : Bool) (slot : ℕ) (columns : List Column) (before : List Place) (first second : Place) (behind : List Place) (page others : List ℕ) (come : Place × Place) (v w : Contents) : Type 0 where
+  pub window : IsWindow tells columns (before ++ first ∷ behind) (come.0 ∷ come.1 ∷ []) v w
+  pub count : come.0.count + come.1.count ≤ count_of before + (first.count + second.count) + count_of behind
+  pub told : IsTrue tells → (xs ys : List (List Element)) (fs gs : List Element) → AreChained slot columns v.page before xs → AreChained slot columns v.page behind ys
+      → AreElements columns fs → AreElements columns gs → length fs ≡ first.count → length gs ≡ second.count
+      → page ≡ irregular_page slot columns fs → others ≡ irregular_page slot columns gs → HaveBoth slot columns (all_in xs ++ fs) (gs ++ all_in ys) come w

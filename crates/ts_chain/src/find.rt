@@ -41,7 +41,7 @@ pub fn chain_find<P: Pages>(
 }
 
 /// The index of the place that begins last among those that begin at a stamp or before it; none where all begin later.
-pub(crate) fn holder(places: &[Place], stamp: Stamp) -> Option<usize>
+pub fn holder(places: &[Place], stamp: Stamp) -> Option<usize>
     requires { IsRising places.now }
     ensures some { IfSome result (IsHolder stamp places.now) }
     ensures none { result ≡ None → AreAbove stamp places.now }

@@ -1,12 +1,13 @@
 // A page goes together with its neighbour.
-ghost use Rattle.std.specs.Prelude.{◌≡◌, ◌+◌, ◌<◌, ◌≤◌, Contains, IsTrue, IfOk, OnOk, List, ◌++◌, length, drop};
+ghost use Rattle.std.specs.Prelude.{◌≡◌, ◌+◌, ◌<◌, ◌≤◌, Contains, IsTrue, IfOk, OnOk, List, ◌∷◌, ◌++◌, length, drop};
 ghost use Rattle.ts_page.specs.Pages.{Answered, EqualPages, IsElementPage, with_page};
 ghost use Rattle.ts_row.specs.Element.{Element};
 ghost use Rattle.ts_cells.specs.Cell.{page_room};
 ghost use Rattle.ts_cells.specs.IrregularPage.{AreElements, behind_head, irregular_page};
 ghost use Rattle.ts_irregular.specs.OnePage.{IsOn};
 ghost use Rattle.ts_irregular.specs.Call.{Reads};
-ghost use Rattle.ts_chain.specs.Places.{CanBeRead};
+ghost use Rattle.ts_space.specs.declared.place.Place.{Place as ThePlace};
+ghost use Rattle.ts_chain.specs.Places.{CanBeRead, FitsFirst, FitsLast};
 
 use crate::page::append_page;
 use ts_base::StoreFault;
@@ -15,9 +16,39 @@ use ts_page::{Page, Pages};
 use ts_row::Shelf;
 use ts_space::Place;
 
+/// Whether so many elements fit one page with the place before that of an index.
+pub(crate) fn fits_before(places: &[Place], index: usize, count: usize, room: usize) -> bool
+    requires index { index < length places.now }
+    requires few { count ≤ room }
+    requires room { room ≤ 451 }
+    ensures low { IsTrue result → 1 ≤ index }
+    ensures yes { IsTrue result → (front back : List ThePlace) → places.now ≡ front ++ back → length front ≡ index → FitsLast room count front }
+    ensures no { (front back : List ThePlace) → places.now ≡ front ++ back → length front ≡ index → FitsLast room count front → IsTrue result }
+{
+    if index == 0 {
+        return false;
+    }
+    places[index - 1].count as usize + count <= room
+}
+
+/// And with the place behind it.
+pub(crate) fn fits_behind(places: &[Place], index: usize, count: usize, room: usize) -> bool
+    requires index { index < length places.now }
+    requires few { count ≤ room }
+    requires room { room ≤ 451 }
+    ensures high { IsTrue result → index + 1 < length places.now }
+    ensures yes { IsTrue result → (front : List ThePlace) (place : ThePlace) (back : List ThePlace) → places.now ≡ front ++ place ∷ back → length front ≡ index → FitsFirst room count back }
+    ensures no { (front : List ThePlace) (place : ThePlace) (back : List ThePlace) → places.now ≡ front ++ place ∷ back → length front ≡ index → FitsFirst room count back → IsTrue result }
+{
+    if index + 1 >= places.len() {
+        return false;
+    }
+    count + places[index + 1].count as usize <= room
+}
+
 /// Puts the elements of the page before in front of those of a page, and gives how many it has then. That page is read alone; one that
 /// disagrees with its place is taken as a page without elements.
-pub(crate) fn join_before<P: Pages>(
+pub fn join_before<P: Pages>(
     pages: &mut P,
     page: &mut Page,
     shelf: &Shelf,
@@ -44,7 +75,7 @@ pub(crate) fn join_before<P: Pages>(
 }
 
 /// Puts those of the page behind after them.
-pub(crate) fn join_behind<P: Pages>(
+pub fn join_behind<P: Pages>(
     pages: &mut P,
     page: &mut Page,
     shelf: &Shelf,

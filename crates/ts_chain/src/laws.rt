@@ -1,16 +1,16 @@
 // What holds of every chain.
-ghost use Rattle.std.specs.Prelude.{◌≡◌, All, ◌+◌, ◌<◌, ◌≤◌, ℕ, ℤ, List, [], ◌∷◌, ◌++◌, length};
+ghost use Rattle.std.specs.Prelude.{◌≡◌, All, Bool, ◌+◌, ◌<◌, ◌≤◌, ℕ, ℤ, List, [], ◌∷◌, ◌++◌, length};
 ghost use Rattle.ts_space.specs.Charge.{irregular_charge};
+ghost use Rattle.ts_space.specs.Place.{pages_of};
 ghost use Rattle.ts_space.specs.declared.place.Place.{Place as ThePlace};
-ghost use Rattle.ts_page.specs.Pages.{Contents};
+ghost use Rattle.ts_page.specs.Pages.{Contents, IsLawful};
 ghost use Rattle.ts_row.specs.declared.kind.Column.{Column as TheColumn};
 ghost use Rattle.ts_row.specs.Row.{Row};
 ghost use Rattle.ts_row.specs.Element.{Element};
 ghost use Rattle.ts_cells.specs.Cell.{IsElement, page_room};
 ghost use Rattle.ts_cells.specs.IrregularPage.{AreInOrder};
 ghost use Rattle.ts_irregular.specs.Edit.{element_at, with_element, without_element};
-ghost use Rattle.ts_irregular.specs.OnePage.{HasOnePage, IsReadable, AreOn};
-ghost use Rattle.ts_chain.specs.Places.{AreChained, ArePlaces, CanBeRead};
+ghost use Rattle.ts_chain.specs.Places.{AreMoved, ArePlaces, CanBeFreed, CanBeRead};
 ghost use Rattle.ts_chain.specs.Chain.{AreSized, IsDense, IsChain, IsAround, all_in};
 
 /// The elements of its pages, one page after the other, are in order.
@@ -47,11 +47,11 @@ pub fn an_edit_of_pages_side_by_side_makes_a_chain()
         IsChain columns (front ++ (new ++ back)) × (all_in (front ++ (new ++ back)) ≡ without_element stamp (all_in (front ++ (old ++ back)))) }
 {}
 
-/// A series that has no page or one is a chain of none or one.
-pub fn one_page_is_a_chain()
-    ensures places { (columns : List TheColumn) (c : Contents) (places : List ThePlace) → HasOnePage columns c places → ArePlaces columns c places }
-    ensures readable { (c : Contents) (places : List ThePlace) → IsReadable c places → All (CanBeRead c) places }
-    ensures chain { (slot : ℕ) (columns : List TheColumn) (c : Contents) (places : List ThePlace) (es : List Element) → HasOnePage columns c places →
-        AreOn slot columns c.page places es →
-        (chain : List (List Element)) × IsChain columns chain × AreChained slot columns c.page places chain × (all_in chain ≡ es) }
+/// The places of a series are those of element pages that `take` can't give, and no page has two, also after a change of them; and their pages
+/// can be read, and freed.
+pub fn changed_places_are_places()
+    ensures moved { (tells : Bool) (columns : List TheColumn) (old new : List ThePlace) (v w : Contents) → IsLawful tells v → ArePlaces columns v old →
+        AreMoved columns old new v w → w.count ≡ v.count → ArePlaces columns w new }
+    ensures readable { (columns : List TheColumn) (c : Contents) (places : List ThePlace) → ArePlaces columns c places → All (CanBeRead c) places }
+    ensures freed { (columns : List TheColumn) (c : Contents) (places : List ThePlace) → ArePlaces columns c places → All (CanBeFreed c) (pages_of places) }
 {}

@@ -46,8 +46,8 @@ pub(crate) fn halve(
     }
 }
 
-// Keeps the first so many elements of a page.
-fn first_of(shelf: &Shelf, page: &mut Page, count: usize, keep: usize)
+/// Keeps the first so many elements of a page.
+pub fn first_of(shelf: &Shelf, page: &mut Page, count: usize, keep: usize)
     requires room { count ≤ page_room shelf.now.kind.now.columns }
     requires keep { keep ≤ count }
     ensures { (es : List Element) → AreElements shelf.now.kind.now.columns es → length es ≡ count
@@ -58,8 +58,8 @@ fn first_of(shelf: &Shelf, page: &mut Page, count: usize, keep: usize)
     set_count(shelf, page, keep);
 }
 
-// Keeps the others alone.
-fn others_of(shelf: &Shelf, page: &mut Page, count: usize, first: usize)
+/// Keeps the others alone.
+pub fn others_of(shelf: &Shelf, page: &mut Page, count: usize, first: usize)
     requires room { count ≤ page_room shelf.now.kind.now.columns }
     requires first { first ≤ count }
     ensures { (es : List Element) → AreElements shelf.now.kind.now.columns es → length es ≡ count
@@ -71,7 +71,7 @@ fn others_of(shelf: &Shelf, page: &mut Page, count: usize, first: usize)
 }
 
 /// Puts the elements of another page behind those of a page.
-pub(crate) fn append_page(shelf: &Shelf, page: &mut Page, count: usize, others: &Page, more: usize)
+pub fn append_page(shelf: &Shelf, page: &mut Page, count: usize, others: &Page, more: usize)
     requires room { count + more ≤ page_room shelf.now.kind.now.columns }
     ensures { (es fs : List Element) → AreElements shelf.now.kind.now.columns es → AreElements shelf.now.kind.now.columns fs → length es ≡ count → length fs ≡ more
         → drop 32 page.old.bytes ≡ behind_head shelf.now.kind.now.columns es → drop 32 others.now.bytes ≡ behind_head shelf.now.kind.now.columns fs

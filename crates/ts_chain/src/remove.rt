@@ -5,19 +5,20 @@ ghost use Rattle.ts_space.specs.Place.{IsRising};
 ghost use Rattle.ts_space.specs.Directory.{places_of};
 ghost use Rattle.ts_page.specs.Pages.{Answered};
 ghost use Rattle.ts_cells.specs.Cell.{page_room};
-ghost use Rattle.ts_chain.specs.Places.{ArePlaces, FitsFirst, FitsLast, IsBeginning, IsHolder, moved_to};
+ghost use Rattle.ts_space.specs.Moved.{moved_to};
+ghost use Rattle.ts_chain.specs.Places.{ArePlaces, IsBeginning, IsHolder};
 ghost use Rattle.ts_chain.specs.Call.{IsRemoved, IsTakenAway};
 ghost use Rattle.ts_chain.specs.Window.{IsRestOf};
 
 use crate::find::holder;
+use crate::join::{fits_before, fits_behind};
 use crate::merge::{merge_before, merge_behind};
-use crate::moved::{Come, Moved};
 use ts_base::{Stamp, StoreFault};
 use ts_cells::page_room;
 use ts_irregular::{count_taken, place_in, take_out};
 use ts_page::{Page, Pages};
 use ts_row::Shelf;
-use ts_space::{Place, Space};
+use ts_space::{Come, Moved, Place, Space};
 
 /// Takes the element at a stamp away, and tells which places go and come; where none stands there all pages are as before. The page that
 /// holds the stamp is read, its head compared with its place; one that disagrees is taken as a page without elements. A page that loses its
@@ -131,36 +132,6 @@ fn keep_rest<P: Pages>(
         gone: 1,
         come: Come::One(left),
     })
-}
-
-// Whether so many elements fit one page with the place before that of an index.
-fn fits_before(places: &[Place], index: usize, count: usize, room: usize) -> bool
-    requires index { index < length places.now }
-    requires few { count ≤ room }
-    requires room { room ≤ 451 }
-    ensures low { IsTrue result → 1 ≤ index }
-    ensures yes { IsTrue result → (front back : List ThePlace) → places.now ≡ front ++ back → length front ≡ index → FitsLast room count front }
-    ensures no { (front back : List ThePlace) → places.now ≡ front ++ back → length front ≡ index → FitsLast room count front → IsTrue result }
-{
-    if index == 0 {
-        return false;
-    }
-    places[index - 1].count as usize + count <= room
-}
-
-// And with the place behind it.
-fn fits_behind(places: &[Place], index: usize, count: usize, room: usize) -> bool
-    requires index { index < length places.now }
-    requires few { count ≤ room }
-    requires room { room ≤ 451 }
-    ensures high { IsTrue result → index + 1 < length places.now }
-    ensures yes { IsTrue result → (front : List ThePlace) (place : ThePlace) (back : List ThePlace) → places.now ≡ front ++ place ∷ back → length front ≡ index → FitsFirst room count back }
-    ensures no { (front : List ThePlace) (place : ThePlace) (back : List ThePlace) → places.now ≡ front ++ place ∷ back → length front ≡ index → FitsFirst room count back → IsTrue result }
-{
-    if index + 1 >= places.len() {
-        return false;
-    }
-    count + places[index + 1].count as usize <= room
 }
 
 // The place of a page with what is left, as it was read there, kept in its room among the places.

@@ -1,20 +1,21 @@
-// Each call once, on a series with one page.
-ghost use Rattle.std.specs.Prelude.{◌≡◌, IfOk, IsTrue, OnOk};
+// Each call once, on a series of one page or two.
+ghost use Rattle.std.specs.Prelude.{◌≡◌, ◌≤◌, IfOk, IfSome, IsTrue, OnOk};
 ghost use Rattle.ts_page.specs.Memory.{memory_contents};
+ghost use Rattle.ts_space.specs.Place.{count_of};
 ghost use Rattle.ts_space.specs.Directory.{places_of};
 ghost use Rattle.ts_row.specs.Row.{fits};
-ghost use Rattle.ts_irregular.specs.OnePage.{HasOnePage};
+ghost use Rattle.ts_chain.specs.Places.{ArePlaces};
 
 use crate::{
-    Come, Moved, chain_find, chain_last, chain_mark, chain_place, chain_remove, chain_replace,
+    chain_find, chain_insert, chain_last, chain_mark, chain_place, chain_remove, chain_replace,
+    free_pages,
 };
 use std::alloc::Global;
 use ts_base::{Name, Stamp, StoreFault};
 use ts_cells::page_room;
-use ts_irregular::irregular_set;
 use ts_page::{MemoryPages, Page, Pages};
 use ts_row::{Column, ColumnKind, Literal, Row, RowType, Shelf, Value};
-use ts_space::{Space, count_of};
+use ts_space::{Come, Moved, Place, Space, charge_irregular};
 
 const SLOT: u16 = 7;
 
@@ -63,12 +64,12 @@ fn row_of(kind: &RowType, integer: i128) -> Result<Row, StoreFault>
     }
 }
 
-// Without elements, beside two free pages.
+// Without elements, beside three free pages.
 fn empty(alloc: Global) -> Result<Series, StoreFault>
-    ensures { IfOk result (λ series. HasOnePage series.kind.columns (memory_contents series.pages) (places_of 7 series.space)) }
+    ensures { IfOk result (λ series. ArePlaces series.kind.columns (memory_contents series.pages) (places_of 7 series.space)) }
 {
-    let pages = vec![in alloc; Page::zero(); 932]?;
-    let free = vec![in alloc; 930, 931]?;
+    let pages = vec![in alloc; Page::zero(); 933]?;
+    let free = vec![in alloc; 930, 931, 932]?;
     Ok(Series {
         pages: MemoryPages::new(pages, free),
         space: Space::new(alloc)?,
@@ -76,36 +77,56 @@ fn empty(alloc: Global) -> Result<Series, StoreFault>
     })
 }
 
+// How many elements the places tell of, where these are few.
+fn elements(places: &[Place]) -> Option<u64>
+    ensures count { IfSome result (λ n. n ≡ count_of places.now) }
+    ensures few { IfSome result (λ n. n ≤ 131071) }
+{
+    let mut sum = 0;
+    for place in places {
+        if sum > 65535 {
+            return None;
+        }
+        sum += u64::from(place.count);
+    }
+    if sum > 131_071 {
+        return None;
+    }
+    Some(sum)
+}
+
 // Puts an integer at so many units.
 fn put(series: &mut Series, at: i64, integer: i128) -> Result<(), StoreFault>
-    requires { HasOnePage series.old.kind.columns (memory_contents series.old.pages) (places_of 7 series.old.space) }
-    ensures { OnOk result (HasOnePage series.new.kind.columns (memory_contents series.new.pages) (places_of 7 series.new.space)) }
+    requires { ArePlaces series.old.kind.columns (memory_contents series.old.pages) (places_of 7 series.old.space) }
+    ensures { OnOk result (ArePlaces series.new.kind.columns (memory_contents series.new.pages) (places_of 7 series.new.space)) }
 {
     let stamp = Stamp::of(at).ok_or(StoreFault::Failed)?;
     let row = row_of(&series.kind, integer)?;
-    if count_of(series.space.places(SLOT)) >= page_room(&series.kind) as u64 {
+    let count = elements(series.space.places(SLOT)).ok_or(StoreFault::Failed)?;
+    // It is at most 1000, so there is room for one.
+    let _width = series.kind.width();
+    let charge = charge_irregular(count + 1, page_room(&series.kind) as u64);
+    let places = series.space.places(SLOT).len();
+    if charge > series.pages.spare() as u64 + places as u64 {
         return Err(StoreFault::Failed);
     }
-    if series.pages.spare() == 0 {
-        return Err(StoreFault::Failed);
-    }
+    series.space.reserve(SLOT, 2)?;
     let shelf = Shelf {
         series: SLOT,
         kind: &series.kind,
     };
-    irregular_set(
-        &mut series.pages,
-        &mut series.space,
-        &shelf,
-        stamp,
-        Some(&row),
-    )?;
+    let page = &mut Page::zero();
+    let told = chain_insert(&mut series.pages, page, &series.space, &shelf, stamp, &row)?;
+    let Some(moved) = told else {
+        return Err(StoreFault::Failed);
+    };
+    series.space.splice(SLOT, &moved);
     Ok(())
 }
 
 // With the integer 5 at the third.
 fn filled(alloc: Global) -> Result<Series, StoreFault>
-    ensures { IfOk result (λ series. HasOnePage series.kind.columns (memory_contents series.pages) (places_of 7 series.space)) }
+    ensures { IfOk result (λ series. ArePlaces series.kind.columns (memory_contents series.pages) (places_of 7 series.space)) }
 {
     let mut series = empty(alloc)?;
     put(&mut series, DAY_3, 5)?;
@@ -200,6 +221,29 @@ fn is_placed(
     )
 }
 
+// A full page and one element more have two pages, which are freed.
+fn is_parted(alloc: Global) -> Result<bool, StoreFault> {
+    let mut series = empty(alloc)?;
+    let room = page_room(&series.kind);
+    for k in 0..room + 1 {
+        put(&mut series, DAY_3 + k as i64, k as i128)?;
+    }
+    let shelf = Shelf {
+        series: SLOT,
+        kind: &series.kind,
+    };
+    let page = &mut Page::zero();
+    let last = chain_last(&mut series.pages, page, &series.space, &shelf)?;
+    let places = series.space.places(SLOT);
+    let pages = places.len();
+    free_pages(alloc, &mut series.pages, places)?;
+    Ok(
+        pages == 2
+            && series.pages.spare() == 3
+            && is_element(last, DAY_3 + room as i64, room as i128),
+    )
+}
+
 // The only element goes, and its place with it.
 fn is_emptied(alloc: Global) -> Result<bool, StoreFault> {
     let mut series = filled(alloc)?;
@@ -221,6 +265,11 @@ fn is_emptied(alloc: Global) -> Result<bool, StoreFault> {
         _ => false,
     };
     Ok(gone)
+}
+
+#[test]
+fn a_full_page_is_parted(rt: HostRuntime) {
+    assert!(rt; matches!(is_parted(rt.alloc()), Ok(true)));
 }
 
 #[test]
@@ -269,5 +318,5 @@ fn the_laws_are_called() {
     crate::a_chain_is_within_its_charge();
     crate::an_edit_is_that_of_one_page();
     crate::an_edit_of_pages_side_by_side_makes_a_chain();
-    crate::one_page_is_a_chain();
+    crate::changed_places_are_places();
 }

@@ -1,1 +1,1 @@
-pub mod InsertLemmas
+pub mod SeriesLemmas

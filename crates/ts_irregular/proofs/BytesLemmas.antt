@@ -1,5 +1,5 @@
 -- The bytes behind the head of a page, parted and written.
-use Rattle.std.proofs.Common.{◌≡◌, ℕ, ◌+◌, ◌-◌, ◌*◌, ◌<◌, ◌≤◌, List, [], ◌∷◌, ◌++◌, length, take, drop, replicate, refl, sym, ap, subst, ◌∙◌, arith, append_assoc, length-append, length-drop}
+use Rattle.std.proofs.Common.{◌≡◌, ℕ, ◌+◌, ◌-◌, ◌*◌, ◌<◌, ◌≤◌, List, ◌∷◌, ◌++◌, length, take, drop, replicate, refl, sym, ap, subst, ◌∙◌, arith, append_assoc, length-append, length-drop}
 use borrow.Rule.Slice.PartMut.{put_mid}
 use lib.Seq.{paste}
 use Rattle.std.specs.Int.{w64, from_be_bytes, cast_signed}
@@ -117,10 +117,6 @@ remove_bytes front part back zeros new old at size more top k is first second th
     ∙ drop-drop k (at + more) old ∙ ap (λ (n : ℕ). drop n old) (let e : at + more + k ≡ at + size + more = omega (arith, same) in e)
     ∙ sym (drop-drop more (at + size) old) ∙ ap (drop more) above ∙ drop_at back zeros more third in
     (λ j. start j ++ (new ++ rest j)) ∙ append_assoc front back (new ++ zeros)
-
-AreElements-back : (columns : List Column) (xs ys : List Element) → AreElements columns (xs ++ ys) → AreElements columns ys
-AreElements-back columns [] ys are = are
-AreElements-back columns (x ∷ xs) ys are = AreElements-back columns xs ys are.1
 
 -- the cells before an index and those from there on
 pub record Halves (columns : List Column) (i : ℕ) (es : List Element) : Type 0 where

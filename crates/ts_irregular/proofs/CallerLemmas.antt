@@ -1,6 +1,5 @@
 -- What callers cite of elements that are marked, and of those that are seen.
-use Rattle.std.proofs.Common.{◌≡◌, ◌∙◌, ℕ, Bool, true, false, IsTrue, cond, not, ℤ, ◌≤ℤ◌, Option, Some, None, IsSome, is_some, List, [], ◌∷◌, length, refl, sym, ap, subst, arith}
-use Rattle.std.specs.Prelude.{Contains}
+use Rattle.std.proofs.Common.{◌≡◌, ◌∙◌, Bool, true, false, IsTrue, cond, not, ℤ, ◌≤ℤ◌, Option, Some, None, IsSome, is_some, List, [], ◌∷◌, length, refl, sym, ap, subst, arith}
 use Rattle.std.specs.Option.{option_and_then}
 use Rattle.std.specs.Ordering.{int_cmp}
 use Rattle.std.specs.Cmp.{int_cmp_is, int_cmp_total}
@@ -10,16 +9,12 @@ use Rattle.std.specs.FinMap.{put, entries, empty, from_entries, entries-insert, 
 use Rattle.std.specs.FinMap.Entries.{by_order}
 use Rattle.std.proofs.lemmas.Int.{by_lt_z, ints}
 use Rattle.ts_base.specs.Moment.{IsStamp}
-use Rattle.ts_space.specs.declared.place.Place.{Place}
-use Rattle.ts_page.specs.Pages.{Contents}
 use Rattle.ts_row.specs.declared.kind.Column.{Column}
 use Rattle.ts_row.specs.Row.{Row, marked, fits}
 use Rattle.ts_row.specs.Element.{Element, seen}
 use Rattle.ts_cells.specs.Cell.{IsElement}
 use Rattle.ts_cells.specs.IrregularPage.{AreElements, AreRising, AreInOrder}
 use Rattle.ts_irregular.specs.Edit.{element_at, with_element, row_if_seen, rank_of}
-use Rattle.ts_irregular.specs.OnePage.{HasOnePage}
-use Rattle.ts_irregular.specs.Call.{IsTold, IsPutOver, ArePut}
 use Rattle.ts_irregular.proofs.EditLemmas.{AreRising-tail, element_at-lower, element_at-higher, element_at-same, none_after, rank_below_length, put_there, with_in_order}
 use Rattle.ts_irregular.proofs.BytesLemmas.{length-replaced}
 use Rattle.ts_irregular.proofs.SeeLemmas.{some_one}
@@ -50,22 +45,6 @@ pub count_kept : (stamp : ℤ) (row : Row) (es : List Element) → AreRising es 
 count_kept stamp row es rise some =
     let there = is_some_of (element_at stamp es) some in
     ap length (put_there stamp row es rise there) ∙ length-replaced (rank_of stamp es) (stamp, row) es (rank_below_length stamp es rise there)
-
--- the pages of a series stay what they are where none is taken or freed
-pub one_page_kept : (columns : List Column) (places : List Place) (v w : Contents) → w.count ≡ v.count → w.free ≡ v.free → HasOnePage columns v places → HasOnePage columns w places
-one_page_kept columns [] v w count free one = tt
-one_page_kept columns (place ∷ []) v w count free one =
-    record { element = one.element; below = omega (arith, one.below, count); used = λ has. one.used (subst (λ (l : List ℕ). Contains l place.page) free has); some = one.some; room = one.room }
-one_page_kept columns (place ∷ other ∷ places) v w count free one = absurd one
-
--- a row that is put whatever was there
-pub row_put : (tells : Bool) (slot : ℕ) (columns : List Column) (stamp : ℤ) (row : Row) (places : List Place) (v w : Contents) → IsPutOver tells slot columns stamp (λ old. row) places v w
-    → IsTold tells slot columns places v (λ es. ArePut tells slot columns places (with_element stamp row es) places v w)
-row_put tells slot columns stamp row places v w over told es on = by_row (element_at stamp es) (over.there told es on) (over.put told es on)
-  where
-    by_row : {P : Type 0} (o : Option Row) → IsSome o → ((old : Row) → o ≡ Some old → P) → P
-    by_row (Some old) some put = put old refl
-    by_row None some put = absurd (cc)
 
 -- elements in their order are the entries of their map
 put_first : (e : Element) (es : List Element) → AreRising (e ∷ es) → put int_cmp e.0 e.1 es ≡ e ∷ es

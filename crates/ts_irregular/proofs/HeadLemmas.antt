@@ -15,10 +15,6 @@ use Rattle.ts_cells.proofs.PageLemmas.{length-cells_bytes}
 use Rattle.ts_irregular.specs.OnePage.{place_of}
 use Rattle.ts_irregular.proofs.BytesLemmas.{part, units_in}
 
--- all that stands behind the head of a page
-pub all_behind : (page : List ℕ) → take (length page - 32) (drop 32 page) ≡ drop 32 page
-all_behind page = ap (λ (n : ℕ). take n (drop 32 page)) (sym (length-drop 32 page)) ∙ take-length (drop 32 page)
-
 -- the bytes of a page with elements
 pub length-page : (columns : List Column) (es : List Element) (page : List ℕ) → AreElements columns es → length es ≤ page_room columns → drop 32 page ≡ behind_head columns es → length page ≡ 4096
 length-page columns es page are room same =

@@ -1,5 +1,5 @@
 -- What an insert and a replacement leave, put together from what their parts leave.
-use Rattle.std.proofs.Common.{◌≡◌, ℕ, ◌+◌, ◌<◌, ◌≤◌, Bool, true, IsTrue, ℤ, Option, Some, None, IsSome, is_some, Result, Ok, Err, OnErr, List, [], ◌∷◌, ◌++◌, length, take, drop, inl, refl, sym, ap, subst, ◌∙◌, arith}
+use Rattle.std.proofs.Common.{◌≡◌, ℕ, ◌+◌, ◌<◌, ◌≤◌, Bool, true, IsTrue, ℤ, Option, Some, None, IsSome, is_some, Result, Ok, Err, List, [], ◌∷◌, ◌++◌, length, take, drop, refl, sym, ap, subst, ◌∙◌, arith}
 use borrow.Rule.Slice.PartMut.{mid_of, put_mid}
 use Rattle.std.specs.List.{slice_get}
 use Rattle.std.specs.Result.{result_ok}
@@ -12,14 +12,14 @@ use Rattle.ts_cells.specs.Cell.{Element, IsElement, page_room}
 use Rattle.ts_cells.specs.IrregularPage.{AreElements, AreInOrder, IsIrregularPage, behind_head, irregular_page, first_stamp}
 use Rattle.ts_irregular.specs.Edit.{element_at, with_element, search_of}
 use Rattle.ts_irregular.specs.OnePage.{IsOn, place_of}
-use Rattle.ts_irregular.specs.Call.{AreKept, ArePut, IsEdited, IsOneMore, IsTold, IsPutNew, IsThereAlready, IsPutOver, IsMissing, IsIndexOf, IsIndexOn, AreLeft}
-use Rattle.ts_irregular.proofs.BytesLemmas.{part, length-inserted, length-replaced}
+use Rattle.ts_irregular.specs.Call.{ArePut, IsTold, IsPutOver, IsMissing, IsIndexOf, IsIndexOn}
+use Rattle.ts_irregular.proofs.BytesLemmas.{part, length-replaced}
 use Rattle.ts_irregular.proofs.CellLemmas.{element_is}
 use Rattle.ts_irregular.proofs.EditLemmas.{with_in_order, first_kept, rank_below_length}
 use Rattle.ts_irregular.proofs.FindLemmas.{read_on}
 use Rattle.ts_irregular.proofs.HeadLemmas.{part_behind, length-page, cells_put}
-use Rattle.ts_irregular.proofs.KeptLemmas.{put_after, same_after, kept_put, kept_after, place_is, some_same}
-use Rattle.ts_irregular.proofs.PutLemmas.{put_before, put_instead}
+use Rattle.ts_irregular.proofs.KeptLemmas.{put_after, kept_put, kept_after, place_is, some_same}
+use Rattle.ts_irregular.proofs.PutLemmas.{put_instead}
 use Rattle.ts_irregular.proofs.SearchLemmas.{search_ok, search_err, at_rank, found as found_by}
 use Rattle.ts_irregular.proofs.SeeLemmas.{behind_told, some_one}
 
@@ -31,14 +31,6 @@ some_is None some = absurd (cc)
 place_stays : (place : Place) (es : List Element) → length es ≡ place.count → first_stamp es ≡ Some place.at → place_of place.page es ≡ place ∷ []
 place_stays place [] count first = absurd (cc)
 place_stays place (e ∷ es) count first = sym (place_is place e es count (some_same first))
-
--- an error leaves the pages
-pub on_any_err : {T E P : Type 0} (result : Result T E) → P → OnErr result P
-on_any_err (Ok t) p = tt
-on_any_err (Err e) p = p
-
-pub left_after : (tells : Bool) (v u w : Contents) → (IsTrue tells → EqualPages v.page u.page) → u.free ≡ v.free → (IsTrue tells → EqualPages u.page w.page) → w.free ≡ u.free → AreLeft tells v w
-left_after tells v u w first free second later = record { pages = λ told. same_after v.page u.page w.page (first told) (second told); free = inl (later ∙ free) }
 
 -- elements are put on the page that was read
 put_told : (tells : Bool) (slot : ℕ) (columns : List Column) (place : Place) (page : List ℕ) (v u w : Contents) → (IsTrue tells → EqualPages v.page u.page) → u.free ≡ v.free → Put tells place.page page (Ok tt) u w
@@ -87,14 +79,8 @@ module _ (tells : Bool) (slot : ℕ) (columns : List Column) (stamp : ℤ) (plac
   searched_in : (found : Result ℕ ℕ) → Searched found → IsTold tells slot columns (place ∷ []) v (λ es. found ≡ search_of stamp es)
   searched_in found searched t es on = let r = are_read t es on in searched es r.order r.count r.part
 
-  pub found_told : (index : ℕ) → Searched (Ok index) → IsTold tells slot columns (place ∷ []) v (λ es. IsSome (element_at stamp es))
-  found_told index searched t es on = some_is (element_at stamp es) (search_ok stamp es index (searched_in (Ok index) searched t es on)).0
-
   pub absent_told : (index : ℕ) → Searched (Err index) → IsTold tells slot columns (place ∷ []) v (λ es. element_at stamp es ≡ None)
   absent_told index searched t es on = (search_err stamp es index (searched_in (Err index) searched t es on)).0
-
-  pub there_already : (index : ℕ) → Searched (Ok index) → IsThereAlready tells slot columns stamp (place ∷ []) v u
-  there_already index searched = record { there = found_told index searched; same = record { free = got.free; pages = got.pages } }
 
   pub is_missing : (index : ℕ) → Searched (Err index) → IsMissing tells slot columns stamp (place ∷ []) v u
   is_missing index searched = record { absent = absent_told index searched; same = record { free = got.free; pages = got.pages } }
@@ -106,25 +92,6 @@ module _ (tells : Bool) (slot : ℕ) (columns : List Column) (stamp : ℤ) (plac
     at = searched_in (Ok index) searched;
   }
   index_found (Err index) searched = is_missing index searched
-
-  -- the page was put with a row more
-  module _ (row : Row) (is : IsElement columns (stamp, row)) (page : List ℕ) (w : Contents) (put : Put tells place.page page (Ok tt) u w) where
-    pub put_new : (index : ℕ) (now : Place) → Searched (Err index) → index ≤ count → count < page_room columns → count ≤ place.count
-        → ((es : List Element) → AreInOrder columns es → length es ≡ count → ◌≡◌ {A = Result ℕ ℕ} (search_of stamp es) (Err index) → drop 32 bytes ≡ behind_head columns es → page ≡ irregular_page slot columns (with_element stamp row es))
-        → ((es : List Element) → AreElements columns es → length es ≡ count + 1 → page ≡ irregular_page slot columns es → place_of place.page es ≡ now ∷ [])
-        → now.page ≡ place.page → now.count ≡ count + 1 → IsPutNew tells slot columns stamp row (place ∷ []) now v w
-    put_new index now searched within room few made listed number more = record {
-      more = (put.free ∙ got.free, number, omega (arith, more), omega (arith, more, few));
-      absent = absent_told index searched;
-      put = λ t es on.
-          let r = are_read t es on in
-          let missing = searched es r.order r.count r.part in
-          let whole = made es r.order r.count (sym missing) r.behind in
-          let size : length (with_element stamp row es) ≡ count + 1 =
-          ap length (put_before stamp row es index missing) ∙ length-inserted index count (stamp, row) es r.count within in
-          let order = with_in_order columns stamp row es r.order is in
-          put_told tells slot columns place page v u w got.pages got.free put (with_element stamp row es) now order (omega (arith, size)) (omega (arith, size, room)) whole (listed (with_element stamp row es) order.each size whole);
-    }
 
 -- the row at a stamp was changed: the page was read, and put with another cell at the index of the stamp
 module _ (tells : Bool) (slot : ℕ) (columns : List Column) (stamp : ℤ) (place : Place) (change : Row → Row) (keeps : (row : Row) → IsTrue (fits columns row) → IsTrue (fits columns (change row)))
@@ -187,30 +154,3 @@ put_alone tells slot number columns e now page v u w taken is made room put list
     record { places = sym listed; pages = λ told. put_after number page (irregular_page slot columns (e ∷ [])) v.page u.page w.page made (taken.pages told) (put.put told) },
   );
 }
-
--- and the directory has its place
-pub first_edited : (tells : Bool) (slot : ℕ) (columns : List Column) (stamp : ℤ) (row : Row) (place : Place) (now : List Place) (v w : Contents) → ArePut tells slot columns [] (with_element stamp row []) (place ∷ []) v w → now ≡ place ∷ []
-    → IsEdited tells slot columns stamp (Some row) [] now v w
-first_edited tells slot columns stamp row place now v w put is = record {
-  elements = [];
-  seen = refl;
-  order = put.order;
-  room = put.room;
-  kept = subst (λ (ps : List Place). AreKept tells slot columns [] (with_element stamp row []) ps v w) (sym is) put.kept;
-}
-
--- a series without a page
-pub first_new : (tells : Bool) (slot : ℕ) (columns : List Column) (stamp : ℤ) (row : Row) (old : List Place) (place : Place) (v w : Contents) → old ≡ [] → IsOneMore [] place v w → ArePut tells slot columns [] (with_element stamp row []) (place ∷ []) v w
-    → IsPutNew tells slot columns stamp row old place v w
-first_new tells slot columns stamp row old place v w none more put =
-    let P : List Place → Type 0 = λ l. IsPutNew tells slot columns stamp row l place v w in
-    subst P (sym none) (record {
-      more = more;
-      absent = λ t es on. ap (element_at stamp) on;
-      put = λ t es on. subst (λ (fs : List Element). ArePut tells slot columns [] (with_element stamp row fs) (place ∷ []) v w) (sym on) put;
-    })
-
-pub none_missing : (tells : Bool) (slot : ℕ) (columns : List Column) (stamp : ℤ) (places : List Place) (v : Contents) → places ≡ [] → IsMissing tells slot columns stamp places v v
-none_missing tells slot columns stamp places v none =
-    let P : List Place → Type 0 = λ l. IsMissing tells slot columns stamp l v v in
-    subst P (sym none) (record { absent = λ t es on. ap (element_at stamp) on; same = record { free = refl; pages = λ told n. refl } })

@@ -2,7 +2,6 @@
 use Rattle.std.specs.Prelude.{◌≡◌, ◌⊎◌, ℕ, ◌+◌, ◌≤◌, ℤ, Bool, true, false, IsTrue, Option, Some, None, IsSome, Result, Ok, List, [], ◌∷◌, length}
 use Rattle.ts_base.specs.declared.fault.StoreFault.{StoreFault}
 use Rattle.ts_space.specs.declared.place.Place.{Place}
-use Rattle.ts_space.specs.Directory.{Directory}
 use Rattle.ts_page.specs.Head.{zero_page}
 use Rattle.ts_page.specs.Pages.{Contents, Answered, EqualPages, with_page}
 use Rattle.ts_row.specs.declared.kind.Column.{Column}
@@ -10,8 +9,8 @@ use Rattle.ts_row.specs.Row.{Row, marked}
 use Rattle.ts_row.specs.Element.{Element}
 use Rattle.ts_cells.specs.Cell.{page_room}
 use Rattle.ts_cells.specs.IrregularPage.{AreInOrder, irregular_page}
-use Rattle.ts_irregular.specs.Edit.{element_at, with_element, last_seen, edited, search_of}
-use Rattle.ts_irregular.specs.OnePage.{place_of, IsOn, AreOn, AreSeen}
+use Rattle.ts_irregular.specs.Edit.{element_at, with_element, last_seen, search_of}
+use Rattle.ts_irregular.specs.OnePage.{place_of, IsOn, AreOn}
 
 -- pages are read
 pub record Reads {T : Type 0} (tells : Bool) (result : Result T StoreFault) (v w : Contents) : Type 0 where
@@ -19,12 +18,6 @@ pub record Reads {T : Type 0} (tells : Bool) (result : Result T StoreFault) (v w
   pub pages : IsTrue tells → EqualPages v.page w.page
   pub free : w.free ≡ v.free
   pub change_bytes : w.change_bytes ≡ v.change_bytes
-
--- this is the row at a stamp among the elements that the pages are taken for
-pub record IsFound (tells : Bool) (slot : ℕ) (columns : List Column) (stamp : ℤ) (places : List Place) (v : Contents) (row : Option Row) : Type 0 where
-  pub elements : List Element
-  pub seen : AreSeen tells slot columns v.page places elements
-  pub found : row ≡ element_at stamp elements
 
 -- Where the pages are told, this is the row at a stamp among the elements that they have and their places tell of. Of pages that
 -- have none such it says nothing.
@@ -68,14 +61,6 @@ pub record ArePut (tells : Bool) (slot : ℕ) (columns : List Column) (old : Lis
   pub room : length es ≤ page_room columns
   pub kept : AreKept tells slot columns old es new v w
 
--- a row is put at a stamp, or taken away, among the elements that the pages are taken for
-pub record IsEdited (tells : Bool) (slot : ℕ) (columns : List Column) (stamp : ℤ) (row : Option Row) (old new : List Place) (v w : Contents) : Type 0 where
-  pub elements : List Element
-  pub seen : AreSeen tells slot columns v.page old elements
-  pub order : AreInOrder columns (edited stamp row elements)
-  pub room : length (edited stamp row elements) ≤ page_room columns
-  pub kept : AreKept tells slot columns old (edited stamp row elements) new v w
-
 -- Where the pages are told, this holds of the elements that they have and their places tell of. Of pages that have none such it
 -- says nothing.
 abbrev pub IsTold : Bool → ℕ → List Column → List Place → Contents → (List Element → Type 0) → Type 0
@@ -91,22 +76,6 @@ IsOneMore (old ∷ others) new v w = (w.free ≡ v.free) × (new.page ≡ old.pa
 pub record ArePagesSame (tells : Bool) (v w : Contents) : Type 0 where
   pub free : w.free ≡ v.free
   pub pages : IsTrue tells → EqualPages v.page w.page
-
--- a row is put at a stamp at which none of the told elements stands, and the series has this place
-pub record IsPutNew (tells : Bool) (slot : ℕ) (columns : List Column) (stamp : ℤ) (row : Row) (old : List Place) (new : Place) (v w : Contents) : Type 0 where
-  pub more : IsOneMore old new v w
-  pub absent : IsTold tells slot columns old v (λ es. element_at stamp es ≡ None)
-  pub put : IsTold tells slot columns old v (λ es. ArePut tells slot columns old (with_element stamp row es) (new ∷ []) v w)
-
--- one of the told elements is at the stamp, and everything stays
-pub record IsThereAlready (tells : Bool) (slot : ℕ) (columns : List Column) (stamp : ℤ) (places : List Place) (v w : Contents) : Type 0 where
-  pub there : IsTold tells slot columns places v (λ es. IsSome (element_at stamp es))
-  pub same : ArePagesSame tells v w
-
--- a row is put, and the series has this place; or one is there
-abbrev pub IsInserted : Bool → ℕ → List Column → ℤ → Row → List Place → Contents → Contents → Option Place → Type 0
-IsInserted tells slot columns stamp row places v w (Some new) = IsPutNew tells slot columns stamp row places new v w
-IsInserted tells slot columns stamp row places v w None = IsThereAlready tells slot columns stamp places v w
 
 -- one of the told elements is at the stamp, and its row is changed; all places stay
 pub record IsPutOver (tells : Bool) (slot : ℕ) (columns : List Column) (stamp : ℤ) (change : Row → Row) (places : List Place) (v w : Contents) : Type 0 where
@@ -137,11 +106,6 @@ IsMarked tells slot columns stamp hidden places v w done = IsChanged tells slot 
 pub record AreLeft (tells : Bool) (v w : Contents) : Type 0 where
   pub pages : IsTrue tells → EqualPages v.page w.page
   pub free : (w.free ≡ v.free) ⊎ ((number : ℕ) × (v.free ≡ number ∷ w.free))
-
--- and all places
-pub record IsNotEdited (tells : Bool) (old new : Directory) (v w : Contents) : Type 0 where
-  pub places : new.lists ≡ old.lists
-  pub left : AreLeft tells v w
 
 -- Where a stamp stands on the page of a series that was read: at this index, the page having these bytes; or nowhere.
 pub record IsIndexOf (tells : Bool) (slot : ℕ) (columns : List Column) (stamp : ℤ) (place : Place) (bytes : List ℕ) (index : ℕ) (v : Contents) : Type 0 where

@@ -1,5 +1,5 @@
 -- The elements of a series in the order of their stamps, and what an edit at one stamp makes of them.
-use Rattle.std.specs.Prelude.{ℕ, suc, ◌-◌, slice_get, ℤ, int_lt, not, nat_lt, ◌||◌, if◌then◌else◌, Option, Some, None, is_some, Result, Ok, Err, List, [], ◌∷◌, filter, length}
+use Rattle.std.specs.Prelude.{ℕ, suc, ◌-◌, slice_get, ℤ, int_lt, not, if◌then◌else◌, Option, Some, None, is_some, Result, Ok, Err, List, [], ◌∷◌, filter, length}
 use Rattle.std.specs.Ordering.{int_cmp, int_eq}
 use Rattle.std.specs.FinMap.{find, put}
 use Rattle.ts_row.specs.Row.{Row}
@@ -29,11 +29,6 @@ with_element stamp row es = put int_cmp stamp row es
 abbrev pub without_element : ℤ → List Element → List Element
 without_element stamp es = filter (λ e. not (int_eq stamp e.0)) es
 
--- the elements with this row at a stamp, or with none
-abbrev pub edited : ℤ → Option Row → List Element → List Element
-edited stamp None es = without_element stamp es
-edited stamp (Some row) es = with_element stamp row es
-
 -- how many elements at the front are earlier than a stamp
 abbrev pub rank_of : ℤ → List Element → ℕ
 rank_of stamp [] = 0
@@ -42,7 +37,3 @@ rank_of stamp (e ∷ es) = if int_lt e.0 stamp then suc (rank_of stamp es) else 
 -- the index of the element at a stamp; where none is there, that of the first later one
 abbrev pub search_of : ℤ → List Element → Result ℕ ℕ
 search_of stamp es = if is_some (element_at stamp es) then Ok (rank_of stamp es) else Err (rank_of stamp es)
-
--- the elements that a page with room for so many is taken for when a row is put: none where it is full and the stamp is a new one
-abbrev pub taken_for : ℕ → ℤ → List Element → List Element
-taken_for room stamp es = if nat_lt (length es) room || is_some (element_at stamp es) then es else []

@@ -4,50 +4,12 @@ ghost use Rattle.ts_row.specs.Row.{fits};
 ghost use Rattle.ts_row.specs.Element.{Element};
 ghost use Rattle.ts_cells.specs.Cell.{page_room};
 ghost use Rattle.ts_cells.specs.IrregularPage.{AreElements, AreInOrder, behind_head};
-ghost use Rattle.ts_irregular.specs.Edit.{with_element, without_element, taken_for};
+ghost use Rattle.ts_irregular.specs.Edit.{without_element};
 
 use crate::stamps::search;
 use ts_base::Stamp;
 use ts_cells::{cell_size, page_room, write_cell};
 use ts_row::{Row, RowType};
-
-/// Puts a row at a stamp, and gives the number of elements then. A full page that hasn't the stamp becomes one of this
-/// element alone: no caller asks for it where the page is told.
-pub(crate) fn put_row(
-    kind: &RowType,
-    behind: &mut [u8],
-    count: usize,
-    stamp: Stamp,
-    row: &Row,
-) -> usize
-    requires size { length behind.old ≡ 4064 }
-    requires room { count ≤ page_room kind.now.columns }
-    requires fits { IsTrue (fits kind.now.columns row.now) }
-    ensures count { (es : List Element) → AreInOrder kind.now.columns es → length es ≡ count → behind.old ≡ behind_head kind.now.columns es
-        → length (with_element stamp row.now (taken_for (page_room kind.now.columns) stamp es)) ≡ result }
-    ensures bytes { (es : List Element) → AreInOrder kind.now.columns es → length es ≡ count → behind.old ≡ behind_head kind.now.columns es
-        → behind.new ≡ behind_head kind.now.columns (with_element stamp row.now (taken_for (page_room kind.now.columns) stamp es)) }
-    ensures some { 1 ≤ result }
-    ensures most { result ≤ page_room kind.now.columns }
-{
-    // It is at most 1000, so there is room for one.
-    let _width = kind.width();
-    match search(kind, behind, count, stamp) {
-        Ok(index) => {
-            replace_cell(kind, behind, index, stamp, row);
-            count
-        }
-        Err(index) if count < page_room(kind) => {
-            insert_cell(kind, behind, count, index, stamp, row);
-            count + 1
-        }
-        Err(_) => {
-            clear(behind);
-            insert_cell(kind, behind, 0, 0, stamp, row);
-            1
-        }
-    }
-}
 
 /// Takes away the element at a stamp, if one is there, and gives the number of elements then.
 pub(crate) fn take_row(kind: &RowType, behind: &mut [u8], count: usize, stamp: Stamp) -> usize

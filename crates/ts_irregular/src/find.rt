@@ -1,44 +1,14 @@
 // The row at a stamp, where the page was judged before.
-ghost use Rattle.std.specs.Prelude.{◌≡◌, ◌↔◌, ◌<◌, ◌≤◌, IsTrue, IfOk, IfSome, List, length};
-ghost use Rattle.ts_row.specs.Row.{fits};
-ghost use Rattle.ts_space.specs.Directory.{places_of};
+ghost use Rattle.std.specs.Prelude.{◌≡◌, ◌↔◌, ◌<◌, ◌≤◌, IsTrue, List, length};
 ghost use Rattle.ts_page.specs.Head.{head_of, zero_page};
 ghost use Rattle.ts_row.specs.Element.{Element};
 ghost use Rattle.ts_cells.specs.Cell.{page_room};
-ghost use Rattle.ts_irregular.specs.OnePage.{IsReadable, IsOn, told_in};
-ghost use Rattle.ts_irregular.specs.Call.{Reads, IsRowThere};
+ghost use Rattle.ts_irregular.specs.OnePage.{IsOn, told_in};
 
-use crate::get::row_at;
-use ts_base::{Stamp, StoreFault};
 use ts_cells::page_room;
-use ts_page::{HEAD, Head, Page, Pages};
-use ts_row::{Row, RowType, Shelf};
-use ts_space::{Place, Space};
-
-/// The row of the element at a stamp of a series that has no page or one, hidden or not. The page isn't judged again: its head is compared with
-/// its place, and the stamp is searched. All pages stay; `page` is room to read one.
-pub fn irregular_find<P: Pages>(
-    pages: &mut P,
-    page: &mut Page,
-    space: &Space,
-    shelf: &Shelf,
-    stamp: Stamp,
-) -> Result<Option<Row>, StoreFault>
-    requires slot { shelf.now.series < 4096 }
-    requires one { IsReadable (P.contents pages.old) (places_of shelf.now.series space.now) }
-    ensures found { IfOk result (IsRowThere P.tells shelf.now.series shelf.now.kind.now.columns stamp (places_of shelf.now.series space.now)
-        (P.contents pages.old)) }
-    ensures fits { IfOk result (λ found. IfSome found (λ row. IsTrue (fits shelf.now.kind.now.columns row))) }
-    ensures call { Reads P.tells result (P.contents pages.old) (P.contents pages.new) }
-    ensures undisturbed { P.undisturbed pages.old pages.new }
-{
-    let Some(place) = space.places(shelf.series).first() else {
-        return Ok(None);
-    };
-    pages.get(place.page, page)?;
-    let count = count_told(shelf, place, page);
-    Ok(row_at(shelf.kind, &page.bytes[HEAD..], count, stamp)?)
-}
+use ts_page::{Head, Page};
+use ts_row::{RowType, Shelf};
+use ts_space::Place;
 
 /// How many elements of the series a page has by its head; none where that disagrees with its place.
 pub fn count_told(shelf: &Shelf, place: &Place, page: &Page) -> usize

@@ -1,46 +1,17 @@
 // The last element that isn't hidden.
 ghost use Rattle.std.specs.Prelude.{◌≡◌, ◌<◌, ◌≤◌, IsTrue, IfOk, IfSome, List, length, slice_get, option_and_then};
 ghost use Rattle.ts_row.specs.Row.{fits};
-ghost use Rattle.ts_space.specs.Directory.{places_of};
 ghost use Rattle.ts_row.specs.Element.{Element};
 ghost use Rattle.ts_cells.specs.Cell.{page_room};
 ghost use Rattle.ts_cells.specs.IrregularPage.{AreElements, AreInOrder, behind_head};
-ghost use Rattle.ts_irregular.specs.OnePage.{IsReadable};
 ghost use Rattle.ts_irregular.specs.Edit.{last_seen};
-ghost use Rattle.ts_irregular.specs.Call.{Reads, IsLast};
 
 use crate::cell::{is_hidden_at, row_at_index};
-use crate::find::count_told;
 use crate::stamps::units_at;
 use std::alloc::AllocError;
-use ts_base::{Stamp, StoreFault};
+use ts_base::Stamp;
 use ts_cells::cell_size;
-use ts_page::{HEAD, Page, Pages};
-use ts_row::{Row, RowType, Shelf};
-use ts_space::Space;
-
-/// The last element of a series that has no page or one, of those that aren't hidden. The page isn't judged again: its head is compared with its place. All
-/// pages stay; `page` is room to read one.
-pub fn irregular_last<P: Pages>(
-    pages: &mut P,
-    page: &mut Page,
-    space: &Space,
-    shelf: &Shelf,
-) -> Result<Option<(Stamp, Row)>, StoreFault>
-    requires slot { shelf.now.series < 4096 }
-    requires one { IsReadable (P.contents pages.old) (places_of shelf.now.series space.now) }
-    ensures last { IfOk result (λ last. IsLast P.tells shelf.now.series shelf.now.kind.now.columns (places_of shelf.now.series space.now) (P.contents pages.old) last) }
-    ensures fits { IfOk result (λ last. IfSome last (λ e. IsTrue (fits shelf.now.kind.now.columns e.1))) }
-    ensures call { Reads P.tells result (P.contents pages.old) (P.contents pages.new) }
-    ensures undisturbed { P.undisturbed pages.old pages.new }
-{
-    let Some(place) = space.places(shelf.series).first() else {
-        return Ok(None);
-    };
-    pages.get(place.page, page)?;
-    let count = count_told(shelf, place, page);
-    Ok(last_among(shelf.kind, &page.bytes[HEAD..], count)?)
-}
+use ts_row::{Row, RowType};
 
 /// The last of the elements whose cells stand behind the head of a page, of those that aren't hidden.
 pub fn last_among(

@@ -1,17 +1,13 @@
 // What holds of every list of elements that is edited.
-ghost use Rattle.std.specs.Prelude.{◌≡◌, ◌+◌, ◌≤◌, ℕ, ℤ, Bool, Option, Some, IsSome, option_and_then, List, length};
+ghost use Rattle.std.specs.Prelude.{◌≡◌, ◌+◌, ◌≤◌, ℤ, Bool, Some, IsSome, option_and_then, List, length};
 ghost use Rattle.std.specs.Ordering.{int_cmp};
 ghost use Rattle.std.specs.FinMap.{from_entries, entries, insert, remove, get};
-ghost use Rattle.ts_space.specs.declared.place.Place.{Place as ThePlace};
-ghost use Rattle.ts_page.specs.Pages.{Contents, IsLawful};
 ghost use Rattle.ts_row.specs.declared.kind.Column.{Column as TheColumn};
 ghost use Rattle.ts_row.specs.Row.{Row, marked};
 ghost use Rattle.ts_row.specs.Element.{Element, seen};
 ghost use Rattle.ts_cells.specs.Cell.{IsElement};
 ghost use Rattle.ts_cells.specs.IrregularPage.{AreInOrder, AreRising};
 ghost use Rattle.ts_irregular.specs.Edit.{element_at, with_element, without_element, row_if_seen};
-ghost use Rattle.ts_irregular.specs.OnePage.{HasOnePage};
-ghost use Rattle.ts_irregular.specs.Call.{IsEdited};
 
 /// Edits of the list are those of the map that it makes.
 pub fn edits_are_those_of_a_map()
@@ -32,21 +28,12 @@ pub fn edits_keep_the_order()
     ensures fewer { (stamp : ℤ) (es : List Element) → length (without_element stamp es) ≤ length es }
 {}
 
-/// An edit leaves a series that has no page or one.
-pub fn an_edit_keeps_one_page()
-    ensures { (tells : Bool) (slot : ℕ) (columns : List TheColumn) (stamp : ℤ) (row : Option Row) (old new : List ThePlace) (v w : Contents) →
-        IsLawful tells v → w.count ≡ v.count → HasOnePage columns v old → IsEdited tells slot columns stamp row old new v w → HasOnePage columns w new }
-{}
-
-/// A mark that is set keeps the order; any change of a row that is there keeps the number of elements, and, since no page is taken or freed,
-/// the page of a series.
+/// A mark that is set keeps the order; any change of a row that is there keeps the number of elements.
 pub fn a_mark_keeps_the_rest()
     ensures order { (columns : List TheColumn) (stamp : ℤ) (hidden : Bool) (row : Row) (es : List Element) → AreInOrder columns es →
         element_at stamp es ≡ Some row → AreInOrder columns (with_element stamp (marked hidden row) es) }
     ensures count { (stamp : ℤ) (row : Row) (es : List Element) → AreRising es → IsSome (element_at stamp es) →
         length (with_element stamp row es) ≡ length es }
-    ensures page { (columns : List TheColumn) (places : List ThePlace) (v w : Contents) → w.count ≡ v.count → w.free ≡ v.free →
-        HasOnePage columns v places → HasOnePage columns w places }
 {}
 
 /// The entries of the map of elements are these, in their order; and of those that aren't hidden one is at a stamp where one is there that

@@ -4,40 +4,15 @@ ghost use Rattle.ts_row.specs.Row.{fits};
 ghost use Rattle.ts_row.specs.Element.{Element};
 ghost use Rattle.ts_cells.specs.Cell.{page_room};
 ghost use Rattle.ts_cells.specs.IrregularPage.{AreElements, AreInOrder, behind_head, irregular_page};
-ghost use Rattle.ts_irregular.specs.Edit.{with_element, without_element, search_of, taken_for};
+ghost use Rattle.ts_irregular.specs.Edit.{with_element, without_element, search_of};
 ghost use Rattle.ts_irregular.specs.OnePage.{place_of};
 
-use crate::cells::{insert_cell, put_row, take_row};
+use crate::cells::{insert_cell, take_row};
 use crate::stamps::units_in;
 use ts_base::Stamp;
 use ts_page::{HEAD, Head, Page};
 use ts_row::{Row, Shelf};
 use ts_space::Place;
-
-/// Puts a row at a stamp into a page with so many elements, and gives how many it has then.
-pub(crate) fn put_into(
-    shelf: &Shelf,
-    page: &mut Page,
-    count: usize,
-    stamp: Stamp,
-    row: &Row,
-) -> usize
-    requires room { count ≤ page_room shelf.now.kind.now.columns }
-    requires fits { IsTrue (fits shelf.now.kind.now.columns row.now) }
-    ensures count { (es : List Element) → AreInOrder shelf.now.kind.now.columns es → length es ≡ count
-        → drop 32 page.old.bytes ≡ behind_head shelf.now.kind.now.columns es
-        → length (with_element stamp row.now (taken_for (page_room shelf.now.kind.now.columns) stamp es)) ≡ result }
-    ensures bytes { (es : List Element) → AreInOrder shelf.now.kind.now.columns es → length es ≡ count
-        → drop 32 page.old.bytes ≡ behind_head shelf.now.kind.now.columns es
-        → page.new.bytes ≡ irregular_page shelf.now.series shelf.now.kind.now.columns
-        (with_element stamp row.now (taken_for (page_room shelf.now.kind.now.columns) stamp es)) }
-    ensures some { 1 ≤ result }
-    ensures most { result ≤ page_room shelf.now.kind.now.columns }
-{
-    let count = put_row(shelf.kind, &mut page.bytes[HEAD..], count, stamp, row);
-    set_count(shelf, page, count);
-    count
-}
 
 /// Takes the element at a stamp, if one is there, out of a page with so many, and gives how many are left.
 pub fn take_out(shelf: &Shelf, page: &mut Page, count: usize, stamp: Stamp) -> usize

@@ -1,7 +1,7 @@
 use Rattle.std.proofs.Common.{Bool, Option, List, ℕ, subst, refl}
 use Rattle.ts_space.specs.declared.place.Place.{Place}
 use Rattle.ts_space.specs.Place.{AreAbove}
-use Rattle.ts_chain.specs.declared.moved.Moved.{Moved}
+use Rattle.ts_space.specs.declared.moved.Moved.{Moved}
 use Rattle.ts_chain.specs.Call.{IsRemoved}
 use Rattle.ts_chain.proofs.ChangeLemmas.{if_ok, none_changed}
 use Rattle.ts_chain.proofs.RestLemmas.{removed_since}

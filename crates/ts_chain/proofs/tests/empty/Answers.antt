@@ -1,4 +1,4 @@
-use Rattle.std.proofs.Common.{◌≡◌, ℕ, ◌<◌, ◌≤◌, true, List, [], ◌∷◌, All, length, replicate, slice_index_or, sym, ◌∙◌, ap, subst, arith, rules, lit≤, lit<}
+use Rattle.std.proofs.Common.{◌≡◌, ℕ, zero, suc, ◌+◌, ◌<◌, ◌≤◌, true, List, [], ◌∷◌, All, length, replicate, slice_index, slice_index_or, sym, ◌∙◌, ap, subst, arith, rules, lit≤, lit<}
 use Rattle.std.proofs.lemmas.List.{get_or-replicate, length-replicate}
 use Rattle.std.proofs.lemmas.List.Elements.{All-nil, All-cons}
 use Rattle.ts_page.specs.declared.page.Page.{Page}
@@ -19,10 +19,24 @@ of_zeros pages zeros n free number bytes are element below = record {
 pub new-requires-clause-listed : goal.new-requires-clause-listed
 new-requires-clause-listed c =
     let pages = c.in_ok-pages.pages.items in
-    let zeros : pages ≡ replicate 932 c.zero.result = c.in_ok-pages.ensures.items_if_clones_equal (λ y is. search rules) in
-    let free : c.in_ok-free.free.items ≡ 930 ∷ 931 ∷ [] = c.in_ok-free.ensures.items in
-    let two : List ℕ = 930 ∷ 931 ∷ [] in
-    let Listed : ℕ → Type 0 = IsListed true (kept pages two) in
+    let zeros : pages ≡ replicate 933 c.zero.result = c.in_ok-pages.ensures.items_if_clones_equal (λ y is. search rules) in
+    let free : c.in_ok-free.free.items ≡ 930 ∷ 931 ∷ 932 ∷ [] = c.in_ok-free.ensures.items in
+    let three : List ℕ = 930 ∷ 931 ∷ 932 ∷ [] in
+    let Listed : ℕ → Type 0 = IsListed true (kept pages three) in
     subst (λ (l : List ℕ). All (IsListed true (kept pages l)) l) (sym free)
-    (All-cons Listed 930 (931 ∷ []) (of_zeros pages c.zero.result 932 two 930 c.zero.ensures zeros (lit≤ tt) (lit< tt))
-    (All-cons Listed 931 [] (of_zeros pages c.zero.result 932 two 931 c.zero.ensures zeros (lit≤ tt) (lit< tt)) (All-nil Listed)))
+    (All-cons Listed 930 (931 ∷ 932 ∷ []) (of_zeros pages c.zero.result 933 three 930 c.zero.ensures zeros (lit≤ tt) (lit< tt))
+    (All-cons Listed 931 (932 ∷ []) (of_zeros pages c.zero.result 933 three 931 c.zero.ensures zeros (lit≤ tt) (lit< tt))
+    (All-cons Listed 932 [] (of_zeros pages c.zero.result 933 three 932 c.zero.ensures zeros (lit≤ tt) (lit< tt)) (All-nil Listed))))
+
+three_free : List ℕ
+three_free = 930 ∷ 931 ∷ 932 ∷ []
+
+rising : (k : ℕ) → k + 1 < length three_free → slice_index three_free k < slice_index three_free (k + 1)
+unfolding three_free
+rising zero within = lit< tt
+rising (suc zero) within = lit< tt
+rising (suc (suc k)) within = absurd (omega (arith, within))
+
+pub new-requires-clause-rising : goal.new-requires-clause-rising
+unfolding three_free
+new-requires-clause-rising c = subst (λ (l : List ℕ). (k : ℕ) → k + 1 < length l → slice_index l k < slice_index l (k + 1)) (sym c.in_ok-free.ensures.items) rising

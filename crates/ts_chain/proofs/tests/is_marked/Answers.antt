@@ -1,13 +1,13 @@
 use Rattle.std.proofs.Common.{◌∙◌}
 use Rattle.ts_page.specs.Memory.{memory_contents}
-use Rattle.ts_chain.proofs.OnePageLemmas.{one_read}
+use Rattle.ts_chain.proofs.MovedLemmas.{places_read}
 use Rattle.ts_chain.proofs.tests.is_marked.Goals as goal
 
 pub chain_find-requires-clause-readable : goal.chain_find-requires-clause-readable
 chain_find-requires-clause-readable c =
-    one_read c.in_ok-series.series.kind.columns _ (memory_contents c.in_ok-series.series.pages) (memory_contents c.chain_mark.new.pages) c.in_ok-series.ensures c.in_ok-told.ensures.call.count
+    places_read c.in_ok-series.series.kind.columns _ (memory_contents c.in_ok-series.series.pages) (memory_contents c.chain_mark.new.pages) c.in_ok-series.ensures c.in_ok-told.ensures.call.count
 
 pub chain_find-requires-2-clause-readable : goal.chain_find-requires-2-clause-readable
 chain_find-requires-2-clause-readable c =
-    one_read c.in_ok-series.series.kind.columns _ (memory_contents c.in_ok-series.series.pages) (memory_contents c.chain_find.new.pages) c.in_ok-series.ensures
+    places_read c.in_ok-series.series.kind.columns _ (memory_contents c.in_ok-series.series.pages) (memory_contents c.chain_find.new.pages) c.in_ok-series.ensures
     (c.in_ok-found.ensures.call.call.count ∙ c.in_ok-told.ensures.call.count)
