@@ -1,0 +1,11 @@
+pub mod AnswerLemmas
+pub mod ChainLemmas
+pub mod ClearLemmas
+pub mod EditLemmas
+pub mod EndsLemmas
+pub mod FreePlaceLemmas
+pub mod KeepLemmas
+pub mod LayLemmas
+pub mod PlacesLemmas
+pub mod RangeLemmas
+pub mod WrittenLemmas

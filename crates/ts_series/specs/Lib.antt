@@ -1,0 +1,3 @@
+pub mod Clip
+pub mod Edit
+pub mod Ends
