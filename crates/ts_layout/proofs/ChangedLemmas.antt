@@ -15,13 +15,14 @@ use Rattle.ts_model.specs.Kinds.{HasNoPages, with_named, without}
 use Rattle.ts_model.specs.Definitions.{Definitions, RowTypeDef, ContainerDef, SeriesDef, KindDef, kind_of, to_def, from_def, table_of, name_of, name_in, limit, slots, slot_of, at_slot, with_slot, with_table, by_name, references, Refers, IsUsed, IsTable, IsFormat, IsDefinitions}
 use Rattle.ts_model.proofs.PartsLemmas.{forth, table-here, table-other, same_or_other, table-rules, all-rules, format-stays}
 use Rattle.ts_model.proofs.SlotLemmas.{by_name-clear}
-use Rattle.ts_layout.specs.Meaning.{Layout, ElementPage, Cells, def_at, heading_of_container, heading_in, heading_at, quota_in, sum_of_quotas, elements_of, sum_filled, charge_of_series, KeepsQuotas, AreSound, IsSound, value_of, named_in, catalogue_of}
+use Rattle.ts_layout.specs.Meaning.{Layout, ElementPage, Cells, def_at, heading_of_container, heading_in, heading_at, quota_in, sum_of_quotas, elements_of, sum_filled, charge_of_series, AreInChains, KeepsQuotas, AreSound, IsSound, value_of, named_in, catalogue_of}
 use Rattle.ts_layout.specs.Changed.{layout_with, granted, KeepsHeadings, HasNoPage, CanMake, CanDrop}
 use Rattle.ts_layout.proofs.PlaceLemmas.{def_at-other}
 use Rattle.ts_layout.proofs.SlotLemmas.{same_in}
 use Rattle.ts_layout.proofs.LayoutLemmas.{none≢some, within_table}
 use Rattle.ts_layout.proofs.FilledLemmas.{at_filled, at_cleared, table_filled, table_cleared, by_name_same, no_such_name, slot_there, by_name_filled}
 use Rattle.ts_layout.proofs.ReferLemmas.{KeepColumns, empty_in, filled_in, some_in, first_of, each_there, and_then_same, limits_filled, references_filled, limits_cleared, references_cleared}
+use Rattle.ts_layout.proofs.ChainCountLemmas.{no_chain_in}
 use Rattle.ts_layout.proofs.ValueLemmas.{same_value, catalogue_with, catalogue_without, no_charge, no_elements_of, no_elements_charge, sum_filled_less}
 
 -- a definition as one of its kind
@@ -120,8 +121,17 @@ module _ (kind : Kind) (slot : ℕ) (o : Option Def) (l : Layout) (sound : IsSou
             omega (arith, less, none)
       ]
 
+  changed_chains : AreInChains (layout_with kind slot o l)
+  changed_chains s h there = elim (cases_eq s slot) [
+    | inl same ↦ elim (same_or_other kinds.Series kind) [
+      | inl is ↦ no_chain_in s h.columns l.element_pages (subst (λ (n : ℕ). HasNoPage n l.element_pages) (sym same) (pageless (sym is)).1)
+      | inr differs ↦ sound.chains s h (sym (columns_stay s (λ series at. differs (sym series))) ∙ there)
+    ]
+    | inr other ↦ sound.chains s h (sym (columns_stay s (λ series at. other at)) ∙ there)
+  ]
+
   pub changed_sound : AreSound (length l.element_pages) then_defs → IsSound (layout_with kind slot o l)
-  changed_sound rules = record { some = sound.some; most = sound.most; definitions = rules; one_page = sound.one_page; charges = changed_charges }
+  changed_sound rules = record { some = sound.some; most = sound.most; definitions = rules; chains = changed_chains; charges = changed_charges }
 
   pub others_named : (k : Kind) → (k ≡ kind → ⊥) → named_in k (layout_with kind slot o l) ≡ named_in k l
   others_named k differs =

@@ -1,8 +1,8 @@
 -- The catalogue of a layout keeps its format.
-use Rattle.std.proofs.Common.{◌≡◌, ℕ, zero, suc, ◌<◌, ◌==◌, ◌||◌, cond, true, false, Bool, ℤ, Option, Some, None, List, [], ◌∷◌, ◌++◌, refl, sym, ap, subst, ◌∙◌, arith, inl, inr}
+use Rattle.std.proofs.Common.{◌≡◌, ℕ, suc, ◌<◌, ◌==◌, ◌||◌, cond, true, false, Bool, ℤ, Option, Some, List, [], ◌∷◌, ◌++◌, refl, sym, ap, subst, ◌∙◌, arith, inl, inr}
 use Rattle.std.specs.Ordering.{int_cmp, eq_by_cmp}
 use Rattle.std.specs.Cmp.{int_cmp_total}
-use Rattle.std.specs.FinMap.{find, get, from_entries, get-from_entries}
+use Rattle.std.specs.FinMap.{find, get, get-from_entries}
 use Rattle.std.proofs.lemmas.Bool.Decides.{nat_tests}
 use Rattle.std.proofs.lemmas.Bool.{cases_eq}
 use Rattle.ts_row.specs.RowType.{Heading, has_long_decimal}
@@ -13,13 +13,13 @@ use Rattle.ts_model.specs.declared.kind.Kind.TheVariants as kinds
 use Rattle.ts_model.specs.declared.def.Def.{Def}
 use Rattle.ts_model.specs.Catalogue.{Series, Catalogue}
 use Rattle.ts_model.specs.Format.{KeepsFormat}
-use Rattle.ts_model.specs.Definitions.{RowTypeDef, SeriesDef}
+use Rattle.ts_model.specs.Definitions.{RowTypeDef}
 use Rattle.ts_layout.specs.Limits.{IsSlotOf}
-use Rattle.ts_layout.specs.Meaning.{Layout, ElementPage, Free, Cells, element_page, elements_on, elements_of, elements_at, IsSound, Means, catalogue_of}
-use Rattle.ts_layout.specs.OnePage.{AreFilled}
+use Rattle.ts_layout.specs.Meaning.{Layout, ElementPage, Free, Cells, element_page, elements_on, elements_of, IsSound, Means, catalogue_of}
+use Rattle.ts_layout.specs.Chains.{AreFilled}
 use Rattle.ts_layout.proofs.LayoutLemmas.{within_table}
 use Rattle.ts_layout.proofs.LookupLemmas.{name_listed}
-use Rattle.ts_layout.proofs.OnePageLemmas.{filled_pages}
+use Rattle.ts_layout.proofs.PageLemmas.{filled_pages}
 
 neither : (a b : Bool) → (a || b) ≡ false → (a ≡ false) × (b ≡ false)
 neither true b none = absurd (cc)

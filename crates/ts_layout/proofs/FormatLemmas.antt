@@ -1,5 +1,5 @@
 -- Layouts in another format.
-use Rattle.std.proofs.Common.{◌≡◌, ◌≢◌, ℕ, ◌+◌, ◌≤◌, true, false, Bool, Option, Some, None, IsSome, List, [], ◌∷◌, length, drop, refl, sym, ap, subst, ◌∙◌, arith, inl, inr}
+use Rattle.std.proofs.Common.{◌≡◌, ◌≢◌, ℕ, ◌+◌, ◌≤◌, true, false, Bool, Option, Some, None, IsSome, List, [], ◌∷◌, length, drop, refl, sym, ap, subst, ◌∙◌, arith, inr}
 use Rattle.ts_row.specs.RowType.{Heading, has_long_decimal}
 use Rattle.ts_row.specs.Element.{Element, has_hidden}
 use Rattle.ts_page.specs.Head.{bytes_at}
@@ -16,11 +16,11 @@ use Rattle.ts_layout.specs.Slot.{header_bytes, slot_size, slot_bytes, page_of_sl
 use Rattle.ts_layout.specs.Limits.{IsOfFormat, AreOfFormat, IsDef, IsSlotOf}
 use Rattle.ts_layout.specs.Meaning.{Layout, ElementPage, Free, Cells, element_page, def_at, heading_at, HoldsElements, HoldsLayout, KeepLimits, IsThere, AreSound, IsSound}
 use Rattle.ts_layout.specs.Changed.{layout_in}
-use Rattle.ts_layout.specs.OnePage.{IsPageFor, AreFilled}
+use Rattle.ts_layout.specs.Chains.{AreFilled}
 use Rattle.ts_layout.specs.Placed.{AreKept}
 use Rattle.ts_layout.proofs.PlaceLemmas.{page_low}
 use Rattle.ts_layout.proofs.LayoutLemmas.{same_page}
-use Rattle.ts_layout.proofs.OnePageLemmas.{same_cells}
+use Rattle.ts_layout.proofs.PageLemmas.{same_cells}
 use Rattle.ts_layout.proofs.WrittenLemmas.{there_now, elsewhere}
 
 -- no other format asks for anything
@@ -46,15 +46,6 @@ true_and_false b is_false is_true = cc
 
 pub format_edited : (format : ℕ) (old es : List Element) → AreOfFormat format old → (has_hidden es ≡ true → has_hidden old ≡ true) → AreOfFormat format es
 format_edited format old es before fewer is = not_true (has_hidden es) (λ hides. true_and_false (has_hidden old) (before is) (fewer hides))
-
-none_hidden : (es : List Element) → es ≡ [] → has_hidden es ≡ false
-none_hidden es none = ap has_hidden none
-
-pub page_of_format : (l : Layout) (slot i : ℕ) (es : List Element) → AreFilled l → IsPageFor slot i es l.element_pages → AreOfFormat l.definitions.format es
-page_of_format l slot i es filled held = elim held.page [
-  | inl here ↦ (filled i slot es here).3
-  | inr free ↦ λ old. none_hidden es free.1
-]
 
 -- what stands in a slot by another format
 def_same : (kind : Kind) (slot format : ℕ) (d : Definitions) → def_at kind slot (with_format format d) ≡ def_at kind slot d
@@ -105,7 +96,7 @@ sound_renewed l sound = record {
   some = sound.some;
   most = sound.most;
   definitions = rules_renewed (length l.element_pages) l.definitions sound.definitions;
-  one_page = sound.one_page;
+  chains = sound.chains;
   charges = sound.charges;
 }
 
@@ -121,13 +112,11 @@ kept_renewed d space free count kept = record {
   sound = rules_renewed _ d kept.sound;
   placed = record {
     slots = kept.placed.slots;
-    few = kept.placed.few;
-    places = λ slot p within is.
-        let one = kept.placed.places slot p within is in
+    rising = kept.placed.rising;
+    places = λ slot within k e inside.
+        let one = kept.placed.places slot within k e inside in
         record { element = one.element; below = one.below; some = one.some; heading = one.heading; columns = one.columns; room = one.room };
     numbers = kept.placed.numbers;
-    apart = kept.placed.apart;
-    used = kept.placed.used;
     different = kept.placed.different;
     all = kept.placed.all;
   };

@@ -4,14 +4,15 @@ use Rattle.std.specs.List.{sum_by}
 use Rattle.std.proofs.lemmas.Bool.Decides.{nat_tests}
 use Rattle.std.proofs.lemmas.Bool.{cases_eq, cases_lt}
 use Rattle.std.proofs.lemmas.List.Sums.{sum_by-cons}
+use Rattle.std.proofs.lemmas.List.Sorted.{IsPermutation-sym, length_permutation}
 use Rattle.ts_row.specs.RowType.{Heading}
 use Rattle.ts_space.specs.declared.place.Place.{Place}
-use Rattle.ts_space.specs.Directory.{Directory, used_of}
+use Rattle.ts_space.specs.Directory.{Directory, places_of, used_of}
 use Rattle.ts_cells.specs.Cell.{Element}
 use Rattle.ts_model.specs.Definitions.{Definitions, IsDefinitions}
 use Rattle.ts_layout.specs.Meaning.{ElementPage, Free, Cells, Layout, element_page, heading_at}
 use Rattle.ts_layout.specs.Surveyed.{place_of, places_on, places_from, free_from, free_pages, ListsPlaces}
-use Rattle.ts_layout.specs.OnePage.{AreFilled}
+use Rattle.ts_layout.specs.Chains.{AreFilled}
 use Rattle.ts_layout.proofs.LimitLemmas.{heading_past}
 
 -- the sum of a function over so many numbers, from the first on
@@ -87,7 +88,7 @@ free_and_used slots first (Cells s es ∷ pages) each =
     omega (arith, rest, one, split)
 
 -- the slot of a series with columns is one of the table
-filled_within : (d : Definitions) (slot : ℕ) (h : Heading) → IsDefinitions d → heading_at d slot ≡ Some h → slot < 4096
+pub filled_within : (d : Definitions) (slot : ℕ) (h : Heading) → IsDefinitions d → heading_at d slot ≡ Some h → slot < 4096
 filled_within d slot h rules there = elim (cases_lt slot 4096) [
   | inl below ↦ below
   | inr past ↦ absurd (none_some h (heading_past d rules slot past ∙ there))
@@ -101,7 +102,7 @@ free_counted l space rules filled lists size =
     let used : used_of space ≡ sum_to (λ k. length (places_from k 930 l.element_pages)) 0 (length space.lists) =
     lists_sum (λ k. length (places_from k 930 l.element_pages)) 0 space.lists (λ j within.
     let at : j ≡ 0 + j = omega arith in
-    ap length (lists j (omega (arith, within, size))) ∙ ap (λ (k : ℕ). length (places_from k 930 l.element_pages)) at) in
+    length_permutation (places_from j 930 l.element_pages) (places_of j space) (IsPermutation-sym (places_of j space) (places_from j 930 l.element_pages) (lists j (omega (arith, within, size))).all) ∙ ap (λ (k : ℕ). length (places_from k 930 l.element_pages)) at) in
     let both = free_and_used (length space.lists) 930 l.element_pages (λ i s es is.
     let fill = filled i s es is in
     (let z = filled_within l.definitions s fill.0 rules fill.1 in omega (arith, z, size), fill.2.some)) in

@@ -1,48 +1,45 @@
--- What a place tells of the page of its series.
-use Rattle.std.proofs.Common.{◌≡◌, ◌≢◌, ℕ, suc, ◌+◌, Option, Some, List, [], ◌∷◌, length, get_or, sym, ap, subst, ◌∙◌, arith, length-set, get_or-set_other, inl}
-use Rattle.std.specs.Prelude.{All}
-use Rattle.ts_row.specs.RowType.{Heading}
+-- Layouts that are held: their free pages, and those of one series besides; and directories of which one list changes.
+use Rattle.std.specs.Prelude.{IsPermutation}
+use Rattle.std.proofs.Common.{◌≡◌, ◌≢◌, ℕ, ◌+◌, ◌<◌, List, [], ◌++◌, map, length, get_or, refl, ap, ◌∙◌, arith, length-set, get_or-set_other}
+use Rattle.std.proofs.lemmas.List.Sorted.{IsPermutation-refl, IsPermutation-sym, IsPermutation-trans, IsPermutation-append, IsPermutation-append_comm, length_permutation}
 use Rattle.ts_space.specs.declared.place.Place.{Place}
-use Rattle.ts_space.specs.Directory.{Directory, places_of, ChangesOnly}
-use Rattle.ts_cells.specs.Cell.{Element}
-use Rattle.ts_cells.specs.IrregularPage.{FillPage, first_stamp}
-use Rattle.ts_layout.specs.Meaning.{ElementPage, Layout, element_page, heading_at}
-use Rattle.ts_layout.specs.Surveyed.{place_of}
-use Rattle.ts_layout.specs.OnePage.{IsPageFor, AreFilled, HasPage, AreFreePages}
-use Rattle.ts_layout.proofs.OnePageLemmas.{free_cells}
+use Rattle.ts_space.specs.Place.{pages_of}
+use Rattle.ts_space.specs.Directory.{Directory, places_of, used_of, ChangesOnly}
+use Rattle.ts_model.specs.Definitions.{Definitions}
+use Rattle.ts_layout.specs.Meaning.{Layout, IsSound}
+use Rattle.ts_layout.specs.Surveyed.{free_from, free_pages, ListsPlaces}
+use Rattle.ts_layout.specs.Chains.{AreFilled, freed}
+use Rattle.ts_layout.specs.Held.{IsHeldOf}
+use Rattle.ts_layout.proofs.FreeLemmas.{free_counted}
+use Rattle.ts_layout.proofs.PairLemmas.{pairs_from, numbers_in, place_numbers, free_freed}
 
-place_fields : (number : ℕ) (es : List Element) (p : Place) → place_of number es ≡ p ∷ [] → (p.page ≡ number) × (p.count ≡ length es) × (first_stamp es ≡ Some p.at)
-place_fields number [] p is = absurd (let never : ⊥ = cc in never)
-place_fields number (e ∷ es) p is =
-    let own : p ≡ record { at = e.0; page = number; count = suc (length es) } = cc in
-    (ap (λ (x : Place). x.page) own, ap (λ (x : Place). x.count) own, ap (λ (x : Place). Some x.at) (sym own))
+-- what is surveyed is held
+pub held_layout : (l : Layout) (space : Directory) (count : ℕ) → IsSound l → AreFilled l → ListsPlaces space l → count ≡ 930 + length l.element_pages → IsHeldOf l.definitions space count (free_pages l) l
+held_layout l space count sound filled lists size = record {
+  definitions = refl;
+  size = size;
+  places = lists;
+  free = IsPermutation-refl (free_pages l);
+  rules = sound;
+  filled = filled;
+}
 
--- the number of the page, of its elements, and their first stamp
-pub place_tells : (slot : ℕ) (p : Place) (pages : List ElementPage) (held : HasPage slot p pages) → (p.page ≡ 930 + held.number) × (p.count ≡ length held.elements) × (first_stamp held.elements ≡ Some p.at)
-place_tells slot p pages held = place_fields (930 + held.number) held.elements p held.place
+-- as many pages are free as no place has
+pub free_left : (l : Layout) (space : Directory) (count : ℕ) (free : List ℕ) → IsHeldOf l.definitions space count free l → length space.lists ≡ 4096 → length free + used_of space ≡ length l.element_pages
+free_left l space count free held slots =
+    let all = free_counted l space held.rules.definitions.tables held.filled held.places slots in
+    let many = length_permutation free (free_pages l) held.free in
+    omega (arith, all, many)
 
--- the page can be given other elements
-pub place_holds : (slot : ℕ) (p : Place) (pages : List ElementPage) (held : HasPage slot p pages) → IsPageFor slot held.number held.elements pages
-place_holds slot p pages held = record { within = held.within; page = inl held.page }
-
-one_heading : (o : Option Heading) (a b : Heading) → o ≡ Some a → o ≡ Some b → a ≡ b
-one_heading o a b first second = cc
-
--- it is filled
-pub place_filled : (l : Layout) (slot : ℕ) (p : Place) (h : Heading) → AreFilled l → (held : HasPage slot p l.element_pages) → heading_at l.definitions slot ≡ Some h → FillPage h.columns held.elements
-place_filled l slot p h filled held there =
-    let fill = filled held.number slot held.elements held.page in
-    subst (λ (x : Heading). FillPage x.columns held.elements) (one_heading (heading_at l.definitions slot) fill.0 h fill.1 there) fill.2
-
-same_page : (i j n m : ℕ) → n ≡ 930 + i → m ≡ 930 + j → n ≡ m → i ≡ j
-same_page i j n m first second same = omega arith
-
--- and no page that can be taken
-pub place_used : (slot : ℕ) (p : Place) (free : List ℕ) (pages : List ElementPage) → HasPage slot p pages → AreFreePages free pages → All (λ number. number ≢ p.page) free
-place_used slot p free pages held listed k d within same =
-    let one = listed.each k d within in
-    let at : one.0 ≡ held.number = same_page one.0 held.number (get_or free k d) p.page one.1 (place_tells slot p pages held).0 same in
-    free_cells slot held.elements (sym one.3 ∙ ap (λ (n : ℕ). element_page n pages) at ∙ held.page)
+-- the free pages and those of one series are free where it is freed
+pub free_and_own : (d : Definitions) (space : Directory) (count : ℕ) (free : List ℕ) (l : Layout) (slot : ℕ) → IsHeldOf d space count free l → slot < 4096 → IsPermutation (free ++ pages_of (places_of slot space)) (free_from 930 (map (freed slot) l.element_pages))
+free_and_own d space count free l slot held within =
+    let all : List ℕ = free_from 930 (map (freed slot) l.element_pages) in
+    let were : List ℕ = free_from 930 l.element_pages in
+    let own : List ℕ = numbers_in (pairs_from slot 930 l.element_pages) in
+    let numbers = place_numbers slot (places_of slot space) l.element_pages (held.places slot within) (λ i es is. (held.filled i slot es is).2.some) in
+    IsPermutation-trans (free ++ pages_of (places_of slot space)) (were ++ own) all (IsPermutation-append free were (pages_of (places_of slot space)) own held.free numbers)
+    (IsPermutation-trans (were ++ own) (own ++ were) all (IsPermutation-append_comm were own) (IsPermutation-sym all (own ++ were) (free_freed slot 930 l.element_pages)))
 
 -- a directory of which one list changes
 pub others_stay : (slot s : ℕ) (old new : Directory) → ChangesOnly slot old new → s ≢ slot → places_of s new ≡ places_of s old

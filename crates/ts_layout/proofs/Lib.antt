@@ -1,4 +1,5 @@
 pub mod CallerLemmas
+mod MemberLemmas
 mod PlaceLemmas
 mod FieldLemmas
 mod ColumnLemmas
@@ -17,18 +18,23 @@ mod ValueLemmas
 mod ChangedLemmas
 mod CountLemmas
 mod LookupLemmas
-mod OnePageLemmas
+mod PageLemmas
+mod PairLemmas
+mod PermutedLemmas
+mod ChainCountLemmas
 mod WrittenLemmas
 mod NamedLemmas
-mod RisingLemmas
-mod SeriesLemmas
+mod SeriesChainLemmas
+mod StampLemmas
+mod RewrittenLemmas
 mod UsedLemmas
 mod FreeLemmas
+mod FreeListLemmas
 mod ListedLemmas
 mod QuotaLemmas
 mod NamedChargeLemmas
+mod ClearedLemmas
 mod SeriesDroppedLemmas
-mod FreeListLemmas
 mod HeldLemmas
 mod PlacedLemmas
 mod QuotasKeptLemmas

@@ -17,16 +17,15 @@ use Rattle.ts_space.specs.Charge.{irregular_charge}
 use Rattle.ts_cells.specs.Cell.{page_room}
 use Rattle.ts_model.specs.Catalogue.{name_cmp, Catalogue, Container, Series, Elements, columns_of, quota_of}
 use Rattle.ts_model.specs.Charge.{series_charge, page_elements, container_charge as charge_by_name}
-use Rattle.ts_model.specs.Definitions.{RowTypeDef, ContainerDef, SeriesDef, at_slot, filled_from, by_name}
+use Rattle.ts_model.specs.Definitions.{Definitions, RowTypeDef, ContainerDef, SeriesDef, at_slot, filled_from, by_name}
 use Rattle.ts_model.proofs.OrderLemmas.{total, same_name, eq_ties, ties-refl, ties-same}
 use Rattle.ts_model.proofs.SlotLemmas.{AreApart, apart-rest, find-other, find-slot}
 use Rattle.ts_model.proofs.IndexLemmas.{empty-list}
-use Rattle.ts_layout.specs.Meaning.{Layout, elements_of, elements_at, heading_of_container, AreSound, HasOnePageEach, sum_filled, charge_of_series, charge_of_container, name_at, container_of, series_of, catalogue_of}
-use Rattle.ts_layout.specs.OnePage.{AreFilled}
-use Rattle.ts_layout.proofs.OnePageLemmas.{sum_same}
+use Rattle.ts_layout.specs.Meaning.{Layout, elements_of, elements_at, heading_of_container, heading_at, heading_in, AreSound, IsSound, sum_filled, charge_of_series, charge_of_container, name_at, container_of, series_of, catalogue_of}
+use Rattle.ts_layout.specs.Chains.{AreFilled}
+use Rattle.ts_layout.proofs.PageLemmas.{sum_same}
 use Rattle.ts_layout.proofs.NamedLemmas.{slot_within, insert_removed}
-use Rattle.ts_layout.proofs.RisingLemmas.{len_rising}
-use Rattle.ts_layout.proofs.SeriesLemmas.{all_rising}
+use Rattle.ts_layout.proofs.ChainCountLemmas.{len_elements}
 use Rattle.ts_layout.proofs.UsedLemmas.{has_container}
 
 -- the sum over entries
@@ -119,10 +118,15 @@ bytes_differ a b other = elim (bytes_eq a b) as (λ (t : Bool). bytes_eq a b ≡
 same_some : {A : Type 0} (o : Option A) (a b : A) → o ≡ Some a → o ≡ Some b → a ≡ b
 same_some o a b first second = cc
 
+-- the columns of a series, by its container
+pub columns_there : (d : Definitions) (j : ℕ) (s : SeriesDef) (c : ContainerDef) (h : Heading) → at_slot j d.series ≡ Some s → at_slot s.container d.containers ≡ Some c → heading_of_container d c ≡ Some h → heading_at d j ≡ Some h
+columns_there d j s c h here there heading = ap (option_and_then (λ (x : SeriesDef). heading_in d x.container)) here ∙ ap (option_and_then (heading_of_container d)) there ∙ heading
+
 -- what one series is charged, by name and by slot
-one_named : (l : Layout) (pages slot j : ℕ) (s : SeriesDef) (c : ContainerDef) (h : Heading) → AreSound pages l.definitions → HasOnePageEach l.element_pages → AreFilled l → at_slot slot l.definitions.containers ≡ Some c → heading_of_container l.definitions c ≡ Some h
-    → at_slot j l.definitions.series ≡ Some s → cond (bytes_eq (name_at (λ x. x.name) s.container l.definitions.containers) c.name) (series_charge (catalogue_of l) (series_of l (0 + j) s)) 0 ≡ charge_of_series l.element_pages slot (page_room h.columns) (0 + j) s
-one_named l pages slot j s c h sound one filled there heading here =
+one_named : (l : Layout) (slot j : ℕ) (s : SeriesDef) (c : ContainerDef) (h : Heading) → IsSound l → at_slot slot l.definitions.containers ≡ Some c → heading_of_container l.definitions c ≡ Some h → at_slot j l.definitions.series ≡ Some s
+    → cond (bytes_eq (name_at (λ x. x.name) s.container l.definitions.containers) c.name) (series_charge (catalogue_of l) (series_of l (0 + j) s)) 0 ≡ charge_of_series l.element_pages slot (page_room h.columns) (0 + j) s
+one_named l slot j s c h rules there heading here =
+    let sound = rules.definitions in
     let within : j < 4096 = let z = slot_within l.definitions.series j s here in omega (arith, z, sound.tables.series.size) in
     let own = has_container l.definitions sound.references j s within here in
     let name : name_at (λ x. x.name) s.container l.definitions.containers ≡ own.0.name = ap (λ (o : Option ContainerDef). unwrap_or (option_map (λ x. x.name) o) []) own.1 in
@@ -132,8 +136,11 @@ one_named l pages slot j s c h sound one filled there heading here =
           let is : own.0 ≡ c = same_some (at_slot slot l.definitions.containers) own.0 c (ap (λ (n : ℕ). at_slot n l.definitions.containers) (sym same) ∙ own.1) there in
           let t : bytes_eq (name_at (λ x. x.name) s.container l.definitions.containers) c.name ≡ true = bytes_same _ _ (name ∙ ap (λ (x : ContainerDef). x.name) is) in
           let u : (s.container == slot) ≡ true = grind (arith, nat_tests) in
-          let columns = columns_named l pages (0 + j) s c h sound (ap (λ (n : ℕ). at_slot n l.definitions.containers) same ∙ there) heading in
-          let count = len_rising (elements_of (0 + j) l.element_pages) (all_rising l (0 + j) one filled) in
+          let at : j ≡ 0 + j = omega arith in
+          let its : at_slot s.container l.definitions.containers ≡ Some c = ap (λ (n : ℕ). at_slot n l.definitions.containers) same ∙ there in
+          let columns = columns_named l (length l.element_pages) (0 + j) s c h sound its heading in
+          let shown : heading_at l.definitions (0 + j) ≡ Some h = ap (heading_at l.definitions) (sym at) ∙ columns_there l.definitions j s c h here its heading in
+          let count = len_elements l (0 + j) h rules shown in
           let charge : series_charge (catalogue_of l) (series_of l (0 + j) s) ≡ cost = λ i. irregular_charge (page_elements (columns i)) (count i) in
           ap (λ (b : Bool). cond b (series_charge (catalogue_of l) (series_of l (0 + j) s)) 0) t ∙ charge ∙ sym (ap (λ (b : Bool). if b then cost else 0) u)
       | inr other ↦
@@ -144,16 +151,16 @@ one_named l pages slot j s c h sound one filled there heading here =
     ]
 
 -- what a container is charged, by name and by slot
-pub charge_named : (l : Layout) (pages slot : ℕ) (c : ContainerDef) (h : Heading) → AreSound pages l.definitions → HasOnePageEach l.element_pages → AreFilled l → at_slot slot l.definitions.containers ≡ Some c → heading_of_container l.definitions c ≡ Some h
+pub charge_named : (l : Layout) (slot : ℕ) (c : ContainerDef) (h : Heading) → IsSound l → AreFilled l → at_slot slot l.definitions.containers ≡ Some c → heading_of_container l.definitions c ≡ Some h
     → charge_by_name c.name (catalogue_of l) ≡ charge_of_container l slot (page_room h.columns)
-charge_named l pages slot c h sound one filled there heading =
+charge_named l slot c h rules filled there heading =
     let p : List ℕ × Series → Bool = λ e. bytes_eq e.1.container c.name in
     let g : List ℕ × Series → ℕ = λ e. series_charge (catalogue_of l) e.1 in
     filter_total p g (entries (catalogue_of l).series)
-    ∙ table_total (λ s. s.key) (series_of l) (λ e. cond (p e) (g e) 0) 0 l.definitions.series sound.tables.series.apart
+    ∙ table_total (λ s. s.key) (series_of l) (λ e. cond (p e) (g e) 0) 0 l.definitions.series rules.definitions.tables.series.apart
     ∙ filled_total (λ s. s.key) (series_of l) (λ e. cond (p e) (g e) 0) 0 l.definitions.series
     ∙ sum_same (λ j s. cond (p (s.key, series_of l j s)) (g (s.key, series_of l j s)) 0) (charge_of_series l.element_pages slot (page_room h.columns)) 0 l.definitions.series
-    (λ j s here. one_named l pages slot j s c h sound one filled there heading here)
+    (λ j s here. one_named l slot j s c h rules there heading here)
 
 -- the sum over a map with one entry set, and what was there before
 set_same : {X : Type 0} (m : FinMap name_cmp X) (k : List ℕ) (x : X) → get m k ≡ Some x → insert m k x ≡ m

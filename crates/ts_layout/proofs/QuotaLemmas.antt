@@ -1,75 +1,42 @@
--- A page is free wherever a quota allows the first element of a series.
-use Rattle.std.proofs.Common.{◌≡◌, ◌≢◌, ℕ, suc, ◌+◌, ◌<◌, ◌≤◌, IsSome, Option, Some, None, List, [], ◌∷◌, length, get_or, set, refl, sym, ap, subst, ◌∙◌, arith, length-set, get_or-set_same, get_or-set_other, inl, inr, pos, lit≤}
-use Rattle.std.specs.Option.{option_and_then}
-use Rattle.std.proofs.lemmas.Bool.{cases_eq}
-use Rattle.std.proofs.lemmas.List.Sums.{sum_by-set}
-use Rattle.ts_row.specs.RowType.{Heading}
+-- The pages that are free and those of a series are as many as it may be charged beside the others; and its elements can be counted.
+use Rattle.std.specs.Prelude.{All}
+use Rattle.std.proofs.Common.{◌≡◌, ◌≢◌, ℕ, ◌+◌, ◌*◌, ◌/◌, ◌<◌, ◌≤◌, Option, Some, None, List, [], ◌∷◌, length, set, refl, sym, ap, subst, ◌∙◌, arith, length-set, get_or-set_same, get_or-set_other, inl, inr, ◌⊎◌}
+use Rattle.std.proofs.lemmas.Bool.{cases_eq, cases_lt}
+use Rattle.std.proofs.lemmas.List.Sums.{sum_by-set, sum_by-le, get_or-le-sum_by}
+use Rattle.std.proofs.Math.Nat.{le-div_iff_mul-le}
+use Rattle.ts_row.specs.declared.kind.Column.{Column}
+use Rattle.ts_row.specs.RowType.{Heading, width_of}
 use Rattle.ts_space.specs.declared.place.Place.{Place}
+use Rattle.ts_space.specs.Place.{count_of}
 use Rattle.ts_space.specs.Directory.{Directory, places_of, used_of}
-use Rattle.ts_space.specs.Charge.{irregular_charge, irregular_places_charge}
-use Rattle.ts_cells.specs.Cell.{Element, page_room}
-use Rattle.ts_model.specs.Definitions.{Definitions, ContainerDef, SeriesDef, at_slot}
-use Rattle.ts_layout.specs.Meaning.{Layout, heading_in, heading_of_container, AreSound, IsSound}
-use Rattle.ts_layout.specs.Surveyed.{place_of, free_pages, ListsPlaces}
-use Rattle.ts_layout.specs.Charges.{container_charge, KeepQuotas}
-use Rattle.ts_layout.specs.OnePage.{AreFilled, HasOnePlaceEach}
-use Rattle.ts_layout.proofs.ShapeLemmas.{quotas_listed}
+use Rattle.ts_space.specs.Charge.{irregular_places_charge}
+use Rattle.ts_cells.specs.Cell.{page_room}
+use Rattle.ts_model.specs.Definitions.{Definitions, ContainerDef, SeriesDef, at_slot, IsDefinitions}
+use Rattle.ts_layout.specs.Meaning.{Layout, heading_in, heading_at, heading_of_container, charge_of_container, AreSound, IsSound}
+use Rattle.ts_layout.specs.Surveyed.{ListsPlaces}
+use Rattle.ts_layout.specs.Charges.{AreCountable, container_charge, KeepQuotas}
+use Rattle.ts_layout.specs.Chains.{AreFilled}
+use Rattle.ts_layout.specs.Held.{IsHeldOf}
+use Rattle.ts_layout.specs.Placed.{AreKept}
+use Rattle.ts_layout.proofs.ChargeLemmas.{room_some}
+use Rattle.ts_layout.proofs.ShapeLemmas.{charge_same, quotas_listed}
+use Rattle.ts_layout.proofs.LayoutLemmas.{chained}
 use Rattle.ts_layout.proofs.NamedLemmas.{slot_within}
-use Rattle.ts_layout.proofs.SeriesLemmas.{few, page_one, counted}
-use Rattle.ts_layout.proofs.UsedLemmas.{used_within}
-use Rattle.ts_layout.proofs.FreeLemmas.{free_counted}
+use Rattle.ts_layout.proofs.ChainCountLemmas.{IsPlaceAt, counted, its_places, places_charged}
+use Rattle.ts_layout.proofs.UsedLemmas.{IsCharged, AreCharged, used_more}
+use Rattle.ts_layout.proofs.HeldLemmas.{free_left}
 use Rattle.ts_layout.proofs.ListedLemmas.{charge_own, charge_others}
+
+-- the directory charges what the pages do
+pub charge_pages : (l : Layout) (space : Directory) (container room : ℕ) → IsDefinitions l.definitions → ListsPlaces space l → container_charge l.definitions space container room ≡ charge_of_container l container room
+charge_pages l space container room rules lists = charge_same l.definitions space l.element_pages container room rules (λ slot within. counted l space slot lists within)
 
 -- the directory keeps the quotas that the layout keeps
 pub listed_quotas : (l : Layout) (space : Directory) → IsSound l → ListsPlaces space l → KeepQuotas l.definitions space
 listed_quotas l space sound lists = quotas_listed l.definitions space l.element_pages sound.definitions.tables (λ slot within. counted l space slot lists within) sound.charges
 
-place_count : (number : ℕ) (es : List Element) (p : Place) → place_of number es ≡ p ∷ [] → p.count ≡ length es
-place_count number [] p is = absurd (let never : ⊥ = cc in never)
-place_count number (e ∷ es) p is = let own : p ≡ record { at = e.0; page = number; count = suc (length es) } = cc in ap (λ (x : Place). x.count) own
-
-pub there_of : (d : Definitions) (o : Option SeriesDef) (h : Heading) → option_and_then (λ s. heading_in d s.container) o ≡ Some h → IsSome o
-there_of d None h is = absurd (let never : ⊥ = cc in never)
-there_of d (Some s) h is = refl
-
--- the series of a layout have one place each
-pub single_places : (l : Layout) (space : Directory) → IsSound l → AreFilled l → ListsPlaces space l → length space.lists ≡ 4096 → HasOnePlaceEach l.definitions space
-single_places l space sound filled lists size = record {
-  slots = size;
-  few = λ slot within. few l space slot sound.one_page lists within;
-  some = λ slot p within is.
-      let page = page_one l space slot p sound.one_page lists within is in
-      let fill = filled page.number slot page.elements page.page in
-      (omega (arith, place_count (930 + page.number) page.elements p page.place, fill.2.some), there_of l.definitions (at_slot slot l.definitions.series) fill.0 fill.1);
-}
-
 same_some : {A : Type 0} (o : Option A) (a b : A) → o ≡ Some a → o ≡ Some b → a ≡ b
 same_some o a b first second = cc
-
--- one place of one element
-abbrev pub first_place : Place
-first_place = record { at = pos 0; page = 0; count = 1 }
-
-abbrev pub with_first : ℕ → Directory → Directory
-with_first slot space = record { lists = set space.lists slot (first_place ∷ []); spares = space.spares }
-
-single_more : (d : Definitions) (space : Directory) (slot : ℕ) (s : SeriesDef) → HasOnePlaceEach d space → slot < 4096 → at_slot slot d.series ≡ Some s → HasOnePlaceEach d (with_first slot space)
-single_more d space slot s single within there =
-    let own : places_of slot (with_first slot space) ≡ first_place ∷ [] = get_or-set_same space.lists slot (first_place ∷ []) [] (omega (arith, within, single.slots)) in
-    record {
-      slots = length-set space.lists slot (first_place ∷ []) ∙ single.slots;
-      few = λ t small. elim (cases_eq t slot) [
-        | inl same ↦ subst (λ (n : ℕ). length (places_of n (with_first slot space)) ≤ 1) (sym same) (subst (λ (l : List Place). length l ≤ 1) (sym own) (lit≤ tt))
-        | inr other ↦ subst (λ (l : List Place). length l ≤ 1) (sym (get_or-set_other space.lists slot t (first_place ∷ []) [] other)) (single.few t small)
-      ];
-      some = λ t p small is. elim (cases_eq t slot) [
-        | inl same ↦
-            let here : first_place ∷ [] ≡ p ∷ [] = sym own ∙ ap (λ (n : ℕ). places_of n (with_first slot space)) (sym same) ∙ is in
-            let place : first_place ≡ p = cc in
-            (subst (λ (x : Place). 1 ≤ x.count) place (lit≤ tt), subst (λ (o : Option SeriesDef). IsSome o) (sym (ap (λ (n : ℕ). at_slot n d.series) same ∙ there)) refl)
-        | inr other ↦ single.some t p small (sym (get_or-set_other space.lists slot t (first_place ∷ []) [] other) ∙ is)
-      ];
-    }
 
 -- quotas are kept where the places of one series change, and its container is charged its quota at most
 pub quotas_put : (d : Definitions) (space space' : Directory) (pages slot : ℕ) (s : SeriesDef) (c : ContainerDef) (h : Heading) → AreSound pages d → KeepQuotas d space → at_slot slot d.series ≡ Some s → at_slot s.container d.containers ≡ Some c → heading_of_container d c ≡ Some h
@@ -84,32 +51,94 @@ quotas_put d space space' pages slot s c h sound kept there at heading others pa
   | inr other ↦ subst (λ (n : ℕ). n ≤ e.quota) (sym (charge_others d space space' slot s k (page_room g.columns) sound.tables there others other)) (kept k small e g there' heading')
 ]
 
-quotas_more : (d : Definitions) (space : Directory) (pages slot : ℕ) (s : SeriesDef) (c : ContainerDef) (h : Heading) → AreSound pages d → KeepQuotas d space → length space.lists ≡ 4096 → slot < 4096 → at_slot slot d.series ≡ Some s → at_slot s.container d.containers ≡ Some c → heading_of_container d c ≡ Some h → places_of slot space ≡ []
-    → container_charge d space s.container (page_room h.columns) + irregular_charge (page_room h.columns) 1 ≤ c.quota → KeepQuotas d (with_first slot space)
-quotas_more d space pages slot s c h sound kept size within there at heading empty paid =
-    let space' : Directory = with_first slot space in
-    let own : places_of slot space' ≡ first_place ∷ [] = get_or-set_same space.lists slot (first_place ∷ []) [] (omega (arith, within, size)) in
-    let others : (t : ℕ) → t < 4096 → t ≢ slot → places_of t space' ≡ places_of t space = λ t below other. get_or-set_other space.lists slot t (first_place ∷ []) [] other in
-    let both = charge_own d space space' slot s (page_room h.columns) sound.tables there others in
-    let before : irregular_places_charge (page_room h.columns) (places_of slot space) ≡ 0 = ap (irregular_places_charge (page_room h.columns)) empty in
-    let after : irregular_places_charge (page_room h.columns) (places_of slot space') ≡ irregular_charge (page_room h.columns) 1 = ap (irregular_places_charge (page_room h.columns)) own in
-    quotas_put d space space' pages slot s c h sound kept there at heading others (omega (arith, both, before, after, paid))
+-- the series of a layout are charged for their places
+none_placed : (l : Layout) (space : Directory) (slot : ℕ) → AreFilled l → ListsPlaces space l → slot < 4096 → heading_at l.definitions slot ≡ None → places_of slot space ≡ []
+none_placed l space slot filled lists within none = of_list (places_of slot space) (its_places l space slot lists within) where
+  never : (o : Option Heading) (h : Heading) → o ≡ None → o ≡ Some h → ⊥
+  never o h none some = cc
 
--- one element more of a series without places leaves a page free
-pub more_within : (d : Definitions) (space : Directory) (pages slot : ℕ) (s : SeriesDef) (c : ContainerDef) (h : Heading) → AreSound pages d → KeepQuotas d space → HasOnePlaceEach d space → at_slot slot d.series ≡ Some s → at_slot s.container d.containers ≡ Some c → heading_of_container d c ≡ Some h → places_of slot space ≡ []
-    → container_charge d space s.container (page_room h.columns) + irregular_charge (page_room h.columns) 1 ≤ c.quota → used_of space < pages
-more_within d space pages slot s c h sound quotas single there at heading empty paid =
-    let within : slot < 4096 = let z = slot_within d.series slot s there in omega (arith, z, sound.tables.series.size) in
-    let kept = quotas_more d space pages slot s c h sound quotas single.slots within there at heading empty paid in
-    let used = used_within d (with_first slot space) pages sound kept (single_more d space slot s single within there) in
-    let more = sum_by-set length space.lists slot (first_place ∷ []) [] (omega (arith, within, single.slots)) in
-    let none : length (get_or space.lists slot []) ≡ 0 = ap length empty in
-    omega (arith, used, more, none)
+  of_list : (ps : List Place) → All (IsPlaceAt slot 930 l.element_pages) ps → ps ≡ []
+  of_list [] each = refl
+  of_list (p ∷ ps) each =
+      let one = each 0 p (omega arith) in
+      let fill = filled one.number slot one.elements one.is in
+      absurd (never (heading_at l.definitions slot) fill.0 none fill.1)
 
--- a page is free
-pub page_free : (l : Layout) (space : Directory) (slot : ℕ) (s : SeriesDef) (c : ContainerDef) (h : Heading) → IsSound l → AreFilled l → ListsPlaces space l → length space.lists ≡ 4096 → at_slot slot l.definitions.series ≡ Some s → at_slot s.container l.definitions.containers ≡ Some c → heading_of_container l.definitions c ≡ Some h
-    → places_of slot space ≡ [] → container_charge l.definitions space s.container (page_room h.columns) + irregular_charge (page_room h.columns) 1 ≤ c.quota → 0 < length (free_pages l)
-page_free l space slot s c h sound filled lists size there at heading empty paid =
-    let used = more_within l.definitions space (length l.element_pages) slot s c h sound.definitions (listed_quotas l space sound lists) (single_places l space sound filled lists size) there at heading empty paid in
-    let all = free_counted l space sound.definitions.tables filled lists size in
-    omega (arith, used, all)
+heading_or : (o : Option Heading) → (o ≡ None) ⊎ ((h : Heading) × (o ≡ Some h))
+heading_or None = inl refl
+heading_or (Some h) = inr (h, refl)
+
+pub layout_charged : (l : Layout) (space : Directory) → IsSound l → AreFilled l → ListsPlaces space l → AreCharged l.definitions space
+layout_charged l space sound filled lists slot within = elim (heading_or (heading_at l.definitions slot)) [
+  | inl none ↦ inl (none_placed l space slot filled lists within none)
+  | inr some ↦
+      let d = l.definitions in
+      let s = chained (λ (x : SeriesDef). heading_in d x.container) (at_slot slot d.series) some.0 some.1 in
+      let c = chained (heading_of_container d) (at_slot s.0.container d.containers) some.0 s.2 in
+      let small : s.0.container < 64 = let z = slot_within d.containers s.0.container c.0 c.1 in omega (arith, z, sound.definitions.tables.containers.size) in
+      let room = room_some d sound.definitions.limits s.0.container c.0 some.0 small c.1 c.2 in
+      inr (record {
+        series = s.0;
+        container = c.0;
+        heading = some.0;
+        series_there = s.1;
+        container_there = c.1;
+        columns = c.2;
+        within = places_charged l space slot some.0 sound lists within some.1 room;
+      })
+]
+
+-- without the places of one series, the others are charged as before
+cleared_charged : (d : Definitions) (space space' : Directory) (slot : ℕ) → AreCharged d space → places_of slot space' ≡ [] → ((t : ℕ) → t < 4096 → t ≢ slot → places_of t space' ≡ places_of t space) → AreCharged d space'
+cleared_charged d space space' slot charged none others t within = elim (cases_eq t slot) [
+  | inl same ↦ inl (ap (λ (n : ℕ). places_of n space') same ∙ none)
+  | inr other ↦ subst (λ (ps : List Place). (ps ≡ []) ⊎ IsCharged d ps t) (sym (others t within other)) (charged t within)
+]
+
+-- the pages that are free and those of a series are as many as it may be charged beside the others
+pub quotas_room : (l : Layout) (space : Directory) (free : List ℕ) (count slot more : ℕ) (s : SeriesDef) (c : ContainerDef) (h : Heading) → IsHeldOf l.definitions space count free l → length space.lists ≡ 4096 → slot < 4096
+    → at_slot slot l.definitions.series ≡ Some s → at_slot s.container l.definitions.containers ≡ Some c → heading_of_container l.definitions c ≡ Some h
+    → container_charge l.definitions space s.container (page_room h.columns) + more ≤ c.quota + irregular_places_charge (page_room h.columns) (places_of slot space) → more ≤ length free + length (places_of slot space)
+quotas_room l space free count slot more s c h held size within there at heading paid =
+    let d : Definitions = l.definitions in
+    let space' : Directory = record { lists = set space.lists slot []; spares = space.spares } in
+    let none : places_of slot space' ≡ [] = get_or-set_same space.lists slot [] [] (omega (arith, within, size)) in
+    let others : (t : ℕ) → t < 4096 → t ≢ slot → places_of t space' ≡ places_of t space = λ t below other. get_or-set_other space.lists slot t [] [] other in
+    let size' : length space'.lists ≡ 4096 = length-set space.lists slot [] ∙ size in
+    let both = charge_own d space space' slot s (page_room h.columns) held.rules.definitions.tables there others in
+    let free_of : irregular_places_charge (page_room h.columns) (places_of slot space') ≡ 0 = ap (irregular_places_charge (page_room h.columns)) none in
+    let paid' : container_charge d space' s.container (page_room h.columns) + more ≤ c.quota = omega (arith, both, free_of, paid) in
+    let small : container_charge d space' s.container (page_room h.columns) ≤ c.quota = omega (arith, paid') in
+    let kept = quotas_put d space space' (length l.element_pages) slot s c h held.rules.definitions (listed_quotas l space held.rules held.places) there at heading others small in
+    let charged = cleared_charged d space space' slot (layout_charged l space held.rules held.filled held.places) none others in
+    let used = used_more d space' (length l.element_pages) s.container more c h held.rules.definitions kept charged size' at heading paid' in
+    let fewer : used_of space' + length (places_of slot space) ≡ used_of space + 0 = sum_by-set length space.lists slot [] [] (omega (arith, within, size)) in
+    let all = free_left l space count free held size in
+    omega (arith, used, fewer, all)
+
+-- a page has room for at most so many elements
+abbrev pub most_in_page : ℕ
+most_in_page = 451
+
+most_room : (columns : List Column) → page_room columns ≤ most_in_page
+most_room columns = within (width_of columns) where
+  within : (w : ℕ) → 4064 / (w + 9) ≤ 451
+  within w = elim (cases_lt 451 (4064 / (w + 9))) [
+    | inl above ↦
+        let some : 0 < w + 9 = omega arith in
+        let fits : 452 ≤ 4064 / (w + 9) = omega (arith, above) in
+        let product : 452 * (w + 9) ≤ 4064 = (le-div_iff_mul-le {k = w + 9} {x = 452} {y = 4064} some).0 fits in
+        absurd (omega (arith, product))
+    | inr low ↦ low
+  ]
+
+-- so the elements of a series can be counted
+pub quotas_countable : (d : Definitions) (space : Directory) (free : List ℕ) (count : ℕ) → AreKept d space free count → AreCountable space
+quotas_countable d space free count kept slot within =
+    let each : All (λ (p : Place). p.count ≤ most_in_page) (places_of slot space) = λ k e inside.
+    let one = kept.placed.places slot within k e inside in
+    let room = one.room in
+    omega (arith, room, most_room one.heading.columns) in
+    let total : count_of (places_of slot space) ≤ length (places_of slot space) * most_in_page = sum_by-le (λ (p : Place). p.count) most_in_page (places_of slot space) each in
+    let long : length (places_of slot space) ≤ used_of space = get_or-le-sum_by length space.lists slot [] (omega (arith, within, kept.placed.slots)) in
+    omega (arith, total, long, kept.placed.all, kept.most)

@@ -1,13 +1,19 @@
 -- Quotas stay kept by the directory, whatever the pages hold, when definitions change.
-use Rattle.std.proofs.Common.{◌≡◌, ◌≢◌, ℕ, suc, ◌+◌, ◌-◌, ◌<◌, ◌≤◌, ◌==◌, Bool, true, false, if◌then◌else◌, Option, Some, None, List, [], ◌∷◌, length, get_or, set, length-set, get_or-set_same, get_or-set_other, refl, sym, ap, subst, ◌∙◌, arith, inl, inr, ◌⊎◌, ⊎_elim, lit≤}
+use Rattle.std.specs.Prelude.{All, IsPermutation}
+use Rattle.std.proofs.Common.{◌≡◌, ◌≢◌, ℕ, suc, ◌+◌, ◌-◌, ◌<◌, ◌≤◌, ◌==◌, Bool, true, false, if◌then◌else◌, Option, Some, None, List, [], ◌∷◌, ◌++◌, length, get_or, set, length-set, get_or-set_same, get_or-set_other, refl, sym, ap, subst, ◌∙◌, arith, inl, inr, lit≤}
 use Rattle.std.specs.Option.{option_and_then}
 use Rattle.std.proofs.lemmas.Bool.{cases_eq}
 use Rattle.std.proofs.lemmas.Bool.Decides.{nat_tests}
+use Rattle.std.proofs.lemmas.List.{append-nil}
+use Rattle.std.proofs.lemmas.List.Elements.{All-nil}
 use Rattle.ts_row.specs.RowType.{Heading}
 use Rattle.ts_space.specs.declared.place.Place.{Place}
+use Rattle.ts_page.specs.Pages.{Contents}
+use Rattle.ts_space.specs.Place.{pages_of}
 use Rattle.ts_space.specs.Directory.{Directory, places_of}
-use Rattle.ts_space.specs.Charge.{irregular_charge, irregular_places_charge}
+use Rattle.ts_space.specs.Charge.{irregular_places_charge}
 use Rattle.ts_cells.specs.Cell.{page_room}
+use Rattle.ts_chain.specs.Places.{AreMoved}
 use Rattle.ts_model.specs.declared.kind.Kind.{Kind}
 use Rattle.ts_model.specs.declared.kind.Kind.TheVariants as kinds
 use Rattle.ts_model.specs.declared.def.Def.{Def}
@@ -15,13 +21,13 @@ use Rattle.ts_model.specs.Definitions.{Definitions, ContainerDef, SeriesDef, kin
 use Rattle.ts_layout.specs.Meaning.{Layout, heading_of_container, heading_in, heading_at, AreSound, IsSound}
 use Rattle.ts_layout.specs.Changed.{layout_with, CanMake, CanDrop, HasNoPage}
 use Rattle.ts_layout.specs.Charges.{charge_listed, charges_listed, container_charge, KeepQuotas}
-use Rattle.ts_layout.specs.OnePage.{HasOnePlaceEach}
-use Rattle.ts_layout.specs.Placed.{ArePlaced, AreKept}
+use Rattle.ts_layout.specs.Placed.{IsPlaceIn, ArePlaced, AreKept}
 use Rattle.ts_layout.proofs.LayoutLemmas.{none≢some}
 use Rattle.ts_layout.proofs.ChangedLemmas.{heading_stays, changed_columns, container_before, no_series_stands, made_unused, made_pageless, made_sound, dropped_within, dropped_pageless, dropped_sound}
-use Rattle.ts_layout.proofs.PlacedLemmas.{kept_defined, placed_same, placed_freed, placed_still, placed_without}
-use Rattle.ts_layout.proofs.QuotaLemmas.{more_within, there_of}
-use Rattle.ts_layout.proofs.SeriesDroppedLemmas.{sound_kept}
+use Rattle.ts_layout.proofs.PlacedLemmas.{kept_defined, placed_same, placed_moved, placed_without, places_moved}
+use Rattle.ts_layout.proofs.QuotaLemmas.{quotas_put}
+use Rattle.ts_layout.proofs.NamedChargeLemmas.{columns_there}
+use Rattle.ts_layout.proofs.ClearedLemmas.{sound_kept}
 
 -- no series costs more, so all together don't
 charges_less : (space space' : Directory) (container room first : ℕ) (table' table : List (Option SeriesDef)) → length table' ≡ length table → ((j : ℕ) → j < length table → charge_listed space' container room (first + j) (at_slot j table') ≤ charge_listed space container room (first + j) (at_slot j table))
@@ -91,23 +97,22 @@ changed_less kinds.Container slot o d space k room rules none = omega arith
 changed_less kinds.Series slot o d space k room rules none = series_charges d space space slot (option_and_then (from_def kinds.Series) o) rules (none refl) (λ t low other. refl) k room
 
 -- how many pages a layout has
-pages_of : (count : ℕ) (l : Layout) → count ≡ 930 + length l.element_pages → length l.element_pages ≡ count - 930
-pages_of count l size = omega (arith, size)
+pages_are : (count : ℕ) (l : Layout) → count ≡ 930 + length l.element_pages → length l.element_pages ≡ count - 930
+pages_are count l size = omega (arith, size)
 
 -- what is kept stays kept where a definition is made or dropped
 module _ (l : Layout) (sound : IsSound l) (space : Directory) (free : List ℕ) (count : ℕ) (size : count ≡ 930 + length l.element_pages) (kept : AreKept l.definitions space free count) where
   rules_then : (d : Definitions) → AreSound (length l.element_pages) d → AreSound (count - 930) d
-  rules_then d rules = subst (λ (n : ℕ). AreSound n d) (pages_of count l size) rules
+  rules_then d rules = subst (λ (n : ℕ). AreSound n d) (pages_are count l size) rules
 
   -- an empty slot has no places
   empty_place : (slot : ℕ) → slot < 4096 → at_slot slot l.definitions.series ≡ None → places_of slot space ≡ []
-  empty_place slot within empty = of_list (places_of slot space) refl where
-    of_list : (ps : List Place) → places_of slot space ≡ ps → ps ≡ []
-    of_list [] is = refl
-    of_list (p ∷ []) is =
-        let one = kept.placed.places slot p within is in
+  empty_place slot within empty = of_list (places_of slot space) (kept.placed.places slot within) where
+    of_list : (ps : List Place) → All (IsPlaceIn l.definitions count slot) ps → ps ≡ []
+    of_list [] each = refl
+    of_list (p ∷ ps) each =
+        let one = each 0 p (omega arith) in
         absurd (none≢some (heading_at l.definitions slot) one.heading (ap (option_and_then (λ (s : SeriesDef). heading_in l.definitions s.container)) empty) one.columns)
-    of_list (p ∷ q ∷ ps) is = absurd (let few = kept.placed.few slot within in let many = ap (λ (qs : List Place). length qs) is in omega (arith, few, many))
 
   changed_kept : (kind : Kind) (slot : ℕ) (o : Option Def) → slot < limit kind → (IsUsed kind slot l.definitions → ⊥) → (kind ≡ kinds.Series → (at_slot slot l.definitions.series ≡ None) × HasNoPage slot l.element_pages)
       → IsSound (layout_with kind slot o l) → AreKept (with_slot kind slot o l.definitions) space free count
@@ -133,22 +138,30 @@ module _ (l : Layout) (sound : IsSound l) (space : Directory) (free : List ℕ) 
   dropped_kept kind slot name can = changed_kept kind slot None (dropped_within kind slot name l sound can) can.unused (dropped_pageless kind slot name l sound can) (dropped_sound kind slot name l sound can)
 
 -- what is kept stays kept where the places of one series change: its definitions stay, or it goes with its places
-module _ (d : Definitions) (space space' : Directory) (free free' : List ℕ) (count slot : ℕ) (kept : AreKept d space free count) where
-  pub edited_kept : ArePlaced d space' free' count → KeepQuotas d space' → AreKept d space' free' count
-  edited_kept placed quotas = record { some = kept.some; most = kept.most; sound = kept.sound; placed = placed; quotas = quotas }
+pub edited_kept : (d : Definitions) (space space' : Directory) (free free' : List ℕ) (count : ℕ) → AreKept d space free count → ArePlaced d space' free' count → KeepQuotas d space' → AreKept d space' free' count
+edited_kept d space space' free free' count kept placed quotas = record { some = kept.some; most = kept.most; sound = kept.sound; placed = placed; quotas = quotas }
 
-  pub series_dropped_kept : slot < 4096 → space'.lists ≡ set space.lists slot [] → ((p : Place) × (places_of slot space ≡ p ∷ []) × (free' ≡ p.page ∷ free)) ⊎ ((places_of slot space ≡ []) × (free' ≡ free)) → AreKept (with_slot kinds.Series slot None d) space' free' count
-  series_dropped_kept within lists either =
-      let none : places_of slot space' ≡ [] = ap (λ (ls : List (List Place)). get_or ls slot []) lists ∙ get_or-set_same space.lists slot [] [] (omega (arith, within, kept.placed.slots)) in
-      let others : (t : ℕ) → t < 4096 → t ≢ slot → places_of t space' ≡ places_of t space = λ t low other. ap (λ (ls : List (List Place)). get_or ls t []) lists ∙ get_or-set_other space.lists slot t [] [] other in
-      let placed : ArePlaced d space' free' count = ⊎_elim (λ one. placed_freed d space space' free free' count slot kept.placed within [] lists one.0 one.1 refl one.2) (λ still. placed_still d space space' free free' count slot kept.placed within [] lists still.0 refl still.1) either in
-      record {
-        some = kept.some;
-        most = kept.most;
-        sound = sound_kept d slot (count - 930) within kept.sound;
-        placed = placed_without d space' free' count slot placed none;
-        quotas = series_quotas d space space' slot None kept.sound.tables kept.quotas none others;
-      }
+others_stay : (space space' : Directory) (slot : ℕ) (new : List Place) → space'.lists ≡ set space.lists slot new → (t : ℕ) → t < 4096 → t ≢ slot → places_of t space' ≡ places_of t space
+others_stay space space' slot new lists t low other = ap (λ (ls : List (List Place)). get_or ls t []) lists ∙ get_or-set_other space.lists slot t new [] other
+
+pub places_kept : (d : Definitions) (space space' : Directory) (count slot : ℕ) (s : SeriesDef) (c : ContainerDef) (h : Heading) (new : List Place) (v w : Contents) → AreKept d space v.free count → slot < 4096 → at_slot slot d.series ≡ Some s → at_slot s.container d.containers ≡ Some c
+    → heading_of_container d c ≡ Some h → space'.lists ≡ set space.lists slot new → AreMoved h.columns (places_of slot space) new v w → container_charge d space' s.container (page_room h.columns) ≤ c.quota → AreKept d space' w.free count
+places_kept d space space' count slot s c h new v w kept within there at heading lists moved paid =
+    edited_kept d space space' v.free w.free count kept (places_moved d space space' count slot h new v w kept.placed within (columns_there d slot s c h there at heading) lists moved)
+    (quotas_put d space space' (count - 930) slot s c h kept.sound kept.quotas there at heading (others_stay space space' slot new lists) paid)
+
+pub series_gone_kept : (d : Definitions) (space space' : Directory) (free free' : List ℕ) (count slot : ℕ) → AreKept d space free count → slot < 4096 → space'.lists ≡ set space.lists slot [] → IsPermutation (free ++ pages_of (places_of slot space)) free' → AreKept (with_slot kinds.Series slot None d) space' free' count
+series_gone_kept d space space' free free' count slot kept within lists freed =
+    let none : places_of slot space' ≡ [] = ap (λ (ls : List (List Place)). get_or ls slot []) lists ∙ get_or-set_same space.lists slot [] [] (omega (arith, within, kept.placed.slots)) in
+    let moved : IsPermutation (free ++ pages_of (places_of slot space)) (free' ++ []) = subst (λ (l : List ℕ). IsPermutation (free ++ pages_of (places_of slot space)) l) (sym (append-nil free')) freed in
+    let placed : ArePlaced d space' free' count = placed_moved d space space' count slot [] free free' kept.placed within lists moved tt (All-nil (IsPlaceIn d count slot)) in
+    record {
+      some = kept.some;
+      most = kept.most;
+      sound = sound_kept d slot (count - 930) within kept.sound;
+      placed = placed_without d space' free' count slot placed none;
+      quotas = series_quotas d space space' slot None kept.sound.tables kept.quotas none (others_stay space space' slot [] lists);
+    }
 
 -- the same lists of places; memory that was taken plays no part
 alike_quotas : (d : Definitions) (space space' : Directory) → IsDefinitions d → KeepQuotas d space → space'.lists ≡ space.lists → KeepQuotas d space'
@@ -169,15 +182,3 @@ kept_alike d d' space space' free free' count count' kept definitions lists free
       quotas = alike_quotas d space space' kept.sound.tables kept.quotas lists;
     } in
     subst (λ (x : Definitions). AreKept x space' free' count') (sym definitions) (subst (λ (n : ℕ). AreKept d space' free' n) (sym counts) (subst (λ (ns : List ℕ). AreKept d space' ns count) (sym frees) alike))
-
--- a page is free wherever a quota allows the first element of a series
-pub spare_left : (d : Definitions) (space : Directory) (free : List ℕ) (count slot : ℕ) (s : SeriesDef) (c : ContainerDef) (h : Heading) → AreKept d space free count → at_slot slot d.series ≡ Some s → at_slot s.container d.containers ≡ Some c → heading_of_container d c ≡ Some h → places_of slot space ≡ []
-    → container_charge d space s.container (page_room h.columns) + irregular_charge (page_room h.columns) 1 ≤ c.quota → 0 < length free
-spare_left d space free count slot s c h kept there at heading empty paid =
-    let single : HasOnePlaceEach d space = record {
-      slots = kept.placed.slots;
-      few = kept.placed.few;
-      some = λ t p low is. let one = kept.placed.places t p low is in (one.some, there_of d (at_slot t d.series) one.heading one.columns);
-    } in
-    let used = more_within d space (count - 930) slot s c h kept.sound kept.quotas single there at heading empty paid in
-    omega (arith, used, kept.placed.all)

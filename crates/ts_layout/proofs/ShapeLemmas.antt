@@ -1,5 +1,5 @@
--- What the pages of two layouts have in common, and what it costs.
-use Rattle.std.proofs.Common.{◌≡◌, ℕ, zero, suc, ◌+◌, ◌<◌, ◌≤◌, ◌==◌, Bool, true, false, if◌then◌else◌, Option, Some, None, List, [], ◌∷◌, ◌++◌, length, refl, sym, ap, subst, ◌∙◌, arith, length-append, inl, inr}
+-- What one page has in common in two layouts, and what pages are charged by the counts of their places.
+use Rattle.std.proofs.Common.{◌≡◌, ℕ, suc, ◌+◌, ◌<◌, ◌≤◌, ◌==◌, Bool, true, false, if◌then◌else◌, Option, Some, None, List, [], ◌∷◌, ◌++◌, length, refl, sym, subst, ◌∙◌, arith, length-append, inl, inr}
 use Rattle.std.proofs.lemmas.Bool.{cases_lt}
 use Rattle.std.proofs.lemmas.List.{get_or_past}
 use Rattle.std.proofs.lemmas.List.Sums.{sum_by-append}
@@ -12,7 +12,7 @@ use Rattle.ts_space.specs.Directory.{Directory, places_of}
 use Rattle.ts_space.specs.Charge.{irregular_charge}
 use Rattle.ts_cells.specs.Cell.{Element, page_room}
 use Rattle.ts_model.specs.Definitions.{Definitions, ContainerDef, SeriesDef, IsDefinitions}
-use Rattle.ts_layout.specs.Meaning.{ElementPage, Free, Cells, element_page, HoldsElements, elements_on, elements_of, sum_filled, charge_of_series, charge_of_container, HasOnePageEach, KeepsQuotas, HoldAll}
+use Rattle.ts_layout.specs.Meaning.{ElementPage, Free, Cells, HoldsElements, elements_on, elements_of, sum_filled, charge_of_series, charge_of_container, KeepsQuotas}
 use Rattle.ts_layout.specs.Surveyed.{place_of, places_on, places_from}
 use Rattle.ts_layout.specs.Charges.{charges_listed, container_charge, KeepQuotas}
 use Rattle.ts_layout.proofs.HeadLemmas.{head_is, head_free}
@@ -36,63 +36,6 @@ alike d page Free Free first second = tt
 alike d page Free (Cells t fs) first second = free_irregular (head_of page) t (length fs) (head_free page first) (head_is t second.0.columns fs page second.2)
 alike d page (Cells s es) Free first second = free_irregular (head_of page) s (length es) (head_free page second) (head_is s first.0.columns es page first.2)
 alike d page (Cells s es) (Cells t fs) first second = irregulars (head_of page) s (length es) t (length fs) (head_is s first.0.columns es page first.2) (head_is t second.0.columns fs page second.2)
-
--- lists of pages that are alike page by page
-abbrev pub AllAlike : List ElementPage → List ElementPage → Type 0
-AllAlike [] [] = Unit {0}
-AllAlike [] (f ∷ fs) = ⊥
-AllAlike (e ∷ es) [] = ⊥
-AllAlike (e ∷ es) (f ∷ fs) = Alike e f × AllAlike es fs
-
-all_alike : (es fs : List ElementPage) → length es ≡ length fs → ((j : ℕ) → j < length es → Alike (element_page j es) (element_page j fs)) → AllAlike es fs
-all_alike [] [] same alike' = tt
-all_alike [] (f ∷ fs) same alike' = absurd (omega arith)
-all_alike (e ∷ es) [] same alike' = absurd (omega arith)
-all_alike (e ∷ es) (f ∷ fs) same alike' = (alike' 0 (omega arith), all_alike es fs (omega arith) (λ j within. alike' (suc j) (omega arith)))
-
-pub pages_alike : (d : Definitions) (pages : ℕ → List ℕ) (es fs : List ElementPage) → length es ≡ length fs → HoldAll d pages es → HoldAll d pages fs → AllAlike es fs
-pages_alike d pages es fs same first second =
-    all_alike es fs same (λ j within. alike d (pages (930 + j)) (element_page j es) (element_page j fs) (first j within) (second j (omega (arith, within, same))))
-
--- a page that is like a page of elements
-like_cells : (f : ElementPage) (s : ℕ) (es : List Element) → Alike (Cells s es) f → (gs : List Element) × (f ≡ Cells s gs)
-like_cells Free s es like = absurd like
-like_cells (Cells t gs) s es like = (gs, ap (λ (n : ℕ). Cells n gs) (sym like.0))
-
-found_alike : (es fs : List ElementPage) (i s : ℕ) (gs : List Element) → AllAlike es fs → element_page i es ≡ Cells s gs → (hs : List Element) × (element_page i fs ≡ Cells s hs)
-found_alike [] [] i s gs like is = absurd (free_cells s gs is) where
-  free_cells : (s : ℕ) (gs : List Element) → Free ≡ Cells s gs → ⊥
-  free_cells s gs is = cc
-found_alike [] (f ∷ fs) i s gs like is = absurd like
-found_alike (e ∷ es) [] i s gs like is = absurd like
-found_alike (e ∷ es) (f ∷ fs) zero s gs like is = like_cells f s gs (subst (λ (x : ElementPage). Alike x f) is like.0)
-found_alike (e ∷ es) (f ∷ fs) (suc i) s gs like is = found_alike es fs i s gs like.1 is
-
--- one page each, where another layout has one page each
-pub one_alike : (es fs : List ElementPage) → AllAlike es fs → HasOnePageEach fs → HasOnePageEach es
-one_alike es fs like one i j slot gs hs first second =
-    let a = found_alike es fs i slot gs like first in
-    let b = found_alike es fs j slot hs like second in
-    one i j slot a.0 b.0 a.1 b.1
-
--- as many elements of each series
-on_alike : (slot : ℕ) (e f : ElementPage) → Alike e f → length (elements_on slot e) ≡ length (elements_on slot f)
-on_alike slot Free Free like = refl
-on_alike slot Free (Cells t fs) like = absurd like
-on_alike slot (Cells s es) Free like = absurd like
-on_alike slot (Cells s es) (Cells t fs) like = if_alike (s == slot) (t == slot) es fs (ap (λ (n : ℕ). n == slot) like.0) like.1 where
-  if_alike : (a b : Bool) (es fs : List Element) → a ≡ b → length es ≡ length fs → length (if a then es else []) ≡ length (if b then fs else [])
-  if_alike false false es fs same long = refl
-  if_alike false true es fs same long = absurd (let z : ⊥ = cc in z)
-  if_alike true false es fs same long = absurd (let z : ⊥ = cc in z)
-  if_alike true true es fs same long = long
-
-pub as_many : (slot : ℕ) (es fs : List ElementPage) → AllAlike es fs → length (elements_of slot es) ≡ length (elements_of slot fs)
-as_many slot [] [] like = refl
-as_many slot [] (f ∷ fs) like = absurd like
-as_many slot (e ∷ es) [] like = absurd like
-as_many slot (e ∷ es) (f ∷ fs) like =
-    length-append (elements_on slot e) (elements_of slot es) ∙ (λ i. on_alike slot e f like.0 i + as_many slot es fs like.1 i) ∙ sym (length-append (elements_on slot f) (elements_of slot fs))
 
 -- the places of a series count its elements
 count_append : (a b : List Place) → count_of (a ++ b) ≡ count_of a + count_of b

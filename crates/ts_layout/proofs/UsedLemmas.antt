@@ -1,23 +1,21 @@
 -- How many pages the series take, by what their containers are charged.
-use Rattle.std.proofs.Common.{◌≡◌, ℕ, zero, suc, ◌+◌, ◌<◌, ◌≤◌, ◌==◌, true, if◌then◌else◌, IsSome, Option, Some, None, List, [], ◌∷◌, length, get_or, refl, sym, ap, subst, ◌∙◌, arith, inl, inr, ◌⊎◌, lit≤}
+use Rattle.std.proofs.Common.{◌≡◌, ℕ, zero, suc, ◌+◌, ◌<◌, ◌≤◌, ◌==◌, ◌≢◌, Bool, true, false, if◌then◌else◌, IsSome, Option, Some, None, List, [], ◌∷◌, length, get_or, refl, sym, ap, subst, ◌∙◌, arith, inl, inr, ◌⊎◌, lit≤}
 use Rattle.std.specs.Option.{option_map, option_and_then, unwrap_or}
 use Rattle.std.specs.List.{sum_by}
+use Rattle.std.proofs.lemmas.Bool.{cases_eq}
 use Rattle.std.proofs.lemmas.Bool.Decides.{nat_tests}
 use Rattle.std.proofs.lemmas.List.Sums.{sum_by-cons}
 use Rattle.ts_row.specs.RowType.{Heading}
 use Rattle.ts_space.specs.declared.place.Place.{Place}
 use Rattle.ts_space.specs.Directory.{Directory, places_of, used_of}
 use Rattle.ts_space.specs.Charge.{irregular_places_charge}
-use Rattle.ts_space.proofs.ChargeLemmas.{chain_places}
 use Rattle.ts_cells.specs.Cell.{page_room}
 use Rattle.ts_model.specs.declared.kind.Kind.TheVariants as kinds
 use Rattle.ts_model.specs.declared.def.Def.{Def}
 use Rattle.ts_model.specs.Definitions.{Definitions, RowTypeDef, ContainerDef, SeriesDef, at_slot, of_row_type, of_container, of_series}
 use Rattle.ts_layout.specs.Meaning.{def_at, heading_of_container, AreThere, AreSound, quota_in, sum_of_quotas}
 use Rattle.ts_layout.specs.Charges.{charge_listed, charges_listed, container_charge, KeepQuotas}
-use Rattle.ts_layout.specs.OnePage.{HasOnePlaceEach}
 use Rattle.ts_layout.proofs.PlaceLemmas.{at_slot-map}
-use Rattle.ts_layout.proofs.ChargeLemmas.{room_some}
 use Rattle.ts_layout.proofs.NamedLemmas.{slot_within}
 
 -- what definitions refer to
@@ -108,59 +106,83 @@ used_most d space first (s ∷ table) (p ∷ lists) same each =
     ∙ sum_add (one_charged d space first s) (charged d space (suc first) table) 0 d.containers in
     omega (arith, here, rest, split, sum_by-cons length p lists)
 
--- a series with a place is charged to its container
-one_kept : (d : Definitions) (space : Directory) (j n k : ℕ) (o : Option SeriesDef) (at : Option ContainerDef) (s : SeriesDef) (c : ContainerDef) (h : Heading) (p : Place) → n ≡ j → o ≡ Some s → k ≡ s.container → at ≡ Some c → heading_of_container d c ≡ Some h → 0 < page_room h.columns
-    → places_of j space ≡ p ∷ [] → 1 ≤ p.count → 1 ≤ one_charged d space n o k at
-one_kept d space j n k o at s c h p n_is o_is k_is at_is heading room is some =
+-- a series with places is charged for as many at least, to its container
+pub record IsCharged (d : Definitions) (places : List Place) (slot : ℕ) : Type 0 where
+  pub series : SeriesDef
+  pub container : ContainerDef
+  pub heading : Heading
+  pub series_there : at_slot slot d.series ≡ Some series
+  pub container_there : at_slot series.container d.containers ≡ Some container
+  pub columns : heading_of_container d container ≡ Some heading
+  pub within : length places ≤ irregular_places_charge (page_room heading.columns) places
+
+abbrev pub AreCharged : Definitions → Directory → Type 0
+AreCharged d space = (slot : ℕ) → slot < 4096 → (places_of slot space ≡ []) ⊎ IsCharged d (places_of slot space) slot
+
+one_kept : (d : Definitions) (space : Directory) (j n k : ℕ) (o : Option SeriesDef) (at : Option ContainerDef) (s : SeriesDef) (c : ContainerDef) (h : Heading) → n ≡ j → o ≡ Some s → k ≡ s.container → at ≡ Some c → heading_of_container d c ≡ Some h
+    → one_charged d space n o k at ≡ irregular_places_charge (page_room h.columns) (places_of j space)
+one_kept d space j n k o at s c h n_is o_is k_is at_is heading =
     let t : (s.container == s.container) ≡ true = grind (arith, nat_tests) in
-    let all : one_charged d space n o k at ≡ irregular_places_charge (page_room h.columns) (p ∷ []) =
     (λ i. one_charged d space (n_is i) (o_is i) (k_is i) (at_is i))
-    ∙ (λ i. if t i then irregular_places_charge (unwrap_or (option_map (λ x. page_room x.columns) (heading i)) 0) (is i) else 0) in
-    let one : 1 ≤ irregular_places_charge (page_room h.columns) (p ∷ []) = chain_places (page_room h.columns) (p ∷ []) room some in
-    subst (λ (m : ℕ). 1 ≤ m) (sym all) one
+    ∙ (λ i. if t i then irregular_places_charge (unwrap_or (option_map (λ x. page_room x.columns) (heading i)) 0) (places_of j space) else 0)
 
-place_cases : (l : List Place) → length l ≤ 1 → (l ≡ []) ⊎ ((p : Place) × (l ≡ p ∷ []))
-place_cases [] few = inl refl
-place_cases (p ∷ []) few = inr (p, refl)
-place_cases (p ∷ q ∷ l) few = absurd (omega arith)
-
-some_is : (o : Option SeriesDef) → IsSome o → (s : SeriesDef) × (o ≡ Some s)
-some_is None none = absurd (let never : ⊥ = cc in never)
-some_is (Some s) some = (s, refl)
-
-each_kept : (d : Definitions) (space : Directory) (pages : ℕ) → AreSound pages d → HasOnePlaceEach d space → (j : ℕ) → j < 4096 → length (places_of j space) ≤ sum_at (one_charged d space (0 + j) (at_slot j d.series)) 0 d.containers
-each_kept d space pages sound single j within = elim (place_cases (places_of j space) (single.few j within)) [
+each_kept : (d : Definitions) (space : Directory) → AreCharged d space → (j : ℕ) → j < 4096 → length (places_of j space) ≤ sum_at (one_charged d space (0 + j) (at_slot j d.series)) 0 d.containers
+each_kept d space charged j within = elim (charged j within) [
   | inl none ↦ subst (λ (l : List Place). length l ≤ sum_at (one_charged d space (0 + j) (at_slot j d.series)) 0 d.containers) (sym none) (let z : 0 ≤ sum_at (one_charged d space (0 + j) (at_slot j d.series)) 0 d.containers = omega arith in z)
-  | inr at ↦
-      let some = single.some j at.0 within at.1 in
-      let s = some_is (at_slot j d.series) some.1 in
-      let c = has_container d sound.references j s.0 within s.1 in
-      let slot : s.0.container < 64 = let z = slot_within d.containers s.0.container c.0 c.1 in omega (arith, z, sound.tables.containers.size) in
-      let h = has_heading d sound.references s.0.container c.0 slot c.1 in
-      let room = room_some d sound.limits s.0.container c.0 h.0 slot c.1 h.1 in
-      let below = sum_one (one_charged d space (0 + j) (at_slot j d.series)) 0 s.0.container d.containers (slot_within d.containers s.0.container c.0 c.1) in
+  | inr is ↦
+      let below = sum_one (one_charged d space (0 + j) (at_slot j d.series)) 0 is.series.container d.containers (slot_within d.containers is.series.container is.container is.container_there) in
       let n_is : 0 + j ≡ j = omega arith in
-      let k_is : 0 + s.0.container ≡ s.0.container = omega arith in
-      let one = one_kept d space j (0 + j) (0 + s.0.container) (at_slot j d.series) (at_slot s.0.container d.containers) s.0 c.0 h.0 at.0 n_is s.1 k_is c.1 h.1 room at.1 some.0 in
-      subst (λ (l : List Place). length l ≤ sum_at (one_charged d space (0 + j) (at_slot j d.series)) 0 d.containers) (sym at.1) (let z : 1 ≤ sum_at (one_charged d space (0 + j) (at_slot j d.series)) 0 d.containers = omega (arith, one, below) in z)
+      let k_is : 0 + is.series.container ≡ is.series.container = omega arith in
+      let one = one_kept d space j (0 + j) (0 + is.series.container) (at_slot j d.series) (at_slot is.series.container d.containers) is.series is.container is.heading n_is is.series_there k_is is.container_there is.columns in
+      let most = is.within in
+      omega (arith, one, below, most)
 ]
 
 -- each container is charged its quota at most
+charged_is : (d : Definitions) (space : Directory) (j n : ℕ) (o : Option ContainerDef) (c : ContainerDef) (h : Heading) → n ≡ j → o ≡ Some c → heading_of_container d c ≡ Some h → charged d space 0 d.series n o ≡ container_charge d space j (page_room h.columns)
+charged_is d space j n o c h is there heading =
+    (λ i. charged d space 0 d.series n (there i)) ∙ (λ i. charges_listed space (is i) (unwrap_or (option_map (λ x. page_room x.columns) (heading i)) 0) 0 d.series)
+
 quota_at : (d : Definitions) (space : Directory) (pages j n : ℕ) → AreSound pages d → KeepQuotas d space → j < 64 → n ≡ j → (o : Option ContainerDef) → at_slot j d.containers ≡ o → charged d space 0 d.series n o ≤ quota_in o
 quota_at d space pages j n sound kept within is None there = lit≤ tt
 quota_at d space pages j n sound kept within is (Some c) there =
     let h = has_heading d sound.references j c within there in
-    let all : charges_listed space n (room_if d (Some c)) 0 d.series ≡ container_charge d space j (page_room h.0.columns) = λ i. charges_listed space (is i) (unwrap_or (option_map (λ x. page_room x.columns) (h.1 i)) 0) 0 d.series in
-    subst (λ (m : ℕ). m ≤ c.quota) (sym all) (kept j within c h.0 there h.1)
+    subst (λ (m : ℕ). m ≤ c.quota) (sym (charged_is d space j n (Some c) c h.0 is refl h.1)) (kept j within c h.0 there h.1)
 
--- all series together have at most as many places as there are pages
-pub used_within : (d : Definitions) (space : Directory) (pages : ℕ) → AreSound pages d → KeepQuotas d space → HasOnePlaceEach d space → used_of space ≤ pages
-used_within d space pages sound kept single =
+-- one container is charged so much more
+abbrev pub more_at : ℕ → ℕ → ℕ → Option ContainerDef → ℕ
+more_at k more n o = if n == k then more else 0
+
+quota_more : (d : Definitions) (space : Directory) (pages k more j n : ℕ) (c : ContainerDef) (h : Heading) → AreSound pages d → KeepQuotas d space → at_slot k d.containers ≡ Some c → heading_of_container d c ≡ Some h → container_charge d space k (page_room h.columns) + more ≤ c.quota → j < 64 → n ≡ j
+    → charged d space 0 d.series n (at_slot j d.containers) + more_at k more n (at_slot j d.containers) ≤ quota_in (at_slot j d.containers)
+quota_more d space pages k more j n c h sound kept there heading paid within is = elim (cases_eq j k) [
+  | inl same ↦
+      let here : at_slot j d.containers ≡ Some c = ap (λ (m : ℕ). at_slot m d.containers) same ∙ there in
+      let t : (n == k) ≡ true = let at : n ≡ k = is ∙ same in grind (arith, nat_tests) in
+      let all = charged_is d space k n (at_slot j d.containers) c h (is ∙ same) here heading in
+      let beside : more_at k more n (at_slot j d.containers) ≡ more = ap (λ (b : Bool). if b then more else 0) t in
+      let quota : quota_in (at_slot j d.containers) ≡ c.quota = ap quota_in here in
+      omega (arith, all, beside, quota, paid)
+  | inr other ↦
+      let f : (n == k) ≡ false = let at : n ≢ k = λ same. other (sym is ∙ same) in grind (arith, nat_tests) in
+      let beside : more_at k more n (at_slot j d.containers) ≡ 0 = ap (λ (b : Bool). if b then more else 0) f in
+      let before = quota_at d space pages j n sound kept within is (at_slot j d.containers) refl in
+      omega (arith, beside, before)
+]
+
+-- All series together have at most as many places as there are pages, and as many fewer as a container may be charged more.
+pub used_more : (d : Definitions) (space : Directory) (pages k more : ℕ) (c : ContainerDef) (h : Heading) → AreSound pages d → KeepQuotas d space → AreCharged d space → length space.lists ≡ 4096 → at_slot k d.containers ≡ Some c → heading_of_container d c ≡ Some h
+    → container_charge d space k (page_room h.columns) + more ≤ c.quota → used_of space + more ≤ pages
+used_more d space pages k more c h sound kept each size there heading paid =
     let most : used_of space ≤ sum_at (charged d space 0 d.series) 0 d.containers =
-    used_most d space 0 d.series space.lists (single.slots ∙ sym sound.tables.series.size) (λ j within. each_kept d space pages sound single j (omega (arith, within, single.slots))) in
-    let quotas : sum_at (charged d space 0 d.series) 0 d.containers ≤ sum_at (λ k o. quota_in o) 0 d.containers =
-    sum_le (charged d space 0 d.series) (λ k o. quota_in o) 0 d.containers (λ j within.
+    used_most d space 0 d.series space.lists (size ∙ sym sound.tables.series.size) (λ j within. each_kept d space each j (omega (arith, within, size))) in
+    let both = sum_add (charged d space 0 d.series) (more_at k more) 0 d.containers in
+    let one = sum_one (more_at k more) 0 k d.containers (slot_within d.containers k c there) in
+    let t : (0 + k == k) ≡ true = grind (arith, nat_tests) in
+    let is : more_at k more (0 + k) (at_slot k d.containers) ≡ more = ap (λ (b : Bool). if b then more else 0) t in
+    let quotas : sum_at (λ n o. charged d space 0 d.series n o + more_at k more n o) 0 d.containers ≤ sum_at (λ n o. quota_in o) 0 d.containers =
+    sum_le (λ n o. charged d space 0 d.series n o + more_at k more n o) (λ n o. quota_in o) 0 d.containers (λ j within.
     let small : j < 64 = omega (arith, within, sound.tables.containers.size) in
-    let is : 0 + j ≡ j = omega arith in
-    quota_at d space pages j (0 + j) sound kept small is (at_slot j d.containers) refl) in
-    omega (arith, most, quotas, quotas_at 0 d.containers, sound.quotas)
+    let at : 0 + j ≡ j = omega arith in
+    quota_more d space pages k more j (0 + j) c h sound kept there heading paid small at) in
+    omega (arith, most, both, one, is, quotas, quotas_at 0 d.containers, sound.quotas)

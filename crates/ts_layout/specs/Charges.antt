@@ -1,15 +1,16 @@
 -- What containers are charged, by the directory.
-use Rattle.std.specs.Prelude.{◌≡◌, ℕ, suc, ◌+◌, ◌<◌, ◌≤◌, ◌==◌, if◌then◌else◌, Option, Some, None, List, [], ◌∷◌, length}
+use Rattle.std.specs.Prelude.{◌≡◌, ℕ, suc, ◌+◌, ◌^◌, ◌<◌, ◌≤◌, ◌==◌, if◌then◌else◌, Option, Some, None, option_map, unwrap_or, List, [], ◌∷◌}
 use Rattle.ts_row.specs.RowType.{Heading}
 use Rattle.ts_space.specs.Directory.{Directory, places_of}
+use Rattle.ts_space.specs.Place.{count_of}
 use Rattle.ts_space.specs.Charge.{irregular_places_charge}
 use Rattle.ts_cells.specs.Cell.{page_room}
 use Rattle.ts_model.specs.Definitions.{Definitions, ContainerDef, SeriesDef, at_slot, container_slots, series_slots}
-use Rattle.ts_layout.specs.Meaning.{heading_of_container}
+use Rattle.ts_layout.specs.Meaning.{heading_of_container, heading_in}
 
--- each series has one place at most
-abbrev pub HasOnePlaceAtMost : Directory → Type 0
-HasOnePlaceAtMost space = (slot : ℕ) → slot < series_slots → length (places_of slot space) ≤ 1
+-- no series has so many elements that they couldn't be counted
+abbrev pub AreCountable : Directory → Type 0
+AreCountable space = (slot : ℕ) → slot < series_slots → count_of (places_of slot space) < 2 ^ 32
 
 -- what stands in a slot is charged to a container, where a page has room for so many elements
 abbrev pub charge_listed : Directory → ℕ → ℕ → ℕ → Option SeriesDef → ℕ
@@ -33,3 +34,7 @@ KeepsQuotaAt d space slot =
 -- each container is
 abbrev pub KeepQuotas : Definitions → Directory → Type 0
 KeepQuotas d space = (slot : ℕ) → slot < container_slots → KeepsQuotaAt d space slot
+
+-- what the container in a slot is charged, by the directory; nothing where there is none
+abbrev pub charge_in : Definitions → Directory → ℕ → ℕ
+charge_in d space slot = unwrap_or (option_map (λ h. container_charge d space slot (page_room h.columns)) (heading_in d slot)) 0

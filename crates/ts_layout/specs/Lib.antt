@@ -6,5 +6,6 @@ pub mod Changed
 pub mod Lookup
 pub mod Surveyed
 pub mod Charges
-pub mod OnePage
+pub mod Chains
+pub mod Held
 pub mod Placed

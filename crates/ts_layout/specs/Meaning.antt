@@ -1,8 +1,9 @@
 -- What the pages of a volume mean: they are laid out from definitions and elements that keep the rules, and mean the
 -- catalogue of these.
-use Rattle.std.specs.Prelude.{◌≡◌, ℕ, suc, ◌+◌, ◌-◌, ◌<◌, ◌≤◌, ◌==◌, if◌then◌else◌, IsSome, Option, Some, None, option_and_then, option_map, unwrap_or, List, [], ◌∷◌, length, drop, replicate, slice_index_or, sum_by}
+use Rattle.std.specs.Prelude.{◌≡◌, ℕ, suc, ◌+◌, ◌-◌, ◌<◌, ◌≤◌, ◌==◌, if◌then◌else◌, IsSome, IsPermutation, Option, Some, None, option_and_then, option_map, unwrap_or, List, [], ◌∷◌, length, drop, replicate, slice_index_or, sum_by}
 use Rattle.std.specs.List.{flat_map}
 use Rattle.std.specs.FinMap.{from_entries}
+use Rattle.ts_row.specs.declared.kind.Column.{Column}
 use Rattle.ts_row.specs.RowType.{Heading}
 use Rattle.ts_page.specs.Volume.{page_size, first_element_page, most_element_pages}
 use Rattle.ts_page.specs.Head.{bytes_at}
@@ -10,6 +11,7 @@ use Rattle.ts_page.specs.Pages.{IsFreePage}
 use Rattle.ts_space.specs.Charge.{irregular_charge}
 use Rattle.ts_cells.specs.Cell.{Element, page_room}
 use Rattle.ts_cells.specs.IrregularPage.{IsIrregularPage}
+use Rattle.ts_chain.specs.Chain.{IsChain}
 use Rattle.ts_model.specs.Catalogue.{Named, Catalogue, Container, Series, Elements}
 use Rattle.ts_model.specs.Kinds.{In}
 use Rattle.ts_model.specs.declared.kind.Kind.{Kind}
@@ -129,10 +131,25 @@ charge_of_series pages container room slot s =
 abbrev pub charge_of_container : Layout → ℕ → ℕ → ℕ
 charge_of_container l container room = sum_filled (charge_of_series l.element_pages container room) 0 l.definitions.series
 
--- no two pages have elements of one series
-abbrev pub HasOnePageEach : List ElementPage → Type 0
-HasOnePageEach pages =
-    (i j slot : ℕ) (es fs : List Element) → element_page i pages ≡ Cells slot es → element_page j pages ≡ Cells slot fs → i ≡ j
+-- what a page has of the series in a slot: its elements as a list of one, or nothing
+abbrev pub cells_on : ℕ → ElementPage → List (List Element)
+cells_on slot Free = []
+cells_on slot (Cells s es) = if s == slot then es ∷ [] else []
+
+-- the elements of each page of the series in a slot, page after page
+abbrev pub cells_of : ℕ → List ElementPage → List (List Element)
+cells_of slot pages = flat_map (cells_on slot) pages
+
+-- The pages of a series, in the order of their stamps, are a chain: each is filled, no two overlap, and two neighbours never fit one
+-- page.
+pub record IsInChain (slot : ℕ) (columns : List Column) (pages : List ElementPage) : Type 0 where
+  pub chain : List (List Element)
+  pub is : IsChain columns chain
+  pub all : IsPermutation chain (cells_of slot pages)
+
+-- those of each series are
+abbrev pub AreInChains : Layout → Type 0
+AreInChains l = (slot : ℕ) (h : Heading) → heading_at l.definitions slot ≡ Some h → IsInChain slot h.columns l.element_pages
 
 -- no container is charged more than its quota
 abbrev pub KeepsQuotas : Layout → Type 0
@@ -145,7 +162,7 @@ pub record IsSound (l : Layout) : Type 0 where
   pub some : 1 ≤ length l.element_pages
   pub most : length l.element_pages ≤ most_element_pages
   pub definitions : AreSound (length l.element_pages) l.definitions
-  pub one_page : HasOnePageEach l.element_pages
+  pub chains : AreInChains l
   pub charges : KeepsQuotas l
 
 -- pages, so many in all, that are laid out so and keep the rules

@@ -1,15 +1,17 @@
 -- What is kept in memory of a volume, whatever its pages hold: definitions that keep their rules, places and free pages that are all
 -- different and all there are, and charges by these places that keep the quotas.
-use Rattle.std.specs.Prelude.{◌≡◌, ◌≢◌, ℕ, ◌+◌, ◌-◌, ◌<◌, ◌≤◌, Some, List, [], ◌∷◌, length, Contains, All, AllPairs}
+use Rattle.std.specs.Prelude.{◌≡◌, ◌≢◌, ℕ, ◌+◌, ◌-◌, ◌<◌, ◌≤◌, Some, List, ◌++◌, length, All, AllPairs}
+use Rattle.std.specs.List.{flat_map}
 use Rattle.ts_row.specs.RowType.{Heading}
 use Rattle.ts_page.specs.Volume.{first_element_page, most_element_pages}
 use Rattle.ts_page.specs.Pages.{IsElementPage}
 use Rattle.ts_space.specs.declared.place.Place.{Place}
+use Rattle.ts_space.specs.Place.{IsRising, pages_of}
 use Rattle.ts_space.specs.Directory.{Directory, places_of, used_of}
 use Rattle.ts_cells.specs.Cell.{page_room}
 use Rattle.ts_model.specs.Definitions.{Definitions, series_slots}
 use Rattle.ts_layout.specs.Meaning.{heading_at, AreSound}
-use Rattle.ts_layout.specs.Charges.{HasOnePlaceAtMost, KeepQuotas}
+use Rattle.ts_layout.specs.Charges.{KeepQuotas}
 
 -- a place within the limits of the series in a slot: of an element page, with one element at least and no more than a page has
 -- room for by the columns of the series
@@ -25,17 +27,18 @@ pub record IsPlaceIn (d : Definitions) (count slot : ℕ) (p : Place) : Type 0 w
 abbrev pub IsElementNumber : ℕ → ℕ → Type 0
 IsElementNumber count number = IsElementPage number × (number < count)
 
--- Each series has one place at most, within its limits. The pages of all places and the free pages are different ones, and are all
+-- the pages of all places, series after series
+abbrev pub used_pages : Directory → List ℕ
+used_pages space = flat_map pages_of space.lists
+
+-- The places of each series rise and are within its limits. The free pages and those of all places are different ones, and are all
 -- element pages together.
 pub record ArePlaced (d : Definitions) (space : Directory) (free : List ℕ) (count : ℕ) : Type 0 where
   pub slots : length space.lists ≡ series_slots
-  pub few : HasOnePlaceAtMost space
-  pub places : (slot : ℕ) (p : Place) → slot < series_slots → places_of slot space ≡ p ∷ [] → IsPlaceIn d count slot p
+  pub rising : (slot : ℕ) → slot < series_slots → IsRising (places_of slot space)
+  pub places : (slot : ℕ) → slot < series_slots → All (IsPlaceIn d count slot) (places_of slot space)
   pub numbers : All (IsElementNumber count) free
-  -- no two series have the same page, no series has a free one, and no page is twice among the free ones
-  pub apart : (s t : ℕ) (p q : Place) → s < series_slots → t < series_slots → places_of s space ≡ p ∷ [] → places_of t space ≡ q ∷ [] → p.page ≡ q.page → s ≡ t
-  pub used : (slot : ℕ) (p : Place) → slot < series_slots → places_of slot space ≡ p ∷ [] → ¬ Contains free p.page
-  pub different : AllPairs (λ a b. a ≢ b) free
+  pub different : AllPairs (λ a b. a ≢ b) (free ++ used_pages space)
   pub all : length free + used_of space ≡ count - first_element_page
 
 -- all that holds of what is kept, on every volume

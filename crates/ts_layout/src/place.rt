@@ -1,7 +1,8 @@
 // Where slots stand in the definition pages.
 ghost use Rattle.std.specs.Prelude.{◌≡◌, ◌<◌, ◌≤◌};
 ghost use Rattle.ts_model.specs.Definitions.{limit};
-ghost use Rattle.ts_layout.specs.Slot.{slot_size, slots_in_page, page_of_slot, byte_of_slot};
+ghost use Rattle.ts_page.specs.Volume.{page_size, first_element_page};
+ghost use Rattle.ts_layout.specs.Slot.{first_definition_page, slot_size, slots_in_page, page_of_slot, byte_of_slot};
 
 use ts_model::Kind;
 
@@ -30,8 +31,8 @@ pub struct Slots {
 
 /// The slots that stand in a definition page.
 pub fn slots_in_page(number: u32) -> Slots
-    requires low { 257 ≤ number }
-    requires high { number < 930 }
+    requires low { first_definition_page ≤ number }
+    requires high { number < first_element_page }
     ensures { result ≡ slots_in_page number }
 {
     if number < UNUSED {
@@ -66,7 +67,7 @@ pub fn slots_in_page(number: u32) -> Slots
 /// The bytes of a slot.
 pub fn slot_size(kind: Kind) -> usize
     ensures value { result ≡ slot_size kind }
-    ensures bound { result ≤ 4096 }
+    ensures bound { result ≤ page_size }
 {
     match kind {
         Kind::RowType => 4096,

@@ -1,15 +1,11 @@
-use Rattle.ts_layout.proofs.UsedLemmas.{used_within}
-use Rattle.ts_layout.proofs.QuotaLemmas.{listed_quotas, single_places, page_free}
+use Rattle.ts_layout.proofs.QuotaLemmas.{listed_quotas, quotas_room, quotas_countable}
 use Rattle.ts_layout.proofs.charge_laws.the_quotas_leave_room.Goals as goal
-
-pub returns-clause-places : goal.returns-clause-places
-returns-clause-places c = single_places
 
 pub returns-clause-quotas : goal.returns-clause-quotas
 returns-clause-quotas c = listed_quotas
 
-pub returns-clause-used : goal.returns-clause-used
-returns-clause-used c = used_within
+pub returns-clause-room : goal.returns-clause-room
+returns-clause-room c = quotas_room
 
-pub returns-clause-free : goal.returns-clause-free
-returns-clause-free c = page_free
+pub returns-clause-countable : goal.returns-clause-countable
+returns-clause-countable c = quotas_countable

@@ -1,0 +1,413 @@
+-- The pages of a series become those of another chain.
+use Rattle.std.specs.Prelude.{IsPermutation}
+use Rattle.std.specs.List.{flat_map}
+use Rattle.std.specs.FinMap.{insert}
+use Rattle.std.proofs.Common.{◌≡◌, ◌≢◌, ℕ, suc, ◌+◌, ◌-◌, ◌<◌, ◌≤◌, ◌==◌, ◌⊎◌, Bool, true, false, if◌then◌else◌, ◌||◌, Option, Some, List, [], ◌∷◌, ◌++◌, map, length, set, get_or, get_or-set_same, get_or-set_other, refl, sym, ap, subst, ◌∙◌, arith, inl, inr, length-set}
+use Rattle.std.proofs.lemmas.Bool.{cases_eq}
+use Rattle.std.proofs.lemmas.List.{append-nil, length-map}
+use Rattle.std.proofs.lemmas.List.Folds.{list_any-append}
+use Rattle.std.proofs.lemmas.List.Sorted.{IsPermutation-refl, IsPermutation-sym, IsPermutation-trans, IsPermutation-cons, IsPermutation-middle, IsPermutation-map, IsPermutation-append_right}
+use Rattle.ts_row.specs.RowType.{Heading}
+use Rattle.ts_row.specs.declared.kind.Column.{Column}
+use Rattle.ts_page.specs.Pages.{Contents, IsFreePage}
+use Rattle.ts_space.specs.declared.place.Place.{Place}
+use Rattle.ts_space.specs.Place.{pages_of}
+use Rattle.ts_space.specs.Directory.{Directory, places_of}
+use Rattle.ts_space.specs.Charge.{irregular_charge}
+use Rattle.ts_cells.specs.Cell.{Element, page_room}
+use Rattle.ts_cells.specs.IrregularPage.{IsIrregularPage, FillPage, first_stamp}
+use Rattle.ts_row.specs.Element.{has_hidden}
+use Rattle.ts_model.specs.declared.format.TheConstants.{OLD_FORMAT}
+use Rattle.ts_chain.specs.Chain.{all_in}
+use Rattle.ts_chain.specs.Places.{AreChained}
+use Rattle.ts_model.specs.Catalogue.{Series}
+use Rattle.ts_model.specs.Definitions.{SeriesDef, at_slot, by_name}
+use Rattle.ts_layout.specs.Slot.{header_bytes}
+use Rattle.ts_layout.specs.Limits.{AreOfFormat}
+use Rattle.ts_layout.specs.Meaning.{ElementPage, Free, Cells, Layout, element_page, elements_of, elements_at, cells_of, HoldsElements, HoldsLayout, AreSound, IsInChain, AreInChains, IsSound, heading_at, charge_of_series, charge_of_container, name_at, series_of, catalogue_of}
+use Rattle.ts_layout.specs.Surveyed.{place_of, places_from, free_from, IsListOf, ListsPlaces}
+use Rattle.ts_layout.specs.Chains.{by_stamp, AreFilled, KeepsQuotaOf, freed, with_chain, rewritten}
+use Rattle.ts_layout.specs.Held.{IsHeldOf, IsRewrittenIn}
+use Rattle.ts_layout.proofs.LayoutLemmas.{one_of}
+use Rattle.ts_layout.proofs.MemberLemmas.{Among, AreOnce, among_from, among_permuted, among_front, among_back, among_either, all_among, once_from, once_back, rest_permuted}
+use Rattle.ts_layout.proofs.PageLemmas.{free_cells, same_cells, page_set, page_other, cells_before, sum_same, not_equal, its_container}
+use Rattle.ts_layout.proofs.PairLemmas.{Numbered, pairs_from, places_in, cells_in, places_from_in, cells_of_in, elements_of_in, pairs_freed_own, pairs_freed_other, pairs_set_own, pairs_set_other, free_set, free_among, free_only}
+use Rattle.ts_layout.proofs.PermutedLemmas.{flat_map_permuted, pairs_permuted}
+use Rattle.ts_layout.proofs.FreeLemmas.{filled_within}
+use Rattle.ts_layout.proofs.FreeListLemmas.{free_different}
+use Rattle.ts_layout.proofs.HeldLemmas.{free_and_own}
+use Rattle.ts_layout.proofs.NamedLemmas.{changed}
+use Rattle.ts_layout.proofs.SeriesChainLemmas.{chain_elements}
+use Rattle.ts_layout.proofs.WrittenLemmas.{definitions_stay}
+
+-- each number is that of a free page, and stands there once
+abbrev pub AreFreeIn : List ElementPage → List ℕ → Type 0
+AreFreeIn pages [] = Unit {0}
+AreFreeIn pages (n ∷ ns) = ((i : ℕ) × (n ≡ 930 + i) × (i < length pages) × (element_page i pages ≡ Free)) × (Among n ns → ⊥) × AreFreeIn pages ns
+
+free_in : (pages : List ElementPage) (ns : List ℕ) → AreOnce ns → ((n : ℕ) → Among n ns → Among n (free_from 930 pages)) → AreFreeIn pages ns
+free_in pages [] once there = tt
+free_in pages (n ∷ ns) once there = (free_only 930 n pages (there n (inl refl)), once.0, free_in pages ns once.1 (λ m here. there m (inr here)))
+
+index_is : (n i : ℕ) → n ≡ 930 + i → n - 930 ≡ i
+index_is n i is = omega (arith, is)
+
+number_is : (n i : ℕ) → n ≡ 930 + i → 930 + (n - 930) ≡ n
+number_is n i is = omega (arith, is)
+
+same_number : (n i j : ℕ) → n ≡ 930 + i → j ≡ n - 930 → 930 + j ≡ n
+same_number n i j is at = omega (arith, is, at)
+
+other_index : (n i j : ℕ) → n ≡ 930 + i → 930 + j ≡ n → j ≡ n - 930
+other_index n i j is at = omega (arith, is, at)
+
+-- the numbers of pages beside their elements
+abbrev zipped : List ℕ → List (List Element) → List Numbered
+zipped [] chain = []
+zipped (n ∷ ns) [] = []
+zipped (n ∷ ns) (es ∷ chain) = (n, es) ∷ zipped ns chain
+
+module _ (slot : ℕ) (pages : List ElementPage) where
+  length_with : (ns : List ℕ) (chain : List (List Element)) → length (with_chain slot ns chain pages) ≡ length pages
+  length_with [] chain = refl
+  length_with (n ∷ ns) [] = refl
+  length_with (n ∷ ns) (es ∷ chain) = length-set (with_chain slot ns chain pages) (n - 930) (Cells slot es) ∙ length_with ns chain
+
+  -- a page that is none of them stays
+  with_other : (ns : List ℕ) (chain : List (List Element)) → AreFreeIn pages ns → (i : ℕ) → (Among (930 + i) ns → ⊥) → element_page i (with_chain slot ns chain pages) ≡ element_page i pages
+  with_other [] chain free i other = refl
+  with_other (n ∷ ns) [] free i other = refl
+  with_other (n ∷ ns) (es ∷ chain) free i other =
+      page_other (with_chain slot ns chain pages) (n - 930) i (Cells slot es) (λ same. other (inl (same_number n free.0.0 i free.0.1 same)))
+      ∙ with_other ns chain free.2 i (λ there. other (inr there))
+
+  -- the page of the first of them, before it is written
+  first_free : (n : ℕ) (ns : List ℕ) (chain : List (List Element)) → AreFreeIn pages (n ∷ ns) → (n - 930 < length (with_chain slot ns chain pages)) × (element_page (n - 930) (with_chain slot ns chain pages) ≡ Free)
+  first_free n ns chain free =
+      let at : n - 930 ≡ free.0.0 = index_is n free.0.0 free.0.1 in
+      let again : 930 + (n - 930) ≡ n = number_is n free.0.0 free.0.1 in
+      let long = length_with ns chain in
+      let low = free.0.2 in
+      (omega (arith, at, long, low), with_other ns chain free.2 (n - 930) (λ there. free.1 (subst (λ (m : ℕ). Among m ns) again there)) ∙ ap (λ (k : ℕ). element_page k pages) at ∙ free.0.3)
+
+  -- the pages of the series then
+  pairs_with : (ns : List ℕ) (chain : List (List Element)) → AreFreeIn pages ns → IsPermutation (pairs_from slot 930 (with_chain slot ns chain pages)) (zipped ns chain ++ pairs_from slot 930 pages)
+  pairs_with [] chain free = IsPermutation-refl (pairs_from slot 930 pages)
+  pairs_with (n ∷ ns) [] free = IsPermutation-refl (pairs_from slot 930 pages)
+  pairs_with (n ∷ ns) (es ∷ chain) free =
+      let before : List ElementPage = with_chain slot ns chain pages in
+      let here = first_free n ns chain free in
+      let more : IsPermutation (pairs_from slot 930 (set before (n - 930) (Cells slot es))) ((n, es) ∷ pairs_from slot 930 before) =
+      subst (λ (m : ℕ). IsPermutation (pairs_from slot 930 (set before (n - 930) (Cells slot es))) ((m, es) ∷ pairs_from slot 930 before)) (number_is n free.0.0 free.0.1) (pairs_set_own slot 930 (n - 930) es before here.0 here.1) in
+      IsPermutation-trans (pairs_from slot 930 (set before (n - 930) (Cells slot es))) ((n, es) ∷ pairs_from slot 930 before) ((n, es) ∷ (zipped ns chain ++ pairs_from slot 930 pages)) more
+      (IsPermutation-cons (n, es) (pairs_from slot 930 before) (zipped ns chain ++ pairs_from slot 930 pages) (pairs_with ns chain free.2))
+
+  -- and of another one
+  pairs_with_other : (s : ℕ) (ns : List ℕ) (chain : List (List Element)) → s ≢ slot → AreFreeIn pages ns → pairs_from s 930 (with_chain slot ns chain pages) ≡ pairs_from s 930 pages
+  pairs_with_other s [] chain other free = refl
+  pairs_with_other s (n ∷ ns) [] other free = refl
+  pairs_with_other s (n ∷ ns) (es ∷ chain) other free =
+      pairs_set_other slot s 930 (n - 930) es (with_chain slot ns chain pages) other (first_free n ns chain free).1 ∙ pairs_with_other s ns chain other free.2
+
+  -- and the free ones
+  free_with : (ns : List ℕ) (chain : List (List Element)) → length ns ≡ length chain → AreFreeIn pages ns → IsPermutation (free_from 930 pages) (ns ++ free_from 930 (with_chain slot ns chain pages))
+  free_with [] chain same free = IsPermutation-refl (free_from 930 pages)
+  free_with (n ∷ ns) [] same free = absurd (omega (arith, same))
+  free_with (n ∷ ns) (es ∷ chain) same free =
+      let before : List ElementPage = with_chain slot ns chain pages in
+      let left : List ℕ = free_from 930 (set before (n - 930) (Cells slot es)) in
+      let here = first_free n ns chain free in
+      let one : IsPermutation (free_from 930 before) (n ∷ left) =
+      subst (λ (m : ℕ). IsPermutation (free_from 930 before) (m ∷ left)) (number_is n free.0.0 free.0.1) (free_set slot 930 (n - 930) es before here.0 here.1) in
+      IsPermutation-trans (free_from 930 pages) (ns ++ free_from 930 before) (n ∷ (ns ++ left)) (free_with ns chain (omega (arith, same)) free.2)
+      (IsPermutation-trans (ns ++ free_from 930 before) (ns ++ n ∷ left) (n ∷ (ns ++ left)) (IsPermutation-append_right ns (free_from 930 before) (n ∷ left) one) (IsPermutation-middle ns n left))
+
+-- elements of the format, side by side
+neither : (a b : Bool) → (a || b) ≡ false → (a ≡ false) × (b ≡ false)
+neither true b is = absurd (let no : ⊥ = cc in no)
+neither false b is = (refl, is)
+
+formats_apart : (format : ℕ) (es fs : List Element) → AreOfFormat format (es ++ fs) → AreOfFormat format es × AreOfFormat format fs
+formats_apart format es fs both = (λ old. (parts old).0, λ old. (parts old).1) where
+  parts : format ≡ OLD_FORMAT → (has_hidden es ≡ false) × (has_hidden fs ≡ false)
+  parts old = neither (has_hidden es) (has_hidden fs) (sym (list_any-append (λ (e : Element). e.1.hidden) es fs) ∙ both old)
+
+-- the places of a chain, its elements and its pages
+chained_length : (slot : ℕ) (columns : List Column) (bytes : ℕ → List ℕ) (new : List Place) (chain : List (List Element)) → AreChained slot columns bytes new chain → length (pages_of new) ≡ length chain
+chained_length slot columns bytes [] [] on = refl
+chained_length slot columns bytes [] (es ∷ chain) on = absurd on
+chained_length slot columns bytes (p ∷ new) [] on = absurd on
+chained_length slot columns bytes (p ∷ new) (es ∷ chain) on = ap suc (chained_length slot columns bytes new chain on.1)
+
+cells_zipped : (ns : List ℕ) (chain : List (List Element)) → length ns ≡ length chain → cells_in (zipped ns chain) ≡ chain
+cells_zipped [] [] same = refl
+cells_zipped [] (es ∷ chain) same = absurd (omega (arith, same))
+cells_zipped (n ∷ ns) [] same = absurd (omega (arith, same))
+cells_zipped (n ∷ ns) (es ∷ chain) same = ap (λ (l : List (List Element)). es ∷ l) (cells_zipped ns chain (omega (arith, same)))
+
+place_told : (p : Place) (es : List Element) → length es ≡ p.count → first_stamp es ≡ Some p.at → place_of p.page es ≡ p ∷ []
+place_told p [] count first = absurd (let no : ⊥ = cc in no)
+place_told p (e ∷ es) count first =
+    let at : e.0 ≡ p.at = cc in
+    λ i. record { at = at i; page = p.page; count = count i } ∷ []
+
+places_zipped : (slot : ℕ) (columns : List Column) (bytes : ℕ → List ℕ) (new : List Place) (chain : List (List Element)) → AreChained slot columns bytes new chain → places_in (zipped (pages_of new) chain) ≡ new
+places_zipped slot columns bytes [] [] on = refl
+places_zipped slot columns bytes [] (es ∷ chain) on = absurd on
+places_zipped slot columns bytes (p ∷ new) [] on = absurd on
+places_zipped slot columns bytes (p ∷ new) (es ∷ chain) on = λ i. place_told p es on.0.count on.0.first i ++ places_zipped slot columns bytes new chain on.1 i
+
+-- a page then: one of the chain, or as it was
+abbrev IsPageThen : ℕ → ℕ → List Column → (ℕ → List ℕ) → List ElementPage → List ℕ → List ElementPage → ℕ → Type 0
+IsPageThen slot format columns bytes pages ns after i =
+    ((es : List Element) × (element_page i after ≡ Cells slot es) × IsIrregularPage slot columns es (bytes (930 + i)) × AreOfFormat format es)
+    ⊎ ((Among (930 + i) ns → ⊥) × (element_page i after ≡ element_page i pages))
+
+page_then : (slot format : ℕ) (columns : List Column) (bytes : ℕ → List ℕ) (pages : List ElementPage) (new : List Place) (chain : List (List Element)) → AreChained slot columns bytes new chain → AreOfFormat format (all_in chain) → AreFreeIn pages (pages_of new)
+    → (i : ℕ) → IsPageThen slot format columns bytes pages (pages_of new) (with_chain slot (pages_of new) chain pages) i
+page_then slot format columns bytes pages [] [] on of_format free i = inr (λ there. there, refl)
+page_then slot format columns bytes pages [] (es ∷ chain) on of_format free i = absurd on
+page_then slot format columns bytes pages (p ∷ new) [] on of_format free i = absurd on
+page_then slot format columns bytes pages (p ∷ new) (es ∷ chain) on of_format free i =
+    let parts = formats_apart format es (all_in chain) of_format in
+    let before : List ElementPage = with_chain slot (pages_of new) chain pages in
+    elim (cases_eq i (p.page - 930)) [
+      | inl same ↦
+          let here = first_free slot pages p.page (pages_of new) chain free in
+          let number : p.page ≡ 930 + i = sym (same_number p.page free.0.0 i free.0.1 same) in
+          inl (es, ap (λ (k : ℕ). element_page k (set before (p.page - 930) (Cells slot es))) same ∙ page_set before (p.page - 930) (Cells slot es) here.0, subst (λ (n : ℕ). IsIrregularPage slot columns es (bytes n)) number on.0.bytes, parts.0)
+      | inr other ↦
+          let stays = page_other before (p.page - 930) i (Cells slot es) other in
+          elim (page_then slot format columns bytes pages new chain on.1 parts.1 free.2 i) [
+            | inl there ↦ inl (there.0, stays ∙ there.1, there.2, there.3)
+            | inr none ↦ inr (λ there. elim there [ inl is ↦ other (other_index p.page free.0.0 i free.0.1 is) | inr behind ↦ none.0 behind ], stays ∙ none.1)
+          ]
+    ]
+
+free_or_cells : (e : ElementPage) → (e ≡ Free) ⊎ ((s : ℕ) × (es : List Element) × (e ≡ Cells s es))
+free_or_cells Free = inl refl
+free_or_cells (Cells s es) = inr (s, es, refl)
+
+none_below : (n i : ℕ) → n < 930 → n ≡ 930 + i → ⊥
+none_below n i below is = omega (arith, below, is)
+
+module _ (l : Layout) (space : Directory) (slot : ℕ) (h : Heading) (new : List Place) (chain : List (List Element)) (v w : Contents) (r : IsRewrittenIn slot h space new chain v w l) where
+  abbrev emptied : List ElementPage
+  emptied = map (freed slot) l.element_pages
+
+  abbrev after : List ElementPage
+  after = with_chain slot (pages_of new) chain emptied
+
+  abbrev old : List Place
+  old = places_of slot space
+
+  within : slot < 4096
+  within = filled_within l.definitions slot h r.held.rules.definitions.tables r.heading
+
+  -- the pages of the series, and the free ones
+  base : IsPermutation (v.free ++ pages_of old) (free_from 930 emptied)
+  base = free_and_own l.definitions space v.count v.free l slot r.held within
+
+  taken : IsPermutation (w.free ++ pages_of new) (free_from 930 emptied)
+  taken = IsPermutation-trans (w.free ++ pages_of new) (v.free ++ pages_of old) (free_from 930 emptied) (IsPermutation-sym (v.free ++ pages_of old) (w.free ++ pages_of new) r.edit.pages) base
+
+  once : AreOnce (w.free ++ pages_of new)
+  once = once_from (w.free ++ pages_of new)
+      (pairs_permuted (λ (a b : ℕ). a ≢ b) (λ a b other same. other (sym same)) (free_from 930 emptied) (w.free ++ pages_of new) (IsPermutation-sym (w.free ++ pages_of new) (free_from 930 emptied) taken) (free_different 930 emptied))
+
+  free_new : AreFreeIn emptied (pages_of new)
+  free_new = free_in emptied (pages_of new) (once_back w.free (pages_of new) once) (λ n there. among_permuted (w.free ++ pages_of new) (free_from 930 emptied) n taken (among_back w.free (pages_of new) n there))
+
+  as_long : length (pages_of new) ≡ length chain
+  as_long = chained_length slot h.columns w.page new chain r.edit.on
+
+  left : IsPermutation w.free (free_from 930 after)
+  left = rest_permuted w.free (free_from 930 after) (pages_of new) once
+      (IsPermutation-trans (w.free ++ pages_of new) (free_from 930 emptied) (pages_of new ++ free_from 930 after) taken (free_with slot emptied (pages_of new) chain as_long free_new))
+
+  long : length after ≡ length l.element_pages
+  long = length_with slot emptied (pages_of new) chain ∙ length-map l.element_pages (freed slot)
+
+  -- a page that was neither free nor one of the series stays
+  page_stays : (n : ℕ) → (Among n (free_from 930 emptied) → ⊥) → w.page n ≡ v.page n
+  page_stays n other = r.edit.others n
+      (λ there. other (among_permuted (v.free ++ pages_of old) (free_from 930 emptied) n base (among_back v.free (pages_of old) n (among_from (pages_of old) n there))))
+      (λ there. other (among_permuted (v.free ++ pages_of old) (free_from 930 emptied) n base (among_front v.free (pages_of old) n (among_from v.free n there))))
+
+  low_stays : (n : ℕ) → n < 930 → w.page n ≡ v.page n
+  low_stays n below = page_stays n (λ there. let at = free_only 930 n emptied there in none_below n at.0 below at.1)
+
+  then_page : (i : ℕ) → IsPageThen slot l.definitions.format h.columns w.page emptied (pages_of new) after i
+  then_page = page_then slot l.definitions.format h.columns w.page emptied new chain r.edit.on r.of_format free_new
+
+  -- what the pages hold
+  holds_free : (i : ℕ) → i < length l.element_pages → (Among (930 + i) (pages_of new) → ⊥) → element_page i emptied ≡ Free → IsFreePage (w.page (930 + i))
+  holds_free i inside other free =
+      let there : Among (930 + i) (free_from 930 emptied) = free_among 930 i emptied (omega (arith, inside, length-map l.element_pages (freed slot))) free in
+      elim (among_either w.free (pages_of new) (930 + i) (among_permuted (free_from 930 emptied) (w.free ++ pages_of new) (930 + i) (IsPermutation-sym (w.free ++ pages_of new) (free_from 930 emptied) taken) there)) [
+        | inl in_free ↦ all_among (λ (n : ℕ). IsFreePage (w.page n)) w.free (930 + i) r.edit.freed in_free
+        | inr in_new ↦ absurd (other in_new)
+      ]
+
+  holds_other : (i s : ℕ) (es : List Element) → HoldsLayout v.page l → i < length l.element_pages → element_page i emptied ≡ Cells s es → HoldsElements l.definitions (w.page (930 + i)) (Cells s es)
+  holds_other i s es holds inside is =
+      let before = cells_before slot i s es l.element_pages is in
+      let stays = page_stays (930 + i) (λ there.
+      let at = free_only 930 (930 + i) emptied there in
+      let same : at.0 ≡ i = same_index at.0 i at.1 in
+      free_cells s es (sym at.3 ∙ ap (λ (k : ℕ). element_page k emptied) same ∙ is)) in
+      subst (λ (b : List ℕ). HoldsElements l.definitions b (Cells s es)) (sym stays) (subst (HoldsElements l.definitions (v.page (930 + i))) before.0 (holds.elements i inside)) where
+        same_index : (j i : ℕ) → 930 + i ≡ 930 + j → j ≡ i
+        same_index j i is = omega (arith, is)
+
+  bytes_after : HoldsLayout v.page l → HoldsLayout w.page (rewritten slot (pages_of new) chain l)
+  bytes_after holds = record {
+    header = low_stays 0 (omega arith) ∙ holds.header ∙ ap (header_bytes l.definitions.format) (sym long);
+    definitions = definitions_stay v.page w.page l.definitions low_stays holds.definitions;
+    elements = λ i inside.
+        let inside' : i < length l.element_pages = omega (arith, inside, long) in
+        elim (then_page i) [
+          | inl on ↦ subst (HoldsElements l.definitions (w.page (930 + i))) (sym on.1) (h, r.heading, on.2, on.3)
+          | inr none ↦ subst (HoldsElements l.definitions (w.page (930 + i))) (sym none.1) (elim (free_or_cells (element_page i emptied)) [
+            | inl free ↦ subst (HoldsElements l.definitions (w.page (930 + i))) (sym free) (holds_free i inside' none.0 free)
+            | inr cells ↦ subst (HoldsElements l.definitions (w.page (930 + i))) (sym cells.2) (holds_other i cells.0 cells.1 holds inside' cells.2)
+          ])
+        ];
+  }
+
+  -- the pages of each series
+  own_pairs : IsPermutation (pairs_from slot 930 after) (zipped (pages_of new) chain)
+  own_pairs = subst (IsPermutation (pairs_from slot 930 after)) (ap (λ (l' : List Numbered). zipped (pages_of new) chain ++ l') (pairs_freed_own slot 930 l.element_pages) ∙ append-nil (zipped (pages_of new) chain)) (pairs_with slot emptied (pages_of new) chain free_new)
+
+  other_pairs : (s : ℕ) → s ≢ slot → pairs_from s 930 after ≡ pairs_from s 930 l.element_pages
+  other_pairs s other = pairs_with_other slot emptied s (pages_of new) chain other free_new ∙ pairs_freed_other slot s 930 l.element_pages other
+
+  other_cells : (s : ℕ) → s ≢ slot → cells_of s after ≡ cells_of s l.element_pages
+  other_cells s other = cells_of_in s 930 after ∙ ap cells_in (other_pairs s other) ∙ sym (cells_of_in s 930 l.element_pages)
+
+  other_elements : (s : ℕ) → s ≢ slot → elements_of s after ≡ elements_of s l.element_pages
+  other_elements s other = elements_of_in s 930 after ∙ ap (flat_map (λ (p : Numbered). p.1)) (other_pairs s other) ∙ sym (elements_of_in s 930 l.element_pages)
+
+  other_places : (s : ℕ) → s ≢ slot → places_from s 930 after ≡ places_from s 930 l.element_pages
+  other_places s other = places_from_in s 930 after ∙ ap places_in (other_pairs s other) ∙ sym (places_from_in s 930 l.element_pages)
+
+  own_cells : IsPermutation chain (cells_of slot after)
+  own_cells =
+      subst (λ (x : List (List Element)). IsPermutation x (cells_of slot after)) (cells_zipped (pages_of new) chain as_long)
+      (subst (IsPermutation (cells_in (zipped (pages_of new) chain))) (sym (cells_of_in slot 930 after))
+      (IsPermutation-map (λ (p : Numbered). p.1) (zipped (pages_of new) chain) (pairs_from slot 930 after) (IsPermutation-sym (pairs_from slot 930 after) (zipped (pages_of new) chain) own_pairs)))
+
+  own_places : IsPermutation new (places_from slot 930 after)
+  own_places =
+      subst (λ (x : List Place). IsPermutation x (places_from slot 930 after)) (places_zipped slot h.columns w.page new chain r.edit.on)
+      (subst (IsPermutation (places_in (zipped (pages_of new) chain))) (sym (places_from_in slot 930 after))
+      (flat_map_permuted (λ (p : Numbered). place_of p.0 p.1) (zipped (pages_of new) chain) (pairs_from slot 930 after) (IsPermutation-sym (pairs_from slot 930 after) (zipped (pages_of new) chain) own_pairs)))
+
+  -- the directory
+  lists_after : (space' : Directory) → space'.lists ≡ set space.lists slot new → ListsPlaces space' (rewritten slot (pages_of new) chain l)
+  lists_after space' lists s small = elim (cases_eq s slot) [
+    | inl same ↦
+        let inside : slot < length space.lists = let z = r.slots in let y = within in omega (arith, y, z) in
+        let now : places_of slot space' ≡ new = ap (λ (x : List (List Place)). get_or x slot []) lists ∙ get_or-set_same space.lists slot new [] inside in
+        let own : IsListOf slot (places_of slot space') after = subst (λ (x : List Place). IsListOf slot x after) (sym now) (record { rising = r.edit.rising; all = own_places }) in
+        subst (λ (n : ℕ). IsListOf n (places_of n space') after) (sym same) own
+    | inr other ↦
+        let before = r.held.places s small in
+        let now : places_of s space' ≡ places_of s space = ap (λ (x : List (List Place)). get_or x s []) lists ∙ get_or-set_other space.lists slot s new [] other in
+        subst (λ (x : List Place). IsListOf s x after) (sym now) (record { rising = before.rising; all = subst (IsPermutation (places_of s space)) (sym (other_places s other)) before.all })
+  ]
+
+  -- the rules
+  rewritten_filled : AreFilled (rewritten slot (pages_of new) chain l)
+  rewritten_filled i s es is = elim (then_page i) [
+    | inl on ↦
+        let both = same_cells slot s on.0 es (sym on.1 ∙ is) in
+        subst (λ (fs : List Element). (heading : Heading) × (heading_at l.definitions s ≡ Some heading) × FillPage heading.columns fs × AreOfFormat l.definitions.format fs) both.1
+        (h, ap (heading_at l.definitions) (sym both.0) ∙ r.heading, on.2.fill, on.3)
+    | inr none ↦ r.held.filled i s es (cells_before slot i s es l.element_pages (sym none.1 ∙ is)).0
+  ]
+
+  rewritten_chains : AreInChains (rewritten slot (pages_of new) chain l)
+  rewritten_chains s h' there = elim (cases_eq s slot) [
+    | inl same ↦
+        let one : h ≡ h' = one_of (heading_at l.definitions slot) h h' r.heading (ap (heading_at l.definitions) (sym same) ∙ there) in
+        subst (λ (n : ℕ). IsInChain n h'.columns after) (sym same) (subst (λ (x : Heading). IsInChain slot x.columns after) one (record { chain = chain; is = r.edit.is; all = own_cells }))
+    | inr other ↦
+        let before = r.held.rules.chains s h' there in
+        record { chain = before.chain; is = before.is; all = subst (IsPermutation before.chain) (sym (other_cells s other)) before.all }
+  ]
+
+  charge_kept : (container room : ℕ) → ((s : SeriesDef) → at_slot slot l.definitions.series ≡ Some s → s.container ≢ container) → charge_of_container (rewritten slot (pages_of new) chain l) container room ≡ charge_of_container l container room
+  charge_kept container room apart =
+      sum_same (charge_of_series after container room) (charge_of_series l.element_pages container room) 0 l.definitions.series
+      (λ j s there. elim (cases_eq j slot) [
+        | inl same ↦ let f : (s.container == container) ≡ false = not_equal s.container container (apart s (ap (λ (n : ℕ). at_slot n l.definitions.series) (sym same) ∙ there)) in rw f refl
+        | inr other ↦
+            let more : 0 + j ≢ slot = λ e. other (omega (arith, e)) in
+            λ k. if s.container == container then irregular_charge room (length (other_elements (0 + j) more k)) else 0
+      ])
+
+  rewritten_sound : KeepsQuotaOf slot (rewritten slot (pages_of new) chain l) → IsSound (rewritten slot (pages_of new) chain l)
+  rewritten_sound kept = record {
+    some = subst (λ (n : ℕ). 1 ≤ n) (sym long) r.held.rules.some;
+    most = subst (λ (n : ℕ). n ≤ 65536) (sym long) r.held.rules.most;
+    definitions = subst (λ (n : ℕ). AreSound n l.definitions) (sym long) r.held.rules.definitions;
+    chains = rewritten_chains;
+    charges = λ k c head there heading. elim (its_container (at_slot slot l.definitions.series) k) [
+      | inl own ↦
+          let here = kept own.0 c head own.1 (ap (λ (n : ℕ). at_slot n l.definitions.containers) own.2 ∙ there) heading in
+          subst (λ (n : ℕ). charge_of_container (rewritten slot (pages_of new) chain l) n (page_room head.columns) ≤ c.quota) own.2 here
+      | inr apart ↦ subst (λ (n : ℕ). n ≤ c.quota) (sym (charge_kept k (page_room head.columns) apart)) (r.held.rules.charges k c head there heading)
+    ];
+  }
+
+  held_after : (space' : Directory) → space'.lists ≡ set space.lists slot new → KeepsQuotaOf slot (rewritten slot (pages_of new) chain l) → IsHeldOf l.definitions space' w.count w.free (rewritten slot (pages_of new) chain l)
+  held_after space' lists kept = record {
+    definitions = refl;
+    size = r.count ∙ r.held.size ∙ ap (λ (n : ℕ). 930 + n) (sym long);
+    places = lists_after space' lists;
+    free = left;
+    rules = rewritten_sound kept;
+    filled = rewritten_filled;
+  }
+
+  -- the catalogue
+  series_written : (s : SeriesDef) → series_of (rewritten slot (pages_of new) chain l) slot s ≡ record (series_of l slot s) { elements = by_stamp (all_in chain) }
+  series_written s =
+      let now : elements_at slot after ≡ by_stamp (all_in chain) = chain_elements slot h.columns after chain r.edit.is.pages own_cells in
+      λ k. record { container = name_at (λ c. c.name) s.container l.definitions.containers; elements = now k }
+
+  series_stays : (j : ℕ) (s : SeriesDef) → j ≢ slot → series_of (rewritten slot (pages_of new) chain l) j s ≡ series_of l j s
+  series_stays j s other =
+      let same : elements_at j after ≡ elements_at j l.element_pages = ap by_stamp (other_elements j other) in
+      λ k. record { container = name_at (λ c. c.name) s.container l.definitions.containers; elements = same k }
+
+  catalogue_after : (s : SeriesDef) → at_slot slot l.definitions.series ≡ Some s
+      → catalogue_of (rewritten slot (pages_of new) chain l) ≡ record (catalogue_of l) { series = insert (catalogue_of l).series s.key (record (series_of l slot s) { elements = by_stamp (all_in chain) }) }
+  catalogue_after s there =
+      let table : List (Option SeriesDef) = l.definitions.series in
+      let now : by_name (λ s. s.key) (series_of (rewritten slot (pages_of new) chain l)) table ≡ insert (by_name (λ s. s.key) (series_of l) table) s.key (series_of (rewritten slot (pages_of new) chain l) slot s) =
+      changed (λ s. s.key) (series_of l) (series_of (rewritten slot (pages_of new) chain l)) table slot s r.held.rules.definitions.tables.series.apart there (λ j b other. series_stays j b other) in
+      let whole = now ∙ ap (λ (x : Series). insert (by_name (λ s. s.key) (series_of l) table) s.key x) (series_written s) in
+      λ k. record {
+        format = l.definitions.format;
+        pages = long k;
+        row_types = (catalogue_of l).row_types;
+        containers = (catalogue_of l).containers;
+        series = whole k;
+      }
+
+pub rewritten_bytes : (l : Layout) (space : Directory) (slot : ℕ) (h : Heading) (new : List Place) (chain : List (List Element)) (v w : Contents) → IsRewrittenIn slot h space new chain v w l → HoldsLayout v.page l → HoldsLayout w.page (rewritten slot (pages_of new) chain l)
+rewritten_bytes = bytes_after
+
+pub rewritten_lists : (l : Layout) (space space' : Directory) (slot : ℕ) (h : Heading) (new : List Place) (chain : List (List Element)) (v w : Contents) → IsRewrittenIn slot h space new chain v w l → space'.lists ≡ set space.lists slot new
+    → ListsPlaces space' (rewritten slot (pages_of new) chain l)
+rewritten_lists l space space' slot h new chain v w r = lists_after l space slot h new chain v w r space'
+
+pub rewritten_held : (l : Layout) (space space' : Directory) (slot : ℕ) (h : Heading) (new : List Place) (chain : List (List Element)) (v w : Contents) → IsRewrittenIn slot h space new chain v w l → space'.lists ≡ set space.lists slot new
+    → KeepsQuotaOf slot (rewritten slot (pages_of new) chain l) → IsHeldOf l.definitions space' w.count w.free (rewritten slot (pages_of new) chain l)
+rewritten_held l space space' slot h new chain v w r = held_after l space slot h new chain v w r space'
+
+pub rewritten_catalogue : (l : Layout) (space : Directory) (slot : ℕ) (h : Heading) (s : SeriesDef) (new : List Place) (chain : List (List Element)) (v w : Contents) → IsRewrittenIn slot h space new chain v w l → at_slot slot l.definitions.series ≡ Some s
+    → catalogue_of (rewritten slot (pages_of new) chain l) ≡ record (catalogue_of l) { series = insert (catalogue_of l).series s.key (record (series_of l slot s) { elements = by_stamp (all_in chain) }) }
+rewritten_catalogue l space slot h s new chain v w r = catalogue_after l space slot h new chain v w r s

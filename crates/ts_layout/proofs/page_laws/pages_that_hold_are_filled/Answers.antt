@@ -1,5 +1,0 @@
-use Rattle.ts_layout.proofs.OnePageLemmas.{filled_pages}
-use Rattle.ts_layout.proofs.page_laws.pages_that_hold_are_filled.Goals as goal
-
-pub returns : goal.returns
-returns c = filled_pages
