@@ -11,7 +11,7 @@ use Rattle.ts_cells.specs.Cell.{page_room}
 use Rattle.ts_model.specs.Definitions.{Definitions, SeriesDef, at_slot, with_format, IsDefinitions}
 use Rattle.ts_layout.specs.Meaning.{heading_in}
 use Rattle.ts_layout.specs.Charges.{container_charge}
-use Rattle.ts_layout.specs.OnePage.{charge_in}
+use Rattle.ts_layout.specs.Charges.{charge_in}
 use Rattle.ts_layout.proofs.CallerLemmas.{charge_own, charge_others}
 use Rattle.ts_container.specs.KeptCharges.{AreCharges, IsCharged, with_charge}
 

@@ -2,6 +2,10 @@ pub mod PartLemmas
 pub mod ParseLemmas
 pub mod ReadLemmas
 pub mod WriteLemmas
+pub mod SpanLemmas
+pub mod SeenLemmas
+pub mod SortedLemmas
+pub mod DirectoryLemmas
 pub mod SurveyLemmas
 pub mod ContentLemmas
 pub mod ElementLemmas

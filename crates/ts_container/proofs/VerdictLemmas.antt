@@ -1,21 +1,33 @@
 -- What a survey says of the pages.
-use Rattle.std.proofs.Common.{◌≡◌, ℕ, ◌+◌, ◌-◌, ◌<◌, ◌≤◌, Bool, Option, Some, None, IsSome, IsTrue, Result, Ok, Err, IsErrAnd, IfErr, List, length, refl, sym, ap, subst, ◌∙◌, arith, inl, inr, ◌⊎◌, MatchOption}
+use Rattle.std.specs.Prelude.{All, IsPermutation}
+use Rattle.std.proofs.Common.{◌≡◌, ℕ, suc, ◌+◌, ◌-◌, ◌*◌, ◌<◌, ◌≤◌, ◌==◌, if◌then◌else◌, true, false, [], ◌∷◌, lit≤, length-append, Bool, Option, Some, None, IsSome, IsTrue, Result, Ok, Err, IsErrAnd, IfErr, List, length, refl, sym, ap, subst, ◌∙◌, arith, inl, inr, ◌⊎◌, MatchOption}
+use Rattle.std.proofs.lemmas.List.Sorted.{sum_by-IsPermutation}
 use Rattle.ts_page.specs.Pages.{Contents, EqualPages}
-use Rattle.ts_space.specs.Place.{count_of}
+use Rattle.ts_space.specs.declared.place.Place.{Place}
+use Rattle.ts_space.specs.Place.{count_of, IsRising}
 use Rattle.ts_space.specs.Directory.{Directory, places_of}
+use Rattle.ts_row.specs.RowType.{Heading}
+use Rattle.ts_row.specs.declared.kind.Column.{Column}
+use Rattle.ts_cells.specs.Cell.{page_room, cell_size}
 use Rattle.ts_model.specs.Definitions.{Definitions, IsFormat, IsDefinitions}
 use Rattle.ts_layout.specs.Slot.{header_bytes}
-use Rattle.ts_layout.specs.Meaning.{ElementPage, element_page, elements_of, Layout, HoldsDefinitions, HoldsElements, KeepLimits, AreThere, AreSound, sum_of_quotas, HasOnePageEach, KeepsQuotas, IsSound, IsLaidOut, HoldAll}
+use Rattle.ts_layout.specs.Meaning.{ElementPage, Free, Cells, element_page, elements_on, elements_of, Layout, heading_at, HoldsDefinitions, HoldsElements, KeepLimits, AreThere, AreSound, sum_of_quotas, IsInChain, IsSound, IsLaidOut, HoldAll}
+use Rattle.ts_layout.specs.Surveyed.{ListsPlaces, places_from}
 use Rattle.ts_container.specs.Reading.{HoldNone}
-use Rattle.ts_layout.specs.Charges.{KeepQuotas}
-use Rattle.ts_container.specs.Elements.{ListsAll, ListsUnless, HoldNoElements, AllRead, ElementsRead, IsReadAs}
+use Rattle.ts_layout.specs.Charges.{AreCountable, KeepQuotas}
+use Rattle.ts_container.specs.declared.span.Span.{Span}
+use Rattle.ts_container.specs.Spans.{spans_from, places_in, AreSorted, AreApart, AreDense, IsSpan, Lists}
+use Rattle.ts_container.specs.Elements.{HoldNoElements, AllRead, ElementsRead, IsReadAs}
 use Rattle.ts_container.specs.Survey.{Reads, IfRefused, HoldUnless, DefinitionsRead, SoundRead, IsFound, HoldNoLayout}
 use Rattle.ts_container.specs.declared.fault.SurveyFault.{SurveyFault}
 use Rattle.ts_container.specs.declared.fault.SurveyFault.TheVariants.{NotAStore, Failed, Memory}
 use Rattle.ts_container.specs.declared.surveyed.Surveyed.{Surveyed}
-use Rattle.ts_layout.specs.OnePage.{AreFilled}
-use Rattle.ts_layout.proofs.CallerLemmas.{within_list, header_format, unique, kept_in, AllAlike, pages_alike, one_alike, as_many, count_places, quotas_kept, quotas_listed}
+use Rattle.ts_layout.specs.Chains.{AreFilled}
+use Rattle.ts_layout.proofs.CallerLemmas.{within_list, header_format, unique, kept_in, same_page, same_pages, count_places, quotas_kept, quotas_listed}
 use Rattle.ts_container.proofs.SurveyLemmas.{reads_more, reads_err, reads_refused}
+use Rattle.ts_container.proofs.SpanLemmas.{rising_in}
+use Rattle.ts_container.proofs.SeenLemmas.{AllHeld}
+use Rattle.ts_container.proofs.SortedLemmas.{places_listed, ends_found, chained, apart_there, dense_there}
 
 -- how many element pages there are
 size_of : (count : ℕ) (l : Layout) → count ≡ 930 + length l.element_pages → length l.element_pages ≡ count - 930
@@ -75,67 +87,127 @@ told_pages tells count d v es told size seen j within =
     let one = seen j at in
     subst (λ (b : List ℕ). HoldsElements d b (element_page j es)) (sym (one.2 told)) one.1
 
--- the pages that were read are like those of each layout
-likewise : (tells : Bool) (count : ℕ) (d : Definitions) (v : Contents) (es : List ElementPage) → IsTrue tells → length es ≡ count - 930 → ((j : ℕ) → j < count - 930 → IsReadAs tells v d (930 + j) (element_page j es))
-    → HasFormat d.format count v.page → HoldsDefinitions v.page d → AreSound (count - 930) d → (l : Layout) → IsLaidOut count v.page l → AllAlike es l.element_pages
-likewise tells count d v es told size seen header holds sound l laid =
-    pages_alike d v.page es l.element_pages (size ∙ sym (size_of count l laid.size)) (told_pages tells (count - 930) d v es told size seen) (its_pages count v.page d header holds sound l laid)
+-- each page that was read holds something
+held_seen : (tells : Bool) (count : ℕ) (d : Definitions) (v : Contents) (es : List ElementPage) → length es ≡ count → ((j : ℕ) → j < count → IsReadAs tells v d (930 + j) (element_page j es)) → AllHeld d es
+held_seen tells count d v es size seen j within = let one = seen j (omega (arith, within, size)) in (one.0, one.1)
 
--- a second page of a series
-two_pages : (second : Option ℕ) (number : ℕ) (space : Directory) (es : List ElementPage) → second ≡ Some number → ListsUnless second space es → HasOnePageEach es → ⊥
-two_pages None number space es is lists one = absurd (cc)
-two_pages (Some other) number space es is lists one = lists one
+-- the layout of the pages that were read
+abbrev the_layout : Definitions → List ElementPage → Layout
+the_layout d es = record { definitions = d; element_pages = es }
 
-pub not_one : (tells : Bool) (count number : ℕ) (d : Definitions) (v : Contents) (space : Directory) (spare : List ℕ) (second : Option ℕ) → IsTrue tells → HasFormat d.format count v.page → HoldsDefinitions v.page d → AreSound (count - 930) d → AllRead tells (count - 930) d v space spare second → second ≡ Some number → HoldNoLayout count v.page
-not_one tells count number d v space spare second told header holds sound read is l laid =
-    two_pages second number space read.elements is read.listed.lists
-    (one_alike read.elements l.element_pages (likewise tells count d v read.elements told read.size read.seen header holds sound l laid) laid.rules.one_page)
+-- it is the one of each layout that they hold
+its_rules : (tells : Bool) (count : ℕ) (d : Definitions) (v : Contents) (es : List ElementPage) → IsTrue tells → length es ≡ count - 930 → ((j : ℕ) → j < count - 930 → IsReadAs tells v d (930 + j) (element_page j es))
+    → HasFormat d.format count v.page → HoldsDefinitions v.page d → AreSound (count - 930) d → (l : Layout) → IsLaidOut count v.page l → IsSound (the_layout d es)
+its_rules tells count d v es told size seen header holds sound l laid =
+    let long : length es ≡ length l.element_pages = size ∙ sym (size_of count l laid.size) in
+    let mine = told_pages tells (count - 930) d v es told size seen in
+    let its = its_pages count v.page d header holds sound l laid in
+    let pages : l.element_pages ≡ es = sym (same_pages es l.element_pages long (λ j within. same_page d (v.page (930 + j)) (element_page j es) (element_page j l.element_pages) sound.limits sound.tables (mine j within) (its j (omega (arith, within, long))))) in
+    let definitions : l.definitions ≡ d = the_definitions count v.page d header holds sound.limits sound.tables l laid in
+    subst IsSound (λ i. the_layout (definitions i) (pages i)) laid.rules
 
--- the places are all there where no second page was found
-pub all_listed : (second : Option ℕ) (space : Directory) (es : List ElementPage) → second ≡ None → ListsUnless second space es → ListsAll space es
-all_listed None space es is lists = lists
-all_listed (Some number) space es is lists = absurd (cc)
+-- the spans of the pages that were read, in the order of a sort
+abbrev pub IsSortOf : List Span → List Span → Type 0
+IsSortOf spans sorted = IsPermutation spans sorted × AreSorted sorted
 
-counted : (space : Directory) (es : List ElementPage) → ListsAll space es → (slot : ℕ) → slot < 4096 → count_of (places_of slot space) ≡ length (elements_of slot es)
-counted space es lists slot within = ap count_of (lists.places slot within) ∙ count_places slot 930 es
+all_moved : (spans sorted : List Span) (es : List ElementPage) → spans ≡ spans_from 930 es → IsPermutation spans sorted → IsPermutation (spans_from 930 es) sorted
+all_moved spans sorted es found moved = subst (λ (l : List Span). IsPermutation l sorted) found moved
+
+pub ends_read : (tells : Bool) (count : ℕ) (d : Definitions) (v : Contents) (spans sorted : List Span) (spare : List ℕ) → AllRead tells count d v spans spare → IsSortOf spans sorted → All IsSpan sorted
+ends_read tells count d v spans sorted spare read moved =
+    ends_found d read.elements sorted (held_seen tells count d v read.elements read.size read.seen) (all_moved spans sorted read.elements read.listed.found moved.0)
+
+-- pages of a series that overlap, or fit one page
+pub not_chained : (tells : Bool) (count : ℕ) (d : Definitions) (v : Contents) (spans sorted : List Span) (spare : List ℕ) → IsTrue tells → HasFormat d.format count v.page → HoldsDefinitions v.page d → AreSound (count - 930) d → AllRead tells (count - 930) d v spans spare → IsSortOf spans sorted
+    → (AreApart sorted → AreDense d sorted → ⊥) → HoldNoLayout count v.page
+not_chained tells count d v spans sorted spare told header holds sound read moved bad l laid =
+    let es : List ElementPage = read.elements in
+    let held = held_seen tells (count - 930) d v es read.size read.seen in
+    let all = all_moved spans sorted es read.listed.found moved.0 in
+    let rules = its_rules tells count d v es told read.size read.seen header holds sound l laid in
+    let apart = apart_there d es sorted held all moved.1 rules.chains in
+    bad apart (dense_there d es sorted held all moved.1 apart rules.chains)
+
+-- the places count the elements
+counted : (space : Directory) (spans sorted : List Span) (es : List ElementPage) → spans ≡ spans_from 930 es → IsPermutation spans sorted → Lists sorted space → (slot : ℕ) → slot < 4096 → count_of (places_of slot space) ≡ length (elements_of slot es)
+counted space spans sorted es found moved lists slot within =
+    ap count_of (lists.places slot within)
+    ∙ sym (sum_by-IsPermutation (λ (p : Place). p.count) (places_in slot sorted) (places_from slot 930 es) (places_listed slot es sorted (all_moved spans sorted es found moved)))
+    ∙ count_places slot 930 es
+
+-- a page has at most so many elements
+few_room : (columns : List Column) → page_room columns ≤ 451
+few_room columns = omega arith
+
+few_on : (d : Definitions) (slot : ℕ) (bytes : List ℕ) (e : ElementPage) → HoldsElements d bytes e → length (elements_on slot e) ≤ 451
+few_on d slot bytes Free holds = lit≤ tt
+few_on d slot bytes (Cells s es) holds = of_test (s == slot) where
+  of_test : (b : Bool) → length (if b then es else []) ≤ 451
+  of_test true = let room = few_room holds.0.columns in let fits = holds.2.fill.room in omega (arith, room, fits)
+  of_test false = lit≤ tt
+
+few_elements : (d : Definitions) (slot : ℕ) (es : List ElementPage) → AllHeld d es → length (elements_of slot es) ≤ 451 * length es
+few_elements d slot [] held = lit≤ tt
+few_elements d slot (e ∷ es) held =
+    let here = held 0 (omega arith) in
+    let one = few_on d slot here.0 e here.1 in
+    let rest = few_elements d slot es (λ j within. held (suc j) (omega (arith, within))) in
+    omega (arith, one, rest, length-append (elements_on slot e) (elements_of slot es))
+
+-- so they can be counted
+pub countable : (tells : Bool) (count : ℕ) (d : Definitions) (v : Contents) (space : Directory) (spans sorted : List Span) (spare : List ℕ) → count ≤ 66466 → AllRead tells (count - 930) d v spans spare → IsSortOf spans sorted → Lists sorted space → AreCountable space
+countable tells count d v space spans sorted spare high read moved lists slot within =
+    let same = counted space spans sorted read.elements read.listed.found moved.0 lists slot within in
+    let few = few_elements d slot read.elements (held_seen tells (count - 930) d v read.elements read.size read.seen) in
+    omega (arith, same, few, read.size, high)
 
 -- a container over its quota
-pub not_paid : (tells : Bool) (count : ℕ) (d : Definitions) (v : Contents) (space : Directory) (spare : List ℕ) (second : Option ℕ) → IsTrue tells → HasFormat d.format count v.page → HoldsDefinitions v.page d → AreSound (count - 930) d → AllRead tells (count - 930) d v space spare second → second ≡ None → (KeepQuotas d space → ⊥) → HoldNoLayout count v.page
-not_paid tells count d v space spare second told header holds sound read is over l laid =
-    let lists = all_listed second space read.elements is read.listed.lists in
-    let like = likewise tells count d v read.elements told read.size read.seen header holds sound l laid in
-    let same : l.definitions ≡ d = the_definitions count v.page d header holds sound.limits sound.tables l laid in
-    let kept : KeepsQuotas (record { definitions = d; element_pages = l.element_pages }) = subst (λ (x : Definitions). KeepsQuotas (record { definitions = x; element_pages = l.element_pages })) same laid.rules.charges in
-    over (quotas_listed d space l.element_pages sound.tables (λ slot within. counted space read.elements lists slot within ∙ as_many slot read.elements l.element_pages like) kept)
+pub not_paid : (tells : Bool) (count : ℕ) (d : Definitions) (v : Contents) (space : Directory) (spans sorted : List Span) (spare : List ℕ) → IsTrue tells → HasFormat d.format count v.page → HoldsDefinitions v.page d → AreSound (count - 930) d → AllRead tells (count - 930) d v spans spare → IsSortOf spans sorted
+    → Lists sorted space → (KeepQuotas d space → ⊥) → HoldNoLayout count v.page
+not_paid tells count d v space spans sorted spare told header holds sound read moved lists over l laid =
+    let rules = its_rules tells count d v read.elements told read.size read.seen header holds sound l laid in
+    over (quotas_listed d space read.elements sound.tables (counted space spans sorted read.elements read.listed.found moved.0 lists) rules.charges)
 
 -- each page that was read is filled
-filled_seen : (tells : Bool) (count : ℕ) (d : Definitions) (v : Contents) (es : List ElementPage) → length es ≡ count → ((j : ℕ) → j < count → IsReadAs tells v d (930 + j) (element_page j es)) → AreFilled (record { definitions = d; element_pages = es })
+filled_seen : (tells : Bool) (count : ℕ) (d : Definitions) (v : Contents) (es : List ElementPage) → length es ≡ count → ((j : ℕ) → j < count → IsReadAs tells v d (930 + j) (element_page j es)) → AreFilled (the_layout d es)
 filled_seen tells count d v es size seen i slot fs is =
     let one = seen i (omega (arith, within_list es i slot fs is, size)) in
     let here = subst (HoldsElements d one.0) is one.1 in
     (here.0, here.1, here.2.fill, here.3)
 
+-- the places of each series, in order
+places_seen : (d : Definitions) (space : Directory) (spans sorted : List Span) (es : List ElementPage) → AllHeld d es → spans ≡ spans_from 930 es → IsSortOf spans sorted → AreApart sorted → Lists sorted space → ListsPlaces space (the_layout d es)
+places_seen d space spans sorted es held found moved apart lists slot within =
+    let all = all_moved spans sorted es found moved.0 in
+    let is = lists.places slot within in
+    record {
+      rising = subst IsRising (sym is) (rising_in slot sorted moved.1 (ends_found d es sorted held all) apart);
+      all = subst (λ (ps : List Place). IsPermutation ps (places_from slot 930 es)) (sym is) (places_listed slot es sorted all);
+    }
+
 -- the layout that was read: on every keeper of pages it keeps the rules, and where the pages are told they hold it
-pub is_found : (tells : Bool) (count : ℕ) (d : Definitions) (v : Contents) (space : Directory) (spare : List ℕ) (second : Option ℕ) → 931 ≤ count → count ≤ 66466 → length space.lists ≡ 4096 → (IsTrue tells → HasFormat d.format count v.page) → (IsTrue tells → HoldsDefinitions v.page d) → AreSound (count - 930) d
-    → AllRead tells (count - 930) d v space spare second → second ≡ None → KeepQuotas d space → IsFound tells count v d space spare
-is_found tells count d v space spare second low high slots header holds sound read is kept =
+pub is_found : (tells : Bool) (count : ℕ) (d : Definitions) (v : Contents) (space : Directory) (spans sorted : List Span) (spare : List ℕ) → 931 ≤ count → count ≤ 66466 → (IsTrue tells → HasFormat d.format count v.page) → (IsTrue tells → HoldsDefinitions v.page d) → AreSound (count - 930) d
+    → AllRead tells (count - 930) d v spans spare → IsSortOf spans sorted → AreApart sorted × AreDense d sorted → Lists sorted space → KeepQuotas d space → IsFound tells count v d space spare
+is_found tells count d v space spans sorted spare low high header holds sound read moved good lists kept =
     let es : List ElementPage = read.elements in
-    let lists = all_listed second space es is read.listed.lists in
-    let l : Layout = record { definitions = d; element_pages = es } in
-    let filled = filled_seen tells (count - 930) d v es read.size read.seen in
+    let l : Layout = the_layout d es in
+    let held = held_seen tells (count - 930) d v es read.size read.seen in
+    let all = all_moved spans sorted es read.listed.found moved.0 in
+    let filled : AreFilled l = filled_seen tells (count - 930) d v es read.size read.seen in
+    let places : ListsPlaces space l = places_seen d space spans sorted es held read.listed.found moved good.0 lists in
     let size : count ≡ 930 + length es = omega (arith, read.size, low) in
     let rules : IsSound l = record {
       some = omega (arith, read.size, low);
       most = omega (arith, read.size, high);
       definitions = subst (λ (n : ℕ). AreSound n d) (sym read.size) sound;
-      one_page = lists.one;
-      charges = quotas_kept d space es sound.tables (counted space es lists) kept;
+      chains = λ slot h there. chained d slot h es sorted held all moved.1 good.0 good.1 there;
+      charges = quotas_kept d space es sound.tables (counted space spans sorted es read.listed.found moved.0 lists) kept;
     } in
     record {
-      kept = kept_in l space spare count rules filled lists.places slots read.listed.free size;
+      kept = kept_in l space spare count rules filled places lists.slots read.listed.spare size;
       layout = λ told. (
         l,
-        record { definitions = refl; places = lists.places; free = read.listed.free; filled = filled },
+        record { definitions = refl; places = places; free = read.listed.spare; filled = filled },
         record {
           size = size;
           bytes = record {
@@ -160,11 +232,11 @@ refused_so Failed P Q so refused = tt
 refused_so (Memory error) P Q so refused = tt
 
 -- the same pages
-same_pages : (a b : ℕ → List ℕ) → EqualPages a b → b ≡ a
-same_pages a b same = λ i n. same n i
+equal_pages : (a b : ℕ → List ℕ) → EqualPages a b → b ≡ a
+equal_pages a b same = λ i n. same n i
 
 none_before : (format : ℕ) (a b : ℕ → List ℕ) → EqualPages a b → HoldNone format b → HoldNone format a
-none_before format a b same none = subst (HoldNone format) (same_pages a b same) none
+none_before format a b same none = subst (HoldNone format) (equal_pages a b same) none
 
 pub sound_err : (tells : Bool) (format count : ℕ) (e : SurveyFault) (d : Definitions) (u v w : Contents) → (IsTrue tells → HasFormat format count u.page) → Reads tells (Ok (tt {0})) u v → DefinitionsRead tells format (Err e) d v w → SoundRead tells count (Err e) u w
 sound_err tells format count e d u v w header first read = record {
@@ -186,7 +258,7 @@ sound_refused tells count number repeated u v w first second none = record {
 
 -- what is known of the pages as they were before
 pub known_before : (tells : Bool) (format : ℕ) (repeated : Option ℕ) (d : Definitions) (u v : Contents) → Reads tells (Ok (tt {0})) u v → (IsTrue tells → HoldUnless format repeated v.page d) → IsTrue tells → HoldUnless format repeated u.page d
-known_before tells format repeated d u v first known told = subst (λ (p : ℕ → List ℕ). HoldUnless format repeated p d) (same_pages u.page v.page (first.pages told)) (known told)
+known_before tells format repeated d u v first known told = subst (λ (p : ℕ → List ℕ). HoldUnless format repeated p d) (equal_pages u.page v.page (first.pages told)) (known told)
 
 -- where there is no number
 pub there_unless : (o : Option ℕ) (A B : Type 0) → o ≡ None → MatchOption o A (λ _. B) → A
@@ -202,11 +274,11 @@ pub elements_refused : (tells : Bool) (count : ℕ) (r : Result Surveyed SurveyF
 elements_refused tells count r e d u v w is first header holds sound read =
     subst (λ (x : Result Surveyed SurveyFault). IfErr x (λ e. IfRefused e (IsTrue tells → HoldNoLayout count u.page))) (sym is)
     (refused_so e (IsTrue tells → HoldNoElements (count - 930) d v.page) (IsTrue tells → HoldNoLayout count u.page)
-    (λ none told. no_elements count u.page d (header told) (holds told) sound (subst (HoldNoElements (count - 930) d) (same_pages u.page v.page (first.pages told)) (none told))) read.refused)
+    (λ none told. no_elements count u.page d (header told) (holds told) sound (subst (HoldNoElements (count - 930) d) (equal_pages u.page v.page (first.pages told)) (none told))) read.refused)
 
 -- what was read of pages that stayed was read of them as they were before
-pub all_before : (tells : Bool) (count : ℕ) (d : Definitions) (u v : Contents) (space : Directory) (spare : List ℕ) (second : Option ℕ) → Reads tells (Ok (tt {0})) u v → AllRead tells count d v space spare second → AllRead tells count d u space spare second
-all_before tells count d u v space spare second first read = record {
+pub all_before : (tells : Bool) (count : ℕ) (d : Definitions) (u v : Contents) (spans : List Span) (spare : List ℕ) → Reads tells (Ok (tt {0})) u v → AllRead tells count d v spans spare → AllRead tells count d u spans spare
+all_before tells count d u v spans spare first read = record {
   elements = read.elements;
   size = read.size;
   listed = read.listed;

@@ -3,7 +3,7 @@ use Rattle.std.specs.Prelude.{◌≡◌, ℕ, ◌+◌, ◌-◌, ◌<◌, ◌≤�
 use Rattle.ts_page.specs.Volume.{most_element_pages}
 use Rattle.ts_space.specs.Directory.{Directory}
 use Rattle.ts_model.specs.Definitions.{Definitions, container_slots}
-use Rattle.ts_layout.specs.OnePage.{charge_in}
+use Rattle.ts_layout.specs.Charges.{charge_in}
 
 -- each sum is what the container in its slot is charged, by the directory
 abbrev pub AreCharges : List ℕ → Definitions → Directory → Type 0

@@ -1,5 +1,6 @@
 pub mod Reading
 pub mod Fault
 pub mod Survey
+pub mod Spans
 pub mod Elements
 pub mod KeptCharges

@@ -15,7 +15,7 @@ use Rattle.ts_container.specs.declared.fault.SurveyFault.TheVariants.{NotAStore,
 use Rattle.ts_layout.specs.Slot.{header_bytes, page_of_slot}
 use Rattle.ts_layout.specs.Meaning.{Layout, HoldsDefinitions, AreSound, IsLaidOut}
 use Rattle.ts_layout.specs.Surveyed.{ListsPlaces, free_pages}
-use Rattle.ts_layout.specs.OnePage.{AreFilled}
+use Rattle.ts_layout.specs.Chains.{AreFilled}
 use Rattle.ts_layout.specs.Placed.{AreKept}
 use Rattle.ts_container.specs.Reading.{AreReadTo, HoldNone}
 use Rattle.ts_layout.specs.Changed.{with_slot_bytes}

@@ -1,11 +1,11 @@
 // What containers are charged for the pages of their series.
-ghost use Rattle.std.specs.Prelude.{◌≡◌, ◌≤◌, ◌<◌, ◌*◌, ◌^◌, ◌↔◌, IsTrue, length};
+ghost use Rattle.std.specs.Prelude.{◌≡◌, ◌≤◌, ◌<◌, ◌^◌, ◌↔◌, IsTrue};
 ghost use Rattle.ts_model.specs.Definitions.{container_slots, series_slots, at_slot, IsDefinitions};
+ghost use Rattle.ts_space.specs.Place.{count_of};
 ghost use Rattle.ts_space.specs.Directory.{places_of};
 ghost use Rattle.ts_space.specs.Charge.{irregular_places_charge};
 ghost use Rattle.ts_layout.specs.Meaning.{KeepLimits};
-ghost use Rattle.ts_layout.specs.Charges.{HasOnePlaceAtMost, charge_listed, container_charge, KeepsQuotaAt, KeepQuotas};
-ghost use Rattle.ts_layout.specs.OnePage.{charge_in};
+ghost use Rattle.ts_layout.specs.Charges.{AreCountable, charge_listed, container_charge, charge_in, KeepsQuotaAt, KeepQuotas};
 
 use crate::content::row_type_in;
 use ts_cells::page_room;
@@ -17,9 +17,9 @@ pub(crate) fn charge_of_container(defs: &Defs, space: &Space, slot: u8) -> u64
     requires slot { slot < container_slots }
     requires limits { KeepLimits defs.now.definitions }
     requires rules { IsDefinitions defs.now.definitions }
-    requires few { HasOnePlaceAtMost space.now }
+    requires countable { AreCountable space.now }
     ensures value { result ≡ charge_in defs.now.definitions space.now slot }
-    ensures bound { result ≤ 2 ^ 44 }
+    ensures bound { result ≤ 2 ^ 45 }
 {
     match row_type_in(defs, slot) {
         Some(kind) => charge_of(defs, space, slot, page_room(kind)),
@@ -31,7 +31,7 @@ pub(crate) fn charge_of_container(defs: &Defs, space: &Space, slot: u8) -> u64
 pub(crate) fn keep_quotas(defs: &Defs, space: &Space) -> bool
     requires limits { KeepLimits defs.now.definitions }
     requires rules { IsDefinitions defs.now.definitions }
-    requires few { HasOnePlaceAtMost space.now }
+    requires countable { AreCountable space.now }
     ensures { IsTrue result ↔ KeepQuotas defs.now.definitions space.now }
 {
     for slot in 0..64 {
@@ -47,7 +47,7 @@ fn keeps_quota(defs: &Defs, space: &Space, slot: u8) -> bool
     requires slot { slot < container_slots }
     requires limits { KeepLimits defs.now.definitions }
     requires rules { IsDefinitions defs.now.definitions }
-    requires few { HasOnePlaceAtMost space.now }
+    requires countable { AreCountable space.now }
     ensures { IsTrue result ↔ KeepsQuotaAt defs.now.definitions space.now slot }
 {
     let Some(Def::Container { quota, .. }) = defs.get(Kind::Container, slot as u16) else {
@@ -63,9 +63,9 @@ fn keeps_quota(defs: &Defs, space: &Space, slot: u8) -> bool
 fn charge_of(defs: &Defs, space: &Space, container: u8, room: usize) -> u64
     requires room { 0 < room }
     requires rules { IsDefinitions defs.now.definitions }
-    requires few { HasOnePlaceAtMost space.now }
+    requires countable { AreCountable space.now }
     ensures value { result ≡ container_charge defs.now.definitions space.now container room }
-    ensures bound { result ≤ 2 ^ 44 }
+    ensures bound { result ≤ 2 ^ 45 }
 {
     let mut sum = 0;
     for slot in 0..4096 {
@@ -78,9 +78,9 @@ fn charge_of(defs: &Defs, space: &Space, container: u8, room: usize) -> u64
 fn charge_at(defs: &Defs, space: &Space, container: u8, room: usize, slot: u16) -> u64
     requires slot { slot < series_slots }
     requires room { 0 < room }
-    requires few { length (places_of slot space.now) ≤ 1 }
+    requires countable { count_of (places_of slot space.now) < 2 ^ 32 }
     ensures value { result ≡ charge_listed space.now container room slot (at_slot slot defs.now.definitions.series) }
-    ensures bound { result < 2 ^ 32 }
+    ensures bound { result < 2 ^ 33 }
 {
     match defs.get(Kind::Series, slot) {
         Some(Def::Series { container: own, .. }) if *own == container => {
@@ -90,16 +90,13 @@ fn charge_at(defs: &Defs, space: &Space, container: u8, room: usize, slot: u16) 
     }
 }
 
-// What the places of a series cost.
-fn charge_of_places(space: &Space, slot: u16, room: usize) -> u64
+/// What a series is charged by its places, in pages, where a page has room for so many of its elements.
+pub fn charge_of_places(space: &Space, slot: u16, room: usize) -> u64
     requires slot { slot < series_slots }
     requires room { 0 < room }
-    requires few { length (places_of slot space.now) ≤ 1 }
+    requires countable { count_of (places_of slot space.now) < 2 ^ 32 }
     ensures value { result ≡ irregular_places_charge room (places_of slot space.now) }
-    ensures bound { result < 2 ^ 32 }
+    ensures bound { result < 2 ^ 33 }
 {
-    match space.places(slot) {
-        [place] => charge_irregular(place.count as u64, room as u64),
-        _ => 0,
-    }
+    charge_irregular(space.count(slot), room as u64)
 }

@@ -2,8 +2,8 @@
 ghost use Rattle.std.specs.Prelude.{◌≡◌, ◌<◌, ◌≤◌, ℕ, IsSome, IfSome, IfNone, Some, option_copied};
 ghost use Rattle.ts_layout.specs.Meaning.{ElementPage, KeepLimits, HoldsElements, heading_in, heading_at};
 ghost use Rattle.ts_page.specs.Head.{head_of};
-ghost use Rattle.ts_model.specs.Definitions.{IsDefinitions};
-ghost use Rattle.ts_container.specs.Elements.{Describes, IsWithin, slot_in};
+ghost use Rattle.ts_model.specs.Definitions.{IsDefinitions, series_slots, container_slots};
+ghost use Rattle.ts_container.specs.Elements.{Describes, slot_in};
 
 use crate::format::may_hide;
 use ts_cells::{Extent, extent_of};
@@ -24,7 +24,6 @@ pub(crate) fn content_of(page: &Page, defs: &Defs) -> Option<Content>
     requires rules { IsDefinitions defs.now.definitions }
     ensures found { IfSome result (λ content. (e : ElementPage) × HoldsElements defs.now.definitions page.now.bytes e × Describes content e) }
     ensures none { IfNone result ((e : ElementPage) → HoldsElements defs.now.definitions page.now.bytes e → ⊥) }
-    ensures within { IfSome result IsWithin }
 {
     let Some(head) = page.head() else {
         return None;
@@ -43,7 +42,6 @@ fn series_content(page: &Page, defs: &Defs, slot: u16) -> Option<Content>
     requires told { slot_in (head_of page.now.bytes) ≡ Some slot }
     ensures found { IfSome result (λ content. (e : ElementPage) × HoldsElements defs.now.definitions page.now.bytes e × Describes content e) }
     ensures none { IfNone result ((e : ElementPage) → HoldsElements defs.now.definitions page.now.bytes e → ⊥) }
-    ensures within { IfSome result IsWithin }
 {
     let Some(kind) = row_type_of(defs, slot) else {
         return None;
@@ -62,7 +60,7 @@ pub fn row_type_of(defs: &Defs, slot: u16) -> Option<&RowType>
     requires limits { KeepLimits defs.now.definitions }
     requires rules { IsDefinitions defs.now.definitions }
     ensures value { option_copied result ≡ heading_at defs.now.definitions slot }
-    ensures within { IsSome result → slot < 4096 }
+    ensures within { IsSome result → slot < series_slots }
 {
     if slot >= Kind::Series.limit() {
         return None;
@@ -76,7 +74,7 @@ pub fn row_type_of(defs: &Defs, slot: u16) -> Option<&RowType>
 /// The row type of the container in a slot, if there is one.
 pub fn row_type_in(defs: &Defs, container: u8) -> Option<&RowType>
     requires limits { KeepLimits defs.now.definitions }
-    requires slot { container < 64 }
+    requires slot { container < container_slots }
     ensures { option_copied result ≡ heading_in defs.now.definitions container }
 {
     match defs.get(Kind::Container, container as u16) {

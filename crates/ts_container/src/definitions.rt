@@ -1,7 +1,8 @@
 // The definition pages, read one after the other.
 ghost use Rattle.std.specs.Prelude.{◌≡◌, ◌<◌, ◌≤◌, IfOk, length};
+ghost use Rattle.ts_page.specs.Volume.{first_element_page};
 ghost use Rattle.ts_model.specs.Definitions.{kind_of, limit, with_format, no_definitions};
-ghost use Rattle.ts_layout.specs.Slot.{slot_size};
+ghost use Rattle.ts_layout.specs.Slot.{slot_size, first_definition_page};
 ghost use Rattle.ts_layout.specs.Limits.{IsDef};
 ghost use Rattle.ts_container.specs.Reading.{both_found, first_repeated, Admitted, SlotRead, PageRead, AreReadTo};
 ghost use Rattle.ts_layout.specs.Rank.{rank_of_page};
@@ -47,7 +48,7 @@ pub(crate) fn read_definitions<P: Pages>(
     page: &mut Page,
     defs: &mut Defs,
 ) -> Result<Option<u32>, SurveyFault>
-    requires within { 930 ≤ (P.contents pages.old).count }
+    requires within { first_element_page ≤ (P.contents pages.old).count }
     requires empty { defs.old.definitions ≡ with_format defs.old.definitions.format no_definitions }
     ensures read { DefinitionsRead P.tells defs.old.definitions.format result defs.new.definitions (P.contents pages.old) (P.contents pages.new) }
     ensures undisturbed { P.undisturbed pages.old pages.new }
@@ -76,8 +77,8 @@ fn first_repeated(before: Option<u32>, found: Found, number: u32) -> Option<u32>
 
 // Reads the slots of a definition page.
 fn read_page(alloc: Global, number: u32, page: &Page, defs: &mut Defs) -> Result<Found, AllocError>
-    requires low { 257 ≤ number }
-    requires high { number < 930 }
+    requires low { first_definition_page ≤ number }
+    requires high { number < first_element_page }
     requires before { AreReadTo defs.old.definitions.format (rank_of_page number) defs.old.definitions }
     ensures { IfOk result (PageRead defs.old.definitions.format number page.now.bytes defs.old.definitions defs.new.definitions) }
 {

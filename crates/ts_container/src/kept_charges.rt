@@ -6,7 +6,7 @@ ghost use Rattle.ts_space.specs.Charge.{irregular_places_charge};
 ghost use Rattle.ts_cells.specs.Cell.{page_room};
 ghost use Rattle.ts_model.specs.Definitions.{Definitions, SeriesDef, container_slots, series_slots, at_slot, with_format, IsDefinitions};
 ghost use Rattle.ts_layout.specs.Meaning.{KeepLimits, heading_in};
-ghost use Rattle.ts_layout.specs.Charges.{HasOnePlaceAtMost};
+ghost use Rattle.ts_layout.specs.Charges.{AreCountable};
 ghost use Rattle.ts_container.specs.KeptCharges.{AreCharges, IsCharged, with_charge};
 
 use crate::charges::charge_of_container;
@@ -59,7 +59,7 @@ impl Charges {
     pub fn count(&mut self, defs: &Defs, space: &Space)
         requires limits { KeepLimits defs.now.definitions }
         requires rules { IsDefinitions defs.now.definitions }
-        requires few { HasOnePlaceAtMost space.now }
+        requires countable { AreCountable space.now }
         ensures { AreCharges self.new defs.now.definitions space.now }
     {
         for slot in 0..64 {

@@ -1,6 +1,7 @@
 //! The slots of definitions and the header, written and read, and the survey of a volume. A survey reads each page once and
-//! keeps the format, the definitions, the directory and the free pages, or tells the first bad page; no volume that it refuses
-//! means a catalogue (`specs/Survey`). A slot is written alone, and so is the header: all other bytes stay. What containers are charged can be kept as sums
+//! keeps the format, the definitions, the directory and the free pages, or tells a bad page of the first step that finds one; no
+//! volume that it refuses means a catalogue (`specs/Survey`). The pages of series are sorted once and judged by neighbours
+//! (`specs/Spans`). A slot is written alone, and so is the header: all other bytes stay. What containers are charged can be kept as sums
 //! (`specs/KeptCharges`). What the pages mean is ts_layout's; stands on it, and on ts_cells, ts_space, ts_model and
 //! ts_page; knows nothing of disks, journals or commands. Read `specs/Survey.antt`, then `surveyed.rt` and `write.rt`.
 #![tactic(auto)]
@@ -9,20 +10,25 @@ mod charges;
 mod container_slot;
 mod content;
 mod definitions;
+mod directory;
 mod elements;
 mod fault;
 mod format;
 mod header;
 mod kept_charges;
+mod lower;
 mod pad;
 mod read;
 mod row_type_slot;
 mod rules;
 mod series_slot;
 mod slot;
+mod sorted;
+mod span;
 mod surveyed;
 mod write;
 
+pub use charges::charge_of_places;
 pub use content::{row_type_in, row_type_of};
 pub use fault::SurveyFault;
 pub use format::is_of_format;

@@ -1,5 +1,6 @@
 // The slot of a row type: a whole page.
 ghost use Rattle.std.specs.Prelude.{◌≡◌, ◌*◌, ◌≤◌, ◌∷◌, ◌++◌, [], ℕ, List, Some, true, IsTrue, IfOk, OnOk, IfSome, length};
+ghost use Rattle.ts_page.specs.Volume.{page_size};
 ghost use Rattle.std.specs.List.{list_all};
 ghost use Rattle.ts_row.specs.RowType.{is_kind};
 ghost use Rattle.ts_base.specs.Name.{is_name};
@@ -25,7 +26,7 @@ const COLUMNS: usize = 32;
 
 /// Writes a row type over its page.
 pub(crate) fn write_row_type(name: &Name, kind: &RowType, page: &mut [u8])
-    requires { length page.old ≡ 4096 }
+    requires { length page.old ≡ page_size }
     ensures { page.new ≡ row_type_bytes name.now kind.now }
 {
     page[0] = 1;
@@ -105,7 +106,7 @@ pub(crate) fn parse_row_type(
     format: u8,
     page: &[u8],
 ) -> Result<Option<Def>, AllocError>
-    requires { length page.now ≡ 4096 }
+    requires { length page.now ≡ page_size }
     ensures rules { IfOk result (λ found. IfSome found (λ def. (kind_of def ≡ Kind.RowType) × IsDef format def)) }
     ensures found { IfOk result (λ found. (def : Def) → kind_of def ≡ Kind.RowType → IsDef format def → page.now ≡ def_bytes def
         → found ≡ Some def) }

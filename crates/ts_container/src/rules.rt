@@ -1,7 +1,7 @@
 // The rules that definitions keep together.
 ghost use Rattle.std.specs.Prelude.{◌≡◌, ◌↔◌, ◌<◌, ◌≤◌, ◌^◌, Some, IsTrue, MatchOption, length};
 ghost use Rattle.ts_model.specs.declared.def.Def.{Def};
-ghost use Rattle.ts_model.specs.Definitions.{limit, at_slot, references};
+ghost use Rattle.ts_model.specs.Definitions.{limit, at_slot, references, container_slots};
 ghost use Rattle.ts_layout.specs.Limits.{IsDef};
 ghost use Rattle.ts_layout.specs.Meaning.{def_at, IsThere, AreThere, KeepLimits, quota_in, sum_of_quotas, AreThereIn};
 
@@ -63,7 +63,7 @@ fn is_there(defs: &Defs, def: &Def) -> bool
 
 /// The quotas of all containers together.
 pub fn sum_of_quotas(defs: &Defs) -> u64
-    requires { length defs.now.definitions.containers ≡ 64 }
+    requires { length defs.now.definitions.containers ≡ container_slots }
     ensures { result ≡ sum_of_quotas defs.now.definitions.containers }
 {
     let mut sum = 0;
@@ -75,7 +75,7 @@ pub fn sum_of_quotas(defs: &Defs) -> u64
 
 // The quota of the container in a slot; 0 where there is none.
 fn quota_at(defs: &Defs, slot: u16) -> u32
-    requires { slot < 64 }
+    requires { slot < container_slots }
     ensures { result ≡ quota_in (at_slot slot defs.now.definitions.containers) }
 {
     match defs.get(Kind::Container, slot) {

@@ -1,16 +1,19 @@
 // The survey of a volume's pages.
-ghost use Rattle.std.specs.Prelude.{◌≡◌, ◌+◌, ◌≤◌, ◌-◌, ◌⊎◌, None, IsSome, IfOk, IfErr, IsTrue};
+ghost use Rattle.std.specs.Prelude.{◌≡◌, ◌+◌, ◌≤◌, IfOk, IfErr, IsTrue};
 ghost use Rattle.ts_page.specs.Volume.{first_element_page, most_element_pages};
 ghost use Rattle.ts_model.specs.Definitions.{IsDefinitions};
 ghost use Rattle.ts_container.specs.Survey.{Reads, IfRefused, IsFound, HoldNoLayout, SoundRead};
 
 use crate::charges::keep_quotas;
 use crate::definitions::read_definitions;
+use crate::directory::directory_of;
 use crate::elements::read_elements;
 use crate::fault::SurveyFault;
 use crate::header::format_of;
+use crate::lower::lower;
 use crate::read::read;
 use crate::rules::{first_dangling, sum_of_quotas};
+use crate::sorted::{bad_page, sort};
 use std::alloc::{AllocError, Global};
 use ts_layout::{CONTAINERS, ELEMENTS};
 use ts_model::{Defs, Kind};
@@ -27,7 +30,9 @@ pub struct Surveyed {
 }
 
 /// Reads all pages of a volume but the journal's, each once: `count` is the number of all. They give the format, the
-/// definitions, the directory and the free pages, or the first bad page. They stay as they are, and so does the list of free ones.
+/// definitions, the directory and the free pages, or a bad page: the least that the first step with one finds. Where pages of a series
+/// overlap, it is the least that overlaps a neighbour of a lower number; a page that overlaps others alone isn't looked for. The pages
+/// stay as they are, and so does the list of free ones.
 pub fn survey<P: Pages>(alloc: Global, pages: &mut P, count: u32) -> Result<Surveyed, SurveyFault>
     requires count { count ≡ (P.contents pages.old).count }
     requires some { first_element_page + 1 ≤ count }
@@ -39,18 +44,18 @@ pub fn survey<P: Pages>(alloc: Global, pages: &mut P, count: u32) -> Result<Surv
 {
     let mut page = Page::zero();
     let defs = survey_definitions(alloc, pages, count, &mut page)?;
-    let elements = read_elements(alloc, pages, count, &defs, &mut page)?;
-    if let Some(second) = elements.second {
-        return Err(SurveyFault::NotAStore { page: second });
+    let mut elements = read_elements(alloc, pages, count, &defs, &mut page)?;
+    sort(&mut elements.spans);
+    if let Some(bad) = bad_page(&defs, &elements.spans) {
+        return Err(SurveyFault::NotAStore { page: bad });
     }
-    if !keep_quotas(&defs, &elements.space) {
+    let space = directory_of(alloc, &elements.spans)?;
+    if !keep_quotas(&defs, &space) {
         return Err(SurveyFault::NotAStore { page: CONTAINERS });
     }
-    // A directory has a list for each slot.
-    let _slots = elements.space.places(0);
     Ok(Surveyed {
         defs,
-        space: elements.space,
+        space,
         free: elements.free,
     })
 }
@@ -81,16 +86,4 @@ fn survey_definitions<P: Pages>(
         return Err(SurveyFault::NotAStore { page: CONTAINERS });
     }
     Ok(defs)
-}
-
-// The lower of two pages, if there is one.
-fn lower(first: Option<u32>, second: Option<u32>) -> Option<u32>
-    ensures none { result ≡ None → (first ≡ None) × (second ≡ None) }
-    ensures some { IsSome result → IsSome first ⊎ IsSome second }
-{
-    match (first, second) {
-        (Some(first), Some(second)) => Some(first.min(second)),
-        (Some(page), None) | (None, Some(page)) => Some(page),
-        (None, None) => None,
-    }
 }

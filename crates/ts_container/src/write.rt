@@ -1,5 +1,6 @@
 // One slot is written into its page, or the header.
 ghost use Rattle.std.specs.Prelude.{◌≡◌, ◌+◌, ◌<◌, ◌≤◌, IfSome, option_copied, length, replicate};
+ghost use Rattle.ts_page.specs.Volume.{page_size, first_element_page, image_entry_size};
 ghost use Rattle.ts_model.specs.Definitions.{kind_of, limit};
 ghost use Rattle.ts_layout.specs.Slot.{slot_size, slot_bytes};
 ghost use Rattle.ts_layout.specs.Changed.{with_slot_bytes};
@@ -23,9 +24,9 @@ pub fn write_slot<P: Pages>(
 ) -> Result<(), StoreFault>
     requires slot { slot < limit kind }
     requires kind { IfSome (option_copied def) (λ d. kind_of d ≡ kind) }
-    requires within { 930 ≤ (P.contents pages.old).count }
+    requires within { first_element_page ≤ (P.contents pages.old).count }
     ensures written { SlotWritten P.tells kind slot (option_copied def.entry) result (P.contents pages.old) (P.contents pages.new) }
-    ensures bytes { (P.contents pages.new).change_bytes ≤ (P.contents pages.old).change_bytes + 4101 }
+    ensures bytes { (P.contents pages.new).change_bytes ≤ (P.contents pages.old).change_bytes + image_entry_size }
     ensures undisturbed { P.undisturbed pages.old pages.new }
 {
     let mut page = Page::zero();
@@ -40,7 +41,7 @@ pub fn write_slot<P: Pages>(
 pub fn put_header<P: Pages>(pages: &mut P, format: u8, element_pages: u32) -> Result<(), StoreFault>
     requires { 0 < (P.contents pages.old).count }
     ensures written { HeaderWritten P.tells format element_pages result (P.contents pages.old) (P.contents pages.new) }
-    ensures bytes { (P.contents pages.new).change_bytes ≤ (P.contents pages.old).change_bytes + 4101 }
+    ensures bytes { (P.contents pages.new).change_bytes ≤ (P.contents pages.old).change_bytes + image_entry_size }
     ensures undisturbed { P.undisturbed pages.old pages.new }
 {
     let mut page = Page::zero();
@@ -53,8 +54,8 @@ fn put_slot(kind: Kind, slot: u16, def: Option<&Def>, page: &mut Page)
     requires slot { slot < limit kind }
     requires kind { IfSome (option_copied def) (λ d. kind_of d ≡ kind) }
     ensures bytes { page.new.bytes ≡ with_slot_bytes kind slot (option_copied def.entry) page.old.bytes }
-    ensures before { length page.old.bytes ≡ 4096 }
-    ensures after { length page.new.bytes ≡ 4096 }
+    ensures before { length page.old.bytes ≡ page_size }
+    ensures after { length page.new.bytes ≡ page_size }
 {
     let at = byte_of_slot(kind, slot);
     let size = slot_size(kind);

@@ -3,7 +3,7 @@ ghost use Rattle.std.specs.Prelude.{◌+◌, ◌^◌, ◌<◌, ◌≤◌, IfOk, 
 ghost use Rattle.ts_space.specs.Directory.{used_of};
 
 use std::alloc::{AllocError, Global};
-use ts_space::{Place, Space, charge_irregular, charge_regular, count_of, search};
+use ts_space::{Come, Moved, Place, Space, charge_irregular, charge_regular, count_of, search};
 
 /// A change of a directory.
 #[derive(Clone, Copy)]
@@ -124,6 +124,24 @@ fn are_restored(alloc: Global) -> Result<bool, AllocError> {
 #[test]
 fn saved_places_are_restored(rt: HostRuntime) {
     assert!(rt; matches!(are_restored(rt.alloc()), Ok(true)));
+}
+
+// How many elements a series without places has after a change past its end, and whether it has the places that came.
+fn changed(alloc: Global) -> Result<(u64, bool), AllocError> {
+    let mut space = Space::new(alloc)?;
+    space.reserve(7, 2)?;
+    let moved = Moved {
+        index: 3,
+        gone: 60000,
+        come: Come::Two(A, C),
+    };
+    space.splice(7, &moved);
+    Ok((space.count(7), space.places(7) == [A, C].as_slice()))
+}
+
+#[test]
+fn changed_places_are_counted(rt: HostRuntime) {
+    assert!(rt; matches!(changed(rt.alloc()), Ok((7, true))));
 }
 
 /// Where a place begins among A, B and C; where none does, the first above.

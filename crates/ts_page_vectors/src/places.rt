@@ -1,15 +1,16 @@
 // Where the format puts slots.
 use ts_layout::{
     a_catalogue_keeps_its_format, a_definition_is_dropped, a_definition_is_made,
-    a_definition_is_used_by_its_slot, a_journal_and_freed_bytes_mean_nothing,
-    a_place_tells_of_its_page, a_series_is_dropped_with_its_page,
-    a_series_stands_on_one_page_at_most, a_volume_takes_the_newest_format,
+    a_definition_is_used_by_its_slot, a_journal_and_freed_bytes_mean_nothing, a_layout_is_kept,
+    a_series_is_a_chain, a_series_is_dropped_with_its_pages, a_series_is_dropped_with_its_places,
+    a_series_is_rewritten, a_volume_takes_the_newest_format,
     a_written_slot_changes_definitions_alone, byte_of_slot, charges_follow_the_directory,
-    elements_are_written_on_a_page, free_pages_are_taken_and_freed, names_stand_in_slots,
-    page_of_slot, pages_are_free_or_placed, pages_mean_one_catalogue, pages_that_hold_are_filled,
-    references_are_names, slot_size, slots_are_counted, slots_in_page,
-    the_elements_of_a_page_are_of_the_format, the_newest_format_has_all,
-    the_places_of_other_series_stay, the_quotas_leave_room,
+    elements_are_a_map_by_stamps, names_stand_in_slots, page_of_slot, pages_are_free_or_placed,
+    pages_mean_one_catalogue, pages_that_hold_are_filled, places_and_free_pages_stay_apart,
+    quotas_follow_the_directory, references_are_names, slot_size, slots_are_counted, slots_in_page,
+    sound_definitions_are_those_of_a_layout, the_elements_of_a_page_are_of_the_format,
+    the_newest_format_has_all, the_places_of_other_series_stay, the_quotas_leave_room,
+    the_same_lists_are_kept,
 };
 use ts_model::Kind;
 
@@ -65,14 +66,23 @@ fn the_laws_of_formats_are_called() {
 
 #[test]
 fn the_laws_of_elements_are_called() {
-    elements_are_written_on_a_page();
-    a_series_stands_on_one_page_at_most();
+    a_series_is_a_chain();
+    elements_are_a_map_by_stamps();
+    a_series_is_rewritten();
     pages_that_hold_are_filled();
-    the_quotas_leave_room();
+    a_series_is_dropped_with_its_pages();
     pages_are_free_or_placed();
-    charges_follow_the_directory();
-    a_series_is_dropped_with_its_page();
-    free_pages_are_taken_and_freed();
-    a_place_tells_of_its_page();
     the_places_of_other_series_stay();
+    the_quotas_leave_room();
+    charges_follow_the_directory();
+    quotas_follow_the_directory();
+}
+
+#[test]
+fn the_laws_of_what_is_kept_are_called() {
+    a_layout_is_kept();
+    the_same_lists_are_kept();
+    sound_definitions_are_those_of_a_layout();
+    a_series_is_dropped_with_its_places();
+    places_and_free_pages_stay_apart();
 }

@@ -6,13 +6,13 @@ use crate::made::def;
 use std::alloc::{AllocError, Global};
 use ts_base::StoreFault;
 use ts_container::{
-    Charges, SurveyFault, Surveyed, a_charge_changes_with_a_series,
+    Charges, SurveyFault, Surveyed, a_charge_changes_with_a_series, charge_of_places,
     charges_are_the_same_in_every_format, is_of_format, put_header, survey, write_header,
     write_slot,
 };
 use ts_model::{Def, FORMAT, Kind, OLD_FORMAT};
 use ts_page::{MemoryPages, Page, Pages};
-use ts_space::Place;
+use ts_space::{Place, Space};
 
 /// The integer 5 at 2011-01-03 00:00:00.
 const CELL: &[u8] = &[1, 0, 0, 0x75, 0xb0, 0x95, 0x53, 0xf0, 0, 1, 0, 0, 0, 5];
@@ -22,7 +22,7 @@ type Patch = (u32, usize, &'static [u8]);
 
 /// A volume of the old format with a row type, a container in slot 3, a series in slot 50 and one element.
 const GOOD: [Patch; 10] = [
-    (0, 0, b"TSVOLUME\x01\x00\x00\x00\x02"),
+    (0, 0, b"TSVOLUME\x01\x00\x00\x00\x03"),
     (257, 0, b"\x01\x01r"),
     (257, 34, b"\x01t"),
     (257, 67, b"\x01\x02\x00\x00\x01v"),
@@ -34,24 +34,24 @@ const GOOD: [Patch; 10] = [
     (931, 32, CELL),
 ];
 
-// A volume of zeros with 2 element pages.
+// A volume of zeros with 3 element pages.
 fn zeros(alloc: Global) -> Result<MemoryPages, AllocError>
-    ensures count { IfOk result (λ pages. (memory_contents pages).count ≡ 932) }
+    ensures count { IfOk result (λ pages. (memory_contents pages).count ≡ 933) }
     ensures free { IfOk result (λ pages. (memory_contents pages).free ≡ []) }
 {
-    let pages = vec![in alloc; Page::zero(); 932]?;
+    let pages = vec![in alloc; Page::zero(); 933]?;
     Ok(MemoryPages::new(pages, Vec::new(alloc)))
 }
 
 // Puts bytes into a page.
 fn put(pages: &mut MemoryPages, patch: &Patch) -> Result<(), StoreFault>
-    requires count { (memory_contents pages.old).count ≡ 932 }
+    requires count { (memory_contents pages.old).count ≡ 933 }
     requires free { (memory_contents pages.old).free ≡ [] }
-    ensures count { (memory_contents pages.new).count ≡ 932 }
+    ensures count { (memory_contents pages.new).count ≡ 933 }
     ensures free { (memory_contents pages.new).free ≡ [] }
 {
     let (page, at, bytes) = *patch;
-    if page >= 932 || (page >= 1 && page < 257) || at > 4096 || bytes.len() > 4096 - at {
+    if page >= 933 || (page >= 1 && page < 257) || at > 4096 || bytes.len() > 4096 - at {
         return Err(StoreFault::Failed);
     }
     let mut changed = Page::zero();
@@ -62,9 +62,9 @@ fn put(pages: &mut MemoryPages, patch: &Patch) -> Result<(), StoreFault>
 
 // Puts bytes into pages, one after the other.
 fn put_all(pages: &mut MemoryPages, patches: &[Patch]) -> Result<(), StoreFault>
-    requires count { (memory_contents pages.old).count ≡ 932 }
+    requires count { (memory_contents pages.old).count ≡ 933 }
     requires free { (memory_contents pages.old).free ≡ [] }
-    ensures count { (memory_contents pages.new).count ≡ 932 }
+    ensures count { (memory_contents pages.new).count ≡ 933 }
     ensures free { (memory_contents pages.new).free ≡ [] }
 {
     for patch in patches {
@@ -75,7 +75,7 @@ fn put_all(pages: &mut MemoryPages, patches: &[Patch]) -> Result<(), StoreFault>
 
 // The good volume with these bytes put into its pages.
 fn volume(alloc: Global, patches: &[Patch]) -> Result<MemoryPages, StoreFault>
-    ensures count { IfOk result (λ pages. (memory_contents pages).count ≡ 932) }
+    ensures count { IfOk result (λ pages. (memory_contents pages).count ≡ 933) }
     ensures free { IfOk result (λ pages. (memory_contents pages).free ≡ []) }
 {
     let mut pages = zeros(alloc)?;
@@ -84,20 +84,27 @@ fn volume(alloc: Global, patches: &[Patch]) -> Result<MemoryPages, StoreFault>
     Ok(pages)
 }
 
-// What the survey of such a volume finds.
-fn surveyed(alloc: Global, patches: &[Patch]) -> Result<Surveyed, SurveyFault> {
-    match volume(alloc, patches) {
+// What the survey of a volume finds.
+fn survey_of(alloc: Global, made: Result<MemoryPages, StoreFault>) -> Result<Surveyed, SurveyFault>
+    requires { IfOk made (λ pages. (memory_contents pages).count ≡ 933) }
+{
+    match made {
         Ok(pages) => {
             let mut pages = pages;
-            survey(alloc, &mut pages, 932)
+            survey(alloc, &mut pages, 933)
         }
         Err(_) => Err(SurveyFault::Failed),
     }
 }
 
-// Its first bad page, if it has one.
-fn bad_page(alloc: Global, patches: &[Patch]) -> Option<Option<u32>> {
-    match surveyed(alloc, patches) {
+// What the survey of the good volume with these bytes finds.
+fn surveyed(alloc: Global, patches: &[Patch]) -> Result<Surveyed, SurveyFault> {
+    survey_of(alloc, volume(alloc, patches))
+}
+
+// The bad page that is told, if one is.
+fn page_told(found: Result<Surveyed, SurveyFault>) -> Option<Option<u32>> {
+    match found {
         Ok(_) => Some(None),
         Err(SurveyFault::NotAStore { page }) => Some(Some(page)),
         Err(_) => None,
@@ -117,7 +124,7 @@ fn is_good(found: &Surveyed) -> bool {
         && found.defs.find(Kind::Series, b"k") == Some(50)
         && found.defs.vacant(Kind::Series) == Some(0)
         && found.space.places(50) == [ELEMENT].as_slice()
-        && found.free.as_slice() == [930].as_slice()
+        && found.free.as_slice() == [930, 932].as_slice()
         && found.defs.format() == OLD_FORMAT
 }
 
@@ -178,10 +185,10 @@ fn the_survey_tells_the_format(rt: HostRuntime) {
 
 // The good volume with the header of the newest format.
 fn renewed(alloc: Global) -> Result<MemoryPages, StoreFault>
-    ensures { IfOk result (λ pages. (memory_contents pages).count ≡ 932) }
+    ensures { IfOk result (λ pages. (memory_contents pages).count ≡ 933) }
 {
     let mut pages = volume(alloc, &[])?;
-    put_header(&mut pages, FORMAT, 2)?;
+    put_header(&mut pages, FORMAT, 3)?;
     Ok(pages)
 }
 
@@ -217,8 +224,8 @@ fn write(
     text: &[u8],
     is_there: bool,
 ) -> Result<(), StoreFault>
-    requires { (memory_contents pages.old).count ≡ 932 }
-    ensures { OnOk result ((memory_contents pages.new).count ≡ 932) }
+    requires { (memory_contents pages.old).count ≡ 933 }
+    ensures { OnOk result ((memory_contents pages.new).count ≡ 933) }
 {
     if slot >= kind.limit() {
         return Err(StoreFault::Failed);
@@ -232,7 +239,7 @@ fn write(
 
 // A volume of zeros with these definitions in their slots.
 fn written(alloc: Global) -> Result<MemoryPages, StoreFault>
-    ensures { IfOk result (λ pages. (memory_contents pages).count ≡ 932) }
+    ensures { IfOk result (λ pages. (memory_contents pages).count ≡ 933) }
 {
     let mut pages = zeros(alloc)?;
     for (kind, slot, text, is_there) in &SLOTS {
@@ -243,9 +250,9 @@ fn written(alloc: Global) -> Result<MemoryPages, StoreFault>
 
 // A page of a volume.
 fn page_of(pages: &mut MemoryPages, number: u32) -> Option<Page>
-    requires { (memory_contents pages.old).count ≡ 932 }
+    requires { (memory_contents pages.old).count ≡ 933 }
 {
-    if number >= 932 {
+    if number >= 933 {
         return None;
     }
     let mut page = Page::zero();
@@ -294,23 +301,23 @@ type Case = (&'static [Patch], Option<u32>);
 
 fn is_told(alloc: Global, case: &Case) -> bool {
     let (patches, wanted) = *case;
-    bad_page(alloc, patches) == Some(wanted)
+    page_told(surveyed(alloc, patches)) == Some(wanted)
 }
 
 const DEFINITIONS: [Case; 19] = [
     // The header: another number of pages, a byte behind it.
-    (&[(0, 12, &[3])], Some(0)),
+    (&[(0, 12, &[2])], Some(0)),
     (&[(0, 4095, &[1])], Some(0)),
     // Pages without slots, and the rest of pages with some.
     (&[(321, 0, &[1])], Some(321)),
     (&[(832, 4095, &[1])], Some(832)),
     (&[(833, 3840, &[1])], Some(833)),
     (&[(929, 1034, &[1])], Some(929)),
-    // A container: a row type past the last slot, no quota, one of too many pages, one of 3 pages in a volume of 2.
+    // A container: a row type past the last slot, no quota, one of too many pages, one of 4 pages in a volume of 3.
     (&[(833, 214, &[64])], Some(833)),
     (&[(833, 218, &[0])], Some(833)),
     (&[(833, 215, &[0, 1, 0, 1])], Some(833)),
-    (&[(833, 218, &[3])], Some(833)),
+    (&[(833, 218, &[4])], Some(833)),
     // A series: its first byte, its key of no bytes, a container past the last slot, one that is empty.
     (&[(835, 658, &[3])], Some(835)),
     (&[(835, 659, &[0, 0])], Some(835)),
@@ -394,7 +401,7 @@ fn a_bad_row_type_is_told(rt: HostRuntime) {
 }
 
 /// The same of element pages.
-const ELEMENTS: [Case; 14] = [
+const ELEMENTS: [Case; 17] = [
     // No kind of page, a regular page, a page of an empty slot.
     (&[(930, 0, &[3])], Some(930)),
     (&[(931, 0, &[1])], Some(931)),
@@ -410,8 +417,16 @@ const ELEMENTS: [Case; 14] = [
     // Stamps that don't rise, and stamps that do.
     (&[TWO, SECOND, (931, 53, &[0xf0])], Some(931)),
     (&[TWO, SECOND, (931, 53, &[0xf1])], None),
-    // A second page of the series, and one of another series of the container, which has a quota of one page then.
-    (&[HEAD, FIRST, QUOTA], Some(931)),
+    // A second page of the series: with the same stamp; later, and earlier, which fits one page with the first. Two that fit one
+    // page, and one more that overlaps.
+    (&[HEAD, FIRST], Some(931)),
+    (&[HEAD, FIRST, (930, 40, &[1])], Some(931)),
+    (&[HEAD, FIRST, (930, 39, &[0xef])], Some(930)),
+    (
+        &[HEAD, FIRST, (930, 39, &[0xef]), LAST, LAST_CELL],
+        Some(932),
+    ),
+    // One of another series of the container, which has a quota of one page then.
     (&[HEAD, FIRST, OTHER, KEY, IN_C, QUOTA], Some(833)),
     (&[HEAD, FIRST, OTHER, KEY, IN_C], None),
 ];
@@ -423,6 +438,10 @@ const SECOND: Patch = (931, 46, CELL);
 const HEAD: Patch = (930, 0, b"\x02\x00\x32\x00\x01");
 
 const FIRST: Patch = (930, 32, CELL);
+
+const LAST: Patch = (932, 0, b"\x02\x00\x32\x00\x01");
+
+const LAST_CELL: Patch = (932, 32, CELL);
 
 const OTHER: Patch = (930, 2, b"\x33");
 
@@ -437,6 +456,112 @@ fn a_bad_element_page_is_told(rt: HostRuntime) {
     for case in &ELEMENTS {
         assert!(rt; is_told(rt.alloc(), case));
     }
+}
+
+/// What makes the rows of the good volume so wide that a page holds four: its page has the stamps 0, 2, 4 and 6 then, without values,
+/// and the quota is three pages.
+const WIDE: [Patch; 10] = [
+    (257, 67, b"\x04\x05\xff\x00\x01v"),
+    (257, 104, b"\x05\xff\x00\x01w"),
+    (257, 140, b"\x05\xff\x00\x01x"),
+    (257, 176, b"\x05\xe3\x00\x01y"),
+    (833, 218, &[3]),
+    (931, 4, &[4]),
+    (931, 41, &[0, 0, 0, 0, 0]),
+    (931, 1041, b"\x01\x00\x00\x75\xb0\x95\x53\xf0\x02"),
+    (931, 2050, b"\x01\x00\x00\x75\xb0\x95\x53\xf0\x04"),
+    (931, 3059, b"\x01\x00\x00\x75\xb0\x95\x53\xf0\x06"),
+];
+
+// The volume with wide rows and with these bytes put into its pages.
+fn wide(alloc: Global, patches: &[Patch]) -> Result<MemoryPages, StoreFault>
+    ensures { IfOk result (λ pages. (memory_contents pages).count ≡ 933) }
+{
+    let mut pages = volume(alloc, &WIDE)?;
+    put_all(&mut pages, patches)?;
+    Ok(pages)
+}
+
+/// The same of pages of a series with wide rows.
+const CHAINS: [Case; 7] = [
+    // A later page with one element, and the charge of both in a container with a quota of two pages.
+    (&[HEAD, AT_7], None),
+    (&[HEAD, AT_7, (833, 218, &[2])], Some(833)),
+    // A page that begins at the first's last stamp, or before it.
+    (&[HEAD, (930, 32, STAMP_6)], Some(931)),
+    (&[HEAD, (930, 32, STAMP_5)], Some(931)),
+    // Two pages with as many elements as one has room for.
+    (
+        &[
+            HEAD,
+            AT_7,
+            (931, 4, &[3]),
+            (931, 3059, &[0, 0, 0, 0, 0, 0, 0, 0, 0]),
+        ],
+        Some(931),
+    ),
+    // A page between two by its stamps and behind them by its number: the charge of the three is too much.
+    (
+        &[FOUR, AT_8, AT_9, AT_10, AT_11, LAST, LAST_AT_7],
+        Some(833),
+    ),
+    // A page of the same stamp as the last but one.
+    (&[HEAD, AT_7, LAST, LAST_AT_7], Some(932)),
+];
+
+const STAMP_5: &[u8] = b"\x01\x00\x00\x75\xb0\x95\x53\xf0\x05";
+
+const STAMP_6: &[u8] = b"\x01\x00\x00\x75\xb0\x95\x53\xf0\x06";
+
+const STAMP_7: &[u8] = b"\x01\x00\x00\x75\xb0\x95\x53\xf0\x07";
+
+const AT_7: Patch = (930, 32, STAMP_7);
+
+const LAST_AT_7: Patch = (932, 32, STAMP_7);
+
+const FOUR: Patch = (930, 0, b"\x02\x00\x32\x00\x04");
+
+const AT_8: Patch = (930, 32, b"\x01\x00\x00\x75\xb0\x95\x53\xf0\x08");
+
+const AT_9: Patch = (930, 1041, b"\x01\x00\x00\x75\xb0\x95\x53\xf0\x09");
+
+const AT_10: Patch = (930, 2050, b"\x01\x00\x00\x75\xb0\x95\x53\xf0\x0a");
+
+const AT_11: Patch = (930, 3059, b"\x01\x00\x00\x75\xb0\x95\x53\xf0\x0b");
+
+#[test]
+fn a_bad_chain_of_pages_is_told(rt: HostRuntime) {
+    for (patches, wanted) in &CHAINS {
+        assert!(rt; page_told(survey_of(rt.alloc(), wide(rt.alloc(), patches))) == Some(*wanted));
+    }
+}
+
+// Whether the directory has the pages in the order of their stamps.
+fn is_chain(found: &Surveyed) -> bool {
+    let places = found.space.places(50);
+    let first = Place {
+        at: 129_401_280_000_000,
+        page: 931,
+        count: 4,
+    };
+    let last = Place {
+        at: 129_401_280_000_007,
+        page: 930,
+        count: 1,
+    };
+    places == [first, last].as_slice()
+}
+
+fn is_chained(alloc: Global) -> bool {
+    match survey_of(alloc, wide(alloc, &[HEAD, AT_7])) {
+        Ok(found) => is_chain(&found),
+        Err(_) => false,
+    }
+}
+
+#[test]
+fn the_places_of_a_series_stand_in_the_order_of_their_stamps(rt: HostRuntime) {
+    assert!(rt; is_chained(rt.alloc()));
 }
 
 /// The same of hidden elements.
@@ -478,6 +603,17 @@ fn a_charge_is_changed(rt: HostRuntime) {
     assert!(rt; matches!(changed_charges(rt.alloc()), Ok((5, 0))));
     a_charge_changes_with_a_series();
     charges_are_the_same_in_every_format();
+}
+
+// What a series without places is charged.
+fn charge_of_none(alloc: Global) -> Result<u64, AllocError> {
+    let space = Space::new(alloc)?;
+    Ok(charge_of_places(&space, 7, 5))
+}
+
+#[test]
+fn a_series_without_places_is_charged_nothing(rt: HostRuntime) {
+    assert!(rt; matches!(charge_of_none(rt.alloc()), Ok(0)));
 }
 
 // Whether a row type of integers is of both formats.

@@ -7,7 +7,7 @@ pub loop-number-init : goal.loop-number-init
 loop-number-init g c = record {
   call = reads_none g.P.Pages.tells (g.P.Pages.contents c.args.pages.now);
   undisturbed = g.met.P.Pages.stays c.args.pages.now;
-  read = none_read g.P.Pages.tells c.args.defs.now.definitions (g.P.Pages.contents c.args.pages.now) c.in_ok-new.field-0 c.new-2.result.items c.in_ok-new.ensures.ok c.new-2.ensures.items;
+  read = none_read g.P.Pages.tells c.args.defs.now.definitions (g.P.Pages.contents c.args.pages.now) c.new.result.items c.new-2.result.items c.new.ensures.items c.new-2.ensures.items;
 }
 
 pub returns-in_default-clause-read : goal.returns-in_default-clause-read
@@ -32,6 +32,6 @@ loop-number-preserved g c =
     record {
       call = reads_more g.P.Pages.tells tt (Ok tt) u v w c.loop-number.invariant.call got.call;
       undisturbed = g.met.P.Pages.«then» c.args.pages.now c.loop-number.pages c.read.new.pages c.loop-number.invariant.undisturbed c.in_ok-read.ensures.undisturbed;
-      read = read_more g.P.Pages.tells c.args.defs.now.definitions u c.loop-number.number _ c.add.new.self.space _ c.add.new.self.free.items _ c.add.new.self.second c.in-Some.content c.read.new.page.bytes c.loop-number.auto.number
+      read = read_more g.P.Pages.tells c.args.defs.now.definitions u c.loop-number.number _ c.add.new.self.spans.items _ c.add.new.self.free.items c.in-Some.content c.read.new.page.bytes c.loop-number.auto.number
           c.loop-number.invariant.read c.in-Some.ensures.found c.in_ok-add.ensures (λ told. sym (got.read told ∙ c.loop-number.invariant.call.pages told c.loop-number.number));
     }

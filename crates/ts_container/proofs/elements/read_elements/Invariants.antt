@@ -7,5 +7,5 @@ abbrev pub invariant-loop-number : goal.invariant-loop-number
 invariant-loop-number g l = record {
   call : Reads {T = Unit {0}} g.P.Pages.tells (Ok tt) (g.P.Pages.contents l.fn.pages) (g.P.Pages.contents l.pages);
   undisturbed : g.P.Pages.undisturbed l.fn.pages l.pages;
-  read : AllRead g.P.Pages.tells (l.number - 930) l.defs.definitions (g.P.Pages.contents l.fn.pages) l.elements.space l.elements.free.items l.elements.second;
+  read : AllRead g.P.Pages.tells (l.number - 930) l.defs.definitions (g.P.Pages.contents l.fn.pages) l.elements.spans.items l.elements.free.items;
 }

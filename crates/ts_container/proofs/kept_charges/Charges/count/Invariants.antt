@@ -1,5 +1,5 @@
 use Rattle.std.proofs.Common.{◌≡◌, ℕ, ◌<◌, length, get_or}
-use Rattle.ts_layout.specs.OnePage.{charge_in}
+use Rattle.ts_layout.specs.Charges.{charge_in}
 use Rattle.ts_container.proofs.kept_charges.Charges.count.Given as goal
 
 abbrev pub invariant-loop-slot : goal.invariant-loop-slot
