@@ -9,7 +9,7 @@ use Rattle.ts_model.specs.declared.kind.Kind.{Kind}
 use Rattle.ts_model.specs.declared.kind.Kind.TheVariants as kinds
 use Rattle.ts_model.specs.Catalogue.{Catalogue}
 use Rattle.ts_command.specs.Script.{Request}
-use Rattle.ts_answer.specs.Answer.{Tried, Answered, ◌>>=◌, settled, outcome, answer, carried_out, create_row_type, drop_definition, create_container, container_usage, create_irregular, drop_series, list_series, insert_element, update_element, mark_element, get_element, get_last_element, count_elements}
+use Rattle.ts_answer.specs.Answer.{Tried, Answered, ◌>>=◌, settled, outcome, answer, carried_out, create_row_type, drop_definition, create_container, container_usage, create_irregular, drop_series, list_series, put_element, put_no_dups, insert_element, update_element, delete_element, delete_range, mark_element, get_element, get_last_element, count_elements}
 use Rattle.ts_answer.proofs.ReplyLemmas.{IsApart, Begins, apart-begins, ok-begins, count-begins, counts-begins, stamp-begins, elements-begin, series_text-begins, refusal-apart}
 
 -- what is said of a reply begins with another byte than the memory line
@@ -50,13 +50,29 @@ list_series-differs : (container : List ℕ) (cat : Catalogue) → Differs (list
 unfolding list_series
 list_series-differs container cat = then _ _ (λ a. series_text-begins _)
 
+put_element-differs : (key : List ℕ) (stamp : ℤ) (literals : List Literal) (cat : Catalogue) → Differs (put_element key stamp literals cat)
+unfolding put_element
+put_element-differs key stamp literals cat = then _ _ (λ a. then _ _ (λ b. then _ _ (λ place. then _ _ (λ d. stamp-begins place))))
+
+put_no_dups-differs : (key : List ℕ) (stamp : ℤ) (literals : List Literal) (cat : Catalogue) → Differs (put_no_dups key stamp literals cat)
+unfolding put_no_dups
+put_no_dups-differs key stamp literals cat = then _ _ (λ a. then _ _ (λ b. then _ _ (λ c. stamp-begins stamp)))
+
 insert_element-differs : (key : List ℕ) (stamp : ℤ) (literals : List Literal) (cat : Catalogue) → Differs (insert_element key stamp literals cat)
 unfolding insert_element
-insert_element-differs key stamp literals cat = then _ _ (λ a. then _ _ (λ b. then _ _ (λ c. then _ _ (λ d. then _ _ (λ e. stamp-begins stamp)))))
+insert_element-differs key stamp literals cat = then _ _ (λ a. then _ _ (λ b. then _ _ (λ c. then _ _ (λ d. stamp-begins stamp))))
 
 update_element-differs : (key : List ℕ) (stamp : ℤ) (literals : List Literal) (cat : Catalogue) → Differs (update_element key stamp literals cat)
 unfolding update_element
 update_element-differs key stamp literals cat = then _ _ (λ a. then _ _ (λ b. then _ _ (λ c. stamp-begins stamp)))
+
+delete_element-differs : (key : List ℕ) (stamp : ℤ) (cat : Catalogue) → Differs (delete_element key stamp cat)
+unfolding delete_element
+delete_element-differs key stamp cat = then _ _ (λ a. count-begins _)
+
+delete_range-differs : (key : List ℕ) (from to : ℤ) (cat : Catalogue) → Differs (delete_range key from to cat)
+unfolding delete_range
+delete_range-differs key from to cat = then _ _ (λ a. count-begins _)
 
 mark_element-differs : (hidden : Bool) (key : List ℕ) (stamp : ℤ) (cat : Catalogue) → Differs (mark_element hidden key stamp cat)
 unfolding mark_element
@@ -84,8 +100,12 @@ carried_out-differs (commands.TSContainerUsage name) cat = container_usage-diffe
 carried_out-differs (commands.TSCreateIrr key container) cat = create_irregular-differs key container cat
 carried_out-differs (commands.DropSeries key) cat = drop_series-differs key cat
 carried_out-differs (commands.ListSeries container) cat = list_series-differs container cat
+carried_out-differs (commands.PutElem key stamp literals) cat = put_element-differs key stamp literals cat
+carried_out-differs (commands.PutElemNoDups key stamp literals) cat = put_no_dups-differs key stamp literals cat
 carried_out-differs (commands.InsElem key stamp literals) cat = insert_element-differs key stamp literals cat
 carried_out-differs (commands.UpdElem key stamp literals) cat = update_element-differs key stamp literals cat
+carried_out-differs (commands.DelElem key stamp) cat = delete_element-differs key stamp cat
+carried_out-differs (commands.DelClip key from to) cat = delete_range-differs key from to cat
 carried_out-differs (commands.HideElem key stamp) cat = mark_element-differs true key stamp cat
 carried_out-differs (commands.RevealElem key stamp) cat = mark_element-differs false key stamp cat
 carried_out-differs (commands.GetElem key stamp) cat = get_element-differs key stamp cat

@@ -1,7 +1,10 @@
 pub mod ApartLemmas
 pub mod CallerLemmas
 mod CarriedLemmas
+mod DeletedLemmas
+mod EditedLemmas
 mod NameLemmas
+mod PlacedLemmas
 mod ReadingLemmas
 mod ReplyLemmas
 mod TriedLemmas

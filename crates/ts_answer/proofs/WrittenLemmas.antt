@@ -12,7 +12,7 @@ use Rattle.ts_model.specs.Catalogue.{name_cmp, Named, Container, Series, Catalog
 use Rattle.ts_model.proofs.OrderLemmas.{total, ties-same}
 use Rattle.ts_model.specs.Kinds.{named}
 use Rattle.ts_answer.specs.Commands.{Object, objects, StaysBut}
-use Rattle.ts_answer.specs.Answer.{Answered, Tried, ◌>>=◌, settled, outcome, answer, carried_out, create_row_type, drop_definition, create_container, container_usage, create_irregular, drop_series, list_series, insert_element, update_element, mark_element, get_element, get_last_element, count_elements}
+use Rattle.ts_answer.specs.Answer.{Answered, Tried, ◌>>=◌, settled, outcome, answer, carried_out, create_row_type, drop_definition, create_container, container_usage, create_irregular, drop_series, list_series, put_element, put_no_dups, insert_element, update_element, delete_element, delete_range, mark_element, get_element, get_last_element, count_elements}
 
 -- a map with another value under one name, or none
 apart : {X : Type 0} (b : Bool) (q name : List ℕ) (v m : Option X) → (b ≡ true → ⊥) → cond b v m ≡ m
@@ -70,7 +70,7 @@ module _ (cat : Catalogue) where
   settles wrote (Err refusal) stays = stays_whole wrote
 
   each : (command : Command) → Tries (objects command).wrote (carried_out command cat)
-  unfolding Tries carried_out create_row_type drop_definition create_container container_usage create_irregular drop_series list_series insert_element update_element mark_element get_element get_last_element count_elements
+  unfolding Tries carried_out create_row_type drop_definition create_container container_usage create_irregular drop_series list_series put_element put_no_dups insert_element update_element delete_element delete_range mark_element get_element get_last_element count_elements
   each (commands.CreateRowType name stamp columns) = tries _ _ _ (λ good. tries _ _ _ (λ has. tries _ _ _ (λ new. row_types_written name _ (λ q other. inserted cat.row_types name q _ other))))
   each (commands.DropRowType name) = tries _ _ _ (λ there. tries _ _ _ (λ idle. row_types_written name _ (λ q other. removed cat.row_types name q other)))
   each (commands.TSContainerCreate name row_type quota) = tries _ _ _ (λ heading. tries _ _ _ (λ new. tries _ _ _ (λ fits. containers_written name _ (λ q other. inserted cat.containers name q _ other))))
@@ -79,9 +79,12 @@ module _ (cat : Catalogue) where
   each (commands.TSCreateIrr key container) = tries _ _ _ (λ there. tries _ _ _ (λ new. series_written key _ (λ q other. inserted cat.series key q _ other)))
   each (commands.DropSeries key) = tries _ _ _ (λ series. series_written key _ (λ q other. removed cat.series key q other))
   each (commands.ListSeries container) = tries _ _ _ (λ there. stays_whole [])
-  each (commands.InsElem key stamp literals) =
-      tries _ _ _ (λ series. tries _ _ _ (λ row. tries _ _ _ (λ free. tries _ _ _ (λ one. tries _ _ _ (λ fits. series_written key _ (λ q other. inserted cat.series key q _ other))))))
+  each (commands.PutElem key stamp literals) = tries _ _ _ (λ series. tries _ _ _ (λ row. tries _ _ _ (λ place. tries _ _ _ (λ fits. series_written key _ (λ q other. inserted cat.series key q _ other)))))
+  each (commands.PutElemNoDups key stamp literals) = tries _ _ _ (λ series. tries _ _ _ (λ row. tries _ _ _ (λ fits. series_written key _ (λ q other. inserted cat.series key q _ other))))
+  each (commands.InsElem key stamp literals) = tries _ _ _ (λ series. tries _ _ _ (λ row. tries _ _ _ (λ free. tries _ _ _ (λ fits. series_written key _ (λ q other. inserted cat.series key q _ other)))))
   each (commands.UpdElem key stamp literals) = tries _ _ _ (λ series. tries _ _ _ (λ row. tries _ _ _ (λ there. series_written key _ (λ q other. inserted cat.series key q _ other))))
+  each (commands.DelElem key stamp) = tries _ _ _ (λ series. series_written key _ (λ q other. inserted cat.series key q _ other))
+  each (commands.DelClip key from to) = tries _ _ _ (λ series. series_written key _ (λ q other. inserted cat.series key q _ other))
   each (commands.HideElem key stamp) = tries _ _ _ (λ series. tries _ _ _ (λ marks. tries _ _ _ (λ row. series_written key _ (λ q other. inserted cat.series key q _ other))))
   each (commands.RevealElem key stamp) = tries _ _ _ (λ series. tries _ _ _ (λ marks. tries _ _ _ (λ row. series_written key _ (λ q other. inserted cat.series key q _ other))))
   each (commands.GetElem key stamp) = tries _ _ _ (λ series. stays_whole [])

@@ -1,7 +1,7 @@
 -- What a catalogue answers to a request of a script: a reply, and the catalogue after it. Each routine tries its refusals in
 -- order; the first that holds is said, and the catalogue stays.
 use Rattle.std.specs.Prelude.{ℕ, ◌+◌, ◌-◌, ◌==◌, ◌&&◌, Bool, true, false, nat_lt, nat_le, if◌then◌else◌, ℤ, unsigned_abs, List, length, map, slice_get, Option, Some, None, option_to_list, Result, Ok, Err, is_some}
-use Rattle.std.specs.FinMap.{empty, entries, get, insert, remove, len}
+use Rattle.std.specs.FinMap.{empty, entries, from_entries, get, insert, remove, len}
 use Rattle.ts_base.specs.declared.refusal.Refusal.{Refusal}
 use Rattle.ts_base.specs.declared.refusal.Refusal.TheVariants as refusals
 use Rattle.ts_row.specs.declared.kind.Column.{Column}
@@ -9,6 +9,8 @@ use Rattle.ts_row.specs.declared.value.Literal.{Literal}
 use Rattle.ts_row.specs.RowType.{bad_column, has_long_decimal}
 use Rattle.ts_row.specs.Row.{Row, row_of, marked}
 use Rattle.ts_row.specs.Element.{Element, seen}
+use Rattle.ts_chain.specs.Placing.{place_for}
+use Rattle.ts_chain.specs.Range.{within_range, without_range}
 use Rattle.ts_command.specs.declared.command.Command.{Command}
 use Rattle.ts_command.specs.declared.command.Command.TheVariants as commands
 use Rattle.ts_command.specs.Script.{Request}
@@ -17,7 +19,7 @@ use Rattle.ts_model.specs.declared.kind.Kind.TheVariants as kinds
 use Rattle.ts_model.specs.declared.format.TheConstants.{OLD_FORMAT}
 use Rattle.ts_model.specs.Definitions.{limit}
 use Rattle.ts_model.specs.Catalogue.{Named, Elements, Series, Catalogue, columns_of, quota_of, series_in, quotas}
-use Rattle.ts_model.specs.Charge.{page_elements, container_charge}
+use Rattle.ts_model.specs.Charge.{container_charge}
 use Rattle.ts_model.specs.Kinds.{named, without, is_used}
 use Rattle.ts_answer.specs.Reply.{ok_line, count_line, counts_line, stamp_line, refusal_line, elements_text, series_text}
 
@@ -89,22 +91,31 @@ present None = Err refusals.Missing
 unfoldable pub row_at : ℤ → Elements → Tried Row
 row_at stamp elements = present (get elements stamp)
 
+-- the stamp that an element gets, if there is one; else the second is full
+abbrev pub placed : Option ℤ → Tried ℤ
+placed (Some stamp) = Ok stamp
+placed None = Err refusals.SecondFull
+
+-- The stamp at which an element is put: the given one where no element stands at it, hidden or not; else the one behind the last
+-- element of its second.
+unfoldable pub a_place : ℤ → Elements → Tried ℤ
+a_place stamp elements = placed (place_for stamp (entries elements))
+
 -- charges beyond a quota are refused
 unfoldable pub within_quota : ℕ → ℕ → Tried (Unit {0})
 within_quota charge quota = refused_if (nat_lt quota charge) (refusals.ContainerFull charge quota)
-
--- So far a series has one page: one element more than that holds is refused in every container, as a charge above any quota.
-unfoldable pub on_one_page : ℕ → ℕ → ℕ → Tried (Unit {0})
-on_one_page room count quota = refused_if (nat_lt room count) (refusals.ContainerFull 65537 quota)
 
 -- quotas beyond the element pages are refused
 unfoldable pub within_pages : ℕ → ℕ → Tried (Unit {0})
 within_pages sum pages = refused_if (nat_lt pages sum) (refusals.VolumeFull sum pages)
 
--- the catalogue with this element in a series
+-- the catalogue with these elements of a series
+abbrev pub with_elements : List ℕ → Series → Elements → Catalogue → Catalogue
+with_elements key s elements cat = record cat { series = insert cat.series key (record s { elements = elements }) }
+
+-- the catalogue with this element in a series, in place of one that stands at its stamp
 abbrev pub with_element : List ℕ → Series → ℤ → Row → Catalogue → Catalogue
-with_element key s stamp row cat =
-    record cat { series = insert cat.series key (record s { elements = insert s.elements stamp row }) }
+with_element key s stamp row cat = with_elements key s (insert s.elements stamp row) cat
 
 -- the elements that readings speak of, in order: the hidden ones aren't seen
 abbrev pub seen_elements : Elements → List Element
@@ -160,12 +171,28 @@ list_series container cat = do
   there ← wanted container cat.containers
   Ok (series_text (map (λ e. (e.0, len e.1.elements)) (series_in container cat)), cat)
 
+-- an element is added, at the place that its stamp gets
+unfoldable pub put_element : List ℕ → ℤ → List Literal → Catalogue → Tried Answered
+put_element key stamp literals cat = do
+  series ← wanted key cat.series
+  row ← a_row (columns_of cat series) literals
+  place ← a_place stamp series.elements
+  fits ← within_quota (container_charge series.container (with_element key series place row cat)) (quota_of cat series)
+  Ok (stamp_line place, with_element key series place row cat)
+
+-- an element stands at its stamp, in place of the one that was there
+unfoldable pub put_no_dups : List ℕ → ℤ → List Literal → Catalogue → Tried Answered
+put_no_dups key stamp literals cat = do
+  series ← wanted key cat.series
+  row ← a_row (columns_of cat series) literals
+  fits ← within_quota (container_charge series.container (with_element key series stamp row cat)) (quota_of cat series)
+  Ok (stamp_line stamp, with_element key series stamp row cat)
+
 unfoldable pub insert_element : List ℕ → ℤ → List Literal → Catalogue → Tried Answered
 insert_element key stamp literals cat = do
   series ← wanted key cat.series
   row ← a_row (columns_of cat series) literals
   free ← refused_if (is_some (get series.elements stamp)) refusals.Duplicate
-  one ← on_one_page (page_elements (columns_of cat series)) (len series.elements + 1) (quota_of cat series)
   fits ← within_quota (container_charge series.container (with_element key series stamp row cat)) (quota_of cat series)
   Ok (stamp_line stamp, with_element key series stamp row cat)
 
@@ -175,6 +202,26 @@ update_element key stamp literals cat = do
   row ← a_row (columns_of cat series) literals
   old ← row_at stamp series.elements
   Ok (stamp_line stamp, with_element key series stamp row cat)
+
+-- one for an element, hidden or not; none where there is none
+abbrev pub count_if_any : Option Row → ℕ
+count_if_any (Some row) = 1
+count_if_any None = 0
+
+-- the element at a stamp goes, if one is there
+unfoldable pub delete_element : List ℕ → ℤ → Catalogue → Tried Answered
+delete_element key stamp cat = do
+  series ← wanted key cat.series
+  Ok (count_line (count_if_any (get series.elements stamp)), with_elements key series (remove series.elements stamp) cat)
+
+-- all elements from one stamp to another go, both included
+unfoldable pub delete_range : List ℕ → ℤ → ℤ → Catalogue → Tried Answered
+delete_range key from to cat = do
+  series ← wanted key cat.series
+  Ok (
+    count_line (length (within_range from to (entries series.elements))),
+    with_elements key series (from_entries (without_range from to (entries series.elements))) cat,
+  )
 
 -- the element at a stamp is hidden, or visible again; it has its mark already, or gets it
 unfoldable pub mark_element : Bool → List ℕ → ℤ → Catalogue → Tried Answered
@@ -209,8 +256,12 @@ carried_out (commands.TSContainerUsage name) cat = container_usage name cat
 carried_out (commands.TSCreateIrr key container) cat = create_irregular key container cat
 carried_out (commands.DropSeries key) cat = drop_series key cat
 carried_out (commands.ListSeries container) cat = list_series container cat
+carried_out (commands.PutElem key stamp literals) cat = put_element key stamp literals cat
+carried_out (commands.PutElemNoDups key stamp literals) cat = put_no_dups key stamp literals cat
 carried_out (commands.InsElem key stamp literals) cat = insert_element key stamp literals cat
 carried_out (commands.UpdElem key stamp literals) cat = update_element key stamp literals cat
+carried_out (commands.DelElem key stamp) cat = delete_element key stamp cat
+carried_out (commands.DelClip key from to) cat = delete_range key from to cat
 carried_out (commands.HideElem key stamp) cat = mark_element true key stamp cat
 carried_out (commands.RevealElem key stamp) cat = mark_element false key stamp cat
 carried_out (commands.GetElem key stamp) cat = get_element key stamp cat

@@ -1,10 +1,10 @@
 -- What it is to carry out a command on pages. Nothing here speaks of a device, a journal or a commit.
-use Rattle.std.specs.Prelude.{◌≡◌, ℕ, ◌<◌, ◌≤◌, ◌+◌, ◌*◌, Bool, true, false, IsTrue, None, Result, Ok, Err, IfOk, OnOk, IfErr, Option, Some, ℤ, List, [], length, slice_set, slice_index_or}
+use Rattle.std.specs.Prelude.{◌≡◌, ℕ, ◌<◌, ◌≤◌, ◌+◌, ◌*◌, Bool, true, false, IsTrue, None, Result, Ok, Err, IfOk, OnOk, IfErr, Option, Some, List, [], length, slice_set, slice_index_or}
 use Rattle.ts_disk.specs.Device.{Rose}
 use Rattle.ts_command.specs.declared.command.Command.{Command}
 use Rattle.ts_page.specs.Pages.{Contents, EqualPages}
 use Rattle.ts_space.specs.declared.place.Place.{Place}
-use Rattle.ts_space.specs.Place.{put_place, drop_place}
+use Rattle.ts_space.specs.Moved.{moved_to}
 use Rattle.ts_space.specs.Directory.{Directory, spare_of}
 use Rattle.ts_model.specs.declared.kind.Kind.TheVariants as kinds
 use Rattle.ts_model.specs.Definitions.{Definitions, Room, has_room, with_slot, series_slots}
@@ -18,33 +18,19 @@ use Rattle.ts_answer.specs.Commands.{is_writing}
 use Rattle.ts_answer.specs.Decided.{FitsSlot}
 use Rattle.ts_answer.specs.View.{View, Shows, KeepsRules}
 
--- the places of a series, once the one that begins there goes
-abbrev pub without_place : Option ℤ → List Place → List Place
-without_place None places = places
-without_place (Some at) places = drop_place at places
-
--- and once one comes
-abbrev pub with_place : Option Place → List Place → List Place
-with_place None places = places
-with_place (Some place) places = put_place place places
-
--- both, one after the other
-abbrev pub moved : Option ℤ → Option Place → List Place → List Place
-moved old new places = with_place new (without_place old places)
-
 -- the definitions, and the lists of places, once a command's effect is applied
 abbrev pub definitions_after : Effect → Definitions → Definitions
 definitions_after Nothing d = d
 definitions_after Pages d = d
 definitions_after (Slot kind slot def) d = with_slot kind slot def d
-definitions_after (Places slot old new) d = d
+definitions_after (Places slot moved) d = d
 definitions_after (Series slot) d = with_slot kinds.Series slot None d
 
 abbrev pub lists_after : Effect → List (List Place) → List (List Place)
 lists_after Nothing lists = lists
 lists_after Pages lists = lists
 lists_after (Slot kind slot def) lists = lists
-lists_after (Places slot old new) lists = slice_set lists slot (moved old new (slice_index_or lists slot []))
+lists_after (Places slot moved) lists = slice_set lists slot (moved_to moved (slice_index_or lists slot []))
 lists_after (Series slot) lists = slice_set lists slot []
 
 -- what is seen then, on these pages
@@ -60,7 +46,7 @@ abbrev pub CanApply : Effect → Definitions → Type 0
 CanApply Nothing d = Unit {0}
 CanApply Pages d = Unit {0}
 CanApply (Slot kind slot def) d = FitsSlot kind slot def d
-CanApply (Places slot old new) d = slot < series_slots
+CanApply (Places slot moved) d = slot < series_slots
 CanApply (Series slot) d = slot < series_slots
 
 -- there is no effect
@@ -68,7 +54,7 @@ abbrev pub is_nothing : Effect → Bool
 is_nothing Nothing = true
 is_nothing Pages = false
 is_nothing (Slot kind slot def) = false
-is_nothing (Places slot old new) = false
+is_nothing (Places slot moved) = false
 is_nothing (Series slot) = false
 
 -- all that applying it asks for
@@ -76,7 +62,7 @@ abbrev pub HasRoom : Effect → Room → Directory → Type 0
 HasRoom Nothing room space = Unit {0}
 HasRoom Pages room space = Unit {0}
 HasRoom (Slot kind slot def) room space = has_room kind room ≡ true
-HasRoom (Places slot old new) room space = 1 ≤ spare_of slot space
+HasRoom (Places slot moved) room space = 2 ≤ spare_of slot space
 HasRoom (Series slot) room space = Unit {0}
 
 -- the pages stay, and the free ones of them

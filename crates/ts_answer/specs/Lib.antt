@@ -2,6 +2,7 @@ pub mod Answer
 pub mod CarriedOut
 pub mod Commands
 pub mod Decided
+pub mod Edited
 pub mod Reading
 pub mod Reply
 pub mod Slots

@@ -1,12 +1,12 @@
 -- What a command sees: the definitions, the places of the pages of each series, and pages, whatever keeps them.
-use Rattle.std.specs.Prelude.{◌≡◌, ℕ, ◌+◌, ◌-◌, Bool, IsTrue, List, length, All}
+use Rattle.std.specs.Prelude.{◌≡◌, ℕ, ◌+◌, Bool, IsTrue, length}
 use Rattle.ts_page.specs.Pages.{Contents}
 use Rattle.ts_page.specs.Volume.{first_element_page}
-use Rattle.ts_space.specs.Directory.{Directory, used_of}
+use Rattle.ts_space.specs.Directory.{Directory}
 use Rattle.ts_model.specs.Definitions.{Definitions}
-use Rattle.ts_layout.specs.Meaning.{Layout, Free, element_page, HoldsLayout, IsSound}
-use Rattle.ts_layout.specs.Surveyed.{ListsPlaces}
-use Rattle.ts_layout.specs.OnePage.{AreFilled}
+use Rattle.ts_layout.specs.Meaning.{Layout, HoldsLayout, IsSound}
+use Rattle.ts_layout.specs.Chains.{AreFilled}
+pub use Rattle.ts_layout.specs.Held.{IsHeldOf}
 use Rattle.ts_layout.specs.Placed.{AreKept}
 
 pub record View : Type 0 where
@@ -17,17 +17,7 @@ pub record View : Type 0 where
 abbrev pub view : Definitions → Directory → Contents → View
 view d space c = record { definitions = d; space = space; pages = c }
 
--- Definitions, places, a number of pages and a list of free ones are those of a layout that keeps the rules.
-pub record IsHeldOf (d : Definitions) (space : Directory) (count : ℕ) (numbers : List ℕ) (l : Layout) : Type 0 where
-  pub definitions : d ≡ l.definitions
-  pub size : count ≡ first_element_page + length l.element_pages
-  pub places : ListsPlaces space l
-  pub listed : All (λ number. element_page (number - first_element_page) l.element_pages ≡ Free) numbers
-  pub free : length numbers + used_of space ≡ length l.element_pages
-  pub rules : IsSound l
-  pub filled : AreFilled l
-
--- The same of definitions and a number of pages alone.
+-- Definitions and a number of pages alone are those of a layout that keeps the rules.
 pub record IsDefinedBy (d : Definitions) (count : ℕ) (l : Layout) : Type 0 where
   pub definitions : d ≡ l.definitions
   pub size : count ≡ first_element_page + length l.element_pages

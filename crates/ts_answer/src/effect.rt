@@ -3,7 +3,7 @@ ghost use Rattle.std.specs.Prelude.{◌≡◌};
 ghost use Rattle.ts_answer.specs.CarriedOut.{is_nothing};
 
 use ts_model::{Def, Kind};
-use ts_space::Place;
+use ts_space::Moved;
 
 /// What a command that was carried out on pages changes in memory, once the pages are kept.
 #[derive(Drop)]
@@ -18,11 +18,10 @@ pub enum Effect {
         slot: u16,
         def: Option<Def>,
     },
-    /// Of the places of a series the one that begins there goes, and this one comes.
+    /// Some places of a series go, and others come in their stead.
     Places {
         slot: u16,
-        old: Option<i64>,
-        new: Option<Place>,
+        moved: Moved,
     },
     /// A series goes, with all its places.
     Series {

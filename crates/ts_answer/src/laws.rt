@@ -1,13 +1,18 @@
-ghost use Rattle.std.specs.Prelude.{◌≡◌, ◌≤◌, ◌+◌, [], ◌∷◌, Err, List, ℕ, Ok, false, length, codes};
+ghost use Rattle.std.specs.Prelude.{◌≡◌, ◌≤◌, ◌+◌, ◌&&◌, [], ◌∷◌, Err, List, ℕ, ℤ, Ok, Some, false, int_lt, not, length, codes};
+ghost use Rattle.std.specs.FinMap.{get};
+ghost use Rattle.std.specs.Ordering.{int_eq};
 ghost use Rattle.ts_base.specs.declared.refusal.Refusal.{Refusal};
 ghost use Rattle.ts_base.specs.declared.refusal.Refusal.TheVariants as refusals;
 ghost use Rattle.ts_command.specs.declared.command.Command.{Command};
+ghost use Rattle.ts_command.specs.declared.command.Command.TheVariants as commands;
+ghost use Rattle.ts_row.specs.declared.value.Literal.{Literal as TheLiteral};
 ghost use Rattle.ts_page.specs.Pages.{Contents};
-ghost use Rattle.ts_model.specs.Catalogue.{Catalogue};
+ghost use Rattle.ts_model.specs.Catalogue.{Catalogue, Series};
 ghost use Rattle.ts_replies.specs.Acknowledged.{AreApart};
 ghost use Rattle.ts_command.specs.Script.{Request};
 ghost use Rattle.ts_answer.specs.Reply.{refusal_line, count_line, counts_line, series_text};
-ghost use Rattle.ts_answer.specs.Answer.{answer, outcome};
+ghost use Rattle.ts_answer.specs.Answer.{Answered, answer, outcome};
+ghost use Rattle.ts_answer.specs.Edited.{Adds, TakesAway};
 ghost use Rattle.ts_answer.specs.Commands.{is_writing, objects, StaysBut};
 ghost use Rattle.ts_answer.specs.CarriedOut.{Grows};
 
@@ -31,6 +36,21 @@ pub fn reading_changes_nothing()
 /// What a command changes in the catalogue is what it wrote: every other object stands there as before.
 pub fn what_is_not_written_stays()
     ensures { (cat : Catalogue) (command : Command) → StaysBut (objects command).wrote cat (answer cat (Ok command)).1 }
+{}
+
+/// An element that is put comes to those that are there, hidden ones too, at a stamp at which none stood: none is replaced.
+pub fn a_put_replaces_no_element()
+    ensures { (cat : Catalogue) (answered : Answered) (key : List ℕ) (stamp : ℤ) (literals : List TheLiteral) (s : Series) →
+        get cat.series key ≡ Some s → outcome (Ok (commands.PutElem key stamp literals)) cat ≡ Ok answered → Adds key s cat answered }
+{}
+
+/// What is deleted is what was named, hidden or not, and that many elements are counted; all others stay.
+pub fn a_deletion_takes_what_it_names()
+    ensures element { (cat : Catalogue) (answered : Answered) (key : List ℕ) (stamp : ℤ) (s : Series) → get cat.series key ≡ Some s →
+        outcome (Ok (commands.DelElem key stamp)) cat ≡ Ok answered → TakesAway (λ at. int_eq at stamp) key s cat answered }
+    ensures range { (cat : Catalogue) (answered : Answered) (key : List ℕ) (from to : ℤ) (s : Series) → get cat.series key ≡ Some s →
+        outcome (Ok (commands.DelClip key from to)) cat ≡ Ok answered →
+        TakesAway (λ at. not (int_lt at from) && not (int_lt to at)) key s cat answered }
 {}
 
 /// Commands after one another grow a record by no more than each of them, and those of a whole transaction fit one: it

@@ -14,7 +14,8 @@ mod tests;
 
 pub use effect::Effect;
 pub use laws::{
-    a_refused_request_changes_nothing, commands_fit_one_record, lines_are_printed_so,
-    reading_changes_nothing, replies_and_the_memory_line_are_apart, what_is_not_written_stays,
+    a_deletion_takes_what_it_names, a_put_replaces_no_element, a_refused_request_changes_nothing,
+    commands_fit_one_record, lines_are_printed_so, reading_changes_nothing,
+    replies_and_the_memory_line_are_apart, what_is_not_written_stays,
 };
 pub use stop::Stop;

@@ -8,6 +8,8 @@ fn the_laws_are_called(_rt: HostRuntime) -> Result<(), Fail> {
     a_refused_request_changes_nothing();
     reading_changes_nothing();
     what_is_not_written_stays();
+    a_put_replaces_no_element();
+    a_deletion_takes_what_it_names();
     commands_fit_one_record();
     lines_are_printed_so();
     Ok(())

@@ -17,10 +17,18 @@ use Rattle.ts_command.specs.Tokens.{front, number_length, magnitude_length, frac
 use Rattle.ts_command.specs.Text.{undoubled, said}
 use Rattle.ts_command.specs.Number.{units_of, scale_of}
 use Rattle.ts_command.specs.Form.{IsColumn, HasForm}
-use Rattle.ts_command.specs.Grammar.{a_literal, literal_in, a_column, a_name, name_in, a_key, key_in, a_stamp, stamp_in, a_type, type_in, kind_behind, a_small, small_in, a_word, a_whole, whole_in, within, a_stamp_column, a_routine, routine_in, a_name_call, a_key_call, a_key_name_call, a_key_stamp_call, a_names_whole_call, a_key_stamp_values_call, a_name_columns_call, arguments, a_call}
+use Rattle.ts_command.specs.Grammar.{a_literal, literal_in, a_column, a_name, name_in, a_key, key_in, a_stamp, stamp_in, a_type, type_in, kind_behind, a_small, small_in, a_word, a_whole, whole_in, within, a_stamp_column, a_routine, routine_in, a_name_call, a_key_call, a_key_name_call, a_key_stamp_call, a_key_range_call, a_names_whole_call, a_key_stamp_values_call, a_name_columns_call, of_name, of_key, of_stamp, of_row, arguments, a_call}
 use Rattle.ts_command.specs.Routines.{routine_of, type_of}
 use Rattle.ts_command.specs.declared.routine.Routine.{Routine}
 use Rattle.ts_command.specs.declared.routine.Routine.TheVariants as calls
+use Rattle.ts_command.specs.declared.routine.NameRoutine.{NameRoutine}
+use Rattle.ts_command.specs.declared.routine.NameRoutine.TheVariants as by_name
+use Rattle.ts_command.specs.declared.routine.KeyRoutine.{KeyRoutine}
+use Rattle.ts_command.specs.declared.routine.KeyRoutine.TheVariants as by_key
+use Rattle.ts_command.specs.declared.routine.StampRoutine.{StampRoutine}
+use Rattle.ts_command.specs.declared.routine.StampRoutine.TheVariants as at_stamp
+use Rattle.ts_command.specs.declared.routine.RowRoutine.{RowRoutine}
+use Rattle.ts_command.specs.declared.routine.RowRoutine.TheVariants as with_row
 use Rattle.ts_command.specs.declared.routine.TypeName.{TypeName}
 use Rattle.ts_command.specs.declared.routine.TypeName.TheVariants.{SmallInt, Integer, BigInt, Decimal, VarChar}
 use Rattle.ts_command.specs.declared.command.Command.TheVariants as commands
@@ -84,7 +92,7 @@ datetime_yields = of_token front front_laws Any (word_in (codes "datetime")) (re
 
 routine_yields : Yields front Any a_routine
 unfolding a_routine front routine_of
-routine_yields = of_token front front_laws Any routine_in (record { first = 71; more = codes "etElem"; kind = Word; found = calls.GetElem; holds = tt; stands = refl; accepted = refl }) (λ kind text a e. tt)
+routine_yields = of_token front front_laws Any routine_in (record { first = 71; more = codes "etElem"; kind = Word; found = calls.AtStamp at_stamp.GetElem; holds = tt; stands = refl; accepted = refl }) (λ kind text a e. tt)
 
 small_yields : Yields front Any a_small
 unfolding a_small front number_length magnitude_length fraction_length
@@ -208,24 +216,46 @@ name_columns_call_yields =
     (λ first f. chain front front_laws (AllByRecursion IsColumn) IsRowType (closed 41 a_column) _ (listed IsColumn a_column column_yields)
     (λ others o. given front IsRowType (name, stamp, first ∷ others) (n, s, omega arith, (f, o))))))
 
+key_range_call_yields : Yields front (λ (p : List ℕ × ℤ × ℤ). IsKey p.0 × Any p.1 × Any p.2) a_key_range_call
+unfolding a_key_range_call
+key_range_call_yields =
+    bracketed _ (triple a_key a_stamp a_stamp) (triple_yields front front_laws IsKey Any Any comma_sign a_key a_stamp a_stamp key_yields stamp_yields stamp_yields)
+
+-- the commands of each group have their form
+of_name-form : (routine : NameRoutine) (name : List ℕ) → IsName name → HasForm (of_name routine name)
+of_name-form by_name.DropRowType name form = form
+of_name-form by_name.TSContainerDestroy name form = form
+of_name-form by_name.TSContainerUsage name form = form
+of_name-form by_name.ListSeries name form = form
+
+of_key-form : (routine : KeyRoutine) (key : List ℕ) → IsKey key → HasForm (of_key routine key)
+of_key-form by_key.DropSeries key form = form
+of_key-form by_key.GetLastElem key form = form
+of_key-form by_key.GetNelems key form = form
+
+of_stamp-form : (routine : StampRoutine) (key : List ℕ) (stamp : ℤ) → IsKey key → HasForm (of_stamp routine key stamp)
+of_stamp-form at_stamp.DelElem key stamp form = form
+of_stamp-form at_stamp.HideElem key stamp form = form
+of_stamp-form at_stamp.RevealElem key stamp form = form
+of_stamp-form at_stamp.GetElem key stamp form = form
+
+of_row-form : (routine : RowRoutine) (key : List ℕ) (stamp : ℤ) (values : List Literal) → IsKey key → HasForm (of_row routine key stamp values)
+of_row-form with_row.PutElem key stamp values form = form
+of_row-form with_row.PutElemNoDups key stamp values form = form
+of_row-form with_row.InsElem key stamp values form = form
+of_row-form with_row.UpdElem key stamp values form = form
+
 -- each routine's command has its form
 arguments_yield : (routine : Routine) → Yields front HasForm (arguments routine)
 unfolding arguments
 arguments_yield calls.CreateRowType = made_yields front front_laws _ HasForm a_name_columns_call _ name_columns_call_yields (λ a form. form)
-arguments_yield calls.DropRowType = made_yields front front_laws _ HasForm a_name_call _ name_call_yields (λ a form. form)
 arguments_yield calls.TSContainerCreate = made_yields front front_laws _ HasForm (a_names_whole_call (pos 1) (pos 65536)) _ (names_whole_call_yields (pos 1) (pos 65536) refl refl) (λ a form. (form.0, form.1, form.2.0, form.2.1))
-arguments_yield calls.TSContainerDestroy = made_yields front front_laws _ HasForm a_name_call _ name_call_yields (λ a form. form)
-arguments_yield calls.TSContainerUsage = made_yields front front_laws _ HasForm a_name_call _ name_call_yields (λ a form. form)
 arguments_yield calls.TSCreateIrr = made_yields front front_laws _ HasForm a_key_name_call _ key_name_call_yields (λ a form. form)
-arguments_yield calls.DropSeries = made_yields front front_laws _ HasForm a_key_call _ key_call_yields (λ a form. form)
-arguments_yield calls.ListSeries = made_yields front front_laws _ HasForm a_name_call _ name_call_yields (λ a form. form)
-arguments_yield calls.InsElem = made_yields front front_laws _ HasForm a_key_stamp_values_call _ key_stamp_values_call_yields (λ a form. form)
-arguments_yield calls.UpdElem = made_yields front front_laws _ HasForm a_key_stamp_values_call _ key_stamp_values_call_yields (λ a form. form)
-arguments_yield calls.HideElem = made_yields front front_laws _ HasForm a_key_stamp_call _ key_stamp_call_yields (λ a form. form.0)
-arguments_yield calls.RevealElem = made_yields front front_laws _ HasForm a_key_stamp_call _ key_stamp_call_yields (λ a form. form.0)
-arguments_yield calls.GetElem = made_yields front front_laws _ HasForm a_key_stamp_call _ key_stamp_call_yields (λ a form. form.0)
-arguments_yield calls.GetLastElem = made_yields front front_laws _ HasForm a_key_call _ key_call_yields (λ a form. form)
-arguments_yield calls.GetNelems = made_yields front front_laws _ HasForm a_key_call _ key_call_yields (λ a form. form)
+arguments_yield calls.DelClip = made_yields front front_laws _ HasForm a_key_range_call _ key_range_call_yields (λ a form. form.0)
+arguments_yield (calls.ByName routine) = made_yields front front_laws _ HasForm a_name_call _ name_call_yields (of_name-form routine)
+arguments_yield (calls.ByKey routine) = made_yields front front_laws _ HasForm a_key_call _ key_call_yields (of_key-form routine)
+arguments_yield (calls.AtStamp routine) = made_yields front front_laws _ HasForm a_key_stamp_call _ key_stamp_call_yields (λ a form. of_stamp-form routine a.0 a.1 form.0)
+arguments_yield (calls.WithRow routine) = made_yields front front_laws _ HasForm a_key_stamp_values_call _ key_stamp_values_call_yields (λ a form. of_row-form routine a.0 a.1 a.2 form)
 
 -- a call
 pub call_yields : Yields front HasForm a_call

@@ -19,6 +19,14 @@ use Rattle.ts_command.specs.Number.{units_of, scale_of}
 use Rattle.ts_command.specs.Text.{said}
 use Rattle.ts_command.specs.declared.routine.Routine.{Routine}
 use Rattle.ts_command.specs.declared.routine.Routine.TheVariants as calls
+use Rattle.ts_command.specs.declared.routine.NameRoutine.{NameRoutine}
+use Rattle.ts_command.specs.declared.routine.NameRoutine.TheVariants as by_name
+use Rattle.ts_command.specs.declared.routine.KeyRoutine.{KeyRoutine}
+use Rattle.ts_command.specs.declared.routine.KeyRoutine.TheVariants as by_key
+use Rattle.ts_command.specs.declared.routine.StampRoutine.{StampRoutine}
+use Rattle.ts_command.specs.declared.routine.StampRoutine.TheVariants as at_stamp
+use Rattle.ts_command.specs.declared.routine.RowRoutine.{RowRoutine}
+use Rattle.ts_command.specs.declared.routine.RowRoutine.TheVariants as with_row
 use Rattle.ts_command.specs.Routines.{routine_of, type_of}
 use Rattle.ts_command.specs.declared.routine.TypeName.{TypeName}
 use Rattle.ts_command.specs.declared.routine.TypeName.TheVariants.{SmallInt, Integer, BigInt, Decimal, VarChar}
@@ -176,23 +184,44 @@ a_name_columns_call = do
   others ← closed 41 a_column
   give (name, stamp, first ∷ others)
 
+-- a key and two stamps
+unfoldable pub a_key_range_call : Phrase (List ℕ × ℤ × ℤ)
+a_key_range_call = in_brackets (triple a_key a_stamp a_stamp)
+
+-- the commands of routines that are called with the same arguments
+abbrev pub of_name : NameRoutine → List ℕ → Command
+of_name by_name.DropRowType name = commands.DropRowType name
+of_name by_name.TSContainerDestroy name = commands.TSContainerDestroy name
+of_name by_name.TSContainerUsage name = commands.TSContainerUsage name
+of_name by_name.ListSeries container = commands.ListSeries container
+
+abbrev pub of_key : KeyRoutine → List ℕ → Command
+of_key by_key.DropSeries key = commands.DropSeries key
+of_key by_key.GetLastElem key = commands.GetLastElem key
+of_key by_key.GetNelems key = commands.GetNelems key
+
+abbrev pub of_stamp : StampRoutine → List ℕ → ℤ → Command
+of_stamp at_stamp.DelElem key stamp = commands.DelElem key stamp
+of_stamp at_stamp.HideElem key stamp = commands.HideElem key stamp
+of_stamp at_stamp.RevealElem key stamp = commands.RevealElem key stamp
+of_stamp at_stamp.GetElem key stamp = commands.GetElem key stamp
+
+abbrev pub of_row : RowRoutine → List ℕ → ℤ → List Literal → Command
+of_row with_row.PutElem key stamp values = commands.PutElem key stamp values
+of_row with_row.PutElemNoDups key stamp values = commands.PutElemNoDups key stamp values
+of_row with_row.InsElem key stamp values = commands.InsElem key stamp values
+of_row with_row.UpdElem key stamp values = commands.UpdElem key stamp values
+
 -- what each routine is called with, as its command
 unfoldable pub arguments : Routine → Phrase Command
 arguments calls.CreateRowType = made a_name_columns_call (λ a. commands.CreateRowType a.0 a.1 a.2)
-arguments calls.DropRowType = made a_name_call commands.DropRowType
 arguments calls.TSContainerCreate = made (a_names_whole_call (pos 1) (pos 65536)) (λ a. commands.TSContainerCreate a.0 a.1 a.2)
-arguments calls.TSContainerDestroy = made a_name_call commands.TSContainerDestroy
-arguments calls.TSContainerUsage = made a_name_call commands.TSContainerUsage
 arguments calls.TSCreateIrr = made a_key_name_call (λ a. commands.TSCreateIrr a.0 a.1)
-arguments calls.DropSeries = made a_key_call commands.DropSeries
-arguments calls.ListSeries = made a_name_call commands.ListSeries
-arguments calls.InsElem = made a_key_stamp_values_call (λ a. commands.InsElem a.0 a.1 a.2)
-arguments calls.UpdElem = made a_key_stamp_values_call (λ a. commands.UpdElem a.0 a.1 a.2)
-arguments calls.HideElem = made a_key_stamp_call (λ a. commands.HideElem a.0 a.1)
-arguments calls.RevealElem = made a_key_stamp_call (λ a. commands.RevealElem a.0 a.1)
-arguments calls.GetElem = made a_key_stamp_call (λ a. commands.GetElem a.0 a.1)
-arguments calls.GetLastElem = made a_key_call commands.GetLastElem
-arguments calls.GetNelems = made a_key_call commands.GetNelems
+arguments calls.DelClip = made a_key_range_call (λ a. commands.DelClip a.0 a.1 a.2)
+arguments (calls.ByName routine) = made a_name_call (of_name routine)
+arguments (calls.ByKey routine) = made a_key_call (of_key routine)
+arguments (calls.AtStamp routine) = made a_key_stamp_call (λ a. of_stamp routine a.0 a.1)
+arguments (calls.WithRow routine) = made a_key_stamp_values_call (λ a. of_row routine a.0 a.1 a.2)
 
 -- a routine and what it is called with
 unfoldable pub a_call : Phrase Command

@@ -1,39 +1,84 @@
 -- The routines and the types of value columns, by their names.
-use Rattle.std.specs.Prelude.{ℕ, List, [], ◌∷◌, codes, find, if◌then◌else◌, Option, Some, None}
+use Rattle.std.specs.Prelude.{ℕ, List, [], ◌∷◌, codes, find, Option}
 use Rattle.std.specs.Str.{bytes_eq}
 use Rattle.ts_command.specs.declared.routine.Routine.{Routine}
+use Rattle.ts_command.specs.declared.routine.Routine.TheVariants as calls
+use Rattle.ts_command.specs.declared.routine.NameRoutine.{NameRoutine}
+use Rattle.ts_command.specs.declared.routine.NameRoutine.TheVariants as by_name
+use Rattle.ts_command.specs.declared.routine.KeyRoutine.{KeyRoutine}
+use Rattle.ts_command.specs.declared.routine.KeyRoutine.TheVariants as by_key
+use Rattle.ts_command.specs.declared.routine.StampRoutine.{StampRoutine}
+use Rattle.ts_command.specs.declared.routine.StampRoutine.TheVariants as at_stamp
+use Rattle.ts_command.specs.declared.routine.RowRoutine.{RowRoutine}
+use Rattle.ts_command.specs.declared.routine.RowRoutine.TheVariants as with_row
 use Rattle.ts_command.specs.declared.routine.TypeName.{TypeName}
 use Rattle.ts_command.specs.declared.routine.TypeName.TheVariants.{SmallInt, Integer, BigInt, Decimal, VarChar}
-use Rattle.ts_command.specs.declared.routine.Routine.TheVariants as calls
 
--- each routine by its name
-abbrev pub routines : List (List ℕ × Routine)
+-- the names of the routines that are called with a name
+abbrev pub name_spelling : NameRoutine → List ℕ
+name_spelling by_name.DropRowType = codes "DropRowType"
+name_spelling by_name.TSContainerDestroy = codes "TSContainerDestroy"
+name_spelling by_name.TSContainerUsage = codes "TSContainerUsage"
+name_spelling by_name.ListSeries = codes "ListSeries"
+
+-- with a key
+abbrev pub key_spelling : KeyRoutine → List ℕ
+key_spelling by_key.DropSeries = codes "DropSeries"
+key_spelling by_key.GetLastElem = codes "GetLastElem"
+key_spelling by_key.GetNelems = codes "GetNelems"
+
+-- with a key and a stamp
+abbrev pub stamp_spelling : StampRoutine → List ℕ
+stamp_spelling at_stamp.DelElem = codes "DelElem"
+stamp_spelling at_stamp.HideElem = codes "HideElem"
+stamp_spelling at_stamp.RevealElem = codes "RevealElem"
+stamp_spelling at_stamp.GetElem = codes "GetElem"
+
+-- with a key, a stamp and the values of a row
+abbrev pub row_spelling : RowRoutine → List ℕ
+row_spelling with_row.PutElem = codes "PutElem"
+row_spelling with_row.PutElemNoDups = codes "PutElemNoDups"
+row_spelling with_row.InsElem = codes "InsElem"
+row_spelling with_row.UpdElem = codes "UpdElem"
+
+-- the name of each routine
+abbrev pub spelling : Routine → List ℕ
+spelling calls.CreateRowType = codes "CreateRowType"
+spelling calls.TSContainerCreate = codes "TSContainerCreate"
+spelling calls.TSCreateIrr = codes "TSCreateIrr"
+spelling calls.DelClip = codes "DelClip"
+spelling (calls.ByName routine) = name_spelling routine
+spelling (calls.ByKey routine) = key_spelling routine
+spelling (calls.AtStamp routine) = stamp_spelling routine
+spelling (calls.WithRow routine) = row_spelling routine
+
+-- all of them
+abbrev pub routines : List Routine
 routines =
-    (codes "InsElem", calls.InsElem) ∷
-    (codes "GetElem", calls.GetElem) ∷
-    (codes "GetNelems", calls.GetNelems) ∷
-    (codes "UpdElem", calls.UpdElem) ∷
-    (codes "GetLastElem", calls.GetLastElem) ∷
-    (codes "CreateRowType", calls.CreateRowType) ∷
-    (codes "DropRowType", calls.DropRowType) ∷
-    (codes "TSContainerCreate", calls.TSContainerCreate) ∷
-    (codes "TSContainerDestroy", calls.TSContainerDestroy) ∷
-    (codes "TSContainerUsage", calls.TSContainerUsage) ∷
-    (codes "TSCreateIrr", calls.TSCreateIrr) ∷
-    (codes "DropSeries", calls.DropSeries) ∷
-    (codes "ListSeries", calls.ListSeries) ∷
-    (codes "HideElem", calls.HideElem) ∷
-    (codes "RevealElem", calls.RevealElem) ∷
+    calls.WithRow with_row.PutElem ∷
+    calls.WithRow with_row.InsElem ∷
+    calls.WithRow with_row.UpdElem ∷
+    calls.WithRow with_row.PutElemNoDups ∷
+    calls.AtStamp at_stamp.GetElem ∷
+    calls.AtStamp at_stamp.DelElem ∷
+    calls.AtStamp at_stamp.HideElem ∷
+    calls.AtStamp at_stamp.RevealElem ∷
+    calls.DelClip ∷
+    calls.ByKey by_key.GetLastElem ∷
+    calls.ByKey by_key.GetNelems ∷
+    calls.ByKey by_key.DropSeries ∷
+    calls.TSCreateIrr ∷
+    calls.CreateRowType ∷
+    calls.TSContainerCreate ∷
+    calls.ByName by_name.DropRowType ∷
+    calls.ByName by_name.TSContainerDestroy ∷
+    calls.ByName by_name.TSContainerUsage ∷
+    calls.ByName by_name.ListSeries ∷
     []
-
--- the first routine of a list that has this name
-abbrev pub named : List (List ℕ × Routine) → List ℕ → Option Routine
-named [] word = None
-named (line ∷ lines) word = if bytes_eq word line.0 then Some line.1 else named lines word
 
 -- the routine of this name, if there is one
 unfoldable pub routine_of : List ℕ → Option Routine
-routine_of word = named routines word
+routine_of word = find (λ routine. bytes_eq (spelling routine) word) routines
 
 -- the name of a type
 abbrev pub type_spelling : TypeName → List ℕ

@@ -2,7 +2,7 @@
 ghost use Rattle.std.specs.Prelude.{◌≡◌, Ok, IfOk, IfErr};
 ghost use Rattle.ts_text.specs.Misfit.{Refuses};
 ghost use Rattle.ts_text.specs.Phrase.{repeated, onto};
-ghost use Rattle.ts_command.specs.Grammar.{a_literal, a_name_call, a_key_call, a_key_name_call, a_key_stamp_call, a_names_whole_call, a_key_stamp_values_call, a_name_columns_call};
+ghost use Rattle.ts_command.specs.Grammar.{a_literal, a_name_call, a_key_call, a_key_name_call, a_key_stamp_call, a_key_range_call, a_names_whole_call, a_key_stamp_values_call, a_name_columns_call};
 
 use crate::column::{read_column, read_columns, read_stamp_column};
 use crate::phrase::{read_key, read_literal, read_name, read_stamp, read_whole};
@@ -60,6 +60,25 @@ pub(crate) fn read_key_stamp_call(
     let (key, rest) = read_key(alloc, read_sign(bytes, b'(')?)?;
     match read_stamp(alloc, read_sign(rest, b',')?) {
         Ok((stamp, rest)) => Ok(((key, stamp), read_sign(rest, b')')?)),
+        Err(misfit) => Err(misfit),
+    }
+}
+
+/// A key and two stamps.
+#[tactic(auto, unfolding(crate::specs::Grammar::a_key_range_call))]
+pub(crate) fn read_key_range_call(
+    alloc: Global,
+    bytes: &[u8],
+) -> Result<((Key, Stamp, Stamp), &[u8]), Misfit>
+    ensures ok { IfOk result (λ found. a_key_range_call bytes.now ≡ Ok (found.0, found.1.now)) }
+    ensures cause { IfErr result (λ misfit. Refuses misfit (a_key_range_call bytes.now)) }
+{
+    let (key, rest) = read_key(alloc, read_sign(bytes, b'(')?)?;
+    match read_stamp(alloc, read_sign(rest, b',')?) {
+        Ok((from, rest)) => match read_stamp(alloc, read_sign(rest, b',')?) {
+            Ok((to, rest)) => Ok(((key, from, to), read_sign(rest, b')')?)),
+            Err(misfit) => Err(misfit),
+        },
         Err(misfit) => Err(misfit),
     }
 }

@@ -37,6 +37,16 @@ pub enum Command {
     ListSeries {
         container: Name,
     },
+    PutElem {
+        key: Key,
+        stamp: Stamp,
+        values: Literals,
+    },
+    PutElemNoDups {
+        key: Key,
+        stamp: Stamp,
+        values: Literals,
+    },
     InsElem {
         key: Key,
         stamp: Stamp,
@@ -46,6 +56,15 @@ pub enum Command {
         key: Key,
         stamp: Stamp,
         values: Literals,
+    },
+    DelElem {
+        key: Key,
+        stamp: Stamp,
+    },
+    DelClip {
+        key: Key,
+        from: Stamp,
+        to: Stamp,
     },
     HideElem {
         key: Key,

@@ -1,8 +1,9 @@
 //! The script language: `read_command` gives the command that a statement is, or the first place in it that can't stand
 //! there (`specs/Grammar`, over the tokens of `specs/Tokens`). With the items of a script, which ts_items cuts, that is
-//! what a script asks for (`specs/Script`). A further routine is a variant of `Routine` and `Command`, a line of the table
-//! of routines, one of `arguments` by the shape of its call, and its case of form. Stands on ts_items, ts_row, ts_text and
-//! ts_base; knows nothing of the store. Read `specs/Grammar.antt`, then `call.rt` and `read.rt`.
+//! what a script asks for (`specs/Script`). Routines stand in groups by what they are called with, each with one reader. A
+//! further routine is a variant of its group and of `Command`, a line of the list of routines, its name, its command by its
+//! arguments, and its case of form. Stands on ts_items, ts_row, ts_text and ts_base; knows nothing of the store. Read
+//! `specs/Grammar.antt`, then `call.rt` and `read.rt`.
 #![tactic(auto)]
 
 mod call;

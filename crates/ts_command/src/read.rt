@@ -2,18 +2,18 @@
 ghost use Rattle.std.specs.Prelude.{◌≡◌, ◌^◌, ◌<◌, [], ◌∷◌, Ok, IfOk, IfErr, length};
 ghost use Rattle.ts_command.specs.Form.{HasForm};
 ghost use Rattle.ts_text.specs.Misfit.{Refuses};
-ghost use Rattle.ts_command.specs.Grammar.{a_call, a_command, arguments, command_of};
+ghost use Rattle.ts_command.specs.Grammar.{a_call, a_command, arguments, of_name, of_key, of_stamp, of_row, command_of};
 ghost use Rattle.ts_command.specs.Misfit.{IsCause};
 
-use crate::Command;
 use crate::call::{
-    read_key_call, read_key_name_call, read_key_stamp_call, read_key_stamp_values_call,
-    read_name_call, read_name_columns_call, read_names_whole_call,
+    read_key_call, read_key_name_call, read_key_range_call, read_key_stamp_call,
+    read_key_stamp_values_call, read_name_call, read_name_columns_call, read_names_whole_call,
 };
 use crate::phrase::read_routine;
-use crate::routine::Routine;
+use crate::routine::{KeyRoutine, NameRoutine, Routine, RowRoutine, StampRoutine};
+use crate::{Command, Literals};
 use std::alloc::Global;
-use ts_base::{Refusal, Trouble};
+use ts_base::{Key, Name, Refusal, Stamp, Trouble};
 use ts_text::{Misfit, read_end};
 
 // What a routine is called with, as its command.
@@ -24,41 +24,13 @@ fn read_arguments(alloc: Global, routine: Routine, bytes: &[u8]) -> Result<(Comm
 {
     match routine {
         Routine::CreateRowType => read_create_row_type(alloc, bytes),
-        Routine::DropRowType => {
-            let (name, rest) = read_name_call(alloc, bytes)?;
-            Ok((Command::DropRowType { name }, rest))
-        }
         Routine::TSContainerCreate => read_create_container(alloc, bytes),
-        Routine::TSContainerDestroy => {
-            let (name, rest) = read_name_call(alloc, bytes)?;
-            Ok((Command::TSContainerDestroy { name }, rest))
-        }
-        Routine::TSContainerUsage => {
-            let (name, rest) = read_name_call(alloc, bytes)?;
-            Ok((Command::TSContainerUsage { name }, rest))
-        }
         Routine::TSCreateIrr => read_create_series(alloc, bytes),
-        Routine::DropSeries => {
-            let (key, rest) = read_key_call(alloc, bytes)?;
-            Ok((Command::DropSeries { key }, rest))
-        }
-        Routine::ListSeries => {
-            let (container, rest) = read_name_call(alloc, bytes)?;
-            Ok((Command::ListSeries { container }, rest))
-        }
-        Routine::InsElem => read_insert(alloc, bytes),
-        Routine::UpdElem => read_update(alloc, bytes),
-        Routine::HideElem => read_hide(alloc, bytes),
-        Routine::RevealElem => read_reveal(alloc, bytes),
-        Routine::GetElem => read_get(alloc, bytes),
-        Routine::GetLastElem => {
-            let (key, rest) = read_key_call(alloc, bytes)?;
-            Ok((Command::GetLastElem { key }, rest))
-        }
-        Routine::GetNelems => {
-            let (key, rest) = read_key_call(alloc, bytes)?;
-            Ok((Command::GetNelems { key }, rest))
-        }
+        Routine::DelClip => read_delete_range(alloc, bytes),
+        Routine::ByName(routine) => read_of_name(alloc, routine, bytes),
+        Routine::ByKey(routine) => read_of_key(alloc, routine, bytes),
+        Routine::AtStamp(routine) => read_of_stamp(alloc, routine, bytes),
+        Routine::WithRow(routine) => read_of_row(alloc, routine, bytes),
     }
 }
 
@@ -102,63 +74,110 @@ fn read_create_series(alloc: Global, bytes: &[u8]) -> Result<(Command, &[u8]), M
     Ok((Command::TSCreateIrr { key, container }, rest))
 }
 
-// An element to be put in: its key, its stamp and its values.
+// The elements of a series from one stamp to another: its key and the two.
 #[tactic(auto, unfolding(crate::specs::Grammar::arguments))]
-fn read_insert(alloc: Global, bytes: &[u8]) -> Result<(Command, &[u8]), Misfit>
-    ensures ok { IfOk result (λ found. arguments Routine.InsElem bytes.now ≡ Ok (found.0, found.1.now)) }
-    ensures cause { IfErr result (λ misfit. Refuses misfit (arguments Routine.InsElem bytes.now)) }
+fn read_delete_range(alloc: Global, bytes: &[u8]) -> Result<(Command, &[u8]), Misfit>
+    ensures ok { IfOk result (λ found. arguments Routine.DelClip bytes.now ≡ Ok (found.0, found.1.now)) }
+    ensures cause { IfErr result (λ misfit. Refuses misfit (arguments Routine.DelClip bytes.now)) }
+{
+    match read_key_range_call(alloc, bytes) {
+        Ok(((key, from, to), rest)) => Ok((Command::DelClip { key, from, to }, rest)),
+        Err(misfit) => Err(misfit),
+    }
+}
+
+// The name that a routine is called with.
+#[tactic(auto, unfolding(crate::specs::Grammar::arguments))]
+fn read_of_name(
+    alloc: Global,
+    routine: NameRoutine,
+    bytes: &[u8],
+) -> Result<(Command, &[u8]), Misfit>
+    ensures ok { IfOk result (λ found. arguments (Routine.ByName routine) bytes.now ≡ Ok (found.0, found.1.now)) }
+    ensures cause { IfErr result (λ misfit. Refuses misfit (arguments (Routine.ByName routine) bytes.now)) }
+{
+    let (name, rest) = read_name_call(alloc, bytes)?;
+    Ok((of_name(routine, name), rest))
+}
+
+fn of_name(routine: NameRoutine, name: Name) -> Command
+    ensures { result ≡ of_name routine name }
+{
+    match routine {
+        NameRoutine::DropRowType => Command::DropRowType { name },
+        NameRoutine::TSContainerDestroy => Command::TSContainerDestroy { name },
+        NameRoutine::TSContainerUsage => Command::TSContainerUsage { name },
+        NameRoutine::ListSeries => Command::ListSeries { container: name },
+    }
+}
+
+// The key.
+#[tactic(auto, unfolding(crate::specs::Grammar::arguments))]
+fn read_of_key(alloc: Global, routine: KeyRoutine, bytes: &[u8]) -> Result<(Command, &[u8]), Misfit>
+    ensures ok { IfOk result (λ found. arguments (Routine.ByKey routine) bytes.now ≡ Ok (found.0, found.1.now)) }
+    ensures cause { IfErr result (λ misfit. Refuses misfit (arguments (Routine.ByKey routine) bytes.now)) }
+{
+    let (key, rest) = read_key_call(alloc, bytes)?;
+    Ok((of_key(routine, key), rest))
+}
+
+fn of_key(routine: KeyRoutine, key: Key) -> Command
+    ensures { result ≡ of_key routine key }
+{
+    match routine {
+        KeyRoutine::DropSeries => Command::DropSeries { key },
+        KeyRoutine::GetLastElem => Command::GetLastElem { key },
+        KeyRoutine::GetNelems => Command::GetNelems { key },
+    }
+}
+
+// The key and the stamp.
+#[tactic(auto, unfolding(crate::specs::Grammar::arguments))]
+fn read_of_stamp(
+    alloc: Global,
+    routine: StampRoutine,
+    bytes: &[u8],
+) -> Result<(Command, &[u8]), Misfit>
+    ensures ok { IfOk result (λ found. arguments (Routine.AtStamp routine) bytes.now ≡ Ok (found.0, found.1.now)) }
+    ensures cause { IfErr result (λ misfit. Refuses misfit (arguments (Routine.AtStamp routine) bytes.now)) }
+{
+    match read_key_stamp_call(alloc, bytes) {
+        Ok(((key, stamp), rest)) => Ok((of_stamp(routine, key, stamp), rest)),
+        Err(misfit) => Err(misfit),
+    }
+}
+
+fn of_stamp(routine: StampRoutine, key: Key, stamp: Stamp) -> Command
+    ensures { result ≡ of_stamp routine key stamp }
+{
+    match routine {
+        StampRoutine::DelElem => Command::DelElem { key, stamp },
+        StampRoutine::HideElem => Command::HideElem { key, stamp },
+        StampRoutine::RevealElem => Command::RevealElem { key, stamp },
+        StampRoutine::GetElem => Command::GetElem { key, stamp },
+    }
+}
+
+// The key, the stamp and the values.
+#[tactic(auto, unfolding(crate::specs::Grammar::arguments))]
+fn read_of_row(alloc: Global, routine: RowRoutine, bytes: &[u8]) -> Result<(Command, &[u8]), Misfit>
+    ensures ok { IfOk result (λ found. arguments (Routine.WithRow routine) bytes.now ≡ Ok (found.0, found.1.now)) }
+    ensures cause { IfErr result (λ misfit. Refuses misfit (arguments (Routine.WithRow routine) bytes.now)) }
 {
     match read_key_stamp_values_call(alloc, bytes) {
-        Ok(((key, stamp, values), rest)) => Ok((Command::InsElem { key, stamp, values }, rest)),
+        Ok(((key, stamp, values), rest)) => Ok((of_row(routine, key, stamp, values), rest)),
         Err(misfit) => Err(misfit),
     }
 }
 
-// The same of an element to be changed.
-#[tactic(auto, unfolding(crate::specs::Grammar::arguments))]
-fn read_update(alloc: Global, bytes: &[u8]) -> Result<(Command, &[u8]), Misfit>
-    ensures ok { IfOk result (λ found. arguments Routine.UpdElem bytes.now ≡ Ok (found.0, found.1.now)) }
-    ensures cause { IfErr result (λ misfit. Refuses misfit (arguments Routine.UpdElem bytes.now)) }
+fn of_row(routine: RowRoutine, key: Key, stamp: Stamp, values: Literals) -> Command
+    ensures { result ≡ of_row routine key stamp values }
 {
-    match read_key_stamp_values_call(alloc, bytes) {
-        Ok(((key, stamp, values), rest)) => Ok((Command::UpdElem { key, stamp, values }, rest)),
-        Err(misfit) => Err(misfit),
-    }
-}
-
-// An element to be hidden: its key and its stamp.
-#[tactic(auto, unfolding(crate::specs::Grammar::arguments))]
-fn read_hide(alloc: Global, bytes: &[u8]) -> Result<(Command, &[u8]), Misfit>
-    ensures ok { IfOk result (λ found. arguments Routine.HideElem bytes.now ≡ Ok (found.0, found.1.now)) }
-    ensures cause { IfErr result (λ misfit. Refuses misfit (arguments Routine.HideElem bytes.now)) }
-{
-    match read_key_stamp_call(alloc, bytes) {
-        Ok(((key, stamp), rest)) => Ok((Command::HideElem { key, stamp }, rest)),
-        Err(misfit) => Err(misfit),
-    }
-}
-
-// The same of an element to be revealed.
-#[tactic(auto, unfolding(crate::specs::Grammar::arguments))]
-fn read_reveal(alloc: Global, bytes: &[u8]) -> Result<(Command, &[u8]), Misfit>
-    ensures ok { IfOk result (λ found. arguments Routine.RevealElem bytes.now ≡ Ok (found.0, found.1.now)) }
-    ensures cause { IfErr result (λ misfit. Refuses misfit (arguments Routine.RevealElem bytes.now)) }
-{
-    match read_key_stamp_call(alloc, bytes) {
-        Ok(((key, stamp), rest)) => Ok((Command::RevealElem { key, stamp }, rest)),
-        Err(misfit) => Err(misfit),
-    }
-}
-
-// An element to be shown: its key and its stamp.
-#[tactic(auto, unfolding(crate::specs::Grammar::arguments))]
-fn read_get(alloc: Global, bytes: &[u8]) -> Result<(Command, &[u8]), Misfit>
-    ensures ok { IfOk result (λ found. arguments Routine.GetElem bytes.now ≡ Ok (found.0, found.1.now)) }
-    ensures cause { IfErr result (λ misfit. Refuses misfit (arguments Routine.GetElem bytes.now)) }
-{
-    match read_key_stamp_call(alloc, bytes) {
-        Ok(((key, stamp), rest)) => Ok((Command::GetElem { key, stamp }, rest)),
-        Err(misfit) => Err(misfit),
+    match routine {
+        RowRoutine::PutElem => Command::PutElem { key, stamp, values },
+        RowRoutine::PutElemNoDups => Command::PutElemNoDups { key, stamp, values },
+        RowRoutine::InsElem => Command::InsElem { key, stamp, values },
+        RowRoutine::UpdElem => Command::UpdElem { key, stamp, values },
     }
 }
 

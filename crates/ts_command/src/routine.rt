@@ -1,25 +1,144 @@
 // The routines that a statement may call, and the types of value columns, by their names.
 ghost use Rattle.std.specs.Prelude.{◌≡◌};
 ghost use Rattle.std.specs.Str.{bytes_eq};
-ghost use Rattle.ts_command.specs.Routines.{routine_of, type_spelling, type_of};
+ghost use Rattle.ts_command.specs.Routines.{spelling, name_spelling, key_spelling, stamp_spelling, row_spelling, routine_of, type_spelling, type_of};
 
+/// The routines, those together that are called with the same arguments.
 #[derive(Clone, Copy, Debug, PartialEq, Eq)]
 pub(crate) enum Routine {
     CreateRowType,
-    DropRowType,
     TSContainerCreate,
+    TSCreateIrr,
+    DelClip,
+    ByName(NameRoutine),
+    ByKey(KeyRoutine),
+    AtStamp(StampRoutine),
+    WithRow(RowRoutine),
+}
+
+/// Those that are called with a name.
+#[derive(Clone, Copy, Debug, PartialEq, Eq)]
+pub(crate) enum NameRoutine {
+    DropRowType,
     TSContainerDestroy,
     TSContainerUsage,
-    TSCreateIrr,
-    DropSeries,
     ListSeries,
-    InsElem,
-    UpdElem,
+}
+
+/// Those that are called with a key.
+#[derive(Clone, Copy, Debug, PartialEq, Eq)]
+pub(crate) enum KeyRoutine {
+    DropSeries,
+    GetLastElem,
+    GetNelems,
+}
+
+/// Those that are called with a key and a stamp.
+#[derive(Clone, Copy, Debug, PartialEq, Eq)]
+pub(crate) enum StampRoutine {
+    DelElem,
     HideElem,
     RevealElem,
     GetElem,
-    GetLastElem,
-    GetNelems,
+}
+
+/// Those that are called with a key, a stamp and the values of a row.
+#[derive(Clone, Copy, Debug, PartialEq, Eq)]
+pub(crate) enum RowRoutine {
+    PutElem,
+    PutElemNoDups,
+    InsElem,
+    UpdElem,
+}
+
+const ROUTINES: [Routine; 19] = [
+    Routine::WithRow(RowRoutine::PutElem),
+    Routine::WithRow(RowRoutine::InsElem),
+    Routine::WithRow(RowRoutine::UpdElem),
+    Routine::WithRow(RowRoutine::PutElemNoDups),
+    Routine::AtStamp(StampRoutine::GetElem),
+    Routine::AtStamp(StampRoutine::DelElem),
+    Routine::AtStamp(StampRoutine::HideElem),
+    Routine::AtStamp(StampRoutine::RevealElem),
+    Routine::DelClip,
+    Routine::ByKey(KeyRoutine::GetLastElem),
+    Routine::ByKey(KeyRoutine::GetNelems),
+    Routine::ByKey(KeyRoutine::DropSeries),
+    Routine::TSCreateIrr,
+    Routine::CreateRowType,
+    Routine::TSContainerCreate,
+    Routine::ByName(NameRoutine::DropRowType),
+    Routine::ByName(NameRoutine::TSContainerDestroy),
+    Routine::ByName(NameRoutine::TSContainerUsage),
+    Routine::ByName(NameRoutine::ListSeries),
+];
+
+impl Routine {
+    fn spelling(self) -> &'static [u8]
+        ensures { result.now ≡ spelling self }
+    {
+        match self {
+            Routine::CreateRowType => b"CreateRowType",
+            Routine::TSContainerCreate => b"TSContainerCreate",
+            Routine::TSCreateIrr => b"TSCreateIrr",
+            Routine::DelClip => b"DelClip",
+            Routine::ByName(routine) => routine.spelling(),
+            Routine::ByKey(routine) => routine.spelling(),
+            Routine::AtStamp(routine) => routine.spelling(),
+            Routine::WithRow(routine) => routine.spelling(),
+        }
+    }
+}
+
+impl NameRoutine {
+    fn spelling(self) -> &'static [u8]
+        ensures { result.now ≡ name_spelling self }
+    {
+        match self {
+            NameRoutine::DropRowType => b"DropRowType",
+            NameRoutine::TSContainerDestroy => b"TSContainerDestroy",
+            NameRoutine::TSContainerUsage => b"TSContainerUsage",
+            NameRoutine::ListSeries => b"ListSeries",
+        }
+    }
+}
+
+impl KeyRoutine {
+    fn spelling(self) -> &'static [u8]
+        ensures { result.now ≡ key_spelling self }
+    {
+        match self {
+            KeyRoutine::DropSeries => b"DropSeries",
+            KeyRoutine::GetLastElem => b"GetLastElem",
+            KeyRoutine::GetNelems => b"GetNelems",
+        }
+    }
+}
+
+impl StampRoutine {
+    fn spelling(self) -> &'static [u8]
+        ensures { result.now ≡ stamp_spelling self }
+    {
+        match self {
+            StampRoutine::DelElem => b"DelElem",
+            StampRoutine::HideElem => b"HideElem",
+            StampRoutine::RevealElem => b"RevealElem",
+            StampRoutine::GetElem => b"GetElem",
+        }
+    }
+}
+
+impl RowRoutine {
+    fn spelling(self) -> &'static [u8]
+        ensures { result.now ≡ row_spelling self }
+    {
+        match self {
+            RowRoutine::PutElem => b"PutElem",
+            RowRoutine::PutElemNoDups => b"PutElemNoDups",
+            RowRoutine::InsElem => b"InsElem",
+            RowRoutine::UpdElem => b"UpdElem",
+        }
+    }
 }
 
 /// Whether the two are the same bytes.
@@ -34,53 +153,10 @@ pub(crate) fn are_same(first: &[u8], second: &[u8]) -> bool
 pub(crate) fn routine_of(word: &[u8]) -> Option<Routine>
     ensures { result ≡ routine_of word.now }
 {
-    if are_same(word, b"InsElem") {
-        return Some(Routine::InsElem);
-    }
-    if are_same(word, b"GetElem") {
-        return Some(Routine::GetElem);
-    }
-    if are_same(word, b"GetNelems") {
-        return Some(Routine::GetNelems);
-    }
-    if are_same(word, b"UpdElem") {
-        return Some(Routine::UpdElem);
-    }
-    if are_same(word, b"GetLastElem") {
-        return Some(Routine::GetLastElem);
-    }
-    if are_same(word, b"CreateRowType") {
-        return Some(Routine::CreateRowType);
-    }
-    if are_same(word, b"DropRowType") {
-        return Some(Routine::DropRowType);
-    }
-    if are_same(word, b"TSContainerCreate") {
-        return Some(Routine::TSContainerCreate);
-    }
-    if are_same(word, b"TSContainerDestroy") {
-        return Some(Routine::TSContainerDestroy);
-    }
-    if are_same(word, b"TSContainerUsage") {
-        return Some(Routine::TSContainerUsage);
-    }
-    if are_same(word, b"TSCreateIrr") {
-        return Some(Routine::TSCreateIrr);
-    }
-    if are_same(word, b"DropSeries") {
-        return Some(Routine::DropSeries);
-    }
-    if are_same(word, b"ListSeries") {
-        return Some(Routine::ListSeries);
-    }
-    if are_same(word, b"HideElem") {
-        return Some(Routine::HideElem);
-    }
-    if are_same(word, b"RevealElem") {
-        Some(Routine::RevealElem)
-    } else {
-        None
-    }
+    ROUTINES
+        .iter()
+        .copied()
+        .find(|routine| are_same(routine.spelling(), word))
 }
 
 /// A type of value columns, without its numbers.

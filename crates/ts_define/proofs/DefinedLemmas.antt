@@ -11,7 +11,7 @@ use Rattle.ts_model.specs.Definitions.{SeriesDef, KindDef, of_series, at_slot, k
 use Rattle.ts_layout.specs.Limits.{IsDef}
 use Rattle.ts_layout.specs.Meaning.{Layout, IsSound, IsThere, catalogue_of, def_at, heading_in, sum_of_quotas, value_of}
 use Rattle.ts_layout.specs.Changed.{granted, CanMake, CanDrop, HasNoPage}
-use Rattle.ts_layout.specs.OnePage.{AreFilled}
+use Rattle.ts_layout.specs.Chains.{AreFilled}
 use Rattle.ts_layout.proofs.CallerLemmas.{made_sound, made_headings, made_kept, made_catalogue, dropped_sound, dropped_headings, dropped_kept, dropped_catalogue, at_slot-map, name_found, vacant_found}
 use Rattle.ts_answer.specs.Answer.{Answered}
 use Rattle.ts_answer.specs.Decided.{DefinesAs}

@@ -1,17 +1,18 @@
 -- A command that changes one slot of the definitions, on pages.
-use Rattle.std.proofs.Common.{◌≡◌, ℕ, ◌+◌, ◌-◌, ◌<◌, ◌≤◌, Bool, true, IsTrue, Option, Ok, List, All, length, refl, ap, sym, ◌∙◌, subst, arith}
+use Rattle.std.proofs.Common.{◌≡◌, ℕ, ◌+◌, ◌-◌, ◌<◌, ◌≤◌, Bool, true, IsTrue, Option, Ok, IsPermutation, List, length, refl, ap, sym, ◌∙◌, subst, arith}
 use Rattle.ts_command.specs.declared.command.Command.{Command}
 use Rattle.ts_page.specs.Pages.{Contents}
 use Rattle.ts_model.specs.declared.kind.Kind.{Kind}
 use Rattle.ts_model.specs.declared.def.Def.{Def}
 use Rattle.ts_model.specs.Definitions.{Definitions, limit, with_slot}
 use Rattle.ts_model.proofs.PartsLemmas.{format-stays}
-use Rattle.ts_space.specs.Directory.{Directory, used_of}
+use Rattle.ts_space.specs.Directory.{Directory}
 use Rattle.ts_layout.specs.Limits.{AreOfFormat}
 use Rattle.ts_layout.specs.Slot.{page_of_slot}
-use Rattle.ts_layout.specs.Meaning.{Layout, Free, element_page, HoldsLayout, IsSound}
+use Rattle.ts_layout.specs.Meaning.{Layout, HoldsLayout, IsSound}
 use Rattle.ts_layout.specs.Changed.{with_slot_bytes, layout_with, KeepsHeadings}
-use Rattle.ts_layout.specs.OnePage.{bare}
+use Rattle.ts_layout.specs.Chains.{bare}
+use Rattle.ts_layout.specs.Surveyed.{free_pages}
 use Rattle.ts_layout.specs.Placed.{AreKept}
 use Rattle.ts_layout.proofs.CallerLemmas.{layout_written, bare_sound, bare_filled, bare_size}
 use Rattle.ts_container.specs.Survey.{SlotWritten}
@@ -54,8 +55,7 @@ module _ (tells : Bool) (line : List ℕ) (kind : Kind) (slot : ℕ) (def : Opti
             definitions = ap (with_slot kind slot def) kept.definitions;
             size = written.count ∙ kept.size;
             places = kept.places;
-            listed = subst (λ (ns : List ℕ). All (λ number. element_page (number - 930) l.element_pages ≡ Free) ns) (sym written.free) kept.listed;
-            free = ap (λ (ns : List ℕ). length ns + used_of space) written.free ∙ kept.free;
+            free = subst (λ (ns : List ℕ). IsPermutation ns (free_pages l)) (sym written.free) kept.free;
             rules = defines.rules;
             filled = λ i s es is. let known = kept.filled i s es is in (known.0, defines.headings i s es is ∙ known.1, known.2, subst (λ (n : ℕ). AreOfFormat n es) (sym (format-stays kind slot def l.definitions)) known.3);
           };

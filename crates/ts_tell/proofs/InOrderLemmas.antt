@@ -21,7 +21,7 @@ use Rattle.ts_model.proofs.OrderLemmas.{total, same_name, eq_ties, ties-refl, ti
 use Rattle.ts_model.proofs.IndexLemmas.{empty-list}
 use Rattle.ts_layout.specs.Meaning.{Layout, IsSound, series_of, catalogue_of}
 use Rattle.ts_layout.specs.Surveyed.{ListsPlaces}
-use Rattle.ts_layout.specs.OnePage.{AreFilled}
+use Rattle.ts_layout.specs.Chains.{AreFilled}
 use Rattle.ts_layout.proofs.CallerLemmas.{one_of, own as own_def, container_found, container_of_series, len_counted}
 use Rattle.ts_answer.specs.Reply.{series_line}
 use Rattle.ts_tell.specs.Listed.{listed_if, listed_at}
@@ -177,7 +177,7 @@ module _ (l : Layout) (space : Directory) (name : List ℕ) (holder : ℕ) (rule
       let size = rules.definitions.tables.series.size in
       let below = within_table l.definitions.series e.1.0 e.1.1 stands.0 in
       let within : e.1.0 < 4096 = omega (arith, below, size) in
-      (λ i. (sym stands.1 i, sym (len_counted l space e.1.0 rules.one_page filled lists within) i))
+      (λ i. (sym stands.1 i, sym (len_counted l space e.1.0 rules filled lists within) i))
 
   one_listed : (e : List ℕ × (ℕ × SeriesDef)) (rest : List (List ℕ × Series)) (more : List (List ℕ × ℕ)) → Stands l.definitions.series e → more ≡ map told rest
       → listed_at l.definitions space holder e.1.0 ++ more ≡ map told (cond (stands_in (of_walk e)) (of_walk e ∷ rest) rest)

@@ -1,5 +1,5 @@
 -- What the routines that only read memory say.
-use Rattle.std.proofs.Common.{◌≡◌, ℕ, ◌<◌, ◌≤◌, Option, Some, List, [], ◌++◌, map, length, ap, sym, ◌∙◌}
+use Rattle.std.proofs.Common.{◌≡◌, ℕ, Option, Some, List, [], ◌++◌, map, length, ap, sym, ◌∙◌}
 use Rattle.std.specs.Option.{option_map, option_and_then, unwrap_or}
 use Rattle.std.specs.List.{flat_map}
 use Rattle.std.specs.FinMap.{len}
@@ -12,9 +12,8 @@ use Rattle.ts_model.specs.Catalogue.{Container, Series, series_in}
 use Rattle.ts_model.specs.Charge.{container_charge as charge_by_name}
 use Rattle.ts_model.specs.Definitions.{Definitions, RowTypeDef, ContainerDef, at_slot}
 use Rattle.ts_layout.specs.Meaning.{Layout, quota_in, heading_in, heading_of_container, catalogue_of}
-use Rattle.ts_layout.specs.Charges.{container_charge}
-use Rattle.ts_layout.specs.OnePage.{charge_in}
-use Rattle.ts_layout.proofs.CallerLemmas.{container_found, row_type_of_container, len_counted, counted, charge_same, charge_named}
+use Rattle.ts_layout.specs.Charges.{AreCountable, charge_in, container_charge}
+use Rattle.ts_layout.proofs.CallerLemmas.{container_found, row_type_of_container, len_counted, quotas_countable, charge_pages, charge_named}
 use Rattle.ts_answer.specs.Answer.{Answered}
 use Rattle.ts_answer.specs.Reading.{IsKept, SaysOnly}
 use Rattle.ts_answer.specs.Reply.{count_line, counts_line, series_line, series_text}
@@ -23,9 +22,9 @@ use Rattle.ts_answer.specs.View.{IsHeldOf}
 use Rattle.ts_tell.specs.Listed.{listed_in}
 use Rattle.ts_tell.proofs.InOrderLemmas.{listed_in_order}
 
--- each series has one place at most
-pub kept_few : (d : Definitions) (space : Directory) → IsKept d space → (slot : ℕ) → slot < 4096 → length (places_of slot space) ≤ 1
-kept_few d space kept slot within = kept.2.placed.few slot within
+-- the elements of each series can be counted
+pub kept_countable : (d : Definitions) (space : Directory) → IsKept d space → AreCountable space
+kept_countable d space kept = quotas_countable d space kept.1 kept.0 kept.2
 
 -- the same reply, of the catalogue that stays
 says : (l : Layout) (out text : List ℕ) → out ≡ text → SaysOnly out l tt (text, catalogue_of l)
@@ -36,7 +35,7 @@ module _ (d : Definitions) (space : Directory) (count : ℕ) (free : List ℕ) (
   -- the number of elements
   pub count_said : (key : List ℕ) (series : Series) (n : ℕ) → Stands kinds.Series key l slot series → n ≡ count_of (places_of slot space) → out ≡ old ++ count_line n → SaysOnly out l tt (count_line (len series.elements), catalogue_of l)
   count_said key series n there counts said =
-      let elements = ap (λ (s : Series). len s.elements) there.is.2 ∙ len_counted l space slot held.rules.one_page held.filled held.places there.at.within in
+      let elements = ap (λ (s : Series). len s.elements) there.is.2 ∙ len_counted l space slot held.rules held.filled held.places there.at.within in
       says l out (count_line (len series.elements)) (said ∙ (λ i. empty i ++ count_line ((counts ∙ sym elements) i)))
 
   charged : (c : ContainerDef) → at_slot slot l.definitions.containers ≡ Some c → charge_in l.definitions space slot ≡ charge_by_name c.name (catalogue_of l)
@@ -45,8 +44,8 @@ module _ (d : Definitions) (space : Directory) (count : ℕ) (free : List ℕ) (
       let heading : heading_of_container l.definitions c ≡ Some r.0.heading = ap (option_map (λ (x : RowTypeDef). x.heading)) r.1.there in
       let inside : heading_in l.definitions slot ≡ Some r.0.heading = ap (option_and_then (heading_of_container l.definitions)) there ∙ heading in
       ap (λ (o : Option Heading). unwrap_or (option_map (λ (h : Heading). container_charge l.definitions space slot (page_room h.columns)) o) 0) inside
-      ∙ charge_same l.definitions space l.element_pages slot (page_room r.0.heading.columns) held.rules.definitions.tables (λ s within. counted l space s held.places within)
-      ∙ sym (charge_named l (length l.element_pages) slot c r.0.heading held.rules.definitions held.rules.one_page held.filled there heading)
+      ∙ charge_pages l space slot (page_room r.0.heading.columns) held.rules.definitions.tables held.places
+      ∙ sym (charge_named l slot c r.0.heading held.rules held.filled there heading)
 
   -- what a container is charged, and its quota
   pub usage_said : (name : List ℕ) (container : Container) (charge quota : ℕ) → Stands kinds.Container name l slot container → charge ≡ charge_in d space slot → quota ≡ quota_in (at_slot slot d.containers) → out ≡ old ++ counts_line charge quota

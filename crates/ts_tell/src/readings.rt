@@ -1,11 +1,10 @@
 // The routines that only read memory. Each says the reply of its command, whatever pages there are.
-ghost use Rattle.std.specs.Prelude.{◌≡◌, ◌<◌, ◌≤◌, ℕ, [], ◌++◌, OnOk, IfOk, length};
+ghost use Rattle.std.specs.Prelude.{◌≡◌, ◌<◌, ◌≤◌, [], ◌++◌, OnOk, IfOk, length};
 ghost use Rattle.std.specs.List.{flat_map};
 ghost use Rattle.ts_command.specs.declared.command.Command.TheVariants.{GetNelems, ListSeries, TSContainerUsage};
-ghost use Rattle.ts_space.specs.Place.{count_of};
-ghost use Rattle.ts_space.specs.Directory.{places_of};
 ghost use Rattle.ts_model.specs.Definitions.{at_slot, series_slots, container_slots};
 ghost use Rattle.ts_layout.specs.Meaning.{quota_in};
+ghost use Rattle.ts_layout.specs.Charges.{AreCountable};
 ghost use Rattle.ts_container.specs.KeptCharges.{AreCharges};
 ghost use Rattle.ts_answer.specs.Reply.{series_line};
 ghost use Rattle.ts_answer.specs.Reading.{IsKept, IsSaid};
@@ -26,7 +25,7 @@ pub fn count_elements(defs: &Defs, space: &Space, key: &Key, out: &mut Reply) ->
     ensures { IsSaid (GetNelems key.now) result out.new defs.now.definitions space.now }
 {
     let slot = series_named(defs, key)?;
-    say_count(out, count_in(space, slot))?;
+    say_count(out, space.count(slot))?;
     Ok(())
 }
 
@@ -84,7 +83,7 @@ fn say_listed(
     container: u16,
     out: &mut Reply,
 ) -> Result<u64, AllocError>
-    requires few { (slot : ℕ) → slot < series_slots → length (places_of slot space.now) ≤ 1 }
+    requires { AreCountable space.now }
     ensures said { OnOk result (out.new ≡ out.old ++ flat_map series_line (listed_in defs.now.definitions space.now container)) }
     ensures count { IfOk result (λ n. n ≡ length (listed_in defs.now.definitions space.now container)) }
 {
@@ -104,7 +103,7 @@ fn say_if_listed(
     out: &mut Reply,
 ) -> Result<u64, AllocError>
     requires slot { slot < series_slots }
-    requires few { length (places_of slot space.now) ≤ 1 }
+    requires countable { AreCountable space.now }
     ensures said { OnOk result (out.new ≡ out.old ++ flat_map series_line (listed_at defs.now.definitions space.now container slot)) }
     ensures count { IfOk result (λ n. n ≡ length (listed_at defs.now.definitions space.now container slot)) }
     ensures one { IfOk result (λ n. n ≤ 1) }
@@ -116,21 +115,9 @@ fn say_if_listed(
                 container: own,
             },
         ) if *own as u16 == container => {
-            say_series(out, key.as_slice(), count_in(space, slot))?;
+            say_series(out, key.as_slice(), space.count(slot))?;
             Ok(1)
         }
         _ => Ok(0),
-    }
-}
-
-// How many elements the series in a slot has, by the directory.
-fn count_in(space: &Space, slot: u16) -> u64
-    requires slot { slot < series_slots }
-    requires few { length (places_of slot space.now) ≤ 1 }
-    ensures { result ≡ count_of (places_of slot space.now) }
-{
-    match space.places(slot) {
-        [place] => place.count as u64,
-        _ => 0,
     }
 }

@@ -10,6 +10,7 @@ type Row = (&'static str, &'static [u8], &'static [u8], Rest);
 enum Rest {
     Nothing,
     Stamp(i64),
+    Stamps(i64, i64),
     Values(i64, &'static [Value]),
     Quota(i64),
     Columns(&'static [(&'static [u8], ColumnKind)]),
@@ -40,8 +41,12 @@ fn routine_of(command: &Command) -> &'static str {
         Command::TSCreateIrr { .. } => "TSCreateIrr",
         Command::DropSeries { .. } => "DropSeries",
         Command::ListSeries { .. } => "ListSeries",
+        Command::PutElem { .. } => "PutElem",
+        Command::PutElemNoDups { .. } => "PutElemNoDups",
         Command::InsElem { .. } => "InsElem",
         Command::UpdElem { .. } => "UpdElem",
+        Command::DelElem { .. } => "DelElem",
+        Command::DelClip { .. } => "DelClip",
         Command::HideElem { .. } => "HideElem",
         Command::RevealElem { .. } => "RevealElem",
         Command::GetElem { .. } => "GetElem",
@@ -60,8 +65,12 @@ fn first_of(command: &Command) -> &[u8] {
         Command::TSCreateIrr { key, .. } => key.as_slice(),
         Command::DropSeries { key } => key.as_slice(),
         Command::ListSeries { container } => container.as_slice(),
+        Command::PutElem { key, .. } => key.as_slice(),
+        Command::PutElemNoDups { key, .. } => key.as_slice(),
         Command::InsElem { key, .. } => key.as_slice(),
         Command::UpdElem { key, .. } => key.as_slice(),
+        Command::DelElem { key, .. } => key.as_slice(),
+        Command::DelClip { key, .. } => key.as_slice(),
         Command::HideElem { key, .. } => key.as_slice(),
         Command::RevealElem { key, .. } => key.as_slice(),
         Command::GetElem { key, .. } => key.as_slice(),
@@ -84,14 +93,28 @@ fn is_rest(command: &Command, rest: Rest) -> bool {
         (Command::HideElem { stamp, .. }, Rest::Stamp(units)) => stamp.units() == units,
         (Command::RevealElem { stamp, .. }, Rest::Stamp(units)) => stamp.units() == units,
         (Command::GetElem { stamp, .. }, Rest::Stamp(units)) => stamp.units() == units,
-        (Command::InsElem { stamp, values, .. }, Rest::Values(units, wanted)) => {
-            stamp.units() == units && are_values(values.as_slice(), wanted)
+        (Command::DelElem { stamp, .. }, Rest::Stamp(units)) => stamp.units() == units,
+        (Command::DelClip { from, to, .. }, Rest::Stamps(first, last)) => {
+            from.units() == first && to.units() == last
         }
+        (_, Rest::Values(units, wanted)) => has_values(command, units, wanted),
         (Command::TSContainerCreate { quota, .. }, Rest::Quota(wanted)) => *quota == wanted,
         (Command::CreateRowType { columns, .. }, Rest::Columns(wanted)) => {
             are_columns(columns.as_slice(), wanted)
         }
         (_, Rest::Nothing) => true,
+        _ => false,
+    }
+}
+
+fn has_values(command: &Command, units: i64, wanted: &[Value]) -> bool {
+    match command {
+        Command::PutElem { stamp, values, .. }
+        | Command::PutElemNoDups { stamp, values, .. }
+        | Command::InsElem { stamp, values, .. }
+        | Command::UpdElem { stamp, values, .. } => {
+            stamp.units() == units && are_values(values.as_slice(), wanted)
+        }
         _ => false,
     }
 }
@@ -128,7 +151,7 @@ fn is_read(alloc: Global, text: &[u8], row: Row) -> bool {
 }
 
 /// Statements, and the commands that they are.
-static STATEMENTS: [(&[u8], Row); 17] = [
+static STATEMENTS: [(&[u8], Row); 23] = [
     (
         b"CreateRowType(rd, t datetime, v integer);",
         (
@@ -181,6 +204,30 @@ static STATEMENTS: [(&[u8], Row); 17] = [
     (
         b" \n InsElem\t('x' ,'1970-01-01 00:00:00.00001', null,-0,007,-1.50,'', 'a''')\r\n;",
         ("InsElem", b"x", b"", Rest::Values(1, &SEVERAL)),
+    ),
+    (
+        b"PutElem('x','1970-01-01 00:00:00.00001',null,-0,007,-1.50,'','a''');",
+        ("PutElem", b"x", b"", Rest::Values(1, &SEVERAL)),
+    ),
+    (
+        b"PutElemNoDups('x' , '1970-01-01 00:00:00');",
+        ("PutElemNoDups", b"x", b"", Rest::Values(0, &[])),
+    ),
+    (
+        b"UpdElem('x','1970-01-01 00:00:00',null);",
+        ("UpdElem", b"x", b"", Rest::Values(0, &[Value::Null])),
+    ),
+    (
+        b"DelElem('it''s','1970-01-01 00:00:00.00001');",
+        ("DelElem", b"it's", b"", Rest::Stamp(1)),
+    ),
+    (
+        b"DelClip('x','1970-01-01 00:00:00','1969-12-31 23:59:59.99999');",
+        ("DelClip", b"x", b"", Rest::Stamps(0, -1)),
+    ),
+    (
+        b"GetLastElem('x');",
+        ("GetLastElem", b"x", b"", Rest::Nothing),
     ),
     (
         b"HideElem('x', '1970-01-01 00:00:00');",

@@ -12,7 +12,7 @@ fn place(alloc: Global, text: &[u8]) -> Option<u32> {
 }
 
 /// Statements, and the places where they are refused.
-static STATEMENTS: [(&[u8], u32); 54] = [
+static STATEMENTS: [(&[u8], u32); 61] = [
     (b"", 0),
     (b" ;", 1),
     (b"#;", 0),
@@ -58,6 +58,20 @@ static STATEMENTS: [(&[u8], u32); 54] = [
     (b"InsElem('x','2011-02-28 00:00:00',);", 34),
     (b"InsElem('x','2011-02-28 00:00:00' 1);", 34),
     (b"InsElem('x','2011-02-28 00:00:00',1,", 36),
+    (b"PutElem('x');", 11),
+    (b"PutElem('x','2011-02-28 00:00:00',x);", 34),
+    (b"PutElemNoDup('x','2011-02-28 00:00:00',1);", 0),
+    (b"PutElemNoDups('x','2011-02-28 00:00:00' 1);", 40),
+    (b"DelElem('x','2011-02-28 00:00:00',1);", 33),
+    (b"DelClip('x','2011-02-28 00:00:00');", 33),
+    (
+        b"DelClip('x','2011-02-28 00:00:00','2011-02-29 00:00:00');",
+        34,
+    ),
+    (
+        b" DelClip('x','2011-02-28 00:00:00','2011-03-01 00:00:00',1);",
+        56,
+    ),
     (b"GetElem('x');", 11),
     (b"GetElem(x,'2011-02-28 00:00:00');", 8),
     (b"GetElem('x','2011-02-28 00:00:00',1);", 33),
@@ -66,10 +80,6 @@ static STATEMENTS: [(&[u8], u32); 54] = [
     (b"RevealElem('x');", 14),
     // The shapes of calls that come next, each by a routine that isn't built yet.
     (b"CreatePattern(p,'{1 on},day');", 0),
-    (
-        b" DelClip('x','2011-02-28 00:00:00','2011-03-01 00:00:00');",
-        1,
-    ),
     (b"GetNthElem('x',0);", 0),
 ];
 

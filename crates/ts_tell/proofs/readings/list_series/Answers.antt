@@ -1,10 +1,10 @@
 use Rattle.ts_answer.specs.Answer.{outcome, carried_out, list_series}
 use Rattle.ts_answer.proofs.CallerLemmas.{defined_by, goes, stops, comes}
-use Rattle.ts_tell.proofs.SaidLemmas.{kept_few, list_said}
+use Rattle.ts_tell.proofs.SaidLemmas.{kept_countable, list_said}
 use Rattle.ts_tell.proofs.readings.list_series.Goals as goal
 
 pub say_listed-requires : goal.say_listed-requires
-say_listed-requires c = record { few = kept_few c.args.defs.now.definitions c.args.space.now c.requires.kept }
+say_listed-requires c = kept_countable c.args.defs.now.definitions c.args.space.now c.requires.kept
 
 pub returns-in_err-slot : goal.returns-in_err-slot
 unfolding outcome carried_out list_series
