@@ -1,5 +1,6 @@
--- Elements with a visible row more: where none was hidden none is.
-use Rattle.std.proofs.Common.{◌≡◌, ℤ, Bool, true, false, ◌||◌, List, [], ◌∷◌, refl}
+-- Elements of which none is hidden, with a visible row more, or with some of them gone.
+use Rattle.std.proofs.Common.{◌≡◌, ℤ, Bool, true, false, ◌||◌, List, [], ◌∷◌, filter, refl}
+use Rattle.std.specs.Prelude.{if◌then◌else◌}
 use Rattle.std.specs.Ordering.{int_cmp}
 use Rattle.std.specs.declared.cmp.Ordering.{Ordering}
 use Rattle.std.specs.declared.cmp.Ordering.TheVariants.{Less, Equal, Greater}
@@ -26,3 +27,14 @@ with_visible stamp row (e ∷ es) none new =
     let parts = neither e.1.hidden (has_hidden es) none in
     by_order_visible (int_cmp stamp e.0) ((stamp, row) ∷ e ∷ es) ((e.0, row) ∷ es) (e ∷ with_element stamp row es)
     (none_of row.hidden (has_hidden (e ∷ es)) new none) (none_of row.hidden (has_hidden es) new parts.1) (none_of e.1.hidden (has_hidden (with_element stamp row es)) parts.0 (with_visible stamp row es parts.1 new))
+
+-- the elements that a test keeps
+kept_visible : (b : Bool) (e : Element) (left : List Element) → e.1.hidden ≡ false → has_hidden left ≡ false → has_hidden (if b then e ∷ left else left) ≡ false
+kept_visible true e left one others = none_of e.1.hidden (has_hidden left) one others
+kept_visible false e left one others = others
+
+pub left_visible : (f : Element → Bool) (es : List Element) → has_hidden es ≡ false → has_hidden (filter f es) ≡ false
+left_visible f [] none = refl
+left_visible f (e ∷ es) none =
+    let parts = neither e.1.hidden (has_hidden es) none in
+    kept_visible (f e) e (filter f es) parts.0 (left_visible f es parts.1)

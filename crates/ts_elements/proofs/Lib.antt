@@ -1,11 +1,11 @@
-pub mod ChangeLemmas
+pub mod BudgetLemmas
 pub mod EditLemmas
-pub mod ElementLemmas
 pub mod FormatLemmas
-pub mod FreeLemmas
-pub mod LastLemmas
+pub mod MarkLemmas
 pub mod MemoryLemmas
 pub mod PutLemmas
+pub mod RemovalLemmas
+pub mod RewriteLemmas
 pub mod RowLemmas
 pub mod SeenLemmas
 pub mod SeriesDropLemmas

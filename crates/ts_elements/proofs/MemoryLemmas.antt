@@ -1,59 +1,55 @@
--- What is kept in memory of a series, whatever the pages hold, and what an edit and a drop leave of it.
-use Rattle.std.proofs.Common.{◌≡◌, ◌≢◌, ℕ, ◌+◌, ◌-◌, ◌<◌, ◌≤◌, ◌==◌, if◌then◌else◌, Bool, ℤ, Option, Some, None, IsSome, List, [], ◌∷◌, length, get_or, set, get_or-set_same, get_or-set_other, Ok, inl, inr, ◌⊎◌, refl, ap, sym, ◌∙◌, subst, arith}
+-- What is kept in memory of a series, whatever the pages hold.
+use Rattle.std.proofs.Common.{◌≡◌, ℕ, zero, suc, ◌+◌, ◌-◌, ◌^◌, ◌<◌, ◌≤◌, Option, Some, None, IsSome, All, List, [], ◌∷◌, length, sum_by, get_or, set, get_or-set_same, get_or-set_other, refl, ap, sym, ◌∙◌, subst, arith}
 use Rattle.std.specs.Option.{option_map, unwrap_or}
-use Rattle.std.proofs.lemmas.List.Elements.{All-head}
+use Rattle.std.proofs.lemmas.List.Sums.{sum_by-cons}
 use Rattle.ts_page.specs.Pages.{Contents}
+use Rattle.ts_row.specs.declared.kind.Column.{Column}
 use Rattle.ts_row.specs.RowType.{Heading}
 use Rattle.ts_space.specs.declared.place.Place.{Place}
 use Rattle.ts_space.specs.Place.{count_of}
 use Rattle.ts_space.specs.Directory.{Directory, places_of}
 use Rattle.ts_space.specs.Charge.{irregular_charge}
+use Rattle.ts_space.proofs.ChargeLemmas.{charge_grows}
 use Rattle.ts_cells.specs.Cell.{page_room}
-use Rattle.ts_irregular.specs.OnePage.{HasOnePage}
-use Rattle.ts_irregular.specs.Call.{IsOneMore}
+use Rattle.ts_irregular.specs.OnePage.{IsPlace}
+use Rattle.ts_chain.specs.Places.{ArePlaces, AreMoved, CanBeRead}
+use Rattle.ts_series.specs.Edit.{charge_with_one}
 use Rattle.ts_model.specs.declared.kind.Kind.TheVariants as kinds
 use Rattle.ts_model.specs.declared.def.Def.{Def}
-use Rattle.ts_model.specs.Definitions.{Definitions, ContainerDef, SeriesDef, of_container, at_slot, with_slot}
+use Rattle.ts_model.specs.Definitions.{ContainerDef, SeriesDef, of_container, of_series, at_slot}
 use Rattle.ts_layout.specs.Limits.{IsSlotOf}
 use Rattle.ts_layout.specs.Meaning.{Layout, IsSound, def_at, heading_in, heading_at, heading_of_container}
 use Rattle.ts_layout.specs.Charges.{container_charge}
-use Rattle.ts_layout.specs.OnePage.{bare}
-use Rattle.ts_layout.specs.Placed.{IsElementNumber, ArePlaced, AreKept}
-use Rattle.ts_layout.proofs.CallerLemmas.{one_of, chained, series_at, at_slot-map, bare_sound, placed_kept, placed_taken, quotas_put, edited_kept, series_dropped_kept, spare_left}
-use Rattle.ts_container.specs.Survey.{SlotWritten}
-use Rattle.ts_answer.specs.declared.effect.Effect.TheVariants.{Pages, Places, Series}
+use Rattle.ts_layout.specs.Chains.{bare}
+use Rattle.ts_layout.proofs.CallerLemmas.{one_of, chained, series_limit, at_slot-map, bare_sound, charge_own, room_some, quotas_countable, places_edited, places_kept, kept_alike}
 use Rattle.ts_answer.specs.Slots.{IsSlotNamed}
 use Rattle.ts_answer.specs.View.{View, KeepsRules}
-use Rattle.ts_answer.specs.CarriedOut.{view_after, moved}
-use Rattle.ts_elements.specs.Elements.{AreFew, HasRoomFor}
-use Rattle.ts_elements.specs.SeriesDropped.{AreFreed, CanFree}
-use Rattle.ts_elements.proofs.ElementLemmas.{SeriesIn, series_in_slot, charge_few, charge_first, charge_edit}
+use Rattle.ts_elements.specs.Elements.{AreFew, IsSeries}
+use Rattle.ts_elements.specs.Room.{IsBudget}
+use Rattle.ts_elements.proofs.SeenLemmas.{SeriesIn, series_in_slot}
 
 -- a layout without elements that has the definitions
 abbrev pub bare_of : View → Layout
 bare_of x = bare (x.pages.count - 930) x.definitions
 
--- the places after an edit of one series that has one element more
-edit_placed : (d : Definitions) (space space' : Directory) (count slot : ℕ) (h : Heading) (ps : List Place) (new : Place) (v w : Contents) → ArePlaced d space v.free count → slot < 4096 → heading_at d slot ≡ Some h → space'.lists ≡ set space.lists slot (new ∷ []) → places_of slot space ≡ ps
-    → IsOneMore ps new v w → 1 ≤ new.count → new.count ≤ page_room h.columns → ArePlaced d space' w.free count
-edit_placed d space space' count slot h [] new v w placed within columns lists was more some room =
-    let first = All-head (IsElementNumber count) new.page w.free (subst (λ (ns : List ℕ). (k d : ℕ) → k < length ns → IsElementNumber count (get_or ns k d)) more.0 placed.numbers) in
-    placed_taken d space space' v.free w.free count slot placed within (new ∷ []) lists new was refl
-    (record { element = first.0; below = first.1; some = some; heading = h; columns = columns; room = room }) more.0
-edit_placed d space space' count slot h (p ∷ []) new v w placed within columns lists was more some room =
-    let before = placed.places slot p within was in
-    let number = more.1 in
-    placed_kept d space space' v.free w.free count slot placed within (new ∷ []) lists p new was refl number
-    (record { element = omega (arith, before.element, number); below = omega (arith, before.below, number); some = some; heading = h; columns = columns; room = room }) more.0
-edit_placed d space space' count slot h (p ∷ q ∷ ps) new v w placed within columns lists was more some room =
-    absurd (let few = placed.few slot within in let many = ap (λ (qs : List Place). length qs) was in omega (arith, few, many))
+-- the directory in which a series has these places
+abbrev pub with_places : ℕ → List Place → Directory → Directory
+with_places slot places space = record space { lists = set space.lists slot places }
 
--- the page of a series is freed, or it has none
-freed_either : (tells : Bool) (ps : List Place) (space : Directory) (slot : ℕ) (v between : Contents) (free : List ℕ) → places_of slot space ≡ ps → AreFreed tells ps v between → free ≡ between.free
-    → ((p : Place) × (places_of slot space ≡ p ∷ []) × (free ≡ p.page ∷ v.free)) ⊎ ((places_of slot space ≡ []) × (free ≡ v.free))
-freed_either tells [] space slot v between free was gone same = inr (was, same ∙ ap (λ (c : Contents). c.free) gone)
-freed_either tells (p ∷ []) space slot v between free was gone same = inl (p, was, same ∙ gone.listed)
-freed_either tells (p ∷ q ∷ ps) space slot v between free was gone same = absurd gone
+-- no list of a directory is longer than all together
+one_list_fits : (lists : List (List Place)) (slot : ℕ) → length (get_or lists slot []) ≤ sum_by (λ ps. length ps) lists
+one_list_fits [] slot = omega arith
+one_list_fits (ps ∷ lists) zero =
+    let first = sum_by-cons (λ (ps : List Place). length ps) ps lists in
+    omega (arith, first)
+one_list_fits (ps ∷ lists) (suc slot) =
+    let first = sum_by-cons (λ (ps : List Place). length ps) ps lists in
+    let rest = one_list_fits lists slot in
+    omega (arith, first, rest)
+
+-- all places of it can be read
+pub readable : (columns : List Column) (c : Contents) (places : List Place) → ArePlaces columns c places → All (CanBeRead c) places
+readable columns c places are k d within = let one : IsPlace columns c (get_or places k d) = are.each k d within in record { element = one.element; below = one.below }
 
 module _ (x : View) (kept : KeepsRules x) where
   bare_rules : IsSound (bare_of x)
@@ -76,14 +72,19 @@ module _ (x : View) (kept : KeepsRules x) where
   pub few_kept : AreFew x.definitions x.space
   few_kept slot within = few_in slot within (heading_in x.definitions slot) refl
 
-  module _ (slot : ℕ) (within : slot < 4096) where
-    -- the page of a series can be freed
-    pub can_free : CanFree slot x.space x.pages
-    can_free = record {
-      few = kept.placed.few slot within;
-      page = λ p is. let one = kept.placed.places slot p within is in (one.element, one.below, kept.placed.used slot p within is);
-    }
+  -- a series has no more places than there are pages
+  pub few_places : (slot : ℕ) → length (places_of slot x.space) ≤ 65536
+  few_places slot =
+      let few = one_list_fits x.space.lists slot in
+      let all = kept.placed.all in
+      let most = kept.most in
+      omega (arith, few, all, most)
 
+  -- so few elements that they can be counted
+  pub countable_kept : (slot : ℕ) → slot < 4096 → count_of (places_of slot x.space) < 2 ^ 32
+  countable_kept = quotas_countable x.definitions x.space x.pages.free x.pages.count kept
+
+  module _ (slot : ℕ) (within : slot < 4096) where
     -- a series that is found has columns
     pub series_kept : (key : List ℕ) → IsSlotNamed kinds.Series slot key x.definitions → SeriesIn (bare_of x) key slot
     series_kept key named = series_in_slot (bare_of x) key slot bare_rules named
@@ -92,77 +93,59 @@ module _ (x : View) (kept : KeepsRules x) where
     defined_kept key named = subst (λ (o : Option Heading). IsSome o) (sym (series_kept key named).columns) refl
 
     module _ (h : Heading) (columns : heading_at x.definitions slot ≡ Some h) where
-      one_of_list : (ps : List Place) → places_of slot x.space ≡ ps → HasOnePage h.columns x.pages ps
-      one_of_list [] is = tt
-      one_of_list (p ∷ []) is =
-          let one = kept.placed.places slot p within is in
-          record {
-            element = one.element;
-            below = one.below;
-            used = kept.placed.used slot p within is;
-            some = one.some;
-            room = subst (λ (y : Heading). p.count ≤ page_room y.columns) (one_of (heading_at x.definitions slot) one.heading h one.columns columns) one.room;
-          }
-      one_of_list (p ∷ q ∷ ps) is = absurd (let few = kept.placed.few slot within in let many = ap (λ (qs : List Place). length qs) is in omega (arith, few, many))
+      -- its places are such as an edit asks for
+      pub places_seen : ArePlaces h.columns x.pages (places_of slot x.space)
+      places_seen = places_edited x.definitions x.space x.pages slot h kept.placed within columns
 
-      pub one_page_kept : HasOnePage h.columns x.pages (places_of slot x.space)
-      one_page_kept = one_of_list (places_of slot x.space) refl
+      -- its container is charged its quota at most
+      container_within : (s : SeriesDef) (c : ContainerDef) → IsSeries slot s c h x.definitions → s.container < 64
+      container_within s c is =
+          series_limit x.definitions kept.sound.limits slot within s.key s.container (at_slot-map of_series slot x.definitions.series ∙ ap (option_map of_series) is.there)
 
-      -- a slot that has columns has a series
-      series_there : (key : List ℕ) × SeriesIn (bare_of x) key slot
-      series_there =
-          let s = chained (λ (y : SeriesDef). heading_in x.definitions y.container) (at_slot slot x.definitions.series) h columns in
-          (s.0.key, series_kept s.0.key (record { within = within; is = (series_at (bare_of x) slot s.0 bare_rules s.1).named }))
+      pub paid_in : (s : SeriesDef) (c : ContainerDef) → IsSeries slot s c h x.definitions → container_charge x.definitions x.space s.container (page_room h.columns) ≤ c.quota
+      paid_in s c is = kept.quotas s.container (container_within s c is) c h is.container is.heading
 
-      pub room_kept : HasRoomFor slot x.definitions x.space → count_of (places_of slot x.space) < page_room h.columns
-      room_kept room =
-          let on = series_there.1 in
-          let is : on.h ≡ h = one_of (heading_at x.definitions slot) on.h h on.columns columns in
-          subst (λ (y : Heading). count_of (places_of slot x.space) < page_room y.columns) is (room.page on.s on.c on.h on.is)
+      module _ (s : SeriesDef) (c : ContainerDef) (is : IsSeries slot s c h x.definitions) (new : List Place) where
+        abbrev q : ℕ
+        q = page_room h.columns
 
-      -- a page is free for its first element
-      pub page_kept : HasRoomFor slot x.definitions x.space → places_of slot x.space ≡ [] → 0 < length x.pages.free
-      page_kept room none =
-          let on = series_there.1 in
-          let q = page_room on.h.columns in
-          let below = room.page on.s on.c on.h on.is in
-          let quota = room.quota on.s on.c on.h on.is in
-          let one = charge_few q 1 (omega arith) (omega (arith, below)) in
-          let paid : container_charge x.definitions x.space on.s.container q + irregular_charge q 1 ≤ on.c.quota =
-          subst (λ (n : ℕ). container_charge x.definitions x.space on.s.container q + n ≤ on.c.quota) (sym one) (subst (λ (ps : List Place). container_charge x.definitions x.space on.s.container q + (if count_of ps == 0 then 1 else 0) ≤ on.c.quota) none quota) in
-          spare_left x.definitions x.space x.pages.free x.pages.count slot on.s on.c on.h kept on.is.there on.is.container on.is.heading none paid
+        room : 0 < q
+        room = room_some x.definitions kept.sound.limits s.container c h (container_within s c is) is.container is.heading
 
-  -- a series that has one element more, for which there is room, keeps the rules
-  pub edit_kept : (key : List ℕ) (slot : ℕ) → IsSlotNamed kinds.Series slot key x.definitions → (h : Heading) → heading_at x.definitions slot ≡ Some h → HasRoomFor slot x.definitions x.space → (old : Option ℤ) (new : Place) → ((place : Place) → moved old (Some place) (places_of slot x.space) ≡ place ∷ [])
-      → 1 ≤ new.count → new.count ≤ page_room h.columns → (w : Contents) → w.count ≡ x.pages.count → IsOneMore (places_of slot x.space) new x.pages w → KeepsRules (view_after (Places slot old (Some new)) x w)
-  edit_kept key slot named h columns room old new puts some fits w count more =
-      let within = named.within in
-      let lists : List (List Place) = set x.space.lists slot (moved old (Some new) (places_of slot x.space)) in
-      let space' : Directory = record x.space { lists = lists } in
-      let one : lists ≡ set x.space.lists slot (new ∷ []) = ap (set x.space.lists slot) (puts new) in
-      let slots = kept.placed.slots in
-      let own : places_of slot space' ≡ new ∷ [] = ap (λ (ls : List (List Place)). get_or ls slot []) one ∙ get_or-set_same x.space.lists slot (new ∷ []) [] (omega (arith, within, slots)) in
-      let others : (t : ℕ) → t < 4096 → t ≢ slot → places_of t space' ≡ places_of t x.space = λ t low other. get_or-set_other x.space.lists slot t (moved old (Some new) (places_of slot x.space)) [] other in
-      let on = series_kept slot within key named in
-      let heads : h ≡ on.h = one_of (heading_at x.definitions slot) h on.h columns on.columns in
-      let fits_in : new.count ≤ page_room on.h.columns = subst (λ (y : Heading). new.count ≤ page_room y.columns) heads fits in
-      let q = page_room on.h.columns in
-      let placed = edit_placed x.definitions x.space space' x.pages.count slot h (places_of slot x.space) new x.pages w kept.placed within columns one refl more some fits in
-      let edited = charge_edit x.definitions x.space space' slot new on.s q kept.sound.tables on.is.there others own some fits_in in
-      let below = room.page on.s on.c on.h on.is in
-      let before = charge_first q (count_of (places_of slot x.space)) (omega (arith, below)) (omega (arith, below)) in
-      let quota = room.quota on.s on.c on.h on.is in
-      let paid : container_charge x.definitions space' on.s.container q ≤ on.c.quota = omega (arith, edited, before, quota) in
-      let quotas = quotas_put x.definitions x.space space' (x.pages.count - 930) slot on.s on.c on.h kept.sound kept.quotas on.is.there on.is.container on.is.heading others paid in
-      subst (λ (n : ℕ). AreKept x.definitions space' w.free n) (sym count) (edited_kept x.definitions x.space space' x.pages.free w.free x.pages.count slot kept placed quotas)
+        slots : length x.space.lists ≡ 4096
+        slots = kept.placed.slots
 
-  -- and so does one of which pages alone change
-  pub pages_kept : (w : Contents) → w.count ≡ x.pages.count → w.free ≡ x.pages.free → KeepsRules (view_after Pages x w)
-  pages_kept w count free = subst (λ (n : ℕ). AreKept x.definitions x.space w.free n) (sym count) (subst (λ (ns : List ℕ). AreKept x.definitions x.space ns x.pages.count) (sym free) kept)
+        now : places_of slot (with_places slot new x.space) ≡ new
+        now = get_or-set_same x.space.lists slot new [] (omega (arith, within, slots))
 
-  -- a series that goes keeps the rules
-  pub drop_kept : (tells : Bool) (slot : ℕ) → slot < 4096 → (between w : Contents) → AreFreed tells (places_of slot x.space) x.pages between → SlotWritten tells kinds.Series slot None (Ok tt) between w → w.count ≡ x.pages.count → KeepsRules (view_after (Series slot) x w)
-  drop_kept tells slot within between w gone emptied count =
-      let space' : Directory = record x.space { lists = set x.space.lists slot [] } in
-      subst (λ (n : ℕ). AreKept (with_slot kinds.Series slot None x.definitions) space' w.free n) (sym count)
-      (series_dropped_kept x.definitions x.space space' x.pages.free w.free x.pages.count slot kept within refl (freed_either tells (places_of slot x.space) x.space slot x.pages between w.free refl gone emptied.free))
+        paid : container_charge x.definitions x.space s.container q ≤ c.quota
+        paid = paid_in s c is
+
+        changes : container_charge x.definitions (with_places slot new x.space) s.container q + irregular_charge q (count_of (places_of slot x.space)) ≡ container_charge x.definitions x.space s.container q + irregular_charge q (count_of new)
+        changes =
+            charge_own x.definitions x.space (with_places slot new x.space) slot s q kept.sound.tables is.there (λ t below other. get_or-set_other x.space.lists slot t new [] other)
+            ∙ ap (λ (ps : List Place). container_charge x.definitions x.space s.container q + irregular_charge q (count_of ps)) now
+
+        -- with no more elements it is charged no more
+        pub pays_less : count_of new ≤ count_of (places_of slot x.space) → container_charge x.definitions (with_places slot new x.space) s.container q ≤ c.quota
+        pays_less fewer = let less = charge_grows q (count_of new) (count_of (places_of slot x.space)) room fewer in omega (arith, changes, less, paid)
+
+        -- with one more it is charged what there is room for
+        pub pays_more : (others quota pages : ℕ) → IsBudget slot s c h x.definitions x.space others quota → others + pages ≤ quota → charge_with_one h.columns (places_of slot x.space) ≤ pages → count_of new ≤ count_of (places_of slot x.space) + 1
+            → container_charge x.definitions (with_places slot new x.space) s.container q ≤ c.quota
+        pays_more others quota pages budget left fits more =
+            let grows = charge_grows q (count_of new) (count_of (places_of slot x.space) + 1) room more in
+            let all = budget.all in
+            let same = budget.quota_is in
+            omega (arith, changes, grows, all, same, left, fits)
+
+      -- the rules are kept where its places change and its container is charged its quota at most
+      pub rules_after : (key : List ℕ) → IsSlotNamed kinds.Series slot key x.definitions → (new : List Place) (w : Contents) → AreMoved h.columns (places_of slot x.space) new x.pages w → w.count ≡ x.pages.count
+          → ((s : SeriesDef) (c : ContainerDef) → IsSeries slot s c h x.definitions → container_charge x.definitions (with_places slot new x.space) s.container (page_room h.columns) ≤ c.quota)
+          → KeepsRules (record { definitions = x.definitions; space = with_places slot new x.space; pages = w })
+      rules_after key named new w moved count pays =
+          let on = series_kept key named in
+          let heads : on.h ≡ h = one_of (heading_at x.definitions slot) on.h h on.columns columns in
+          let is : IsSeries slot on.s on.c h x.definitions = subst (λ (y : Heading). IsSeries slot on.s on.c y x.definitions) heads on.is in
+          let after = places_kept x.definitions x.space (with_places slot new x.space) x.pages.count slot on.s on.c h new x.pages w kept within is.there is.container is.heading refl moved (pays on.s on.c is) in
+          kept_alike x.definitions x.definitions (with_places slot new x.space) (with_places slot new x.space) w.free w.free x.pages.count w.count after refl refl refl count

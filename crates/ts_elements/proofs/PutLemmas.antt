@@ -1,188 +1,177 @@
--- An element that is put, on pages.
-use Rattle.std.proofs.Common.{◌≡◌, ℕ, ◌+◌, ◌<◌, ◌≤◌, Bool, true, false, IsTrue, ℤ, Option, Some, Ok, Err, List, [], ◌∷◌, length, set, get_or-set_same, length-set, refl, ap, sym, ◌∙◌, subst, arith}
+-- An edit at a stamp, carried out on pages.
+use Rattle.std.proofs.Common.{◌≡◌, ℕ, ◌+◌, ◌-◌, ◌<◌, ◌≤◌, min, Bool, true, IsTrue, ℤ, Ok, Err, List, [], length, refl, ap, sym, ◌∙◌, subst, arith}
+use Rattle.std.proofs.lemmas.List.{set-get_or}
 use Rattle.ts_base.specs.declared.refusal.Refusal.{Refusal}
 use Rattle.ts_base.specs.declared.refusal.Refusal.TheVariants as refusals
-use Rattle.ts_command.specs.declared.command.Command.{Command}
-use Rattle.ts_command.specs.declared.command.Command.TheVariants.{InsElem}
 use Rattle.ts_page.specs.Pages.{Contents, IsLawful}
 use Rattle.ts_row.specs.declared.value.Literal.{Literal}
 use Rattle.ts_row.specs.RowType.{Heading}
 use Rattle.ts_row.specs.Row.{Row}
-use Rattle.ts_space.specs.declared.place.Place.{Place}
-use Rattle.ts_space.specs.Place.{count_of}
-use Rattle.ts_space.specs.Directory.{Directory, places_of}
+use Rattle.ts_row.specs.Element.{Element}
+use Rattle.ts_space.specs.declared.moved.Moved.{Moved}
+use Rattle.ts_space.specs.Moved.{moved_to}
+use Rattle.ts_space.specs.Directory.{places_of}
 use Rattle.ts_cells.specs.Cell.{page_room}
 use Rattle.ts_irregular.specs.Edit.{with_element}
-use Rattle.ts_irregular.specs.OnePage.{HasOnePage}
-use Rattle.ts_irregular.specs.Call.{Reads, ArePut, IsPutNew, IsThereAlready}
-use Rattle.ts_model.specs.declared.format.TheConstants.{OLD_FORMAT}
-use Rattle.ts_model.specs.Catalogue.{Catalogue}
-use Rattle.ts_model.specs.Definitions.{Definitions}
-use Rattle.ts_layout.specs.Meaning.{Layout, Cells, heading_at, elements_of, series_of, catalogue_of}
+use Rattle.ts_irregular.specs.Call.{ArePagesSame}
+use Rattle.ts_chain.specs.Chain.{all_in}
+use Rattle.ts_chain.proofs.OrderLemmas.{pages_in_order}
+use Rattle.ts_series.specs.declared.edits.EditKind.{EditKind}
+use Rattle.ts_series.specs.declared.edits.EditKind.TheVariants as kinds
+use Rattle.ts_series.specs.Edit.{charge_with_one, IsAdded, IsGivenRow, IsRefused, IsFull, GrowsWithin, most_edit}
+use Rattle.ts_model.specs.Definitions.{Definitions, ContainerDef, SeriesDef}
+use Rattle.ts_layout.specs.Meaning.{Layout, heading_at, catalogue_of}
 use Rattle.ts_layout.specs.Charges.{container_charge}
-use Rattle.ts_layout.proofs.CallerLemmas.{one_of, free_counted}
-use Rattle.ts_answer.specs.declared.effect.Effect.{Effect}
-use Rattle.ts_answer.specs.declared.effect.Effect.TheVariants.{Places}
+use Rattle.ts_layout.specs.Chains.{IsChainOf}
+use Rattle.ts_layout.specs.Held.{IsHeldOf}
+use Rattle.ts_layout.proofs.CallerLemmas.{one_of, quotas_room}
+use Rattle.ts_answer.specs.declared.effect.Effect.TheVariants.{Pages, Places}
 use Rattle.ts_answer.specs.declared.stop.Stop.TheVariants as stops
-use Rattle.ts_answer.specs.Answer.{a_row, outcome, with_element as with_element_of}
+use Rattle.ts_answer.specs.Answer.{outcome}
 use Rattle.ts_answer.specs.Commands.{is_writing}
 use Rattle.ts_answer.specs.Reply.{stamp_line}
-use Rattle.ts_answer.specs.View.{View, IsViewOf, Shows, KeepsRules}
-use Rattle.ts_answer.specs.CarriedOut.{CarriedOut, CanApply, Comes, is_nothing, definitions_after, lists_after, view_after, moved}
-use Rattle.ts_answer.proofs.CallerLemmas.{held_same, refuses_still, stopped}
-use Rattle.ts_elements.specs.Elements.{IsShelf, HasRow, HasRoomFor, HasNoRoom, IsThere}
-use Rattle.ts_elements.proofs.SeenLemmas.{series_seen, columns_seen}
-use Rattle.ts_elements.proofs.LastLemmas.{told_of, one_there, none_there}
-use Rattle.ts_elements.proofs.ElementLemmas.{SeriesIn, GoesOn, ChangesList, goes_on, with_some, more_free, more_counts, pays_more, put_layout, put_places, put_filled, put_rules, put_holds, put_catalogue}
-use Rattle.ts_elements.proofs.MemoryLemmas.{edit_kept}
+use Rattle.ts_answer.specs.View.{View, Shows, KeepsRules}
+use Rattle.ts_answer.specs.CarriedOut.{CarriedOut}
+use Rattle.ts_answer.proofs.CallerLemmas.{refuses_still, stopped}
+use Rattle.ts_elements.specs.Elements.{HasRow, IsSeries, edit_of}
+use Rattle.ts_elements.specs.Room.{IsBudget}
+use Rattle.ts_elements.proofs.SeenLemmas.{SeriesIn, series_seen, columns_seen, chain_seen}
+use Rattle.ts_elements.proofs.MemoryLemmas.{paid_in, pays_less, pays_more}
+use Rattle.ts_elements.proofs.RewriteLemmas.{Becomes, stays_moved, rewritten_carried}
 use Rattle.ts_elements.proofs.RowLemmas.{row_visible}
-use Rattle.ts_elements.proofs.EditLemmas.{insert_taken, insert_full, insert_done}
-use Rattle.ts_elements.proofs.FreeLemmas.{free_in, all_free}
+use Rattle.ts_elements.proofs.FormatLemmas.{with_visible}
+use Rattle.ts_elements.proofs.EditLemmas.{charge_added, kept_there, edit_done, edit_refused, edit_full}
 
--- a row is put at a stamp among the elements of a layout, and the answer is the stamp
-pub record PutsRow (tells : Bool) (command : Command) (key : List ℕ) (slot : ℕ) (stamp : ℤ) (h : Heading) (old new : List Place) (v w : Contents) (l : Layout) : Type 0 where
-  pub row : Row
-  pub put : ArePut tells slot h.columns old (with_element stamp row (elements_of slot l.element_pages)) new v w
-  pub mark : l.definitions.format ≡ OLD_FORMAT → row.hidden ≡ false
-  pub says : (on : SeriesIn l key slot) → outcome (Ok command) (catalogue_of l) ≡ Ok (stamp_line stamp, with_element_of key (series_of l slot on.s) stamp row (catalogue_of l))
+-- each edit writes
+writes_edit : (how : EditKind) (key : List ℕ) (stamp : ℤ) (literals : List Literal) → is_writing (edit_of how key stamp literals) ≡ true
+writes_edit kinds.Put key stamp literals = refl
+writes_edit kinds.PutNoDups key stamp literals = refl
+writes_edit kinds.Insert key stamp literals = refl
+writes_edit kinds.Update key stamp literals = refl
 
--- a row is put at a stamp of a series, by a command that answers its stamp
-module _ (tells : Bool) (command : Command) (key : List ℕ) (slot : ℕ) (stamp : ℤ) (h : Heading) (x : View) (shelf : IsShelf slot h key x.definitions) (lawful : IsLawful tells x.pages) (slots : length x.space.lists ≡ 4096) (with : Directory) (changes : ChangesList slot x.space with)
-    (w : Contents) (count : w.count ≡ x.pages.count) (puts : IsTrue tells → (l : Layout) → Shows tells x l → PutsRow tells command key slot stamp h (places_of slot x.space) (places_of slot with) x.pages w l)
-    (pays : (l : Layout) → Shows tells x l → (on : SeriesIn l key slot) → on.h ≡ h → container_charge l.definitions with on.s.container (page_room on.h.columns) ≤ on.c.quota) where
-  module _ (told : IsTrue tells) (l : Layout) (shows : Shows tells x l) where
-    on : SeriesIn l key slot
-    on = series_seen x l shows.kept slot key shelf.named
+-- A series with a row for it; what the other series of its container are charged, the quota, and how many pages there are for it.
+module _ (tells : Bool) (how : EditKind) (key : List ℕ) (literals : List Literal) (slot : ℕ) (stamp : ℤ) (h : Heading) (row : Row) (x : View) (has : HasRow key literals slot h row x.definitions) (kept : KeepsRules x) (others quota room : ℕ)
+    (budget : (s : SeriesDef) (c : ContainerDef) (y : Heading) → IsSeries slot s c y x.definitions → IsBudget slot s c y x.definitions x.space others quota) (within_quota : others ≤ quota)
+    (room_is : room ≡ min (quota - others) (length x.pages.free + length (places_of slot x.space))) where
+  within : slot < 4096
+  within = has.shelf.named.within
 
+  left : others + room ≤ quota
+  left = omega (arith, room_is, within_quota)
+
+  module _ (told : IsTrue tells) (l : Layout) (shows : Shows tells x l) (on : SeriesIn l key slot) where
     heads : on.h ≡ h
-    heads = one_of (heading_at x.definitions slot) on.h h (columns_seen x l shows.kept slot key on) shelf.columns
+    heads = one_of (heading_at x.definitions slot) on.h h (columns_seen x l shows.kept slot key on) has.shelf.columns
 
-    abbrev row : Row
-    row = (puts told l shows).row
+    in_layout : IsSeries slot on.s on.c h l.definitions
+    in_layout = subst (λ (y : Heading). IsSeries slot on.s on.c y l.definitions) heads on.is
 
-    put_in : ArePut tells slot on.h.columns (places_of slot x.space) (with_element stamp row (elements_of slot l.element_pages)) (places_of slot with) x.pages w
-    put_in = subst (λ (y : Heading). ArePut tells slot y.columns (places_of slot x.space) (with_element stamp row (elements_of slot l.element_pages)) (places_of slot with) x.pages w) (sym heads) (puts told l shows).put
+    in_memory : IsSeries slot on.s on.c h x.definitions
+    in_memory = subst (λ (d : Definitions). IsSeries slot on.s on.c h d) (sym shows.kept.definitions) in_layout
 
-    goes : GoesOn tells l slot on.h.columns (with_element stamp row (elements_of slot l.element_pages)) (places_of slot with) x.pages w
-    goes =
-        let kept = shows.kept in
-        goes_on tells l x.space slot on.h.columns (with_element stamp row (elements_of slot l.element_pages)) (places_of slot with) x.pages w kept.rules kept.filled kept.places shelf.named.within
-        lawful.different (free_in tells x l kept lawful.listed slots) (with_some stamp row (elements_of slot l.element_pages)) (places_of slot x.space) refl put_in.kept
+    budget_in : IsBudget slot on.s on.c h l.definitions x.space others quota
+    budget_in = subst (λ (d : Definitions). IsBudget slot on.s on.c h d x.space others quota) shows.kept.definitions (budget on.s on.c h in_memory)
 
-    paid : container_charge l.definitions with on.s.container (page_room on.h.columns) ≤ on.c.quota
-    paid = pays l shows on heads
+    paid : container_charge l.definitions x.space on.s.container (page_room h.columns) ≤ on.c.quota
+    paid = subst (λ (d : Definitions). container_charge d x.space on.s.container (page_room h.columns) ≤ on.c.quota) shows.kept.definitions (paid_in x kept slot within h has.shelf.columns on.s on.c in_memory)
 
-    abbrev layout : Layout
-    layout = put_layout tells l x.space with key slot stamp row x.pages w shows.kept.rules shows.kept.filled shows.kept.places shelf.named.within on paid changes put_in (puts told l shows).mark goes
+    -- what the pages are told of is all that the quota leaves
+    all_left : room ≡ quota - others
+    all_left =
+        let same = budget_in.quota_is in
+        let all = budget_in.all in
+        let more = quotas_room l x.space x.pages.free x.pages.count slot (quota - others) on.s on.c h (subst (λ (d : Definitions). IsHeldOf d x.space x.pages.count x.pages.free l) shows.kept.definitions shows.kept) kept.placed.slots within
+        in_layout.there in_layout.container in_layout.heading (omega (arith, same, all, within_quota)) in
+        omega (arith, room_is, more)
 
-    put_view : IsViewOf (record { definitions = x.definitions; space = with; pages = w }) layout
-    put_view =
-        let kept = shows.kept in
-        let places = put_places tells l x.space with key slot stamp row x.pages w kept.rules kept.filled kept.places shelf.named.within on paid changes put_in (puts told l shows).mark goes in
-        let filled = put_filled tells l x.space with key slot stamp row x.pages w kept.rules kept.filled kept.places shelf.named.within on paid changes put_in (puts told l shows).mark goes in
-        let rules = put_rules tells l x.space with key slot stamp row x.pages w kept.rules kept.filled kept.places shelf.named.within on paid changes put_in (puts told l shows).mark goes in
-        let size = length-set l.element_pages goes.i (Cells slot (with_element stamp row (elements_of slot l.element_pages))) in
-        let counted = free_counted layout with rules.definitions.tables filled places (ap (λ (ls : List (List Place)). length ls) changes ∙ length-set x.space.lists slot (places_of slot with) ∙ slots) in
-        let spare = goes.free.count in
-        record {
-          definitions = kept.definitions;
-          size = count ∙ kept.size ∙ ap (λ (n : ℕ). 930 + n) (sym size);
-          places = places;
-          listed = all_free w.free layout.element_pages goes.free.each;
-          free = omega (arith, counted, spare);
-          rules = rules;
-          filled = filled;
-        }
+  -- an element is added
+  module _ (at : ℤ) (moved : Moved) (w : Contents) (added : IsAdded tells slot h.columns how stamp row room at (places_of slot x.space) (moved_to moved (places_of slot x.space)) x.pages w) where
+    becomes_added : IsTrue tells → (l : Layout) → Shows tells x l → (chain : List (List Element)) → IsChainOf slot h.columns x.pages.page (places_of slot x.space) l chain
+        → Becomes tells (edit_of how key stamp literals) key slot h (moved_to moved (places_of slot x.space)) (stamp_line at) x w l
+    becomes_added told l shows chain of = record {
+      elements = with_element at row (all_in chain);
+      written = added.put told chain of.on of.is;
+      of_format = λ old. with_visible at row (all_in chain) (of.of_format old) (row_visible h.columns literals row has.gives);
+      says = λ on.
+          let kept_in = shows.kept in
+          let budget_now = budget_in told l shows on in
+          let order = pages_in_order h.columns chain of.is.pages in
+          let charge = charge_added l x.space key slot h row (all_in chain) kept_in.rules kept_in.filled kept_in.places within on (in_layout told l shows on) of.elements order at others quota budget_now (added.absent told chain of.on of.is) in
+          let most = budget_now.quota_is in
+          let fits = added.fits in
+          edit_done l x.space key slot h row (all_in chain) kept_in.rules kept_in.filled kept_in.places within on (in_layout told l shows on) of.elements order (paid told l shows on) how stamp literals has.gives at
+          (added.target_is told chain of.on of.is) (omega (arith, charge, most, fits, left));
+    }
 
-    comes_with : (effect : Effect) → definitions_after effect x.definitions ≡ x.definitions → lists_after effect x.space.lists ≡ with.lists → Comes tells command effect (stamp_line stamp) x w l
-    unfolding put_view
-    comes_with effect definitions lists =
-        let kept = shows.kept in
-        record {
-          layout = layout;
-          shows = record {
-            kept = held_same x.definitions (definitions_after effect x.definitions) with (record x.space { lists = lists_after effect x.space.lists }) w.count w.count w.free w.free layout put_view definitions lists refl refl;
-            holds = λ again. put_holds tells l x.space with key slot stamp row x.pages w kept.rules kept.filled kept.places shelf.named.within on paid changes put_in (puts told l shows).mark goes told (shows.holds told);
-          };
-          comes = λ again.
-              (puts told l shows).says on
-              ∙ ap (λ (cat : Catalogue). Ok (stamp_line stamp, cat))
-              (sym (put_catalogue tells l x.space with key slot stamp row x.pages w kept.rules kept.filled kept.places shelf.named.within on paid changes put_in (puts told l shows).mark goes));
-        }
+    pub added_carried : IsLawful tells w → w.count ≡ x.pages.count → w.faults ≡ x.pages.faults → w.change_bytes ≤ x.pages.change_bytes + most_edit → GrowsWithin most_edit x.pages w → (out : List ℕ) → out ≡ stamp_line at
+        → CarriedOut tells (edit_of how key stamp literals) (Ok (Places slot moved)) out x w
+    added_carried lawful count no_fault bytes grows out said =
+        rewritten_carried tells (edit_of how key stamp literals) key slot h (moved_to moved (places_of slot x.space)) (stamp_line at) x w
+        (record {
+          shelf = has.shelf;
+          moved = added.places;
+          pays = λ s c is. pays_more x kept slot within h has.shelf.columns s c is (moved_to moved (places_of slot x.space)) others quota room (budget s c h is) left added.fits added.count;
+          told = becomes_added;
+        }) kept lawful count (Places slot moved) refl refl within refl (writes_edit how key stamp literals) no_fault (omega (arith, bytes)) grows out said
 
-  pub put_carried : (effect : Effect) → definitions_after effect x.definitions ≡ x.definitions → lists_after effect x.space.lists ≡ with.lists → CanApply effect x.definitions → is_nothing effect ≡ false → (KeepsRules x → KeepsRules (view_after effect x w))
-      → is_writing command ≡ true → w.faults ≡ x.pages.faults → w.change_bytes ≤ x.pages.change_bytes + 4101 → length x.pages.free ≤ length w.free + 1 → (out : List ℕ) → out ≡ stamp_line stamp → CarriedOut tells command (Ok effect) out x w
-  put_carried effect definitions lists applies some keeps writes no_fault bytes free out said = record {
-    keeps = keeps;
-    done = λ told l shows. subst (λ (text : List ℕ). Comes tells command effect text x w l) (sym said) (comes_with told l shows effect definitions lists);
-    applies = applies;
-    reads = λ reads. absurd (cc);
-    stays = λ none. absurd (cc);
-    stopped = tt;
-    count = count;
-    bytes = omega (arith, bytes);
-    grows = omega (arith, bytes, free);
-    no_fault = no_fault;
-  }
+  -- the element at the stamp gets the row
+  module _ (w : Contents) (given : IsGivenRow tells slot h.columns how stamp row (places_of slot x.space) x.pages w) where
+    becomes_given : IsTrue tells → (l : Layout) → Shows tells x l → (chain : List (List Element)) → IsChainOf slot h.columns x.pages.page (places_of slot x.space) l chain
+        → Becomes tells (edit_of how key stamp literals) key slot h (places_of slot x.space) (stamp_line stamp) x w l
+    becomes_given told l shows chain of = record {
+      elements = with_element stamp row (all_in chain);
+      written = given.put told chain of.on of.is;
+      of_format = λ old. with_visible stamp row (all_in chain) (of.of_format old) (row_visible h.columns literals row has.gives);
+      says = λ on.
+          let kept_in = shows.kept in
+          let order = pages_in_order h.columns chain of.is.pages in
+          edit_done l x.space key slot h row (all_in chain) kept_in.rules kept_in.filled kept_in.places within on (in_layout told l shows on) of.elements order (paid told l shows on) how stamp literals has.gives stamp
+          (given.target_is told chain of.on of.is)
+          (kept_there l x.space key slot h row (all_in chain) kept_in.rules kept_in.filled kept_in.places within on (in_layout told l shows on) of.elements order (paid told l shows on) stamp (given.there told chain of.on of.is));
+    }
 
--- pages were looked at, and the command is refused
-pub looked_carried : {T : Type 0} (tells : Bool) (command : Command) (x : View) (w : Contents) (t : T) → Reads tells (Ok t) x.pages w → (refusal : Refusal) → (IsTrue tells → (l : Layout) → Shows tells x l → outcome (Ok command) (catalogue_of l) ≡ Err refusal)
-    → (out : List ℕ) → CarriedOut tells command (Err (stops.Refused refusal)) out x w
-looked_carried tells command x w t reads refusal refused out =
-    let bytes = reads.change_bytes in
-    stopped tells command out x (Err (stops.Refused refusal)) (stops.Refused refusal) w refl
-    (refuses_still tells command out x refusal w (record { free = reads.free; pages = reads.pages }) (omega (arith, bytes)) (reads.call.no_fault (λ failed. cc)) refused) reads.call.count (omega (arith, bytes))
+    pub given_carried : IsLawful tells w → w.count ≡ x.pages.count → w.faults ≡ x.pages.faults → w.change_bytes ≤ x.pages.change_bytes + most_edit → GrowsWithin most_edit x.pages w → (out : List ℕ) → out ≡ stamp_line stamp
+        → CarriedOut tells (edit_of how key stamp literals) (Ok Pages) out x w
+    given_carried lawful count no_fault bytes grows out said =
+        rewritten_carried tells (edit_of how key stamp literals) key slot h (places_of slot x.space) (stamp_line stamp) x w
+        (record {
+          shelf = has.shelf;
+          moved = stays_moved slot h x w kept within has.shelf.columns given.free;
+          pays = λ s c is. pays_less x kept slot within h has.shelf.columns s c is (places_of slot x.space) (omega arith);
+          told = becomes_given;
+        }) kept lawful count Pages refl (sym (set-get_or x.space.lists slot [])) tt refl (writes_edit how key stamp literals) no_fault (omega (arith, bytes)) grows out said
 
--- the row is one for the series, and is inserted
-module _ (tells : Bool) (key : List ℕ) (literals : List Literal) (slot : ℕ) (stamp : ℤ) (h : Heading) (row : Row) (x : View) (has : HasRow key literals slot h row x.definitions) where
-  pub gives : (l : Layout) (kept : IsViewOf x l) (on : SeriesIn l key slot) → a_row on.h.columns literals ≡ Ok row
-  gives l kept on =
-      let heads = one_of (heading_at x.definitions slot) on.h h (columns_seen x l kept slot key on) has.shelf.columns in
-      ap (λ (y : Heading). a_row y.columns literals) heads ∙ has.gives
+  -- it is refused, and everything stays
+  module _ (w : Contents) (count : w.count ≡ x.pages.count) (no_fault : w.faults ≡ x.pages.faults) (bytes : w.change_bytes ≤ x.pages.change_bytes + most_edit) (out : List ℕ) where
+    refused_with : (refusal : Refusal) → ArePagesSame tells x.pages w → (IsTrue tells → (l : Layout) → Shows tells x l → outcome (Ok (edit_of how key stamp literals)) (catalogue_of l) ≡ Err refusal)
+        → CarriedOut tells (edit_of how key stamp literals) (Err (stops.Refused refusal)) out x w
+    refused_with refusal same why =
+        stopped tells (edit_of how key stamp literals) out x (Err (stops.Refused refusal)) (stops.Refused refusal) w refl
+        (refuses_still tells (edit_of how key stamp literals) out x refusal w (record { free = same.free; pages = same.pages }) bytes no_fault why) count bytes
 
-  -- an element is there
-  pub refused_taken : IsThere tells slot stamp true x → IsTrue tells → (l : Layout) → Shows tells x l → outcome (Ok (InsElem key stamp literals)) (catalogue_of l) ≡ Err refusals.Duplicate
-  refused_taken there told l shows =
-      let on = series_seen x l shows.kept slot key has.shelf.named in
-      insert_taken l x.space key slot stamp literals shows.kept.rules on row (gives l shows.kept on) (there told l shows)
+    pub refused_carried : (refusal : Refusal) → IsRefused tells slot h.columns how stamp refusal (places_of slot x.space) x.pages w → CarriedOut tells (edit_of how key stamp literals) (Err (stops.Refused refusal)) out x w
+    refused_carried refusal refused = refused_with refusal refused.same (λ told l shows.
+        let on = series_seen x l shows.kept slot key has.shelf.named in
+        let kept_in = shows.kept in
+        let chained = chain_seen tells x l slot h told shows has.shelf.columns within in
+        let of = chained.1 in
+        edit_refused l x.space key slot h row (all_in chained.0) kept_in.rules kept_in.filled kept_in.places within on (in_layout told l shows on) of.elements (pages_in_order h.columns chained.0 of.is.pages) (paid told l shows on) how stamp literals has.gives
+        refusal (refused.why told chained.0 of.on of.is))
 
-  -- there is no room
-  pub refused_full : (refusal : Refusal) → IsThere tells slot stamp false x → HasNoRoom slot x.definitions x.space refusal → IsTrue tells → (l : Layout) → Shows tells x l → outcome (Ok (InsElem key stamp literals)) (catalogue_of l) ≡ Err refusal
-  refused_full refusal absent full told l shows =
-      let on = series_seen x l shows.kept slot key has.shelf.named in
-      insert_full l x.space key slot stamp literals shows.kept.rules on row (gives l shows.kept on) shows.kept.filled shows.kept.places has.shelf.named.within (absent told l shows) refusal
-      (subst (λ (d : Definitions). HasNoRoom slot d x.space refusal) shows.kept.definitions full)
-
-  -- the row is put
-  pub insert_carried : HasOnePage h.columns x.pages (places_of slot x.space) → HasRoomFor slot x.definitions x.space → IsLawful tells x.pages → length x.space.lists ≡ 4096 → (w : Contents) → w.count ≡ x.pages.count → w.faults ≡ x.pages.faults → w.change_bytes ≤ x.pages.change_bytes + 4101
-      → (old : Option ℤ) (new : Place) → ((place : Place) → moved old (Some place) (places_of slot x.space) ≡ place ∷ []) → count_of (places_of slot x.space) < page_room h.columns → IsPutNew tells slot h.columns stamp row (places_of slot x.space) new x.pages w
-      → (out : List ℕ) → out ≡ stamp_line stamp → CarriedOut tells (InsElem key stamp literals) (Ok (Places slot old (Some new))) out x w
-  insert_carried one room lawful slots w count no_fault bytes old new puts below put out said =
-      let within = has.shelf.named.within in
-      let with : Directory = record x.space { lists = set x.space.lists slot (new ∷ []) } in
-      let own : places_of slot with ≡ new ∷ [] = get_or-set_same x.space.lists slot (new ∷ []) [] (omega (arith, within, slots)) in
-      let changes : ChangesList slot x.space with = ap (set x.space.lists slot) (sym own) in
-      let counts = more_counts h.columns (places_of slot x.space) new x.pages x.pages w one below put.more in
-      let room_in : (l : Layout) → IsViewOf x l → HasRoomFor slot l.definitions x.space = λ l kept. subst (λ (d : Definitions). HasRoomFor slot d x.space) kept.definitions room in
-      let absent : IsThere tells slot stamp false x = none_there tells x slot stamp h has.shelf.columns within put.absent in
-      put_carried tells (InsElem key stamp literals) key slot stamp h x has.shelf lawful slots with changes w count
-      (λ told l shows. record {
-        row = row;
-        put = subst (λ (ps : List Place). ArePut tells slot h.columns (places_of slot x.space) (with_element stamp row (elements_of slot l.element_pages)) ps x.pages w) (sym own)
-            (told_of tells x slot h (λ es. ArePut tells slot h.columns (places_of slot x.space) (with_element stamp row es) (new ∷ []) x.pages w) has.shelf.columns within put.put told l shows);
-        mark = λ old. row_visible h.columns literals row has.gives;
-        says = λ on. insert_done l x.space key slot stamp literals shows.kept.rules on row (gives l shows.kept on) shows.kept.filled shows.kept.places within (absent told l shows) (room_in l shows.kept);
-      })
-      (λ l shows on heads.
-      pays_more l x.space key slot shows.kept.rules shows.kept.places on with new changes own counts.0 (subst (λ (y : Heading). new.count ≤ page_room y.columns) (sym heads) counts.1) (room_in l shows.kept))
-      (Places slot old (Some new)) refl (ap (set x.space.lists slot) (puts new)) within refl
-      (λ kept. edit_kept x kept key slot has.shelf.named h has.shelf.columns room old new puts counts.0 counts.1 w count put.more)
-      refl no_fault bytes (more_free (places_of slot x.space) new x.pages w put.more) out said
-
-  -- an element is there already
-  pub there_carried : (w : Contents) → w.count ≡ x.pages.count → w.faults ≡ x.pages.faults → w.change_bytes ≤ x.pages.change_bytes + 4101 → IsThereAlready tells slot h.columns stamp (places_of slot x.space) x.pages w
-      → (out : List ℕ) → CarriedOut tells (InsElem key stamp literals) (Err (stops.Refused refusals.Duplicate)) out x w
-  there_carried w count no_fault bytes there out =
-      stopped tells (InsElem key stamp literals) out x (Err (stops.Refused refusals.Duplicate)) (stops.Refused refusals.Duplicate) w refl
-      (refuses_still tells (InsElem key stamp literals) out x refusals.Duplicate w (record { free = there.same.free; pages = there.same.pages }) (omega (arith, bytes)) no_fault
-      (refused_taken (one_there tells x slot stamp h has.shelf.columns has.shelf.named.within there.there))) count (omega (arith, bytes))
+    pub full_carried : (refusal : Refusal) → refusal ≡ refusals.ContainerFull (others + charge_with_one h.columns (places_of slot x.space)) quota → IsFull tells slot h.columns how stamp room (places_of slot x.space) x.pages w
+        → CarriedOut tells (edit_of how key stamp literals) (Err (stops.Refused refusal)) out x w
+    full_carried refusal is full = refused_with refusal full.same (λ told l shows.
+        let on = series_seen x l shows.kept slot key has.shelf.named in
+        let kept_in = shows.kept in
+        let chained = chain_seen tells x l slot h told shows has.shelf.columns within in
+        let of = chained.1 in
+        let order = pages_in_order h.columns chained.0 of.is.pages in
+        let budget_now = budget_in told l shows on in
+        let new = full.new told chained.0 of.on of.is in
+        let over = full.over in
+        let most = all_left told l shows on in
+        edit_full l x.space key slot h row (all_in chained.0) kept_in.rules kept_in.filled kept_in.places within on (in_layout told l shows on) of.elements order (paid told l shows on) how stamp literals has.gives
+        new.0 (others + charge_with_one h.columns (places_of slot x.space)) quota new.1
+        (charge_added l x.space key slot h row (all_in chained.0) kept_in.rules kept_in.filled kept_in.places within on (in_layout told l shows on) of.elements order new.0 others quota budget_now new.2)
+        (sym budget_now.quota_is) (omega (arith, over, most, within_quota))
+        ∙ ap Err (sym is))

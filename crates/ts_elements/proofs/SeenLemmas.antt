@@ -1,26 +1,72 @@
--- The series that is seen: its columns, its page, and its elements.
+-- The series that is seen: its columns, its chain, and what readings say of it.
 use Rattle.std.proofs.Common.{◌≡◌, ℕ, ◌<◌, Bool, IsTrue, ℤ, Option, Some, None, IsSome, Ok, List, map, length, ap, sym, ◌∙◌, subst}
-use Rattle.std.specs.Option.{option_to_list}
+use Rattle.std.specs.Option.{option_map, option_and_then, option_to_list}
 use Rattle.std.specs.FinMap.{get}
 use Rattle.ts_command.specs.declared.command.Command.{Command}
 use Rattle.ts_page.specs.Pages.{Contents}
 use Rattle.ts_row.specs.RowType.{Heading}
 use Rattle.ts_row.specs.Row.{Row}
-use Rattle.ts_row.specs.Element.{seen}
+use Rattle.ts_row.specs.Element.{Element, seen}
+use Rattle.ts_space.specs.Directory.{places_of}
+use Rattle.ts_irregular.specs.Edit.{last_seen}
 use Rattle.ts_irregular.specs.Call.{Reads}
-use Rattle.ts_model.specs.Catalogue.{Series, columns_of}
+use Rattle.ts_chain.specs.Chain.{all_in}
+use Rattle.ts_chain.specs.Call.{IsRowIn, IsLastIn}
+use Rattle.ts_chain.proofs.OrderLemmas.{pages_in_order}
+use Rattle.ts_model.specs.Catalogue.{Elements, Series, columns_of}
 use Rattle.ts_model.specs.declared.kind.Kind.TheVariants as kinds
-use Rattle.ts_model.specs.Definitions.{Definitions, at_slot}
-use Rattle.ts_layout.specs.Meaning.{Layout, heading_at, elements_at, series_of, catalogue_of}
-use Rattle.ts_layout.proofs.CallerLemmas.{one_of, columns_named}
-use Rattle.ts_answer.specs.Answer.{Answered, wanted, outcome, element_at as element_at_stamp}
+use Rattle.ts_model.specs.Definitions.{Definitions, RowTypeDef, ContainerDef, SeriesDef, at_slot}
+use Rattle.ts_layout.specs.Meaning.{Layout, IsSound, heading_of_container, heading_in, heading_at, elements_at, series_of, catalogue_of}
+use Rattle.ts_layout.specs.Chains.{IsChainOf}
+use Rattle.ts_layout.proofs.CallerLemmas.{one_of, series_found, container_of_series, row_type_of_container, columns_named, series_chain, map_found, map_entries}
+use Rattle.ts_answer.specs.Answer.{Answered, wanted, outcome, last_element, element_at as element_at_stamp}
 use Rattle.ts_answer.specs.Reply.{elements_text}
 use Rattle.ts_answer.specs.Slots.{IsSlotNamed, Stands}
 use Rattle.ts_answer.specs.Tried.{IsTried}
 use Rattle.ts_answer.specs.View.{View, IsViewOf, Shows}
 use Rattle.ts_answer.specs.CarriedOut.{ReadOut}
-use Rattle.ts_elements.specs.Elements.{IsShelfIn}
-use Rattle.ts_elements.proofs.ElementLemmas.{SeriesIn, series_in_slot}
+use Rattle.ts_elements.specs.Elements.{IsSeries, IsShelfIn}
+
+-- the series of a key in its slot, with its container and their columns
+pub record SeriesIn (l : Layout) (key : List ℕ) (slot : ℕ) : Type 0 where
+  pub s : SeriesDef
+  pub c : ContainerDef
+  pub h : Heading
+  pub is : IsSeries slot s c h l.definitions
+  pub columns : heading_at l.definitions slot ≡ Some h
+  pub named : s.key ≡ key
+  pub container : (series_of l slot s).container ≡ c.name
+  pub listed : get (catalogue_of l).series key ≡ Some (series_of l slot s)
+
+-- the columns by the slots
+pub heading_there : (d : Definitions) (slot : ℕ) (s : SeriesDef) (c : ContainerDef) (h : Heading) → IsSeries slot s c h d → heading_at d slot ≡ Some h
+heading_there d slot s c h is =
+    ap (option_and_then (λ (x : SeriesDef). heading_in d x.container)) is.there
+    ∙ ap (option_and_then (heading_of_container d)) is.container ∙ is.heading
+
+pub series_in_slot : (l : Layout) (key : List ℕ) (slot : ℕ) → IsSound l → IsSlotNamed kinds.Series slot key l.definitions → SeriesIn l key slot
+series_in_slot l key slot rules named =
+    let found = series_found l key slot rules named.is in
+    let s = found.0 in
+    let holder = container_of_series l slot s rules found.1.there in
+    let c = holder.0 in
+    let row_type = row_type_of_container l s.container c rules holder.1.there in
+    let h = row_type.0.heading in
+    let is : IsSeries slot s c h l.definitions = record {
+      there = found.1.there;
+      container = holder.1.there;
+      heading = ap (option_map (λ (r : RowTypeDef). r.heading)) row_type.1.there;
+    } in
+    record {
+      s = s;
+      c = c;
+      h = h;
+      is = is;
+      columns = heading_there l.definitions slot s c h is;
+      named = found.1.its_name;
+      container = sym holder.1.its_name;
+      listed = found.1.listed;
+    }
 
 -- none isn't some
 pub not_some : {A : Type 0} (o : Option A) → None ≡ o → IsSome o → ⊥
@@ -75,3 +121,28 @@ read_out tells command x c t text out is reads says = record {
   bytes = reads.change_bytes;
   no_fault = reads.call.no_fault (λ failed. cc);
 }
+
+-- the chain of a series that is seen
+module _ (tells : Bool) (x : View) (l : Layout) (slot : ℕ) (h : Heading) (told : IsTrue tells) (shows : Shows tells x l) (columns : heading_at x.definitions slot ≡ Some h) (within : slot < 4096) where
+  pub chain_seen : (chain : List (List Element)) × IsChainOf slot h.columns x.pages.page (places_of slot x.space) l chain
+  chain_seen =
+      let kept = shows.kept in
+      series_chain l x.space slot h x.pages.page kept.rules kept.filled kept.places within (columns_in x l kept slot h columns within) (shows.holds told)
+
+  -- what is found at a stamp is what the layout has there
+  pub row_seen : (stamp : ℤ) (row : Option Row) → IsRowIn tells slot h.columns stamp (places_of slot x.space) x.pages row → get (elements_at slot l.element_pages) stamp ≡ row
+  row_seen stamp row found =
+      let es = all_in chain_seen.0 in
+      let of = chain_seen.1 in
+      ap (λ (m : Elements). get m stamp) of.elements ∙ map_found stamp es ∙ sym (found told chain_seen.0 of.on of.is)
+
+  -- the last element, as it is said
+  pub last_text : (key : List ℕ) (series : Series) (last : Option Element) → IsShelfIn l key slot h series → IsLastIn tells slot h.columns (places_of slot x.space) x.pages last
+      → elements_text (columns_of (catalogue_of l) series) (last_element series.elements) ≡ elements_text h.columns (option_to_list last)
+  last_text key series last is found =
+      let es = all_in chain_seen.0 in
+      let of = chain_seen.1 in
+      let order = pages_in_order h.columns chain_seen.0 of.is.pages in
+      let elements = ap (λ (s : Series). last_element s.elements) is.stands.is.2 ∙ ap last_element of.elements ∙ ap (λ (fs : List Element). option_to_list (last_seen fs)) (map_entries h.columns es order)
+      ∙ ap option_to_list (sym (found told chain_seen.0 of.on of.is)) in
+      λ i. elements_text (is.columns i) (elements i)

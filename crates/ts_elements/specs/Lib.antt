@@ -1,2 +1,2 @@
 pub mod Elements
-pub mod SeriesDropped
+pub mod Room

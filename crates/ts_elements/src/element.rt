@@ -9,7 +9,7 @@ use crate::shelf::shelf_of;
 use std::alloc::Global;
 use ts_answer::Stop;
 use ts_base::{Key, Reply, Stamp};
-use ts_irregular::{irregular_find, irregular_last};
+use ts_chain::{chain_find, chain_last};
 use ts_model::Defs;
 use ts_page::{Page, Pages};
 use ts_row::Row;
@@ -33,7 +33,7 @@ pub fn get_element<P: Pages>(
     ensures undisturbed { P.undisturbed pages.old pages.new }
 {
     let shelf = shelf_of(pages, defs, space, key)?;
-    let row = irregular_find(pages, page, space, &shelf, stamp)?;
+    let row = chain_find(pages, page, space, &shelf, stamp)?;
     say_row(alloc, out, shelf.kind, stamp, if_seen(row))?;
     Ok(())
 }
@@ -66,7 +66,7 @@ pub fn get_last_element<P: Pages>(
     ensures undisturbed { P.undisturbed pages.old pages.new }
 {
     let shelf = shelf_of(pages, defs, space, key)?;
-    let last = irregular_last(pages, page, space, &shelf)?;
+    let last = chain_last(pages, page, space, &shelf)?;
     say_found(alloc, out, shelf.kind, last)?;
     Ok(())
 }

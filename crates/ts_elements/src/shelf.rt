@@ -1,8 +1,8 @@
 // A series with its columns, found by its key, and a row for it: what every routine on elements begins with.
-ghost use Rattle.std.specs.Prelude.{◌≡◌, IsTrue, IfOk};
+ghost use Rattle.std.specs.Prelude.{◌≡◌, All, IsTrue, IfOk};
 ghost use Rattle.ts_row.specs.Row.{fits};
 ghost use Rattle.ts_space.specs.Directory.{places_of};
-ghost use Rattle.ts_irregular.specs.OnePage.{HasOnePage, IsReadable};
+ghost use Rattle.ts_chain.specs.Places.{ArePlaces, CanBeRead};
 ghost use Rattle.ts_layout.specs.Meaning.{Layout, catalogue_of};
 ghost use Rattle.ts_answer.specs.Answer.{wanted, a_row};
 ghost use Rattle.ts_answer.specs.Tried.{IsTried};
@@ -18,7 +18,7 @@ use ts_page::Pages;
 use ts_row::{Row, RowType, Shelf};
 use ts_space::Space;
 
-/// The series of a key, with its columns. Its page is one that can be read and written.
+/// The series of a key, with its columns. Its pages are such that they can be read and written.
 pub(crate) fn shelf_of<'a, P: Pages>(
     _pages: &P,
     defs: &'a Defs,
@@ -27,8 +27,8 @@ pub(crate) fn shelf_of<'a, P: Pages>(
 ) -> Result<Shelf<'a>, Trouble>
     requires seen { IsSeen P.tells (view defs.now.definitions _space.now (P.contents _pages.now)) }
     ensures found { IfOk result (λ shelf. IsShelf shelf.series shelf.kind.now key.now defs.now.definitions) }
-    ensures one { IfOk result (λ shelf. HasOnePage shelf.kind.now.columns (P.contents _pages.now) (places_of shelf.series _space.now)) }
-    ensures readable { IfOk result (λ shelf. IsReadable (P.contents _pages.now) (places_of shelf.series _space.now)) }
+    ensures places { IfOk result (λ shelf. ArePlaces shelf.kind.now.columns (P.contents _pages.now) (places_of shelf.series _space.now)) }
+    ensures readable { IfOk result (λ shelf. All (CanBeRead (P.contents _pages.now)) (places_of shelf.series _space.now)) }
     ensures tried { (l : Layout) → IsViewOf (view defs.now.definitions _space.now (P.contents _pages.now)) l
         → IsTried result (wanted key.now (catalogue_of l).series) (λ shelf series. IsShelfIn l key.now shelf.series shelf.kind.now series) }
 {

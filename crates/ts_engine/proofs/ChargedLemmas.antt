@@ -1,10 +1,13 @@
 -- What containers are charged, by definitions and places that are the same, or of which one series changes.
-use Rattle.std.proofs.Common.{◌≡◌, ◌≢◌, ℕ, suc, ◌+◌, ◌<◌, ◌≤◌, ◌^◌, ◌==◌, if◌then◌else◌, Option, Some, None, List, [], ◌∷◌, length, set, get_or, slice_index_or, get_or-set_same, get_or-set_other, length-set, inl, inr, ℤ, refl, sym, ap, ◌∙◌, subst, arith}
+use Rattle.std.proofs.Common.{◌≡◌, ◌≢◌, ℕ, suc, ◌+◌, ◌<◌, ◌≤◌, ◌^◌, ◌==◌, if◌then◌else◌, Option, Some, None, List, [], ◌∷◌, length, set, get_or, slice_index_or, get_or-set_same, get_or-set_other, length-set, inl, inr, refl, sym, ap, ◌∙◌, subst, arith}
 use Rattle.std.specs.Option.{option_map, unwrap_or}
 use Rattle.std.proofs.lemmas.Bool.{cases_eq, cases_lt}
 use Rattle.std.proofs.lemmas.List.{get_or_past}
 use Rattle.ts_row.specs.RowType.{Heading}
 use Rattle.ts_space.specs.declared.place.Place.{Place}
+use Rattle.ts_space.specs.declared.moved.Moved.{Moved}
+use Rattle.ts_space.specs.Place.{IsRising, count_of}
+use Rattle.ts_space.specs.Moved.{moved_to}
 use Rattle.ts_space.specs.Directory.{Directory, places_of}
 use Rattle.ts_space.specs.Charge.{irregular_places_charge}
 use Rattle.ts_cells.specs.Cell.{page_room}
@@ -12,16 +15,14 @@ use Rattle.ts_model.specs.declared.kind.Kind.TheVariants as kinds
 use Rattle.ts_model.specs.declared.def.Def.TheVariants as defs
 use Rattle.ts_model.specs.Definitions.{Definitions, SeriesDef, at_slot, of_series}
 use Rattle.ts_layout.specs.Meaning.{def_at, KeepLimits, heading_in}
-use Rattle.ts_layout.specs.Charges.{charges_listed, container_charge}
-use Rattle.ts_layout.specs.OnePage.{charge_in}
+use Rattle.ts_layout.specs.Charges.{AreCountable, charges_listed, container_charge, charge_in}
 use Rattle.ts_layout.specs.Placed.{AreKept}
-use Rattle.ts_layout.proofs.CallerLemmas.{at_slot-map}
-use Rattle.ts_container.specs.KeptCharges.{AreCharges}
+use Rattle.ts_layout.proofs.CallerLemmas.{at_slot-map, quotas_countable}
+use Rattle.ts_container.specs.KeptCharges.{AreCharges, AreFew}
 use Rattle.ts_container.proofs.RoomLemmas.{room_in}
 use Rattle.ts_answer.specs.declared.effect.Effect.{Effect}
 use Rattle.ts_answer.specs.declared.effect.Effect.TheVariants.{Places}
-use Rattle.ts_answer.specs.CarriedOut.{definitions_after, lists_after, moved}
-use Rattle.ts_elements.specs.Elements.{AreFew}
+use Rattle.ts_answer.specs.CarriedOut.{definitions_after, lists_after}
 use Rattle.ts_engine.specs.Charged.{CanCount, IsContainerOf}
 use Rattle.ts_engine.specs.Engine.{Kept}
 use Rattle.ts_engine.specs.Ended.{CanCharge}
@@ -47,7 +48,7 @@ charges_same sums sums' d d' space space' are same definitions lists slot below 
 
 -- by what is kept in memory
 pub can_count : (d : Definitions) (space : Directory) (free : List ℕ) (count : ℕ) → AreKept d space free count → CanCount d space.lists
-can_count d space free count kept = record { limits = kept.sound.limits; rules = kept.sound.tables; few = kept.placed.few }
+can_count d space free count kept = record { limits = kept.sound.limits; rules = kept.sound.tables; countable = quotas_countable d space free count kept }
 
 -- and stays so where nothing that counts changes
 pub can_charge_then : (effect : Effect) (e f : Kept) → CanCharge effect e → f.tables.definitions ≡ e.tables.definitions → f.space.lists ≡ e.space.lists → f.charges ≡ e.charges → CanCharge effect f
@@ -59,26 +60,40 @@ can_charge_then effect e f can definitions lists charges = record {
   before = subst (λ (d : Definitions). CanCount d f.space.lists) (sym definitions) (subst (λ (ls : List (List Place)). CanCount e.tables.definitions ls) (sym lists) can.before);
   after = subst (λ (d : Definitions). CanCount (definitions_after effect d) (lists_after effect f.space.lists)) (sym definitions)
       (subst (λ (ls : List (List Place)). CanCount (definitions_after effect e.tables.definitions) (lists_after effect ls)) (sym lists) can.after);
+  rising = subst (λ (ls : List (List Place)). (slot : ℕ) → slot < 4096 → IsRising (slice_index_or (lists_after effect ls) slot [])) (sym lists) can.rising;
 }
 
--- the places of a series are one at most, as they can be counted then
-pub one_place : (effect : Effect) (slot : ℕ) (old : Option ℤ) (new : Option Place) (d : Definitions) (lists : List (List Place)) → effect ≡ Places slot old new → slot < 4096 → length lists ≡ 4096 → CanCount (definitions_after effect d) (lists_after effect lists)
-    → length (moved old new (slice_index_or lists slot [])) ≤ 1
-one_place effect slot old new d lists is within size can =
-    let after = subst (λ (e : Effect). CanCount (definitions_after e d) (lists_after e lists)) is can in
-    subst (λ (ps : List Place). length ps ≤ 1) (get_or-set_same lists slot (moved old new (slice_index_or lists slot [])) [] (omega (arith, within, size))) (after.few slot within)
+-- the places of a series once an effect is applied that changes them
+pub places_then : (effect : Effect) (slot : ℕ) (moved : Moved) (lists : List (List Place)) → effect ≡ Places slot moved → slot < 4096 → length lists ≡ 4096
+    → slice_index_or (lists_after effect lists) slot [] ≡ moved_to moved (slice_index_or lists slot [])
+places_then effect slot moved lists is within size =
+    ap (λ (e : Effect). slice_index_or (lists_after e lists) slot []) is ∙ get_or-set_same lists slot (moved_to moved (slice_index_or lists slot [])) [] (omega (arith, within, size))
 
--- each series has one place at most, once one has others
-pub few_after : (lists : List (List Place)) (slot : ℕ) (ps : List Place) → ((t : ℕ) → t < 4096 → length (slice_index_or lists t []) ≤ 1) → length ps ≤ 1 → (t : ℕ) → t < 4096 → length (slice_index_or (set lists slot ps) t []) ≤ 1
-few_after lists slot ps few one t within =
+-- they are still few and rise
+pub rising_then : (effect : Effect) (slot : ℕ) (moved : Moved) (e : Kept) → effect ≡ Places slot moved → slot < 4096 → length e.space.lists ≡ 4096 → CanCharge effect e → IsRising (moved_to moved (places_of slot e.space))
+rising_then effect slot moved e is within size can = subst IsRising (places_then effect slot moved e.space.lists is within size) (can.rising slot within)
+
+pub countable_then : (effect : Effect) (slot : ℕ) (moved : Moved) (e : Kept) → effect ≡ Places slot moved → slot < 4096 → length e.space.lists ≡ 4096 → CanCharge effect e → count_of (moved_to moved (places_of slot e.space)) < 2 ^ 32
+countable_then effect slot moved e is within size can =
+    subst (λ (ps : List Place). count_of ps < 2 ^ 32) (places_then effect slot moved e.space.lists is within size) (can.after.countable slot within)
+
+-- what holds of the places of each series holds once one has others of which it holds
+each_after : (P : List Place → Type 0) (lists : List (List Place)) (slot : ℕ) (ps : List Place) → P [] → ((t : ℕ) → t < 4096 → P (slice_index_or lists t [])) → P ps → (t : ℕ) → t < 4096 → P (slice_index_or (set lists slot ps) t [])
+each_after P lists slot ps none each one t within =
     elim (cases_eq t slot) [
       | inl is ↦
           elim (cases_lt slot (length lists)) [
-            | inl inside ↦ subst (λ (qs : List Place). length qs ≤ 1) (sym (ap (λ (i : ℕ). get_or (set lists slot ps) i []) is ∙ get_or-set_same lists slot ps [] inside)) one
-            | inr past ↦ subst (λ (qs : List Place). length qs ≤ 1) (sym (get_or_past (set lists slot ps) t [] (omega (arith, is, past, length-set lists slot ps)))) (omega arith)
+            | inl inside ↦ subst P (sym (ap (λ (i : ℕ). get_or (set lists slot ps) i []) is ∙ get_or-set_same lists slot ps [] inside)) one
+            | inr past ↦ subst P (sym (get_or_past (set lists slot ps) t [] (omega (arith, is, past, length-set lists slot ps)))) none
           ]
-      | inr other ↦ subst (λ (qs : List Place). length qs ≤ 1) (sym (get_or-set_other lists slot t ps [] other)) (few t within)
+      | inr other ↦ subst P (sym (get_or-set_other lists slot t ps [] other)) (each t within)
     ]
+
+-- no series has too many elements then
+pub countable_after : (space space' : Directory) (slot : ℕ) (ps : List Place) → space'.lists ≡ set space.lists slot ps → ((t : ℕ) → t < 4096 → count_of (places_of t space) < 2 ^ 32) → count_of ps < 2 ^ 32 → AreCountable space'
+countable_after space space' slot ps is each one =
+    subst (λ (ls : List (List Place)). (t : ℕ) → t < 4096 → count_of (slice_index_or ls t []) < 2 ^ 32) (sym is)
+    (each_after (λ (qs : List Place). count_of qs < 2 ^ 32) space.lists slot ps (omega arith) each one)
 
 -- the places of every other series stay
 pub others_same : (lists lists' : List (List Place)) (slot : ℕ) (ps : List Place) → lists' ≡ set lists slot ps → (t : ℕ) → t < 4096 → t ≢ slot → slice_index_or lists' t [] ≡ slice_index_or lists t []
@@ -108,7 +123,7 @@ pub room_is : (d : Definitions) → KeepLimits d → (slot container room : ℕ)
 room_is d limits slot container room is = subst (λ (n : ℕ). 0 < n) is.has_room (room_in d limits container is.heading is.below (sym is.has))
 
 -- a sum and what one series costs fit their type
-pub sum_fits : (d : Definitions) (space : Directory) (sums : List ℕ) (container more : ℕ) → container < 64 → AreCharges sums d space → AreFew d space → more < 2 ^ 32 → get_or sums container 0 + more < 2 ^ 64
+pub sum_fits : (d : Definitions) (space : Directory) (sums : List ℕ) (container more : ℕ) → container < 64 → AreCharges sums d space → AreFew d space → more < 2 ^ 33 → get_or sums container 0 + more < 2 ^ 64
 sum_fits d space sums container more below are few small =
     let is = are container below in
     let little = few container below in

@@ -62,7 +62,6 @@ module _ (tells : Bool) (e : Kept) (v : Device) (lawful : Lawful tells v) (ready
     definitions = ap (with_format FORMAT) kept.definitions;
     size = kept.size;
     places = kept.places;
-    listed = kept.listed;
     free = kept.free;
     rules = sound_renewed l kept.rules;
     filled = filled_renewed l kept.filled;

@@ -1,5 +1,6 @@
 -- An opening: what it finds, and what a stop within it leaves.
-use Rattle.std.proofs.Common.{◌≡◌, inl, ℕ, ◌+◌, ◌-◌, ◌<◌, ◌≤◌, Bool, IsTrue, Result, Ok, Err, IfErr, IsErrAnd, None, List, slice_index, [], All, length, get_or, refl, ap, sym, ◌∙◌, subst, arith}
+use Rattle.std.proofs.Common.{◌≡◌, ◌≢◌, inl, ℕ, ◌+◌, ◌-◌, ◌<◌, ◌≤◌, Bool, IsTrue, Result, Ok, Err, IfErr, IsErrAnd, None, List, [], slice_index, length, get_or, IsPermutation, refl, ap, sym, ◌∙◌, subst, arith}
+use Rattle.std.proofs.lemmas.List.Sorted.{IsPermutation-refl}
 use Rattle.ts_disk.specs.Device.{Device, Lawful, Only, Rose, LeavesOnly}
 use Rattle.ts_disk.proofs.Moments.{then_on, leaves_map}
 use Rattle.ts_page.specs.Pages.{Contents, IsLawful}
@@ -17,11 +18,11 @@ use Rattle.ts_container.specs.declared.fault.SurveyFault.TheVariants.{NotAStore,
 use Rattle.ts_layout.specs.Meaning.{ElementPage, Free, element_page, HoldsElements, HoldsLayout, catalogue_of}
 use Rattle.ts_container.specs.Survey.{IsFound, IfRefused, HoldNoLayout}
 use Rattle.ts_layout.specs.Surveyed.{free_pages}
-use Rattle.ts_layout.proofs.CallerLemmas.{free_counted, free_at, kept_alike}
+use Rattle.ts_layout.proofs.CallerLemmas.{free_at, kept_alike, pairs_front}
 use Rattle.ts_engine.specs.declared.engine.Engine.{Engine}
 use Rattle.ts_engine.specs.Volume.{MeansCatalogue, MeansNothing}
 use Rattle.ts_container.specs.KeptCharges.{AreCharges}
-use Rattle.ts_layout.specs.Placed.{AreKept}
+use Rattle.ts_layout.specs.Placed.{AreKept, used_pages}
 use Rattle.ts_engine.specs.Charged.{CanCount}
 use Rattle.ts_engine.proofs.ChargedLemmas.{can_count}
 use Rattle.ts_engine.specs.Engine.{Kept, IsKeptOf, IsReady}
@@ -66,7 +67,7 @@ admitted tells s t d x space free idle found is =
     let over = idle.over in
     let placed = found.kept.placed in
     let lawful : IsLawful tells (contents_over next d) = record {
-      different = placed.different;
+      different = pairs_front (λ a b. a ≢ b) free (used_pages space) placed.different;
       listed = λ k e within.
           let one = placed.numbers k e within in
           record {
@@ -160,10 +161,7 @@ module _ (tells : Bool) (s t : State) (v : Device) (x : Definitions) (space : Di
           definitions = same ∙ known.1.definitions;
           size = pages_are ∙ known.2.size;
           places = known.1.places;
-          listed = subst (λ (ns : List ℕ). All (λ number. element_page (number - 930) l.element_pages ≡ Free) ns) (sym free_there) (λ k d within.
-              let one = free_at 930 l.element_pages k d within in
-              subst (λ (n : ℕ). element_page n l.element_pages ≡ Free) (let e : one.0 ≡ get_or (free_pages l) k d - 930 = omega (arith, one.2) in e) one.3);
-          free = ap (λ (ns : List ℕ). length ns + used_of space) free_there ∙ free_counted l space known.2.rules.definitions.tables known.1.filled known.1.places slots;
+          free = subst (λ (ns : List ℕ). IsPermutation ns (free_pages l)) (sym free_there) (IsPermutation-refl (free_pages l));
           rules = known.2.rules;
           filled = known.1.filled;
         }

@@ -10,6 +10,7 @@ use Rattle.ts_space.specs.declared.place.Place.{Place}
 use Rattle.ts_layout.specs.Meaning.{Layout, Free, element_page, HoldsLayout, catalogue_of}
 use Rattle.ts_layout.specs.Placed.{AreKept}
 use Rattle.ts_layout.proofs.CallerLemmas.{same_catalogue, kept_alike}
+use Rattle.ts_answer.proofs.CallerLemmas.{held_same}
 use Rattle.ts_engine.specs.Volume.{MeansCatalogue}
 use Rattle.ts_engine.specs.Engine.{Kept, IsKeptOf, HoldsKept}
 use Rattle.ts_engine.specs.Change.{ReadsAlike, IsStill}
@@ -17,15 +18,8 @@ use Rattle.ts_engine.proofs.MeansLemmas.{means_layout}
 
 -- what is kept stays what a layout has
 pub kept_same : (e f : Kept) (l : Layout) → IsKeptOf e l → f.tables.definitions ≡ e.tables.definitions → f.space.lists ≡ e.space.lists → f.store.pages ≡ e.store.pages → f.store.free ≡ e.store.free → IsKeptOf f l
-kept_same e f l kept definitions lists pages free = record {
-  definitions = definitions ∙ kept.definitions;
-  size = pages ∙ kept.size;
-  places = λ slot within. ap (λ (ls : List (List Place)). slice_index_or ls slot []) lists ∙ kept.places slot within;
-  listed = subst (λ (ns : List ℕ). All (λ number. element_page (number - 930) l.element_pages ≡ Free) ns) (sym free) kept.listed;
-  free = (λ i. length (free i) + sum_by length (lists i)) ∙ kept.free;
-  rules = kept.rules;
-  filled = kept.filled;
-}
+kept_same e f l kept definitions lists pages free =
+    held_same e.tables.definitions f.tables.definitions e.space f.space e.store.pages f.store.pages e.store.free f.store.free l kept definitions lists pages free
 
 pub rules_same : (e f : Kept) → AreKept e.tables.definitions e.space e.store.free e.store.pages → f.tables.definitions ≡ e.tables.definitions → f.space.lists ≡ e.space.lists → f.store.pages ≡ e.store.pages → f.store.free ≡ e.store.free → AreKept f.tables.definitions f.space f.store.free f.store.pages
 rules_same e f kept definitions lists pages free = kept_alike e.tables.definitions f.tables.definitions e.space f.space e.store.free f.store.free e.store.pages f.store.pages kept definitions lists free pages

@@ -1,16 +1,24 @@
 -- What containers are charged, when definitions or places change.
-use Rattle.std.specs.Prelude.{◌≡◌, ℕ, ◌<◌, ◌≤◌, Some, List, [], length, slice_index_or}
+use Rattle.std.specs.Prelude.{◌≡◌, ℕ, ◌<◌, ◌^◌, Option, Some, None, List, [], slice_index_or}
 use Rattle.ts_row.specs.RowType.{Heading}
 use Rattle.ts_space.specs.declared.place.Place.{Place}
+use Rattle.ts_space.specs.declared.moved.Moved.{Moved}
+use Rattle.ts_space.specs.Place.{count_of}
+use Rattle.ts_space.specs.Moved.{moved_to}
 use Rattle.ts_cells.specs.Cell.{page_room}
-use Rattle.ts_model.specs.Definitions.{Definitions, SeriesDef, at_slot, IsDefinitions}
+use Rattle.ts_model.specs.Definitions.{Definitions, SeriesDef, at_slot, series_slots, IsDefinitions}
 use Rattle.ts_layout.specs.Meaning.{KeepLimits, heading_in}
 
--- what containers are charged can be counted: definitions keep the rules, and each series has one page at most
+-- the places of a series once they change; none where all go
+abbrev pub places_after : Option Moved → List Place → List Place
+places_after (Some moved) places = moved_to moved places
+places_after None places = []
+
+-- what containers are charged can be counted: definitions keep the rules, and no series has too many elements
 pub record CanCount (d : Definitions) (lists : List (List Place)) : Type 0 where
   pub limits : KeepLimits d
   pub rules : IsDefinitions d
-  pub few : (slot : ℕ) → slot < 4096 → length (slice_index_or lists slot []) ≤ 1
+  pub countable : (slot : ℕ) → slot < series_slots → count_of (slice_index_or lists slot []) < 2 ^ 32
 
 -- the container of the series in a slot, and how many of its elements a page has room for
 pub record IsContainerOf (slot : ℕ) (d : Definitions) (container room : ℕ) : Type 0 where

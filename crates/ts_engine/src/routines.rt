@@ -20,10 +20,12 @@ use ts_command::Command;
 use ts_container::Charges;
 use ts_define::{drop_definition, new_container, new_row_type, new_series};
 use ts_elements::{
-    EditKind, drop_series, edit_element, get_element, get_last_element, mark_element,
+    delete_element, delete_range, drop_series, edit_element, get_element, get_last_element,
+    mark_element,
 };
 use ts_model::{Def, Defs, Kind};
 use ts_page::{Page, Pages};
+use ts_series::EditKind;
 use ts_space::Space;
 use ts_tell::{container_usage, count_elements, list_series};
 
@@ -45,6 +47,18 @@ pub(crate) fn edit<P: Pages>(
 {
     let came = match command {
         Command::DropSeries { key } => drop_series(alloc, pages, defs, space, key, out),
+        Command::PutElem { key, stamp, values } => {
+            let edit = EditKind::Put;
+            edit_element(
+                pages, page, defs, space, charges, edit, key, *stamp, values, out,
+            )
+        }
+        Command::PutElemNoDups { key, stamp, values } => {
+            let edit = EditKind::PutNoDups;
+            edit_element(
+                pages, page, defs, space, charges, edit, key, *stamp, values, out,
+            )
+        }
         Command::InsElem { key, stamp, values } => {
             let edit = EditKind::Insert;
             edit_element(
@@ -56,6 +70,12 @@ pub(crate) fn edit<P: Pages>(
             edit_element(
                 pages, page, defs, space, charges, edit, key, *stamp, values, out,
             )
+        }
+        Command::DelElem { key, stamp } => {
+            delete_element(pages, page, defs, space, key, *stamp, out)
+        }
+        Command::DelClip { key, from, to } => {
+            delete_range(alloc, pages, page, defs, space, key, *from, *to, out)
         }
         Command::HideElem { key, stamp } => {
             mark_element(pages, page, defs, space, true, key, *stamp, out)

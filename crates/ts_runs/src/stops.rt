@@ -9,60 +9,78 @@ use std::test::Fail;
 use std::thread::Threads;
 use ts_disk::{MemorySite, Pick};
 
-/// Each statement is refused where the store has what it makes.
-const SCRIPT: &[u8] = b"CreateRowType(rd, t datetime, v integer);TSContainerCreate(c1, rd, 8);\
-    TSCreateIrr('x', c1);InsElem('x','2011-01-03 00:00:00',1);InsElem('x','2011-01-03 00:00:02',3);";
+/// Statements that a run carries out, of which each tells whether it was carried out before, and a reading of all that they make.
+#[derive(Clone, Copy)]
+struct Course<'a> {
+    /// A statement, what is said to it, and what is said where it was carried out before.
+    statements: &'a [(&'a [u8], &'a [u8], &'a [u8])],
+    reading: &'a [u8],
+    read: &'a [u8],
+}
 
-/// Reads all that `SCRIPT` makes.
+/// Each statement is refused where the store has what it makes.
+const MAKING: [(&[u8], &[u8], &[u8]); 5] = [
+    (RECORD, b"ok\n", b"error 11 NameTaken\n"),
+    (
+        b"TSContainerCreate(c1, rd, 8);",
+        b"ok\n",
+        b"error 11 NameTaken\n",
+    ),
+    (b"TSCreateIrr('x', c1);", b"ok\n", b"error 11 NameTaken\n"),
+    (
+        b"InsElem('x','2011-01-03 00:00:00',1);",
+        b"ok 2011-01-03 00:00:00.00000\n",
+        b"error 23 Duplicate\n",
+    ),
+    (
+        b"InsElem('x','2011-01-03 00:00:02',3);",
+        b"ok 2011-01-03 00:00:02.00000\n",
+        b"error 23 Duplicate\n",
+    ),
+];
+
+/// Reads all that `MAKING` makes.
 const READING: &[u8] = b"TSContainerUsage(c1);ListSeries(c1);GetElem('x','2011-01-03 00:00:00');\
     GetElem('x','2011-01-03 00:00:02');";
-
-const MADE: [&[u8]; 5] = [
-    b"ok\n",
-    b"ok\n",
-    b"ok\n",
-    b"ok 2011-01-03 00:00:00.00000\n",
-    b"ok 2011-01-03 00:00:02.00000\n",
-];
-
-const THERE: [&[u8]; 5] = [
-    b"error 11 NameTaken\n",
-    b"error 11 NameTaken\n",
-    b"error 11 NameTaken\n",
-    b"error 23 Duplicate\n",
-    b"error 23 Duplicate\n",
-];
 
 const READ: &[u8] = b"ok 1 8\n'x' irregular 2\nok 1\n2011-01-03 00:00:00.00000 1\nok 1\n\
     2011-01-03 00:00:02.00000 3\nok 1\n";
 
-// What is said to `SCRIPT` and `READING` where so many of its statements were carried out before.
-fn said_after(alloc: Global, count: usize) -> Result<Vec<u8>, Fail> {
+// What is said to the statements and the reading where so many of the statements were carried out before.
+fn said_after(alloc: Global, course: &Course, count: usize) -> Result<Vec<u8>, Fail> {
     let mut said = Vec::new(alloc);
-    for number in 0..5usize {
-        said.extend_from_slice(if number < count {
-            THERE[number]
-        } else {
-            MADE[number]
-        })?;
+    let mut number: usize = 0;
+    for (_, made, there) in course.statements {
+        said.extend_from_slice(if number < count { there } else { made })?;
+        number = number.saturating_add(1);
     }
-    said.extend_from_slice(READ)?;
+    said.extend_from_slice(course.read)?;
     Ok(said)
+}
+
+// The statements, one after the other.
+fn script_of(alloc: Global, course: &Course) -> Result<Vec<u8>, Fail> {
+    let mut script = Vec::new(alloc);
+    for (statement, _, _) in course.statements {
+        script.extend_from_slice(statement)?;
+    }
+    Ok(script)
 }
 
 // Whether a volume holds what so many of the statements make, or these and the next one.
 fn holds(
     rt: &(impl Threads + Sync),
     alloc: Global,
+    course: &Course,
     bytes: Vec<u8>,
     count: usize,
 ) -> Result<bool, Fail> {
     let mut site = MemorySite::new(bytes)?;
-    let mut script = Vec::from_slice(alloc, SCRIPT)?;
-    script.extend_from_slice(READING)?;
+    let mut script = script_of(alloc, course)?;
+    script.extend_from_slice(course.reading)?;
     let status = run(rt, alloc, &mut site, &script)?;
-    let now = said_after(alloc, count)?;
-    let next = said_after(alloc, count.saturating_add(1))?;
+    let now = said_after(alloc, course, count)?;
+    let next = said_after(alloc, course, count.saturating_add(1))?;
     Ok(status == 0 && (site.said() == now.as_slice() || site.said() == next.as_slice()))
 }
 
@@ -75,6 +93,7 @@ fn whole_replies(said: &[u8]) -> usize {
 fn all_hold(
     rt: &(impl Threads + Sync),
     alloc: Global,
+    course: &Course,
     site: &MemorySite,
     call: u64,
     picks: &[Pick],
@@ -83,23 +102,25 @@ fn all_hold(
     requires { call < site_calls site.now }
 {
     for pick in picks {
-        if !holds(rt, alloc, site.image(call, *pick)?, count)? {
+        if !holds(rt, alloc, course, site.image(call, *pick)?, count)? {
             return Ok(false);
         }
     }
     Ok(true)
 }
 
-// Runs of the script over a volume on which this one was carried out, which makes what so many of its statements make; each
+// Runs of a course over a volume on which this script was carried out, which makes what so many of its statements make; each
 // is stopped at the call of one number. The calls from 1 on, so many, only read.
 fn stops(
     rt: &(impl Threads + Sync),
     alloc: Global,
+    course: &Course,
     beginning: &[u8],
     there: usize,
     picks: &[Pick],
 ) -> Result<bool, Fail> {
     let bytes = bytes_after(rt, alloc, beginning)?;
+    let script = script_of(alloc, course)?;
     let reads = reads(rt, alloc, "8")?;
     for call in 0..reads.saturating_add(200) {
         if 1 <= call && call <= reads {
@@ -107,15 +128,14 @@ fn stops(
         }
         let mut site = MemorySite::new(Vec::from_slice(alloc, &bytes)?)?;
         site.fuse(call);
-        run(rt, alloc, &mut site, SCRIPT)?;
+        run(rt, alloc, &mut site, &script)?;
         if site.calls() <= call {
             // The run needed no call of this number; its last is the last say.
-            return Ok(
-                call > reads.saturating_add(20) && site.said().ends_with(b"00:00:02.00000\n"),
-            );
+            let all = whole_replies(site.said()) == course.statements.len();
+            return Ok(all && call > reads.saturating_add(20));
         }
         let count = there.max(whole_replies(site.said()));
-        if !all_hold(rt, alloc, &site, call, picks, count)? {
+        if !all_hold(rt, alloc, course, &site, call, picks, count)? {
             return Ok(false);
         }
     }
@@ -125,15 +145,70 @@ fn stops(
 /// The first of the statements: the journal holds its record when the run begins.
 const RECORD: &[u8] = b"CreateRowType(rd, t datetime, v integer);";
 
+const MADE: Course = Course {
+    statements: &MAKING,
+    reading: READING,
+    read: READ,
+};
+
 #[test]
 fn a_stop_in_a_run_leaves_what_was_acknowledged(rt: HostRuntime) -> Result<(), Fail> {
-    assert!(rt; stops(&rt, rt.alloc(), b"", 0, &PICKS)?);
+    assert!(rt; stops(&rt, rt.alloc(), &MADE, b"", 0, &PICKS)?);
     Ok(())
 }
 
 #[test]
 fn so_does_a_stop_over_a_record(rt: HostRuntime) -> Result<(), Fail> {
-    assert!(rt; stops(&rt, rt.alloc(), RECORD, 1, &PICKS)?);
+    assert!(rt; stops(&rt, rt.alloc(), &MADE, RECORD, 1, &PICKS)?);
+    Ok(())
+}
+
+/// A series whose page is full: a page has room for five of these rows.
+const FULL: &[u8] =
+    b"CreateRowType(wide, t datetime, p varchar(255), q varchar(255), r varchar(255));\
+    TSContainerCreate(c2, wide, 8);TSCreateIrr('w', c2);\
+    InsElem('w','2011-01-01 00:00:00','1','',null);InsElem('w','2011-01-02 00:00:00','2','',null);\
+    InsElem('w','2011-01-03 00:00:00','3','',null);InsElem('w','2011-01-04 00:00:00','4','',null);\
+    InsElem('w','2011-01-05 00:00:00','5','',null);";
+
+/// The page is split in the middle, both become one again, and so once more at the end by a range.
+const MOVING: [(&[u8], &[u8], &[u8]); 4] = [
+    (
+        b"InsElem('w','2011-01-03 12:00:00','6','',null);",
+        b"ok 2011-01-03 12:00:00.00000\n",
+        b"error 23 Duplicate\n",
+    ),
+    (b"DelElem('w','2011-01-02 00:00:00');", b"ok 1\n", b"ok 0\n"),
+    (
+        b"InsElem('w','2011-01-07 00:00:00','7','',null);",
+        b"ok 2011-01-07 00:00:00.00000\n",
+        b"error 23 Duplicate\n",
+    ),
+    (
+        b"DelClip('w','2011-01-04 00:00:00','2011-01-05 00:00:00');",
+        b"ok 2\n",
+        b"ok 0\n",
+    ),
+];
+
+/// Reads all that `MOVING` leaves.
+const LEFT: &[u8] = b"TSContainerUsage(c2);ListSeries(c2);GetElem('w','2011-01-01 00:00:00');\
+    GetElem('w','2011-01-03 00:00:00');GetElem('w','2011-01-03 12:00:00');GetLastElem('w');";
+
+const LEFT_READ: &[u8] =
+    b"ok 1 8\n'w' irregular 4\nok 1\n2011-01-01 00:00:00.00000 '1','',null\nok 1\n\
+    2011-01-03 00:00:00.00000 '3','',null\nok 1\n2011-01-03 12:00:00.00000 '6','',null\nok 1\n\
+    2011-01-07 00:00:00.00000 '7','',null\nok 1\n";
+
+const MOVED: Course = Course {
+    statements: &MOVING,
+    reading: LEFT,
+    read: LEFT_READ,
+};
+
+#[test]
+fn so_does_a_stop_where_pages_are_split_and_joined(rt: HostRuntime) -> Result<(), Fail> {
+    assert!(rt; stops(&rt, rt.alloc(), &MOVED, FULL, 0, &PICKS)?);
     Ok(())
 }
 

@@ -1,5 +1,6 @@
 -- A header and zeros behind it mean the empty catalogue.
 use Rattle.std.proofs.Common.{◌≡◌, ℕ, zero, suc, ◌+◌, ◌-◌, ◌*◌, ◌<◌, ◌≤◌, Bool, false, cond, Option, Some, None, unwrap_or, List, [], length, take, drop, replicate, get_or, slice_index, refl, sym, ◌∙◌, ap, subst, arith}
+use Rattle.std.specs.Option.{option_and_then}
 use Rattle.std.specs.FinMap.{from_entries}
 use Rattle.std.proofs.lemmas.Bool.Decides.{nat_tests}
 use Rattle.std.proofs.lemmas.List.{drop-replicate, length-replicate, take-replicate, take-take}
@@ -15,7 +16,7 @@ use Rattle.ts_model.proofs.PartsLemmas.{nothing-defined}
 use Rattle.ts_model.specs.Catalogue.{empty_catalogue}
 use Rattle.ts_layout.specs.Limits.{IsSlotOf}
 use Rattle.ts_layout.specs.Slot.{header_bytes, slot_size, slot_bytes, page_of_slot, byte_of_slot, slots_in_page, bytes_of_slots}
-use Rattle.ts_layout.specs.Meaning.{Free, Cells, Layout, def_at, HoldsDefinitions, HoldsElements, IsSound, container_of, series_of, catalogue_of, sum_of_quotas}
+use Rattle.ts_layout.specs.Meaning.{Free, Layout, def_at, heading_in, HoldsDefinitions, HoldsElements, IsSound, container_of, series_of, catalogue_of, sum_of_quotas}
 use Rattle.ts_layout.proofs.CallerLemmas.{page_low, page_high, slot_end, fits_page}
 use Rattle.ts_engine.specs.Volume.{MeansCatalogue}
 
@@ -60,9 +61,6 @@ filled_none name value first (suc n) = filled_none name value (first + 1) n
 
 some_is_none : {A : Type 0} (x : A) → Some x ≡ None → ⊥
 some_is_none x is = cc
-
-cells_are_free : (slot : ℕ) (es : List _) → Cells slot es ≡ Free → ⊥
-cells_are_free slot es is = cc
 
 -- an empty slot is zeros
 empty_slot : (kind : Kind) → slot_bytes kind None ≡ replicate (slot_size kind) 0
@@ -117,7 +115,7 @@ empty_is_sound format count known some limit =
         references = λ kind slot def within is. absurd (some_is_none def (sym is ∙ empty_at format kind slot));
         quotas = (let none : sum_of_quotas (replicate 64 None) ≡ 0 = refl in omega (arith, none));
       };
-      one_page = λ i j slot es fs here. absurd (cells_are_free slot es (sym here ∙ each_is count i Free));
+      chains = λ slot h here. absurd (some_is_none h (sym here ∙ ap (option_and_then (λ s. heading_in (nothing_in format) s.container)) (each_is 4096 slot None)));
       charges = λ i c h here. absurd (some_is_none c (sym here ∙ each_is 64 i None));
     }
 

@@ -1,9 +1,8 @@
 use Rattle.std.proofs.Common.{sym}
 use Rattle.ts_space.specs.Directory.{places_of}
-use Rattle.ts_irregular.proofs.KeptLemmas.{one_readable}
 use Rattle.ts_answer.specs.View.{view}
 use Rattle.ts_answer.proofs.CallerLemmas.{defined_by, fails}
-use Rattle.ts_elements.proofs.MemoryLemmas.{defined_kept, one_page_kept}
+use Rattle.ts_elements.proofs.MemoryLemmas.{defined_kept, places_seen, readable}
 use Rattle.ts_elements.proofs.SeenLemmas.{not_some, shelf_tried}
 use Rattle.ts_elements.proofs.shelf.shelf_of.Goals as goal
 
@@ -24,12 +23,12 @@ returns-clause-tried g c l kept =
     let x = view c.args.defs.now.definitions c.args._space.now (g.P.Pages.contents c.args._pages.now) in
     record { ok = shelf_tried x l kept c.args.key.now c.in_ok-slot.slot c.in-Some.kind.now (sym c.in-Some.ensures.value) (c.in_ok-slot.ensures.tried _ l (defined_by kept)); err = tt }
 
-pub returns-clause-one : goal.returns-clause-one
-returns-clause-one g c =
+pub returns-clause-places : goal.returns-clause-places
+returns-clause-places g c =
     let x = view c.args.defs.now.definitions c.args._space.now (g.P.Pages.contents c.args._pages.now) in
-    one_page_kept x c.requires.seen.kept c.in_ok-slot.slot c.in_ok-slot.ensures.found.within c.in-Some.kind.now (sym c.in-Some.ensures.value)
+    places_seen x c.requires.seen.kept c.in_ok-slot.slot c.in_ok-slot.ensures.found.within c.in-Some.kind.now (sym c.in-Some.ensures.value)
 
 pub returns-clause-readable : goal.returns-clause-readable
 returns-clause-readable g c =
     let x = view c.args.defs.now.definitions c.args._space.now (g.P.Pages.contents c.args._pages.now) in
-    one_readable c.in-Some.kind.now.columns x.pages (places_of c.in_ok-slot.slot x.space) (one_page_kept x c.requires.seen.kept c.in_ok-slot.slot c.in_ok-slot.ensures.found.within c.in-Some.kind.now (sym c.in-Some.ensures.value))
+    readable c.in-Some.kind.now.columns x.pages (places_of c.in_ok-slot.slot x.space) (places_seen x c.requires.seen.kept c.in_ok-slot.slot c.in_ok-slot.ensures.found.within c.in-Some.kind.now (sym c.in-Some.ensures.value))

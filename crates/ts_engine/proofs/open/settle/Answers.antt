@@ -40,5 +40,5 @@ count-requires-clause-limits g c = (counted_found g.V.Volume.tells c.args.store.
 pub count-requires-clause-rules : goal.count-requires-clause-rules
 count-requires-clause-rules g c = (counted_found g.V.Volume.tells c.args.store.pages (contents_over c.args.store (g.V.Volume.device c.args.vol.now)) c.args.surveyed.defs.definitions c.args.surveyed.space c.args.surveyed.free.items c.requires.found).rules
 
-pub count-requires-clause-few : goal.count-requires-clause-few
-count-requires-clause-few g c = (counted_found g.V.Volume.tells c.args.store.pages (contents_over c.args.store (g.V.Volume.device c.args.vol.now)) c.args.surveyed.defs.definitions c.args.surveyed.space c.args.surveyed.free.items c.requires.found).few
+pub count-requires-clause-countable : goal.count-requires-clause-countable
+count-requires-clause-countable g c = (counted_found g.V.Volume.tells c.args.store.pages (contents_over c.args.store (g.V.Volume.device c.args.vol.now)) c.args.surveyed.defs.definitions c.args.surveyed.space c.args.surveyed.free.items c.requires.found).countable

@@ -1,20 +1,29 @@
-use Rattle.std.proofs.Common.{◌≡◌, ◌≤◌, None, length, sym, subst}
+use Rattle.std.proofs.Common.{◌≡◌, ◌<◌, ◌^◌, None, length, sym, subst}
+use Rattle.ts_space.specs.Place.{IsRising, count_of}
+use Rattle.ts_space.specs.Moved.{moved_to}
 use Rattle.ts_space.specs.Directory.{places_of}
 use Rattle.ts_answer.specs.declared.effect.Effect.{Effect}
-use Rattle.ts_answer.specs.CarriedOut.{CanApply, moved}
+use Rattle.ts_answer.specs.CarriedOut.{CanApply}
 use Rattle.ts_model.specs.Definitions.{Definitions}
 use Rattle.ts_container.specs.KeptCharges.{AreCharges}
 use Rattle.ts_engine.specs.Engine.{Kept}
-use Rattle.ts_engine.proofs.ChargedLemmas.{one_place}
+use Rattle.ts_engine.proofs.ChargedLemmas.{rising_then, countable_then}
 use Rattle.ts_engine.proofs.RedefinedLemmas.{charges_stay}
 use Rattle.ts_engine.proofs.engine.Engine.apply.Goals as goal
 
-pub move_place-requires-clause-one : goal.move_place-requires-clause-one
-move_place-requires-clause-one c =
-    subst (λ (k : Kept). length (moved c.in-Places.old c.in-Places.new (places_of c.in-Places.slot k.space)) ≤ 1) (sym c.self.view_is)
-    (one_place c.args.effect c.in-Places.slot c.in-Places.old c.in-Places.new c.args.self.now.tables.definitions c.args.self.now.space.lists c.in-Places.is
+pub change_places-requires-clause-rising : goal.change_places-requires-clause-rising
+change_places-requires-clause-rising c =
+    subst (λ (k : Kept). IsRising (moved_to c.in-Places.moved (places_of c.in-Places.slot k.space))) (sym c.self.view_is)
+    (rising_then c.args.effect c.in-Places.slot c.in-Places.moved c.args.self.now c.in-Places.is
     (subst (λ (e : Effect). CanApply e c.args.self.now.tables.definitions) c.in-Places.is c.requires.can)
-    (subst (λ (k : Kept). length k.space.lists ≡ 4096) c.self.view_is c.places-slots.ensures.slots) c.requires.charge.after)
+    (subst (λ (k : Kept). length k.space.lists ≡ 4096) c.self.view_is c.places-slots.ensures.slots) c.requires.charge)
+
+pub change_places-requires-clause-countable : goal.change_places-requires-clause-countable
+change_places-requires-clause-countable c =
+    subst (λ (k : Kept). count_of (moved_to c.in-Places.moved (places_of c.in-Places.slot k.space)) < 2 ^ 32) (sym c.self.view_is)
+    (countable_then c.args.effect c.in-Places.slot c.in-Places.moved c.args.self.now c.in-Places.is
+    (subst (λ (e : Effect). CanApply e c.args.self.now.tables.definitions) c.in-Places.is c.requires.can)
+    (subst (λ (k : Kept). length k.space.lists ≡ 4096) c.self.view_is c.places-slots.ensures.slots) c.requires.charge)
 
 pub returns-in-Slot-clause-charges : goal.returns-in-Slot-clause-charges
 returns-in-Slot-clause-charges c =
@@ -23,5 +32,5 @@ returns-in-Slot-clause-charges c =
 
 pub returns-in-Series-clause-charges : goal.returns-in-Series-clause-charges
 returns-in-Series-clause-charges c =
-    subst (λ (d : Definitions). AreCharges c.take_places.new.charges d c.take_places.new.space) (sym c.set-in-Series.ensures.slot)
-    (charges_stay c.self.inside.defs.definitions c.take_places.new.space c.in-Series.slot None c.take_places.new.charges c.take_places.ensures.none c.take_places.ensures.charged)
+    subst (λ (d : Definitions). AreCharges c.change_places-in-Series.new.charges d c.change_places-in-Series.new.space) (sym c.set-in-Series.ensures.slot)
+    (charges_stay c.self.inside.defs.definitions c.change_places-in-Series.new.space c.in-Series.slot None c.change_places-in-Series.new.charges c.change_places-in-Series.ensures.places c.change_places-in-Series.ensures.charged)

@@ -1,8 +1,0 @@
-use Rattle.ts_engine.proofs.ChargedLemmas.{room_is}
-use Rattle.ts_engine.proofs.charge.move_place.Goals as goal
-
-pub charge_of-before-requires-clause-room : goal.charge_of-before-requires-clause-room
-charge_of-before-requires-clause-room c = room_is c.args.defs.now.definitions c.requires.can.limits c.args.slot c.in-Some.container c.in-Some.room c.in-Some.ensures
-
-pub charge_of-after-requires-clause-room : goal.charge_of-after-requires-clause-room
-charge_of-after-requires-clause-room c = room_is c.args.defs.now.definitions c.requires.can.limits c.args.slot c.in-Some.container c.in-Some.room c.in-Some.ensures
