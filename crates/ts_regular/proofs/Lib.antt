@@ -1,0 +1,10 @@
+pub mod OffsetLemmas
+pub mod CellsLemmas
+pub mod BytesLemmas
+pub mod HeadLemmas
+pub mod JudgeLemmas
+pub mod PlaceLemmas
+pub mod KeptLemmas
+pub mod EditLemmas
+pub mod ReadLemmas
+pub mod LastLemmas

@@ -1,0 +1,6 @@
+pub mod Cell
+pub mod Offsets
+pub mod RegularPage
+pub mod Places
+pub mod Call
+pub mod OnePage
