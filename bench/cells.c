@@ -1,0 +1,103 @@
+// The largest volume, as a series of one integer fills it, and what an opening has to do at least: read each page, look at each cell once,
+// and keep a directory of 24 bytes a page.
+#include <fcntl.h>
+#include <stdint.h>
+#include <stdio.h>
+#include <stdlib.h>
+#include <string.h>
+#include <unistd.h>
+
+enum { PAGE = 4096, FIRST = 930, HEAD = 32, CELL = 14, ROOM = 290, PAGES = 65536, USED = 65000, QUOTA = 65536 };
+
+// 2011-01-03 00:00:00, and one minute, in units of 10 microseconds.
+static const int64_t begin = 129401280000000, minute = 6000000;
+
+struct place {
+  int64_t at;
+  uint32_t page, count, slot, next;
+};
+
+static unsigned char page[PAGE];
+
+static void put(unsigned char *at, int bytes, uint64_t number) {
+  while (bytes--) { at[bytes] = number; number >>= 8; }
+}
+
+static uint64_t get(const unsigned char *at, int bytes) {
+  uint64_t number = 0;
+  while (bytes--) number = number << 8 | *at++;
+  return number;
+}
+
+static void name(unsigned char *at, const char *text) {
+  *at = strlen(text);
+  memcpy(at + 1, text, *at);
+}
+
+static int write_page(int volume, off_t number) {
+  int wrote = pwrite(volume, page, PAGE, number * PAGE) == PAGE;
+  memset(page, 0, PAGE);
+  return wrote;
+}
+
+// Pages of 145 and 146 elements in turn: two neighbours hold one more than a page has room for.
+static int fill(int volume) {
+  if (ftruncate(volume, (off_t)(FIRST + PAGES) * PAGE)) return 1;
+  memcpy(page, "TSVOLUME\2", 9);
+  put(page + 9, 4, PAGES);
+  if (!write_page(volume, 0)) return 1;
+  page[0] = 1; name(page + 1, "reading"); name(page + 34, "t"); page[67] = 1; page[68] = 2; name(page + 71, "wh");
+  if (!write_page(volume, 257)) return 1;
+  page[0] = 1; name(page + 1, "meters"); put(page + 35, 4, QUOTA);
+  if (!write_page(volume, 833)) return 1;
+  page[0] = 2; name(page + 1, "meter");
+  if (!write_page(volume, 834)) return 1;
+  int64_t stamp = begin;
+  for (uint32_t i = 0; i < USED; i++) {
+    // The order of the pages isn't that of the stamps.
+    uint32_t number = (uint64_t)i * 7919 % USED;
+    uint32_t count = ROOM / 2 + i % 2;
+    page[0] = 2;
+    put(page + 3, 2, count);
+    for (uint32_t cell = 0; cell < count; cell++, stamp += minute) {
+      unsigned char *at = page + HEAD + cell * CELL;
+      at[0] = 1; put(at + 1, 8, stamp); at[9] = 1; put(at + 10, 4, cell);
+    }
+    if (!write_page(volume, FIRST + number)) return 1;
+  }
+  return 0;
+}
+
+static int compare(const void *a, const void *b) {
+  const struct place *p = a, *q = b;
+  return p->at < q->at ? -1 : p->at > q->at;
+}
+
+static int look(int volume) {
+  struct place *places = malloc(PAGES * sizeof *places);
+  uint32_t used = 0, cells = 0;
+  if (!places) return 1;
+  for (uint32_t i = 0; i < FIRST + PAGES; i++) {
+    if (pread(volume, page, PAGE, (off_t)i * PAGE) != PAGE) return 1;
+    if (i < FIRST || page[0] == 0) continue;
+    uint32_t count = get(page + 3, 2);
+    int64_t last = INT64_MIN;
+    if (page[0] != 2 || count > ROOM) return 1;
+    for (uint32_t cell = 0; cell < count; cell++, cells++) {
+      const unsigned char *at = page + HEAD + cell * CELL;
+      int64_t stamp = get(at + 1, 8);
+      if (at[0] != 1 || at[9] > 1 || stamp <= last || (int32_t)get(at + 10, 4) == INT32_MIN) return 1;
+      last = stamp;
+    }
+    places[used++] = (struct place){get(page + HEAD + 1, 8), i, count, get(page + 1, 2), 0};
+  }
+  qsort(places, used, sizeof *places, compare);
+  printf("%u pages, %u elements\n", used, cells);
+  return 0;
+}
+
+int main(int count, char **words) {
+  int volume = count == 3 ? open(words[2], O_RDWR | O_CREAT, 0644) : -1;
+  if (volume < 0) return 1;
+  return strcmp(words[1], "fill") == 0 ? fill(volume) : look(volume);
+}
