@@ -27,7 +27,7 @@ use Rattle.ts_chain.specs.Chain.{all_in, IsChain}
 use Rattle.ts_chain.specs.Places.{AreChained, IsHolder}
 use Rattle.ts_chain.specs.Placing.{next_second, last_before, unit_after, place_for}
 use Rattle.ts_chain.specs.Call.{IsPlaceIn}
-use Rattle.ts_chain.proofs.OrderLemmas.{all_in-append}
+use Rattle.ts_chain.proofs.OrderLemmas.{all_in-append, some_z}
 use Rattle.ts_chain.proofs.EditLemmas.{none_later}
 use Rattle.ts_chain.proofs.WindowLemmas.{at_page}
 use Rattle.ts_chain.proofs.PlaceLemmas.{chain_later, holder_around}
@@ -81,9 +81,6 @@ module _ (columns : List Column) (last : ℤ) (size i k : ℕ) (units : ℤ) (es
       made ∙ ap (λ (z : ℤ). stamp_if_any (z +ℤ pos 1)) own ∙ stamp_is (one.element.0 +ℤ pos 1) (omega (arith, ints, first), omega (arith, ints, low, stamp.1))
       ∙ sym (ap (option_and_then (unit_after (last +ℤ pos 1))) the_last
       ∙ (λ j. cond (int_lt_yes (one.element.0 +ℤ pos 1) (last +ℤ pos 1) (omega (arith, ints, low)) j) (Some (one.element.0 +ℤ pos 1)) None))
-    where
-      some_z : {a b : ℤ} → Some a ≡ Some b → a ≡ b
-      some_z same = cc
 
   -- it is a stamp
   pub is_stamp : None ≡ stamp_if_any (cast_signed w64 (of_z w64 units)) → ⊥

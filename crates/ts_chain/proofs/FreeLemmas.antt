@@ -1,21 +1,19 @@
 -- Pages that are freed one after the other.
-use Rattle.std.proofs.Common.{◌≡◌, ◌≢◌, ℕ, zero, suc, ◌+◌, ◌*◌, ◌<◌, ◌≤◌, ◌==◌, if◌then◌else◌, Bool, IsTrue, All, AllPairs, Result, Ok, Err, OnOk, List, [], ◌∷◌, ◌++◌, length, take, get_or, set, inl, inr, refl, sym, ap, subst, ◌∙◌, arith, append_assoc, append-nil}
-use Rattle.std.specs.Prelude.{Contains, IsPermutation, IsErrOf}
+use Rattle.std.proofs.Common.{◌≡◌, ◌≢◌, ℕ, zero, suc, ◌+◌, ◌<◌, ◌==◌, if◌then◌else◌, Bool, All, AllPairs, Result, Ok, Err, OnOk, List, [], ◌∷◌, ◌++◌, length, take, get_or, inl, inr, refl, sym, ap, subst, ◌∙◌, arith, append-nil}
+use Rattle.std.specs.Prelude.{Contains, IsPermutation}
 use Rattle.std.specs.List.{swap}
 use Rattle.std.proofs.lemmas.Bool.{cases_eq, cases_lt}
 use Rattle.std.proofs.lemmas.Bool.Decides.{nat_tests}
 use Rattle.std.proofs.lemmas.List.Edits.{length-swap, swapped_from_swap}
-use Rattle.std.proofs.lemmas.List.Sorted.{IsPermutation-refl, IsPermutation-sym, IsPermutation-trans, IsPermutation-keeps, IsPermutation-append_right, IsPermutation-cons, Contains-permutation, All-permutation}
-use Rattle.ts_base.specs.declared.fault.StoreFault.{StoreFault}
-use Rattle.ts_base.specs.declared.fault.StoreFault.TheVariants.{Failed}
+use Rattle.std.proofs.lemmas.List.Sorted.{IsPermutation-sym, IsPermutation-trans, IsPermutation-keeps, IsPermutation-append_right, IsPermutation-cons, Contains-permutation}
 use Rattle.ts_space.specs.declared.place.Place.{Place}
 use Rattle.ts_space.specs.Place.{pages_of}
 use Rattle.ts_page.specs.Head.{zero_page}
-use Rattle.ts_page.specs.Pages.{Contents, Answered, EqualPages, Freed, with_page}
+use Rattle.ts_page.specs.Pages.{Contents, Freed}
 use Rattle.ts_chain.specs.Places.{CanBeFreed}
 use Rattle.ts_chain.specs.Call.{AreFreed}
 use Rattle.ts_chain.specs.Window.{AreFreedTo}
-use Rattle.ts_chain.proofs.PagesLemmas.{changed_page, other_page}
+use Rattle.ts_chain.proofs.PagesLemmas.{changed_page, other_page, pairs_tail}
 use Rattle.ts_chain.proofs.TakenLemmas.{one_freed}
 
 -- where a number stood before two were exchanged
@@ -69,7 +67,7 @@ pairs_moved xs ys moved pairs =
     λ i j d before within. apart i j d (omega (arith, before, within)) within (λ same. absurd (omega (arith, before, same)))
 
 -- a number of two lists
-contains_first : (xs ys : List ℕ) (n : ℕ) → Contains xs n → Contains (xs ++ ys) n
+pub contains_first : (xs ys : List ℕ) (n : ℕ) → Contains xs n → Contains (xs ++ ys) n
 contains_first [] ys n has = absurd (let below = has.1 in omega (arith, below))
 contains_first (x ∷ xs) ys n (zero, below, is) = (0, omega arith, is)
 contains_first (x ∷ xs) ys n (suc k, below, is) =
@@ -77,7 +75,7 @@ contains_first (x ∷ xs) ys n (suc k, below, is) =
     let within = rest.1 in
     (suc rest.0, omega (arith, within), rest.2)
 
-contains_second : (xs ys : List ℕ) (n : ℕ) → Contains ys n → Contains (xs ++ ys) n
+pub contains_second : (xs ys : List ℕ) (n : ℕ) → Contains ys n → Contains (xs ++ ys) n
 contains_second [] ys n has = has
 contains_second (x ∷ xs) ys n has =
     let rest = contains_second xs ys n has in
@@ -96,9 +94,6 @@ take_next [] i d within = absurd (omega (arith, within))
 take_next (x ∷ xs) zero d within = refl
 take_next (x ∷ xs) (suc i) d within = ap (λ (l : List ℕ). x ∷ l) (take_next xs i d (omega (arith, within)))
 
-pairs_tail : (x : ℕ) (xs : List ℕ) → AllPairs (λ a b. a ≢ b) (x ∷ xs) → AllPairs (λ a b. a ≢ b) xs
-pairs_tail x xs pairs i j d before within = pairs (suc i) (suc j) d (omega (arith, before)) (omega (arith, within))
-
 -- which differs from those
 next_apart : (xs : List ℕ) (i : ℕ) (d : ℕ) → AllPairs (λ a b. a ≢ b) xs → i < length xs → ¬ Contains (take i xs) (get_or xs i d)
 next_apart [] i d pairs within has = absurd (omega (arith, within))
@@ -111,16 +106,6 @@ next_apart (x ∷ xs) (suc i) d pairs within (suc k, below, is) =
     again xs i k d same = same
 
 module _ (tells : Bool) (numbers : List ℕ) (v : Contents) where
-  pub none_freed : AreFreedTo tells numbers 0 v v
-  none_freed = record {
-    free = subst (λ (l : List ℕ). IsPermutation l v.free) (sym (append-nil v.free)) (IsPermutation-refl v.free);
-    zero = λ told n has. absurd (let below = has.1 in omega (arith, below));
-    others = λ told n not. refl;
-    count = refl;
-    faults = refl;
-    change_bytes = omega arith;
-  }
-
   module _ (each : All (CanBeFreed v) numbers) (different : AllPairs (λ a b. a ≢ b) numbers) (i : ℕ) (d : ℕ) (within : i < length numbers) (u : Contents) (so : AreFreedTo tells numbers i v u) where
     -- the next one can be freed
     pub next_used : ¬ Contains u.free (get_or numbers i d)
@@ -183,14 +168,6 @@ freed_places tells places numbers n v w moved whole so =
     take_all (x ∷ xs) = ap (λ (l : List ℕ). x ∷ l) (take_all xs)
 
 -- what a call did after others
-pub answered_after : {T : Type 0} (tells : Bool) (numbers : List ℕ) (n : ℕ) (result : Result T StoreFault) (v u w : Contents) → AreFreedTo tells numbers n v u → Answered result u w → Answered result v w
-answered_after {T} tells numbers n result v u w so call = record {
-  count = call.count ∙ so.count;
-  faults = (let more = call.faults in let same = so.faults in omega (arith, more, same));
-  cause = λ err. let same : v.faults ≡ u.faults = sym so.faults in rw same (call.cause err);
-  no_fault = λ none. call.no_fault none ∙ so.faults;
-}
-
 pub on_ok : {T E : Type 0} (r : Result T E) (P Q : Type 0) → (P → Q) → OnOk r P → OnOk r Q
 on_ok (Ok t) P Q so p = so p
 on_ok (Err e) P Q so p = tt

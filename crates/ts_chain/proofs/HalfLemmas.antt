@@ -1,5 +1,5 @@
 -- A full page that is parted in two, among its neighbours.
-use Rattle.std.proofs.Common.{◌≡◌, ◌≢◌, ℕ, zero, suc, ◌+◌, ◌-◌, ◌/◌, ◌<◌, ◌≤◌, ◌^◌, ℤ, ◌<ℤ◌, ◌≤ℤ◌, ◌⊎◌, inl, inr, Bool, IsTrue, All, Some, None, List, [], ◌∷◌, ◌++◌, length, take, drop, refl, sym, ap, subst, ◌∙◌, arith, append_assoc, append-nil, length-append}
+use Rattle.std.proofs.Common.{◌≡◌, ℕ, zero, suc, ◌+◌, ◌≤◌, ℤ, ◌<ℤ◌, ◌≤ℤ◌, ◌⊎◌, inl, inr, Bool, IsTrue, Some, List, [], ◌∷◌, ◌++◌, length, take, drop, refl, sym, ap, subst, ◌∙◌, arith, append_assoc, append-nil, length-append}
 use Rattle.std.specs.Int.{int_min}
 use Rattle.std.specs.Prelude.{Contains, IsPermutation}
 use Rattle.std.proofs.lemmas.Int.{by_lt_z, ints}
@@ -15,17 +15,19 @@ use Rattle.ts_row.specs.declared.kind.Column.{Column}
 use Rattle.ts_row.specs.Row.{Row}
 use Rattle.ts_row.specs.Element.{Element}
 use Rattle.ts_cells.specs.Cell.{IsElement, page_room}
-use Rattle.ts_cells.specs.IrregularPage.{AreElements, AreInOrder, AreRising, irregular_page, first_stamp}
+use Rattle.ts_cells.specs.IrregularPage.{AreRising, irregular_page, first_stamp}
 use Rattle.ts_irregular.specs.Edit.{element_at, with_element}
 use Rattle.ts_irregular.specs.OnePage.{IsOn}
 use Rattle.ts_irregular.proofs.EditLemmas.{with_in_order, int_lt_yes, int_lt_no}
-use Rattle.ts_chain.specs.Chain.{all_in, AreBefore, AreEarlier, AreLater, ArePages, AreSized, IsDense, IsChain, IsAround}
+use Rattle.ts_chain.specs.Chain.{all_in, AreBefore, AreEarlier, AreLater, ArePages, IsDense, IsChain, IsAround}
 use Rattle.ts_chain.specs.Places.{AreChained, AreMoved, ArePlaces, FitsFirst, FitsLast, IsCounted, IsTarget}
 use Rattle.ts_chain.specs.Call.{AreWritten, IsPutNew}
-use Rattle.ts_chain.specs.Window.{half_of, AreHalves, AreParted, ArePartedOf, AreSpread, HaveBoth, HavePart, begin_of}
-use Rattle.ts_chain.proofs.OrderLemmas.{all_in-append, earlier_than, later_front, later_back, later_of, order_first, order_others, sized_pages}
+use Rattle.ts_chain.specs.Window.{half_of, AreHalves, ArePartedOf, AreSpread, HaveBoth, HavePart, begin_of}
+use Rattle.ts_chain.specs.declared.halves.Halves.{Halves}
+use Rattle.ts_chain.specs.Halves.{AreHalved}
+use Rattle.ts_chain.proofs.OrderLemmas.{all_in-append, earlier_than, later_front, later_back, later_of, order_first, order_others, sized_pages, earlier_front, earlier_back, some_z, first_earlier}
 use Rattle.ts_chain.proofs.EditLemmas.{with_lower, with_higher, with_same}
-use Rattle.ts_chain.proofs.DenseLemmas.{MeetsLeft, MeetsRight, dense_front, dense_back, dense_left, dense_right, dense_tail, meets_left, meets_right, within_charge}
+use Rattle.ts_chain.proofs.DenseLemmas.{MeetsLeft, MeetsRight, dense_back, dense_tail, within_charge}
 use Rattle.ts_chain.proofs.WindowLemmas.{at_page}
 use Rattle.ts_chain.proofs.PlaceLemmas.{Cut, cut, above_than, chain_earlier, chain_later}
 use Rattle.ts_chain.proofs.PagesLemmas.{changed_page, other_page}
@@ -33,10 +35,7 @@ use Rattle.ts_chain.proofs.RemoveLemmas.{count_both, count_parts, pages_from}
 use Rattle.ts_chain.proofs.LessLemmas.{meets_before, meets_behind}
 use Rattle.ts_chain.proofs.TakeLemmas.{are_counted}
 use Rattle.ts_chain.proofs.SpreadLemmas.{edited_all, first_both, spread_told}
-use Rattle.ts_chain.proofs.PutLemmas.{Split, chained_length, chained_count, chained_split, pages_until, window_chain, window_moved, window_written, rising_come, rising_behind, above_behind}
-
-some_z : {a b : ℤ} → Some a ≡ Some b → a ≡ b
-some_z same = cc
+use Rattle.ts_chain.proofs.PutLemmas.{chained_length, chained_count, chained_split, pages_until, window_chain, window_moved, window_written, rising_come, rising_behind, above_behind}
 
 -- the lower of two stamps
 pub min_low : (at stamp : ℤ) → int_min at stamp ≤ℤ at
@@ -79,11 +78,6 @@ drop_later (suc n) (e ∷ es) low high some rise first second =
     below (suc n) [] z later is = absurd (cc)
     below (suc n) (f ∷ fs) z later is = below n fs z later.1 is
 
--- a stamp of elements that are all earlier
-first_earlier : (at first : ℤ) (es : List Element) → AreEarlier at es → first_stamp es ≡ Some first → first <ℤ at
-first_earlier at first [] earlier is = absurd (cc)
-first_earlier at first (e ∷ es) earlier is = subst (λ (z : ℤ). z <ℤ at) (some_z is) earlier.0
-
 earlier_drop : (at : ℤ) (n : ℕ) (es : List Element) → AreEarlier at es → AreEarlier at (drop n es)
 earlier_drop at zero es earlier = earlier
 earlier_drop at (suc n) [] earlier = tt
@@ -97,14 +91,6 @@ earlier_with at stamp row (e ∷ es) own earlier =
     (λ high. by_lt_z stamp e.0
     (λ above. subst P (sym (with_higher stamp row e es above)) (own, earlier))
     (λ below. subst P (sym (with_same stamp row e es high below)) earlier))
-
-earlier_front : (stamp : ℤ) (xs ys : List Element) → AreEarlier stamp (xs ++ ys) → AreEarlier stamp xs
-earlier_front stamp [] ys earlier = tt
-earlier_front stamp (x ∷ xs) ys earlier = (earlier.0, earlier_front stamp xs ys earlier.1)
-
-earlier_back : (stamp : ℤ) (xs ys : List Element) → AreEarlier stamp (xs ++ ys) → AreEarlier stamp ys
-earlier_back stamp [] ys earlier = earlier
-earlier_back stamp (x ∷ xs) ys earlier = earlier_back stamp xs ys earlier.1
 
 -- elements before another page are earlier than it begins
 before_page : (at : ℤ) (xs ys zs : List Element) → first_stamp ys ≡ Some at → AreBefore xs (ys ++ zs) → AreEarlier at xs
@@ -157,14 +143,13 @@ module _ (tells : Bool) (slot : ℕ) (columns : List Column) (stamp : ℤ) (plac
       ap (λ (l : List (List Element)). element_at stamp (all_in l)) c.parts ∙ at_page stamp c.before c.elements c.behind (target_around chain on is)
 
   -- the page was full, and its halves are these
-  module _ (row : Row) (element : IsElement columns (stamp, row)) (first second : Place) (page others : List ℕ) (parted : ArePartedOf tells slot columns stamp row t.place page others v) (full : t.place.count ≡ page_room columns) (some : 1 ≤ page_room columns)
-      (own : first.page ≡ t.place.page) (first_is : first.count ≡ half_of columns) (second_is : second.count + first.count ≡ page_room columns + 1) (low : first.at ≡ int_min t.place.at stamp)
-      (read : (es : List Element) → AreElements columns es → length es ≡ second.count → others ≡ irregular_page slot columns es → first_stamp es ≡ Some second.at) where
+  module _ (row : Row) (element : IsElement columns (stamp, row)) (halves : Halves) (page others : List ℕ) (halved : AreHalved slot columns stamp t.front t.place t.back others halves) (parted : ArePartedOf tells slot columns stamp row t.place page others v)
+      (full : t.place.count ≡ page_room columns) (some : 1 ≤ page_room columns) where
     half_some : 1 ≤ half_of columns
     half_some = omega (arith, some)
 
     -- so they are told
-    pub are_halves : IsTrue tells → (es : List Element) → IsOn slot columns (v.page t.place.page) t.place es → AreHalves slot columns (with_element stamp row es) first second page others
+    pub are_halves : IsTrue tells → (es : List Element) → IsOn slot columns (v.page t.place.page) t.place es → AreHalves slot columns (with_element stamp row es) halves.first halves.second page others
     are_halves told es on =
         let p = parted told es on in
         let fs : List Element = with_element stamp row es in
@@ -172,30 +157,30 @@ module _ (tells : Bool) (slot : ℕ) (columns : List Column) (stamp : ℤ) (plac
         let whole : length (take (half_of columns) fs) + length (drop (half_of columns) fs) ≡ length fs = sym (length-append (take (half_of columns) fs) (drop (half_of columns) fs)) ∙ ap length (take-append-drop (half_of columns) fs) in
         let size : length fs ≡ page_room columns + 1 = omega (arith, p.longer, on.count, full) in
         let one : length (take (half_of columns) fs) ≡ half_of columns = length-take-le (half_of columns) fs (omega (arith, size, some)) in
-        let two : length (drop (half_of columns) fs) ≡ second.count = omega (arith, whole, one, size, first_is, second_is) in
+        let two : length (drop (half_of columns) fs) ≡ halves.second.count = omega (arith, whole, one, size, halved.first_count, halved.both_count) in
         record {
           page_is = p.page_is;
           others_are = p.others_are;
-          first_at = first_take (half_of columns) fs half_some ∙ first_with stamp row t.place.at es on.first ∙ ap Some (sym low);
-          second_at = read (drop (half_of columns) fs) (order_others columns (half_of columns) fs order).each two p.others_are;
-          first_count = one ∙ sym first_is;
+          first_at = first_take (half_of columns) fs half_some ∙ first_with stamp row t.place.at es on.first ∙ ap Some (sym halved.first_at);
+          second_at = halved.second_at (drop (half_of columns) fs) (order_others columns (half_of columns) fs order).each two p.others_are;
+          first_count = one ∙ sym halved.first_count;
           second_count = two;
         }
 
     -- they begin where places can stand
-    pub stand_low : IsTrue tells → (es : List Element) → IsOn slot columns (v.page t.place.page) t.place es → first.at <ℤ second.at
+    pub stand_low : IsTrue tells → (es : List Element) → IsOn slot columns (v.page t.place.page) t.place es → halves.first.at <ℤ halves.second.at
     stand_low told es on =
         let h = are_halves told es on in
         let fs : List Element = with_element stamp row es in
         let order = with_in_order columns stamp row es on.bytes.fill.elements element in
-        drop_later (half_of columns) fs first.at second.at half_some order.rising (sym (first_take (half_of columns) fs half_some) ∙ h.first_at) h.second_at
+        drop_later (half_of columns) fs halves.first.at halves.second.at half_some order.rising (sym (first_take (half_of columns) fs half_some) ∙ h.first_at) h.second_at
 
-    pub stand_high : IsTrue tells → (chain : List (List Element)) → AreChained slot columns v.page places chain → IsChain columns chain → AreAbove second.at t.back
+    pub stand_high : IsTrue tells → (chain : List (List Element)) → AreChained slot columns v.page places chain → IsChain columns chain → AreAbove halves.second.at t.back
     stand_high told chain on is =
         let c = here chain on in
         let h = are_halves told c.elements c.on in
         let pages : ArePages columns (c.elements ∷ c.behind) = pages_from columns c.before (c.elements ∷ c.behind) (subst (ArePages columns) c.parts is.pages) in
-        beyond slot columns v.page stamp row (half_of columns) second.at c.elements t.back c.behind (rising_behind (t.place ∷ []) t.back (rising_behind t.front (t.place ∷ t.back) target_rising)) t.above pages c.back_on h.second_at
+        beyond slot columns v.page stamp row (half_of columns) halves.second.at c.elements t.back c.behind (rising_behind (t.place ∷ []) t.back (rising_behind t.front (t.place ∷ t.back) target_rising)) t.above pages c.back_on h.second_at
 
     -- nothing is said of pages that aren't told so
     pub never : (moved : Moved) → moved_to moved places ≡ places → (IsTrue tells → (chain : List (List Element)) → AreChained slot columns v.page places chain → IsChain columns chain → ⊥) → IsPutNew tells slot columns stamp row places (moved_to moved places) v v
@@ -207,10 +192,10 @@ module _ (tells : Bool) (slot : ℕ) (columns : List Column) (stamp : ℤ) (plac
     })
 
     -- the places before the page and behind it that go, and those that stay
-    module _ (ahead near next after : List Place) (front : t.front ≡ ahead ++ near) (back : t.back ≡ next ++ after) (apart : first.at <ℤ second.at) (above : AreAbove second.at t.back) (left : (n : ℕ) (xs zs rest : List (List Element)) → AreChained slot columns v.page ahead xs → AreChained slot columns v.page near zs
-        → IsDense (page_room columns) (xs ++ (zs ++ rest)) → length (all_in zs) + first.count ≤ n → MeetsLeft (page_room columns) xs n)
-        (right : (n : ℕ) (us ys : List (List Element)) → AreChained slot columns v.page next ys → AreChained slot columns v.page after us → IsDense (page_room columns) (ys ++ us) → second.count + length (all_in ys) ≤ n → MeetsRight (page_room columns) n us) where
-      window_parts : places ≡ ahead ++ ((near ++ t.place ∷ next) ++ after)
+    module _ (ahead near next after : List Place) (front : t.front ≡ ahead ++ near) (back : t.back ≡ next ++ after) (apart : halves.first.at <ℤ halves.second.at) (above : AreAbove halves.second.at t.back) (left : (n : ℕ) (xs zs rest : List (List Element)) → AreChained slot columns v.page ahead xs → AreChained slot columns v.page near zs
+        → IsDense (page_room columns) (xs ++ (zs ++ rest)) → length (all_in zs) + halves.first.count ≤ n → MeetsLeft (page_room columns) xs n)
+        (right : (n : ℕ) (us ys : List (List Element)) → AreChained slot columns v.page next ys → AreChained slot columns v.page after us → IsDense (page_room columns) (ys ++ us) → halves.second.count + length (all_in ys) ≤ n → MeetsRight (page_room columns) n us) where
+      pub window_parts : places ≡ ahead ++ ((near ++ t.place ∷ next) ++ after)
       window_parts =
           t.parts ∙ ap (λ (l : List Place). l ++ t.place ∷ t.back) front ∙ ap (λ (l : List Place). (ahead ++ near) ++ t.place ∷ l) back
           ∙ append_assoc ahead near (t.place ∷ (next ++ after)) ∙ ap (λ (l : List Place). ahead ++ l) (sym (append_assoc near (t.place ∷ next) after))
@@ -257,14 +242,14 @@ module _ (tells : Bool) (slot : ℕ) (columns : List Column) (stamp : ℤ) (plac
             inside = record { earlier = earlier_back stamp (all_in f.before) (all_in f.behind) earlier; later = later_front stamp (all_in b.before) (all_in b.behind) later };
           }
 
-      begin_told : (near : List Place) (zs : List (List Element)) (fs : List Element) → AreChained slot columns v.page near zs → first_stamp fs ≡ Some first.at → first_stamp (all_in zs ++ fs) ≡ Some (begin_of near first)
+      begin_told : (near : List Place) (zs : List (List Element)) (fs : List Element) → AreChained slot columns v.page near zs → first_stamp fs ≡ Some halves.first.at → first_stamp (all_in zs ++ fs) ≡ Some (begin_of near halves.first)
       begin_told [] [] fs on is = is
       begin_told [] (es ∷ zs) fs on is = absurd on
       begin_told (p ∷ near) [] fs on is = absurd on
       begin_told (p ∷ near) (es ∷ zs) fs on is = ap first_stamp (append_assoc es (all_in zs) fs) ∙ first_both es (all_in zs ++ fs) p.at on.0.first
 
       -- two pages that have the halves, and what goes together with them, have the part
-      part_of : IsTrue tells → (chain : List (List Element)) → IsChain columns chain → (k : IsTold chain) → (come : Place × Place) (w : Contents) → IsCounted columns come.0 → IsCounted columns come.1 → come.0.at ≡ begin_of near first → come.1.at ≡ second.at
+      part_of : IsTrue tells → (chain : List (List Element)) → IsChain columns chain → (k : IsTold chain) → (come : Place × Place) (w : Contents) → IsCounted columns come.0 → IsCounted columns come.1 → come.0.at ≡ begin_of near halves.first → come.1.at ≡ halves.second.at
           → HaveBoth slot columns (all_in k.zs ++ take (half_of columns) (with_element stamp row k.es)) (drop (half_of columns) (with_element stamp row k.es) ++ all_in k.ys) come w
           → HavePart slot columns (with_element stamp row (all_in (k.zs ++ k.es ∷ k.ys))) come.0.count come.1.count (come.0 ∷ come.1 ∷ []) w.page
       part_of told chain is k come w counted1 counted2 at1 at2 both =
@@ -274,33 +259,33 @@ module _ (tells : Bool) (slot : ℕ) (columns : List Column) (stamp : ℤ) (plac
           let pages : ArePages columns (k.zs ++ k.es ∷ k.ys) = pages_until columns (k.zs ++ k.es ∷ k.ys) k.us (pages_from columns k.xs ((k.zs ++ k.es ∷ k.ys) ++ k.us) (subst (ArePages columns) k.parts is.pages)) in
           let c : Cut slot columns v.page near t.place next (k.zs ++ k.es ∷ k.ys) =
           record { before = k.zs; elements = k.es; behind = k.ys; parts = refl; count = chained_length slot columns v.page near k.zs k.zs_on; front_on = k.zs_on; on = k.es_on; back_on = k.ys_on } in
-          spread_told slot columns stamp row element v.page near t.place next (k.zs ++ k.es ∷ k.ys) pages c k.inside first second page others h full p.longer come.0.count come.1.count come.0 come.1 w.page counted1 counted2
+          spread_told slot columns stamp row element v.page near t.place next (k.zs ++ k.es ∷ k.ys) pages c k.inside halves.first halves.second page others h full p.longer come.0.count come.1.count come.0 come.1 w.page counted1 counted2
           (omega (arith, both.first_count, length-append (all_in k.zs) (take (half_of columns) fs), h.first_count)) (omega (arith, both.second_count, length-append (drop (half_of columns) fs) (all_in k.ys), h.second_count))
           (begin_told near k.zs (take (half_of columns) fs) k.zs_on h.first_at ∙ ap Some (sym at1)) (sym at2) both.first_page both.second_page (omega arith) (omega arith)
 
-      left_of : (chain : List (List Element)) → IsChain columns chain → (k : IsTold chain) → (n : ℕ) → length (all_in k.zs) + first.count ≤ n → MeetsLeft (page_room columns) k.xs n
+      left_of : (chain : List (List Element)) → IsChain columns chain → (k : IsTold chain) → (n : ℕ) → length (all_in k.zs) + halves.first.count ≤ n → MeetsLeft (page_room columns) k.xs n
       left_of chain is k n more =
           let whole : chain ≡ k.xs ++ (k.zs ++ (k.es ∷ k.ys ++ k.us)) = k.parts ∙ ap (λ (l : List (List Element)). k.xs ++ l) (append_assoc k.zs (k.es ∷ k.ys) k.us) in
           left n k.xs k.zs (k.es ∷ k.ys ++ k.us) k.xs_on k.zs_on (subst (IsDense (page_room columns)) whole is.dense) more
 
-      right_of : (chain : List (List Element)) → IsChain columns chain → (k : IsTold chain) → (n : ℕ) → second.count + length (all_in k.ys) ≤ n → MeetsRight (page_room columns) n k.us
+      right_of : (chain : List (List Element)) → IsChain columns chain → (k : IsTold chain) → (n : ℕ) → halves.second.count + length (all_in k.ys) ≤ n → MeetsRight (page_room columns) n k.us
       right_of chain is k n more =
           let whole : chain ≡ k.xs ++ (k.zs ++ (k.es ∷ (k.ys ++ k.us))) = k.parts ∙ ap (λ (l : List (List Element)). k.xs ++ l) (append_assoc k.zs (k.es ∷ k.ys) k.us) in
           let dense : IsDense (page_room columns) (k.es ∷ (k.ys ++ k.us)) = dense_back (page_room columns) k.zs (k.es ∷ (k.ys ++ k.us)) (dense_back (page_room columns) k.xs (k.zs ++ k.es ∷ (k.ys ++ k.us)) (subst (IsDense (page_room columns)) whole is.dense)) in
           right n k.us k.ys k.ys_on k.us_on (dense_tail (page_room columns) k.es (k.ys ++ k.us) dense) more
 
-      pages_own : (near : List Place) (next : List Place) → pages_of (near ++ first ∷ next) ≡ pages_of (near ++ t.place ∷ next)
-      pages_own [] next = ap (λ (n : ℕ). n ∷ pages_of next) own
+      pages_own : (near : List Place) (next : List Place) → pages_of (near ++ halves.first ∷ next) ≡ pages_of (near ++ t.place ∷ next)
+      pages_own [] next = ap (λ (n : ℕ). n ∷ pages_of next) halved.page
       pages_own (p ∷ near) next = ap (λ (l : List ℕ). p.page ∷ l) (pages_own near next)
 
       -- so the row is put
-      pub spread_new : (come : Place × Place) (w : Contents) → AreSpread tells slot columns near first second next page others come v w → come.0.at ≡ begin_of near first → come.1.at ≡ second.at → IsRising (ahead ++ come.0 ∷ come.1 ∷ after)
+      pub spread_new : (come : Place × Place) (w : Contents) → AreSpread tells slot columns near halves.first halves.second next page others come v w → come.0.at ≡ begin_of near halves.first → come.1.at ≡ halves.second.at → IsRising (ahead ++ come.0 ∷ come.1 ∷ after)
           → IsPutNew tells slot columns stamp row places (ahead ++ (come.0 ∷ come.1 ∷ after)) v w
       spread_new come w s at1 at2 rises =
           let gone : List Place = near ++ t.place ∷ next in
           let new : List Place = come.0 ∷ come.1 ∷ [] in
           let whole : ArePlaces columns v (ahead ++ (gone ++ after)) = subst (λ (ps : List Place). ArePlaces columns v ps) window_parts are in
-          let same : pages_of (near ++ first ∷ next) ≡ pages_of gone = pages_own near next in
+          let same : pages_of (near ++ halves.first ∷ next) ≡ pages_of gone = pages_own near next in
           let counted1 : IsCounted columns come.0 = s.window.counts 0 come.0 (omega arith) in
           let counted2 : IsCounted columns come.1 = s.window.counts 1 come.0 (omega arith) in
           let few = s.count in
@@ -312,7 +297,7 @@ module _ (tells : Bool) (slot : ℕ) (columns : List Column) (stamp : ℤ) (plac
                 let old : count_of places ≡ count_of ahead + ((count_of near + (t.place.count + count_of next)) + count_of after) =
                 ap count_of window_parts ∙ count_both ahead (gone ++ after) ∙ ap (λ (n : ℕ). count_of ahead + n) (count_both gone after ∙ ap (λ (n : ℕ). n + count_of after) (count_parts near t.place next)) in
                 let none : count_of [] ≡ 0 = refl in
-                omega (arith, old, count_both ahead (new ++ after), count_parts [] come.0 (come.1 ∷ after), count_parts [] come.1 after, none, few, full, second_is);
+                omega (arith, old, count_both ahead (new ++ after), count_parts [] come.0 (come.1 ∷ after), count_parts [] come.1 after, none, few, full, halved.both_count);
             absent = λ told chain on is. target_found chain on is ∙ (parted told (here chain on).elements (here chain on).on).absent;
             put = λ told chain on is.
                 let k = told_parts chain on is in
@@ -322,8 +307,8 @@ module _ (tells : Bool) (slot : ℕ) (columns : List Column) (stamp : ℤ) (plac
                 let both = s.told told k.zs k.ys (take (half_of columns) fs) (drop (half_of columns) fs) k.zs_on k.ys_on (order_first columns (half_of columns) fs order).each (order_others columns (half_of columns) fs order).each
                 h.first_count h.second_count h.page_is h.others_are in
                 let part = part_of told chain is k come w counted1 counted2 at1 at2 both in
-                let more1 : length (all_in k.zs) + first.count ≤ come.0.count = omega (arith, both.first_count, length-append (all_in k.zs) (take (half_of columns) fs), h.first_count) in
-                let more2 : second.count + length (all_in k.ys) ≤ come.1.count = omega (arith, both.second_count, length-append (drop (half_of columns) fs) (all_in k.ys), h.second_count) in
+                let more1 : length (all_in k.zs) + halves.first.count ≤ come.0.count = omega (arith, both.first_count, length-append (all_in k.zs) (take (half_of columns) fs), h.first_count) in
+                let more2 : halves.second.count + length (all_in k.ys) ≤ come.1.count = omega (arith, both.second_count, length-append (drop (half_of columns) fs) (all_in k.ys), h.second_count) in
                 let written = window_written tells slot columns stamp row element told come.0.count come.1.count k.xs (k.zs ++ k.es ∷ k.ys) k.us (subst (IsChain columns) k.parts is) k.outside ahead gone new after v w whole k.xs_on k.us_on (omega arith)
                 part (left_of chain is k come.0.count more1) (right_of chain is k come.1.count more2)
                 (subst (λ (l : List ℕ). IsTrue tells → (n : ℕ) → ¬ Contains l n → ¬ Contains v.free n → w.page n ≡ v.page n) same s.window.others) in
@@ -332,16 +317,16 @@ module _ (tells : Bool) (slot : ℕ) (columns : List Column) (stamp : ℤ) (plac
           }
 
       -- they rise
-      pub spread_rises : (come : Place × Place) → come.1.at ≡ second.at → come.0.at <ℤ second.at → (g : Place) (more : List Place) → t.front ++ t.place ∷ t.back ≡ ahead ++ g ∷ more → (g.at ≤ℤ come.0.at) ⊎ (ahead ≡ []) → IsRising (ahead ++ come.0 ∷ come.1 ∷ after)
+      pub spread_rises : (come : Place × Place) → come.1.at ≡ halves.second.at → come.0.at <ℤ halves.second.at → (g : Place) (more : List Place) → t.front ++ t.place ∷ t.back ≡ ahead ++ g ∷ more → (g.at ≤ℤ come.0.at) ⊎ (ahead ≡ []) → IsRising (ahead ++ come.0 ∷ come.1 ∷ after)
       spread_rises come at low g more parts begins =
-          let beyond2 : AreAbove come.1.at after = subst (λ (z : ℤ). AreAbove z after) (sym at) (above_behind second.at next after (subst (AreAbove second.at) back above)) in
+          let beyond2 : AreAbove come.1.at after = subst (λ (z : ℤ). AreAbove z after) (sym at) (above_behind halves.second.at next after (subst (AreAbove halves.second.at) back above)) in
           let less : come.0.at <ℤ come.1.at = omega (arith, ints, low, at) in
           let beyond1 : AreAbove come.0.at after = above_than come.0.at come.1.at after (omega (arith, ints, less)) beyond2 in
           let rest : IsRising after = rising_behind next after (subst IsRising back (rising_behind (t.place ∷ []) t.back (rising_behind t.front (t.place ∷ t.back) target_rising))) in
           rising_come ahead g more come.0 (come.1 ∷ after) begins (less, beyond1) (beyond2, rest) (subst IsRising parts target_rising)
 
     -- a chain has no more pages than its elements are charged for
-    pub crowded : ¬ FitsLast (page_room columns) first.count t.front → ¬ FitsFirst (page_room columns) second.count t.back → irregular_charge (page_room columns) (count_of places + 1) ≤ length places
+    pub crowded : ¬ FitsLast (page_room columns) halves.first.count t.front → ¬ FitsFirst (page_room columns) halves.second.count t.back → irregular_charge (page_room columns) (count_of places + 1) ≤ length places
         → IsTrue tells → (chain : List (List Element)) → AreChained slot columns v.page places chain → IsChain columns chain → ⊥
     crowded not1 not2 charge told chain on is =
         let q : ℕ = page_room columns in
@@ -352,21 +337,21 @@ module _ (tells : Bool) (slot : ℕ) (columns : List Column) (stamp : ℤ) (plac
         let fs : List Element = with_element stamp row c.elements in
         let one : List Element = take (half_of columns) fs in
         let two : List Element = drop (half_of columns) fs in
-        let b : Place = record { at = second.at; page = suc first.page; count = second.count } in
-        let after : ℕ → List ℕ = with_page b.page (irregular_page slot columns two) (with_page first.page (irregular_page slot columns one) v.page) in
+        let b : Place = record { at = halves.second.at; page = suc halves.first.page; count = halves.second.count } in
+        let after : ℕ → List ℕ = with_page b.page (irregular_page slot columns two) (with_page halves.first.page (irregular_page slot columns one) v.page) in
         let whole : IsChain columns (c.before ++ c.elements ∷ c.behind) = subst (IsChain columns) c.parts is in
         let pages : ArePages columns (c.elements ∷ []) = pages_until columns (c.elements ∷ []) c.behind (pages_from columns c.before (c.elements ∷ c.behind) whole.pages) in
         let k : Cut slot columns v.page [] t.place [] (c.elements ∷ []) = record { before = []; elements = c.elements; behind = []; parts = refl; count = refl; front_on = tt; on = c.on; back_on = tt } in
-        let counted1 : IsCounted columns first = record { some = omega (arith, first_is, half_some); room = omega (arith, first_is, some) } in
-        let counted2 : IsCounted columns b = record { some = omega (arith, first_is, second_is, some); room = omega (arith, first_is, second_is, half_some) } in
-        let part = spread_told slot columns stamp row element v.page [] t.place [] (c.elements ∷ []) pages k (record { earlier = tt; later = tt }) first second page others h full p.longer first.count b.count first b after counted1 counted2 (omega arith) (omega arith)
-        h.first_at refl (other_page b.page first.page (irregular_page slot columns two) (with_page first.page (irregular_page slot columns one) v.page) (λ same. absurd (omega (arith, same))) ∙ changed_page first.page (irregular_page slot columns one) v.page)
-        (changed_page b.page (irregular_page slot columns two) (with_page first.page (irregular_page slot columns one) v.page) ∙ ap (irregular_page slot columns) (sym (append-nil two))) (omega arith) (omega arith) in
-        let made = window_chain slot columns stamp row element first.count b.count c.before (c.elements ∷ []) c.behind whole around (first ∷ b ∷ []) (omega arith) after part
-        (meets_before slot columns v.page q first.count t.front c.before c.front_on not1) (meets_behind slot columns v.page q second.count t.back c.behind c.back_on not2) in
+        let counted1 : IsCounted columns halves.first = record { some = omega (arith, halved.first_count, half_some); room = omega (arith, halved.first_count, some) } in
+        let counted2 : IsCounted columns b = record { some = omega (arith, halved.first_count, halved.both_count, some); room = omega (arith, halved.first_count, halved.both_count, half_some) } in
+        let part = spread_told slot columns stamp row element v.page [] t.place [] (c.elements ∷ []) pages k (record { earlier = tt; later = tt }) halves.first halves.second page others h full p.longer halves.first.count b.count halves.first b after counted1 counted2 (omega arith) (omega arith)
+        h.first_at refl (other_page b.page halves.first.page (irregular_page slot columns two) (with_page halves.first.page (irregular_page slot columns one) v.page) (λ same. absurd (omega (arith, same))) ∙ changed_page halves.first.page (irregular_page slot columns one) v.page)
+        (changed_page b.page (irregular_page slot columns two) (with_page halves.first.page (irregular_page slot columns one) v.page) ∙ ap (irregular_page slot columns) (sym (append-nil two))) (omega arith) (omega arith) in
+        let made = window_chain slot columns stamp row element halves.first.count b.count c.before (c.elements ∷ []) c.behind whole around (halves.first ∷ b ∷ []) (omega arith) after part
+        (meets_before slot columns v.page q halves.first.count t.front c.before c.front_on not1) (meets_behind slot columns v.page q halves.second.count t.back c.behind c.back_on not2) in
         let new : List (List Element) = c.before ++ (part.chain ++ c.behind) in
         let bound = within_charge q new (omega (arith, some)) (sized_pages columns new made.0.pages) made.0.dense in
-        let pair : length part.chain ≡ 2 = chained_length slot columns after (first ∷ b ∷ []) part.chain part.on in
+        let pair : length part.chain ≡ 2 = chained_length slot columns after (halves.first ∷ b ∷ []) part.chain part.on in
         let long_new : length new ≡ length c.before + (2 + length c.behind) = length-append c.before (part.chain ++ c.behind) ∙ ap (λ (n : ℕ). length c.before + n) (length-append part.chain c.behind ∙ ap (λ (n : ℕ). n + length c.behind) pair) in
         let long_old : length places ≡ length c.before + (1 + length c.behind) = sym (chained_length slot columns v.page places chain on) ∙ ap length c.parts ∙ length-append c.before (c.elements ∷ c.behind) ∙ ap (λ (n : ℕ). length c.before + n) (omega arith) in
         let all_old : count_of places ≡ length (all_in c.before) + (length c.elements + length (all_in c.behind)) =

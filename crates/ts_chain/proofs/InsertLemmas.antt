@@ -1,23 +1,23 @@
 -- What an insert leaves: a page that was read and has a row more, a first page, and what was said of pages that were read since.
-use Rattle.std.proofs.Common.{◌≡◌, ◌≢◌, ℕ, zero, suc, ◌+◌, ◌<◌, ◌≤◌, ◌^◌, ℤ, ◌<ℤ◌, ◌≤ℤ◌, ◌==◌, ◌⊎◌, inl, inr, Bool, true, false, IsTrue, Option, Some, None, IsSome, is_some, Result, Ok, Err, List, [], ◌∷◌, ◌++◌, length, take, drop, get_or, refl, sym, ap, subst, ◌∙◌, arith, append-nil}
+use Rattle.std.proofs.Common.{◌≡◌, ℕ, suc, ◌+◌, ◌<◌, ◌≤◌, ◌^◌, ℤ, ◌≤ℤ◌, ◌==◌, ◌⊎◌, inl, inr, Bool, true, false, IsTrue, Option, Some, None, IsSome, is_some, Result, Ok, Err, List, [], ◌∷◌, ◌++◌, length, take, drop, get_or, refl, sym, ap, subst, ◌∙◌, arith, append-nil}
 use borrow.Rule.Slice.PartMut.{mid_of}
 use Rattle.std.specs.Int.{int_min}
 use Rattle.std.specs.Prelude.{Contains, IsPermutation}
 use Rattle.std.proofs.lemmas.Bool.Decides.{nat_tests}
-use Rattle.std.proofs.lemmas.Int.{by_lt_z, ints}
+use Rattle.std.proofs.lemmas.Int.{ints}
 use Rattle.std.proofs.lemmas.List.Elements.{All-nil, All-cons}
 use Rattle.std.proofs.lemmas.List.Sorted.{IsPermutation-to_front, IsPermutation-sym}
 use Rattle.ts_space.specs.declared.place.Place.{Place}
 use Rattle.ts_space.specs.declared.moved.Come.TheVariants.{One}
 use Rattle.ts_space.specs.declared.moved.Moved.{Moved}
-use Rattle.ts_space.specs.Place.{AreAbove, IsRising, count_of, pages_of, place_of}
+use Rattle.ts_space.specs.Place.{AreAbove, IsRising, pages_of, place_of}
 use Rattle.ts_space.specs.Moved.{moved_to}
 use Rattle.ts_page.specs.Pages.{Contents, EqualPages, with_page}
 use Rattle.ts_row.specs.declared.kind.Column.{Column}
 use Rattle.ts_row.specs.Row.{Row}
 use Rattle.ts_row.specs.Element.{Element}
 use Rattle.ts_cells.specs.Cell.{IsElement, page_room}
-use Rattle.ts_cells.specs.IrregularPage.{AreInOrder, FillPage, IsIrregularPage, behind_head, irregular_page, first_stamp}
+use Rattle.ts_cells.specs.IrregularPage.{AreInOrder, FillPage, IsIrregularPage, behind_head, irregular_page}
 use Rattle.ts_irregular.specs.Edit.{element_at, with_element, search_of}
 use Rattle.ts_irregular.specs.OnePage.{IsOn}
 use Rattle.ts_irregular.specs.Call.{ArePut, IsOneMore}
@@ -25,13 +25,13 @@ use Rattle.ts_irregular.proofs.EditLemmas.{with_in_order}
 use Rattle.ts_irregular.proofs.HeadLemmas.{length-page, part_behind}
 use Rattle.ts_irregular.proofs.SearchLemmas.{search_ok, search_err}
 use Rattle.ts_irregular.proofs.SeeLemmas.{behind_told}
-use Rattle.ts_chain.specs.Chain.{all_in, AreBefore, ArePages, IsDense, IsChain}
-use Rattle.ts_chain.specs.Places.{AreChained, AreMoved, ArePlaces, IsCounted, IsHolder, IsTarget}
+use Rattle.ts_chain.specs.Chain.{all_in, AreBefore, IsChain}
+use Rattle.ts_chain.specs.Places.{AreChained, ArePlaces, IsCounted, IsHolder, IsTarget}
 use Rattle.ts_chain.specs.Call.{AreWritten, ChangesOnlyPages, IsInserted, IsPutNew, IsThereAlready}
 use Rattle.ts_chain.specs.Window.{half_of, ArePartedOf, HavePart}
 use Rattle.ts_chain.proofs.DenseLemmas.{dense_back, dense_left, dense_right}
 use Rattle.ts_chain.proofs.PlaceLemmas.{above_than}
-use Rattle.ts_chain.proofs.TakenLemmas.{none_moved, other_page, changed_page}
+use Rattle.ts_chain.proofs.TakenLemmas.{none_moved}
 use Rattle.ts_chain.proofs.SplitLemmas.{length-with}
 use Rattle.ts_chain.proofs.RemoveLemmas.{count_parts, rising_at}
 use Rattle.ts_chain.proofs.ChangeLemmas.{place_first}
@@ -40,6 +40,7 @@ use Rattle.ts_chain.proofs.RestLemmas.{chained_same}
 use Rattle.ts_chain.proofs.PutLemmas.{window_moved, window_written, rising_come, rising_behind}
 use Rattle.ts_chain.proofs.HalfLemmas.{here, target_are, target_around, target_found, target_rising, first_with, min_first, min_low}
 use Rattle.ts_chain.proofs.EndLemmas.{target_get}
+use Rattle.ts_chain.proofs.PagesLemmas.{changed_page, other_page}
 
 -- the place that a stamp is put on
 pub holder_target : (at : ℤ) (places : List Place) (index : ℕ) → IsHolder at places index → IsTarget at places index

@@ -14,7 +14,7 @@ use Rattle.ts_irregular.proofs.EditLemmas.{take_there, rank_below_length}
 use Rattle.ts_chain.specs.Chain.{all_in, AreEarlier, AreLater, ArePages}
 use Rattle.ts_chain.specs.Places.{AreChained, FitsFirst, FitsLast, IsBeginning}
 use Rattle.ts_chain.proofs.DenseLemmas.{MeetsLeft, MeetsRight}
-use Rattle.ts_chain.proofs.OrderLemmas.{later_of, later_than}
+use Rattle.ts_chain.proofs.OrderLemmas.{later_of, later_than, some_z, first_earlier}
 use Rattle.ts_chain.proofs.EditLemmas.{without_lower, without_higher, without_same, without_none}
 use Rattle.ts_chain.proofs.PlaceLemmas.{above_than, before_first}
 use Rattle.ts_chain.proofs.RemoveLemmas.{pages_from, rising_at}
@@ -45,13 +45,6 @@ earlier_without at stamp (e ∷ es) earlier =
     (λ below. subst P (sym (without_same stamp e es high below)) rest))
 
 -- the first of them
-some_z : {a b : ℤ} → Some a ≡ Some b → a ≡ b
-some_z same = cc
-
-earlier_first : (at first : ℤ) (es : List Element) → AreEarlier at es → first_stamp es ≡ Some first → first <ℤ at
-earlier_first at first [] earlier is = absurd (cc)
-earlier_first at first (e ∷ es) earlier is = subst (λ (z : ℤ). z <ℤ at) (some_z is) earlier.0
-
 pub first_left : (stamp first at : ℤ) (es : List Element) → AreRising es → first_stamp es ≡ Some first → first_stamp (without_element stamp es) ≡ Some at → first ≤ℤ at
 first_left stamp first at [] rise is left = absurd (cc)
 first_left stamp first at (e ∷ es) rise is left = by_lt_z e.0 stamp
@@ -76,7 +69,7 @@ left_above slot columns pages stamp at front place (p ∷ back) before x ([] ∷
 left_above slot columns pages stamp at front place (p ∷ back) before x ((f ∷ fs) ∷ behind) rising are on left =
     let own = pages_from columns before (x ∷ (f ∷ fs) ∷ behind) are in
     let earlier : AreEarlier f.0 x = before_first x f (fs ++ all_in behind) own.1 in
-    let low : at <ℤ f.0 = earlier_first f.0 at (without_element stamp x) (earlier_without f.0 stamp x earlier) left in
+    let low : at <ℤ f.0 = first_earlier f.0 at (without_element stamp x) (earlier_without f.0 stamp x earlier) left in
     let same : f.0 ≡ p.at = some_z on.0.first in
     let whole : (front ++ place ∷ []) ++ p ∷ back ≡ front ++ place ∷ p ∷ back = append_assoc front (place ∷ []) (p ∷ back) in
     (omega (arith, ints, low, same), above_than at p.at back (omega (arith, ints, low, same)) (rising_at (front ++ place ∷ []) p back (subst IsRising (sym whole) rising)))

@@ -15,7 +15,7 @@ use Rattle.ts_chain.specs.Chain.{all_in, ArePages, AreEarlier, AreLater, IsChain
 use Rattle.ts_chain.specs.Places.{AreChained, ArePlaces, IsBeginning, IsCounted}
 use Rattle.ts_chain.specs.Call.{AreWritten, IsTakenAway}
 use Rattle.ts_chain.specs.Window.{AreOnOne, IsRestOf}
-use Rattle.ts_chain.proofs.OrderLemmas.{all_in-append, earlier_than, later_front, later_back}
+use Rattle.ts_chain.proofs.OrderLemmas.{all_in-append, earlier_than, later_front, later_back, earlier_front, earlier_back}
 use Rattle.ts_chain.proofs.EditLemmas.{without_behind, without_before}
 use Rattle.ts_chain.proofs.WindowLemmas.{at_page}
 use Rattle.ts_chain.proofs.PlaceLemmas.{chain_earlier, chain_later}
@@ -53,14 +53,6 @@ cut_two slot columns pages (p ∷ front) a b back (es ∷ chain) on =
       next_on = rest.next_on;
       back_on = rest.back_on;
     }
-
-earlier_front : (stamp : ℤ) (xs ys : List Element) → AreEarlier stamp (xs ++ ys) → AreEarlier stamp xs
-earlier_front stamp [] ys earlier = tt
-earlier_front stamp (x ∷ xs) ys earlier = (earlier.0, earlier_front stamp xs ys earlier.1)
-
-earlier_back : (stamp : ℤ) (xs ys : List Element) → AreEarlier stamp (xs ++ ys) → AreEarlier stamp ys
-earlier_back stamp [] ys earlier = earlier
-earlier_back stamp (x ∷ xs) ys earlier = earlier_back stamp xs ys earlier.1
 
 module _ (tells : Bool) (slot : ℕ) (columns : List Column) (stamp : ℤ) (v w : Contents) (count : ℕ) (bytes : List ℕ) (front : List Place) (a b : Place) (back : List Place)
     (rising : IsRising (front ++ a ∷ b ∷ back)) (are : ArePlaces columns v (front ++ a ∷ b ∷ back)) (above : AreAbove stamp back) (one : Place) (counted : IsCounted columns one) (page : one.page ≡ a.page) (free : w.free ≡ b.page ∷ v.free) where

@@ -1,11 +1,11 @@
 -- The order of elements over several pages.
-use Rattle.std.proofs.Common.{◌≡◌, ℕ, ℤ, ◌≤ℤ◌, List, [], ◌∷◌, ◌++◌, take, drop, refl, sym, ap, subst, ◌∙◌, arith, append_assoc}
+use Rattle.std.proofs.Common.{◌≡◌, ℕ, ℤ, ◌<ℤ◌, ◌≤ℤ◌, Some, List, [], ◌∷◌, ◌++◌, take, drop, refl, sym, ap, subst, ◌∙◌, arith, append_assoc}
 use Rattle.std.proofs.lemmas.Int.{ints}
 use Rattle.std.proofs.lemmas.List.{take-append-drop}
 use Rattle.ts_row.specs.declared.kind.Column.{Column}
 use Rattle.ts_row.specs.Element.{Element}
 use Rattle.ts_cells.specs.Cell.{page_room}
-use Rattle.ts_cells.specs.IrregularPage.{AreElements, AreRising, AreInOrder}
+use Rattle.ts_cells.specs.IrregularPage.{AreElements, AreRising, AreInOrder, first_stamp}
 use Rattle.ts_chain.specs.Chain.{all_in, AreEarlier, AreLater, AreBefore, ArePages, AreSized}
 
 -- the elements of two parts of a chain
@@ -138,3 +138,20 @@ order_others columns k es order =
     let P : List Element → Type 0 = AreInOrder columns in
     let whole : AreInOrder columns (take k es ++ drop k es) = subst P (sym (take-append-drop k es)) order in
     record { each = elements_back columns (take k es) (drop k es) whole.each; rising = rising_back (take k es) (drop k es) whole.rising }
+
+-- elements that are all earlier, by their two parts
+pub earlier_front : (stamp : ℤ) (xs ys : List Element) → AreEarlier stamp (xs ++ ys) → AreEarlier stamp xs
+earlier_front stamp [] ys earlier = tt
+earlier_front stamp (x ∷ xs) ys earlier = (earlier.0, earlier_front stamp xs ys earlier.1)
+
+pub earlier_back : (stamp : ℤ) (xs ys : List Element) → AreEarlier stamp (xs ++ ys) → AreEarlier stamp ys
+earlier_back stamp [] ys earlier = earlier
+earlier_back stamp (x ∷ xs) ys earlier = earlier_back stamp xs ys earlier.1
+
+pub some_z : {a b : ℤ} → Some a ≡ Some b → a ≡ b
+some_z same = cc
+
+-- where elements begin that are all earlier
+pub first_earlier : (at first : ℤ) (es : List Element) → AreEarlier at es → first_stamp es ≡ Some first → first <ℤ at
+first_earlier at first [] earlier is = absurd (cc)
+first_earlier at first (e ∷ es) earlier is = subst (λ (z : ℤ). z <ℤ at) (some_z is) earlier.0

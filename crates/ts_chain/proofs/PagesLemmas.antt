@@ -30,7 +30,7 @@ abbrev pub AreApart : ℕ → List Place → Type 0
 AreApart n [] = Unit {0}
 AreApart n (p ∷ places) = (p.page ≢ n) × AreApart n places
 
-pairs_tail : (x : ℕ) (xs : List ℕ) → AllPairs (λ a b. a ≢ b) (x ∷ xs) → AllPairs (λ a b. a ≢ b) xs
+pub pairs_tail : (x : ℕ) (xs : List ℕ) → AllPairs (λ a b. a ≢ b) (x ∷ xs) → AllPairs (λ a b. a ≢ b) xs
 pairs_tail x xs pairs i j d before within = pairs (suc i) (suc j) d (omega arith) (omega arith)
 
 -- those behind a place, and those before it

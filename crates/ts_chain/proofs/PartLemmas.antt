@@ -1,8 +1,7 @@
 -- The two pages that the halves of a page are put on, each alone or with the elements of a neighbour.
-use Rattle.std.proofs.Common.{◌≡◌, ◌≢◌, ℕ, suc, ◌+◌, ◌<◌, ◌≤◌, Bool, IsTrue, List, [], ◌∷◌, ◌++◌, length, drop, get_or, refl, sym, ap, subst, ◌∙◌, arith, append-nil, length-append}
-use Rattle.std.specs.Prelude.{Contains, IsPermutation}
+use Rattle.std.proofs.Common.{◌≡◌, ◌≢◌, ℕ, suc, ◌+◌, ◌*◌, ◌<◌, ◌≤◌, Bool, IsTrue, Option, Some, List, [], ◌∷◌, ◌++◌, length, drop, get_or, refl, sym, ap, subst, ◌∙◌, arith, append-nil, length-append}
+use Rattle.std.specs.Prelude.{Contains, IfSome, IsPermutation, option_to_list}
 use Rattle.std.proofs.lemmas.List.Elements.{All-nil, All-cons}
-use Rattle.std.proofs.lemmas.List.Sorted.{IsPermutation-refl}
 use Rattle.ts_space.specs.declared.place.Place.{Place}
 use Rattle.ts_space.specs.Place.{count_of, pages_of}
 use Rattle.ts_page.specs.Head.{zero_page}
@@ -14,8 +13,11 @@ use Rattle.ts_cells.proofs.HeadLemmas.{irregular_behind}
 use Rattle.ts_irregular.specs.OnePage.{IsOn}
 use Rattle.ts_chain.specs.Chain.{all_in}
 use Rattle.ts_chain.specs.Places.{AreChained, IsCounted}
-use Rattle.ts_chain.specs.Window.{AreSpread, HaveBoth, IsWindow}
-use Rattle.ts_chain.proofs.TakenLemmas.{changed_page, other_page, first_put, second_put, none_put, one_taken, one_freed, none_moved}
+use Rattle.ts_chain.specs.declared.halves.Halves.{Halves}
+use Rattle.ts_chain.specs.Window.{AreSpread, begin_of}
+use Rattle.ts_chain.specs.Halves.{IsSpread}
+use Rattle.ts_chain.proofs.TakenLemmas.{first_put, second_put, none_put, one_taken, one_freed}
+use Rattle.ts_chain.proofs.PagesLemmas.{other_page}
 
 -- the elements of no page, and of one
 none_on : (slot : ℕ) (columns : List Column) (pages : ℕ → List ℕ) (xs : List (List Element)) → AreChained slot columns pages [] xs → all_in xs ≡ []
@@ -116,6 +118,25 @@ spread_made tells slot columns before first second behind page others one two co
       let h = have told in
       record { first_count = h1.0; second_count = h2.0; first_page = h.first_is ∙ h1.1; second_page = h.second_is ∙ h2.1 };
 }
+
+-- whatever neighbours there are
+pub is_spread : (tells : Bool) (slot : ℕ) (columns : List Column) (h : Halves) (before behind : Option Place) (page others : List ℕ) (come : Place × Place) (v w : Contents) → h.before ≡ before → h.behind ≡ behind → come.0.at ≡ begin_of (option_to_list before) h.first → come.1.at ≡ h.second.at
+    → w.change_bytes + 5 * length v.free ≤ v.change_bytes + 5 * length w.free + 8207 → AreSpread tells slot columns (option_to_list before) h.first h.second (option_to_list behind) page others come v w → IsSpread tells slot columns h page others come v w
+is_spread tells slot columns h before behind page others come v w first_is second_is first second grows spread = record {
+  first_at = first ∙ ap (λ (o : Option Place). begin_of (option_to_list o) h.first) (sym first_is);
+  second_at = second;
+  spread =
+      subst (λ (o : Option Place). AreSpread tells slot columns (option_to_list o) h.first h.second (option_to_list h.behind) page others come v w) (sym first_is)
+      (subst (λ (o : Option Place). AreSpread tells slot columns (option_to_list before) h.first h.second (option_to_list o) page others come v w) (sym second_is) spread);
+  grows = grows;
+}
+
+-- a neighbour that is known
+pub joined : (P : Place → Type 0) (near : Option Place) (p : Place) → near ≡ Some p → IfSome near P → P p
+joined P near p is some = subst (λ (o : Option Place). IfSome o P) is some
+
+pub joined_both : (P : Place → Place → Type 0) (before behind : Option Place) (p q : Place) → before ≡ Some p → behind ≡ Some q → IfSome before (λ b. IfSome behind (P b)) → P p q
+joined_both P before behind p q first second some = joined (P p) behind q second (joined (λ b. IfSome behind (P b)) before p first some)
 
 -- what is none of some numbers
 pub none_of_one : (x n : ℕ) → ¬ Contains (x ∷ []) n → n ≢ x

@@ -10,7 +10,7 @@ use Rattle.ts_cells.specs.IrregularPage.{AreRising, first_stamp}
 use Rattle.ts_irregular.specs.OnePage.{IsOn}
 use Rattle.ts_chain.specs.Chain.{all_in, AreEarlier, AreLater, AreBefore, ArePages, IsAround}
 use Rattle.ts_chain.specs.Places.{AreChained, IsHolder}
-use Rattle.ts_chain.proofs.OrderLemmas.{later_than, earlier_than, later_of, later_both, all_in-append}
+use Rattle.ts_chain.proofs.OrderLemmas.{later_than, earlier_than, later_of, later_both, all_in-append, some_z}
 
 -- places above a lower stamp
 pub above_than : (low high : ℤ) (ps : List Place) → low ≤ℤ high → AreAbove high ps → AreAbove low ps
@@ -153,9 +153,6 @@ first_later at begins (e ∷ es) first rise above =
     let same : e.0 ≡ begins = some_z first in
     let low : at <ℤ e.0 = subst (λ (z : ℤ). at <ℤ z) (sym same) above in
     (low, later_than at e.0 es (omega (arith, ints, low)) (later_of e es rise))
-  where
-    some_z : {a b : ℤ} → Some a ≡ Some b → a ≡ b
-    some_z same = cc
 
 pub chain_later : (slot : ℕ) (columns : List Column) (pages : ℕ → List ℕ) (at : ℤ) (places : List Place) (chain : List (List Element)) → AreChained slot columns pages places chain → AreAbove at places → AreLater at (all_in chain)
 chain_later slot columns pages at [] [] on above = tt

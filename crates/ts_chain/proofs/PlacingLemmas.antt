@@ -11,7 +11,7 @@ use Rattle.ts_irregular.specs.Edit.{element_at, last_of, rank_of}
 use Rattle.ts_irregular.proofs.EditLemmas.{int_lt_yes, int_lt_no, AreRising-tail, none_after}
 use Rattle.ts_chain.specs.Chain.{AreLater}
 use Rattle.ts_chain.specs.Placing.{earlier, last_before}
-use Rattle.ts_chain.proofs.OrderLemmas.{later_than, later_of}
+use Rattle.ts_chain.proofs.OrderLemmas.{later_than, later_of, some_z}
 use Rattle.ts_chain.proofs.EditLemmas.{at_lower, at_higher, at_same}
 use Rattle.ts_chain.proofs.LastLemmas.{last_back, last_some}
 
@@ -95,6 +95,3 @@ last_between last end begins front (e ∷ es) back next first before later =
     earlier_both end (e ∷ es) back ∙ ap (λ (l : List Element). earlier end (e ∷ es) ++ l) (earlier_none last end back next later) ∙ append-nil (earlier end (e ∷ es)) ∙ own in
     ap (λ (l : List Element). option_map (λ (f : Element). f.0) (last_of l)) (earlier_both end front ((e ∷ es) ++ back) ∙ ap (λ (l : List Element). earlier end front ++ l) right)
     ∙ ap (option_map (λ (f : Element). f.0)) (last_back (earlier end front) e (earlier end es) ∙ ap last_of (sym own))
-  where
-    some_z : {a b : ℤ} → Some a ≡ Some b → a ≡ b
-    some_z same = cc

@@ -1,5 +1,5 @@
 -- A row is put on pages side by side of a series: what they become, whatever stands before and behind them.
-use Rattle.std.proofs.Common.{◌≡◌, ◌≢◌, ℕ, zero, suc, ◌+◌, ◌<◌, ◌≤◌, ℤ, ◌<ℤ◌, ◌≤ℤ◌, ◌⊎◌, inl, inr, All, AllPairs, Bool, IsTrue, Some, List, [], ◌∷◌, ◌++◌, length, refl, sym, ap, subst, ◌∙◌, arith, append_assoc, append-nil, length-append}
+use Rattle.std.proofs.Common.{◌≡◌, ◌≢◌, ℕ, zero, suc, ◌+◌, ◌≤◌, ℤ, ◌≤ℤ◌, ◌⊎◌, inl, inr, All, AllPairs, Bool, IsTrue, List, [], ◌∷◌, ◌++◌, length, refl, sym, ap, subst, ◌∙◌, arith, append_assoc, append-nil, length-append}
 use Rattle.std.specs.Prelude.{Contains, IsPermutation}
 use Rattle.std.proofs.lemmas.Int.{ints}
 use Rattle.std.proofs.lemmas.List.Elements.{All-append, All-head, All-tail}
@@ -14,15 +14,16 @@ use Rattle.ts_row.specs.Element.{Element}
 use Rattle.ts_cells.specs.Cell.{IsElement, page_room}
 use Rattle.ts_irregular.specs.Edit.{with_element}
 use Rattle.ts_irregular.specs.OnePage.{IsOn, IsPlace}
-use Rattle.ts_chain.specs.Chain.{all_in, AreBefore, AreEarlier, AreLater, ArePages, AreSized, IsDense, IsChain, IsAround}
+use Rattle.ts_chain.specs.Chain.{all_in, AreBefore, ArePages, IsDense, IsChain, IsAround}
 use Rattle.ts_chain.specs.Places.{AreChained, AreMoved, ArePlaces, IsCounted}
 use Rattle.ts_chain.specs.Call.{AreWritten, ChangesOnlyPages}
-use Rattle.ts_chain.specs.Window.{HavePart, IsWindow, StartsWith, EndsWith}
-use Rattle.ts_chain.proofs.OrderLemmas.{all_in-append, later_front, later_back, sized_pages}
-use Rattle.ts_chain.proofs.DenseLemmas.{MeetsLeft, MeetsRight, dense_front, dense_back, dense_made, dense_cons, dense_tail, meets_left, meets_right}
+use Rattle.ts_chain.specs.Window.{HavePart, StartsWith, EndsWith}
+use Rattle.ts_chain.proofs.OrderLemmas.{all_in-append, later_front, sized_pages}
+use Rattle.ts_chain.proofs.DenseLemmas.{MeetsLeft, MeetsRight, dense_front, dense_back, dense_made, dense_cons, meets_left, meets_right}
 use Rattle.ts_chain.proofs.WindowLemmas.{with_window}
 use Rattle.ts_chain.proofs.PlaceLemmas.{above_than, chained_both}
-use Rattle.ts_chain.proofs.RemoveLemmas.{pages_from}
+use Rattle.ts_chain.proofs.FreeLemmas.{contains_first, contains_second}
+use Rattle.ts_chain.proofs.RemoveLemmas.{pages_both}
 
 -- a chain has a page for each place, and as many elements as the places tell
 pub chained_length : (slot : ℕ) (columns : List Column) (pages : ℕ → List ℕ) (places : List Place) (chain : List (List Element)) → AreChained slot columns pages places chain → length chain ≡ length places
@@ -78,28 +79,8 @@ pages_until columns [] back are = tt
 pages_until columns (es ∷ front) back are =
     (are.0, before_front (all_in front) (all_in back) es (subst (AreBefore es) (all_in-append front back) are.1), pages_until columns front back are.2)
 
--- numbers of several lists
-pub contains_first : (xs ys : List ℕ) (n : ℕ) → Contains xs n → Contains (xs ++ ys) n
-contains_first [] ys n has = absurd (let below = has.1 in omega (arith, below))
-contains_first (x ∷ xs) ys n (zero, below, is) = (0, omega arith, is)
-contains_first (x ∷ xs) ys n (suc k, below, is) =
-    let rest = contains_first xs ys n (k, omega (arith, below), is) in
-    let within = rest.1 in
-    (suc rest.0, omega (arith, within), rest.2)
-
-pub contains_second : (xs ys : List ℕ) (n : ℕ) → Contains ys n → Contains (xs ++ ys) n
-contains_second [] ys n has = has
-contains_second (x ∷ xs) ys n has =
-    let rest = contains_second xs ys n has in
-    let within = rest.1 in
-    (suc rest.0, omega (arith, within), rest.2)
-
 pub pages_three : (front gone back : List Place) → pages_of (front ++ (gone ++ back)) ≡ pages_of front ++ (pages_of gone ++ pages_of back)
 pages_three [] gone back = pages_both gone back
-  where
-    pages_both : (front back : List Place) → pages_of (front ++ back) ≡ pages_of front ++ pages_of back
-    pages_both [] back = refl
-    pages_both (p ∷ front) back = ap (λ (l : List ℕ). p.page ∷ l) (pages_both front back)
 pages_three (p ∷ front) gone back = ap (λ (l : List ℕ). p.page ∷ l) (pages_three front gone back)
 
 pub gone_there : (front gone back : List Place) (n : ℕ) → Contains (pages_of gone) n → Contains (pages_of (front ++ (gone ++ back))) n

@@ -30,7 +30,7 @@ pages_put : (front : List Place) (a b : Place) (back : List Place) → b.page �
 pages_put [] a b back same = ap (λ (n : ℕ). n ∷ pages_of back) same
 pages_put (p ∷ front) a b back same = ap (λ (l : List ℕ). p.page ∷ l) (pages_put front a b back same)
 
-pages_both : (front back : List Place) → pages_of (front ++ back) ≡ pages_of front ++ pages_of back
+pub pages_both : (front back : List Place) → pages_of (front ++ back) ≡ pages_of front ++ pages_of back
 pages_both [] back = refl
 pages_both (p ∷ front) back = ap (λ (l : List ℕ). p.page ∷ l) (pages_both front back)
 

@@ -1,16 +1,9 @@
 -- The pages of places, and those that can be taken: what a window of places leaves of them.
-use Rattle.std.proofs.Common.{◌≡◌, ◌≢◌, ℕ, suc, ◌==◌, true, false, List, [], ◌∷◌, ◌++◌, refl, sym, ap, subst, ◌∙◌, arith, append_assoc}
+use Rattle.std.proofs.Common.{◌≡◌, ◌≢◌, ℕ, List, [], ◌∷◌, ◌++◌, sym, ap, subst, ◌∙◌, arith, append_assoc}
 use Rattle.std.specs.Prelude.{Contains, IsPermutation}
-use Rattle.std.proofs.lemmas.Bool.Decides.{nat_tests}
 use Rattle.std.proofs.lemmas.List.Sorted.{IsPermutation-refl, IsPermutation-sym, IsPermutation-middle, IsPermutation-to_front}
 use Rattle.ts_page.specs.Pages.{EqualPages, with_page}
-
--- the page under a number that was changed, and one under another
-pub changed_page : (n : ℕ) (bytes : List ℕ) (pages : ℕ → List ℕ) → with_page n bytes pages n ≡ bytes
-changed_page n bytes pages = let same : (n == n) ≡ true = grind (arith, nat_tests) in rw same refl
-
-pub other_page : (n m : ℕ) (bytes : List ℕ) (pages : ℕ → List ℕ) → m ≢ n → with_page n bytes pages m ≡ pages m
-other_page n m bytes pages other = let no : (n == m) ≡ false = grind (arith, nat_tests) in rw no refl
+use Rattle.ts_chain.proofs.PagesLemmas.{changed_page, other_page}
 
 -- of two pages that were put
 module _ (a b : ℕ) (one two : List ℕ) (v w : ℕ → List ℕ) (put : EqualPages (with_page b two (with_page a one v)) w) where
@@ -42,6 +35,3 @@ none_moved v w pages same = subst (λ (l : List ℕ). IsPermutation (v ++ pages)
 -- a number that isn't among some is none of them
 pub not_first : (xs : List ℕ) (x n : ℕ) → ¬ Contains (x ∷ xs) n → n ≢ x
 not_first xs x n not same = not (0, omega arith, sym same)
-
-pub not_rest : (xs : List ℕ) (x n : ℕ) → ¬ Contains (x ∷ xs) n → ¬ Contains xs n
-not_rest xs x n not has = not (suc has.0, (let below = has.1 in omega (arith, below)), has.2)

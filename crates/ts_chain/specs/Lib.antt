@@ -4,3 +4,4 @@ pub mod Placing
 pub mod Range
 pub mod Call
 pub mod Window
+pub mod Halves

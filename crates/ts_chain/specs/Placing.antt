@@ -1,7 +1,9 @@
 -- Where an element is put at a stamp that may be taken.
-use Rattle.std.specs.Prelude.{ℕ, ℤ, pos, ◌+ℤ◌, ◌*ℤ◌, int_lt, if◌then◌else◌, Option, Some, None, is_some, List, filter}
+use Rattle.std.specs.Prelude.{ℕ, ℤ, pos, ◌+ℤ◌, ◌*ℤ◌, int_lt, if◌then◌else◌, Option, Some, None, is_some, Result, Ok, Err, List, filter}
 use Rattle.std.specs.Int.{int_div_euclid}
 use Rattle.std.specs.Option.{option_map, option_and_then}
+use Rattle.ts_base.specs.declared.refusal.Refusal.{Refusal}
+use Rattle.ts_base.specs.declared.refusal.Refusal.TheVariants.{SecondFull}
 use Rattle.ts_row.specs.Element.{Element}
 use Rattle.ts_irregular.specs.Edit.{element_at, last_of}
 
@@ -30,3 +32,8 @@ abbrev pub place_for : ℤ → List Element → Option ℤ
 place_for stamp es =
     if is_some (element_at stamp es) then option_and_then (unit_after (next_second stamp)) (last_before (next_second stamp) es)
     else Some stamp
+
+-- the place that an element gets, if there is one; else its second is full
+abbrev pub placed : Option ℤ → Result ℤ Refusal
+placed (Some at) = Ok at
+placed None = Err SecondFull

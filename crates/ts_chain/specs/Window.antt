@@ -28,11 +28,6 @@ pub record AreHalves (slot : ℕ) (columns : List Column) (es : List Element) (f
   pub first_count : length (take (half_of columns) es) ≡ first.count
   pub second_count : length (drop (half_of columns) es) ≡ second.count
 
--- where the pages are told, two pages and their places have the halves of what the page of a place has, with a row more
-abbrev pub AreHalvesOf : Bool → ℕ → List Column → ℤ → Row → Place → Place → Place → List ℕ → List ℕ → Contents → Type 0
-AreHalvesOf tells slot columns stamp row place first second page others v =
-    IsTrue tells → (es : List Element) → IsOn slot columns (v.page place.page) place es → AreHalves slot columns (with_element stamp row es) first second page others
-
 -- the first of the pages has so many elements at least
 abbrev pub StartsWith : ℕ → List (List Element) → Type 0
 StartsWith n [] = Unit {0}
@@ -60,11 +55,6 @@ pub record IsWindow (tells : Bool) (columns : List Column) (gone come : List Pla
   pub pages : IsPermutation (v.free ++ pages_of gone) (w.free ++ pages_of come)
   pub counts : All (IsCounted columns) come
   pub others : ChangesOnlyPages tells gone v w
-
--- where the pages are told, those that come have the elements of those that go with a row more
-abbrev pub IsPutPart : Bool → ℕ → List Column → ℤ → Row → ℕ → ℕ → List Place → List Place → Contents → Contents → Type 0
-IsPutPart tells slot columns stamp row left right gone come v w =
-    IsTrue tells → (old : List (List Element)) → AreChained slot columns v.page gone old → ArePages columns old → HavePart slot columns (with_element stamp row (all_in old)) left right come w.page
 
 -- one page has these elements of two, as many as its place tells, and the other is free
 pub record AreOnOne (slot : ℕ) (columns : List Column) (es : List Element) (one : Place) (freed : ℕ) (v w : Contents) : Type 0 where

@@ -1,5 +1,5 @@
 // A row is put at a stamp at which none is there.
-ghost use Rattle.std.specs.Prelude.{◌≡◌, ◌+◌, ◌*◌, ◌<◌, ◌≤◌, IsTrue, IfOk, IfSome, None, [], length};
+ghost use Rattle.std.specs.Prelude.{◌≡◌, ◌+◌, ◌*◌, ◌<◌, ◌≤◌, IsTrue, IfOk, None, length};
 ghost use Rattle.std.specs.Int.{int_min};
 ghost use Rattle.ts_space.specs.Place.{IsRising, count_of};
 ghost use Rattle.ts_space.specs.Directory.{places_of};
@@ -12,7 +12,7 @@ ghost use Rattle.ts_chain.specs.Call.{IsInserted};
 
 use crate::find::holder;
 use crate::page::halve;
-use crate::split::keep_halves;
+use crate::split::{Target, keep_halves};
 use ts_base::{Stamp, StoreFault};
 use ts_cells::page_room;
 use ts_irregular::{count_taken, insert_into, put_alone, search};
@@ -57,7 +57,7 @@ pub fn chain_insert<P: Pages>(
     }
     let index = target(places, stamp);
     pages.get(places[index].page, page)?;
-    insert_read(pages, page, shelf, places, index, stamp, row)
+    insert_read(pages, page, shelf, places, Target { stamp, index }, row)
 }
 
 // The index of the place whose page a stamp is put on.
@@ -78,17 +78,16 @@ fn insert_read<P: Pages>(
     page: &mut Page,
     shelf: &Shelf,
     places: &[Place],
-    index: usize,
-    stamp: Stamp,
+    target: Target,
     row: &Row,
 ) -> Result<Option<Moved>, StoreFault>
-    requires target { IsTarget stamp places.now index }
+    requires target { IsTarget target.stamp places.now target.index }
     requires rising { IsRising places.now }
     requires places { ArePlaces shelf.now.kind.now.columns (P.contents pages.old) places.now }
     requires fits { IsTrue (fits shelf.now.kind.now.columns row.now) }
     requires room { irregular_charge (page_room shelf.now.kind.now.columns) (count_of places.now + 1) ≤ length (P.contents pages.old).free + length places.now }
-    requires read { (t : IsTarget stamp places.now index) → IsTrue P.tells → page.old.bytes ≡ (P.contents pages.old).page t.place.page }
-    ensures ok { IfOk result (IsInserted P.tells shelf.now.series shelf.now.kind.now.columns stamp row.now places.now (P.contents pages.old) (P.contents pages.new)) }
+    requires read { (t : IsTarget target.stamp places.now target.index) → IsTrue P.tells → page.old.bytes ≡ (P.contents pages.old).page t.place.page }
+    ensures ok { IfOk result (IsInserted P.tells shelf.now.series shelf.now.kind.now.columns target.stamp row.now places.now (P.contents pages.old) (P.contents pages.new)) }
     ensures call { Answered result (P.contents pages.old) (P.contents pages.new) }
     ensures grows { IfOk result (λ moved. (P.contents pages.new).change_bytes + 5 * length (P.contents pages.old).free
         ≤ (P.contents pages.old).change_bytes + 5 * length (P.contents pages.new).free + 8207) }
@@ -96,25 +95,25 @@ fn insert_read<P: Pages>(
     ensures undisturbed { P.undisturbed pages.old pages.new }
 {
     // It lies in the range; and a row has at most 1000 bytes, so there is room for one.
-    let _units = stamp.units();
+    let _units = target.stamp.units();
     let _width = shelf.kind.width();
-    let place = &places[index];
+    let place = &places[target.index];
     let count = count_taken(shelf, place, page);
-    let Err(at) = search(shelf.kind, &page.bytes[HEAD..], count, stamp) else {
+    let Err(at) = search(shelf.kind, &page.bytes[HEAD..], count, target.stamp) else {
         return Ok(None);
     };
     if count < page_room(shelf.kind) {
-        insert_into(shelf, page, count, at, stamp, row);
+        insert_into(shelf, page, count, at, target.stamp, row);
         pages.put(place.page, page)?;
         return Ok(Some(Moved {
-            index,
+            index: target.index,
             gone: 1,
-            come: Come::One(grown(place, stamp, count)),
+            come: Come::One(grown(place, target.stamp, count)),
         }));
     }
     let mut others = Page::zero();
-    halve(shelf, page, &mut others, at, stamp, row);
-    let moved = keep_halves(pages, page, &mut others, shelf, places, index, stamp)?;
+    halve(shelf, page, &mut others, at, target.stamp, row);
+    let moved = keep_halves(pages, page, &mut others, shelf, places, target)?;
     Ok(Some(moved))
 }
 

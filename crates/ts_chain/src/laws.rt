@@ -1,5 +1,5 @@
 // What holds of every chain.
-ghost use Rattle.std.specs.Prelude.{◌≡◌, All, Bool, ◌+◌, ◌<◌, ◌≤◌, ℕ, ℤ, List, [], ◌∷◌, ◌++◌, length};
+ghost use Rattle.std.specs.Prelude.{◌≡◌, All, Bool, ◌<◌, ◌≤◌, ℤ, List, ◌∷◌, ◌++◌, length};
 ghost use Rattle.ts_space.specs.Charge.{irregular_charge};
 ghost use Rattle.ts_space.specs.Place.{pages_of};
 ghost use Rattle.ts_space.specs.declared.place.Place.{Place as ThePlace};

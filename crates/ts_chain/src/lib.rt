@@ -6,13 +6,14 @@
 //! finds where one is put at a stamp that may be taken, `free_pages` frees the pages of places (`specs/Chain`, `specs/Places`,
 //! `specs/Placing`, `specs/Range`, `specs/Call`). `holder`, `join_before`, `append_page` and what stands beside them are for edits of many
 //! elements above. Stands on ts_irregular, which edits one page; knows nothing of definitions, quotas or journals. Read
-//! `specs/Chain.antt`, `specs/Call.antt`, then `find.rt`, `change.rt`, `insert.rt`, `split.rt`, `last.rt`, `place.rt`, `remove.rt`.
+//! `specs/Chain.antt`, `specs/Call.antt`, then `find.rt`, `change.rt`, `insert.rt`, `split.rt`, `halves.rt`, `spread.rt`, `last.rt`, `place.rt`, `remove.rt`.
 #![tactic(auto)]
 
 mod cells;
 mod change;
 mod find;
 mod free;
+mod halves;
 mod insert;
 mod join;
 mod last;
@@ -22,6 +23,7 @@ mod page;
 mod place;
 mod remove;
 mod split;
+mod spread;
 #[cfg(test)]
 mod tests;
 

@@ -22,9 +22,6 @@ const SLOT: u16 = 7;
 /// 2011-01-03 00:00:00.
 const DAY_3: i64 = 129_401_280_000_000;
 
-/// 2011-01-03 10:00:00.
-const TEN: i64 = 129_404_880_000_000;
-
 /// A series of integers.
 #[derive(Drop)]
 struct Series {
@@ -124,147 +121,121 @@ fn put(series: &mut Series, at: i64, integer: i128) -> Result<(), StoreFault>
     Ok(())
 }
 
-// With the integer 5 at the third.
-fn filled(alloc: Global) -> Result<Series, StoreFault>
-    ensures { IfOk result (λ series. ArePlaces series.kind.columns (memory_contents series.pages) (places_of 7 series.space)) }
-{
+/// What is asked of a series with the integer 5 at the third.
+#[derive(Clone, Copy)]
+enum Question {
+    Find,
+    Replace,
+    Mark,
+    Last,
+    Place,
+    Remove,
+    Free,
+}
+
+// Whether the answer is the right one.
+fn is_answered(alloc: Global, question: Question) -> Result<bool, StoreFault> {
     let mut series = empty(alloc)?;
     put(&mut series, DAY_3, 5)?;
-    Ok(series)
-}
-
-// Whether a row is this integer, hidden or not.
-fn is_row(row: &Option<Row>, integer: i128, hidden: bool) -> bool {
-    match row {
-        Some(row) => {
-            matches!(row.values(), [Value::Number(n)] if *n == integer) && row.hidden() == hidden
-        }
-        None => false,
+    let stamp = Stamp::of(DAY_3).ok_or(StoreFault::Failed)?;
+    match question {
+        Question::Find => is_found(&mut series, stamp),
+        Question::Replace => is_replaced(&mut series, stamp),
+        Question::Mark => is_marked(&mut series, stamp),
+        Question::Last => is_last(&mut series),
+        Question::Place => is_placed(&mut series, stamp),
+        Question::Remove => is_removed(&mut series, stamp),
+        Question::Free => is_freed(alloc, &mut series),
     }
 }
 
-// Another row in place of the one that is there.
-fn is_replaced(alloc: Global) -> Result<bool, StoreFault> {
-    let mut series = filled(alloc)?;
+fn is_found(series: &mut Series, stamp: Stamp) -> Result<bool, StoreFault>
+    requires { ArePlaces series.old.kind.columns (memory_contents series.old.pages) (places_of 7 series.old.space) }
+{
+    let kind = &series.kind;
+    let shelf = Shelf { series: SLOT, kind };
+    let page = &mut Page::zero();
+    let found = chain_find(&mut series.pages, page, &series.space, &shelf, stamp)?;
+    Ok(found.is_some_and(|row| is_five(&row)))
+}
+
+// Whether a row is the integer 5, and isn't hidden.
+fn is_five(row: &Row) -> bool {
+    matches!(row.values(), [Value::Number(5)]) && !row.hidden()
+}
+
+fn is_replaced(series: &mut Series, stamp: Stamp) -> Result<bool, StoreFault>
+    requires { ArePlaces series.old.kind.columns (memory_contents series.old.pages) (places_of 7 series.old.space) }
+{
     let row = row_of(&series.kind, -8)?;
-    let stamp = Stamp::of(DAY_3).ok_or(StoreFault::Failed)?;
-    let shelf = Shelf {
-        series: SLOT,
-        kind: &series.kind,
-    };
+    let kind = &series.kind;
+    let shelf = Shelf { series: SLOT, kind };
     let page = &mut Page::zero();
-    let told = chain_replace(&mut series.pages, page, &series.space, &shelf, stamp, &row)?;
-    let found = chain_find(&mut series.pages, page, &series.space, &shelf, stamp)?;
-    Ok(told && is_row(&found, -8, false))
+    chain_replace(&mut series.pages, page, &series.space, &shelf, stamp, &row)
 }
 
-// It is hidden, and none is beside it.
-fn is_marked(alloc: Global) -> Result<bool, StoreFault> {
-    let mut series = filled(alloc)?;
-    let stamp = Stamp::of(DAY_3).ok_or(StoreFault::Failed)?;
-    let other = Stamp::of(DAY_3 - 1).ok_or(StoreFault::Failed)?;
-    let shelf = Shelf {
-        series: SLOT,
-        kind: &series.kind,
-    };
+fn is_marked(series: &mut Series, stamp: Stamp) -> Result<bool, StoreFault>
+    requires { ArePlaces series.old.kind.columns (memory_contents series.old.pages) (places_of 7 series.old.space) }
+{
+    let kind = &series.kind;
+    let shelf = Shelf { series: SLOT, kind };
     let page = &mut Page::zero();
-    let told = chain_mark(&mut series.pages, page, &series.space, &shelf, stamp, true)?;
-    let found = chain_find(&mut series.pages, page, &series.space, &shelf, stamp)?;
-    let beside = chain_find(&mut series.pages, page, &series.space, &shelf, other)?;
-    Ok(told && is_row(&found, 5, true) && beside.is_none())
+    chain_mark(&mut series.pages, page, &series.space, &shelf, stamp, true)
 }
 
-// The last one but a hidden one.
-fn is_last(alloc: Global) -> Result<bool, StoreFault> {
-    let mut series = filled(alloc)?;
-    put(&mut series, DAY_3 + 1, 6)?;
-    let stamp = Stamp::of(DAY_3 + 1).ok_or(StoreFault::Failed)?;
-    let shelf = Shelf {
-        series: SLOT,
-        kind: &series.kind,
-    };
+fn is_last(series: &mut Series) -> Result<bool, StoreFault>
+    requires { ArePlaces series.old.kind.columns (memory_contents series.old.pages) (places_of 7 series.old.space) }
+{
+    let kind = &series.kind;
+    let shelf = Shelf { series: SLOT, kind };
     let page = &mut Page::zero();
-    chain_mark(&mut series.pages, page, &series.space, &shelf, stamp, true)?;
     let last = chain_last(&mut series.pages, page, &series.space, &shelf)?;
-    Ok(is_element(last, DAY_3, 5))
+    Ok(last.is_some_and(|(stamp, row)| stamp.units() == DAY_3 && is_five(&row)))
 }
 
-// Whether this integer stands at so many units, and isn't hidden.
-fn is_element(element: Option<(Stamp, Row)>, at: i64, integer: i128) -> bool {
-    match element {
-        Some((stamp, row)) => stamp.units() == at && is_row(&Some(row), integer, false),
-        None => false,
-    }
-}
-
-// Whether a stamp is put there, beside an element at ten and another one.
-fn is_placed(
-    alloc: Global,
-    other: i64,
-    at: i64,
-    expected: Option<i64>,
-) -> Result<bool, StoreFault> {
-    let mut series = empty(alloc)?;
-    put(&mut series, TEN, 5)?;
-    put(&mut series, other, 6)?;
-    let stamp = Stamp::of(at).ok_or(StoreFault::Failed)?;
-    let shelf = Shelf {
-        series: SLOT,
-        kind: &series.kind,
-    };
+// The stamp is taken, so the next one is free.
+fn is_placed(series: &mut Series, stamp: Stamp) -> Result<bool, StoreFault>
+    requires { ArePlaces series.old.kind.columns (memory_contents series.old.pages) (places_of 7 series.old.space) }
+{
+    let kind = &series.kind;
+    let shelf = Shelf { series: SLOT, kind };
     let page = &mut Page::zero();
-    Ok(
-        match chain_place(&mut series.pages, page, &series.space, &shelf, stamp)? {
-            Some(place) => expected == Some(place.units()),
-            None => expected.is_none(),
-        },
-    )
+    let place = chain_place(&mut series.pages, page, &series.space, &shelf, stamp)?;
+    Ok(place.is_some_and(|stamp| stamp.units() == DAY_3 + 1))
 }
 
-// A full page and one element more have two pages, which are freed.
+// The only element goes, and its place with it.
+fn is_removed(series: &mut Series, stamp: Stamp) -> Result<bool, StoreFault>
+    requires { ArePlaces series.old.kind.columns (memory_contents series.old.pages) (places_of 7 series.old.space) }
+{
+    let kind = &series.kind;
+    let shelf = Shelf { series: SLOT, kind };
+    let page = &mut Page::zero();
+    let told = chain_remove(&mut series.pages, page, &series.space, &shelf, stamp)?;
+    let expected = Moved {
+        index: 0,
+        gone: 1,
+        come: Come::Nothing,
+    };
+    Ok(told == Some(expected))
+}
+
+fn is_freed(alloc: Global, series: &mut Series) -> Result<bool, StoreFault>
+    requires { ArePlaces series.old.kind.columns (memory_contents series.old.pages) (places_of 7 series.old.space) }
+{
+    let places = series.space.places(SLOT);
+    free_pages(alloc, &mut series.pages, places)?;
+    Ok(series.pages.spare() == 3)
+}
+
+// A full page and one element more have two pages.
 fn is_parted(alloc: Global) -> Result<bool, StoreFault> {
     let mut series = empty(alloc)?;
     let room = page_room(&series.kind);
     for k in 0..room + 1 {
         put(&mut series, DAY_3 + k as i64, k as i128)?;
     }
-    let shelf = Shelf {
-        series: SLOT,
-        kind: &series.kind,
-    };
-    let page = &mut Page::zero();
-    let last = chain_last(&mut series.pages, page, &series.space, &shelf)?;
-    let places = series.space.places(SLOT);
-    let pages = places.len();
-    free_pages(alloc, &mut series.pages, places)?;
-    Ok(
-        pages == 2
-            && series.pages.spare() == 3
-            && is_element(last, DAY_3 + room as i64, room as i128),
-    )
-}
-
-// The only element goes, and its place with it.
-fn is_emptied(alloc: Global) -> Result<bool, StoreFault> {
-    let mut series = filled(alloc)?;
-    let stamp = Stamp::of(DAY_3).ok_or(StoreFault::Failed)?;
-    let shelf = Shelf {
-        series: SLOT,
-        kind: &series.kind,
-    };
-    let page = &mut Page::zero();
-    let told = chain_remove(&mut series.pages, page, &series.space, &shelf, stamp)?;
-    let gone = match told {
-        Some(
-            Moved {
-                index: 0,
-                gone: 1,
-                come: Come::Nothing,
-            },
-        ) => true,
-        _ => false,
-    };
-    Ok(gone)
+    Ok(series.space.places(SLOT).len() == 2)
 }
 
 #[test]
@@ -273,43 +244,20 @@ fn a_full_page_is_parted(rt: HostRuntime) {
 }
 
 #[test]
-fn a_place_without_elements_goes(rt: HostRuntime) {
-    assert!(rt; matches!(is_emptied(rt.alloc()), Ok(true)));
-}
-
-#[test]
-fn a_row_is_replaced_and_found(rt: HostRuntime) {
-    assert!(rt; matches!(is_replaced(rt.alloc()), Ok(true)));
-}
-
-#[test]
-fn a_row_is_hidden_and_found(rt: HostRuntime) {
-    assert!(rt; matches!(is_marked(rt.alloc()), Ok(true)));
-}
-
-#[test]
-fn the_last_one_that_is_not_hidden_is_found(rt: HostRuntime) {
-    assert!(rt; matches!(is_last(rt.alloc()), Ok(true)));
-}
-
-#[test]
-fn a_stamp_is_placed_behind_the_last_one_of_its_second(rt: HostRuntime) {
+fn an_element_is_read(rt: HostRuntime) {
     let alloc = rt.alloc();
-    let next = TEN + 100_000;
-    assert!(rt; matches!(is_placed(alloc, next, TEN, Some(TEN + 1)), Ok(true)));
-    assert!(rt;
-        matches!(
-            is_placed(alloc, next, TEN + 50_000, Some(TEN + 50_000)),
-            Ok(true)
-        )
-    );
-    assert!(rt;
-        matches!(
-            is_placed(alloc, TEN + 50_000, TEN, Some(TEN + 50_001)),
-            Ok(true)
-        )
-    );
-    assert!(rt; matches!(is_placed(alloc, TEN + 99_999, TEN, None), Ok(true)));
+    assert!(rt; matches!(is_answered(alloc, Question::Find), Ok(true)));
+    assert!(rt; matches!(is_answered(alloc, Question::Last), Ok(true)));
+    assert!(rt; matches!(is_answered(alloc, Question::Place), Ok(true)));
+}
+
+#[test]
+fn an_element_is_edited(rt: HostRuntime) {
+    let alloc = rt.alloc();
+    assert!(rt; matches!(is_answered(alloc, Question::Replace), Ok(true)));
+    assert!(rt; matches!(is_answered(alloc, Question::Mark), Ok(true)));
+    assert!(rt; matches!(is_answered(alloc, Question::Remove), Ok(true)));
+    assert!(rt; matches!(is_answered(alloc, Question::Free), Ok(true)));
 }
 
 #[test]

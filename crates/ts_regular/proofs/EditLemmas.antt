@@ -1,5 +1,5 @@
 -- What an edit of one page does to the series.
-use Rattle.std.proofs.Common.{◌≡◌, ◌≢◌, ℕ, suc, ◌+◌, ◌*◌, ◌/◌, ◌%◌, ◌<◌, ◌≤◌, ◌==◌, All, AllPairs, Bool, true, false, IsTrue, ℤ, ◌<ℤ◌, pos, Option, Some, None, IsSome, IfOk, Result, Ok, Err, List, [], ◌∷◌, ◌++◌, length, take, drop, get_or, refl, sym, ap, subst, ◌∙◌, arith, append_assoc, append-nil, length-append}
+use Rattle.std.proofs.Common.{◌≡◌, ◌≢◌, ℕ, suc, ◌+◌, ◌/◌, ◌%◌, ◌<◌, ◌≤◌, All, AllPairs, Bool, true, false, IsTrue, ℤ, ◌<ℤ◌, pos, Option, Some, None, IsSome, IfOk, Result, Ok, Err, List, [], ◌∷◌, ◌++◌, length, take, drop, get_or, refl, sym, ap, subst, ◌∙◌, arith, append_assoc, append-nil, length-append}
 use Rattle.std.specs.Prelude.{Contains, IsPermutation, slice_set}
 use Rattle.std.specs.Option.{option_map}
 use Rattle.std.proofs.lemmas.Int.{ints}
@@ -15,15 +15,14 @@ use Rattle.ts_space.specs.declared.moved.Moved.{Moved}
 use Rattle.ts_space.specs.declared.moved.Come.{Come}
 use Rattle.ts_space.specs.declared.moved.Come.TheVariants.{Nothing, One, Two}
 use Rattle.ts_space.specs.Moved.{list_of, moved_to}
-use Rattle.ts_page.specs.Pages.{Contents, EqualPages}
+use Rattle.ts_page.specs.Pages.{Contents}
 use Rattle.ts_row.specs.declared.kind.Column.{Column}
 use Rattle.ts_row.specs.Row.{Row, marked}
 use Rattle.ts_regular.specs.Cell.{Cell, regular_room, base_of}
 use Rattle.ts_regular.specs.Offsets.{OffsetElement, elements_from, element_at, with_element, without_element}
-use Rattle.ts_regular.specs.RegularPage.{filled_count}
 use Rattle.ts_regular.specs.Places.{OffsetPage, all_in, IsOn, AreOn, IsCounted, IsPlace, ArePlaces, AreMoved}
-use Rattle.ts_regular.specs.OnePage.{cell_at, with_row, without_row, with_mark, no_cells, IsToldOn, KeepsOthers, IsEditedOn, IsPutAlone, IsEmptyOn, IsMarkedOn, IsMarkSet, IsTakenFrom, IsFreedOn, IsTakenOn}
-use Rattle.ts_regular.specs.Call.{ArePagesSame, IsTold, IsRowIn, AreWritten, IsPut, IsPutOver, IsMissing, IsMarked, IsTakenAway, IsRemoved}
+use Rattle.ts_regular.specs.OnePage.{cell_at, with_row, without_row, with_mark, no_cells, IsToldOn, IsEditedOn, IsPutAlone, IsEmptyOn, IsMarkedOn, IsTakenFrom, IsFreedOn, IsTakenOn}
+use Rattle.ts_regular.specs.Call.{ArePagesSame, IsRowIn, AreWritten, IsPut, IsMissing, IsMarked, IsTakenAway, IsRemoved}
 use Rattle.ts_regular.proofs.OffsetLemmas.{AreLess, AreMore, at_front, at_back, with_front, with_back, without_front, without_back, none_more, first_more}
 use Rattle.ts_regular.proofs.CellsLemmas.{found_in, put_in, taken_in, count_in}
 use Rattle.ts_regular.proofs.KeptLemmas.{no_count, pos_one}

@@ -1,5 +1,5 @@
 -- The judging of cells one after the other.
-use Rattle.std.proofs.Common.{◌≡◌, ℕ, zero, suc, ◌+◌, ◌-◌, ◌*◌, ◌<◌, ◌≤◌, Bool, true, false, ◌||◌, IsTrue, Option, Some, None, is_some, IfSome, IfNone, List, [], ◌∷◌, ◌++◌, length, take, drop, refl, sym, ap, subst, ◌∙◌, arith, length-append, append-nil}
+use Rattle.std.proofs.Common.{◌≡◌, ℕ, suc, ◌+◌, ◌-◌, ◌*◌, ◌<◌, ◌≤◌, Bool, true, false, ◌||◌, IsTrue, Option, Some, None, is_some, IfSome, IfNone, List, [], ◌∷◌, ◌++◌, length, take, drop, refl, sym, ap, subst, ◌∙◌, arith, length-append, append-nil}
 use Rattle.std.specs.Prelude.{slice_get, slice_index}
 use Rattle.std.specs.Option.{option_map}
 use Rattle.std.proofs.lemmas.List.{take_at, drop_at}
@@ -14,7 +14,7 @@ use Rattle.ts_regular.specs.Offsets.{OffsetElement, elements_from, has_hidden, l
 use Rattle.ts_regular.specs.RegularPage.{AreCells, FillPage, HasExtent, cells_bytes, filled_count}
 use Rattle.ts_regular.specs.OnePage.{cell_at}
 use Rattle.ts_regular.proofs.CellsLemmas.{count_within}
-use Rattle.ts_regular.proofs.BytesLemmas.{around_cells, length-cell, length-cells}
+use Rattle.ts_regular.proofs.BytesLemmas.{around_cells, length-cell}
 
 -- the bytes of cell number i
 abbrev pub cell_in : List Column → ℕ → List ℕ → List ℕ

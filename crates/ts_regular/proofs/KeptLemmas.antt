@@ -1,5 +1,5 @@
 -- What an edit of one page does to that page, to the others, and to those that can be taken.
-use Rattle.std.proofs.Common.{◌≡◌, ◌≢◌, ℕ, zero, suc, ◌+◌, ◌-◌, ◌*◌, ◌%◌, ◌<◌, ◌≤◌, ◌^◌, ◌==◌, All, AllPairs, Bool, true, false, IsTrue, Some, None, IsSome, is_some, Result, Ok, Err, OnErr, List, [], ◌∷◌, ◌++◌, length, drop, replicate, refl, sym, ap, subst, ◌∙◌, inl, inr, arith, ℤ, pos}
+use Rattle.std.proofs.Common.{◌≡◌, ◌≢◌, ℕ, zero, suc, ◌+◌, ◌-◌, ◌*◌, ◌%◌, ◌<◌, ◌≤◌, ◌^◌, ◌==◌, All, AllPairs, Bool, true, false, IsTrue, Some, None, IsSome, Result, Ok, Err, OnErr, List, [], ◌∷◌, ◌++◌, length, drop, replicate, refl, sym, ap, subst, ◌∙◌, inl, inr, arith, ℤ, pos}
 use Rattle.std.specs.Prelude.{Contains, slice_set}
 use Rattle.std.specs.Option.{option_map}
 use Rattle.std.proofs.lemmas.Bool.Decides.{nat_tests}
@@ -8,21 +8,19 @@ use Rattle.std.proofs.lemmas.List.{drop-replicate, length-replicate, replicate-a
 use Rattle.std.proofs.lemmas.List.Concat.{flat_map-cons}
 use Rattle.std.proofs.lemmas.List.Elements.{All-cons, All-nil}
 use Rattle.std.proofs.Math.ListN.{length-set}
-use Rattle.ts_base.specs.declared.fault.StoreFault.{StoreFault}
 use Rattle.ts_space.specs.declared.place.Place.{Place}
 use Rattle.ts_page.specs.Head.{zero_page}
-use Rattle.ts_page.specs.Pages.{Contents, EqualPages, with_page, Got, Put, Freed, Taken, IsElementPage, IsLawful, IsListed}
+use Rattle.ts_page.specs.Pages.{Contents, EqualPages, with_page, Got, Put, Taken, IsElementPage, IsLawful, IsListed}
 use Rattle.ts_row.specs.declared.kind.Column.{Column}
 use Rattle.ts_row.specs.RowType.{width_of}
 use Rattle.ts_row.specs.Row.{Row, fits, marked}
 use Rattle.ts_regular.specs.Cell.{Cell, FitsCell, cell_bytes, cell_size, regular_room}
-use Rattle.ts_regular.specs.RegularPage.{AreCells, FillPage, IsRegularPage, cells_bytes, behind_head, filled_count, regular_page}
+use Rattle.ts_regular.specs.RegularPage.{AreCells, IsRegularPage, cells_bytes, behind_head, filled_count, regular_page}
 use Rattle.ts_regular.specs.Places.{OffsetPage, IsOn, IsCounted, IsPlace, ArePlaces}
-use Rattle.ts_regular.specs.OnePage.{cell_at, with_row, without_row, with_mark, no_cells, IsToldOn, KeepsOthers, IsEditedOn, IsPutAlone, IsEmptyOn, IsThereOn, IsMarkSet, IsTakenFrom, IsFreedOn}
+use Rattle.ts_regular.specs.OnePage.{cell_at, with_row, with_mark, no_cells, IsToldOn, KeepsOthers, IsEditedOn, IsPutAlone}
 use Rattle.ts_regular.specs.Call.{ArePagesSame, AreLeft}
-use Rattle.ts_regular.proofs.BytesLemmas.{around, some_row, fit_row, cells_fit, few_fit}
-use Rattle.ts_regular.proofs.CellsLemmas.{count_some, count_over}
-use Rattle.ts_regular.proofs.HeadLemmas.{behind_told, behind_page}
+use Rattle.ts_regular.proofs.BytesLemmas.{some_row, cells_fit}
+use Rattle.ts_regular.proofs.CellsLemmas.{count_over}
 
 -- the page under a number that was changed, and one under another
 pub changed_page : (n : ℕ) (bytes : List ℕ) (pages : ℕ → List ℕ) → with_page n bytes pages n ≡ bytes
@@ -170,16 +168,12 @@ alone_on tells slot columns base index number count row at bytes v u w small beg
   others = λ t other not. put.put t other ∙ other_page number other bytes u.page not ∙ taken.pages t other;
 }
 
--- a page that is the only one of a series, beside one that `take` can give
-only_one : (x n : ℕ) → Contains (x ∷ []) n → x ≡ n
-only_one x n (zero, below, is) = is
-only_one x n (suc k, below, is) = absurd (omega (arith, below))
-
-pub one_place : (columns : List Column) (c : Contents) (place : Place) (other : ℕ) → 930 ≤ place.page → place.page < c.count → c.free ≡ other ∷ [] → other ≢ place.page → 1 ≤ place.count → place.count ≤ regular_room columns → ArePlaces columns c (place ∷ [])
-one_place columns c place other element below free apart some room = record {
+-- a page that is the only one of a series, where `take` can give none
+pub one_place : (columns : List Column) (c : Contents) (place : Place) → 930 ≤ place.page → place.page < c.count → length c.free ≡ 0 → 1 ≤ place.count → place.count ≤ regular_room columns → ArePlaces columns c (place ∷ [])
+one_place columns c place element below free some room = record {
   each = All-cons (IsPlace columns c) place [] (record {
     readable = record { element = element; below = below };
-    used = λ has. apart (only_one other place.page (subst (λ (l : List ℕ). Contains l place.page) free has));
+    used = λ has. let within = has.1 in omega (arith, free, within);
     counted = record { some = some; room = room };
   }) (All-nil (IsPlace columns c));
   different = λ i j d before within. absurd (omega (arith, before, within));

@@ -1,5 +1,5 @@
 -- The place that a search finds, or where one would stand; and the pages beside it.
-use Rattle.std.proofs.Common.{◌≡◌, ◌≢◌, ℕ, zero, suc, ◌+◌, ◌*◌, ◌/◌, ◌%◌, ◌<◌, ◌≤◌, true, false, ℤ, pos, ◌<ℤ◌, ◌≤ℤ◌, Option, Some, None, is_some, Result, Ok, Err, cond, List, [], ◌∷◌, ◌++◌, length, refl, sym, ap, subst, ◌∙◌, arith, append_assoc, inl, inr}
+use Rattle.std.proofs.Common.{◌≡◌, ℕ, suc, ◌+◌, ◌*◌, ◌/◌, ◌%◌, ◌<◌, ◌≤◌, true, false, ℤ, pos, ◌<ℤ◌, ◌≤ℤ◌, Option, Some, None, is_some, Result, Ok, Err, cond, List, [], ◌∷◌, ◌++◌, length, refl, sym, ap, subst, ◌∙◌, arith, append_assoc, inl, inr}
 use Rattle.std.proofs.lemmas.Int.{by_lt_z, ints}
 use Rattle.std.proofs.lemmas.Bool.{cases_lt}
 use Rattle.std.proofs.Math.Nat.{mod-add-div, mul-le-mul_left}
@@ -7,7 +7,7 @@ use Rattle.ts_space.specs.declared.place.Place.{Place}
 use Rattle.ts_space.specs.Place.{AreAbove, AreBelow, IsRising, place_at, rank_of, search_of}
 use Rattle.ts_space.proofs.PlaceLemmas.{int_lt_yes, int_lt_no, int_eq_same, int_eq_lower, int_eq_higher, none_found}
 use Rattle.ts_row.specs.declared.kind.Column.{Column}
-use Rattle.ts_regular.specs.Cell.{Cell, regular_room}
+use Rattle.ts_regular.specs.Cell.{regular_room}
 use Rattle.ts_regular.specs.Offsets.{OffsetElement, AreRising, elements_from}
 use Rattle.ts_regular.specs.Places.{OffsetPage, all_in, IsOn, AreOn}
 use Rattle.ts_regular.proofs.OffsetLemmas.{AreLess, AreMore, less_both, more_both}

@@ -1,5 +1,5 @@
 -- What an edit does to one page of a series, whatever other pages the series has.
-use Rattle.std.specs.Prelude.{◌≡◌, ◌≢◌, ℕ, ◌+◌, ◌*◌, ◌<◌, ◌≤◌, pos, not, Bool, true, false, IsTrue, Option, Some, None, IsSome, is_some, List, [], ◌∷◌, length, slice_set, slice_index_or, replicate}
+use Rattle.std.specs.Prelude.{◌≡◌, ◌≢◌, ℕ, ◌<◌, ◌≤◌, pos, not, Bool, true, false, IsTrue, Option, Some, None, IsSome, is_some, List, ◌∷◌, length, slice_set, slice_index_or, replicate}
 use Rattle.std.specs.Option.{option_map}
 use Rattle.ts_space.specs.declared.place.Place.{Place}
 use Rattle.ts_space.specs.declared.moved.Come.{Come}

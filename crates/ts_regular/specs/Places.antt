@@ -1,5 +1,5 @@
 -- The places of a regular series beside its pages.
-use Rattle.std.specs.Prelude.{◌≡◌, ◌≢◌, ℕ, ◌<◌, ◌≤◌, ℤ, pos, All, AllPairs, Contains, IsPermutation, List, [], ◌∷◌, ◌++◌}
+use Rattle.std.specs.Prelude.{◌≡◌, ◌≢◌, ℕ, ◌<◌, ◌≤◌, pos, All, AllPairs, Contains, IsPermutation, List, [], ◌∷◌, ◌++◌}
 use Rattle.ts_space.specs.declared.place.Place.{Place}
 use Rattle.ts_space.specs.Place.{IsRising, pages_of}
 use Rattle.ts_page.specs.Pages.{Contents, IsElementPage}

@@ -1,5 +1,5 @@
 // A cell of a regular page: a byte 1 and a row, or zeros.
-ghost use Rattle.std.specs.Prelude.{◌≡◌, ◌↔◌, ◌+◌, ◌*◌, ◌<◌, ◌≤◌, IsTrue, IfOk, IfSome, IfNone, Some, None, List, length, slice_index, is_some};
+ghost use Rattle.std.specs.Prelude.{◌≡◌, ◌↔◌, ◌+◌, ◌*◌, ◌<◌, ◌≤◌, IsTrue, IfOk, IfSome, IfNone, Some, None, length, slice_index, is_some};
 ghost use Rattle.ts_row.specs.Row.{Row as TheRow, fits, marked};
 ghost use Rattle.ts_regular.specs.Cell.{Cell, FitsCell, cell_bytes, cell_size, regular_room, base_of};
 

@@ -1,5 +1,5 @@
 // A page judged by its bytes: which offsets it has cells for, how many have an element, the last of these, and whether some are hidden.
-ghost use Rattle.std.specs.Prelude.{◌≡◌, ◌*◌, ◌<◌, ◌≤◌, ◌^◌, IfSome, IfNone, Some, List, ℕ, length};
+ghost use Rattle.std.specs.Prelude.{◌≡◌, ◌*◌, ◌<◌, ◌^◌, IfSome, IfNone, Some, List, ℕ, length};
 ghost use Rattle.ts_page.specs.Head.{head_of};
 ghost use Rattle.ts_page.specs.declared.page.Head.TheVariants.{Regular};
 ghost use Rattle.ts_regular.specs.Cell.{Cell, cell_size, regular_room};

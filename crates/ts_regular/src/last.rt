@@ -1,5 +1,5 @@
 // The last element that isn't hidden.
-ghost use Rattle.std.specs.Prelude.{◌≡◌, ◌+◌, ◌<◌, ◌≤◌, ◌<ℤ◌, ◌^◌, pos, All, IsTrue, IfOk, IfSome, IfNone, [], ◌∷◌, List, length};
+ghost use Rattle.std.specs.Prelude.{◌≡◌, ◌+◌, ◌<◌, ◌<ℤ◌, ◌^◌, pos, All, IsTrue, IfOk, IfSome, IfNone, [], ◌∷◌, List, length};
 ghost use Rattle.ts_row.specs.Row.{fits};
 ghost use Rattle.ts_space.specs.Directory.{places_of};
 ghost use Rattle.ts_regular.specs.Cell.{Cell, regular_room};

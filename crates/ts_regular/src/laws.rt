@@ -1,9 +1,9 @@
 // What holds of every list of cells and of pages.
-ghost use Rattle.std.specs.Prelude.{◌≡◌, ◌+◌, ◌<◌, ◌≤◌, IsSome, ℕ, Bool, List, length, Some, None};
+ghost use Rattle.std.specs.Prelude.{◌≡◌, ◌+◌, ◌<◌, ℕ, List, length};
 ghost use Rattle.ts_space.specs.declared.place.Place.{Place as ThePlace};
 ghost use Rattle.ts_space.specs.Place.{IsRising};
 ghost use Rattle.ts_row.specs.declared.kind.Column.{Column as TheColumn};
-ghost use Rattle.ts_row.specs.Row.{Row, marked};
+ghost use Rattle.ts_row.specs.Row.{Row};
 ghost use Rattle.ts_regular.specs.Cell.{Cell};
 ghost use Rattle.ts_regular.specs.Offsets.{AreRising, element_at, elements_from, with_element, without_element};
 ghost use Rattle.ts_regular.specs.RegularPage.{filled_count};

@@ -18,6 +18,8 @@ mod mark;
 mod page;
 mod put;
 mod remove;
+#[cfg(test)]
+mod tests;
 
 pub use cell::{base_of, regular_room};
 pub use extent::{RegularExtent, regular_extent_of};

@@ -1,5 +1,5 @@
 // The cells behind the head of a page, read and edited one at a time.
-ghost use Rattle.std.specs.Prelude.{◌≡◌, ◌↔◌, ◌+◌, ◌<◌, ◌≤◌, IsTrue, IfOk, IfSome, IsSome, Some, None, is_some, false, List, ℕ, length, drop};
+ghost use Rattle.std.specs.Prelude.{◌≡◌, ◌↔◌, ◌+◌, ◌<◌, ◌≤◌, IsTrue, IfOk, IfSome, IsSome, Some, None, is_some, false, List, length, drop};
 ghost use Rattle.ts_page.specs.Head.{head_of};
 ghost use Rattle.ts_page.specs.declared.page.Head.TheVariants.{Regular};
 ghost use Rattle.ts_row.specs.Row.{fits};

@@ -1,5 +1,5 @@
 // A row is put at an offset.
-ghost use Rattle.std.specs.Prelude.{◌≡◌, ◌+◌, ◌*◌, ◌%◌, ◌<◌, ◌≤◌, ◌^◌, pos, IsTrue, IfOk, OnErr, None, length};
+ghost use Rattle.std.specs.Prelude.{◌≡◌, ◌+◌, ◌%◌, ◌<◌, ◌≤◌, ◌^◌, pos, IsTrue, IfOk, OnErr, None, length};
 ghost use Rattle.ts_row.specs.Row.{fits};
 ghost use Rattle.ts_space.specs.Place.{place_at};
 ghost use Rattle.ts_space.specs.Moved.{moved_to};

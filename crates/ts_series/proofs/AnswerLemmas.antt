@@ -1,5 +1,5 @@
 -- What each kind of edit answers, by what the calls on the chain tell.
-use Rattle.std.proofs.Common.{◌≡◌, ℕ, ◌+◌, ◌<◌, ◌≤◌, ℤ, Bool, true, false, IsTrue, Option, Some, None, IsSome, is_some, Result, Ok, Err, IfOk, List, length, refl, sym, ap, ◌∙◌, subst, arith}
+use Rattle.std.proofs.Common.{◌≡◌, ℕ, ◌+◌, ◌<◌, ◌≤◌, ℤ, Bool, true, false, Option, Some, None, IsSome, is_some, Result, Ok, Err, List, length, refl, sym, ap, ◌∙◌, subst, arith}
 use Rattle.std.specs.Prelude.{if◌then◌else◌}
 use Rattle.ts_base.specs.declared.refusal.Refusal.TheVariants as refusals
 use Rattle.ts_base.specs.declared.fault.StoreFault.{StoreFault}
@@ -12,15 +12,14 @@ use Rattle.ts_row.specs.Row.{Row}
 use Rattle.ts_row.specs.Element.{Element}
 use Rattle.ts_irregular.specs.Edit.{element_at}
 use Rattle.ts_irregular.specs.Call.{ArePagesSame, Reads}
-use Rattle.ts_chain.specs.Chain.{IsChain, all_in}
+use Rattle.ts_chain.specs.Chain.{all_in}
 use Rattle.ts_chain.specs.Placing.{place_for}
 use Rattle.ts_chain.specs.Call.{IsTold, IsReplaced, IsPutNew, IsThereAlready, IsPlaceIn}
 use Rattle.ts_chain.proofs.OrderLemmas.{pages_in_order}
-use Rattle.ts_series.specs.declared.edits.EditKind.{EditKind}
 use Rattle.ts_series.specs.declared.edits.EditKind.TheVariants.{Put, PutNoDups, Update}
 use Rattle.ts_series.specs.declared.edits.Edited.{Edited}
 use Rattle.ts_series.specs.declared.edits.Edited.TheVariants as edited
-use Rattle.ts_series.specs.Edit.{placed, target, charge_with_one, IsAdded, IsDone, GrowsWithin, most_edit}
+use Rattle.ts_series.specs.Edit.{placed, target, charge_with_one, IsDone, GrowsWithin, most_edit}
 use Rattle.ts_series.proofs.EditLemmas.{told_after, done_before, done_as}
 use Rattle.ts_series.proofs.FreePlaceLemmas.{place_is_free}
 

@@ -1,28 +1,22 @@
 -- A chain without the elements of a range: what is left of some pages side by side, among those before and behind them.
-use Rattle.std.proofs.Common.{◌≡◌, ◌≢◌, ℕ, zero, suc, ◌+◌, ◌-◌, ◌<◌, ◌≤◌, ℤ, ◌<ℤ◌, ◌≤ℤ◌, All, AllPairs, Bool, true, false, IsTrue, Some, List, [], ◌∷◌, ◌++◌, length, get_or, refl, sym, ap, subst, ◌∙◌, arith, append_assoc, append-nil, length-append}
-use Rattle.std.specs.Prelude.{Contains}
+use Rattle.std.proofs.Common.{◌≡◌, ℕ, ◌+◌, ◌<◌, ◌≤◌, ℤ, ◌<ℤ◌, ◌≤ℤ◌, Some, List, [], ◌∷◌, ◌++◌, length, refl, sym, ap, subst, ◌∙◌, arith, append-nil, length-append}
 use Rattle.std.proofs.lemmas.Int.{ints}
 use Rattle.ts_space.specs.declared.place.Place.{Place}
-use Rattle.ts_space.specs.declared.moved.Come.{Come}
-use Rattle.ts_space.specs.declared.moved.Come.TheVariants.{Nothing, One, Two}
-use Rattle.ts_space.specs.Place.{AreAbove, IsRising, count_of, pages_of}
-use Rattle.ts_space.specs.Moved.{list_of}
+use Rattle.ts_space.specs.Place.{AreAbove, IsRising, count_of}
 use Rattle.ts_row.specs.declared.kind.Column.{Column}
 use Rattle.ts_row.specs.Element.{Element}
 use Rattle.ts_cells.specs.Cell.{page_room}
-use Rattle.ts_cells.specs.IrregularPage.{AreRising, AreInOrder, first_stamp}
-use Rattle.ts_irregular.specs.OnePage.{IsOn}
+use Rattle.ts_cells.specs.IrregularPage.{first_stamp}
 use Rattle.ts_chain.specs.Chain.{all_in, AreEarlier, AreLater, ArePages, AreSized, IsDense}
 use Rattle.ts_chain.specs.Places.{AreChained}
 use Rattle.ts_chain.specs.Placing.{earlier}
-use Rattle.ts_chain.specs.Range.{is_within, within_range, without_range}
 use Rattle.ts_chain.proofs.OrderLemmas.{all_in-append, earlier_than, later_than}
-use Rattle.ts_chain.proofs.DenseLemmas.{MeetsLeft, MeetsRight, dense_front, dense_back, dense_left, dense_right, dense_cons, dense_made, meets_left, meets_right}
-use Rattle.ts_chain.proofs.PlaceLemmas.{above_than, chain_earlier, chain_later}
+use Rattle.ts_chain.proofs.DenseLemmas.{MeetsLeft, MeetsRight, dense_left, dense_right, dense_made, meets_left, meets_right}
+use Rattle.ts_chain.proofs.PlaceLemmas.{above_than, chain_earlier}
 use Rattle.ts_chain.proofs.RemoveLemmas.{count_parts}
 use Rattle.ts_chain.proofs.SpreadLemmas.{first_both}
-use Rattle.ts_series.specs.Ends.{later, last_count, first_count, joined_count, BeginsAt, EndsAt, StayApart, GoTogether, FitTheirPages, HasShape, pieces, BeginsWithin}
-use Rattle.ts_series.proofs.RangeLemmas.{earlier_all, earlier_none, earlier_both, later_all, later_none, later_both, filter_earlier}
+use Rattle.ts_series.specs.Ends.{later, last_count, first_count, BeginsAt, EndsAt}
+use Rattle.ts_series.proofs.RangeLemmas.{earlier_all, earlier_none, earlier_both, later_all, later_none, later_both}
 
 -- a chain in two parts
 pub record HasParts (slot : ℕ) (columns : List Column) (pages : ℕ → List ℕ) (front back : List Place) (chain : List (List Element)) : Type 0 where

@@ -1,6 +1,6 @@
 -- A series without the elements of a range, over all of its pages.
-use Rattle.std.proofs.Common.{◌≡◌, ◌≢◌, ◌⊎◌, inl, inr, ⊎_elim, ℕ, zero, suc, ◌+◌, ◌-◌, ◌<◌, ◌≤◌, ℤ, ◌<ℤ◌, ◌≤ℤ◌, All, AllPairs, Bool, true, false, IsTrue, Some, List, [], ◌∷◌, ◌++◌, length, get_or, take, drop, not, refl, sym, ap, subst, ◌∙◌, arith, append_assoc, append-nil, length-append}
-use Rattle.std.specs.Prelude.{Contains, IsPermutation, int_lt}
+use Rattle.std.proofs.Common.{◌≡◌, ◌≢◌, ◌⊎◌, inl, inr, ⊎_elim, ℕ, zero, suc, ◌+◌, ◌-◌, ◌<◌, ◌≤◌, ℤ, ◌<ℤ◌, ◌≤ℤ◌, AllPairs, Bool, true, false, IsTrue, Some, List, [], ◌∷◌, ◌++◌, length, get_or, take, drop, not, refl, sym, ap, subst, ◌∙◌, arith, append_assoc, append-nil, length-append}
+use Rattle.std.specs.Prelude.{Contains, int_lt}
 use Rattle.std.proofs.lemmas.Int.{ints}
 use Rattle.std.proofs.lemmas.List.{take_at, drop_at}
 use Rattle.ts_space.specs.declared.place.Place.{Place}
@@ -8,29 +8,26 @@ use Rattle.ts_space.specs.declared.moved.Come.{Come}
 use Rattle.ts_space.specs.declared.moved.Come.TheVariants.{Nothing, One, Two}
 use Rattle.ts_space.specs.Place.{AreAbove, IsRising, count_of, pages_of}
 use Rattle.ts_space.specs.Moved.{list_of}
-use Rattle.ts_page.specs.Pages.{Contents}
 use Rattle.ts_row.specs.declared.kind.Column.{Column}
 use Rattle.ts_row.specs.Element.{Element}
 use Rattle.ts_cells.specs.Cell.{page_room}
 use Rattle.ts_cells.specs.IrregularPage.{AreRising, AreInOrder, first_stamp}
 use Rattle.ts_irregular.specs.OnePage.{IsOn}
 use Rattle.ts_chain.specs.Chain.{all_in, AreEarlier, AreLater, ArePages, AreSized, IsDense, IsChain}
-use Rattle.ts_chain.specs.Places.{AreChained, ArePlaces}
+use Rattle.ts_chain.specs.Places.{AreChained}
 use Rattle.ts_chain.specs.Placing.{earlier}
 use Rattle.ts_chain.specs.Range.{is_within, within_range, without_range}
-use Rattle.ts_chain.specs.Call.{AreWritten}
-use Rattle.ts_chain.proofs.OrderLemmas.{all_in-append, later_front, pages_in_order, sized_pages, sized_front, sized_back, sized_both, pages_made, rising_front}
+use Rattle.ts_chain.proofs.OrderLemmas.{all_in-append, later_front, pages_in_order, sized_pages, sized_front, sized_back, sized_both, pages_made}
 use Rattle.ts_chain.proofs.DenseLemmas.{dense_front, dense_back, dense_cons, dense_made}
 use Rattle.ts_chain.proofs.EditLemmas.{all_between}
 use Rattle.ts_chain.proofs.PlaceLemmas.{chain_later, chained_both}
-use Rattle.ts_chain.proofs.RemoveLemmas.{count_parts, count_both}
+use Rattle.ts_chain.proofs.RemoveLemmas.{count_parts}
 use Rattle.ts_series.specs.declared.joins.Joins.{Joins}
-use Rattle.ts_series.specs.Ends.{later, last_count, first_count, joined_count, BeginsAt, EndsAt, StayApart, GoTogether, FitTheirPages, AreJoined, AreParts, IsRange, HasShape, pieces, BeginsWithin, BeginTogether, BeginApart, CanBegin}
+use Rattle.ts_series.specs.Ends.{later, last_count, first_count, joined_count, BeginsAt, EndsAt, FitTheirPages, AreJoined, AreParts, IsRange, HasShape, pieces, BeginTogether, BeginApart, CanBegin}
 use Rattle.ts_series.proofs.RangeLemmas.{without_parts, all_counted, filter_earlier, filter_in_order, filter_first, first_earlier, first_later}
 use Rattle.ts_series.proofs.EndsLemmas.{split_end}
 use Rattle.ts_series.proofs.LayLemmas.{pairs_tail, rising_back_of, order_front, order_back}
-use Rattle.ts_series.proofs.KeepLemmas.{gone, gone_parts}
-use Rattle.ts_series.proofs.ChainLemmas.{HasParts, part_in, counted, sized_on, earlier_around, later_around, before_range, first_of_chain, below_back, second_low, left_meets, right_meets, dense_meet}
+use Rattle.ts_series.proofs.ChainLemmas.{counted, sized_on, earlier_around, later_around, before_range, first_of_chain, below_back, second_low, left_meets, right_meets, dense_meet}
 
 -- the places of a range beside those that are joined
 pub record RangeParts (from to : ℤ) (places : List Place) (first stop : ℕ) (joins : Joins) : Type 0 where

@@ -1,29 +1,23 @@
 -- What an edit did, seen from pages that were the same before, and told by another kind of edit.
-use Rattle.std.proofs.Common.{◌≡◌, ℕ, ◌+◌, ◌-◌, ◌^◌, min, ◌<◌, ◌≤◌, ℤ, Bool, true, false, IsTrue, Option, Some, None, IsSome, is_some, Result, Ok, Err, IfOk, Contains, IsPermutation, List, ◌++◌, length, refl, sym, ap, ◌∙◌, subst, arith}
-use Rattle.std.specs.Prelude.{if◌then◌else◌}
-use Rattle.std.specs.Option.{option_and_then}
-use Rattle.ts_base.specs.declared.refusal.Refusal.{Refusal}
+use Rattle.std.proofs.Common.{◌≡◌, ℕ, ◌+◌, ◌-◌, ◌^◌, min, ◌≤◌, ℤ, Bool, IsTrue, None, IsSome, Result, Ok, Err, IfOk, Contains, IsPermutation, List, ◌++◌, length, sym, ap, ◌∙◌, subst, arith}
 use Rattle.ts_base.specs.declared.refusal.Refusal.TheVariants as refusals
 use Rattle.ts_base.specs.declared.fault.StoreFault.{StoreFault}
 use Rattle.ts_space.specs.declared.place.Place.{Place}
-use Rattle.ts_space.specs.declared.moved.Moved.{Moved}
 use Rattle.ts_space.specs.Place.{pages_of}
 use Rattle.ts_space.specs.Moved.{moved_to}
-use Rattle.ts_page.specs.Pages.{Contents, Answered, EqualPages}
+use Rattle.ts_page.specs.Pages.{Contents}
 use Rattle.ts_row.specs.declared.kind.Column.{Column}
 use Rattle.ts_row.specs.Row.{Row}
 use Rattle.ts_row.specs.Element.{Element}
 use Rattle.ts_irregular.specs.Edit.{element_at, with_element}
 use Rattle.ts_irregular.specs.Call.{ArePagesSame}
-use Rattle.ts_chain.specs.Chain.{IsChain, all_in}
+use Rattle.ts_chain.specs.Chain.{all_in}
 use Rattle.ts_chain.specs.Places.{AreChained, AreMoved}
-use Rattle.ts_chain.specs.Placing.{unit_after, next_second, last_before, place_for}
 use Rattle.ts_chain.specs.Call.{IsTold, AreWritten}
 use Rattle.ts_series.specs.declared.edits.EditKind.{EditKind}
-use Rattle.ts_series.specs.declared.edits.EditKind.TheVariants.{Insert, Update}
 use Rattle.ts_series.specs.declared.edits.Edited.{Edited}
 use Rattle.ts_series.specs.declared.edits.Edited.TheVariants as edited
-use Rattle.ts_series.specs.Edit.{target, IsAdded, IsGivenRow, IsRefused, IsFull, IsEdited, GrowsWithin, IsDone, most_edit}
+use Rattle.ts_series.specs.Edit.{target, IsEdited, GrowsWithin, IsDone, most_edit}
 
 -- what holds of the elements that are told on pages that stay
 module _ (tells : Bool) (slot : ℕ) (columns : List Column) (places : List Place) (u v : Contents) (same : ArePagesSame tells u v) where

@@ -1,16 +1,15 @@
 -- The ends of a range among the pages that hold it.
 use Rattle.std.proofs.Common.{◌≡◌, ℕ, zero, suc, ◌+◌, ◌-◌, ◌<◌, ◌≤◌, ℤ, ◌≤ℤ◌, Bool, IsTrue, Some, List, [], ◌∷◌, ◌++◌, length, get_or, take, drop, refl, sym, ap, subst, ◌∙◌, arith, append-nil, length-append}
-use Rattle.std.proofs.lemmas.Int.{ints}
 use Rattle.std.proofs.Math.Seq.{get_or-append_seam}
 use Rattle.ts_space.specs.declared.place.Place.{Place}
-use Rattle.ts_space.specs.Place.{AreAbove, IsRising, count_of}
+use Rattle.ts_space.specs.Place.{AreAbove, count_of}
 use Rattle.ts_page.specs.Pages.{Contents, EqualPages}
 use Rattle.ts_row.specs.declared.kind.Column.{Column}
 use Rattle.ts_row.specs.Element.{Element}
 use Rattle.ts_cells.specs.IrregularPage.{AreElements, behind_head, irregular_page, first_stamp}
 use Rattle.ts_cells.proofs.HeadLemmas.{irregular_behind}
 use Rattle.ts_irregular.specs.OnePage.{IsOn}
-use Rattle.ts_chain.specs.Chain.{all_in, AreEarlier, AreLater, ArePages}
+use Rattle.ts_chain.specs.Chain.{all_in, ArePages}
 use Rattle.ts_chain.specs.Places.{AreChained}
 use Rattle.ts_chain.specs.Placing.{earlier}
 use Rattle.ts_chain.proofs.OrderLemmas.{all_in-append, earlier_than}

@@ -1,11 +1,11 @@
 -- Pieces that are put on the pages of places that go.
-use Rattle.std.proofs.Common.{◌≡◌, ◌≢◌, ℕ, zero, suc, ◌+◌, ◌-◌, ◌*◌, ◌<◌, ◌≤◌, ◌^◌, ◌==◌, ℤ, ◌<ℤ◌, ◌≤ℤ◌, All, AllPairs, inr, Bool, IsTrue, Some, List, [], ◌∷◌, ◌++◌, length, get_or, take, drop, refl, sym, ap, subst, ◌∙◌, arith, append_assoc, append-nil, length-append, length-drop}
+use Rattle.std.proofs.Common.{◌≡◌, ◌≢◌, ℕ, zero, suc, ◌+◌, ◌-◌, ◌<◌, ◌≤◌, ◌^◌, ℤ, ◌<ℤ◌, ◌≤ℤ◌, All, AllPairs, inr, Bool, IsTrue, Some, List, [], ◌∷◌, ◌++◌, length, get_or, take, drop, refl, sym, ap, subst, ◌∙◌, arith, append-nil, length-append, length-drop}
 use Rattle.std.specs.Prelude.{Contains, IsPermutation}
 use Rattle.std.proofs.lemmas.Int.{ints}
 use Rattle.std.proofs.Math.Seq.{take-length}
 use Rattle.std.proofs.lemmas.List.{length-map}
 use Rattle.std.proofs.lemmas.List.Elements.{All-cons, All-head, All-tail, All-weaker}
-use Rattle.std.proofs.lemmas.List.Sorted.{IsPermutation-refl, IsPermutation-sym, IsPermutation-trans, IsPermutation-cons, IsPermutation-middle, IsPermutation-append_left, length_permutation}
+use Rattle.std.proofs.lemmas.List.Sorted.{IsPermutation-sym, IsPermutation-trans, IsPermutation-cons, IsPermutation-middle, length_permutation}
 use Rattle.ts_space.specs.declared.place.Place.{Place}
 use Rattle.ts_space.specs.Place.{AreAbove, IsRising, pages_of}
 use Rattle.ts_page.specs.Pages.{Contents, EqualPages, with_page, IsOutsideJournal}
@@ -14,12 +14,11 @@ use Rattle.ts_row.specs.Element.{Element}
 use Rattle.ts_cells.specs.Cell.{page_room}
 use Rattle.ts_cells.specs.IrregularPage.{AreElements, AreInOrder, irregular_page, first_stamp}
 use Rattle.ts_irregular.specs.OnePage.{IsOn, IsPlace, place_of}
-use Rattle.ts_chain.specs.Places.{ArePlaces, CanBeFreed, AreChained, IsBeginning, IsCounted}
+use Rattle.ts_chain.specs.Places.{ArePlaces, CanBeFreed, IsBeginning, IsCounted}
 use Rattle.ts_chain.specs.Call.{AreFreed}
 use Rattle.ts_chain.proofs.ChangeLemmas.{place_first}
 use Rattle.ts_chain.proofs.OrderLemmas.{elements_front, elements_back, rising_front, rising_back}
 use Rattle.ts_chain.proofs.PagesLemmas.{changed_page, other_page}
-use Rattle.ts_chain.proofs.PlaceLemmas.{above_than}
 use Rattle.ts_series.specs.Ends.{AreUsed, AreKept, HasElements, BeginsWithin, BeginTogether, BeginApart}
 
 -- pages that can be freed

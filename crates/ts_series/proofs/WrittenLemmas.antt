@@ -1,10 +1,10 @@
 -- What the removal of a range does to a series: the answer, by what was kept of its pages.
-use Rattle.std.proofs.Common.{◌≡◌, ◌≢◌, ℕ, zero, suc, ◌+◌, ◌-◌, ◌<◌, ◌≤◌, ◌^◌, ℤ, ◌+ℤ◌, ◌<ℤ◌, ◌≤ℤ◌, pos, min, All, AllPairs, Bool, IsTrue, List, [], ◌∷◌, ◌++◌, length, take, drop, refl, sym, ap, subst, ◌∙◌, arith, append_assoc, append-nil, length-append}
+use Rattle.std.proofs.Common.{◌≡◌, ◌≢◌, ℕ, zero, suc, ◌+◌, ◌-◌, ◌<◌, ◌≤◌, ◌^◌, ℤ, ◌+ℤ◌, ◌<ℤ◌, ◌≤ℤ◌, pos, All, AllPairs, Bool, IsTrue, List, [], ◌∷◌, ◌++◌, length, take, drop, refl, sym, ap, subst, ◌∙◌, arith, append_assoc, length-append}
 use Rattle.std.specs.Prelude.{Contains, IsPermutation, int_lt}
 use Rattle.std.proofs.lemmas.Int.{by_lt_z, ints}
 use Rattle.std.proofs.lemmas.List.{take_at, drop_at}
 use Rattle.std.proofs.lemmas.List.Elements.{All-head, All-append, All-take, All-drop}
-use Rattle.std.proofs.lemmas.List.Sorted.{IsPermutation-refl, IsPermutation-trans, IsPermutation-append, IsPermutation-append_comm, IsPermutation-append_left, IsPermutation-append_right}
+use Rattle.std.proofs.lemmas.List.Sorted.{IsPermutation-trans, IsPermutation-append_comm, IsPermutation-append_left, IsPermutation-append_right}
 use Rattle.ts_space.specs.declared.place.Place.{Place}
 use Rattle.ts_space.specs.declared.moved.Moved.{Moved}
 use Rattle.ts_space.specs.Place.{AreAbove, IsRising, count_of, pages_of}
@@ -14,7 +14,6 @@ use Rattle.ts_row.specs.declared.kind.Column.{Column}
 use Rattle.ts_row.specs.Element.{Element}
 use Rattle.ts_cells.specs.Cell.{page_room}
 use Rattle.ts_cells.specs.IrregularPage.{AreElements, AreRising, AreInOrder}
-use Rattle.ts_irregular.specs.Call.{ArePagesSame}
 use Rattle.ts_chain.specs.Chain.{all_in, AreBefore, AreLater, ArePages, IsChain}
 use Rattle.ts_chain.specs.Places.{AreChained, ArePlaces, AreMoved, IsCounted}
 use Rattle.ts_chain.specs.Placing.{earlier}
@@ -26,12 +25,12 @@ use Rattle.ts_chain.proofs.PlaceLemmas.{chain_later}
 use Rattle.ts_chain.proofs.RemoveLemmas.{count_parts, count_both, pages_from}
 use Rattle.ts_chain.proofs.TakeLemmas.{are_counted, moved_middle}
 use Rattle.ts_series.specs.declared.joins.Joins.{Joins}
-use Rattle.ts_series.specs.Clip.{AreCleared, HasNoneWithin, IsCleared}
+use Rattle.ts_series.specs.Clip.{AreCleared, HasNoneWithin}
 use Rattle.ts_series.specs.Ends.{later, last_count, first_count, AreJoined, AreParts, AreKept, AreEnds, AreEndsOf, IsRange, HasElements, HasShape, pieces, CanBegin}
 use Rattle.ts_series.proofs.RangeLemmas.{filter_in_order}
-use Rattle.ts_series.proofs.KeepLemmas.{gone, gone_parts, gone_within, slice_mid, kept_since, chained_since}
-use Rattle.ts_series.proofs.ChainLemmas.{HasParts, part_in, counted}
-use Rattle.ts_series.proofs.ClearLemmas.{RangeParts, front_taken, back_dropped, range_mid, xs, ys, order_both, gone_count, begin_any, made, is_new, on_new, stays_front, stays_back, contains_mid, none_of_length}
+use Rattle.ts_series.proofs.KeepLemmas.{gone, gone_parts, slice_mid, kept_since, chained_since}
+use Rattle.ts_series.proofs.ChainLemmas.{part_in, counted}
+use Rattle.ts_series.proofs.ClearLemmas.{RangeParts, front_taken, back_dropped, range_mid, xs, order_both, gone_count, begin_any, made, is_new, on_new, stays_front, stays_back, contains_mid, none_of_length}
 
 -- elements in order are no more than there are stamps
 few_from : (columns : List Column) (e : Element) (es : List Element) (k : ℕ) → AreElements columns (e ∷ es) → AreRising (e ∷ es) → length es ≡ k → (e.0 +ℤ pos k) ≤ℤ pos 25_340_230_079_999_999

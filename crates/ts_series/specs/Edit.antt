@@ -1,5 +1,5 @@
 -- What an edit at a stamp comes to: the stamp at which its row then stands, or why it is refused.
-use Rattle.std.specs.Prelude.{◌≡◌, ℕ, ◌+◌, ◌*◌, ◌<◌, ◌≤◌, ℤ, Bool, if◌then◌else◌, Option, Some, None, IsSome, is_some, Result, Ok, Err, List, length, IfOk}
+use Rattle.std.specs.Prelude.{◌≡◌, ℕ, ◌+◌, ◌*◌, ◌<◌, ◌≤◌, ℤ, Bool, if◌then◌else◌, None, IsSome, is_some, Result, Ok, Err, List, length, IfOk}
 use Rattle.ts_base.specs.declared.refusal.Refusal.{Refusal}
 use Rattle.ts_base.specs.declared.refusal.Refusal.TheVariants as refusals
 use Rattle.ts_space.specs.declared.place.Place.{Place}
@@ -17,16 +17,12 @@ use Rattle.ts_irregular.specs.Call.{ArePagesSame}
 use Rattle.ts_chain.specs.Chain.{all_in}
 use Rattle.ts_chain.specs.Places.{AreMoved}
 use Rattle.ts_chain.specs.Placing.{place_for}
+pub use Rattle.ts_chain.specs.Placing.{placed}
 use Rattle.ts_chain.specs.Call.{IsTold, AreWritten}
 use Rattle.ts_series.specs.declared.edits.EditKind.{EditKind}
 use Rattle.ts_series.specs.declared.edits.EditKind.TheVariants.{Put, PutNoDups, Insert, Update}
 use Rattle.ts_series.specs.declared.edits.Edited.{Edited}
 use Rattle.ts_series.specs.declared.edits.Edited.TheVariants as edited
-
--- the place that an element gets, if there is one; else its second is full
-abbrev pub placed : Option ℤ → Result ℤ Refusal
-placed (Some at) = Ok at
-placed None = Err refusals.SecondFull
 
 -- The stamp at which an edit puts its row among some elements, hidden or not; or why it doesn't, whatever room there is.
 abbrev pub target : EditKind → ℤ → List Element → Result ℤ Refusal

@@ -3,15 +3,12 @@ use Rattle.std.specs.Prelude.{◌≡◌, ◌≢◌, ℕ, zero, suc, ◌+◌, ◌
 use Rattle.ts_space.specs.declared.place.Place.{Place}
 use Rattle.ts_space.specs.declared.moved.Come.{Come}
 use Rattle.ts_space.specs.declared.moved.Come.TheVariants.{Nothing, One, Two}
-use Rattle.ts_space.specs.Place.{AreAbove, IsRising, count_of, pages_of}
-use Rattle.ts_space.specs.Moved.{list_of}
+use Rattle.ts_space.specs.Place.{AreAbove, IsRising, pages_of}
 use Rattle.ts_page.specs.Pages.{Contents}
 use Rattle.ts_row.specs.declared.kind.Column.{Column}
 use Rattle.ts_row.specs.Element.{Element}
-use Rattle.ts_cells.specs.Cell.{page_room}
 use Rattle.ts_cells.specs.IrregularPage.{irregular_page, first_stamp}
-use Rattle.ts_irregular.specs.OnePage.{IsOn}
-use Rattle.ts_chain.specs.Chain.{all_in, AreEarlier, ArePages}
+use Rattle.ts_chain.specs.Chain.{all_in, ArePages}
 use Rattle.ts_chain.specs.Places.{CanBeFreed, AreChained, IsCounted}
 use Rattle.ts_chain.specs.Placing.{earlier}
 use Rattle.ts_series.specs.declared.joins.Joins.{Joins}

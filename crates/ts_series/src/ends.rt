@@ -1,5 +1,5 @@
 // The pages at the two ends of a range, of which the elements before it and behind it are kept.
-ghost use Rattle.std.specs.Prelude.{◌≡◌, ◌+◌, ◌≤◌, ◌≤ℤ◌, IsTrue, IfOk, List, ◌∷◌, [], length, take, drop};
+ghost use Rattle.std.specs.Prelude.{◌≡◌, ◌+◌, ◌≤◌, ◌≤ℤ◌, IsTrue, IfOk, List, length, take, drop};
 ghost use Rattle.ts_space.specs.Place.{count_of};
 ghost use Rattle.ts_row.specs.Element.{Element};
 ghost use Rattle.ts_cells.specs.Cell.{page_room};

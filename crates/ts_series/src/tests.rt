@@ -119,16 +119,16 @@ fn put(series: &mut Series, at: i64, integer: i128) -> Result<(), StoreFault>
     Ok(())
 }
 
-// Of a full page and one element more, one a unit from the third on, all go but so many at each end: how many go, are kept, how many
-// places go, and how many come.
-fn cleared(alloc: Global, skip: u16) -> Result<(u64, u64, usize, usize), StoreFault> {
+// Of a full page and three elements more, one a unit from the third on, all go between these: how many go, are kept, how many places go,
+// and how many come.
+fn cleared(alloc: Global, first: u16, last: u16) -> Result<(u64, u64, usize, usize), StoreFault> {
     let mut series = empty(alloc)?;
     let room = page_room(&series.kind);
-    for k in 0..room + 1 {
+    for k in 0..room + 3 {
         put(&mut series, DAY_3 + k as i64, k as i128)?;
     }
-    let from = Stamp::of(DAY_3 + i64::from(skip)).ok_or(StoreFault::Failed)?;
-    let to = Stamp::of(DAY_3 + room as i64 - i64::from(skip)).ok_or(StoreFault::Failed)?;
+    let from = Stamp::of(DAY_3 + i64::from(first)).ok_or(StoreFault::Failed)?;
+    let to = Stamp::of(DAY_3 + i64::from(last)).ok_or(StoreFault::Failed)?;
     let shelf = Shelf {
         series: SLOT,
         kind: &series.kind,
@@ -143,7 +143,7 @@ fn cleared(alloc: Global, skip: u16) -> Result<(u64, u64, usize, usize), StoreFa
         from,
         to,
     )?;
-    let kept = (room as u64 + 1).saturating_sub(removed);
+    let kept = (room as u64 + 3).saturating_sub(removed);
     let Some(moved) = told else {
         return Ok((removed, kept, 0, 0));
     };
@@ -186,9 +186,11 @@ fn edited(alloc: Global, how: EditKind, room: u64) -> Result<Edited, StoreFault>
 #[test]
 fn a_range_goes_and_the_rest_is_joined(rt: HostRuntime) {
     let alloc = rt.alloc();
-    assert!(rt; matches!(cleared(alloc, 0), Ok((_, 0, 2, 0))));
-    assert!(rt; matches!(cleared(alloc, 1), Ok((_, 2, 2, 1))));
-    assert!(rt; matches!(cleared(alloc, 999), Ok((0, _, 0, 0))));
+    // A page has room for 290, and its first half for 145.
+    assert!(rt; matches!(cleared(alloc, 0, 292), Ok((293, 0, 2, 0))));
+    assert!(rt; matches!(cleared(alloc, 1, 291), Ok((291, 2, 2, 1))));
+    assert!(rt; matches!(cleared(alloc, 144, 145), Ok((2, 291, 2, 2))));
+    assert!(rt; matches!(cleared(alloc, 999, 999), Ok((0, _, 0, 0))));
 }
 
 #[test]

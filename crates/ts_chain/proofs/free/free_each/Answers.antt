@@ -1,5 +1,5 @@
 use Rattle.std.proofs.Common.{arith}
-use Rattle.ts_chain.proofs.FreeLemmas.{none_freed, next_used, one_more}
+use Rattle.ts_chain.proofs.FreeLemmas.{next_used, one_more}
 use Rattle.ts_chain.proofs.free.free_each.Goals as goal
 
 pub free-requires-clause-used : goal.free-requires-clause-used

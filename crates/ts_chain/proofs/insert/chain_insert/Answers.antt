@@ -1,4 +1,4 @@
-use Rattle.std.proofs.Common.{ℕ, Bool, Option, List, [], refl, sym, ap, subst, ◌≡◌, ◌∙◌, arith}
+use Rattle.std.proofs.Common.{ℕ, Bool, Option, List, sym, subst, ◌∙◌, arith}
 use Rattle.ts_space.specs.declared.place.Place.{Place}
 use Rattle.ts_space.specs.declared.moved.Moved.{Moved}
 use Rattle.ts_row.specs.declared.kind.Column.{Column}

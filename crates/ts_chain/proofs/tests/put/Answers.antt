@@ -1,7 +1,6 @@
-use Rattle.std.proofs.Common.{◌≡◌, ◌<◌, ℕ, true, Some, List, [], get_or, sym, ap, subst, ◌∙◌, arith}
+use Rattle.std.proofs.Common.{true, List, [], get_or, sym, ap, subst, arith}
 use Rattle.ts_page.specs.Memory.{memory_contents}
 use Rattle.ts_space.specs.declared.place.Place.{Place}
-use Rattle.ts_cells.specs.Cell.{page_room}
 use Rattle.ts_irregular.proofs.BytesLemmas.{room_some}
 use Rattle.ts_chain.specs.Places.{ArePlaces}
 use Rattle.ts_chain.specs.Call.{IsInserted}

@@ -1,5 +1,4 @@
 use Rattle.std.proofs.Common.{◌≡◌, ℕ, ◌+◌, ◌∷◌, List, length, ap, ◌∙◌, arith}
-use Rattle.ts_row.specs.Encoding.{row_bytes}
 use Rattle.ts_row.proofs.RowBytesLemmas.{length-row_bytes}
 use Rattle.ts_regular.proofs.BytesLemmas.{first_written}
 use Rattle.ts_regular.proofs.cell.write_cell.Goals as goal

@@ -1,4 +1,4 @@
-use Rattle.std.proofs.Common.{◌≡◌, List, length, sym, ◌∙◌, arith}
+use Rattle.std.proofs.Common.{◌≡◌, List, sym, ◌∙◌}
 use Rattle.ts_row.specs.declared.kind.Column.{Column}
 use Rattle.ts_regular.specs.RegularPage.{cells_bytes}
 use Rattle.ts_regular.proofs.HeadLemmas.{front_cells}

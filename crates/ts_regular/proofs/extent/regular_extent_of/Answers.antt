@@ -1,5 +1,5 @@
 -- The head of a regular page, if the page has one.
-use Rattle.std.proofs.Common.{◌≡◌, None, sym, ◌∙◌, arith}
+use Rattle.std.proofs.Common.{◌≡◌, None, sym, arith}
 use Rattle.ts_regular.proofs.HeadLemmas.{told_is, told_page}
 use Rattle.ts_regular.proofs.JudgeLemmas.{if_none_any}
 use Rattle.ts_regular.proofs.extent.regular_extent_of.Goals as goal

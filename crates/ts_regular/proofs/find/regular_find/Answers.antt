@@ -1,17 +1,17 @@
 -- The page of the place that the search finds is read.
-use Rattle.std.proofs.Common.{◌≡◌, ◌+◌, ◌-◌, ◌<◌, All, ℤ, pos, Some, None, List, ℕ, length, refl, sym, ap, subst, ◌∙◌, arith, get_or}
+use Rattle.std.proofs.Common.{◌≡◌, ◌-◌, ◌<◌, All, ℤ, pos, Some, None, List, ℕ, length, sym, ap, subst, ◌∙◌, arith, get_or}
 use Rattle.ts_space.specs.declared.place.Place.{Place}
 use Rattle.ts_space.specs.Place.{search_of}
 use Rattle.ts_page.specs.Head.{head_of}
 use Rattle.ts_page.specs.declared.page.Head.TheVariants.{Regular}
 use Rattle.ts_row.specs.declared.kind.Column.{Column}
 use Rattle.ts_regular.specs.Cell.{base_of, regular_room}
-use Rattle.ts_regular.specs.Places.{CanBeRead, IsOn, OffsetPage}
+use Rattle.ts_regular.specs.Places.{CanBeRead}
 use Rattle.ts_regular.specs.OnePage.{IsToldOn, cell_at}
 use Rattle.ts_regular.specs.Call.{IsRowIn}
 use Rattle.ts_regular.proofs.HeadLemmas.{behind_told, head_told, length-page, part_behind}
 use Rattle.ts_regular.proofs.KeptLemmas.{page_from, read_on}
-use Rattle.ts_regular.proofs.PlaceLemmas.{IsFound, IsGap, found_ok}
+use Rattle.ts_regular.proofs.PlaceLemmas.{found_ok}
 use Rattle.ts_regular.proofs.EditLemmas.{found_get, found_within, gap_not, none_there, row_there}
 use Rattle.ts_regular.proofs.find.regular_find.Goals as goal
 

@@ -1,7 +1,6 @@
-use Rattle.std.proofs.Common.{◌≡◌, ◌<◌, Some, None, List, length, sym, ap, ◌∙◌, arith}
+use Rattle.std.proofs.Common.{◌<◌, length, sym, ap, ◌∙◌, arith}
 use Rattle.ts_regular.specs.Offsets.{last_of}
-use Rattle.ts_regular.specs.OnePage.{cell_at}
-use Rattle.ts_regular.proofs.LastLemmas.{none_seen, last_found, seen_none}
+use Rattle.ts_regular.proofs.LastLemmas.{none_seen, last_found}
 use Rattle.ts_regular.proofs.last.last_among.Goals as goal
 
 pub returns-in_default-clause-last : goal.returns-in_default-clause-last

@@ -1,5 +1,5 @@
 -- The page is read once.
-use Rattle.std.proofs.Common.{◌≡◌, Some, None, ℤ, pos, List, ℕ, length, sym, ap, ◌∙◌, arith}
+use Rattle.std.proofs.Common.{◌≡◌, Some, None, List, ℕ, ap, ◌∙◌, arith}
 use Rattle.std.proofs.lemmas.Int.{ints}
 use Rattle.ts_space.specs.declared.place.Place.{Place}
 use Rattle.ts_page.specs.Head.{head_of}

@@ -1,5 +1,5 @@
 use Rattle.std.proofs.Common.{refl}
-use Rattle.ts_regular.proofs.CellsLemmas.{found_in, put_in, taken_in, count_in, count_new, count_over, count_taken, count_below, rising_cells}
+use Rattle.ts_regular.proofs.CellsLemmas.{found_in, put_in, taken_in, count_in}
 use Rattle.ts_regular.proofs.laws.cells_are_elements_at_offsets.Goals as goal
 
 pub returns-clause-found : goal.returns-clause-found

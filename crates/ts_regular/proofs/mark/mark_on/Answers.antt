@@ -1,5 +1,5 @@
 -- The page is read once: it stays where the cell has no element, and has another mark where it has one.
-use Rattle.std.proofs.Common.{◌≡◌, ◌<◌, Bool, true, IsTrue, IsSome, is_some, ℕ, List, length, sym, refl, subst, ◌∙◌, arith}
+use Rattle.std.proofs.Common.{◌<◌, IsTrue, IsSome, ℕ, List, length, sym, refl, ◌∙◌, arith}
 use Rattle.std.specs.Option.{option_map}
 use Rattle.std.proofs.Math.ListN.{length-set}
 use Rattle.ts_row.specs.declared.kind.Column.{Column}

@@ -1,14 +1,14 @@
 -- The mark is set on the page of the place that the search finds.
-use Rattle.std.proofs.Common.{◌≡◌, ◌+◌, ◌-◌, ◌<◌, All, ℤ, pos, List, ℕ, length, refl, sym, ap, subst, ◌∙◌, arith, get_or}
+use Rattle.std.proofs.Common.{◌≡◌, ◌-◌, All, ℤ, pos, List, ℕ, sym, ap, subst, ◌∙◌, arith, get_or}
 use Rattle.std.proofs.lemmas.Result.{IfOk-weaker}
 use Rattle.ts_space.specs.declared.place.Place.{Place}
 use Rattle.ts_space.specs.Place.{search_of}
 use Rattle.ts_row.specs.declared.kind.Column.{Column}
-use Rattle.ts_regular.specs.Cell.{base_of, regular_room}
+use Rattle.ts_regular.specs.Cell.{base_of}
 use Rattle.ts_regular.specs.Places.{ArePlaces, IsPlace}
 use Rattle.ts_regular.specs.OnePage.{IsMarkedOn}
 use Rattle.ts_regular.specs.Call.{IsMissing, IsMarked}
-use Rattle.ts_regular.proofs.PlaceLemmas.{IsFound, IsGap, found_ok}
+use Rattle.ts_regular.proofs.PlaceLemmas.{found_ok}
 use Rattle.ts_regular.proofs.EditLemmas.{found_get, found_within, gap_not, marked_there, none_missing}
 use Rattle.ts_regular.proofs.mark.regular_mark.Goals as goal
 

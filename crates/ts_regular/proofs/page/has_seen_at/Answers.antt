@@ -1,8 +1,4 @@
-use Rattle.std.proofs.Common.{◌≡◌, Bool, true, false, not, IsTrue, Some, None, is_some, List, refl, sym, ap, ◌∙◌}
-use Rattle.ts_row.specs.declared.kind.Column.{Column}
-use Rattle.ts_row.specs.Row.{Row, fits}
-use Rattle.ts_regular.specs.Cell.{Cell, FitsCell, cell_bytes}
-use Rattle.ts_regular.specs.OnePage.{cell_at, is_seen}
+use Rattle.ts_regular.specs.OnePage.{cell_at}
 use Rattle.ts_regular.proofs.BytesLemmas.{around, seen_row}
 use Rattle.ts_regular.proofs.page.has_seen_at.Goals as goal
 

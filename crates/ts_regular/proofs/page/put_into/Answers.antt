@@ -1,6 +1,5 @@
 use Rattle.std.proofs.Common.{◌≡◌, ◌<◌, ℕ, List, length, ◌∙◌, arith}
 use Rattle.ts_row.specs.declared.kind.Column.{Column}
-use Rattle.ts_regular.specs.Cell.{Cell, regular_room}
 use Rattle.ts_regular.specs.RegularPage.{filled_count}
 use Rattle.ts_regular.specs.OnePage.{with_row}
 use Rattle.ts_regular.proofs.CellsLemmas.{count_put}

@@ -1,6 +1,5 @@
-use Rattle.std.proofs.Common.{◌≡◌, ◌+◌, ◌-◌, ◌<◌, false, IsSome, ℕ, List, length, sym, ◌∙◌, arith}
+use Rattle.std.proofs.Common.{◌≡◌, ◌-◌, ◌<◌, IsSome, ℕ, List, length, sym, ◌∙◌, arith}
 use Rattle.ts_row.specs.declared.kind.Column.{Column}
-use Rattle.ts_regular.specs.Cell.{Cell}
 use Rattle.ts_regular.specs.RegularPage.{filled_count}
 use Rattle.ts_regular.specs.OnePage.{cell_at, without_row}
 use Rattle.ts_regular.proofs.CellsLemmas.{count_none, count_taken, none_there}

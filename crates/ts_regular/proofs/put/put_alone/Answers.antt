@@ -1,7 +1,6 @@
 -- A first element stands on a page that `take` gave.
-use Rattle.std.proofs.Common.{rules, None, List, ℕ, drop, refl, ap, ◌∙◌, inr, arith}
+use Rattle.std.proofs.Common.{rules, None, List, drop, ap, ◌∙◌, inr, arith}
 use Rattle.std.proofs.lemmas.List.{length-replicate}
-use Rattle.std.proofs.lemmas.Int.{to_z-of_z, ints}
 use Rattle.ts_row.specs.declared.kind.Column.{Column}
 use Rattle.ts_regular.specs.Cell.{regular_room}
 use Rattle.ts_regular.specs.OnePage.{no_cells}

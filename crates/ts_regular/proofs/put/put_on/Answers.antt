@@ -1,5 +1,5 @@
 -- The page is read once, and has a row more or another one.
-use Rattle.std.proofs.Common.{rules, ◌≡◌, w64, Some, ℕ, List, length, drop, refl, sym, ap, ◌∙◌}
+use Rattle.std.proofs.Common.{rules, w64, Some, ℕ, List, drop, refl, sym, ap, ◌∙◌}
 use Rattle.std.proofs.Math.ListN.{length-set}
 use Rattle.std.proofs.lemmas.Int.{to_z-of_z}
 use Rattle.ts_row.specs.declared.kind.Column.{Column}

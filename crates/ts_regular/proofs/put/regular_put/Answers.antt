@@ -1,16 +1,16 @@
 -- A row is put on the page of the place that the search finds, or on one that is taken.
-use Rattle.std.proofs.Common.{◌≡◌, ◌+◌, ◌-◌, ◌%◌, ◌<◌, ◌≤◌, ℤ, pos, None, List, ℕ, length, refl, sym, ap, subst, ◌∙◌, arith, get_or}
+use Rattle.std.proofs.Common.{◌≡◌, ◌+◌, ◌-◌, ◌%◌, ◌≤◌, ℤ, pos, None, List, ℕ, sym, ap, subst, ◌∙◌, arith, get_or}
 use Rattle.ts_space.specs.declared.place.Place.{Place}
 use Rattle.ts_space.specs.declared.moved.Come.TheVariants.{One}
 use Rattle.ts_space.specs.Moved.{moved_to}
 use Rattle.ts_space.specs.Place.{place_at, search_of}
 use Rattle.ts_row.specs.declared.kind.Column.{Column}
 use Rattle.ts_regular.specs.Cell.{base_of, regular_room}
-use Rattle.ts_regular.specs.Places.{ArePlaces, IsPlace}
+use Rattle.ts_regular.specs.Places.{ArePlaces}
 use Rattle.ts_regular.specs.OnePage.{IsEditedOn, IsPutAlone, with_row}
 use Rattle.ts_regular.specs.Call.{IsPut}
-use Rattle.ts_regular.proofs.PlaceLemmas.{IsFound, IsGap, found_ok, gap_err, none_err}
-use Rattle.ts_regular.proofs.EditLemmas.{found_get, found_within, put_first, put_there, whole_base}
+use Rattle.ts_regular.proofs.PlaceLemmas.{found_ok, gap_err, none_err}
+use Rattle.ts_regular.proofs.EditLemmas.{found_get, put_first, put_there, whole_base}
 use Rattle.ts_regular.proofs.put.regular_put.Goals as goal
 
 pub put_on-requires-clause-at : goal.put_on-requires-clause-at

@@ -1,16 +1,14 @@
 -- The element is taken from the page of the place that the search finds.
-use Rattle.std.proofs.Common.{◌≡◌, ◌+◌, ◌-◌, ◌<◌, All, ℤ, pos, Option, Some, None, List, ℕ, length, refl, sym, ap, subst, ◌∙◌, arith, get_or}
+use Rattle.std.proofs.Common.{◌≡◌, ◌-◌, All, ℤ, pos, Option, Some, None, List, ℕ, sym, ap, subst, ◌∙◌, arith, get_or}
 use Rattle.ts_space.specs.declared.place.Place.{Place}
-use Rattle.ts_space.specs.declared.moved.Moved.{Moved}
 use Rattle.ts_space.specs.declared.moved.Come.{Come}
-use Rattle.ts_space.specs.declared.moved.Come.TheVariants.{Nothing, One, Two}
 use Rattle.ts_space.specs.Place.{search_of}
 use Rattle.ts_row.specs.declared.kind.Column.{Column}
-use Rattle.ts_regular.specs.Cell.{base_of, regular_room}
+use Rattle.ts_regular.specs.Cell.{base_of}
 use Rattle.ts_regular.specs.Places.{ArePlaces, IsPlace}
 use Rattle.ts_regular.specs.OnePage.{IsTakenOn}
 use Rattle.ts_regular.specs.Call.{IsMissing, IsRemoved}
-use Rattle.ts_regular.proofs.PlaceLemmas.{IsFound, IsGap, found_ok}
+use Rattle.ts_regular.proofs.PlaceLemmas.{found_ok}
 use Rattle.ts_regular.proofs.EditLemmas.{found_get, found_within, gap_not, missing, removed, none_missing}
 use Rattle.ts_regular.proofs.remove.regular_remove.Goals as goal
 

@@ -1,10 +1,10 @@
 -- The page is read once: it stays where the cell has no element, is freed where that was the last one, and else has one less.
-use Rattle.std.proofs.Common.{rules, ◌≡◌, ◌<◌, IsTrue, w64, None, ℕ, List, ◌∷◌, length, drop, refl, sym, ap, ◌∙◌, arith}
+use Rattle.std.proofs.Common.{rules, ◌<◌, IsTrue, w64, None, ℕ, List, ◌∷◌, drop, refl, sym, ap, ◌∙◌, arith}
 use Rattle.std.proofs.Math.ListN.{length-set}
 use Rattle.std.proofs.lemmas.Int.{to_z-of_z}
 use Rattle.ts_page.specs.Head.{zero_page}
 use Rattle.ts_row.specs.declared.kind.Column.{Column}
-use Rattle.ts_regular.specs.RegularPage.{IsRegularPage, behind_head, filled_count, regular_page}
+use Rattle.ts_regular.specs.RegularPage.{regular_page}
 use Rattle.ts_regular.specs.Places.{OffsetPage, IsOn}
 use Rattle.ts_regular.specs.OnePage.{without_row}
 use Rattle.ts_regular.proofs.HeadLemmas.{behind_told}

@@ -1,5 +1,4 @@
-use Rattle.std.proofs.Common.{List, refl, subst}
-use Rattle.ts_space.specs.declared.place.Place.{Place}
+use Rattle.std.proofs.Common.{refl, subst}
 use Rattle.ts_space.specs.Place.{AreAbove}
 use Rattle.ts_series.proofs.WrittenLemmas.{none_turned, none_before}
 use Rattle.ts_series.proofs.clip.del_clip.Goals as goal

@@ -1,4 +1,4 @@
-use Rattle.std.proofs.Common.{Option, Some, None, Ok, subst, sym}
+use Rattle.std.proofs.Common.{Option, Ok, subst, sym}
 use Rattle.ts_space.specs.declared.moved.Moved.{Moved}
 use Rattle.ts_space.specs.Directory.{places_of}
 use Rattle.ts_chain.specs.Call.{IsInserted}

@@ -1,4 +1,4 @@
-use Rattle.std.proofs.Common.{Option, Some, None, subst, sym, arith}
+use Rattle.std.proofs.Common.{Option, subst, arith}
 use Rattle.ts_space.specs.declared.moved.Moved.{Moved}
 use Rattle.ts_space.specs.Directory.{places_of}
 use Rattle.ts_chain.specs.Call.{IsInserted}

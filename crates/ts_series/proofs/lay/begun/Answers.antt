@@ -1,6 +1,6 @@
 use Rattle.std.proofs.Common.{sym, ◌∙◌, arith}
 use Rattle.std.proofs.lemmas.Bool.Decides.{nat_tests}
-use Rattle.ts_series.proofs.PlacesLemmas.{begins_below, begins_last, next_above}
+use Rattle.ts_series.proofs.PlacesLemmas.{begins_below, next_above}
 use Rattle.ts_series.proofs.lay.begun.Goals as goal
 
 pub begun_below-requires : goal.begun_below-requires

@@ -1,5 +1,4 @@
-use Rattle.std.proofs.Common.{◌≡◌, ◌+◌, ◌++◌, Bool, List, drop, ap, subst, sym, ◌∙◌, arith, length-append}
-use Rattle.ts_row.specs.Element.{Element}
+use Rattle.std.proofs.Common.{◌+◌, ◌++◌, Bool, drop, ap, subst, ◌∙◌, arith, length-append}
 use Rattle.ts_cells.proofs.HeadLemmas.{irregular_behind}
 use Rattle.ts_chain.proofs.ChangeLemmas.{if_ok}
 use Rattle.ts_series.specs.Ends.{CanBegin, HasElements}

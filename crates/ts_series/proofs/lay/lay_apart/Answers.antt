@@ -1,4 +1,4 @@
-use Rattle.std.proofs.Common.{◌∙◌, ◌++◌, arith}
+use Rattle.std.proofs.Common.{◌∙◌, arith}
 use Rattle.ts_series.proofs.LayLemmas.{kept_two, freed_length, rising_second, begin_at, begin_second, is_on, piece_on, put_both_at, order_front, order_back, used_of}
 use Rattle.ts_series.proofs.lay.lay_apart.Goals as goal
 

@@ -1,4 +1,3 @@
-use Rattle.std.proofs.Common.{refl}
 use Rattle.ts_chain.proofs.ChangeLemmas.{if_ok}
 use Rattle.ts_series.proofs.LayLemmas.{put_first, put_others, rest_each, rest_different, rest_freed}
 use Rattle.ts_series.proofs.lay.put_one.Goals as goal

@@ -1,6 +1,6 @@
 use Rattle.std.proofs.Common.{arith}
 use Rattle.ts_chain.proofs.LessLemmas.{stand_alone, stand_below, stand_above}
-use Rattle.ts_chain.proofs.split.stands_between.Goals as goal
+use Rattle.ts_chain.proofs.halves.stands_between.Goals as goal
 
 pub returns-then-index-places-clause-yes : goal.returns-then-index-places-clause-yes
 returns-then-index-places-clause-yes c = λ hit front place back parts same. stand_alone c.args.places.now c.args.index c.args.second.now.at front place back (omega arith) parts same

@@ -1,9 +1,9 @@
-use Rattle.std.proofs.Common.{ℕ, List, [], ◌∷◌, refl, arith}
+use Rattle.std.proofs.Common.{ℕ, None, List, [], length, ap, arith, rules}
 use Rattle.ts_space.specs.declared.place.Place.{Place}
 use Rattle.ts_row.specs.declared.kind.Column.{Column}
 use Rattle.ts_irregular.proofs.KeptLemmas.{taken_element}
-use Rattle.ts_chain.proofs.PartLemmas.{two_put, first_alone, second_alone, spread_made, none_of_one, moved_apart, taken_apart, taken_used}
-use Rattle.ts_chain.proofs.split.spread_apart.Goals as goal
+use Rattle.ts_chain.proofs.PartLemmas.{two_put, first_alone, second_alone, is_spread, spread_made, none_of_one, moved_apart, taken_apart, taken_used}
+use Rattle.ts_chain.proofs.spread.spread_apart.Goals as goal
 
 pub put_two-requires-clause-second_element : goal.put_two-requires-clause-second_element
 put_two-requires-clause-second_element g c =
@@ -15,7 +15,7 @@ put_two-requires-clause-second_below g c =
 
 pub put_two-requires-clause-first_used : goal.put_two-requires-clause-first_used
 put_two-requires-clause-first_used g c =
-    taken_used g.P.Pages.tells c.take-number.result c.args.first.now.page (g.P.Pages.contents c.args.pages.now) (g.P.Pages.contents c.take-number.new.self) c.take-number.ensures.taken c.requires.first.used
+    taken_used g.P.Pages.tells c.take-number.result c.args.halves.now.first.page (g.P.Pages.contents c.args.pages.now) (g.P.Pages.contents c.take-number.new.self) c.take-number.ensures.taken c.requires.fits.first.used
 
 pub put_two-requires-clause-second_used : goal.put_two-requires-clause-second_used
 put_two-requires-clause-second_used g c =
@@ -29,14 +29,15 @@ returns-clause-spread g c =
     let v = g.P.Pages.contents c.args.pages.now in
     let u = g.P.Pages.contents c.take-number.new.self in
     let w = g.P.Pages.contents c.put_two.new.pages in
-    let first : Place = c.args.first.now in
-    let second : Place = c.args.second.now in
+    let first : Place = c.args.halves.now.first in
+    let second : Place = c.args.halves.now.second in
     let page = c.args.page.now.bytes in
     let others = c.args.others.now.bytes in
     let taken = c.take-number.ensures.taken in
-    spread_made tells slot columns [] first second [] page others page others _ v w
+    is_spread tells slot columns c.args.halves.now None None page others _ v w c.requires.before c.requires.behind (search rules) (search rules) (omega (arith, ap length c.in_ok-put_two.ensures.free, ap length taken.listed, c.in_ok-put_two.ensures.change, taken.change_bytes))
+    (spread_made tells slot columns [] first second [] page others page others _ v w
     (moved_apart v u w c.take-number.result first.page taken.listed c.in_ok-put_two.ensures.free)
-    (record { some = c.requires.first.some; room = c.requires.first.room }) (record { some = c.requires.second.some; room = c.requires.second.room }) (omega arith)
-    (λ told. two_put first page others _ v.page u.page w.page (taken_apart tells c.take-number.result first.page v u taken c.requires.first.used) (taken.pages told) (c.in_ok-put_two.ensures.put told))
+    (record { some = c.requires.fits.first.some; room = c.requires.fits.first.room }) (record { some = c.requires.fits.second.some; room = c.requires.fits.second.room }) (omega arith)
+    (λ told. two_put first page others _ v.page u.page w.page (taken_apart tells c.take-number.result first.page v u taken c.requires.fits.first.used) (taken.pages told) (c.in_ok-put_two.ensures.put told))
     (λ n not free. (none_of_one first.page n not, taken_apart tells c.take-number.result n v u taken free, none_of_one first.page n not))
-    (first_alone tells slot columns first page v) (second_alone tells slot columns second others v)
+    (first_alone tells slot columns first page v) (second_alone tells slot columns second others v))
