@@ -1,4 +1,4 @@
--- What phrases give has its form.
+-- What the parts of statements give has its form.
 use Rattle.std.proofs.Common.{◌≡◌, ℕ, ◌==◌, ◌&&◌, true, IsTrue, List, [], ◌∷◌, Some, refl, arith, inl, inr, codes, ℤ, pos, ◌≤ℤ◌, int_le}
 use Rattle.std.proofs.lemmas.Bool.{cases_Bool}
 use Rattle.std.proofs.lemmas.Bool.Decides.{nat_tests}
@@ -12,23 +12,17 @@ use Rattle.ts_row.specs.declared.value.Literal.TheVariants as literals
 use Rattle.ts_text.specs.Phrase.{Phrase, word_in, a_sign, behind, in_brackets, pair, triple, closed}
 use Rattle.ts_text.specs.declared.token.TokenKind.{TokenKind}
 use Rattle.ts_text.specs.declared.token.TokenKind.TheVariants.{Word, Number, Text, Sign}
-use Rattle.ts_text.proofs.CallerLemmas.{Yields, Shrinks, shrinks_of, chain, given, Any, of_token, sign_yields, behind_yields, brackets_yield, pair_yields, triple_yields, made_yields, closed_yields}
+use Rattle.ts_text.proofs.CallerLemmas.{Yields, Shrinks, shrinks_of, chain, given, Any, of_token, sign_yields, behind_yields, brackets_yield, pair_yields, triple_yields, closed_yields}
 use Rattle.ts_command.specs.Tokens.{front, number_length, magnitude_length, fraction_length, closing}
 use Rattle.ts_command.specs.Text.{undoubled, said}
 use Rattle.ts_command.specs.Number.{units_of, scale_of}
 use Rattle.ts_command.specs.Form.{IsColumn, HasForm}
-use Rattle.ts_command.specs.Grammar.{a_literal, literal_in, a_column, a_name, name_in, a_key, key_in, a_stamp, stamp_in, a_type, type_in, kind_behind, a_small, small_in, a_word, a_whole, whole_in, within, a_stamp_column, a_routine, routine_in, a_name_call, a_key_call, a_key_name_call, a_key_stamp_call, a_key_range_call, a_names_whole_call, a_key_stamp_values_call, a_name_columns_call, of_name, of_key, of_stamp, of_row, arguments, a_call}
-use Rattle.ts_command.specs.Routines.{routine_of, type_of}
-use Rattle.ts_command.specs.declared.routine.Routine.{Routine}
+use Rattle.ts_command.specs.Grammar.{a_literal, literal_in, a_column, a_name, name_in, a_key, key_in, a_stamp, stamp_in, a_text, text_in, a_joined, joined_in, a_type, type_in, kind_behind, a_small, small_in, a_word, a_whole, whole_in, within, a_stamp_column, a_routine, routine_in, a_name_call, a_names_call, a_name_text_call, a_join_call, a_name_range_call, a_name_stamp_whole_call, a_key_call, a_key_name_call, a_key_stamp_call, a_key_range_call, a_names_whole_call, a_key_stamp_values_call, a_name_columns_call}
+use Rattle.ts_command.specs.Routines.{routine_of, joined_of, type_of}
 use Rattle.ts_command.specs.declared.routine.Routine.TheVariants as calls
-use Rattle.ts_command.specs.declared.routine.NameRoutine.{NameRoutine}
-use Rattle.ts_command.specs.declared.routine.NameRoutine.TheVariants as by_name
-use Rattle.ts_command.specs.declared.routine.KeyRoutine.{KeyRoutine}
-use Rattle.ts_command.specs.declared.routine.KeyRoutine.TheVariants as by_key
-use Rattle.ts_command.specs.declared.routine.StampRoutine.{StampRoutine}
 use Rattle.ts_command.specs.declared.routine.StampRoutine.TheVariants as at_stamp
-use Rattle.ts_command.specs.declared.routine.RowRoutine.{RowRoutine}
-use Rattle.ts_command.specs.declared.routine.RowRoutine.TheVariants as with_row
+use Rattle.ts_command.specs.declared.routine.Joined.{Joined}
+use Rattle.ts_command.specs.declared.routine.Joined.TheVariants.{Patterns}
 use Rattle.ts_command.specs.declared.routine.TypeName.{TypeName}
 use Rattle.ts_command.specs.declared.routine.TypeName.TheVariants.{SmallInt, Integer, BigInt, Decimal, VarChar}
 use Rattle.ts_command.specs.declared.command.Command.TheVariants as commands
@@ -82,6 +76,14 @@ pub literal_yields : Yields front Any a_literal
 unfolding a_literal front
 literal_yields = of_token front front_laws Any literal_in (record { first = 110; more = codes "ull"; kind = Word; found = literals.Null; holds = tt; stands = refl; accepted = refl }) (λ kind text a e. tt)
 
+text_yields : Yields front Any a_text
+unfolding a_text front closing undoubled
+text_yields = of_token front front_laws Any text_in (record { first = 39; more = 39 ∷ []; kind = Text; found = []; holds = tt; stands = refl; accepted = refl }) (λ kind text a e. tt)
+
+joined_yields : Yields front Any a_joined
+unfolding a_joined front joined_of
+joined_yields = of_token front front_laws Any joined_in (record { first = 112; more = codes "attern"; kind = Word; found = Patterns; holds = tt; stands = refl; accepted = refl }) (λ kind text a e. tt)
+
 type_yields : Yields front Any a_type
 unfolding a_type front type_of
 type_yields = of_token front front_laws Any type_in (record { first = 105; more = codes "nteger"; kind = Word; found = Integer; holds = tt; stands = refl; accepted = refl }) (λ kind text a e. tt)
@@ -90,7 +92,7 @@ datetime_yields : Yields front Any (a_word (codes "datetime"))
 unfolding a_word front
 datetime_yields = of_token front front_laws Any (word_in (codes "datetime")) (record { first = 100; more = codes "atetime"; kind = Word; found = tt; holds = tt; stands = refl; accepted = refl }) (λ kind text a e. tt)
 
-routine_yields : Yields front Any a_routine
+pub routine_yields : Yields front Any a_routine
 unfolding a_routine front routine_of
 routine_yields = of_token front front_laws Any routine_in (record { first = 71; more = codes "etElem"; kind = Word; found = calls.AtStamp at_stamp.GetElem; holds = tt; stands = refl; accepted = refl }) (λ kind text a e. tt)
 
@@ -175,39 +177,67 @@ behind_comma P phrase one = behind_yields front front_laws P 44 comma_sign phras
 listed : {A : Type 0} (P : A → Type 0) (phrase : Phrase A) → Yields front P phrase → Yields front (AllByRecursion P) (closed 41 phrase)
 listed P phrase one = closed_yields front front_laws P 41 comma_sign close_sign refl phrase one
 
-name_call_yields : Yields front IsName a_name_call
+pub name_call_yields : Yields front IsName a_name_call
 unfolding a_name_call
 name_call_yields = bracketed IsName a_name name_yields
 
-key_call_yields : Yields front IsKey a_key_call
+pub names_call_yields : Yields front (λ (p : List ℕ × List ℕ). IsName p.0 × IsName p.1) a_names_call
+unfolding a_names_call
+names_call_yields = bracketed _ (pair a_name a_name) (paired IsName IsName a_name a_name name_yields name_yields)
+
+pub name_text_call_yields : Yields front (λ (p : List ℕ × List ℕ). IsName p.0 × Any p.1) a_name_text_call
+unfolding a_name_text_call
+name_text_call_yields = bracketed _ (pair a_name a_text) (paired IsName Any a_name a_text name_yields text_yields)
+
+abbrev pub AreNames : List ℕ × List ℕ × List ℕ → Type 0
+AreNames names = IsName names.0 × IsName names.1 × IsName names.2
+
+pub join_call_yields : Yields front (λ (p : Joined × (List ℕ × List ℕ × List ℕ)). Any p.0 × AreNames p.1) a_join_call
+unfolding a_join_call
+join_call_yields =
+    bracketed _ (pair a_joined (triple a_name a_name a_name))
+    (paired Any AreNames a_joined (triple a_name a_name a_name) joined_yields (triple_yields front front_laws IsName IsName IsName comma_sign a_name a_name a_name name_yields name_yields name_yields))
+
+pub name_range_call_yields : Yields front (λ (p : List ℕ × ℤ × ℤ). IsName p.0 × Any p.1 × Any p.2) a_name_range_call
+unfolding a_name_range_call
+name_range_call_yields =
+    bracketed _ (triple a_name a_stamp a_stamp) (triple_yields front front_laws IsName Any Any comma_sign a_name a_stamp a_stamp name_yields stamp_yields stamp_yields)
+
+pub name_stamp_whole_call_yields : (least most : ℤ) → int_le least (pos 1) ≡ true → int_le (pos 1) most ≡ true → Yields front (λ (p : List ℕ × ℤ × ℤ). IsName p.0 × Any p.1 × IsWithin least most p.2) (a_name_stamp_whole_call least most)
+unfolding a_name_stamp_whole_call
+name_stamp_whole_call_yields least most below above =
+    bracketed _ (triple a_name a_stamp (a_whole least most))
+    (triple_yields front front_laws IsName Any (IsWithin least most) comma_sign a_name a_stamp (a_whole least most) name_yields stamp_yields (whole_yields least most below above))
+
+pub key_call_yields : Yields front IsKey a_key_call
 unfolding a_key_call
 key_call_yields = bracketed IsKey a_key key_yields
 
-key_name_call_yields : Yields front (λ (p : List ℕ × List ℕ). IsKey p.0 × IsName p.1) a_key_name_call
+pub key_name_call_yields : Yields front (λ (p : List ℕ × List ℕ). IsKey p.0 × IsName p.1) a_key_name_call
 unfolding a_key_name_call
 key_name_call_yields = bracketed _ (pair a_key a_name) (paired IsKey IsName a_key a_name key_yields name_yields)
 
-key_stamp_call_yields : Yields front (λ (p : List ℕ × ℤ). IsKey p.0 × Any p.1) a_key_stamp_call
+pub key_stamp_call_yields : Yields front (λ (p : List ℕ × ℤ). IsKey p.0 × Any p.1) a_key_stamp_call
 unfolding a_key_stamp_call
 key_stamp_call_yields = bracketed _ (pair a_key a_stamp) (paired IsKey Any a_key a_stamp key_yields stamp_yields)
 
-names_whole_call_yields : (least most : ℤ) → int_le least (pos 1) ≡ true → int_le (pos 1) most ≡ true → Yields front (λ (p : List ℕ × List ℕ × ℤ). IsName p.0 × IsName p.1 × IsWithin least most p.2) (a_names_whole_call least most)
+pub names_whole_call_yields : (least most : ℤ) → int_le least (pos 1) ≡ true → int_le (pos 1) most ≡ true → Yields front (λ (p : List ℕ × List ℕ × ℤ). IsName p.0 × IsName p.1 × IsWithin least most p.2) (a_names_whole_call least most)
 unfolding a_names_whole_call
 names_whole_call_yields least most below above =
     bracketed _ (triple a_name a_name (a_whole least most))
     (triple_yields front front_laws IsName IsName (IsWithin least most) comma_sign a_name a_name (a_whole least most) name_yields name_yields (whole_yields least most below above))
 
-key_stamp_values_call_yields : Yields front (λ (p : List ℕ × ℤ × List Literal). IsKey p.0) a_key_stamp_values_call
+pub key_stamp_values_call_yields : Yields front (λ (p : List ℕ × ℤ × List Literal). IsKey p.0) a_key_stamp_values_call
 unfolding a_key_stamp_values_call
 key_stamp_values_call_yields =
     chain front front_laws IsKey (λ (p : List ℕ × ℤ × List Literal). IsKey p.0) (behind 40 a_key) _ (behind_yields front front_laws IsKey 40 open_sign a_key key_yields)
     (λ key k. chain front front_laws Any (λ (p : List ℕ × ℤ × List Literal). IsKey p.0) (behind 44 a_stamp) _ (behind_comma Any a_stamp stamp_yields)
     (λ stamp s. chain front front_laws (AllByRecursion Any) (λ (p : List ℕ × ℤ × List Literal). IsKey p.0) (closed 41 a_literal) _ (listed Any a_literal literal_yields) (λ values v. given front (λ (p : List ℕ × ℤ × List Literal). IsKey p.0) (key, stamp, values) k)))
 
-abbrev IsRowType : List ℕ × List ℕ × List Column → Type 0
+abbrev pub IsRowType : List ℕ × List ℕ × List Column → Type 0
 IsRowType p = HasForm (commands.CreateRowType p.0 p.1 p.2)
 
-name_columns_call_yields : Yields front IsRowType a_name_columns_call
+pub name_columns_call_yields : Yields front IsRowType a_name_columns_call
 unfolding a_name_columns_call
 name_columns_call_yields =
     chain front front_laws IsName IsRowType (behind 40 a_name) _ (behind_yields front front_laws IsName 40 open_sign a_name name_yields)
@@ -216,48 +246,7 @@ name_columns_call_yields =
     (λ first f. chain front front_laws (AllByRecursion IsColumn) IsRowType (closed 41 a_column) _ (listed IsColumn a_column column_yields)
     (λ others o. given front IsRowType (name, stamp, first ∷ others) (n, s, omega arith, (f, o))))))
 
-key_range_call_yields : Yields front (λ (p : List ℕ × ℤ × ℤ). IsKey p.0 × Any p.1 × Any p.2) a_key_range_call
+pub key_range_call_yields : Yields front (λ (p : List ℕ × ℤ × ℤ). IsKey p.0 × Any p.1 × Any p.2) a_key_range_call
 unfolding a_key_range_call
 key_range_call_yields =
     bracketed _ (triple a_key a_stamp a_stamp) (triple_yields front front_laws IsKey Any Any comma_sign a_key a_stamp a_stamp key_yields stamp_yields stamp_yields)
-
--- the commands of each group have their form
-of_name-form : (routine : NameRoutine) (name : List ℕ) → IsName name → HasForm (of_name routine name)
-of_name-form by_name.DropRowType name form = form
-of_name-form by_name.TSContainerDestroy name form = form
-of_name-form by_name.TSContainerUsage name form = form
-of_name-form by_name.ListSeries name form = form
-
-of_key-form : (routine : KeyRoutine) (key : List ℕ) → IsKey key → HasForm (of_key routine key)
-of_key-form by_key.DropSeries key form = form
-of_key-form by_key.GetLastElem key form = form
-of_key-form by_key.GetNelems key form = form
-
-of_stamp-form : (routine : StampRoutine) (key : List ℕ) (stamp : ℤ) → IsKey key → HasForm (of_stamp routine key stamp)
-of_stamp-form at_stamp.DelElem key stamp form = form
-of_stamp-form at_stamp.HideElem key stamp form = form
-of_stamp-form at_stamp.RevealElem key stamp form = form
-of_stamp-form at_stamp.GetElem key stamp form = form
-
-of_row-form : (routine : RowRoutine) (key : List ℕ) (stamp : ℤ) (values : List Literal) → IsKey key → HasForm (of_row routine key stamp values)
-of_row-form with_row.PutElem key stamp values form = form
-of_row-form with_row.PutElemNoDups key stamp values form = form
-of_row-form with_row.InsElem key stamp values form = form
-of_row-form with_row.UpdElem key stamp values form = form
-
--- each routine's command has its form
-arguments_yield : (routine : Routine) → Yields front HasForm (arguments routine)
-unfolding arguments
-arguments_yield calls.CreateRowType = made_yields front front_laws _ HasForm a_name_columns_call _ name_columns_call_yields (λ a form. form)
-arguments_yield calls.TSContainerCreate = made_yields front front_laws _ HasForm (a_names_whole_call (pos 1) (pos 65536)) _ (names_whole_call_yields (pos 1) (pos 65536) refl refl) (λ a form. (form.0, form.1, form.2.0, form.2.1))
-arguments_yield calls.TSCreateIrr = made_yields front front_laws _ HasForm a_key_name_call _ key_name_call_yields (λ a form. form)
-arguments_yield calls.DelClip = made_yields front front_laws _ HasForm a_key_range_call _ key_range_call_yields (λ a form. form.0)
-arguments_yield (calls.ByName routine) = made_yields front front_laws _ HasForm a_name_call _ name_call_yields (of_name-form routine)
-arguments_yield (calls.ByKey routine) = made_yields front front_laws _ HasForm a_key_call _ key_call_yields (of_key-form routine)
-arguments_yield (calls.AtStamp routine) = made_yields front front_laws _ HasForm a_key_stamp_call _ key_stamp_call_yields (λ a form. of_stamp-form routine a.0 a.1 form.0)
-arguments_yield (calls.WithRow routine) = made_yields front front_laws _ HasForm a_key_stamp_values_call _ key_stamp_values_call_yields (λ a form. of_row-form routine a.0 a.1 a.2 form)
-
--- a call
-pub call_yields : Yields front HasForm a_call
-unfolding a_call
-call_yields = chain front front_laws Any HasForm a_routine arguments routine_yields (λ routine any. arguments_yield routine)

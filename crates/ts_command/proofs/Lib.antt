@@ -2,6 +2,7 @@ pub mod TokenLemmas
 pub mod TextLemmas
 pub mod TokenLengths
 pub mod FormLemmas
+pub mod CommandLemmas
 pub mod TextFormLemmas
 pub mod WordLemmas
 pub mod NumberFormLemmas

@@ -1,10 +1,10 @@
 -- Doubled quotes.
 use Rattle.std.proofs.Common.{◌≡◌, ℕ, ◌==◌, ◌&&◌, ◌||◌, Bool, false, if◌then◌else◌, List, [], ◌∷◌, drop, slice_index, refl, sym, ◌∙◌, ap, inl, inr, length, take, ◌-◌, ◌<◌, ◌≤◌, ◌++◌, append_assoc, slice_index_or, arith}
 use Rattle.std.specs.List.{list_any}
-use Rattle.std.proofs.lemmas.List.{append-nil, take_all, length-drop}
+use Rattle.std.proofs.lemmas.List.{append-nil, take_all, length-drop, length-take}
 use Rattle.std.proofs.lemmas.Bool.{cases_Bool}
 use Rattle.std.proofs.lemmas.Bool.Decides.{nat_tests}
-use Rattle.ts_command.specs.Text.{undoubled}
+use Rattle.ts_command.specs.Text.{undoubled, said}
 
 -- a byte more
 pub undoubled-cons : (b : ℕ) (bytes : List ℕ) → undoubled (b ∷ bytes) ≡ b ∷ undoubled (if b == 39 && slice_index bytes 0 == 39 then drop 1 bytes else bytes)
@@ -37,6 +37,19 @@ unquoted (b ∷ c ∷ raw) none =
 pub undoubled_more : (said raw : List ℕ) → 1 ≤ length raw → said ++ undoubled raw ≡ (said ++ slice_index_or raw 0 0 ∷ []) ++ undoubled (if slice_index_or raw 0 0 == 39 && slice_index (drop 1 raw) 0 == 39 then drop 1 (drop 1 raw) else drop 1 raw)
 undoubled_more said [] some = absurd (omega arith)
 undoubled_more said (b ∷ raw) some = ap (λ (l : List ℕ). said ++ l) (undoubled-cons b raw) ∙ sym (append_assoc said (b ∷ []) (undoubled (if b == 39 && slice_index raw 0 == 39 then drop 1 raw else raw)))
+
+-- what is said is no longer
+undoubled-le : (bytes : List ℕ) → length (undoubled bytes) ≤ length bytes
+unfolding undoubled
+undoubled-le [] = omega arith
+undoubled-le (b ∷ []) = omega arith
+undoubled-le (b ∷ c ∷ bytes) = elim (cases_Bool (b == 39 && c == 39)) [
+  | inl t ↦ rw t (omega (arith, undoubled-le bytes))
+  | inr f ↦ rw f (omega (arith, undoubled-le (c ∷ bytes)))
+]
+
+pub said-le : (token : List ℕ) → length (said token) ≤ length token
+said-le token = omega (arith, undoubled-le (take (length token - 2) (drop 1 token)), length-take (length token - 2) (drop 1 token), length-drop 1 token)
 
 -- nothing is left
 pub undoubled_end : (said raw : List ℕ) → length raw < 1 → said ++ undoubled raw ≡ said

@@ -1,5 +1,5 @@
--- The form of commands: what holds of the names, keys and whole numbers of every command that a statement is read as.
-use Rattle.std.specs.Prelude.{◌<◌, IsTrue, length, pos, ◌≤ℤ◌}
+-- The form of commands: what holds of the names, keys, whole numbers and texts of every command that a statement is read as.
+use Rattle.std.specs.Prelude.{◌<◌, ◌^◌, IsTrue, length, pos, ◌≤ℤ◌}
 use Rattle.std.specs.List.{AllByRecursion}
 use Rattle.ts_base.specs.Name.{is_name, is_key}
 use Rattle.ts_row.specs.declared.kind.Column.{Column}
@@ -9,10 +9,21 @@ use Rattle.ts_command.specs.declared.command.Command.TheVariants as commands
 abbrev pub IsColumn : Column → Type 0
 IsColumn column = IsTrue (is_name column.name)
 
--- the names, keys and whole numbers of a command have their forms and ranges
+-- the names, keys and whole numbers of a command have their forms and ranges, and a text has fewer than 2 ^ 32 bytes
 abbrev pub HasForm : Command → Type 0
 HasForm (commands.CreateRowType name stamp columns) = IsTrue (is_name name) × IsTrue (is_name stamp) × (0 < length columns) × AllByRecursion IsColumn columns
 HasForm (commands.DropRowType name) = IsTrue (is_name name)
+HasForm (commands.CreatePattern name text) = IsTrue (is_name name) × (length text < 2 ^ 32)
+HasForm (commands.NotOp name pattern) = IsTrue (is_name name) × IsTrue (is_name pattern)
+HasForm (commands.AndPatterns name first second) = IsTrue (is_name name) × IsTrue (is_name first) × IsTrue (is_name second)
+HasForm (commands.OrPatterns name first second) = IsTrue (is_name name) × IsTrue (is_name first) × IsTrue (is_name second)
+HasForm (commands.AndCalendars name first second) = IsTrue (is_name name) × IsTrue (is_name first) × IsTrue (is_name second)
+HasForm (commands.OrCalendars name first second) = IsTrue (is_name name) × IsTrue (is_name first) × IsTrue (is_name second)
+HasForm (commands.ShowPattern name) = IsTrue (is_name name)
+HasForm (commands.DropPattern name) = IsTrue (is_name name)
+HasForm (commands.CreateCalendar name text) = IsTrue (is_name name) × (length text < 2 ^ 32)
+HasForm (commands.ShowCalendar name) = IsTrue (is_name name)
+HasForm (commands.DropCalendar name) = IsTrue (is_name name)
 HasForm (commands.TSContainerCreate name row_type quota) = IsTrue (is_name name) × IsTrue (is_name row_type) × (pos 1 ≤ℤ quota) × (quota ≤ℤ pos 65536)
 HasForm (commands.TSContainerDestroy name) = IsTrue (is_name name)
 HasForm (commands.TSContainerUsage name) = IsTrue (is_name name)
@@ -25,6 +36,9 @@ HasForm (commands.InsElem key stamp values) = IsTrue (is_key key)
 HasForm (commands.UpdElem key stamp values) = IsTrue (is_key key)
 HasForm (commands.DelElem key stamp) = IsTrue (is_key key)
 HasForm (commands.DelClip key from to) = IsTrue (is_key key)
+HasForm (commands.CalIndex calendar from to) = IsTrue (is_name calendar)
+HasForm (commands.CalStamp calendar after count) = IsTrue (is_name calendar) × (pos 1 ≤ℤ count) × (count ≤ℤ pos 4294967295)
+HasForm (commands.CalRange calendar from to) = IsTrue (is_name calendar)
 HasForm (commands.HideElem key stamp) = IsTrue (is_key key)
 HasForm (commands.RevealElem key stamp) = IsTrue (is_key key)
 HasForm (commands.GetElem key stamp) = IsTrue (is_key key)

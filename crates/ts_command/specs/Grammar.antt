@@ -27,7 +27,15 @@ use Rattle.ts_command.specs.declared.routine.StampRoutine.{StampRoutine}
 use Rattle.ts_command.specs.declared.routine.StampRoutine.TheVariants as at_stamp
 use Rattle.ts_command.specs.declared.routine.RowRoutine.{RowRoutine}
 use Rattle.ts_command.specs.declared.routine.RowRoutine.TheVariants as with_row
-use Rattle.ts_command.specs.Routines.{routine_of, type_of}
+use Rattle.ts_command.specs.declared.routine.TextRoutine.{TextRoutine}
+use Rattle.ts_command.specs.declared.routine.TextRoutine.TheVariants as with_text
+use Rattle.ts_command.specs.declared.routine.JoinRoutine.{JoinRoutine}
+use Rattle.ts_command.specs.declared.routine.JoinRoutine.TheVariants as joining
+use Rattle.ts_command.specs.declared.routine.RangeRoutine.{RangeRoutine}
+use Rattle.ts_command.specs.declared.routine.RangeRoutine.TheVariants as in_range
+use Rattle.ts_command.specs.declared.routine.Joined.{Joined}
+use Rattle.ts_command.specs.declared.routine.Joined.TheVariants.{Patterns, Calendars}
+use Rattle.ts_command.specs.Routines.{routine_of, joined_of, type_of}
 use Rattle.ts_command.specs.declared.routine.TypeName.{TypeName}
 use Rattle.ts_command.specs.declared.routine.TypeName.TheVariants.{SmallInt, Integer, BigInt, Decimal, VarChar}
 use Rattle.ts_command.specs.declared.command.Command.{Command}
@@ -59,6 +67,15 @@ stamp_in kind token = None
 -- a stamp
 unfoldable pub a_stamp : Phrase ℤ
 a_stamp = token front stamp_in
+
+-- what a text says
+abbrev pub text_in : TokenKind → List ℕ → Option (List ℕ)
+text_in Text text = Some (said text)
+text_in kind token = None
+
+-- a text
+unfoldable pub a_text : Phrase (List ℕ)
+a_text = token front text_in
 
 -- a word, a number or a text that a column's value is written as
 abbrev pub literal_in : TokenKind → List ℕ → Option Literal
@@ -136,6 +153,15 @@ a_column = do
   kind ← kind_behind type
   give (record { name = name; kind = kind })
 
+-- the word for what is joined
+abbrev pub joined_in : TokenKind → List ℕ → Option Joined
+joined_in Word word = joined_of word
+joined_in kind token = None
+
+-- what a join is of
+unfoldable pub a_joined : Phrase Joined
+a_joined = token front joined_in
+
 -- the name of a routine
 abbrev pub routine_in : TokenKind → List ℕ → Option Routine
 routine_in Word word = routine_of word
@@ -150,6 +176,26 @@ a_routine = token front routine_in
 -- a name
 unfoldable pub a_name_call : Phrase (List ℕ)
 a_name_call = in_brackets a_name
+
+-- two names
+unfoldable pub a_names_call : Phrase (List ℕ × List ℕ)
+a_names_call = in_brackets (pair a_name a_name)
+
+-- a name and a text
+unfoldable pub a_name_text_call : Phrase (List ℕ × List ℕ)
+a_name_text_call = in_brackets (pair a_name a_text)
+
+-- what is joined, and three names
+unfoldable pub a_join_call : Phrase (Joined × (List ℕ × List ℕ × List ℕ))
+a_join_call = in_brackets (pair a_joined (triple a_name a_name a_name))
+
+-- a name and two stamps
+unfoldable pub a_name_range_call : Phrase (List ℕ × ℤ × ℤ)
+a_name_range_call = in_brackets (triple a_name a_stamp a_stamp)
+
+-- a name, a stamp and a whole number between the two
+unfoldable pub a_name_stamp_whole_call : ℤ → ℤ → Phrase (List ℕ × ℤ × ℤ)
+a_name_stamp_whole_call least most = in_brackets (triple a_name a_stamp (a_whole least most))
 
 -- a key
 unfoldable pub a_key_call : Phrase (List ℕ)
@@ -191,6 +237,10 @@ a_key_range_call = in_brackets (triple a_key a_stamp a_stamp)
 -- the commands of routines that are called with the same arguments
 abbrev pub of_name : NameRoutine → List ℕ → Command
 of_name by_name.DropRowType name = commands.DropRowType name
+of_name by_name.ShowPattern name = commands.ShowPattern name
+of_name by_name.DropPattern name = commands.DropPattern name
+of_name by_name.ShowCalendar name = commands.ShowCalendar name
+of_name by_name.DropCalendar name = commands.DropCalendar name
 of_name by_name.TSContainerDestroy name = commands.TSContainerDestroy name
 of_name by_name.TSContainerUsage name = commands.TSContainerUsage name
 of_name by_name.ListSeries container = commands.ListSeries container
@@ -212,16 +262,35 @@ of_row with_row.PutElemNoDups key stamp values = commands.PutElemNoDups key stam
 of_row with_row.InsElem key stamp values = commands.InsElem key stamp values
 of_row with_row.UpdElem key stamp values = commands.UpdElem key stamp values
 
+abbrev pub of_text : TextRoutine → List ℕ → List ℕ → Command
+of_text with_text.CreatePattern name text = commands.CreatePattern name text
+of_text with_text.CreateCalendar name text = commands.CreateCalendar name text
+
+abbrev pub of_join : JoinRoutine → Joined → (List ℕ × List ℕ × List ℕ) → Command
+of_join joining.AndOp Patterns names = commands.AndPatterns names.0 names.1 names.2
+of_join joining.AndOp Calendars names = commands.AndCalendars names.0 names.1 names.2
+of_join joining.OrOp Patterns names = commands.OrPatterns names.0 names.1 names.2
+of_join joining.OrOp Calendars names = commands.OrCalendars names.0 names.1 names.2
+
+abbrev pub of_range : RangeRoutine → List ℕ → ℤ → ℤ → Command
+of_range in_range.CalIndex calendar from to = commands.CalIndex calendar from to
+of_range in_range.CalRange calendar from to = commands.CalRange calendar from to
+
 -- what each routine is called with, as its command
 unfoldable pub arguments : Routine → Phrase Command
 arguments calls.CreateRowType = made a_name_columns_call (λ a. commands.CreateRowType a.0 a.1 a.2)
 arguments calls.TSContainerCreate = made (a_names_whole_call (pos 1) (pos 65536)) (λ a. commands.TSContainerCreate a.0 a.1 a.2)
 arguments calls.TSCreateIrr = made a_key_name_call (λ a. commands.TSCreateIrr a.0 a.1)
 arguments calls.DelClip = made a_key_range_call (λ a. commands.DelClip a.0 a.1 a.2)
+arguments calls.NotOp = made a_names_call (λ a. commands.NotOp a.0 a.1)
+arguments calls.CalStamp = made (a_name_stamp_whole_call (pos 1) (pos 4294967295)) (λ a. commands.CalStamp a.0 a.1 a.2)
 arguments (calls.ByName routine) = made a_name_call (of_name routine)
 arguments (calls.ByKey routine) = made a_key_call (of_key routine)
 arguments (calls.AtStamp routine) = made a_key_stamp_call (λ a. of_stamp routine a.0 a.1)
 arguments (calls.WithRow routine) = made a_key_stamp_values_call (λ a. of_row routine a.0 a.1 a.2)
+arguments (calls.WithText routine) = made a_name_text_call (λ a. of_text routine a.0 a.1)
+arguments (calls.Joining routine) = made a_join_call (λ a. of_join routine a.0 a.1)
+arguments (calls.InRange routine) = made a_name_range_call (λ a. of_range routine a.0 a.1 a.2)
 
 -- a routine and what it is called with
 unfoldable pub a_call : Phrase Command

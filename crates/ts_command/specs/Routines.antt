@@ -1,4 +1,4 @@
--- The routines and the types of value columns, by their names.
+-- The routines, what is joined, and the types of value columns, by their names.
 use Rattle.std.specs.Prelude.{ℕ, List, [], ◌∷◌, codes, find, Option}
 use Rattle.std.specs.Str.{bytes_eq}
 use Rattle.ts_command.specs.declared.routine.Routine.{Routine}
@@ -11,12 +11,24 @@ use Rattle.ts_command.specs.declared.routine.StampRoutine.{StampRoutine}
 use Rattle.ts_command.specs.declared.routine.StampRoutine.TheVariants as at_stamp
 use Rattle.ts_command.specs.declared.routine.RowRoutine.{RowRoutine}
 use Rattle.ts_command.specs.declared.routine.RowRoutine.TheVariants as with_row
+use Rattle.ts_command.specs.declared.routine.TextRoutine.{TextRoutine}
+use Rattle.ts_command.specs.declared.routine.TextRoutine.TheVariants as with_text
+use Rattle.ts_command.specs.declared.routine.JoinRoutine.{JoinRoutine}
+use Rattle.ts_command.specs.declared.routine.JoinRoutine.TheVariants as joining
+use Rattle.ts_command.specs.declared.routine.RangeRoutine.{RangeRoutine}
+use Rattle.ts_command.specs.declared.routine.RangeRoutine.TheVariants as in_range
+use Rattle.ts_command.specs.declared.routine.Joined.{Joined}
+use Rattle.ts_command.specs.declared.routine.Joined.TheVariants.{Patterns, Calendars}
 use Rattle.ts_command.specs.declared.routine.TypeName.{TypeName}
 use Rattle.ts_command.specs.declared.routine.TypeName.TheVariants.{SmallInt, Integer, BigInt, Decimal, VarChar}
 
 -- the names of the routines that are called with a name
 abbrev pub name_spelling : NameRoutine → List ℕ
 name_spelling by_name.DropRowType = codes "DropRowType"
+name_spelling by_name.ShowPattern = codes "ShowPattern"
+name_spelling by_name.DropPattern = codes "DropPattern"
+name_spelling by_name.ShowCalendar = codes "ShowCalendar"
+name_spelling by_name.DropCalendar = codes "DropCalendar"
 name_spelling by_name.TSContainerDestroy = codes "TSContainerDestroy"
 name_spelling by_name.TSContainerUsage = codes "TSContainerUsage"
 name_spelling by_name.ListSeries = codes "ListSeries"
@@ -41,16 +53,36 @@ row_spelling with_row.PutElemNoDups = codes "PutElemNoDups"
 row_spelling with_row.InsElem = codes "InsElem"
 row_spelling with_row.UpdElem = codes "UpdElem"
 
+-- with a name and a text
+abbrev pub text_spelling : TextRoutine → List ℕ
+text_spelling with_text.CreatePattern = codes "CreatePattern"
+text_spelling with_text.CreateCalendar = codes "CreateCalendar"
+
+-- with what they join and three names
+abbrev pub join_spelling : JoinRoutine → List ℕ
+join_spelling joining.AndOp = codes "AndOp"
+join_spelling joining.OrOp = codes "OrOp"
+
+-- with a name and two stamps
+abbrev pub range_spelling : RangeRoutine → List ℕ
+range_spelling in_range.CalIndex = codes "CalIndex"
+range_spelling in_range.CalRange = codes "CalRange"
+
 -- the name of each routine
 abbrev pub spelling : Routine → List ℕ
 spelling calls.CreateRowType = codes "CreateRowType"
 spelling calls.TSContainerCreate = codes "TSContainerCreate"
 spelling calls.TSCreateIrr = codes "TSCreateIrr"
 spelling calls.DelClip = codes "DelClip"
+spelling calls.NotOp = codes "NotOp"
+spelling calls.CalStamp = codes "CalStamp"
 spelling (calls.ByName routine) = name_spelling routine
 spelling (calls.ByKey routine) = key_spelling routine
 spelling (calls.AtStamp routine) = stamp_spelling routine
 spelling (calls.WithRow routine) = row_spelling routine
+spelling (calls.WithText routine) = text_spelling routine
+spelling (calls.Joining routine) = join_spelling routine
+spelling (calls.InRange routine) = range_spelling routine
 
 -- all of them
 abbrev pub routines : List Routine
@@ -66,6 +98,9 @@ routines =
     calls.DelClip ∷
     calls.ByKey by_key.GetLastElem ∷
     calls.ByKey by_key.GetNelems ∷
+    calls.InRange in_range.CalIndex ∷
+    calls.CalStamp ∷
+    calls.InRange in_range.CalRange ∷
     calls.ByKey by_key.DropSeries ∷
     calls.TSCreateIrr ∷
     calls.CreateRowType ∷
@@ -74,11 +109,29 @@ routines =
     calls.ByName by_name.TSContainerDestroy ∷
     calls.ByName by_name.TSContainerUsage ∷
     calls.ByName by_name.ListSeries ∷
+    calls.WithText with_text.CreatePattern ∷
+    calls.WithText with_text.CreateCalendar ∷
+    calls.NotOp ∷
+    calls.Joining joining.AndOp ∷
+    calls.Joining joining.OrOp ∷
+    calls.ByName by_name.ShowPattern ∷
+    calls.ByName by_name.DropPattern ∷
+    calls.ByName by_name.ShowCalendar ∷
+    calls.ByName by_name.DropCalendar ∷
     []
 
 -- the routine of this name, if there is one
 unfoldable pub routine_of : List ℕ → Option Routine
 routine_of word = find (λ routine. bytes_eq (spelling routine) word) routines
+
+-- the word for what is joined
+abbrev pub joined_spelling : Joined → List ℕ
+joined_spelling Patterns = codes "pattern"
+joined_spelling Calendars = codes "calendar"
+
+-- what is joined where this word stands, if something is
+unfoldable pub joined_of : List ℕ → Option Joined
+joined_of word = find (λ joined. bytes_eq (joined_spelling joined) word) (Patterns ∷ Calendars ∷ [])
 
 -- the name of a type
 abbrev pub type_spelling : TypeName → List ℕ

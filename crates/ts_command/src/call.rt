@@ -2,13 +2,16 @@
 ghost use Rattle.std.specs.Prelude.{◌≡◌, Ok, IfOk, IfErr};
 ghost use Rattle.ts_text.specs.Misfit.{Refuses};
 ghost use Rattle.ts_text.specs.Phrase.{repeated, onto};
-ghost use Rattle.ts_command.specs.Grammar.{a_literal, a_name_call, a_key_call, a_key_name_call, a_key_stamp_call, a_key_range_call, a_names_whole_call, a_key_stamp_values_call, a_name_columns_call};
+ghost use Rattle.ts_command.specs.Grammar.{a_literal, a_name_call, a_names_call, a_name_text_call, a_join_call, a_name_range_call, a_name_stamp_whole_call, a_key_call, a_key_name_call, a_key_stamp_call, a_key_range_call, a_names_whole_call, a_key_stamp_values_call, a_name_columns_call};
 
 use crate::column::{read_column, read_columns, read_stamp_column};
-use crate::phrase::{read_key, read_literal, read_name, read_stamp, read_whole};
+use crate::phrase::{
+    read_joined, read_key, read_literal, read_name, read_stamp, read_text, read_whole,
+};
+use crate::routine::Joined;
 use crate::{Columns, Literals};
 use std::alloc::Global;
-use ts_base::{Key, Name, Stamp};
+use ts_base::{Bytes, Key, Name, Stamp};
 use ts_text::{Misfit, behind_sign, read_sign};
 
 /// A name.
@@ -20,6 +23,90 @@ pub(crate) fn read_name_call(alloc: Global, bytes: &[u8]) -> Result<(Name, &[u8]
     let (name, rest) = read_name(alloc, read_sign(bytes, b'(')?)?;
     let rest = read_sign(rest, b')')?;
     Ok((name, rest))
+}
+
+/// Two names.
+#[tactic(auto, unfolding(crate::specs::Grammar::a_names_call))]
+pub(crate) fn read_names_call(alloc: Global, bytes: &[u8]) -> Result<((Name, Name), &[u8]), Misfit>
+    ensures ok { IfOk result (λ found. a_names_call bytes.now ≡ Ok (found.0, found.1.now)) }
+    ensures cause { IfErr result (λ misfit. Refuses misfit (a_names_call bytes.now)) }
+{
+    let (name, rest) = read_name(alloc, read_sign(bytes, b'(')?)?;
+    let (other, rest) = read_name(alloc, read_sign(rest, b',')?)?;
+    let rest = read_sign(rest, b')')?;
+    Ok(((name, other), rest))
+}
+
+/// A name and a text.
+#[tactic(auto, unfolding(crate::specs::Grammar::a_name_text_call))]
+pub(crate) fn read_name_text_call(
+    alloc: Global,
+    bytes: &[u8],
+) -> Result<((Name, Bytes), &[u8]), Misfit>
+    ensures ok { IfOk result (λ found. a_name_text_call bytes.now ≡ Ok (found.0, found.1.now)) }
+    ensures cause { IfErr result (λ misfit. Refuses misfit (a_name_text_call bytes.now)) }
+{
+    let (name, rest) = read_name(alloc, read_sign(bytes, b'(')?)?;
+    let (text, rest) = read_text(alloc, read_sign(rest, b',')?)?;
+    let rest = read_sign(rest, b')')?;
+    Ok(((name, text), rest))
+}
+
+/// What is joined, and three names.
+#[tactic(auto, unfolding(crate::specs::Grammar::a_join_call))]
+pub(crate) fn read_join_call(
+    alloc: Global,
+    bytes: &[u8],
+) -> Result<((Joined, (Name, Name, Name)), &[u8]), Misfit>
+    ensures ok { IfOk result (λ found. a_join_call bytes.now ≡ Ok (found.0, found.1.now)) }
+    ensures cause { IfErr result (λ misfit. Refuses misfit (a_join_call bytes.now)) }
+{
+    let (joined, rest) = read_joined(read_sign(bytes, b'(')?)?;
+    let (name, rest) = read_name(alloc, read_sign(rest, b',')?)?;
+    let (first, rest) = read_name(alloc, read_sign(rest, b',')?)?;
+    let (second, rest) = read_name(alloc, read_sign(rest, b',')?)?;
+    let rest = read_sign(rest, b')')?;
+    Ok(((joined, (name, first, second)), rest))
+}
+
+/// A name and two stamps.
+#[tactic(auto, unfolding(crate::specs::Grammar::a_name_range_call))]
+pub(crate) fn read_name_range_call(
+    alloc: Global,
+    bytes: &[u8],
+) -> Result<((Name, Stamp, Stamp), &[u8]), Misfit>
+    ensures ok { IfOk result (λ found. a_name_range_call bytes.now ≡ Ok (found.0, found.1.now)) }
+    ensures cause { IfErr result (λ misfit. Refuses misfit (a_name_range_call bytes.now)) }
+{
+    let (name, rest) = read_name(alloc, read_sign(bytes, b'(')?)?;
+    match read_stamp(alloc, read_sign(rest, b',')?) {
+        Ok((from, rest)) => match read_stamp(alloc, read_sign(rest, b',')?) {
+            Ok((to, rest)) => Ok(((name, from, to), read_sign(rest, b')')?)),
+            Err(misfit) => Err(misfit),
+        },
+        Err(misfit) => Err(misfit),
+    }
+}
+
+/// A name, a stamp and a whole number between the two.
+#[tactic(auto, unfolding(crate::specs::Grammar::a_name_stamp_whole_call))]
+pub(crate) fn read_name_stamp_whole_call(
+    alloc: Global,
+    bytes: &[u8],
+    least: i64,
+    most: i64,
+) -> Result<((Name, Stamp, i64), &[u8]), Misfit>
+    ensures ok { IfOk result (λ found. a_name_stamp_whole_call least most bytes.now ≡ Ok (found.0, found.1.now)) }
+    ensures cause { IfErr result (λ misfit. Refuses misfit (a_name_stamp_whole_call least most bytes.now)) }
+{
+    let (name, rest) = read_name(alloc, read_sign(bytes, b'(')?)?;
+    match read_stamp(alloc, read_sign(rest, b',')?) {
+        Ok((stamp, rest)) => {
+            let (whole, rest) = read_whole(read_sign(rest, b',')?, least, most)?;
+            Ok(((name, stamp, whole), read_sign(rest, b')')?))
+        }
+        Err(misfit) => Err(misfit),
+    }
 }
 
 /// A key.

@@ -2,7 +2,7 @@ ghost use Rattle.std.specs.Prelude.{◌≡◌, [], ◌∷◌, ◌++◌, OnOk, On
 
 use std::alloc::{AllocError, Global};
 use std::marker::Model;
-use ts_base::{Key, Name, Stamp};
+use ts_base::{Bytes, Key, Name, Stamp};
 use ts_row::{Column, Literal};
 
 /// What a statement asks for: a routine and its arguments, in their order.
@@ -14,6 +14,50 @@ pub enum Command {
         columns: Columns,
     },
     DropRowType {
+        name: Name,
+    },
+    CreatePattern {
+        name: Name,
+        text: Bytes,
+    },
+    NotOp {
+        name: Name,
+        pattern: Name,
+    },
+    AndPatterns {
+        name: Name,
+        first: Name,
+        second: Name,
+    },
+    OrPatterns {
+        name: Name,
+        first: Name,
+        second: Name,
+    },
+    AndCalendars {
+        name: Name,
+        first: Name,
+        second: Name,
+    },
+    OrCalendars {
+        name: Name,
+        first: Name,
+        second: Name,
+    },
+    ShowPattern {
+        name: Name,
+    },
+    DropPattern {
+        name: Name,
+    },
+    CreateCalendar {
+        name: Name,
+        text: Bytes,
+    },
+    ShowCalendar {
+        name: Name,
+    },
+    DropCalendar {
         name: Name,
     },
     TSContainerCreate {
@@ -63,6 +107,21 @@ pub enum Command {
     },
     DelClip {
         key: Key,
+        from: Stamp,
+        to: Stamp,
+    },
+    CalIndex {
+        calendar: Name,
+        from: Stamp,
+        to: Stamp,
+    },
+    CalStamp {
+        calendar: Name,
+        after: Stamp,
+        count: i64,
+    },
+    CalRange {
+        calendar: Name,
         from: Stamp,
         to: Stamp,
     },

@@ -3,12 +3,13 @@
 //! what a script asks for (`specs/Script`). Routines stand in groups by what they are called with, each with one reader. A
 //! further routine is a variant of its group and of `Command`, a line of the list of routines, its name, its command by its
 //! arguments, and its case of form. Stands on ts_items, ts_row, ts_text and ts_base; knows nothing of the store. Read
-//! `specs/Grammar.antt`, then `call.rt` and `read.rt`.
+//! `specs/Grammar.antt`, then `call.rt`, `group.rt` and `read.rt`.
 #![tactic(auto)]
 
 mod call;
 mod column;
 mod command;
+mod group;
 mod laws;
 mod number;
 mod phrase;

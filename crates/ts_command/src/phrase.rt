@@ -1,16 +1,16 @@
 // The phrases of one token. Each is read from a place on, and gives what it says and the bytes behind it.
 ghost use Rattle.std.specs.Prelude.{◌≡◌, ◌<◌, ◌≤◌, [], Ok, Err, IfOk, IfErr, IfSome, IfNone, length};
-ghost use Rattle.ts_command.specs.Grammar.{a_name, a_key, a_stamp, a_literal, a_whole, a_small, a_word, a_type, a_routine, whole_in};
+ghost use Rattle.ts_command.specs.Grammar.{a_name, a_key, a_stamp, a_text, a_literal, a_whole, a_small, a_word, a_type, a_joined, a_routine, whole_in};
 ghost use Rattle.ts_command.specs.Number.{units_of, scale_of};
 ghost use Rattle.ts_text.specs.Digits.{digit_count};
 ghost use Rattle.ts_text.specs.Misfit.{Refuses, RefusesExactly};
 
 use crate::number::{scale, small, units};
-use crate::routine::{Routine, TypeName, are_same, routine_of, type_of};
+use crate::routine::{Joined, Routine, TypeName, are_same, joined_of, routine_of, type_of};
 use crate::text::{bytes_of, key_of, stamp_of};
 use crate::token::front;
 use std::alloc::Global;
-use ts_base::{Key, Name, Stamp};
+use ts_base::{Bytes, Key, Name, Stamp};
 use ts_row::Literal;
 use ts_text::{Misfit, TokenKind, skip_blanks};
 
@@ -62,6 +62,20 @@ pub(crate) fn read_stamp(alloc: Global, bytes: &[u8]) -> Result<(Stamp, &[u8]), 
     Err(Misfit::here(here))
 }
 
+/// A text, as it is said.
+#[tactic(auto, unfolding(crate::specs::Grammar::a_text))]
+pub(crate) fn read_text(alloc: Global, bytes: &[u8]) -> Result<(Bytes, &[u8]), Misfit>
+    ensures ok { IfOk result (λ found. a_text bytes.now ≡ Ok (found.0, found.1.now)) }
+    ensures cause { IfErr result (λ misfit. Refuses misfit (a_text bytes.now)) }
+{
+    let here = skip_blanks(bytes);
+    if let Some((TokenKind::Text, length)) = front(here) {
+        let (text, rest) = here.split_at(length);
+        return Ok((bytes_of(alloc, text)?, rest));
+    }
+    Err(Misfit::here(here))
+}
+
 /// A number of 1 to 3 digits, without sign and point.
 #[tactic(auto, unfolding(crate::specs::Grammar::a_small))]
 pub(crate) fn read_small(bytes: &[u8]) -> Result<(u16, &[u8]), Misfit>
@@ -105,6 +119,22 @@ pub(crate) fn read_type(bytes: &[u8]) -> Result<(TypeName, &[u8]), Misfit>
         let (word, rest) = here.split_at(length);
         if let Some(name) = type_of(word) {
             return Ok((name, rest));
+        }
+    }
+    Err(Misfit::here(here))
+}
+
+/// What a join is of.
+#[tactic(auto, unfolding(crate::specs::Grammar::a_joined))]
+pub(crate) fn read_joined(bytes: &[u8]) -> Result<(Joined, &[u8]), Misfit>
+    ensures ok { IfOk result (λ found. a_joined bytes.now ≡ Ok (found.0, found.1.now)) }
+    ensures cause { IfErr result (λ misfit. RefusesExactly misfit (a_joined bytes.now)) }
+{
+    let here = skip_blanks(bytes);
+    if let Some((TokenKind::Word, length)) = front(here) {
+        let (word, rest) = here.split_at(length);
+        if let Some(joined) = joined_of(word) {
+            return Ok((joined, rest));
         }
     }
     Err(Misfit::here(here))

@@ -2,18 +2,22 @@
 ghost use Rattle.std.specs.Prelude.{◌≡◌, ◌^◌, ◌<◌, [], ◌∷◌, Ok, IfOk, IfErr, length};
 ghost use Rattle.ts_command.specs.Form.{HasForm};
 ghost use Rattle.ts_text.specs.Misfit.{Refuses};
-ghost use Rattle.ts_command.specs.Grammar.{a_call, a_command, arguments, of_name, of_key, of_stamp, of_row, command_of};
+ghost use Rattle.ts_command.specs.Grammar.{a_call, a_command, arguments, command_of};
 ghost use Rattle.ts_command.specs.Misfit.{IsCause};
 
+use crate::Command;
 use crate::call::{
-    read_key_call, read_key_name_call, read_key_range_call, read_key_stamp_call,
-    read_key_stamp_values_call, read_name_call, read_name_columns_call, read_names_whole_call,
+    read_key_name_call, read_key_range_call, read_name_columns_call, read_name_stamp_whole_call,
+    read_names_call, read_names_whole_call,
+};
+use crate::group::{
+    read_joining, read_of_key, read_of_name, read_of_range, read_of_row, read_of_stamp,
+    read_of_text,
 };
 use crate::phrase::read_routine;
-use crate::routine::{KeyRoutine, NameRoutine, Routine, RowRoutine, StampRoutine};
-use crate::{Command, Literals};
+use crate::routine::Routine;
 use std::alloc::Global;
-use ts_base::{Key, Name, Refusal, Stamp, Trouble};
+use ts_base::{Refusal, Trouble};
 use ts_text::{Misfit, read_end};
 
 // What a routine is called with, as its command.
@@ -27,10 +31,15 @@ fn read_arguments(alloc: Global, routine: Routine, bytes: &[u8]) -> Result<(Comm
         Routine::TSContainerCreate => read_create_container(alloc, bytes),
         Routine::TSCreateIrr => read_create_series(alloc, bytes),
         Routine::DelClip => read_delete_range(alloc, bytes),
+        Routine::NotOp => read_opposite(alloc, bytes),
+        Routine::CalStamp => read_calendar_stamp(alloc, bytes),
         Routine::ByName(routine) => read_of_name(alloc, routine, bytes),
         Routine::ByKey(routine) => read_of_key(alloc, routine, bytes),
         Routine::AtStamp(routine) => read_of_stamp(alloc, routine, bytes),
         Routine::WithRow(routine) => read_of_row(alloc, routine, bytes),
+        Routine::WithText(routine) => read_of_text(alloc, routine, bytes),
+        Routine::Joining(routine) => read_joining(alloc, routine, bytes),
+        Routine::InRange(routine) => read_of_range(alloc, routine, bytes),
     }
 }
 
@@ -86,98 +95,32 @@ fn read_delete_range(alloc: Global, bytes: &[u8]) -> Result<(Command, &[u8]), Mi
     }
 }
 
-// The name that a routine is called with.
+// A pattern that is off where another is on: its name, and that of the other.
 #[tactic(auto, unfolding(crate::specs::Grammar::arguments))]
-fn read_of_name(
-    alloc: Global,
-    routine: NameRoutine,
-    bytes: &[u8],
-) -> Result<(Command, &[u8]), Misfit>
-    ensures ok { IfOk result (λ found. arguments (Routine.ByName routine) bytes.now ≡ Ok (found.0, found.1.now)) }
-    ensures cause { IfErr result (λ misfit. Refuses misfit (arguments (Routine.ByName routine) bytes.now)) }
+fn read_opposite(alloc: Global, bytes: &[u8]) -> Result<(Command, &[u8]), Misfit>
+    ensures ok { IfOk result (λ found. arguments Routine.NotOp bytes.now ≡ Ok (found.0, found.1.now)) }
+    ensures cause { IfErr result (λ misfit. Refuses misfit (arguments Routine.NotOp bytes.now)) }
 {
-    let (name, rest) = read_name_call(alloc, bytes)?;
-    Ok((of_name(routine, name), rest))
+    let ((name, pattern), rest) = read_names_call(alloc, bytes)?;
+    Ok((Command::NotOp { name, pattern }, rest))
 }
 
-fn of_name(routine: NameRoutine, name: Name) -> Command
-    ensures { result ≡ of_name routine name }
-{
-    match routine {
-        NameRoutine::DropRowType => Command::DropRowType { name },
-        NameRoutine::TSContainerDestroy => Command::TSContainerDestroy { name },
-        NameRoutine::TSContainerUsage => Command::TSContainerUsage { name },
-        NameRoutine::ListSeries => Command::ListSeries { container: name },
-    }
-}
-
-// The key.
+// A stamp of a calendar: the calendar's name, the stamp before, and how many stamps later.
 #[tactic(auto, unfolding(crate::specs::Grammar::arguments))]
-fn read_of_key(alloc: Global, routine: KeyRoutine, bytes: &[u8]) -> Result<(Command, &[u8]), Misfit>
-    ensures ok { IfOk result (λ found. arguments (Routine.ByKey routine) bytes.now ≡ Ok (found.0, found.1.now)) }
-    ensures cause { IfErr result (λ misfit. Refuses misfit (arguments (Routine.ByKey routine) bytes.now)) }
+fn read_calendar_stamp(alloc: Global, bytes: &[u8]) -> Result<(Command, &[u8]), Misfit>
+    ensures ok { IfOk result (λ found. arguments Routine.CalStamp bytes.now ≡ Ok (found.0, found.1.now)) }
+    ensures cause { IfErr result (λ misfit. Refuses misfit (arguments Routine.CalStamp bytes.now)) }
 {
-    let (key, rest) = read_key_call(alloc, bytes)?;
-    Ok((of_key(routine, key), rest))
-}
-
-fn of_key(routine: KeyRoutine, key: Key) -> Command
-    ensures { result ≡ of_key routine key }
-{
-    match routine {
-        KeyRoutine::DropSeries => Command::DropSeries { key },
-        KeyRoutine::GetLastElem => Command::GetLastElem { key },
-        KeyRoutine::GetNelems => Command::GetNelems { key },
-    }
-}
-
-// The key and the stamp.
-#[tactic(auto, unfolding(crate::specs::Grammar::arguments))]
-fn read_of_stamp(
-    alloc: Global,
-    routine: StampRoutine,
-    bytes: &[u8],
-) -> Result<(Command, &[u8]), Misfit>
-    ensures ok { IfOk result (λ found. arguments (Routine.AtStamp routine) bytes.now ≡ Ok (found.0, found.1.now)) }
-    ensures cause { IfErr result (λ misfit. Refuses misfit (arguments (Routine.AtStamp routine) bytes.now)) }
-{
-    match read_key_stamp_call(alloc, bytes) {
-        Ok(((key, stamp), rest)) => Ok((of_stamp(routine, key, stamp), rest)),
+    match read_name_stamp_whole_call(alloc, bytes, 1, 4294967295) {
+        Ok(((calendar, after, count), rest)) => Ok((
+            Command::CalStamp {
+                calendar,
+                after,
+                count,
+            },
+            rest,
+        )),
         Err(misfit) => Err(misfit),
-    }
-}
-
-fn of_stamp(routine: StampRoutine, key: Key, stamp: Stamp) -> Command
-    ensures { result ≡ of_stamp routine key stamp }
-{
-    match routine {
-        StampRoutine::DelElem => Command::DelElem { key, stamp },
-        StampRoutine::HideElem => Command::HideElem { key, stamp },
-        StampRoutine::RevealElem => Command::RevealElem { key, stamp },
-        StampRoutine::GetElem => Command::GetElem { key, stamp },
-    }
-}
-
-// The key, the stamp and the values.
-#[tactic(auto, unfolding(crate::specs::Grammar::arguments))]
-fn read_of_row(alloc: Global, routine: RowRoutine, bytes: &[u8]) -> Result<(Command, &[u8]), Misfit>
-    ensures ok { IfOk result (λ found. arguments (Routine.WithRow routine) bytes.now ≡ Ok (found.0, found.1.now)) }
-    ensures cause { IfErr result (λ misfit. Refuses misfit (arguments (Routine.WithRow routine) bytes.now)) }
-{
-    match read_key_stamp_values_call(alloc, bytes) {
-        Ok(((key, stamp, values), rest)) => Ok((of_row(routine, key, stamp, values), rest)),
-        Err(misfit) => Err(misfit),
-    }
-}
-
-fn of_row(routine: RowRoutine, key: Key, stamp: Stamp, values: Literals) -> Command
-    ensures { result ≡ of_row routine key stamp values }
-{
-    match routine {
-        RowRoutine::PutElem => Command::PutElem { key, stamp, values },
-        RowRoutine::PutElemNoDups => Command::PutElemNoDups { key, stamp, values },
-        RowRoutine::InsElem => Command::InsElem { key, stamp, values },
-        RowRoutine::UpdElem => Command::UpdElem { key, stamp, values },
     }
 }
 

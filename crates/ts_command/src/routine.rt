@@ -1,7 +1,7 @@
-// The routines that a statement may call, and the types of value columns, by their names.
+// The routines that a statement may call, what is joined, and the types of value columns, by their names.
 ghost use Rattle.std.specs.Prelude.{◌≡◌};
 ghost use Rattle.std.specs.Str.{bytes_eq};
-ghost use Rattle.ts_command.specs.Routines.{spelling, name_spelling, key_spelling, stamp_spelling, row_spelling, routine_of, type_spelling, type_of};
+ghost use Rattle.ts_command.specs.Routines.{spelling, name_spelling, key_spelling, stamp_spelling, row_spelling, text_spelling, join_spelling, range_spelling, routine_of, joined_spelling, joined_of, type_spelling, type_of};
 
 /// The routines, those together that are called with the same arguments.
 #[derive(Clone, Copy, Debug, PartialEq, Eq)]
@@ -10,16 +10,25 @@ pub(crate) enum Routine {
     TSContainerCreate,
     TSCreateIrr,
     DelClip,
+    NotOp,
+    CalStamp,
     ByName(NameRoutine),
     ByKey(KeyRoutine),
     AtStamp(StampRoutine),
     WithRow(RowRoutine),
+    WithText(TextRoutine),
+    Joining(JoinRoutine),
+    InRange(RangeRoutine),
 }
 
 /// Those that are called with a name.
 #[derive(Clone, Copy, Debug, PartialEq, Eq)]
 pub(crate) enum NameRoutine {
     DropRowType,
+    ShowPattern,
+    DropPattern,
+    ShowCalendar,
+    DropCalendar,
     TSContainerDestroy,
     TSContainerUsage,
     ListSeries,
@@ -51,7 +60,28 @@ pub(crate) enum RowRoutine {
     UpdElem,
 }
 
-const ROUTINES: [Routine; 19] = [
+/// Those that are called with a name and a text.
+#[derive(Clone, Copy, Debug, PartialEq, Eq)]
+pub(crate) enum TextRoutine {
+    CreatePattern,
+    CreateCalendar,
+}
+
+/// Those that are called with what they join and three names.
+#[derive(Clone, Copy, Debug, PartialEq, Eq)]
+pub(crate) enum JoinRoutine {
+    AndOp,
+    OrOp,
+}
+
+/// Those that are called with a name and two stamps.
+#[derive(Clone, Copy, Debug, PartialEq, Eq)]
+pub(crate) enum RangeRoutine {
+    CalIndex,
+    CalRange,
+}
+
+const ROUTINES: [Routine; 31] = [
     Routine::WithRow(RowRoutine::PutElem),
     Routine::WithRow(RowRoutine::InsElem),
     Routine::WithRow(RowRoutine::UpdElem),
@@ -63,6 +93,9 @@ const ROUTINES: [Routine; 19] = [
     Routine::DelClip,
     Routine::ByKey(KeyRoutine::GetLastElem),
     Routine::ByKey(KeyRoutine::GetNelems),
+    Routine::InRange(RangeRoutine::CalIndex),
+    Routine::CalStamp,
+    Routine::InRange(RangeRoutine::CalRange),
     Routine::ByKey(KeyRoutine::DropSeries),
     Routine::TSCreateIrr,
     Routine::CreateRowType,
@@ -71,6 +104,15 @@ const ROUTINES: [Routine; 19] = [
     Routine::ByName(NameRoutine::TSContainerDestroy),
     Routine::ByName(NameRoutine::TSContainerUsage),
     Routine::ByName(NameRoutine::ListSeries),
+    Routine::WithText(TextRoutine::CreatePattern),
+    Routine::WithText(TextRoutine::CreateCalendar),
+    Routine::NotOp,
+    Routine::Joining(JoinRoutine::AndOp),
+    Routine::Joining(JoinRoutine::OrOp),
+    Routine::ByName(NameRoutine::ShowPattern),
+    Routine::ByName(NameRoutine::DropPattern),
+    Routine::ByName(NameRoutine::ShowCalendar),
+    Routine::ByName(NameRoutine::DropCalendar),
 ];
 
 impl Routine {
@@ -82,10 +124,15 @@ impl Routine {
             Routine::TSContainerCreate => b"TSContainerCreate",
             Routine::TSCreateIrr => b"TSCreateIrr",
             Routine::DelClip => b"DelClip",
+            Routine::NotOp => b"NotOp",
+            Routine::CalStamp => b"CalStamp",
             Routine::ByName(routine) => routine.spelling(),
             Routine::ByKey(routine) => routine.spelling(),
             Routine::AtStamp(routine) => routine.spelling(),
             Routine::WithRow(routine) => routine.spelling(),
+            Routine::WithText(routine) => routine.spelling(),
+            Routine::Joining(routine) => routine.spelling(),
+            Routine::InRange(routine) => routine.spelling(),
         }
     }
 }
@@ -96,6 +143,10 @@ impl NameRoutine {
     {
         match self {
             NameRoutine::DropRowType => b"DropRowType",
+            NameRoutine::ShowPattern => b"ShowPattern",
+            NameRoutine::DropPattern => b"DropPattern",
+            NameRoutine::ShowCalendar => b"ShowCalendar",
+            NameRoutine::DropCalendar => b"DropCalendar",
             NameRoutine::TSContainerDestroy => b"TSContainerDestroy",
             NameRoutine::TSContainerUsage => b"TSContainerUsage",
             NameRoutine::ListSeries => b"ListSeries",
@@ -141,6 +192,39 @@ impl RowRoutine {
     }
 }
 
+impl TextRoutine {
+    fn spelling(self) -> &'static [u8]
+        ensures { result.now ≡ text_spelling self }
+    {
+        match self {
+            TextRoutine::CreatePattern => b"CreatePattern",
+            TextRoutine::CreateCalendar => b"CreateCalendar",
+        }
+    }
+}
+
+impl JoinRoutine {
+    fn spelling(self) -> &'static [u8]
+        ensures { result.now ≡ join_spelling self }
+    {
+        match self {
+            JoinRoutine::AndOp => b"AndOp",
+            JoinRoutine::OrOp => b"OrOp",
+        }
+    }
+}
+
+impl RangeRoutine {
+    fn spelling(self) -> &'static [u8]
+        ensures { result.now ≡ range_spelling self }
+    {
+        match self {
+            RangeRoutine::CalIndex => b"CalIndex",
+            RangeRoutine::CalRange => b"CalRange",
+        }
+    }
+}
+
 /// Whether the two are the same bytes.
 pub(crate) fn are_same(first: &[u8], second: &[u8]) -> bool
     ensures { result ≡ bytes_eq first.now second.now }
@@ -157,6 +241,37 @@ pub(crate) fn routine_of(word: &[u8]) -> Option<Routine>
         .iter()
         .copied()
         .find(|routine| are_same(routine.spelling(), word))
+}
+
+/// What a join is of.
+#[derive(Clone, Copy, Debug, PartialEq, Eq)]
+pub(crate) enum Joined {
+    Patterns,
+    Calendars,
+}
+
+const JOINED: [Joined; 2] = [Joined::Patterns, Joined::Calendars];
+
+impl Joined {
+    fn spelling(self) -> &'static [u8]
+        ensures { result.now ≡ joined_spelling self }
+    {
+        match self {
+            Joined::Patterns => b"pattern",
+            Joined::Calendars => b"calendar",
+        }
+    }
+}
+
+/// What is joined where this word stands, if something is.
+#[tactic(auto, unfolding(crate::specs::Routines::joined_of))]
+pub(crate) fn joined_of(word: &[u8]) -> Option<Joined>
+    ensures { result ≡ joined_of word.now }
+{
+    JOINED
+        .iter()
+        .copied()
+        .find(|joined| are_same(joined.spelling(), word))
 }
 
 /// A type of value columns, without its numbers.

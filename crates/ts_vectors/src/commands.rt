@@ -1,4 +1,4 @@
-// Statements and the commands that they are.
+// Statements about row types, containers and series, and the commands that they are.
 use std::alloc::{AllocError, Global};
 use ts_command::{Columns, Command, Literals, read_command};
 use ts_row::{Column, ColumnKind, Literal};
@@ -52,6 +52,7 @@ fn routine_of(command: &Command) -> &'static str {
         Command::GetElem { .. } => "GetElem",
         Command::GetLastElem { .. } => "GetLastElem",
         Command::GetNelems { .. } => "GetNelems",
+        _ => "",
     }
 }
 
@@ -76,6 +77,7 @@ fn first_of(command: &Command) -> &[u8] {
         Command::GetElem { key, .. } => key.as_slice(),
         Command::GetLastElem { key } => key.as_slice(),
         Command::GetNelems { key } => key.as_slice(),
+        _ => b"",
     }
 }
 

@@ -6,6 +6,8 @@
 #[cfg(test)]
 mod commands;
 #[cfg(test)]
+mod definitions;
+#[cfg(test)]
 mod joins;
 #[cfg(test)]
 mod patterns;

@@ -79,13 +79,57 @@ static STATEMENTS: [(&[u8], u32); 61] = [
     (b"RevealElem('x','2011-02-28 00:00:00',1);", 36),
     (b"RevealElem('x');", 14),
     // The shapes of calls that come next, each by a routine that isn't built yet.
-    (b"CreatePattern(p,'{1 on},day');", 0),
+    (b"TSCreate('x',c,'2011-02-28 00:00:00',c1);", 0),
     (b"GetNthElem('x',0);", 0),
 ];
 
 #[test]
 fn a_refusal_tells_the_first_place_that_cannot_stand(rt: HostRuntime) {
     for (text, wanted) in &STATEMENTS {
+        assert!(rt; place(rt.alloc(), text) == Some(*wanted));
+    }
+}
+
+/// Statements, and the places where they are refused.
+static DEFINITIONS: [(&[u8], u32); 30] = [
+    (b"CreatePattern(p);", 15),
+    (b"CreatePattern(p,q);", 16),
+    (b"CreatePattern('p','q');", 14),
+    (b"CreatePattern(p,'q',1);", 19),
+    (b"CreateCalendar(c,);", 17),
+    (b"CreateCalendar(c,'a\n');", 17),
+    (b"NotOp(a);", 7),
+    (b"NotOp(pattern,a,b);", 15),
+    (b"AndOp(n,a,b);", 6),
+    (b"AndOp(series,n,a,b);", 6),
+    (b"AndOp(pattern n,a,b);", 14),
+    (b"AndOp(pattern,n,a);", 17),
+    (b"OrOp('pattern',n,a,b);", 5),
+    (b"OrOp(Pattern,n,a,b);", 5),
+    (b"OrOp(calendar,n,a,b,c);", 19),
+    (b"ShowPattern('p');", 12),
+    (b"DropPattern();", 12),
+    (b"ShowCalendar(a,b);", 14),
+    (b"DropCalendar(1);", 13),
+    (b"CalIndex(c,'2011-02-28 00:00:00');", 32),
+    (
+        b"CalRange('c','2011-02-28 00:00:00','2011-02-28 00:00:00');",
+        9,
+    ),
+    (b"CalRange(c,'2011-02-28 00:00:00',5);", 33),
+    (b"calstamp(c,'2011-02-28 00:00:00',1);", 0),
+    (b"CalStamp(c,'2011-02-29 00:00:00',1);", 11),
+    (b"CalStamp(c,'2011-02-28 00:00:00');", 32),
+    (b"CalStamp(c,'2011-02-28 00:00:00',0);", 33),
+    (b"CalStamp(c,'2011-02-28 00:00:00',-1);", 33),
+    (b"CalStamp(c,'2011-02-28 00:00:00',1.0);", 33),
+    (b"CalStamp(c,'2011-02-28 00:00:00',4294967296);", 33),
+    (b"CalStamp(c,'2011-02-28 00:00:00',1,2);", 34),
+];
+
+#[test]
+fn patterns_and_calendars_are_refused_at_their_tokens(rt: HostRuntime) {
+    for (text, wanted) in &DEFINITIONS {
         assert!(rt; place(rt.alloc(), text) == Some(*wanted));
     }
 }

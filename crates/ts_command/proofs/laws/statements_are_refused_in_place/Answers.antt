@@ -1,12 +1,11 @@
 use Rattle.std.proofs.Common.{[], ◌∷◌}
-use Rattle.ts_text.proofs.CallerLemmas.{in_place}
-use Rattle.ts_command.specs.Form.{HasForm}
+use Rattle.ts_text.proofs.CallerLemmas.{Any, in_place}
 use Rattle.ts_command.specs.Tokens.{front}
 use Rattle.ts_command.specs.Grammar.{a_call, a_command}
 use Rattle.ts_command.proofs.FrontLemmas.{front_laws, front_ending}
-use Rattle.ts_command.proofs.FormLemmas.{call_yields}
+use Rattle.ts_command.proofs.CommandLemmas.{call_yields}
 use Rattle.ts_command.proofs.laws.statements_are_refused_in_place.Goals as goal
 
 pub returns : goal.returns
 unfolding a_command
-returns c = in_place front front_laws HasForm (59 ∷ []) front_ending a_call call_yields
+returns c = in_place front front_laws Any (59 ∷ []) front_ending a_call call_yields

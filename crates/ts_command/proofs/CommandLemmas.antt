@@ -1,0 +1,173 @@
+-- The command that a statement is read as has its form.
+use Rattle.std.proofs.Common.{◌≡◌, ℕ, ◌<◌, ◌≤◌, ◌^◌, List, [], ◌∷◌, length, length-append, Some, Ok, refl, ap, arith, ℤ, pos}
+use Rattle.ts_row.specs.declared.value.Literal.{Literal}
+use Rattle.ts_text.specs.Phrase.{Phrase, ◌>>=◌, give, a_sign, behind, pair, the_end}
+use Rattle.ts_text.specs.declared.token.TokenKind.{TokenKind}
+use Rattle.ts_text.specs.declared.token.TokenKind.TheVariants.{Word, Number, Text, Sign}
+use Rattle.ts_text.proofs.CallerLemmas.{Yields, Goes, Any, chain, shrinks_of, sign_shrinks, made_yields, bind-ok, pair-parts, token-found, unblanked-le}
+use Rattle.ts_command.specs.Tokens.{front}
+use Rattle.ts_command.specs.Text.{said}
+use Rattle.ts_command.specs.Form.{HasForm}
+use Rattle.ts_command.specs.Grammar.{a_name, a_text, text_in, a_routine, a_name_call, a_names_call, a_name_text_call, a_join_call, a_name_range_call, a_name_stamp_whole_call, a_key_call, a_key_name_call, a_key_stamp_call, a_key_range_call, a_names_whole_call, a_key_stamp_values_call, a_name_columns_call, of_name, of_key, of_stamp, of_row, of_text, of_join, of_range, arguments, a_call, a_command}
+use Rattle.ts_command.specs.declared.routine.Routine.{Routine}
+use Rattle.ts_command.specs.declared.routine.Routine.TheVariants as calls
+use Rattle.ts_command.specs.declared.routine.NameRoutine.{NameRoutine}
+use Rattle.ts_command.specs.declared.routine.NameRoutine.TheVariants as by_name
+use Rattle.ts_command.specs.declared.routine.KeyRoutine.{KeyRoutine}
+use Rattle.ts_command.specs.declared.routine.KeyRoutine.TheVariants as by_key
+use Rattle.ts_command.specs.declared.routine.StampRoutine.{StampRoutine}
+use Rattle.ts_command.specs.declared.routine.StampRoutine.TheVariants as at_stamp
+use Rattle.ts_command.specs.declared.routine.RowRoutine.{RowRoutine}
+use Rattle.ts_command.specs.declared.routine.RowRoutine.TheVariants as with_row
+use Rattle.ts_command.specs.declared.routine.TextRoutine.{TextRoutine}
+use Rattle.ts_command.specs.declared.routine.TextRoutine.TheVariants as with_text
+use Rattle.ts_command.specs.declared.routine.JoinRoutine.{JoinRoutine}
+use Rattle.ts_command.specs.declared.routine.JoinRoutine.TheVariants as joining
+use Rattle.ts_command.specs.declared.routine.RangeRoutine.{RangeRoutine}
+use Rattle.ts_command.specs.declared.routine.RangeRoutine.TheVariants as in_range
+use Rattle.ts_command.specs.declared.routine.Joined.{Joined}
+use Rattle.ts_command.specs.declared.routine.Joined.TheVariants.{Patterns, Calendars}
+use Rattle.ts_command.specs.declared.command.Command.{Command}
+use Rattle.ts_command.proofs.TextLemmas.{said-le}
+use Rattle.ts_command.proofs.FrontLemmas.{front_laws}
+use Rattle.ts_command.proofs.FormLemmas.{IsName, IsKey, AreNames, name_yields, routine_yields, name_call_yields, names_call_yields, name_text_call_yields, join_call_yields, name_range_call_yields, name_stamp_whole_call_yields, key_call_yields, key_name_call_yields, key_stamp_call_yields, key_range_call_yields, names_whole_call_yields, key_stamp_values_call_yields, name_columns_call_yields}
+
+-- the commands of each group have their form
+of_name-form : (routine : NameRoutine) (name : List ℕ) → IsName name → HasForm (of_name routine name)
+of_name-form by_name.DropRowType name form = form
+of_name-form by_name.ShowPattern name form = form
+of_name-form by_name.DropPattern name form = form
+of_name-form by_name.ShowCalendar name form = form
+of_name-form by_name.DropCalendar name form = form
+of_name-form by_name.TSContainerDestroy name form = form
+of_name-form by_name.TSContainerUsage name form = form
+of_name-form by_name.ListSeries name form = form
+
+of_key-form : (routine : KeyRoutine) (key : List ℕ) → IsKey key → HasForm (of_key routine key)
+of_key-form by_key.DropSeries key form = form
+of_key-form by_key.GetLastElem key form = form
+of_key-form by_key.GetNelems key form = form
+
+of_stamp-form : (routine : StampRoutine) (key : List ℕ) (stamp : ℤ) → IsKey key → HasForm (of_stamp routine key stamp)
+of_stamp-form at_stamp.DelElem key stamp form = form
+of_stamp-form at_stamp.HideElem key stamp form = form
+of_stamp-form at_stamp.RevealElem key stamp form = form
+of_stamp-form at_stamp.GetElem key stamp form = form
+
+of_row-form : (routine : RowRoutine) (key : List ℕ) (stamp : ℤ) (values : List Literal) → IsKey key → HasForm (of_row routine key stamp values)
+of_row-form with_row.PutElem key stamp values form = form
+of_row-form with_row.PutElemNoDups key stamp values form = form
+of_row-form with_row.InsElem key stamp values form = form
+of_row-form with_row.UpdElem key stamp values form = form
+
+of_text-form : (routine : TextRoutine) (name text : List ℕ) → IsName name → length text < 2 ^ 32 → HasForm (of_text routine name text)
+of_text-form with_text.CreatePattern name text form few = (form, few)
+of_text-form with_text.CreateCalendar name text form few = (form, few)
+
+of_join-form : (routine : JoinRoutine) (joined : Joined) (names : List ℕ × List ℕ × List ℕ) → AreNames names → HasForm (of_join routine joined names)
+of_join-form joining.AndOp Patterns names form = form
+of_join-form joining.AndOp Calendars names form = form
+of_join-form joining.OrOp Patterns names form = form
+of_join-form joining.OrOp Calendars names form = form
+
+of_range-form : (routine : RangeRoutine) (calendar : List ℕ) (from to : ℤ) → IsName calendar → HasForm (of_range routine calendar from to)
+of_range-form in_range.CalIndex calendar from to form = form
+of_range-form in_range.CalRange calendar from to form = form
+
+-- what phrases alone tell of each routine's command: its form, and nothing where it has a text
+abbrev FormOf : Routine → Command → Type 0
+FormOf (calls.WithText routine) command = Any command
+FormOf routine command = HasForm command
+
+-- and they tell it
+arguments_yield : (routine : Routine) → Yields front (FormOf routine) (arguments routine)
+unfolding arguments
+arguments_yield calls.CreateRowType = made_yields front front_laws _ HasForm a_name_columns_call _ name_columns_call_yields (λ a form. form)
+arguments_yield calls.TSContainerCreate = made_yields front front_laws _ HasForm (a_names_whole_call (pos 1) (pos 65536)) _ (names_whole_call_yields (pos 1) (pos 65536) refl refl) (λ a form. (form.0, form.1, form.2.0, form.2.1))
+arguments_yield calls.TSCreateIrr = made_yields front front_laws _ HasForm a_key_name_call _ key_name_call_yields (λ a form. form)
+arguments_yield calls.DelClip = made_yields front front_laws _ HasForm a_key_range_call _ key_range_call_yields (λ a form. form.0)
+arguments_yield calls.NotOp = made_yields front front_laws _ HasForm a_names_call _ names_call_yields (λ a form. form)
+arguments_yield calls.CalStamp = made_yields front front_laws _ HasForm (a_name_stamp_whole_call (pos 1) (pos 4294967295)) _ (name_stamp_whole_call_yields (pos 1) (pos 4294967295) refl refl) (λ a form. (form.0, form.2.0, form.2.1))
+arguments_yield (calls.ByName routine) = made_yields front front_laws _ HasForm a_name_call _ name_call_yields (of_name-form routine)
+arguments_yield (calls.ByKey routine) = made_yields front front_laws _ HasForm a_key_call _ key_call_yields (of_key-form routine)
+arguments_yield (calls.AtStamp routine) = made_yields front front_laws _ HasForm a_key_stamp_call _ key_stamp_call_yields (λ a form. of_stamp-form routine a.0 a.1 form.0)
+arguments_yield (calls.WithRow routine) = made_yields front front_laws _ HasForm a_key_stamp_values_call _ key_stamp_values_call_yields (λ a form. of_row-form routine a.0 a.1 a.2 form)
+arguments_yield (calls.WithText routine) = made_yields front front_laws _ Any a_name_text_call _ name_text_call_yields (λ a form. tt)
+arguments_yield (calls.Joining routine) = made_yields front front_laws _ HasForm a_join_call _ join_call_yields (λ a form. of_join-form routine a.0 a.1 form.1)
+arguments_yield (calls.InRange routine) = made_yields front front_laws _ HasForm a_name_range_call _ name_range_call_yields (λ a form. of_range-form routine a.0 a.1 a.2 form.0)
+
+-- a phrase, with nothing told of what it gives
+goes_on : {A : Type 0} (P : A → Type 0) (phrase : Phrase A) (before : List ℕ) → Goes P phrase before → Goes Any phrase before
+goes_on P phrase before one = record { more = one.more; found = one.found; holds = tt; starts = one.starts; reads = one.reads }
+
+loosely : {A : Type 0} (P : A → Type 0) (phrase : Phrase A) → Yields front P phrase → Yields front Any phrase
+loosely P phrase one = record {
+  ok = λ bytes found is. (tt, (one.ok bytes found is).1);
+  err = one.err;
+  fails = one.fails;
+  keeps = one.keeps;
+  goes = λ before here is. goes_on P phrase before (one.goes before here is);
+  some = goes_on P phrase [] one.some;
+}
+
+-- a call
+pub call_yields : Yields front Any a_call
+unfolding a_call
+call_yields = chain front front_laws Any Any a_routine arguments routine_yields (λ routine any. loosely (FormOf routine) (arguments routine) (arguments_yield routine))
+
+-- a text is no longer than the bytes
+text_is : (kind : TokenKind) (token a : List ℕ) → text_in kind token ≡ Some a → length a ≤ length token
+text_is Word token a is = absurd (cc)
+text_is Number token a is = absurd (cc)
+text_is Text token a is = let same : said token ≡ a = cc in rw (← same) (said-le token)
+text_is Sign token a is = absurd (cc)
+
+text-le : (bytes : List ℕ) (found : List ℕ × List ℕ) → a_text bytes ≡ Ok found → length found.0 ≤ length bytes
+unfolding a_text
+text-le bytes found is =
+    let token = token-found front front_laws text_in bytes found.1 found.0 is in
+    omega (arith, text_is token.kind token.text found.0 token.accepted, ap length token.whole, length-append token.text found.1, unblanked-le bytes)
+
+pair_text-le : (bytes : List ℕ) (found : (List ℕ × List ℕ) × List ℕ) → pair a_name a_text bytes ≡ Ok found → length found.0.1 ≤ length bytes
+pair_text-le bytes found is =
+    let name = bind-ok (a_name bytes) (λ a. behind 44 a_text >>= (λ b. give (a, b))) found is in
+    let text = bind-ok (behind 44 a_text name.0.1) (λ b. give (name.0.0, b)) found name.2 in
+    let comma = bind-ok (a_sign 44 name.0.1) (λ sign. a_text) text.0 text.1 in
+    let both : List ℕ × List ℕ = (name.0.0, text.0.0) in
+    let same : text.0.0 ≡ found.0.1 = ap (λ (p : List ℕ × List ℕ). p.1) (pair-parts both found.0 text.0.1 found.1 text.2).0 in
+    omega (arith, ap length same, text-le comma.0.1 text.0 comma.2, sign_shrinks 44 name.0.1 comma.0 comma.1, shrinks_of front IsName a_name name_yields bytes name.0 name.1)
+
+name_text-le : (bytes : List ℕ) (found : (List ℕ × List ℕ) × List ℕ) → a_name_text_call bytes ≡ Ok found → length found.0.1 ≤ length bytes
+unfolding a_name_text_call
+name_text-le bytes found is =
+    let inner = bind-ok (behind 40 (pair a_name a_text) bytes) (λ both. a_sign 41 >>= (λ close. give both)) found is in
+    let open_ = bind-ok (a_sign 40 bytes) (λ sign. pair a_name a_text) inner.0 inner.1 in
+    let close = bind-ok (a_sign 41 inner.0.1) (λ close. give inner.0.0) found inner.2 in
+    let same : inner.0.0.1 ≡ found.0.1 = ap (λ (p : List ℕ × List ℕ). p.1) (pair-parts inner.0.0 found.0 close.0.1 found.1 close.2).0 in
+    omega (arith, ap length same, pair_text-le open_.0.1 inner.0 open_.2, sign_shrinks 40 bytes open_.0 open_.1)
+
+text-form : (routine : TextRoutine) (bytes : List ℕ) (found : Command × List ℕ) → length bytes < 2 ^ 32 → arguments (calls.WithText routine) bytes ≡ Ok found → HasForm found.0
+unfolding arguments
+text-form routine bytes found few is =
+    let read = bind-ok (a_name_text_call bytes) (λ a. give (of_text routine a.0 a.1)) found is in
+    let same = (pair-parts (of_text routine read.0.0.0 read.0.0.1) found.0 read.0.1 found.1 read.2).0 in
+    rw (← same) (of_text-form routine read.0.0.0 read.0.0.1 (name_text_call_yields.ok bytes read.0 read.1).0.0 (omega (arith, few, name_text-le bytes read.0 read.1)))
+
+-- each routine's command, in so few bytes
+arguments-form : (routine : Routine) (bytes : List ℕ) (found : Command × List ℕ) → length bytes < 2 ^ 32 → arguments routine bytes ≡ Ok found → HasForm found.0
+arguments-form (calls.WithText routine) bytes found few is = text-form routine bytes found few is
+arguments-form routine bytes found few is = ((arguments_yield routine).ok bytes found is).0
+
+call-form : (bytes : List ℕ) (found : Command × List ℕ) → length bytes < 2 ^ 32 → a_call bytes ≡ Ok found → HasForm found.0
+unfolding a_call
+call-form bytes found few is =
+    let routine = bind-ok (a_routine bytes) arguments found is in
+    arguments-form routine.0.0 routine.0.1 found (omega (arith, few, shrinks_of front Any a_routine routine_yields bytes routine.0 routine.1)) routine.2
+
+-- a statement
+pub command-form : (text : List ℕ) (found : Command × List ℕ) → length text < 2 ^ 32 → a_command text ≡ Ok found → HasForm found.0
+unfolding a_command
+command-form text found few is =
+    let call = bind-ok (a_call text) (λ command. the_end (59 ∷ []) >>= (λ end. give command)) found is in
+    let end = bind-ok (the_end (59 ∷ []) call.0.1) (λ end. give call.0.0) found call.2 in
+    rw (← (pair-parts call.0.0 found.0 end.0.1 found.1 end.2).0) (call-form text call.0 few call.1)

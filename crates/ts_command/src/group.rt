@@ -1,0 +1,215 @@
+// Routines that are called with the same arguments: the arguments are read, and the routine chooses the command.
+ghost use Rattle.std.specs.Prelude.{◌≡◌, Ok, IfOk, IfErr};
+ghost use Rattle.ts_text.specs.Misfit.{Refuses};
+ghost use Rattle.ts_command.specs.Grammar.{arguments, of_name, of_key, of_stamp, of_row, of_text, of_join, of_range};
+ghost use Rattle.ts_command.specs.declared.routine.Routine.{Routine};
+
+use crate::call::{
+    read_join_call, read_key_call, read_key_stamp_call, read_key_stamp_values_call, read_name_call,
+    read_name_range_call, read_name_text_call,
+};
+use crate::routine::{
+    JoinRoutine, Joined, KeyRoutine, NameRoutine, RangeRoutine, RowRoutine, StampRoutine,
+    TextRoutine,
+};
+use crate::{Command, Literals};
+use std::alloc::Global;
+use ts_base::{Bytes, Key, Name, Stamp};
+use ts_text::Misfit;
+
+/// The name.
+#[tactic(auto, unfolding(crate::specs::Grammar::arguments))]
+pub(crate) fn read_of_name(
+    alloc: Global,
+    routine: NameRoutine,
+    bytes: &[u8],
+) -> Result<(Command, &[u8]), Misfit>
+    ensures ok { IfOk result (λ found. arguments (Routine.ByName routine) bytes.now ≡ Ok (found.0, found.1.now)) }
+    ensures cause { IfErr result (λ misfit. Refuses misfit (arguments (Routine.ByName routine) bytes.now)) }
+{
+    let (name, rest) = read_name_call(alloc, bytes)?;
+    Ok((of_name(routine, name), rest))
+}
+
+fn of_name(routine: NameRoutine, name: Name) -> Command
+    ensures { result ≡ of_name routine name }
+{
+    match routine {
+        NameRoutine::DropRowType => Command::DropRowType { name },
+        NameRoutine::ShowPattern => Command::ShowPattern { name },
+        NameRoutine::DropPattern => Command::DropPattern { name },
+        NameRoutine::ShowCalendar => Command::ShowCalendar { name },
+        NameRoutine::DropCalendar => Command::DropCalendar { name },
+        NameRoutine::TSContainerDestroy => Command::TSContainerDestroy { name },
+        NameRoutine::TSContainerUsage => Command::TSContainerUsage { name },
+        NameRoutine::ListSeries => Command::ListSeries { container: name },
+    }
+}
+
+/// The key.
+#[tactic(auto, unfolding(crate::specs::Grammar::arguments))]
+pub(crate) fn read_of_key(
+    alloc: Global,
+    routine: KeyRoutine,
+    bytes: &[u8],
+) -> Result<(Command, &[u8]), Misfit>
+    ensures ok { IfOk result (λ found. arguments (Routine.ByKey routine) bytes.now ≡ Ok (found.0, found.1.now)) }
+    ensures cause { IfErr result (λ misfit. Refuses misfit (arguments (Routine.ByKey routine) bytes.now)) }
+{
+    let (key, rest) = read_key_call(alloc, bytes)?;
+    Ok((of_key(routine, key), rest))
+}
+
+fn of_key(routine: KeyRoutine, key: Key) -> Command
+    ensures { result ≡ of_key routine key }
+{
+    match routine {
+        KeyRoutine::DropSeries => Command::DropSeries { key },
+        KeyRoutine::GetLastElem => Command::GetLastElem { key },
+        KeyRoutine::GetNelems => Command::GetNelems { key },
+    }
+}
+
+/// The key and the stamp.
+#[tactic(auto, unfolding(crate::specs::Grammar::arguments))]
+pub(crate) fn read_of_stamp(
+    alloc: Global,
+    routine: StampRoutine,
+    bytes: &[u8],
+) -> Result<(Command, &[u8]), Misfit>
+    ensures ok { IfOk result (λ found. arguments (Routine.AtStamp routine) bytes.now ≡ Ok (found.0, found.1.now)) }
+    ensures cause { IfErr result (λ misfit. Refuses misfit (arguments (Routine.AtStamp routine) bytes.now)) }
+{
+    match read_key_stamp_call(alloc, bytes) {
+        Ok(((key, stamp), rest)) => Ok((of_stamp(routine, key, stamp), rest)),
+        Err(misfit) => Err(misfit),
+    }
+}
+
+fn of_stamp(routine: StampRoutine, key: Key, stamp: Stamp) -> Command
+    ensures { result ≡ of_stamp routine key stamp }
+{
+    match routine {
+        StampRoutine::DelElem => Command::DelElem { key, stamp },
+        StampRoutine::HideElem => Command::HideElem { key, stamp },
+        StampRoutine::RevealElem => Command::RevealElem { key, stamp },
+        StampRoutine::GetElem => Command::GetElem { key, stamp },
+    }
+}
+
+/// The key, the stamp and the values.
+#[tactic(auto, unfolding(crate::specs::Grammar::arguments))]
+pub(crate) fn read_of_row(
+    alloc: Global,
+    routine: RowRoutine,
+    bytes: &[u8],
+) -> Result<(Command, &[u8]), Misfit>
+    ensures ok { IfOk result (λ found. arguments (Routine.WithRow routine) bytes.now ≡ Ok (found.0, found.1.now)) }
+    ensures cause { IfErr result (λ misfit. Refuses misfit (arguments (Routine.WithRow routine) bytes.now)) }
+{
+    match read_key_stamp_values_call(alloc, bytes) {
+        Ok(((key, stamp, values), rest)) => Ok((of_row(routine, key, stamp, values), rest)),
+        Err(misfit) => Err(misfit),
+    }
+}
+
+fn of_row(routine: RowRoutine, key: Key, stamp: Stamp, values: Literals) -> Command
+    ensures { result ≡ of_row routine key stamp values }
+{
+    match routine {
+        RowRoutine::PutElem => Command::PutElem { key, stamp, values },
+        RowRoutine::PutElemNoDups => Command::PutElemNoDups { key, stamp, values },
+        RowRoutine::InsElem => Command::InsElem { key, stamp, values },
+        RowRoutine::UpdElem => Command::UpdElem { key, stamp, values },
+    }
+}
+
+/// The name and the text.
+#[tactic(auto, unfolding(crate::specs::Grammar::arguments))]
+pub(crate) fn read_of_text(
+    alloc: Global,
+    routine: TextRoutine,
+    bytes: &[u8],
+) -> Result<(Command, &[u8]), Misfit>
+    ensures ok { IfOk result (λ found. arguments (Routine.WithText routine) bytes.now ≡ Ok (found.0, found.1.now)) }
+    ensures cause { IfErr result (λ misfit. Refuses misfit (arguments (Routine.WithText routine) bytes.now)) }
+{
+    let ((name, text), rest) = read_name_text_call(alloc, bytes)?;
+    Ok((of_text(routine, name, text), rest))
+}
+
+fn of_text(routine: TextRoutine, name: Name, text: Bytes) -> Command
+    ensures { result ≡ of_text routine name text }
+{
+    match routine {
+        TextRoutine::CreatePattern => Command::CreatePattern { name, text },
+        TextRoutine::CreateCalendar => Command::CreateCalendar { name, text },
+    }
+}
+
+/// What is joined, and the names.
+#[tactic(auto, unfolding(crate::specs::Grammar::arguments))]
+pub(crate) fn read_joining(
+    alloc: Global,
+    routine: JoinRoutine,
+    bytes: &[u8],
+) -> Result<(Command, &[u8]), Misfit>
+    ensures ok { IfOk result (λ found. arguments (Routine.Joining routine) bytes.now ≡ Ok (found.0, found.1.now)) }
+    ensures cause { IfErr result (λ misfit. Refuses misfit (arguments (Routine.Joining routine) bytes.now)) }
+{
+    let ((joined, names), rest) = read_join_call(alloc, bytes)?;
+    Ok((of_join(routine, joined, names), rest))
+}
+
+fn of_join(routine: JoinRoutine, joined: Joined, names: (Name, Name, Name)) -> Command
+    ensures { result ≡ of_join routine joined names }
+{
+    let (name, first, second) = names;
+    match (routine, joined) {
+        (JoinRoutine::AndOp, Joined::Patterns) => Command::AndPatterns {
+            name,
+            first,
+            second,
+        },
+        (JoinRoutine::AndOp, Joined::Calendars) => Command::AndCalendars {
+            name,
+            first,
+            second,
+        },
+        (JoinRoutine::OrOp, Joined::Patterns) => Command::OrPatterns {
+            name,
+            first,
+            second,
+        },
+        (JoinRoutine::OrOp, Joined::Calendars) => Command::OrCalendars {
+            name,
+            first,
+            second,
+        },
+    }
+}
+
+/// The name and the two stamps.
+#[tactic(auto, unfolding(crate::specs::Grammar::arguments))]
+pub(crate) fn read_of_range(
+    alloc: Global,
+    routine: RangeRoutine,
+    bytes: &[u8],
+) -> Result<(Command, &[u8]), Misfit>
+    ensures ok { IfOk result (λ found. arguments (Routine.InRange routine) bytes.now ≡ Ok (found.0, found.1.now)) }
+    ensures cause { IfErr result (λ misfit. Refuses misfit (arguments (Routine.InRange routine) bytes.now)) }
+{
+    match read_name_range_call(alloc, bytes) {
+        Ok(((calendar, from, to), rest)) => Ok((of_range(routine, calendar, from, to), rest)),
+        Err(misfit) => Err(misfit),
+    }
+}
+
+fn of_range(routine: RangeRoutine, calendar: Name, from: Stamp, to: Stamp) -> Command
+    ensures { result ≡ of_range routine calendar from to }
+{
+    match routine {
+        RangeRoutine::CalIndex => Command::CalIndex { calendar, from, to },
+        RangeRoutine::CalRange => Command::CalRange { calendar, from, to },
+    }
+}
