@@ -2,15 +2,17 @@
 -- slots, their bytes and their pages
 pub use Rattle.ts_layout.proofs.PlaceLemmas.{Stands, at_slot-map, def_at-cleared, def_at-other, def_at-with_slot, fits_page, length-with_slot, page_high, page_low, rank_next, slot_end, stands}
 pub use Rattle.ts_layout.proofs.SlotLemmas.{apart_by_rank, own, sizes, slot_empty, slot_filled, this_or_other}
-pub use Rattle.ts_layout.proofs.SlotBytesLemmas.{slot_one}
-pub use Rattle.ts_layout.proofs.FieldLemmas.{container_name, container_quota, container_row_type, header_format, length-name, length-padded, name_text, row_type_count, row_type_name, row_type_stamp, series_container, series_key, series_length}
+pub use Rattle.ts_layout.proofs.SlotBytesLemmas.{calendar_slot_one, slot_one, slot_written}
+pub use Rattle.ts_layout.proofs.CalendarBytesLemmas.{as_written, calendar_one, name_written, references_written}
+pub use Rattle.ts_layout.proofs.FieldLemmas.{calendar_name, calendar_patt_start, calendar_start, container_name, container_quota, container_row_type, header_format, length-name, length-padded, name_text, pattern_name, row_type_count, row_type_name, row_type_stamp, series_container, series_key, series_length}
 pub use Rattle.ts_layout.proofs.ColumnLemmas.{AreNamed, behind_stamp, first_column, named_first, named_others}
-pub use Rattle.ts_layout.proofs.LimitLemmas.{container_limit, containers_only, heading_past, length-key, row_types_only, series_limit, series_only}
-pub use Rattle.ts_layout.proofs.UniqueLemmas.{all_there, unique}
+pub use Rattle.ts_layout.proofs.PlanBytesLemmas.{PlanFields, behind_pattern, behind_starts, each_run, each_short, number_2, part_named, part_own, part_plan, part_slot, plan_fields, run_count, run_on, runs_bytes, unit_one}
+pub use Rattle.ts_layout.proofs.LimitLemmas.{calendar_limit, calendars_only, container_limit, containers_only, heading_past, length-key, patterns_only, row_types_only, series_limit, series_only}
+pub use Rattle.ts_layout.proofs.UniqueLemmas.{AreInPages, all_there, unique}
 pub use Rattle.ts_layout.proofs.WrittenLemmas.{definitions_stay, elsewhere}
 -- definitions by name, made and dropped
-pub use Rattle.ts_layout.proofs.LookupLemmas.{name_found, no_name_found, kind_full, kind_vacant, container_found, container_of_series, quotas_same, row_type_of_container, series_at, series_found, used_by_name, unused_by_name, vacant_found}
-pub use Rattle.ts_layout.proofs.ValueLemmas.{container_named, series_named}
+pub use Rattle.ts_layout.proofs.LookupLemmas.{name_found, no_name_found, kind_full, kind_vacant, pattern_found, calendar_found, pattern_of_calendar, calendar_stands, container_found, container_of_series, quotas_same, row_type_of_container, series_at, series_found, used_by_name, unused_by_name, vacant_found}
+pub use Rattle.ts_layout.proofs.ValueLemmas.{text_named, text_own, container_named, series_named}
 pub use Rattle.ts_layout.proofs.ChangedLemmas.{made_sound, made_headings, made_catalogue, dropped_sound, dropped_headings, dropped_catalogue}
 -- element pages, and the elements and places of a series
 pub use Rattle.ts_layout.proofs.HeadLemmas.{head_free, head_is}

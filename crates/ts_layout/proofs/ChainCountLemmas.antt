@@ -31,6 +31,7 @@ use Rattle.ts_layout.specs.Meaning.{ElementPage, Free, Cells, Layout, element_pa
 use Rattle.ts_layout.specs.Surveyed.{place_of, places_on, places_from, ListsPlaces}
 use Rattle.ts_layout.specs.Changed.{HasNoPage}
 use Rattle.ts_layout.specs.Chains.{by_stamp, AreFilled}
+use Rattle.ts_layout.proofs.LayoutLemmas.{none≢some}
 use Rattle.ts_layout.proofs.ShapeLemmas.{count_places}
 use Rattle.ts_layout.proofs.PermutedLemmas.{pairs_permuted, pairs_first, pairs_rest, pairs_none, all_in_permuted}
 
@@ -199,9 +200,6 @@ heading_or : (o : Option Heading) → (o ≡ None) ⊎ ((h : Heading) × (o ≡ 
 heading_or None = inl refl
 heading_or (Some h) = inr (h, refl)
 
-none_some : (o : Option Heading) (h : Heading) → o ≡ None → o ≡ Some h → ⊥
-none_some o h none some = cc
-
 none_on : (slot : ℕ) (e : ElementPage) → ((es : List Element) → e ≡ Cells slot es → ⊥) → elements_on slot e ≡ []
 none_on slot Free none = refl
 none_on slot (Cells s es) none = elim (cases_eq s slot) [
@@ -241,7 +239,7 @@ no_chain_in slot columns pages none = record {
 pub len_counted : (l : Layout) (space : Directory) (slot : ℕ) → IsSound l → AreFilled l → ListsPlaces space l → slot < 4096 → len (elements_at slot l.element_pages) ≡ count_of (places_of slot space)
 len_counted l space slot sound filled lists within = elim (heading_or (heading_at l.definitions slot)) [
   | inl none ↦
-      let empty = none_of slot l.element_pages (λ i es is. let fill = filled i slot es is in none_some (heading_at l.definitions slot) fill.0 none fill.1) in
+      let empty = none_of slot l.element_pages (λ i es is. let fill = filled i slot es is in none≢some (heading_at l.definitions slot) fill.0 none fill.1) in
       ap (λ (es : List Element). len (by_stamp es)) empty ∙ len-empty int_cmp Row ∙ sym (ap (λ (es : List Element). length es) empty) ∙ sym (counted l space slot lists within)
   | inr some ↦ len_elements l slot some.0 sound some.1 ∙ sym (counted l space slot lists within)
 ]

@@ -7,34 +7,43 @@ use Rattle.std.specs.FinMap.{insert, remove}
 use Rattle.std.proofs.lemmas.Bool.{cases_eq}
 use Rattle.std.proofs.lemmas.List.Sums.{sum_by-set}
 use Rattle.ts_cells.specs.Cell.{page_room}
+use Rattle.ts_calendar.specs.Calendar.{IsValid}
 use Rattle.ts_model.specs.declared.kind.Kind.{Kind}
 use Rattle.ts_model.specs.declared.kind.Kind.TheVariants as kinds
 use Rattle.ts_model.specs.declared.def.Def.{Def}
 use Rattle.ts_model.specs.declared.def.Def.TheVariants as defs
 use Rattle.ts_model.specs.Kinds.{HasNoPages, with_named, without}
-use Rattle.ts_model.specs.Definitions.{Definitions, RowTypeDef, ContainerDef, SeriesDef, KindDef, kind_of, to_def, from_def, table_of, name_of, name_in, limit, slots, slot_of, at_slot, with_slot, with_table, by_name, references, Refers, IsUsed, IsTable, IsFormat, IsDefinitions}
+use Rattle.ts_model.specs.Definitions.{Definitions, RowTypeDef, PatternDef, CalendarDef, ContainerDef, SeriesDef, KindDef, of_calendar, kind_of, to_def, from_def, table_of, name_of, name_in, limit, slots, slot_of, at_slot, with_slot, with_table, by_name, references, Refers, IsUsed, IsTable, IsFormat, IsDefinitions}
 use Rattle.ts_model.proofs.PartsLemmas.{forth, table-here, table-other, same_or_other, table-rules, all-rules, format-stays}
 use Rattle.ts_model.proofs.SlotLemmas.{by_name-clear}
-use Rattle.ts_layout.specs.Meaning.{Layout, ElementPage, Cells, def_at, heading_of_container, heading_in, heading_at, quota_in, sum_of_quotas, elements_of, sum_filled, charge_of_series, AreInChains, KeepsQuotas, AreSound, IsSound, value_of, named_in, catalogue_of}
-use Rattle.ts_layout.specs.Changed.{layout_with, granted, KeepsHeadings, HasNoPage, CanMake, CanDrop}
+use Rattle.ts_layout.specs.Meaning.{Layout, ElementPage, Cells, def_at, heading_of_container, heading_in, heading_at, quota_in, sum_of_quotas, elements_of, sum_filled, charge_of_series, AreInChains, KeepsQuotas, Follows, AreFollowing, AreValid, AreSound, IsSound, value_of, named_in, catalogue_of}
+use Rattle.ts_layout.specs.Changed.{layout_with, granted, KeepsHeadings, HasNoPage, KeepsCalendarRules, CanMake, CanDrop}
 use Rattle.ts_layout.proofs.PlaceLemmas.{def_at-other}
 use Rattle.ts_layout.proofs.SlotLemmas.{same_in}
-use Rattle.ts_layout.proofs.LayoutLemmas.{none≢some, within_table}
+use Rattle.ts_layout.proofs.LayoutLemmas.{none≢some, one_of, within_table}
 use Rattle.ts_layout.proofs.FilledLemmas.{at_filled, at_cleared, table_filled, table_cleared, by_name_same, no_such_name, slot_there, by_name_filled}
-use Rattle.ts_layout.proofs.ReferLemmas.{KeepColumns, empty_in, filled_in, some_in, first_of, each_there, and_then_same, limits_filled, references_filled, limits_cleared, references_cleared}
+use Rattle.ts_layout.proofs.ReferLemmas.{KeepColumns, empty_in, filled_in, some_in, first_of, each_there, calendar_target, and_then_same, filled_here, limits_filled, references_filled, cleared_here, limits_cleared, references_cleared}
 use Rattle.ts_layout.proofs.ChainCountLemmas.{no_chain_in}
 use Rattle.ts_layout.proofs.ValueLemmas.{same_value, catalogue_with, catalogue_without, no_charge, no_elements_of, no_elements_charge, sum_filled_less}
 
 -- a definition as one of its kind
 pub as_own : (def : Def) → (a : KindDef (kind_of def)) × (to_def (kind_of def) a ≡ def)
 as_own (defs.RowType name h) = (record { name = name; heading = h }, refl)
+as_own (defs.Pattern name pattern) = (record { name = name; pattern = pattern }, refl)
+as_own (defs.Calendar name calendar by) = (record { name = name; calendar = calendar; by = by }, refl)
 as_own (defs.Container name row_type quota) = (record { name = name; row_type = row_type; quota = quota }, refl)
 as_own (defs.Series key container) = (record { key = key; container = container }, refl)
+
+-- a kind without pages is another than that of series
+not_series : (kind : Kind) → HasNoPages kind → kind ≡ kinds.Series → ⊥
+not_series kind none is = subst HasNoPages is none
 
 -- what containers are charged then: no more, where a series that changes has no page
 charged_less : (kind : Kind) (slot : ℕ) (o : Option Def) (d : Definitions) (pages : List ElementPage) (container room : ℕ) → (kind ≡ kinds.Series → HasNoPage slot pages)
     → sum_filled (charge_of_series pages container room) 0 (with_slot kind slot o d).series ≤ sum_filled (charge_of_series pages container room) 0 d.series
 charged_less kinds.RowType slot o d pages container room none = omega arith
+charged_less kinds.Pattern slot o d pages container room none = omega arith
+charged_less kinds.Calendar slot o d pages container room none = omega arith
 charged_less kinds.Container slot o d pages container room none = omega arith
 charged_less kinds.Series slot o d pages container room none =
     sum_filled_less (charge_of_series pages container room) 0 slot (option_and_then (from_def kinds.Series) o) d.series (λ s.
@@ -43,6 +52,8 @@ charged_less kinds.Series slot o d pages container room none =
 -- what all containers are granted then: what is granted anew, and no more
 granted_then : (kind : Kind) (slot : ℕ) (o : Option Def) (d : Definitions) → slot < limit kind → IsDefinitions d → sum_of_quotas (with_slot kind slot o d).containers ≤ sum_of_quotas d.containers + granted o
 granted_then kinds.RowType slot o d within rules = omega arith
+granted_then kinds.Pattern slot o d within rules = omega arith
+granted_then kinds.Calendar slot o d within rules = omega arith
 granted_then kinds.Container slot o d within rules =
     let inside : slot < length d.containers = omega (arith, within, rules.containers.size) in
     let sums = sum_by-set quota_in d.containers slot (option_and_then (from_def kinds.Container) o) None inside in
@@ -91,19 +102,20 @@ module _ (kind : Kind) (slot : ℕ) (o : Option Def) (l : Layout) (sound : IsSou
       none≢some (heading_at l.definitions slot) heading (ap (option_and_then (λ (x : SeriesDef). heading_in l.definitions x.container)) (pageless series).0) (ap (heading_at l.definitions) (sym same) ∙ there))
       ∙ there
 
-  -- a container is one that was there, or the new one, in which no series stands
-  pub container_before : (i : ℕ) (c : ContainerDef) → at_slot i then_defs.containers ≡ Some c → (at_slot i l.definitions.containers ≡ Some c) ⊎ ((kind ≡ kinds.Container) × (i ≡ slot))
-  container_before i c here =
-      let other : (kinds.Container ≡ kind → i ≡ slot → ⊥) → at_slot i l.definitions.containers ≡ Some c =
-      λ differs. sym (same_in kinds.Container i then_defs.containers l.definitions.containers (def_at-other kind kinds.Container slot i o l.definitions differs)) ∙ here in
+  -- what stands in a slot was there, or is the new one
+  pub filled_before : (k : Kind) (i : ℕ) (a : KindDef k) → at_slot i (table_of k then_defs) ≡ Some a → (at_slot i (table_of k l.definitions) ≡ Some a) ⊎ ((kind ≡ k) × (i ≡ slot))
+  filled_before k i a here =
+      let other : (k ≡ kind → i ≡ slot → ⊥) → at_slot i (table_of k l.definitions) ≡ Some a =
+      λ differs. sym (same_in k i (table_of k then_defs) (table_of k l.definitions) (def_at-other kind k slot i o l.definitions differs)) ∙ here in
       elim (cases_eq i slot) [
-        | inl at ↦ elim (same_or_other kinds.Container kind) [
+        | inl at ↦ elim (same_or_other k kind) [
           | inl same ↦ inr (sym same, at)
           | inr differs ↦ inl (other (λ same at'. differs same))
         ]
         | inr elsewhere ↦ inl (other (λ same at. elsewhere at))
       ]
 
+  -- in a new container no series stands
   pub no_series_stands : kind ≡ kinds.Container → (i : ℕ) (s : SeriesDef) → at_slot i l.definitions.series ≡ Some s → s.container ≡ slot → ⊥
   no_series_stands is i s here same =
       let low : i < limit kinds.Series = omega (arith, within_table l.definitions.series i s here, sound.definitions.tables.series.size) in
@@ -112,7 +124,7 @@ module _ (kind : Kind) (slot : ℕ) (o : Option Def) (l : Layout) (sound : IsSou
   changed_charges : KeepsQuotas (layout_with kind slot o l)
   changed_charges i c head here heading =
       let less = charged_less kind slot o l.definitions l.element_pages i (page_room head.columns) (λ series. (pageless series).1) in
-      elim (container_before i c here) [
+      elim (filled_before kinds.Container i c here) [
         | inl old ↦
             let before = sound.charges i c head old (sym (heading_stays i c old) ∙ heading) in
             omega (arith, less, before)
@@ -120,6 +132,19 @@ module _ (kind : Kind) (slot : ℕ) (o : Option Def) (l : Layout) (sound : IsSou
             let none = no_charge l.element_pages i (page_room head.columns) 0 l.definitions.series (λ k s there same. no_series_stands new.0 k s there (same ∙ new.1)) in
             omega (arith, less, none)
       ]
+
+  -- a calendar that was there follows its pattern then, and so each does where the new one does
+  pub changed_follow : ((c : CalendarDef) → kind ≡ kinds.Calendar → at_slot slot then_defs.calendars ≡ Some c → Follows then_defs.patterns c) → AreFollowing then_defs
+  changed_follow new i c here = elim (filled_before kinds.Calendar i c here) [
+    | inl old ↦ λ at by. ap (option_map (λ (p : PatternDef). p.pattern)) (target_stays kinds.Calendar i c old kinds.Pattern at (calendar_target c at by)) ∙ sound.definitions.follow i c old at by
+    | inr is ↦ new c is.0 (ap (λ (n : ℕ). at_slot n then_defs.calendars) (sym is.1) ∙ here)
+  ]
+
+  pub changed_valid : ((c : CalendarDef) → kind ≡ kinds.Calendar → at_slot slot then_defs.calendars ≡ Some c → IsValid c.calendar) → AreValid then_defs
+  changed_valid new i c here = elim (filled_before kinds.Calendar i c here) [
+    | inl old ↦ sound.definitions.valid i c old
+    | inr is ↦ new c is.0 (ap (λ (n : ℕ). at_slot n then_defs.calendars) (sym is.1) ∙ here)
+  ]
 
   changed_chains : AreInChains (layout_with kind slot o l)
   changed_chains s h there = elim (cases_eq s slot) [
@@ -170,6 +195,27 @@ module _ (slot : ℕ) (def : Def) (l : Layout) (sound : IsSound l) (can : CanMak
   as_made : (a : KindDef kind) → to_def kind a ≡ def → from_def kind def ≡ Some a
   as_made a is = ap (from_def kind) (sym is) ∙ forth kind a
 
+  -- what it refers to stands there before and after
+  made_targets : (target : Kind) (at : ℕ) → Refers def target at → at_slot at (table_of target (with_slot kind slot (Some def) l.definitions)) ≡ at_slot at (table_of target l.definitions)
+  made_targets target at refers =
+      same_in target at (table_of target (with_slot kind slot (Some def) l.definitions)) (table_of target l.definitions)
+      (def_at-other kind target slot at (Some def) l.definitions (λ same_kind same_slot.
+      let filled = some_in (def_at target at l.definitions) (each_there l.definitions (references def) target at can.fits.refers refers) in
+      none≢some (def_at target at l.definitions) filled.0 ((λ j. def_at (same_kind j) (same_slot j) l.definitions) ∙ can.fits.empty) filled.1))
+
+  -- a calendar that is made is the definition, and keeps the rules of calendars
+  made_calendar : (c : CalendarDef) → kind ≡ kinds.Calendar → at_slot slot (with_slot kind slot (Some def) l.definitions).calendars ≡ Some c → def ≡ of_calendar c
+  made_calendar c is here =
+      one_of (def_at kind slot (with_slot kind slot (Some def) l.definitions)) def (of_calendar c) (filled_here kind slot def l.definitions can.fits.within refl sound.definitions.tables)
+      (ap (λ (k : Kind). def_at k slot (with_slot kind slot (Some def) l.definitions)) is ∙ filled_in of_calendar slot (with_slot kind slot (Some def) l.definitions).calendars c here)
+
+  made_valid : (c : CalendarDef) → def ≡ of_calendar c → IsValid c.calendar × Follows l.definitions.patterns c
+  made_valid c is = subst (λ (x : Def). KeepsCalendarRules x l.definitions) is can.fits.valid
+
+  made_follow : (c : CalendarDef) → def ≡ of_calendar c → Follows (with_slot kind slot (Some def) l.definitions).patterns c
+  made_follow c is at by =
+      ap (option_map (λ (p : PatternDef). p.pattern)) (made_targets kinds.Pattern at (subst (λ (x : Def). Refers x kinds.Pattern at) (sym is) (calendar_target c at by))) ∙ (made_valid c is).1 at by
+
   made_rules : AreSound (length l.element_pages) (with_slot kind slot (Some def) l.definitions)
   made_rules =
       let own = as_own def in
@@ -179,6 +225,8 @@ module _ (slot : ℕ) (def : Def) (l : Layout) (sound : IsSound l) (can : CanMak
         tables = all-rules (with_slot kind slot (Some def) l.definitions) (subst IsFormat (sym (format-stays kind slot (Some def) l.definitions)) sound.definitions.tables.format) (changed_tables kind (set (table_of kind l.definitions) slot (from_def kind def)) l.definitions sound.definitions.tables table);
         limits = limits_filled kind slot def l.definitions can.fits.within refl sound.definitions.tables can.fits.limits sound.definitions.limits;
         references = references_filled kind slot def l.definitions can.fits.within refl sound.definitions.tables can.fits.refers sound.definitions.references;
+        follow = changed_follow kind slot (Some def) l sound made_unused made_pageless (λ c is here. made_follow c (made_calendar c is here));
+        valid = changed_valid kind slot (Some def) l sound made_unused made_pageless (λ c is here. (made_valid c (made_calendar c is here)).0);
         quotas = omega (arith, granted_then kind slot (Some def) l.definitions can.fits.within sound.definitions.tables, can.pages);
       }
 
@@ -187,14 +235,6 @@ module _ (slot : ℕ) (def : Def) (l : Layout) (sound : IsSound l) (can : CanMak
 
   pub made_headings : KeepsHeadings (with_slot kind slot (Some def) l.definitions) l
   made_headings = changed_headings kind slot (Some def) l sound made_unused made_pageless
-
-  -- what it refers to stands there before and after
-  made_targets : (target : Kind) (at : ℕ) → Refers def target at → at_slot at (table_of target (with_slot kind slot (Some def) l.definitions)) ≡ at_slot at (table_of target l.definitions)
-  made_targets target at refers =
-      same_in target at (table_of target (with_slot kind slot (Some def) l.definitions)) (table_of target l.definitions)
-      (def_at-other kind target slot at (Some def) l.definitions (λ same_kind same_slot.
-      let filled = some_in (def_at target at l.definitions) (each_there l.definitions (references def) target at can.fits.refers refers) in
-      none≢some (def_at target at l.definitions) filled.0 ((λ j. def_at (same_kind j) (same_slot j) l.definitions) ∙ can.fits.empty) filled.1))
 
   pub made_catalogue : (a : KindDef kind) → to_def kind a ≡ def → catalogue_of (layout_with kind slot (Some def) l) ≡ with_named kind (name_of def) (value_of kind l slot a) (catalogue_of l)
   made_catalogue a is =
@@ -211,9 +251,6 @@ module _ (slot : ℕ) (def : Def) (l : Layout) (sound : IsSound l) (can : CanMak
       catalogue_with kind (name_of def) (value_of kind l slot a) l after (format-stays kind slot (Some def) l.definitions) refl own (others_named kind slot (Some def) l sound made_unused made_pageless)
 
 -- a definition to which nothing refers is dropped
-not_series : (kind : Kind) → HasNoPages kind → kind ≡ kinds.Series → ⊥
-not_series kind none is = subst HasNoPages is none
-
 module _ (kind : Kind) (slot : ℕ) (name : List ℕ) (l : Layout) (sound : IsSound l) (can : CanDrop kind slot name l) where
   dropped_there : (a : KindDef kind) × (at_slot slot (table_of kind l.definitions) ≡ Some a) × (name_in kind a ≡ name)
   dropped_there = slot_there (name_in kind) (to_def kind) (λ x. refl) (table_of kind l.definitions) name slot can.named
@@ -224,12 +261,19 @@ module _ (kind : Kind) (slot : ℕ) (name : List ℕ) (l : Layout) (sound : IsSo
   pub dropped_pageless : kind ≡ kinds.Series → (at_slot slot l.definitions.series ≡ None) × HasNoPage slot l.element_pages
   dropped_pageless series = absurd (not_series kind can.pageless series)
 
+  no_new_calendar : (c : CalendarDef) → kind ≡ kinds.Calendar → at_slot slot (with_slot kind slot None l.definitions).calendars ≡ Some c → ⊥
+  no_new_calendar c is here =
+      none≢some (def_at kind slot (with_slot kind slot None l.definitions)) (of_calendar c) (cleared_here kind slot l.definitions dropped_within sound.definitions.tables)
+      (ap (λ (k : Kind). def_at k slot (with_slot kind slot None l.definitions)) is ∙ filled_in of_calendar slot (with_slot kind slot None l.definitions).calendars c here)
+
   dropped_rules : AreSound (length l.element_pages) (with_slot kind slot None l.definitions)
   dropped_rules = record {
     tables = all-rules (with_slot kind slot None l.definitions) (subst IsFormat (sym (format-stays kind slot None l.definitions)) sound.definitions.tables.format) (changed_tables kind (set (table_of kind l.definitions) slot None) l.definitions sound.definitions.tables
         (table_cleared (name_in kind) (limit kind) slot (table_of kind l.definitions) dropped_within (table-rules l.definitions sound.definitions.tables kind)));
     limits = limits_cleared kind slot l.definitions dropped_within sound.definitions.tables sound.definitions.limits;
     references = references_cleared kind slot l.definitions dropped_within sound.definitions.tables can.unused sound.definitions.references;
+    follow = changed_follow kind slot None l sound can.unused dropped_pageless (λ c is here. absurd (no_new_calendar c is here));
+    valid = changed_valid kind slot None l sound can.unused dropped_pageless (λ c is here. absurd (no_new_calendar c is here));
     quotas = omega (arith, granted_then kind slot None l.definitions dropped_within sound.definitions.tables, sound.definitions.quotas);
   }
 

@@ -1,5 +1,5 @@
 -- The fields of a slot, as its bytes give them.
-use Rattle.std.proofs.Common.{◌≡◌, ℕ, suc, ◌+◌, ◌<◌, ◌≤◌, ◌^◌, List, [], ◌∷◌, ◌++◌, length, take, drop, get_or, IsTrue, refl, sym, ap, ◌∙◌, arith, append_assoc, length-append}
+use Rattle.std.proofs.Common.{◌≡◌, ℕ, suc, ◌+◌, ◌<◌, ◌≤◌, ◌^◌, List, [], ◌∷◌, ◌++◌, length, take, drop, get_or, IsTrue, Option, refl, sym, ap, ◌∙◌, arith, append_assoc, length-append}
 use Rattle.std.specs.Int.{w32, to_be_bytes, from_be_bytes}
 use Rattle.std.proofs.lemmas.Bool.Decides.{nat_tests}
 use Rattle.std.proofs.lemmas.List.{get_or-append-add, take_at, drop_at, drop-drop, length-replicate}
@@ -7,7 +7,10 @@ use Rattle.std.proofs.lemmas.Nat.{from_be_bytes-to_be_bytes_4}
 use Rattle.std.proofs.Math.Seq.{take-append_seam}
 use Rattle.ts_base.specs.Name.{is_name}
 use Rattle.ts_row.specs.RowType.{Heading}
-use Rattle.ts_layout.specs.Slot.{padded, name_bytes, columns_bytes, row_type_bytes, container_bytes, series_bytes, header_bytes}
+use Rattle.ts_pattern.specs.Plan.{Plan}
+use Rattle.ts_calendar.specs.Plan.{CalendarPlan}
+use Rattle.ts_cells.specs.Cell.{stamp_bytes}
+use Rattle.ts_layout.specs.Slot.{padded, name_bytes, columns_bytes, row_type_bytes, plan_bytes, pattern_bytes, part_bytes, calendar_bytes, container_bytes, series_bytes, header_bytes}
 
 -- a name has at most 32 bytes
 pub length-name : (name : List ℕ) → IsTrue (is_name name) → length name ≤ 32
@@ -34,6 +37,12 @@ take-padded size bytes = take-append_seam bytes _
 -- the text of a name
 pub name_text : (name : List ℕ) → take (length name) (drop 1 (name_bytes name)) ≡ name
 name_text name = take-padded 32 name
+
+-- names with the same bytes are the same
+pub name_one : (a b : List ℕ) → name_bytes a ≡ name_bytes b → a ≡ b
+name_one a b same =
+    let size : length a ≡ length b = ap (λ (l : List ℕ). get_or l 0 0) same in
+    sym (name_text a) ∙ (λ i. take (size i) (drop 1 (same i))) ∙ name_text b
 
 -- a container's name, the slot of its row type and its quota
 pub container_name : (name : List ℕ) (row_type quota : ℕ) → length name ≤ 32 → take 33 (drop 1 (container_bytes name row_type quota)) ≡ name_bytes name
@@ -93,6 +102,33 @@ row_type_columns name h short stamp =
     sym (drop-drop 34 33 (name_bytes name ++ (name_bytes h.stamp ++ columns)))
     ∙ ap (drop 34) (behind_name name (name_bytes h.stamp ++ columns) short)
     ∙ sym (drop-drop 1 33 (name_bytes h.stamp ++ columns)) ∙ ap (drop 1) (behind_name h.stamp columns stamp)
+
+-- a pattern's name, and what it is
+pub pattern_name : (name : List ℕ) (p : Plan) → length name ≤ 32 → take 33 (drop 1 (pattern_bytes name p)) ≡ name_bytes name
+unfolding pattern_bytes
+pattern_name name p short = take_at (name_bytes name) _ 33 (length-name_bytes name short)
+
+pub pattern_plan : (name : List ℕ) (p : Plan) → length name ≤ 32 → drop 34 (pattern_bytes name p) ≡ padded 4062 (plan_bytes p)
+unfolding pattern_bytes
+pattern_plan name p short = behind_name name (padded 4062 (plan_bytes p)) short
+
+-- a calendar's name, its two starts, and which pattern it has
+pub calendar_name : (name : List ℕ) (c : CalendarPlan) (by : Option ℕ) → length name ≤ 32 → take 33 (drop 1 (calendar_bytes name c by)) ≡ name_bytes name
+unfolding calendar_bytes
+calendar_name name c by short = take_at (name_bytes name) _ 33 (length-name_bytes name short)
+
+behind_calendar : (name : List ℕ) (c : CalendarPlan) (by : Option ℕ) → length name ≤ 32 → drop 34 (calendar_bytes name c by) ≡ stamp_bytes c.start ++ (stamp_bytes c.patt_start ++ padded 4046 (part_bytes c.pattern by))
+unfolding calendar_bytes
+behind_calendar name c by short = behind_name name (stamp_bytes c.start ++ (stamp_bytes c.patt_start ++ padded 4046 (part_bytes c.pattern by))) short
+
+pub calendar_start : (name : List ℕ) (c : CalendarPlan) (by : Option ℕ) → length name ≤ 32 → take 8 (drop 34 (calendar_bytes name c by)) ≡ stamp_bytes c.start
+calendar_start name c by short = ap (take 8) (behind_calendar name c by short)
+
+pub calendar_patt_start : (name : List ℕ) (c : CalendarPlan) (by : Option ℕ) → length name ≤ 32 → take 8 (drop 42 (calendar_bytes name c by)) ≡ stamp_bytes c.patt_start
+calendar_patt_start name c by short = ap (take 8) (sym (drop-drop 8 34 (calendar_bytes name c by))) ∙ ap (λ (l : List ℕ). take 8 (drop 8 l)) (behind_calendar name c by short)
+
+pub calendar_part : (name : List ℕ) (c : CalendarPlan) (by : Option ℕ) → length name ≤ 32 → drop 50 (calendar_bytes name c by) ≡ padded 4046 (part_bytes c.pattern by)
+calendar_part name c by short = sym (drop-drop 16 34 (calendar_bytes name c by)) ∙ ap (drop 16) (behind_calendar name c by short)
 
 -- the format in a header
 ninth_byte : (format pages : ℕ) → get_or (header_bytes format pages) 8 0 ≡ format

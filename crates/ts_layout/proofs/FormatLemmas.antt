@@ -50,6 +50,8 @@ format_edited format old es before fewer is = not_true (has_hidden es) (λ hides
 -- what stands in a slot by another format
 def_same : (kind : Kind) (slot format : ℕ) (d : Definitions) → def_at kind slot (with_format format d) ≡ def_at kind slot d
 def_same kinds.RowType slot format d = refl
+def_same kinds.Pattern slot format d = refl
+def_same kinds.Calendar slot format d = refl
 def_same kinds.Container slot format d = refl
 def_same kinds.Series slot format d = refl
 
@@ -59,6 +61,8 @@ there_same format d (target ∷ rest) there = (subst (λ (o : Option Def). IsSom
 
 def_renewed : (format : ℕ) (def : Def) → IsDef format def → IsDef FORMAT def
 def_renewed format (defs.RowType name h) is = record { name = is.name; stamp = is.stamp; columns = is.columns; rules = is.rules; of_format = of_format_new FORMAT h not_old }
+def_renewed format (defs.Pattern name pattern) is = is
+def_renewed format (defs.Calendar name calendar by) is = is
 def_renewed format (defs.Container name row_type quota) is = is
 def_renewed format (defs.Series key container) is = is
 
@@ -67,7 +71,14 @@ slot_renewed format kind None is = tt
 slot_renewed format kind (Some def) is = (is.0, def_renewed format def is.1)
 
 tables_renewed : (d : Definitions) → IsDefinitions d → IsDefinitions (with_format FORMAT d)
-tables_renewed d rules = record { format = inr refl; row_types = rules.row_types; containers = rules.containers; series = rules.series }
+tables_renewed d rules = record {
+  format = inr refl;
+  row_types = rules.row_types;
+  patterns = rules.patterns;
+  calendars = rules.calendars;
+  containers = rules.containers;
+  series = rules.series;
+}
 
 limits_renewed : (d : Definitions) → KeepLimits d → KeepLimits (with_format FORMAT d)
 limits_renewed d limits = record {
@@ -88,6 +99,8 @@ rules_renewed pages d sound = record {
   limits = limits_renewed d sound.limits;
   references = λ kind slot def within here.
       there_same FORMAT d (references def) (sound.references kind slot def within (sym (def_same kind slot FORMAT d) ∙ here));
+  follow = sound.follow;
+  valid = sound.valid;
   quotas = sound.quotas;
 }
 

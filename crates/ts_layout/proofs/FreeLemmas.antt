@@ -1,5 +1,5 @@
 -- The free pages and the places of all series are the element pages together.
-use Rattle.std.proofs.Common.{◌≡◌, ◌≢◌, ℕ, zero, suc, ◌+◌, ◌<◌, ◌≤◌, ◌==◌, Bool, true, false, if◌then◌else◌, Some, None, List, [], ◌∷◌, length, get_or, refl, sym, ap, ◌∙◌, arith, length-append, zero-add, inl, inr}
+use Rattle.std.proofs.Common.{◌≡◌, ◌≢◌, ℕ, zero, suc, ◌+◌, ◌<◌, ◌≤◌, ◌==◌, Bool, true, false, if◌then◌else◌, Some, List, [], ◌∷◌, length, get_or, refl, sym, ap, ◌∙◌, arith, length-append, zero-add, inl, inr}
 use Rattle.std.specs.List.{sum_by}
 use Rattle.std.proofs.lemmas.Bool.Decides.{nat_tests}
 use Rattle.std.proofs.lemmas.Bool.{cases_eq, cases_lt}
@@ -13,6 +13,7 @@ use Rattle.ts_model.specs.Definitions.{Definitions, IsDefinitions}
 use Rattle.ts_layout.specs.Meaning.{ElementPage, Free, Cells, Layout, element_page, heading_at}
 use Rattle.ts_layout.specs.Surveyed.{place_of, places_on, places_from, free_from, free_pages, ListsPlaces}
 use Rattle.ts_layout.specs.Chains.{AreFilled}
+use Rattle.ts_layout.proofs.LayoutLemmas.{none≢some}
 use Rattle.ts_layout.proofs.LimitLemmas.{heading_past}
 
 -- the sum of a function over so many numbers, from the first on
@@ -91,10 +92,8 @@ free_and_used slots first (Cells s es ∷ pages) each =
 pub filled_within : (d : Definitions) (slot : ℕ) (h : Heading) → IsDefinitions d → heading_at d slot ≡ Some h → slot < 4096
 filled_within d slot h rules there = elim (cases_lt slot 4096) [
   | inl below ↦ below
-  | inr past ↦ absurd (none_some h (heading_past d rules slot past ∙ there))
-] where
-  none_some : (h : Heading) → None ≡ Some h → ⊥
-  none_some h is = cc
+  | inr past ↦ absurd (none≢some (heading_at d slot) h (sym (heading_past d rules slot past)) there)
+]
 
 -- each element page is free or the place of one series
 pub free_counted : (l : Layout) (space : Directory) → IsDefinitions l.definitions → AreFilled l → ListsPlaces space l → length space.lists ≡ 4096 → length (free_pages l) + used_of space ≡ length l.element_pages

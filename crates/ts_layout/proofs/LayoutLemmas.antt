@@ -26,7 +26,7 @@ use Rattle.ts_layout.specs.Changed.{SameOutsideJournal, KeepsHeadings, HasNoPage
 use Rattle.ts_layout.proofs.ElementPageLemmas.{within_list}
 use Rattle.ts_layout.proofs.FieldLemmas.{header_format}
 use Rattle.ts_layout.proofs.ShapeLemmas.{alike}
-use Rattle.ts_layout.proofs.UniqueLemmas.{unique}
+use Rattle.ts_layout.proofs.UniqueLemmas.{AreInPages, unique}
 use Rattle.ts_layout.proofs.PlaceLemmas.{at_slot-map, page_low, page_high}
 
 pub none≢some : {A : Type 0} (o : Option A) (a : A) → o ≡ None → o ≡ Some a → ⊥
@@ -116,11 +116,18 @@ same_pages (e ∷ es) (f ∷ fs) long same =
     λ j. first j ∷ others j
 
 -- pages hold one list of definitions, and one list of element pages by them
+laid_definitions : (count : ℕ) (pages : ℕ → List ℕ) (l : Layout) → IsLaidOut count pages l → AreInPages pages l.definitions
+laid_definitions count pages l laid = record {
+  holds = laid.bytes.definitions;
+  limits = laid.rules.definitions.limits;
+  rules = laid.rules.definitions.tables;
+  follow = laid.rules.definitions.follow;
+}
+
 pub same_definitions : (count : ℕ) (pages : ℕ → List ℕ) (k l : Layout) → IsLaidOut count pages k → IsLaidOut count pages l → k.definitions ≡ l.definitions
 same_definitions count pages k l first second =
-    unique pages k.definitions l.definitions
-    (header_format k.definitions.format l.definitions.format (length k.element_pages) (length l.element_pages) (sym first.bytes.header ∙ second.bytes.header)) first.bytes.definitions first.rules.definitions.limits first.rules.definitions.tables
-    second.bytes.definitions second.rules.definitions.limits second.rules.definitions.tables
+    unique pages k.definitions l.definitions (laid_definitions count pages k first) (laid_definitions count pages l second)
+    (header_format k.definitions.format l.definitions.format (length k.element_pages) (length l.element_pages) (sym first.bytes.header ∙ second.bytes.header))
 
 pub same_element_pages : (count : ℕ) (pages : ℕ → List ℕ) (k l : Layout) → IsLaidOut count pages k → IsLaidOut count pages l → k.element_pages ≡ l.element_pages
 same_element_pages count pages k l first second =

@@ -2,11 +2,13 @@ pub mod CallerLemmas
 mod MemberLemmas
 mod PlaceLemmas
 mod FieldLemmas
+mod PlanBytesLemmas
 mod ColumnLemmas
 mod SlotLemmas
 mod LimitLemmas
 mod HeadLemmas
 mod ElementPageLemmas
+mod CalendarBytesLemmas
 mod SlotBytesLemmas
 mod UniqueLemmas
 mod ChargeLemmas

@@ -5,13 +5,15 @@ use Rattle.std.proofs.lemmas.Bool.Decides.{nat_tests}
 use Rattle.std.proofs.lemmas.List.{get_or_past}
 use Rattle.ts_base.specs.Name.{is_key}
 use Rattle.ts_row.specs.RowType.{Heading}
+use Rattle.ts_pattern.specs.Plan.{Plan}
+use Rattle.ts_calendar.specs.Plan.{CalendarPlan}
 use Rattle.ts_model.specs.declared.def.Def.{Def}
 use Rattle.ts_model.specs.declared.kind.Kind.{Kind}
 use Rattle.ts_model.specs.Definitions.{kind_of, to_def, from_def, Definitions, KindDef, SeriesDef, IsDefinitions}
 use Rattle.ts_model.proofs.PartsLemmas.{back}
 use Rattle.ts_model.specs.declared.kind.Kind.TheVariants as kinds
 use Rattle.ts_model.specs.declared.def.Def.TheVariants as defs
-use Rattle.ts_layout.specs.Limits.{IsRowTypeDef, IsDef, IsContainerDef, IsSeriesDef, IsSlotOf}
+use Rattle.ts_layout.specs.Limits.{IsRowTypeDef, IsPatternDef, IsCalendarDef, IsDef, IsContainerDef, IsSeriesDef, IsSlotOf}
 use Rattle.ts_layout.specs.Meaning.{def_at, KeepLimits, heading_in, heading_at}
 
 -- a key has at most 64 bytes
@@ -28,6 +30,12 @@ only format kind P each def is good = of_own (from_def kind def) (back kind def 
 pub row_types_only : (format : ℕ) (P : Def → Type 0) → ((name : List ℕ) (h : Heading) → IsRowTypeDef format (record { name = name; heading = h }) → P (defs.RowType name h)) → (def : Def) → kind_of def ≡ kinds.RowType → IsDef format def → P def
 row_types_only format P each = only format kinds.RowType P (λ r. each r.name r.heading)
 
+pub patterns_only : (format : ℕ) (P : Def → Type 0) → ((name : List ℕ) (p : Plan) → IsPatternDef (record { name = name; pattern = p }) → P (defs.Pattern name p)) → (def : Def) → kind_of def ≡ kinds.Pattern → IsDef format def → P def
+patterns_only format P each = only format kinds.Pattern P (λ p. each p.name p.pattern)
+
+pub calendars_only : (format : ℕ) (P : Def → Type 0) → ((name : List ℕ) (c : CalendarPlan) (by : Option ℕ) → IsCalendarDef (record { name = name; calendar = c; by = by }) → P (defs.Calendar name c by)) → (def : Def) → kind_of def ≡ kinds.Calendar → IsDef format def → P def
+calendars_only format P each = only format kinds.Calendar P (λ c. each c.name c.calendar c.by)
+
 pub containers_only : (format : ℕ) (P : Def → Type 0) → ((name : List ℕ) (row_type quota : ℕ) → IsContainerDef (record { name = name; row_type = row_type; quota = quota }) → P (defs.Container name row_type quota)) → (def : Def) → kind_of def ≡ kinds.Container → IsDef format def → P def
 containers_only format P each = only format kinds.Container P (λ c. each c.name c.row_type c.quota)
 
@@ -35,6 +43,9 @@ pub series_only : (format : ℕ) (P : Def → Type 0) → ((key : List ℕ) (con
 series_only format P each = only format kinds.Series P (λ s. each s.key s.container)
 
 -- the slots that definitions refer to are slots
+pub calendar_limit : (d : Definitions) → KeepLimits d → (slot : ℕ) → slot < 256 → (name : List ℕ) (c : CalendarPlan) (by : ℕ) → def_at kinds.Calendar slot d ≡ Some (defs.Calendar name c (Some by)) → by < 256
+calendar_limit d limits slot within name c by is = (let P : Option Def → Type 0 = IsSlotOf d.format kinds.Calendar in subst P is (limits.each kinds.Calendar slot within)).1.by
+
 pub container_limit : (d : Definitions) → KeepLimits d → (slot : ℕ) → slot < 64 → (name : List ℕ) (row_type quota : ℕ) → def_at kinds.Container slot d ≡ Some (defs.Container name row_type quota) → row_type < 64
 container_limit d limits slot within name row_type quota is = (let P : Option Def → Type 0 = IsSlotOf d.format kinds.Container in subst P is (limits.each kinds.Container slot within)).1.row_type
 

@@ -7,26 +7,30 @@ use Rattle.std.proofs.lemmas.List.Quantifiers.{position-Some}
 use Rattle.std.specs.Option.{is_none, option_map, option_and_then, unwrap_or}
 use Rattle.std.specs.FinMap.{get, entries, values, len}
 use Rattle.std.specs.Str.{bytes_eq}
+use Rattle.ts_pattern.specs.Plan.{Plan}
+use Rattle.ts_calendar.specs.declared.text.PatternPart.TheVariants.{Named as ByName}
 use Rattle.ts_model.specs.declared.kind.Kind.{Kind}
 use Rattle.ts_model.specs.declared.kind.Kind.TheVariants as kinds
 use Rattle.ts_model.specs.declared.def.Def.{Def}
-use Rattle.ts_model.specs.Catalogue.{Named, Container, name_cmp, heading_of, quotas}
-use Rattle.ts_model.specs.Kinds.{In, named, is_used}
-use Rattle.ts_model.specs.Definitions.{RowTypeDef, ContainerDef, SeriesDef, KindDef, to_def, table_of, name_in, slots, slot_of, vacant_slot, at_slot, limit, references, Refers, IsUsed, IsUsedBy}
+use Rattle.ts_model.specs.Catalogue.{Named, Container, name_cmp, heading_of, quotas, pattern_of, with_plan, calendar_of}
+use Rattle.ts_model.specs.Kinds.{In, named, is_named, is_used}
+use Rattle.ts_model.specs.Definitions.{Definitions, RowTypeDef, PatternDef, CalendarDef, ContainerDef, SeriesDef, KindDef, to_def, table_of, name_in, slots, slot_of, vacant_slot, at_slot, limit, references, pattern_reference, Refers, IsUsed}
 use Rattle.ts_model.proofs.OrderLemmas.{eq_ties, ties-refl, ties-same}
 use Rattle.ts_model.proofs.PartsLemmas.{table-rules}
-use Rattle.ts_layout.specs.Meaning.{Layout, def_at, quota_in, sum_of_quotas, heading_of_container, heading_in, heading_at, IsSound, name_at, container_of, series_of, value_of, named_in, catalogue_of}
+use Rattle.ts_layout.specs.Meaning.{Layout, def_at, quota_in, sum_of_quotas, heading_of_container, heading_in, heading_at, IsSound, name_at, part_of, text_of, container_of, series_of, value_of, named_in, catalogue_of}
 use Rattle.ts_layout.specs.Lookup.{IsNamedAt}
 use Rattle.ts_layout.proofs.SlotLemmas.{own, sizes}
-use Rattle.ts_layout.proofs.LayoutLemmas.{within_table}
+use Rattle.ts_layout.proofs.LayoutLemmas.{one_of, within_table}
 use Rattle.ts_layout.proofs.FilledLemmas.{slot_there, slot_here, get_none, got_none, get_slot, got_some}
-use Rattle.ts_layout.proofs.ReferLemmas.{filled_in, some_in, each_there, first_of, container_refers, series_refers}
+use Rattle.ts_layout.proofs.ReferLemmas.{filled_in, some_in, each_there, first_of, calendar_refers, container_refers, series_refers}
 use Rattle.ts_layout.proofs.CountLemmas.{any_values, empty_is, len_full, len_fewer, any_here, any_there, sum_of_values}
 use Rattle.ts_layout.proofs.ValueLemmas.{name_there}
 
 -- what the catalogue of a layout has of a kind
 pub named_is : (kind : Kind) (l : Layout) → named kind (catalogue_of l) ≡ named_in kind l
 named_is kinds.RowType l = refl
+named_is kinds.Pattern l = refl
+named_is kinds.Calendar l = refl
 named_is kinds.Container l = refl
 named_is kinds.Series l = refl
 
@@ -76,7 +80,13 @@ kind_vacant kind l slot sound vacant =
     let fewer = len_fewer (name_in kind) (value_of kind l) (to_def kind) (table_of kind l.definitions) slot rules.apart vacant in
     omega (arith, same, fewer, rules.size)
 
--- of row types, containers and series
+-- of patterns, calendars, containers and series
+pub pattern_found : (l : Layout) (name : List ℕ) (slot : ℕ) → IsSound l → slot_of name (slots kinds.Pattern l.definitions) ≡ Some slot → (a : PatternDef) × IsNamedAt kinds.Pattern l slot name a
+pattern_found l name slot sound is = name_found kinds.Pattern l name slot sound is
+
+pub calendar_found : (l : Layout) (name : List ℕ) (slot : ℕ) → IsSound l → slot_of name (slots kinds.Calendar l.definitions) ≡ Some slot → (a : CalendarDef) × IsNamedAt kinds.Calendar l slot name a
+calendar_found l name slot sound is = name_found kinds.Calendar l name slot sound is
+
 pub container_found : (l : Layout) (name : List ℕ) (slot : ℕ) → IsSound l → slot_of name (slots kinds.Container l.definitions) ≡ Some slot → (a : ContainerDef) × IsNamedAt kinds.Container l slot name a
 container_found l name slot sound is = name_found kinds.Container l name slot sound is
 
@@ -85,6 +95,25 @@ series_at l slot a sound here = name_stands kinds.Series l slot a sound here
 
 pub series_found : (l : Layout) (name : List ℕ) (slot : ℕ) → IsSound l → slot_of name (slots kinds.Series l.definitions) ≡ Some slot → (a : SeriesDef) × IsNamedAt kinds.Series l slot name a
 series_found l name slot sound is = name_found kinds.Series l name slot sound is
+
+-- the pattern of a calendar that was made by a pattern's name, under the name that its text gives
+pub pattern_of_calendar : (l : Layout) (slot at : ℕ) (c : CalendarDef) → IsSound l → at_slot slot l.definitions.calendars ≡ Some c → c.by ≡ Some at
+    → (name : List ℕ) × (p : PatternDef) × ((text_of l.definitions c).part ≡ ByName name) × IsNamedAt kinds.Pattern l at name p × (p.pattern ≡ c.calendar.pattern)
+pattern_of_calendar l slot at c sound here is =
+    let p = calendar_refers l.definitions sound.definitions.tables sound.definitions.references slot c at here is in
+    let name : name_at (λ (x : PatternDef). x.name) at l.definitions.patterns ≡ p.0.name = ap (λ (o : Option PatternDef). unwrap_or (option_map (λ (x : PatternDef). x.name) o) []) p.1 in
+    let same = one_of (option_map (λ (x : PatternDef). x.pattern) (at_slot at l.definitions.patterns)) p.0.pattern c.calendar.pattern (ap (option_map (λ (x : PatternDef). x.pattern)) p.1) (sound.definitions.follow slot c here at is) in
+    (p.0.name, p.0, ap (part_of l.definitions c) is ∙ ap (λ (n : List ℕ). ByName n) name, name_stands kinds.Pattern l at p.0 sound p.1, same)
+
+-- the calendar that its text stands for in the catalogue is the one in the slot
+part_stands : (l : Layout) (slot : ℕ) (c : CalendarDef) (by : Option ℕ) → IsSound l → at_slot slot l.definitions.calendars ≡ Some c → c.by ≡ by → pattern_of (catalogue_of l) (part_of l.definitions c by) ≡ Some c.calendar.pattern
+part_stands l slot c None sound here is = refl
+part_stands l slot c (Some at) sound here is =
+    let its = pattern_of_calendar l slot at c sound here is in
+    ap (pattern_of (catalogue_of l)) (sym (ap (part_of l.definitions c) is) ∙ its.2) ∙ its.3.listed ∙ ap (λ (x : Plan). Some x) its.4
+
+pub calendar_stands : (l : Layout) (slot : ℕ) (c : CalendarDef) → IsSound l → at_slot slot l.definitions.calendars ≡ Some c → calendar_of (catalogue_of l) (text_of l.definitions c) ≡ Some c.calendar
+calendar_stands l slot c sound here = ap (option_map (with_plan (text_of l.definitions c))) (part_stands l slot c c.by sound here refl)
 
 -- the row type of a container, the container of a series, and the columns of a series
 pub row_type_of_container : (l : Layout) (slot : ℕ) (c : ContainerDef) → IsSound l → at_slot slot l.definitions.containers ≡ Some c → (r : RowTypeDef) × IsNamedAt kinds.RowType l c.row_type (container_of l.definitions c).row_type r
@@ -128,40 +157,6 @@ true_false b is not_so = cc
 one_slot : (o : Option ℕ) (i j : ℕ) → o ≡ Some i → o ≡ Some j → i ≡ j
 one_slot o i j first second = cc
 
--- one kind's definitions refer to another's by slots, and in the catalogue by names
-module _ (l : Layout) (sound : IsSound l) (user target : Kind) (field : In user → List ℕ) (ref : KindDef user → ℕ) (refers : (a : KindDef user) → Refers (to_def user a) target (ref a))
-    (names : (i : ℕ) (a : KindDef user) → field (value_of user l i a) ≡ name_at (name_in target) (ref a) (table_of target l.definitions)) (slot : ℕ) (name : List ℕ) (is : slot_of name (slots target l.definitions) ≡ Some slot) where
-  abbrev in_use : Bool
-  in_use = list_any (λ (v : In user). bytes_eq (field v) name) (values (named_in user l))
-
-  user_low : (i : ℕ) (a : KindDef user) → at_slot i (table_of user l.definitions) ≡ Some a → i < limit user
-  user_low i a here = omega (arith, within_table (table_of user l.definitions) i a here, (table-rules l.definitions sound.definitions.tables user).size)
-
-  pub name_used : (i : ℕ) (a : KindDef user) → at_slot i (table_of user l.definitions) ≡ Some a → ref a ≡ slot → in_use ≡ true
-  name_used i a here same =
-      let named : field (value_of user l i a) ≡ name = names i a ∙ name_there (name_in target) (to_def target) (λ r. refl) (table_of target l.definitions) name (ref a) (is ∙ ap (λ (n : ℕ). Some n) (sym same)) in
-      any_values (λ (v : In user). bytes_eq (field v) name) (entries (named_in user l))
-      ∙ any_here (name_in user) (value_of user l) (λ (e : List ℕ × In user). bytes_eq (field e.1) name) i a (table_of user l.definitions) (table-rules l.definitions sound.definitions.tables user).apart here
-      (same_bytes (field (value_of user l i a)) name named)
-
-  pub name_user : in_use ≡ true → (i : ℕ) × (a : KindDef user) × (at_slot i (table_of user l.definitions) ≡ Some a) × (ref a ≡ slot)
-  name_user some =
-      let there = any_there (name_in user) (value_of user l) (λ (e : List ℕ × In user). bytes_eq (field e.1) name) (table_of user l.definitions) (table-rules l.definitions sound.definitions.tables user).apart
-      (sym (any_values (λ (v : In user). bytes_eq (field v) name) (entries (named_in user l))) ∙ some) in
-      let a : KindDef user = there.1 in
-      let refers_there = sound.definitions.references user there.0 (to_def user a) (user_low there.0 a there.2) (filled_in (to_def user) there.0 (table_of user l.definitions) a there.2) in
-      let held = some_in (def_at target (ref a) l.definitions) (each_there l.definitions (references (to_def user a)) target (ref a) refers_there (refers a)) in
-      let b = own (to_def target) (ref a) (table_of target l.definitions) held.0 held.1 in
-      let its_name : name_at (name_in target) (ref a) (table_of target l.definitions) ≡ name_in target b.0 = ap (λ (o : Option (KindDef target)). unwrap_or (option_map (name_in target) o) []) b.1 in
-      let same : name_in target b.0 ≡ name = sym its_name ∙ sym (names there.0 a) ∙ bytes_same (field (value_of user l there.0 a)) name there.3 in
-      let named : slot_of name (slots target l.definitions) ≡ Some (ref a) = ap (λ (n : List ℕ). slot_of n (slots target l.definitions)) (sym same) ∙ (name_stands target l (ref a) b.0 sound b.1).named in
-      (there.0, a, there.2, one_slot (slot_of name (slots target l.definitions)) (ref a) slot named is)
-
-  -- a user by its slot is one in use
-  pub user_of : (i : ℕ) (a : KindDef user) → at_slot i (table_of user l.definitions) ≡ Some a → ref a ≡ slot → IsUsed target slot l.definitions
-  user_of i a here same =
-      (user, (i, to_def user a, user_low i a here, filled_in (to_def user) i (table_of user l.definitions) a here, subst (λ (n : ℕ). Refers (to_def user a) target n) same (refers a)))
-
 -- the one thing that a definition refers to
 only_one : (x y : Kind × ℕ) → Contains (x ∷ []) y → x ≡ y
 only_one x y (zero, below, is) = is
@@ -170,34 +165,118 @@ only_one x y (suc k, below, is) = absurd (omega (arith, below))
 nothing : (y : Kind × ℕ) → Contains [] y → ⊥
 nothing y (k, below, is) = absurd (omega (arith, below))
 
--- what is used by a definition of a kind, is used by names
-used_by : (user kind : Kind) (slot : ℕ) (name : List ℕ) (l : Layout) → IsSound l → slot_of name (slots kind l.definitions) ≡ Some slot → IsUsedBy user kind slot l.definitions → is_used kind name (catalogue_of l) ≡ true
-used_by kinds.RowType kind slot name l sound is (i, def, low, here, refers) =
-    let o = own (to_def kinds.RowType) i l.definitions.row_types def here in
-    absurd (nothing (kind, slot) (subst (λ (x : Def). Refers x kind slot) (sym o.2) refers))
-used_by kinds.Container kind slot name l sound is (i, def, low, here, refers) =
-    let o = own (to_def kinds.Container) i l.definitions.containers def here in
-    let same = only_one (kinds.RowType, o.0.row_type) (kind, slot) (subst (λ (x : Def). Refers x kind slot) (sym o.2) refers) in
-    subst (λ (t : Kind × ℕ). slot_of name (slots t.0 l.definitions) ≡ Some t.1 → is_used t.0 name (catalogue_of l) ≡ true) same
-    (λ found. name_used l sound kinds.Container kinds.RowType (λ c. c.row_type) (λ c. c.row_type) (λ a. first_of (kinds.RowType, a.row_type) (kinds.RowType, a.row_type) [] refl) (λ n a. refl) o.0.row_type name found i o.0 o.1 refl) is
-used_by kinds.Series kind slot name l sound is (i, def, low, here, refers) =
-    let o = own (to_def kinds.Series) i l.definitions.series def here in
-    let same = only_one (kinds.Container, o.0.container) (kind, slot) (subst (λ (x : Def). Refers x kind slot) (sym o.2) refers) in
-    subst (λ (t : Kind × ℕ). slot_of name (slots t.0 l.definitions) ≡ Some t.1 → is_used t.0 name (catalogue_of l) ≡ true) same
-    (λ found. name_used l sound kinds.Series kinds.Container (λ s. s.container) (λ s. s.container) (λ a. first_of (kinds.Container, a.container) (kinds.Container, a.container) [] refl) (λ n a. refl) o.0.container name found i o.0 o.1 refl) is
+-- the kind and the slot of the one thing
+kind_alone : (kind kind' : Kind) (slot slot' : ℕ) → (let target : Kind × ℕ = (kind', slot') in Contains ((kind, slot) ∷ []) target) → kind ≡ kind'
+kind_alone kind kind' slot slot' there = ap (λ (t : Kind × ℕ). t.0) (only_one (kind, slot) (kind', slot') there)
 
-module _ (kind : Kind) (slot : ℕ) (name : List ℕ) (l : Layout) (sound : IsSound l) (is : slot_of name (slots kind l.definitions) ≡ Some slot) where
-  pub used_by_name : IsUsed kind slot l.definitions → is_used kind name (catalogue_of l) ≡ true
-  used_by_name used = used_by used.0 kind slot name l sound is used.1
+one_place : (kind : Kind) (slot at : ℕ) → (let target : Kind × ℕ = (kind, at) in Contains ((kind, slot) ∷ []) target) → slot ≡ at
+one_place kind slot at there = ap (λ (t : Kind × ℕ). t.1) (only_one (kind, slot) (kind, at) there)
+
+same_place : (slot : ℕ) (kind : Kind) → (let target : Kind × ℕ = (kind, slot) in Contains (target ∷ []) target)
+same_place slot kind = first_of (kind, slot) (kind, slot) [] refl
+
+-- One kind's definitions refer to another's by slots, and in the catalogue by names: a test by a name is true of one that refers to a slot
+-- exactly where that slot has the name, and of none that refers to nothing.
+record AreTested (l : Layout) (user target : Kind) (test : List ℕ → In user → Bool) : Type 0 where
+  by_slot : (name : List ℕ) (i : ℕ) (a : KindDef user) (at : ℕ) → Refers (to_def user a) target at → test name (value_of user l i a) ≡ bytes_eq (name_at (name_in target) at (table_of target l.definitions)) name
+  refers : (name : List ℕ) (i : ℕ) (a : KindDef user) → test name (value_of user l i a) ≡ true → (at : ℕ) × Refers (to_def user a) target at
+
+module _ (l : Layout) (sound : IsSound l) (user target : Kind) (test : List ℕ → In user → Bool) (tested : AreTested l user target test) (slot : ℕ) (name : List ℕ) (is : slot_of name (slots target l.definitions) ≡ Some slot) where
+  abbrev in_use : Bool
+  in_use = list_any (test name) (values (named_in user l))
+
+  user_low : (i : ℕ) (a : KindDef user) → at_slot i (table_of user l.definitions) ≡ Some a → i < limit user
+  user_low i a here = omega (arith, within_table (table_of user l.definitions) i a here, (table-rules l.definitions sound.definitions.tables user).size)
+
+  name_used : (i : ℕ) (a : KindDef user) → at_slot i (table_of user l.definitions) ≡ Some a → Refers (to_def user a) target slot → in_use ≡ true
+  name_used i a here refers =
+      let named = name_there (name_in target) (to_def target) (λ r. refl) (table_of target l.definitions) name slot is in
+      any_values (test name) (entries (named_in user l))
+      ∙ any_here (name_in user) (value_of user l) (λ (e : List ℕ × In user). test name e.1) i a (table_of user l.definitions) (table-rules l.definitions sound.definitions.tables user).apart here
+      (tested.by_slot name i a slot refers ∙ same_bytes (name_at (name_in target) slot (table_of target l.definitions)) name named)
+
+  -- a slot that one of which the test is true refers to has the name
+  its_slot : (i : ℕ) (a : KindDef user) (at : ℕ) (b : KindDef target) → Refers (to_def user a) target at → test name (value_of user l i a) ≡ true → at_slot at (table_of target l.definitions) ≡ Some b → at ≡ slot
+  its_slot i a at b refers true_of there =
+      let its_name : name_at (name_in target) at (table_of target l.definitions) ≡ name_in target b = ap (λ (o : Option (KindDef target)). unwrap_or (option_map (name_in target) o) []) there in
+      let same : name_in target b ≡ name = sym its_name ∙ bytes_same (name_at (name_in target) at (table_of target l.definitions)) name (sym (tested.by_slot name i a at refers) ∙ true_of) in
+      let named : slot_of name (slots target l.definitions) ≡ Some at = ap (λ (n : List ℕ). slot_of n (slots target l.definitions)) (sym same) ∙ (name_stands target l at b sound there).named in
+      one_slot (slot_of name (slots target l.definitions)) at slot named is
+
+  used_here : (i : ℕ) (a : KindDef user) → at_slot i (table_of user l.definitions) ≡ Some a → test name (value_of user l i a) ≡ true → IsUsed target slot l.definitions
+  used_here i a there true_of =
+      let low = user_low i a there in
+      let here = filled_in (to_def user) i (table_of user l.definitions) a there in
+      let its = tested.refers name i a true_of in
+      let held = some_in (def_at target its.0 l.definitions) (each_there l.definitions (references (to_def user a)) target its.0 (sound.definitions.references user i (to_def user a) low here) its.1) in
+      let b = own (to_def target) its.0 (table_of target l.definitions) held.0 held.1 in
+      (user, (i, to_def user a, low, here, subst (λ (n : ℕ). Refers (to_def user a) target n) (its_slot i a its.0 b.0 its.1 true_of b.1) its.1))
+
+  name_user : in_use ≡ true → IsUsed target slot l.definitions
+  name_user some =
+      let there = any_there (name_in user) (value_of user l) (λ (e : List ℕ × In user). test name e.1) (table_of user l.definitions) (table-rules l.definitions sound.definitions.tables user).apart
+      (sym (any_values (test name) (entries (named_in user l))) ∙ some) in
+      used_here there.0 there.1 there.2 there.3
+
+-- a calendar by the name of its pattern
+part_by_slot : (d : Definitions) (c : CalendarDef) (by : Option ℕ) (name : List ℕ) (at : ℕ) → (let target : Kind × ℕ = (kinds.Pattern, at) in Contains (pattern_reference by) target) → is_named name (part_of d c by) ≡ bytes_eq (name_at (λ (p : PatternDef). p.name) at d.patterns) name
+part_by_slot d c None name at refers = absurd (nothing (kinds.Pattern, at) refers)
+part_by_slot d c (Some slot) name at refers = ap (λ (n : ℕ). bytes_eq (name_at (λ (p : PatternDef). p.name) n d.patterns) name) (one_place kinds.Pattern slot at refers)
+
+part_refers : (d : Definitions) (c : CalendarDef) (by : Option ℕ) (name : List ℕ) → is_named name (part_of d c by) ≡ true → (at : ℕ) × (let target : Kind × ℕ = (kinds.Pattern, at) in Contains (pattern_reference by) target)
+part_refers d c None name is = absurd (cc)
+part_refers d c (Some slot) name is = (slot, same_place slot kinds.Pattern)
+
+calendars_tested : (l : Layout) → AreTested l kinds.Calendar kinds.Pattern (λ name c. is_named name c.part)
+calendars_tested l = record {
+  by_slot = λ name i c at refers. part_by_slot l.definitions c c.by name at refers;
+  refers = λ name i c is. part_refers l.definitions c c.by name is;
+}
+
+-- a container by the name of its row type, and a series by that of its container
+containers_tested : (l : Layout) → AreTested l kinds.Container kinds.RowType (λ name c. bytes_eq c.row_type name)
+containers_tested l = record {
+  by_slot = λ name i c at refers. ap (λ (n : ℕ). bytes_eq (name_at (λ (r : RowTypeDef). r.name) n l.definitions.row_types) name) (one_place kinds.RowType c.row_type at refers);
+  refers = λ name i c is. (c.row_type, same_place c.row_type kinds.RowType);
+}
+
+series_tested : (l : Layout) → AreTested l kinds.Series kinds.Container (λ name s. bytes_eq s.container name)
+series_tested l = record {
+  by_slot = λ name i s at refers. ap (λ (n : ℕ). bytes_eq (name_at (λ (c : ContainerDef). c.name) n l.definitions.containers) name) (one_place kinds.Container s.container at refers);
+  refers = λ name i s is. (s.container, same_place s.container kinds.Container);
+}
+
+-- a calendar refers to a pattern alone, a container to a row type, a series to a container
+pattern_alone : (kind : Kind) (slot : ℕ) (by : Option ℕ) → (let target : Kind × ℕ = (kind, slot) in Contains (pattern_reference by) target) → kinds.Pattern ≡ kind
+pattern_alone kind slot None refers = absurd (nothing (kind, slot) refers)
+pattern_alone kind slot (Some at) refers = kind_alone kinds.Pattern kind at slot refers
+
+-- what a definition of a kind refers to, is used by its name
+used_at : (user kind : Kind) (slot : ℕ) (name : List ℕ) (l : Layout) → IsSound l → slot_of name (slots kind l.definitions) ≡ Some slot → (i : ℕ) (a : KindDef user) → at_slot i (table_of user l.definitions) ≡ Some a → Refers (to_def user a) kind slot
+    → is_used kind name (catalogue_of l) ≡ true
+used_at kinds.RowType kind slot name l sound is i r here refers = absurd (nothing (kind, slot) refers)
+used_at kinds.Pattern kind slot name l sound is i p here refers = absurd (nothing (kind, slot) refers)
+used_at kinds.Calendar kind slot name l sound is i c here refers =
+    subst (λ (k : Kind). slot_of name (slots k l.definitions) ≡ Some slot → Refers (to_def kinds.Calendar c) k slot → is_used k name (catalogue_of l) ≡ true) (pattern_alone kind slot c.by refers)
+    (λ found there. name_used l sound kinds.Calendar kinds.Pattern (λ n x. is_named n x.part) (calendars_tested l) slot name found i c here there) is refers
+used_at kinds.Container kind slot name l sound is i c here refers =
+    subst (λ (k : Kind). slot_of name (slots k l.definitions) ≡ Some slot → Refers (to_def kinds.Container c) k slot → is_used k name (catalogue_of l) ≡ true) (kind_alone kinds.RowType kind c.row_type slot refers)
+    (λ found there. name_used l sound kinds.Container kinds.RowType (λ n x. bytes_eq x.row_type n) (containers_tested l) slot name found i c here there) is refers
+used_at kinds.Series kind slot name l sound is i s here refers =
+    subst (λ (k : Kind). slot_of name (slots k l.definitions) ≡ Some slot → Refers (to_def kinds.Series s) k slot → is_used k name (catalogue_of l) ≡ true) (kind_alone kinds.Container kind s.container slot refers)
+    (λ found there. name_used l sound kinds.Series kinds.Container (λ n x. bytes_eq x.container n) (series_tested l) slot name found i s here there) is refers
+
+pub used_by_name : (kind : Kind) (slot : ℕ) (name : List ℕ) (l : Layout) → IsSound l → slot_of name (slots kind l.definitions) ≡ Some slot → IsUsed kind slot l.definitions → is_used kind name (catalogue_of l) ≡ true
+used_by_name kind slot name l sound is (user, (i, def, low, here, refers)) =
+    let o = own (to_def user) i (table_of user l.definitions) def here in
+    used_at user kind slot name l sound is i o.0 o.1 (subst (λ (x : Def). Refers x kind slot) (sym o.2) refers)
 
 -- and the other way round
 pub used_by_slot : (kind : Kind) (slot : ℕ) (name : List ℕ) (l : Layout) → IsSound l → slot_of name (slots kind l.definitions) ≡ Some slot → is_used kind name (catalogue_of l) ≡ true → IsUsed kind slot l.definitions
-used_by_slot kinds.RowType slot name l sound is some =
-    let user = name_user l sound kinds.Container kinds.RowType (λ c. c.row_type) (λ c. c.row_type) (λ a. first_of (kinds.RowType, a.row_type) (kinds.RowType, a.row_type) [] refl) (λ n a. refl) slot name is some in
-    user_of l sound kinds.Container kinds.RowType (λ c. c.row_type) (λ c. c.row_type) (λ a. first_of (kinds.RowType, a.row_type) (kinds.RowType, a.row_type) [] refl) (λ n a. refl) slot name is user.0 user.1 user.2 user.3
-used_by_slot kinds.Container slot name l sound is some =
-    let user = name_user l sound kinds.Series kinds.Container (λ s. s.container) (λ s. s.container) (λ a. first_of (kinds.Container, a.container) (kinds.Container, a.container) [] refl) (λ n a. refl) slot name is some in
-    user_of l sound kinds.Series kinds.Container (λ s. s.container) (λ s. s.container) (λ a. first_of (kinds.Container, a.container) (kinds.Container, a.container) [] refl) (λ n a. refl) slot name is user.0 user.1 user.2 user.3
+used_by_slot kinds.RowType slot name l sound is some = name_user l sound kinds.Container kinds.RowType (λ n x. bytes_eq x.row_type n) (containers_tested l) slot name is some
+used_by_slot kinds.Pattern slot name l sound is some = name_user l sound kinds.Calendar kinds.Pattern (λ n x. is_named n x.part) (calendars_tested l) slot name is some
+used_by_slot kinds.Calendar slot name l sound is some = absurd (cc)
+used_by_slot kinds.Container slot name l sound is some = name_user l sound kinds.Series kinds.Container (λ n x. bytes_eq x.container n) (series_tested l) slot name is some
 used_by_slot kinds.Series slot name l sound is some = absurd (cc)
 
 pub unused_by_name : (kind : Kind) (slot : ℕ) (name : List ℕ) (l : Layout) → IsSound l → slot_of name (slots kind l.definitions) ≡ Some slot → (IsUsed kind slot l.definitions → ⊥) → is_used kind name (catalogue_of l) ≡ false

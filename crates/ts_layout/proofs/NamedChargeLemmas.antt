@@ -22,9 +22,10 @@ use Rattle.ts_model.proofs.OrderLemmas.{total, same_name, eq_ties, ties-refl, ti
 use Rattle.ts_model.proofs.SlotLemmas.{AreApart, apart-rest, find-other, find-slot}
 use Rattle.ts_model.proofs.IndexLemmas.{empty-list}
 use Rattle.ts_layout.specs.Meaning.{Layout, elements_of, elements_at, heading_of_container, heading_at, heading_in, AreSound, IsSound, sum_filled, charge_of_series, charge_of_container, name_at, container_of, series_of, catalogue_of}
-use Rattle.ts_layout.specs.Chains.{AreFilled}
+use Rattle.ts_layout.specs.Chains.{AreFilled, with_elements_at}
 use Rattle.ts_layout.proofs.PageLemmas.{sum_same}
-use Rattle.ts_layout.proofs.NamedLemmas.{slot_within, insert_removed}
+use Rattle.ts_layout.proofs.LayoutLemmas.{within_table}
+use Rattle.ts_layout.proofs.NamedLemmas.{insert_removed}
 use Rattle.ts_layout.proofs.ChainCountLemmas.{len_elements}
 use Rattle.ts_layout.proofs.UsedLemmas.{has_container}
 
@@ -127,7 +128,7 @@ one_named : (l : Layout) (slot j : ℕ) (s : SeriesDef) (c : ContainerDef) (h : 
     → cond (bytes_eq (name_at (λ x. x.name) s.container l.definitions.containers) c.name) (series_charge (catalogue_of l) (series_of l (0 + j) s)) 0 ≡ charge_of_series l.element_pages slot (page_room h.columns) (0 + j) s
 one_named l slot j s c h rules there heading here =
     let sound = rules.definitions in
-    let within : j < 4096 = let z = slot_within l.definitions.series j s here in omega (arith, z, sound.tables.series.size) in
+    let within : j < 4096 = let z = within_table l.definitions.series j s here in omega (arith, z, sound.tables.series.size) in
     let own = has_container l.definitions sound.references j s within here in
     let name : name_at (λ x. x.name) s.container l.definitions.containers ≡ own.0.name = ap (λ (o : Option ContainerDef). unwrap_or (option_map (λ x. x.name) o) []) own.1 in
     let cost : ℕ = irregular_charge (page_room h.columns) (length (elements_of (0 + j) l.element_pages)) in
@@ -178,7 +179,7 @@ set_total w m k x =
 
 -- what a container is charged where one of its series has other elements
 pub charge_with : (l : Layout) (pages slot : ℕ) (s : SeriesDef) (c : ContainerDef) (h : Heading) (es : Elements) → AreSound pages l.definitions → at_slot slot l.definitions.series ≡ Some s → at_slot s.container l.definitions.containers ≡ Some c → heading_of_container l.definitions c ≡ Some h
-    → charge_by_name c.name (record (catalogue_of l) { series = insert (catalogue_of l).series s.key (record (series_of l slot s) { elements = es }) }) + irregular_charge (page_room h.columns) (len (elements_at slot l.element_pages))
+    → charge_by_name c.name (with_elements_at slot s es l) + irregular_charge (page_room h.columns) (len (elements_at slot l.element_pages))
     ≡ charge_by_name c.name (catalogue_of l) + irregular_charge (page_room h.columns) (len es)
 charge_with l pages slot s c h es sound here there heading =
     let cat : Catalogue = catalogue_of l in

@@ -1,5 +1,5 @@
 -- Where slots stand, and what changes with one.
-use Rattle.std.proofs.Common.{◌≡◌, ◌≢◌, ℕ, zero, suc, ◌+◌, ◌-◌, ◌*◌, ◌/◌, ◌%◌, ◌<◌, ◌≤◌, ◌==◌, true, false, nat_lt, min, Option, Some, None, List, [], ◌∷◌, map, length, set, refl, sym, ap, ◌∙◌, arith, get_or-set_same, get_or-set_other, length-set, subst, lit<, lit≤, inl, inr}
+use Rattle.std.proofs.Common.{◌≡◌, ◌≢◌, ℕ, zero, suc, ◌+◌, ◌-◌, ◌*◌, ◌/◌, ◌%◌, ◌<◌, ◌≤◌, ◌==◌, true, false, nat_lt, nat_le, min, Option, Some, None, List, [], ◌∷◌, map, length, set, refl, sym, ap, ◌∙◌, arith, get_or-set_same, get_or-set_other, length-set, subst, lit<, lit≤, inl, inr}
 use Rattle.std.specs.Option.{option_map, option_and_then}
 use Rattle.std.proofs.lemmas.Bool.Decides.{nat_tests}
 use Rattle.std.proofs.lemmas.Bool.{cases_lt}
@@ -71,12 +71,28 @@ length-with_slot kind kind' slot o d =
 -- two slots of one rank are one
 pub rank_one : (kind kind' : Kind) (slot slot' : ℕ) → slot < limit kind → slot' < limit kind' → rank kind slot ≡ rank kind' slot' → (kind ≡ kind') × (slot ≡ slot')
 rank_one kinds.RowType kinds.RowType slot slot' is is' same = (refl, same)
+rank_one kinds.RowType kinds.Pattern slot slot' is is' same = absurd (omega arith)
+rank_one kinds.RowType kinds.Calendar slot slot' is is' same = absurd (omega arith)
 rank_one kinds.RowType kinds.Container slot slot' is is' same = absurd (omega arith)
 rank_one kinds.RowType kinds.Series slot slot' is is' same = absurd (omega arith)
+rank_one kinds.Pattern kinds.RowType slot slot' is is' same = absurd (omega arith)
+rank_one kinds.Pattern kinds.Pattern slot slot' is is' same = (refl, omega arith)
+rank_one kinds.Pattern kinds.Calendar slot slot' is is' same = absurd (omega arith)
+rank_one kinds.Pattern kinds.Container slot slot' is is' same = absurd (omega arith)
+rank_one kinds.Pattern kinds.Series slot slot' is is' same = absurd (omega arith)
+rank_one kinds.Calendar kinds.RowType slot slot' is is' same = absurd (omega arith)
+rank_one kinds.Calendar kinds.Pattern slot slot' is is' same = absurd (omega arith)
+rank_one kinds.Calendar kinds.Calendar slot slot' is is' same = (refl, omega arith)
+rank_one kinds.Calendar kinds.Container slot slot' is is' same = absurd (omega arith)
+rank_one kinds.Calendar kinds.Series slot slot' is is' same = absurd (omega arith)
 rank_one kinds.Container kinds.RowType slot slot' is is' same = absurd (omega arith)
+rank_one kinds.Container kinds.Pattern slot slot' is is' same = absurd (omega arith)
+rank_one kinds.Container kinds.Calendar slot slot' is is' same = absurd (omega arith)
 rank_one kinds.Container kinds.Container slot slot' is is' same = (refl, omega arith)
 rank_one kinds.Container kinds.Series slot slot' is is' same = absurd (omega arith)
 rank_one kinds.Series kinds.RowType slot slot' is is' same = absurd (omega arith)
+rank_one kinds.Series kinds.Pattern slot slot' is is' same = absurd (omega arith)
+rank_one kinds.Series kinds.Calendar slot slot' is is' same = absurd (omega arith)
 rank_one kinds.Series kinds.Container slot slot' is is' same = absurd (omega arith)
 rank_one kinds.Series kinds.Series slot slot' is is' same = (refl, omega arith)
 
@@ -84,44 +100,51 @@ rank_one kinds.Series kinds.Series slot slot' is is' same = (refl, omega arith)
 row_types_in : (number : ℕ) → number < 321 → slots_in_page number ≡ record { kind = kinds.RowType; first = number - 257; count = 1 }
 row_types_in number below = let t : nat_lt number 321 ≡ true = grind (arith, nat_tests) in rw t refl
 
-none_in : (number : ℕ) → 321 ≤ number → number < 833 → slots_in_page number ≡ record { kind = kinds.RowType; first = 0; count = 0 }
-none_in number above below =
+patterns_in : (number : ℕ) → 321 ≤ number → number < 577 → slots_in_page number ≡ record { kind = kinds.Pattern; first = number - 321; count = 1 }
+patterns_in number above below =
     let f : nat_lt number 321 ≡ false = grind (arith, nat_tests) in
-    let t : nat_lt number 833 ≡ true = grind (arith, nat_tests) in
+    let t : nat_lt number 577 ≡ true = grind (arith, nat_tests) in
     rw (f, t) refl
+
+calendars_in : (number : ℕ) → 577 ≤ number → number < 833 → slots_in_page number ≡ record { kind = kinds.Calendar; first = number - 577; count = 1 }
+calendars_in number above below =
+    let f : nat_lt number 321 ≡ false = grind (arith, nat_tests) in
+    let g : nat_lt number 577 ≡ false = grind (arith, nat_tests) in
+    let t : nat_lt number 833 ≡ true = grind (arith, nat_tests) in
+    rw (f, g, t) refl
 
 series_in : (number : ℕ) → 834 ≤ number → slots_in_page number ≡ record { kind = kinds.Series; first = 43 * (number - 834); count = min 43 (4096 - 43 * (number - 834)) }
 series_in number above =
     let f : nat_lt number 321 ≡ false = grind (arith, nat_tests) in
-    let g : nat_lt number 833 ≡ false = grind (arith, nat_tests) in
-    let h : (number == 833) ≡ false = grind (arith, nat_tests) in
-    rw (f, g, h) refl
+    let g : nat_lt number 577 ≡ false = grind (arith, nat_tests) in
+    let h : nat_lt number 833 ≡ false = grind (arith, nat_tests) in
+    let o : (number == 833) ≡ false = grind (arith, nat_tests) in
+    rw (f, g, h, o) refl
 
-rank_row_types : (number : ℕ) → number < 321 → rank_of_page number ≡ number - 257
-rank_row_types number below = let t : nat_lt number 321 ≡ true = grind (arith, nat_tests) in rw t refl
+rank_single : (number : ℕ) → number ≤ 833 → rank_of_page number ≡ number - 257
+rank_single number below = let t : nat_le number 833 ≡ true = grind (arith, nat_tests) in rw t refl
 
-rank_middle : (number : ℕ) → 321 ≤ number → number < 834 → rank_of_page number ≡ 64
-rank_middle number above below =
-    let f : nat_lt number 321 ≡ false = grind (arith, nat_tests) in
-    let t : nat_lt number 834 ≡ true = grind (arith, nat_tests) in
-    rw (f, t) refl
+rank_series : (number : ℕ) → 834 ≤ number → rank_of_page number ≡ 640 + min (43 * (number - 834)) 4096
+rank_series number above = let f : nat_le number 833 ≡ false = grind (arith, nat_tests) in rw f refl
 
-rank_series : (number : ℕ) → 834 ≤ number → rank_of_page number ≡ 128 + min (43 * (number - 834)) 4096
-rank_series number above =
-    let f : nat_lt number 321 ≡ false = grind (arith, nat_tests) in
-    let g : nat_lt number 834 ≡ false = grind (arith, nat_tests) in
-    rw (f, g) refl
-
--- a fact of each definition page, by the four ranges of their numbers
-by_range : (P : ℕ → Type 0) → ((n : ℕ) → 257 ≤ n → n < 321 → P n) → ((n : ℕ) → 321 ≤ n → n < 833 → P n) → P 833 → ((n : ℕ) → 834 ≤ n → n < 930 → P n) → (number : ℕ) → 257 ≤ number → number < 930 → P number
-by_range P rows none middle series number low high =
+-- a fact of each definition page by the slots in it, by the five ranges of their numbers
+by_range : (P : ℕ → Slots → Type 0) → ((n : ℕ) → 257 ≤ n → n < 321 → P n (record { kind = kinds.RowType; first = n - 257; count = 1 }))
+    → ((n : ℕ) → 321 ≤ n → n < 577 → P n (record { kind = kinds.Pattern; first = n - 321; count = 1 }))
+    → ((n : ℕ) → 577 ≤ n → n < 833 → P n (record { kind = kinds.Calendar; first = n - 577; count = 1 }))
+    → P 833 (slots_in_page 833)
+    → ((n : ℕ) → 834 ≤ n → n < 930 → P n (record { kind = kinds.Series; first = 43 * (n - 834); count = min 43 (4096 - 43 * (n - 834)) }))
+    → (number : ℕ) → 257 ≤ number → number < 930 → P number (slots_in_page number)
+by_range P rows patterns calendars middle series number low high =
     elim (cases_lt number 321) [
-      | inl below ↦ rows number low below
-      | inr above ↦ elim (cases_lt number 833) [
-        | inl below ↦ none number above below
-        | inr above' ↦ elim (cases_lt number 834) [
-          | inl below ↦ subst P (let e : 833 ≡ number = omega arith in e) middle
-          | inr past ↦ series number past high
+      | inl below ↦ subst (P number) (sym (row_types_in number below)) (rows number low below)
+      | inr above ↦ elim (cases_lt number 577) [
+        | inl below ↦ subst (P number) (sym (patterns_in number above below)) (patterns number above below)
+        | inr above' ↦ elim (cases_lt number 833) [
+          | inl below ↦ subst (P number) (sym (calendars_in number above' below)) (calendars number above' below)
+          | inr above'' ↦ elim (cases_lt number 834) [
+            | inl below ↦ subst (λ (n : ℕ). P n (slots_in_page n)) (let e : 833 ≡ number = omega arith in e) middle
+            | inr past ↦ subst (P number) (sym (series_in number past)) (series number past high)
+          ]
         ]
       ]
     ]
@@ -135,56 +158,52 @@ pub record Stands (on : Slots) (number k : ℕ) : Type 0 where
 
 pub stands : (number k : ℕ) → 257 ≤ number → number < 930 → k < (slots_in_page number).count → Stands (slots_in_page number) number k
 stands number k low high =
-    by_range (λ n. k < (slots_in_page n).count → Stands (slots_in_page n) n k)
-    (λ n above below. subst (λ (on : Slots). k < on.count → Stands on n k) (sym (row_types_in n below))
-    (λ one. record { within = omega arith; page = omega arith; byte = omega arith; rank = omega (arith, rank_row_types n below) }))
-    (λ n above below. subst (λ (on : Slots). k < on.count → Stands on n k) (sym (none_in n above below)) (λ none. absurd (omega arith)))
-    (λ few. record { within = omega arith; page = refl; byte = omega arith; rank = omega (arith, rank_middle 833 (lit≤ tt) (lit< tt)) })
-    (λ n above below. subst (λ (on : Slots). k < on.count → Stands on n k) (sym (series_in n above))
-    (λ few. record { within = omega arith; page = omega arith; byte = omega arith; rank = omega (arith, rank_series n above) }))
+    by_range (λ n on. k < on.count → Stands on n k)
+    (λ n above below one. record { within = omega arith; page = omega arith; byte = omega arith; rank = omega (arith, rank_single n (omega arith)) })
+    (λ n above below one. record { within = omega arith; page = omega arith; byte = omega arith; rank = omega (arith, rank_single n (omega arith)) })
+    (λ n above below one. record { within = omega arith; page = omega arith; byte = omega arith; rank = omega (arith, rank_single n (omega arith)) })
+    (λ few. record { within = omega arith; page = refl; byte = omega arith; rank = omega arith })
+    (λ n above below few. record { within = omega arith; page = omega arith; byte = omega arith; rank = omega (arith, rank_series n above) })
     number low high
 
 -- the page after one goes on where that one ends
 pub rank_next : (number : ℕ) → 257 ≤ number → number < 930 → rank_of_page (number + 1) ≡ rank_of_page number + (slots_in_page number).count
 rank_next number low high =
-    by_range (λ n. rank_of_page (n + 1) ≡ rank_of_page n + (slots_in_page n).count)
-    (λ n above below. subst (λ (on : Slots). rank_of_page (n + 1) ≡ rank_of_page n + on.count) (sym (row_types_in n below)) (next_row_type n above below))
-    (λ n above below. subst (λ (on : Slots). rank_of_page (n + 1) ≡ rank_of_page n + on.count) (sym (none_in n above below))
-    (omega (arith, rank_middle n above (omega arith), rank_middle (n + 1) (omega arith) (omega arith))))
-    (omega (arith, rank_middle 833 (lit≤ tt) (lit< tt), rank_series 834 (lit≤ tt)))
-    (λ n above below. subst (λ (on : Slots). rank_of_page (n + 1) ≡ rank_of_page n + on.count) (sym (series_in n above))
-    (omega (arith, rank_series n above, rank_series (n + 1) (omega arith))))
+    by_range (λ n on. rank_of_page (n + 1) ≡ rank_of_page n + on.count)
+    (λ n above below. next_single n above (omega arith))
+    (λ n above below. next_single n (omega arith) (omega arith))
+    (λ n above below. next_single n (omega arith) below)
+    (omega (arith, rank_series 834 (lit≤ tt)))
+    (λ n above below. omega (arith, rank_series n above, rank_series (n + 1) (omega arith)))
     number low high where
-      next_row_type : (n : ℕ) → 257 ≤ n → n < 321 → rank_of_page (n + 1) ≡ rank_of_page n + 1
-      next_row_type n above below =
-          elim (cases_lt (n + 1) 321) [
-            | inl below' ↦ omega (arith, rank_row_types n below, rank_row_types (n + 1) below')
-            | inr last ↦ omega (arith, rank_row_types n below, rank_middle (n + 1) last (omega arith))
-          ]
+      next_single : (n : ℕ) → 257 ≤ n → n < 833 → rank_of_page (n + 1) ≡ rank_of_page n + 1
+      next_single n above below = omega (arith, rank_single n (omega arith), rank_single (n + 1) (omega arith))
 
 -- the slots in a page fit it
 pub fits_page : (number : ℕ) → 257 ≤ number → number < 930 → slot_size (slots_in_page number).kind * (slots_in_page number).count ≤ 4096
 fits_page number low high =
-    by_range (λ n. slot_size (slots_in_page n).kind * (slots_in_page n).count ≤ 4096)
-    (λ n above below. subst (λ (on : Slots). slot_size on.kind * on.count ≤ 4096) (sym (row_types_in n below)) (lit≤ tt))
-    (λ n above below. subst (λ (on : Slots). slot_size on.kind * on.count ≤ 4096) (sym (none_in n above below)) (lit≤ tt))
-    (lit≤ tt)
-    (λ n above below. subst (λ (on : Slots). slot_size on.kind * on.count ≤ 4096) (sym (series_in n above)) (omega arith))
-    number low high
+    by_range (λ n on. slot_size on.kind * on.count ≤ 4096) (λ n above below. lit≤ tt) (λ n above below. lit≤ tt) (λ n above below. lit≤ tt) (lit≤ tt)
+    (λ n above below. omega arith) number low high
 
 -- the page of a slot is a definition page
 pub page_low : (kind : Kind) (slot : ℕ) → 257 ≤ page_of_slot kind slot
 page_low kinds.RowType slot = omega arith
+page_low kinds.Pattern slot = omega arith
+page_low kinds.Calendar slot = omega arith
 page_low kinds.Container slot = lit≤ tt
 page_low kinds.Series slot = omega arith
 
 pub page_high : (kind : Kind) (slot : ℕ) → slot < limit kind → page_of_slot kind slot < 930
 page_high kinds.RowType slot within = omega arith
+page_high kinds.Pattern slot within = omega arith
+page_high kinds.Calendar slot within = omega arith
 page_high kinds.Container slot within = lit< tt
 page_high kinds.Series slot within = omega arith
 
 -- each slot has its bytes in its page, in front of what is behind all slots there
 pub slot_end : (kind : Kind) (slot : ℕ) → slot < limit kind → byte_of_slot kind slot + slot_size kind ≤ slot_size (slots_in_page (page_of_slot kind slot)).kind * (slots_in_page (page_of_slot kind slot)).count
 slot_end kinds.RowType slot within = subst (λ (on : Slots). 4096 ≤ slot_size on.kind * on.count) (sym (row_types_in (257 + slot) (omega arith))) (lit≤ tt)
+slot_end kinds.Pattern slot within = subst (λ (on : Slots). 4096 ≤ slot_size on.kind * on.count) (sym (patterns_in (321 + slot) (omega arith) (omega arith))) (lit≤ tt)
+slot_end kinds.Calendar slot within = subst (λ (on : Slots). 4096 ≤ slot_size on.kind * on.count) (sym (calendars_in (577 + slot) (omega arith) (omega arith))) (lit≤ tt)
 slot_end kinds.Container slot within = omega arith
 slot_end kinds.Series slot within = subst (λ (on : Slots). 94 * (slot % 43) + 94 ≤ slot_size on.kind * on.count) (sym (series_in (834 + slot / 43) (omega arith))) (omega arith)

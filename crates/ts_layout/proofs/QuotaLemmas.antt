@@ -20,8 +20,7 @@ use Rattle.ts_layout.specs.Held.{IsHeldOf}
 use Rattle.ts_layout.specs.Placed.{AreKept}
 use Rattle.ts_layout.proofs.ChargeLemmas.{room_some}
 use Rattle.ts_layout.proofs.ShapeLemmas.{charge_same, quotas_listed}
-use Rattle.ts_layout.proofs.LayoutLemmas.{chained}
-use Rattle.ts_layout.proofs.NamedLemmas.{slot_within}
+use Rattle.ts_layout.proofs.LayoutLemmas.{chained, within_table}
 use Rattle.ts_layout.proofs.ChainCountLemmas.{IsPlaceAt, counted, its_places, places_charged}
 use Rattle.ts_layout.proofs.UsedLemmas.{IsCharged, AreCharged, used_more}
 use Rattle.ts_layout.proofs.HeldLemmas.{free_left}
@@ -75,7 +74,7 @@ layout_charged l space sound filled lists slot within = elim (heading_or (headin
       let d = l.definitions in
       let s = chained (λ (x : SeriesDef). heading_in d x.container) (at_slot slot d.series) some.0 some.1 in
       let c = chained (heading_of_container d) (at_slot s.0.container d.containers) some.0 s.2 in
-      let small : s.0.container < 64 = let z = slot_within d.containers s.0.container c.0 c.1 in omega (arith, z, sound.definitions.tables.containers.size) in
+      let small : s.0.container < 64 = let z = within_table d.containers s.0.container c.0 c.1 in omega (arith, z, sound.definitions.tables.containers.size) in
       let room = room_some d sound.definitions.limits s.0.container c.0 some.0 small c.1 c.2 in
       inr (record {
         series = s.0;

@@ -23,7 +23,7 @@ use Rattle.ts_layout.specs.Changed.{layout_with, CanMake, CanDrop, HasNoPage}
 use Rattle.ts_layout.specs.Charges.{charge_listed, charges_listed, container_charge, KeepQuotas}
 use Rattle.ts_layout.specs.Placed.{IsPlaceIn, ArePlaced, AreKept}
 use Rattle.ts_layout.proofs.LayoutLemmas.{none≢some}
-use Rattle.ts_layout.proofs.ChangedLemmas.{heading_stays, changed_columns, container_before, no_series_stands, made_unused, made_pageless, made_sound, dropped_within, dropped_pageless, dropped_sound}
+use Rattle.ts_layout.proofs.ChangedLemmas.{heading_stays, changed_columns, filled_before, no_series_stands, made_unused, made_pageless, made_sound, dropped_within, dropped_pageless, dropped_sound}
 use Rattle.ts_layout.proofs.PlacedLemmas.{kept_defined, placed_same, placed_moved, placed_without, places_moved}
 use Rattle.ts_layout.proofs.QuotaLemmas.{quotas_put}
 use Rattle.ts_layout.proofs.NamedChargeLemmas.{columns_there}
@@ -93,6 +93,8 @@ series_quotas d space space' slot o rules kept none others k small c h there hea
 -- what containers are charged where a slot changes: no more, where a series that changes has no place
 changed_less : (kind : Kind) (slot : ℕ) (o : Option Def) (d : Definitions) (space : Directory) (k room : ℕ) → IsDefinitions d → (kind ≡ kinds.Series → places_of slot space ≡ []) → container_charge (with_slot kind slot o d) space k room ≤ container_charge d space k room
 changed_less kinds.RowType slot o d space k room rules none = omega arith
+changed_less kinds.Pattern slot o d space k room rules none = omega arith
+changed_less kinds.Calendar slot o d space k room rules none = omega arith
 changed_less kinds.Container slot o d space k room rules none = omega arith
 changed_less kinds.Series slot o d space k room rules none = series_charges d space space slot (option_and_then (from_def kinds.Series) o) rules (none refl) (λ t low other. refl) k room
 
@@ -122,7 +124,7 @@ module _ (l : Layout) (sound : IsSound l) (space : Directory) (free : List ℕ) 
       kept_defined l.definitions d' space free count kept (rules_then d' then_sound.definitions) (changed_columns kind slot o l sound unused pageless)
       (λ k small c g there heading.
       let less = changed_less kind slot o l.definitions space k (page_room g.columns) sound.definitions.tables placeless in
-      elim (container_before kind slot o l sound unused pageless k c there) [
+      elim (filled_before kind slot o l sound unused pageless kinds.Container k c there) [
         | inl old ↦
             let before = kept.quotas k small c g old (sym (heading_stays kind slot o l sound unused pageless k c old) ∙ heading) in
             omega (arith, less, before)

@@ -8,7 +8,7 @@ use Rattle.ts_row.specs.RowType.{Heading}
 use Rattle.ts_model.specs.declared.kind.Kind.{Kind}
 use Rattle.ts_model.specs.declared.kind.Kind.TheVariants as kinds
 use Rattle.ts_model.specs.declared.def.Def.{Def}
-use Rattle.ts_model.specs.Definitions.{Definitions, RowTypeDef, ContainerDef, SeriesDef, of_row_type, of_container, of_series, kind_of, limit, slots, at_slot, with_slot, references, IsUsed, IsDefinitions}
+use Rattle.ts_model.specs.Definitions.{Definitions, RowTypeDef, PatternDef, CalendarDef, ContainerDef, SeriesDef, of_row_type, of_pattern, of_calendar, of_container, of_series, kind_of, limit, slots, at_slot, with_slot, references, pattern_reference, Refers, IsUsed, IsDefinitions}
 use Rattle.ts_model.proofs.PartsLemmas.{format-stays}
 use Rattle.ts_layout.specs.Limits.{IsDef, IsSlotOf}
 use Rattle.ts_layout.specs.Meaning.{def_at, heading_at, KeepLimits, IsThere, AreThere}
@@ -49,6 +49,18 @@ each_there d [] kind slot there (k, below, is) = absurd (omega (arith, below))
 each_there d (t ∷ rest) kind slot there (zero, below, is) = subst (λ (p : Kind × ℕ). IsSome (def_at p.0 p.1 d)) is there.0
 each_there d (t ∷ rest) kind slot there (suc k, below, is) = each_there d rest kind slot there.1 (k, omega (arith, below), is)
 
+-- a calendar that was made by a pattern's name refers to that pattern
+pub calendar_target : (c : CalendarDef) (at : ℕ) → c.by ≡ Some at → Refers (of_calendar c) kinds.Pattern at
+calendar_target c at is = subst (λ (by : Option ℕ). let target : Kind × ℕ = (kinds.Pattern, at) in Contains (pattern_reference by) target) (sym is) (first_of (kinds.Pattern, at) (kinds.Pattern, at) [] refl)
+
+-- the pattern by whose name a calendar was made
+pub calendar_refers : (d : Definitions) → IsDefinitions d → AreThere d → (i : ℕ) (c : CalendarDef) (at : ℕ) → at_slot i d.calendars ≡ Some c → c.by ≡ Some at → (p : PatternDef) × (at_slot at d.patterns ≡ Some p)
+calendar_refers d rules there i c at here is =
+    let within : i < 256 = omega (arith, within_table d.calendars i c here, rules.calendars.size) in
+    let some = some_in (def_at kinds.Pattern at d) (each_there d (references (of_calendar c)) kinds.Pattern at (there kinds.Calendar i (of_calendar c) within (filled_in of_calendar i d.calendars c here)) (calendar_target c at is)) in
+    let mine = own of_pattern at d.patterns some.0 some.1 in
+    (mine.0, mine.1)
+
 -- a container's row type
 pub container_refers : (d : Definitions) → IsDefinitions d → AreThere d → (i : ℕ) (c : ContainerDef) → at_slot i d.containers ≡ Some c → (r : RowTypeDef) × (at_slot c.row_type d.row_types ≡ Some r)
 container_refers d rules there i c here =
@@ -82,7 +94,7 @@ within_kind d rules kind slot some =
 
 -- one slot filled
 module _ (kind : Kind) (slot : ℕ) (def : Def) (d : Definitions) (within : slot < limit kind) (is : kind_of def ≡ kind) (rules : IsDefinitions d) where
-  filled_here : def_at kind slot (with_slot kind slot (Some def) d) ≡ Some def
+  pub filled_here : def_at kind slot (with_slot kind slot (Some def) d) ≡ Some def
   filled_here = def_at-with_slot kind slot def d is (omega (arith, within, sizes d rules kind))
 
   pub limits_filled : IsDef d.format def → KeepLimits d → KeepLimits (with_slot kind slot (Some def) d)
@@ -121,7 +133,7 @@ module _ (kind : Kind) (slot : ℕ) (def : Def) (d : Definitions) (within : slot
 
 -- one slot emptied
 module _ (kind : Kind) (slot : ℕ) (d : Definitions) (within : slot < limit kind) (rules : IsDefinitions d) where
-  cleared_here : def_at kind slot (with_slot kind slot None d) ≡ None
+  pub cleared_here : def_at kind slot (with_slot kind slot None d) ≡ None
   cleared_here = def_at-cleared kind slot d (omega (arith, within, sizes d rules kind))
 
   pub limits_cleared : KeepLimits d → KeepLimits (with_slot kind slot None d)

@@ -26,7 +26,7 @@ use Rattle.ts_layout.specs.Slot.{header_bytes}
 use Rattle.ts_layout.specs.Limits.{AreOfFormat}
 use Rattle.ts_layout.specs.Meaning.{ElementPage, Free, Cells, Layout, element_page, elements_of, elements_at, cells_of, HoldsElements, HoldsLayout, AreSound, IsInChain, AreInChains, IsSound, heading_at, charge_of_series, charge_of_container, name_at, series_of, catalogue_of}
 use Rattle.ts_layout.specs.Surveyed.{place_of, places_from, free_from, IsListOf, ListsPlaces}
-use Rattle.ts_layout.specs.Chains.{by_stamp, AreFilled, KeepsQuotaOf, freed, with_chain, rewritten}
+use Rattle.ts_layout.specs.Chains.{by_stamp, with_elements_at, AreFilled, KeepsQuotaOf, freed, with_chain, rewritten}
 use Rattle.ts_layout.specs.Held.{IsHeldOf, IsRewrittenIn}
 use Rattle.ts_layout.proofs.LayoutLemmas.{one_of}
 use Rattle.ts_layout.proofs.MemberLemmas.{Among, AreOnce, among_from, among_permuted, among_front, among_back, among_either, all_among, once_from, once_back, rest_permuted}
@@ -383,7 +383,7 @@ module _ (l : Layout) (space : Directory) (slot : ℕ) (h : Heading) (new : List
       λ k. record { container = name_at (λ c. c.name) s.container l.definitions.containers; elements = same k }
 
   catalogue_after : (s : SeriesDef) → at_slot slot l.definitions.series ≡ Some s
-      → catalogue_of (rewritten slot (pages_of new) chain l) ≡ record (catalogue_of l) { series = insert (catalogue_of l).series s.key (record (series_of l slot s) { elements = by_stamp (all_in chain) }) }
+      → catalogue_of (rewritten slot (pages_of new) chain l) ≡ with_elements_at slot s (by_stamp (all_in chain)) l
   catalogue_after s there =
       let table : List (Option SeriesDef) = l.definitions.series in
       let now : by_name (λ s. s.key) (series_of (rewritten slot (pages_of new) chain l)) table ≡ insert (by_name (λ s. s.key) (series_of l) table) s.key (series_of (rewritten slot (pages_of new) chain l) slot s) =
@@ -393,6 +393,8 @@ module _ (l : Layout) (space : Directory) (slot : ℕ) (h : Heading) (new : List
         format = l.definitions.format;
         pages = long k;
         row_types = (catalogue_of l).row_types;
+        patterns = (catalogue_of l).patterns;
+        calendars = (catalogue_of l).calendars;
         containers = (catalogue_of l).containers;
         series = whole k;
       }
@@ -409,5 +411,5 @@ pub rewritten_held : (l : Layout) (space space' : Directory) (slot : ℕ) (h : H
 rewritten_held l space space' slot h new chain v w r = held_after l space slot h new chain v w r space'
 
 pub rewritten_catalogue : (l : Layout) (space : Directory) (slot : ℕ) (h : Heading) (s : SeriesDef) (new : List Place) (chain : List (List Element)) (v w : Contents) → IsRewrittenIn slot h space new chain v w l → at_slot slot l.definitions.series ≡ Some s
-    → catalogue_of (rewritten slot (pages_of new) chain l) ≡ record (catalogue_of l) { series = insert (catalogue_of l).series s.key (record (series_of l slot s) { elements = by_stamp (all_in chain) }) }
+    → catalogue_of (rewritten slot (pages_of new) chain l) ≡ with_elements_at slot s (by_stamp (all_in chain)) l
 rewritten_catalogue l space slot h s new chain v w r = catalogue_after l space slot h new chain v w r s

@@ -3,7 +3,7 @@ use Rattle.std.proofs.Common.{◌≡◌, ◌≢◌, ℕ, zero, suc, ◌+◌, ◌
 use Rattle.std.specs.Prelude.{IsPermutation}
 use Rattle.std.specs.List.{flat_map}
 use Rattle.std.specs.Option.{option_and_then}
-use Rattle.std.specs.FinMap.{remove, from_entries}
+use Rattle.std.specs.FinMap.{remove}
 use Rattle.std.proofs.lemmas.Bool.{cases_eq}
 use Rattle.std.proofs.lemmas.List.{length-map}
 use Rattle.std.proofs.lemmas.List.Sorted.{IsPermutation-refl, IsPermutation-sym, IsPermutation-trans}
@@ -14,21 +14,21 @@ use Rattle.ts_space.specs.Place.{pages_of}
 use Rattle.ts_space.specs.Directory.{Directory, places_of}
 use Rattle.ts_space.specs.Charge.{irregular_charge}
 use Rattle.ts_cells.specs.Cell.{Element, page_room}
-use Rattle.ts_model.specs.Catalogue.{name_cmp, Series}
 use Rattle.ts_model.specs.declared.kind.Kind.TheVariants as kinds
-use Rattle.ts_model.specs.Definitions.{Definitions, SeriesDef, at_slot, with_slot, filled_from, by_name}
+use Rattle.ts_model.specs.Definitions.{Definitions, SeriesDef, at_slot, with_slot, by_name}
 use Rattle.ts_model.proofs.SlotLemmas.{by_name-clear}
 use Rattle.ts_layout.specs.Slot.{header_bytes}
 use Rattle.ts_layout.specs.Meaning.{ElementPage, Free, Cells, Layout, element_page, elements_of, elements_at, cells_of, heading_in, heading_at, HoldsDefinitions, HoldsElements, HoldsLayout, AreSound, AreInChains, IsSound, sum_filled, charge_of_series, charge_of_container, name_at, series_of, catalogue_of}
 use Rattle.ts_layout.specs.Surveyed.{places_from, free_from, IsListOf, ListsPlaces}
 use Rattle.ts_layout.specs.Chains.{by_stamp, AreFilled, AreAllFreed, freed, without_series}
 use Rattle.ts_layout.specs.Held.{IsHeldOf}
-use Rattle.ts_layout.proofs.ClearedLemmas.{heading_stays, none_some, still_there, sound_kept}
+use Rattle.ts_layout.proofs.ClearedLemmas.{heading_stays, sound_kept}
 use Rattle.ts_layout.proofs.PageLemmas.{HasNone, has_cells, freed_own, freed_other, page_freed, cells_before, filled_pages}
 use Rattle.ts_layout.proofs.MemberLemmas.{among_from, among_contains, among_permuted}
 use Rattle.ts_layout.proofs.PairLemmas.{Numbered, pairs_from, places_in, cells_in, numbers_in, places_from_in, cells_of_in, elements_of_in, pairs_freed_own, pairs_freed_other, pair_among, pair_only, place_numbers}
 use Rattle.ts_layout.proofs.HeldLemmas.{free_and_own}
-use Rattle.ts_layout.proofs.NamedLemmas.{filled_same}
+use Rattle.ts_layout.proofs.LayoutLemmas.{none≢some, within_table}
+use Rattle.ts_layout.proofs.FilledLemmas.{at_cleared, by_name_same}
 
 -- the pages and the places of every other series stay
 other_pairs : (slot s : ℕ) (pages : List ElementPage) → s ≢ slot → pairs_from s 930 (map (freed slot) pages) ≡ pairs_from s 930 pages
@@ -131,7 +131,7 @@ charge_less l slot container room =
 
 -- the chains after
 no_heading : (d : Definitions) (slot : ℕ) (h : Heading) → slot < length d.series → heading_at (with_slot kinds.Series slot None d) slot ≡ Some h → ⊥
-no_heading d slot h within there = none_some h (sym (ap (option_and_then (λ (x : SeriesDef). heading_in d x.container)) (get_or-set_same d.series slot None None within)) ∙ there)
+no_heading d slot h within there = none≢some None h refl (sym (ap (option_and_then (λ (x : SeriesDef). heading_in d x.container)) (get_or-set_same d.series slot None None within)) ∙ there)
 
 chains_dropped : (l : Layout) (slot : ℕ) → slot < 4096 → IsSound l → AreInChains (without_series slot l)
 chains_dropped l slot small sound s h there = elim (cases_eq s slot) [
@@ -168,16 +168,16 @@ series_kept l slot j s other =
 pub series_gone_catalogue : (l : Layout) (slot : ℕ) (s : SeriesDef) → IsSound l → at_slot slot l.definitions.series ≡ Some s → catalogue_of (without_series slot l) ≡ record (catalogue_of l) { series = remove (catalogue_of l).series s.key }
 series_gone_catalogue l slot s sound there =
     let table : List (Option SeriesDef) = l.definitions.series in
-    let same : filled_from (λ s. s.key) (series_of (without_series slot l)) 0 (set table slot None) ≡ filled_from (λ s. s.key) (series_of l) 0 (set table slot None) =
-    filled_same (λ s. s.key) (series_of (without_series slot l)) (series_of l) 0 (set table slot None) (λ j b here.
-    let at : 0 + j ≡ j = omega arith in
-    series_kept l slot (0 + j) b (λ is. (still_there table slot j b here).0 (sym at ∙ is))) in
+    let same : by_name (λ s. s.key) (series_of (without_series slot l)) (set table slot None) ≡ by_name (λ s. s.key) (series_of l) (set table slot None) =
+    by_name_same (λ s. s.key) (series_of (without_series slot l)) (series_of l) (set table slot None) (λ j b here. series_kept l slot j b (at_cleared table slot j b (within_table table slot s there) here).0) in
     let whole : by_name (λ s. s.key) (series_of (without_series slot l)) (set table slot None) ≡ remove (by_name (λ s. s.key) (series_of l) table) s.key =
-    ap (λ (es : List (List ℕ × Series)). from_entries {R = name_cmp} es) same ∙ by_name-clear (λ s. s.key) (series_of l) table slot s sound.definitions.tables.series.apart there in
+    same ∙ by_name-clear (λ s. s.key) (series_of l) table slot s sound.definitions.tables.series.apart there in
     λ k. record {
       format = l.definitions.format;
       pages = length-map l.element_pages (freed slot) k;
       row_types = (catalogue_of l).row_types;
+      patterns = (catalogue_of l).patterns;
+      calendars = (catalogue_of l).calendars;
       containers = (catalogue_of l).containers;
       series = whole k;
     }

@@ -1,5 +1,6 @@
--- No two definitions have one slot's bytes.
-use Rattle.std.proofs.Common.{◌≡◌, ℕ, ◌<◌, ◌≤◌, ◌^◌, Option, Some, None, List, [], ◌∷◌, ◌++◌, length, take, drop, get_or, ◌==◌, if◌then◌else◌, refl, sym, ap, ◌∙◌, arith, lit≤}
+-- No two definitions have one slot's bytes, but for the runs of calendars that were made by a pattern's name.
+use Rattle.std.proofs.Common.{◌≡◌, ◌≢◌, ℕ, ◌<◌, ◌≤◌, ◌^◌, Option, Some, None, List, [], ◌∷◌, ◌++◌, length, take, drop, get_or, ◌==◌, if◌then◌else◌, refl, sym, ap, ◌∙◌, arith, lit≤}
+use Rattle.std.specs.Option.{option_map}
 use Rattle.std.specs.Int.{w32, from_be_bytes}
 use Rattle.ts_page.specs.Head.{zero_page}
 use Rattle.ts_row.specs.RowType.{Heading}
@@ -10,19 +11,15 @@ use Rattle.ts_model.specs.declared.kind.Kind.{Kind}
 use Rattle.ts_model.specs.declared.kind.Kind.TheVariants as kinds
 use Rattle.ts_model.specs.declared.def.Def.{Def}
 use Rattle.ts_model.specs.declared.def.Def.TheVariants as defs
-use Rattle.ts_model.specs.Definitions.{kind_of}
-use Rattle.ts_layout.specs.Slot.{name_bytes, kind_bytes, column_bytes, columns_bytes, row_type_bytes, container_bytes, series_bytes, def_bytes, slot_bytes}
+use Rattle.ts_model.specs.Definitions.{PatternDef, CalendarDef, of_calendar, at_slot, kind_of}
+use Rattle.ts_layout.specs.Slot.{kind_bytes, column_bytes, columns_bytes, row_type_bytes, pattern_bytes, calendar_bytes, container_bytes, series_bytes, def_bytes, slot_bytes}
 use Rattle.ts_layout.specs.Limits.{IsRowTypeDef, IsContainerDef, IsSeriesDef, IsDef, IsSlotOf}
-use Rattle.ts_layout.proofs.FieldLemmas.{length-name, name_text, container_name, container_row_type, container_quota, series_length, series_key, series_container, row_type_name, row_type_stamp, row_type_count}
+use Rattle.ts_layout.specs.Meaning.{Follows}
+use Rattle.ts_layout.proofs.FieldLemmas.{length-name, name_one, container_name, container_row_type, container_quota, series_length, series_key, series_container, row_type_name, row_type_stamp, row_type_count}
 use Rattle.ts_layout.proofs.LimitLemmas.{length-key}
 use Rattle.ts_layout.proofs.ColumnLemmas.{AreNamed, first_column, named_first, named_others, column_kind, column_name, behind_stamp}
 use Rattle.ts_layout.proofs.SlotLemmas.{slot_filled}
-
--- of names
-name_one : (a b : List ℕ) → name_bytes a ≡ name_bytes b → a ≡ b
-name_one a b same =
-    let size : length a ≡ length b = ap (λ (l : List ℕ). get_or l 0 0) same in
-    sym (name_text a) ∙ (λ i. take (size i) (drop 1 (same i))) ∙ name_text b
+use Rattle.ts_layout.proofs.CalendarBytesLemmas.{as_written, pattern_one, calendar_written, calendar_one}
 
 -- of types of columns
 kind_in : ℕ → ℕ → ℕ → ColumnKind
@@ -98,33 +95,65 @@ series_one key container key' container' is is' same =
     let slots = sym (series_container key container short) ∙ ap (λ (l : List ℕ). get_or l 66 0) same ∙ series_container key' container' short' in
     λ i. defs.Series (keys i) (slots i)
 
--- of one kind
-def_one : (f g : ℕ) (kind : Kind) (a b : Def) → kind_of a ≡ kind → kind_of b ≡ kind → IsDef f a → IsDef g b → def_bytes a ≡ def_bytes b → a ≡ b
+-- of one kind, as they are written
+def_one : (f g : ℕ) (kind : Kind) (a b : Def) → kind_of a ≡ kind → kind_of b ≡ kind → IsDef f a → IsDef g b → def_bytes a ≡ def_bytes b → as_written a ≡ as_written b
 def_one f g kinds.RowType (defs.RowType name h) (defs.RowType name' h') is is' good good' same = row_type_one name h name' h' good good' same
+def_one f g kinds.Pattern (defs.Pattern name p) (defs.Pattern name' p') is is' good good' same = pattern_one name p name' p' good good' same
+def_one f g kinds.Calendar (defs.Calendar name c by) (defs.Calendar name' c' by') is is' good good' same = calendar_written name c by name' c' by' good good' same
 def_one f g kinds.Container (defs.Container name r q) (defs.Container name' r' q') is is' good good' same = container_one name r q name' r' q' good good' same
 def_one f g kinds.Series (defs.Series key c) (defs.Series key' c') is is' good good' same = series_one key c key' c' good good' same
 def_one f g kind a b is is' good good' same = absurd (cc)
 
 -- a definition's first byte isn't 0, an empty slot's is
 first_of_def : (def : Def) → 1 ≤ get_or (def_bytes def) 0 0
-unfolding row_type_bytes container_bytes series_bytes
+unfolding row_type_bytes pattern_bytes calendar_bytes container_bytes series_bytes
 first_of_def (defs.RowType name h) = lit≤ tt
+first_of_def (defs.Pattern name p) = lit≤ tt
+first_of_def (defs.Calendar name c by) = lit≤ tt
 first_of_def (defs.Container name row_type quota) = lit≤ tt
 first_of_def (defs.Series key container) = lit≤ tt
 
 first_of_empty : (kind : Kind) → get_or (slot_bytes kind None) 0 0 ≡ 0
 unfolding zero_page
 first_of_empty kinds.RowType = refl
+first_of_empty kinds.Pattern = refl
+first_of_empty kinds.Calendar = refl
 first_of_empty kinds.Container = refl
 first_of_empty kinds.Series = refl
 
 pub filled_first : (kind : Kind) (def : Def) → 1 ≤ get_or (slot_bytes kind (Some def)) 0 0
 filled_first kind def = omega (arith, first_of_def def, ap (λ (l : List ℕ). get_or l 0 0) (slot_filled kind def))
 
--- two slots with the same bytes are one, whatever the formats
-pub slot_one : (f g : ℕ) (kind : Kind) (a b : Option Def) → IsSlotOf f kind a → IsSlotOf g kind b → slot_bytes kind a ≡ slot_bytes kind b → a ≡ b
-slot_one f g kind None None is is' same = refl
-slot_one f g kind None (Some b) is is' same = absurd (omega (arith, first_of_empty kind, filled_first kind b, ap (λ (l : List ℕ). get_or l 0 0) same))
-slot_one f g kind (Some a) None is is' same = absurd (omega (arith, first_of_empty kind, filled_first kind a, ap (λ (l : List ℕ). get_or l 0 0) same))
-slot_one f g kind (Some a) (Some b) is is' same =
+-- two slots with the same bytes are one as they are written, whatever the formats
+pub slot_written : (f g : ℕ) (kind : Kind) (a b : Option Def) → IsSlotOf f kind a → IsSlotOf g kind b → slot_bytes kind a ≡ slot_bytes kind b → option_map as_written a ≡ option_map as_written b
+slot_written f g kind None None is is' same = refl
+slot_written f g kind None (Some b) is is' same = absurd (omega (arith, first_of_empty kind, filled_first kind b, ap (λ (l : List ℕ). get_or l 0 0) same))
+slot_written f g kind (Some a) None is is' same = absurd (omega (arith, first_of_empty kind, filled_first kind a, ap (λ (l : List ℕ). get_or l 0 0) same))
+slot_written f g kind (Some a) (Some b) is is' same =
     ap Some (def_one f g kind a b is.0 is'.0 is.1 is'.1 (sym (slot_filled kind a) ∙ same ∙ slot_filled kind b))
+
+-- so slots of all kinds but calendars are one
+pub slot_one : (f g : ℕ) (kind : Kind) (a b : Option Def) → kind ≢ kinds.Calendar → IsSlotOf f kind a → IsSlotOf g kind b → slot_bytes kind a ≡ slot_bytes kind b → a ≡ b
+slot_one f g kind a b other is is' same = sym (of_other kind a f other is) ∙ slot_written f g kind a b is is' same ∙ of_other kind b g other is' where
+  written_other : (def : Def) → kind_of def ≢ kinds.Calendar → as_written def ≡ def
+  written_other (defs.RowType name h) other = refl
+  written_other (defs.Pattern name p) other = refl
+  written_other (defs.Calendar name c by) other = absurd (other refl)
+  written_other (defs.Container name row_type quota) other = refl
+  written_other (defs.Series key container) other = refl
+
+  of_other : (kind : Kind) (o : Option Def) (f : ℕ) → kind ≢ kinds.Calendar → IsSlotOf f kind o → option_map as_written o ≡ o
+  of_other kind None f other is = refl
+  of_other kind (Some def) f other is = ap Some (written_other def (λ same. other (sym is.0 ∙ same)))
+
+-- and those of calendars where each follows a table of patterns, with the same pattern in the slot by which it was made
+pub calendar_slot_one : (f g : ℕ) (patterns patterns' : List (Option PatternDef)) (a b : Option CalendarDef) → IsSlotOf f kinds.Calendar (option_map of_calendar a) → IsSlotOf g kinds.Calendar (option_map of_calendar b)
+    → ((c : CalendarDef) → a ≡ Some c → Follows patterns c) → ((c : CalendarDef) → b ≡ Some c → Follows patterns' c) → ((slot : ℕ) → at_slot slot patterns ≡ at_slot slot patterns')
+    → slot_bytes kinds.Calendar (option_map of_calendar a) ≡ slot_bytes kinds.Calendar (option_map of_calendar b) → a ≡ b
+calendar_slot_one f g patterns patterns' None None is is' follows follows' tables same = refl
+calendar_slot_one f g patterns patterns' None (Some c) is is' follows follows' tables same =
+    absurd (omega (arith, first_of_empty kinds.Calendar, filled_first kinds.Calendar (of_calendar c), ap (λ (l : List ℕ). get_or l 0 0) same))
+calendar_slot_one f g patterns patterns' (Some c) None is is' follows follows' tables same =
+    absurd (omega (arith, first_of_empty kinds.Calendar, filled_first kinds.Calendar (of_calendar c), ap (λ (l : List ℕ). get_or l 0 0) same))
+calendar_slot_one f g patterns patterns' (Some c) (Some c') is is' follows follows' tables same =
+    ap Some (calendar_one patterns patterns' c c' is.1 is'.1 (follows c refl) (follows' c' refl) (λ slot by. tables slot) same)

@@ -17,11 +17,15 @@ use Rattle.ts_layout.proofs.PlaceLemmas.{rank_one, at_slot-map}
 pub slot_empty : (kind : Kind) → slot_bytes kind None ≡ replicate (slot_size kind) 0
 unfolding zero_page
 slot_empty kinds.RowType = refl
+slot_empty kinds.Pattern = refl
+slot_empty kinds.Calendar = refl
 slot_empty kinds.Container = refl
 slot_empty kinds.Series = refl
 
 pub slot_filled : (kind : Kind) (def : Def) → slot_bytes kind (Some def) ≡ def_bytes def
 slot_filled kinds.RowType def = refl
+slot_filled kinds.Pattern def = refl
+slot_filled kinds.Calendar def = refl
 slot_filled kinds.Container def = refl
 slot_filled kinds.Series def = refl
 

@@ -1,47 +1,88 @@
 -- Pages hold one definition in each slot.
-use Rattle.std.proofs.Common.{◌≡◌, ℕ, suc, Option, Some, None, List, [], ◌∷◌, map, length, refl, sym, ap, subst, ◌∙◌, arith, inl, inr}
+use Rattle.std.proofs.Common.{◌≡◌, ◌≢◌, ℕ, suc, ◌<◌, ◌≤◌, Option, Some, None, List, [], ◌∷◌, map, length, refl, sym, ap, subst, ◌∙◌, arith, inl, inr}
 use Rattle.std.specs.Option.{option_map}
 use Rattle.std.proofs.lemmas.Bool.{cases_lt}
 use Rattle.std.proofs.lemmas.List.{get_or_past}
 use Rattle.ts_model.specs.declared.kind.Kind.{Kind}
 use Rattle.ts_model.specs.declared.kind.Kind.TheVariants as kinds
 use Rattle.ts_model.specs.declared.def.Def.{Def}
-use Rattle.ts_model.specs.Definitions.{Definitions, KindDef, limit, slots, at_slot, to_def, table_of, references, IsDefinitions}
-use Rattle.ts_model.proofs.PartsLemmas.{all-tables, table-rules}
-use Rattle.ts_layout.specs.Meaning.{def_at, IsThere, AreThere, HoldsDefinitions, KeepLimits, AreThereIn}
-use Rattle.ts_layout.proofs.SlotBytesLemmas.{slot_one}
-use Rattle.ts_layout.proofs.SlotLemmas.{own, sizes, same_in}
+use Rattle.ts_model.specs.Definitions.{Definitions, limit, at_slot, of_row_type, of_pattern, of_calendar, table_of, references, IsDefinitions}
+use Rattle.ts_model.proofs.PartsLemmas.{all-tables, table-rules, same_or_other}
+use Rattle.ts_layout.specs.Slot.{slot_bytes}
+use Rattle.ts_layout.specs.Limits.{IsSlotOf}
+use Rattle.ts_layout.specs.Meaning.{def_at, IsThere, AreThere, HoldsDefinitions, KeepLimits, AreThereIn, AreFollowing}
+use Rattle.ts_layout.proofs.PlaceLemmas.{at_slot-map}
+use Rattle.ts_layout.proofs.SlotBytesLemmas.{slot_one, calendar_slot_one}
+use Rattle.ts_layout.proofs.SlotLemmas.{own, same_in}
 
--- the same table from the same definitions
-same_table : (kind : Kind) (t u : List (Option (KindDef kind))) → length t ≡ length u → ((i : ℕ) → at_slot i (map (option_map (to_def kind)) t) ≡ at_slot i (map (option_map (to_def kind)) u)) → t ≡ u
-same_table kind [] [] long same = refl
-same_table kind [] (p ∷ u) long same = absurd (omega arith)
-same_table kind (o ∷ t) [] long same = absurd (omega arith)
-same_table kind (o ∷ t) (p ∷ u) long same =
-    let first : o ≡ p = same_in kind 0 (o ∷ t) (p ∷ u) (same 0) in
-    let others : t ≡ u = same_table kind t u (omega arith) (λ i. same (suc i)) in
+-- tables that are the same slot by slot
+same_table : {A : Type 0} (t u : List (Option A)) → length t ≡ length u → ((i : ℕ) → at_slot i t ≡ at_slot i u) → t ≡ u
+same_table [] [] long same = refl
+same_table [] (p ∷ u) long same = absurd (omega arith)
+same_table (o ∷ t) [] long same = absurd (omega arith)
+same_table (o ∷ t) (p ∷ u) long same =
+    let first : o ≡ p = same 0 in
+    let others : t ≡ u = same_table t u (omega (arith, long)) (λ i. same (suc i)) in
     λ j. first j ∷ others j
 
--- what stands in each slot is the same, also past the last
-same_def : (pages : ℕ → List ℕ) (d e : Definitions) → HoldsDefinitions pages d → KeepLimits d → IsDefinitions d → HoldsDefinitions pages e → KeepLimits e → IsDefinitions e → (kind : Kind) (i : ℕ) → def_at kind i d ≡ def_at kind i e
-same_def pages d e holds limits rules holds' limits' rules' kind i =
-    elim (cases_lt i (limit kind)) [
-      | inl within ↦ slot_one d.format e.format kind (def_at kind i d) (def_at kind i e) (limits.each kind i within) (limits'.each kind i within) (sym (holds.slots kind i within) ∙ holds'.slots kind i within)
-      | inr past ↦ get_or_past (slots kind d) i None (omega (arith, past, sizes d rules kind)) ∙ sym (get_or_past (slots kind e) i None (omega (arith, past, sizes e rules' kind)))
-    ]
+-- definitions that keep their limits, in pages; each calendar follows the patterns
+pub record AreInPages (pages : ℕ → List ℕ) (d : Definitions) : Type 0 where
+  pub holds : HoldsDefinitions pages d
+  pub limits : KeepLimits d
+  pub rules : IsDefinitions d
+  pub follow : AreFollowing d
 
--- pages hold one list of definitions of a format
-pub unique : (pages : ℕ → List ℕ) (d e : Definitions) → d.format ≡ e.format → HoldsDefinitions pages d → KeepLimits d → IsDefinitions d → HoldsDefinitions pages e → KeepLimits e → IsDefinitions e → d ≡ e
-unique pages d e format holds limits rules holds' limits' rules' =
-    let same = same_def pages d e holds limits rules holds' limits' rules' in
-    all-tables d e format (λ kind. same_table kind (table_of kind d) (table_of kind e) ((table-rules d rules kind).size ∙ sym (table-rules e rules' kind).size) (same kind))
+-- no slot is past the last
+none_past : (d : Definitions) → IsDefinitions d → (kind : Kind) (i : ℕ) → limit kind ≤ i → at_slot i (table_of kind d) ≡ None
+none_past d rules kind i past = get_or_past (table_of kind d) i None (omega (arith, past, (table-rules d rules kind).size))
 
--- a row type refers to nothing
-row_type_refers : (d : Definitions) (slot : ℕ) (def : Def) → def_at kinds.RowType slot d ≡ Some def → references def ≡ []
-row_type_refers d slot def is = let own' = own (to_def kinds.RowType) slot d.row_types def is in ap references (sym own'.2)
+module _ (pages : ℕ → List ℕ) (d e : Definitions) (here : AreInPages pages d) (there : AreInPages pages e) where
+  -- slots have the same bytes
+  same_bytes : (kind : Kind) (i : ℕ) → i < limit kind → slot_bytes kind (def_at kind i d) ≡ slot_bytes kind (def_at kind i e)
+  same_bytes kind i within = sym (here.holds.slots kind i within) ∙ there.holds.slots kind i within
 
--- each definition refers to something where those of containers and series do
-pub all_there : (d : Definitions) → AreThereIn kinds.Container d → AreThereIn kinds.Series d → AreThere d
-all_there d containers series kinds.RowType slot def within is = subst (IsThere d) (sym (row_type_refers d slot def is)) tt
-all_there d containers series kinds.Container slot def within is = containers slot def within is
-all_there d containers series kinds.Series slot def within is = series slot def within is
+  -- what stands in a slot is the same, but for calendars
+  same_def : (kind : Kind) → kind ≢ kinds.Calendar → (i : ℕ) → at_slot i (table_of kind d) ≡ at_slot i (table_of kind e)
+  same_def kind other i = elim (cases_lt i (limit kind)) [
+    | inl within ↦
+        same_in kind i (table_of kind d) (table_of kind e)
+        (slot_one d.format e.format kind (def_at kind i d) (def_at kind i e) other (here.limits.each kind i within) (there.limits.each kind i within) (same_bytes kind i within))
+    | inr past ↦ none_past d here.rules kind i past ∙ sym (none_past e there.rules kind i past)
+  ]
+
+  -- so calendars have the same pattern to follow
+  same_calendar : (i : ℕ) → at_slot i d.calendars ≡ at_slot i e.calendars
+  same_calendar i = elim (cases_lt i 256) [
+    | inl within ↦
+        let first = at_slot-map of_calendar i d.calendars in
+        let second = at_slot-map of_calendar i e.calendars in
+        let P : Definitions → Option Def → Type 0 = λ x. IsSlotOf x.format kinds.Calendar in
+        calendar_slot_one d.format e.format d.patterns e.patterns (at_slot i d.calendars) (at_slot i e.calendars)
+        (subst (P d) first (here.limits.each kinds.Calendar i within)) (subst (P e) second (there.limits.each kinds.Calendar i within))
+        (here.follow i) (there.follow i) (same_def kinds.Pattern (λ same. cc))
+        (ap (slot_bytes kinds.Calendar) (sym first) ∙ same_bytes kinds.Calendar i within ∙ ap (slot_bytes kinds.Calendar) second)
+    | inr past ↦ none_past d here.rules kinds.Calendar i past ∙ sym (none_past e there.rules kinds.Calendar i past)
+  ]
+
+  same_slot : (kind : Kind) (i : ℕ) → at_slot i (table_of kind d) ≡ at_slot i (table_of kind e)
+  same_slot kind i = elim (same_or_other kind kinds.Calendar) [
+    | inl same ↦ subst (λ (k : Kind). at_slot i (table_of k d) ≡ at_slot i (table_of k e)) (sym same) (same_calendar i)
+    | inr other ↦ same_def kind other i
+  ]
+
+  -- pages hold one list of definitions of a format
+  pub unique : d.format ≡ e.format → d ≡ e
+  unique format =
+      all-tables d e format (λ kind. same_table (table_of kind d) (table_of kind e) ((table-rules d here.rules kind).size ∙ sym (table-rules e there.rules kind).size) (same_slot kind))
+
+-- row types and patterns refer to nothing
+nothing_there : {A : Type 0} (f : A → Def) (slot : ℕ) (table : List (Option A)) (def : Def) (d : Definitions) → ((a : A) → references (f a) ≡ []) → at_slot slot (map (option_map f) table) ≡ Some def → IsThere d (references def)
+nothing_there f slot table def d none is = let own' = own f slot table def is in subst (IsThere d) (sym (none own'.0) ∙ ap references own'.2) tt
+
+-- each definition refers to something where those of calendars, containers and series do
+pub all_there : (d : Definitions) → AreThereIn kinds.Calendar d → AreThereIn kinds.Container d → AreThereIn kinds.Series d → AreThere d
+all_there d calendars containers series kinds.RowType slot def within is = nothing_there of_row_type slot d.row_types def d (λ r. refl) is
+all_there d calendars containers series kinds.Pattern slot def within is = nothing_there of_pattern slot d.patterns def d (λ p. refl) is
+all_there d calendars containers series kinds.Calendar slot def within is = calendars slot def within is
+all_there d calendars containers series kinds.Container slot def within is = containers slot def within is
+all_there d calendars containers series kinds.Series slot def within is = series slot def within is

@@ -16,7 +16,7 @@ use Rattle.ts_model.specs.Definitions.{Definitions, RowTypeDef, ContainerDef, Se
 use Rattle.ts_layout.specs.Meaning.{def_at, heading_of_container, AreThere, AreSound, quota_in, sum_of_quotas}
 use Rattle.ts_layout.specs.Charges.{charge_listed, charges_listed, container_charge, KeepQuotas}
 use Rattle.ts_layout.proofs.PlaceLemmas.{at_slot-map}
-use Rattle.ts_layout.proofs.NamedLemmas.{slot_within}
+use Rattle.ts_layout.proofs.LayoutLemmas.{within_table}
 
 -- what definitions refer to
 some_heading : (o : Option RowTypeDef) → IsSome (option_map of_row_type o) → (h : Heading) × (option_map (λ r. r.heading) o ≡ Some h)
@@ -130,7 +130,7 @@ each_kept : (d : Definitions) (space : Directory) → AreCharged d space → (j 
 each_kept d space charged j within = elim (charged j within) [
   | inl none ↦ subst (λ (l : List Place). length l ≤ sum_at (one_charged d space (0 + j) (at_slot j d.series)) 0 d.containers) (sym none) (let z : 0 ≤ sum_at (one_charged d space (0 + j) (at_slot j d.series)) 0 d.containers = omega arith in z)
   | inr is ↦
-      let below = sum_one (one_charged d space (0 + j) (at_slot j d.series)) 0 is.series.container d.containers (slot_within d.containers is.series.container is.container is.container_there) in
+      let below = sum_one (one_charged d space (0 + j) (at_slot j d.series)) 0 is.series.container d.containers (within_table d.containers is.series.container is.container is.container_there) in
       let n_is : 0 + j ≡ j = omega arith in
       let k_is : 0 + is.series.container ≡ is.series.container = omega arith in
       let one = one_kept d space j (0 + j) (0 + is.series.container) (at_slot j d.series) (at_slot is.series.container d.containers) is.series is.container is.heading n_is is.series_there k_is is.container_there is.columns in
@@ -177,7 +177,7 @@ used_more d space pages k more c h sound kept each size there heading paid =
     let most : used_of space ≤ sum_at (charged d space 0 d.series) 0 d.containers =
     used_most d space 0 d.series space.lists (size ∙ sym sound.tables.series.size) (λ j within. each_kept d space each j (omega (arith, within, size))) in
     let both = sum_add (charged d space 0 d.series) (more_at k more) 0 d.containers in
-    let one = sum_one (more_at k more) 0 k d.containers (slot_within d.containers k c there) in
+    let one = sum_one (more_at k more) 0 k d.containers (within_table d.containers k c there) in
     let t : (0 + k == k) ≡ true = grind (arith, nat_tests) in
     let is : more_at k more (0 + k) (at_slot k d.containers) ≡ more = ap (λ (b : Bool). if b then more else 0) t in
     let quotas : sum_at (λ n o. charged d space 0 d.series n o + more_at k more n o) 0 d.containers ≤ sum_at (λ n o. quota_in o) 0 d.containers =

@@ -9,12 +9,13 @@ use Rattle.ts_cells.specs.Cell.{Element}
 use Rattle.ts_model.specs.declared.kind.Kind.{Kind}
 use Rattle.ts_model.specs.declared.kind.Kind.TheVariants as kinds
 use Rattle.ts_model.specs.declared.def.Def.{Def}
+use Rattle.ts_calendar.specs.declared.text.PatternPart.TheVariants.{Named as ByName, Own}
 use Rattle.ts_model.specs.Kinds.{In, with_named, without}
-use Rattle.ts_model.specs.Definitions.{Definitions, RowTypeDef, ContainerDef, SeriesDef, KindDef, to_def, table_of, name_of, slot_of, at_slot, Refers}
-use Rattle.ts_layout.specs.Meaning.{Layout, ElementPage, Free, Cells, elements_on, elements_of, elements_at, sum_filled, charge_of_series, name_at, container_of, series_of, value_of, named_in, catalogue_of}
+use Rattle.ts_model.specs.Definitions.{Definitions, RowTypeDef, PatternDef, CalendarDef, ContainerDef, SeriesDef, KindDef, to_def, table_of, name_of, slot_of, at_slot, Refers}
+use Rattle.ts_layout.specs.Meaning.{Layout, ElementPage, Free, Cells, elements_on, elements_of, elements_at, sum_filled, charge_of_series, name_at, part_of, text_of, container_of, series_of, value_of, named_in, catalogue_of}
 use Rattle.ts_layout.specs.Changed.{HasNoPage}
 use Rattle.ts_layout.proofs.FilledLemmas.{slot_there}
-use Rattle.ts_layout.proofs.ReferLemmas.{first_of}
+use Rattle.ts_layout.proofs.ReferLemmas.{first_of, calendar_target}
 
 -- the name of what stands in a slot
 pub same_name_at : {A : Type 0} (name : A → List ℕ) (slot : ℕ) (table table' : List (Option A)) → at_slot slot table ≡ at_slot slot table' → name_at name slot table ≡ name_at name slot table'
@@ -26,10 +27,19 @@ name_there {A} name f named table q slot is =
     let there = slot_there name f named table q slot is in
     ap (λ (o : Option A). unwrap_or (option_map name o) []) there.1 ∙ there.2
 
+-- the part of a calendar is the same where the pattern by whose name it was made is the same
+same_part : (l : Layout) (d : Definitions) (c : CalendarDef) (by : Option ℕ) → ((at : ℕ) → by ≡ Some at → at_slot at d.patterns ≡ at_slot at l.definitions.patterns) → part_of d c by ≡ part_of l.definitions c by
+same_part l d c None same = refl
+same_part l d c (Some at) same = ap (λ (n : List ℕ). ByName n) (same_name_at (λ (p : PatternDef). p.name) at d.patterns l.definitions.patterns (same at refl))
+
 -- a definition is the same in the catalogue where what it refers to is the same
 pub same_value : (kind : Kind) (l : Layout) (d : Definitions) (i : ℕ) (a : KindDef kind) → ((target : Kind) (at : ℕ) → Refers (to_def kind a) target at → at_slot at (table_of target d) ≡ at_slot at (table_of target l.definitions))
     → value_of kind (record l { definitions = d }) i a ≡ value_of kind l i a
 same_value kinds.RowType l d i r same = refl
+same_value kinds.Pattern l d i p same = refl
+same_value kinds.Calendar l d i c same =
+    let part = same_part l d c c.by (λ at is. same kinds.Pattern at (calendar_target c at is)) in
+    λ j. record { start = c.calendar.start; patt_start = c.calendar.patt_start; part = part j }
 same_value kinds.Container l d i c same =
     λ j. record {
       row_type = same_name_at (λ (r : RowTypeDef). r.name) c.row_type d.row_types l.definitions.row_types (same kinds.RowType c.row_type (first_of (kinds.RowType, c.row_type) (kinds.RowType, c.row_type) [] refl)) j;
@@ -45,20 +55,28 @@ same_value kinds.Series l d i s same =
 pub catalogue_with : (kind : Kind) (name : List ℕ) (value : In kind) (l l' : Layout) → l'.definitions.format ≡ l.definitions.format → l'.element_pages ≡ l.element_pages → named_in kind l' ≡ insert (named_in kind l) name value → ((k : Kind) → (k ≡ kind → ⊥) → named_in k l' ≡ named_in k l)
     → catalogue_of l' ≡ with_named kind name value (catalogue_of l)
 catalogue_with kinds.RowType name value l l' format pages own others =
-    λ j. record { format = format j; pages = length (pages j); row_types = own j; containers = others kinds.Container (λ same. cc) j; series = others kinds.Series (λ same. cc) j }
+    λ j. record { format = format j; pages = length (pages j); row_types = own j; patterns = others kinds.Pattern (λ same. cc) j; calendars = others kinds.Calendar (λ same. cc) j; containers = others kinds.Container (λ same. cc) j; series = others kinds.Series (λ same. cc) j }
+catalogue_with kinds.Pattern name value l l' format pages own others =
+    λ j. record { format = format j; pages = length (pages j); row_types = others kinds.RowType (λ same. cc) j; patterns = own j; calendars = others kinds.Calendar (λ same. cc) j; containers = others kinds.Container (λ same. cc) j; series = others kinds.Series (λ same. cc) j }
+catalogue_with kinds.Calendar name value l l' format pages own others =
+    λ j. record { format = format j; pages = length (pages j); row_types = others kinds.RowType (λ same. cc) j; patterns = others kinds.Pattern (λ same. cc) j; calendars = own j; containers = others kinds.Container (λ same. cc) j; series = others kinds.Series (λ same. cc) j }
 catalogue_with kinds.Container name value l l' format pages own others =
-    λ j. record { format = format j; pages = length (pages j); row_types = others kinds.RowType (λ same. cc) j; containers = own j; series = others kinds.Series (λ same. cc) j }
+    λ j. record { format = format j; pages = length (pages j); row_types = others kinds.RowType (λ same. cc) j; patterns = others kinds.Pattern (λ same. cc) j; calendars = others kinds.Calendar (λ same. cc) j; containers = own j; series = others kinds.Series (λ same. cc) j }
 catalogue_with kinds.Series name value l l' format pages own others =
-    λ j. record { format = format j; pages = length (pages j); row_types = others kinds.RowType (λ same. cc) j; containers = others kinds.Container (λ same. cc) j; series = own j }
+    λ j. record { format = format j; pages = length (pages j); row_types = others kinds.RowType (λ same. cc) j; patterns = others kinds.Pattern (λ same. cc) j; calendars = others kinds.Calendar (λ same. cc) j; containers = others kinds.Container (λ same. cc) j; series = own j }
 
 pub catalogue_without : (kind : Kind) (name : List ℕ) (l l' : Layout) → l'.definitions.format ≡ l.definitions.format → l'.element_pages ≡ l.element_pages → named_in kind l' ≡ remove (named_in kind l) name → ((k : Kind) → (k ≡ kind → ⊥) → named_in k l' ≡ named_in k l)
     → catalogue_of l' ≡ without kind name (catalogue_of l)
 catalogue_without kinds.RowType name l l' format pages own others =
-    λ j. record { format = format j; pages = length (pages j); row_types = own j; containers = others kinds.Container (λ same. cc) j; series = others kinds.Series (λ same. cc) j }
+    λ j. record { format = format j; pages = length (pages j); row_types = own j; patterns = others kinds.Pattern (λ same. cc) j; calendars = others kinds.Calendar (λ same. cc) j; containers = others kinds.Container (λ same. cc) j; series = others kinds.Series (λ same. cc) j }
+catalogue_without kinds.Pattern name l l' format pages own others =
+    λ j. record { format = format j; pages = length (pages j); row_types = others kinds.RowType (λ same. cc) j; patterns = own j; calendars = others kinds.Calendar (λ same. cc) j; containers = others kinds.Container (λ same. cc) j; series = others kinds.Series (λ same. cc) j }
+catalogue_without kinds.Calendar name l l' format pages own others =
+    λ j. record { format = format j; pages = length (pages j); row_types = others kinds.RowType (λ same. cc) j; patterns = others kinds.Pattern (λ same. cc) j; calendars = own j; containers = others kinds.Container (λ same. cc) j; series = others kinds.Series (λ same. cc) j }
 catalogue_without kinds.Container name l l' format pages own others =
-    λ j. record { format = format j; pages = length (pages j); row_types = others kinds.RowType (λ same. cc) j; containers = own j; series = others kinds.Series (λ same. cc) j }
+    λ j. record { format = format j; pages = length (pages j); row_types = others kinds.RowType (λ same. cc) j; patterns = others kinds.Pattern (λ same. cc) j; calendars = others kinds.Calendar (λ same. cc) j; containers = own j; series = others kinds.Series (λ same. cc) j }
 catalogue_without kinds.Series name l l' format pages own others =
-    λ j. record { format = format j; pages = length (pages j); row_types = others kinds.RowType (λ same. cc) j; containers = others kinds.Container (λ same. cc) j; series = own j }
+    λ j. record { format = format j; pages = length (pages j); row_types = others kinds.RowType (λ same. cc) j; patterns = others kinds.Pattern (λ same. cc) j; calendars = others kinds.Calendar (λ same. cc) j; containers = others kinds.Container (λ same. cc) j; series = own j }
 
 -- a container in which no series stands is charged nothing
 pub no_charge : (pages : List ElementPage) (container room first : ℕ) (table : List (Option SeriesDef)) → ((i : ℕ) (s : SeriesDef) → at_slot i table ≡ Some s → s.container ≡ container → ⊥) → sum_filled (charge_of_series pages container room) first table ≡ 0
@@ -106,6 +124,19 @@ sum_filled_less f first (suc slot) o (Some b ∷ table) none =
     let e : first + suc slot ≡ suc first + slot = omega arith in
     let rest = sum_filled_less f (suc first) slot o table (λ a. subst (λ (n : ℕ). f n a ≡ 0) e (none a)) in
     omega (arith, rest)
+
+-- a calendar by the name of its pattern, and one with its own
+pub text_named : (l : Layout) (c : CalendarDef) (slot : ℕ) (name : List ℕ) → c.by ≡ Some slot → slot_of name (map (option_map (to_def kinds.Pattern)) l.definitions.patterns) ≡ Some slot
+    → text_of l.definitions c ≡ record { start = c.calendar.start; patt_start = c.calendar.patt_start; part = ByName name }
+text_named l c slot name by is =
+    let named = name_there (λ (p : PatternDef). p.name) (to_def kinds.Pattern) (λ p. refl) l.definitions.patterns name slot is in
+    let part : part_of l.definitions c c.by ≡ ByName name = ap (part_of l.definitions c) by ∙ ap (λ (n : List ℕ). ByName n) named in
+    λ j. record { start = c.calendar.start; patt_start = c.calendar.patt_start; part = part j }
+
+pub text_own : (l : Layout) (c : CalendarDef) → c.by ≡ None → text_of l.definitions c ≡ record { start = c.calendar.start; patt_start = c.calendar.patt_start; part = Own c.calendar.pattern }
+text_own l c by =
+    let part : part_of l.definitions c c.by ≡ Own c.calendar.pattern = ap (part_of l.definitions c) by in
+    λ j. record { start = c.calendar.start; patt_start = c.calendar.patt_start; part = part j }
 
 -- a container by the name of its row type, and a series without a page by that of its container
 pub container_named : (l : Layout) (c : ContainerDef) (holder : List ℕ) → slot_of holder (map (option_map (to_def kinds.RowType)) l.definitions.row_types) ≡ Some c.row_type → container_of l.definitions c ≡ record { row_type = holder; quota = c.quota }

@@ -11,15 +11,20 @@ use Rattle.ts_cells.specs.Cell.{Element, page_room}
 use Rattle.ts_cells.specs.IrregularPage.{FillPage}
 use Rattle.ts_chain.specs.Chain.{IsChain, all_in}
 use Rattle.ts_chain.specs.Places.{AreChained}
-use Rattle.ts_model.specs.Catalogue.{Elements}
+use Rattle.ts_model.specs.Catalogue.{Catalogue, Elements}
 use Rattle.ts_model.specs.declared.kind.Kind.TheVariants as kinds
+use Rattle.ts_model.specs.Kinds.{with_named}
 use Rattle.ts_model.specs.Definitions.{Definitions, ContainerDef, SeriesDef, at_slot, with_slot}
 use Rattle.ts_layout.specs.Limits.{AreOfFormat}
-use Rattle.ts_layout.specs.Meaning.{ElementPage, Free, Cells, Layout, element_page, elements_at, heading_at, heading_of_container, charge_of_container}
+use Rattle.ts_layout.specs.Meaning.{ElementPage, Free, Cells, Layout, element_page, elements_at, heading_at, heading_of_container, charge_of_container, series_of, catalogue_of}
 
 -- elements by their stamps
 abbrev pub by_stamp : List Element → Elements
 by_stamp es = from_entries es
+
+-- the catalogue of a layout in which the series in a slot has these elements
+abbrev pub with_elements_at : ℕ → SeriesDef → Elements → Layout → Catalogue
+with_elements_at slot s es l = with_named kinds.Series s.key (record (series_of l slot s) { elements = es }) (catalogue_of l)
 
 -- each page of elements has those of a series that is defined: one at least, in order, at most as many as it has room for,
 -- and of the format

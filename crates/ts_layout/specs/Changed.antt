@@ -6,10 +6,12 @@ use Rattle.ts_cells.specs.Cell.{Element}
 use Rattle.ts_model.specs.declared.kind.Kind.{Kind}
 use Rattle.ts_model.specs.declared.kind.Kind.TheVariants as kinds
 use Rattle.ts_model.specs.declared.def.Def.{Def}
+use Rattle.ts_model.specs.declared.def.Def.TheVariants as defs
+use Rattle.ts_calendar.specs.Calendar.{IsValid}
 use Rattle.ts_model.specs.Kinds.{HasNoPages}
 use Rattle.ts_model.specs.Definitions.{Definitions, limit, kind_of, name_of, from_def, slots, with_slot, with_format, slot_of, references, IsUsed}
 use Rattle.ts_layout.specs.Limits.{IsDef}
-use Rattle.ts_layout.specs.Meaning.{Layout, ElementPage, Cells, element_page, def_at, heading_at, quota_in, sum_of_quotas, IsThere}
+use Rattle.ts_layout.specs.Meaning.{Layout, ElementPage, Cells, element_page, def_at, heading_at, quota_in, sum_of_quotas, IsThere, Follows}
 use Rattle.ts_layout.specs.Slot.{slot_bytes, slot_size, byte_of_slot}
 
 -- outside the journal the same pages, but for the bytes behind the heads of free element pages
@@ -39,13 +41,22 @@ KeepsHeadings d l =
 abbrev pub HasNoPage : ℕ → List ElementPage → Type 0
 HasNoPage slot pages = (i : ℕ) (es : List Element) → element_page i pages ≡ Cells slot es → ⊥
 
--- this definition can be put into a slot: the slot is empty, the name is new, and what it refers to is there
+-- a calendar that is valid, and that has the pattern of the slot by whose name it is made; of other definitions nothing is asked
+abbrev pub KeepsCalendarRules : Def → Definitions → Type 0
+KeepsCalendarRules (defs.Calendar name calendar by) d = IsValid calendar × Follows d.patterns (record { name = name; calendar = calendar; by = by })
+KeepsCalendarRules (defs.RowType name kind) d = Unit {0}
+KeepsCalendarRules (defs.Pattern name pattern) d = Unit {0}
+KeepsCalendarRules (defs.Container name row_type quota) d = Unit {0}
+KeepsCalendarRules (defs.Series key container) d = Unit {0}
+
+-- this definition can be put into a slot: the slot is empty, the name is new, what it refers to is there, and it is valid
 pub record CanCreate (slot : ℕ) (def : Def) (d : Definitions) : Type 0 where
   pub within : slot < limit (kind_of def)
   pub empty : def_at (kind_of def) slot d ≡ None
   pub new : slot_of (name_of def) (slots (kind_of def) d) ≡ None
   pub limits : IsDef d.format def
   pub refers : IsThere d (references def)
+  pub valid : KeepsCalendarRules def d
 
 -- how many pages a definition is granted: a container its quota
 abbrev pub granted : Option Def → ℕ

@@ -9,3 +9,9 @@ pub mod Charges
 pub mod Chains
 pub mod Held
 pub mod Placed
+pub mod ChainLaws
+pub mod ChargeLaws
+pub mod FormatLaws
+pub mod FreeLaws
+pub mod MemoryLaws
+pub mod Laws

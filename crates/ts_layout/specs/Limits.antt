@@ -1,7 +1,9 @@
 -- The limits that each definition keeps by itself, and what the format of a volume asks.
-use Rattle.std.specs.Prelude.{◌≡◌, ℕ, ◌<◌, ◌≤◌, false, IsTrue, Option, Some, None, List}
+use Rattle.std.specs.Prelude.{◌≡◌, ℕ, ◌<◌, ◌≤◌, false, IsTrue, Option, Some, None, IfSome, List}
 use Rattle.std.specs.List.{list_all}
 use Rattle.ts_base.specs.Name.{is_name, is_key}
+use Rattle.ts_base.specs.Moment.{IsStamp}
+use Rattle.ts_pattern.specs.Runs.{is_pattern}
 use Rattle.ts_row.specs.RowType.{Heading, is_row_type, has_long_decimal}
 use Rattle.ts_row.specs.Element.{Element, has_hidden}
 use Rattle.ts_page.specs.Volume.{most_element_pages}
@@ -9,7 +11,7 @@ use Rattle.ts_model.specs.declared.format.TheConstants.{OLD_FORMAT}
 use Rattle.ts_model.specs.declared.kind.Kind.{Kind}
 use Rattle.ts_model.specs.declared.def.Def.{Def}
 use Rattle.ts_model.specs.declared.def.Def.TheVariants as defs
-use Rattle.ts_model.specs.Definitions.{RowTypeDef, ContainerDef, SeriesDef, row_type_slots, container_slots, kind_of}
+use Rattle.ts_model.specs.Definitions.{RowTypeDef, PatternDef, CalendarDef, ContainerDef, SeriesDef, row_type_slots, pattern_slots, container_slots, kind_of}
 
 -- what a volume of a format asks of a row type: in the old one no decimal has over 18 digits
 abbrev pub IsOfFormat : ℕ → Heading → Type 0
@@ -27,6 +29,19 @@ pub record IsRowTypeDef (format : ℕ) (r : RowTypeDef) : Type 0 where
   pub rules : IsTrue (is_row_type r.heading.stamp r.heading.columns)
   pub of_format : IsOfFormat format r.heading
 
+-- a name, and merged runs within the limits
+pub record IsPatternDef (p : PatternDef) : Type 0 where
+  pub name : IsTrue (is_name p.name)
+  pub runs : IsTrue (is_pattern p.pattern.runs)
+
+-- a name, two stamps, merged runs within the limits, and the slot of a pattern, if there is one
+pub record IsCalendarDef (c : CalendarDef) : Type 0 where
+  pub name : IsTrue (is_name c.name)
+  pub start : IsStamp c.calendar.start
+  pub patt_start : IsStamp c.calendar.patt_start
+  pub runs : IsTrue (is_pattern c.calendar.pattern.runs)
+  pub by : IfSome c.by (λ slot. slot < pattern_slots)
+
 -- a name, a slot of a row type, and a quota of 1 to 65536 pages
 pub record IsContainerDef (c : ContainerDef) : Type 0 where
   pub name : IsTrue (is_name c.name)
@@ -42,6 +57,8 @@ pub record IsSeriesDef (s : SeriesDef) : Type 0 where
 -- a definition of any kind, in a volume of a format
 abbrev pub IsDef : ℕ → Def → Type 0
 IsDef format (defs.RowType name kind) = IsRowTypeDef format (record { name = name; heading = kind })
+IsDef format (defs.Pattern name pattern) = IsPatternDef (record { name = name; pattern = pattern })
+IsDef format (defs.Calendar name calendar by) = IsCalendarDef (record { name = name; calendar = calendar; by = by })
 IsDef format (defs.Container name row_type quota) = IsContainerDef (record { name = name; row_type = row_type; quota = quota })
 IsDef format (defs.Series key container) = IsSeriesDef (record { key = key; container = container })
 

@@ -12,12 +12,16 @@ use Rattle.ts_space.specs.Charge.{irregular_charge}
 use Rattle.ts_cells.specs.Cell.{Element, page_room}
 use Rattle.ts_cells.specs.IrregularPage.{IsIrregularPage}
 use Rattle.ts_chain.specs.Chain.{IsChain}
+use Rattle.ts_calendar.specs.Calendar.{IsValid}
+use Rattle.ts_calendar.specs.declared.text.PatternPart.{PatternPart}
+use Rattle.ts_calendar.specs.declared.text.PatternPart.TheVariants.{Named as ByName, Own}
+use Rattle.ts_calendar.specs.declared.text.CalendarText.{CalendarText}
 use Rattle.ts_model.specs.Catalogue.{Named, Catalogue, Container, Series, Elements}
 use Rattle.ts_model.specs.Kinds.{In}
 use Rattle.ts_model.specs.declared.kind.Kind.{Kind}
 use Rattle.ts_model.specs.declared.kind.Kind.TheVariants as kinds
 use Rattle.ts_model.specs.declared.def.Def.{Def}
-use Rattle.ts_model.specs.Definitions.{Definitions, ContainerDef, SeriesDef, KindDef, limit, name_in, table_of, at_slot, by_name, references, IsDefinitions}
+use Rattle.ts_model.specs.Definitions.{Definitions, PatternDef, CalendarDef, ContainerDef, SeriesDef, KindDef, limit, name_in, table_of, at_slot, by_name, references, IsDefinitions}
 pub use Rattle.ts_model.specs.Definitions.{def_at}
 use Rattle.ts_layout.specs.Limits.{IsSlotOf, AreOfFormat}
 use Rattle.ts_layout.specs.Slot.{slot_size, slot_bytes, page_of_slot, byte_of_slot, first_definition_page, slots_in_page, bytes_of_slots, header_bytes}
@@ -83,13 +87,25 @@ abbrev pub IsThere : Definitions → List (Kind × ℕ) → Type 0
 IsThere d [] = Unit {0}
 IsThere d (target ∷ rest) = IsSome (def_at target.0 target.1 d) × IsThere d rest
 
--- each definition refers to filled slots
-abbrev pub AreThere : Definitions → Type 0
-AreThere d = (kind : Kind) (slot : ℕ) (def : Def) → slot < limit kind → def_at kind slot d ≡ Some def → IsThere d (references def)
-
--- each definition of a kind does
+-- each definition of a kind refers to filled slots
 abbrev pub AreThereIn : Kind → Definitions → Type 0
 AreThereIn kind d = (slot : ℕ) (def : Def) → slot < limit kind → def_at kind slot d ≡ Some def → IsThere d (references def)
+
+-- each definition does
+abbrev pub AreThere : Definitions → Type 0
+AreThere d = (kind : Kind) → AreThereIn kind d
+
+-- where it was made by a pattern's name, the pattern of a calendar is the one in that slot
+abbrev pub Follows : List (Option PatternDef) → CalendarDef → Type 0
+Follows patterns c = (slot : ℕ) → c.by ≡ Some slot → option_map (λ p. p.pattern) (at_slot slot patterns) ≡ Some c.calendar.pattern
+
+-- so it is of each calendar
+abbrev pub AreFollowing : Definitions → Type 0
+AreFollowing d = (slot : ℕ) (c : CalendarDef) → at_slot slot d.calendars ≡ Some c → Follows d.patterns c
+
+-- no calendar breaks a rule of calendars
+abbrev pub AreValid : Definitions → Type 0
+AreValid d = (slot : ℕ) (c : CalendarDef) → at_slot slot d.calendars ≡ Some c → IsValid c.calendar
 
 -- the quota of a container; 0 where there is none
 abbrev pub quota_in : Option ContainerDef → ℕ
@@ -100,11 +116,13 @@ quota_in (Some c) = c.quota
 abbrev pub sum_of_quotas : List (Option ContainerDef) → ℕ
 sum_of_quotas table = sum_by quota_in table
 
--- the rules of definitions in a volume with so many element pages
+-- the rules of definitions in a volume with so many element pages, each by itself
 pub record AreSound (pages : ℕ) (d : Definitions) : Type 0 where
   pub tables : IsDefinitions d
   pub limits : KeepLimits d
   pub references : AreThere d
+  pub follow : AreFollowing d
+  pub valid : AreValid d
   pub quotas : sum_of_quotas d.containers ≤ pages
 
 -- the elements that a page has of the series in a slot
@@ -179,6 +197,15 @@ name_at name slot table = unwrap_or (option_map name (at_slot slot table)) []
 abbrev pub elements_at : ℕ → List ElementPage → Elements
 elements_at slot pages = from_entries (elements_of slot pages)
 
+-- which pattern a calendar has: by the name of the one in a slot, or its own
+abbrev pub part_of : Definitions → CalendarDef → Option ℕ → PatternPart
+part_of d c (Some slot) = ByName (name_at (λ p. p.name) slot d.patterns)
+part_of d c None = Own c.calendar.pattern
+
+-- a calendar as its text, with the name of the pattern by whose name it was made
+abbrev pub text_of : Definitions → CalendarDef → CalendarText
+text_of d c = record { start = c.calendar.start; patt_start = c.calendar.patt_start; part = part_of d c c.by }
+
 -- a container with the name of its row type
 abbrev pub container_of : Definitions → ContainerDef → Container
 container_of d c = record { row_type = name_at (λ r. r.name) c.row_type d.row_types; quota = c.quota }
@@ -193,6 +220,8 @@ series_of l slot s = record {
 -- what a definition in a slot of a kind is in the catalogue
 abbrev pub value_of : (kind : Kind) → Layout → ℕ → KindDef kind → In kind
 value_of kinds.RowType l slot r = r.heading
+value_of kinds.Pattern l slot p = p.pattern
+value_of kinds.Calendar l slot c = text_of l.definitions c
 value_of kinds.Container l slot c = container_of l.definitions c
 value_of kinds.Series l slot s = series_of l slot s
 
@@ -206,6 +235,8 @@ catalogue_of l = record {
   format = l.definitions.format;
   pages = length l.element_pages;
   row_types = named_in kinds.RowType l;
+  patterns = named_in kinds.Pattern l;
+  calendars = named_in kinds.Calendar l;
   containers = named_in kinds.Container l;
   series = named_in kinds.Series l;
 }

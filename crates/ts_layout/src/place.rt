@@ -1,15 +1,17 @@
 // Where slots stand in the definition pages.
-ghost use Rattle.std.specs.Prelude.{◌≡◌, ◌<◌, ◌≤◌};
+ghost use Rattle.std.specs.Prelude.{◌≡◌, ◌<◌, ◌≤◌, ◌^◌};
 ghost use Rattle.ts_model.specs.Definitions.{limit};
 ghost use Rattle.ts_page.specs.Volume.{page_size, first_element_page};
 ghost use Rattle.ts_layout.specs.Slot.{first_definition_page, slot_size, slots_in_page, page_of_slot, byte_of_slot};
 
 use ts_model::Kind;
 
-/// The definition pages: 64 of row types, those of no kind yet, one of all containers, and those of series.
+/// The definition pages: 64 of row types, 256 of patterns, 256 of calendars, one of all containers, and those of series.
 pub const ROW_TYPES: u32 = 257;
 
-const UNUSED: u32 = 321;
+const PATTERNS: u32 = 321;
+
+const CALENDARS: u32 = 577;
 
 pub const CONTAINERS: u32 = 833;
 
@@ -35,19 +37,14 @@ pub fn slots_in_page(number: u32) -> Slots
     requires high { number < first_element_page }
     ensures { result ≡ slots_in_page number }
 {
-    if number < UNUSED {
-        return Slots {
-            kind: Kind::RowType,
-            first: (number - ROW_TYPES) as u16,
-            count: 1,
-        };
+    if number < PATTERNS {
+        return one_slot(Kind::RowType, number - ROW_TYPES);
+    }
+    if number < CALENDARS {
+        return one_slot(Kind::Pattern, number - PATTERNS);
     }
     if number < CONTAINERS {
-        return Slots {
-            kind: Kind::RowType,
-            first: 0,
-            count: 0,
-        };
+        return one_slot(Kind::Calendar, number - CALENDARS);
     }
     if number == CONTAINERS {
         return Slots {
@@ -64,13 +61,25 @@ pub fn slots_in_page(number: u32) -> Slots
     }
 }
 
+// A slot that has a page of its own.
+fn one_slot(kind: Kind, slot: u32) -> Slots
+    requires { slot < 2 ^ 16 }
+    ensures { result ≡ record { kind = kind; first = slot; count = 1 } }
+{
+    Slots {
+        kind,
+        first: slot as u16,
+        count: 1,
+    }
+}
+
 /// The bytes of a slot.
 pub fn slot_size(kind: Kind) -> usize
     ensures value { result ≡ slot_size kind }
     ensures bound { result ≤ page_size }
 {
     match kind {
-        Kind::RowType => 4096,
+        Kind::RowType | Kind::Pattern | Kind::Calendar => 4096,
         Kind::Container => 60,
         Kind::Series => 94,
     }
@@ -84,6 +93,8 @@ pub fn page_of_slot(kind: Kind, slot: u16) -> u32
     let slot = slot as u32;
     match kind {
         Kind::RowType => ROW_TYPES + slot,
+        Kind::Pattern => PATTERNS + slot,
+        Kind::Calendar => CALENDARS + slot,
         Kind::Container => CONTAINERS,
         Kind::Series => SERIES + slot / SERIES_IN_PAGE,
     }
@@ -96,7 +107,7 @@ pub fn byte_of_slot(kind: Kind, slot: u16) -> usize
 {
     let slot = slot as usize;
     match kind {
-        Kind::RowType => 0,
+        Kind::RowType | Kind::Pattern | Kind::Calendar => 0,
         Kind::Container => 60 * slot,
         Kind::Series => 94 * (slot % 43),
     }

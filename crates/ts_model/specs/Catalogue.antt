@@ -1,5 +1,5 @@
 -- The catalogue: what a store holds, as plain values under their names.
-use Rattle.std.specs.Prelude.{ℕ, List, [], Option, unwrap_or, option_map, option_and_then, map, sum, filter, bytes_eq}
+use Rattle.std.specs.Prelude.{ℕ, List, [], Option, Some, unwrap_or, option_map, option_and_then, map, sum, filter, bytes_eq}
 use Rattle.std.specs.Ordering.{nat_cmp, int_cmp}
 use Rattle.std.specs.Cmp.Lexicographic.{slice_cmp}
 use Rattle.std.specs.declared.cmp.Ordering.{Ordering}
@@ -7,6 +7,11 @@ use Rattle.std.specs.FinMap.{FinMap, empty, entries, get, values}
 use Rattle.ts_row.specs.declared.kind.Column.{Column}
 use Rattle.ts_row.specs.RowType.{Heading}
 use Rattle.ts_row.specs.Row.{Row}
+use Rattle.ts_pattern.specs.Plan.{Plan}
+use Rattle.ts_calendar.specs.Plan.{CalendarPlan}
+use Rattle.ts_calendar.specs.declared.text.PatternPart.{PatternPart}
+use Rattle.ts_calendar.specs.declared.text.PatternPart.TheVariants.{Named as ByName, Own}
+use Rattle.ts_calendar.specs.declared.text.CalendarText.{CalendarText}
 use Rattle.ts_model.specs.declared.format.TheConstants.{FORMAT}
 
 -- names and keys in the order of their bytes
@@ -31,22 +36,37 @@ pub record Series : Type 0 where
   pub container : List ℕ
   pub elements : Elements
 
--- what a store holds: the format of its volume, and so many element pages; row types, containers and series under their
--- names and keys
+-- what a store holds: the format of its volume, and so many element pages; row types, patterns, calendars by their texts, containers and
+-- series under their names and keys
 pub record Catalogue : Type 0 where
   pub format : ℕ
   pub pages : ℕ
   pub row_types : Named Heading
+  pub patterns : Named Plan
+  pub calendars : Named CalendarText
   pub containers : Named Container
   pub series : Named Series
 
 -- a store of a format, with so many element pages, that holds nothing
 abbrev pub empty_catalogue : ℕ → ℕ → Catalogue
-empty_catalogue format pages = record { format = format; pages = pages; row_types = empty; containers = empty; series = empty }
+empty_catalogue format pages = record { format = format; pages = pages; row_types = empty; patterns = empty; calendars = empty; containers = empty; series = empty }
 
 -- the same catalogue in the newest format
 abbrev pub in_newest_format : Catalogue → Catalogue
 in_newest_format cat = record cat { format = FORMAT }
+
+-- the pattern that a calendar's text gives: the one of a name, or its own
+abbrev pub pattern_of : Catalogue → PatternPart → Option Plan
+pattern_of cat (ByName name) = get cat.patterns name
+pattern_of cat (Own pattern) = Some pattern
+
+-- the calendar of a text with this pattern
+abbrev pub with_plan : CalendarText → Plan → CalendarPlan
+with_plan c pattern = record { start = c.start; patt_start = c.patt_start; pattern = pattern }
+
+-- the calendar that a text stands for; none where the pattern of that name is missing
+abbrev pub calendar_of : Catalogue → CalendarText → Option CalendarPlan
+calendar_of cat c = option_map (with_plan c) (pattern_of cat c.part)
 
 -- the row type of a series, that of its container
 abbrev pub heading_of : Catalogue → Series → Option Heading

@@ -1,7 +1,9 @@
--- The definitions of row types, containers and series, in numbered slots, and the format of their volume.
+-- The definitions of row types, patterns, calendars, containers and series, in numbered slots, and the format of their volume.
 use Rattle.std.specs.Prelude.{◌≡◌, ℕ, ◌+◌, ◌<◌, ◌⊎◌, Bool, true, false, List, [], ◌∷◌, length, map, replicate, slice_index_or, slice_set, position, is_none, Option, Some, None, option_map, option_and_then, bytes_eq, Contains}
 use Rattle.std.specs.FinMap.{from_entries}
 use Rattle.ts_row.specs.RowType.{Heading}
+use Rattle.ts_pattern.specs.Plan.{Plan}
+use Rattle.ts_calendar.specs.Plan.{CalendarPlan}
 use Rattle.ts_model.specs.Catalogue.{Named}
 use Rattle.ts_model.specs.declared.format.TheConstants.{OLD_FORMAT, FORMAT}
 use Rattle.ts_model.specs.declared.kind.Kind.{Kind}
@@ -13,6 +15,17 @@ use Rattle.ts_model.specs.declared.def.Def.TheVariants as defs
 pub record RowTypeDef : Type 0 where
   pub name : List ℕ
   pub heading : Heading
+
+-- a pattern: its name, its unit and its runs
+pub record PatternDef : Type 0 where
+  pub name : List ℕ
+  pub pattern : Plan
+
+-- a calendar: its name, its starts and its pattern, and the slot of the pattern by whose name it was made, if it was
+pub record CalendarDef : Type 0 where
+  pub name : List ℕ
+  pub calendar : CalendarPlan
+  pub by : Option ℕ
 
 -- a container: its name, the slot of its row type, and its quota
 pub record ContainerDef : Type 0 where
@@ -29,12 +42,16 @@ pub record SeriesDef : Type 0 where
 pub record Definitions : Type 0 where
   pub format : ℕ
   pub row_types : List (Option RowTypeDef)
+  pub patterns : List (Option PatternDef)
+  pub calendars : List (Option CalendarDef)
   pub containers : List (Option ContainerDef)
   pub series : List (Option SeriesDef)
 
 -- for which kinds an empty slot can be filled without taking memory
 pub record Room : Type 0 where
   pub row_types : Bool
+  pub patterns : Bool
+  pub calendars : Bool
   pub containers : Bool
   pub series : Bool
 
@@ -47,9 +64,15 @@ pub record Tables : Type 0 where
 abbrev pub IsFormat : ℕ → Type 0
 IsFormat format = (format ≡ OLD_FORMAT) ⊎ (format ≡ FORMAT)
 
--- how many slots there are for row types, for containers and for series
+-- how many slots there are for row types, for patterns, for calendars, for containers and for series
 abbrev pub row_type_slots : ℕ
 row_type_slots = 64
+
+abbrev pub pattern_slots : ℕ
+pattern_slots = 256
+
+abbrev pub calendar_slots : ℕ
+calendar_slots = 256
 
 abbrev pub container_slots : ℕ
 container_slots = 64
@@ -60,30 +83,46 @@ series_slots = 4096
 -- how many slots a kind has
 abbrev pub limit : Kind → ℕ
 limit kinds.RowType = row_type_slots
+limit kinds.Pattern = pattern_slots
+limit kinds.Calendar = calendar_slots
 limit kinds.Container = container_slots
 limit kinds.Series = series_slots
 
 -- what a definition defines
 abbrev pub kind_of : Def → Kind
 kind_of (defs.RowType name kind) = kinds.RowType
+kind_of (defs.Pattern name pattern) = kinds.Pattern
+kind_of (defs.Calendar name calendar by) = kinds.Calendar
 kind_of (defs.Container name row_type quota) = kinds.Container
 kind_of (defs.Series key container) = kinds.Series
 
 -- its name or its key
 abbrev pub name_of : Def → List ℕ
 name_of (defs.RowType name kind) = name
+name_of (defs.Pattern name pattern) = name
+name_of (defs.Calendar name calendar by) = name
 name_of (defs.Container name row_type quota) = name
 name_of (defs.Series key container) = key
 
 -- the definitions of a kind
 abbrev pub KindDef : Kind → Type 0
 KindDef kinds.RowType = RowTypeDef
+KindDef kinds.Pattern = PatternDef
+KindDef kinds.Calendar = CalendarDef
 KindDef kinds.Container = ContainerDef
 KindDef kinds.Series = SeriesDef
 
 -- a row type as a definition of any kind
 abbrev pub of_row_type : RowTypeDef → Def
 of_row_type r = defs.RowType r.name r.heading
+
+-- a pattern as one
+abbrev pub of_pattern : PatternDef → Def
+of_pattern p = defs.Pattern p.name p.pattern
+
+-- a calendar as one
+abbrev pub of_calendar : CalendarDef → Def
+of_calendar c = defs.Calendar c.name c.calendar c.by
 
 -- a container as one
 abbrev pub of_container : ContainerDef → Def
@@ -96,6 +135,8 @@ of_series s = defs.Series s.key s.container
 -- the same of each kind
 abbrev pub to_def : (kind : Kind) → KindDef kind → Def
 to_def kinds.RowType = of_row_type
+to_def kinds.Pattern = of_pattern
+to_def kinds.Calendar = of_calendar
 to_def kinds.Container = of_container
 to_def kinds.Series = of_series
 
@@ -103,6 +144,10 @@ to_def kinds.Series = of_series
 abbrev pub from_def : (kind : Kind) → Def → Option (KindDef kind)
 from_def kinds.RowType (defs.RowType name kind) = Some (record { name = name; heading = kind })
 from_def kinds.RowType other = None
+from_def kinds.Pattern (defs.Pattern name pattern) = Some (record { name = name; pattern = pattern })
+from_def kinds.Pattern other = None
+from_def kinds.Calendar (defs.Calendar name calendar by) = Some (record { name = name; calendar = calendar; by = by })
+from_def kinds.Calendar other = None
 from_def kinds.Container (defs.Container name row_type quota) = Some (record { name = name; row_type = row_type; quota = quota })
 from_def kinds.Container other = None
 from_def kinds.Series (defs.Series key container) = Some (record { key = key; container = container })
@@ -111,12 +156,16 @@ from_def kinds.Series other = None
 -- the table of a kind: its slots
 abbrev pub table_of : (kind : Kind) → Definitions → List (Option (KindDef kind))
 table_of kinds.RowType d = d.row_types
+table_of kinds.Pattern d = d.patterns
+table_of kinds.Calendar d = d.calendars
 table_of kinds.Container d = d.containers
 table_of kinds.Series d = d.series
 
 -- the definitions with another table of a kind
 abbrev pub with_table : (kind : Kind) → List (Option (KindDef kind)) → Definitions → Definitions
 with_table kinds.RowType table d = record d { row_types = table }
+with_table kinds.Pattern table d = record d { patterns = table }
+with_table kinds.Calendar table d = record d { calendars = table }
 with_table kinds.Container table d = record d { containers = table }
 with_table kinds.Series table d = record d { series = table }
 
@@ -140,9 +189,17 @@ at_slot slot table = slice_index_or table slot None
 abbrev pub def_at : Kind → ℕ → Definitions → Option Def
 def_at kind slot d = at_slot slot (slots kind d)
 
--- what a definition refers to: a container to the slot of its row type, a series to that of its container
+-- the slot of the pattern by whose name a calendar was made, as a list of one or none
+abbrev pub pattern_reference : Option ℕ → List (Kind × ℕ)
+pattern_reference None = []
+pattern_reference (Some slot) = (kinds.Pattern, slot) ∷ []
+
+-- what a definition refers to: a calendar that was made by a pattern's name to the slot of that pattern, a container to the slot of its row
+-- type, a series to that of its container
 abbrev pub references : Def → List (Kind × ℕ)
 references (defs.RowType name kind) = []
+references (defs.Pattern name pattern) = []
+references (defs.Calendar name calendar by) = pattern_reference by
 references (defs.Container name row_type quota) = (kinds.RowType, row_type) ∷ []
 references (defs.Series key container) = (kinds.Container, container) ∷ []
 
@@ -165,22 +222,33 @@ with_slot kind slot def d = with_table kind (slice_set (table_of kind d) slot (o
 -- whether a slot of a kind can be filled without taking memory
 abbrev pub has_room : Kind → Room → Bool
 has_room kinds.RowType room = room.row_types
+has_room kinds.Pattern room = room.patterns
+has_room kinds.Calendar room = room.calendars
 has_room kinds.Container room = room.containers
 has_room kinds.Series room = room.series
 
 -- room for a kind, and for the others as before
 abbrev pub with_room : Kind → Room → Room
 with_room kinds.RowType room = record room { row_types = true }
+with_room kinds.Pattern room = record room { patterns = true }
+with_room kinds.Calendar room = record room { calendars = true }
 with_room kinds.Container room = record room { containers = true }
 with_room kinds.Series room = record room { series = true }
 
 -- nothing defined, in the newest format
 abbrev pub no_definitions : Definitions
-no_definitions = record { format = FORMAT; row_types = replicate row_type_slots None; containers = replicate container_slots None; series = replicate series_slots None }
+no_definitions = record {
+  format = FORMAT;
+  row_types = replicate row_type_slots None;
+  patterns = replicate pattern_slots None;
+  calendars = replicate calendar_slots None;
+  containers = replicate container_slots None;
+  series = replicate series_slots None;
+}
 
 -- the same without room
 abbrev pub no_tables : Tables
-no_tables = record { definitions = no_definitions; room = record { row_types = false; containers = false; series = false } }
+no_tables = record { definitions = no_definitions; room = record { row_types = false; patterns = false; calendars = false; containers = false; series = false } }
 
 -- a slot is filled with what has this name
 abbrev pub has_name : List ℕ → Option Def → Bool
@@ -222,5 +290,7 @@ pub record IsTable {A : Type 0} (name : A → List ℕ) (count : ℕ) (table : L
 pub record IsDefinitions (d : Definitions) : Type 0 where
   pub format : IsFormat d.format
   pub row_types : IsTable (λ r. r.name) row_type_slots d.row_types
+  pub patterns : IsTable (λ p. p.name) pattern_slots d.patterns
+  pub calendars : IsTable (λ c. c.name) calendar_slots d.calendars
   pub containers : IsTable (λ c. c.name) container_slots d.containers
   pub series : IsTable (λ s. s.key) series_slots d.series

@@ -4,14 +4,26 @@ ghost use Rattle.ts_model.specs.Definitions.{name_of, kind_of};
 use crate::Kind;
 use std::alloc::AllocError;
 use ts_base::{Key, Name};
+use ts_calendar::Calendar;
+use ts_pattern::Pattern;
 use ts_row::RowType;
 
 /// The definition of an object: its name or key, and what it is. It names others by their slots.
-#[derive(Debug, Drop)]
+#[derive(Drop)]
 pub enum Def {
     RowType {
         name: Name,
         kind: RowType,
+    },
+    Pattern {
+        name: Name,
+        pattern: Pattern,
+    },
+    /// Where it was made by a pattern's name, `by` is the slot of that pattern, and its runs are the pattern's.
+    Calendar {
+        name: Name,
+        calendar: Calendar,
+        by: Option<u8>,
     },
     /// Its row type is the one in slot `row_type`; its series may be charged `quota` pages at most.
     Container {
@@ -32,7 +44,10 @@ impl Def {
         ensures { result.now ≡ name_of self.now }
     {
         match self {
-            Def::RowType { name, .. } | Def::Container { name, .. } => name.as_slice(),
+            Def::RowType { name, .. }
+            | Def::Pattern { name, .. }
+            | Def::Calendar { name, .. }
+            | Def::Container { name, .. } => name.as_slice(),
             Def::Series { key, .. } => key.as_slice(),
         }
     }
@@ -43,6 +58,8 @@ impl Def {
     {
         match self {
             Def::RowType { .. } => Kind::RowType,
+            Def::Pattern { .. } => Kind::Pattern,
+            Def::Calendar { .. } => Kind::Calendar,
             Def::Container { .. } => Kind::Container,
             Def::Series { .. } => Kind::Series,
         }
@@ -55,6 +72,15 @@ impl Def {
             Def::RowType { name, kind } => Def::RowType {
                 name: name.copy()?,
                 kind: kind.copy()?,
+            },
+            Def::Pattern { name, pattern } => Def::Pattern {
+                name: name.copy()?,
+                pattern: pattern.copy()?,
+            },
+            Def::Calendar { name, calendar, by } => Def::Calendar {
+                name: name.copy()?,
+                calendar: calendar.copy()?,
+                by: *by,
             },
             Def::Container {
                 name,

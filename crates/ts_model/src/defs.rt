@@ -7,11 +7,13 @@ use crate::{Def, FORMAT, Kind};
 use std::alloc::{AllocError, Global};
 use std::marker::Model;
 
-/// Row types, containers and series in numbered slots, each found by its name.
+/// Row types, patterns, calendars, containers and series in numbered slots, each found by its name.
 #[derive(Drop)]
 pub struct Defs {
     format: u8,
     row_types: Table,
+    patterns: Table,
+    calendars: Table,
     containers: Table,
     series: Table,
 }
@@ -22,9 +24,9 @@ impl Model for Defs {
 
     ghost Value = { Tables };
 
-    ghost view = { λ d. tables_of d.format d.row_types d.containers d.series };
+    ghost view = { λ d. tables_of d.format d.row_types d.patterns d.calendars d.containers d.series };
 
-    ghost invariant = { λ d. AreParts d.format d.row_types d.containers d.series };
+    ghost invariant = { λ d. AreParts d.format d.row_types d.patterns d.calendars d.containers d.series };
 }
 
 impl Defs {
@@ -35,6 +37,8 @@ impl Defs {
         Defs {
             format: FORMAT,
             row_types: Table::new(alloc, Kind::RowType.limit()),
+            patterns: Table::new(alloc, Kind::Pattern.limit()),
+            calendars: Table::new(alloc, Kind::Calendar.limit()),
             containers: Table::new(alloc, Kind::Container.limit()),
             series: Table::new(alloc, Kind::Series.limit()),
         }
@@ -99,6 +103,8 @@ impl Defs {
     {
         match kind {
             Kind::RowType => self.row_types.reserve(),
+            Kind::Pattern => self.patterns.reserve(),
+            Kind::Calendar => self.calendars.reserve(),
             Kind::Container => self.containers.reserve(),
             Kind::Series => self.series.reserve(),
         }
@@ -115,6 +121,8 @@ impl Defs {
     {
         match kind {
             Kind::RowType => self.row_types.set(slot, def),
+            Kind::Pattern => self.patterns.set(slot, def),
+            Kind::Calendar => self.calendars.set(slot, def),
             Kind::Container => self.containers.set(slot, def),
             Kind::Series => self.series.set(slot, def),
         }
@@ -128,6 +136,8 @@ impl Defs {
     {
         match kind {
             Kind::RowType => &self.row_types,
+            Kind::Pattern => &self.patterns,
+            Kind::Calendar => &self.calendars,
             Kind::Container => &self.containers,
             Kind::Series => &self.series,
         }

@@ -5,6 +5,8 @@ ghost use Rattle.ts_model.specs.Definitions.{limit};
 #[derive(Clone, Copy, Debug, PartialEq, Eq)]
 pub enum Kind {
     RowType,
+    Pattern,
+    Calendar,
     Container,
     Series,
 }
@@ -16,6 +18,7 @@ impl Kind {
     {
         match self {
             Kind::RowType | Kind::Container => 64,
+            Kind::Pattern | Kind::Calendar => 256,
             Kind::Series => 4096,
         }
     }

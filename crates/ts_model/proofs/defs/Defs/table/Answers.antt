@@ -1,29 +1,33 @@
-use Rattle.std.proofs.Common.{sym, subst, ◌∙◌}
 use Rattle.ts_model.specs.declared.kind.Kind.TheVariants as kinds
-use Rattle.ts_model.specs.Definitions.{Tables, slots, IsDefinitions}
-use Rattle.ts_model.proofs.PartsLemmas.{read-back, parts-rules}
+use Rattle.ts_model.proofs.PartsLemmas.{part-slots, parts-rules}
 use Rattle.ts_model.proofs.defs.Defs.table.Goals as goal
 
 pub returns-in-RowType-clause-slots : goal.returns-in-RowType-clause-slots
-returns-in-RowType-clause-slots c =
-    sym (read-back kinds.RowType c.self.inside.row_types.slots c.self.invariant.row_types.kinds)
-    ∙ (λ i. slots (sym c.in-RowType.is i) (c.self.view_is i).definitions)
+returns-in-RowType-clause-slots c = part-slots kinds.RowType c.args.kind c.self.inside c.args.self.now c.self.invariant c.in-RowType.is c.self.view_is
 
 pub returns-in-RowType-clause-rules : goal.returns-in-RowType-clause-rules
-returns-in-RowType-clause-rules c = subst (λ (t : Tables). IsDefinitions t.definitions) c.self.view_is (parts-rules _ _ _ _ c.self.invariant)
+returns-in-RowType-clause-rules c = parts-rules c.self.inside c.args.self.now c.self.invariant c.self.view_is
+
+pub returns-in-Pattern-clause-slots : goal.returns-in-Pattern-clause-slots
+returns-in-Pattern-clause-slots c = part-slots kinds.Pattern c.args.kind c.self.inside c.args.self.now c.self.invariant c.in-Pattern.is c.self.view_is
+
+pub returns-in-Pattern-clause-rules : goal.returns-in-Pattern-clause-rules
+returns-in-Pattern-clause-rules c = parts-rules c.self.inside c.args.self.now c.self.invariant c.self.view_is
+
+pub returns-in-Calendar-clause-slots : goal.returns-in-Calendar-clause-slots
+returns-in-Calendar-clause-slots c = part-slots kinds.Calendar c.args.kind c.self.inside c.args.self.now c.self.invariant c.in-Calendar.is c.self.view_is
+
+pub returns-in-Calendar-clause-rules : goal.returns-in-Calendar-clause-rules
+returns-in-Calendar-clause-rules c = parts-rules c.self.inside c.args.self.now c.self.invariant c.self.view_is
 
 pub returns-in-Container-clause-slots : goal.returns-in-Container-clause-slots
-returns-in-Container-clause-slots c =
-    sym (read-back kinds.Container c.self.inside.containers.slots c.self.invariant.containers.kinds)
-    ∙ (λ i. slots (sym c.in-Container.is i) (c.self.view_is i).definitions)
+returns-in-Container-clause-slots c = part-slots kinds.Container c.args.kind c.self.inside c.args.self.now c.self.invariant c.in-Container.is c.self.view_is
 
 pub returns-in-Container-clause-rules : goal.returns-in-Container-clause-rules
-returns-in-Container-clause-rules c = subst (λ (t : Tables). IsDefinitions t.definitions) c.self.view_is (parts-rules _ _ _ _ c.self.invariant)
+returns-in-Container-clause-rules c = parts-rules c.self.inside c.args.self.now c.self.invariant c.self.view_is
 
 pub returns-in-Series-clause-slots : goal.returns-in-Series-clause-slots
-returns-in-Series-clause-slots c =
-    sym (read-back kinds.Series c.self.inside.series.slots c.self.invariant.series.kinds)
-    ∙ (λ i. slots (sym c.in-Series.is i) (c.self.view_is i).definitions)
+returns-in-Series-clause-slots c = part-slots kinds.Series c.args.kind c.self.inside c.args.self.now c.self.invariant c.in-Series.is c.self.view_is
 
 pub returns-in-Series-clause-rules : goal.returns-in-Series-clause-rules
-returns-in-Series-clause-rules c = subst (λ (t : Tables). IsDefinitions t.definitions) c.self.view_is (parts-rules _ _ _ _ c.self.invariant)
+returns-in-Series-clause-rules c = parts-rules c.self.inside c.args.self.now c.self.invariant c.self.view_is
