@@ -1,12 +1,11 @@
 -- The spans of one series among those of all, which are sorted.
-use Rattle.std.specs.Prelude.{All}
-use Rattle.std.proofs.Common.{◌≡◌, ℕ, zero, suc, ◌+◌, ◌-◌, ◌<◌, ◌≤◌, List, [], ◌∷◌, length, map, get_or, take, drop, refl, sym, ap, subst, ◌∙◌, arith, inl, inr, get_or-set_other}
+use Rattle.std.proofs.Common.{◌≡◌, ℕ, zero, suc, ◌+◌, ◌-◌, ◌<◌, ◌≤◌, List, [], ◌∷◌, length, get_or, take, drop, refl, sym, ap, subst, ◌∙◌, arith, inl, inr, get_or-set_other}
 use Rattle.std.specs.List.{AllWithin}
 use Rattle.std.proofs.lemmas.Bool.{cases_eq, cases_lt}
 use Rattle.ts_space.specs.declared.place.Place.{Place}
 use Rattle.ts_space.specs.Directory.{Directory, places_of, ChangesOnly}
 use Rattle.ts_container.specs.declared.span.Span.{Span}
-use Rattle.ts_container.specs.Spans.{spans_in, place_in, places_in}
+use Rattle.ts_container.specs.Spans.{spans_in, places_in}
 use Rattle.ts_container.proofs.SpanLemmas.{in_own, in_others}
 
 -- some before them, those of the series, and those behind

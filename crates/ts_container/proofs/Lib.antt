@@ -1,5 +1,10 @@
 pub mod PartLemmas
 pub mod ParseLemmas
+pub mod CalendarLemmas
+pub mod WrittenLemmas
+pub mod FollowLemmas
+pub mod FilledLemmas
+pub mod FlawLemmas
 pub mod ReadLemmas
 pub mod WriteLemmas
 pub mod SpanLemmas

@@ -10,7 +10,7 @@ use Rattle.ts_model.specs.declared.def.Def.{Def}
 use Rattle.ts_model.specs.Definitions.{kind_of}
 use Rattle.ts_model.specs.declared.kind.Kind.{Kind}
 use Rattle.ts_container.specs.declared.slot.Reading.TheVariants.{Bad, Empty}
-use Rattle.ts_layout.specs.Slot.{column_bytes, columns_bytes, def_bytes, slot_size}
+use Rattle.ts_layout.specs.Slot.{column_bytes, columns_bytes, def_bytes, slot_bytes, slot_size}
 use Rattle.ts_container.specs.Reading.{IsReadingOf}
 use Rattle.ts_layout.specs.Limits.{IsDef}
 use Rattle.ts_layout.proofs.CallerLemmas.{AreNamed, named_first, named_others, first_column, slot_empty, slot_filled}
@@ -86,8 +86,12 @@ few_columns stamp columns is = grind (arith, nat_tests)
 pub reads_empty : (format : ℕ) (kind : Kind) (bytes : List ℕ) → length bytes ≡ slot_size kind → bytes ≡ replicate (length bytes) 0 → IsReadingOf format kind bytes Empty
 reads_empty format kind bytes size zeros = zeros ∙ ap (λ n. replicate n 0) size ∙ sym (slot_empty kind)
 
+-- an empty slot is zeros
+pub not_empty : (kind : Kind) (bytes : List ℕ) → length bytes ≡ slot_size kind → (bytes ≡ replicate (length bytes) 0 → ⊥) → bytes ≡ slot_bytes kind None → ⊥
+not_empty kind bytes size some same = some (same ∙ slot_empty kind ∙ ap (λ n. replicate n 0) (sym size))
+
 -- bytes that are neither zeros nor a definition's are no slot
 pub reads_bad : (format : ℕ) (kind : Kind) (bytes : List ℕ) → length bytes ≡ slot_size kind → (bytes ≡ replicate (length bytes) 0 → ⊥)
     → ((def : Def) → kind_of def ≡ kind → IsDef format def → bytes ≡ def_bytes def → ⊥) → IsReadingOf format kind bytes Bad
-reads_bad format kind bytes size some other None is same = some (same ∙ slot_empty kind ∙ ap (λ n. replicate n 0) (sym size))
+reads_bad format kind bytes size some other None is same = not_empty kind bytes size some same
 reads_bad format kind bytes size some other (Some def) is same = other def is.0 is.1 (same ∙ slot_filled kind def)

@@ -1,10 +1,10 @@
 -- Bytes that are written into a slice part by part.
-use Rattle.std.proofs.Common.{◌≡◌, ℕ, suc, ◌+◌, ◌-◌, ◌*◌, ◌≤◌, List, [], ◌∷◌, ◌++◌, length, take, drop, set, replicate, sym, ap, ◌∙◌, arith, append_assoc, length-append, length-drop, length-take, length-set}
+use Rattle.std.proofs.Common.{◌≡◌, ℕ, ◌+◌, ◌-◌, ◌≤◌, List, [], ◌∷◌, ◌++◌, length, take, drop, set, replicate, sym, ap, ◌∙◌, arith, append_assoc, length-append, length-drop, length-take, length-set}
 use borrow.Rule.Slice.PartMut.{put_mid}
 use Rattle.std.proofs.lemmas.List.{drop_all, drop-replicate, append-nil}
 use Rattle.std.proofs.lemmas.Slice.{take-put_mid}
-use Rattle.ts_row.specs.declared.kind.Column.{Column}
-use Rattle.ts_layout.specs.Slot.{padded, column_bytes, columns_bytes}
+use Rattle.std.specs.List.{flat_map}
+use Rattle.ts_layout.specs.Slot.{padded}
 
 -- bytes in front of padded ones
 pub padded-append : (size : ℕ) (front bytes : List ℕ) → padded size (front ++ bytes) ≡ front ++ padded (size - length front) bytes
@@ -78,21 +78,20 @@ parts_padded w k into cell rest a b first second width long room =
     let left : length (take (length (put_mid 0 w into cell) - w) (drop w (put_mid 0 w into cell))) ≡ k = simp (length-take, length-drop) (omega (arith, size)) in
     parts w into cell rest a (padded k b) first (second ∙ ap (λ n. padded n b) left) width long (omega arith)
 
--- one column more
-pub columns_more : (c : Column) (columns cs : List Column) (into cell rest : List ℕ) → columns ≡ c ∷ cs → cell ≡ column_bytes c → length cell ≡ length (take 36 into)
-    → rest ≡ padded (length (take (length (put_mid 0 36 into cell) - 36) (drop 36 (put_mid 0 36 into cell)))) (columns_bytes cs)
-    → length rest ≡ length (take (length (put_mid 0 36 into cell) - 36) (drop 36 (put_mid 0 36 into cell))) → 36 * length columns ≤ length into
-    → put_mid 36 (length (put_mid 0 36 into cell) - 36) (put_mid 0 36 into cell) rest ≡ padded (length into) (columns_bytes columns)
-columns_more c columns cs into cell rest split first width second long room =
-    let some : length columns ≡ suc (length cs) = ap length split in
-    let wide : length cell ≡ 36 = width ∙ sym (front 36 into (omega arith)) in
-    parts_padded 36 (length into - 36) into cell rest cell (columns_bytes cs) (λ i. cell) second width long (omega arith)
-    ∙ ap (λ n. cell ++ padded (length into - n) (columns_bytes cs)) (sym wide)
-    ∙ sym (padded-append (length into) cell (columns_bytes cs))
-    ∙ ap (λ l. padded (length into) (l ++ columns_bytes cs)) first
-    ∙ ap (λ l. padded (length into) (columns_bytes l)) (sym split)
+-- one more of some things that have so many bytes each
+pub one_more : {A : Type 0} (f : A → List ℕ) (w : ℕ) (x : A) (all xs : List A) (into cell rest : List ℕ) → all ≡ x ∷ xs → cell ≡ f x → length cell ≡ length (take w into)
+    → rest ≡ padded (length (take (length (put_mid 0 w into cell) - w) (drop w (put_mid 0 w into cell)))) (flat_map f xs)
+    → length rest ≡ length (take (length (put_mid 0 w into cell) - w) (drop w (put_mid 0 w into cell))) → w ≤ length into
+    → put_mid w (length (put_mid 0 w into cell) - w) (put_mid 0 w into cell) rest ≡ padded (length into) (flat_map f all)
+one_more f w x all xs into cell rest split first width second long room =
+    let wide : length cell ≡ w = width ∙ sym (front w into room) in
+    parts_padded w (length into - w) into cell rest cell (flat_map f xs) (λ i. cell) second width long (omega arith)
+    ∙ ap (λ n. cell ++ padded (length into - n) (flat_map f xs)) (sym wide)
+    ∙ sym (padded-append (length into) cell (flat_map f xs))
+    ∙ ap (λ l. padded (length into) (l ++ flat_map f xs)) first
+    ∙ ap (λ l. padded (length into) (flat_map f l)) (sym split)
 
--- no column
-pub columns_none : (columns : List Column) (size : ℕ) (into : List ℕ) → length columns ≡ 0 → into ≡ padded size [] → into ≡ padded size (columns_bytes columns)
-columns_none [] size into none is = is
-columns_none (c ∷ cs) size into none is = absurd (omega arith)
+-- none of them
+pub no_more : {A : Type 0} (f : A → List ℕ) (all : List A) (size : ℕ) (into : List ℕ) → length all ≡ 0 → into ≡ padded size [] → into ≡ padded size (flat_map f all)
+no_more f [] size into none is = is
+no_more f (x ∷ xs) size into none is = absurd (omega arith)

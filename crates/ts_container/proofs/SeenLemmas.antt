@@ -1,7 +1,7 @@
 -- Pages of series with their elements, as they were found: those of one series are a chain where their spans are apart and dense, and
 -- only there.
-use Rattle.std.specs.Prelude.{All, AllPairs, IsPermutation}
-use Rattle.std.proofs.Common.{◌≡◌, ℕ, zero, suc, ◌+◌, ◌<◌, ◌≤◌, ◌==◌, Bool, true, false, cond, if◌then◌else◌, Option, Some, None, List, [], ◌∷◌, ◌++◌, length, map, filter, get_or, refl, sym, ap, subst, ◌∙◌, arith, inl, inr, ℤ, ◌<ℤ◌, ◌≤ℤ◌}
+use Rattle.std.specs.Prelude.{All, AllPairs}
+use Rattle.std.proofs.Common.{◌≡◌, ℕ, zero, suc, ◌+◌, ◌<◌, ◌≤◌, ◌==◌, Bool, true, false, cond, if◌then◌else◌, Option, Some, List, [], ◌∷◌, ◌++◌, length, map, filter, get_or, refl, sym, ap, subst, ◌∙◌, arith, ℤ, ◌<ℤ◌, ◌≤ℤ◌}
 use Rattle.std.specs.Option.{unwrap_or}
 use Rattle.std.proofs.lemmas.Int.{ints}
 use Rattle.std.proofs.lemmas.List.{map-append}

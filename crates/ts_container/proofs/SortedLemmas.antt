@@ -1,6 +1,6 @@
 -- The spans of all pages, sorted: they are apart and dense exactly where the pages of each series are a chain.
 use Rattle.std.specs.Prelude.{All, AllPairs, IsPermutation}
-use Rattle.std.proofs.Common.{◌≡◌, ℕ, suc, ◌+◌, ◌<◌, ◌==◌, ◌⊎◌, Bool, true, false, cond, if◌then◌else◌, Option, Some, List, [], ◌∷◌, ◌++◌, map, filter, get_or, refl, sym, ap, subst, ◌∙◌, arith, inl, inr, ℤ, ◌<ℤ◌, ◌≤ℤ◌}
+use Rattle.std.proofs.Common.{◌≡◌, ℕ, suc, ◌+◌, ◌<◌, ◌==◌, ◌⊎◌, Bool, true, false, cond, if◌then◌else◌, Option, Some, List, [], ◌∷◌, ◌++◌, map, filter, refl, sym, ap, subst, ◌∙◌, arith, inl, inr, ◌<ℤ◌}
 use Rattle.std.specs.List.{flat_map}
 use Rattle.std.proofs.lemmas.Bool.Decides.{nat_tests}
 use Rattle.std.proofs.lemmas.Int.{ints}
@@ -13,9 +13,9 @@ use Rattle.ts_space.specs.Place.{place_of}
 use Rattle.ts_cells.specs.Cell.{Element, page_room}
 use Rattle.ts_chain.specs.Chain.{ArePages, IsDense}
 use Rattle.ts_model.specs.Definitions.{Definitions}
-use Rattle.ts_layout.specs.Meaning.{ElementPage, Free, Cells, heading_at, cells_of, IsInChain}
+use Rattle.ts_layout.specs.Meaning.{ElementPage, Free, Cells, heading_at, IsInChain}
 use Rattle.ts_layout.specs.Surveyed.{places_on, places_from}
-use Rattle.ts_layout.proofs.CallerLemmas.{Lifted, lifted, rising_once, pairs_permuted, flat_map_permuted}
+use Rattle.ts_layout.proofs.CallerLemmas.{lifted, rising_once, pairs_permuted, flat_map_permuted}
 use Rattle.ts_container.specs.declared.span.Span.{Span}
 use Rattle.ts_container.specs.Spans.{span_of, span_on, spans_from, spans_in, place_in, places_in, IsSpan, Follows, AreSorted, IsApart, AreApart, AreMore, AreDense}
 use Rattle.ts_container.proofs.SpanLemmas.{Neighbours, Ends, neighbours_from, neighbours_to, neighbours_pairs, neighbours_weaker, neighbours_both, neighbours_map, map_neighbours, near_in, near_all, in_series, rising_from, ends_in, rising_in}

@@ -6,12 +6,11 @@ use Rattle.ts_page.specs.Pages.{Contents, EqualPages}
 use Rattle.ts_space.specs.declared.place.Place.{Place}
 use Rattle.ts_space.specs.Place.{count_of, IsRising}
 use Rattle.ts_space.specs.Directory.{Directory, places_of}
-use Rattle.ts_row.specs.RowType.{Heading}
 use Rattle.ts_row.specs.declared.kind.Column.{Column}
-use Rattle.ts_cells.specs.Cell.{page_room, cell_size}
+use Rattle.ts_cells.specs.Cell.{page_room}
 use Rattle.ts_model.specs.Definitions.{Definitions, IsFormat, IsDefinitions}
 use Rattle.ts_layout.specs.Slot.{header_bytes}
-use Rattle.ts_layout.specs.Meaning.{ElementPage, Free, Cells, element_page, elements_on, elements_of, Layout, heading_at, HoldsDefinitions, HoldsElements, KeepLimits, AreThere, AreSound, sum_of_quotas, IsInChain, IsSound, IsLaidOut, HoldAll}
+use Rattle.ts_layout.specs.Meaning.{ElementPage, Free, Cells, element_page, elements_on, elements_of, Layout, HoldsDefinitions, HoldsElements, KeepLimits, AreThere, AreFollowing, AreSound, sum_of_quotas, IsSound, IsLaidOut, HoldAll}
 use Rattle.ts_layout.specs.Surveyed.{ListsPlaces, places_from}
 use Rattle.ts_container.specs.Reading.{HoldNone}
 use Rattle.ts_layout.specs.Charges.{AreCountable, KeepQuotas}
@@ -19,11 +18,12 @@ use Rattle.ts_container.specs.declared.span.Span.{Span}
 use Rattle.ts_container.specs.Spans.{spans_from, places_in, AreSorted, AreApart, AreDense, IsSpan, Lists}
 use Rattle.ts_container.specs.Elements.{HoldNoElements, AllRead, ElementsRead, IsReadAs}
 use Rattle.ts_container.specs.Survey.{Reads, IfRefused, HoldUnless, DefinitionsRead, SoundRead, IsFound, HoldNoLayout}
+use Rattle.ts_container.specs.declared.found.Flaws.{Flaws}
 use Rattle.ts_container.specs.declared.fault.SurveyFault.{SurveyFault}
 use Rattle.ts_container.specs.declared.fault.SurveyFault.TheVariants.{NotAStore, Failed, Memory}
 use Rattle.ts_container.specs.declared.surveyed.Surveyed.{Surveyed}
 use Rattle.ts_layout.specs.Chains.{AreFilled}
-use Rattle.ts_layout.proofs.CallerLemmas.{within_list, header_format, unique, kept_in, same_page, same_pages, count_places, quotas_kept, quotas_listed}
+use Rattle.ts_layout.proofs.CallerLemmas.{within_list, header_format, AreInPages, unique, kept_in, same_page, same_pages, count_places, quotas_kept, quotas_listed}
 use Rattle.ts_container.proofs.SurveyLemmas.{reads_more, reads_err, reads_refused}
 use Rattle.ts_container.proofs.SpanLemmas.{rising_in}
 use Rattle.ts_container.proofs.SeenLemmas.{AllHeld}
@@ -51,30 +51,50 @@ its_format format count pages header l laid = header_format l.definitions.format
 
 -- no definitions
 pub no_definitions : (format count : ℕ) (pages : ℕ → List ℕ) → HasFormat format count pages → HoldNone format pages → HoldNoLayout count pages
-no_definitions format count pages header none l laid = none l.definitions (its_format format count pages header l laid) laid.bytes.definitions laid.rules.definitions.limits laid.rules.definitions.tables
+no_definitions format count pages header none l laid = none (length l.element_pages) l.definitions (its_format format count pages header l laid) laid.bytes.definitions laid.rules.definitions
+
+-- sound definitions in pages
+in_pages : (count : ℕ) (pages : ℕ → List ℕ) (d : Definitions) → HoldsDefinitions pages d → AreSound count d → AreInPages pages d
+in_pages count pages d holds sound = record { holds = holds; limits = sound.limits; rules = sound.tables; follow = sound.follow }
 
 -- each layout has the definitions that were read
-pub the_definitions : (count : ℕ) (pages : ℕ → List ℕ) (d : Definitions) → HasFormat d.format count pages → HoldsDefinitions pages d → KeepLimits d → IsDefinitions d → (l : Layout) → IsLaidOut count pages l → l.definitions ≡ d
-the_definitions count pages d header holds limits rules l laid =
-    unique pages l.definitions d (its_format d.format count pages header l laid) laid.bytes.definitions laid.rules.definitions.limits laid.rules.definitions.tables holds limits rules
+pub the_definitions : (count : ℕ) (pages : ℕ → List ℕ) (d : Definitions) → HasFormat d.format count pages → AreInPages pages d → (l : Layout) → IsLaidOut count pages l → l.definitions ≡ d
+the_definitions count pages d header there l laid =
+    unique pages l.definitions d (in_pages (length l.element_pages) pages l.definitions laid.bytes.definitions laid.rules.definitions) there (its_format d.format count pages header l laid)
 
--- a repeated name, or a reference to an empty slot
-pub not_apart : (count : ℕ) (pages : ℕ → List ℕ) (d : Definitions) (repeated dangling : Option ℕ) → HasFormat d.format count pages → HoldUnless d.format repeated pages d → KeepLimits d → IsDefinitions d → MatchOption dangling (AreThere d) (λ _. AreThere d → ⊥) → IsSome repeated ⊎ IsSome dangling → HoldNoLayout count pages
-not_apart count pages d (Some number) dangling header known limits rules there some = no_definitions d.format count pages header known
-not_apart count pages d None (Some number) header known limits rules there some = λ l laid.
-    there (subst AreThere (the_definitions count pages d header known limits rules l laid) laid.rules.definitions.references)
-not_apart count pages d None None header known limits rules there some = elim some [ inl one ↦ absurd (cc) | inr two ↦ absurd (cc) ]
+-- definitions that were read of pages; they hold these unless there is a flaw
+pub record AreRead (pages : ℕ → List ℕ) (d : Definitions) (flaw : Option ℕ) : Type 0 where
+  pub known : HoldUnless d.format flaw pages d
+  pub limits : KeepLimits d
+  pub rules : IsDefinitions d
+  pub follow : AreFollowing d
+
+pub are_read : (own : ℕ) (pages : ℕ → List ℕ) (d : Definitions) (flaw : Option ℕ) → d.format ≡ own → HoldUnless own flaw pages d → KeepLimits d → IsDefinitions d → AreFollowing d → AreRead pages d flaw
+are_read own pages d flaw same known limits rules follow =
+    record { known = subst (λ (n : ℕ). HoldUnless n flaw pages d) (sym same) known; limits = limits; rules = rules; follow = follow }
+
+-- where there is none, they stand there
+pub in_place : (pages : ℕ → List ℕ) (d : Definitions) (flaw : Option ℕ) → flaw ≡ None → AreRead pages d flaw → AreInPages pages d
+in_place pages d None none read = record { holds = read.known; limits = read.limits; rules = read.rules; follow = read.follow }
+in_place pages d (Some number) none read = absurd (cc)
+
+-- a flaw, or a reference to an empty slot
+pub not_apart : (count : ℕ) (pages : ℕ → List ℕ) (d : Definitions) (flaw dangling : Option ℕ) → HasFormat d.format count pages → AreRead pages d flaw → MatchOption dangling (AreThere d) (λ _. AreThere d → ⊥) → IsSome flaw ⊎ IsSome dangling → HoldNoLayout count pages
+not_apart count pages d (Some number) dangling header read there some = no_definitions d.format count pages header read.known
+not_apart count pages d None (Some number) header read there some = λ l laid.
+    there (subst AreThere (the_definitions count pages d header (in_place pages d None refl read) l laid) laid.rules.definitions.references)
+not_apart count pages d None None header read there some = elim some [ inl one ↦ absurd (cc) | inr two ↦ absurd (cc) ]
 
 -- quotas that are too much together
-pub not_granted : (count : ℕ) (pages : ℕ → List ℕ) (d : Definitions) → HasFormat d.format count pages → HoldsDefinitions pages d → KeepLimits d → IsDefinitions d → (sum_of_quotas d.containers ≤ count - 930 → ⊥) → HoldNoLayout count pages
-not_granted count pages d header holds limits rules more l laid =
-    let same = the_definitions count pages d header holds limits rules l laid in
+pub not_granted : (count : ℕ) (pages : ℕ → List ℕ) (d : Definitions) → HasFormat d.format count pages → AreInPages pages d → (sum_of_quotas d.containers ≤ count - 930 → ⊥) → HoldNoLayout count pages
+not_granted count pages d header there more l laid =
+    let same = the_definitions count pages d header there l laid in
     more (subst (λ (n : ℕ). sum_of_quotas d.containers ≤ n) (size_of count l laid.size) (subst (λ (x : Definitions). sum_of_quotas x.containers ≤ length l.element_pages) same laid.rules.definitions.quotas))
 
 -- the element pages of each layout
 its_pages : (count : ℕ) (pages : ℕ → List ℕ) (d : Definitions) → HasFormat d.format count pages → HoldsDefinitions pages d → AreSound (count - 930) d → (l : Layout) → IsLaidOut count pages l → HoldAll d pages l.element_pages
 its_pages count pages d header holds sound l laid j within =
-    subst (λ (x : Definitions). HoldsElements x (pages (930 + j)) (element_page j l.element_pages)) (the_definitions count pages d header holds sound.limits sound.tables l laid) (laid.bytes.elements j within)
+    subst (λ (x : Definitions). HoldsElements x (pages (930 + j)) (element_page j l.element_pages)) (the_definitions count pages d header (in_pages (count - 930) pages d holds sound) l laid) (laid.bytes.elements j within)
 
 -- a bad element page
 pub no_elements : (count : ℕ) (pages : ℕ → List ℕ) (d : Definitions) → HasFormat d.format count pages → HoldsDefinitions pages d → AreSound (count - 930) d → HoldNoElements (count - 930) d pages → HoldNoLayout count pages
@@ -103,7 +123,7 @@ its_rules tells count d v es told size seen header holds sound l laid =
     let mine = told_pages tells (count - 930) d v es told size seen in
     let its = its_pages count v.page d header holds sound l laid in
     let pages : l.element_pages ≡ es = sym (same_pages es l.element_pages long (λ j within. same_page d (v.page (930 + j)) (element_page j es) (element_page j l.element_pages) sound.limits sound.tables (mine j within) (its j (omega (arith, within, long))))) in
-    let definitions : l.definitions ≡ d = the_definitions count v.page d header holds sound.limits sound.tables l laid in
+    let definitions : l.definitions ≡ d = the_definitions count v.page d header (in_pages (count - 930) v.page d holds sound) l laid in
     subst IsSound (λ i. the_layout (definitions i) (pages i)) laid.rules
 
 -- the spans of the pages that were read, in the order of a sort
@@ -247,9 +267,9 @@ sound_err tells format count e d u v w header first read = record {
   refused = refused_so e (IsTrue tells → HoldNone format v.page) (IsTrue tells → HoldNoLayout count u.page) (λ none told. no_definitions format count u.page (header told) (none_before format u.page v.page (first.pages told) (none told))) read.refused;
 }
 
-pub sound_refused : (tells : Bool) (count number : ℕ) (repeated : Option ℕ) (u v w : Contents) → Reads tells (Ok (tt {0})) u v → Reads tells (Ok repeated) v w → (IsTrue tells → HoldNoLayout count u.page) → SoundRead tells count (Err (NotAStore number)) u w
-sound_refused tells count number repeated u v w first second none = record {
-  call = reads_more tells tt (Err (NotAStore number)) u v w first (reads_refused tells repeated number v w second);
+pub sound_refused : (tells : Bool) (count number : ℕ) (flaws : Flaws) (u v w : Contents) → Reads tells (Ok (tt {0})) u v → Reads tells (Ok flaws) v w → (IsTrue tells → HoldNoLayout count u.page) → SoundRead tells count (Err (NotAStore number)) u w
+sound_refused tells count number flaws u v w first second none = record {
+  call = reads_more tells tt (Err (NotAStore number)) u v w first (reads_refused tells flaws number v w second);
   read = tt;
   header = tt;
   known = tt;
@@ -257,17 +277,13 @@ sound_refused tells count number repeated u v w first second none = record {
 }
 
 -- what is known of the pages as they were before
-pub known_before : (tells : Bool) (format : ℕ) (repeated : Option ℕ) (d : Definitions) (u v : Contents) → Reads tells (Ok (tt {0})) u v → (IsTrue tells → HoldUnless format repeated v.page d) → IsTrue tells → HoldUnless format repeated u.page d
-known_before tells format repeated d u v first known told = subst (λ (p : ℕ → List ℕ). HoldUnless format repeated p d) (equal_pages u.page v.page (first.pages told)) (known told)
+pub known_before : (tells : Bool) (format : ℕ) (flaw : Option ℕ) (d : Definitions) (u v : Contents) → Reads tells (Ok (tt {0})) u v → (IsTrue tells → HoldUnless format flaw v.page d) → IsTrue tells → HoldUnless format flaw u.page d
+known_before tells format flaw d u v first known told = subst (λ (p : ℕ → List ℕ). HoldUnless format flaw p d) (equal_pages u.page v.page (first.pages told)) (known told)
 
 -- where there is no number
 pub there_unless : (o : Option ℕ) (A B : Type 0) → o ≡ None → MatchOption o A (λ _. B) → A
 there_unless None A B none is = is
 there_unless (Some n) A B none is = absurd (cc)
-
-pub known_apart : (format : ℕ) (o : Option ℕ) (pages : ℕ → List ℕ) (d : Definitions) → o ≡ None → HoldUnless format o pages d → HoldsDefinitions pages d
-known_apart format None pages d none known = known
-known_apart format (Some n) pages d none known = absurd (cc)
 
 -- the elements of pages that were read are none
 pub elements_refused : (tells : Bool) (count : ℕ) (r : Result Surveyed SurveyFault) (e : SurveyFault) (d : Definitions) (u v w : Contents) → r ≡ Err e → Reads tells (Ok (tt {0})) u v → (IsTrue tells → HasFormat d.format count u.page) → (IsTrue tells → HoldsDefinitions u.page d) → AreSound (count - 930) d → ElementsRead tells (count - 930) d (Err e) v w → IfErr r (λ e. IfRefused e (IsTrue tells → HoldNoLayout count u.page))

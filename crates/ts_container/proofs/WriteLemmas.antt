@@ -1,5 +1,5 @@
 -- A slot written into its page.
-use Rattle.std.proofs.Common.{◌≡◌, ◌≢◌, ℕ, ◌+◌, ◌-◌, ◌*◌, ◌/◌, ◌%◌, ◌<◌, ◌≤◌, ◌==◌, Bool, true, false, if◌then◌else◌, Option, Some, None, Result, Ok, Err, IsTrue, IfSome, OnOk, OnErr, List, ◌++◌, length, take, drop, replicate, refl, sym, ap, subst, ◌∙◌, arith, append_assoc, length-append, length-drop, inl, inr, ◌⊎◌, lit≤}
+use Rattle.std.proofs.Common.{◌≡◌, ◌≢◌, ℕ, ◌+◌, ◌-◌, ◌*◌, ◌/◌, ◌%◌, ◌<◌, ◌≤◌, ◌==◌, Bool, true, false, nat_lt, if◌then◌else◌, Option, Some, None, Result, Ok, Err, IsTrue, IfSome, OnOk, OnErr, List, ◌++◌, length, take, drop, replicate, refl, sym, ap, subst, ◌∙◌, arith, append_assoc, length-append, length-drop, inl, inr, ◌⊎◌, lit≤}
 use Rattle.std.proofs.lemmas.Bool.Decides.{nat_tests}
 use Rattle.std.proofs.lemmas.Bool.{cases_lt, cases_eq}
 use Rattle.std.proofs.lemmas.List.{take_at, drop_at, take-take, take-append-le, drop-drop, length-take-le}
@@ -52,22 +52,44 @@ drop_above at size from page slot above room wide =
 pub record Apart (at size at' size' : ℕ) : Type 0 where
   pub either : (at' + size' ≤ at) ⊎ (at + size ≤ at')
 
-slots_apart : (kind kind' : Kind) (slot slot' : ℕ) → slot < limit kind → slot' < limit kind' → page_of_slot kind slot ≡ page_of_slot kind' slot' → (kind' ≡ kind → slot' ≡ slot → ⊥) → Apart (byte_of_slot kind slot) (slot_size kind) (byte_of_slot kind' slot') (slot_size kind')
-slots_apart kinds.RowType kinds.RowType slot slot' is is' page other = absurd (other refl (omega arith))
-slots_apart kinds.RowType kinds.Container slot slot' is is' page other = absurd (omega arith)
-slots_apart kinds.RowType kinds.Series slot slot' is is' page other = absurd (omega arith)
-slots_apart kinds.Container kinds.RowType slot slot' is is' page other = absurd (omega arith)
-slots_apart kinds.Container kinds.Container slot slot' is is' page other =
-    record { either = elim (cases_lt slot' slot) [ inl below ↦ inl (omega arith) | inr above ↦ inr (apart_above slot slot' above (other refl)) ] } where
+apart_in : (kind : Kind) (slot slot' : ℕ) → slot < limit kind → slot' < limit kind → page_of_slot kind slot ≡ page_of_slot kind slot' → (slot' ≡ slot → ⊥) → Apart (byte_of_slot kind slot) (slot_size kind) (byte_of_slot kind slot') (slot_size kind)
+apart_in kinds.RowType slot slot' is is' page other = absurd (other (omega arith))
+apart_in kinds.Pattern slot slot' is is' page other = absurd (other (omega arith))
+apart_in kinds.Calendar slot slot' is is' page other = absurd (other (omega arith))
+apart_in kinds.Container slot slot' is is' page other =
+    record { either = elim (cases_lt slot' slot) [ inl below ↦ inl (omega arith) | inr above ↦ inr (apart_above slot slot' above other) ] } where
       apart_above : (slot slot' : ℕ) → slot ≤ slot' → (slot' ≡ slot → ⊥) → 60 * slot + 60 ≤ 60 * slot'
       apart_above slot slot' above other = elim (cases_eq slot' slot) [ inl same ↦ absurd (other same) | inr differ ↦ omega arith ]
-slots_apart kinds.Container kinds.Series slot slot' is is' page other = absurd (omega arith)
-slots_apart kinds.Series kinds.RowType slot slot' is is' page other = absurd (omega arith)
-slots_apart kinds.Series kinds.Container slot slot' is is' page other = absurd (omega arith)
-slots_apart kinds.Series kinds.Series slot slot' is is' page other =
-    record { either = elim (cases_lt (slot' % 43) (slot % 43)) [ inl below ↦ inl (omega arith) | inr above ↦ inr (apart_above slot slot' (omega arith) above (other refl)) ] } where
+apart_in kinds.Series slot slot' is is' page other =
+    record { either = elim (cases_lt (slot' % 43) (slot % 43)) [ inl below ↦ inl (omega arith) | inr above ↦ inr (apart_above slot slot' (omega arith) above other) ] } where
       apart_above : (slot slot' : ℕ) → slot / 43 ≡ slot' / 43 → slot % 43 ≤ slot' % 43 → (slot' ≡ slot → ⊥) → 94 * (slot % 43) + 94 ≤ 94 * (slot' % 43)
       apart_above slot slot' page above other = elim (cases_eq (slot' % 43) (slot % 43)) [ inl same ↦ absurd (other (omega arith)) | inr differ ↦ omega arith ]
+
+-- the slots of a page are of one kind
+kind_of_page : (kind : Kind) (slot : ℕ) → slot < limit kind → (slots_in_page (page_of_slot kind slot)).kind ≡ kind
+kind_of_page kinds.RowType slot within = let rows : nat_lt (257 + slot) 321 ≡ true = grind (arith, nat_tests) in rw rows refl
+kind_of_page kinds.Pattern slot within =
+    let rows : nat_lt (321 + slot) 321 ≡ false = grind (arith, nat_tests) in
+    let patterns : nat_lt (321 + slot) 577 ≡ true = grind (arith, nat_tests) in
+    rw (rows, patterns) refl
+kind_of_page kinds.Calendar slot within =
+    let rows : nat_lt (577 + slot) 321 ≡ false = grind (arith, nat_tests) in
+    let patterns : nat_lt (577 + slot) 577 ≡ false = grind (arith, nat_tests) in
+    let calendars : nat_lt (577 + slot) 833 ≡ true = grind (arith, nat_tests) in
+    rw (rows, patterns, calendars) refl
+kind_of_page kinds.Container slot within = refl
+kind_of_page kinds.Series slot within =
+    let rows : nat_lt (834 + slot / 43) 321 ≡ false = grind (arith, nat_tests) in
+    let patterns : nat_lt (834 + slot / 43) 577 ≡ false = grind (arith, nat_tests) in
+    let calendars : nat_lt (834 + slot / 43) 833 ≡ false = grind (arith, nat_tests) in
+    let containers : (834 + slot / 43 == 833) ≡ false = grind (arith, nat_tests) in
+    rw (rows, patterns, calendars, containers) refl
+
+slots_apart : (kind kind' : Kind) (slot slot' : ℕ) → slot < limit kind → slot' < limit kind' → page_of_slot kind slot ≡ page_of_slot kind' slot' → (kind' ≡ kind → slot' ≡ slot → ⊥) → Apart (byte_of_slot kind slot) (slot_size kind) (byte_of_slot kind' slot') (slot_size kind')
+slots_apart kind kind' slot slot' is is' page other =
+    let same : kind ≡ kind' = sym (kind_of_page kind slot is) ∙ ap (λ (n : ℕ). (slots_in_page n).kind) page ∙ kind_of_page kind' slot' is' in
+    subst (λ (k : Kind). slot' < limit k → page_of_slot kind slot ≡ page_of_slot k slot' → (k ≡ kind → slot' ≡ slot → ⊥) → Apart (byte_of_slot kind slot) (slot_size kind) (byte_of_slot k slot') (slot_size k)) same
+    (λ below page other. apart_in kind slot slot' is below page (other refl)) is' page other
 
 -- the bytes of a slot of a page with another slot written
 slot_stays : (kind kind' : Kind) (slot slot' : ℕ) (def : Option Def) (page : List ℕ) → slot < limit kind → slot' < limit kind' → page_of_slot kind slot ≡ page_of_slot kind' slot' → (kind' ≡ kind → slot' ≡ slot → ⊥)
@@ -143,6 +165,8 @@ slot_wide kind slot def page after long long' room is =
 -- each slot is in its page
 pub slot_room : (kind : Kind) (slot : ℕ) → slot < limit kind → byte_of_slot kind slot + slot_size kind ≤ 4096
 slot_room kinds.RowType slot within = lit≤ tt
+slot_room kinds.Pattern slot within = lit≤ tt
+slot_room kinds.Calendar slot within = lit≤ tt
 slot_room kinds.Container slot within = omega arith
 slot_room kinds.Series slot within = omega arith
 

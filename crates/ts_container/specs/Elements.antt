@@ -1,5 +1,5 @@
 -- The element pages as they are read.
-use Rattle.std.specs.Prelude.{◌≡◌, ℕ, ◌+◌, ◌<◌, ◌≤◌, Bool, IsTrue, Option, Some, None, Result, IfOk, IfErr, List, length}
+use Rattle.std.specs.Prelude.{◌≡◌, ℕ, ◌+◌, ◌<◌, Bool, IsTrue, Option, Some, None, Result, IfOk, IfErr, List, length}
 use Rattle.ts_page.specs.declared.page.Head.{Head}
 use Rattle.ts_page.specs.declared.page.Head.TheVariants as heads
 use Rattle.ts_page.specs.Volume.{first_element_page}

@@ -17,7 +17,9 @@ use Rattle.ts_layout.specs.Meaning.{Layout, HoldsDefinitions, AreSound, IsLaidOu
 use Rattle.ts_layout.specs.Surveyed.{ListsPlaces, free_pages}
 use Rattle.ts_layout.specs.Chains.{AreFilled}
 use Rattle.ts_layout.specs.Placed.{AreKept}
-use Rattle.ts_container.specs.Reading.{AreReadTo, HoldNone}
+use Rattle.ts_layout.specs.Rank.{all_slots}
+use Rattle.ts_container.specs.declared.found.Flaws.{Flaws}
+use Rattle.ts_container.specs.Reading.{AreReadTo, HoldNone, first_flaw}
 use Rattle.ts_layout.specs.Changed.{with_slot_bytes}
 
 -- what a call that only reads pages leaves, and when it fails
@@ -42,16 +44,16 @@ pub record PageGot (tells : Bool) (number : ℕ) (into : List ℕ) (result : Res
   pub read : OnOk result (IsTrue tells → into ≡ v.page number)
   pub refused : IfErr result (λ e. IfRefused e ⊥)
 
--- pages hold these definitions; where one repeats a name, they hold none of a format that keep the rules
+-- pages hold these definitions; where a page has a flaw, they hold none of a format that keep the rules
 abbrev pub HoldUnless : ℕ → Option ℕ → (ℕ → List ℕ) → Definitions → Type 0
 HoldUnless format None pages d = HoldsDefinitions pages d
 HoldUnless format (Some number) pages d = HoldNone format pages
 
 -- all definition pages of a volume of a format are read
-pub record DefinitionsRead (tells : Bool) (format : ℕ) (result : Result (Option ℕ) SurveyFault) (d : Definitions) (v w : Contents) : Type 0 where
+pub record DefinitionsRead (tells : Bool) (format : ℕ) (result : Result Flaws SurveyFault) (d : Definitions) (v w : Contents) : Type 0 where
   pub call : Reads tells result v w
-  pub read : OnOk result (AreReadTo format 4224 d)
-  pub known : IfOk result (λ repeated. IsTrue tells → HoldUnless format repeated v.page d)
+  pub read : OnOk result (AreReadTo format all_slots d)
+  pub known : IfOk result (λ faults. IsTrue tells → HoldUnless format (first_flaw faults) v.page d)
   pub refused : IfErr result (λ e. IfRefused e (IsTrue tells → HoldNone format v.page))
 
 -- what was found is what a layout has

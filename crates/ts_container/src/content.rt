@@ -1,5 +1,5 @@
 // What stands on one element page.
-ghost use Rattle.std.specs.Prelude.{◌≡◌, ◌<◌, ◌≤◌, ℕ, IsSome, IfSome, IfNone, Some, option_copied};
+ghost use Rattle.std.specs.Prelude.{◌≡◌, ◌<◌, IsSome, IfSome, IfNone, Some, option_copied};
 ghost use Rattle.ts_layout.specs.Meaning.{ElementPage, KeepLimits, HoldsElements, heading_in, heading_at};
 ghost use Rattle.ts_page.specs.Head.{head_of};
 ghost use Rattle.ts_model.specs.Definitions.{IsDefinitions, series_slots, container_slots};

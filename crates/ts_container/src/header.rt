@@ -1,5 +1,5 @@
 // The header of a volume: its first page.
-ghost use Rattle.std.specs.Prelude.{◌≡◌, ◌↔◌, ◌^◌, ◌<◌, ℕ, IsTrue, IfSome, IfNone, length};
+ghost use Rattle.std.specs.Prelude.{◌≡◌, ◌↔◌, ◌<◌, ℕ, IsTrue, IfSome, IfNone};
 ghost use Rattle.ts_model.specs.Definitions.{IsFormat};
 ghost use Rattle.ts_layout.specs.Slot.{header_bytes};
 

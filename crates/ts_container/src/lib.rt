@@ -6,7 +6,9 @@
 //! ts_page; knows nothing of disks, journals or commands. Read `specs/Survey.antt`, then `surveyed.rt` and `write.rt`.
 #![tactic(auto)]
 
+mod calendar_slot;
 mod charges;
+mod complete;
 mod container_slot;
 mod content;
 mod definitions;
@@ -14,10 +16,13 @@ mod directory;
 mod elements;
 mod fault;
 mod format;
+mod found;
 mod header;
 mod kept_charges;
 mod lower;
 mod pad;
+mod pattern_slot;
+mod plan;
 mod read;
 mod row_type_slot;
 mod rules;

@@ -1,16 +1,17 @@
 // The rules that definitions keep together.
-ghost use Rattle.std.specs.Prelude.{◌≡◌, ◌↔◌, ◌<◌, ◌≤◌, ◌^◌, Some, IsTrue, MatchOption, length};
+ghost use Rattle.std.specs.Prelude.{◌≡◌, ◌↔◌, ◌<◌, Some, IsTrue, MatchOption, length};
 ghost use Rattle.ts_model.specs.declared.def.Def.{Def};
 ghost use Rattle.ts_model.specs.Definitions.{limit, at_slot, references, container_slots};
 ghost use Rattle.ts_layout.specs.Limits.{IsDef};
-ghost use Rattle.ts_layout.specs.Meaning.{def_at, IsThere, AreThere, KeepLimits, quota_in, sum_of_quotas, AreThereIn};
+ghost use Rattle.ts_layout.specs.Meaning.{def_at, IsThere, AreThere, KeepLimits, AreFollowing, quota_in, sum_of_quotas, AreThereIn};
 
 use ts_layout::page_of_slot;
 use ts_model::{Def, Defs, Kind};
 
-/// The page of the first definition that refers to an empty slot.
+/// The page of the first definition that refers to an empty slot, where each calendar has its pattern.
 pub(crate) fn first_dangling(defs: &Defs) -> Option<u32>
     requires limits { KeepLimits defs.now.definitions }
+    requires calendars { AreFollowing defs.now.definitions }
     ensures { MatchOption result (AreThere defs.now.definitions) (λ _. AreThere defs.now.definitions → ⊥) }
 {
     if let Some(slot) = dangling_in(defs, Kind::Container) {
@@ -55,7 +56,11 @@ fn is_there(defs: &Defs, def: &Def) -> bool
     ensures { IsTrue result ↔ IsThere defs.now.definitions (references def.now) }
 {
     match def {
-        Def::RowType { .. } => true,
+        Def::RowType { .. } | Def::Pattern { .. } => true,
+        Def::Calendar { by, .. } => match by {
+            Some(slot) => defs.get(Kind::Pattern, *slot as u16).is_some(),
+            None => true,
+        },
         Def::Container { row_type, .. } => defs.get(Kind::RowType, *row_type as u16).is_some(),
         Def::Series { container, .. } => defs.get(Kind::Container, *container as u16).is_some(),
     }

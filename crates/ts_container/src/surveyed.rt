@@ -1,7 +1,6 @@
 // The survey of a volume's pages.
 ghost use Rattle.std.specs.Prelude.{◌≡◌, ◌+◌, ◌≤◌, IfOk, IfErr, IsTrue};
 ghost use Rattle.ts_page.specs.Volume.{first_element_page, most_element_pages};
-ghost use Rattle.ts_model.specs.Definitions.{IsDefinitions};
 ghost use Rattle.ts_container.specs.Survey.{Reads, IfRefused, IsFound, HoldNoLayout, SoundRead};
 
 use crate::charges::keep_quotas;
@@ -10,13 +9,12 @@ use crate::directory::directory_of;
 use crate::elements::read_elements;
 use crate::fault::SurveyFault;
 use crate::header::format_of;
-use crate::lower::lower;
 use crate::read::read;
 use crate::rules::{first_dangling, sum_of_quotas};
 use crate::sorted::{bad_page, sort};
-use std::alloc::{AllocError, Global};
+use std::alloc::Global;
 use ts_layout::{CONTAINERS, ELEMENTS};
-use ts_model::{Defs, Kind};
+use ts_model::Defs;
 use ts_page::{Page, Pages};
 use ts_space::Space;
 
@@ -31,7 +29,8 @@ pub struct Surveyed {
 
 /// Reads all pages of a volume but the journal's, each once: `count` is the number of all. They give the format, the
 /// definitions, the directory and the free pages, or a bad page: the least that the first step with one finds. Where pages of a series
-/// overlap, it is the least that overlaps a neighbour of a lower number; a page that overlaps others alone isn't looked for. The pages
+/// overlap, it is the least that overlaps a neighbour of a lower number; a page that overlaps others alone isn't looked for, and no calendar
+/// that has the name of one that breaks a rule. The pages
 /// stay as they are, and so does the list of free ones.
 pub fn survey<P: Pages>(alloc: Global, pages: &mut P, count: u32) -> Result<Surveyed, SurveyFault>
     requires count { count ≡ (P.contents pages.old).count }
@@ -78,8 +77,8 @@ fn survey_definitions<P: Pages>(
     };
     let mut defs = Defs::new(alloc);
     defs.set_format(format);
-    let repeated = read_definitions(alloc, pages, page, &mut defs)?;
-    if let Some(bad) = lower(repeated, first_dangling(&defs)) {
+    let flaws = read_definitions(alloc, pages, page, &mut defs)?;
+    if let Some(bad) = flaws.first(first_dangling(&defs)) {
         return Err(SurveyFault::NotAStore { page: bad });
     }
     if sum_of_quotas(&defs) > (count - ELEMENTS) as u64 {

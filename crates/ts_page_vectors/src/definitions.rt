@@ -163,8 +163,10 @@ fn are_most(alloc: Global, kind: Kind, most: u16, other: Kind) -> Result<bool, S
     Ok(count == most && is_full(&defs, kind, other))
 }
 
-const MOST: [(Kind, u16, Kind); 2] = [
+const MOST: [(Kind, u16, Kind); 4] = [
     (Kind::RowType, 64, Kind::Series),
+    (Kind::Pattern, 256, Kind::Calendar),
+    (Kind::Calendar, 256, Kind::Pattern),
     (Kind::Series, 4096, Kind::RowType),
 ];
 
@@ -174,6 +176,14 @@ fn there_are_so_many_of_a_kind_at_most(rt: HostRuntime) {
         assert!(rt; matches!(are_most(rt.alloc(), *kind, *most, *other), Ok(true)));
     }
 }
+
+const KINDS: [Kind; 5] = [
+    Kind::RowType,
+    Kind::Pattern,
+    Kind::Calendar,
+    Kind::Container,
+    Kind::Series,
+];
 
 fn copied(alloc: Global, kind: Kind, text: &[u8]) -> Option<Def> {
     def(alloc, kind, text).ok()?.copy().ok()
@@ -189,7 +199,7 @@ fn is_copied(alloc: Global, kind: Kind, text: &[u8]) -> bool {
 
 #[test]
 fn a_copy_has_the_same_name(rt: HostRuntime) {
-    for kind in &[Kind::RowType, Kind::Container, Kind::Series] {
+    for kind in &KINDS {
         assert!(rt; is_copied(rt.alloc(), *kind, b"rd"));
     }
 }

@@ -4,6 +4,8 @@
 #![tactic(auto)]
 
 #[cfg(test)]
+mod calendars;
+#[cfg(test)]
 mod definitions;
 #[cfg(test)]
 mod directory;

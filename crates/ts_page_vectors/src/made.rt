@@ -3,11 +3,29 @@ ghost use Rattle.std.specs.Prelude.{◌≡◌, IfOk};
 ghost use Rattle.ts_model.specs.Definitions.{kind_of};
 
 use std::alloc::Global;
-use ts_base::{Key, Name, StoreFault};
+use ts_base::{Key, Name, Stamp, StoreFault, Unit};
+use ts_calendar::Calendar;
 use ts_model::{Def, Kind};
+use ts_pattern::{Pattern, Run};
 use ts_row::{Column, ColumnKind, RowType};
 
-fn name(alloc: Global, text: &[u8]) -> Result<Name, StoreFault> {
+/// A day off, five on, a day off.
+pub(crate) const WEEK: [Run; 3] = [
+    Run {
+        on: false,
+        count: 1,
+    },
+    Run { on: true, count: 5 },
+    Run {
+        on: false,
+        count: 1,
+    },
+];
+
+/// 2011-01-03 00:00:00.
+const START: i64 = 129_401_280_000_000;
+
+pub(crate) fn name(alloc: Global, text: &[u8]) -> Result<Name, StoreFault> {
     match Name::read(alloc, text)? {
         Some(name) => Ok(name),
         None => Err(StoreFault::Failed),
@@ -33,7 +51,27 @@ fn key(alloc: Global, text: &[u8]) -> Result<Key, StoreFault> {
     }
 }
 
-// A definition of a kind with this name or key: of integers, of 2 pages, in slot 3.
+fn week(alloc: Global) -> Result<Pattern, StoreFault> {
+    let runs = WEEK.as_slice().to_vec(alloc)?;
+    match Pattern::of_runs(Unit::Day, runs) {
+        Some(pattern) => Ok(pattern),
+        None => Err(StoreFault::Failed),
+    }
+}
+
+// The week from its start on.
+pub(crate) fn calendar(alloc: Global) -> Result<Calendar, StoreFault> {
+    let pattern = week(alloc)?;
+    let Some(start) = Stamp::of(START) else {
+        return Err(StoreFault::Failed);
+    };
+    match Calendar::make(start, start, pattern) {
+        Ok(calendar) => Ok(calendar),
+        Err(_) => Err(StoreFault::Failed),
+    }
+}
+
+// A definition of a kind with this name or key: of integers, the week, of 2 pages, in slot 3.
 pub(crate) fn def(alloc: Global, kind: Kind, text: &[u8]) -> Result<Def, StoreFault>
     ensures { IfOk result (λ def. kind_of def ≡ kind) }
 {
@@ -43,6 +81,15 @@ pub(crate) fn def(alloc: Global, kind: Kind, text: &[u8]) -> Result<Def, StoreFa
             let kind = integers(alloc)?;
             Ok(Def::RowType { name, kind })
         }
+        Kind::Pattern => Ok(Def::Pattern {
+            name: name(alloc, text)?,
+            pattern: week(alloc)?,
+        }),
+        Kind::Calendar => Ok(Def::Calendar {
+            name: name(alloc, text)?,
+            calendar: calendar(alloc)?,
+            by: None,
+        }),
         Kind::Container => Ok(Def::Container {
             name: name(alloc, text)?,
             row_type: 0,

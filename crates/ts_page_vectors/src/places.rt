@@ -15,8 +15,10 @@ use ts_layout::{
 use ts_model::Kind;
 
 /// A slot of a kind, its page, and its first byte there.
-const SLOTS: [(Kind, u16, u32, usize); 5] = [
+const SLOTS: [(Kind, u16, u32, usize); 7] = [
     (Kind::RowType, 63, 320, 0),
+    (Kind::Pattern, 255, 576, 0),
+    (Kind::Calendar, 255, 832, 0),
     (Kind::Container, 63, 833, 3780),
     (Kind::Container, 3, 833, 180),
     (Kind::Series, 50, 835, 658),
@@ -40,7 +42,7 @@ fn slots_stand_where_the_format_puts_them(rt: HostRuntime) {
 fn the_last_page_of_series_has_11_slots(rt: HostRuntime) {
     let last = slots_in_page(929);
     assert!(rt; last.first == 4085 && last.count == 11);
-    assert!(rt; slots_in_page(832).count == 0 && slots_in_page(833).count == 64);
+    assert!(rt; slots_in_page(832).count == 1 && slots_in_page(833).count == 64);
 }
 
 #[test]

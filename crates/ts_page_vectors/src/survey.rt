@@ -18,7 +18,7 @@ use ts_space::{Place, Space};
 const CELL: &[u8] = &[1, 0, 0, 0x75, 0xb0, 0x95, 0x53, 0xf0, 0, 1, 0, 0, 0, 5];
 
 /// Bytes that are put into a page: its number, their place and they.
-type Patch = (u32, usize, &'static [u8]);
+pub(crate) type Patch = (u32, usize, &'static [u8]);
 
 /// A volume of the old format with a row type, a container in slot 3, a series in slot 50 and one element.
 const GOOD: [Patch; 10] = [
@@ -35,7 +35,7 @@ const GOOD: [Patch; 10] = [
 ];
 
 // A volume of zeros with 3 element pages.
-fn zeros(alloc: Global) -> Result<MemoryPages, AllocError>
+pub(crate) fn zeros(alloc: Global) -> Result<MemoryPages, AllocError>
     ensures count { IfOk result (λ pages. (memory_contents pages).count ≡ 933) }
     ensures free { IfOk result (λ pages. (memory_contents pages).free ≡ []) }
 {
@@ -61,7 +61,7 @@ fn put(pages: &mut MemoryPages, patch: &Patch) -> Result<(), StoreFault>
 }
 
 // Puts bytes into pages, one after the other.
-fn put_all(pages: &mut MemoryPages, patches: &[Patch]) -> Result<(), StoreFault>
+pub(crate) fn put_all(pages: &mut MemoryPages, patches: &[Patch]) -> Result<(), StoreFault>
     requires count { (memory_contents pages.old).count ≡ 933 }
     requires free { (memory_contents pages.old).free ≡ [] }
     ensures count { (memory_contents pages.new).count ≡ 933 }
@@ -74,7 +74,7 @@ fn put_all(pages: &mut MemoryPages, patches: &[Patch]) -> Result<(), StoreFault>
 }
 
 // The good volume with these bytes put into its pages.
-fn volume(alloc: Global, patches: &[Patch]) -> Result<MemoryPages, StoreFault>
+pub(crate) fn volume(alloc: Global, patches: &[Patch]) -> Result<MemoryPages, StoreFault>
     ensures count { IfOk result (λ pages. (memory_contents pages).count ≡ 933) }
     ensures free { IfOk result (λ pages. (memory_contents pages).free ≡ []) }
 {
@@ -85,7 +85,10 @@ fn volume(alloc: Global, patches: &[Patch]) -> Result<MemoryPages, StoreFault>
 }
 
 // What the survey of a volume finds.
-fn survey_of(alloc: Global, made: Result<MemoryPages, StoreFault>) -> Result<Surveyed, SurveyFault>
+pub(crate) fn survey_of(
+    alloc: Global,
+    made: Result<MemoryPages, StoreFault>,
+) -> Result<Surveyed, SurveyFault>
     requires { IfOk made (λ pages. (memory_contents pages).count ≡ 933) }
 {
     match made {
@@ -103,7 +106,7 @@ fn surveyed(alloc: Global, patches: &[Patch]) -> Result<Surveyed, SurveyFault> {
 }
 
 // The bad page that is told, if one is.
-fn page_told(found: Result<Surveyed, SurveyFault>) -> Option<Option<u32>> {
+pub(crate) fn page_told(found: Result<Surveyed, SurveyFault>) -> Option<Option<u32>> {
     match found {
         Ok(_) => Some(None),
         Err(SurveyFault::NotAStore { page }) => Some(Some(page)),
@@ -249,7 +252,7 @@ fn written(alloc: Global) -> Result<MemoryPages, StoreFault>
 }
 
 // A page of a volume.
-fn page_of(pages: &mut MemoryPages, number: u32) -> Option<Page>
+pub(crate) fn page_of(pages: &mut MemoryPages, number: u32) -> Option<Page>
     requires { (memory_contents pages.old).count ≡ 933 }
 {
     if number >= 933 {
@@ -297,7 +300,7 @@ fn a_slot_beside_another_is_written(rt: HostRuntime) {
 }
 
 /// Bytes for the good volume, and the first page that is bad with them, if one is.
-type Case = (&'static [Patch], Option<u32>);
+pub(crate) type Case = (&'static [Patch], Option<u32>);
 
 fn is_told(alloc: Global, case: &Case) -> bool {
     let (patches, wanted) = *case;
@@ -308,7 +311,7 @@ const DEFINITIONS: [Case; 19] = [
     // The header: another number of pages, a byte behind it.
     (&[(0, 12, &[2])], Some(0)),
     (&[(0, 4095, &[1])], Some(0)),
-    // Pages without slots, and the rest of pages with some.
+    // A pattern without a name, a byte in the page of no calendar, the rest of pages with slots.
     (&[(321, 0, &[1])], Some(321)),
     (&[(832, 4095, &[1])], Some(832)),
     (&[(833, 3840, &[1])], Some(833)),

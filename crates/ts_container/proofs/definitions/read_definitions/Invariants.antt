@@ -1,6 +1,6 @@
 use Rattle.std.proofs.Common.{Ok, IsTrue}
 use Rattle.ts_layout.specs.Rank.{rank_of_page}
-use Rattle.ts_container.specs.Reading.{AreReadTo}
+use Rattle.ts_container.specs.Reading.{AreReadTo, first_flaw}
 use Rattle.ts_container.specs.Survey.{Reads}
 use Rattle.ts_container.proofs.SurveyLemmas.{KnownBelow}
 use Rattle.ts_container.proofs.definitions.read_definitions.Given as goal
@@ -10,5 +10,5 @@ invariant-loop-number g l = record {
   call : Reads {T = Unit {0}} g.P.Pages.tells (Ok tt) (g.P.Pages.contents l.fn.pages) (g.P.Pages.contents l.pages);
   undisturbed : g.P.Pages.undisturbed l.fn.pages l.pages;
   read : AreReadTo l.fn.defs.definitions.format (rank_of_page l.number) l.defs.definitions;
-  known : IsTrue g.P.Pages.tells → KnownBelow l.fn.defs.definitions.format l.repeated (g.P.Pages.contents l.fn.pages).page l.number l.defs.definitions;
+  known : IsTrue g.P.Pages.tells → KnownBelow l.fn.defs.definitions.format (first_flaw l.flaws) (g.P.Pages.contents l.fn.pages).page l.number l.defs.definitions;
 }

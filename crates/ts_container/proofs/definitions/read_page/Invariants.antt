@@ -1,5 +1,5 @@
 use Rattle.std.proofs.Common.{◌≡◌, ◌+◌}
-use Rattle.ts_container.specs.declared.definitions.Found.TheVariants as found
+use Rattle.ts_container.specs.declared.found.Found.TheVariants as found
 use Rattle.ts_layout.specs.Rank.{rank_of_page}
 use Rattle.ts_container.specs.Reading.{AreReadTo}
 use Rattle.ts_container.proofs.ReadLemmas.{KnownOf}

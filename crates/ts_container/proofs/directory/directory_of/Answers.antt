@@ -1,11 +1,8 @@
-use Rattle.std.proofs.Common.{◌≡◌, ℕ, ◌+◌, ◌<◌, ◌≤◌, List, [], length, map, set, get_or, drop, take, sym, ap, subst, ◌∙◌, arith, inl, inr, length-set, get_or-set_other}
-use Rattle.std.specs.List.{AllWithin}
-use Rattle.std.proofs.lemmas.Bool.{cases_eq}
+use Rattle.std.proofs.Common.{List, length, map, sym, ap, subst, ◌∙◌, arith, length-set}
 use Rattle.ts_space.specs.declared.place.Place.{Place}
 use Rattle.ts_space.specs.Place.{IsRising}
 use Rattle.ts_space.specs.Directory.{places_of}
-use Rattle.ts_container.specs.declared.span.Span.{Span}
-use Rattle.ts_container.specs.Spans.{places_in, place_in}
+use Rattle.ts_container.specs.Spans.{place_in}
 use Rattle.ts_container.proofs.SpanLemmas.{rising_in}
 use Rattle.ts_container.proofs.DirectoryLemmas.{starts_first, spans_between, places_more}
 use Rattle.ts_container.proofs.directory.directory_of.Goals as goal

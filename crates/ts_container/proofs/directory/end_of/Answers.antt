@@ -1,4 +1,4 @@
-use Rattle.std.proofs.Common.{◌≡◌, ◌<◌, ◌≤◌, true, false, leb, leb-true, arith, rules, sym, get_or}
+use Rattle.std.proofs.Common.{◌<◌, leb, leb-true, arith, rules, get_or}
 use Rattle.std.proofs.lemmas.Bool.Decides.{nat_tests}
 use Rattle.std.proofs.lemmas.List.Sorted.{IsPartitionPoint-from_clause, IsPartitionedBy-leb, IsNonDecreasingBy-from_all_adjacent}
 use Rattle.ts_container.specs.declared.span.Span.{Span}

@@ -1,6 +1,7 @@
 use Rattle.std.proofs.Common.{◌≡◌, sym, ap, ◌∙◌, Option, Some, IfSome, subst}
-use Rattle.ts_layout.specs.Slot.{def_bytes}
-use Rattle.ts_container.proofs.ParseLemmas.{none_some, one, both_ways, reads_empty, reads_bad}
+use Rattle.ts_container.specs.Written.{written_of, written_bytes}
+use Rattle.ts_container.proofs.ParseLemmas.{none_some, one, both_ways, reads_empty, reads_bad, not_empty}
+use Rattle.ts_container.proofs.WrittenLemmas.{bytes_same}
 use Rattle.ts_container.proofs.slot.read_slot.Goals as goal
 
 -- what holds of what there is
@@ -13,16 +14,22 @@ returns-then-is_zero c = reads_empty c.args.format c.args.kind c.args.bytes.now 
 pub returns-in_default : goal.returns-in_default
 returns-in_default c =
     reads_bad c.args.format c.args.kind c.args.bytes.now c.requires (λ zeros. both_ways (c.is_zero.ensures.zeros.1 zeros) c.if-is_zero.false)
-    (λ def kind is bytes. none_some c.in_ok-def.field-0 def c.in_default.is (c.in_ok-def.ensures.found def kind is bytes))
+    (λ def kind is bytes. none_some c.in_ok-written.field-0 (written_of def) c.in_default.is (c.in_ok-written.ensures.found def kind is bytes))
 
 pub returns-then-is_written : goal.returns-then-is_written
 returns-then-is_written c =
-    let rules = some_of c.in_ok-def.field-0 c.in-Some.def _ c.in-Some.is c.in_ok-def.ensures.rules in
-    (rules.0, rules.1, c.is_written.ensures.0 c.if-is_written.true)
+    let rules = some_of c.in_ok-written.field-0 c.in-Some.written _ c.in-Some.is c.in_ok-written.ensures.rules in
+    record {
+      of_kind = rules.0;
+      limits = rules.1;
+      is = c.is_written.ensures.0 c.if-is_written.true;
+      only = λ def kind is bytes. one c.in_ok-written.field-0 c.in-Some.written (written_of def) c.in-Some.is (c.in_ok-written.ensures.found def kind is bytes);
+      some = not_empty c.args.kind c.args.bytes.now c.requires (λ zeros. both_ways (c.is_zero.ensures.zeros.1 zeros) c.if-is_zero.false);
+    }
 
 pub returns : goal.returns
 returns c =
     reads_bad c.args.format c.args.kind c.args.bytes.now c.requires (λ zeros. both_ways (c.is_zero.ensures.zeros.1 zeros) c.if-is_zero.false)
     (λ def kind is bytes.
-    let same = one c.in_ok-def.field-0 c.in-Some.def def c.in-Some.is (c.in_ok-def.ensures.found def kind is bytes) in
-    both_ways (c.is_written.ensures.1 (bytes ∙ ap def_bytes (sym same))) c.if-is_written.false)
+    let same = one c.in_ok-written.field-0 c.in-Some.written (written_of def) c.in-Some.is (c.in_ok-written.ensures.found def kind is bytes) in
+    both_ways (c.is_written.ensures.1 (bytes ∙ sym (bytes_same def) ∙ ap written_bytes (sym same))) c.if-is_written.false)

@@ -2,7 +2,6 @@ use Rattle.std.proofs.Common.{rules, arith, get_or, ◌+◌}
 use Rattle.std.proofs.lemmas.List.Sorted.{answers_always}
 use Rattle.ts_container.specs.declared.span.Span.{Span}
 use Rattle.ts_container.proofs.SpanLemmas.{follows}
-use Rattle.ts_container.proofs.SortedLemmas.{dense_there}
 use Rattle.ts_container.proofs.sorted.sort.Goals as goal
 
 pub returns-clause-order : goal.returns-clause-order

@@ -28,6 +28,14 @@ returns-in-Some-clause-refused g c =
     λ told. not_chained tells c.args.count d u x.spans.items c.sort.new.spans.items x.free.items told (sound.header told) (sound.known told) sound.read all (c.sort.ensures.all, c.sort.ensures.order)
     (subst (λ (l : List Span). AreApart l → AreDense d l → ⊥) c.deref.ensures.value c.in-Some.ensures)
 
+pub returns-in-Some-clause-call : goal.returns-in-Some-clause-call
+returns-in-Some-clause-call g c =
+    let tells = g.P.Pages.tells in
+    let u = g.P.Pages.contents c.args.pages.now in
+    let v = g.P.Pages.contents c.survey_definitions.new.pages in
+    let w = g.P.Pages.contents c.read_elements.new.pages in
+    reads_refused tells (tt {0}) c.in-Some.bad u w (reads_more tells (tt {0}) (Ok (tt {0})) u v w (reads_ok tells c.in_ok-defs.defs (tt {0}) u v c.in_ok-defs.ensures.read.call) (reads_ok tells c.in_ok-elements.elements (tt {0}) v w c.in_ok-elements.ensures.read.call))
+
 pub returns-in-Some-clause-undisturbed : goal.returns-in-Some-clause-undisturbed
 returns-in-Some-clause-undisturbed g c =
     g.met.P.Pages.«then» c.args.pages.now c.survey_definitions.new.pages c.read_elements.new.pages c.in_ok-defs.ensures.undisturbed c.in_ok-elements.ensures.undisturbed

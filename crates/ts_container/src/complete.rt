@@ -1,0 +1,70 @@
+// A calendar is completed with its pattern, and judged by the rules of calendars.
+ghost use Rattle.std.specs.Prelude.{◌≡◌, IfOk, option_map};
+ghost use Rattle.ts_model.specs.Definitions.{at_slot};
+ghost use Rattle.ts_container.specs.Written.{IsWritten};
+ghost use Rattle.ts_container.specs.Reading.{Completes, Makes};
+
+use crate::calendar_slot::{CalendarForm, Part};
+use crate::found::Flaw;
+use crate::slot::Written;
+use std::alloc::AllocError;
+use ts_base::{Name, Stamp};
+use ts_calendar::Calendar;
+use ts_model::{Def, Defs, Kind};
+use ts_pattern::Pattern;
+
+/// The definition that is written, among those before it.
+pub(crate) fn complete(written: Written, defs: &Defs) -> Result<Result<Def, Flaw>, AllocError>
+    requires { IsWritten defs.now.definitions.format written }
+    ensures { IfOk result (Completes defs.now.definitions written) }
+{
+    match written {
+        Written::Whole(def) => Ok(Ok(def)),
+        Written::Form(form) => complete_calendar(form, defs),
+    }
+}
+
+// The calendar of a form. One without runs of its own has those of the pattern in the slot that it says.
+fn complete_calendar(form: CalendarForm, defs: &Defs) -> Result<Result<Def, Flaw>, AllocError>
+    ensures { IfOk result (Completes defs.now.definitions (Written.Form form)) }
+{
+    let CalendarForm {
+        name,
+        start,
+        patt_start,
+        part,
+    } = form;
+    match part {
+        Part::Own(pattern) => Ok(make(name, start, patt_start, pattern, None)),
+        Part::By(slot) => match pattern_at(defs, slot)? {
+            Some(pattern) => Ok(make(name, start, patt_start, pattern, Some(slot))),
+            None => Ok(Err(Flaw::Unresolved)),
+        },
+    }
+}
+
+// The pattern in a slot, once more.
+fn pattern_at(defs: &Defs, slot: u8) -> Result<Option<Pattern>, AllocError>
+    ensures { IfOk result (λ found. found ≡ option_map (λ p. p.pattern) (at_slot slot defs.now.definitions.patterns)) }
+{
+    match defs.get(Kind::Pattern, slot as u16) {
+        Some(Def::Pattern { pattern, .. }) => Ok(Some(pattern.copy()?)),
+        _ => Ok(None),
+    }
+}
+
+// The calendar of these parts, if it breaks no rule.
+fn make(
+    name: Name,
+    start: Stamp,
+    patt_start: Stamp,
+    pattern: Pattern,
+    by: Option<u8>,
+) -> Result<Def, Flaw>
+    ensures { Makes name (record { start = start; patt_start = patt_start; pattern = pattern }) by result }
+{
+    match Calendar::make(start, patt_start, pattern) {
+        Ok(calendar) => Ok(Def::Calendar { name, calendar, by }),
+        Err(_) => Err(Flaw::Invalid),
+    }
+}
