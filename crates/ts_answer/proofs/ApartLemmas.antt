@@ -1,5 +1,7 @@
 -- No reply of a routine is taken for the memory line.
 use Rattle.std.proofs.Common.{ℕ, ℤ, Bool, true, false, Ok, Err, List}
+use Rattle.ts_pattern.specs.declared.junction.Junction.{Junction}
+use Rattle.ts_pattern.specs.declared.junction.Junction.TheVariants.{And, Or}
 use Rattle.ts_row.specs.declared.kind.Column.{Column}
 use Rattle.ts_row.specs.declared.value.Literal.{Literal}
 use Rattle.ts_command.specs.declared.command.Command.{Command}
@@ -9,8 +11,8 @@ use Rattle.ts_model.specs.declared.kind.Kind.{Kind}
 use Rattle.ts_model.specs.declared.kind.Kind.TheVariants as kinds
 use Rattle.ts_model.specs.Catalogue.{Catalogue}
 use Rattle.ts_command.specs.Script.{Request}
-use Rattle.ts_answer.specs.Answer.{Tried, Answered, ◌>>=◌, settled, outcome, answer, carried_out, create_row_type, drop_definition, create_container, container_usage, create_irregular, drop_series, list_series, put_element, put_no_dups, insert_element, update_element, delete_element, delete_range, mark_element, get_element, get_last_element, count_elements}
-use Rattle.ts_answer.proofs.ReplyLemmas.{IsApart, Begins, apart-begins, ok-begins, count-begins, counts-begins, stamp-begins, elements-begin, series_text-begins, refusal-apart}
+use Rattle.ts_answer.specs.Answer.{Tried, Answered, ◌>>=◌, settled, outcome, answer, carried_out, create_row_type, drop_definition, create_pattern, turn_pattern, join_patterns, show_pattern, create_calendar, join_calendars, show_calendar, count_starts, find_start, list_starts, create_container, container_usage, create_irregular, drop_series, list_series, put_element, put_no_dups, insert_element, update_element, delete_element, delete_range, mark_element, get_element, get_last_element, count_elements}
+use Rattle.ts_answer.proofs.ReplyLemmas.{IsApart, Begins, apart-begins, ok-begins, count-begins, counts-begins, number-begins, stamp-begins, pattern-begins, calendar-begins, stamps-begin, elements-begin, series_text-begins, refusal-apart}
 
 -- what is said of a reply begins with another byte than the memory line
 abbrev Differs : Tried Answered → Type 0
@@ -29,6 +31,46 @@ create_row_type-differs name stamp columns cat = then _ _ (λ a. then _ _ (λ b.
 drop_definition-differs : (kind : Kind) (name : List ℕ) (cat : Catalogue) → Differs (drop_definition kind name cat)
 unfolding drop_definition
 drop_definition-differs kind name cat = then _ _ (λ a. then _ _ (λ b. ok-begins))
+
+create_pattern-differs : (name text : List ℕ) (cat : Catalogue) → Differs (create_pattern name text cat)
+unfolding create_pattern
+create_pattern-differs name text cat = then _ _ (λ a. then _ _ (λ b. ok-begins))
+
+turn_pattern-differs : (name pattern : List ℕ) (cat : Catalogue) → Differs (turn_pattern name pattern cat)
+unfolding turn_pattern
+turn_pattern-differs name pattern cat = then _ _ (λ a. then _ _ (λ b. ok-begins))
+
+join_patterns-differs : (junction : Junction) (name first second : List ℕ) (cat : Catalogue) → Differs (join_patterns junction name first second cat)
+unfolding join_patterns
+join_patterns-differs junction name first second cat = then _ _ (λ a. then _ _ (λ b. then _ _ (λ c. then _ _ (λ d. ok-begins))))
+
+show_pattern-differs : (name : List ℕ) (cat : Catalogue) → Differs (show_pattern name cat)
+unfolding show_pattern
+show_pattern-differs name cat = then _ _ pattern-begins
+
+create_calendar-differs : (name text : List ℕ) (cat : Catalogue) → Differs (create_calendar name text cat)
+unfolding create_calendar
+create_calendar-differs name text cat = then _ _ (λ a. then _ _ (λ b. then _ _ (λ c. then _ _ (λ d. ok-begins))))
+
+join_calendars-differs : (junction : Junction) (name first second : List ℕ) (cat : Catalogue) → Differs (join_calendars junction name first second cat)
+unfolding join_calendars
+join_calendars-differs junction name first second cat = then _ _ (λ a. then _ _ (λ b. then _ _ (λ c. then _ _ (λ d. ok-begins))))
+
+show_calendar-differs : (name : List ℕ) (cat : Catalogue) → Differs (show_calendar name cat)
+unfolding show_calendar
+show_calendar-differs name cat = then _ _ calendar-begins
+
+count_starts-differs : (calendar : List ℕ) (from to : ℤ) (cat : Catalogue) → Differs (count_starts calendar from to cat)
+unfolding count_starts
+count_starts-differs calendar from to cat = then _ _ (λ a. number-begins _)
+
+find_start-differs : (calendar : List ℕ) (after : ℤ) (count : ℕ) (cat : Catalogue) → Differs (find_start calendar after count cat)
+unfolding find_start
+find_start-differs calendar after count cat = then _ _ (λ a. then _ _ stamp-begins)
+
+list_starts-differs : (calendar : List ℕ) (from to : ℤ) (cat : Catalogue) → Differs (list_starts calendar from to cat)
+unfolding list_starts
+list_starts-differs calendar from to cat = then _ _ (λ a. then _ _ stamps-begin)
 
 create_container-differs : (name row_type : List ℕ) (quota : ℕ) (cat : Catalogue) → Differs (create_container name row_type quota cat)
 unfolding create_container
@@ -94,6 +136,20 @@ carried_out-differs : (command : Command) (cat : Catalogue) → Differs (carried
 unfolding carried_out
 carried_out-differs (commands.CreateRowType name stamp columns) cat = create_row_type-differs name stamp columns cat
 carried_out-differs (commands.DropRowType name) cat = drop_definition-differs kinds.RowType name cat
+carried_out-differs (commands.CreatePattern name text) cat = create_pattern-differs name text cat
+carried_out-differs (commands.NotOp name pattern) cat = turn_pattern-differs name pattern cat
+carried_out-differs (commands.AndPatterns name first second) cat = join_patterns-differs And name first second cat
+carried_out-differs (commands.OrPatterns name first second) cat = join_patterns-differs Or name first second cat
+carried_out-differs (commands.AndCalendars name first second) cat = join_calendars-differs And name first second cat
+carried_out-differs (commands.OrCalendars name first second) cat = join_calendars-differs Or name first second cat
+carried_out-differs (commands.ShowPattern name) cat = show_pattern-differs name cat
+carried_out-differs (commands.DropPattern name) cat = drop_definition-differs kinds.Pattern name cat
+carried_out-differs (commands.CreateCalendar name text) cat = create_calendar-differs name text cat
+carried_out-differs (commands.ShowCalendar name) cat = show_calendar-differs name cat
+carried_out-differs (commands.DropCalendar name) cat = drop_definition-differs kinds.Calendar name cat
+carried_out-differs (commands.CalIndex calendar from to) cat = count_starts-differs calendar from to cat
+carried_out-differs (commands.CalStamp calendar after count) cat = find_start-differs calendar after _ cat
+carried_out-differs (commands.CalRange calendar from to) cat = list_starts-differs calendar from to cat
 carried_out-differs (commands.TSContainerCreate name row_type quota) cat = create_container-differs name row_type _ cat
 carried_out-differs (commands.TSContainerDestroy name) cat = drop_definition-differs kinds.Container name cat
 carried_out-differs (commands.TSContainerUsage name) cat = container_usage-differs name cat

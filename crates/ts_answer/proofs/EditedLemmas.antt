@@ -1,11 +1,10 @@
 -- What an accepted PutElem, DelElem and DelClip did.
-use Rattle.std.proofs.Common.{◌≡◌, ℕ, ◌+◌, ◌-◌, ◌≤◌, ℤ, Bool, true, false, cond, not, ◌&&◌, T, Option, Some, None, is_some, Result, Ok, Err, List, [], ◌∷◌, length, filter, refl, sym, ap, ◌∙◌, subst, arith}
+use Rattle.std.proofs.Common.{◌≡◌, ℕ, ◌+◌, ◌-◌, ◌≤◌, ℤ, Bool, true, false, cond, not, ◌&&◌, T, Option, Some, None, is_some, Ok, List, [], ◌∷◌, length, filter, refl, sym, ap, ◌∙◌, arith}
 use Rattle.std.specs.Prelude.{int_lt}
 use Rattle.std.specs.FinMap.{entries, entries_sorted, entries-from_sorted, find, from_entries, from_sorted, get, get-entries, get-from_entries, get-from_sorted, get-remove, int_cmp-IsAntisymmetric, is_sorted, len, len-entries, len-remove, remove, same_map}
 use Rattle.std.specs.FinMap.Entries.{find-where_key, is_sorted-where_key}
 use Rattle.std.specs.Cmp.{int_cmp_total}
-use Rattle.std.specs.declared.cmp.Ordering.TheVariants.{Equal}
-use Rattle.std.specs.Ordering.{eq_by_cmp, int_cmp, int_eq}
+use Rattle.std.specs.Ordering.{int_cmp, int_eq}
 use Rattle.ts_row.specs.declared.value.Literal.{Literal}
 use Rattle.ts_row.specs.Element.{Element}
 use Rattle.ts_row.specs.Row.{Row}
@@ -14,17 +13,11 @@ use Rattle.ts_chain.specs.Placing.{place_for}
 use Rattle.ts_chain.specs.Range.{is_within, within_range, without_range}
 use Rattle.ts_model.specs.Catalogue.{Elements, Series, Catalogue, columns_of, quota_of}
 use Rattle.ts_model.specs.Charge.{container_charge}
-use Rattle.ts_answer.specs.Answer.{Tried, Answered, ◌>>=◌, outcome, carried_out, put_element, delete_element, delete_range, wanted, a_row, a_place, placed, within_quota, with_element, with_elements, count_if_any}
+use Rattle.ts_answer.specs.Answer.{Answered, outcome, carried_out, put_element, delete_element, delete_range, wanted, a_row, a_place, placed, within_quota, with_element, with_elements, count_if_any}
 use Rattle.ts_answer.specs.Edited.{Adds, TakesAway}
 use Rattle.ts_answer.specs.Reply.{count_line, stamp_line}
-use Rattle.ts_answer.proofs.TriedLemmas.{wanted-there, on_ok}
+use Rattle.ts_answer.proofs.TriedLemmas.{wanted-there, on_ok, came, same_answer}
 use Rattle.ts_answer.proofs.PlacedLemmas.{place_free}
-
--- what came to something passed each test
-came : {A B : Type 0} (m : Tried A) (f : A → Tried B) (b : B) → (m >>= f) ≡ Ok b → (a : A) × (m ≡ Ok a) × (f a ≡ Ok b)
-unfolding ◌>>=◌
-came (Ok a) f b is = (a, refl, is)
-came (Err refusal) f b is = absurd (cc)
 
 placed_at : (o : Option ℤ) (place : ℤ) → placed o ≡ Ok place → o ≡ Some place
 placed_at (Some stamp) place is = let same : stamp ≡ place = cc in ap Some same
@@ -34,9 +27,6 @@ given_place : (stamp place : ℤ) (elements : Elements) → a_place stamp elemen
 unfolding a_place
 given_place stamp place elements is =
     get-entries elements place ∙ place_free stamp place (entries elements) (entries_sorted elements) (placed_at (place_for stamp (entries elements)) place is)
-
-same_answer : (a b : Answered) → let left : Tried Answered = Ok a in left ≡ Ok b → b ≡ a
-same_answer a b is = cc
 
 pub put_adds : (cat : Catalogue) (answered : Answered) (key : List ℕ) (stamp : ℤ) (literals : List Literal) (s : Series) → get cat.series key ≡ Some s
     → outcome (Ok (commands.PutElem key stamp literals)) cat ≡ Ok answered → Adds key s cat answered

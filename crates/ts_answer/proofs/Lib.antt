@@ -1,4 +1,5 @@
 pub mod ApartLemmas
+pub mod CalendarLemmas
 pub mod CallerLemmas
 mod CarriedLemmas
 mod DeletedLemmas

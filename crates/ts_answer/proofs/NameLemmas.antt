@@ -1,18 +1,22 @@
 -- Names of a kind: in the slots, and in the catalogue.
-use Rattle.std.proofs.Common.{◌≡◌, ℕ, Some, None, Ok, Err, List, ap, sym, ◌∙◌, subst, refl, arith}
+use Rattle.std.proofs.Common.{◌≡◌, ℕ, Some, None, Result, Ok, Err, List, ap, sym, ◌∙◌, subst, refl, arith}
 use Rattle.std.specs.FinMap.{get}
 use Rattle.ts_base.specs.declared.refusal.Refusal.TheVariants as refusals
+use Rattle.ts_base.specs.declared.fault.Trouble.{Trouble}
 use Rattle.ts_base.specs.declared.fault.Trouble.TheVariants.{Refused}
+use Rattle.ts_calendar.specs.declared.text.CalendarText.{CalendarText}
 use Rattle.ts_model.specs.declared.kind.Kind.{Kind}
+use Rattle.ts_model.specs.declared.kind.Kind.TheVariants as kinds
+use Rattle.ts_model.specs.Catalogue.{calendar_of}
 use Rattle.ts_model.specs.Definitions.{Definitions, limit, slots, slot_of, vacant_slot}
 use Rattle.ts_layout.specs.Meaning.{Layout, IsSound, value_of, catalogue_of}
-use Rattle.ts_layout.proofs.CallerLemmas.{name_found, no_name_found, kind_full, kind_vacant}
-use Rattle.ts_answer.specs.Answer.{wanted, a_new_name}
+use Rattle.ts_layout.proofs.CallerLemmas.{name_found, no_name_found, kind_full, kind_vacant, calendar_stands}
+use Rattle.ts_answer.specs.Answer.{known, wanted, a_new_name, a_calendar}
 use Rattle.ts_model.specs.Kinds.{In, named}
-use Rattle.ts_answer.specs.Slots.{IsFreeSlot, IsSlotNamed, IsValue, Stands}
+use Rattle.ts_answer.specs.Slots.{IsFreeSlot, IsSlotNamed, IsValue, Stands, IsCalendarIn}
 use Rattle.ts_answer.specs.Tried.{IsTried}
 use Rattle.ts_answer.specs.View.{IsHeldOf, IsDefinedBy}
-use Rattle.ts_answer.proofs.TriedLemmas.{wanted-there, wanted-missing, unused-free, unused-taken, room-left, no-room, on_ok, on_err}
+use Rattle.ts_answer.proofs.TriedLemmas.{wanted-there, wanted-missing, unused-free, unused-taken, room-left, no-room, on_ok, on_err, goes, stops, tried_ok}
 
 -- a name that is found stands for what is in its slot
 named_value : (kind : Kind) (l : Layout) (name : List ℕ) (slot : ℕ) → IsSound l → slot_of name (slots kind l.definitions) ≡ Some slot
@@ -65,3 +69,12 @@ module _ (kind : Kind) (d : Definitions) (count : ℕ) (l : Layout) (by : IsDefi
         err = on_ok _ tt _ (unused-free name (named kind (catalogue_of l)) (no_name_found kind l name missing))
             ∙ no-room (limit kind) (named kind (catalogue_of l)) (let all = kind_full kind l by.rules filled in omega (arith, all));
       }
+
+  -- the calendar of a name, by its text
+  pub calendar_tried : (result : Result ℕ Trouble) → IsTried result (wanted name (catalogue_of l).calendars) (Stands kinds.Calendar name l) → IsTried result (a_calendar name (catalogue_of l)) (IsCalendarIn name l)
+  unfolding a_calendar
+  calendar_tried (Ok slot) found = goes _ slot found (λ text there.
+      let def = there.is.0 in
+      let stands = ap (λ (t : CalendarText). calendar_of (catalogue_of l) t) there.is.2 ∙ calendar_stands l slot def by.rules there.is.1 in
+      tried_ok slot def.calendar (ap known stands) (record { at = there.at; def = def; there = there.is.1; is = refl }))
+  calendar_tried (Err trouble) found = stops _ trouble refl found

@@ -3,6 +3,8 @@ use Rattle.std.proofs.Common.{◌≡◌, ℕ, ◌+◌, ◌%◌, ℤ, Bool, cond,
 use Rattle.std.specs.List.{flat_map}
 use Rattle.std.specs.Fmt.{digits}
 use Rattle.std.proofs.lemmas.Bool.{ne_eqb}
+use Rattle.ts_pattern.specs.Plan.{Plan}
+use Rattle.ts_calendar.specs.declared.text.CalendarText.{CalendarText}
 use Rattle.ts_base.specs.StampText.{stamp_text}
 use Rattle.ts_base.specs.declared.refusal.Refusal.{Refusal}
 use Rattle.ts_base.specs.declared.refusal.Refusal.TheVariants as refusals
@@ -10,7 +12,7 @@ use Rattle.ts_row.specs.declared.kind.Column.{Column}
 use Rattle.ts_row.specs.Element.{Element}
 use Rattle.ts_row.specs.Printed.{row_text}
 use Rattle.ts_replies.specs.Acknowledged.{behind, memory_line}
-use Rattle.ts_answer.specs.Reply.{ok_line, count_line, counts_line, stamp_line, refusal_line, element_line, elements_text, series_line, series_text}
+use Rattle.ts_answer.specs.Reply.{ok_line, count_line, counts_line, number_line, stamp_line, refusal_line, pattern_lines, calendar_lines, stamp_row, stamps_text, element_line, elements_text, series_line, series_text}
 
 -- neither begins with the other
 pub record IsApart (text : List ℕ) : Type 0 where
@@ -52,6 +54,18 @@ pub stamp-begins : (stamp : ℤ) → Begins (stamp_line stamp)
 unfolding stamp_line
 stamp-begins stamp = record { first = 111; rest = _; is = refl; other = λ e. omega (arith, e) }
 
+pub number-begins : (n : ℤ) → Begins (number_line n)
+unfolding number_line
+number-begins n = record { first = 111; rest = _; is = refl; other = λ e. omega (arith, e) }
+
+pub pattern-begins : (pattern : Plan) → Begins (pattern_lines pattern)
+unfolding pattern_lines
+pattern-begins pattern = record { first = 123; rest = _; is = refl; other = λ e. omega (arith, e) }
+
+pub calendar-begins : (text : CalendarText) → Begins (calendar_lines text)
+unfolding calendar_lines
+calendar-begins text = record { first = 115; rest = _; is = refl; other = λ e. omega (arith, e) }
+
 digit-other : (n : ℕ) → 48 + n % 10 ≡ 101 → ⊥
 digit-other n e = omega (arith, e)
 
@@ -73,6 +87,13 @@ series-begins s = record { first = 39; rest = _; is = refl; other = λ e. omega 
 lines-begin : {A : Type 0} (line : A → List ℕ) → ((a : A) → Begins (line a)) → (all : List A) (last : List ℕ) → Begins last → Begins (flat_map line all ++ last)
 lines-begin line begins [] last end = end
 lines-begin line begins (a ∷ all) last end = begins-append (line a ++ flat_map line all) last (begins-append (line a) (flat_map line all) (begins a))
+
+stamp_row-begins : (stamp : ℤ) → Begins (stamp_row stamp)
+stamp_row-begins stamp = begins-append (stamp_text stamp) (codes "\n") (stamp_text-begins stamp)
+
+pub stamps-begin : (stamps : List ℤ) → Begins (stamps_text stamps)
+unfolding stamps_text
+stamps-begin stamps = lines-begin stamp_row stamp_row-begins stamps (count_line (length stamps)) (count-begins (length stamps))
 
 pub elements-begin : (columns : List Column) (es : List Element) → Begins (elements_text columns es)
 unfolding elements_text

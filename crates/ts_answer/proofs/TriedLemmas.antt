@@ -1,5 +1,6 @@
 -- Tests in a row: `?` in code is `>>=` of what is tried.
-use Rattle.std.proofs.Common.{◌≡◌, ℕ, ◌<◌, ◌≤◌, Bool, true, false, Some, None, Result, Ok, Err, IsErrAnd, List, is_some, ℤ, refl, ap, sym, subst}
+use Rattle.std.proofs.Common.{◌≡◌, ℕ, ◌<◌, ◌≤◌, Bool, true, false, Option, Some, None, Result, Ok, Err, IsErrAnd, List, is_some, ℤ, refl, ap, sym, subst}
+use Rattle.std.specs.Prelude.{Vec}
 use Rattle.std.specs.declared.alloc.AllocError.{AllocError}
 use Rattle.std.specs.FinMap.{entries, get, len}
 use Rattle.std.proofs.lemmas.Bool.{lt-ltb, le-ltb, le-leb, lt-leb, eq-eqb, ne_eqb}
@@ -12,9 +13,11 @@ use Rattle.ts_row.specs.declared.value.Literal.{Literal}
 use Rattle.ts_row.specs.RowType.{bad_column}
 use Rattle.ts_row.specs.Row.{Row, row_of}
 use Rattle.ts_chain.specs.Placing.{place_for}
+use Rattle.ts_pattern.specs.Algebra.{Answers}
+use Rattle.ts_offset.specs.Counting.{AnswersList}
 use Rattle.ts_model.specs.declared.format.TheConstants.{OLD_FORMAT}
 use Rattle.ts_model.specs.Catalogue.{Named, Elements}
-use Rattle.ts_answer.specs.Answer.{Tried, ◌>>=◌, refused_if, known, wanted, unused, within_limit, no_bad_column, beyond_old_format, present, row_at, row_or_mismatch, a_row, within_quota, placed, a_place}
+use Rattle.ts_answer.specs.Answer.{Tried, Answered, ◌>>=◌, refused_if, known, wanted, unused, within_limit, no_bad_column, beyond_old_format, present, row_at, row_or_mismatch, a_row, within_quota, placed, a_place, in_time}
 use Rattle.ts_answer.specs.Tried.{IsTried, IsRefusedAs}
 
 -- the tests, passed and failed
@@ -108,6 +111,15 @@ pub on_err : {B D : Type 0} (m : Tried B) (refusal : Refusal) (f : B → Tried D
 unfolding ◌>>=◌
 on_err m refusal f h = ap (λ t. t >>= f) h
 
+-- what came to something passed each test
+pub came : {A B : Type 0} (m : Tried A) (f : A → Tried B) (b : B) → (m >>= f) ≡ Ok b → (a : A) × (m ≡ Ok a) × (f a ≡ Ok b)
+unfolding ◌>>=◌
+came (Ok a) f b is = (a, refl, is)
+came (Err refusal) f b is = absurd (cc)
+
+pub same_answer : (a b : Answered) → let left : Tried Answered = Ok a in left ≡ Ok b → b ≡ a
+same_answer a b is = cc
+
 pub goes : {A B C D : Type 0} {tried : Tried B} {Alike : A → B → Type 0} {Like : C → D → Type 0} {r : Result C Trouble} (f : B → Tried D) (a : A) → IsTried (Ok a) tried Alike → ((b : B) → Alike a b → IsTried r (f b) Like) → IsTried r (tried >>= f) Like
 goes {tried = tried} {Like = Like} {r = r} f a passes rest = subst (λ t. IsTried r t Like) (sym (on_ok tried passes.ok.0 f passes.ok.1)) (rest passes.ok.0 passes.ok.2)
 
@@ -142,3 +154,28 @@ passes {test = test} {Like = Like} {r = r} refusal f is rest = subst (λ t. IsTr
 
 pub refuses : {C D : Type 0} {test : Bool} {Like : C → D → Type 0} (refusal : Refusal) (f : Unit {0} → Tried D) → test ≡ true → IsTried (Err (Refused refusal)) (refused_if test refusal >>= f) Like
 refuses {test = test} refusal f is = record { ok = tt; err = on_err (refused_if test refusal) refusal f (refused test refusal is) }
+
+-- what is known to pass, or to be refused
+pub tried_ok : {A B : Type 0} {tried : Tried B} {Alike : A → B → Type 0} (a : A) (b : B) → tried ≡ Ok b → Alike a b → IsTried (Ok a) tried Alike
+tried_ok a b is like = record { ok = (b, is, like); err = tt }
+
+pub tried_err : {A B : Type 0} {tried : Tried B} {Alike : A → B → Type 0} (refusal : Refusal) → tried ≡ Err refusal → IsTried (Err (Refused refusal)) tried Alike
+tried_err refusal is = record { ok = tt; err = is }
+
+-- what a call answers is what is tried
+pub answered : {A : Type 0} (tried : Tried A) (result : Result A Trouble) → Answers tried result → IsTried result tried ◌≡◌
+answered tried (Ok a) is = tried_ok a a is refl
+answered tried (Err (Refused refusal)) is = tried_err refusal is
+answered tried (Err (Memory error)) is = no_memory error refl
+
+pub answered_list : {A : Type 0} (tried : Tried (List ℤ)) (result : Result (Vec ℤ A) Trouble) → AnswersList tried result → IsTried result tried (λ listed stamps. listed.items ≡ stamps)
+answered_list tried (Ok listed) is = tried_ok listed listed.items is refl
+answered_list tried (Err (Refused refusal)) is = tried_err refusal is
+answered_list tried (Err (Memory error)) is = no_memory error refl
+
+-- the stamp that is sought
+pub stamp_there : (found : Option ℤ) (stamp : ℤ) → found ≡ Some stamp → IsTried (Ok stamp) (in_time found) ◌≡◌
+stamp_there found stamp is = tried_ok stamp stamp (ap in_time is) refl
+
+pub stamp_past : (found : Option ℤ) → found ≡ None → IsTried (Err (Refused refusals.PastEnd)) (in_time found) (λ (stamp : ℤ) (same : ℤ). stamp ≡ same)
+stamp_past found none = tried_err refusals.PastEnd (ap in_time none)

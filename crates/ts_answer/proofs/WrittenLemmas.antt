@@ -3,16 +3,15 @@ use Rattle.std.specs.Prelude.{Contains}
 use Rattle.std.proofs.Common.{◌≡◌, ℕ, Bool, true, false, cond, Option, Some, None, Ok, Err, List, [], ◌∷◌, refl, sym, ◌∙◌, arith}
 use Rattle.std.specs.FinMap.{get, insert, remove, get-insert, get-remove}
 use Rattle.std.specs.Ordering.{eq_by_cmp}
-use Rattle.ts_row.specs.RowType.{Heading}
 use Rattle.ts_command.specs.declared.command.Command.{Command}
 use Rattle.ts_command.specs.declared.command.Command.TheVariants as commands
 use Rattle.ts_model.specs.declared.kind.Kind.{Kind}
 use Rattle.ts_model.specs.declared.kind.Kind.TheVariants as kinds
-use Rattle.ts_model.specs.Catalogue.{name_cmp, Named, Container, Series, Catalogue}
+use Rattle.ts_model.specs.Catalogue.{name_cmp, Named, Catalogue}
 use Rattle.ts_model.proofs.OrderLemmas.{total, ties-same}
-use Rattle.ts_model.specs.Kinds.{named}
+use Rattle.ts_model.specs.Kinds.{In, named}
 use Rattle.ts_answer.specs.Commands.{Object, objects, StaysBut}
-use Rattle.ts_answer.specs.Answer.{Answered, Tried, ◌>>=◌, settled, outcome, answer, carried_out, create_row_type, drop_definition, create_container, container_usage, create_irregular, drop_series, list_series, put_element, put_no_dups, insert_element, update_element, delete_element, delete_range, mark_element, get_element, get_last_element, count_elements}
+use Rattle.ts_answer.specs.Answer.{Answered, Tried, ◌>>=◌, settled, outcome, answer, carried_out, create_row_type, drop_definition, create_pattern, turn_pattern, join_patterns, show_pattern, create_calendar, join_calendars, show_calendar, count_starts, find_start, list_starts, create_container, container_usage, create_irregular, drop_series, list_series, put_element, put_no_dups, insert_element, update_element, delete_element, delete_range, mark_element, get_element, get_last_element, count_elements}
 
 -- a map with another value under one name, or none
 apart : {X : Type 0} (b : Bool) (q name : List ℕ) (v m : Option X) → (b ≡ true → ⊥) → cond b v m ≡ m
@@ -33,26 +32,45 @@ module _ (cat : Catalogue) where
   pub stays_whole : (wrote : List Object) → StaysBut wrote cat cat
   stays_whole wrote = record { format = refl; pages = refl; others = λ object none. refl }
 
-  row_types_written : (name : List ℕ) (rows : Named Heading) → ((q : List ℕ) → (q ≡ name → ⊥) → get rows q ≡ get cat.row_types q) → StaysBut ((kinds.RowType, name) ∷ []) cat (record cat { row_types = rows })
-  row_types_written name rows same = record { format = refl; pages = refl; others = λ object none. at object.0 object.1 (other_than kinds.RowType name object none) } where
-    at : (kind : Kind) (q : List ℕ) → (kind ≡ kinds.RowType → q ≡ name → ⊥) → get (named kind (record cat { row_types = rows })) q ≡ get (named kind cat) q
-    at kinds.RowType q other = same q (other refl)
-    at kinds.Container q other = refl
-    at kinds.Series q other = refl
+  -- the catalogue with other names of a kind
+  abbrev with_rows : (kind : Kind) → Named (In kind) → Catalogue
+  with_rows kinds.RowType rows = record cat { row_types = rows }
+  with_rows kinds.Pattern rows = record cat { patterns = rows }
+  with_rows kinds.Calendar rows = record cat { calendars = rows }
+  with_rows kinds.Container rows = record cat { containers = rows }
+  with_rows kinds.Series rows = record cat { series = rows }
 
-  containers_written : (name : List ℕ) (rows : Named Container) → ((q : List ℕ) → (q ≡ name → ⊥) → get rows q ≡ get cat.containers q) → StaysBut ((kinds.Container, name) ∷ []) cat (record cat { containers = rows })
-  containers_written name rows same = record { format = refl; pages = refl; others = λ object none. at object.0 object.1 (other_than kinds.Container name object none) } where
-    at : (kind : Kind) (q : List ℕ) → (kind ≡ kinds.Container → q ≡ name → ⊥) → get (named kind (record cat { containers = rows })) q ≡ get (named kind cat) q
-    at kinds.RowType q other = refl
-    at kinds.Container q other = same q (other refl)
-    at kinds.Series q other = refl
+  -- they are the same but for one
+  abbrev SameBut : (kind : Kind) → List ℕ → Named (In kind) → Type 0
+  SameBut kind name rows = (q : List ℕ) → (q ≡ name → ⊥) → get rows q ≡ get (named kind cat) q
 
-  series_written : (key : List ℕ) (rows : Named Series) → ((q : List ℕ) → (q ≡ key → ⊥) → get rows q ≡ get cat.series q) → StaysBut ((kinds.Series, key) ∷ []) cat (record cat { series = rows })
-  series_written key rows same = record { format = refl; pages = refl; others = λ object none. at object.0 object.1 (other_than kinds.Series key object none) } where
-    at : (kind : Kind) (q : List ℕ) → (kind ≡ kinds.Series → q ≡ key → ⊥) → get (named kind (record cat { series = rows })) q ≡ get (named kind cat) q
-    at kinds.RowType q other = refl
-    at kinds.Container q other = refl
-    at kinds.Series q other = same q (other refl)
+  others_stay : (kind k : Kind) (name q : List ℕ) (rows : Named (In kind)) → SameBut kind name rows → (k ≡ kind → q ≡ name → ⊥) → get (named k (with_rows kind rows)) q ≡ get (named k cat) q
+  others_stay kinds.RowType kinds.RowType name q rows same other = same q (other refl)
+  others_stay kinds.RowType k name q rows same other = refl
+  others_stay kinds.Pattern kinds.Pattern name q rows same other = same q (other refl)
+  others_stay kinds.Pattern k name q rows same other = refl
+  others_stay kinds.Calendar kinds.Calendar name q rows same other = same q (other refl)
+  others_stay kinds.Calendar k name q rows same other = refl
+  others_stay kinds.Container kinds.Container name q rows same other = same q (other refl)
+  others_stay kinds.Container k name q rows same other = refl
+  others_stay kinds.Series kinds.Series name q rows same other = same q (other refl)
+  others_stay kinds.Series k name q rows same other = refl
+
+  stays_with : (kind : Kind) (name : List ℕ) (rows : Named (In kind)) → SameBut kind name rows → (with_rows kind rows).format ≡ cat.format → (with_rows kind rows).pages ≡ cat.pages → StaysBut ((kind, name) ∷ []) cat (with_rows kind rows)
+  stays_with kind name rows same format pages = record { format = format; pages = pages; others = λ object none. others_stay kind object.0 name object.1 rows same (other_than kind name object none) }
+
+  written : (kind : Kind) (name : List ℕ) (rows : Named (In kind)) → SameBut kind name rows → StaysBut ((kind, name) ∷ []) cat (with_rows kind rows)
+  written kinds.RowType name rows same = stays_with kinds.RowType name rows same refl refl
+  written kinds.Pattern name rows same = stays_with kinds.Pattern name rows same refl refl
+  written kinds.Calendar name rows same = stays_with kinds.Calendar name rows same refl refl
+  written kinds.Container name rows same = stays_with kinds.Container name rows same refl refl
+  written kinds.Series name rows same = stays_with kinds.Series name rows same refl refl
+
+  made : (kind : Kind) (name : List ℕ) (value : In kind) → StaysBut ((kind, name) ∷ []) cat (with_rows kind (insert (named kind cat) name value))
+  made kind name value = written kind name (insert (named kind cat) name value) (λ q other. inserted (named kind cat) name q value other)
+
+  dropped : (kind : Kind) (name : List ℕ) → StaysBut ((kind, name) ∷ []) cat (with_rows kind (remove (named kind cat) name))
+  dropped kind name = written kind name (remove (named kind cat) name) (λ q other. removed (named kind cat) name q other)
 
   -- what is tried stays but for these
   Tries : List Object → Tried Answered → Type 0
@@ -70,23 +88,37 @@ module _ (cat : Catalogue) where
   settles wrote (Err refusal) stays = stays_whole wrote
 
   each : (command : Command) → Tries (objects command).wrote (carried_out command cat)
-  unfolding Tries carried_out create_row_type drop_definition create_container container_usage create_irregular drop_series list_series put_element put_no_dups insert_element update_element delete_element delete_range mark_element get_element get_last_element count_elements
-  each (commands.CreateRowType name stamp columns) = tries _ _ _ (λ good. tries _ _ _ (λ has. tries _ _ _ (λ new. row_types_written name _ (λ q other. inserted cat.row_types name q _ other))))
-  each (commands.DropRowType name) = tries _ _ _ (λ there. tries _ _ _ (λ idle. row_types_written name _ (λ q other. removed cat.row_types name q other)))
-  each (commands.TSContainerCreate name row_type quota) = tries _ _ _ (λ heading. tries _ _ _ (λ new. tries _ _ _ (λ fits. containers_written name _ (λ q other. inserted cat.containers name q _ other))))
-  each (commands.TSContainerDestroy name) = tries _ _ _ (λ there. tries _ _ _ (λ idle. containers_written name _ (λ q other. removed cat.containers name q other)))
+  unfolding Tries carried_out create_row_type drop_definition create_pattern turn_pattern join_patterns show_pattern create_calendar join_calendars show_calendar count_starts find_start list_starts create_container container_usage create_irregular drop_series list_series put_element put_no_dups insert_element update_element delete_element delete_range mark_element get_element get_last_element count_elements
+  each (commands.CreateRowType name stamp columns) = tries _ _ _ (λ good. tries _ _ _ (λ has. tries _ _ _ (λ new. made kinds.RowType name _)))
+  each (commands.DropRowType name) = tries _ _ _ (λ there. tries _ _ _ (λ idle. dropped kinds.RowType name))
+  each (commands.CreatePattern name text) = tries _ _ _ (λ pattern. tries _ _ _ (λ new. made kinds.Pattern name _))
+  each (commands.NotOp name pattern) = tries _ _ _ (λ old. tries _ _ _ (λ new. made kinds.Pattern name _))
+  each (commands.AndPatterns name first second) = tries _ _ _ (λ a. tries _ _ _ (λ b. tries _ _ _ (λ new. tries _ _ _ (λ pattern. made kinds.Pattern name _))))
+  each (commands.OrPatterns name first second) = tries _ _ _ (λ a. tries _ _ _ (λ b. tries _ _ _ (λ new. tries _ _ _ (λ pattern. made kinds.Pattern name _))))
+  each (commands.AndCalendars name first second) = tries _ _ _ (λ a. tries _ _ _ (λ b. tries _ _ _ (λ new. tries _ _ _ (λ joined. made kinds.Calendar name _))))
+  each (commands.OrCalendars name first second) = tries _ _ _ (λ a. tries _ _ _ (λ b. tries _ _ _ (λ new. tries _ _ _ (λ joined. made kinds.Calendar name _))))
+  each (commands.ShowPattern name) = tries _ _ _ (λ pattern. stays_whole [])
+  each (commands.DropPattern name) = tries _ _ _ (λ there. tries _ _ _ (λ idle. dropped kinds.Pattern name))
+  each (commands.CreateCalendar name text) = tries _ _ _ (λ read. tries _ _ _ (λ pattern. tries _ _ _ (λ new. tries _ _ _ (λ valid. made kinds.Calendar name _))))
+  each (commands.ShowCalendar name) = tries _ _ _ (λ text. stays_whole [])
+  each (commands.DropCalendar name) = tries _ _ _ (λ there. tries _ _ _ (λ idle. dropped kinds.Calendar name))
+  each (commands.CalIndex calendar from to) = tries _ _ _ (λ plan. stays_whole [])
+  each (commands.CalStamp calendar after count) = tries _ _ _ (λ plan. tries _ _ _ (λ stamp. stays_whole []))
+  each (commands.CalRange calendar from to) = tries _ _ _ (λ plan. tries _ _ _ (λ starts. stays_whole []))
+  each (commands.TSContainerCreate name row_type quota) = tries _ _ _ (λ heading. tries _ _ _ (λ new. tries _ _ _ (λ fits. made kinds.Container name _)))
+  each (commands.TSContainerDestroy name) = tries _ _ _ (λ there. tries _ _ _ (λ idle. dropped kinds.Container name))
   each (commands.TSContainerUsage name) = tries _ _ _ (λ container. stays_whole [])
-  each (commands.TSCreateIrr key container) = tries _ _ _ (λ there. tries _ _ _ (λ new. series_written key _ (λ q other. inserted cat.series key q _ other)))
-  each (commands.DropSeries key) = tries _ _ _ (λ series. series_written key _ (λ q other. removed cat.series key q other))
+  each (commands.TSCreateIrr key container) = tries _ _ _ (λ there. tries _ _ _ (λ new. made kinds.Series key _))
+  each (commands.DropSeries key) = tries _ _ _ (λ series. dropped kinds.Series key)
   each (commands.ListSeries container) = tries _ _ _ (λ there. stays_whole [])
-  each (commands.PutElem key stamp literals) = tries _ _ _ (λ series. tries _ _ _ (λ row. tries _ _ _ (λ place. tries _ _ _ (λ fits. series_written key _ (λ q other. inserted cat.series key q _ other)))))
-  each (commands.PutElemNoDups key stamp literals) = tries _ _ _ (λ series. tries _ _ _ (λ row. tries _ _ _ (λ fits. series_written key _ (λ q other. inserted cat.series key q _ other))))
-  each (commands.InsElem key stamp literals) = tries _ _ _ (λ series. tries _ _ _ (λ row. tries _ _ _ (λ free. tries _ _ _ (λ fits. series_written key _ (λ q other. inserted cat.series key q _ other)))))
-  each (commands.UpdElem key stamp literals) = tries _ _ _ (λ series. tries _ _ _ (λ row. tries _ _ _ (λ there. series_written key _ (λ q other. inserted cat.series key q _ other))))
-  each (commands.DelElem key stamp) = tries _ _ _ (λ series. series_written key _ (λ q other. inserted cat.series key q _ other))
-  each (commands.DelClip key from to) = tries _ _ _ (λ series. series_written key _ (λ q other. inserted cat.series key q _ other))
-  each (commands.HideElem key stamp) = tries _ _ _ (λ series. tries _ _ _ (λ marks. tries _ _ _ (λ row. series_written key _ (λ q other. inserted cat.series key q _ other))))
-  each (commands.RevealElem key stamp) = tries _ _ _ (λ series. tries _ _ _ (λ marks. tries _ _ _ (λ row. series_written key _ (λ q other. inserted cat.series key q _ other))))
+  each (commands.PutElem key stamp literals) = tries _ _ _ (λ series. tries _ _ _ (λ row. tries _ _ _ (λ place. tries _ _ _ (λ fits. made kinds.Series key _))))
+  each (commands.PutElemNoDups key stamp literals) = tries _ _ _ (λ series. tries _ _ _ (λ row. tries _ _ _ (λ fits. made kinds.Series key _)))
+  each (commands.InsElem key stamp literals) = tries _ _ _ (λ series. tries _ _ _ (λ row. tries _ _ _ (λ free. tries _ _ _ (λ fits. made kinds.Series key _))))
+  each (commands.UpdElem key stamp literals) = tries _ _ _ (λ series. tries _ _ _ (λ row. tries _ _ _ (λ there. made kinds.Series key _)))
+  each (commands.DelElem key stamp) = tries _ _ _ (λ series. made kinds.Series key _)
+  each (commands.DelClip key from to) = tries _ _ _ (λ series. made kinds.Series key _)
+  each (commands.HideElem key stamp) = tries _ _ _ (λ series. tries _ _ _ (λ marks. tries _ _ _ (λ row. made kinds.Series key _)))
+  each (commands.RevealElem key stamp) = tries _ _ _ (λ series. tries _ _ _ (λ marks. tries _ _ _ (λ row. made kinds.Series key _)))
   each (commands.GetElem key stamp) = tries _ _ _ (λ series. stays_whole [])
   each (commands.GetLastElem key) = tries _ _ _ (λ series. stays_whole [])
   each (commands.GetNelems key) = tries _ _ _ (λ series. stays_whole [])

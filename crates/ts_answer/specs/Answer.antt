@@ -1,6 +1,6 @@
 -- What a catalogue answers to a request of a script: a reply, and the catalogue after it. Each routine tries its refusals in
 -- order; the first that holds is said, and the catalogue stays.
-use Rattle.std.specs.Prelude.{ℕ, ◌+◌, ◌-◌, ◌==◌, ◌&&◌, Bool, true, false, nat_lt, nat_le, if◌then◌else◌, ℤ, unsigned_abs, List, length, map, slice_get, Option, Some, None, option_to_list, Result, Ok, Err, is_some}
+use Rattle.std.specs.Prelude.{ℕ, ◌+◌, ◌-◌, ◌==◌, ◌&&◌, Bool, true, false, nat_lt, nat_le, if◌then◌else◌, ℤ, pos, unsigned_abs, List, length, map, slice_get, Option, Some, None, option_to_list, Result, Ok, Err, is_some}
 use Rattle.std.specs.FinMap.{empty, entries, from_entries, get, insert, remove, len}
 use Rattle.ts_base.specs.declared.refusal.Refusal.{Refusal}
 use Rattle.ts_base.specs.declared.refusal.Refusal.TheVariants as refusals
@@ -10,7 +10,20 @@ use Rattle.ts_row.specs.RowType.{bad_column, has_long_decimal}
 use Rattle.ts_row.specs.Row.{Row, row_of, marked}
 use Rattle.ts_row.specs.Element.{Element, seen}
 use Rattle.ts_chain.specs.Placing.{place_for}
+pub use Rattle.ts_chain.specs.Placing.{placed}
 use Rattle.ts_chain.specs.Range.{within_range, without_range}
+use Rattle.ts_pattern.specs.declared.junction.Junction.{Junction}
+use Rattle.ts_pattern.specs.declared.junction.Junction.TheVariants.{And, Or}
+use Rattle.ts_pattern.specs.Plan.{Plan}
+use Rattle.ts_pattern.specs.Runs.{turned}
+use Rattle.ts_pattern.specs.Grammar.{read_plan}
+use Rattle.ts_pattern.specs.Algebra.{joined_plan}
+use Rattle.ts_calendar.specs.Plan.{CalendarPlan}
+use Rattle.ts_calendar.specs.Calendar.{valid_calendar, joined_calendar}
+use Rattle.ts_calendar.specs.declared.text.PatternPart.{PatternPart}
+use Rattle.ts_calendar.specs.declared.text.PatternPart.TheVariants.{Own}
+use Rattle.ts_calendar.specs.Text.{read_calendar, calendar_text}
+use Rattle.ts_offset.specs.Counting.{cal_index, cal_stamp, cal_range}
 use Rattle.ts_command.specs.declared.command.Command.{Command}
 use Rattle.ts_command.specs.declared.command.Command.TheVariants as commands
 use Rattle.ts_command.specs.Script.{Request}
@@ -18,10 +31,10 @@ use Rattle.ts_model.specs.declared.kind.Kind.{Kind}
 use Rattle.ts_model.specs.declared.kind.Kind.TheVariants as kinds
 use Rattle.ts_model.specs.declared.format.TheConstants.{OLD_FORMAT}
 use Rattle.ts_model.specs.Definitions.{limit}
-use Rattle.ts_model.specs.Catalogue.{Named, Elements, Series, Catalogue, columns_of, quota_of, series_in, quotas}
+use Rattle.ts_model.specs.Catalogue.{Named, Elements, Series, Catalogue, pattern_of, calendar_of, with_plan, columns_of, quota_of, series_in, quotas}
 use Rattle.ts_model.specs.Charge.{container_charge}
-use Rattle.ts_model.specs.Kinds.{named, without, is_used}
-use Rattle.ts_answer.specs.Reply.{ok_line, count_line, counts_line, stamp_line, refusal_line, elements_text, series_text}
+use Rattle.ts_model.specs.Kinds.{named, with_named, without, is_used}
+use Rattle.ts_answer.specs.Reply.{ok_line, count_line, counts_line, number_line, stamp_line, refusal_line, pattern_lines, calendar_lines, elements_text, series_text, stamps_text}
 
 -- a value, or the refusal that came first
 abbrev pub Tried : Type 0 → Type 0
@@ -91,11 +104,6 @@ present None = Err refusals.Missing
 unfoldable pub row_at : ℤ → Elements → Tried Row
 row_at stamp elements = present (get elements stamp)
 
--- the stamp that an element gets, if there is one; else the second is full
-abbrev pub placed : Option ℤ → Tried ℤ
-placed (Some stamp) = Ok stamp
-placed None = Err refusals.SecondFull
-
 -- The stamp at which an element is put: the given one where no element stands at it, hidden or not; else the one behind the last
 -- element of its second.
 unfoldable pub a_place : ℤ → Elements → Tried ℤ
@@ -111,7 +119,7 @@ within_pages sum pages = refused_if (nat_lt pages sum) (refusals.VolumeFull sum 
 
 -- the catalogue with these elements of a series
 abbrev pub with_elements : List ℕ → Series → Elements → Catalogue → Catalogue
-with_elements key s elements cat = record cat { series = insert cat.series key (record s { elements = elements }) }
+with_elements key s elements cat = with_named kinds.Series key (record s { elements = elements }) cat
 
 -- the catalogue with this element in a series, in place of one that stands at its stamp
 abbrev pub with_element : List ℕ → Series → ℤ → Row → Catalogue → Catalogue
@@ -134,7 +142,7 @@ create_row_type name stamp columns cat = do
   good ← no_bad_column (bad_column stamp columns)
   has ← beyond_old_format (has_long_decimal columns) cat.format
   new ← a_new_name kinds.RowType name cat
-  Ok (ok_line, record cat { row_types = insert cat.row_types name (record { stamp = stamp; columns = columns }) })
+  Ok (ok_line, with_named kinds.RowType name (record { stamp = stamp; columns = columns }) cat)
 
 -- a definition to which nothing refers goes
 unfoldable pub drop_definition : Kind → List ℕ → Catalogue → Tried Answered
@@ -143,12 +151,96 @@ drop_definition kind name cat = do
   idle ← refused_if (is_used kind name cat) refusals.InUse
   Ok (ok_line, without kind name cat)
 
+-- the pattern that a text gives: the one of a name, or its own
+abbrev pub given : PatternPart → Catalogue → Tried Plan
+given part cat = known (pattern_of cat part)
+
+-- the calendar of a name
+unfoldable pub a_calendar : List ℕ → Catalogue → Tried CalendarPlan
+a_calendar name cat = do
+  text ← wanted name cat.calendars
+  known (calendar_of cat text)
+
+-- the stamp that is sought, if it exists
+abbrev pub in_time : Option ℤ → Tried ℤ
+in_time (Some stamp) = Ok stamp
+in_time None = Err refusals.PastEnd
+
+unfoldable pub create_pattern : List ℕ → List ℕ → Catalogue → Tried Answered
+create_pattern name text cat = do
+  pattern ← read_plan text
+  new ← a_new_name kinds.Pattern name cat
+  Ok (ok_line, with_named kinds.Pattern name pattern cat)
+
+-- a pattern with each flag turned
+unfoldable pub turn_pattern : List ℕ → List ℕ → Catalogue → Tried Answered
+turn_pattern name pattern cat = do
+  old ← wanted pattern cat.patterns
+  new ← a_new_name kinds.Pattern name cat
+  Ok (ok_line, with_named kinds.Pattern name (record { unit = old.unit; runs = map turned old.runs }) cat)
+
+-- two patterns joined, their first intervals together
+unfoldable pub join_patterns : Junction → List ℕ → List ℕ → List ℕ → Catalogue → Tried Answered
+join_patterns junction name first second cat = do
+  a ← wanted first cat.patterns
+  b ← wanted second cat.patterns
+  new ← a_new_name kinds.Pattern name cat
+  pattern ← joined_plan junction a (pos 0) b (pos 0)
+  Ok (ok_line, with_named kinds.Pattern name pattern cat)
+
+unfoldable pub show_pattern : List ℕ → Catalogue → Tried Answered
+show_pattern name cat = do
+  pattern ← wanted name cat.patterns
+  Ok (pattern_lines pattern, cat)
+
+unfoldable pub create_calendar : List ℕ → List ℕ → Catalogue → Tried Answered
+create_calendar name text cat = do
+  read ← read_calendar text
+  pattern ← given read.part cat
+  new ← a_new_name kinds.Calendar name cat
+  valid ← valid_calendar (with_plan read pattern)
+  Ok (ok_line, with_named kinds.Calendar name read cat)
+
+-- two calendars joined: what comes has a pattern of its own
+unfoldable pub join_calendars : Junction → List ℕ → List ℕ → List ℕ → Catalogue → Tried Answered
+join_calendars junction name first second cat = do
+  a ← a_calendar first cat
+  b ← a_calendar second cat
+  new ← a_new_name kinds.Calendar name cat
+  joined ← joined_calendar junction a b
+  Ok (ok_line, with_named kinds.Calendar name (calendar_text joined.start joined.patt_start (Own joined.pattern)) cat)
+
+unfoldable pub show_calendar : List ℕ → Catalogue → Tried Answered
+show_calendar name cat = do
+  text ← wanted name cat.calendars
+  Ok (calendar_lines text, cat)
+
+-- how many on starts lie between two stamps
+unfoldable pub count_starts : List ℕ → ℤ → ℤ → Catalogue → Tried Answered
+count_starts calendar from to cat = do
+  plan ← a_calendar calendar cat
+  Ok (number_line (cal_index plan from to), cat)
+
+-- the on start of a number after a stamp
+unfoldable pub find_start : List ℕ → ℤ → ℕ → Catalogue → Tried Answered
+find_start calendar after count cat = do
+  plan ← a_calendar calendar cat
+  stamp ← in_time (cal_stamp plan after count)
+  Ok (stamp_line stamp, cat)
+
+-- the on starts from one stamp to another
+unfoldable pub list_starts : List ℕ → ℤ → ℤ → Catalogue → Tried Answered
+list_starts calendar from to cat = do
+  plan ← a_calendar calendar cat
+  starts ← cal_range plan from to
+  Ok (stamps_text starts, cat)
+
 unfoldable pub create_container : List ℕ → List ℕ → ℕ → Catalogue → Tried Answered
 create_container name row_type quota cat = do
   heading ← wanted row_type cat.row_types
   new ← a_new_name kinds.Container name cat
   fits ← within_pages (quotas cat + quota) cat.pages
-  Ok (ok_line, record cat { containers = insert cat.containers name (record { row_type = row_type; quota = quota }) })
+  Ok (ok_line, with_named kinds.Container name (record { row_type = row_type; quota = quota }) cat)
 
 unfoldable pub container_usage : List ℕ → Catalogue → Tried Answered
 container_usage name cat = do
@@ -159,12 +251,12 @@ unfoldable pub create_irregular : List ℕ → List ℕ → Catalogue → Tried 
 create_irregular key container cat = do
   there ← wanted container cat.containers
   new ← a_new_name kinds.Series key cat
-  Ok (ok_line, record cat { series = insert cat.series key (record { container = container; elements = empty }) })
+  Ok (ok_line, with_named kinds.Series key (record { container = container; elements = empty }) cat)
 
 unfoldable pub drop_series : List ℕ → Catalogue → Tried Answered
 drop_series key cat = do
   series ← wanted key cat.series
-  Ok (ok_line, record cat { series = remove cat.series key })
+  Ok (ok_line, without kinds.Series key cat)
 
 unfoldable pub list_series : List ℕ → Catalogue → Tried Answered
 list_series container cat = do
@@ -250,6 +342,20 @@ count_elements key cat = do
 unfoldable pub carried_out : Command → Catalogue → Tried Answered
 carried_out (commands.CreateRowType name stamp columns) cat = create_row_type name stamp columns cat
 carried_out (commands.DropRowType name) cat = drop_definition kinds.RowType name cat
+carried_out (commands.CreatePattern name text) cat = create_pattern name text cat
+carried_out (commands.NotOp name pattern) cat = turn_pattern name pattern cat
+carried_out (commands.AndPatterns name first second) cat = join_patterns And name first second cat
+carried_out (commands.OrPatterns name first second) cat = join_patterns Or name first second cat
+carried_out (commands.AndCalendars name first second) cat = join_calendars And name first second cat
+carried_out (commands.OrCalendars name first second) cat = join_calendars Or name first second cat
+carried_out (commands.ShowPattern name) cat = show_pattern name cat
+carried_out (commands.DropPattern name) cat = drop_definition kinds.Pattern name cat
+carried_out (commands.CreateCalendar name text) cat = create_calendar name text cat
+carried_out (commands.ShowCalendar name) cat = show_calendar name cat
+carried_out (commands.DropCalendar name) cat = drop_definition kinds.Calendar name cat
+carried_out (commands.CalIndex calendar from to) cat = count_starts calendar from to cat
+carried_out (commands.CalStamp calendar after count) cat = find_start calendar after (unsigned_abs count) cat
+carried_out (commands.CalRange calendar from to) cat = list_starts calendar from to cat
 carried_out (commands.TSContainerCreate name row_type quota) cat = create_container name row_type (unsigned_abs quota) cat
 carried_out (commands.TSContainerDestroy name) cat = drop_definition kinds.Container name cat
 carried_out (commands.TSContainerUsage name) cat = container_usage name cat

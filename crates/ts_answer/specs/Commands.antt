@@ -1,6 +1,11 @@
 -- What a command may change: whether it writes, what it writes and what it names. Every command has its case.
-use Rattle.std.specs.Prelude.{◌≡◌, ℕ, Bool, true, false, List, [], ◌∷◌, Contains}
+use Rattle.std.specs.Prelude.{◌≡◌, ℕ, Bool, true, false, List, [], ◌∷◌, Contains, Result, Ok, Err}
 use Rattle.std.specs.FinMap.{get}
+use Rattle.ts_base.specs.declared.refusal.Refusal.{Refusal}
+use Rattle.ts_calendar.specs.declared.text.PatternPart.{PatternPart}
+use Rattle.ts_calendar.specs.declared.text.PatternPart.TheVariants.{Named as ByName, Own}
+use Rattle.ts_calendar.specs.declared.text.CalendarText.{CalendarText}
+use Rattle.ts_calendar.specs.Text.{read_calendar}
 use Rattle.ts_command.specs.declared.command.Command.{Command}
 use Rattle.ts_command.specs.declared.command.Command.TheVariants as commands
 use Rattle.ts_model.specs.declared.kind.Kind.{Kind}
@@ -12,6 +17,20 @@ use Rattle.ts_model.specs.Kinds.{named}
 abbrev pub is_writing : Command → Bool
 is_writing (commands.CreateRowType name stamp columns) = true
 is_writing (commands.DropRowType name) = true
+is_writing (commands.CreatePattern name text) = true
+is_writing (commands.NotOp name pattern) = true
+is_writing (commands.AndPatterns name first second) = true
+is_writing (commands.OrPatterns name first second) = true
+is_writing (commands.AndCalendars name first second) = true
+is_writing (commands.OrCalendars name first second) = true
+is_writing (commands.ShowPattern name) = false
+is_writing (commands.DropPattern name) = true
+is_writing (commands.CreateCalendar name text) = true
+is_writing (commands.ShowCalendar name) = false
+is_writing (commands.DropCalendar name) = true
+is_writing (commands.CalIndex calendar from to) = false
+is_writing (commands.CalStamp calendar after count) = false
+is_writing (commands.CalRange calendar from to) = false
 is_writing (commands.TSContainerCreate name row_type quota) = true
 is_writing (commands.TSContainerDestroy name) = true
 is_writing (commands.TSContainerUsage name) = false
@@ -34,7 +53,8 @@ is_writing (commands.GetNelems key) = false
 abbrev pub Object : Type 0
 Object = Kind × List ℕ
 
--- the objects that a command writes (makes, drops or edits), and the others that it names
+-- the objects that a command writes (makes, drops or edits), and the others that it names; a law speaks of the first alone, since nothing rests on
+-- what is named yet
 pub record Touched : Type 0 where
   pub wrote : List Object
   pub named : List Object
@@ -45,13 +65,41 @@ writes kind name = record { wrote = (kind, name) ∷ []; named = [] }
 abbrev reads : Kind → List ℕ → Touched
 reads kind name = record { wrote = []; named = (kind, name) ∷ [] }
 
+-- an object that is made, of which others it is made from
+abbrev makes : Kind → List ℕ → List Object → Touched
+makes kind name sources = record { wrote = (kind, name) ∷ []; named = sources }
+
+-- the pattern that a calendar's text names, as a list of one or none
+abbrev pub named_part : PatternPart → List Object
+named_part (ByName name) = (kinds.Pattern, name) ∷ []
+named_part (Own pattern) = []
+
+-- the same of a text that is read
+abbrev pub pattern_named : Result CalendarText Refusal → List Object
+pattern_named (Ok text) = named_part text.part
+pattern_named (Err refusal) = []
+
 abbrev pub objects : Command → Touched
 objects (commands.CreateRowType name stamp columns) = writes kinds.RowType name
 objects (commands.DropRowType name) = writes kinds.RowType name
-objects (commands.TSContainerCreate name row_type quota) = record { wrote = (kinds.Container, name) ∷ []; named = (kinds.RowType, row_type) ∷ [] }
+objects (commands.CreatePattern name text) = writes kinds.Pattern name
+objects (commands.NotOp name pattern) = makes kinds.Pattern name ((kinds.Pattern, pattern) ∷ [])
+objects (commands.AndPatterns name first second) = makes kinds.Pattern name ((kinds.Pattern, first) ∷ (kinds.Pattern, second) ∷ [])
+objects (commands.OrPatterns name first second) = makes kinds.Pattern name ((kinds.Pattern, first) ∷ (kinds.Pattern, second) ∷ [])
+objects (commands.AndCalendars name first second) = makes kinds.Calendar name ((kinds.Calendar, first) ∷ (kinds.Calendar, second) ∷ [])
+objects (commands.OrCalendars name first second) = makes kinds.Calendar name ((kinds.Calendar, first) ∷ (kinds.Calendar, second) ∷ [])
+objects (commands.ShowPattern name) = reads kinds.Pattern name
+objects (commands.DropPattern name) = writes kinds.Pattern name
+objects (commands.CreateCalendar name text) = makes kinds.Calendar name (pattern_named (read_calendar text))
+objects (commands.ShowCalendar name) = reads kinds.Calendar name
+objects (commands.DropCalendar name) = writes kinds.Calendar name
+objects (commands.CalIndex calendar from to) = reads kinds.Calendar calendar
+objects (commands.CalStamp calendar after count) = reads kinds.Calendar calendar
+objects (commands.CalRange calendar from to) = reads kinds.Calendar calendar
+objects (commands.TSContainerCreate name row_type quota) = makes kinds.Container name ((kinds.RowType, row_type) ∷ [])
 objects (commands.TSContainerDestroy name) = writes kinds.Container name
 objects (commands.TSContainerUsage name) = reads kinds.Container name
-objects (commands.TSCreateIrr key container) = record { wrote = (kinds.Series, key) ∷ []; named = (kinds.Container, container) ∷ [] }
+objects (commands.TSCreateIrr key container) = makes kinds.Series key ((kinds.Container, container) ∷ [])
 objects (commands.DropSeries key) = writes kinds.Series key
 objects (commands.ListSeries container) = reads kinds.Container container
 objects (commands.PutElem key stamp literals) = writes kinds.Series key

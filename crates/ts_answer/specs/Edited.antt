@@ -1,5 +1,5 @@
 -- What edits do to the elements of a series, in the words of one who asks for them.
-use Rattle.std.specs.Prelude.{◌≡◌, ℕ, ◌+◌, Bool, if◌then◌else◌, ℤ, Option, None, List}
+use Rattle.std.specs.Prelude.{◌≡◌, ℕ, ◌+◌, Bool, if◌then◌else◌, ℤ, None, List}
 use Rattle.std.specs.FinMap.{get, len}
 use Rattle.ts_row.specs.Row.{Row}
 use Rattle.ts_model.specs.Catalogue.{Elements, Series, Catalogue}

@@ -3,6 +3,7 @@ pub mod CarriedOut
 pub mod Commands
 pub mod Decided
 pub mod Edited
+pub mod Laws
 pub mod Reading
 pub mod Reply
 pub mod Slots

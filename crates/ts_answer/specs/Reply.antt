@@ -1,13 +1,17 @@
 -- The texts of replies: lines, each ended by a line feed, of which the last begins with `ok` or `error`.
 use Rattle.std.specs.Prelude.{ℕ, ℤ, List, ◌++◌, length, codes, decimal, flat_map}
+use Rattle.ts_pattern.specs.Plan.{Plan}
+use Rattle.ts_pattern.specs.Grammar.{printed_plan}
+use Rattle.ts_calendar.specs.declared.text.CalendarText.{CalendarText}
+use Rattle.ts_calendar.specs.Text.{printed_calendar}
 use Rattle.ts_base.specs.StampText.{stamp_text}
 use Rattle.ts_base.specs.declared.refusal.Refusal.{Refusal}
 use Rattle.ts_base.specs.Refusal.{refusal_code, refusal_name}
 use Rattle.ts_row.specs.declared.kind.Column.{Column}
 use Rattle.ts_row.specs.Element.{Element}
-use Rattle.ts_row.specs.Printed.{row_text, quoted}
+use Rattle.ts_row.specs.Printed.{row_text, quoted, number_text}
 
--- `ok`, and the same before a count, two counts or a stamp
+-- `ok`, and the same before a count, two counts, a number with its sign or a stamp
 unfoldable pub ok_line : List ℕ
 ok_line = codes "ok\n"
 
@@ -16,6 +20,9 @@ count_line n = codes "ok " ++ decimal n ++ codes "\n"
 
 unfoldable pub counts_line : ℕ → ℕ → List ℕ
 counts_line n m = codes "ok " ++ decimal n ++ codes " " ++ decimal m ++ codes "\n"
+
+unfoldable pub number_line : ℤ → List ℕ
+number_line n = codes "ok " ++ number_text 0 n ++ codes "\n"
 
 unfoldable pub stamp_line : ℤ → List ℕ
 stamp_line stamp = codes "ok " ++ stamp_text stamp ++ codes "\n"
@@ -27,6 +34,21 @@ refusal_line refusal = codes "error " ++ decimal (refusal_code refusal) ++ codes
 -- an element: its stamp and its values
 unfoldable pub element_line : List Column → Element → List ℕ
 element_line columns e = stamp_text e.0 ++ codes " " ++ row_text columns e.1 ++ codes "\n"
+
+-- a pattern in a line, and `ok`; a calendar so
+unfoldable pub pattern_lines : Plan → List ℕ
+pattern_lines pattern = printed_plan pattern ++ codes "\n" ++ ok_line
+
+unfoldable pub calendar_lines : CalendarText → List ℕ
+calendar_lines text = printed_calendar text ++ codes "\n" ++ ok_line
+
+-- a stamp in a line
+abbrev pub stamp_row : ℤ → List ℕ
+stamp_row stamp = stamp_text stamp ++ codes "\n"
+
+-- stamps, one a line, and how many they are
+unfoldable pub stamps_text : List ℤ → List ℕ
+stamps_text stamps = flat_map stamp_row stamps ++ count_line (length stamps)
 
 -- elements, one a line, and how many they are
 unfoldable pub elements_text : List Column → List Element → List ℕ

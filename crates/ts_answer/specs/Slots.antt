@@ -1,8 +1,10 @@
 -- The slots of names, and those for new ones.
 use Rattle.std.specs.Prelude.{◌≡◌, ℕ, ◌<◌, Some, None, List}
 use Rattle.std.specs.FinMap.{get}
+use Rattle.ts_calendar.specs.Plan.{CalendarPlan}
 use Rattle.ts_model.specs.declared.kind.Kind.{Kind}
-use Rattle.ts_model.specs.Definitions.{Definitions, KindDef, table_of, limit, slots, slot_of, vacant_slot, at_slot}
+use Rattle.ts_model.specs.declared.kind.Kind.TheVariants as kinds
+use Rattle.ts_model.specs.Definitions.{Definitions, CalendarDef, KindDef, table_of, limit, slots, slot_of, vacant_slot, at_slot}
 use Rattle.ts_layout.specs.Meaning.{Layout, value_of, catalogue_of}
 use Rattle.ts_model.specs.Kinds.{In, named}
 
@@ -26,3 +28,10 @@ pub record Stands (kind : Kind) (name : List ℕ) (l : Layout) (slot : ℕ) (val
   pub at : IsSlotNamed kind slot name l.definitions
   pub listed : get (named kind (catalogue_of l)) name ≡ Some value
   pub is : IsValue kind l slot value
+
+-- a calendar stands in the slot that has its name
+pub record IsCalendarIn (name : List ℕ) (l : Layout) (slot : ℕ) (plan : CalendarPlan) : Type 0 where
+  pub at : IsSlotNamed kinds.Calendar slot name l.definitions
+  pub def : CalendarDef
+  pub there : at_slot slot l.definitions.calendars ≡ Some def
+  pub is : plan ≡ def.calendar

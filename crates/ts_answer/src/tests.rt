@@ -10,6 +10,8 @@ fn the_laws_are_called(_rt: HostRuntime) -> Result<(), Fail> {
     what_is_not_written_stays();
     a_put_replaces_no_element();
     a_deletion_takes_what_it_names();
+    a_made_calendar_is_valid();
+    a_pattern_in_use_stays();
     commands_fit_one_record();
     lines_are_printed_so();
     Ok(())

@@ -1,5 +1,5 @@
 -- A definition that is made, and one that is dropped.
-use Rattle.std.proofs.Common.{◌≡◌, ℕ, ◌+◌, ◌≤◌, IsSome, is_some, Option, Some, None, List, length, ap, sym, subst, ◌∙◌}
+use Rattle.std.proofs.Common.{◌≡◌, ℕ, ◌+◌, ◌≤◌, IsSome, is_some, Option, Some, None, List, length, inl, refl, ap, sym, subst, ◌∙◌}
 use Rattle.std.specs.Option.{option_map, option_and_then}
 use Rattle.ts_row.specs.RowType.{Heading}
 use Rattle.ts_model.specs.declared.kind.Kind.{Kind}
@@ -7,14 +7,14 @@ use Rattle.ts_model.specs.declared.kind.Kind.TheVariants as kinds
 use Rattle.ts_model.specs.declared.def.Def.{Def}
 use Rattle.ts_model.specs.Catalogue.{Catalogue}
 use Rattle.ts_model.specs.Kinds.{In, with_named, without}
-use Rattle.ts_model.specs.Definitions.{SeriesDef, KindDef, of_series, at_slot, kind_of, name_of, to_def, slots, slot_of, references}
+use Rattle.ts_model.specs.Definitions.{Definitions, SeriesDef, KindDef, of_series, at_slot, kind_of, name_of, to_def, slots, slot_of, references}
 use Rattle.ts_layout.specs.Limits.{IsDef}
 use Rattle.ts_layout.specs.Meaning.{Layout, IsSound, IsThere, catalogue_of, def_at, heading_in, sum_of_quotas, value_of}
-use Rattle.ts_layout.specs.Changed.{granted, CanMake, CanDrop, HasNoPage}
+use Rattle.ts_layout.specs.Changed.{granted, KeepsCalendarRules, CanMake, CanDrop, HasNoPage}
 use Rattle.ts_layout.specs.Chains.{AreFilled}
 use Rattle.ts_layout.proofs.CallerLemmas.{made_sound, made_headings, made_kept, made_catalogue, dropped_sound, dropped_headings, dropped_kept, dropped_catalogue, at_slot-map, name_found, vacant_found}
 use Rattle.ts_answer.specs.Answer.{Answered}
-use Rattle.ts_answer.specs.Decided.{DefinesAs}
+use Rattle.ts_answer.specs.Decided.{DefinesAs, FitsSlot}
 use Rattle.ts_answer.specs.Slots.{IsFreeSlot}
 
 -- something stands in the slot of a name
@@ -29,19 +29,27 @@ no_page slot l filled empty i es is = unheaded (at_slot slot l.definitions.serie
     unheaded None empty f h is = cc
     unheaded (Some s) empty f h is = cc
 
+-- a definition under a new name fits the slot for it
+pub fits_free : (def : Def) (slot : ℕ) (name : List ℕ) (d : Definitions) → name_of def ≡ name → IsFreeSlot (kind_of def) slot name d → FitsSlot (kind_of def) slot (Some def) d
+fits_free def slot name d same free = record {
+  within = free.within;
+  fits = refl;
+  name = inl (subst (λ (n : List ℕ). slot_of n (slots (kind_of def) d) ≡ None) (sym same) free.new);
+}
+
 -- the same catalogue behind a line
 says : (line : List ℕ) (cat other : Catalogue) → other ≡ cat → let a : Answered = (line, cat) in let b : Answered = (line, other) in a ≡ b
 says line cat other same = ap (λ (x : Catalogue). let a : Answered = (line, x) in a) (sym same)
 
 module _ (line : List ℕ) (l : Layout) (rules : IsSound l) (filled : AreFilled l) where
   -- a definition is made in a free slot
-  pub defined : (def : Def) (slot : ℕ) (a : KindDef (kind_of def)) (value : In (kind_of def)) → to_def (kind_of def) a ≡ def → IsFreeSlot (kind_of def) slot (name_of def) l.definitions → IsDef l.definitions.format def → IsThere l.definitions (references def)
+  pub defined : (def : Def) (slot : ℕ) (a : KindDef (kind_of def)) (value : In (kind_of def)) → to_def (kind_of def) a ≡ def → IsFreeSlot (kind_of def) slot (name_of def) l.definitions → IsDef l.definitions.format def → IsThere l.definitions (references def) → KeepsCalendarRules def l.definitions
       → sum_of_quotas l.definitions.containers + granted (Some def) ≤ length l.element_pages → value_of (kind_of def) l slot a ≡ value
       → DefinesAs line (kind_of def) slot (Some def) l (line, with_named (kind_of def) (name_of def) value (catalogue_of l))
-  defined def slot a value own free limits refers pages is =
+  defined def slot a value own free limits refers valid pages is =
       let empty = (vacant_found (kind_of def) slot l rules free.lowest).1 in
       let can : CanMake slot def l = record {
-        fits = record { within = free.within; empty = empty; new = free.new; limits = limits; refers = refers };
+        fits = record { within = free.within; empty = empty; new = free.new; limits = limits; refers = refers; valid = valid };
         pages = pages;
         pageless = λ series. no_page slot l filled (subst (λ (k : Kind). def_at k slot l.definitions ≡ None) series empty);
       } in

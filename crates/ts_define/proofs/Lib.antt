@@ -1,3 +1,4 @@
 pub mod DefinedLemmas
+pub mod PatternLemmas
 pub mod RedefineLemmas
 pub mod RowTypeLemmas

@@ -2,7 +2,6 @@
 ghost use Rattle.std.specs.Prelude.{◌≡◌, ◌<◌, ℕ, true, false, Some, IfOk};
 ghost use Rattle.ts_model.specs.declared.def.Def.{Def as TheDef};
 ghost use Rattle.ts_model.specs.Definitions.{limit, def_at, Refers, IsUsed, IsUsedBy};
-ghost use Rattle.ts_model.specs.declared.kind.Kind.{Kind as TheKind};
 ghost use Rattle.ts_layout.specs.Meaning.{Layout, catalogue_of};
 ghost use Rattle.ts_answer.specs.Answer.{drop_definition};
 ghost use Rattle.ts_answer.specs.Decided.{DefinesAs, FitsSlot};
@@ -29,18 +28,14 @@ pub fn drop_definition(defs: &Defs, kind: Kind, name: &Name) -> Result<(u16, Opt
     Ok((slot, None))
 }
 
-// Whether some definition refers to what stands in a slot of a kind.
+// Whether some definition refers to what stands in a slot of a kind. Row types and patterns refer to nothing.
 fn has_user(defs: &Defs, kind: Kind, slot: u16) -> bool
     ensures some { result ≡ true → IsUsed kind slot defs.now.definitions }
     ensures none { result ≡ false → IsUsed kind slot defs.now.definitions → ⊥ }
 {
-    if has_user_in(defs, Kind::RowType, kind, slot) {
-        return true;
-    }
-    if has_user_in(defs, Kind::Container, kind, slot) {
-        return true;
-    }
-    has_user_in(defs, Kind::Series, kind, slot)
+    has_user_in(defs, Kind::Calendar, kind, slot)
+        || has_user_in(defs, Kind::Container, kind, slot)
+        || has_user_in(defs, Kind::Series, kind, slot)
 }
 
 // Whether some definition of the first kind does.
@@ -74,7 +69,11 @@ fn refers(def: &Def, kind: Kind, slot: u16) -> bool
     ensures none { result ≡ false → Refers def.now kind slot → ⊥ }
 {
     match def {
-        Def::RowType { .. } => false,
+        Def::RowType { .. } | Def::Pattern { .. } => false,
+        Def::Calendar { by, .. } => match by {
+            Some(pattern) => is_slot(Kind::Pattern, *pattern as u16, kind, slot),
+            None => false,
+        },
         Def::Container { row_type, .. } => { is_slot(Kind::RowType, *row_type as u16, kind, slot) }
         Def::Series { container, .. } => is_slot(Kind::Container, *container as u16, kind, slot),
     }

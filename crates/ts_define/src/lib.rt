@@ -4,17 +4,21 @@
 //! for the rules of a layout. Read `slots.rt`, `drops.rt`, then `write.rt`.
 #![tactic(auto)]
 
+mod calendars;
 mod containers;
 mod drops;
 mod format;
+mod patterns;
 mod row_types;
 mod series;
 mod slots;
 mod write;
 
+pub use calendars::{calendar_named, joined_calendar, new_calendar};
 pub use containers::new_container;
 pub use drops::drop_definition;
 pub use format::in_format;
+pub use patterns::{joined_pattern, new_pattern, pattern_named, turned_pattern};
 pub use row_types::new_row_type;
 pub use series::new_series;
 pub use slots::{series_named, slot_named};

@@ -1,5 +1,5 @@
 // The routine that creates a series.
-ghost use Rattle.std.specs.Prelude.{◌≡◌, ℕ, IfOk};
+ghost use Rattle.std.specs.Prelude.{ℕ, IfOk};
 ghost use Rattle.ts_command.specs.declared.command.Command.TheVariants.{TSCreateIrr};
 ghost use Rattle.ts_command.specs.Form.{HasForm};
 ghost use Rattle.ts_model.specs.declared.kind.Kind.TheVariants.{Series as AllSeries};

@@ -1,5 +1,5 @@
 // The slots where definitions stand, found by name, and those for new names.
-ghost use Rattle.std.specs.Prelude.{◌≡◌, ℕ, IfOk};
+ghost use Rattle.std.specs.Prelude.{ℕ, IfOk};
 ghost use Rattle.ts_model.specs.declared.kind.Kind.TheVariants.{Series};
 ghost use Rattle.ts_layout.specs.Meaning.{Layout, catalogue_of};
 ghost use Rattle.ts_answer.specs.Answer.{wanted, a_new_name};

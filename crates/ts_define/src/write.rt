@@ -1,7 +1,6 @@
 // What was decided on definitions is written on pages.
 ghost use Rattle.std.specs.Prelude.{◌≡◌, ◌<◌, ◌≤◌, [], IfOk, IfSome, true};
 ghost use Rattle.ts_command.specs.declared.command.Command.{Command as TheCommand};
-ghost use Rattle.ts_page.specs.Pages.{Contents};
 ghost use Rattle.ts_page.specs.Volume.{first_element_page};
 ghost use Rattle.ts_space.specs.Directory.{Directory};
 ghost use Rattle.ts_model.specs.Definitions.{Definitions, limit, kind_of};

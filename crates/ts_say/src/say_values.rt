@@ -4,7 +4,7 @@ ghost use Rattle.std.specs.List.{flat_map};
 ghost use Rattle.ts_base.specs.StampText.{stamp_text};
 ghost use Rattle.ts_row.specs.Row.{fits};
 ghost use Rattle.ts_row.specs.Printed.{quoted};
-ghost use Rattle.ts_answer.specs.Reply.{count_line, counts_line, stamp_line, element_line, elements_text, series_line};
+ghost use Rattle.ts_answer.specs.Reply.{count_line, counts_line, number_line, stamp_line, element_line, elements_text, series_line};
 
 use itoa::Buffer;
 use std::alloc::{AllocError, Global};
@@ -33,7 +33,18 @@ pub fn say_counts(out: &mut Reply, first: u64, second: u64) -> Result<(), AllocE
     out.extend_from_slice(b"\n")
 }
 
-/// Says the stamp of a change.
+/// Says a number with its sign.
+#[tactic(auto, unfolding(ts_answer::specs::Reply::number_line))]
+pub fn say_signed(out: &mut Reply, number: i64) -> Result<(), AllocError>
+    ensures { OnOk result (out.new ≡ out.old ++ number_line number) }
+{
+    out.extend_from_slice(b"ok ")?;
+    let mut buffer = Buffer::new();
+    out.extend_from_slice(buffer.format(number).as_bytes())?;
+    out.extend_from_slice(b"\n")
+}
+
+/// Says a stamp that was sought, or that of a change.
 #[tactic(auto, unfolding(ts_answer::specs::Reply::stamp_line))]
 pub fn say_stamp(out: &mut Reply, stamp: Stamp) -> Result<(), AllocError>
     ensures { OnOk result (out.new ≡ out.old ++ stamp_line stamp) }
@@ -120,7 +131,8 @@ pub(crate) fn say_number(out: &mut Reply, number: u64) -> Result<(), AllocError>
     out.extend_from_slice(buffer.format(number).as_bytes())
 }
 
-fn say_stamp_text(out: &mut Reply, stamp: Stamp) -> Result<(), AllocError>
+/// Says a stamp.
+pub(crate) fn say_stamp_text(out: &mut Reply, stamp: Stamp) -> Result<(), AllocError>
     ensures { OnOk result (out.new ≡ out.old ++ stamp_text stamp) }
 {
     let mut text = [0u8; 25];

@@ -1,2 +1,3 @@
+pub mod CalendarLemmas
 pub mod InOrderLemmas
 pub mod SaidLemmas

@@ -27,7 +27,7 @@ pub kept_countable : (d : Definitions) (space : Directory) → IsKept d space �
 kept_countable d space kept = quotas_countable d space kept.1 kept.0 kept.2
 
 -- the same reply, of the catalogue that stays
-says : (l : Layout) (out text : List ℕ) → out ≡ text → SaysOnly out l tt (text, catalogue_of l)
+pub says : (l : Layout) (out text : List ℕ) → out ≡ text → SaysOnly out l tt (text, catalogue_of l)
 says l out text same = ap (λ (t : List ℕ). let a : Answered = (t, catalogue_of l) in a) (sym same)
 
 -- by what is in memory of a layout

@@ -1,4 +1,4 @@
-use Rattle.std.proofs.Common.{◌≡◌, ℕ, ◌+◌, ◌≤◌, ℤ, pos, negsuc, ◌≤ℤ◌, w64, unsigned_abs, List, length, Option, Some, None, Result, Ok, Err, inl, refl, ap, sym, ◌∙◌, subst, arith}
+use Rattle.std.proofs.Common.{◌≡◌, ℕ, ◌+◌, ◌≤◌, ℤ, pos, negsuc, ◌≤ℤ◌, w64, unsigned_abs, List, length, Option, Some, Result, Ok, Err, refl, ap, sym, ◌∙◌, subst, arith}
 use Rattle.std.proofs.lemmas.Bool.{lt-ltb, le-ltb}
 use Rattle.std.proofs.lemmas.Int.{ints, to_z-of_z}
 use Rattle.ts_base.specs.declared.refusal.Refusal.TheVariants as refusals
@@ -7,7 +7,7 @@ use Rattle.ts_base.specs.declared.fault.Trouble.TheVariants.{Refused}
 use Rattle.ts_command.specs.declared.command.Command.TheVariants.{TSContainerCreate}
 use Rattle.ts_model.specs.Catalogue.{Container, quotas}
 use Rattle.ts_model.specs.Kinds.{with_named}
-use Rattle.ts_model.specs.Definitions.{Definitions, ContainerDef, slots, slot_of}
+use Rattle.ts_model.specs.Definitions.{Definitions, ContainerDef}
 use Rattle.ts_model.specs.declared.kind.Kind.TheVariants.{RowType, Container as Containers}
 use Rattle.ts_model.specs.declared.def.Def.{Def}
 use Rattle.ts_model.specs.declared.def.Def.TheVariants as defs
@@ -19,7 +19,7 @@ use Rattle.ts_answer.specs.Reply.{ok_line}
 use Rattle.ts_answer.specs.Tried.{IsTried}
 use Rattle.ts_answer.specs.View.{IsDefinedBy}
 use Rattle.ts_answer.proofs.CallerLemmas.{goes, stops, no_memory, passes, refuses, comes}
-use Rattle.ts_define.proofs.DefinedLemmas.{defined, named_there}
+use Rattle.ts_define.proofs.DefinedLemmas.{defined, fits_free, named_there}
 use Rattle.ts_define.proofs.containers.new_container.Goals as goal
 
 -- a quota in range
@@ -81,15 +81,10 @@ returns-clause-decision c count pages l by =
     comes _ _ (subst (λ (x : Def). let a : Answered = (ok_line, with_named Containers name value (catalogue_of l)) in DefinesAs ok_line Containers c.in_ok-slot.slot (Some x) l a)
     (λ i. defs.Container (sym c.in_ok-copied.ensures i) target (sym size i))
     (defined ok_line l by.rules by.filled (defs.Container name target quota) c.in_ok-slot.slot made value refl free (record { name = form.0; row_type = there.at.within; some = bounds.0; most = bounds.1 })
-    (named_there RowType l holder target by.rules there.at.is, tt) (omega (arith, c.if-sum-pages.false, sum, pages, by.size, all, c.sum_of_quotas-granted.ensures, size)) (container_named l made holder there.at.is))))))
+    (named_there RowType l holder target by.rules there.at.is, tt) tt (omega (arith, c.if-sum-pages.false, sum, pages, by.size, all, c.sum_of_quotas-granted.ensures, size)) (container_named l made holder there.at.is))))))
 
 pub returns-clause-fits : goal.returns-clause-fits
-returns-clause-fits c =
-    record {
-      within = c.in_ok-slot.ensures.free.within;
-      fits = refl;
-      name = inl (subst (λ (n : List ℕ). slot_of n (slots Containers c.args.defs.now.definitions) ≡ None) (sym c.in_ok-copied.ensures) c.in_ok-slot.ensures.free.new);
-    }
+returns-clause-fits c = fits_free _ c.in_ok-slot.slot _ c.args.defs.now.definitions c.in_ok-copied.ensures c.in_ok-slot.ensures.free
 
 -- the quota is in range
 pub overflow_add-sum : goal.overflow_add-sum

@@ -1,7 +1,7 @@
-use Rattle.std.proofs.Common.{◌≡◌, ℕ, List, Some, None, inl, refl, ap, sym, ◌∙◌, subst, arith}
+use Rattle.std.proofs.Common.{Some, refl, ap, sym, ◌∙◌, subst, arith}
 use Rattle.ts_row.specs.RowType.{Heading, has_long_decimal}
 use Rattle.ts_model.specs.Kinds.{with_named}
-use Rattle.ts_model.specs.Definitions.{Definitions, RowTypeDef, slots, slot_of}
+use Rattle.ts_model.specs.Definitions.{Definitions, RowTypeDef}
 use Rattle.ts_model.specs.declared.kind.Kind.TheVariants.{RowType as RowTypes}
 use Rattle.ts_model.specs.declared.def.Def.{Def}
 use Rattle.ts_model.specs.declared.def.Def.TheVariants as defs
@@ -10,7 +10,7 @@ use Rattle.ts_answer.specs.Answer.{Answered, outcome, carried_out, create_row_ty
 use Rattle.ts_answer.specs.Decided.{DefinesAs}
 use Rattle.ts_answer.specs.Reply.{ok_line}
 use Rattle.ts_answer.proofs.CallerLemmas.{goes, stops, no_memory, comes}
-use Rattle.ts_define.proofs.DefinedLemmas.{defined}
+use Rattle.ts_define.proofs.DefinedLemmas.{defined, fits_free}
 use Rattle.ts_define.proofs.RowTypeLemmas.{all_names, of_format}
 use Rattle.ts_define.proofs.row_types.new_row_type.Goals as goal
 
@@ -44,13 +44,8 @@ returns-clause-decision c count l by =
     let made : RowTypeDef = record { name = name; heading = heading } in
     comes _ _ (subst (λ (x : Def). let a : Answered = (ok_line, with_named RowTypes name heading (catalogue_of l)) in DefinesAs ok_line RowTypes c.in_ok-slot.slot (Some x) l a)
     (λ i. defs.RowType (sym c.in_ok-copied.ensures i) (sym makes.made i))
-    (defined ok_line l by.rules by.filled (defs.RowType name heading) c.in_ok-slot.slot made heading refl free (record { name = form.0; stamp = form.1; columns = all_names c.args.columns.now form.3; rules = makes.rules; of_format = has }) tt
+    (defined ok_line l by.rules by.filled (defs.RowType name heading) c.in_ok-slot.slot made heading refl free (record { name = form.0; stamp = form.1; columns = all_names c.args.columns.now form.3; rules = makes.rules; of_format = has }) tt tt
     (omega (arith, by.rules.definitions.quotas)) refl)))))
 
 pub returns-clause-fits : goal.returns-clause-fits
-returns-clause-fits c =
-    record {
-      within = c.in_ok-slot.ensures.free.within;
-      fits = refl;
-      name = inl (subst (λ (n : List ℕ). slot_of n (slots RowTypes c.args.defs.now.definitions) ≡ None) (sym c.in_ok-copied.ensures) c.in_ok-slot.ensures.free.new);
-    }
+returns-clause-fits c = fits_free _ c.in_ok-slot.slot _ c.args.defs.now.definitions c.in_ok-copied.ensures c.in_ok-slot.ensures.free
