@@ -12,10 +12,10 @@ use Rattle.ts_store.specs.OpenBatch.{State, IsOver, IsIdle, Settles, read_pages,
 use Rattle.ts_store.specs.Undisturbed.{Undisturbed}
 use Rattle.ts_model.specs.Catalogue.{Catalogue}
 use Rattle.ts_model.specs.Definitions.{Definitions, Tables}
-use Rattle.ts_space.specs.Directory.{Directory, used_of}
+use Rattle.ts_space.specs.Directory.{Directory}
 use Rattle.ts_container.specs.declared.fault.SurveyFault.{SurveyFault}
 use Rattle.ts_container.specs.declared.fault.SurveyFault.TheVariants.{NotAStore, Failed, Memory}
-use Rattle.ts_layout.specs.Meaning.{ElementPage, Free, element_page, HoldsElements, HoldsLayout, catalogue_of}
+use Rattle.ts_layout.specs.Meaning.{ElementPage, HoldsElements, HoldsLayout, catalogue_of}
 use Rattle.ts_container.specs.Survey.{IsFound, IfRefused, HoldNoLayout}
 use Rattle.ts_layout.specs.Surveyed.{free_pages}
 use Rattle.ts_layout.proofs.CallerLemmas.{free_at, kept_alike, pairs_front}

@@ -1,13 +1,12 @@
 -- What an engine keeps, and what its volume means.
-use Rattle.std.proofs.Common.{◌≡◌, inl, ℕ, ◌+◌, ◌-◌, Bool, IsTrue, List, [], All, sum_by, length, slice_index_or, refl, ap, sym, ◌∙◌, subst}
+use Rattle.std.proofs.Common.{◌≡◌, inl, ℕ, Bool, IsTrue, List, [], length, refl, ap, sym, ◌∙◌, subst}
 use Rattle.ts_disk.specs.Device.{Device, Lawful}
 use Rattle.ts_journal.specs.Journal.{pages, page_count}
 use Rattle.ts_store.proofs.CallerLemmas.{reads_none, read_closed, counted, idle_dropped, read_dropped}
 use Rattle.ts_store.specs.OpenBatch.{State, IsIdle, read_pages}
 use Rattle.ts_store.specs.Undisturbed.{Undisturbed}
 use Rattle.ts_model.specs.Catalogue.{Catalogue}
-use Rattle.ts_space.specs.declared.place.Place.{Place}
-use Rattle.ts_layout.specs.Meaning.{Layout, Free, element_page, HoldsLayout, catalogue_of}
+use Rattle.ts_layout.specs.Meaning.{Layout, HoldsLayout, catalogue_of}
 use Rattle.ts_layout.specs.Placed.{AreKept}
 use Rattle.ts_layout.proofs.CallerLemmas.{same_catalogue, kept_alike}
 use Rattle.ts_answer.proofs.CallerLemmas.{held_same}

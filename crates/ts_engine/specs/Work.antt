@@ -1,13 +1,22 @@
 -- What a command works on. Every command has its case.
-use Rattle.std.specs.Prelude.{◌≡◌, Bool, List, ℕ, []}
+use Rattle.std.specs.Prelude.{◌≡◌, Bool, true, List, ℕ, ◌+◌, [], Option, Result, IfOk}
+use Rattle.ts_base.specs.declared.fault.Trouble.{Trouble}
 use Rattle.ts_command.specs.declared.command.Command.{Command}
 use Rattle.ts_command.specs.declared.command.Command.TheVariants as commands
+use Rattle.ts_model.specs.declared.kind.Kind.{Kind}
+use Rattle.ts_model.specs.declared.kind.Kind.TheVariants as kinds
 use Rattle.ts_container.specs.KeptCharges.{AreCharges}
+use Rattle.ts_model.specs.declared.def.Def.{Def}
+use Rattle.ts_model.specs.Definitions.{Definitions as AllDefinitions}
+use Rattle.ts_page.specs.Volume.{first_element_page}
+use Rattle.ts_answer.specs.Commands.{is_writing}
+use Rattle.ts_answer.specs.Decided.{IsDecision, FitsSlot}
+use Rattle.ts_answer.specs.Reply.{ok_line}
 use Rattle.ts_answer.specs.View.{View, IsSeen}
 
 pub data Work : Type 0 where
-  -- it makes or drops a definition
-  Definitions : Work
+  -- it makes or drops a definition of a kind
+  Definitions : Kind → Work
   -- it changes the elements of series
   Elements : Work
   -- it reads elements
@@ -16,12 +25,26 @@ pub data Work : Type 0 where
   Memory : Work
 
 abbrev pub work_of : Command → Work
-work_of (commands.CreateRowType name stamp columns) = Definitions
-work_of (commands.DropRowType name) = Definitions
-work_of (commands.TSContainerCreate name row_type quota) = Definitions
-work_of (commands.TSContainerDestroy name) = Definitions
+work_of (commands.CreateRowType name stamp columns) = Definitions kinds.RowType
+work_of (commands.DropRowType name) = Definitions kinds.RowType
+work_of (commands.CreatePattern name text) = Definitions kinds.Pattern
+work_of (commands.NotOp name pattern) = Definitions kinds.Pattern
+work_of (commands.AndPatterns name first second) = Definitions kinds.Pattern
+work_of (commands.OrPatterns name first second) = Definitions kinds.Pattern
+work_of (commands.DropPattern name) = Definitions kinds.Pattern
+work_of (commands.CreateCalendar name text) = Definitions kinds.Calendar
+work_of (commands.AndCalendars name first second) = Definitions kinds.Calendar
+work_of (commands.OrCalendars name first second) = Definitions kinds.Calendar
+work_of (commands.DropCalendar name) = Definitions kinds.Calendar
+work_of (commands.ShowPattern name) = Memory
+work_of (commands.ShowCalendar name) = Memory
+work_of (commands.CalIndex calendar from to) = Memory
+work_of (commands.CalStamp calendar after count) = Memory
+work_of (commands.CalRange calendar from to) = Memory
+work_of (commands.TSContainerCreate name row_type quota) = Definitions kinds.Container
+work_of (commands.TSContainerDestroy name) = Definitions kinds.Container
 work_of (commands.TSContainerUsage name) = Memory
-work_of (commands.TSCreateIrr key container) = Definitions
+work_of (commands.TSCreateIrr key container) = Definitions kinds.Series
 work_of (commands.DropSeries key) = Elements
 work_of (commands.ListSeries container) = Memory
 work_of (commands.PutElem key stamp literals) = Elements
@@ -41,3 +64,10 @@ pub record IsGiven (tells : Bool) (x : View) (charges out : List ℕ) : Type 0 w
   pub seen : IsSeen tells x
   pub charged : AreCharges charges x.definitions x.space
   pub empty : out ≡ []
+
+-- What is decided on a command that makes or drops a definition of a kind, where there are so many element pages: it fits a slot, and it
+-- is what the catalogue of each layout with these definitions answers.
+pub record IsDecided (kind : Kind) (command : Command) (decided : Result (ℕ × Option Def) Trouble) (d : AllDefinitions) (pages : ℕ) : Type 0 where
+  pub writes : is_writing command ≡ true
+  pub fits : IfOk decided (λ change. FitsSlot kind change.0 change.1 d)
+  pub decision : (count : ℕ) → count ≡ first_element_page + pages → IsDecision ok_line kind command decided d count

@@ -1,33 +1,38 @@
 // The routine of each command, by what the command works on.
-ghost use Rattle.std.specs.Prelude.{◌≡◌, ◌≢◌, ◌+◌, ◌≤◌, ℕ, [], IfOk, IfSome, IsNone, length, true};
+ghost use Rattle.std.specs.Prelude.{◌≡◌, ◌≢◌, ◌≤◌, ℕ, [], IfSome, IsNone, length};
 ghost use Rattle.ts_command.specs.Form.{HasForm};
 ghost use Rattle.ts_answer.specs.View.{view, IsSeen};
 ghost use Rattle.ts_answer.specs.CarriedOut.{CarriedOut, ReadOut};
-ghost use Rattle.ts_answer.specs.Commands.{is_writing};
-ghost use Rattle.ts_answer.specs.Decided.{IsDecision, FitsSlot};
 ghost use Rattle.ts_answer.specs.Reading.{IsKept, IsSaid};
-ghost use Rattle.ts_answer.specs.Reply.{ok_line};
-ghost use Rattle.ts_page.specs.Volume.{first_element_page};
+ghost use Rattle.ts_model.specs.declared.kind.Kind.{Kind as TheKind};
+ghost use Rattle.ts_model.specs.declared.kind.Kind.TheVariants.{Pattern as Patterns, Calendar as Calendars};
 ghost use Rattle.ts_model.specs.Definitions.{container_slots};
 ghost use Rattle.ts_layout.specs.Meaning.{sum_of_quotas};
 ghost use Rattle.ts_container.specs.KeptCharges.{AreCharges};
-ghost use Rattle.ts_engine.specs.Work.{Definitions, Elements, Readings, Memory, work_of, IsGiven};
+ghost use Rattle.ts_engine.specs.Work.{Definitions, Elements, Readings, Memory, work_of, IsGiven, IsDecided};
 
 use std::alloc::Global;
 use ts_answer::{Effect, Stop};
 use ts_base::{Reply, Trouble};
 use ts_command::Command;
 use ts_container::Charges;
-use ts_define::{drop_definition, new_container, new_row_type, new_series};
+use ts_define::{
+    drop_definition, joined_calendar, joined_pattern, new_calendar, new_container, new_pattern,
+    new_row_type, new_series, turned_pattern,
+};
 use ts_elements::{
     delete_element, delete_range, drop_series, edit_element, get_element, get_last_element,
     mark_element,
 };
 use ts_model::{Def, Defs, Kind};
 use ts_page::{Page, Pages};
+use ts_pattern::Junction;
 use ts_series::EditKind;
 use ts_space::Space;
-use ts_tell::{container_usage, count_elements, list_series};
+use ts_tell::{
+    cal_index, cal_range, cal_stamp, container_usage, count_elements, list_series, show_calendar,
+    show_pattern,
+};
 
 /// Carries out a command that changes elements; none for another one. `page` is room to read one.
 pub(crate) fn edit<P: Pages>(
@@ -118,12 +123,14 @@ pub(crate) fn read<P: Pages>(
 
 /// Answers a command that reads what is in memory; none for another one.
 pub(crate) fn tell(
+    alloc: Global,
     defs: &Defs,
     space: &Space,
     charges: &Charges,
     command: &Command,
     out: &mut Reply,
 ) -> Option<Result<(), Trouble>>
+    requires form { HasForm command.now }
     requires kept { IsKept defs.now.definitions space.now }
     requires charged { AreCharges charges.now defs.now.definitions space.now }
     requires empty { out.old ≡ [] }
@@ -131,6 +138,19 @@ pub(crate) fn tell(
     ensures none { IsNone result → (work_of command.now ≢ Memory) × (out.new ≡ []) }
 {
     let came = match command {
+        Command::ShowPattern { name } => show_pattern(alloc, defs, name, out),
+        Command::ShowCalendar { name } => show_calendar(alloc, defs, name, out),
+        Command::CalIndex { calendar, from, to } => {
+            cal_index(alloc, defs, calendar, *from, *to, out)
+        }
+        Command::CalStamp {
+            calendar,
+            after,
+            count,
+        } => cal_stamp(alloc, defs, calendar, *after, *count, out),
+        Command::CalRange { calendar, from, to } => {
+            cal_range(alloc, defs, calendar, *from, *to, out)
+        }
         Command::TSContainerUsage { name } => container_usage(defs, space, charges, name, out),
         Command::ListSeries { container } => list_series(defs, space, container, out),
         Command::GetNelems { key } => count_elements(defs, space, key, out),
@@ -147,14 +167,18 @@ pub(crate) fn decide(
     pages: u32,
     command: &Command,
 ) -> (Kind, Result<(u16, Option<Def>), Trouble>)
-    requires work { work_of command.now ≡ Definitions }
+    requires work { (kind : TheKind) × (work_of command.now ≡ Definitions kind) }
     requires form { HasForm command.now }
     requires slots { length defs.now.definitions.containers ≡ container_slots }
     requires granted { sum_of_quotas defs.now.definitions.containers ≤ pages }
-    ensures writes { is_writing command.now ≡ true }
-    ensures fits { IfOk result.1 (λ change. FitsSlot result.0 change.0 change.1 defs.now.definitions) }
-    ensures decision { (count : ℕ) → count ≡ first_element_page + pages → IsDecision ok_line result.0 command.now result.1 defs.now.definitions count }
+    ensures { IsDecided result.0 command.now result.1 defs.now.definitions pages }
 {
+    if let Some(decided) = decide_pattern(alloc, defs, command) {
+        return (Kind::Pattern, decided);
+    }
+    if let Some(decided) = decide_calendar(alloc, defs, command) {
+        return (Kind::Calendar, decided);
+    }
     match command {
         Command::CreateRowType {
             name,
@@ -183,4 +207,61 @@ pub(crate) fn decide(
         Command::TSCreateIrr { key, container } => (Kind::Series, new_series(defs, key, container)),
         _ => unreachable!(),
     }
+}
+
+// The same of a pattern; none for another command.
+fn decide_pattern(
+    alloc: Global,
+    defs: &Defs,
+    command: &Command,
+) -> Option<Result<(u16, Option<Def>), Trouble>>
+    requires form { HasForm command.now }
+    ensures decided { IfSome result (λ decided. (pages : ℕ) → IsDecided Patterns command.now decided defs.now.definitions pages) }
+    ensures none { IsNone result → work_of command.now ≢ Definitions Patterns }
+{
+    let decided = match command {
+        Command::CreatePattern { name, text } => new_pattern(alloc, defs, name, text),
+        Command::NotOp { name, pattern } => turned_pattern(defs, name, pattern),
+        Command::AndPatterns {
+            name,
+            first,
+            second,
+        } => joined_pattern(defs, Junction::And, name, first, second),
+        Command::OrPatterns {
+            name,
+            first,
+            second,
+        } => joined_pattern(defs, Junction::Or, name, first, second),
+        Command::DropPattern { name } => drop_definition(defs, Kind::Pattern, name),
+        _ => return None,
+    };
+    Some(decided)
+}
+
+// The same of a calendar.
+fn decide_calendar(
+    alloc: Global,
+    defs: &Defs,
+    command: &Command,
+) -> Option<Result<(u16, Option<Def>), Trouble>>
+    requires form { HasForm command.now }
+    ensures decided { IfSome result (λ decided. (pages : ℕ) → IsDecided Calendars command.now decided defs.now.definitions pages) }
+    ensures none { IsNone result → work_of command.now ≢ Definitions Calendars }
+{
+    let decided = match command {
+        Command::CreateCalendar { name, text } => new_calendar(alloc, defs, name, text),
+        Command::AndCalendars {
+            name,
+            first,
+            second,
+        } => joined_calendar(defs, Junction::And, name, first, second),
+        Command::OrCalendars {
+            name,
+            first,
+            second,
+        } => joined_calendar(defs, Junction::Or, name, first, second),
+        Command::DropCalendar { name } => drop_definition(defs, Kind::Calendar, name),
+        _ => return None,
+    };
+    Some(decided)
 }

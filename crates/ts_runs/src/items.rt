@@ -1,5 +1,5 @@
 // Scripts cut into their items, in pieces of every length.
-ghost use Rattle.std.specs.Prelude.{◌<◌, ℕ};
+ghost use Rattle.std.specs.Prelude.{◌<◌};
 
 use std::alloc::{AllocError, Global};
 use std::test::Fail;

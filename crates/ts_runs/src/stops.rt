@@ -19,7 +19,7 @@ struct Course<'a> {
 }
 
 /// Each statement is refused where the store has what it makes.
-const MAKING: [(&[u8], &[u8], &[u8]); 5] = [
+const MAKING: [(&[u8], &[u8], &[u8]); 9] = [
     (RECORD, b"ok\n", b"error 11 NameTaken\n"),
     (
         b"TSContainerCreate(c1, rd, 8);",
@@ -37,14 +37,31 @@ const MAKING: [(&[u8], &[u8], &[u8]); 5] = [
         b"ok 2011-01-03 00:00:02.00000\n",
         b"error 23 Duplicate\n",
     ),
+    (
+        b"CreatePattern(p, '{1 on},day');",
+        b"ok\n",
+        b"error 11 NameTaken\n",
+    ),
+    (
+        b"CreateCalendar(k, 'startdate(2011-01-02 00:00:00),pattstart(2011-01-02 00:00:00),pattname(p)');",
+        b"ok\n",
+        b"error 11 NameTaken\n",
+    ),
+    (
+        b"AndOp(calendar, both, k, k);",
+        b"ok\n",
+        b"error 11 NameTaken\n",
+    ),
+    // The calendar has the pattern by its name.
+    (b"DropPattern(p);", b"error 32 InUse\n", b"error 32 InUse\n"),
 ];
 
 /// Reads all that `MAKING` makes.
 const READING: &[u8] = b"TSContainerUsage(c1);ListSeries(c1);GetElem('x','2011-01-03 00:00:00');\
-    GetElem('x','2011-01-03 00:00:02');";
+    GetElem('x','2011-01-03 00:00:02');CalIndex(both,'2011-01-02 00:00:00','2011-01-05 00:00:00');";
 
 const READ: &[u8] = b"ok 1 8\n'x' irregular 2\nok 1\n2011-01-03 00:00:00.00000 1\nok 1\n\
-    2011-01-03 00:00:02.00000 3\nok 1\n";
+    2011-01-03 00:00:02.00000 3\nok 1\nok 3\n";
 
 // What is said to the statements and the reading where so many of the statements were carried out before.
 fn said_after(alloc: Global, course: &Course, count: usize) -> Result<Vec<u8>, Fail> {
@@ -163,16 +180,17 @@ fn so_does_a_stop_over_a_record(rt: HostRuntime) -> Result<(), Fail> {
     Ok(())
 }
 
-/// A series whose page is full: a page has room for five of these rows.
+/// A calendar, and a series whose page is full: a page has room for five of these rows.
 const FULL: &[u8] =
     b"CreateRowType(wide, t datetime, p varchar(255), q varchar(255), r varchar(255));\
     TSContainerCreate(c2, wide, 8);TSCreateIrr('w', c2);\
     InsElem('w','2011-01-01 00:00:00','1','',null);InsElem('w','2011-01-02 00:00:00','2','',null);\
     InsElem('w','2011-01-03 00:00:00','3','',null);InsElem('w','2011-01-04 00:00:00','4','',null);\
-    InsElem('w','2011-01-05 00:00:00','5','',null);";
+    InsElem('w','2011-01-05 00:00:00','5','',null);\
+    CreateCalendar(k, 'startdate(2011-01-02 00:00:00),pattstart(2011-01-02 00:00:00),pattern({1 on},day)');";
 
-/// The page is split in the middle, both become one again, and so once more at the end by a range.
-const MOVING: [(&[u8], &[u8], &[u8]); 4] = [
+/// The page is split in the middle, both become one again, and so once more at the end by a range; the calendar is dropped.
+const MOVING: [(&[u8], &[u8], &[u8]); 5] = [
     (
         b"InsElem('w','2011-01-03 12:00:00','6','',null);",
         b"ok 2011-01-03 12:00:00.00000\n",
@@ -189,6 +207,7 @@ const MOVING: [(&[u8], &[u8], &[u8]); 4] = [
         b"ok 2\n",
         b"ok 0\n",
     ),
+    (b"DropCalendar(k);", b"ok\n", b"error 10 UnknownName\n"),
 ];
 
 /// Reads all that `MOVING` leaves.

@@ -1,5 +1,4 @@
 // A store brought to the newest format, with all that it holds.
-ghost use Rattle.std.specs.Prelude.{◌≡◌};
 ghost use Rattle.ts_shell.specs.Migrating.{MigrateRan};
 
 use crate::fault::unopened;

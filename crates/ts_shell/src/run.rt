@@ -1,5 +1,5 @@
 // A script, pulled in pieces and carried out piece by piece.
-ghost use Rattle.std.specs.Prelude.{◌≡◌, ◌≤◌, ◌<◌, ◌+◌, ℕ, IfOk, Some, [], length};
+ghost use Rattle.std.specs.Prelude.{◌≡◌, ◌≤◌, ◌<◌, ◌+◌, IfOk, Some, [], length};
 ghost use Rattle.ts_disk.specs.Input.{Pulled};
 ghost use Rattle.ts_engine.specs.Engine.{IsReady};
 ghost use Rattle.ts_shell.specs.Top.{OpenedRan, status_of, status_of_end};

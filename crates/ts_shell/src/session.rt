@@ -1,8 +1,7 @@
 // Items carried out one after the other: each reply is said once its command is durable, and before the next item begins.
-ghost use Rattle.std.specs.Prelude.{◌≡◌, ◌≤◌, ◌<◌, ℕ, [], ◌∷◌, Ok, Err, Some, IsErr, IfOk, IfErr, OnOk, length, take};
+ghost use Rattle.std.specs.Prelude.{◌≡◌, ◌≤◌, ◌<◌, [], ◌∷◌, Ok, Err, Some, IsErr, IfOk, OnOk, length, take};
 ghost use Rattle.ts_disk.specs.Device.{Says};
-ghost use Rattle.ts_base.specs.declared.refusal.Refusal.TheVariants as refusals;
-ghost use Rattle.ts_items.specs.Items.{place_from, is_unended_at};
+ghost use Rattle.ts_items.specs.Items.{place_from};
 ghost use Rattle.ts_items.specs.Reader.{item_of};
 ghost use Rattle.ts_command.specs.Form.{HasForm};
 ghost use Rattle.ts_command.specs.Grammar.{command_of};

@@ -1,5 +1,5 @@
 // The top call: what the program does, by its words.
-ghost use Rattle.std.specs.Prelude.{◌≡◌, ◌≢◌, ◌≤◌, ◌↔◌, ℕ, List, [], None, Some, IfOk, length, map, string_bytes};
+ghost use Rattle.std.specs.Prelude.{◌≡◌, ◌≢◌, ◌≤◌, ◌↔◌, ℕ, None, Some, IfOk, length, map, string_bytes};
 ghost use Rattle.ts_items.specs.Reader.{start};
 ghost use Rattle.ts_shell.specs.Words.{job_of};
 ghost use Rattle.ts_shell.specs.Migrating.{MigrateRan};
