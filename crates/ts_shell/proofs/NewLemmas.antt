@@ -4,20 +4,20 @@ use Rattle.std.specs.Option.{option_and_then}
 use Rattle.std.specs.FinMap.{from_entries}
 use Rattle.std.proofs.lemmas.Bool.Decides.{nat_tests}
 use Rattle.std.proofs.lemmas.List.{drop-replicate, length-replicate, take-replicate, take-take}
-use Rattle.ts_page.specs.Head.{bytes_at, zero_page}
+use Rattle.ts_page.specs.Head.{bytes_at}
 use Rattle.ts_journal.specs.Gate.{is_open}
 use Rattle.ts_journal.specs.Entry.{is_region}
 use Rattle.ts_journal.specs.Journal.{region, records, own_page, pages, put_records}
 use Rattle.ts_journal.proofs.CallerLemmas.{gate_part, same_gate, records_closed}
 use Rattle.ts_model.specs.declared.kind.Kind.{Kind}
 use Rattle.ts_model.specs.declared.kind.Kind.TheVariants as kinds
-use Rattle.ts_model.specs.Definitions.{Definitions, RowTypeDef, ContainerDef, SeriesDef, IsFormat, no_definitions, with_format, limit, filled_from}
+use Rattle.ts_model.specs.Definitions.{Definitions, RowTypeDef, PatternDef, CalendarDef, ContainerDef, SeriesDef, IsTable, IsFormat, no_definitions, with_format, limit, filled_from}
 use Rattle.ts_model.proofs.PartsLemmas.{nothing-defined}
 use Rattle.ts_model.specs.Catalogue.{empty_catalogue}
 use Rattle.ts_layout.specs.Limits.{IsSlotOf}
 use Rattle.ts_layout.specs.Slot.{header_bytes, slot_size, slot_bytes, page_of_slot, byte_of_slot, slots_in_page, bytes_of_slots}
-use Rattle.ts_layout.specs.Meaning.{Free, Layout, def_at, heading_in, HoldsDefinitions, HoldsElements, IsSound, container_of, series_of, catalogue_of, sum_of_quotas}
-use Rattle.ts_layout.proofs.CallerLemmas.{page_low, page_high, slot_end, fits_page}
+use Rattle.ts_layout.specs.Meaning.{Free, Layout, def_at, heading_in, HoldsDefinitions, HoldsElements, IsSound, text_of, container_of, series_of, catalogue_of, sum_of_quotas}
+use Rattle.ts_layout.proofs.CallerLemmas.{page_low, page_high, slot_end, slot_empty, fits_page}
 use Rattle.ts_engine.specs.Volume.{MeansCatalogue}
 
 -- page number n as it stands in its place
@@ -62,12 +62,9 @@ filled_none name value first (suc n) = filled_none name value (first + 1) n
 some_is_none : {A : Type 0} (x : A) → Some x ≡ None → ⊥
 some_is_none x is = cc
 
--- an empty slot is zeros
-empty_slot : (kind : Kind) → slot_bytes kind None ≡ replicate (slot_size kind) 0
-unfolding zero_page
-empty_slot kinds.RowType = refl
-empty_slot kinds.Container = refl
-empty_slot kinds.Series = refl
+-- slots that are all empty are a table
+empty_table : {A : Type 0} (name : A → List ℕ) (count : ℕ) → IsTable name count (replicate count None)
+empty_table name count = record { size = length-replicate count None; apart = λ i j a b here. absurd (some_is_none a (sym here ∙ each_is count i None)) }
 
 -- a part of zeros
 zeros_part : (b n : ℕ) → b + n ≤ 4096 → bytes_at b n (replicate 4096 0) ≡ replicate n 0
@@ -79,6 +76,8 @@ nothing_in format = with_format format no_definitions
 
 empty_at : (format : ℕ) (kind : Kind) (slot : ℕ) → def_at kind slot (nothing_in format) ≡ None
 empty_at format kinds.RowType slot = nothing-defined kinds.RowType slot
+empty_at format kinds.Pattern slot = nothing-defined kinds.Pattern slot
+empty_at format kinds.Calendar slot = nothing-defined kinds.Calendar slot
 empty_at format kinds.Container slot = nothing-defined kinds.Container slot
 empty_at format kinds.Series slot = nothing-defined kinds.Series slot
 
@@ -90,7 +89,7 @@ no_definitions_held format at zeros = record {
       let high = page_high kind slot within in
       ap (bytes_at (byte_of_slot kind slot) (slot_size kind)) (zeros (page_of_slot kind slot) low high)
       ∙ zeros_part (byte_of_slot kind slot) (slot_size kind) (omega (arith, slot_end kind slot within, fits_page (page_of_slot kind slot) low high))
-      ∙ sym (empty_slot kind) ∙ ap (slot_bytes kind) (sym (empty_at format kind slot));
+      ∙ sym (slot_empty kind) ∙ ap (slot_bytes kind) (sym (empty_at format kind slot));
   behind = λ number low high. ap (drop (bytes_of_slots (slots_in_page number))) (zeros number low high) ∙ drop-replicate (bytes_of_slots (slots_in_page number)) 4096 0;
 }
 
@@ -107,12 +106,16 @@ empty_is_sound format count known some limit =
       definitions = record {
         tables = record {
           format = known;
-          row_types = record { size = length-replicate {A = Option RowTypeDef} 64 None; apart = λ i j a b here. absurd (some_is_none a (sym here ∙ each_is 64 i None)) };
-          containers = record { size = length-replicate {A = Option ContainerDef} 64 None; apart = λ i j a b here. absurd (some_is_none a (sym here ∙ each_is 64 i None)) };
-          series = record { size = length-replicate {A = Option SeriesDef} 4096 None; apart = λ i j a b here. absurd (some_is_none a (sym here ∙ each_is 4096 i None)) };
+          row_types = empty_table (λ r. r.name) 64;
+          patterns = empty_table (λ p. p.name) 256;
+          calendars = empty_table (λ c. c.name) 256;
+          containers = empty_table (λ c. c.name) 64;
+          series = empty_table (λ s. s.key) 4096;
         };
         limits = record { each = λ kind slot within. subst (IsSlotOf format kind) (sym (empty_at format kind slot)) tt };
         references = λ kind slot def within is. absurd (some_is_none def (sym is ∙ empty_at format kind slot));
+        follow = λ slot c here. absurd (some_is_none c (sym here ∙ each_is 256 slot None));
+        valid = λ slot c here. absurd (some_is_none c (sym here ∙ each_is 256 slot None));
         quotas = (let none : sum_of_quotas (replicate 64 None) ≡ 0 = refl in omega (arith, none));
       };
       chains = λ slot h here. absurd (some_is_none h (sym here ∙ ap (option_and_then (λ s. heading_in (nothing_in format) s.container)) (each_is 4096 slot None)));
@@ -124,6 +127,8 @@ empty_means format count = λ j. record {
   format = format;
   pages = sym (length-replicate count Free) j;
   row_types = from_entries (sym (filled_none {A = RowTypeDef} (λ r. r.name) (λ slot r. r.heading) 0 64) j);
+  patterns = from_entries (sym (filled_none {A = PatternDef} (λ p. p.name) (λ slot p. p.pattern) 0 256) j);
+  calendars = from_entries (sym (filled_none {A = CalendarDef} (λ c. c.name) (λ slot c. text_of (nothing_in format) c) 0 256) j);
   containers = from_entries (sym (filled_none {A = ContainerDef} (λ c. c.name) (λ slot c. container_of (nothing_in format) c) 0 64) j);
   series = from_entries (sym (filled_none {A = SeriesDef} (λ s. s.key) (series_of (empty_layout format count)) 0 4096) j);
 }
