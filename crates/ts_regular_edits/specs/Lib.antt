@@ -1,0 +1,5 @@
+pub mod Address
+pub mod Edit
+pub mod Element
+pub mod Charge
+pub mod Stamped
