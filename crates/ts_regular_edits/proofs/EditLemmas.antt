@@ -1,23 +1,23 @@
 -- What an edit did, seen from pages that were read before; and what it did where there is no room.
-use Rattle.std.proofs.Common.{◌≡◌, ℕ, ◌+◌, ◌-◌, ◌^◌, min, ◌<◌, ◌≤◌, ℤ, Bool, true, false, IsTrue, Option, Some, None, is_some, Result, Ok, Err, IfOk, OnErr, Contains, IsPermutation, List, ◌∷◌, ◌++◌, length, refl, sym, ap, ◌∙◌, subst, arith, ◌⊎◌, inl, inr}
+use Rattle.std.proofs.Common.{◌≡◌, ℕ, ◌+◌, ◌-◌, ◌^◌, min, ◌≤◌, ℤ, Bool, IsTrue, Option, Some, None, is_some, Result, Ok, Err, IfOk, OnErr, Contains, IsPermutation, List, ◌++◌, length, refl, sym, ap, ◌∙◌, subst, arith, inl, inr}
 use Rattle.ts_base.specs.declared.refusal.Refusal.{Refusal}
 use Rattle.ts_base.specs.declared.fault.StoreFault.{StoreFault}
+use Rattle.ts_offset.specs.Grid.{GridPlan}
 use Rattle.ts_space.specs.declared.place.Place.{Place}
 use Rattle.ts_space.specs.Place.{IsRising, pages_of}
+use Rattle.ts_space.specs.declared.moved.Moved.{Moved}
 use Rattle.ts_space.specs.Moved.{moved_to}
-use Rattle.ts_page.specs.Pages.{Contents, Answered}
-use Rattle.ts_page.specs.Volume.{image_entry_size}
+use Rattle.ts_page.specs.Pages.{Contents}
 use Rattle.ts_row.specs.declared.kind.Column.{Column}
 use Rattle.ts_row.specs.Row.{Row}
 use Rattle.ts_regular.specs.Offsets.{element_at, with_element}
 use Rattle.ts_regular.specs.Places.{OffsetPage, all_in, AreOn, AreMoved}
 use Rattle.ts_regular.specs.Call.{ArePagesSame, AreLeft, AreWritten, IsPut, IsTold, IsRowIn, Reads}
 use Rattle.ts_series.specs.declared.edits.EditKind.{EditKind}
-use Rattle.ts_series.specs.declared.edits.EditKind.TheVariants.{Insert, Update}
 use Rattle.ts_series.specs.declared.edits.Edited.{Edited}
 use Rattle.ts_series.specs.declared.edits.Edited.TheVariants as edited
 use Rattle.ts_series.specs.Edit.{GrowsWithin}
-use Rattle.ts_regular_edits.specs.Edit.{refusal_if, IsRefusedFor, NeedsPage, IsEditedAt, IsDone, most_edit}
+use Rattle.ts_regular_edits.specs.Edit.{refusal_if, IsRefusedFor, NeedsPage, IsEditedAt, IsEdited, IsDone, most_edit}
 use Rattle.ts_regular_edits.proofs.AbsentLemmas.{absent}
 
 -- what holds of the elements that are told on pages that stay
@@ -142,3 +142,9 @@ full_done tells slot columns how offset start row room places v rising needs ove
   grows = omega arith;
   change = omega arith;
 }
+
+-- the places that a row that is put comes to
+pub put_moved : (tells : Bool) (slot : ℕ) (columns : List Column) (grid : GridPlan) (how : EditKind) (stamp : ℤ) (row : Row) (room : ℕ) (places : List Place) (v w : Contents) (at : ℤ) (moved : Moved)
+    → IsEdited tells slot columns grid how stamp row room places v w (edited.Put at moved) → AreMoved columns places (moved_to moved places) v w
+put_moved tells slot columns grid how stamp row room places v w at moved (inl there) = there.holds.1.put.places
+put_moved tells slot columns grid how stamp row room places v w at moved (inr none) = absurd (let is = none.holds.0 in cc)

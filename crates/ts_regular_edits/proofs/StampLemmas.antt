@@ -1,5 +1,5 @@
 -- Edits of elements at offsets, as edits at the stamps of these.
-use Rattle.std.proofs.Common.{◌≡◌, ℕ, Ordering, Less, Equal, Greater, ◌<◌, ◌≤◌, ◌==◌, Bool, true, false, cond, not, Option, Some, None, IsSome, List, [], ◌∷◌, All, filter, filter_map, refl, sym, ap, ◌∙◌, subst, arith, inl, inr, ℤ, ◌<ℤ◌}
+use Rattle.std.proofs.Common.{◌≡◌, ℕ, Ordering, Less, Equal, Greater, ◌<◌, ◌==◌, Bool, true, false, cond, not, Option, Some, None, IsSome, List, [], ◌∷◌, refl, sym, ap, ◌∙◌, arith, inl, inr, ℤ, ◌<ℤ◌}
 use Rattle.std.specs.Option.{option_map}
 use Rattle.std.specs.List.{cons_option}
 use Rattle.std.specs.Ordering.{is_eq, nat_cmp, int_cmp, int_eq}
@@ -15,7 +15,7 @@ use Rattle.ts_row.specs.Element.{Element}
 use Rattle.ts_irregular.specs.Edit as stamps
 use Rattle.ts_regular.specs.Offsets.{OffsetElement, element_at, with_element, without_element}
 use Rattle.ts_regular.proofs.OffsetLemmas.{lt_yes, lt_no, eq_yes, eq_no}
-use Rattle.ts_regular_edits.specs.Stamped.{stamped_one, stamped, HaveStarts}
+use Rattle.ts_regular_edits.specs.Stamped.{stamped, HaveStarts}
 use Rattle.ts_regular_edits.proofs.StartLemmas.{stamps_rise}
 
 one_start : (s t : ℤ) → ◌≡◌ {A = Option ℤ} (Some s) (Some t) → s ≡ t

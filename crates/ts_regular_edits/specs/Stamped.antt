@@ -1,5 +1,5 @@
 -- Elements at offsets as elements at stamps: each at the on start of its offset.
-use Rattle.std.specs.Prelude.{ℕ, Option, option_map, IsSome, List, All, filter_map}
+use Rattle.std.specs.Prelude.{Option, option_map, IsSome, List, All, filter_map}
 use Rattle.ts_offset.specs.Grid.{GridPlan, stamp_of}
 use Rattle.ts_row.specs.Element.{Element}
 use Rattle.ts_regular.specs.Offsets.{OffsetElement}

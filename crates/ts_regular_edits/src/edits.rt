@@ -24,7 +24,7 @@ use ts_space::{Space, search};
 /// Edits the element that a stamp addresses, and tells the start of its interval and which place goes and comes, also where the row
 /// replaces one; refused as the grid does where it addresses none. `room` is how many pages the series may have, no more than there are
 /// spare pages and own ones: it is full where an element would come on a page that it doesn't have, and one page more is over that. One
-/// page is read, and the same one written. A refusal leaves all pages; after an error all pages are as before, and one may be taken.
+/// page is read, twice where an element must stand there or must not, and the same one written. A refusal leaves all pages; after an error all pages are as before, and one may be taken.
 /// `page` is room to read one.
 pub fn edit_at<P: Pages>(
     pages: &mut P,

@@ -10,6 +10,8 @@ mod address;
 mod edits;
 mod element;
 mod laws;
+#[cfg(test)]
+mod tests;
 
 pub use edits::edit_at;
 pub use element::{delete_at, find_at, mark_at};

@@ -1,7 +1,7 @@
 use Rattle.std.proofs.Common.{refl, sym, subst, inl, inr}
 use Rattle.ts_space.specs.Directory.{places_of}
 use Rattle.ts_series.specs.declared.edits.EditKind.{EditKind}
-use Rattle.ts_series.specs.declared.edits.EditKind.TheVariants.{Put, PutNoDups, Insert, Update}
+use Rattle.ts_series.specs.declared.edits.EditKind.TheVariants.{Put, PutNoDups}
 use Rattle.ts_regular_edits.specs.Edit.{IsDone}
 use Rattle.ts_regular_edits.proofs.edits.edit_offset.Goals as goal
 
