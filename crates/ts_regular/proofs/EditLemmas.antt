@@ -1,5 +1,5 @@
 -- What an edit of one page does to the series.
-use Rattle.std.proofs.Common.{◌≡◌, ◌≢◌, ℕ, suc, ◌+◌, ◌/◌, ◌%◌, ◌<◌, ◌≤◌, All, AllPairs, Bool, true, false, IsTrue, ℤ, ◌<ℤ◌, pos, Option, Some, None, IsSome, IfOk, Result, Ok, Err, List, [], ◌∷◌, ◌++◌, length, take, drop, get_or, refl, sym, ap, subst, ◌∙◌, arith, append_assoc, append-nil, length-append}
+use Rattle.std.proofs.Common.{◌≡◌, ◌≢◌, ℕ, suc, ◌+◌, ◌/◌, ◌%◌, ◌<◌, ◌≤◌, All, AllPairs, Bool, true, false, IsTrue, ℤ, ◌<ℤ◌, pos, Option, Some, None, IsSome, IfOk, Result, Ok, Err, List, [], ◌∷◌, ◌++◌, length, take, drop, get_or, refl, sym, ap, subst, ◌∙◌, arith, append_assoc, append-nil, length-append, inl, inr}
 use Rattle.std.specs.Prelude.{Contains, IsPermutation, slice_set}
 use Rattle.std.specs.Option.{option_map}
 use Rattle.std.proofs.lemmas.Int.{ints}
@@ -10,7 +10,7 @@ use Rattle.std.proofs.lemmas.List.Sorted.{IsPermutation-refl, IsPermutation-sym,
 use Rattle.std.proofs.Math.Nat.{mul-mod_left}
 use Rattle.std.proofs.Math.Seq.{get_or-append_seam}
 use Rattle.ts_space.specs.declared.place.Place.{Place}
-use Rattle.ts_space.specs.Place.{AreAbove, AreBelow, IsRising, count_of, pages_of, search_of}
+use Rattle.ts_space.specs.Place.{AreAbove, AreBelow, IsRising, count_of, pages_of, place_at, search_of}
 use Rattle.ts_space.specs.declared.moved.Moved.{Moved}
 use Rattle.ts_space.specs.declared.moved.Come.{Come}
 use Rattle.ts_space.specs.declared.moved.Come.TheVariants.{Nothing, One, Two}
@@ -26,10 +26,11 @@ use Rattle.ts_regular.specs.Call.{ArePagesSame, IsRowIn, AreWritten, IsPut, IsMi
 use Rattle.ts_regular.proofs.OffsetLemmas.{AreLess, AreMore, at_front, at_back, with_front, with_back, without_front, without_back, none_more, first_more}
 use Rattle.ts_regular.proofs.CellsLemmas.{found_in, put_in, taken_in, count_in}
 use Rattle.ts_regular.proofs.KeptLemmas.{no_count, pos_one}
-use Rattle.ts_regular.proofs.PlaceLemmas.{IsFound, IsGap, found_ok, gap_err, Cut, cut, Parted, part, on_both, all_both, pages_less, pages_more}
+use Rattle.ts_space.proofs.PlaceLemmas.{none_found}
+use Rattle.ts_regular.proofs.PlaceLemmas.{IsFound, IsGap, at_lower, found_ok, gap_err, Cut, cut, Parted, part, on_both, all_both, pages_less, pages_more}
 
 -- the page of a place among all
-page_there : (front : List Place) (place : Place) (back : List Place) → Contains (pages_of (front ++ place ∷ back)) place.page
+pub page_there : (front : List Place) (place : Place) (back : List Place) → Contains (pages_of (front ++ place ∷ back)) place.page
 page_there [] place back = (0, omega arith, refl)
 page_there (p ∷ front) place back =
     let rest = page_there front place back in
@@ -41,14 +42,14 @@ abbrev pub AreApart : ℕ → List Place → Type 0
 AreApart n [] = Unit {0}
 AreApart n (p ∷ places) = (p.page ≢ n) × AreApart n places
 
-pairs_tail : (x : ℕ) (xs : List ℕ) → AllPairs (λ a b. a ≢ b) (x ∷ xs) → AllPairs (λ a b. a ≢ b) xs
+pub pairs_tail : (x : ℕ) (xs : List ℕ) → AllPairs (λ a b. a ≢ b) (x ∷ xs) → AllPairs (λ a b. a ≢ b) xs
 pairs_tail x xs pairs i j d before within = pairs (suc i) (suc j) d (omega arith) (omega arith)
 
 behind_apart : (n : ℕ) (places : List Place) → ((j : ℕ) (d : ℕ) → j < length (pages_of places) → n ≢ get_or (pages_of places) j d) → AreApart n places
 behind_apart n [] others = tt
 behind_apart n (p ∷ places) others = ((λ same. others 0 0 (omega arith) (sym same)), behind_apart n places (λ j d within. others (suc j) d (omega arith)))
 
-apart_behind : (front : List Place) (place : Place) (back : List Place) → AllPairs (λ a b. a ≢ b) (pages_of (front ++ place ∷ back)) → AreApart place.page back
+pub apart_behind : (front : List Place) (place : Place) (back : List Place) → AllPairs (λ a b. a ≢ b) (pages_of (front ++ place ∷ back)) → AreApart place.page back
 apart_behind [] place back pairs = behind_apart place.page back (λ j d within. pairs 0 (suc j) d (omega arith) (omega arith))
 apart_behind (p ∷ front) place back pairs = apart_behind front place back (pairs_tail p.page (pages_of (front ++ place ∷ back)) pairs)
 
@@ -68,7 +69,7 @@ taken_apart columns c n (p ∷ places) has each =
     ((λ same. (All-head (IsPlace columns c) p places each).used (subst (Contains c.free) (sym same) has)), taken_apart columns c n places has (All-tail (IsPlace columns c) p places each))
 
 -- pages of which none is the one that changed
-on_other : (slot : ℕ) (columns : List Column) (n : ℕ) (v w : ℕ → List ℕ) (places : List Place) (ps : List OffsetPage) → ((other : ℕ) → other ≢ n → w other ≡ v other) → AreApart n places → AreOn slot columns v places ps → AreOn slot columns w places ps
+pub on_other : (slot : ℕ) (columns : List Column) (n : ℕ) (v w : ℕ → List ℕ) (places : List Place) (ps : List OffsetPage) → ((other : ℕ) → other ≢ n → w other ≡ v other) → AreApart n places → AreOn slot columns v places ps → AreOn slot columns w places ps
 on_other slot columns n v w [] [] others apart on = tt
 on_other slot columns n v w [] (p ∷ ps) others apart on = absurd on
 on_other slot columns n v w (q ∷ places) [] others apart on = absurd on
@@ -80,11 +81,11 @@ pages_put : (front : List Place) (a b : Place) (back : List Place) → b.page �
 pages_put [] a b back same = ap (λ (n : ℕ). n ∷ pages_of back) same
 pages_put (p ∷ front) a b back same = ap (λ (l : List ℕ). p.page ∷ l) (pages_put front a b back same)
 
-pages_both : (front back : List Place) → pages_of (front ++ back) ≡ pages_of front ++ pages_of back
+pub pages_both : (front back : List Place) → pages_of (front ++ back) ≡ pages_of front ++ pages_of back
 pages_both [] back = refl
 pages_both (p ∷ front) back = ap (λ (l : List ℕ). p.page ∷ l) (pages_both front back)
 
-one_freed : (free before : List ℕ) (n : ℕ) (behind : List ℕ) → IsPermutation (free ++ (before ++ n ∷ behind)) ((n ∷ free) ++ (before ++ behind))
+pub one_freed : (free before : List ℕ) (n : ℕ) (behind : List ℕ) → IsPermutation (free ++ (before ++ n ∷ behind)) ((n ∷ free) ++ (before ++ behind))
 one_freed free before n behind =
     let one : (free ++ before) ++ n ∷ behind ≡ free ++ (before ++ n ∷ behind) = append_assoc free before (n ∷ behind) in
     let two : n ∷ ((free ++ before) ++ behind) ≡ (n ∷ free) ++ (before ++ behind) = ap (λ (l : List ℕ). n ∷ l) (append_assoc free before behind) in
@@ -135,14 +136,14 @@ all_new P [] a back is all = All-cons P a back is all
 all_new P (p ∷ front) a back is all = All-cons P p (front ++ a ∷ back) (All-head P p (front ++ back) all) (all_new P front a back is (All-tail P p (front ++ back) all))
 
 -- how many elements they have
-count_parts : (front : List Place) (a : Place) (back : List Place) → count_of (front ++ a ∷ back) ≡ count_of front + (a.count + count_of back)
+pub count_parts : (front : List Place) (a : Place) (back : List Place) → count_of (front ++ a ∷ back) ≡ count_of front + (a.count + count_of back)
 count_parts front a back = sum_by-append (λ (p : Place). p.count) front (a ∷ back) ∙ ap (λ (n : ℕ). count_of front + n) (sum_by-cons (λ (p : Place). p.count) a back)
 
-count_both : (front back : List Place) → count_of (front ++ back) ≡ count_of front + count_of back
+pub count_both : (front back : List Place) → count_of (front ++ back) ≡ count_of front + count_of back
 count_both front back = sum_by-append (λ (p : Place). p.count) front back
 
 -- the places after a change of some in the middle
-moved_middle : (front gone come back : List Place) (moved : Moved) (places : List Place) → places ≡ front ++ (gone ++ back) → length front ≡ moved.index → length gone ≡ moved.gone → list_of moved.come ≡ come → moved_to moved places ≡ front ++ (come ++ back)
+pub moved_middle : (front gone come back : List Place) (moved : Moved) (places : List Place) → places ≡ front ++ (gone ++ back) → length front ≡ moved.index → length gone ≡ moved.gone → list_of moved.come ≡ come → moved_to moved places ≡ front ++ (come ++ back)
 moved_middle front gone come back moved places parts index number is =
     let first : take moved.index places ≡ front = ap (take moved.index) parts ∙ take_at front (gone ++ back) moved.index index in
     let whole : places ≡ (front ++ gone) ++ back = parts ∙ sym (append_assoc front gone back) in
@@ -196,12 +197,12 @@ module _ (slot : ℕ) (columns : List Column) (pages : ℕ → List ℕ) (base i
       ∙ without_front n (all_in c.before) (elements_from c.page.0 c.page.1 ++ all_in c.behind) less
       ∙ ap (λ (l : List OffsetElement). all_in c.before ++ l) (without_back n (elements_from c.page.0 c.page.1) (all_in c.behind) more))
 
-empty : (es : List OffsetElement) → length es ≡ 0 → es ≡ []
+pub empty : (es : List OffsetElement) → length es ≡ 0 → es ≡ []
 empty [] same = refl
 empty (e ∷ es) same = absurd (omega (arith, same))
 
 -- places, counted
-counted : (columns : List Column) (v : Contents) (places : List Place) → ArePlaces columns v places → All (IsCounted columns) places
+pub counted : (columns : List Column) (v : Contents) (places : List Place) → ArePlaces columns v places → All (IsCounted columns) places
 counted columns v places are = All-weaker (IsPlace columns v) (IsCounted columns) (λ p is. is.counted) places are.each
 
 module _ (tells : Bool) (slot : ℕ) (columns : List Column) (n : ℕ) (places : List Place) (index : ℕ) (v w : Contents) (f : IsFound (pos (base_of columns n)) places index) (i : ℕ) (is : n ≡ base_of columns n + i) (small : i < regular_room columns) where
@@ -263,6 +264,7 @@ module _ (tells : Bool) (slot : ℕ) (columns : List Column) (n : ℕ) (places :
         let made : IsPut tells slot columns n row places (f.front ++ new ∷ f.back) v w = record {
           places = moved_edit new (with_row i row) e;
           count = omega (arith, count_parts f.front f.place f.back, count_parts f.front new f.back, few, ap count_of f.parts);
+          pages = inl (omega (arith, ap length f.parts, length-append f.front (f.place ∷ f.back), length-append f.front (new ∷ f.back)));
           put = λ t ps on. written new (with_row i row) _ e t ps on (put_cell slot columns v.page (base_of columns n) i n f.front f.place f.back (whole_base columns n) is small f.begins f.below f.above ps (here ps on) row);
         } in
         subst (λ (l : List Place). IsPut tells slot columns n row places l v w) (sym (moved_middle f.front (f.place ∷ []) (new ∷ []) f.back (record { index = index; gone = 1; come = One new }) places f.parts f.index_is refl refl)) made
@@ -323,6 +325,11 @@ module _ (tells : Bool) (slot : ℕ) (columns : List Column) (n : ℕ) (places :
     }
     marked_there hidden false e = missing e
 
+-- places of which some begin below a place, and the others above it, have none there
+gap_none : (at : ℤ) (front back : List Place) → AreBelow at front → AreAbove at back → place_at at (front ++ back) ≡ None
+gap_none at [] back below above = none_found back at at above (omega (arith, ints))
+gap_none at (p ∷ front) back below above = at_lower at p (front ++ back) below.0 ∙ gap_none at front back below.1 above
+
 -- where no page has cells for the offset
 module _ (tells : Bool) (slot : ℕ) (columns : List Column) (n : ℕ) (places : List Place) (index : ℕ) (v w : Contents) (f : IsGap (pos (base_of columns n)) places index) (i : ℕ) (is : n ≡ base_of columns n + i) (small : i < regular_room columns) where
   apart : (ps : List OffsetPage) → AreOn slot columns v.page places ps → Parted slot columns v.page f.front f.back ps
@@ -370,6 +377,10 @@ module _ (tells : Bool) (slot : ℕ) (columns : List Column) (n : ℕ) (places :
             counts = all_new (IsCounted columns) f.front new f.back (record { some = omega (arith, e.count); room = omega (arith, e.count, small) }) (counted columns v (f.front ++ f.back) gap_are);
           });
           count = omega (arith, count_parts f.front new f.back, count_both f.front f.back, e.count, ap count_of f.parts);
+          pages = inr (
+            ap (place_at (pos (base_of columns n))) f.parts ∙ gap_none (pos (base_of columns n)) f.front f.back f.below f.above,
+            omega (arith, ap length f.parts, length-append f.front f.back, length-append f.front (new ∷ f.back)),
+          );
           put = λ t ps on.
               let c = apart ps on in
               let cells : List Cell = with_row i row (no_cells columns) in

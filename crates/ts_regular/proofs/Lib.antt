@@ -8,3 +8,10 @@ pub mod KeptLemmas
 pub mod EditLemmas
 pub mod ReadLemmas
 pub mod LastLemmas
+pub mod FreeLemmas
+pub mod RangeLemmas
+pub mod CutLemmas
+pub mod RestLemmas
+pub mod CutsLemmas
+pub mod ClearLemmas
+pub mod RankLemmas

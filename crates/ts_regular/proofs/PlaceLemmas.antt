@@ -40,13 +40,13 @@ above_than low high (p ∷ ps) below above =
     let first = above.0 in
     (omega (arith, ints, below, first), above_than low high ps below above.1)
 
-rank_lower : (at : ℤ) (p : Place) (ps : List Place) → p.at <ℤ at → rank_of at (p ∷ ps) ≡ suc (rank_of at ps)
+pub rank_lower : (at : ℤ) (p : Place) (ps : List Place) → p.at <ℤ at → rank_of at (p ∷ ps) ≡ suc (rank_of at ps)
 rank_lower at p ps low = rw (int_lt_yes p.at at low) refl
 
-rank_higher : (at : ℤ) (p : Place) (ps : List Place) → at ≤ℤ p.at → rank_of at (p ∷ ps) ≡ 0
+pub rank_higher : (at : ℤ) (p : Place) (ps : List Place) → at ≤ℤ p.at → rank_of at (p ∷ ps) ≡ 0
 rank_higher at p ps high = rw (int_lt_no p.at at high) refl
 
-at_lower : (at : ℤ) (p : Place) (ps : List Place) → p.at <ℤ at → place_at at (p ∷ ps) ≡ place_at at ps
+pub at_lower : (at : ℤ) (p : Place) (ps : List Place) → p.at <ℤ at → place_at at (p ∷ ps) ≡ place_at at ps
 at_lower at p ps low = rw (int_eq_lower p.at at low) refl
 
 at_higher : (at : ℤ) (p : Place) (ps : List Place) → at <ℤ p.at → place_at at (p ∷ ps) ≡ place_at at ps

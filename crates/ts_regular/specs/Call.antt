@@ -1,13 +1,14 @@
 -- What the calls do to the pages of a regular series.
-use Rattle.std.specs.Prelude.{◌≡◌, ◌⊎◌, ℕ, ◌+◌, ◌≤◌, Bool, true, false, IsTrue, Option, Some, None, IsSome, Contains, Result, List, ◌∷◌}
+use Rattle.std.specs.Prelude.{◌≡◌, ◌⊎◌, ℕ, ◌+◌, ◌≤◌, Bool, true, false, IsTrue, Option, Some, None, IsSome, Contains, Result, List, ◌∷◌, length, pos}
 use Rattle.ts_base.specs.declared.fault.StoreFault.{StoreFault}
 use Rattle.ts_space.specs.declared.place.Place.{Place}
 use Rattle.ts_space.specs.declared.moved.Moved.{Moved}
-use Rattle.ts_space.specs.Place.{count_of, pages_of}
+use Rattle.ts_space.specs.Place.{count_of, pages_of, place_at}
 use Rattle.ts_space.specs.Moved.{moved_to}
 use Rattle.ts_page.specs.Pages.{Contents, Answered, EqualPages}
 use Rattle.ts_row.specs.declared.kind.Column.{Column}
 use Rattle.ts_row.specs.Row.{Row, marked}
+use Rattle.ts_regular.specs.Cell.{base_of}
 use Rattle.ts_regular.specs.Offsets.{OffsetElement, element_at, with_element, without_element, last_seen}
 use Rattle.ts_regular.specs.Places.{OffsetPage, all_in, AreOn, AreMoved}
 
@@ -49,10 +50,16 @@ pub record AreWritten (slot : ℕ) (columns : List Column) (es : List OffsetElem
   pub on : AreOn slot columns w.page new cells
   pub others : (number : ℕ) → ¬ Contains (pages_of old) number → ¬ Contains v.free number → w.page number ≡ v.page number
 
+-- places become others, no more than they were, or one more where no page of them has a cell for an offset
+abbrev pub HaveOneMore : List Column → ℕ → List Place → List Place → Type 0
+HaveOneMore columns offset old new =
+    (length new ≤ length old) ⊎ ((place_at (pos (base_of columns offset)) old ≡ None) × (length new ≤ length old + 1))
+
 -- a row is put at an offset, and the places become these
 pub record IsPut (tells : Bool) (slot : ℕ) (columns : List Column) (offset : ℕ) (row : Row) (old new : List Place) (v w : Contents) : Type 0 where
   pub places : AreMoved columns old new v w
   pub count : count_of new ≤ count_of old + 1
+  pub pages : HaveOneMore columns offset old new
   pub put : IsTold tells slot columns old v (λ ps. AreWritten slot columns (with_element offset row (all_in ps)) old new v w)
 
 -- one of the told elements is at the offset, and its row is changed; all places stay

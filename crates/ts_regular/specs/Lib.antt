@@ -4,3 +4,5 @@ pub mod RegularPage
 pub mod Places
 pub mod Call
 pub mod OnePage
+pub mod Range
+pub mod Cut

@@ -73,8 +73,8 @@ fn put_cell(kind: &RowType, behind: &mut [u8], index: usize, row: &Row)
     write_cell(kind, row, &mut behind[at..at + size]);
 }
 
-// Makes a cell one without an element.
-fn empty_cell(kind: &RowType, behind: &mut [u8], index: usize)
+/// Makes a cell one without an element.
+pub(crate) fn empty_cell(kind: &RowType, behind: &mut [u8], index: usize)
     requires size { length behind.old ≡ 4064 }
     requires index { index < regular_room kind.now.columns }
     ensures { (cells : List Cell) → AreCells kind.now.columns cells → index < length cells
@@ -199,8 +199,8 @@ pub(crate) fn take_out(shelf: &Shelf, page: &mut Page, base: u64, count: u16, in
     count - 1
 }
 
-// Writes the head of a page with so many elements.
-fn set_count(shelf: &Shelf, page: &mut Page, base: u64, count: u16)
+/// Writes the head of a page with so many elements.
+pub(crate) fn set_count(shelf: &Shelf, page: &mut Page, base: u64, count: u16)
     ensures { (cells : List Cell) → filled_count cells ≡ count → drop 32 page.old.bytes ≡ behind_head shelf.now.kind.now.columns cells
         → page.new.bytes ≡ regular_page shelf.now.series shelf.now.kind.now.columns base cells }
 {

@@ -1,5 +1,5 @@
 // Each call once, on a series with one element.
-ghost use Rattle.std.specs.Prelude.{◌≡◌, IfOk, IsTrue, [], ◌∷◌, length};
+ghost use Rattle.std.specs.Prelude.{◌≡◌, ◌<◌, ◌^◌, IfOk, IsTrue, [], ◌∷◌, length};
 ghost use Rattle.ts_page.specs.Memory.{memory_contents};
 ghost use Rattle.ts_space.specs.declared.place.Place.{Place as ThePlace};
 ghost use Rattle.ts_space.specs.Directory.{places_of};
@@ -7,8 +7,8 @@ ghost use Rattle.ts_row.specs.Row.{fits};
 ghost use Rattle.ts_regular.specs.Places.{ArePlaces};
 
 use crate::{
-    base_of, regular_extent_of, regular_find, regular_last, regular_mark, regular_put,
-    regular_remove, regular_room,
+    base_of, regular_clear, regular_extent_of, regular_find, regular_last, regular_mark,
+    regular_put, regular_remove, regular_room,
 };
 use std::alloc::Global;
 use ts_base::{Name, StoreFault};
@@ -110,6 +110,9 @@ enum Question {
     Last,
     Mark,
     Remove,
+    Clear,
+    ClearBefore,
+    ClearBehind,
 }
 
 // Whether the answer is the right one.
@@ -120,6 +123,9 @@ fn is_answered(alloc: Global, question: Question) -> Result<bool, StoreFault> {
         Question::Last => is_last(&mut series),
         Question::Mark => is_marked(&mut series),
         Question::Remove => is_removed(&mut series),
+        Question::Clear => is_cleared(alloc, &mut series),
+        Question::ClearBefore => has_none_within(alloc, &mut series, 0, 3),
+        Question::ClearBehind => has_none_within(alloc, &mut series, 4, 1000),
     }
 }
 
@@ -173,6 +179,57 @@ fn is_removed(series: &mut Series) -> Result<bool, StoreFault>
     Ok(told == Some(expected))
 }
 
+// The only element is all of a range, and goes with its place.
+fn is_cleared(alloc: Global, series: &mut Series) -> Result<bool, StoreFault>
+    requires { ArePlaces series.old.kind.columns (memory_contents series.old.pages) (places_of 7 series.old.space) }
+{
+    let expected = Moved {
+        index: 0,
+        gone: 1,
+        come: Come::Nothing,
+    };
+    let (removed, moved) = cleared(alloc, series, 2, 700)?;
+    Ok(removed == 1 && moved == Some(expected))
+}
+
+// No element stands in a range, and nothing goes.
+fn has_none_within(
+    alloc: Global,
+    series: &mut Series,
+    from: u64,
+    to: u64,
+) -> Result<bool, StoreFault>
+    requires limit { to < 2 ^ 63 }
+    requires places { ArePlaces series.old.kind.columns (memory_contents series.old.pages) (places_of 7 series.old.space) }
+{
+    let (removed, moved) = cleared(alloc, series, from, to)?;
+    Ok(removed == 0 && moved.is_none())
+}
+
+// How many elements a range has that go, and what comes of their places.
+fn cleared(
+    alloc: Global,
+    series: &mut Series,
+    from: u64,
+    to: u64,
+) -> Result<(u64, Option<Moved>), StoreFault>
+    requires limit { to < 2 ^ 63 }
+    requires places { ArePlaces series.old.kind.columns (memory_contents series.old.pages) (places_of 7 series.old.space) }
+{
+    let kind = &series.kind;
+    let shelf = Shelf { series: SLOT, kind };
+    let page = &mut Page::zero();
+    regular_clear(
+        alloc,
+        &mut series.pages,
+        page,
+        &series.space,
+        &shelf,
+        from,
+        to,
+    )
+}
+
 // Whether an integer has so many cells on a page, an offset belongs to the page of this one, and a page of zeros is no regular one.
 fn is_measured(alloc: Global) -> Result<bool, StoreFault> {
     let kind = integers(alloc)?;
@@ -195,6 +252,14 @@ fn an_element_is_edited(rt: HostRuntime) {
     let alloc = rt.alloc();
     assert!(rt; matches!(is_answered(alloc, Question::Mark), Ok(true)));
     assert!(rt; matches!(is_answered(alloc, Question::Remove), Ok(true)));
+}
+
+#[test]
+fn a_range_is_cleared(rt: HostRuntime) {
+    let alloc = rt.alloc();
+    assert!(rt; matches!(is_answered(alloc, Question::Clear), Ok(true)));
+    assert!(rt; matches!(is_answered(alloc, Question::ClearBefore), Ok(true)));
+    assert!(rt; matches!(is_answered(alloc, Question::ClearBehind), Ok(true)));
 }
 
 #[test]

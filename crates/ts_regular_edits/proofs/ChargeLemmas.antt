@@ -35,7 +35,7 @@ AllOn r page [] = Unit {0}
 AllOn r page (e ∷ es) = (e.0 / r ≡ page) × AllOn r page es
 
 -- one page, and others behind it
-one_page : (r page : ℕ) (es fs : List OffsetElement) → AllOn r page es → 1 ≤ length es → hits page (pages_hit r fs) ≡ false
+pub one_page : (r page : ℕ) (es fs : List OffsetElement) → AllOn r page es → 1 ≤ length es → hits page (pages_hit r fs) ≡ false
     → distinct_count (pages_hit r (es ++ fs)) ≡ 1 + distinct_count (pages_hit r fs)
 one_page r page [] fs all some none = absurd (omega (arith, some))
 one_page r page (e ∷ []) fs all some none =
@@ -67,7 +67,7 @@ page_of_base r base at whole low high =
       ]
     ]
 
-cells_on : (r base at : ℕ) (cells : List Cell) → base % r ≡ 0 → base ≤ at → at + length cells ≤ base + r → AllOn r (base / r) (elements_from at cells)
+pub cells_on : (r base at : ℕ) (cells : List Cell) → base % r ≡ 0 → base ≤ at → at + length cells ≤ base + r → AllOn r (base / r) (elements_from at cells)
 cells_on r base at [] whole low high = tt
 cells_on r base at (None ∷ cells) whole low high = cells_on r base (at + 1) cells whole (omega (arith, low)) (omega (arith, high))
 cells_on r base at (Some row ∷ cells) whole low high =
@@ -81,7 +81,7 @@ other_page r base n at whole some last more same =
     let times = ap (λ (x : ℕ). r * x) same in
     omega (arith, one, two, whole, some, last, more, times)
 
-none_hit : (r base n : ℕ) (es : List OffsetElement) → base % r ≡ 0 → 0 < r → n + 1 ≡ base + r → AreMore n es → hits (base / r) (pages_hit r es) ≡ false
+pub none_hit : (r base n : ℕ) (es : List OffsetElement) → base % r ≡ 0 → 0 < r → n + 1 ≡ base + r → AreMore n es → hits (base / r) (pages_hit r es) ≡ false
 none_hit r base n [] whole some last more = refl
 none_hit r base n (e ∷ es) whole some last more =
     ap (λ (t : Bool). t || hits (base / r) (pages_hit r es)) (eq_no (e.0 / r) (base / r) (other_page r base n e.0 whole some last more.0)) ∙ none_hit r base n es whole some last more.1

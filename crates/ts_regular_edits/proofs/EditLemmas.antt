@@ -51,6 +51,7 @@ module _ (tells : Bool) (slot : ℕ) (columns : List Column) (places : List Plac
       counts = is.places.counts;
     };
     count = is.count;
+    pages = is.pages;
     put = λ told ps on.
         let after = told_before (λ ps. AreWritten slot columns (with_element offset row (all_in ps)) places new v w) is.put told ps on in
         record {

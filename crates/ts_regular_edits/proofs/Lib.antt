@@ -4,3 +4,4 @@ pub mod ChargeLemmas
 pub mod EditLemmas
 pub mod StampLemmas
 pub mod StartLemmas
+pub mod RangeLemmas

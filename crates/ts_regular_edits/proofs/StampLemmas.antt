@@ -52,12 +52,12 @@ eq_tested n m = elim (cases_lt n m) [
   ]
 ]
 
-some_start : (o : Option ℤ) → IsSome o → (t : ℤ) × (o ≡ Some t)
+pub some_start : (o : Option ℤ) → IsSome o → (t : ℤ) × (o ≡ Some t)
 some_start (Some t) some = (t, refl)
 some_start None some = absurd (cc)
 
 -- one element more
-stamped_cons : (g : GridPlan) (n : ℕ) (row : Row) (s : ℤ) (es : List OffsetElement) → stamp_of g n ≡ Some s → stamped g ((n, row) ∷ es) ≡ (s, row) ∷ stamped g es
+pub stamped_cons : (g : GridPlan) (n : ℕ) (row : Row) (s : ℤ) (es : List OffsetElement) → stamp_of g n ≡ Some s → stamped g ((n, row) ∷ es) ≡ (s, row) ∷ stamped g es
 stamped_cons g n row s es is = ap (λ (o : Option ℤ). cons_option (option_map (λ start. (start, row)) o) (stamped g es)) is
 
 module _ (g : GridPlan) (laid : IsLaid g.calendar) (n : ℕ) (s : ℤ) (is : stamp_of g n ≡ Some s) where

@@ -12,7 +12,7 @@ use Rattle.ts_offset.specs.Grid.{GridPlan, starts_of, stamp_of}
 use Rattle.ts_offset.proofs.ListedLemmas.{listed-rise}
 use Rattle.ts_offset.proofs.SumLemmas.{taken-le}
 
-filtered_fewer : (p : ℤ → Bool) (xs : List ℤ) → length (filter p xs) ≤ length xs
+pub filtered_fewer : (p : ℤ → Bool) (xs : List ℤ) → length (filter p xs) ≤ length xs
 filtered_fewer p [] = omega arith
 filtered_fewer p (x ∷ xs) = one (p x) x (filter p xs) xs (filtered_fewer p xs)
   where
@@ -20,7 +20,7 @@ filtered_fewer p (x ∷ xs) = one (p x) x (filter p xs) xs (filtered_fewer p xs)
     one true x kept xs few = omega (arith, few)
     one false x kept xs few = omega (arith, few)
 
-all_few : (c : CalendarPlan) → length (on_starts c) ≤ 800_000_000_001
+pub all_few : (c : CalendarPlan) → length (on_starts c) ≤ 800_000_000_001
 unfolding on_starts
 all_few c = taken-le (on_start c) (neg_ℤ (pos reach)) near_count
 
@@ -32,7 +32,7 @@ few_starts g n s is =
     let all = all_few g.calendar in
     omega (arith, within, some, all)
 
-starts_rise : (g : GridPlan) → IsLaid g.calendar → AllPairs (λ a b. a <ℤ b) (starts_of g)
+pub starts_rise : (g : GridPlan) → IsLaid g.calendar → AllPairs (λ a b. a <ℤ b) (starts_of g)
 starts_rise g laid = AllPairs-filter (λ a b. a <ℤ b) (λ x. not (int_lt x g.origin)) (on_starts g.calendar)
     (λ i j d below within.
     let xs = on_starts g.calendar in

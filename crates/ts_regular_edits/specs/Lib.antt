@@ -3,3 +3,4 @@ pub mod Edit
 pub mod Element
 pub mod Charge
 pub mod Stamped
+pub mod Range

@@ -9,6 +9,9 @@ ghost use Rattle.ts_row.specs.Row.{Row as TheRow};
 ghost use Rattle.ts_irregular.specs.Edit as stamps;
 ghost use Rattle.ts_regular.specs.Offsets.{OffsetElement, element_at, with_element, without_element};
 ghost use Rattle.ts_regular.specs.Places.{OffsetPage, AreOn, all_in};
+ghost use Rattle.ts_regular.specs.Range.{within, outside};
+ghost use Rattle.ts_chain.specs.Range.{within_range, without_range};
+ghost use Rattle.ts_regular_edits.specs.Range.{AreOffsetsOf};
 ghost use Rattle.ts_regular_edits.specs.Charge.{charge_of, pages_with};
 ghost use Rattle.ts_regular_edits.specs.Stamped.{stamped, HaveStarts};
 
@@ -22,6 +25,17 @@ pub fn edits_at_offsets_are_edits_at_stamps()
         stamped grid (with_element n row es) ≡ stamps.with_element s row (stamped grid es) }
     ensures taken { (grid : GridPlan) → IsLaid grid.calendar → (n : ℕ) (s : ℤ) (es : List OffsetElement) → HaveStarts grid es → stamp_of grid n ≡ Some s →
         stamped grid (without_element n es) ≡ stamps.without_element s (stamped grid es) }
+{}
+
+/// The elements at the offsets of a range are those at its stamps, as many; and the others are those at other stamps.
+pub fn ranges_of_offsets_are_ranges_of_stamps()
+    ensures within { (grid : GridPlan) → IsLaid grid.calendar → (from to : ℤ) (lower upper : ℕ) → AreOffsetsOf grid from to lower upper →
+        (es : List OffsetElement) → HaveStarts grid es → stamped grid (within lower upper es) ≡ within_range from to (stamped grid es) }
+    ensures number { (grid : GridPlan) → IsLaid grid.calendar → (from to : ℤ) (lower upper : ℕ) → AreOffsetsOf grid from to lower upper →
+        (es : List OffsetElement) → HaveStarts grid es → length (within lower upper es) ≡ length (within_range from to (stamped grid es)) }
+    ensures outside { (grid : GridPlan) → IsLaid grid.calendar → (from to : ℤ) (lower upper : ℕ) → AreOffsetsOf grid from to lower upper →
+        (es : List OffsetElement) → HaveStarts grid es → stamped grid (outside lower upper es) ≡ without_range from to (stamped grid es) }
+    ensures starts { (grid : GridPlan) (lower upper : ℕ) (es : List OffsetElement) → HaveStarts grid es → HaveStarts grid (outside lower upper es) }
 {}
 
 /// A series is charged for as many pages as it has places, and with an element more for as many as it then has.

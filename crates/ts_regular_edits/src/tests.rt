@@ -6,7 +6,7 @@ ghost use Rattle.ts_space.specs.Directory.{places_of};
 ghost use Rattle.ts_row.specs.Row.{fits};
 ghost use Rattle.ts_regular.specs.Places.{ArePlaces};
 
-use crate::{delete_at, edit_at, find_at, mark_at};
+use crate::{clear_at, delete_at, edit_at, find_at, mark_at};
 use std::alloc::Global;
 use ts_base::{Name, Refusal, Stamp, StoreFault, Unit};
 use ts_calendar::Calendar;
@@ -250,6 +250,41 @@ fn is_deleted(alloc: Global) -> Result<bool, StoreFault> {
     Ok(told == Some(expected))
 }
 
+// How many elements go from one stamp to another, and what comes of their places.
+fn cleared(alloc: Global, from: &[u8], to: &[u8]) -> Result<(u64, Option<Moved>), StoreFault> {
+    let mut series = filled(alloc)?;
+    let kind = &series.kind;
+    let shelf = Shelf { series: SLOT, kind };
+    let page = &mut Page::zero();
+    clear_at(
+        alloc,
+        &mut series.pages,
+        page,
+        &series.space,
+        &shelf,
+        &series.grid,
+        stamp(from)?,
+        stamp(to)?,
+    )
+}
+
+// The element of Tuesday goes, and its place with it, where its start is one end of a range or the other.
+fn is_cleared(alloc: Global, from: &[u8], to: &[u8]) -> Result<bool, StoreFault> {
+    let expected = Moved {
+        index: 0,
+        gone: 1,
+        come: Come::Nothing,
+    };
+    let (removed, moved) = cleared(alloc, from, to)?;
+    Ok(removed == 1 && moved == Some(expected))
+}
+
+// A range has no on start, and nothing goes.
+fn has_none_within(alloc: Global, from: &[u8], to: &[u8]) -> Result<bool, StoreFault> {
+    let (removed, moved) = cleared(alloc, from, to)?;
+    Ok(removed == 0 && moved.is_none())
+}
+
 // What comes of an insert within so many pages.
 fn inserted(alloc: Global, text: &[u8], room: u64) -> Result<Edited, StoreFault>
     requires { room ≤ 1 }
@@ -268,6 +303,15 @@ fn an_element_is_edited(rt: HostRuntime) {
     let alloc = rt.alloc();
     assert!(rt; matches!(is_marked(alloc), Ok(true)));
     assert!(rt; matches!(is_deleted(alloc), Ok(true)));
+}
+
+#[test]
+fn a_range_is_cleared(rt: HostRuntime) {
+    let alloc = rt.alloc();
+    assert!(rt; matches!(is_cleared(alloc, TUESDAY, SATURDAY), Ok(true)));
+    assert!(rt; matches!(is_cleared(alloc, MONDAY, TUESDAY), Ok(true)));
+    assert!(rt; matches!(has_none_within(alloc, TUESDAY_MORNING, SATURDAY), Ok(true)));
+    assert!(rt; matches!(has_none_within(alloc, SATURDAY, MONDAY), Ok(true)));
 }
 
 #[test]
@@ -296,4 +340,5 @@ fn a_page_over_the_room_is_refused(rt: HostRuntime) {
 fn the_laws_are_called() {
     crate::edits_at_offsets_are_edits_at_stamps();
     crate::places_are_the_charge();
+    crate::ranges_of_offsets_are_ranges_of_stamps();
 }

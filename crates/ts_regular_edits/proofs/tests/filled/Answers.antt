@@ -24,6 +24,8 @@ returns c =
 pub splice-requires-clause-rising : goal.splice-requires-clause-rising
 splice-requires-clause-rising c =
     let series = c.in_ok-series.series in
-    let Done : Edited → Type 0 = IsEdited true 7 series.kind.columns series.grid Put c.in_ok-stamp.field-0 c.in_ok-row.row 1 (places_of 7 c.reserve.new.self) (memory_contents series.pages) (memory_contents c.edit_at.new.pages) in
-    (put_moved true 7 series.kind.columns series.grid Put c.in_ok-stamp.field-0 c.in_ok-row.row 1 (places_of 7 c.reserve.new.self) (memory_contents series.pages) (memory_contents c.edit_at.new.pages) c.in-Put.at c.in-Put.moved
+    let five = c.in_ok-row.row in
+    let old = places_of 7 c.reserve.new.self in
+    let Done : Edited → Type 0 = IsEdited true 7 series.kind.columns series.grid Put c.in_ok-stamp.field-0 five 1 old (memory_contents series.pages) (memory_contents c.edit_at.new.pages) in
+    (put_moved true 7 series.kind.columns series.grid Put c.in_ok-stamp.field-0 five 1 old (memory_contents series.pages) (memory_contents c.edit_at.new.pages) c.in-Put.at c.in-Put.moved
     (subst Done c.in-Put.is c.in_ok-done.ensures.ok)).rising
