@@ -5,10 +5,10 @@ use Rattle.ts_text.specs.Phrase.{Phrase, ◌>>=◌, give, a_sign, behind, pair, 
 use Rattle.ts_text.specs.declared.token.TokenKind.{TokenKind}
 use Rattle.ts_text.specs.declared.token.TokenKind.TheVariants.{Word, Number, Text, Sign}
 use Rattle.ts_text.proofs.CallerLemmas.{Yields, Goes, Any, chain, shrinks_of, sign_shrinks, made_yields, bind-ok, pair-parts, token-found, unblanked-le}
-use Rattle.ts_command.specs.Tokens.{front}
-use Rattle.ts_command.specs.Text.{said}
+use Rattle.ts_tokens.specs.Tokens.{front}
+use Rattle.ts_tokens.specs.Text.{said}
 use Rattle.ts_command.specs.Form.{HasForm}
-use Rattle.ts_command.specs.Grammar.{a_name, a_text, text_in, a_routine, a_name_call, a_names_call, a_name_text_call, a_join_call, a_name_range_call, a_name_stamp_whole_call, a_key_call, a_key_name_call, a_key_stamp_call, a_key_range_call, a_names_whole_call, a_key_stamp_values_call, a_name_columns_call, of_name, of_key, of_stamp, of_row, of_text, of_join, of_range, arguments, a_call, a_command}
+use Rattle.ts_command.specs.Grammar.{a_name, a_text, text_in, a_routine, a_name_call, a_names_call, a_name_text_call, a_join_call, a_name_range_call, a_name_stamp_whole_call, a_key_call, a_key_name_call, a_key_name_stamp_name_call, a_key_stamp_call, a_key_range_call, a_names_whole_call, a_key_stamp_values_call, a_name_columns_call, of_name, of_key, of_stamp, of_row, of_text, of_join, of_range, arguments, a_call, a_command}
 use Rattle.ts_command.specs.declared.routine.Routine.{Routine}
 use Rattle.ts_command.specs.declared.routine.Routine.TheVariants as calls
 use Rattle.ts_command.specs.declared.routine.NameRoutine.{NameRoutine}
@@ -28,9 +28,8 @@ use Rattle.ts_command.specs.declared.routine.RangeRoutine.TheVariants as in_rang
 use Rattle.ts_command.specs.declared.routine.Joined.{Joined}
 use Rattle.ts_command.specs.declared.routine.Joined.TheVariants.{Patterns, Calendars}
 use Rattle.ts_command.specs.declared.command.Command.{Command}
-use Rattle.ts_command.proofs.TextLemmas.{said-le}
-use Rattle.ts_command.proofs.FrontLemmas.{front_laws}
-use Rattle.ts_command.proofs.FormLemmas.{IsName, IsKey, AreNames, name_yields, routine_yields, name_call_yields, names_call_yields, name_text_call_yields, join_call_yields, name_range_call_yields, name_stamp_whole_call_yields, key_call_yields, key_name_call_yields, key_stamp_call_yields, key_range_call_yields, names_whole_call_yields, key_stamp_values_call_yields, name_columns_call_yields}
+use Rattle.ts_tokens.proofs.CallerLemmas.{front_laws, said-le}
+use Rattle.ts_command.proofs.FormLemmas.{IsName, IsKey, AreNames, name_yields, routine_yields, name_call_yields, names_call_yields, name_text_call_yields, join_call_yields, name_range_call_yields, name_stamp_whole_call_yields, key_call_yields, key_name_call_yields, key_name_stamp_name_call_yields, key_stamp_call_yields, key_range_call_yields, names_whole_call_yields, key_stamp_values_call_yields, name_columns_call_yields}
 
 -- the commands of each group have their form
 of_name-form : (routine : NameRoutine) (name : List ℕ) → IsName name → HasForm (of_name routine name)
@@ -84,6 +83,7 @@ arguments_yield : (routine : Routine) → Yields front (FormOf routine) (argumen
 unfolding arguments
 arguments_yield calls.CreateRowType = made_yields front front_laws _ HasForm a_name_columns_call _ name_columns_call_yields (λ a form. form)
 arguments_yield calls.TSContainerCreate = made_yields front front_laws _ HasForm (a_names_whole_call (pos 1) (pos 65536)) _ (names_whole_call_yields (pos 1) (pos 65536) refl refl) (λ a form. (form.0, form.1, form.2.0, form.2.1))
+arguments_yield calls.TSCreate = made_yields front front_laws _ HasForm a_key_name_stamp_name_call _ key_name_stamp_name_call_yields (λ a form. (form.0, form.1.0, form.1.2))
 arguments_yield calls.TSCreateIrr = made_yields front front_laws _ HasForm a_key_name_call _ key_name_call_yields (λ a form. form)
 arguments_yield calls.DelClip = made_yields front front_laws _ HasForm a_key_range_call _ key_range_call_yields (λ a form. form.0)
 arguments_yield calls.NotOp = made_yields front front_laws _ HasForm a_names_call _ names_call_yields (λ a form. form)

@@ -13,11 +13,11 @@ use Rattle.ts_text.specs.Phrase.{Phrase, word_in, a_sign, behind, in_brackets, p
 use Rattle.ts_text.specs.declared.token.TokenKind.{TokenKind}
 use Rattle.ts_text.specs.declared.token.TokenKind.TheVariants.{Word, Number, Text, Sign}
 use Rattle.ts_text.proofs.CallerLemmas.{Yields, Shrinks, shrinks_of, chain, given, Any, of_token, sign_yields, behind_yields, brackets_yield, pair_yields, triple_yields, closed_yields}
-use Rattle.ts_command.specs.Tokens.{front, number_length, magnitude_length, fraction_length, closing}
-use Rattle.ts_command.specs.Text.{undoubled, said}
-use Rattle.ts_command.specs.Number.{units_of, scale_of}
+use Rattle.ts_tokens.specs.Tokens.{front, number_length, magnitude_length, fraction_length, closing}
+use Rattle.ts_tokens.specs.Text.{undoubled, said}
+use Rattle.ts_tokens.specs.Number.{units_of, scale_of}
 use Rattle.ts_command.specs.Form.{IsColumn, HasForm}
-use Rattle.ts_command.specs.Grammar.{a_literal, literal_in, a_column, a_name, name_in, a_key, key_in, a_stamp, stamp_in, a_text, text_in, a_joined, joined_in, a_type, type_in, kind_behind, a_small, small_in, a_word, a_whole, whole_in, within, a_stamp_column, a_routine, routine_in, a_name_call, a_names_call, a_name_text_call, a_join_call, a_name_range_call, a_name_stamp_whole_call, a_key_call, a_key_name_call, a_key_stamp_call, a_key_range_call, a_names_whole_call, a_key_stamp_values_call, a_name_columns_call}
+use Rattle.ts_command.specs.Grammar.{a_literal, literal_in, a_column, a_name, name_in, a_key, key_in, a_stamp, stamp_in, a_text, text_in, a_joined, joined_in, a_type, type_in, kind_behind, a_small, small_in, a_word, a_whole, whole_in, within, a_stamp_column, a_routine, routine_in, a_name_call, a_names_call, a_name_text_call, a_join_call, a_name_range_call, a_name_stamp_whole_call, a_key_call, a_key_name_call, a_key_name_stamp_name_call, a_key_stamp_call, a_key_range_call, a_names_whole_call, a_key_stamp_values_call, a_name_columns_call}
 use Rattle.ts_command.specs.Routines.{routine_of, joined_of, type_of}
 use Rattle.ts_command.specs.declared.routine.Routine.TheVariants as calls
 use Rattle.ts_command.specs.declared.routine.StampRoutine.TheVariants as at_stamp
@@ -26,7 +26,7 @@ use Rattle.ts_command.specs.declared.routine.Joined.TheVariants.{Patterns}
 use Rattle.ts_command.specs.declared.routine.TypeName.{TypeName}
 use Rattle.ts_command.specs.declared.routine.TypeName.TheVariants.{SmallInt, Integer, BigInt, Decimal, VarChar}
 use Rattle.ts_command.specs.declared.command.Command.TheVariants as commands
-use Rattle.ts_command.proofs.FrontLemmas.{front_laws, open_sign, close_sign, comma_sign}
+use Rattle.ts_tokens.proofs.CallerLemmas.{front_laws, open_sign, close_sign, comma_sign}
 
 -- the bytes of a name
 name_is : (word a : List ℕ) → name_if_any word ≡ Some a → IsTrue (is_name a)
@@ -216,6 +216,16 @@ key_call_yields = bracketed IsKey a_key key_yields
 pub key_name_call_yields : Yields front (λ (p : List ℕ × List ℕ). IsKey p.0 × IsName p.1) a_key_name_call
 unfolding a_key_name_call
 key_name_call_yields = bracketed _ (pair a_key a_name) (paired IsKey IsName a_key a_name key_yields name_yields)
+
+-- a key, and a name, a stamp and a name
+abbrev pub AreKeyAndNames : List ℕ × (List ℕ × ℤ × List ℕ) → Type 0
+AreKeyAndNames p = IsKey p.0 × (IsName p.1.0 × Any p.1.1 × IsName p.1.2)
+
+pub key_name_stamp_name_call_yields : Yields front AreKeyAndNames a_key_name_stamp_name_call
+unfolding a_key_name_stamp_name_call
+key_name_stamp_name_call_yields =
+    bracketed _ (pair a_key (triple a_name a_stamp a_name))
+    (paired IsKey (λ (p : List ℕ × ℤ × List ℕ). IsName p.0 × Any p.1 × IsName p.2) a_key (triple a_name a_stamp a_name) key_yields (triple_yields front front_laws IsName Any IsName comma_sign a_name a_stamp a_name name_yields stamp_yields name_yields))
 
 pub key_stamp_call_yields : Yields front (λ (p : List ℕ × ℤ). IsKey p.0 × Any p.1) a_key_stamp_call
 unfolding a_key_stamp_call

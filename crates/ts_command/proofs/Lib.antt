@@ -1,11 +1,3 @@
-pub mod TokenLemmas
-pub mod TextLemmas
-pub mod TokenLengths
 pub mod FormLemmas
 pub mod CommandLemmas
-pub mod TextFormLemmas
-pub mod WordLemmas
-pub mod NumberFormLemmas
 pub mod PrintedLemmas
-pub mod KeptLemmas
-pub mod FrontLemmas

@@ -23,12 +23,12 @@ use Rattle.ts_row.specs.declared.value.Literal.TheVariants as literals
 use Rattle.ts_row.specs.RowType.{is_kind, scale_of}
 use Rattle.ts_row.specs.Row.{Values, holds, holds_size, hold}
 use Rattle.ts_row.specs.Printed.{last_digits, size_text, number_text, quoted, value_text, values_text, literal_of, value_literals}
-use Rattle.ts_command.specs.Tokens.{fraction_length, magnitude_length, signed_length, number_length, closing, later, or_before, of_kind, front}
+use Rattle.ts_tokens.specs.Tokens.{fraction_length, magnitude_length, signed_length, number_length, closing, later, or_before, of_kind, front}
 use Rattle.ts_text.specs.Plain.{digits_in_front}
 use Rattle.ts_text.specs.Blanks.{unblanked}
-use Rattle.ts_command.specs.Number.{units_of, scale_of as digits_behind}
+use Rattle.ts_tokens.specs.Number.{units_of, scale_of as digits_behind}
 use Rattle.ts_text.specs.Digits.{magnitude_of}
-use Rattle.ts_command.specs.Text.{undoubled, said}
+use Rattle.ts_tokens.specs.Text.{undoubled, said}
 use Rattle.ts_text.specs.Phrase.{taken, taken_front, token, a_sign, repeated}
 use Rattle.ts_command.specs.Grammar.{a_literal, literal_in}
 use Rattle.ts_command.specs.Printed.{ends_value}
@@ -36,9 +36,7 @@ use Rattle.ts_text.specs.declared.token.TokenKind.{TokenKind}
 use Rattle.ts_text.specs.declared.token.TokenKind.TheVariants.{Word, Number, Text}
 use Rattle.ts_command.proofs.FormLemmas.{literal_shrinks}
 use Rattle.ts_text.proofs.CallerLemmas.{repeated_none, repeated_more}
-use Rattle.ts_command.proofs.NumberFormLemmas.{stops}
-use Rattle.ts_command.proofs.TextLemmas.{undoubled-cons}
-use Rattle.ts_command.proofs.TokenLemmas.{text_byte, single_quote, doubled_quote}
+use Rattle.ts_tokens.proofs.CallerLemmas.{stops, text_byte, single_quote, doubled_quote, undoubled-cons}
 
 -- what behind a value stands
 record Ends (b : ℕ) : Type 0 where

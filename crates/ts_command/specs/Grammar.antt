@@ -14,9 +14,9 @@ use Rattle.ts_text.specs.Digits.{magnitude_of}
 use Rattle.ts_text.specs.Phrase.{Phrase, ◌>>=◌, give, token, word_in, a_sign, behind, in_brackets, pair, triple, made, closed, ended, outcome}
 use Rattle.ts_text.specs.declared.token.TokenKind.{TokenKind}
 use Rattle.ts_text.specs.declared.token.TokenKind.TheVariants.{Word, Number, Text, Sign}
-use Rattle.ts_command.specs.Tokens.{front}
-use Rattle.ts_command.specs.Number.{units_of, scale_of}
-use Rattle.ts_command.specs.Text.{said}
+use Rattle.ts_tokens.specs.Tokens.{front}
+use Rattle.ts_tokens.specs.Number.{units_of, scale_of}
+use Rattle.ts_tokens.specs.Text.{said}
 use Rattle.ts_command.specs.declared.routine.Routine.{Routine}
 use Rattle.ts_command.specs.declared.routine.Routine.TheVariants as calls
 use Rattle.ts_command.specs.declared.routine.NameRoutine.{NameRoutine}
@@ -205,6 +205,10 @@ a_key_call = in_brackets a_key
 unfoldable pub a_key_name_call : Phrase (List ℕ × List ℕ)
 a_key_name_call = in_brackets (pair a_key a_name)
 
+-- a key, and a name, a stamp and a name
+unfoldable pub a_key_name_stamp_name_call : Phrase (List ℕ × (List ℕ × ℤ × List ℕ))
+a_key_name_stamp_name_call = in_brackets (pair a_key (triple a_name a_stamp a_name))
+
 -- a key and a stamp
 unfoldable pub a_key_stamp_call : Phrase (List ℕ × ℤ)
 a_key_stamp_call = in_brackets (pair a_key a_stamp)
@@ -280,6 +284,7 @@ of_range in_range.CalRange calendar from to = commands.CalRange calendar from to
 unfoldable pub arguments : Routine → Phrase Command
 arguments calls.CreateRowType = made a_name_columns_call (λ a. commands.CreateRowType a.0 a.1 a.2)
 arguments calls.TSContainerCreate = made (a_names_whole_call (pos 1) (pos 65536)) (λ a. commands.TSContainerCreate a.0 a.1 a.2)
+arguments calls.TSCreate = made a_key_name_stamp_name_call (λ a. commands.TSCreate a.0 a.1.0 a.1.1 a.1.2)
 arguments calls.TSCreateIrr = made a_key_name_call (λ a. commands.TSCreateIrr a.0 a.1)
 arguments calls.DelClip = made a_key_range_call (λ a. commands.DelClip a.0 a.1 a.2)
 arguments calls.NotOp = made a_names_call (λ a. commands.NotOp a.0 a.1)

@@ -1,11 +1,6 @@
-pub mod Tokens
-pub mod Number
-pub mod Text
 pub mod Routines
 pub mod Grammar
 pub mod Misfit
 pub mod Form
-pub mod TextForm
 pub mod Script
-pub mod NumberForm
 pub mod Printed

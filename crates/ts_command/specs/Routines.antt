@@ -72,6 +72,7 @@ range_spelling in_range.CalRange = codes "CalRange"
 abbrev pub spelling : Routine → List ℕ
 spelling calls.CreateRowType = codes "CreateRowType"
 spelling calls.TSContainerCreate = codes "TSContainerCreate"
+spelling calls.TSCreate = codes "TSCreate"
 spelling calls.TSCreateIrr = codes "TSCreateIrr"
 spelling calls.DelClip = codes "DelClip"
 spelling calls.NotOp = codes "NotOp"
@@ -102,6 +103,7 @@ routines =
     calls.CalStamp ∷
     calls.InRange in_range.CalRange ∷
     calls.ByKey by_key.DropSeries ∷
+    calls.TSCreate ∷
     calls.TSCreateIrr ∷
     calls.CreateRowType ∷
     calls.TSContainerCreate ∷

@@ -2,7 +2,7 @@
 ghost use Rattle.std.specs.Prelude.{◌≡◌, Ok, IfOk, IfErr};
 ghost use Rattle.ts_text.specs.Misfit.{Refuses};
 ghost use Rattle.ts_text.specs.Phrase.{repeated, onto};
-ghost use Rattle.ts_command.specs.Grammar.{a_literal, a_name_call, a_names_call, a_name_text_call, a_join_call, a_name_range_call, a_name_stamp_whole_call, a_key_call, a_key_name_call, a_key_stamp_call, a_key_range_call, a_names_whole_call, a_key_stamp_values_call, a_name_columns_call};
+ghost use Rattle.ts_command.specs.Grammar.{a_literal, a_name_call, a_names_call, a_name_text_call, a_join_call, a_name_range_call, a_name_stamp_whole_call, a_key_call, a_key_name_call, a_key_name_stamp_name_call, a_key_stamp_call, a_key_range_call, a_names_whole_call, a_key_stamp_values_call, a_name_columns_call};
 
 use crate::column::{read_column, read_columns, read_stamp_column};
 use crate::phrase::{
@@ -133,6 +133,26 @@ pub(crate) fn read_key_name_call(
     let (name, rest) = read_name(alloc, read_sign(rest, b',')?)?;
     let rest = read_sign(rest, b')')?;
     Ok(((key, name), rest))
+}
+
+/// A key, and a name, a stamp and a name.
+#[tactic(auto, unfolding(crate::specs::Grammar::a_key_name_stamp_name_call))]
+pub(crate) fn read_key_name_stamp_name_call(
+    alloc: Global,
+    bytes: &[u8],
+) -> Result<((Key, (Name, Stamp, Name)), &[u8]), Misfit>
+    ensures ok { IfOk result (λ found. a_key_name_stamp_name_call bytes.now ≡ Ok (found.0, found.1.now)) }
+    ensures cause { IfErr result (λ misfit. Refuses misfit (a_key_name_stamp_name_call bytes.now)) }
+{
+    let (key, rest) = read_key(alloc, read_sign(bytes, b'(')?)?;
+    let (name, rest) = read_name(alloc, read_sign(rest, b',')?)?;
+    match read_stamp(alloc, read_sign(rest, b',')?) {
+        Ok((stamp, rest)) => {
+            let (other, rest) = read_name(alloc, read_sign(rest, b',')?)?;
+            Ok(((key, (name, stamp, other)), read_sign(rest, b')')?))
+        }
+        Err(misfit) => Err(misfit),
+    }
 }
 
 /// A key and a stamp.

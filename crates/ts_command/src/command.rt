@@ -71,6 +71,12 @@ pub enum Command {
     TSContainerUsage {
         name: Name,
     },
+    TSCreate {
+        key: Key,
+        calendar: Name,
+        origin: Stamp,
+        container: Name,
+    },
     TSCreateIrr {
         key: Key,
         container: Name,

@@ -3,7 +3,7 @@ ghost use Rattle.std.specs.Prelude.{◌≡◌, List, [], ◌∷◌, ◌++◌, �
 ghost use Rattle.ts_items.specs.Items.{items_from, place_from};
 ghost use Rattle.ts_text.specs.Spelling.{AreItsTokens};
 ghost use Rattle.ts_text.specs.Place.{everywhere, RefusesInPlace};
-ghost use Rattle.ts_command.specs.Tokens.{front};
+ghost use Rattle.ts_tokens.specs.Tokens.{front};
 ghost use Rattle.ts_command.specs.Grammar.{command_of};
 ghost use Rattle.ts_command.specs.Script.{request_of, requests};
 ghost use Rattle.ts_command.specs.Printed.{ValuesAreReadAgain, RowsAreReadAgain};

@@ -1,9 +1,9 @@
 //! The script language: `read_command` gives the command that a statement is, or the first place in it that can't stand
-//! there (`specs/Grammar`, over the tokens of `specs/Tokens`). With the items of a script, which ts_items cuts, that is
-//! what a script asks for (`specs/Script`). Routines stand in groups by what they are called with, each with one reader. A
-//! further routine is a variant of its group and of `Command`, a line of the list of routines, its name, its command by its
-//! arguments, and its case of form. Stands on ts_items, ts_row, ts_text and ts_base; knows nothing of the store. Read
-//! `specs/Grammar.antt`, then `call.rt`, `group.rt` and `read.rt`.
+//! there (`specs/Grammar`, over the tokens of ts_tokens). With the items of a script, which ts_items cuts, that is what a
+//! script asks for (`specs/Script`). Routines stand in groups by what they are called with, each with one reader. A further
+//! routine is a variant of its group and of `Command`, a line of the list of routines, its name, its command by its
+//! arguments, and its case of form. Stands on ts_items, ts_tokens, ts_row, ts_text and ts_base; knows nothing of the store.
+//! Read `specs/Grammar.antt`, then `call.rt`, `group.rt` and `read.rt`.
 #![tactic(auto)]
 
 mod call;
@@ -11,13 +11,9 @@ mod column;
 mod command;
 mod group;
 mod laws;
-mod number;
 mod phrase;
 mod read;
 mod routine;
-mod text;
-mod token;
-mod token_laws;
 
 pub use command::{Columns, Command, Literals};
 pub use laws::{
@@ -25,5 +21,4 @@ pub use laws::{
     statements_are_refused_in_place,
 };
 pub use read::read_command;
-pub use token_laws::{a_number_is_the_longest, a_text_is_the_longest, a_word_is_the_longest};
 pub use ts_items::{Cut, Fed, Reader};

@@ -1,18 +1,16 @@
 // The phrases of one token. Each is read from a place on, and gives what it says and the bytes behind it.
 ghost use Rattle.std.specs.Prelude.{◌≡◌, ◌<◌, ◌≤◌, [], Ok, Err, IfOk, IfErr, IfSome, IfNone, length};
-ghost use Rattle.ts_command.specs.Grammar.{a_name, a_key, a_stamp, a_text, a_literal, a_whole, a_small, a_word, a_type, a_joined, a_routine, whole_in};
-ghost use Rattle.ts_command.specs.Number.{units_of, scale_of};
+ghost use Rattle.ts_command.specs.Grammar.{a_name, a_key, a_stamp, a_text, a_literal, a_whole, a_small, a_word, a_type, a_joined, a_routine, small_in, whole_in};
+ghost use Rattle.ts_tokens.specs.Number.{units_of, scale_of};
 ghost use Rattle.ts_text.specs.Digits.{digit_count};
 ghost use Rattle.ts_text.specs.Misfit.{Refuses, RefusesExactly};
 
-use crate::number::{scale, small, units};
 use crate::routine::{Joined, Routine, TypeName, are_same, joined_of, routine_of, type_of};
-use crate::text::{bytes_of, key_of, stamp_of};
-use crate::token::front;
 use std::alloc::Global;
 use ts_base::{Bytes, Key, Name, Stamp};
 use ts_row::Literal;
-use ts_text::{Misfit, TokenKind, skip_blanks};
+use ts_text::{Misfit, TokenKind, are_digits, magnitude, skip_blanks};
+use ts_tokens::{bytes_of, front, key_of, scale, stamp_of, units};
 
 /// A name.
 #[tactic(auto, unfolding(crate::specs::Grammar::a_name))]
@@ -90,6 +88,15 @@ pub(crate) fn read_small(bytes: &[u8]) -> Result<(u16, &[u8]), Misfit>
         }
     }
     Err(Misfit::here(here))
+}
+
+fn small(token: &[u8]) -> Option<u16>
+    ensures { result ≡ small_in TokenKind.Number token.now }
+{
+    if token.len() <= 3 && are_digits(token) {
+        return Some(magnitude(token) as u16);
+    }
+    None
 }
 
 /// The bytes behind this word.

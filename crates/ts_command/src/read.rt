@@ -7,8 +7,8 @@ ghost use Rattle.ts_command.specs.Misfit.{IsCause};
 
 use crate::Command;
 use crate::call::{
-    read_key_name_call, read_key_range_call, read_name_columns_call, read_name_stamp_whole_call,
-    read_names_call, read_names_whole_call,
+    read_key_name_call, read_key_name_stamp_name_call, read_key_range_call, read_name_columns_call,
+    read_name_stamp_whole_call, read_names_call, read_names_whole_call,
 };
 use crate::group::{
     read_joining, read_of_key, read_of_name, read_of_range, read_of_row, read_of_stamp,
@@ -29,7 +29,8 @@ fn read_arguments(alloc: Global, routine: Routine, bytes: &[u8]) -> Result<(Comm
     match routine {
         Routine::CreateRowType => read_create_row_type(alloc, bytes),
         Routine::TSContainerCreate => read_create_container(alloc, bytes),
-        Routine::TSCreateIrr => read_create_series(alloc, bytes),
+        Routine::TSCreate => read_create_regular(alloc, bytes),
+        Routine::TSCreateIrr => read_create_irregular(alloc, bytes),
         Routine::DelClip => read_delete_range(alloc, bytes),
         Routine::NotOp => read_opposite(alloc, bytes),
         Routine::CalStamp => read_calendar_stamp(alloc, bytes),
@@ -73,9 +74,29 @@ fn read_create_container(alloc: Global, bytes: &[u8]) -> Result<(Command, &[u8])
     Ok((command, rest))
 }
 
-// A series: its key, and the name of its container.
+// A regular series: its key, the name of its calendar, its origin, and the name of its container.
 #[tactic(auto, unfolding(crate::specs::Grammar::arguments))]
-fn read_create_series(alloc: Global, bytes: &[u8]) -> Result<(Command, &[u8]), Misfit>
+fn read_create_regular(alloc: Global, bytes: &[u8]) -> Result<(Command, &[u8]), Misfit>
+    ensures ok { IfOk result (λ found. arguments Routine.TSCreate bytes.now ≡ Ok (found.0, found.1.now)) }
+    ensures cause { IfErr result (λ misfit. Refuses misfit (arguments Routine.TSCreate bytes.now)) }
+{
+    match read_key_name_stamp_name_call(alloc, bytes) {
+        Ok(((key, (calendar, origin, container)), rest)) => Ok((
+            Command::TSCreate {
+                key,
+                calendar,
+                origin,
+                container,
+            },
+            rest,
+        )),
+        Err(misfit) => Err(misfit),
+    }
+}
+
+// An irregular series: its key, and the name of its container.
+#[tactic(auto, unfolding(crate::specs::Grammar::arguments))]
+fn read_create_irregular(alloc: Global, bytes: &[u8]) -> Result<(Command, &[u8]), Misfit>
     ensures ok { IfOk result (λ found. arguments Routine.TSCreateIrr bytes.now ≡ Ok (found.0, found.1.now)) }
     ensures cause { IfErr result (λ misfit. Refuses misfit (arguments Routine.TSCreateIrr bytes.now)) }
 {

@@ -8,6 +8,7 @@ ghost use Rattle.ts_command.specs.Routines.{spelling, name_spelling, key_spellin
 pub(crate) enum Routine {
     CreateRowType,
     TSContainerCreate,
+    TSCreate,
     TSCreateIrr,
     DelClip,
     NotOp,
@@ -81,7 +82,7 @@ pub(crate) enum RangeRoutine {
     CalRange,
 }
 
-const ROUTINES: [Routine; 31] = [
+const ROUTINES: [Routine; 32] = [
     Routine::WithRow(RowRoutine::PutElem),
     Routine::WithRow(RowRoutine::InsElem),
     Routine::WithRow(RowRoutine::UpdElem),
@@ -97,6 +98,7 @@ const ROUTINES: [Routine; 31] = [
     Routine::CalStamp,
     Routine::InRange(RangeRoutine::CalRange),
     Routine::ByKey(KeyRoutine::DropSeries),
+    Routine::TSCreate,
     Routine::TSCreateIrr,
     Routine::CreateRowType,
     Routine::TSContainerCreate,
@@ -122,6 +124,7 @@ impl Routine {
         match self {
             Routine::CreateRowType => b"CreateRowType",
             Routine::TSContainerCreate => b"TSContainerCreate",
+            Routine::TSCreate => b"TSCreate",
             Routine::TSCreateIrr => b"TSCreateIrr",
             Routine::DelClip => b"DelClip",
             Routine::NotOp => b"NotOp",

@@ -11,6 +11,7 @@ enum Rest {
     Nothing,
     Stamp(i64),
     Stamps(i64, i64),
+    StampAndName(i64, &'static [u8]),
     Values(i64, &'static [Value]),
     Quota(i64),
     Columns(&'static [(&'static [u8], ColumnKind)]),
@@ -38,6 +39,7 @@ fn routine_of(command: &Command) -> &'static str {
         Command::TSContainerCreate { .. } => "TSContainerCreate",
         Command::TSContainerDestroy { .. } => "TSContainerDestroy",
         Command::TSContainerUsage { .. } => "TSContainerUsage",
+        Command::TSCreate { .. } => "TSCreate",
         Command::TSCreateIrr { .. } => "TSCreateIrr",
         Command::DropSeries { .. } => "DropSeries",
         Command::ListSeries { .. } => "ListSeries",
@@ -63,6 +65,7 @@ fn first_of(command: &Command) -> &[u8] {
         Command::TSContainerCreate { name, .. } => name.as_slice(),
         Command::TSContainerDestroy { name } => name.as_slice(),
         Command::TSContainerUsage { name } => name.as_slice(),
+        Command::TSCreate { key, .. } => key.as_slice(),
         Command::TSCreateIrr { key, .. } => key.as_slice(),
         Command::DropSeries { key } => key.as_slice(),
         Command::ListSeries { container } => container.as_slice(),
@@ -85,6 +88,7 @@ fn second_of(command: &Command) -> &[u8] {
     match command {
         Command::CreateRowType { stamp, .. } => stamp.as_slice(),
         Command::TSContainerCreate { row_type, .. } => row_type.as_slice(),
+        Command::TSCreate { calendar, .. } => calendar.as_slice(),
         Command::TSCreateIrr { container, .. } => container.as_slice(),
         _ => b"",
     }
@@ -99,6 +103,14 @@ fn is_rest(command: &Command, rest: Rest) -> bool {
         (Command::DelClip { from, to, .. }, Rest::Stamps(first, last)) => {
             from.units() == first && to.units() == last
         }
+        (
+            Command::TSCreate {
+                origin,
+                container,
+                ..
+            },
+            Rest::StampAndName(units, name),
+        ) => origin.units() == units && container.as_slice() == name,
         (_, Rest::Values(units, wanted)) => has_values(command, units, wanted),
         (Command::TSContainerCreate { quota, .. }, Rest::Quota(wanted)) => *quota == wanted,
         (Command::CreateRowType { columns, .. }, Rest::Columns(wanted)) => {
@@ -153,7 +165,7 @@ fn is_read(alloc: Global, text: &[u8], row: Row) -> bool {
 }
 
 /// Statements, and the commands that they are.
-static STATEMENTS: [(&[u8], Row); 23] = [
+static STATEMENTS: [(&[u8], Row); 24] = [
     (
         b"CreateRowType(rd, t datetime, v integer);",
         (
@@ -186,6 +198,10 @@ static STATEMENTS: [(&[u8], Row); 23] = [
     (
         b"TSContainerUsage(_1);",
         ("TSContainerUsage", b"_1", b"", Rest::Nothing),
+    ),
+    (
+        b"TSCreate('x', c, '1970-01-01 00:00:00.00001', c1);",
+        ("TSCreate", b"x", b"c", Rest::StampAndName(1, b"c1")),
     ),
     (
         b"TSCreateIrr('x', c1);",

@@ -1,5 +1,5 @@
 use Rattle.std.proofs.Common.{sym, ◌∙◌}
-use Rattle.ts_command.proofs.TokenLengths.{number_token}
+use Rattle.ts_tokens.proofs.CallerLemmas.{number_token}
 use Rattle.ts_command.proofs.phrase.read_literal.Goals as goal
 
 pub number_of-requires-clause-digits : goal.number_of-requires-clause-digits

@@ -1,5 +1,5 @@
 use Rattle.std.proofs.Common.{sym, ◌∙◌}
-use Rattle.ts_command.proofs.TokenLengths.{number_token}
+use Rattle.ts_tokens.proofs.CallerLemmas.{number_token}
 use Rattle.ts_command.proofs.phrase.read_whole.Goals as goal
 
 pub whole-requires : goal.whole-requires

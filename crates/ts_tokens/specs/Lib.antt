@@ -1,0 +1,5 @@
+pub mod Tokens
+pub mod NumberForm
+pub mod TextForm
+pub mod Number
+pub mod Text
