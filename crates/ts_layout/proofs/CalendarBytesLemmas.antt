@@ -36,7 +36,7 @@ as_written (defs.RowType name kind) = defs.RowType name kind
 as_written (defs.Pattern name pattern) = defs.Pattern name pattern
 as_written (defs.Calendar name c by) = defs.Calendar name (record c { pattern = written_plan c.pattern by }) by
 as_written (defs.Container name row_type quota) = defs.Container name row_type quota
-as_written (defs.Series key container) = defs.Series key container
+as_written (defs.Series key container regular) = defs.Series key container regular
 
 -- it has its name, and refers to the same
 pub name_written : (def : Def) → name_of (as_written def) ≡ name_of def
@@ -44,17 +44,17 @@ name_written (defs.RowType name kind) = refl
 name_written (defs.Pattern name pattern) = refl
 name_written (defs.Calendar name c by) = refl
 name_written (defs.Container name row_type quota) = refl
-name_written (defs.Series key container) = refl
+name_written (defs.Series key container regular) = refl
 
 pub references_written : (def : Def) → references (as_written def) ≡ references def
 references_written (defs.RowType name kind) = refl
 references_written (defs.Pattern name pattern) = refl
 references_written (defs.Calendar name c by) = refl
 references_written (defs.Container name row_type quota) = refl
-references_written (defs.Series key container) = refl
+references_written (defs.Series key container regular) = refl
 
 -- stamps
-stamp_one : (s t : ℤ) → IsStamp s → IsStamp t → stamp_bytes s ≡ stamp_bytes t → s ≡ t
+pub stamp_one : (s t : ℤ) → IsStamp s → IsStamp t → stamp_bytes s ≡ stamp_bytes t → s ≡ t
 stamp_one s t is is' same = sym (units_back s is) ∙ ap (λ (l : List ℕ). cast_signed w64 (from_be_bytes w64 l)) same ∙ units_back t is'
 
 -- which pattern each has, as it is written

@@ -1,8 +1,8 @@
 -- A layout of which one slot is filled with a new definition, or emptied where nothing refers to it: it keeps the rules, and its
 -- catalogue has one name more, or one fewer.
 use Rattle.std.specs.Prelude.{Contains}
-use Rattle.std.proofs.Common.{◌≡◌, ℕ, ◌+◌, ◌<◌, ◌≤◌, ◌==◌, Option, Some, None, List, [], length, set, refl, sym, ap, subst, ◌∙◌, arith, inl, inr, ◌⊎◌, zero-add}
-use Rattle.std.specs.Option.{option_map, option_and_then}
+use Rattle.std.proofs.Common.{◌≡◌, ℕ, ℤ, ◌+◌, ◌<◌, ◌≤◌, Option, Some, None, List, [], length, set, refl, sym, ap, subst, ◌∙◌, arith, inl, inr, ◌⊎◌, zero-add}
+use Rattle.std.specs.Option.{IfSome, option_map, option_and_then}
 use Rattle.std.specs.FinMap.{insert, remove}
 use Rattle.std.proofs.lemmas.Bool.{cases_eq}
 use Rattle.std.proofs.lemmas.List.Sums.{sum_by-set}
@@ -13,18 +13,17 @@ use Rattle.ts_model.specs.declared.kind.Kind.TheVariants as kinds
 use Rattle.ts_model.specs.declared.def.Def.{Def}
 use Rattle.ts_model.specs.declared.def.Def.TheVariants as defs
 use Rattle.ts_model.specs.Kinds.{HasNoPages, with_named, without}
-use Rattle.ts_model.specs.Definitions.{Definitions, RowTypeDef, PatternDef, CalendarDef, ContainerDef, SeriesDef, KindDef, of_calendar, kind_of, to_def, from_def, table_of, name_of, name_in, limit, slots, slot_of, at_slot, with_slot, with_table, by_name, references, Refers, IsUsed, IsTable, IsFormat, IsDefinitions}
+use Rattle.ts_model.specs.Definitions.{Definitions, RowTypeDef, PatternDef, CalendarDef, ContainerDef, SeriesDef, KindDef, of_calendar, of_series, calendar_reference, kind_of, to_def, from_def, table_of, name_of, name_in, limit, slots, slot_of, at_slot, with_slot, with_table, by_name, references, Refers, IsUsed, IsTable, IsFormat, IsDefinitions}
 use Rattle.ts_model.proofs.PartsLemmas.{forth, table-here, table-other, same_or_other, table-rules, all-rules, format-stays}
 use Rattle.ts_model.proofs.SlotLemmas.{by_name-clear}
-use Rattle.ts_layout.specs.Meaning.{Layout, ElementPage, Cells, def_at, heading_of_container, heading_in, heading_at, quota_in, sum_of_quotas, elements_of, sum_filled, charge_of_series, AreInChains, KeepsQuotas, Follows, AreFollowing, AreValid, AreSound, IsSound, value_of, named_in, catalogue_of}
-use Rattle.ts_layout.specs.Changed.{layout_with, granted, KeepsHeadings, HasNoPage, KeepsCalendarRules, CanMake, CanDrop}
+use Rattle.ts_layout.specs.Meaning.{Layout, ElementPage, Cells, def_at, heading_of_container, heading_in, heading_at, shape_of, shape_at, quota_in, sum_of_quotas, sum_filled, charge_of_series, IsInSequence, AreAllInSequence, KeepsQuotas, IsOnCalendar, HaveOrigins, Follows, AreFollowing, AreValid, AreSound, IsSound, value_of, named_in, catalogue_of}
+use Rattle.ts_layout.specs.Changed.{layout_with, granted, KeepsElements, HasNoPage, KeepsCalendarRules, HasOrigin, CanMake, CanDrop}
 use Rattle.ts_layout.proofs.PlaceLemmas.{def_at-other}
 use Rattle.ts_layout.proofs.SlotLemmas.{same_in}
 use Rattle.ts_layout.proofs.LayoutLemmas.{none≢some, one_of, within_table}
 use Rattle.ts_layout.proofs.FilledLemmas.{at_filled, at_cleared, table_filled, table_cleared, by_name_same, no_such_name, slot_there, by_name_filled}
-use Rattle.ts_layout.proofs.ReferLemmas.{KeepColumns, empty_in, filled_in, some_in, first_of, each_there, calendar_target, and_then_same, filled_here, limits_filled, references_filled, cleared_here, limits_cleared, references_cleared}
-use Rattle.ts_layout.proofs.ChainCountLemmas.{no_chain_in}
-use Rattle.ts_layout.proofs.ValueLemmas.{same_value, catalogue_with, catalogue_without, no_charge, no_elements_of, no_elements_charge, sum_filled_less}
+use Rattle.ts_layout.proofs.ReferLemmas.{KeepColumns, KeepShapes, empty_in, filled_in, some_in, first_of, each_there, calendar_target, series_target, shape_same, origin_same, and_then_same, filled_here, limits_filled, references_filled, cleared_here, limits_cleared, references_cleared}
+use Rattle.ts_layout.proofs.ValueLemmas.{same_value, catalogue_with, catalogue_without, no_charge, no_sequence_in, no_series_charge, sum_filled_less}
 
 -- a definition as one of its kind
 pub as_own : (def : Def) → (a : KindDef (kind_of def)) × (to_def (kind_of def) a ≡ def)
@@ -32,7 +31,7 @@ as_own (defs.RowType name h) = (record { name = name; heading = h }, refl)
 as_own (defs.Pattern name pattern) = (record { name = name; pattern = pattern }, refl)
 as_own (defs.Calendar name calendar by) = (record { name = name; calendar = calendar; by = by }, refl)
 as_own (defs.Container name row_type quota) = (record { name = name; row_type = row_type; quota = quota }, refl)
-as_own (defs.Series key container) = (record { key = key; container = container }, refl)
+as_own (defs.Series key container regular) = (record { key = key; container = container; regular = regular }, refl)
 
 -- a kind without pages is another than that of series
 not_series : (kind : Kind) → HasNoPages kind → kind ≡ kinds.Series → ⊥
@@ -47,7 +46,7 @@ charged_less kinds.Calendar slot o d pages container room none = omega arith
 charged_less kinds.Container slot o d pages container room none = omega arith
 charged_less kinds.Series slot o d pages container room none =
     sum_filled_less (charge_of_series pages container room) 0 slot (option_and_then (from_def kinds.Series) o) d.series (λ s.
-    no_elements_charge (s.container == container) room (elements_of (0 + slot) pages) (ap (λ (n : ℕ). elements_of n pages) (zero-add slot) ∙ no_elements_of slot pages (none refl)))
+    ap (λ (n : ℕ). charge_of_series pages container room n s) (zero-add slot) ∙ no_series_charge pages container room slot s (none refl))
 
 -- what all containers are granted then: what is granted anew, and no more
 granted_then : (kind : Kind) (slot : ℕ) (o : Option Def) (d : Definitions) → slot < limit kind → IsDefinitions d → sum_of_quotas (with_slot kind slot o d).containers ≤ sum_of_quotas d.containers + granted o
@@ -83,23 +82,42 @@ module _ (kind : Kind) (slot : ℕ) (o : Option Def) (l : Layout) (sound : IsSou
 
   series_heading_stays : (i : ℕ) (s : SeriesDef) → at_slot i l.definitions.series ≡ Some s → heading_in then_defs s.container ≡ heading_in l.definitions s.container
   series_heading_stays i s here =
-      ap (option_and_then (heading_of_container then_defs)) (target_stays kinds.Series i s here kinds.Container s.container (first_of (kinds.Container, s.container) (kinds.Container, s.container) [] refl))
+      ap (option_and_then (heading_of_container then_defs)) (target_stays kinds.Series i s here kinds.Container s.container (first_of (kinds.Container, s.container) (kinds.Container, s.container) (calendar_reference s.regular) refl))
       ∙ and_then_same (heading_of_container then_defs) (heading_of_container l.definitions) (at_slot s.container l.definitions.containers) (λ c there. heading_stays s.container c there)
+
+  -- so does the calendar of a series
+  calendar_stays : (i : ℕ) (s : SeriesDef) → at_slot i l.definitions.series ≡ Some s → (at : ℕ) (origin : ℤ) → s.regular ≡ Some (at, origin) → at_slot at then_defs.calendars ≡ at_slot at l.definitions.calendars
+  calendar_stays i s here at origin is = target_stays kinds.Series i s here kinds.Calendar at (series_target s at origin is)
+
+  series_stays : (s : ℕ) → (kind ≡ kinds.Series → s ≡ slot → ⊥) → at_slot s then_defs.series ≡ at_slot s l.definitions.series
+  series_stays s other = same_in kinds.Series s then_defs.series l.definitions.series (def_at-other kind kinds.Series slot s o l.definitions (λ same_kind same_slot. other (sym same_kind) same_slot))
+
+  shapes_stay : (s : ℕ) → (kind ≡ kinds.Series → s ≡ slot → ⊥) → shape_at then_defs s ≡ shape_at l.definitions s
+  shapes_stay s other =
+      ap (option_and_then (λ (x : SeriesDef). shape_of then_defs x.regular)) (series_stays s other)
+      ∙ and_then_same (λ (x : SeriesDef). shape_of then_defs x.regular) (λ (x : SeriesDef). shape_of l.definitions x.regular) (at_slot s l.definitions.series) (λ x here. shape_same l.definitions then_defs x.regular (calendar_stays s x here))
 
   columns_stay : (s : ℕ) → (kind ≡ kinds.Series → s ≡ slot → ⊥) → heading_at then_defs s ≡ heading_at l.definitions s
   columns_stay s other =
-      let there : at_slot s then_defs.series ≡ at_slot s l.definitions.series =
-      same_in kinds.Series s then_defs.series l.definitions.series (def_at-other kind kinds.Series slot s o l.definitions (λ same_kind same_slot. other (sym same_kind) same_slot)) in
-      ap (option_and_then (λ (x : SeriesDef). heading_in then_defs x.container)) there
+      ap (option_and_then (λ (x : SeriesDef). heading_in then_defs x.container)) (series_stays s other)
       ∙ and_then_same (λ (x : SeriesDef). heading_in then_defs x.container) (λ (x : SeriesDef). heading_in l.definitions x.container) (at_slot s l.definitions.series) (λ x here. series_heading_stays s x here)
 
-  pub changed_headings : KeepsHeadings then_defs l
-  changed_headings i s es is = columns_stay s (λ series same. (pageless series).1 i es (is ∙ ap (λ (n : ℕ). Cells n es) same))
+  pub changed_elements : KeepsElements then_defs l
+  changed_elements = record {
+    headings = λ i s sheet is. columns_stay s (λ series same. (pageless series).1 i sheet (is ∙ ap (λ (n : ℕ). Cells n sheet) same));
+    shapes = λ i s sheet is. shapes_stay s (λ series same. (pageless series).1 i sheet (is ∙ ap (λ (n : ℕ). Cells n sheet) same));
+  }
 
   pub changed_columns : KeepColumns l.definitions then_defs
   changed_columns s heading there =
       columns_stay s (λ series same.
       none≢some (heading_at l.definitions slot) heading (ap (option_and_then (λ (x : SeriesDef). heading_in l.definitions x.container)) (pageless series).0) (ap (heading_at l.definitions) (sym same) ∙ there))
+      ∙ there
+
+  pub changed_shapes : KeepShapes l.definitions then_defs
+  changed_shapes s shape there =
+      shapes_stay s (λ series same.
+      none≢some (shape_at l.definitions slot) shape (ap (option_and_then (λ (x : SeriesDef). shape_of l.definitions x.regular)) (pageless series).0) (ap (shape_at l.definitions) (sym same) ∙ there))
       ∙ there
 
   -- what stands in a slot was there, or is the new one
@@ -119,7 +137,7 @@ module _ (kind : Kind) (slot : ℕ) (o : Option Def) (l : Layout) (sound : IsSou
   pub no_series_stands : kind ≡ kinds.Container → (i : ℕ) (s : SeriesDef) → at_slot i l.definitions.series ≡ Some s → s.container ≡ slot → ⊥
   no_series_stands is i s here same =
       let low : i < limit kinds.Series = omega (arith, within_table l.definitions.series i s here, sound.definitions.tables.series.size) in
-      unused (kinds.Series, (i, to_def kinds.Series s, low, filled_in (to_def kinds.Series) i l.definitions.series s here, first_of (kinds.Container, s.container) (kind, slot) [] (λ j. (sym is j, same j))))
+      unused (kinds.Series, (i, to_def kinds.Series s, low, filled_in (to_def kinds.Series) i l.definitions.series s here, first_of (kinds.Container, s.container) (kind, slot) (calendar_reference s.regular) (λ j. (sym is j, same j))))
 
   changed_charges : KeepsQuotas (layout_with kind slot o l)
   changed_charges i c head here heading =
@@ -146,17 +164,27 @@ module _ (kind : Kind) (slot : ℕ) (o : Option Def) (l : Layout) (sound : IsSou
     | inr is ↦ new c is.0 (ap (λ (n : ℕ). at_slot n then_defs.calendars) (sym is.1) ∙ here)
   ]
 
-  changed_chains : AreInChains (layout_with kind slot o l)
-  changed_chains s h there = elim (cases_eq s slot) [
-    | inl same ↦ elim (same_or_other kinds.Series kind) [
-      | inl is ↦ no_chain_in s h.columns l.element_pages (subst (λ (n : ℕ). HasNoPage n l.element_pages) (sym same) (pageless (sym is)).1)
-      | inr differs ↦ sound.chains s h (sym (columns_stay s (λ series at. differs (sym series))) ∙ there)
-    ]
-    | inr other ↦ sound.chains s h (sym (columns_stay s (λ series at. other at)) ∙ there)
+  -- and so the origin of each series is an on start, where that of the new one is
+  pub changed_origins : ((s : SeriesDef) → kind ≡ kinds.Series → at_slot slot then_defs.series ≡ Some s → IfSome s.regular (IsOnCalendar then_defs)) → HaveOrigins then_defs
+  changed_origins new i s here = elim (filled_before kinds.Series i s here) [
+    | inl old ↦ origin_same l.definitions then_defs s.regular (calendar_stays i s old) (sound.definitions.origins i s old)
+    | inr is ↦ new s is.0 (ap (λ (n : ℕ). at_slot n then_defs.series) (sym is.1) ∙ here)
   ]
 
+  changed_sequences : AreAllInSequence (layout_with kind slot o l)
+  changed_sequences s h shape there lies =
+      let as_before : (kind ≡ kinds.Series → s ≡ slot → ⊥) → IsInSequence shape s h.columns l.element_pages =
+      λ other. sound.sequences s h shape (sym (columns_stay s other) ∙ there) (sym (shapes_stay s other) ∙ lies) in
+      elim (cases_eq s slot) [
+        | inl same ↦ elim (same_or_other kinds.Series kind) [
+          | inl is ↦ no_sequence_in shape s h.columns l.element_pages (subst (λ (n : ℕ). HasNoPage n l.element_pages) (sym same) (pageless (sym is)).1)
+          | inr differs ↦ as_before (λ series at. differs (sym series))
+        ]
+        | inr other ↦ as_before (λ series at. other at)
+      ]
+
   pub changed_sound : AreSound (length l.element_pages) then_defs → IsSound (layout_with kind slot o l)
-  changed_sound rules = record { some = sound.some; most = sound.most; definitions = rules; chains = changed_chains; charges = changed_charges }
+  changed_sound rules = record { some = sound.some; most = sound.most; definitions = rules; sequences = changed_sequences; charges = changed_charges }
 
   pub others_named : (k : Kind) → (k ≡ kind → ⊥) → named_in k (layout_with kind slot o l) ≡ named_in k l
   others_named k differs =
@@ -203,11 +231,11 @@ module _ (slot : ℕ) (def : Def) (l : Layout) (sound : IsSound l) (can : CanMak
       let filled = some_in (def_at target at l.definitions) (each_there l.definitions (references def) target at can.fits.refers refers) in
       none≢some (def_at target at l.definitions) filled.0 ((λ j. def_at (same_kind j) (same_slot j) l.definitions) ∙ can.fits.empty) filled.1))
 
-  -- a calendar that is made is the definition, and keeps the rules of calendars
-  made_calendar : (c : CalendarDef) → kind ≡ kinds.Calendar → at_slot slot (with_slot kind slot (Some def) l.definitions).calendars ≡ Some c → def ≡ of_calendar c
-  made_calendar c is here =
-      one_of (def_at kind slot (with_slot kind slot (Some def) l.definitions)) def (of_calendar c) (filled_here kind slot def l.definitions can.fits.within refl sound.definitions.tables)
-      (ap (λ (k : Kind). def_at k slot (with_slot kind slot (Some def) l.definitions)) is ∙ filled_in of_calendar slot (with_slot kind slot (Some def) l.definitions).calendars c here)
+  -- what stands in the slot then is the definition; a calendar keeps the rules of calendars
+  made_def : (k : Kind) (a : KindDef k) → kind ≡ k → at_slot slot (table_of k (with_slot kind slot (Some def) l.definitions)) ≡ Some a → def ≡ to_def k a
+  made_def k a is here =
+      one_of (def_at kind slot (with_slot kind slot (Some def) l.definitions)) def (to_def k a) (filled_here kind slot def l.definitions can.fits.within refl sound.definitions.tables)
+      (ap (λ (x : Kind). def_at x slot (with_slot kind slot (Some def) l.definitions)) is ∙ filled_in (to_def k) slot (table_of k (with_slot kind slot (Some def) l.definitions)) a here)
 
   made_valid : (c : CalendarDef) → def ≡ of_calendar c → IsValid c.calendar × Follows l.definitions.patterns c
   made_valid c is = subst (λ (x : Def). KeepsCalendarRules x l.definitions) is can.fits.valid
@@ -215,6 +243,13 @@ module _ (slot : ℕ) (def : Def) (l : Layout) (sound : IsSound l) (can : CanMak
   made_follow : (c : CalendarDef) → def ≡ of_calendar c → Follows (with_slot kind slot (Some def) l.definitions).patterns c
   made_follow c is at by =
       ap (option_map (λ (p : PatternDef). p.pattern)) (made_targets kinds.Pattern at (subst (λ (x : Def). Refers x kinds.Pattern at) (sym is) (calendar_target c at by))) ∙ (made_valid c is).1 at by
+
+  -- and a series has its origin
+  made_origin : (s : SeriesDef) → def ≡ of_series s → IfSome s.regular (IsOnCalendar (with_slot kind slot (Some def) l.definitions))
+  made_origin s is =
+      origin_same l.definitions (with_slot kind slot (Some def) l.definitions) s.regular
+      (λ at origin lies. made_targets kinds.Calendar at (subst (λ (x : Def). Refers x kinds.Calendar at) (sym is) (series_target s at origin lies)))
+      (subst (λ (x : Def). HasOrigin x l.definitions) is can.fits.origin)
 
   made_rules : AreSound (length l.element_pages) (with_slot kind slot (Some def) l.definitions)
   made_rules =
@@ -225,16 +260,17 @@ module _ (slot : ℕ) (def : Def) (l : Layout) (sound : IsSound l) (can : CanMak
         tables = all-rules (with_slot kind slot (Some def) l.definitions) (subst IsFormat (sym (format-stays kind slot (Some def) l.definitions)) sound.definitions.tables.format) (changed_tables kind (set (table_of kind l.definitions) slot (from_def kind def)) l.definitions sound.definitions.tables table);
         limits = limits_filled kind slot def l.definitions can.fits.within refl sound.definitions.tables can.fits.limits sound.definitions.limits;
         references = references_filled kind slot def l.definitions can.fits.within refl sound.definitions.tables can.fits.refers sound.definitions.references;
-        follow = changed_follow kind slot (Some def) l sound made_unused made_pageless (λ c is here. made_follow c (made_calendar c is here));
-        valid = changed_valid kind slot (Some def) l sound made_unused made_pageless (λ c is here. (made_valid c (made_calendar c is here)).0);
+        follow = changed_follow kind slot (Some def) l sound made_unused made_pageless (λ c is here. made_follow c (made_def kinds.Calendar c is here));
+        valid = changed_valid kind slot (Some def) l sound made_unused made_pageless (λ c is here. (made_valid c (made_def kinds.Calendar c is here)).0);
         quotas = omega (arith, granted_then kind slot (Some def) l.definitions can.fits.within sound.definitions.tables, can.pages);
+        origins = changed_origins kind slot (Some def) l sound made_unused made_pageless (λ s is here. made_origin s (made_def kinds.Series s is here));
       }
 
   pub made_sound : IsSound (layout_with kind slot (Some def) l)
   made_sound = changed_sound kind slot (Some def) l sound made_unused made_pageless made_rules
 
-  pub made_headings : KeepsHeadings (with_slot kind slot (Some def) l.definitions) l
-  made_headings = changed_headings kind slot (Some def) l sound made_unused made_pageless
+  pub made_headings : KeepsElements (with_slot kind slot (Some def) l.definitions) l
+  made_headings = changed_elements kind slot (Some def) l sound made_unused made_pageless
 
   pub made_catalogue : (a : KindDef kind) → to_def kind a ≡ def → catalogue_of (layout_with kind slot (Some def) l) ≡ with_named kind (name_of def) (value_of kind l slot a) (catalogue_of l)
   made_catalogue a is =
@@ -261,10 +297,10 @@ module _ (kind : Kind) (slot : ℕ) (name : List ℕ) (l : Layout) (sound : IsSo
   pub dropped_pageless : kind ≡ kinds.Series → (at_slot slot l.definitions.series ≡ None) × HasNoPage slot l.element_pages
   dropped_pageless series = absurd (not_series kind can.pageless series)
 
-  no_new_calendar : (c : CalendarDef) → kind ≡ kinds.Calendar → at_slot slot (with_slot kind slot None l.definitions).calendars ≡ Some c → ⊥
-  no_new_calendar c is here =
-      none≢some (def_at kind slot (with_slot kind slot None l.definitions)) (of_calendar c) (cleared_here kind slot l.definitions dropped_within sound.definitions.tables)
-      (ap (λ (k : Kind). def_at k slot (with_slot kind slot None l.definitions)) is ∙ filled_in of_calendar slot (with_slot kind slot None l.definitions).calendars c here)
+  none_new : (k : Kind) (a : KindDef k) → kind ≡ k → at_slot slot (table_of k (with_slot kind slot None l.definitions)) ≡ Some a → ⊥
+  none_new k a is here =
+      none≢some (def_at kind slot (with_slot kind slot None l.definitions)) (to_def k a) (cleared_here kind slot l.definitions dropped_within sound.definitions.tables)
+      (ap (λ (x : Kind). def_at x slot (with_slot kind slot None l.definitions)) is ∙ filled_in (to_def k) slot (table_of k (with_slot kind slot None l.definitions)) a here)
 
   dropped_rules : AreSound (length l.element_pages) (with_slot kind slot None l.definitions)
   dropped_rules = record {
@@ -272,16 +308,17 @@ module _ (kind : Kind) (slot : ℕ) (name : List ℕ) (l : Layout) (sound : IsSo
         (table_cleared (name_in kind) (limit kind) slot (table_of kind l.definitions) dropped_within (table-rules l.definitions sound.definitions.tables kind)));
     limits = limits_cleared kind slot l.definitions dropped_within sound.definitions.tables sound.definitions.limits;
     references = references_cleared kind slot l.definitions dropped_within sound.definitions.tables can.unused sound.definitions.references;
-    follow = changed_follow kind slot None l sound can.unused dropped_pageless (λ c is here. absurd (no_new_calendar c is here));
-    valid = changed_valid kind slot None l sound can.unused dropped_pageless (λ c is here. absurd (no_new_calendar c is here));
+    follow = changed_follow kind slot None l sound can.unused dropped_pageless (λ c is here. absurd (none_new kinds.Calendar c is here));
+    valid = changed_valid kind slot None l sound can.unused dropped_pageless (λ c is here. absurd (none_new kinds.Calendar c is here));
     quotas = omega (arith, granted_then kind slot None l.definitions dropped_within sound.definitions.tables, sound.definitions.quotas);
+    origins = changed_origins kind slot None l sound can.unused dropped_pageless (λ s is here. absurd (none_new kinds.Series s is here));
   }
 
   pub dropped_sound : IsSound (layout_with kind slot None l)
   dropped_sound = changed_sound kind slot None l sound can.unused dropped_pageless dropped_rules
 
-  pub dropped_headings : KeepsHeadings (with_slot kind slot None l.definitions) l
-  dropped_headings = changed_headings kind slot None l sound can.unused dropped_pageless
+  pub dropped_headings : KeepsElements (with_slot kind slot None l.definitions) l
+  dropped_headings = changed_elements kind slot None l sound can.unused dropped_pageless
 
   pub dropped_catalogue : catalogue_of (layout_with kind slot None l) ≡ without kind name (catalogue_of l)
   dropped_catalogue =

@@ -1,5 +1,5 @@
 -- The fields of a slot, as its bytes give them.
-use Rattle.std.proofs.Common.{◌≡◌, ℕ, suc, ◌+◌, ◌<◌, ◌≤◌, ◌^◌, List, [], ◌∷◌, ◌++◌, length, take, drop, get_or, IsTrue, Option, refl, sym, ap, ◌∙◌, arith, append_assoc, length-append}
+use Rattle.std.proofs.Common.{◌≡◌, ℕ, ℤ, suc, ◌+◌, ◌<◌, ◌≤◌, ◌^◌, List, [], ◌∷◌, ◌++◌, length, take, drop, get_or, IsTrue, Option, Some, refl, sym, ap, ◌∙◌, arith, append_assoc, length-append}
 use Rattle.std.specs.Int.{w32, to_be_bytes, from_be_bytes}
 use Rattle.std.proofs.lemmas.Bool.Decides.{nat_tests}
 use Rattle.std.proofs.lemmas.List.{get_or-append-add, take_at, drop_at, drop-drop, length-replicate}
@@ -10,7 +10,7 @@ use Rattle.ts_row.specs.RowType.{Heading}
 use Rattle.ts_pattern.specs.Plan.{Plan}
 use Rattle.ts_calendar.specs.Plan.{CalendarPlan}
 use Rattle.ts_cells.specs.Cell.{stamp_bytes}
-use Rattle.ts_layout.specs.Slot.{padded, name_bytes, columns_bytes, row_type_bytes, plan_bytes, pattern_bytes, part_bytes, calendar_bytes, container_bytes, series_bytes, header_bytes}
+use Rattle.ts_layout.specs.Slot.{padded, name_bytes, columns_bytes, row_type_bytes, plan_bytes, pattern_bytes, part_bytes, calendar_bytes, container_bytes, series_code, regular_bytes, series_bytes, header_bytes}
 
 -- a name has at most 32 bytes
 pub length-name : (name : List ℕ) → IsTrue (is_name name) → length name ≤ 32
@@ -63,18 +63,47 @@ container_quota name row_type quota short fits =
     (λ i. from_be_bytes w32 (behind 33 1 (name_bytes name) rest wide i ∷ behind 33 2 (name_bytes name) rest wide i ∷ behind 33 3 (name_bytes name) rest wide i ∷ behind 33 4 (name_bytes name) rest wide i ∷ []))
     ∙ from_be_bytes-to_be_bytes_4 quota fits
 
--- a series' key and the slot of its container
-pub series_length : (key : List ℕ) (container : ℕ) → get_or (series_bytes key container) 1 0 ≡ length key
+-- whether a series is regular, its key and the slot of its container
+pub series_first : (key : List ℕ) (container : ℕ) (regular : Option (ℕ × ℤ)) → get_or (series_bytes key container regular) 0 0 ≡ series_code regular
 unfolding series_bytes
-series_length key container = refl
+series_first key container regular = refl
 
-pub series_key : (key : List ℕ) (container : ℕ) → length key ≤ 64 → take (length key) (drop 2 (series_bytes key container)) ≡ key
+pub series_length : (key : List ℕ) (container : ℕ) (regular : Option (ℕ × ℤ)) → get_or (series_bytes key container regular) 1 0 ≡ length key
+unfolding series_bytes
+series_length key container regular = refl
+
+pub series_key : (key : List ℕ) (container : ℕ) (regular : Option (ℕ × ℤ)) → length key ≤ 64 → take (length key) (drop 2 (series_bytes key container regular)) ≡ key
 unfolding series_bytes padded
-series_key key container short = ap (take (length key)) (append_assoc key _ _) ∙ take-append_seam key _
+series_key key container regular short = ap (take (length key)) (append_assoc key _ _) ∙ take-append_seam key _
 
-pub series_container : (key : List ℕ) (container : ℕ) → length key ≤ 64 → get_or (series_bytes key container) 66 0 ≡ container
+pub series_container : (key : List ℕ) (container : ℕ) (regular : Option (ℕ × ℤ)) → length key ≤ 64 → get_or (series_bytes key container regular) 66 0 ≡ container
 unfolding series_bytes
-series_container key container short = behind 64 0 (padded 64 key) (container ∷ padded 27 []) (length-padded 64 key short)
+series_container key container regular short = behind 64 0 (padded 64 key) (container ∷ padded 27 (regular_bytes regular)) (length-padded 64 key short)
+
+-- what a regular series has besides: the slot of its calendar, and its origin
+pub series_regular : (key : List ℕ) (container : ℕ) (regular : Option (ℕ × ℤ)) → length key ≤ 64 → drop 67 (series_bytes key container regular) ≡ padded 27 (regular_bytes regular)
+unfolding series_bytes
+series_regular key container regular short =
+    sym (drop-drop 1 64 (padded 64 key ++ (container ∷ padded 27 (regular_bytes regular))))
+    ∙ ap (drop 1) (drop_at (padded 64 key) (container ∷ padded 27 (regular_bytes regular)) 64 (length-padded 64 key short))
+
+pub regular_calendar : (slot : ℕ) (origin : ℤ) → get_or (padded 27 (regular_bytes (Some (slot, origin)))) 0 0 ≡ slot
+unfolding padded
+regular_calendar slot origin = refl
+
+pub regular_origin : (slot : ℕ) (origin : ℤ) → take 8 (drop 1 (padded 27 (regular_bytes (Some (slot, origin))))) ≡ stamp_bytes origin
+unfolding padded
+regular_origin slot origin = refl
+
+pub series_calendar : (key : List ℕ) (container slot : ℕ) (origin : ℤ) → length key ≤ 64 → get_or (series_bytes key container (Some (slot, origin))) 67 0 ≡ slot
+unfolding series_bytes
+series_calendar key container slot origin short =
+    behind 64 1 (padded 64 key) (container ∷ padded 27 (regular_bytes (Some (slot, origin)))) (length-padded 64 key short) ∙ regular_calendar slot origin
+
+pub series_origin : (key : List ℕ) (container slot : ℕ) (origin : ℤ) → length key ≤ 64 → take 8 (drop 68 (series_bytes key container (Some (slot, origin)))) ≡ stamp_bytes origin
+series_origin key container slot origin short =
+    ap (take 8) (sym (drop-drop 1 67 (series_bytes key container (Some (slot, origin)))))
+    ∙ ap (λ (l : List ℕ). take 8 (drop 1 l)) (series_regular key container (Some (slot, origin)) short) ∙ regular_origin slot origin
 
 -- a row type's name, the name of its stamp, the number of its columns and these
 behind_name : (name rest : List ℕ) → length name ≤ 32 → drop 33 (name_bytes name ++ rest) ≡ rest

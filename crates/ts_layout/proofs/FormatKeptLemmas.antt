@@ -16,6 +16,7 @@ use Rattle.ts_model.specs.Format.{KeepsFormat}
 use Rattle.ts_model.specs.Definitions.{RowTypeDef}
 use Rattle.ts_layout.specs.Limits.{IsSlotOf}
 use Rattle.ts_layout.specs.Meaning.{Layout, ElementPage, Free, Cells, element_page, elements_on, elements_of, IsSound, Means, catalogue_of}
+use Rattle.ts_layout.specs.Sheets.{Sheet}
 use Rattle.ts_layout.specs.Chains.{AreFilled}
 use Rattle.ts_layout.proofs.LayoutLemmas.{within_table}
 use Rattle.ts_layout.proofs.LookupLemmas.{name_listed}
@@ -47,17 +48,17 @@ none_joined (e ∷ es) fs first second =
     let each = neither e.1.hidden (has_hidden es) first in
     both e.1.hidden (has_hidden (es ++ fs)) each.0 (none_joined es fs each.1 second)
 
-none_on : (slot : ℕ) (e : ElementPage) → ((es : List Element) → e ≡ Cells slot es → has_hidden es ≡ false) → has_hidden (elements_on slot e) ≡ false
+none_on : (slot : ℕ) (e : ElementPage) → ((sheet : Sheet) → e ≡ Cells slot sheet → has_hidden sheet.1 ≡ false) → has_hidden (elements_on slot e) ≡ false
 none_on slot Free each = refl
-none_on slot (Cells s es) each = elim (cases_eq s slot) [
-  | inl same ↦ let t : (s == slot) ≡ true = grind (arith, nat_tests) in let none = each es (ap (λ (n : ℕ). Cells n es) same) in rw t none
+none_on slot (Cells s sheet) each = elim (cases_eq s slot) [
+  | inl same ↦ let t : (s == slot) ≡ true = grind (arith, nat_tests) in let none = each sheet (ap (λ (n : ℕ). Cells n sheet) same) in rw t none
   | inr other ↦ let f : (s == slot) ≡ false = grind (arith, nat_tests) in rw f refl
 ]
 
-none_of : (slot : ℕ) (pages : List ElementPage) → ((i : ℕ) (es : List Element) → element_page i pages ≡ Cells slot es → has_hidden es ≡ false) → has_hidden (elements_of slot pages) ≡ false
+none_of : (slot : ℕ) (pages : List ElementPage) → ((i : ℕ) (sheet : Sheet) → element_page i pages ≡ Cells slot sheet → has_hidden sheet.1 ≡ false) → has_hidden (elements_of slot pages) ≡ false
 none_of slot [] each = refl
 none_of slot (e ∷ pages) each =
-    none_joined (elements_on slot e) (elements_of slot pages) (none_on slot e (λ es is. each 0 es is)) (none_of slot pages (λ i es is. each (suc i) es is))
+    none_joined (elements_on slot e) (elements_of slot pages) (none_on slot e (λ sheet is. each 0 sheet is)) (none_of slot pages (λ i sheet is. each (suc i) sheet is))
 
 -- the row types and the elements of a layout in the old format
 row_type_short : (l : Layout) → IsSound l → l.definitions.format ≡ OLD_FORMAT → (name : List ℕ) (h : Heading) → get (catalogue_of l).row_types name ≡ Some h → has_long_decimal h.columns ≡ false
@@ -74,7 +75,7 @@ element_visible l sound filled old key s is stamp row has =
     let es : List Element = elements_of there.0 l.element_pages in
     let found : find int_cmp stamp es ≡ Some row =
     sym (get-from_entries int_cmp_total es stamp) ∙ ap (λ (x : Series). get x.elements stamp) (sym there.3) ∙ has in
-    row_visible es stamp row found (none_of there.0 l.element_pages (λ i fs at. (filled i there.0 fs at).3 old))
+    row_visible es stamp row found (none_of there.0 l.element_pages (λ i sheet at. (filled i there.0 sheet at).of_format old))
 
 pub layout_keeps : (l : Layout) → IsSound l → AreFilled l → KeepsFormat (catalogue_of l)
 layout_keeps l sound filled = record {

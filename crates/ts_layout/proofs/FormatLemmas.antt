@@ -1,20 +1,22 @@
 -- Layouts in another format.
-use Rattle.std.proofs.Common.{◌≡◌, ◌≢◌, ℕ, ◌+◌, ◌≤◌, true, false, Bool, Option, Some, None, IsSome, List, [], ◌∷◌, length, drop, refl, sym, ap, subst, ◌∙◌, arith, inr}
+use Rattle.std.proofs.Common.{◌≡◌, ◌≢◌, ℕ, ℤ, ◌+◌, ◌≤◌, true, false, Bool, Option, Some, None, IsSome, List, [], ◌∷◌, length, drop, refl, sym, ap, subst, ◌∙◌, arith, inr}
 use Rattle.ts_row.specs.RowType.{Heading, has_long_decimal}
+use Rattle.std.specs.Option.{option_and_then}
 use Rattle.ts_row.specs.Element.{Element, has_hidden}
 use Rattle.ts_page.specs.Head.{bytes_at}
 use Rattle.ts_page.specs.Pages.{EqualPages, with_page}
 use Rattle.ts_space.specs.Directory.{Directory}
-use Rattle.ts_cells.specs.IrregularPage.{IsIrregularPage}
+use Rattle.ts_offset.specs.declared.shape.Shape.{Shape}
 use Rattle.ts_model.specs.declared.format.TheConstants.{OLD_FORMAT, FORMAT}
 use Rattle.ts_model.specs.declared.kind.Kind.{Kind}
 use Rattle.ts_model.specs.declared.kind.Kind.TheVariants as kinds
 use Rattle.ts_model.specs.declared.def.Def.{Def}
 use Rattle.ts_model.specs.declared.def.Def.TheVariants as defs
-use Rattle.ts_model.specs.Definitions.{Definitions, with_format, references, IsDefinitions}
+use Rattle.ts_model.specs.Definitions.{Definitions, SeriesDef, at_slot, with_format, references, IsDefinitions}
 use Rattle.ts_layout.specs.Slot.{header_bytes, slot_size, slot_bytes, page_of_slot, byte_of_slot, slots_in_page, bytes_of_slots}
 use Rattle.ts_layout.specs.Limits.{IsOfFormat, AreOfFormat, IsDef, IsSlotOf}
-use Rattle.ts_layout.specs.Meaning.{Layout, ElementPage, Free, Cells, element_page, def_at, heading_at, HoldsElements, HoldsLayout, KeepLimits, IsThere, AreSound, IsSound}
+use Rattle.ts_layout.specs.Meaning.{Layout, ElementPage, Free, Cells, element_page, def_at, heading_at, shape_of, shape_at, HoldsElements, HoldsLayout, KeepLimits, IsThere, AreSound, IsSound}
+use Rattle.ts_layout.specs.Sheets.{Sheet, HoldsSheet}
 use Rattle.ts_layout.specs.Changed.{layout_in}
 use Rattle.ts_layout.specs.Chains.{AreFilled}
 use Rattle.ts_layout.specs.Placed.{AreKept}
@@ -55,6 +57,13 @@ def_same kinds.Calendar slot format d = refl
 def_same kinds.Container slot format d = refl
 def_same kinds.Series slot format d = refl
 
+shape_of_same : (format : ℕ) (d : Definitions) (regular : Option (ℕ × ℤ)) → shape_of (with_format format d) regular ≡ shape_of d regular
+shape_of_same format d None = refl
+shape_of_same format d (Some regular) = refl
+
+shape_same : (format : ℕ) (d : Definitions) (slot : ℕ) → shape_at (with_format format d) slot ≡ shape_at d slot
+shape_same format d slot = λ i. option_and_then (λ (s : SeriesDef). shape_of_same format d s.regular i) (at_slot slot d.series)
+
 there_same : (format : ℕ) (d : Definitions) (targets : List (Kind × ℕ)) → IsThere d targets → IsThere (with_format format d) targets
 there_same format d [] there = tt
 there_same format d (target ∷ rest) there = (subst (λ (o : Option Def). IsSome o) (sym (def_same target.0 target.1 format d)) there.0, there_same format d rest there.1)
@@ -64,7 +73,7 @@ def_renewed format (defs.RowType name h) is = record { name = is.name; stamp = i
 def_renewed format (defs.Pattern name pattern) is = is
 def_renewed format (defs.Calendar name calendar by) is = is
 def_renewed format (defs.Container name row_type quota) is = is
-def_renewed format (defs.Series key container) is = is
+def_renewed format (defs.Series key container regular) is = is
 
 slot_renewed : (format : ℕ) (kind : Kind) (o : Option Def) → IsSlotOf format kind o → IsSlotOf FORMAT kind o
 slot_renewed format kind None is = tt
@@ -85,13 +94,14 @@ limits_renewed d limits = record {
   each = λ kind slot within. subst (IsSlotOf FORMAT kind) (sym (def_same kind slot FORMAT d)) (slot_renewed d.format kind (def_at kind slot d) (limits.each kind slot within));
 }
 
--- a page has one list of elements, in whichever format
-pub one_list : (d : Definitions) (page : List ℕ) (s t : ℕ) (h g : Heading) (es fs : List Element) → KeepLimits d → IsDefinitions d → heading_at d s ≡ Some h → heading_at d t ≡ Some g
-    → IsIrregularPage s h.columns es page → IsIrregularPage t g.columns fs page → es ≡ fs
-one_list d page s t h g es fs limits rules there there' is is' =
-    (same_cells s t es fs
-    (same_page (with_format FORMAT d) page (Cells s es) (Cells t fs) (limits_renewed d limits) (tables_renewed d rules)
-    (h, there, is, elements_of_new FORMAT es not_old) (g, there', is', elements_of_new FORMAT fs not_old))).1
+-- a page has one sheet, in whichever format
+pub one_held : (d : Definitions) (page : List ℕ) (s t : ℕ) (h g : Heading) (one other : Shape) (a b : Sheet) → KeepLimits d → IsDefinitions d → heading_at d s ≡ Some h → heading_at d t ≡ Some g → shape_at d s ≡ Some one → shape_at d t ≡ Some other
+    → HoldsSheet one s h.columns a page → HoldsSheet other t g.columns b page → (s ≡ t) × (a ≡ b)
+one_held d page s t h g one other a b limits rules there there' lies lies' is is' =
+    same_cells s t a b
+    (same_page (with_format FORMAT d) page (Cells s a) (Cells t b) (limits_renewed d limits) (tables_renewed d rules)
+    (record { heading = h; shape = one; columns = there; lies = shape_same FORMAT d s ∙ lies; bytes = is; of_format = elements_of_new FORMAT a.1 not_old })
+    (record { heading = g; shape = other; columns = there'; lies = shape_same FORMAT d t ∙ lies'; bytes = is'; of_format = elements_of_new FORMAT b.1 not_old }))
 
 pub rules_renewed : (pages : ℕ) (d : Definitions) → AreSound pages d → AreSound pages (with_format FORMAT d)
 rules_renewed pages d sound = record {
@@ -102,6 +112,7 @@ rules_renewed pages d sound = record {
   follow = sound.follow;
   valid = sound.valid;
   quotas = sound.quotas;
+  origins = sound.origins;
 }
 
 pub sound_renewed : (l : Layout) → IsSound l → IsSound (layout_in FORMAT l)
@@ -109,14 +120,21 @@ sound_renewed l sound = record {
   some = sound.some;
   most = sound.most;
   definitions = rules_renewed (length l.element_pages) l.definitions sound.definitions;
-  chains = sound.chains;
+  sequences = λ slot h shape heading lies. sound.sequences slot h shape heading (sym (shape_same FORMAT l.definitions slot) ∙ lies);
   charges = sound.charges;
 }
 
 pub filled_renewed : (l : Layout) → AreFilled l → AreFilled (layout_in FORMAT l)
-filled_renewed l filled i slot es is =
-    let fill = filled i slot es is in
-    (fill.0, fill.1, fill.2, elements_of_new FORMAT es not_old)
+filled_renewed l filled i slot sheet is =
+    let fill = filled i slot sheet is in
+    record {
+      heading = fill.heading;
+      shape = fill.shape;
+      columns = fill.columns;
+      lies = shape_same FORMAT l.definitions slot ∙ fill.lies;
+      fill = fill.fill;
+      of_format = elements_of_new FORMAT sheet.1 not_old;
+    }
 
 pub kept_renewed : (d : Definitions) (space : Directory) (free : List ℕ) (count : ℕ) → AreKept d space free count → AreKept (with_format FORMAT d) space free count
 kept_renewed d space free count kept = record {
@@ -128,7 +146,16 @@ kept_renewed d space free count kept = record {
     rising = kept.placed.rising;
     places = λ slot within k e inside.
         let one = kept.placed.places slot within k e inside in
-        record { element = one.element; below = one.below; some = one.some; heading = one.heading; columns = one.columns; room = one.room };
+        record {
+          element = one.element;
+          below = one.below;
+          some = one.some;
+          heading = one.heading;
+          shape = one.shape;
+          columns = one.columns;
+          lies = shape_same FORMAT d slot ∙ one.lies;
+          room = one.room;
+        };
     numbers = kept.placed.numbers;
     different = kept.placed.different;
     all = kept.placed.all;
@@ -139,7 +166,14 @@ kept_renewed d space free count kept = record {
 -- the bytes: the header alone changes
 holds_renewed : (d : Definitions) (page : List ℕ) (e : ElementPage) → HoldsElements d page e → HoldsElements (with_format FORMAT d) page e
 holds_renewed d page Free holds = holds
-holds_renewed d page (Cells slot es) holds = (holds.0, holds.1, holds.2, elements_of_new FORMAT es not_old)
+holds_renewed d page (Cells slot sheet) holds = record {
+  heading = holds.heading;
+  shape = holds.shape;
+  columns = holds.columns;
+  lies = shape_same FORMAT d slot ∙ holds.lies;
+  bytes = holds.bytes;
+  of_format = elements_of_new FORMAT sheet.1 not_old;
+}
 
 above_first : (n : ℕ) → 257 ≤ n → n ≢ 0
 above_first n low is = omega (arith, low, is)

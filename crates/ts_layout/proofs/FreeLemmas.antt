@@ -8,10 +8,10 @@ use Rattle.std.proofs.lemmas.List.Sorted.{IsPermutation-sym, length_permutation}
 use Rattle.ts_row.specs.RowType.{Heading}
 use Rattle.ts_space.specs.declared.place.Place.{Place}
 use Rattle.ts_space.specs.Directory.{Directory, places_of, used_of}
-use Rattle.ts_cells.specs.Cell.{Element}
 use Rattle.ts_model.specs.Definitions.{Definitions, IsDefinitions}
+use Rattle.ts_layout.specs.Sheets.{Sheet, place_of_sheet}
 use Rattle.ts_layout.specs.Meaning.{ElementPage, Free, Cells, Layout, element_page, heading_at}
-use Rattle.ts_layout.specs.Surveyed.{place_of, places_on, places_from, free_from, free_pages, ListsPlaces}
+use Rattle.ts_layout.specs.Surveyed.{places_on, places_from, free_from, free_pages, ListsPlaces}
 use Rattle.ts_layout.specs.Chains.{AreFilled}
 use Rattle.ts_layout.proofs.LayoutLemmas.{none≢some}
 use Rattle.ts_layout.proofs.LimitLemmas.{heading_past}
@@ -64,28 +64,27 @@ lists_sum f first (p ∷ lists) each =
     sum_by-cons length p lists ∙ (λ i. here i + rest i)
 
 -- one page of elements is one place
-own_place : (s number : ℕ) (es : List Element) → 1 ≤ length es → length (places_on s number (Cells s es)) ≡ 1
-own_place s number [] some = absurd (omega arith)
-own_place s number (e ∷ es) some = let t : (s == s) ≡ true = grind (arith, nat_tests) in ap (λ (b : Bool). length (if b then place_of number (e ∷ es) else [])) t
+own_place : (s number : ℕ) (sheet : Sheet) → length (places_on s number (Cells s sheet)) ≡ 1
+own_place s number sheet = let t : (s == s) ≡ true = grind (arith, nat_tests) in ap (λ (b : Bool). length (if b then place_of_sheet number sheet ∷ [] else [])) t
 
-other_place : (s k number : ℕ) (es : List Element) → k ≢ s → length (places_on k number (Cells s es)) ≡ 0
-other_place s k number es other = let f : (s == k) ≡ false = grind (arith, nat_tests) in ap (λ (b : Bool). length (if b then place_of number es else [])) f
+other_place : (s k number : ℕ) (sheet : Sheet) → k ≢ s → length (places_on k number (Cells s sheet)) ≡ 0
+other_place s k number sheet other = let f : (s == k) ≡ false = grind (arith, nat_tests) in ap (λ (b : Bool). length (if b then place_of_sheet number sheet ∷ [] else [])) f
 
-free_and_used : (slots first : ℕ) (pages : List ElementPage) → ((i s : ℕ) (es : List Element) → element_page i pages ≡ Cells s es → (s < slots) × (1 ≤ length es)) → length (free_from first pages) + sum_to (λ k. length (places_from k first pages)) 0 slots ≡ length pages
+free_and_used : (slots first : ℕ) (pages : List ElementPage) → ((i s : ℕ) (sheet : Sheet) → element_page i pages ≡ Cells s sheet → s < slots) → length (free_from first pages) + sum_to (λ k. length (places_from k first pages)) 0 slots ≡ length pages
 free_and_used slots first [] each = zero-add (sum_to (λ k. 0) 0 slots) ∙ to_none (λ k. 0) 0 slots (λ k above. refl)
 free_and_used slots first (Free ∷ pages) each =
-    let rest = free_and_used slots (suc first) pages (λ i s es is. each (suc i) s es is) in
+    let rest = free_and_used slots (suc first) pages (λ i s sheet is. each (suc i) s sheet is) in
     let more : (n m k : ℕ) → n + m ≡ k → suc n + m ≡ suc k = λ n m k is. omega (arith, is) in
     more (length (free_from (suc first) pages)) (sum_to (λ k. length (places_from k (suc first) pages)) 0 slots) (length pages) rest
-free_and_used slots first (Cells s es ∷ pages) each =
-    let rest = free_and_used slots (suc first) pages (λ i t fs is. each (suc i) t fs is) in
-    let own = each 0 s es refl in
-    let one : sum_to (λ k. length (places_on k first (Cells s es))) 0 slots ≡ 1 =
-    to_one (λ k. length (places_on k first (Cells s es))) 0 slots s (omega arith) (omega (arith, own.0)) (own_place s first es own.1) (λ k other. other_place s k first es other) in
-    let split : sum_to (λ k. length (places_from k first (Cells s es ∷ pages))) 0 slots
-    ≡ sum_to (λ k. length (places_on k first (Cells s es))) 0 slots + sum_to (λ k. length (places_from k (suc first) pages)) 0 slots =
-    (λ i. sum_to (λ k. length-append (places_on k first (Cells s es)) (places_from k (suc first) pages) i) 0 slots)
-    ∙ to_add (λ k. length (places_on k first (Cells s es))) (λ k. length (places_from k (suc first) pages)) 0 slots in
+free_and_used slots first (Cells s sheet ∷ pages) each =
+    let rest = free_and_used slots (suc first) pages (λ i t other is. each (suc i) t other is) in
+    let own = each 0 s sheet refl in
+    let one : sum_to (λ k. length (places_on k first (Cells s sheet))) 0 slots ≡ 1 =
+    to_one (λ k. length (places_on k first (Cells s sheet))) 0 slots s (omega arith) (omega (arith, own)) (own_place s first sheet) (λ k other. other_place s k first sheet other) in
+    let split : sum_to (λ k. length (places_from k first (Cells s sheet ∷ pages))) 0 slots
+    ≡ sum_to (λ k. length (places_on k first (Cells s sheet))) 0 slots + sum_to (λ k. length (places_from k (suc first) pages)) 0 slots =
+    (λ i. sum_to (λ k. length-append (places_on k first (Cells s sheet)) (places_from k (suc first) pages) i) 0 slots)
+    ∙ to_add (λ k. length (places_on k first (Cells s sheet))) (λ k. length (places_from k (suc first) pages)) 0 slots in
     omega (arith, rest, one, split)
 
 -- the slot of a series with columns is one of the table
@@ -102,7 +101,7 @@ free_counted l space rules filled lists size =
     lists_sum (λ k. length (places_from k 930 l.element_pages)) 0 space.lists (λ j within.
     let at : j ≡ 0 + j = omega arith in
     length_permutation (places_from j 930 l.element_pages) (places_of j space) (IsPermutation-sym (places_of j space) (places_from j 930 l.element_pages) (lists j (omega (arith, within, size))).all) ∙ ap (λ (k : ℕ). length (places_from k 930 l.element_pages)) at) in
-    let both = free_and_used (length space.lists) 930 l.element_pages (λ i s es is.
-    let fill = filled i s es is in
-    (let z = filled_within l.definitions s fill.0 rules fill.1 in omega (arith, z, size), fill.2.some)) in
+    let both = free_and_used (length space.lists) 930 l.element_pages (λ i s sheet is.
+    let fill = filled i s sheet is in
+    let z = filled_within l.definitions s fill.heading rules fill.columns in omega (arith, z, size)) in
     ap (λ (n : ℕ). length (free_pages l) + n) used ∙ both

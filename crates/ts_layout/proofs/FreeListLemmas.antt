@@ -11,7 +11,7 @@ free_at first [] k d within = absurd (omega (arith, within))
 free_at first (Free ∷ es) zero d within = (0, omega arith, omega arith, refl)
 free_at first (Free ∷ es) (suc k) d within =
     let found = free_at (suc first) es k d (omega (arith, within)) in (suc found.0, omega (arith, found.1), omega (arith, found.2), found.3)
-free_at first (Cells slot fs ∷ es) k d within =
+free_at first (Cells slot sheet ∷ es) k d within =
     let found = free_at (suc first) es k d within in (suc found.0, omega (arith, found.1), omega (arith, found.2), found.3)
 
 -- no page stands twice among the free ones
@@ -19,4 +19,4 @@ pub free_different : (first : ℕ) (es : List ElementPage) → AllPairs (λ a b.
 free_different first [] = λ i j d before within. absurd (omega (arith, within))
 free_different first (Free ∷ es) =
     AllPairs-cons (λ a b. a ≢ b) first (free_from (suc first) es) (λ k d within same. let found = free_at (suc first) es k d within in absurd (omega (arith, same, found.2))) (free_different (suc first) es)
-free_different first (Cells slot fs ∷ es) = free_different (suc first) es
+free_different first (Cells slot sheet ∷ es) = free_different (suc first) es

@@ -37,7 +37,7 @@ free_and_own d space count free l slot held within =
     let all : List ℕ = free_from 930 (map (freed slot) l.element_pages) in
     let were : List ℕ = free_from 930 l.element_pages in
     let own : List ℕ = numbers_in (pairs_from slot 930 l.element_pages) in
-    let numbers = place_numbers slot (places_of slot space) l.element_pages (held.places slot within) (λ i es is. (held.filled i slot es is).2.some) in
+    let numbers = place_numbers slot (places_of slot space) l.element_pages (held.places slot within) in
     IsPermutation-trans (free ++ pages_of (places_of slot space)) (were ++ own) all (IsPermutation-append free were (pages_of (places_of slot space)) own held.free numbers)
     (IsPermutation-trans (were ++ own) (own ++ were) all (IsPermutation-append_comm were own) (IsPermutation-sym all (own ++ were) (free_freed slot 930 l.element_pages)))
 

@@ -1,56 +1,30 @@
 -- Pages hold one layout, and the bytes behind the head of a free page are no part of it.
-use Rattle.std.proofs.Common.{◌≡◌, ◌≢◌, ℕ, suc, ◌+◌, ◌*◌, ◌<◌, ◌≤◌, true, Option, Some, None, List, [], ◌∷◌, length, take, drop, refl, sym, ap, subst, ◌∙◌, arith, inl, inr, ◌⊎◌}
-use Rattle.std.specs.Option.{option_map, option_and_then}
+use Rattle.std.proofs.Common.{◌≡◌, ◌≢◌, ℕ, suc, ◌+◌, ◌<◌, ◌≤◌, true, Option, Some, None, List, [], ◌∷◌, length, drop, refl, sym, ap, subst, ◌∙◌, arith, inl, inr, ◌⊎◌}
+use Rattle.std.specs.Option.{option_map}
 use Rattle.std.proofs.lemmas.Bool.Decides.{nat_tests}
-use Rattle.std.proofs.lemmas.Bool.{cases_lt}
-use Rattle.std.proofs.lemmas.List.{get_or_past}
 use Rattle.ts_row.specs.RowType.{Heading, is_row_type}
 use Rattle.ts_row.specs.declared.kind.Column.{Column}
 use Rattle.ts_row.proofs.RowBytesLemmas.{valid}
-use Rattle.ts_page.specs.Head.{bytes_at}
-use Rattle.ts_page.specs.Pages.{IsElementPage, HasFreeHead, EqualPages, with_page}
+use Rattle.ts_page.specs.Head.{bytes_at, head_of}
+use Rattle.ts_page.specs.Pages.{IsFreePage, IsElementPage, HasFreeHead, EqualPages, with_page}
 use Rattle.ts_page.proofs.PagesLemmas.{free_headed, with_other}
-use Rattle.ts_cells.specs.Cell.{Element, cell_size}
-use Rattle.ts_cells.specs.IrregularPage.{IsIrregularPage, cells_bytes, behind_head}
-use Rattle.ts_cells.proofs.HeadLemmas.{irregular_behind, front_cells}
-use Rattle.ts_cells.proofs.PageLemmas.{same_cells}
+use Rattle.ts_offset.specs.declared.shape.Shape.{Shape}
 use Rattle.ts_model.specs.declared.kind.Kind.{Kind}
 use Rattle.ts_model.specs.declared.kind.Kind.TheVariants as kinds
 use Rattle.ts_model.specs.declared.def.Def.{Def}
 use Rattle.ts_model.specs.Catalogue.{Catalogue}
 use Rattle.ts_model.specs.Definitions.{Definitions, RowTypeDef, ContainerDef, SeriesDef, of_row_type, of_series, at_slot, limit, IsDefinitions}
 use Rattle.ts_layout.specs.Limits.{IsSlotOf, AreOfFormat}
+use Rattle.ts_layout.specs.Sheets.{Sheet, HoldsSheet}
 use Rattle.ts_layout.specs.Slot.{slot_size, page_of_slot, byte_of_slot, slots_in_page, bytes_of_slots, header_bytes}
-use Rattle.ts_layout.specs.Meaning.{Layout, ElementPage, Free, Cells, element_page, def_at, heading_of_container, heading_in, heading_at, HoldsDefinitions, HoldsElements, HoldsLayout, KeepLimits, IsLaidOut, Means, catalogue_of}
-use Rattle.ts_layout.specs.Changed.{SameOutsideJournal, KeepsHeadings, HasNoPage}
+use Rattle.ts_layout.specs.Meaning.{Layout, ElementPage, Free, Cells, element_page, def_at, heading_of_container, heading_in, heading_at, shape_at, HoldsDefinitions, HoldsSeries, HoldsElements, HoldsLayout, KeepLimits, IsLaidOut, Means, catalogue_of}
+use Rattle.ts_layout.specs.Changed.{SameOutsideJournal, KeepsElements, HasNoPage}
+pub use Rattle.ts_layout.proofs.OptionLemmas.{none≢some, one_of, chained, mapped, within_table}
 use Rattle.ts_layout.proofs.ElementPageLemmas.{within_list}
 use Rattle.ts_layout.proofs.FieldLemmas.{header_format}
-use Rattle.ts_layout.proofs.ShapeLemmas.{alike}
+use Rattle.ts_layout.proofs.OnePageLemmas.{slot_in, slot_told, free_or_sheet, one_sheet}
 use Rattle.ts_layout.proofs.UniqueLemmas.{AreInPages, unique}
 use Rattle.ts_layout.proofs.PlaceLemmas.{at_slot-map, page_low, page_high}
-
-pub none≢some : {A : Type 0} (o : Option A) (a : A) → o ≡ None → o ≡ Some a → ⊥
-none≢some o a none some = cc
-
-pub one_of : {A : Type 0} (o : Option A) (a b : A) → o ≡ Some a → o ≡ Some b → a ≡ b
-one_of o a b first second = cc
-
--- a filled slot is one of the table's
-pub within_table : {A : Type 0} (table : List (Option A)) (i : ℕ) (a : A) → at_slot i table ≡ Some a → i < length table
-within_table table i a here =
-    elim (cases_lt i (length table)) [
-      | inl low ↦ low
-      | inr high ↦ absurd (none≢some (at_slot i table) a (get_or_past table i None high) here)
-    ]
-
--- what a value is made from that is there
-pub chained : {A B : Type 0} (f : A → Option B) (o : Option A) (b : B) → option_and_then f o ≡ Some b → (a : A) × (o ≡ Some a) × (f a ≡ Some b)
-chained f None b is = absurd (cc)
-chained f (Some a) b is = (a, refl, is)
-
-pub mapped : {A B : Type 0} (f : A → B) (o : Option A) (b : B) → option_map f o ≡ Some b → (a : A) × (o ≡ Some a) × (f a ≡ b)
-mapped f None b is = absurd (cc)
-mapped f (Some a) b is = (a, refl, cc)
 
 -- the row type of a series that has one
 pub record RowTypeOf (d : Definitions) (slot : ℕ) (h : Heading) : Type 0 where
@@ -82,28 +56,24 @@ columns_valid d slot h limits rules is =
     let good = (let P : Option Def → Type 0 = IsSlotOf d.format kinds.RowType in subst P there (limits.each kinds.RowType row.container.row_type within)).1.rules in
     subst (λ (x : Heading). valid x.columns) row.heading (row_type_columns r.heading.stamp r.heading.columns good)
 
--- a page of one series has one list of elements
-one_page : (slot : ℕ) (columns : List Column) (es fs : List Element) (page : List ℕ) → valid columns → length es ≡ length fs → IsIrregularPage slot columns es page → IsIrregularPage slot columns fs page → es ≡ fs
-one_page slot columns es fs page kinds long first second =
-    let behind : behind_head columns es ≡ behind_head columns fs =
-    sym (irregular_behind slot columns es) ∙ ap (drop 32) (sym first.bytes ∙ second.bytes) ∙ irregular_behind slot columns fs in
-    let cells : cells_bytes columns es ≡ cells_bytes columns fs =
-    sym (front_cells columns es (length fs) first.fill.elements.each long) ∙ ap (take (cell_size columns * length fs)) behind ∙ front_cells columns fs (length fs) second.fill.elements.each refl in
-    same_cells columns es fs kinds first.fill.elements.each second.fill.elements.each long cells
-
 -- a page holds one thing
+free_or_cells : (d : Definitions) (page : List ℕ) (slot : ℕ) (sheet : Sheet) → IsFreePage page → HoldsSeries d page slot sheet → ⊥
+free_or_cells d page slot sheet free holds = free_or_sheet holds.shape slot holds.heading.columns sheet page free holds.bytes
+
 pub same_page : (d : Definitions) (page : List ℕ) (e f : ElementPage) → KeepLimits d → IsDefinitions d → HoldsElements d page e → HoldsElements d page f → e ≡ f
 same_page d page Free Free limits rules first second = refl
-same_page d page Free (Cells t fs) limits rules first second = absurd (alike d page Free (Cells t fs) first second)
-same_page d page (Cells s es) Free limits rules first second = absurd (alike d page (Cells s es) Free first second)
-same_page d page (Cells s es) (Cells t fs) limits rules first second =
-    let like = alike d page (Cells s es) (Cells t fs) first second in
-    let columns : List Column = first.0.columns in
-    let there : heading_at d s ≡ Some second.0 = ap (heading_at d) like.0 ∙ second.1 in
-    let headings : second.0 ≡ first.0 = one_of (heading_at d s) second.0 first.0 there first.1 in
-    let other : IsIrregularPage s columns fs page = subst (λ (x : Heading). IsIrregularPage s x.columns fs page) headings (subst (λ (n : ℕ). IsIrregularPage n second.0.columns fs page) (sym like.0) second.2) in
-    let elements : es ≡ fs = one_page s columns es fs page (columns_valid d s first.0 limits rules first.1) like.1 first.2 other in
-    λ i. Cells (like.0 i) (elements i)
+same_page d page Free (Cells t b) limits rules first second = absurd (free_or_cells d page t b first second)
+same_page d page (Cells s a) Free limits rules first second = absurd (free_or_cells d page s a second first)
+same_page d page (Cells s a) (Cells t b) limits rules first second =
+    let columns : List Column = first.heading.columns in
+    let slots : s ≡ t = one_of (slot_in (head_of page)) s t (slot_told first.shape s columns a page first.bytes) (slot_told second.shape t second.heading.columns b page second.bytes) in
+    let there : HoldsSeries d page s b = subst (λ (n : ℕ). HoldsSeries d page n b) (sym slots) second in
+    let headings : there.heading ≡ first.heading = one_of (heading_at d s) there.heading first.heading there.columns first.columns in
+    let shapes : there.shape ≡ first.shape = one_of (shape_at d s) there.shape first.shape there.lies first.lies in
+    let other : HoldsSheet first.shape s columns b page =
+    subst (λ (x : Heading). HoldsSheet first.shape s x.columns b page) headings (subst (λ (x : Shape). HoldsSheet x s there.heading.columns b page) shapes there.bytes) in
+    let sheets : a ≡ b = one_sheet first.shape s columns a b page (columns_valid d s first.heading limits rules first.columns) first.bytes other in
+    λ i. Cells (slots i) (sheets i)
 
 -- lists of pages that are the same page by page
 pub same_pages : (es fs : List ElementPage) → length es ≡ length fs → ((i : ℕ) → i < length es → element_page i es ≡ element_page i fs) → es ≡ fs
@@ -149,15 +119,15 @@ same_catalogue count pages a b first second =
     first.2 ∙ ap catalogue_of (same_layout count pages first.0 second.0 first.1 second.1) ∙ sym second.2
 
 -- a page of elements has no free head
-free_or_cells : (d : Definitions) (page : List ℕ) (e : ElementPage) → HasFreeHead page → HoldsElements d page e → e ≡ Free
-free_or_cells d page Free free holds = refl
-free_or_cells d page (Cells slot es) free holds = absurd (alike d page Free (Cells slot es) (free_headed page free) holds)
+freed_is : (d : Definitions) (page : List ℕ) (e : ElementPage) → HasFreeHead page → HoldsElements d page e → e ≡ Free
+freed_is d page Free free holds = refl
+freed_is d page (Cells slot sheet) free holds = absurd (free_or_cells d page slot sheet (free_headed page free) holds)
 
 -- what a free page holds, so does another
 element_stays : (d : Definitions) (wanted page : List ℕ) (e : ElementPage) (number : ℕ) → (page ≡ wanted) ⊎ (IsElementPage number × HasFreeHead wanted × HasFreeHead page) → HoldsElements d wanted e → HoldsElements d page e
 element_stays d wanted page e number (inl same) holds = subst (λ (p : List ℕ). HoldsElements d p e) (sym same) holds
 element_stays d wanted page e number (inr freed) holds =
-    subst (HoldsElements d page) (sym (free_or_cells d wanted e freed.1 holds)) (free_headed page freed.2)
+    subst (HoldsElements d page) (sym (freed_is d wanted e freed.1 holds)) (free_headed page freed.2)
 
 below_elements : (number : ℕ) (wanted page : List ℕ) → number < 930 → (page ≡ wanted) ⊎ (IsElementPage number × HasFreeHead wanted × HasFreeHead page) → page ≡ wanted
 below_elements number wanted page low (inl same) = same
@@ -178,15 +148,23 @@ layout_stays wanted pages l same holds =
           element_stays l.definitions (wanted (930 + i)) (pages (930 + i)) (element_page i l.element_pages) (930 + i) (same (930 + i) (inr (omega arith))) (holds.elements i within);
     }
 
--- a page holds the same by definitions of the same format with the same columns
-by_heading : (d e : Definitions) (page : List ℕ) (p : ElementPage) → e.format ≡ d.format → ((slot : ℕ) (es : List Element) → p ≡ Cells slot es → heading_at e slot ≡ heading_at d slot) → HoldsElements d page p → HoldsElements e page p
-by_heading d e page Free format same holds = holds
-by_heading d e page (Cells slot es) format same holds = (holds.0, same slot es refl ∙ holds.1, holds.2, subst (λ (n : ℕ). AreOfFormat n es) (sym format) holds.3)
+-- a page holds the same by definitions of the same format where the columns and the shape of its series are the same
+by_elements : (d e : Definitions) (page : List ℕ) (p : ElementPage) → e.format ≡ d.format → ((slot : ℕ) (sheet : Sheet) → p ≡ Cells slot sheet → heading_at e slot ≡ heading_at d slot)
+    → ((slot : ℕ) (sheet : Sheet) → p ≡ Cells slot sheet → shape_at e slot ≡ shape_at d slot) → HoldsElements d page p → HoldsElements e page p
+by_elements d e page Free format headings shapes holds = holds
+by_elements d e page (Cells slot sheet) format headings shapes holds = record {
+  heading = holds.heading;
+  shape = holds.shape;
+  columns = headings slot sheet refl ∙ holds.columns;
+  lies = shapes slot sheet refl ∙ holds.lies;
+  bytes = holds.bytes;
+  of_format = subst (λ (n : ℕ). AreOfFormat n sheet.1) (sym format) holds.of_format;
+}
 
 -- a slot is written: the header and the element pages stay
-pub layout_written : (kind : Kind) (slot : ℕ) (bytes : List ℕ) (v w : ℕ → List ℕ) (d : Definitions) (l : Layout) → d.format ≡ l.definitions.format → slot < limit kind → HoldsLayout v l → EqualPages (with_page (page_of_slot kind slot) bytes v) w → HoldsDefinitions w d → KeepsHeadings d l
+pub layout_written : (kind : Kind) (slot : ℕ) (bytes : List ℕ) (v w : ℕ → List ℕ) (d : Definitions) (l : Layout) → d.format ≡ l.definitions.format → slot < limit kind → HoldsLayout v l → EqualPages (with_page (page_of_slot kind slot) bytes v) w → HoldsDefinitions w d → KeepsElements d l
     → HoldsLayout w (record l { definitions = d })
-layout_written kind slot bytes v w d l format within holds written definitions headings =
+layout_written kind slot bytes v w d l format within holds written definitions keeps =
     let number : ℕ = page_of_slot kind slot in
     let low = page_low kind slot in
     let high = page_high kind slot within in
@@ -197,13 +175,13 @@ layout_written kind slot bytes v w d l format within holds written definitions h
       elements = λ i inside.
           let page : w (930 + i) ≡ v (930 + i) = stays (930 + i) (λ same. absurd (omega (arith, high, same))) in
           subst (λ (p : List ℕ). HoldsElements d p (element_page i l.element_pages)) (sym page)
-          (by_heading l.definitions d (v (930 + i)) (element_page i l.element_pages) format (λ s es is. headings i s es is) (holds.elements i inside));
+          (by_elements l.definitions d (v (930 + i)) (element_page i l.element_pages) format (keeps.headings i) (keeps.shapes i) (holds.elements i inside));
     }
 
 -- a slot without a series has no page
 pub no_page_held : (pages : ℕ → List ℕ) (slot : ℕ) (l : Layout) → HoldsLayout pages l → def_at kinds.Series slot l.definitions ≡ None → HasNoPage slot l.element_pages
-no_page_held pages slot l holds empty i es is =
-    let within : i < length l.element_pages = within_list l.element_pages i slot es is in
-    let page : HoldsElements l.definitions (pages (930 + i)) (Cells slot es) = subst (HoldsElements l.definitions (pages (930 + i))) is (holds.elements i within) in
-    let row = row_type_of l.definitions slot page.0 page.1 in
+no_page_held pages slot l holds empty i sheet is =
+    let within : i < length l.element_pages = within_list l.element_pages i slot sheet is in
+    let page : HoldsElements l.definitions (pages (930 + i)) (Cells slot sheet) = subst (HoldsElements l.definitions (pages (930 + i))) is (holds.elements i within) in
+    let row = row_type_of l.definitions slot page.heading page.columns in
     none≢some (def_at kinds.Series slot l.definitions) (of_series row.series) empty (at_slot-map of_series slot l.definitions.series ∙ ap (option_map of_series) row.series_there)

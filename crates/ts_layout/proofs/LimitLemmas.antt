@@ -1,5 +1,5 @@
 -- What follows from the limits of definitions.
-use Rattle.std.proofs.Common.{ℕ, ◌≤◌, List, length, IsTrue, arith, ◌≡◌, ◌<◌, Option, Some, subst, None, sym, ap}
+use Rattle.std.proofs.Common.{ℕ, ℤ, ◌≤◌, List, length, IsTrue, arith, ◌≡◌, ◌<◌, Option, Some, subst, None, sym, ap}
 use Rattle.std.specs.Option.{option_map, option_and_then}
 use Rattle.std.proofs.lemmas.Bool.Decides.{nat_tests}
 use Rattle.std.proofs.lemmas.List.{get_or_past}
@@ -13,8 +13,8 @@ use Rattle.ts_model.specs.Definitions.{kind_of, to_def, from_def, Definitions, K
 use Rattle.ts_model.proofs.PartsLemmas.{back}
 use Rattle.ts_model.specs.declared.kind.Kind.TheVariants as kinds
 use Rattle.ts_model.specs.declared.def.Def.TheVariants as defs
-use Rattle.ts_layout.specs.Limits.{IsRowTypeDef, IsPatternDef, IsCalendarDef, IsDef, IsContainerDef, IsSeriesDef, IsSlotOf}
-use Rattle.ts_layout.specs.Meaning.{def_at, KeepLimits, heading_in, heading_at}
+use Rattle.ts_layout.specs.Limits.{IsRowTypeDef, IsPatternDef, IsCalendarDef, IsDef, IsContainerDef, IsRegularPart, IsSeriesDef, IsSlotOf}
+use Rattle.ts_layout.specs.Meaning.{def_at, KeepLimits, heading_in, heading_at, shape_of, shape_at}
 
 -- a key has at most 64 bytes
 pub length-key : (key : List ℕ) → IsTrue (is_key key) → length key ≤ 64
@@ -39,8 +39,8 @@ calendars_only format P each = only format kinds.Calendar P (λ c. each c.name c
 pub containers_only : (format : ℕ) (P : Def → Type 0) → ((name : List ℕ) (row_type quota : ℕ) → IsContainerDef (record { name = name; row_type = row_type; quota = quota }) → P (defs.Container name row_type quota)) → (def : Def) → kind_of def ≡ kinds.Container → IsDef format def → P def
 containers_only format P each = only format kinds.Container P (λ c. each c.name c.row_type c.quota)
 
-pub series_only : (format : ℕ) (P : Def → Type 0) → ((key : List ℕ) (container : ℕ) → IsSeriesDef (record { key = key; container = container }) → P (defs.Series key container)) → (def : Def) → kind_of def ≡ kinds.Series → IsDef format def → P def
-series_only format P each = only format kinds.Series P (λ s. each s.key s.container)
+pub series_only : (format : ℕ) (P : Def → Type 0) → ((key : List ℕ) (container : ℕ) (regular : Option (ℕ × ℤ)) → IsSeriesDef (record { key = key; container = container; regular = regular }) → P (defs.Series key container regular)) → (def : Def) → kind_of def ≡ kinds.Series → IsDef format def → P def
+series_only format P each = only format kinds.Series P (λ s. each s.key s.container s.regular)
 
 -- the slots that definitions refer to are slots
 pub calendar_limit : (d : Definitions) → KeepLimits d → (slot : ℕ) → slot < 256 → (name : List ℕ) (c : CalendarPlan) (by : ℕ) → def_at kinds.Calendar slot d ≡ Some (defs.Calendar name c (Some by)) → by < 256
@@ -49,9 +49,15 @@ calendar_limit d limits slot within name c by is = (let P : Option Def → Type 
 pub container_limit : (d : Definitions) → KeepLimits d → (slot : ℕ) → slot < 64 → (name : List ℕ) (row_type quota : ℕ) → def_at kinds.Container slot d ≡ Some (defs.Container name row_type quota) → row_type < 64
 container_limit d limits slot within name row_type quota is = (let P : Option Def → Type 0 = IsSlotOf d.format kinds.Container in subst P is (limits.each kinds.Container slot within)).1.row_type
 
-pub series_limit : (d : Definitions) → KeepLimits d → (slot : ℕ) → slot < 4096 → (key : List ℕ) (container : ℕ) → def_at kinds.Series slot d ≡ Some (defs.Series key container) → container < 64
-series_limit d limits slot within key container is = (let P : Option Def → Type 0 = IsSlotOf d.format kinds.Series in subst P is (limits.each kinds.Series slot within)).1.container
+pub series_limit : (d : Definitions) → KeepLimits d → (slot : ℕ) → slot < 4096 → (key : List ℕ) (container : ℕ) (regular : Option (ℕ × ℤ)) → def_at kinds.Series slot d ≡ Some (defs.Series key container regular) → container < 64
+series_limit d limits slot within key container regular is = (let P : Option Def → Type 0 = IsSlotOf d.format kinds.Series in subst P is (limits.each kinds.Series slot within)).1.container
+
+pub regular_limit : (d : Definitions) → KeepLimits d → (slot : ℕ) → slot < 4096 → (key : List ℕ) (container : ℕ) (regular : ℕ × ℤ) → def_at kinds.Series slot d ≡ Some (defs.Series key container (Some regular)) → IsRegularPart regular
+regular_limit d limits slot within key container regular is = (let P : Option Def → Type 0 = IsSlotOf d.format kinds.Series in subst P is (limits.each kinds.Series slot within)).1.regular
 
 -- no series stands past the last slot
 pub heading_past : (d : Definitions) → IsDefinitions d → (slot : ℕ) → 4096 ≤ slot → None ≡ heading_at d slot
 heading_past d rules slot past = ap (option_and_then (λ (s : SeriesDef). heading_in d s.container)) (sym (get_or_past d.series slot None (omega (arith, past, rules.series.size))))
+
+pub shape_past : (d : Definitions) → IsDefinitions d → (slot : ℕ) → 4096 ≤ slot → None ≡ shape_at d slot
+shape_past d rules slot past = ap (option_and_then (λ (s : SeriesDef). shape_of d s.regular)) (sym (get_or_past d.series slot None (omega (arith, past, rules.series.size))))

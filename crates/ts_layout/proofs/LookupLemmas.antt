@@ -1,28 +1,34 @@
 -- What stands in the slots is what the catalogue has under the names, and the other way round.
 use Rattle.std.specs.Prelude.{Contains}
-use Rattle.std.proofs.Common.{◌≡◌, ℕ, zero, suc, ◌<◌, Bool, true, false, Option, Some, None, List, [], ◌∷◌, refl, sym, ap, subst, ◌∙◌, arith}
+use Rattle.std.proofs.Common.{◌≡◌, ℕ, ℤ, zero, suc, ◌<◌, Bool, true, false, Option, Some, None, List, [], ◌∷◌, refl, sym, ap, subst, ◌∙◌, arith, inl, inr, ◌⊎◌}
 use Rattle.std.specs.List.{list_any}
 use Rattle.std.specs.Ordering.{eq_by_cmp}
 use Rattle.std.proofs.lemmas.List.Quantifiers.{position-Some}
-use Rattle.std.specs.Option.{is_none, option_map, option_and_then, unwrap_or}
+use Rattle.std.specs.Option.{IfSome, is_none, option_map, option_and_then, unwrap_or}
 use Rattle.std.specs.FinMap.{get, entries, values, len}
 use Rattle.std.specs.Str.{bytes_eq}
 use Rattle.ts_pattern.specs.Plan.{Plan}
+use Rattle.ts_calendar.specs.Plan.{CalendarPlan}
 use Rattle.ts_calendar.specs.declared.text.PatternPart.TheVariants.{Named as ByName}
+use Rattle.ts_calendar.specs.declared.text.CalendarText.{CalendarText}
+use Rattle.ts_offset.specs.Grid.{GridPlan}
+use Rattle.ts_offset.specs.Walk.{IsOnStart}
+use Rattle.ts_offset.specs.declared.shape.Shape.{Shape}
+use Rattle.ts_offset.specs.declared.shape.Shape.TheVariants as shapes
 use Rattle.ts_model.specs.declared.kind.Kind.{Kind}
 use Rattle.ts_model.specs.declared.kind.Kind.TheVariants as kinds
 use Rattle.ts_model.specs.declared.def.Def.{Def}
-use Rattle.ts_model.specs.Catalogue.{Named, Container, name_cmp, heading_of, quotas, pattern_of, with_plan, calendar_of}
-use Rattle.ts_model.specs.Kinds.{In, named, is_named, is_used}
-use Rattle.ts_model.specs.Definitions.{Definitions, RowTypeDef, PatternDef, CalendarDef, ContainerDef, SeriesDef, KindDef, to_def, table_of, name_in, slots, slot_of, vacant_slot, at_slot, limit, references, pattern_reference, Refers, IsUsed}
+use Rattle.ts_model.specs.Catalogue.{Named, Container, Regular, name_cmp, heading_of, quotas, pattern_of, with_plan, calendar_of, shape_of as shape_named}
+use Rattle.ts_model.specs.Kinds.{In, named, is_named, is_on_calendar, is_used}
+use Rattle.ts_model.specs.Definitions.{Definitions, RowTypeDef, PatternDef, CalendarDef, ContainerDef, SeriesDef, KindDef, to_def, table_of, name_in, slots, slot_of, vacant_slot, at_slot, limit, references, pattern_reference, calendar_reference, Refers, IsUsed}
 use Rattle.ts_model.proofs.OrderLemmas.{eq_ties, ties-refl, ties-same}
 use Rattle.ts_model.proofs.PartsLemmas.{table-rules}
-use Rattle.ts_layout.specs.Meaning.{Layout, def_at, quota_in, sum_of_quotas, heading_of_container, heading_in, heading_at, IsSound, name_at, part_of, text_of, container_of, series_of, value_of, named_in, catalogue_of}
+use Rattle.ts_layout.specs.Meaning.{Layout, def_at, quota_in, sum_of_quotas, heading_of_container, heading_in, heading_at, shape_of, shape_at, IsOnCalendar, IsSound, name_at, part_of, text_of, container_of, kind_in, series_of, value_of, named_in, catalogue_of}
 use Rattle.ts_layout.specs.Lookup.{IsNamedAt}
 use Rattle.ts_layout.proofs.SlotLemmas.{own, sizes}
 use Rattle.ts_layout.proofs.LayoutLemmas.{one_of, within_table}
 use Rattle.ts_layout.proofs.FilledLemmas.{slot_there, slot_here, get_none, got_none, get_slot, got_some}
-use Rattle.ts_layout.proofs.ReferLemmas.{filled_in, some_in, each_there, first_of, calendar_refers, container_refers, series_refers}
+use Rattle.ts_layout.proofs.ReferLemmas.{filled_in, some_in, each_there, first_of, further, calendar_refers, container_refers, series_refers, grid_refers}
 use Rattle.ts_layout.proofs.CountLemmas.{any_values, empty_is, len_full, len_fewer, any_here, any_there, sum_of_values}
 use Rattle.ts_layout.proofs.ValueLemmas.{name_there}
 
@@ -135,6 +141,33 @@ columns_of_series l slot s sound here =
     ap (option_and_then (λ (x : Container). get (catalogue_of l).row_types x.row_type)) c.1.listed ∙ r.1.listed
     ∙ sym (ap (option_and_then (λ (x : SeriesDef). heading_in l.definitions x.container)) here ∙ ap (option_and_then (heading_of_container l.definitions)) c.1.there ∙ ap (option_map (λ (x : RowTypeDef). x.heading)) r.1.there)
 
+-- the calendar of a regular series under the name that its kind gives; its origin is an on start there
+pub grid_found : (l : Layout) (slot at : ℕ) (origin : ℤ) (s : SeriesDef) → IsSound l → at_slot slot l.definitions.series ≡ Some s → s.regular ≡ Some (at, origin)
+    → (name : List ℕ) × (c : CalendarDef) × ((series_of l slot s).kind ≡ Regular name origin) × IsNamedAt kinds.Calendar l at name c × IsOnStart c.calendar origin
+grid_found l slot at origin s sound here is =
+    let c = grid_refers l.definitions sound.definitions.tables sound.definitions.references slot s at origin here is in
+    let name : name_at (λ (x : CalendarDef). x.name) at l.definitions.calendars ≡ c.0.name = ap (λ (o : Option CalendarDef). unwrap_or (option_map (λ (x : CalendarDef). x.name) o) []) c.1 in
+    let begins : IsOnCalendar l.definitions (at, origin) = subst (λ (regular : Option (ℕ × ℤ)). IfSome regular (IsOnCalendar l.definitions)) is (sound.definitions.origins slot s here) in
+    (c.0.name, c.0, ap (kind_in l.definitions) is ∙ ap (λ (n : List ℕ). Regular n origin) name, name_stands kinds.Calendar l at c.0 sound c.1, begins c.0 c.1)
+
+-- where the elements of a series can stand, by its slot and by its kind
+pub shape_found : (l : Layout) (slot : ℕ) (s : SeriesDef) → IsSound l → at_slot slot l.definitions.series ≡ Some s
+    → (shape : Shape) × (shape_at l.definitions slot ≡ Some shape) × (shape_named (catalogue_of l) (series_of l slot s).kind ≡ Some shape)
+shape_found l slot s sound here = of_regular s.regular refl where
+  at_its : (regular : Option (ℕ × ℤ)) → s.regular ≡ regular → shape_at l.definitions slot ≡ shape_of l.definitions regular
+  at_its regular is = ap (option_and_then (λ (x : SeriesDef). shape_of l.definitions x.regular)) here ∙ ap (shape_of l.definitions) is
+
+  of_regular : (regular : Option (ℕ × ℤ)) → s.regular ≡ regular → (shape : Shape) × (shape_at l.definitions slot ≡ Some shape) × (shape_named (catalogue_of l) (series_of l slot s).kind ≡ Some shape)
+  of_regular None is = (shapes.Irregular, at_its None is, ap (λ (r : Option (ℕ × ℤ)). shape_named (catalogue_of l) (kind_in l.definitions r)) is)
+  of_regular (Some (at, origin)) is =
+      let found = grid_found l slot at origin s sound here is in
+      let grid : CalendarPlan → Shape = λ c. shapes.Regular (record { calendar = c; origin = origin }) in
+      let by_slot : shape_of l.definitions (Some (at, origin)) ≡ Some (grid found.1.calendar) =
+      ap (λ (o : Option CalendarDef). option_map shapes.Regular (option_map (λ (c : CalendarDef). let g : GridPlan = record { calendar = c.calendar; origin = origin } in g) o)) found.3.there in
+      let by_name : shape_named (catalogue_of l) (Regular found.0 origin) ≡ Some (grid found.1.calendar) =
+      ap (λ (o : Option CalendarText). option_map grid (option_and_then (calendar_of (catalogue_of l)) o)) found.3.listed ∙ ap (option_map grid) (calendar_stands l at found.1 sound found.3.there) in
+      (grid found.1.calendar, at_its (Some (at, origin)) is ∙ by_slot, ap (shape_named (catalogue_of l)) found.2 ∙ by_name)
+
 -- the quotas
 pub quotas_same : (l : Layout) → IsSound l → sum_of_quotas l.definitions.containers ≡ quotas (catalogue_of l)
 quotas_same l sound =
@@ -240,13 +273,48 @@ containers_tested l = record {
   refers = λ name i c is. (c.row_type, same_place c.row_type kinds.RowType);
 }
 
+-- what a series refers to: its container first, then the calendar if it is regular
+series_place : (container at : ℕ) (regular : Option (ℕ × ℤ)) → (let target : Kind × ℕ = (kinds.Container, at) in Contains ((kinds.Container, container) ∷ calendar_reference regular) target) → container ≡ at
+series_place container at regular (zero, below, is) = ap (λ (t : Kind × ℕ). t.1) is
+series_place container at None (suc k, below, is) = absurd (omega (arith, below))
+series_place container at (Some regular) (suc zero, below, is) = let other : kinds.Calendar ≡ kinds.Container = ap (λ (t : Kind × ℕ). t.0) is in absurd (cc)
+series_place container at (Some regular) (suc (suc k), below, is) = absurd (omega (arith, below))
+
+calendar_place : (container at : ℕ) (regular : Option (ℕ × ℤ)) → (let target : Kind × ℕ = (kinds.Calendar, at) in Contains ((kinds.Container, container) ∷ calendar_reference regular) target) → (let target : Kind × ℕ = (kinds.Calendar, at) in Contains (calendar_reference regular) target)
+calendar_place container at regular (zero, below, is) = let other : kinds.Container ≡ kinds.Calendar = ap (λ (t : Kind × ℕ). t.0) is in absurd (cc)
+calendar_place container at regular (suc k, below, is) = (k, omega (arith, below), is)
+
+series_alone : (kind : Kind) (slot container : ℕ) (regular : Option (ℕ × ℤ)) → (let target : Kind × ℕ = (kind, slot) in Contains ((kinds.Container, container) ∷ calendar_reference regular) target) → (kinds.Container ≡ kind) ⊎ (kinds.Calendar ≡ kind)
+series_alone kind slot container regular (zero, below, is) = inl (ap (λ (t : Kind × ℕ). t.0) is)
+series_alone kind slot container None (suc k, below, is) = absurd (omega (arith, below))
+series_alone kind slot container (Some regular) (suc zero, below, is) = inr (ap (λ (t : Kind × ℕ). t.0) is)
+series_alone kind slot container (Some regular) (suc (suc k), below, is) = absurd (omega (arith, below))
+
 series_tested : (l : Layout) → AreTested l kinds.Series kinds.Container (λ name s. bytes_eq s.container name)
 series_tested l = record {
-  by_slot = λ name i s at refers. ap (λ (n : ℕ). bytes_eq (name_at (λ (c : ContainerDef). c.name) n l.definitions.containers) name) (one_place kinds.Container s.container at refers);
-  refers = λ name i s is. (s.container, same_place s.container kinds.Container);
+  by_slot = λ name i s at refers. ap (λ (n : ℕ). bytes_eq (name_at (λ (c : ContainerDef). c.name) n l.definitions.containers) name) (series_place s.container at s.regular refers);
+  refers = λ name i s is. (s.container, first_of (kinds.Container, s.container) (kinds.Container, s.container) (calendar_reference s.regular) refl);
 }
 
--- a calendar refers to a pattern alone, a container to a row type, a series to a container
+-- and a regular series by the name of its calendar
+kind_by_slot : (d : Definitions) (regular : Option (ℕ × ℤ)) (name : List ℕ) (at : ℕ) → (let target : Kind × ℕ = (kinds.Calendar, at) in Contains (calendar_reference regular) target)
+    → is_on_calendar name (kind_in d regular) ≡ bytes_eq (name_at (λ (c : CalendarDef). c.name) at d.calendars) name
+kind_by_slot d None name at refers = absurd (nothing (kinds.Calendar, at) refers)
+kind_by_slot d (Some regular) name at refers = ap (λ (n : ℕ). bytes_eq (name_at (λ (c : CalendarDef). c.name) n d.calendars) name) (one_place kinds.Calendar regular.0 at refers)
+
+kind_refers : (d : Definitions) (container : ℕ) (regular : Option (ℕ × ℤ)) (name : List ℕ) → is_on_calendar name (kind_in d regular) ≡ true
+    → (at : ℕ) × (let target : Kind × ℕ = (kinds.Calendar, at) in Contains ((kinds.Container, container) ∷ calendar_reference regular) target)
+kind_refers d container None name is = absurd (cc)
+kind_refers d container (Some regular) name is =
+    (regular.0, further (kinds.Container, container) (kinds.Calendar, regular.0) (calendar_reference (Some regular)) (same_place regular.0 kinds.Calendar))
+
+regulars_tested : (l : Layout) → AreTested l kinds.Series kinds.Calendar (λ name s. is_on_calendar name s.kind)
+regulars_tested l = record {
+  by_slot = λ name i s at refers. kind_by_slot l.definitions s.regular name at (calendar_place s.container at s.regular refers);
+  refers = λ name i s is. kind_refers l.definitions s.container s.regular name is;
+}
+
+-- a calendar refers to a pattern alone, a container to a row type
 pattern_alone : (kind : Kind) (slot : ℕ) (by : Option ℕ) → (let target : Kind × ℕ = (kind, slot) in Contains (pattern_reference by) target) → kinds.Pattern ≡ kind
 pattern_alone kind slot None refers = absurd (nothing (kind, slot) refers)
 pattern_alone kind slot (Some at) refers = kind_alone kinds.Pattern kind at slot refers
@@ -263,8 +331,11 @@ used_at kinds.Container kind slot name l sound is i c here refers =
     subst (λ (k : Kind). slot_of name (slots k l.definitions) ≡ Some slot → Refers (to_def kinds.Container c) k slot → is_used k name (catalogue_of l) ≡ true) (kind_alone kinds.RowType kind c.row_type slot refers)
     (λ found there. name_used l sound kinds.Container kinds.RowType (λ n x. bytes_eq x.row_type n) (containers_tested l) slot name found i c here there) is refers
 used_at kinds.Series kind slot name l sound is i s here refers =
-    subst (λ (k : Kind). slot_of name (slots k l.definitions) ≡ Some slot → Refers (to_def kinds.Series s) k slot → is_used k name (catalogue_of l) ≡ true) (kind_alone kinds.Container kind s.container slot refers)
-    (λ found there. name_used l sound kinds.Series kinds.Container (λ n x. bytes_eq x.container n) (series_tested l) slot name found i s here there) is refers
+    let P : Kind → Type 0 = λ k. slot_of name (slots k l.definitions) ≡ Some slot → Refers (to_def kinds.Series s) k slot → is_used k name (catalogue_of l) ≡ true in
+    elim (series_alone kind slot s.container s.regular refers) [
+      | inl container ↦ subst P container (λ found there. name_used l sound kinds.Series kinds.Container (λ n x. bytes_eq x.container n) (series_tested l) slot name found i s here there) is refers
+      | inr calendar ↦ subst P calendar (λ found there. name_used l sound kinds.Series kinds.Calendar (λ n x. is_on_calendar n x.kind) (regulars_tested l) slot name found i s here there) is refers
+    ]
 
 pub used_by_name : (kind : Kind) (slot : ℕ) (name : List ℕ) (l : Layout) → IsSound l → slot_of name (slots kind l.definitions) ≡ Some slot → IsUsed kind slot l.definitions → is_used kind name (catalogue_of l) ≡ true
 used_by_name kind slot name l sound is (user, (i, def, low, here, refers)) =
@@ -275,7 +346,7 @@ used_by_name kind slot name l sound is (user, (i, def, low, here, refers)) =
 pub used_by_slot : (kind : Kind) (slot : ℕ) (name : List ℕ) (l : Layout) → IsSound l → slot_of name (slots kind l.definitions) ≡ Some slot → is_used kind name (catalogue_of l) ≡ true → IsUsed kind slot l.definitions
 used_by_slot kinds.RowType slot name l sound is some = name_user l sound kinds.Container kinds.RowType (λ n x. bytes_eq x.row_type n) (containers_tested l) slot name is some
 used_by_slot kinds.Pattern slot name l sound is some = name_user l sound kinds.Calendar kinds.Pattern (λ n x. is_named n x.part) (calendars_tested l) slot name is some
-used_by_slot kinds.Calendar slot name l sound is some = absurd (cc)
+used_by_slot kinds.Calendar slot name l sound is some = name_user l sound kinds.Series kinds.Calendar (λ n x. is_on_calendar n x.kind) (regulars_tested l) slot name is some
 used_by_slot kinds.Container slot name l sound is some = name_user l sound kinds.Series kinds.Container (λ n x. bytes_eq x.container n) (series_tested l) slot name is some
 used_by_slot kinds.Series slot name l sound is some = absurd (cc)
 

@@ -1,5 +1,5 @@
 -- What a container is charged by its slot, and by its name in the catalogue.
-use Rattle.std.proofs.Common.{◌≡◌, ◌≢◌, ℕ, suc, ◌+◌, ◌<◌, ◌==◌, Bool, true, false, cond, if◌then◌else◌, Option, Some, None, List, [], ◌∷◌, map, sum, length, refl, sym, ap, ◌∙◌, arith, zero-add, inl, inr}
+use Rattle.std.proofs.Common.{◌≡◌, ◌≢◌, ℕ, ℤ, suc, ◌+◌, ◌<◌, ◌==◌, Bool, true, false, cond, if◌then◌else◌, Option, Some, None, List, [], ◌∷◌, map, sum, length, refl, sym, ap, ◌∙◌, arith, zero-add, inl, inr}
 use Rattle.std.specs.Option.{option_map, option_and_then, unwrap_or}
 use Rattle.std.specs.List.{filter}
 use Rattle.std.specs.Str.{bytes_eq}
@@ -9,24 +9,30 @@ use Rattle.std.proofs.lemmas.List.Sums.{sum_by-cons}
 use Rattle.std.specs.Ordering.{is_eq, eq_by_cmp}
 use Rattle.std.specs.declared.cmp.Ordering.{Ordering}
 use Rattle.std.specs.declared.cmp.Ordering.TheVariants.{Less, Equal, Greater}
-use Rattle.std.specs.FinMap.{FinMap, find, put, get, len, entries, insert, remove, from_entries, same_map, get-insert, get-remove, entries-insert, get-entries, get-from_entries, len-entries, len-empty}
+use Rattle.std.specs.FinMap.{FinMap, find, put, get, entries, insert, remove, from_entries, same_map, get-insert, get-remove, entries-insert, get-entries, get-from_entries, len-entries, len-empty}
 use Rattle.std.specs.FinMap as finmap
 use Rattle.std.specs.FinMap.Entries.{by_order}
 use Rattle.ts_row.specs.RowType.{Heading}
-use Rattle.ts_space.specs.Charge.{irregular_charge}
 use Rattle.ts_cells.specs.Cell.{page_room}
-use Rattle.ts_model.specs.Catalogue.{name_cmp, Catalogue, Container, Series, Elements, columns_of, quota_of}
-use Rattle.ts_model.specs.Charge.{series_charge, page_elements, container_charge as charge_by_name}
-use Rattle.ts_model.specs.Definitions.{Definitions, RowTypeDef, ContainerDef, SeriesDef, at_slot, filled_from, by_name}
+use Rattle.ts_row.specs.declared.kind.Column.{Column}
+use Rattle.ts_pattern.specs.Plan.{Plan}
+use Rattle.ts_calendar.specs.Plan.{CalendarPlan}
+use Rattle.ts_offset.specs.Grid.{GridPlan}
+use Rattle.ts_offset.specs.declared.shape.Shape.{Shape}
+use Rattle.ts_offset.specs.declared.shape.Shape.TheVariants.{Irregular, Regular}
+use Rattle.ts_model.specs.Catalogue.{name_cmp, Catalogue, Container, Series, Elements, columns_of, quota_of, pattern_of, with_plan, calendar_of, shape_of as shape_by_name}
+use Rattle.ts_model.specs.Charge.{series_charge, elements_charge, container_charge as charge_by_name}
+use Rattle.ts_model.specs.Definitions.{Definitions, RowTypeDef, PatternDef, CalendarDef, ContainerDef, SeriesDef, at_slot, filled_from, by_name}
 use Rattle.ts_model.proofs.OrderLemmas.{total, same_name, eq_ties, ties-refl, ties-same}
 use Rattle.ts_model.proofs.SlotLemmas.{AreApart, apart-rest, find-other, find-slot}
 use Rattle.ts_model.proofs.IndexLemmas.{empty-list}
-use Rattle.ts_layout.specs.Meaning.{Layout, elements_of, elements_at, heading_of_container, heading_at, heading_in, AreSound, IsSound, sum_filled, charge_of_series, charge_of_container, name_at, container_of, series_of, catalogue_of}
+use Rattle.ts_layout.specs.Meaning.{Layout, elements_at, heading_of_container, heading_at, heading_in, grid_in, shape_of, shape_at, AreSound, IsSound, sum_filled, charge_on, charge_of_series, charge_of_container, name_at, part_of, text_of, container_of, kind_in, series_of, catalogue_of}
 use Rattle.ts_layout.specs.Chains.{AreFilled, with_elements_at}
 use Rattle.ts_layout.proofs.PageLemmas.{sum_same}
-use Rattle.ts_layout.proofs.LayoutLemmas.{within_table}
+use Rattle.ts_layout.proofs.LayoutLemmas.{one_of, mapped, within_table}
 use Rattle.ts_layout.proofs.NamedLemmas.{insert_removed}
-use Rattle.ts_layout.proofs.ChainCountLemmas.{len_elements}
+use Rattle.ts_layout.proofs.ReferLemmas.{calendar_refers, grid_refers}
+use Rattle.ts_layout.proofs.SeriesChargeLemmas.{shape_charged}
 use Rattle.ts_layout.proofs.UsedLemmas.{has_container}
 
 -- the sum over entries
@@ -106,6 +112,40 @@ columns_named l pages slot s c h sound there heading =
 pub quota_named : (l : Layout) (pages slot : ℕ) (s : SeriesDef) (c : ContainerDef) → AreSound pages l.definitions → at_slot s.container l.definitions.containers ≡ Some c → quota_of (catalogue_of l) (series_of l slot s) ≡ c.quota
 quota_named l pages slot s c sound there = ap (λ (o : Option Container). unwrap_or (option_map (λ x. x.quota) o) 0) (container_named l pages s.container c sound there)
 
+-- the calendar that stands in a slot, found by its name
+part_named : (l : Layout) (pages slot : ℕ) (c : CalendarDef) (by : Option ℕ) → AreSound pages l.definitions → at_slot slot l.definitions.calendars ≡ Some c → c.by ≡ by → pattern_of (catalogue_of l) (part_of l.definitions c by) ≡ Some c.calendar.pattern
+part_named l pages slot c None sound there is = refl
+part_named l pages slot c (Some at) sound there is =
+    let p = calendar_refers l.definitions sound.tables sound.references slot c at there is in
+    let name : name_at (λ x. x.name) at l.definitions.patterns ≡ p.0.name = ap (λ (o : Option PatternDef). unwrap_or (option_map (λ x. x.name) o) []) p.1 in
+    let same = one_of (option_map (λ (x : PatternDef). x.pattern) (at_slot at l.definitions.patterns)) p.0.pattern c.calendar.pattern (ap (option_map (λ (x : PatternDef). x.pattern)) p.1) (sound.follow slot c there at is) in
+    ap (get (catalogue_of l).patterns) name ∙ get_named (λ x. x.name) (λ n x. x.pattern) l.definitions.patterns at p.0 sound.tables.patterns.apart p.1 ∙ ap (λ (x : Plan). Some x) same
+
+calendar_named : (l : Layout) (pages slot : ℕ) (c : CalendarDef) → AreSound pages l.definitions → at_slot slot l.definitions.calendars ≡ Some c
+    → option_and_then (calendar_of (catalogue_of l)) (get (catalogue_of l).calendars (name_at (λ x. x.name) slot l.definitions.calendars)) ≡ Some c.calendar
+calendar_named l pages slot c sound there =
+    let name : name_at (λ x. x.name) slot l.definitions.calendars ≡ c.name = ap (λ (o : Option CalendarDef). unwrap_or (option_map (λ x. x.name) o) []) there in
+    let found : get (catalogue_of l).calendars (name_at (λ x. x.name) slot l.definitions.calendars) ≡ Some (text_of l.definitions c) =
+    ap (get (catalogue_of l).calendars) name ∙ get_named (λ x. x.name) (λ n x. text_of l.definitions x) l.definitions.calendars slot c sound.tables.calendars.apart there in
+    ap (option_and_then (calendar_of (catalogue_of l))) found ∙ ap (option_map (with_plan (text_of l.definitions c))) (part_named l pages slot c c.by sound there refl)
+
+-- where the elements of a series can stand, by the name of its calendar
+pub shape_named : (l : Layout) (pages : ℕ) (regular : Option (ℕ × ℤ)) (shape : Shape) → AreSound pages l.definitions → shape_of l.definitions regular ≡ Some shape → shape_by_name (catalogue_of l) (kind_in l.definitions regular) ≡ Some shape
+shape_named l pages None shape sound is = is
+shape_named l pages (Some regular) shape sound is =
+    let g = mapped Regular (grid_in l.definitions regular) shape is in
+    let c = mapped (λ (x : CalendarDef). record { calendar = x.calendar; origin = regular.1 }) (at_slot regular.0 l.definitions.calendars) g.0 g.1 in
+    ap (option_map (λ (plan : CalendarPlan). Regular (record { calendar = plan; origin = regular.1 }))) (calendar_named l pages regular.0 c.0 sound c.1)
+    ∙ ap (λ (x : GridPlan). Some (Regular x)) c.2 ∙ ap (λ (x : Shape). Some x) g.2
+
+-- so a series is charged by its columns and its shape
+charge_shaped : (l : Layout) (pages slot : ℕ) (s : SeriesDef) (c : ContainerDef) (h : Heading) (shape : Shape) (es : Elements) → AreSound pages l.definitions → at_slot s.container l.definitions.containers ≡ Some c → heading_of_container l.definitions c ≡ Some h
+    → shape_of l.definitions s.regular ≡ Some shape → series_charge (catalogue_of l) (record (series_of l slot s) { elements = es }) ≡ elements_charge h.columns shape es
+charge_shaped l pages slot s c h shape es sound there heading lies =
+    let columns = columns_named l pages slot s c h sound there heading in
+    ap (λ (o : Option Shape). unwrap_or (option_map (λ x. elements_charge (columns_of (catalogue_of l) (series_of l slot s)) x es) o) 0) (shape_named l pages s.regular shape sound lies)
+    ∙ ap (λ (cs : List Column). elements_charge cs shape es) columns
+
 -- two names are one where their slots are
 bytes_same : (a b : List ℕ) → a ≡ b → bytes_eq a b ≡ true
 bytes_same a b same = eq_ties a b ∙ ap (λ (x : List ℕ). eq_by_cmp name_cmp x b) same ∙ ties-refl b
@@ -123,15 +163,25 @@ same_some o a b first second = cc
 pub columns_there : (d : Definitions) (j : ℕ) (s : SeriesDef) (c : ContainerDef) (h : Heading) → at_slot j d.series ≡ Some s → at_slot s.container d.containers ≡ Some c → heading_of_container d c ≡ Some h → heading_at d j ≡ Some h
 columns_there d j s c h here there heading = ap (option_and_then (λ (x : SeriesDef). heading_in d x.container)) here ∙ ap (option_and_then (heading_of_container d)) there ∙ heading
 
+-- the elements of a series can stand somewhere
+regular_shape : (d : Definitions) (regular : Option (ℕ × ℤ)) → ((at : ℕ) (origin : ℤ) → regular ≡ Some (at, origin) → (c : CalendarDef) × (at_slot at d.calendars ≡ Some c)) → (shape : Shape) × (shape_of d regular ≡ Some shape)
+regular_shape d None found = (Irregular, refl)
+regular_shape d (Some (at, origin)) found =
+    let c = found at origin refl in
+    (Regular (record { calendar = c.0.calendar; origin = origin }), ap (λ (o : Option CalendarDef). option_map Regular (option_map (λ x. record { calendar = x.calendar; origin = origin }) o)) c.1)
+
+pub has_shape : {pages : ℕ} (d : Definitions) → AreSound pages d → (j : ℕ) (s : SeriesDef) → at_slot j d.series ≡ Some s → (shape : Shape) × (shape_of d s.regular ≡ Some shape)
+has_shape d sound j s here = regular_shape d s.regular (λ at origin is. grid_refers d sound.tables sound.references j s at origin here is)
+
 -- what one series is charged, by name and by slot
-one_named : (l : Layout) (slot j : ℕ) (s : SeriesDef) (c : ContainerDef) (h : Heading) → IsSound l → at_slot slot l.definitions.containers ≡ Some c → heading_of_container l.definitions c ≡ Some h → at_slot j l.definitions.series ≡ Some s
+one_named : (l : Layout) (slot j : ℕ) (s : SeriesDef) (c : ContainerDef) (h : Heading) → IsSound l → AreFilled l → at_slot slot l.definitions.containers ≡ Some c → heading_of_container l.definitions c ≡ Some h → at_slot j l.definitions.series ≡ Some s
     → cond (bytes_eq (name_at (λ x. x.name) s.container l.definitions.containers) c.name) (series_charge (catalogue_of l) (series_of l (0 + j) s)) 0 ≡ charge_of_series l.element_pages slot (page_room h.columns) (0 + j) s
-one_named l slot j s c h rules there heading here =
+one_named l slot j s c h rules filled there heading here =
     let sound = rules.definitions in
     let within : j < 4096 = let z = within_table l.definitions.series j s here in omega (arith, z, sound.tables.series.size) in
     let own = has_container l.definitions sound.references j s within here in
     let name : name_at (λ x. x.name) s.container l.definitions.containers ≡ own.0.name = ap (λ (o : Option ContainerDef). unwrap_or (option_map (λ x. x.name) o) []) own.1 in
-    let cost : ℕ = irregular_charge (page_room h.columns) (length (elements_of (0 + j) l.element_pages)) in
+    let cost : ℕ = charge_on l.element_pages (page_room h.columns) (0 + j) s.regular in
     elim (cases_eq s.container slot) [
       | inl same ↦
           let is : own.0 ≡ c = same_some (at_slot slot l.definitions.containers) own.0 c (ap (λ (n : ℕ). at_slot n l.definitions.containers) (sym same) ∙ own.1) there in
@@ -139,10 +189,12 @@ one_named l slot j s c h rules there heading here =
           let u : (s.container == slot) ≡ true = grind (arith, nat_tests) in
           let at : j ≡ 0 + j = omega arith in
           let its : at_slot s.container l.definitions.containers ≡ Some c = ap (λ (n : ℕ). at_slot n l.definitions.containers) same ∙ there in
-          let columns = columns_named l (length l.element_pages) (0 + j) s c h sound its heading in
           let shown : heading_at l.definitions (0 + j) ≡ Some h = ap (heading_at l.definitions) (sym at) ∙ columns_there l.definitions j s c h here its heading in
-          let count = len_elements l (0 + j) h rules shown in
-          let charge : series_charge (catalogue_of l) (series_of l (0 + j) s) ≡ cost = λ i. irregular_charge (page_elements (columns i)) (count i) in
+          let shape = has_shape l.definitions sound j s here in
+          let lies : shape_at l.definitions (0 + j) ≡ Some shape.0 = ap (shape_at l.definitions) (sym at) ∙ ap (option_and_then (λ (x : SeriesDef). shape_of l.definitions x.regular)) here ∙ shape.1 in
+          let charge : series_charge (catalogue_of l) (series_of l (0 + j) s) ≡ cost =
+          charge_shaped l (length l.element_pages) (0 + j) s c h shape.0 (elements_at (0 + j) l.element_pages) sound its heading shape.1
+          ∙ shape_charged l (0 + j) h s.regular shape.0 rules filled shown lies shape.1 in
           ap (λ (b : Bool). cond b (series_charge (catalogue_of l) (series_of l (0 + j) s)) 0) t ∙ charge ∙ sym (ap (λ (b : Bool). if b then cost else 0) u)
       | inr other ↦
           let f : bytes_eq (name_at (λ x. x.name) s.container l.definitions.containers) c.name ≡ false =
@@ -161,7 +213,7 @@ charge_named l slot c h rules filled there heading =
     ∙ table_total (λ s. s.key) (series_of l) (λ e. cond (p e) (g e) 0) 0 l.definitions.series rules.definitions.tables.series.apart
     ∙ filled_total (λ s. s.key) (series_of l) (λ e. cond (p e) (g e) 0) 0 l.definitions.series
     ∙ sum_same (λ j s. cond (p (s.key, series_of l j s)) (g (s.key, series_of l j s)) 0) (charge_of_series l.element_pages slot (page_room h.columns)) 0 l.definitions.series
-    (λ j s here. one_named l slot j s c h rules there heading here)
+    (λ j s here. one_named l slot j s c h rules filled there heading here)
 
 -- the sum over a map with one entry set, and what was there before
 set_same : {X : Type 0} (m : FinMap name_cmp X) (k : List ℕ) (x : X) → get m k ≡ Some x → insert m k x ≡ m
@@ -178,10 +230,11 @@ set_total w m k x =
     ap (λ y. total_of w (entries y)) (sym (insert_removed m k x)) ∙ ap (total_of w) (entries-insert total (remove m k) k x) ∙ put_total w k x (entries (remove m k)) none
 
 -- what a container is charged where one of its series has other elements
-pub charge_with : (l : Layout) (pages slot : ℕ) (s : SeriesDef) (c : ContainerDef) (h : Heading) (es : Elements) → AreSound pages l.definitions → at_slot slot l.definitions.series ≡ Some s → at_slot s.container l.definitions.containers ≡ Some c → heading_of_container l.definitions c ≡ Some h
-    → charge_by_name c.name (with_elements_at slot s es l) + irregular_charge (page_room h.columns) (len (elements_at slot l.element_pages))
-    ≡ charge_by_name c.name (catalogue_of l) + irregular_charge (page_room h.columns) (len es)
-charge_with l pages slot s c h es sound here there heading =
+pub charge_with : (l : Layout) (pages slot : ℕ) (s : SeriesDef) (c : ContainerDef) (h : Heading) (shape : Shape) (es : Elements) → AreSound pages l.definitions → at_slot slot l.definitions.series ≡ Some s → at_slot s.container l.definitions.containers ≡ Some c → heading_of_container l.definitions c ≡ Some h
+    → shape_of l.definitions s.regular ≡ Some shape
+    → charge_by_name c.name (with_elements_at slot s es l) + elements_charge h.columns shape (elements_at slot l.element_pages)
+    ≡ charge_by_name c.name (catalogue_of l) + elements_charge h.columns shape es
+charge_with l pages slot s c h shape es sound here there heading lies =
     let cat : Catalogue = catalogue_of l in
     let old : Series = series_of l slot s in
     let new : Series = record (series_of l slot s) { elements = es } in
@@ -192,11 +245,10 @@ charge_with l pages slot s c h es sound here there heading =
     let found : get cat.series s.key ≡ Some old = get_named (λ s. s.key) (series_of l) l.definitions.series slot s sound.tables.series.apart here ∙ ap (λ (n : ℕ). Some (series_of l n s)) at in
     let name : name_at (λ x. x.name) s.container l.definitions.containers ≡ c.name = ap (λ (o : Option ContainerDef). unwrap_or (option_map (λ x. x.name) o) []) there in
     let t : bytes_eq (name_at (λ x. x.name) s.container l.definitions.containers) c.name ≡ true = bytes_same _ _ name in
-    let columns = columns_named l pages slot s c h sound there heading in
-    let before : w (s.key, old) ≡ irregular_charge (page_room h.columns) (len (elements_at slot l.element_pages)) =
-    ap (λ (b : Bool). cond b (g (s.key, old)) 0) t ∙ (λ i. irregular_charge (page_elements (columns i)) (len (elements_at slot l.element_pages))) in
-    let after : w (s.key, new) ≡ irregular_charge (page_room h.columns) (len es) =
-    ap (λ (b : Bool). cond b (g (s.key, new)) 0) t ∙ (λ i. irregular_charge (page_elements (columns i)) (len es)) in
+    let before : w (s.key, old) ≡ elements_charge h.columns shape (elements_at slot l.element_pages) =
+    ap (λ (b : Bool). cond b (g (s.key, old)) 0) t ∙ charge_shaped l pages slot s c h shape (elements_at slot l.element_pages) sound there heading lies in
+    let after : w (s.key, new) ≡ elements_charge h.columns shape es =
+    ap (λ (b : Bool). cond b (g (s.key, new)) 0) t ∙ charge_shaped l pages slot s c h shape es sound there heading lies in
     let one : charge_by_name c.name cat ≡ w (s.key, old) + total_of w (entries (remove cat.series s.key)) =
     filter_total p g (entries cat.series) ∙ ap (λ m. total_of w (entries m)) (sym (set_same cat.series s.key old found)) ∙ set_total w cat.series s.key old in
     let two : charge_by_name c.name (record cat { series = insert cat.series s.key new }) ≡ w (s.key, new) + total_of w (entries (remove cat.series s.key)) =

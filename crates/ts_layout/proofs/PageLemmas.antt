@@ -2,32 +2,33 @@
 use Rattle.std.proofs.Common.{◌≡◌, ◌≢◌, ℕ, zero, suc, ◌+◌, ◌<◌, ◌==◌, Bool, true, false, if◌then◌else◌, Option, Some, None, List, [], ◌∷◌, map, length, set, refl, sym, ap, subst, ◌∙◌, arith, get_or-set_same, get_or-set_other, inl, inr, ◌⊎◌}
 use Rattle.std.proofs.lemmas.Bool.Decides.{nat_tests}
 use Rattle.std.proofs.lemmas.Bool.{cases_eq}
-use Rattle.ts_cells.specs.Cell.{Element}
 use Rattle.ts_model.specs.Definitions.{SeriesDef, at_slot}
 use Rattle.ts_layout.specs.Meaning.{ElementPage, Free, Cells, Layout, element_page, HoldsElements, HoldsLayout, sum_filled}
+use Rattle.ts_layout.specs.Sheets.{Sheet}
 use Rattle.ts_layout.specs.Chains.{AreFilled, freed}
 use Rattle.ts_layout.proofs.ElementPageLemmas.{within_list}
+use Rattle.ts_layout.proofs.SheetLemmas.{fill_of}
 
-pub free_cells : (slot : ℕ) (fs : List Element) → Free ≡ Cells slot fs → ⊥
-free_cells slot fs same = cc
+pub free_cells : (slot : ℕ) (own : Sheet) → Free ≡ Cells slot own → ⊥
+free_cells slot own same = cc
 
-pub same_cells : (slot s : ℕ) (fs gs : List Element) → Cells slot fs ≡ Cells s gs → (slot ≡ s) × (fs ≡ gs)
-same_cells slot s fs gs same = (cc, cc)
+pub same_cells : (slot s : ℕ) (one other : Sheet) → Cells slot one ≡ Cells s other → (slot ≡ s) × (one ≡ other)
+same_cells slot s one other same = (cc, cc)
 
 -- a page that has no elements of the series in a slot
 abbrev pub HasNone : ℕ → ElementPage → Type 0
-HasNone slot e = (es : List Element) → e ≡ Cells slot es → ⊥
+HasNone slot e = (sheet : Sheet) → e ≡ Cells slot sheet → ⊥
 
 -- whether a page has elements of it
-pub has_cells : (slot : ℕ) (e : ElementPage) → ((es : List Element) × (e ≡ Cells slot es)) ⊎ HasNone slot e
-has_cells slot Free = inr (λ es is. free_cells slot es is)
-has_cells slot (Cells s fs) = elim (cases_eq s slot) [
-  | inl same ↦ inl (fs, ap (λ (n : ℕ). Cells n fs) same)
-  | inr other ↦ inr (λ es is. other (same_cells s slot fs es is).0)
+pub has_cells : (slot : ℕ) (e : ElementPage) → ((sheet : Sheet) × (e ≡ Cells slot sheet)) ⊎ HasNone slot e
+has_cells slot Free = inr (λ sheet is. free_cells slot sheet is)
+has_cells slot (Cells s own) = elim (cases_eq s slot) [
+  | inl same ↦ inl (own, ap (λ (n : ℕ). Cells n own) same)
+  | inr other ↦ inr (λ sheet is. other (same_cells s slot own sheet is).0)
 ]
 
-pub not_own : (slot s : ℕ) (es : List Element) → s ≢ slot → HasNone s (Cells slot es)
-not_own slot s es other fs there = other (sym (same_cells slot s es fs there).0)
+pub not_own : (slot s : ℕ) (sheet : Sheet) → s ≢ slot → HasNone s (Cells slot sheet)
+not_own slot s sheet other own there = other (sym (same_cells slot s sheet own there).0)
 
 -- a page in a list that was set, and another one
 pub page_set : (pages : List ElementPage) (i : ℕ) (e : ElementPage) → i < length pages → element_page i (set pages i e) ≡ e
@@ -37,14 +38,14 @@ pub page_other : (pages : List ElementPage) (i j : ℕ) (e : ElementPage) → j 
 page_other pages i j e other = get_or-set_other pages i j e Free other
 
 -- pages that are freed, and those that stay
-pub freed_own : (slot : ℕ) (es : List Element) → freed slot (Cells slot es) ≡ Free
-freed_own slot es = let t : (slot == slot) ≡ true = grind (arith, nat_tests) in ap (λ (b : Bool). if b then Free else Cells slot es) t
+pub freed_own : (slot : ℕ) (sheet : Sheet) → freed slot (Cells slot sheet) ≡ Free
+freed_own slot sheet = let t : (slot == slot) ≡ true = grind (arith, nat_tests) in ap (λ (b : Bool). if b then Free else Cells slot sheet) t
 
 pub freed_other : (slot : ℕ) (e : ElementPage) → HasNone slot e → freed slot e ≡ e
 freed_other slot Free none = refl
-freed_other slot (Cells s es) none = elim (cases_eq s slot) [
-  | inl same ↦ absurd (none es (ap (λ (n : ℕ). Cells n es) same))
-  | inr other ↦ let f : (s == slot) ≡ false = grind (arith, nat_tests) in ap (λ (b : Bool). if b then Free else Cells s es) f
+freed_other slot (Cells s sheet) none = elim (cases_eq s slot) [
+  | inl same ↦ absurd (none sheet (ap (λ (n : ℕ). Cells n sheet) same))
+  | inr other ↦ let f : (s == slot) ≡ false = grind (arith, nat_tests) in ap (λ (b : Bool). if b then Free else Cells s sheet) f
 ]
 
 pub page_freed : (slot i : ℕ) (pages : List ElementPage) → element_page i (map (freed slot) pages) ≡ freed slot (element_page i pages)
@@ -53,16 +54,16 @@ page_freed slot zero (e ∷ pages) = refl
 page_freed slot (suc i) (e ∷ pages) = page_freed slot i pages
 
 -- what has elements after had them before, and is of another series
-freed_cells : (slot s : ℕ) (es : List Element) (e : ElementPage) → freed slot e ≡ Cells s es → (e ≡ Cells s es) × (s ≢ slot)
-freed_cells slot s es e is = elim (has_cells slot e) [
-  | inl own ↦ absurd (free_cells s es (sym (freed_own slot own.0) ∙ ap (freed slot) (sym own.1) ∙ is))
+freed_cells : (slot s : ℕ) (sheet : Sheet) (e : ElementPage) → freed slot e ≡ Cells s sheet → (e ≡ Cells s sheet) × (s ≢ slot)
+freed_cells slot s sheet e is = elim (has_cells slot e) [
+  | inl own ↦ absurd (free_cells s sheet (sym (freed_own slot own.0) ∙ ap (freed slot) (sym own.1) ∙ is))
   | inr none ↦
-      let here : e ≡ Cells s es = sym (freed_other slot e none) ∙ is in
-      (here, λ same. none es (here ∙ ap (λ (n : ℕ). Cells n es) same))
+      let here : e ≡ Cells s sheet = sym (freed_other slot e none) ∙ is in
+      (here, λ same. none sheet (here ∙ ap (λ (n : ℕ). Cells n sheet) same))
 ]
 
-pub cells_before : (slot i s : ℕ) (es : List Element) (pages : List ElementPage) → element_page i (map (freed slot) pages) ≡ Cells s es → (element_page i pages ≡ Cells s es) × (s ≢ slot)
-cells_before slot i s es pages is = freed_cells slot s es (element_page i pages) (sym (page_freed slot i pages) ∙ is)
+pub cells_before : (slot i s : ℕ) (sheet : Sheet) (pages : List ElementPage) → element_page i (map (freed slot) pages) ≡ Cells s sheet → (element_page i pages ≡ Cells s sheet) × (s ≢ slot)
+cells_before slot i s sheet pages is = freed_cells slot s sheet (element_page i pages) (sym (page_freed slot i pages) ∙ is)
 
 -- sums over filled slots of two functions that agree there
 pub sum_same : {A : Type 0} (f g : ℕ → A → ℕ) (first : ℕ) (table : List (Option A)) → ((j : ℕ) (a : A) → at_slot j table ≡ Some a → f (first + j) a ≡ g (first + j) a) → sum_filled f first table ≡ sum_filled g first table
@@ -87,6 +88,13 @@ its_container (Some s) container = elim (cases_eq s.container container) [
 
 -- pages that hold a layout have filled pages
 pub filled_pages : (pages : ℕ → List ℕ) (l : Layout) → HoldsLayout pages l → AreFilled l
-filled_pages pages l holds i slot es is =
-    let here = subst (HoldsElements l.definitions (pages (930 + i))) is (holds.elements i (within_list l.element_pages i slot es is)) in
-    (here.0, here.1, here.2.fill, here.3)
+filled_pages pages l holds i slot sheet is =
+    let here = subst (HoldsElements l.definitions (pages (930 + i))) is (holds.elements i (within_list l.element_pages i slot sheet is)) in
+    record {
+      heading = here.heading;
+      shape = here.shape;
+      columns = here.columns;
+      lies = here.lies;
+      fill = fill_of here.shape slot here.heading.columns sheet (pages (930 + i)) here.bytes;
+      of_format = here.of_format;
+    }

@@ -1,17 +1,19 @@
 -- What definitions refer to, and the rules of definitions of which one slot is filled or emptied.
 use Rattle.std.specs.Prelude.{Contains}
-use Rattle.std.proofs.Common.{◌≡◌, ℕ, zero, suc, ◌<◌, Option, Some, None, IsSome, List, [], ◌∷◌, map, refl, sym, ap, subst, ◌∙◌, arith, inl, inr}
-use Rattle.std.specs.Option.{option_map, option_and_then}
+use Rattle.std.proofs.Common.{◌≡◌, ℕ, ℤ, zero, suc, ◌<◌, Option, Some, None, IsSome, List, [], ◌∷◌, map, refl, sym, ap, subst, ◌∙◌, arith, inl, inr}
+use Rattle.std.specs.Option.{IfSome, option_map, option_and_then}
 use Rattle.std.proofs.lemmas.Bool.{cases_lt}
 use Rattle.std.proofs.lemmas.List.{get_or_past}
 use Rattle.ts_row.specs.RowType.{Heading}
+use Rattle.ts_offset.specs.declared.shape.Shape.{Shape}
+use Rattle.ts_offset.specs.declared.shape.Shape.TheVariants.{Regular}
 use Rattle.ts_model.specs.declared.kind.Kind.{Kind}
 use Rattle.ts_model.specs.declared.kind.Kind.TheVariants as kinds
 use Rattle.ts_model.specs.declared.def.Def.{Def}
-use Rattle.ts_model.specs.Definitions.{Definitions, RowTypeDef, PatternDef, CalendarDef, ContainerDef, SeriesDef, of_row_type, of_pattern, of_calendar, of_container, of_series, kind_of, limit, slots, at_slot, with_slot, references, pattern_reference, Refers, IsUsed, IsDefinitions}
+use Rattle.ts_model.specs.Definitions.{Definitions, RowTypeDef, PatternDef, CalendarDef, ContainerDef, SeriesDef, of_row_type, of_pattern, of_calendar, of_container, of_series, kind_of, limit, slots, at_slot, with_slot, references, pattern_reference, calendar_reference, Refers, IsUsed, IsDefinitions}
 use Rattle.ts_model.proofs.PartsLemmas.{format-stays}
 use Rattle.ts_layout.specs.Limits.{IsDef, IsSlotOf}
-use Rattle.ts_layout.specs.Meaning.{def_at, heading_at, KeepLimits, IsThere, AreThere}
+use Rattle.ts_layout.specs.Meaning.{def_at, heading_at, shape_of, shape_at, KeepLimits, IsOnCalendar, IsThere, AreThere}
 use Rattle.ts_layout.proofs.PlaceLemmas.{at_slot-map, def_at-with_slot, def_at-cleared, def_at-other}
 use Rattle.ts_layout.proofs.SlotLemmas.{this_or_other, apart_by_rank, own, sizes}
 use Rattle.ts_layout.proofs.LayoutLemmas.{none≢some, one_of, within_table}
@@ -19,6 +21,10 @@ use Rattle.ts_layout.proofs.LayoutLemmas.{none≢some, one_of, within_table}
 -- each series that has columns has the same ones by other definitions
 abbrev pub KeepColumns : Definitions → Definitions → Type 0
 KeepColumns d d' = (slot : ℕ) (h : Heading) → heading_at d slot ≡ Some h → heading_at d' slot ≡ Some h
+
+-- its elements can stand where they could
+abbrev pub KeepShapes : Definitions → Definitions → Type 0
+KeepShapes d d' = (slot : ℕ) (shape : Shape) → shape_at d slot ≡ Some shape → shape_at d' slot ≡ Some shape
 
 pub empty_slot : {A B : Type 0} (f : A → B) (o : Option A) → option_map f o ≡ None → o ≡ None
 empty_slot f None none = refl
@@ -36,7 +42,7 @@ filled_in f i table a here = at_slot-map f i table ∙ ap (option_map f) here
 pub first_of : (x y : Kind × ℕ) (rest : List (Kind × ℕ)) → x ≡ y → Contains (x ∷ rest) y
 first_of x y rest same = (0, omega arith, same)
 
-further : (x y : Kind × ℕ) (rest : List (Kind × ℕ)) → Contains rest y → Contains (x ∷ rest) y
+pub further : (x y : Kind × ℕ) (rest : List (Kind × ℕ)) → Contains rest y → Contains (x ∷ rest) y
 further x y rest there = let low = there.1 in (suc there.0, omega (arith, low), there.2)
 
 pub some_in : {A : Type 0} (o : Option A) → IsSome o → (a : A) × (o ≡ Some a)
@@ -76,6 +82,29 @@ series_refers d rules there i s here =
     let some = some_in (def_at kinds.Container s.container d) (there kinds.Series i (of_series s) within (filled_in of_series i d.series s here)).0 in
     let mine = own of_container s.container d.containers some.0 some.1 in
     (mine.0, mine.1)
+
+-- a regular series refers to its calendar
+pub series_target : (s : SeriesDef) (at : ℕ) (origin : ℤ) → s.regular ≡ Some (at, origin) → Refers (of_series s) kinds.Calendar at
+series_target s at origin is =
+    subst (λ (regular : Option (ℕ × ℤ)). let target : Kind × ℕ = (kinds.Calendar, at) in Contains ((kinds.Container, s.container) ∷ calendar_reference regular) target) (sym is)
+    (further (kinds.Container, s.container) (kinds.Calendar, at) ((kinds.Calendar, at) ∷ []) (first_of (kinds.Calendar, at) (kinds.Calendar, at) [] refl))
+
+pub grid_refers : (d : Definitions) → IsDefinitions d → AreThere d → (i : ℕ) (s : SeriesDef) (at : ℕ) (origin : ℤ) → at_slot i d.series ≡ Some s → s.regular ≡ Some (at, origin) → (c : CalendarDef) × (at_slot at d.calendars ≡ Some c)
+grid_refers d rules there i s at origin here is =
+    let within : i < 4096 = omega (arith, within_table d.series i s here, rules.series.size) in
+    let some = some_in (def_at kinds.Calendar at d) (each_there d (references (of_series s)) kinds.Calendar at (there kinds.Series i (of_series s) within (filled_in of_series i d.series s here)) (series_target s at origin is)) in
+    let mine = own of_calendar at d.calendars some.0 some.1 in
+    (mine.0, mine.1)
+
+-- elements can stand at the same stamps where the calendar is the same
+pub shape_same : (d d' : Definitions) (regular : Option (ℕ × ℤ)) → ((at : ℕ) (origin : ℤ) → regular ≡ Some (at, origin) → at_slot at d'.calendars ≡ at_slot at d.calendars) → shape_of d' regular ≡ shape_of d regular
+shape_same d d' None same = refl
+shape_same d d' (Some (at, origin)) same = ap (λ (o : Option CalendarDef). option_map Regular (option_map (λ (c : CalendarDef). record { calendar = c.calendar; origin = origin }) o)) (same at origin refl)
+
+-- the origin of a series is an on start where its calendar is the same
+pub origin_same : (d d' : Definitions) (regular : Option (ℕ × ℤ)) → ((at : ℕ) (origin : ℤ) → regular ≡ Some (at, origin) → at_slot at d'.calendars ≡ at_slot at d.calendars) → IfSome regular (IsOnCalendar d) → IfSome regular (IsOnCalendar d')
+origin_same d d' None same is = tt
+origin_same d d' (Some (at, origin)) same is = λ c here. is c (sym (same at origin refl) ∙ here)
 
 -- what follows alike from each value that is there
 pub and_then_same : {A B : Type 0} (f g : A → Option B) (o : Option A) → ((a : A) → o ≡ Some a → f a ≡ g a) → option_and_then f o ≡ option_and_then g o

@@ -1,7 +1,6 @@
 -- A layout without a series and its pages.
-use Rattle.std.proofs.Common.{◌≡◌, ◌≢◌, ℕ, zero, suc, ◌+◌, ◌<◌, ◌≤◌, ◌==◌, if◌then◌else◌, Option, Some, None, List, [], ◌∷◌, ◌++◌, map, length, set, get_or, refl, sym, ap, subst, ◌∙◌, arith, get_or-set_same, get_or-set_other, inl, inr, lit≤}
+use Rattle.std.proofs.Common.{◌≡◌, ◌≢◌, ℕ, zero, suc, ◌+◌, ◌<◌, ◌≤◌, ◌==◌, if◌then◌else◌, Option, Some, None, List, [], ◌∷◌, ◌++◌, map, length, set, get_or, refl, sym, ap, subst, ◌∙◌, arith, get_or-set_same, get_or-set_other, inl, inr, lit≤, ℤ}
 use Rattle.std.specs.Prelude.{IsPermutation}
-use Rattle.std.specs.List.{flat_map}
 use Rattle.std.specs.Option.{option_and_then}
 use Rattle.std.specs.FinMap.{remove}
 use Rattle.std.proofs.lemmas.Bool.{cases_eq}
@@ -13,19 +12,20 @@ use Rattle.ts_space.specs.declared.place.Place.{Place}
 use Rattle.ts_space.specs.Place.{pages_of}
 use Rattle.ts_space.specs.Directory.{Directory, places_of}
 use Rattle.ts_space.specs.Charge.{irregular_charge}
-use Rattle.ts_cells.specs.Cell.{Element, page_room}
+use Rattle.ts_cells.specs.Cell.{page_room}
 use Rattle.ts_model.specs.declared.kind.Kind.TheVariants as kinds
 use Rattle.ts_model.specs.Definitions.{Definitions, SeriesDef, at_slot, with_slot, by_name}
 use Rattle.ts_model.proofs.SlotLemmas.{by_name-clear}
 use Rattle.ts_layout.specs.Slot.{header_bytes}
-use Rattle.ts_layout.specs.Meaning.{ElementPage, Free, Cells, Layout, element_page, elements_of, elements_at, cells_of, heading_in, heading_at, HoldsDefinitions, HoldsElements, HoldsLayout, AreSound, AreInChains, IsSound, sum_filled, charge_of_series, charge_of_container, name_at, series_of, catalogue_of}
+use Rattle.ts_layout.specs.Sheets.{Sheet, elements_in}
+use Rattle.ts_layout.specs.Meaning.{ElementPage, Free, Cells, Layout, element_page, elements_of, elements_at, sheets_of, heading_in, heading_at, HoldsDefinitions, HoldsElements, HoldsLayout, AreSound, AreAllInSequence, IsSound, sum_filled, charge_on, charge_of_series, charge_of_container, name_at, kind_in, series_of, catalogue_of}
 use Rattle.ts_layout.specs.Surveyed.{places_from, free_from, IsListOf, ListsPlaces}
 use Rattle.ts_layout.specs.Chains.{by_stamp, AreFilled, AreAllFreed, freed, without_series}
 use Rattle.ts_layout.specs.Held.{IsHeldOf}
-use Rattle.ts_layout.proofs.ClearedLemmas.{heading_stays, sound_kept}
-use Rattle.ts_layout.proofs.PageLemmas.{HasNone, has_cells, freed_own, freed_other, page_freed, cells_before, filled_pages}
+use Rattle.ts_layout.proofs.ClearedLemmas.{heading_stays, shape_stays, sound_kept}
+use Rattle.ts_layout.proofs.PageLemmas.{HasNone, has_cells, freed_own, freed_other, page_freed, cells_before}
 use Rattle.ts_layout.proofs.MemberLemmas.{among_from, among_contains, among_permuted}
-use Rattle.ts_layout.proofs.PairLemmas.{Numbered, pairs_from, places_in, cells_in, numbers_in, places_from_in, cells_of_in, elements_of_in, pairs_freed_own, pairs_freed_other, pair_among, pair_only, place_numbers}
+use Rattle.ts_layout.proofs.PairLemmas.{Numbered, pairs_from, places_in, sheets_in, numbers_in, places_from_in, sheets_of_in, elements_of_in, pairs_freed_own, pairs_freed_other, pair_among, pair_only, place_numbers}
 use Rattle.ts_layout.proofs.HeldLemmas.{free_and_own}
 use Rattle.ts_layout.proofs.LayoutLemmas.{none≢some, within_table}
 use Rattle.ts_layout.proofs.FilledLemmas.{at_cleared, by_name_same}
@@ -34,11 +34,11 @@ use Rattle.ts_layout.proofs.FilledLemmas.{at_cleared, by_name_same}
 other_pairs : (slot s : ℕ) (pages : List ElementPage) → s ≢ slot → pairs_from s 930 (map (freed slot) pages) ≡ pairs_from s 930 pages
 other_pairs slot s pages other = pairs_freed_other slot s 930 pages other
 
-other_cells : (slot s : ℕ) (pages : List ElementPage) → s ≢ slot → cells_of s (map (freed slot) pages) ≡ cells_of s pages
-other_cells slot s pages other = cells_of_in s 930 (map (freed slot) pages) ∙ ap cells_in (other_pairs slot s pages other) ∙ sym (cells_of_in s 930 pages)
+other_sheets : (slot s : ℕ) (pages : List ElementPage) → s ≢ slot → sheets_of s (map (freed slot) pages) ≡ sheets_of s pages
+other_sheets slot s pages other = sheets_of_in s 930 (map (freed slot) pages) ∙ ap sheets_in (other_pairs slot s pages other) ∙ sym (sheets_of_in s 930 pages)
 
 other_elements : (slot s : ℕ) (pages : List ElementPage) → s ≢ slot → elements_of s (map (freed slot) pages) ≡ elements_of s pages
-other_elements slot s pages other = elements_of_in s 930 (map (freed slot) pages) ∙ ap (flat_map (λ (p : Numbered). p.1)) (other_pairs slot s pages other) ∙ sym (elements_of_in s 930 pages)
+other_elements slot s pages other = elements_of_in s 930 (map (freed slot) pages) ∙ ap (λ (pairs : List Numbered). elements_in (sheets_in pairs)) (other_pairs slot s pages other) ∙ sym (elements_of_in s 930 pages)
 
 other_places : (slot s : ℕ) (pages : List ElementPage) → s ≢ slot → places_from s 930 (map (freed slot) pages) ≡ places_from s 930 pages
 other_places slot s pages other = places_from_in s 930 (map (freed slot) pages) ∙ ap places_in (other_pairs slot s pages other) ∙ sym (places_from_in s 930 pages)
@@ -62,20 +62,35 @@ lists_dropped l space space' slot inside lists listed s within = elim (cases_eq 
 ]
 
 filled_dropped : (l : Layout) (slot : ℕ) → AreFilled l → AreFilled (without_series slot l)
-filled_dropped l slot filled i s es is =
-    let before = cells_before slot i s es l.element_pages is in
-    let fill = filled i s es before.0 in
-    (fill.0, heading_stays l.definitions slot s before.1 ∙ fill.1, fill.2, fill.3)
+filled_dropped l slot filled i s sheet is =
+    let before = cells_before slot i s sheet l.element_pages is in
+    let fill = filled i s sheet before.0 in
+    record {
+      heading = fill.heading;
+      shape = fill.shape;
+      columns = heading_stays l.definitions slot s before.1 ∙ fill.columns;
+      lies = shape_stays l.definitions slot s before.1 ∙ fill.lies;
+      fill = fill.fill;
+      of_format = fill.of_format;
+    }
 
 -- what a page holds without the series
 holds_kept : (d : Definitions) (slot : ℕ) (page : List ℕ) (e : ElementPage) → HasNone slot e → HoldsElements d page e → HoldsElements (with_slot kinds.Series slot None d) page e
 holds_kept d slot page Free none holds = holds
-holds_kept d slot page (Cells s es) none holds =
-    (holds.0, heading_stays d slot s (λ same. none es (ap (λ (n : ℕ). Cells n es) same)) ∙ holds.1, holds.2, holds.3)
+holds_kept d slot page (Cells s sheet) none holds =
+    let other : s ≢ slot = λ same. none sheet (ap (λ (n : ℕ). Cells n sheet) same) in
+    record {
+      heading = holds.heading;
+      shape = holds.shape;
+      columns = heading_stays d slot s other ∙ holds.columns;
+      lies = shape_stays d slot s other ∙ holds.lies;
+      bytes = holds.bytes;
+      of_format = holds.of_format;
+    }
 
 -- the bytes after: the page of the series is free, and the others stay
 bytes_dropped : (l : Layout) (v w : ℕ → List ℕ) (slot : ℕ) → HoldsDefinitions w (with_slot kinds.Series slot None l.definitions) → w 0 ≡ v 0
-    → ((i : ℕ) (es : List Element) → element_page i l.element_pages ≡ Cells slot es → IsFreePage (w (930 + i))) → ((i : ℕ) → i < length l.element_pages → HasNone slot (element_page i l.element_pages) → w (930 + i) ≡ v (930 + i)) → HoldsLayout v l → HoldsLayout w (without_series slot l)
+    → ((i : ℕ) (sheet : Sheet) → element_page i l.element_pages ≡ Cells slot sheet → IsFreePage (w (930 + i))) → ((i : ℕ) → i < length l.element_pages → HasNone slot (element_page i l.element_pages) → w (930 + i) ≡ v (930 + i)) → HoldsLayout v l → HoldsLayout w (without_series slot l)
 bytes_dropped l v w slot defined header own others holds = record {
   header = header ∙ holds.header ∙ ap (header_bytes l.definitions.format) (sym (length-map l.element_pages (freed slot)));
   definitions = defined;
@@ -123,24 +138,28 @@ sum_less f g first (suc i) slot (Some b ∷ table) at same =
       earlier first i slot at is = omega arith
 
 -- no container is charged more
+charge_other : (slot s room : ℕ) (pages : List ElementPage) (regular : Option (ℕ × ℤ)) → s ≢ slot → charge_on (map (freed slot) pages) room s regular ≡ charge_on pages room s regular
+charge_other slot s room pages None other = λ k. irregular_charge room (length (other_elements slot s pages other k))
+charge_other slot s room pages (Some regular) other = λ k. length (other_sheets slot s pages other k)
+
 charge_less : (l : Layout) (slot container room : ℕ) → charge_of_container (without_series slot l) container room ≤ charge_of_container l container room
 charge_less l slot container room =
     let at : slot ≡ 0 + slot = omega arith in
     sum_less (charge_of_series (map (freed slot) l.element_pages) container room) (charge_of_series l.element_pages container room) 0 slot slot l.definitions.series at
-    (λ j s other k. if s.container == container then irregular_charge room (length (other_elements slot j l.element_pages other k)) else 0)
+    (λ j s other k. if s.container == container then charge_other slot j room l.element_pages s.regular other k else 0)
 
--- the chains after
+-- the sheets of each series after
 no_heading : (d : Definitions) (slot : ℕ) (h : Heading) → slot < length d.series → heading_at (with_slot kinds.Series slot None d) slot ≡ Some h → ⊥
 no_heading d slot h within there = none≢some None h refl (sym (ap (option_and_then (λ (x : SeriesDef). heading_in d x.container)) (get_or-set_same d.series slot None None within)) ∙ there)
 
-chains_dropped : (l : Layout) (slot : ℕ) → slot < 4096 → IsSound l → AreInChains (without_series slot l)
-chains_dropped l slot small sound s h there = elim (cases_eq s slot) [
+sequences_dropped : (l : Layout) (slot : ℕ) → slot < 4096 → IsSound l → AreAllInSequence (without_series slot l)
+sequences_dropped l slot small sound s h shape there lies = elim (cases_eq s slot) [
   | inl same ↦
       let size = sound.definitions.tables.series.size in
       absurd (no_heading l.definitions slot h (omega (arith, small, size)) (ap (heading_at (with_slot kinds.Series slot None l.definitions)) (sym same) ∙ there))
   | inr other ↦
-      let before = sound.chains s h (sym (heading_stays l.definitions slot s other) ∙ there) in
-      record { chain = before.chain; is = before.is; all = subst (IsPermutation before.chain) (sym (other_cells slot s l.element_pages other)) before.all }
+      let before = sound.sequences s h shape (sym (heading_stays l.definitions slot s other) ∙ there) (sym (shape_stays l.definitions slot s other) ∙ lies) in
+      record { sheets = before.sheets; is = before.is; all = subst (IsPermutation before.sheets) (sym (other_sheets slot s l.element_pages other)) before.all }
 ]
 
 -- the rules after
@@ -151,7 +170,7 @@ rules_dropped l slot small sound =
       some = subst (λ (n : ℕ). 1 ≤ n) long sound.some;
       most = subst (λ (n : ℕ). n ≤ 65536) long sound.most;
       definitions = subst (λ (n : ℕ). AreSound n (with_slot kinds.Series slot None l.definitions)) long (sound_kept l.definitions slot (length l.element_pages) small sound.definitions);
-      chains = chains_dropped l slot small sound;
+      sequences = sequences_dropped l slot small sound;
       charges = λ k c h there heading.
           let before = sound.charges k c h there heading in
           let less = charge_less l slot k (page_room h.columns) in
@@ -162,7 +181,7 @@ rules_dropped l slot small sound =
 series_kept : (l : Layout) (slot j : ℕ) (s : SeriesDef) → j ≢ slot → series_of (without_series slot l) j s ≡ series_of l j s
 series_kept l slot j s other =
     let same : elements_at j (map (freed slot) l.element_pages) ≡ elements_at j l.element_pages = ap by_stamp (other_elements slot j l.element_pages other) in
-    λ k. record { container = name_at (λ c. c.name) s.container l.definitions.containers; elements = same k }
+    λ k. record { container = name_at (λ c. c.name) s.container l.definitions.containers; kind = kind_in l.definitions s.regular; elements = same k }
 
 -- the catalogue after
 pub series_gone_catalogue : (l : Layout) (slot : ℕ) (s : SeriesDef) → IsSound l → at_slot slot l.definitions.series ≡ Some s → catalogue_of (without_series slot l) ≡ record (catalogue_of l) { series = remove (catalogue_of l).series s.key }
@@ -190,7 +209,7 @@ apart_pages i j other is = other (omega (arith, is))
 pub series_gone_bytes : (l : Layout) (space : Directory) (slot : ℕ) (v w : ℕ → List ℕ) → IsSound l → ListsPlaces space l → slot < 4096 → HoldsDefinitions w (with_slot kinds.Series slot None l.definitions) → w 0 ≡ v 0
     → AreAllFreed (places_of slot space) v w → HoldsLayout v l → HoldsLayout w (without_series slot l)
 series_gone_bytes l space slot v w sound listed within defined header all holds = bytes_dropped l v w slot defined header
-    (λ i es is. all.freed (930 + i) (among_contains (pages_of (places_of slot space)) (930 + i) (among_permuted numbers (pages_of (places_of slot space)) (930 + i) (IsPermutation-sym (pages_of (places_of slot space)) numbers own) (pair_among slot 930 i es l.element_pages is))))
+    (λ i sheet is. all.freed (930 + i) (among_contains (pages_of (places_of slot space)) (930 + i) (among_permuted numbers (pages_of (places_of slot space)) (930 + i) (IsPermutation-sym (pages_of (places_of slot space)) numbers own) (pair_among slot 930 i sheet l.element_pages is))))
     (λ i inside none. all.others (930 + i) (omega arith) (λ there.
     let at = pair_only slot 930 (930 + i) l.element_pages (among_permuted (pages_of (places_of slot space)) numbers (930 + i) own (among_from (pages_of (places_of slot space)) (930 + i) there)) in
     none at.1 (ap (λ (n : ℕ). element_page n l.element_pages) (same_index i at.0 at.2) ∙ at.3)))
@@ -200,7 +219,7 @@ series_gone_bytes l space slot v w sound listed within defined header all holds 
     numbers = numbers_in (pairs_from slot 930 l.element_pages)
 
     own : IsPermutation (pages_of (places_of slot space)) numbers
-    own = place_numbers slot (places_of slot space) l.element_pages (listed slot within) (λ i es is. (filled_pages v l holds i slot es is).2.some)
+    own = place_numbers slot (places_of slot space) l.element_pages (listed slot within)
 
     same_index : (i j : ℕ) → 930 + i ≡ 930 + j → i ≡ j
     same_index i j is = omega (arith, is)

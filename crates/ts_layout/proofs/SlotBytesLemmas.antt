@@ -1,6 +1,6 @@
 -- No two definitions have one slot's bytes, but for the runs of calendars that were made by a pattern's name.
-use Rattle.std.proofs.Common.{◌≡◌, ◌≢◌, ℕ, ◌<◌, ◌≤◌, ◌^◌, Option, Some, None, List, [], ◌∷◌, ◌++◌, length, take, drop, get_or, ◌==◌, if◌then◌else◌, refl, sym, ap, ◌∙◌, arith, lit≤}
-use Rattle.std.specs.Option.{option_map}
+use Rattle.std.proofs.Common.{◌≡◌, ◌≢◌, ℕ, ℤ, ◌<◌, ◌≤◌, ◌^◌, Option, Some, None, List, [], ◌∷◌, ◌++◌, length, take, drop, get_or, ◌==◌, if◌then◌else◌, refl, sym, ap, ◌∙◌, arith, lit≤}
+use Rattle.std.specs.Option.{IfSome, option_map}
 use Rattle.std.specs.Int.{w32, from_be_bytes}
 use Rattle.ts_page.specs.Head.{zero_page}
 use Rattle.ts_row.specs.RowType.{Heading}
@@ -11,15 +11,15 @@ use Rattle.ts_model.specs.declared.kind.Kind.{Kind}
 use Rattle.ts_model.specs.declared.kind.Kind.TheVariants as kinds
 use Rattle.ts_model.specs.declared.def.Def.{Def}
 use Rattle.ts_model.specs.declared.def.Def.TheVariants as defs
-use Rattle.ts_model.specs.Definitions.{PatternDef, CalendarDef, of_calendar, at_slot, kind_of}
-use Rattle.ts_layout.specs.Slot.{kind_bytes, column_bytes, columns_bytes, row_type_bytes, pattern_bytes, calendar_bytes, container_bytes, series_bytes, def_bytes, slot_bytes}
-use Rattle.ts_layout.specs.Limits.{IsRowTypeDef, IsContainerDef, IsSeriesDef, IsDef, IsSlotOf}
+use Rattle.ts_model.specs.Definitions.{PatternDef, CalendarDef, SeriesDef, of_calendar, of_series, at_slot, kind_of}
+use Rattle.ts_layout.specs.Slot.{kind_bytes, column_bytes, columns_bytes, row_type_bytes, pattern_bytes, calendar_bytes, container_bytes, padded, series_code, regular_bytes, series_bytes, def_bytes, slot_bytes}
+use Rattle.ts_layout.specs.Limits.{IsRowTypeDef, IsContainerDef, IsRegularPart, IsSeriesDef, IsDef, IsSlotOf}
 use Rattle.ts_layout.specs.Meaning.{Follows}
-use Rattle.ts_layout.proofs.FieldLemmas.{length-name, name_one, container_name, container_row_type, container_quota, series_length, series_key, series_container, row_type_name, row_type_stamp, row_type_count}
+use Rattle.ts_layout.proofs.FieldLemmas.{length-name, name_one, container_name, container_row_type, container_quota, series_first, series_length, series_key, series_container, series_regular, regular_calendar, regular_origin, row_type_name, row_type_stamp, row_type_count}
 use Rattle.ts_layout.proofs.LimitLemmas.{length-key}
 use Rattle.ts_layout.proofs.ColumnLemmas.{AreNamed, first_column, named_first, named_others, column_kind, column_name, behind_stamp}
 use Rattle.ts_layout.proofs.SlotLemmas.{slot_filled}
-use Rattle.ts_layout.proofs.CalendarBytesLemmas.{as_written, pattern_one, calendar_written, calendar_one}
+use Rattle.ts_layout.proofs.CalendarBytesLemmas.{as_written, pattern_one, stamp_one, calendar_written, calendar_one}
 
 -- of types of columns
 kind_in : ℕ → ℕ → ℕ → ColumnKind
@@ -85,15 +85,26 @@ container_one name row_type quota name' row_type' quota' is is' same =
     ∙ ap (λ (l : List ℕ). from_be_bytes w32 (get_or l 35 0 ∷ get_or l 36 0 ∷ get_or l 37 0 ∷ get_or l 38 0 ∷ [])) same ∙ container_quota name' row_type' quota' short' fits' in
     λ i. defs.Container (names i) (slots i) (quotas i)
 
-series_one : (key : List ℕ) (container : ℕ) (key' : List ℕ) (container' : ℕ) → IsSeriesDef (record { key = key; container = container }) → IsSeriesDef (record { key = key'; container = container' })
-    → series_bytes key container ≡ series_bytes key' container' → defs.Series key container ≡ defs.Series key' container'
-series_one key container key' container' is is' same =
-    let short = length-key key is.key in
-    let short' = length-key key' is'.key in
-    let counts = sym (series_length key container) ∙ ap (λ (l : List ℕ). get_or l 1 0) same ∙ series_length key' container' in
-    let keys = sym (series_key key container short) ∙ (λ i. take (counts i) (drop 2 (same i))) ∙ series_key key' container' short' in
-    let slots = sym (series_container key container short) ∙ ap (λ (l : List ℕ). get_or l 66 0) same ∙ series_container key' container' short' in
-    λ i. defs.Series (keys i) (slots i)
+regular_one : (a b : Option (ℕ × ℤ)) → IfSome a IsRegularPart → IfSome b IsRegularPart → series_code a ≡ series_code b → padded 27 (regular_bytes a) ≡ padded 27 (regular_bytes b) → a ≡ b
+regular_one None None is is' code same = refl
+regular_one None (Some b) is is' code same = absurd (omega (arith, code))
+regular_one (Some a) None is is' code same = absurd (omega (arith, code))
+regular_one (Some a) (Some b) is is' code same =
+    let slots = sym (regular_calendar a.0 a.1) ∙ ap (λ (l : List ℕ). get_or l 0 0) same ∙ regular_calendar b.0 b.1 in
+    let origins = stamp_one a.1 b.1 is.origin is'.origin (sym (regular_origin a.0 a.1) ∙ ap (λ (l : List ℕ). take 8 (drop 1 l)) same ∙ regular_origin b.0 b.1) in
+    λ i. Some (slots i, origins i)
+
+series_one : (s t : SeriesDef) → IsSeriesDef s → IsSeriesDef t → series_bytes s.key s.container s.regular ≡ series_bytes t.key t.container t.regular → of_series s ≡ of_series t
+series_one s t is is' same =
+    let short = length-key s.key is.key in
+    let short' = length-key t.key is'.key in
+    let counts = sym (series_length s.key s.container s.regular) ∙ ap (λ (l : List ℕ). get_or l 1 0) same ∙ series_length t.key t.container t.regular in
+    let keys = sym (series_key s.key s.container s.regular short) ∙ (λ i. take (counts i) (drop 2 (same i))) ∙ series_key t.key t.container t.regular short' in
+    let slots = sym (series_container s.key s.container s.regular short) ∙ ap (λ (l : List ℕ). get_or l 66 0) same ∙ series_container t.key t.container t.regular short' in
+    let codes = sym (series_first s.key s.container s.regular) ∙ ap (λ (l : List ℕ). get_or l 0 0) same ∙ series_first t.key t.container t.regular in
+    let parts = sym (series_regular s.key s.container s.regular short) ∙ ap (drop 67) same ∙ series_regular t.key t.container t.regular short' in
+    let regulars = regular_one s.regular t.regular is.regular is'.regular codes parts in
+    λ i. defs.Series (keys i) (slots i) (regulars i)
 
 -- of one kind, as they are written
 def_one : (f g : ℕ) (kind : Kind) (a b : Def) → kind_of a ≡ kind → kind_of b ≡ kind → IsDef f a → IsDef g b → def_bytes a ≡ def_bytes b → as_written a ≡ as_written b
@@ -101,7 +112,8 @@ def_one f g kinds.RowType (defs.RowType name h) (defs.RowType name' h') is is' g
 def_one f g kinds.Pattern (defs.Pattern name p) (defs.Pattern name' p') is is' good good' same = pattern_one name p name' p' good good' same
 def_one f g kinds.Calendar (defs.Calendar name c by) (defs.Calendar name' c' by') is is' good good' same = calendar_written name c by name' c' by' good good' same
 def_one f g kinds.Container (defs.Container name r q) (defs.Container name' r' q') is is' good good' same = container_one name r q name' r' q' good good' same
-def_one f g kinds.Series (defs.Series key c) (defs.Series key' c') is is' good good' same = series_one key c key' c' good good' same
+def_one f g kinds.Series (defs.Series key c r) (defs.Series key' c' r') is is' good good' same =
+    series_one (record { key = key; container = c; regular = r }) (record { key = key'; container = c'; regular = r' }) good good' same
 def_one f g kind a b is is' good good' same = absurd (cc)
 
 -- a definition's first byte isn't 0, an empty slot's is
@@ -111,7 +123,8 @@ first_of_def (defs.RowType name h) = lit≤ tt
 first_of_def (defs.Pattern name p) = lit≤ tt
 first_of_def (defs.Calendar name c by) = lit≤ tt
 first_of_def (defs.Container name row_type quota) = lit≤ tt
-first_of_def (defs.Series key container) = lit≤ tt
+first_of_def (defs.Series key container None) = lit≤ tt
+first_of_def (defs.Series key container (Some regular)) = lit≤ tt
 
 first_of_empty : (kind : Kind) → get_or (slot_bytes kind None) 0 0 ≡ 0
 unfolding zero_page
@@ -140,7 +153,7 @@ slot_one f g kind a b other is is' same = sym (of_other kind a f other is) ∙ s
   written_other (defs.Pattern name p) other = refl
   written_other (defs.Calendar name c by) other = absurd (other refl)
   written_other (defs.Container name row_type quota) other = refl
-  written_other (defs.Series key container) other = refl
+  written_other (defs.Series key container regular) other = refl
 
   of_other : (kind : Kind) (o : Option Def) (f : ℕ) → kind ≢ kinds.Calendar → IsSlotOf f kind o → option_map as_written o ≡ o
   of_other kind None f other is = refl

@@ -56,12 +56,15 @@ rising_sorted : (es : List Element) → AreRising es → T (is_sorted int_cmp es
 rising_sorted [] rising = tt
 rising_sorted (e ∷ es) rising = both (below_all int_cmp e.0 es) (is_sorted int_cmp es) (below_later e.0 es (later_of e es rising)) (rising_sorted es (rising_tail e es rising))
 
-pub map_entries : (columns : List Column) (es : List Element) → AreInOrder columns es → entries (by_stamp es) ≡ es
-map_entries columns es order =
-    let sorted = rising_sorted es order.rising in
+pub rising_entries : (es : List Element) → AreRising es → entries (by_stamp es) ≡ es
+rising_entries es rising =
+    let sorted = rising_sorted es rising in
     let same : by_stamp es ≡ from_sorted {R = int_cmp} es = same_map int_cmp_total int_cmp-IsAntisymmetric (by_stamp es) (from_sorted {R = int_cmp} es)
     (λ q. map_found q es ∙ sym (get-from_sorted int_cmp es q sorted)) in
     ap entries same ∙ entries-from_sorted int_cmp es sorted
+
+pub map_entries : (columns : List Column) (es : List Element) → AreInOrder columns es → entries (by_stamp es) ≡ es
+map_entries columns es order = rising_entries es order.rising
 
 pub map_count : (columns : List Column) (es : List Element) → AreInOrder columns es → len (by_stamp es) ≡ length es
 map_count columns es order = len-entries (by_stamp es) ∙ ap (λ (l : List Element). length l) (map_entries columns es order)
@@ -77,7 +80,7 @@ same_stamp x y is = elim (int_cmp x y) as (λ (r : Ordering). int_cmp x y ≡ r 
 other_stamp : (x y : ℤ) → y <ℤ x → int_eq x y ≡ false
 other_stamp x y below = ap is_eq (sym (int_cmp_is x y Greater below))
 
-found_among : (q : ℤ) (r : Row) (es : List Element) → find int_cmp q es ≡ Some r → Among (q, r) es
+pub found_among : (q : ℤ) (r : Row) (es : List Element) → find int_cmp q es ≡ Some r → Among (q, r) es
 found_among q r [] is = absurd (let no : ⊥ = cc in no)
 found_among q r (e ∷ es) is = elim (int_eq q e.0) as (λ (b : Bool). int_eq q e.0 ≡ b → cond b (Some e.1) (find int_cmp q es) ≡ Some r → Among (q, r) (e ∷ es)) [
   | true ↦ λ t at. inl (let row : r ≡ e.1 = cc in let stamp = same_stamp q e.0 t in λ i. (stamp i, row i))

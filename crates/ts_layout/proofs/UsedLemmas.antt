@@ -1,5 +1,5 @@
 -- How many pages the series take, by what their containers are charged.
-use Rattle.std.proofs.Common.{◌≡◌, ℕ, zero, suc, ◌+◌, ◌<◌, ◌≤◌, ◌==◌, ◌≢◌, Bool, true, false, if◌then◌else◌, IsSome, Option, Some, None, List, [], ◌∷◌, length, get_or, refl, sym, ap, subst, ◌∙◌, arith, inl, inr, ◌⊎◌, lit≤}
+use Rattle.std.proofs.Common.{◌≡◌, ℕ, ℤ, zero, suc, ◌+◌, ◌<◌, ◌≤◌, ◌==◌, ◌≢◌, Bool, true, false, if◌then◌else◌, IsSome, Option, Some, None, List, [], ◌∷◌, length, get_or, refl, sym, ap, subst, ◌∙◌, arith, inl, inr, ◌⊎◌, lit≤}
 use Rattle.std.specs.Option.{option_map, option_and_then, unwrap_or}
 use Rattle.std.specs.List.{sum_by}
 use Rattle.std.proofs.lemmas.Bool.{cases_eq}
@@ -8,13 +8,12 @@ use Rattle.std.proofs.lemmas.List.Sums.{sum_by-cons}
 use Rattle.ts_row.specs.RowType.{Heading}
 use Rattle.ts_space.specs.declared.place.Place.{Place}
 use Rattle.ts_space.specs.Directory.{Directory, places_of, used_of}
-use Rattle.ts_space.specs.Charge.{irregular_places_charge}
 use Rattle.ts_cells.specs.Cell.{page_room}
 use Rattle.ts_model.specs.declared.kind.Kind.TheVariants as kinds
 use Rattle.ts_model.specs.declared.def.Def.{Def}
 use Rattle.ts_model.specs.Definitions.{Definitions, RowTypeDef, ContainerDef, SeriesDef, at_slot, of_row_type, of_container, of_series}
 use Rattle.ts_layout.specs.Meaning.{def_at, heading_of_container, AreThere, AreSound, quota_in, sum_of_quotas}
-use Rattle.ts_layout.specs.Charges.{charge_listed, charges_listed, container_charge, KeepQuotas}
+use Rattle.ts_layout.specs.Charges.{places_charge, charge_listed, charges_listed, container_charge, KeepQuotas}
 use Rattle.ts_layout.proofs.PlaceLemmas.{at_slot-map}
 use Rattle.ts_layout.proofs.LayoutLemmas.{within_table}
 
@@ -39,6 +38,11 @@ has_container d references slot s within there =
     let here : def_at kinds.Series slot d ≡ Some (of_series s) = at_slot-map of_series slot d.series ∙ ap (option_map of_series) there in
     let is = (references kinds.Series slot (of_series s) within here).0 in
     some_container (at_slot s.container d.containers) (subst (λ (o : Option Def). IsSome o) (at_slot-map of_container s.container d.containers) is)
+
+-- a series without places is charged nothing
+pub nothing_charged : (room : ℕ) (regular : Option (ℕ × ℤ)) → places_charge room regular [] ≡ 0
+nothing_charged room None = refl
+nothing_charged room (Some regular) = refl
 
 -- sums over a table of containers, by slot
 abbrev pub sum_at : (ℕ → Option ContainerDef → ℕ) → ℕ → List (Option ContainerDef) → ℕ
@@ -114,17 +118,17 @@ pub record IsCharged (d : Definitions) (places : List Place) (slot : ℕ) : Type
   pub series_there : at_slot slot d.series ≡ Some series
   pub container_there : at_slot series.container d.containers ≡ Some container
   pub columns : heading_of_container d container ≡ Some heading
-  pub within : length places ≤ irregular_places_charge (page_room heading.columns) places
+  pub within : length places ≤ places_charge (page_room heading.columns) series.regular places
 
 abbrev pub AreCharged : Definitions → Directory → Type 0
 AreCharged d space = (slot : ℕ) → slot < 4096 → (places_of slot space ≡ []) ⊎ IsCharged d (places_of slot space) slot
 
 one_kept : (d : Definitions) (space : Directory) (j n k : ℕ) (o : Option SeriesDef) (at : Option ContainerDef) (s : SeriesDef) (c : ContainerDef) (h : Heading) → n ≡ j → o ≡ Some s → k ≡ s.container → at ≡ Some c → heading_of_container d c ≡ Some h
-    → one_charged d space n o k at ≡ irregular_places_charge (page_room h.columns) (places_of j space)
+    → one_charged d space n o k at ≡ places_charge (page_room h.columns) s.regular (places_of j space)
 one_kept d space j n k o at s c h n_is o_is k_is at_is heading =
     let t : (s.container == s.container) ≡ true = grind (arith, nat_tests) in
     (λ i. one_charged d space (n_is i) (o_is i) (k_is i) (at_is i))
-    ∙ (λ i. if t i then irregular_places_charge (unwrap_or (option_map (λ x. page_room x.columns) (heading i)) 0) (places_of j space) else 0)
+    ∙ (λ i. if t i then places_charge (unwrap_or (option_map (λ x. page_room x.columns) (heading i)) 0) s.regular (places_of j space) else 0)
 
 each_kept : (d : Definitions) (space : Directory) → AreCharged d space → (j : ℕ) → j < 4096 → length (places_of j space) ≤ sum_at (one_charged d space (0 + j) (at_slot j d.series)) 0 d.containers
 each_kept d space charged j within = elim (charged j within) [

@@ -1,21 +1,28 @@
 -- What definitions are in the catalogue, by names in place of slots; and series and containers without elements.
-use Rattle.std.proofs.Common.{◌≡◌, ◌≢◌, ℕ, zero, suc, ◌+◌, ◌≤◌, ◌==◌, Bool, true, false, if◌then◌else◌, Option, Some, None, List, [], ◌∷◌, ◌++◌, map, length, set, refl, ap, subst, ◌∙◌, arith, add-zero, lit≤}
+use Rattle.std.specs.Prelude.{IsPermutation}
+use Rattle.std.proofs.Common.{◌≡◌, ◌≢◌, ℕ, ℤ, zero, suc, ◌+◌, ◌≤◌, ◌==◌, Bool, true, false, if◌then◌else◌, Option, Some, None, List, [], ◌∷◌, ◌++◌, map, length, set, refl, sym, ap, subst, ◌∙◌, arith, add-zero, lit≤}
 use Rattle.std.specs.Option.{option_map, unwrap_or}
 use Rattle.std.specs.FinMap.{insert, remove, empty, from_entries}
 use Rattle.std.specs.Ordering.{int_cmp}
 use Rattle.std.proofs.lemmas.Bool.Decides.{nat_tests}
+use Rattle.std.proofs.lemmas.List.Sorted.{IsPermutation-refl}
 use Rattle.ts_space.specs.Charge.{irregular_charge}
 use Rattle.ts_cells.specs.Cell.{Element}
+use Rattle.ts_row.specs.declared.kind.Column.{Column}
+use Rattle.ts_offset.specs.declared.shape.Shape.{Shape}
+use Rattle.ts_offset.specs.declared.shape.Shape.TheVariants as shapes
 use Rattle.ts_model.specs.declared.kind.Kind.{Kind}
 use Rattle.ts_model.specs.declared.kind.Kind.TheVariants as kinds
 use Rattle.ts_model.specs.declared.def.Def.{Def}
 use Rattle.ts_calendar.specs.declared.text.PatternPart.TheVariants.{Named as ByName, Own}
+use Rattle.ts_model.specs.Catalogue.{Irregular, Regular}
 use Rattle.ts_model.specs.Kinds.{In, with_named, without}
-use Rattle.ts_model.specs.Definitions.{Definitions, RowTypeDef, PatternDef, CalendarDef, ContainerDef, SeriesDef, KindDef, to_def, table_of, name_of, slot_of, at_slot, Refers}
-use Rattle.ts_layout.specs.Meaning.{Layout, ElementPage, Free, Cells, elements_on, elements_of, elements_at, sum_filled, charge_of_series, name_at, part_of, text_of, container_of, series_of, value_of, named_in, catalogue_of}
+use Rattle.ts_model.specs.Definitions.{Definitions, RowTypeDef, PatternDef, CalendarDef, ContainerDef, SeriesDef, KindDef, to_def, table_of, name_of, slot_of, at_slot, calendar_reference, Refers}
+use Rattle.ts_layout.specs.Meaning.{Layout, ElementPage, Free, Cells, elements_on, elements_of, elements_at, sheets_on, sheets_of, sum_filled, charge_on, charge_of_series, IsInSequence, name_at, part_of, text_of, container_of, kind_in, series_of, value_of, named_in, catalogue_of}
+use Rattle.ts_layout.specs.Sheets.{Sheet, AreInSequence}
 use Rattle.ts_layout.specs.Changed.{HasNoPage}
 use Rattle.ts_layout.proofs.FilledLemmas.{slot_there}
-use Rattle.ts_layout.proofs.ReferLemmas.{first_of, calendar_target}
+use Rattle.ts_layout.proofs.ReferLemmas.{first_of, calendar_target, series_target}
 
 -- the name of what stands in a slot
 pub same_name_at : {A : Type 0} (name : A → List ℕ) (slot : ℕ) (table table' : List (Option A)) → at_slot slot table ≡ at_slot slot table' → name_at name slot table ≡ name_at name slot table'
@@ -32,6 +39,11 @@ same_part : (l : Layout) (d : Definitions) (c : CalendarDef) (by : Option ℕ) �
 same_part l d c None same = refl
 same_part l d c (Some at) same = ap (λ (n : List ℕ). ByName n) (same_name_at (λ (p : PatternDef). p.name) at d.patterns l.definitions.patterns (same at refl))
 
+-- how the elements of a series lie is the same where its calendar is the same
+same_kind : (l : Layout) (d : Definitions) (regular : Option (ℕ × ℤ)) → ((at : ℕ) (origin : ℤ) → regular ≡ Some (at, origin) → at_slot at d.calendars ≡ at_slot at l.definitions.calendars) → kind_in d regular ≡ kind_in l.definitions regular
+same_kind l d None same = refl
+same_kind l d (Some (at, origin)) same = ap (λ (n : List ℕ). Regular n origin) (same_name_at (λ (c : CalendarDef). c.name) at d.calendars l.definitions.calendars (same at origin refl))
+
 -- a definition is the same in the catalogue where what it refers to is the same
 pub same_value : (kind : Kind) (l : Layout) (d : Definitions) (i : ℕ) (a : KindDef kind) → ((target : Kind) (at : ℕ) → Refers (to_def kind a) target at → at_slot at (table_of target d) ≡ at_slot at (table_of target l.definitions))
     → value_of kind (record l { definitions = d }) i a ≡ value_of kind l i a
@@ -47,7 +59,8 @@ same_value kinds.Container l d i c same =
     }
 same_value kinds.Series l d i s same =
     λ j. record {
-      container = same_name_at (λ (c : ContainerDef). c.name) s.container d.containers l.definitions.containers (same kinds.Container s.container (first_of (kinds.Container, s.container) (kinds.Container, s.container) [] refl)) j;
+      container = same_name_at (λ (c : ContainerDef). c.name) s.container d.containers l.definitions.containers (same kinds.Container s.container (first_of (kinds.Container, s.container) (kinds.Container, s.container) (calendar_reference s.regular) refl)) j;
+      kind = same_kind l d s.regular (λ at origin is. same kinds.Calendar at (series_target s at origin is)) j;
       elements = elements_at i l.element_pages;
     }
 
@@ -89,21 +102,52 @@ no_charge pages container room first (Some s ∷ table) none =
     omega (arith, here, no_charge pages container room (suc first) table (λ i t there. none (suc i) t there))
 
 -- a series without a page has no elements
-no_elements_on : (slot : ℕ) (e : ElementPage) → ((es : List Element) → e ≡ Cells slot es → ⊥) → elements_on slot e ≡ []
+no_elements_on : (slot : ℕ) (e : ElementPage) → ((sheet : Sheet) → e ≡ Cells slot sheet → ⊥) → elements_on slot e ≡ []
 no_elements_on slot Free none = refl
-no_elements_on slot (Cells s es) none =
-    let other : s ≢ slot = λ same. none es (ap (λ (n : ℕ). Cells n es) same) in
+no_elements_on slot (Cells s sheet) none =
+    let other : s ≢ slot = λ same. none sheet (ap (λ (n : ℕ). Cells n sheet) same) in
     let f : (s == slot) ≡ false = grind (arith, nat_tests) in
     rw f refl
 
 pub no_elements_of : (slot : ℕ) (pages : List ElementPage) → HasNoPage slot pages → elements_of slot pages ≡ []
 no_elements_of slot [] none = refl
-no_elements_of slot (e ∷ pages) none = λ j. no_elements_on slot e (none 0) j ++ no_elements_of slot pages (λ i es is. none (suc i) es is) j
+no_elements_of slot (e ∷ pages) none = λ j. no_elements_on slot e (none 0) j ++ no_elements_of slot pages (λ i sheet is. none (suc i) sheet is) j
+
+no_elements_at : (slot : ℕ) (pages : List ElementPage) → HasNoPage slot pages → elements_at slot pages ≡ empty
+no_elements_at slot pages none = ap (λ (es : List Element). from_entries {R = int_cmp} es) (no_elements_of slot pages none)
+
+no_sheets_on : (slot : ℕ) (e : ElementPage) → ((sheet : Sheet) → e ≡ Cells slot sheet → ⊥) → sheets_on slot e ≡ []
+no_sheets_on slot Free none = refl
+no_sheets_on slot (Cells s sheet) none =
+    let other : s ≢ slot = λ same. none sheet (ap (λ (n : ℕ). Cells n sheet) same) in
+    let f : (s == slot) ≡ false = grind (arith, nat_tests) in
+    rw f refl
+
+pub no_sheets_of : (slot : ℕ) (pages : List ElementPage) → HasNoPage slot pages → sheets_of slot pages ≡ []
+no_sheets_of slot [] none = refl
+no_sheets_of slot (e ∷ pages) none = λ j. no_sheets_on slot e (none 0) j ++ no_sheets_of slot pages (λ i sheet is. none (suc i) sheet is) j
+
+none_in_sequence : (shape : Shape) (columns : List Column) → AreInSequence shape columns []
+none_in_sequence shapes.Irregular columns = record { pages = tt; dense = tt }
+none_in_sequence (shapes.Regular grid) columns = tt
+
+pub no_sequence_in : (shape : Shape) (slot : ℕ) (columns : List Column) (pages : List ElementPage) → HasNoPage slot pages → IsInSequence shape slot columns pages
+no_sequence_in shape slot columns pages none = record {
+  sheets = [];
+  is = none_in_sequence shape columns;
+  all = subst (λ (sheets : List Sheet). IsPermutation [] sheets) (sym (no_sheets_of slot pages none)) (IsPermutation-refl []);
+}
 
 -- and is charged nothing
-pub no_elements_charge : (b : Bool) (room : ℕ) (es : List Element) → es ≡ [] → (if b then irregular_charge room (length es) else 0) ≡ 0
-no_elements_charge true room es none = ap (λ (l : List Element). irregular_charge room (length l)) none
-no_elements_charge false room es none = refl
+no_charge_on : (pages : List ElementPage) (room slot : ℕ) (regular : Option (ℕ × ℤ)) → HasNoPage slot pages → charge_on pages room slot regular ≡ 0
+no_charge_on pages room slot None none = ap (λ (es : List Element). irregular_charge room (length es)) (no_elements_of slot pages none)
+no_charge_on pages room slot (Some regular) none = ap length (no_sheets_of slot pages none)
+
+pub no_series_charge : (pages : List ElementPage) (container room slot : ℕ) (s : SeriesDef) → HasNoPage slot pages → charge_of_series pages container room slot s ≡ 0
+no_series_charge pages container room slot s none = if_zero (s.container == container) (charge_on pages room slot s.regular) (no_charge_on pages room slot s.regular none) where
+  if_zero : (b : Bool) (n : ℕ) → n ≡ 0 → (if b then n else 0) ≡ 0
+  if_zero true n is = is
+  if_zero false n is = refl
 
 -- a sum of which one slot adds nothing then
 pub sum_filled_less : {A : Type 0} (f : ℕ → A → ℕ) (first slot : ℕ) (o : Option A) (table : List (Option A)) → ((a : A) → f (first + slot) a ≡ 0) → sum_filled f first (set table slot o) ≤ sum_filled f first table
@@ -138,11 +182,27 @@ text_own l c by =
     let part : part_of l.definitions c c.by ≡ Own c.calendar.pattern = ap (part_of l.definitions c) by in
     λ j. record { start = c.calendar.start; patt_start = c.calendar.patt_start; part = part j }
 
--- a container by the name of its row type, and a series without a page by that of its container
+-- a container by the name of its row type, and a series without a page by that of its container and, if it is regular, of its calendar
 pub container_named : (l : Layout) (c : ContainerDef) (holder : List ℕ) → slot_of holder (map (option_map (to_def kinds.RowType)) l.definitions.row_types) ≡ Some c.row_type → container_of l.definitions c ≡ record { row_type = holder; quota = c.quota }
 container_named l c holder is = λ j. record { row_type = name_there (λ (r : RowTypeDef). r.name) (to_def kinds.RowType) (λ r. refl) l.definitions.row_types holder c.row_type is j; quota = c.quota }
 
-pub series_named : (l : Layout) (slot : ℕ) (s : SeriesDef) (holder : List ℕ) → HasNoPage slot l.element_pages → slot_of holder (map (option_map (to_def kinds.Container)) l.definitions.containers) ≡ Some s.container → series_of l slot s ≡ record { container = holder; elements = empty }
-series_named l slot s holder none is =
-    let nothing : elements_at slot l.element_pages ≡ empty = ap (λ (es : List Element). from_entries {R = int_cmp} es) (no_elements_of slot l.element_pages none) in
-    λ j. record { container = name_there (λ (c : ContainerDef). c.name) (to_def kinds.Container) (λ c. refl) l.definitions.containers holder s.container is j; elements = nothing j }
+pub irregular_named : (l : Layout) (slot : ℕ) (s : SeriesDef) (holder : List ℕ) → HasNoPage slot l.element_pages → slot_of holder (map (option_map (to_def kinds.Container)) l.definitions.containers) ≡ Some s.container → s.regular ≡ None
+    → series_of l slot s ≡ record { container = holder; kind = Irregular; elements = empty }
+irregular_named l slot s holder none is kind =
+    λ j. record {
+      container = name_there (λ (c : ContainerDef). c.name) (to_def kinds.Container) (λ c. refl) l.definitions.containers holder s.container is j;
+      kind = kind_in l.definitions (kind j);
+      elements = no_elements_at slot l.element_pages none j;
+    }
+
+pub regular_named : (l : Layout) (slot at : ℕ) (origin : ℤ) (s : SeriesDef) (holder calendar : List ℕ) → HasNoPage slot l.element_pages
+    → slot_of holder (map (option_map (to_def kinds.Container)) l.definitions.containers) ≡ Some s.container → s.regular ≡ Some (at, origin)
+    → slot_of calendar (map (option_map (to_def kinds.Calendar)) l.definitions.calendars) ≡ Some at → series_of l slot s ≡ record { container = holder; kind = Regular calendar origin; elements = empty }
+regular_named l slot at origin s holder calendar none is kind named =
+    let name = name_there (λ (c : CalendarDef). c.name) (to_def kinds.Calendar) (λ c. refl) l.definitions.calendars calendar at named in
+    let lies : kind_in l.definitions s.regular ≡ Regular calendar origin = ap (kind_in l.definitions) kind ∙ ap (λ (n : List ℕ). Regular n origin) name in
+    λ j. record {
+      container = name_there (λ (c : ContainerDef). c.name) (to_def kinds.Container) (λ c. refl) l.definitions.containers holder s.container is j;
+      kind = lies j;
+      elements = no_elements_at slot l.element_pages none j;
+    }

@@ -1,5 +1,5 @@
 -- The pages of series in a layout, and layouts in which one series has other pages.
-use Rattle.std.specs.Prelude.{◌≡◌, ℕ, ◌-◌, ◌≤◌, ◌==◌, if◌then◌else◌, ◌++◌, Some, None, Contains, IsPermutation, List, [], ◌∷◌, length, map, All, replicate, slice_set}
+use Rattle.std.specs.Prelude.{◌≡◌, ℕ, pos, unwrap_or, ◌-◌, ◌≤◌, ◌==◌, if◌then◌else◌, ◌++◌, Some, None, Contains, IsPermutation, List, [], ◌∷◌, length, map, All, replicate, slice_set}
 use Rattle.std.specs.FinMap.{from_entries}
 use Rattle.ts_row.specs.declared.kind.Column.{Column}
 use Rattle.ts_row.specs.RowType.{Heading}
@@ -8,7 +8,12 @@ use Rattle.ts_page.specs.Pages.{IsFreePage, Contents}
 use Rattle.ts_space.specs.declared.place.Place.{Place}
 use Rattle.ts_space.specs.Place.{IsRising, count_of, pages_of}
 use Rattle.ts_cells.specs.Cell.{Element, page_room}
-use Rattle.ts_cells.specs.IrregularPage.{FillPage}
+use Rattle.ts_regular.specs.Offsets.{elements_from}
+use Rattle.ts_regular.specs.Places.{OffsetPage, AreOn, all_in as all_at}
+use Rattle.ts_regular_edits.specs.Stamped.{stamped, HaveStarts}
+use Rattle.ts_offset.specs.Grid.{GridPlan}
+use Rattle.ts_offset.specs.declared.shape.Shape.{Shape}
+use Rattle.ts_cells.specs.IrregularPage.{first_stamp}
 use Rattle.ts_chain.specs.Chain.{IsChain, all_in}
 use Rattle.ts_chain.specs.Places.{AreChained}
 use Rattle.ts_model.specs.Catalogue.{Catalogue, Elements}
@@ -16,7 +21,8 @@ use Rattle.ts_model.specs.declared.kind.Kind.TheVariants as kinds
 use Rattle.ts_model.specs.Kinds.{with_named}
 use Rattle.ts_model.specs.Definitions.{Definitions, ContainerDef, SeriesDef, at_slot, with_slot}
 use Rattle.ts_layout.specs.Limits.{AreOfFormat}
-use Rattle.ts_layout.specs.Meaning.{ElementPage, Free, Cells, Layout, element_page, elements_at, heading_at, heading_of_container, charge_of_container, series_of, catalogue_of}
+use Rattle.ts_layout.specs.Sheets.{Sheet, FillSheet, AreInSequence, AreSheetsOn}
+use Rattle.ts_layout.specs.Meaning.{ElementPage, Free, Cells, Layout, element_page, elements_at, heading_at, shape_at, heading_of_container, charge_of_container, series_of, catalogue_of}
 
 -- elements by their stamps
 abbrev pub by_stamp : List Element → Elements
@@ -26,11 +32,18 @@ by_stamp es = from_entries es
 abbrev pub with_elements_at : ℕ → SeriesDef → Elements → Layout → Catalogue
 with_elements_at slot s es l = with_named kinds.Series s.key (record (series_of l slot s) { elements = es }) (catalogue_of l)
 
--- each page of elements has those of a series that is defined: one at least, in order, at most as many as it has room for,
--- and of the format
+-- a sheet is such as a page of the series in a slot can have, and its elements are of the format
+pub record IsFilledFor (d : Definitions) (slot : ℕ) (sheet : Sheet) : Type 0 where
+  pub heading : Heading
+  pub shape : Shape
+  pub columns : heading_at d slot ≡ Some heading
+  pub lies : shape_at d slot ≡ Some shape
+  pub fill : FillSheet shape heading.columns sheet
+  pub of_format : AreOfFormat d.format sheet.1
+
+-- each page of elements has those of a series that is defined
 abbrev pub AreFilled : Layout → Type 0
-AreFilled l = (i slot : ℕ) (es : List Element) → element_page i l.element_pages ≡ Cells slot es
-    → (heading : Heading) × (heading_at l.definitions slot ≡ Some heading) × FillPage heading.columns es × AreOfFormat l.definitions.format es
+AreFilled l = (i slot : ℕ) (sheet : Sheet) → element_page i l.element_pages ≡ Cells slot sheet → IsFilledFor l.definitions slot sheet
 
 -- the container of the series in a slot is charged its quota at most
 abbrev pub KeepsQuotaOf : ℕ → Layout → Type 0
@@ -39,7 +52,7 @@ KeepsQuotaOf slot l =
     → at_slot s.container l.definitions.containers ≡ Some c → heading_of_container l.definitions c ≡ Some h
     → charge_of_container l s.container (page_room h.columns) ≤ c.quota
 
--- A chain is all that a series has: these pages hold it as its places tell, and its elements are those of the series.
+-- A chain is all that an irregular series has: these pages hold it as its places tell, and its elements are those of the series.
 pub record IsChainOf (slot : ℕ) (columns : List Column) (pages : ℕ → List ℕ) (places : List Place) (l : Layout) (chain : List (List Element)) : Type 0 where
   pub is : IsChain columns chain
   pub on : AreChained slot columns pages places chain
@@ -47,26 +60,43 @@ pub record IsChainOf (slot : ℕ) (columns : List Column) (pages : ℕ → List 
   pub count : count_of places ≡ length (all_in chain)
   pub of_format : AreOfFormat l.definitions.format (all_in chain)
 
+-- Cells at offsets are all that a regular series has: these pages hold them as its places tell, and its elements are theirs, each at the
+-- on start of its offset.
+pub record IsOnGrid (grid : GridPlan) (slot : ℕ) (columns : List Column) (pages : ℕ → List ℕ) (places : List Place) (l : Layout) (ps : List OffsetPage) : Type 0 where
+  pub on : AreOn slot columns pages places ps
+  pub starts : HaveStarts grid (all_at ps)
+  pub elements : elements_at slot l.element_pages ≡ by_stamp (stamped grid (all_at ps))
+  pub count : count_of places ≡ length (all_at ps)
+  pub of_format : AreOfFormat l.definitions.format (stamped grid (all_at ps))
+
+-- the sheets of a chain, each from its first stamp on
+abbrev pub chain_sheets : List (List Element) → List Sheet
+chain_sheets chain = map (λ es. (unwrap_or (first_stamp es) (pos 0), es)) chain
+
+-- the sheets of pages on a grid
+abbrev pub grid_sheets : GridPlan → List OffsetPage → List Sheet
+grid_sheets grid ps = map (λ p. (pos p.0, stamped grid (elements_from p.0 p.1))) ps
+
 -- an element page, free where it has elements of the series in a slot
 abbrev pub freed : ℕ → ElementPage → ElementPage
 freed slot Free = Free
-freed slot (Cells s es) = if s == slot then Free else Cells s es
+freed slot (Cells s sheet) = if s == slot then Free else Cells s sheet
 
--- the pages of these numbers have the elements of a chain, one list each
-abbrev pub with_chain : ℕ → List ℕ → List (List Element) → List ElementPage → List ElementPage
-with_chain slot [] chain pages = pages
-with_chain slot (number ∷ numbers) [] pages = pages
-with_chain slot (number ∷ numbers) (es ∷ chain) pages = slice_set (with_chain slot numbers chain pages) (number - first_element_page) (Cells slot es)
+-- the pages of these numbers have these sheets
+abbrev pub with_sheets : ℕ → List ℕ → List Sheet → List ElementPage → List ElementPage
+with_sheets slot [] sheets pages = pages
+with_sheets slot (number ∷ numbers) [] pages = pages
+with_sheets slot (number ∷ numbers) (sheet ∷ sheets) pages = slice_set (with_sheets slot numbers sheets pages) (number - first_element_page) (Cells slot sheet)
 
--- the layout in which the series in a slot has these pages with a chain, and no others
-abbrev pub rewritten : ℕ → List ℕ → List (List Element) → Layout → Layout
-rewritten slot numbers chain l = record l { element_pages = with_chain slot numbers chain (map (freed slot) l.element_pages) }
+-- the layout in which the series in a slot has these pages with these sheets, and no others
+abbrev pub rewritten : ℕ → List ℕ → List Sheet → Layout → Layout
+rewritten slot numbers sheets l = record l { element_pages = with_sheets slot numbers sheets (map (freed slot) l.element_pages) }
 
--- The places of a series and its pages become others, which have a chain: they are of the pages that were free or its own; what is
+-- The places of a series and its pages become others, which have these sheets: they are of the pages that were free or its own; what is
 -- free then is so; and no other page changes.
-pub record IsRewritten (slot : ℕ) (columns : List Column) (old new : List Place) (chain : List (List Element)) (v w : Contents) : Type 0 where
-  pub is : IsChain columns chain
-  pub on : AreChained slot columns w.page new chain
+pub record IsRewritten (shape : Shape) (slot : ℕ) (columns : List Column) (old new : List Place) (sheets : List Sheet) (v w : Contents) : Type 0 where
+  pub is : AreInSequence shape columns sheets
+  pub on : AreSheetsOn shape slot columns w.page new sheets
   pub rising : IsRising new
   pub pages : IsPermutation (v.free ++ pages_of old) (w.free ++ pages_of new)
   pub freed : All (λ number. IsFreePage (w.page number)) w.free

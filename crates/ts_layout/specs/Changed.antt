@@ -1,8 +1,8 @@
 -- What one slot that is filled or emptied, or another format, changes in a layout, and what pages that mean the same may
 -- differ in.
-use Rattle.std.specs.Prelude.{◌≡◌, ℕ, ◌<◌, ◌≤◌, ◌⊎◌, Option, Some, None, option_and_then, List, ◌+◌, ◌++◌, length, take, drop}
+use Rattle.std.specs.Prelude.{◌≡◌, ℕ, ◌<◌, ◌≤◌, ◌⊎◌, Option, Some, None, IfSome, option_and_then, List, ◌+◌, ◌++◌, length, take, drop}
 use Rattle.ts_page.specs.Pages.{IsOutsideJournal, IsElementPage, HasFreeHead}
-use Rattle.ts_cells.specs.Cell.{Element}
+use Rattle.ts_layout.specs.Sheets.{Sheet}
 use Rattle.ts_model.specs.declared.kind.Kind.{Kind}
 use Rattle.ts_model.specs.declared.kind.Kind.TheVariants as kinds
 use Rattle.ts_model.specs.declared.def.Def.{Def}
@@ -11,7 +11,7 @@ use Rattle.ts_calendar.specs.Calendar.{IsValid}
 use Rattle.ts_model.specs.Kinds.{HasNoPages}
 use Rattle.ts_model.specs.Definitions.{Definitions, limit, kind_of, name_of, from_def, slots, with_slot, with_format, slot_of, references, IsUsed}
 use Rattle.ts_layout.specs.Limits.{IsDef}
-use Rattle.ts_layout.specs.Meaning.{Layout, ElementPage, Cells, element_page, def_at, heading_at, quota_in, sum_of_quotas, IsThere, Follows}
+use Rattle.ts_layout.specs.Meaning.{Layout, ElementPage, Cells, element_page, def_at, heading_at, shape_at, quota_in, sum_of_quotas, IsThere, Follows, IsOnCalendar}
 use Rattle.ts_layout.specs.Slot.{slot_bytes, slot_size, byte_of_slot}
 
 -- outside the journal the same pages, but for the bytes behind the heads of free element pages
@@ -32,14 +32,14 @@ layout_with kind slot def l = record l { definitions = with_slot kind slot def l
 abbrev pub layout_in : ℕ → Layout → Layout
 layout_in format l = record l { definitions = with_format format l.definitions }
 
--- by other definitions the elements on each page have the same columns
-abbrev pub KeepsHeadings : Definitions → Layout → Type 0
-KeepsHeadings d l =
-    (i slot : ℕ) (es : List Element) → element_page i l.element_pages ≡ Cells slot es → heading_at d slot ≡ heading_at l.definitions slot
+-- by other definitions the elements on each page have the same columns, and can stand where they could
+pub record KeepsElements (d : Definitions) (l : Layout) : Type 0 where
+  pub headings : (i slot : ℕ) (sheet : Sheet) → element_page i l.element_pages ≡ Cells slot sheet → heading_at d slot ≡ heading_at l.definitions slot
+  pub shapes : (i slot : ℕ) (sheet : Sheet) → element_page i l.element_pages ≡ Cells slot sheet → shape_at d slot ≡ shape_at l.definitions slot
 
 -- no page has elements of the series in a slot
 abbrev pub HasNoPage : ℕ → List ElementPage → Type 0
-HasNoPage slot pages = (i : ℕ) (es : List Element) → element_page i pages ≡ Cells slot es → ⊥
+HasNoPage slot pages = (i : ℕ) (sheet : Sheet) → element_page i pages ≡ Cells slot sheet → ⊥
 
 -- a calendar that is valid, and that has the pattern of the slot by whose name it is made; of other definitions nothing is asked
 abbrev pub KeepsCalendarRules : Def → Definitions → Type 0
@@ -47,9 +47,17 @@ KeepsCalendarRules (defs.Calendar name calendar by) d = IsValid calendar × Foll
 KeepsCalendarRules (defs.RowType name kind) d = Unit {0}
 KeepsCalendarRules (defs.Pattern name pattern) d = Unit {0}
 KeepsCalendarRules (defs.Container name row_type quota) d = Unit {0}
-KeepsCalendarRules (defs.Series key container) d = Unit {0}
+KeepsCalendarRules (defs.Series key container regular) d = Unit {0}
 
--- this definition can be put into a slot: the slot is empty, the name is new, what it refers to is there, and it is valid
+-- the origin of a regular series is an on start of its calendar; of other definitions nothing is asked
+abbrev pub HasOrigin : Def → Definitions → Type 0
+HasOrigin (defs.Series key container regular) d = IfSome regular (IsOnCalendar d)
+HasOrigin (defs.RowType name kind) d = Unit {0}
+HasOrigin (defs.Pattern name pattern) d = Unit {0}
+HasOrigin (defs.Calendar name calendar by) d = Unit {0}
+HasOrigin (defs.Container name row_type quota) d = Unit {0}
+
+-- this definition can be put into a slot: the slot is empty, the name is new, what it refers to is there, it is valid, and its origin is one
 pub record CanCreate (slot : ℕ) (def : Def) (d : Definitions) : Type 0 where
   pub within : slot < limit (kind_of def)
   pub empty : def_at (kind_of def) slot d ≡ None
@@ -57,6 +65,7 @@ pub record CanCreate (slot : ℕ) (def : Def) (d : Definitions) : Type 0 where
   pub limits : IsDef d.format def
   pub refers : IsThere d (references def)
   pub valid : KeepsCalendarRules def d
+  pub origin : HasOrigin def d
 
 -- how many pages a definition is granted: a container its quota
 abbrev pub granted : Option Def → ℕ

@@ -1,21 +1,32 @@
 -- What containers are charged, by the directory.
-use Rattle.std.specs.Prelude.{◌≡◌, ℕ, suc, ◌+◌, ◌^◌, ◌<◌, ◌≤◌, ◌==◌, if◌then◌else◌, Option, Some, None, option_map, unwrap_or, List, [], ◌∷◌}
+use Rattle.std.specs.Prelude.{◌≡◌, ℕ, ℤ, length, suc, ◌+◌, ◌^◌, ◌<◌, ◌≤◌, ◌==◌, if◌then◌else◌, Option, Some, None, option_map, unwrap_or, List, [], ◌∷◌}
 use Rattle.ts_row.specs.RowType.{Heading}
 use Rattle.ts_space.specs.Directory.{Directory, places_of}
+use Rattle.ts_space.specs.declared.place.Place.{Place}
 use Rattle.ts_space.specs.Place.{count_of}
 use Rattle.ts_space.specs.Charge.{irregular_places_charge}
 use Rattle.ts_cells.specs.Cell.{page_room}
 use Rattle.ts_model.specs.Definitions.{Definitions, ContainerDef, SeriesDef, at_slot, container_slots, series_slots}
 use Rattle.ts_layout.specs.Meaning.{heading_of_container, heading_in}
 
--- no series has so many elements that they couldn't be counted
-abbrev pub AreCountable : Directory → Type 0
-AreCountable space = (slot : ℕ) → slot < series_slots → count_of (places_of slot space) < 2 ^ 32
+-- places so few, with so few elements, that both can be counted
+abbrev pub IsCountable : List Place → Type 0
+IsCountable places = count_of places + length places < 2 ^ 32
 
--- what stands in a slot is charged to a container, where a page has room for so many elements
+-- those of each series are
+abbrev pub AreCountable : Directory → Type 0
+AreCountable space = (slot : ℕ) → slot < series_slots → IsCountable (places_of slot space)
+
+-- what a series with these places is charged: an irregular one by its elements, where a page has room for so many, a regular one for each
+-- place
+abbrev pub places_charge : ℕ → Option (ℕ × ℤ) → List Place → ℕ
+places_charge room None places = irregular_places_charge room places
+places_charge room (Some regular) places = length places
+
+-- what stands in a slot is charged to a container
 abbrev pub charge_listed : Directory → ℕ → ℕ → ℕ → Option SeriesDef → ℕ
 charge_listed space container room slot None = 0
-charge_listed space container room slot (Some s) = if s.container == container then irregular_places_charge room (places_of slot space) else 0
+charge_listed space container room slot (Some s) = if s.container == container then places_charge room s.regular (places_of slot space) else 0
 
 -- the sum over slots, from slot number `first` on
 abbrev pub charges_listed : Directory → ℕ → ℕ → ℕ → List (Option SeriesDef) → ℕ

@@ -5,11 +5,11 @@ use Rattle.ts_page.specs.Volume.{first_element_page}
 use Rattle.ts_page.specs.Pages.{Contents}
 use Rattle.ts_space.specs.declared.place.Place.{Place}
 use Rattle.ts_space.specs.Directory.{Directory, places_of}
-use Rattle.ts_cells.specs.Cell.{Element}
-use Rattle.ts_chain.specs.Chain.{all_in}
+use Rattle.ts_offset.specs.declared.shape.Shape.{Shape}
 use Rattle.ts_model.specs.Definitions.{Definitions, series_slots}
 use Rattle.ts_layout.specs.Limits.{AreOfFormat}
-use Rattle.ts_layout.specs.Meaning.{Layout, heading_at, IsSound}
+use Rattle.ts_layout.specs.Sheets.{Sheet, elements_in}
+use Rattle.ts_layout.specs.Meaning.{Layout, heading_at, shape_at, IsSound}
 use Rattle.ts_layout.specs.Surveyed.{ListsPlaces, free_pages}
 use Rattle.ts_layout.specs.Chains.{AreFilled, IsRewritten}
 
@@ -22,11 +22,12 @@ pub record IsHeldOf (d : Definitions) (space : Directory) (count : ℕ) (numbers
   pub rules : IsSound l
   pub filled : AreFilled l
 
--- A layout is held, and the series in a slot gets these places with a chain, whose elements are of the format.
-pub record IsRewrittenIn (slot : ℕ) (h : Heading) (space : Directory) (new : List Place) (chain : List (List Element)) (v w : Contents) (l : Layout) : Type 0 where
+-- A layout is held, and the series in a slot gets these places with these sheets, whose elements are of the format.
+pub record IsRewrittenIn (shape : Shape) (slot : ℕ) (h : Heading) (space : Directory) (new : List Place) (sheets : List Sheet) (v w : Contents) (l : Layout) : Type 0 where
   pub held : IsHeldOf l.definitions space v.count v.free l
   pub slots : length space.lists ≡ series_slots
   pub heading : heading_at l.definitions slot ≡ Some h
-  pub of_format : AreOfFormat l.definitions.format (all_in chain)
+  pub lies : shape_at l.definitions slot ≡ Some shape
+  pub of_format : AreOfFormat l.definitions.format (elements_in sheets)
   pub count : w.count ≡ v.count
-  pub edit : IsRewritten slot h.columns (places_of slot space) new chain v w
+  pub edit : IsRewritten shape slot h.columns (places_of slot space) new sheets v w

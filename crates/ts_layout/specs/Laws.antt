@@ -1,5 +1,5 @@
 -- What holds of layouts and of their catalogues.
-use Rattle.std.specs.Prelude.{◌≡◌, ◌+◌, ◌<◌, ℕ, true, false, Option, Some, None, List, length}
+use Rattle.std.specs.Prelude.{◌≡◌, ◌+◌, ◌<◌, ℕ, ℤ, true, false, Option, Some, None, List, length}
 use Rattle.std.specs.FinMap.{empty, get, len}
 use Rattle.ts_page.specs.Volume.{first_element_page}
 use Rattle.ts_page.specs.Pages.{EqualPages, with_page}
@@ -8,12 +8,14 @@ use Rattle.ts_model.specs.declared.kind.Kind.{Kind}
 use Rattle.ts_model.specs.declared.kind.Kind.TheVariants as kinds
 use Rattle.ts_model.specs.declared.def.Def.{Def}
 use Rattle.ts_calendar.specs.declared.text.PatternPart.TheVariants.{Named, Own}
-use Rattle.ts_model.specs.Catalogue.{Catalogue, calendar_of, heading_of, quotas}
+use Rattle.ts_offset.specs.declared.shape.Shape.{Shape}
+use Rattle.ts_offset.specs.Walk.{IsOnStart}
+use Rattle.ts_model.specs.Catalogue.{Irregular, Regular, Catalogue, calendar_of, shape_of, heading_of, quotas}
 use Rattle.ts_model.specs.Kinds.{In, named, with_named, without, is_used}
 use Rattle.ts_model.specs.Definitions.{RowTypeDef, PatternDef, CalendarDef, ContainerDef, SeriesDef, KindDef, kind_of, name_of, name_in, to_def, table_of, limit, slots, at_slot, slot_of, vacant_slot, with_slot, IsUsed}
 use Rattle.ts_layout.specs.Slot.{page_of_slot}
-use Rattle.ts_layout.specs.Meaning.{Layout, def_at, heading_at, sum_of_quotas, HoldsDefinitions, HoldsLayout, IsSound, IsLaidOut, Means, text_of, container_of, series_of, value_of, catalogue_of}
-use Rattle.ts_layout.specs.Changed.{with_slot_bytes, SameOutsideJournal, layout_with, KeepsHeadings, HasNoPage, CanMake, CanDrop}
+use Rattle.ts_layout.specs.Meaning.{Layout, def_at, heading_at, shape_at, sum_of_quotas, HoldsDefinitions, HoldsLayout, IsSound, IsLaidOut, Means, text_of, container_of, series_of, value_of, catalogue_of}
+use Rattle.ts_layout.specs.Changed.{with_slot_bytes, SameOutsideJournal, layout_with, KeepsElements, HasNoPage, CanMake, CanDrop}
 use Rattle.ts_layout.specs.Placed.{AreKept}
 use Rattle.ts_layout.specs.Lookup.{IsNamedAt}
 
@@ -37,14 +39,14 @@ abbrev pub WrittenSlotsChangeDefinitions : Type 0
 WrittenSlotsChangeDefinitions =
     (kind : Kind) (slot : ℕ) (def : Option Def) (v w : ℕ → List ℕ) (l : Layout) → slot < limit kind
     → HoldsLayout v l → EqualPages (with_page (page_of_slot kind slot) (with_slot_bytes kind slot def (v (page_of_slot kind slot))) v) w
-    → HoldsDefinitions w (with_slot kind slot def l.definitions) → KeepsHeadings (with_slot kind slot def l.definitions) l
+    → HoldsDefinitions w (with_slot kind slot def l.definitions) → KeepsElements (with_slot kind slot def l.definitions) l
     → HoldsLayout w (layout_with kind slot def l)
 
 -- a definition that is made adds its name, and elements keep their columns; in the catalogue it has names in place of slots
 pub record DefinitionsAreMade : Type 0 where
   pub rules : (slot : ℕ) (def : Def) (l : Layout) → IsSound l → CanMake slot def l → IsSound (layout_with (kind_of def) slot (Some def) l)
   pub headings : (slot : ℕ) (def : Def) (l : Layout) → IsSound l → CanMake slot def l
-      → KeepsHeadings (with_slot (kind_of def) slot (Some def) l.definitions) l
+      → KeepsElements (with_slot (kind_of def) slot (Some def) l.definitions) l
   pub kept : (l : Layout) → IsSound l → (space : Directory) (free : List ℕ) (count : ℕ)
       → count ≡ first_element_page + length l.element_pages → AreKept l.definitions space free count → (slot : ℕ) (def : Def)
       → CanMake slot def l → AreKept (with_slot (kind_of def) slot (Some def) l.definitions) space free count
@@ -59,9 +61,13 @@ pub record DefinitionsAreMade : Type 0 where
       → text_of l.definitions c ≡ record { start = c.calendar.start; patt_start = c.calendar.patt_start; part = Own c.calendar.pattern }
   pub container : (l : Layout) (c : ContainerDef) (holder : List ℕ) → slot_of holder (slots kinds.RowType l.definitions) ≡ Some c.row_type
       → container_of l.definitions c ≡ record { row_type = holder; quota = c.quota }
-  pub series : (l : Layout) (slot : ℕ) (s : SeriesDef) (holder : List ℕ) → HasNoPage slot l.element_pages
-      → slot_of holder (slots kinds.Container l.definitions) ≡ Some s.container
-      → series_of l slot s ≡ record { container = holder; elements = empty }
+  pub irregular : (l : Layout) (slot : ℕ) (s : SeriesDef) (holder : List ℕ) → HasNoPage slot l.element_pages
+      → slot_of holder (slots kinds.Container l.definitions) ≡ Some s.container → s.regular ≡ None
+      → series_of l slot s ≡ record { container = holder; kind = Irregular; elements = empty }
+  pub regular : (l : Layout) (slot at : ℕ) (origin : ℤ) (s : SeriesDef) (holder calendar : List ℕ) → HasNoPage slot l.element_pages
+      → slot_of holder (slots kinds.Container l.definitions) ≡ Some s.container → s.regular ≡ Some (at, origin)
+      → slot_of calendar (slots kinds.Calendar l.definitions) ≡ Some at
+      → series_of l slot s ≡ record { container = holder; kind = Regular calendar origin; elements = empty }
   pub no_page : (pages : ℕ → List ℕ) (slot : ℕ) (l : Layout) → HoldsLayout pages l → def_at kinds.Series slot l.definitions ≡ None
       → HasNoPage slot l.element_pages
 
@@ -70,7 +76,7 @@ pub record DefinitionsAreDropped : Type 0 where
   pub rules : (kind : Kind) (slot : ℕ) (name : List ℕ) (l : Layout) → IsSound l → CanDrop kind slot name l
       → IsSound (layout_with kind slot None l)
   pub headings : (kind : Kind) (slot : ℕ) (name : List ℕ) (l : Layout) → IsSound l → CanDrop kind slot name l
-      → KeepsHeadings (with_slot kind slot None l.definitions) l
+      → KeepsElements (with_slot kind slot None l.definitions) l
   pub kept : (l : Layout) → IsSound l → (space : Directory) (free : List ℕ) (count : ℕ)
       → count ≡ first_element_page + length l.element_pages → AreKept l.definitions space free count
       → (kind : Kind) (slot : ℕ) (name : List ℕ) → CanDrop kind slot name l
@@ -92,7 +98,8 @@ pub record NamesStandInSlots : Type 0 where
   pub none_listed : (kind : Kind) (l : Layout) (name : List ℕ) → get (named kind (catalogue_of l)) name ≡ None
       → slot_of name (slots kind l.definitions) ≡ None
 
--- what a definition refers to stands in the catalogue under the name that it gives; a calendar's text stands for the one in the slot
+-- what a definition refers to stands in the catalogue under the name that it gives; a calendar's text stands for the one in the slot, and
+-- the kind of a series for the grid of the calendar in its slot
 pub record ReferencesAreNames : Type 0 where
   pub pattern : (l : Layout) (slot at : ℕ) (c : CalendarDef) → IsSound l → at_slot slot l.definitions.calendars ≡ Some c → c.by ≡ Some at
       → (name : List ℕ) × (p : PatternDef) × ((text_of l.definitions c).part ≡ Named name)
@@ -103,6 +110,12 @@ pub record ReferencesAreNames : Type 0 where
       → (r : RowTypeDef) × IsNamedAt kinds.RowType l c.row_type (container_of l.definitions c).row_type r
   pub container : (l : Layout) (slot : ℕ) (s : SeriesDef) → IsSound l → at_slot slot l.definitions.series ≡ Some s
       → (c : ContainerDef) × IsNamedAt kinds.Container l s.container (series_of l slot s).container c
+  pub grid : (l : Layout) (slot at : ℕ) (origin : ℤ) (s : SeriesDef) → IsSound l → at_slot slot l.definitions.series ≡ Some s
+      → s.regular ≡ Some (at, origin)
+      → (name : List ℕ) × (c : CalendarDef) × ((series_of l slot s).kind ≡ Regular name origin) × IsNamedAt kinds.Calendar l at name c
+      × IsOnStart c.calendar origin
+  pub shape : (l : Layout) (slot : ℕ) (s : SeriesDef) → IsSound l → at_slot slot l.definitions.series ≡ Some s
+      → (shape : Shape) × (shape_at l.definitions slot ≡ Some shape) × (shape_of (catalogue_of l) (series_of l slot s).kind ≡ Some shape)
   pub columns : (l : Layout) (slot : ℕ) (s : SeriesDef) → IsSound l → at_slot slot l.definitions.series ≡ Some s
       → heading_of (catalogue_of l) (series_of l slot s) ≡ heading_at l.definitions slot
 

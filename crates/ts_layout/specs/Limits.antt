@@ -1,5 +1,5 @@
 -- The limits that each definition keeps by itself, and what the format of a volume asks.
-use Rattle.std.specs.Prelude.{◌≡◌, ℕ, ◌<◌, ◌≤◌, false, IsTrue, Option, Some, None, IfSome, List}
+use Rattle.std.specs.Prelude.{◌≡◌, ℕ, ℤ, ◌<◌, ◌≤◌, false, IsTrue, Option, Some, None, IfSome, List}
 use Rattle.std.specs.List.{list_all}
 use Rattle.ts_base.specs.Name.{is_name, is_key}
 use Rattle.ts_base.specs.Moment.{IsStamp}
@@ -11,7 +11,7 @@ use Rattle.ts_model.specs.declared.format.TheConstants.{OLD_FORMAT}
 use Rattle.ts_model.specs.declared.kind.Kind.{Kind}
 use Rattle.ts_model.specs.declared.def.Def.{Def}
 use Rattle.ts_model.specs.declared.def.Def.TheVariants as defs
-use Rattle.ts_model.specs.Definitions.{RowTypeDef, PatternDef, CalendarDef, ContainerDef, SeriesDef, row_type_slots, pattern_slots, container_slots, kind_of}
+use Rattle.ts_model.specs.Definitions.{RowTypeDef, PatternDef, CalendarDef, ContainerDef, SeriesDef, row_type_slots, pattern_slots, calendar_slots, container_slots, kind_of}
 
 -- what a volume of a format asks of a row type: in the old one no decimal has over 18 digits
 abbrev pub IsOfFormat : ℕ → Heading → Type 0
@@ -49,10 +49,16 @@ pub record IsContainerDef (c : ContainerDef) : Type 0 where
   pub some : 1 ≤ c.quota
   pub most : c.quota ≤ most_element_pages
 
--- a key and a slot of a container
+-- the slot of a calendar, and a stamp
+pub record IsRegularPart (regular : ℕ × ℤ) : Type 0 where
+  pub calendar : regular.0 < calendar_slots
+  pub origin : IsStamp regular.1
+
+-- a key, a slot of a container, and for a regular series the slot of a calendar and a stamp
 pub record IsSeriesDef (s : SeriesDef) : Type 0 where
   pub key : IsTrue (is_key s.key)
   pub container : s.container < container_slots
+  pub regular : IfSome s.regular IsRegularPart
 
 -- a definition of any kind, in a volume of a format
 abbrev pub IsDef : ℕ → Def → Type 0
@@ -60,7 +66,7 @@ IsDef format (defs.RowType name kind) = IsRowTypeDef format (record { name = nam
 IsDef format (defs.Pattern name pattern) = IsPatternDef (record { name = name; pattern = pattern })
 IsDef format (defs.Calendar name calendar by) = IsCalendarDef (record { name = name; calendar = calendar; by = by })
 IsDef format (defs.Container name row_type quota) = IsContainerDef (record { name = name; row_type = row_type; quota = quota })
-IsDef format (defs.Series key container) = IsSeriesDef (record { key = key; container = container })
+IsDef format (defs.Series key container regular) = IsSeriesDef (record { key = key; container = container; regular = regular })
 
 -- an empty slot, or a definition of the kind
 abbrev pub IsSlotOf : ℕ → Kind → Option Def → Type 0

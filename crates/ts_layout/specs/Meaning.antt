@@ -1,6 +1,6 @@
 -- What the pages of a volume mean: they are laid out from definitions and elements that keep the rules, and mean the
 -- catalogue of these.
-use Rattle.std.specs.Prelude.{◌≡◌, ℕ, suc, ◌+◌, ◌-◌, ◌<◌, ◌≤◌, ◌==◌, if◌then◌else◌, IsSome, IsPermutation, Option, Some, None, option_and_then, option_map, unwrap_or, List, [], ◌∷◌, length, drop, replicate, slice_index_or, sum_by}
+use Rattle.std.specs.Prelude.{◌≡◌, ℕ, ℤ, IfSome, suc, ◌+◌, ◌-◌, ◌<◌, ◌≤◌, ◌==◌, if◌then◌else◌, IsSome, IsPermutation, Option, Some, None, option_and_then, option_map, unwrap_or, List, [], ◌∷◌, length, drop, replicate, slice_index_or, sum_by}
 use Rattle.std.specs.List.{flat_map}
 use Rattle.std.specs.FinMap.{from_entries}
 use Rattle.ts_row.specs.declared.kind.Column.{Column}
@@ -10,13 +10,16 @@ use Rattle.ts_page.specs.Head.{bytes_at}
 use Rattle.ts_page.specs.Pages.{IsFreePage}
 use Rattle.ts_space.specs.Charge.{irregular_charge}
 use Rattle.ts_cells.specs.Cell.{Element, page_room}
-use Rattle.ts_cells.specs.IrregularPage.{IsIrregularPage}
-use Rattle.ts_chain.specs.Chain.{IsChain}
 use Rattle.ts_calendar.specs.Calendar.{IsValid}
 use Rattle.ts_calendar.specs.declared.text.PatternPart.{PatternPart}
 use Rattle.ts_calendar.specs.declared.text.PatternPart.TheVariants.{Named as ByName, Own}
 use Rattle.ts_calendar.specs.declared.text.CalendarText.{CalendarText}
-use Rattle.ts_model.specs.Catalogue.{Named, Catalogue, Container, Series, Elements}
+use Rattle.ts_offset.specs.declared.shape.Shape.{Shape}
+use Rattle.ts_offset.specs.declared.shape.Shape.TheVariants as shapes
+use Rattle.ts_offset.specs.Grid.{GridPlan}
+use Rattle.ts_offset.specs.Walk.{IsOnStart}
+use Rattle.ts_model.specs.Catalogue.{Named, Catalogue, Container, SeriesKind, Series, Elements}
+use Rattle.ts_model.specs.Catalogue.{Irregular as AnyStamps, Regular as OnCalendar}
 use Rattle.ts_model.specs.Kinds.{In}
 use Rattle.ts_model.specs.declared.kind.Kind.{Kind}
 use Rattle.ts_model.specs.declared.kind.Kind.TheVariants as kinds
@@ -24,12 +27,13 @@ use Rattle.ts_model.specs.declared.def.Def.{Def}
 use Rattle.ts_model.specs.Definitions.{Definitions, PatternDef, CalendarDef, ContainerDef, SeriesDef, KindDef, limit, name_in, table_of, at_slot, by_name, references, IsDefinitions}
 pub use Rattle.ts_model.specs.Definitions.{def_at}
 use Rattle.ts_layout.specs.Limits.{IsSlotOf, AreOfFormat}
+use Rattle.ts_layout.specs.Sheets.{Sheet, HoldsSheet, AreInSequence}
 use Rattle.ts_layout.specs.Slot.{slot_size, slot_bytes, page_of_slot, byte_of_slot, first_definition_page, slots_in_page, bytes_of_slots, header_bytes}
 
--- an element page: free, or with the elements of the series in a slot
+-- an element page: free, or with a sheet of the series in a slot
 pub data ElementPage : Type 0 where
   Free : ElementPage
-  Cells : ℕ → List Element → ElementPage
+  Cells : ℕ → Sheet → ElementPage
 
 -- what a volume is laid out from: its definitions in their slots, and what stands on each of its element pages
 pub record Layout : Type 0 where
@@ -52,6 +56,19 @@ heading_in d slot = option_and_then (heading_of_container d) (at_slot slot d.con
 abbrev pub heading_at : Definitions → ℕ → Option Heading
 heading_at d slot = option_and_then (λ s. heading_in d s.container) (at_slot slot d.series)
 
+-- the grid of a calendar in a slot, and an origin
+abbrev pub grid_in : Definitions → ℕ × ℤ → Option GridPlan
+grid_in d regular = option_map (λ c. record { calendar = c.calendar; origin = regular.1 }) (at_slot regular.0 d.calendars)
+
+-- where the elements of a series can stand: at all stamps, or at the on starts of its grid
+abbrev pub shape_of : Definitions → Option (ℕ × ℤ) → Option Shape
+shape_of d None = Some shapes.Irregular
+shape_of d (Some regular) = option_map shapes.Regular (grid_in d regular)
+
+-- where those of the series in a slot can
+abbrev pub shape_at : Definitions → ℕ → Option Shape
+shape_at d slot = option_and_then (λ s. shape_of d s.regular) (at_slot slot d.series)
+
 -- the bytes of a slot
 abbrev pub bytes_of_slot : Kind → ℕ → (ℕ → List ℕ) → List ℕ
 bytes_of_slot kind slot pages = bytes_at (byte_of_slot kind slot) (slot_size kind) (pages (page_of_slot kind slot))
@@ -62,11 +79,19 @@ pub record HoldsDefinitions (pages : ℕ → List ℕ) (d : Definitions) : Type 
   pub behind : (number : ℕ) → first_definition_page ≤ number → number < first_element_page
       → drop (bytes_of_slots (slots_in_page number)) (pages number) ≡ replicate (page_size - bytes_of_slots (slots_in_page number)) 0
 
--- a page that is free, whatever follows its first byte, or the page of elements of a series, in the format of the volume
+-- the page of a sheet of the series in a slot, of its columns, where its elements can stand, and in the format of the volume
+pub record HoldsSeries (d : Definitions) (page : List ℕ) (slot : ℕ) (sheet : Sheet) : Type 0 where
+  pub heading : Heading
+  pub shape : Shape
+  pub columns : heading_at d slot ≡ Some heading
+  pub lies : shape_at d slot ≡ Some shape
+  pub bytes : HoldsSheet shape slot heading.columns sheet page
+  pub of_format : AreOfFormat d.format sheet.1
+
+-- a page that is free, whatever follows its first byte, or the page of a sheet
 abbrev pub HoldsElements : Definitions → List ℕ → ElementPage → Type 0
 HoldsElements d page Free = IsFreePage page
-HoldsElements d page (Cells slot es) =
-    (heading : Heading) × (heading_at d slot ≡ Some heading) × IsIrregularPage slot heading.columns es page × AreOfFormat d.format es
+HoldsElements d page (Cells slot sheet) = HoldsSeries d page slot sheet
 
 -- element pages, from page 930 on, with these elements
 abbrev pub HoldAll : Definitions → (ℕ → List ℕ) → List ElementPage → Type 0
@@ -107,6 +132,14 @@ AreFollowing d = (slot : ℕ) (c : CalendarDef) → at_slot slot d.calendars ≡
 abbrev pub AreValid : Definitions → Type 0
 AreValid d = (slot : ℕ) (c : CalendarDef) → at_slot slot d.calendars ≡ Some c → IsValid c.calendar
 
+-- the calendar in a slot has an on start at an origin
+abbrev pub IsOnCalendar : Definitions → ℕ × ℤ → Type 0
+IsOnCalendar d regular = (c : CalendarDef) → at_slot regular.0 d.calendars ≡ Some c → IsOnStart c.calendar regular.1
+
+-- the origin of each regular series is an on start of its calendar
+abbrev pub HaveOrigins : Definitions → Type 0
+HaveOrigins d = (slot : ℕ) (s : SeriesDef) → at_slot slot d.series ≡ Some s → IfSome s.regular (IsOnCalendar d)
+
 -- the quota of a container; 0 where there is none
 abbrev pub quota_in : Option ContainerDef → ℕ
 quota_in None = 0
@@ -124,11 +157,12 @@ pub record AreSound (pages : ℕ) (d : Definitions) : Type 0 where
   pub follow : AreFollowing d
   pub valid : AreValid d
   pub quotas : sum_of_quotas d.containers ≤ pages
+  pub origins : HaveOrigins d
 
 -- the elements that a page has of the series in a slot
 abbrev pub elements_on : ℕ → ElementPage → List Element
 elements_on slot Free = []
-elements_on slot (Cells s es) = if s == slot then es else []
+elements_on slot (Cells s sheet) = if s == slot then sheet.1 else []
 
 -- all elements of the series in a slot, page after page
 abbrev pub elements_of : ℕ → List ElementPage → List Element
@@ -140,34 +174,39 @@ sum_filled f first [] = 0
 sum_filled f first (None ∷ rest) = sum_filled f (suc first) rest
 sum_filled f first (Some a ∷ rest) = f first a + sum_filled f (suc first) rest
 
--- what one series is charged to the container in a slot, where a page has room for so many of its elements
+-- what a page has of the series in a slot: its sheet as a list of one, or nothing
+abbrev pub sheets_on : ℕ → ElementPage → List Sheet
+sheets_on slot Free = []
+sheets_on slot (Cells s sheet) = if s == slot then sheet ∷ [] else []
+
+-- the sheets of the series in a slot, page after page
+abbrev pub sheets_of : ℕ → List ElementPage → List Sheet
+sheets_of slot pages = flat_map (sheets_on slot) pages
+
+-- what the series in a slot is charged: an irregular one by its elements, where a page has room for so many, a regular one for each page
+abbrev pub charge_on : List ElementPage → ℕ → ℕ → Option (ℕ × ℤ) → ℕ
+charge_on pages room slot None = irregular_charge room (length (elements_of slot pages))
+charge_on pages room slot (Some regular) = length (sheets_of slot pages)
+
+-- what one series is charged to the container in a slot
 abbrev pub charge_of_series : List ElementPage → ℕ → ℕ → ℕ → SeriesDef → ℕ
-charge_of_series pages container room slot s =
-    if s.container == container then irregular_charge room (length (elements_of slot pages)) else 0
+charge_of_series pages container room slot s = if s.container == container then charge_on pages room slot s.regular else 0
 
 -- what all series of the container in a slot are charged together
 abbrev pub charge_of_container : Layout → ℕ → ℕ → ℕ
 charge_of_container l container room = sum_filled (charge_of_series l.element_pages container room) 0 l.definitions.series
 
--- what a page has of the series in a slot: its elements as a list of one, or nothing
-abbrev pub cells_on : ℕ → ElementPage → List (List Element)
-cells_on slot Free = []
-cells_on slot (Cells s es) = if s == slot then es ∷ [] else []
-
--- the elements of each page of the series in a slot, page after page
-abbrev pub cells_of : ℕ → List ElementPage → List (List Element)
-cells_of slot pages = flat_map (cells_on slot) pages
-
--- The pages of a series, in the order of their stamps, are a chain: each is filled, no two overlap, and two neighbours never fit one
--- page.
-pub record IsInChain (slot : ℕ) (columns : List Column) (pages : List ElementPage) : Type 0 where
-  pub chain : List (List Element)
-  pub is : IsChain columns chain
-  pub all : IsPermutation chain (cells_of slot pages)
+-- the sheets of the series in a slot, in their order, are such as those of its shape have to be
+pub record IsInSequence (shape : Shape) (slot : ℕ) (columns : List Column) (pages : List ElementPage) : Type 0 where
+  pub sheets : List Sheet
+  pub is : AreInSequence shape columns sheets
+  pub all : IsPermutation sheets (sheets_of slot pages)
 
 -- those of each series are
-abbrev pub AreInChains : Layout → Type 0
-AreInChains l = (slot : ℕ) (h : Heading) → heading_at l.definitions slot ≡ Some h → IsInChain slot h.columns l.element_pages
+abbrev pub AreAllInSequence : Layout → Type 0
+AreAllInSequence l =
+    (slot : ℕ) (h : Heading) (shape : Shape) → heading_at l.definitions slot ≡ Some h → shape_at l.definitions slot ≡ Some shape
+    → IsInSequence shape slot h.columns l.element_pages
 
 -- no container is charged more than its quota
 abbrev pub KeepsQuotas : Layout → Type 0
@@ -180,7 +219,7 @@ pub record IsSound (l : Layout) : Type 0 where
   pub some : 1 ≤ length l.element_pages
   pub most : length l.element_pages ≤ most_element_pages
   pub definitions : AreSound (length l.element_pages) l.definitions
-  pub chains : AreInChains l
+  pub sequences : AreAllInSequence l
   pub charges : KeepsQuotas l
 
 -- pages, so many in all, that are laid out so and keep the rules
@@ -210,10 +249,16 @@ text_of d c = record { start = c.calendar.start; patt_start = c.calendar.patt_st
 abbrev pub container_of : Definitions → ContainerDef → Container
 container_of d c = record { row_type = name_at (λ r. r.name) c.row_type d.row_types; quota = c.quota }
 
--- a series with the name of its container, and its elements
+-- how the elements of a series lie, with the name of its calendar
+abbrev pub kind_in : Definitions → Option (ℕ × ℤ) → SeriesKind
+kind_in d None = AnyStamps
+kind_in d (Some regular) = OnCalendar (name_at (λ c. c.name) regular.0 d.calendars) regular.1
+
+-- a series with the name of its container, how its elements lie, and these
 abbrev pub series_of : Layout → ℕ → SeriesDef → Series
 series_of l slot s = record {
   container = name_at (λ c. c.name) s.container l.definitions.containers;
+  kind = kind_in l.definitions s.regular;
   elements = elements_at slot l.element_pages;
 }
 

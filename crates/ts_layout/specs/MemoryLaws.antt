@@ -8,13 +8,18 @@ use Rattle.ts_page.specs.Volume.{first_element_page, most_element_pages}
 use Rattle.ts_page.specs.Pages.{Contents}
 use Rattle.ts_space.specs.Place.{pages_of}
 use Rattle.ts_cells.specs.Cell.{page_room}
-use Rattle.ts_chain.specs.Places.{ArePlaces, AreMoved}
+use Rattle.ts_chain.specs.Places as chain
+use Rattle.ts_regular.specs.Places as regular
+use Rattle.ts_offset.specs.Grid.{GridPlan}
+use Rattle.ts_offset.specs.declared.shape.Shape.{Shape}
+use Rattle.ts_offset.specs.declared.shape.Shape.TheVariants.{Irregular, Regular}
 use Rattle.ts_model.specs.Definitions.{Definitions, ContainerDef, SeriesDef, series_slots, at_slot, with_slot}
-use Rattle.ts_layout.specs.Meaning.{Layout, AreSound, IsSound, heading_at, heading_of_container}
+use Rattle.ts_layout.specs.Meaning.{Layout, AreSound, IsSound, heading_at, shape_at, heading_of_container}
 use Rattle.ts_layout.specs.Charges.{container_charge}
 use Rattle.ts_layout.specs.Surveyed.{free_pages, ListsPlaces}
 use Rattle.ts_layout.specs.Chains.{AreFilled, bare}
-use Rattle.ts_layout.specs.Placed.{ArePlaced, AreKept}
+use Rattle.ts_layout.specs.Sheets.{room_of}
+use Rattle.ts_layout.specs.Placed.{AreMoved, ArePlaced, AreKept}
 
 -- the places and the free pages of a layout are apart and are all pages: what is kept of it keeps its rules
 abbrev pub LayoutsAreKept : Type 0
@@ -45,13 +50,15 @@ PlacesAreDropped =
 
 -- what is kept keeps its rules where one series gets other places: its pages and the free ones are the same together, and its quota is kept
 pub record PlacesStayApart : Type 0 where
-  pub edited : (d : Definitions) (space : Directory) (c : Contents) (slot : ℕ) (h : Heading) → ArePlaced d space c.free c.count
-      → slot < series_slots → heading_at d slot ≡ Some h → ArePlaces h.columns c (places_of slot space)
-  pub moved : (d : Definitions) (space space' : Directory) (count slot : ℕ) (h : Heading) (new : List Place) (v w : Contents)
-      → ArePlaced d space v.free count → slot < series_slots → heading_at d slot ≡ Some h → space'.lists ≡ slice_set space.lists slot new
-      → AreMoved h.columns (places_of slot space) new v w → ArePlaced d space' w.free count
-  pub kept : (d : Definitions) (space space' : Directory) (count slot : ℕ) (s : SeriesDef) (c : ContainerDef) (h : Heading) (new : List Place) (v w : Contents)
+  pub irregular : (d : Definitions) (space : Directory) (c : Contents) (slot : ℕ) (h : Heading) → ArePlaced d space c.free c.count
+      → slot < series_slots → heading_at d slot ≡ Some h → shape_at d slot ≡ Some Irregular → chain.ArePlaces h.columns c (places_of slot space)
+  pub regular : (d : Definitions) (space : Directory) (c : Contents) (slot : ℕ) (h : Heading) (grid : GridPlan) → ArePlaced d space c.free c.count
+      → slot < series_slots → heading_at d slot ≡ Some h → shape_at d slot ≡ Some (Regular grid) → regular.ArePlaces h.columns c (places_of slot space)
+  pub moved : (d : Definitions) (space space' : Directory) (count slot : ℕ) (h : Heading) (shape : Shape) (new : List Place) (v w : Contents)
+      → ArePlaced d space v.free count → slot < series_slots → heading_at d slot ≡ Some h → shape_at d slot ≡ Some shape
+      → space'.lists ≡ slice_set space.lists slot new → AreMoved (room_of shape h.columns) (places_of slot space) new v w → ArePlaced d space' w.free count
+  pub kept : (d : Definitions) (space space' : Directory) (count slot : ℕ) (s : SeriesDef) (c : ContainerDef) (h : Heading) (shape : Shape) (new : List Place) (v w : Contents)
       → AreKept d space v.free count → slot < series_slots → at_slot slot d.series ≡ Some s → at_slot s.container d.containers ≡ Some c
-      → heading_of_container d c ≡ Some h → space'.lists ≡ slice_set space.lists slot new
-      → AreMoved h.columns (places_of slot space) new v w → container_charge d space' s.container (page_room h.columns) ≤ c.quota
+      → heading_of_container d c ≡ Some h → shape_at d slot ≡ Some shape → space'.lists ≡ slice_set space.lists slot new
+      → AreMoved (room_of shape h.columns) (places_of slot space) new v w → container_charge d space' s.container (page_room h.columns) ≤ c.quota
       → AreKept d space' w.free count

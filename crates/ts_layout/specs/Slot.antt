@@ -1,5 +1,5 @@
 -- The bytes of definitions in their slots. What isn't named is zero, and an empty slot is zeros.
-use Rattle.std.specs.Prelude.{ℕ, ◌+◌, ◌-◌, ◌*◌, ◌/◌, ◌%◌, ◌^◌, ◌==◌, nat_lt, min, if◌then◌else◌, Option, Some, None, List, [], ◌∷◌, ◌++◌, length, replicate, codes}
+use Rattle.std.specs.Prelude.{ℕ, ℤ, ◌+◌, ◌-◌, ◌*◌, ◌/◌, ◌%◌, ◌^◌, ◌==◌, nat_lt, min, if◌then◌else◌, Option, Some, None, List, [], ◌∷◌, ◌++◌, length, replicate, codes}
 use Rattle.std.specs.List.{flat_map}
 use Rattle.std.specs.Int.{w16, w32, to_be_bytes}
 use Rattle.ts_base.specs.declared.unit.Unit.{Unit}
@@ -90,9 +90,20 @@ calendar_bytes name c by = 1 ∷ (name_bytes name ++ (stamp_bytes c.start ++ (st
 unfoldable pub container_bytes : List ℕ → ℕ → ℕ → List ℕ
 container_bytes name row_type quota = 1 ∷ (name_bytes name ++ (row_type ∷ padded 25 (to_be_bytes w32 quota)))
 
--- an irregular series in 94 bytes: 2, the length of its key, its key, the slot of its container
-unfoldable pub series_bytes : List ℕ → ℕ → List ℕ
-series_bytes key container = 2 ∷ (length key ∷ (padded 64 key ++ (container ∷ padded 27 [])))
+-- the first byte of a series: 1 where it is regular, else 2
+abbrev pub series_code : Option (ℕ × ℤ) → ℕ
+series_code None = 2
+series_code (Some regular) = 1
+
+-- the slot of the calendar and the origin of a regular series
+abbrev pub regular_bytes : Option (ℕ × ℤ) → List ℕ
+regular_bytes None = []
+regular_bytes (Some regular) = regular.0 ∷ stamp_bytes regular.1
+
+-- a series in 94 bytes: whether it is regular, the length of its key, its key, the slot of its container, what a regular one has besides
+unfoldable pub series_bytes : List ℕ → ℕ → Option (ℕ × ℤ) → List ℕ
+series_bytes key container regular =
+    series_code regular ∷ (length key ∷ (padded 64 key ++ (container ∷ padded 27 (regular_bytes regular))))
 
 -- a definition in its slot
 abbrev pub def_bytes : Def → List ℕ
@@ -100,7 +111,7 @@ def_bytes (defs.RowType name kind) = row_type_bytes name kind
 def_bytes (defs.Pattern name pattern) = pattern_bytes name pattern
 def_bytes (defs.Calendar name calendar by) = calendar_bytes name calendar by
 def_bytes (defs.Container name row_type quota) = container_bytes name row_type quota
-def_bytes (defs.Series key container) = series_bytes key container
+def_bytes (defs.Series key container regular) = series_bytes key container regular
 
 -- The definition pages: those of row types, of patterns and of calendars, one each; one of all containers; those of series, so many in each.
 abbrev pub first_definition_page : ℕ

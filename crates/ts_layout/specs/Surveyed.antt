@@ -3,7 +3,7 @@ use Rattle.std.specs.Prelude.{ℕ, suc, ◌<◌, ◌==◌, IsPermutation, if◌t
 use Rattle.ts_page.specs.Volume.{first_element_page}
 use Rattle.ts_space.specs.declared.place.Place.{Place}
 use Rattle.ts_space.specs.Place.{IsRising}
-pub use Rattle.ts_space.specs.Place.{place_of}
+use Rattle.ts_layout.specs.Sheets.{place_of_sheet}
 use Rattle.ts_space.specs.Directory.{Directory, places_of}
 use Rattle.ts_model.specs.Definitions.{series_slots}
 use Rattle.ts_layout.specs.Meaning.{ElementPage, Free, Cells, Layout}
@@ -11,7 +11,7 @@ use Rattle.ts_layout.specs.Meaning.{ElementPage, Free, Cells, Layout}
 -- the place of a page, if it has elements of the series in a slot
 abbrev pub places_on : ℕ → ℕ → ElementPage → List Place
 places_on slot number Free = []
-places_on slot number (Cells s es) = if s == slot then place_of number es else []
+places_on slot number (Cells s sheet) = if s == slot then place_of_sheet number sheet ∷ [] else []
 
 -- the places of the series in a slot, page after page from page number `first` on
 abbrev pub places_from : ℕ → ℕ → List ElementPage → List Place
@@ -22,7 +22,7 @@ places_from slot first (e ∷ rest) = places_on slot first e ++ places_from slot
 abbrev pub free_from : ℕ → List ElementPage → List ℕ
 free_from first [] = []
 free_from first (Free ∷ rest) = first ∷ free_from (suc first) rest
-free_from first (Cells s es ∷ rest) = free_from (suc first) rest
+free_from first (Cells s sheet ∷ rest) = free_from (suc first) rest
 
 -- the places are exactly those of the pages of the series in a slot, rising in where they begin
 pub record IsListOf (slot : ℕ) (places : List Place) (pages : List ElementPage) : Type 0 where

@@ -16,8 +16,9 @@ mod memory_laws;
 mod place;
 
 pub use chain_laws::{
-    a_series_is_a_chain, a_series_is_dropped_with_its_pages, a_series_is_rewritten,
-    elements_are_a_map_by_stamps, pages_that_hold_are_filled,
+    a_regular_element_is_on_its_grid, a_series_is_dropped_with_its_pages, a_series_is_on_its_pages,
+    a_series_is_rewritten, elements_are_a_map_by_stamps, pages_are_sheets,
+    pages_that_hold_are_filled,
 };
 pub use charge_laws::{
     charges_follow_the_directory, quotas_follow_the_directory, the_quotas_leave_room,

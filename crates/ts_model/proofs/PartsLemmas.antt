@@ -22,7 +22,7 @@ back-own (defs.RowType name kind) = refl
 back-own (defs.Pattern name pattern) = refl
 back-own (defs.Calendar name calendar by) = refl
 back-own (defs.Container name row_type quota) = refl
-back-own (defs.Series key container) = refl
+back-own (defs.Series key container regular) = refl
 
 pub back : (kind : Kind) (d : Def) → kind_of d ≡ kind → option_map (to_def kind) (from_def kind d) ≡ Some d
 back kind d is = subst (λ (k : Kind). option_map (to_def k) (from_def k d) ≡ Some d) is (back-own d)

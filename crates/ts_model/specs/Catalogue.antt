@@ -1,5 +1,5 @@
 -- The catalogue: what a store holds, as plain values under their names.
-use Rattle.std.specs.Prelude.{ℕ, List, [], Option, Some, unwrap_or, option_map, option_and_then, map, sum, filter, bytes_eq}
+use Rattle.std.specs.Prelude.{ℕ, ℤ, Bool, true, false, List, [], Option, Some, unwrap_or, option_map, option_and_then, map, sum, filter, bytes_eq}
 use Rattle.std.specs.Ordering.{nat_cmp, int_cmp}
 use Rattle.std.specs.Cmp.Lexicographic.{slice_cmp}
 use Rattle.std.specs.declared.cmp.Ordering.{Ordering}
@@ -12,6 +12,8 @@ use Rattle.ts_calendar.specs.Plan.{CalendarPlan}
 use Rattle.ts_calendar.specs.declared.text.PatternPart.{PatternPart}
 use Rattle.ts_calendar.specs.declared.text.PatternPart.TheVariants.{Named as ByName, Own}
 use Rattle.ts_calendar.specs.declared.text.CalendarText.{CalendarText}
+use Rattle.ts_offset.specs.declared.shape.Shape.{Shape}
+use Rattle.ts_offset.specs.declared.shape.Shape.TheVariants as shapes
 use Rattle.ts_model.specs.declared.format.TheConstants.{FORMAT}
 
 -- names and keys in the order of their bytes
@@ -31,9 +33,20 @@ pub record Container : Type 0 where
 abbrev pub Elements : Type 0
 Elements = FinMap int_cmp Row
 
--- an irregular series: the name of its container, and its elements
+-- how the elements of a series lie: at any stamps, or at on starts of the calendar of a name, from an origin on
+pub data SeriesKind : Type 0 where
+  Irregular : SeriesKind
+  Regular : List ℕ → ℤ → SeriesKind
+
+-- they lie on a calendar
+abbrev pub is_regular : SeriesKind → Bool
+is_regular Irregular = false
+is_regular (Regular calendar origin) = true
+
+-- a series: the name of its container, how its elements lie, and these
 pub record Series : Type 0 where
   pub container : List ℕ
+  pub kind : SeriesKind
   pub elements : Elements
 
 -- what a store holds: the format of its volume, and so many element pages; row types, patterns, calendars by their texts, containers and
@@ -67,6 +80,15 @@ with_plan c pattern = record { start = c.start; patt_start = c.patt_start; patte
 -- the calendar that a text stands for; none where the pattern of that name is missing
 abbrev pub calendar_of : Catalogue → CalendarText → Option CalendarPlan
 calendar_of cat c = option_map (with_plan c) (pattern_of cat c.part)
+
+-- the calendar of a name
+abbrev pub calendar_named : Catalogue → List ℕ → Option CalendarPlan
+calendar_named cat name = option_and_then (calendar_of cat) (get cat.calendars name)
+
+-- where the elements of a series can stand: at all stamps, or at the on starts of a grid; none where the calendar of that name is missing
+abbrev pub shape_of : Catalogue → SeriesKind → Option Shape
+shape_of cat Irregular = Some shapes.Irregular
+shape_of cat (Regular calendar origin) = option_map (λ plan. shapes.Regular (record { calendar = plan; origin = origin })) (calendar_named cat calendar)
 
 -- the row type of a series, that of its container
 abbrev pub heading_of : Catalogue → Series → Option Heading

@@ -1,5 +1,5 @@
 -- The definitions of row types, patterns, calendars, containers and series, in numbered slots, and the format of their volume.
-use Rattle.std.specs.Prelude.{◌≡◌, ℕ, ◌+◌, ◌<◌, ◌⊎◌, Bool, true, false, List, [], ◌∷◌, length, map, replicate, slice_index_or, slice_set, position, is_none, Option, Some, None, option_map, option_and_then, bytes_eq, Contains}
+use Rattle.std.specs.Prelude.{◌≡◌, ℕ, ℤ, ◌+◌, ◌<◌, ◌⊎◌, Bool, true, false, List, [], ◌∷◌, length, map, replicate, slice_index_or, slice_set, position, is_none, Option, Some, None, option_map, option_and_then, bytes_eq, Contains}
 use Rattle.std.specs.FinMap.{from_entries}
 use Rattle.ts_row.specs.RowType.{Heading}
 use Rattle.ts_pattern.specs.Plan.{Plan}
@@ -33,10 +33,11 @@ pub record ContainerDef : Type 0 where
   pub row_type : ℕ
   pub quota : ℕ
 
--- an irregular series: its key, and the slot of its container
+-- a series: its key, the slot of its container, and where it is regular the slot of its calendar and its origin
 pub record SeriesDef : Type 0 where
   pub key : List ℕ
   pub container : ℕ
+  pub regular : Option (ℕ × ℤ)
 
 -- the format of the volume, and the slots of each kind, each empty or filled with a definition
 pub record Definitions : Type 0 where
@@ -94,7 +95,7 @@ kind_of (defs.RowType name kind) = kinds.RowType
 kind_of (defs.Pattern name pattern) = kinds.Pattern
 kind_of (defs.Calendar name calendar by) = kinds.Calendar
 kind_of (defs.Container name row_type quota) = kinds.Container
-kind_of (defs.Series key container) = kinds.Series
+kind_of (defs.Series key container regular) = kinds.Series
 
 -- its name or its key
 abbrev pub name_of : Def → List ℕ
@@ -102,7 +103,7 @@ name_of (defs.RowType name kind) = name
 name_of (defs.Pattern name pattern) = name
 name_of (defs.Calendar name calendar by) = name
 name_of (defs.Container name row_type quota) = name
-name_of (defs.Series key container) = key
+name_of (defs.Series key container regular) = key
 
 -- the definitions of a kind
 abbrev pub KindDef : Kind → Type 0
@@ -130,7 +131,7 @@ of_container c = defs.Container c.name c.row_type c.quota
 
 -- a series as one
 abbrev pub of_series : SeriesDef → Def
-of_series s = defs.Series s.key s.container
+of_series s = defs.Series s.key s.container s.regular
 
 -- the same of each kind
 abbrev pub to_def : (kind : Kind) → KindDef kind → Def
@@ -150,7 +151,7 @@ from_def kinds.Calendar (defs.Calendar name calendar by) = Some (record { name =
 from_def kinds.Calendar other = None
 from_def kinds.Container (defs.Container name row_type quota) = Some (record { name = name; row_type = row_type; quota = quota })
 from_def kinds.Container other = None
-from_def kinds.Series (defs.Series key container) = Some (record { key = key; container = container })
+from_def kinds.Series (defs.Series key container regular) = Some (record { key = key; container = container; regular = regular })
 from_def kinds.Series other = None
 
 -- the table of a kind: its slots
@@ -194,14 +195,19 @@ abbrev pub pattern_reference : Option ℕ → List (Kind × ℕ)
 pattern_reference None = []
 pattern_reference (Some slot) = (kinds.Pattern, slot) ∷ []
 
+-- the slot of the calendar of a regular series, as a list of one or none
+abbrev pub calendar_reference : Option (ℕ × ℤ) → List (Kind × ℕ)
+calendar_reference None = []
+calendar_reference (Some regular) = (kinds.Calendar, regular.0) ∷ []
+
 -- what a definition refers to: a calendar that was made by a pattern's name to the slot of that pattern, a container to the slot of its row
--- type, a series to that of its container
+-- type, a series to that of its container and, where it is regular, to that of its calendar
 abbrev pub references : Def → List (Kind × ℕ)
 references (defs.RowType name kind) = []
 references (defs.Pattern name pattern) = []
 references (defs.Calendar name calendar by) = pattern_reference by
 references (defs.Container name row_type quota) = (kinds.RowType, row_type) ∷ []
-references (defs.Series key container) = (kinds.Container, container) ∷ []
+references (defs.Series key container regular) = (kinds.Container, container) ∷ calendar_reference regular
 
 -- a definition refers to what stands in a slot of a kind
 abbrev pub Refers : Def → Kind → ℕ → Type 0

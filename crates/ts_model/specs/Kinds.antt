@@ -9,7 +9,7 @@ use Rattle.ts_calendar.specs.declared.text.PatternPart.TheVariants.{Named as ByN
 use Rattle.ts_calendar.specs.declared.text.CalendarText.{CalendarText}
 use Rattle.ts_model.specs.declared.kind.Kind.{Kind}
 use Rattle.ts_model.specs.declared.kind.Kind.TheVariants as kinds
-use Rattle.ts_model.specs.Catalogue.{Named, Container, Series, Catalogue}
+use Rattle.ts_model.specs.Catalogue.{Named, Container, SeriesKind, Irregular, Regular, Series, Catalogue}
 
 -- what a name of a kind stands for
 abbrev pub In : Kind → Type 0
@@ -60,11 +60,20 @@ has_container row_type cat = list_any (λ c. bytes_eq c.row_type row_type) (valu
 abbrev pub has_series : List ℕ → Catalogue → Bool
 has_series container cat = list_any (λ s. bytes_eq s.container container) (values cat.series)
 
+-- the elements of a series lie on the calendar of this name
+abbrev pub is_on_calendar : List ℕ → SeriesKind → Bool
+is_on_calendar calendar Irregular = false
+is_on_calendar calendar (Regular name origin) = bytes_eq name calendar
+
+-- a regular series has the calendar
+abbrev pub has_regular : List ℕ → Catalogue → Bool
+has_regular calendar cat = list_any (λ s. is_on_calendar calendar s.kind) (values cat.series)
+
 -- something in the catalogue refers to what a name of a kind stands for
 abbrev pub is_used : Kind → List ℕ → Catalogue → Bool
 is_used kinds.RowType name cat = has_container name cat
 is_used kinds.Pattern name cat = has_calendar name cat
-is_used kinds.Calendar name cat = false
+is_used kinds.Calendar name cat = has_regular name cat
 is_used kinds.Container name cat = has_series name cat
 is_used kinds.Series name cat = false
 

@@ -3,7 +3,7 @@ ghost use Rattle.ts_model.specs.Definitions.{name_of, kind_of};
 
 use crate::Kind;
 use std::alloc::AllocError;
-use ts_base::{Key, Name};
+use ts_base::{Key, Name, Stamp};
 use ts_calendar::Calendar;
 use ts_pattern::Pattern;
 use ts_row::RowType;
@@ -31,10 +31,12 @@ pub enum Def {
         row_type: u8,
         quota: u32,
     },
-    /// An irregular series of the container in slot `container`.
+    /// A series of the container in slot `container`. Where it is regular, `regular` is the slot of its calendar and its origin, which is
+    /// an on start of that calendar.
     Series {
         key: Key,
         container: u8,
+        regular: Option<(u8, Stamp)>,
     },
 }
 
@@ -91,9 +93,14 @@ impl Def {
                 row_type: *row_type,
                 quota: *quota,
             },
-            Def::Series { key, container } => Def::Series {
+            Def::Series {
+                key,
+                container,
+                regular,
+            } => Def::Series {
                 key: key.copy()?,
                 container: *container,
+                regular: *regular,
             },
         })
     }

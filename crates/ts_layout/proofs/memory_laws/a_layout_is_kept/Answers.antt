@@ -1,4 +1,4 @@
-use Rattle.ts_layout.proofs.PlacedLemmas.{kept_in}
+use Rattle.ts_layout.proofs.LayoutKeptLemmas.{kept_in}
 use Rattle.ts_layout.proofs.memory_laws.a_layout_is_kept.Goals as goal
 
 pub returns : goal.returns

@@ -1,4 +1,4 @@
-use Rattle.ts_layout.proofs.PlacedLemmas.{bare_sound, bare_filled, bare_size}
+use Rattle.ts_layout.proofs.LayoutKeptLemmas.{bare_sound, bare_filled, bare_size}
 use Rattle.ts_layout.proofs.memory_laws.sound_definitions_are_those_of_a_layout.Goals as goal
 
 pub returns : goal.returns
