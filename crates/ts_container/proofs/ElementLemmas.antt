@@ -1,39 +1,39 @@
 -- Element pages that are read one after the other.
-use Rattle.std.proofs.Common.{◌≡◌, ℕ, suc, ◌+◌, ◌-◌, ◌<◌, ◌≤◌, Bool, IsTrue, List, [], ◌∷◌, ◌++◌, length, refl, sym, ap, subst, ◌∙◌, arith, append_assoc, length-append, inl, inr}
+use Rattle.std.proofs.Common.{◌≡◌, ℕ, suc, ◌+◌, ◌-◌, ◌<◌, ◌≤◌, Bool, IsTrue, Some, None, List, [], ◌∷◌, ◌++◌, length, refl, sym, ap, subst, ◌∙◌, arith, append_assoc, length-append, inl, inr}
 use Rattle.std.proofs.lemmas.Bool.{cases_lt}
 use Rattle.std.proofs.lemmas.List.{append-nil}
 use Rattle.ts_page.specs.Pages.{Contents}
-use Rattle.ts_cells.specs.Cell.{Element}
 use Rattle.ts_model.specs.Definitions.{Definitions}
 use Rattle.ts_layout.specs.Meaning.{ElementPage, Free, Cells, element_page, HoldsElements}
 use Rattle.ts_layout.specs.Surveyed.{free_from}
 use Rattle.ts_container.specs.declared.content.Content.{Content}
 use Rattle.ts_container.specs.declared.span.Span.{Span}
-use Rattle.ts_container.specs.Spans.{span_of, span_on, spans_from}
-use Rattle.ts_container.specs.Elements.{Describes, Listed, IsReadAs, AllRead, HoldNoElements}
+use Rattle.ts_container.specs.Spans.{span_on, spans_from}
+use Rattle.ts_container.specs.Elements.{Describes, IsContentOf, Listed, IsReadAs, AllRead, HoldNoElements}
 use Rattle.ts_layout.proofs.CallerLemmas.{before, at_end, free_from-append}
 
 -- the spans with one page more
-spans_from-append : (first : ℕ) (es : List ElementPage) (e : ElementPage) → spans_from first (es ++ e ∷ []) ≡ spans_from first es ++ span_on (first + length es) e
-spans_from-append first [] e = append-nil (span_on first e) ∙ ap (λ (n : ℕ). span_on n e) (let z : first ≡ first + 0 = omega arith in z)
-spans_from-append first (x ∷ es) e =
-    ap (λ (l : List Span). span_on first x ++ l) (spans_from-append (suc first) es e)
-    ∙ sym (append_assoc (span_on first x) (spans_from (suc first) es) (span_on (suc first + length es) e))
-    ∙ ap (λ (n : ℕ). span_on first x ++ spans_from (suc first) es ++ span_on n e) (let z : suc first + length es ≡ first + suc (length es) = omega arith in z)
+spans_from-append : (d : Definitions) (first : ℕ) (es : List ElementPage) (e : ElementPage) → spans_from d first (es ++ e ∷ []) ≡ spans_from d first es ++ span_on d (first + length es) e
+spans_from-append d first [] e = append-nil (span_on d first e) ∙ ap (λ (n : ℕ). span_on d n e) (let z : first ≡ first + 0 = omega arith in z)
+spans_from-append d first (x ∷ es) e =
+    ap (λ (l : List Span). span_on d first x ++ l) (spans_from-append d (suc first) es e)
+    ∙ sym (append_assoc (span_on d first x) (spans_from d (suc first) es) (span_on d (suc first + length es) e))
+    ∙ ap (λ (n : ℕ). span_on d first x ++ spans_from d (suc first) es ++ span_on d n e) (let z : suc first + length es ≡ first + suc (length es) = omega arith in z)
 
 -- a free page is added
-pub listed_free : (spans : List Span) (free : List ℕ) (number : ℕ) (es : List ElementPage) → number ≡ 930 + length es → Listed spans free es → Listed spans (free ++ number ∷ []) (es ++ Free ∷ [])
-listed_free spans free number es is listed = record {
-  found = listed.found ∙ sym (append-nil (spans_from 930 es)) ∙ sym (spans_from-append 930 es Free);
+pub listed_free : (d : Definitions) (spans : List Span) (free : List ℕ) (number : ℕ) (es : List ElementPage) → number ≡ 930 + length es → Listed d spans free es → Listed d spans (free ++ number ∷ []) (es ++ Free ∷ [])
+listed_free d spans free number es is listed = record {
+  found = listed.found ∙ sym (append-nil (spans_from d 930 es)) ∙ sym (spans_from-append d 930 es Free);
   spare = (λ i. listed.spare i ++ is i ∷ []) ∙ sym (free_from-append 930 es Free);
 }
 
--- a page of a series
-pub listed_page : (spans : List Span) (free : List ℕ) (slot number : ℕ) (span : Span) (es : List ElementPage) (fs : List Element) → span_of slot number fs ≡ span ∷ [] → number ≡ 930 + length es → Listed spans free es
-    → Listed (spans ++ span ∷ []) free (es ++ Cells slot fs ∷ [])
-listed_page spans free slot number span es fs has is listed = record {
-  found = (λ i. listed.found i ++ sym has i) ∙ ap (λ (n : ℕ). spans_from 930 es ++ span_of slot n fs) is ∙ sym (spans_from-append 930 es (Cells slot fs));
-  spare = listed.spare ∙ sym (append-nil (free_from 930 es)) ∙ sym (free_from-append 930 es (Cells slot fs));
+-- a page of a series, of which this is the span
+pub listed_page : (d : Definitions) (spans : List Span) (free : List ℕ) (number : ℕ) (span : Span) (es : List ElementPage) (e : ElementPage) → span_on d number e ≡ span ∷ [] → number ≡ 930 + length es → Listed d spans free es
+    → Listed d (spans ++ span ∷ []) free (es ++ e ∷ [])
+listed_page d spans free number span es Free has is listed = absurd (cc)
+listed_page d spans free number span es (Cells slot sheet) has is listed = record {
+  found = (λ i. listed.found i ++ sym has i) ∙ ap (λ (n : ℕ). spans_from d 930 es ++ span_on d n (Cells slot sheet)) is ∙ sym (spans_from-append d 930 es (Cells slot sheet));
+  spare = listed.spare ∙ sym (append-nil (free_from 930 es)) ∙ sym (free_from-append 930 es (Cells slot sheet));
 }
 
 -- nothing was read yet
@@ -42,8 +42,8 @@ none_read tells d v spans free no_spans none = record { elements = []; size = re
 
 -- one page more was read
 pub read_more : (tells : Bool) (d : Definitions) (v : Contents) (number : ℕ) (spans spans' : List Span) (free free' : List ℕ) (content : Content) (bytes : List ℕ) → 930 ≤ number
-    → AllRead tells (number - 930) d v spans free → (e : ElementPage) × HoldsElements d bytes e × Describes content e
-    → ((es : List ElementPage) (e : ElementPage) → number ≡ 930 + length es → Describes content e → Listed spans free es → Listed spans' free' (es ++ e ∷ []))
+    → AllRead tells (number - 930) d v spans free → IsContentOf d number bytes (Some content)
+    → ((es : List ElementPage) (e : ElementPage) → number ≡ 930 + length es → Describes d number content e → Listed d spans free es → Listed d spans' free' (es ++ e ∷ []))
     → (IsTrue tells → v.page number ≡ bytes) → AllRead tells (number + 1 - 930) d v spans' free'
 read_more tells d v number spans spans' free free' content bytes low read found adds told =
     let e : ElementPage = found.0 in
@@ -62,7 +62,7 @@ read_more tells d v number spans spans' free free' content bytes low read found 
     }
 
 -- a page without elements is read
-pub read_bad : (d : Definitions) (pages : ℕ → List ℕ) (number count : ℕ) (bytes : List ℕ) → 930 ≤ number → number < count → pages number ≡ bytes → ((e : ElementPage) → HoldsElements d bytes e → ⊥) → HoldNoElements (count - 930) d pages
+pub read_bad : (d : Definitions) (pages : ℕ → List ℕ) (number count : ℕ) (bytes : List ℕ) → 930 ≤ number → number < count → pages number ≡ bytes → IsContentOf d number bytes None → HoldNoElements (count - 930) d pages
 read_bad d pages number count bytes low high is none es size holds =
     let at : 930 + (number - 930) ≡ number = omega arith in
     none (element_page (number - 930) es) (subst (λ (l : List ℕ). HoldsElements d l (element_page (number - 930) es)) (ap pages at ∙ is) (holds (number - 930) (omega (arith, size))))

@@ -87,7 +87,7 @@ lacks_none d (defs.Calendar name calendar None) rules lacks = lacks
 lacks_none d (defs.RowType name kind) rules lacks = lacks
 lacks_none d (defs.Pattern name pattern) rules lacks = lacks
 lacks_none d (defs.Container name row_type quota) rules lacks = lacks
-lacks_none d (defs.Series key container) rules lacks = lacks
+lacks_none d (defs.Series key container regular) rules lacks = lacks
 
 -- the parts of a calendar
 calendar_of : (c : CalendarDef) (name : List ℕ) (calendar : CalendarPlan) (by : Option ℕ) → of_calendar c ≡ defs.Calendar name calendar by → c.calendar ≡ calendar
@@ -130,7 +130,7 @@ module _ {format count reached : ℕ} {pages : ℕ → List ℕ} (d d' : Definit
   rules_before slot (defs.RowType name kind) within at here is = tt
   rules_before slot (defs.Pattern name pattern) within at here is = tt
   rules_before slot (defs.Container name row_type quota) within at here is = tt
-  rules_before slot (defs.Series key container) within at here is = tt
+  rules_before slot (defs.Series key container regular) within at here is = tt
   rules_before slot (defs.Calendar name calendar by) within at here is =
       let its = own of_calendar slot d'.calendars (defs.Calendar name calendar by) here in
       let plan : its.0.calendar ≡ calendar = calendar_of its.0 name calendar by its.2 in

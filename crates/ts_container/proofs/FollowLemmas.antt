@@ -64,11 +64,11 @@ follow_more d slot (defs.Pattern name pattern) within empty rules follow = λ i 
     still_there d.patterns slot by (record { name = name; pattern = pattern }) c.calendar.pattern (none_of (at_slot slot d.patterns) (sym (at_slot-map of_pattern slot d.patterns) ∙ empty)) (follow i c there by is)
 follow_more d slot (defs.Calendar name calendar by) within empty rules follow = each_more (Follows d.patterns) slot (record { name = name; calendar = calendar; by = by }) d.calendars within rules.1 follow
 follow_more d slot (defs.Container name row_type quota) within empty rules follow = follow
-follow_more d slot (defs.Series key container) within empty rules follow = follow
+follow_more d slot (defs.Series key container regular) within empty rules follow = follow
 
 pub valid_more : (d : Definitions) (slot : ℕ) (def : Def) → slot < length (table_of (kind_of def) d) → KeepsCalendarRules def d → AreValid d → AreValid (with_slot (kind_of def) slot (Some def) d)
 valid_more d slot (defs.RowType name kind) within rules valid = valid
 valid_more d slot (defs.Pattern name pattern) within rules valid = valid
 valid_more d slot (defs.Calendar name calendar by) within rules valid = each_more (λ (c : CalendarDef). IsValid c.calendar) slot (record { name = name; calendar = calendar; by = by }) d.calendars within rules.0 valid
 valid_more d slot (defs.Container name row_type quota) within rules valid = valid
-valid_more d slot (defs.Series key container) within rules valid = valid
+valid_more d slot (defs.Series key container regular) within rules valid = valid

@@ -1,18 +1,16 @@
 -- The sums of charges, where the places of one series change.
-use Rattle.std.proofs.Common.{◌≡◌, ◌≢◌, ℕ, ◌+◌, ◌-◌, ◌<◌, ◌≤◌, Option, Some, None, List, [], length, get_or, set, refl, sym, ap, ◌∙◌, arith, inl, inr, length-set, get_or-set_same, get_or-set_other}
+use Rattle.std.proofs.Common.{◌≡◌, ◌≢◌, ℕ, ◌+◌, ◌-◌, ◌<◌, ◌≤◌, ℤ, Option, Some, None, List, [], length, get_or, set, refl, sym, ap, ◌∙◌, arith, inl, inr, length-set, get_or-set_same, get_or-set_other}
 use Rattle.std.specs.Option.{option_map, unwrap_or}
 use Rattle.std.proofs.lemmas.Bool.{cases_eq, cases_lt}
 use Rattle.std.proofs.lemmas.List.{get_or_past}
 use Rattle.ts_row.specs.RowType.{Heading}
 use Rattle.ts_space.specs.declared.place.Place.{Place}
 use Rattle.ts_space.specs.Directory.{Directory, places_of}
-use Rattle.ts_space.specs.Charge.{irregular_places_charge}
 use Rattle.ts_cells.specs.Cell.{page_room}
 use Rattle.ts_model.specs.Definitions.{Definitions, SeriesDef, at_slot, with_format, IsDefinitions}
 use Rattle.ts_layout.specs.Meaning.{heading_in}
-use Rattle.ts_layout.specs.Charges.{container_charge}
-use Rattle.ts_layout.specs.Charges.{charge_in}
-use Rattle.ts_layout.proofs.CallerLemmas.{charge_own, charge_others}
+use Rattle.ts_layout.specs.Charges.{places_charge, container_charge, charge_in}
+use Rattle.ts_layout.proofs.CallerLemmas.{charge_own, charge_others, nothing_charged}
 use Rattle.ts_container.specs.KeptCharges.{AreCharges, IsCharged, with_charge}
 
 -- what a container of these columns is charged
@@ -30,16 +28,16 @@ no_place lists slot =
       | inr past ↦ get_or_past (set lists slot []) slot [] (omega (arith, past, length-set lists slot []))
     ]
 
-emptied : (room slot : ℕ) (space : Directory) → irregular_places_charge room (places_of slot (without slot space)) ≡ 0
-emptied room slot space = ap (irregular_places_charge room) (no_place space.lists slot)
+emptied : (room slot : ℕ) (regular : Option (ℕ × ℤ)) (space : Directory) → places_charge room regular (places_of slot (without slot space)) ≡ 0
+emptied room slot regular space = ap (places_charge room regular) (no_place space.lists slot) ∙ nothing_charged room regular
 
 -- what a series costs is part of what its container is charged
 pub charge_part : (d : Definitions) (space : Directory) (slot : ℕ) (s : SeriesDef) (h : Heading) (sums : List ℕ) → IsDefinitions d → at_slot slot d.series ≡ Some s → s.container < 64 → heading_in d s.container ≡ Some h → AreCharges sums d space
-    → irregular_places_charge (page_room h.columns) (places_of slot space) ≤ get_or sums s.container 0
+    → places_charge (page_room h.columns) s.regular (places_of slot space) ≤ get_or sums s.container 0
 charge_part d space slot s h sums rules there within heading are =
     let room : ℕ = page_room h.columns in
     let own = charge_own d (without slot space) space slot s room rules there (λ t below other. sym (get_or-set_other space.lists slot t [] [] other)) in
-    let none : irregular_places_charge room (places_of slot (without slot space)) ≡ 0 = emptied room slot space in
+    let none : places_charge room s.regular (places_of slot (without slot space)) ≡ 0 = emptied room slot s.regular space in
     let is = are s.container within ∙ charge_is d space s.container h heading in
     omega (arith, own, none, is)
 
@@ -55,11 +53,11 @@ others_same d space space' slot k s rules there same other (Some h) = charge_oth
 -- after a change of the places of a series the sums are right with its container's changed alike
 pub charge_changed : (d : Definitions) (space space' : Directory) (slot : ℕ) (s : SeriesDef) (h : Heading) (sums : List ℕ) → IsDefinitions d → at_slot slot d.series ≡ Some s → s.container < 64 → heading_in d s.container ≡ Some h → length sums ≡ 64
     → ((t : ℕ) → t < 4096 → t ≢ slot → places_of t space' ≡ places_of t space) → AreCharges sums d space
-    → AreCharges (with_charge s.container (irregular_places_charge (page_room h.columns) (places_of slot space)) (irregular_places_charge (page_room h.columns) (places_of slot space')) sums) d space'
+    → AreCharges (with_charge s.container (places_charge (page_room h.columns) s.regular (places_of slot space)) (places_charge (page_room h.columns) s.regular (places_of slot space')) sums) d space'
 charge_changed d space space' slot s h sums rules there within heading size same are k below =
     let room : ℕ = page_room h.columns in
-    let old : ℕ = irregular_places_charge room (places_of slot space) in
-    let new : ℕ = irregular_places_charge room (places_of slot space') in
+    let old : ℕ = places_charge room s.regular (places_of slot space) in
+    let new : ℕ = places_charge room s.regular (places_of slot space') in
     let c : ℕ = s.container in
     let v : ℕ = get_or sums c 0 + new - old in
     elim (cases_eq k c) [

@@ -8,14 +8,15 @@ use Rattle.ts_model.specs.Definitions.{Definitions, limit}
 use Rattle.ts_container.specs.declared.found.Flaw.{Flaw}
 use Rattle.ts_container.specs.declared.found.Found.{Found}
 use Rattle.ts_container.specs.declared.found.Found.TheVariants as found
-use Rattle.ts_container.specs.declared.slot.Written.{Written}
-use Rattle.ts_container.specs.Written.{kind_written, written_bytes}
-use Rattle.ts_container.proofs.WrittenLemmas.{kind_same, bytes_same}
+use Rattle.ts_slots.specs.declared.slot.Written.{Written}
+use Rattle.ts_slots.specs.Written.{kind_written, written_bytes}
+use Rattle.ts_slots.proofs.WrittenLemmas.{kind_same, bytes_same}
 use Rattle.ts_layout.specs.declared.place.Slots.{Slots}
 use Rattle.ts_layout.specs.Slot.{slot_size, slot_bytes, slots_in_page, bytes_of_slots}
 use Rattle.ts_layout.specs.Limits.{IsDef, IsSlotOf}
 use Rattle.ts_layout.specs.Meaning.{def_at, bytes_of_slot}
-use Rattle.ts_container.specs.Reading.{HoldNone, AreReadTo, HoldBelow, both_found, Admitted, SlotRead, PageRead, HasZerosBehind, HasFlaw, IsWrittenWith}
+use Rattle.ts_container.specs.Reading.{HoldNone, AreReadTo, HoldBelow, both_found, Admitted, SlotRead, PageRead, HasZerosBehind, HasFlaw}
+use Rattle.ts_slots.specs.Reading.{IsWrittenWith}
 use Rattle.ts_layout.specs.Rank.{rank_of_page}
 use Rattle.ts_layout.proofs.CallerLemmas.{slot_filled, Stands, stands, rank_next}
 use Rattle.ts_container.proofs.FilledLemmas.{read_more, hold_more, read_on}

@@ -1,16 +1,18 @@
 -- What a survey says of the pages.
 use Rattle.std.specs.Prelude.{All, IsPermutation}
 use Rattle.std.proofs.Common.{◌≡◌, ℕ, suc, ◌+◌, ◌-◌, ◌*◌, ◌<◌, ◌≤◌, ◌==◌, if◌then◌else◌, true, false, [], ◌∷◌, lit≤, length-append, Bool, Option, Some, None, IsSome, IsTrue, Result, Ok, Err, IsErrAnd, IfErr, List, length, refl, sym, ap, subst, ◌∙◌, arith, inl, inr, ◌⊎◌, MatchOption}
-use Rattle.std.proofs.lemmas.List.Sorted.{sum_by-IsPermutation}
+use Rattle.std.proofs.lemmas.List.Sorted.{length_permutation, sum_by-IsPermutation}
 use Rattle.ts_page.specs.Pages.{Contents, EqualPages}
 use Rattle.ts_space.specs.declared.place.Place.{Place}
 use Rattle.ts_space.specs.Place.{count_of, IsRising}
-use Rattle.ts_space.specs.Directory.{Directory, places_of}
+use Rattle.ts_space.specs.Directory.{Directory}
 use Rattle.ts_row.specs.declared.kind.Column.{Column}
-use Rattle.ts_cells.specs.Cell.{page_room}
+use Rattle.ts_offset.specs.declared.shape.Shape.{Shape}
+use Rattle.ts_offset.specs.declared.shape.Shape.TheVariants.{Irregular, Regular}
 use Rattle.ts_model.specs.Definitions.{Definitions, IsFormat, IsDefinitions}
 use Rattle.ts_layout.specs.Slot.{header_bytes}
-use Rattle.ts_layout.specs.Meaning.{ElementPage, Free, Cells, element_page, elements_on, elements_of, Layout, HoldsDefinitions, HoldsElements, KeepLimits, AreThere, AreFollowing, AreSound, sum_of_quotas, IsSound, IsLaidOut, HoldAll}
+use Rattle.ts_layout.specs.Meaning.{ElementPage, Free, Cells, element_page, elements_on, elements_of, sheets_on, sheets_of, Layout, HoldsDefinitions, HoldsElements, KeepLimits, AreThere, AreFollowing, HaveOrigins, AreSound, sum_of_quotas, IsSound, IsLaidOut, HoldAll}
+use Rattle.ts_layout.specs.Sheets.{room_of}
 use Rattle.ts_layout.specs.Surveyed.{ListsPlaces, places_from}
 use Rattle.ts_container.specs.Reading.{HoldNone}
 use Rattle.ts_layout.specs.Charges.{AreCountable, KeepQuotas}
@@ -23,11 +25,11 @@ use Rattle.ts_container.specs.declared.fault.SurveyFault.{SurveyFault}
 use Rattle.ts_container.specs.declared.fault.SurveyFault.TheVariants.{NotAStore, Failed, Memory}
 use Rattle.ts_container.specs.declared.surveyed.Surveyed.{Surveyed}
 use Rattle.ts_layout.specs.Chains.{AreFilled}
-use Rattle.ts_layout.proofs.CallerLemmas.{within_list, header_format, AreInPages, unique, kept_in, same_page, same_pages, count_places, quotas_kept, quotas_listed}
+use Rattle.ts_layout.proofs.CallerLemmas.{within_list, header_format, AreInPages, unique, kept_in, same_page, same_pages, AreCounted, count_places, many_places, sheet_counted, fill_of, quotas_kept, quotas_listed}
 use Rattle.ts_container.proofs.SurveyLemmas.{reads_more, reads_err, reads_refused}
 use Rattle.ts_container.proofs.SpanLemmas.{rising_in}
 use Rattle.ts_container.proofs.SeenLemmas.{AllHeld}
-use Rattle.ts_container.proofs.SortedLemmas.{places_listed, ends_found, chained, apart_there, dense_there}
+use Rattle.ts_container.proofs.SortedLemmas.{places_listed, ends_found, in_sequence, apart_there, dense_there}
 
 -- how many element pages there are
 size_of : (count : ℕ) (l : Layout) → count ≡ 930 + length l.element_pages → length l.element_pages ≡ count - 930
@@ -91,6 +93,11 @@ not_granted count pages d header there more l laid =
     let same = the_definitions count pages d header there l laid in
     more (subst (λ (n : ℕ). sum_of_quotas d.containers ≤ n) (size_of count l laid.size) (subst (λ (x : Definitions). sum_of_quotas x.containers ≤ length l.element_pages) same laid.rules.definitions.quotas))
 
+-- a series whose origin is no on start of its calendar
+pub not_on_start : (count : ℕ) (pages : ℕ → List ℕ) (d : Definitions) → HasFormat d.format count pages → AreInPages pages d → (HaveOrigins d → ⊥) → HoldNoLayout count pages
+not_on_start count pages d header there astray l laid =
+    astray (subst HaveOrigins (the_definitions count pages d header there l laid) laid.rules.definitions.origins)
+
 -- the element pages of each layout
 its_pages : (count : ℕ) (pages : ℕ → List ℕ) (d : Definitions) → HasFormat d.format count pages → HoldsDefinitions pages d → AreSound (count - 930) d → (l : Layout) → IsLaidOut count pages l → HoldAll d pages l.element_pages
 its_pages count pages d header holds sound l laid j within =
@@ -130,12 +137,12 @@ its_rules tells count d v es told size seen header holds sound l laid =
 abbrev pub IsSortOf : List Span → List Span → Type 0
 IsSortOf spans sorted = IsPermutation spans sorted × AreSorted sorted
 
-all_moved : (spans sorted : List Span) (es : List ElementPage) → spans ≡ spans_from 930 es → IsPermutation spans sorted → IsPermutation (spans_from 930 es) sorted
-all_moved spans sorted es found moved = subst (λ (l : List Span). IsPermutation l sorted) found moved
+all_moved : (d : Definitions) (spans sorted : List Span) (es : List ElementPage) → spans ≡ spans_from d 930 es → IsPermutation spans sorted → IsPermutation (spans_from d 930 es) sorted
+all_moved d spans sorted es found moved = subst (λ (l : List Span). IsPermutation l sorted) found moved
 
 pub ends_read : (tells : Bool) (count : ℕ) (d : Definitions) (v : Contents) (spans sorted : List Span) (spare : List ℕ) → AllRead tells count d v spans spare → IsSortOf spans sorted → All IsSpan sorted
 ends_read tells count d v spans sorted spare read moved =
-    ends_found d read.elements sorted (held_seen tells count d v read.elements read.size read.seen) (all_moved spans sorted read.elements read.listed.found moved.0)
+    ends_found d read.elements sorted (held_seen tells count d v read.elements read.size read.seen) (all_moved d spans sorted read.elements read.listed.found moved.0) moved.1
 
 -- pages of a series that overlap, or fit one page
 pub not_chained : (tells : Bool) (count : ℕ) (d : Definitions) (v : Contents) (spans sorted : List Span) (spare : List ℕ) → IsTrue tells → HasFormat d.format count v.page → HoldsDefinitions v.page d → AreSound (count - 930) d → AllRead tells (count - 930) d v spans spare → IsSortOf spans sorted
@@ -143,66 +150,80 @@ pub not_chained : (tells : Bool) (count : ℕ) (d : Definitions) (v : Contents) 
 not_chained tells count d v spans sorted spare told header holds sound read moved bad l laid =
     let es : List ElementPage = read.elements in
     let held = held_seen tells (count - 930) d v es read.size read.seen in
-    let all = all_moved spans sorted es read.listed.found moved.0 in
+    let all = all_moved d spans sorted es read.listed.found moved.0 in
     let rules = its_rules tells count d v es told read.size read.seen header holds sound l laid in
-    let apart = apart_there d es sorted held all moved.1 rules.chains in
-    bad apart (dense_there d es sorted held all moved.1 apart rules.chains)
+    let apart = apart_there d es sorted held all moved.1 rules.sequences in
+    bad apart (dense_there d es sorted held all moved.1 apart rules.sequences)
 
--- the places count the elements
-counted : (space : Directory) (spans sorted : List Span) (es : List ElementPage) → spans ≡ spans_from 930 es → IsPermutation spans sorted → Lists sorted space → (slot : ℕ) → slot < 4096 → count_of (places_of slot space) ≡ length (elements_of slot es)
-counted space spans sorted es found moved lists slot within =
-    ap count_of (lists.places slot within)
-    ∙ sym (sum_by-IsPermutation (λ (p : Place). p.count) (places_in slot sorted) (places_from slot 930 es) (places_listed slot es sorted (all_moved spans sorted es found moved)))
-    ∙ count_places slot 930 es
+-- the places count the elements and the sheets
+counted : (d : Definitions) (space : Directory) (spans sorted : List Span) (es : List ElementPage) → spans ≡ spans_from d 930 es → IsPermutation spans sorted → Lists sorted space → (slot : ℕ) → slot < 4096 → AreCounted space es slot
+counted d space spans sorted es found moved lists slot within =
+    let all = places_listed d slot es sorted (all_moved d spans sorted es found moved) in
+    let is = lists.places slot within in
+    record {
+      elements = ap count_of is ∙ sym (sum_by-IsPermutation (λ (p : Place). p.count) (places_in slot sorted) (places_from slot 930 es) all) ∙ count_places slot 930 es;
+      pages = ap (λ (ps : List Place). length ps) is ∙ sym (length_permutation (places_in slot sorted) (places_from slot 930 es) all) ∙ many_places slot 930 es;
+    }
 
 -- a page has at most so many elements
-few_room : (columns : List Column) → page_room columns ≤ 451
-few_room columns = omega arith
+few_room : (shape : Shape) (columns : List Column) → room_of shape columns ≤ 4064
+few_room Irregular columns = omega arith
+few_room (Regular grid) columns = omega arith
 
-few_on : (d : Definitions) (slot : ℕ) (bytes : List ℕ) (e : ElementPage) → HoldsElements d bytes e → length (elements_on slot e) ≤ 451
-few_on d slot bytes Free holds = lit≤ tt
-few_on d slot bytes (Cells s es) holds = of_test (s == slot) where
-  of_test : (b : Bool) → length (if b then es else []) ≤ 451
-  of_test true = let room = few_room holds.0.columns in let fits = holds.2.fill.room in omega (arith, room, fits)
-  of_test false = lit≤ tt
+few_on : (d : Definitions) (slot : ℕ) (bytes : List ℕ) (e : ElementPage) → HoldsElements d bytes e → (length (elements_on slot e) ≤ 4064) × (length (sheets_on slot e) ≤ 1)
+few_on d slot bytes Free holds = (lit≤ tt, lit≤ tt)
+few_on d slot bytes (Cells s one) holds = of_test (s == slot) where
+  of_test : (b : Bool) → (length (if b then one.1 else []) ≤ 4064) × (length (if b then one ∷ [] else []) ≤ 1)
+  of_test true =
+      let room = few_room holds.shape holds.heading.columns in
+      let fits = (sheet_counted holds.shape holds.heading.columns one (fill_of holds.shape s holds.heading.columns one bytes holds.bytes)).1 in
+      (omega (arith, room, fits), lit≤ tt)
+  of_test false = (lit≤ tt, lit≤ tt)
 
-few_elements : (d : Definitions) (slot : ℕ) (es : List ElementPage) → AllHeld d es → length (elements_of slot es) ≤ 451 * length es
-few_elements d slot [] held = lit≤ tt
-few_elements d slot (e ∷ es) held =
+few_of : (d : Definitions) (slot : ℕ) (es : List ElementPage) → AllHeld d es → (length (elements_of slot es) ≤ 4064 * length es) × (length (sheets_of slot es) ≤ length es)
+few_of d slot [] held = (lit≤ tt, lit≤ tt)
+few_of d slot (e ∷ es) held =
     let here = held 0 (omega arith) in
     let one = few_on d slot here.0 e here.1 in
-    let rest = few_elements d slot es (λ j within. held (suc j) (omega (arith, within))) in
-    omega (arith, one, rest, length-append (elements_on slot e) (elements_of slot es))
+    let rest = few_of d slot es (λ j within. held (suc j) (omega (arith, within))) in
+    (omega (arith, one.0, rest.0, length-append (elements_on slot e) (elements_of slot es)), omega (arith, one.1, rest.1, length-append (sheets_on slot e) (sheets_of slot es)))
 
 -- so they can be counted
 pub countable : (tells : Bool) (count : ℕ) (d : Definitions) (v : Contents) (space : Directory) (spans sorted : List Span) (spare : List ℕ) → count ≤ 66466 → AllRead tells (count - 930) d v spans spare → IsSortOf spans sorted → Lists sorted space → AreCountable space
 countable tells count d v space spans sorted spare high read moved lists slot within =
-    let same = counted space spans sorted read.elements read.listed.found moved.0 lists slot within in
-    let few = few_elements d slot read.elements (held_seen tells (count - 930) d v read.elements read.size read.seen) in
-    omega (arith, same, few, read.size, high)
+    let same = counted d space spans sorted read.elements read.listed.found moved.0 lists slot within in
+    let few = few_of d slot read.elements (held_seen tells (count - 930) d v read.elements read.size read.seen) in
+    omega (arith, same.elements, same.pages, few.0, few.1, read.size, high)
 
 -- a container over its quota
 pub not_paid : (tells : Bool) (count : ℕ) (d : Definitions) (v : Contents) (space : Directory) (spans sorted : List Span) (spare : List ℕ) → IsTrue tells → HasFormat d.format count v.page → HoldsDefinitions v.page d → AreSound (count - 930) d → AllRead tells (count - 930) d v spans spare → IsSortOf spans sorted
     → Lists sorted space → (KeepQuotas d space → ⊥) → HoldNoLayout count v.page
 not_paid tells count d v space spans sorted spare told header holds sound read moved lists over l laid =
     let rules = its_rules tells count d v read.elements told read.size read.seen header holds sound l laid in
-    over (quotas_listed d space read.elements sound.tables (counted space spans sorted read.elements read.listed.found moved.0 lists) rules.charges)
+    over (quotas_listed d space read.elements sound.tables (counted d space spans sorted read.elements read.listed.found moved.0 lists) rules.charges)
 
 -- each page that was read is filled
 filled_seen : (tells : Bool) (count : ℕ) (d : Definitions) (v : Contents) (es : List ElementPage) → length es ≡ count → ((j : ℕ) → j < count → IsReadAs tells v d (930 + j) (element_page j es)) → AreFilled (the_layout d es)
-filled_seen tells count d v es size seen i slot fs is =
-    let one = seen i (omega (arith, within_list es i slot fs is, size)) in
+filled_seen tells count d v es size seen i slot sheet is =
+    let one = seen i (omega (arith, within_list es i slot sheet is, size)) in
     let here = subst (HoldsElements d one.0) is one.1 in
-    (here.0, here.1, here.2.fill, here.3)
+    record {
+      heading = here.heading;
+      shape = here.shape;
+      columns = here.columns;
+      lies = here.lies;
+      fill = fill_of here.shape slot here.heading.columns sheet one.0 here.bytes;
+      of_format = here.of_format;
+    }
 
 -- the places of each series, in order
-places_seen : (d : Definitions) (space : Directory) (spans sorted : List Span) (es : List ElementPage) → AllHeld d es → spans ≡ spans_from 930 es → IsSortOf spans sorted → AreApart sorted → Lists sorted space → ListsPlaces space (the_layout d es)
+places_seen : (d : Definitions) (space : Directory) (spans sorted : List Span) (es : List ElementPage) → AllHeld d es → spans ≡ spans_from d 930 es → IsSortOf spans sorted → AreApart sorted → Lists sorted space → ListsPlaces space (the_layout d es)
 places_seen d space spans sorted es held found moved apart lists slot within =
-    let all = all_moved spans sorted es found moved.0 in
+    let all = all_moved d spans sorted es found moved.0 in
     let is = lists.places slot within in
     record {
-      rising = subst IsRising (sym is) (rising_in slot sorted moved.1 (ends_found d es sorted held all) apart);
-      all = subst (λ (ps : List Place). IsPermutation ps (places_from slot 930 es)) (sym is) (places_listed slot es sorted all);
+      rising = subst IsRising (sym is) (rising_in slot sorted moved.1 (ends_found d es sorted held all moved.1) apart);
+      all = subst (λ (ps : List Place). IsPermutation ps (places_from slot 930 es)) (sym is) (places_listed d slot es sorted all);
     }
 
 -- the layout that was read: on every keeper of pages it keeps the rules, and where the pages are told they hold it
@@ -212,7 +233,7 @@ is_found tells count d v space spans sorted spare low high header holds sound re
     let es : List ElementPage = read.elements in
     let l : Layout = the_layout d es in
     let held = held_seen tells (count - 930) d v es read.size read.seen in
-    let all = all_moved spans sorted es read.listed.found moved.0 in
+    let all = all_moved d spans sorted es read.listed.found moved.0 in
     let filled : AreFilled l = filled_seen tells (count - 930) d v es read.size read.seen in
     let places : ListsPlaces space l = places_seen d space spans sorted es held read.listed.found moved good.0 lists in
     let size : count ≡ 930 + length es = omega (arith, read.size, low) in
@@ -220,8 +241,8 @@ is_found tells count d v space spans sorted spare low high header holds sound re
       some = omega (arith, read.size, low);
       most = omega (arith, read.size, high);
       definitions = subst (λ (n : ℕ). AreSound n d) (sym read.size) sound;
-      chains = λ slot h there. chained d slot h es sorted held all moved.1 good.0 good.1 there;
-      charges = quotas_kept d space es sound.tables (counted space spans sorted es read.listed.found moved.0 lists) kept;
+      sequences = λ slot h shape there lies. in_sequence d es sorted held all moved.1 good.0 good.1 slot h shape there lies;
+      charges = quotas_kept d space es sound.tables (counted d space spans sorted es read.listed.found moved.0 lists) kept;
     } in
     record {
       kept = kept_in l space spare count rules filled places lists.slots read.listed.spare size;

@@ -1,4 +1,3 @@
-pub mod Written
 pub mod Reading
 pub mod Fault
 pub mod Survey

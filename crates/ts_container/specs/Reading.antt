@@ -1,4 +1,4 @@
--- What is read of slots and of the pages where they stand.
+-- What is found in slots and on the pages where they stand.
 use Rattle.std.specs.Prelude.{◌≡◌, ℕ, ◌+◌, ◌-◌, ◌<◌, ◌≤◌, ◌⊎◌, Option, Some, None, IfSome, IsSome, IsSomeAnd, unwrap_or, min, Result, Ok, Err, List, length, drop, replicate}
 use Rattle.std.specs.Option.{option_or}
 use Rattle.ts_page.specs.Volume.{page_size}
@@ -11,31 +11,15 @@ use Rattle.ts_container.specs.declared.found.Flaw.TheVariants.{Unresolved, Inval
 use Rattle.ts_container.specs.declared.found.Found.{Found}
 use Rattle.ts_container.specs.declared.found.Found.TheVariants as found
 use Rattle.ts_container.specs.declared.found.Flaws.{Flaws}
-use Rattle.ts_container.specs.declared.slot.Written.{Written}
-use Rattle.ts_container.specs.declared.slot.Reading.{Reading}
-use Rattle.ts_container.specs.declared.slot.Reading.TheVariants.{Bad, Empty, Filled}
-use Rattle.ts_layout.specs.Slot.{def_bytes, slot_bytes, slots_in_page, bytes_of_slots}
+use Rattle.ts_slots.specs.declared.slot.Written.{Written}
+use Rattle.ts_layout.specs.Slot.{slot_bytes, slots_in_page, bytes_of_slots}
 use Rattle.ts_layout.specs.Limits.{IsDef, IsSlotOf}
 use Rattle.ts_layout.specs.Meaning.{def_at, bytes_of_slot, HoldsDefinitions, KeepLimits, AreFollowing, AreValid, AreSound}
 use Rattle.ts_layout.specs.Changed.{KeepsCalendarRules}
 use Rattle.ts_calendar.specs.Plan.{CalendarPlan}
 use Rattle.ts_calendar.specs.Calendar.{IsValid}
 use Rattle.ts_layout.specs.Rank.{rank, rank_of_page}
-use Rattle.ts_container.specs.Written.{IsWritten, kind_written, written_bytes, written_of}
-
--- the bytes of what is written in a slot; each definition with these bytes is written so
-pub record IsWrittenWith (format : ℕ) (kind : Kind) (bytes : List ℕ) (w : Written) : Type 0 where
-  pub of_kind : kind_written w ≡ kind
-  pub limits : IsWritten format w
-  pub is : bytes ≡ written_bytes w
-  pub only : (def : Def) → kind_of def ≡ kind → IsDef format def → bytes ≡ def_bytes def → w ≡ written_of def
-  pub some : bytes ≡ slot_bytes kind None → ⊥
-
--- in a volume of a format, the bytes of an empty slot, those of what is written in one, or those of neither
-abbrev pub IsReadingOf : ℕ → Kind → List ℕ → Reading → Type 0
-IsReadingOf format kind bytes Empty = bytes ≡ slot_bytes kind None
-IsReadingOf format kind bytes (Filled w) = IsWrittenWith format kind bytes w
-IsReadingOf format kind bytes Bad = (slot : Option Def) → IsSlotOf format kind slot → bytes ≡ slot_bytes kind slot → ⊥
+use Rattle.ts_slots.specs.Written.{written_of}
 
 -- pages that hold no definitions of a format that keep their rules, in a volume of any size
 abbrev pub HoldNone : ℕ → (ℕ → List ℕ) → Type 0
@@ -102,7 +86,7 @@ LacksPattern (defs.Calendar name calendar None) d = ⊥
 LacksPattern (defs.RowType name kind) d = ⊥
 LacksPattern (defs.Pattern name pattern) d = ⊥
 LacksPattern (defs.Container name row_type quota) d = ⊥
-LacksPattern (defs.Series key container) d = ⊥
+LacksPattern (defs.Series key container regular) d = ⊥
 
 -- a calendar that has its pattern breaks a rule
 abbrev pub BreaksRule : Def → Definitions → Type 0

@@ -1,35 +1,53 @@
--- The pages of series as they are found: their spans, in the order of the series and of their stamps, and the rules that they keep.
-use Rattle.std.specs.Prelude.{◌≡◌, ℕ, suc, ◌+◌, ◌<◌, ◌≤◌, ◌==◌, ◌<ℤ◌, ◌≤ℤ◌, Some, unwrap_or, List, [], ◌∷◌, ◌++◌, length, map, filter}
+-- The pages of series as they are found: their spans, in the order of the series and of where they begin, and the rules that they keep.
+use Rattle.std.specs.Prelude.{◌≡◌, ℕ, suc, ◌+◌, ◌<◌, ◌≤◌, ◌==◌, ℤ, ◌<ℤ◌, ◌≤ℤ◌, Option, Some, None, unwrap_or, List, [], ◌∷◌, ◌++◌, length, map, filter}
 use Rattle.std.specs.List.{AllAdjacentBelow}
+use Rattle.ts_row.specs.declared.kind.Column.{Column}
 use Rattle.ts_row.specs.RowType.{Heading}
 use Rattle.ts_space.specs.declared.place.Place.{Place}
 use Rattle.ts_space.specs.Directory.{Directory, places_of}
-use Rattle.ts_cells.specs.Cell.{Element, page_room}
+use Rattle.ts_cells.specs.Cell.{page_room}
 use Rattle.ts_cells.specs.IrregularPage.{last_stamp}
+use Rattle.ts_offset.specs.declared.shape.Shape.{Shape}
+use Rattle.ts_offset.specs.declared.shape.Shape.TheVariants.{Irregular, Regular}
 use Rattle.ts_model.specs.Definitions.{Definitions, series_slots}
 use Rattle.ts_container.specs.declared.span.Span.{Span}
-use Rattle.ts_layout.specs.Meaning.{ElementPage, Free, Cells, heading_at}
+use Rattle.ts_layout.specs.Limits.{AreOfFormat}
+use Rattle.ts_layout.specs.Sheets.{Sheet, HoldsSheet}
+use Rattle.ts_layout.specs.Meaning.{ElementPage, Free, Cells, heading_at, shape_at}
 
--- the span of a page of elements of the series in a slot; none where it has none
-abbrev pub span_of : ℕ → ℕ → List Element → List Span
-span_of slot number [] = []
-span_of slot number (e ∷ es) = record {
-  slot = slot;
-  count = length (e ∷ es);
-  page = number;
-  first = e.0;
-  last = unwrap_or (last_stamp (e ∷ es)) e.0;
-} ∷ []
+-- Where a page ends: one of an irregular series at its last stamp. Of a page on a grid it is where it begins, since two pages of a series
+-- there overlap exactly where they begin at one offset.
+abbrev pub end_of : Shape → Sheet → ℤ
+end_of Irregular sheet = unwrap_or (last_stamp sheet.1) sheet.0
+end_of (Regular grid) sheet = sheet.0
 
--- that of an element page
-abbrev pub span_on : ℕ → ElementPage → List Span
-span_on number Free = []
-span_on number (Cells slot es) = span_of slot number es
+-- the span of a page with a sheet of the series in a slot
+abbrev pub span_of : Shape → ℕ → ℕ → Sheet → Span
+span_of shape slot number sheet = record { slot = slot; count = length sheet.1; page = number; first = sheet.0; last = end_of shape sheet }
+
+-- a page has a sheet of the series in a slot, such as the format of the volume allows
+pub record HasSheet (shape : Shape) (slot : ℕ) (columns : List Column) (format : ℕ) (page : List ℕ) (sheet : Sheet) : Type 0 where
+  pub bytes : HoldsSheet shape slot columns sheet page
+  pub of_format : AreOfFormat format sheet.1
+
+-- this is the span of the page of a number, where it has a sheet of the series in a slot
+abbrev pub IsSpanFound : Shape → ℕ → List Column → ℕ → ℕ → List ℕ → Option Span → Type 0
+IsSpanFound shape slot columns format number page (Some span) = (sheet : Sheet) × HasSheet shape slot columns format page sheet × (span ≡ span_of shape slot number sheet)
+IsSpanFound shape slot columns format number page None = (sheet : Sheet) → HasSheet shape slot columns format page sheet → ⊥
+
+-- where the elements of the series in a slot can stand; at all stamps where there is none
+abbrev pub shape_in : Definitions → ℕ → Shape
+shape_in d slot = unwrap_or (shape_at d slot) Irregular
+
+-- the span of an element page; none where it is free
+abbrev pub span_on : Definitions → ℕ → ElementPage → List Span
+span_on d number Free = []
+span_on d number (Cells slot sheet) = span_of (shape_in d slot) slot number sheet ∷ []
 
 -- those of all element pages, page after page from page number `first` on
-abbrev pub spans_from : ℕ → List ElementPage → List Span
-spans_from first [] = []
-spans_from first (e ∷ rest) = span_on first e ++ spans_from (suc first) rest
+abbrev pub spans_from : Definitions → ℕ → List ElementPage → List Span
+spans_from d first [] = []
+spans_from d first (e ∷ rest) = span_on d first e ++ spans_from d (suc first) rest
 
 -- those of the series in a slot
 abbrev pub spans_in : ℕ → List Span → List Span
@@ -60,9 +78,11 @@ IsApart a b = a.slot ≡ b.slot → a.last <ℤ b.first
 abbrev pub AreApart : List Span → Type 0
 AreApart spans = AllAdjacentBelow IsApart spans (length spans)
 
--- two pages of a series never fit one page
+-- two pages of an irregular series never fit one page
 abbrev pub AreMore : Definitions → Span → Span → Type 0
-AreMore d a b = a.slot ≡ b.slot → (h : Heading) → heading_at d a.slot ≡ Some h → page_room h.columns < a.count + b.count
+AreMore d a b =
+    a.slot ≡ b.slot → shape_at d a.slot ≡ Some Irregular → (h : Heading) → heading_at d a.slot ≡ Some h
+    → page_room h.columns < a.count + b.count
 
 -- no page and the next one do
 abbrev pub AreDense : Definitions → List Span → Type 0

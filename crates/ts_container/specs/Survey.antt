@@ -1,18 +1,15 @@
--- The calls that read pages or write a slot, over what a keeper of pages means.
-use Rattle.std.specs.Prelude.{◌≡◌, ℕ, ◌-◌, ◌≤◌, Bool, IsTrue, Option, Some, None, Result, IfOk, IfErr, OnOk, OnErr, IsErrOf, List}
-use Rattle.ts_base.specs.declared.fault.StoreFault.{StoreFault}
-use Rattle.ts_base.specs.declared.fault.StoreFault.TheVariants.{Failed as StoreFailed}
+-- The calls that read pages, over what a keeper of pages means.
+pub use Rattle.ts_slots.specs.Writing.{SlotWritten, HeaderWritten}
+use Rattle.std.specs.Prelude.{◌≡◌, ℕ, ◌-◌, ◌≤◌, Bool, IsTrue, Option, Some, None, Result, IfOk, IfErr, OnOk, IsErrOf, List}
 use Rattle.ts_disk.specs.Device.{Rose}
 use Rattle.ts_page.specs.Volume.{first_element_page}
-use Rattle.ts_page.specs.Pages.{Contents, EqualPages, with_page}
-use Rattle.ts_model.specs.declared.kind.Kind.{Kind}
-use Rattle.ts_model.specs.declared.def.Def.{Def}
+use Rattle.ts_page.specs.Pages.{Contents, EqualPages}
 use Rattle.ts_model.specs.declared.defs.Defs.{Defs}
-use Rattle.ts_model.specs.Definitions.{Definitions, with_slot, IsDefinitions}
+use Rattle.ts_model.specs.Definitions.{Definitions}
 use Rattle.ts_space.specs.Directory.{Directory}
 use Rattle.ts_container.specs.declared.fault.SurveyFault.{SurveyFault}
 use Rattle.ts_container.specs.declared.fault.SurveyFault.TheVariants.{NotAStore, Failed, Memory}
-use Rattle.ts_layout.specs.Slot.{header_bytes, page_of_slot}
+use Rattle.ts_layout.specs.Slot.{header_bytes}
 use Rattle.ts_layout.specs.Meaning.{Layout, HoldsDefinitions, AreSound, IsLaidOut}
 use Rattle.ts_layout.specs.Surveyed.{ListsPlaces, free_pages}
 use Rattle.ts_layout.specs.Chains.{AreFilled}
@@ -20,7 +17,6 @@ use Rattle.ts_layout.specs.Placed.{AreKept}
 use Rattle.ts_layout.specs.Rank.{all_slots}
 use Rattle.ts_container.specs.declared.found.Flaws.{Flaws}
 use Rattle.ts_container.specs.Reading.{AreReadTo, HoldNone, first_flaw}
-use Rattle.ts_layout.specs.Changed.{with_slot_bytes}
 
 -- what a call that only reads pages leaves, and when it fails
 pub record Reads {T : Type 0} (tells : Bool) (result : Result T SurveyFault) (v w : Contents) : Type 0 where
@@ -80,27 +76,3 @@ pub record SoundRead (tells : Bool) (count : ℕ) (result : Result Defs SurveyFa
   pub header : IfOk result (λ x. IsTrue tells → v.page 0 ≡ header_bytes x.definitions.format (count - first_element_page))
   pub known : IfOk result (λ x. IsTrue tells → HoldsDefinitions v.page x.definitions)
   pub refused : IfErr result (λ e. IfRefused e (IsTrue tells → HoldNoLayout count v.page))
-
--- A slot is written: the other bytes of its page stay, and all other pages, so the pages that held some definitions
--- hold them with this slot changed.
-pub record SlotWritten (tells : Bool) (kind : Kind) (slot : ℕ) (def : Option Def) (result : Result Unit StoreFault) (v w : Contents) : Type 0 where
-  pub count : w.count ≡ v.count
-  pub faults : v.faults ≤ w.faults
-  pub free : w.free ≡ v.free
-  pub cause : IsErrOf result StoreFailed → Rose v.faults w.faults
-  pub written : OnOk result (IsTrue tells → EqualPages (with_page (page_of_slot kind slot) (with_slot_bytes kind slot def (v.page (page_of_slot kind slot))) v.page) w.page)
-  pub definitions : OnOk result (IsTrue tells → (d : Definitions) → IsDefinitions d → HoldsDefinitions v.page d → HoldsDefinitions w.page (with_slot kind slot def d))
-  pub pages_stay : OnErr result (IsTrue tells → EqualPages v.page w.page)
-  -- any answer but the store's failure leaves the count
-  pub no_fault : ¬ IsErrOf result StoreFailed → w.faults ≡ v.faults
-
--- The header is written: all other pages stay.
-pub record HeaderWritten (tells : Bool) (format element_pages : ℕ) (result : Result Unit StoreFault) (v w : Contents) : Type 0 where
-  pub count : w.count ≡ v.count
-  pub faults : v.faults ≤ w.faults
-  pub free : w.free ≡ v.free
-  pub cause : IsErrOf result StoreFailed → Rose v.faults w.faults
-  pub written : OnOk result (IsTrue tells → EqualPages (with_page 0 (header_bytes format element_pages) v.page) w.page)
-  pub pages_stay : OnErr result (IsTrue tells → EqualPages v.page w.page)
-  -- any answer but the store's failure leaves the count
-  pub no_fault : ¬ IsErrOf result StoreFailed → w.faults ≡ v.faults

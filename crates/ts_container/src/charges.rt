@@ -1,13 +1,12 @@
 // What containers are charged for the pages of their series.
 ghost use Rattle.std.specs.Prelude.{◌≡◌, ◌≤◌, ◌<◌, ◌^◌, ◌↔◌, IsTrue};
 ghost use Rattle.ts_model.specs.Definitions.{container_slots, series_slots, at_slot, IsDefinitions};
-ghost use Rattle.ts_space.specs.Place.{count_of};
 ghost use Rattle.ts_space.specs.Directory.{places_of};
-ghost use Rattle.ts_space.specs.Charge.{irregular_places_charge};
 ghost use Rattle.ts_layout.specs.Meaning.{KeepLimits};
-ghost use Rattle.ts_layout.specs.Charges.{AreCountable, charge_listed, container_charge, charge_in, KeepsQuotaAt, KeepQuotas};
+ghost use Rattle.ts_layout.specs.Charges.{IsCountable, AreCountable, places_charge, charge_listed, container_charge, charge_in, KeepsQuotaAt, KeepQuotas};
 
 use crate::content::row_type_in;
+use ts_base::Stamp;
 use ts_cells::page_room;
 use ts_model::{Def, Defs, Kind};
 use ts_space::{Space, charge_irregular};
@@ -78,25 +77,33 @@ fn charge_of(defs: &Defs, space: &Space, container: u8, room: usize) -> u64
 fn charge_at(defs: &Defs, space: &Space, container: u8, room: usize, slot: u16) -> u64
     requires slot { slot < series_slots }
     requires room { 0 < room }
-    requires countable { count_of (places_of slot space.now) < 2 ^ 32 }
+    requires countable { IsCountable (places_of slot space.now) }
     ensures value { result ≡ charge_listed space.now container room slot (at_slot slot defs.now.definitions.series) }
     ensures bound { result < 2 ^ 33 }
 {
     match defs.get(Kind::Series, slot) {
-        Some(Def::Series { container: own, .. }) if *own == container => {
-            charge_of_places(space, slot, room)
-        }
+        Some(
+            Def::Series {
+                container: own,
+                regular,
+                ..
+            },
+        ) if *own == container => charge_of_places(space, *regular, slot, room),
         _ => 0,
     }
 }
 
-/// What a series is charged by its places, in pages, where a page has room for so many of its elements.
-pub fn charge_of_places(space: &Space, slot: u16, room: usize) -> u64
+/// What a series is charged by its places, in pages: an irregular one by their elements, where a page has room for so many, a regular one,
+/// whose calendar and origin are given, a page for each place.
+pub fn charge_of_places(space: &Space, regular: Option<(u8, Stamp)>, slot: u16, room: usize) -> u64
     requires slot { slot < series_slots }
     requires room { 0 < room }
-    requires countable { count_of (places_of slot space.now) < 2 ^ 32 }
-    ensures value { result ≡ irregular_places_charge room (places_of slot space.now) }
+    requires countable { IsCountable (places_of slot space.now) }
+    ensures value { result ≡ places_charge room regular (places_of slot space.now) }
     ensures bound { result < 2 ^ 33 }
 {
-    charge_irregular(space.count(slot), room as u64)
+    match regular {
+        Some(_) => space.places(slot).len() as u64,
+        None => charge_irregular(space.count(slot), room as u64),
+    }
 }

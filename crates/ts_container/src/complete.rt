@@ -1,17 +1,16 @@
 // A calendar is completed with its pattern, and judged by the rules of calendars.
 ghost use Rattle.std.specs.Prelude.{◌≡◌, IfOk, option_map};
 ghost use Rattle.ts_model.specs.Definitions.{at_slot};
-ghost use Rattle.ts_container.specs.Written.{IsWritten};
+ghost use Rattle.ts_slots.specs.Written.{IsWritten};
 ghost use Rattle.ts_container.specs.Reading.{Completes, Makes};
 
-use crate::calendar_slot::{CalendarForm, Part};
 use crate::found::Flaw;
-use crate::slot::Written;
 use std::alloc::AllocError;
 use ts_base::{Name, Stamp};
 use ts_calendar::Calendar;
 use ts_model::{Def, Defs, Kind};
 use ts_pattern::Pattern;
+use ts_slots::{CalendarForm, Part, Written};
 
 /// The definition that is written, among those before it.
 pub(crate) fn complete(written: Written, defs: &Defs) -> Result<Result<Def, Flaw>, AllocError>

@@ -1,58 +1,74 @@
 // What stands on one element page.
-ghost use Rattle.std.specs.Prelude.{◌≡◌, ◌<◌, IsSome, IfSome, IfNone, Some, option_copied};
-ghost use Rattle.ts_layout.specs.Meaning.{ElementPage, KeepLimits, HoldsElements, heading_in, heading_at};
+ghost use Rattle.std.specs.Prelude.{◌≡◌, ◌<◌, IsSome, IfOk, Some, option_copied};
 ghost use Rattle.ts_page.specs.Head.{head_of};
 ghost use Rattle.ts_model.specs.Definitions.{IsDefinitions, series_slots, container_slots};
-ghost use Rattle.ts_container.specs.Elements.{Describes, slot_in};
+ghost use Rattle.ts_layout.specs.Meaning.{KeepLimits, HaveOrigins, heading_in, heading_at};
+ghost use Rattle.ts_container.specs.Elements.{IsContentOf, slot_in};
 
-use crate::format::may_hide;
-use ts_cells::{Extent, extent_of};
+use crate::shape::shape_of;
+use crate::span::{Span, span_of_stamps, span_on_grid};
+use std::alloc::{AllocError, Global};
 use ts_model::{Def, Defs, Kind};
+use ts_offset::Shape;
 use ts_page::{Head, Page};
 use ts_row::RowType;
 
-/// Nothing, or elements of the series in a slot.
+/// Nothing, or elements of a series, with their span.
 #[derive(Clone, Copy)]
 pub enum Content {
     Free,
-    Series { slot: u16, extent: Extent },
+    Series(Span),
 }
 
-/// What stands on an element page, if it is one of the format of the volume.
-pub(crate) fn content_of(page: &Page, defs: &Defs) -> Option<Content>
+/// What stands on the element page of a number, if it is one of the format of the volume, of a series that is there and of its kind.
+pub(crate) fn content_of(
+    alloc: Global,
+    number: u32,
+    page: &Page,
+    defs: &Defs,
+) -> Result<Option<Content>, AllocError>
     requires limits { KeepLimits defs.now.definitions }
     requires rules { IsDefinitions defs.now.definitions }
-    ensures found { IfSome result (λ content. (e : ElementPage) × HoldsElements defs.now.definitions page.now.bytes e × Describes content e) }
-    ensures none { IfNone result ((e : ElementPage) → HoldsElements defs.now.definitions page.now.bytes e → ⊥) }
+    requires origins { HaveOrigins defs.now.definitions }
+    ensures { IfOk result (IsContentOf defs.now.definitions number page.now.bytes) }
 {
     let Some(head) = page.head() else {
-        return None;
+        return Ok(None);
     };
     match head {
-        Head::Free => Some(Content::Free),
-        Head::Irregular { series, .. } => series_content(page, defs, series),
-        Head::Regular { .. } => None,
+        Head::Free => Ok(Some(Content::Free)),
+        Head::Irregular { series, .. } => series_content(alloc, number, page, defs, series),
+        Head::Regular { series, .. } => series_content(alloc, number, page, defs, series),
     }
 }
 
 // The elements of the series that the head of a page tells.
-fn series_content(page: &Page, defs: &Defs, slot: u16) -> Option<Content>
+fn series_content(
+    alloc: Global,
+    number: u32,
+    page: &Page,
+    defs: &Defs,
+    slot: u16,
+) -> Result<Option<Content>, AllocError>
     requires limits { KeepLimits defs.now.definitions }
     requires rules { IsDefinitions defs.now.definitions }
+    requires origins { HaveOrigins defs.now.definitions }
     requires told { slot_in (head_of page.now.bytes) ≡ Some slot }
-    ensures found { IfSome result (λ content. (e : ElementPage) × HoldsElements defs.now.definitions page.now.bytes e × Describes content e) }
-    ensures none { IfNone result ((e : ElementPage) → HoldsElements defs.now.definitions page.now.bytes e → ⊥) }
+    ensures { IfOk result (IsContentOf defs.now.definitions number page.now.bytes) }
 {
     let Some(kind) = row_type_of(defs, slot) else {
-        return None;
+        return Ok(None);
     };
-    let Some(extent) = extent_of(kind, page) else {
-        return None;
-    };
-    if !may_hide(defs.format(), extent.hidden) {
-        return None;
+    let format = defs.format();
+    match shape_of(alloc, defs, slot)? {
+        Some(Shape::Irregular) => {
+            Ok(span_of_stamps(kind, format, number, slot, page).map(Content::Series))
+        }
+        Some(Shape::Regular(grid)) => {
+            Ok(span_on_grid(kind, &grid, format, number, slot, page).map(Content::Series))
+        }
+        None => Ok(None),
     }
-    Some(Content::Series { slot, extent })
 }
 
 /// The row type of the series in a slot, if there is one.

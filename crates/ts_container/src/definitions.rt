@@ -4,7 +4,7 @@ ghost use Rattle.ts_page.specs.Volume.{first_element_page};
 ghost use Rattle.ts_model.specs.Definitions.{limit, with_format, no_definitions};
 ghost use Rattle.ts_layout.specs.Slot.{slot_size, first_definition_page};
 ghost use Rattle.ts_layout.specs.Rank.{rank_of_page};
-ghost use Rattle.ts_container.specs.Written.{IsWritten, kind_written};
+ghost use Rattle.ts_slots.specs.Written.{IsWritten, kind_written};
 ghost use Rattle.ts_container.specs.Reading.{Admitted, SlotRead, PageRead, AreReadTo};
 ghost use Rattle.ts_container.specs.Survey.{DefinitionsRead};
 
@@ -12,12 +12,12 @@ use crate::complete::complete;
 use crate::fault::SurveyFault;
 use crate::found::{Flaw, Flaws, Found};
 use crate::read::read;
-use crate::slot::{Reading, Written, read_slot};
 use std::alloc::{AllocError, Global};
 use ts_layout::{ELEMENTS, ROW_TYPES, slot_size, slots_in_page};
 use ts_model::{Defs, Kind};
 use ts_page::{Page, Pages};
 use ts_row::is_zero;
+use ts_slots::{Reading, Written, read_slot};
 
 /// Reads all definition pages into definitions of which there are none, by their format. The answer is the first pages with
 /// flaws. What has a flaw is left out.

@@ -1,14 +1,14 @@
 // The element pages, read one after the other.
 ghost use Rattle.std.specs.Prelude.{◌≡◌, ◌≤◌, ◌+◌, ◌-◌, ◌∷◌, ◌++◌, [], OnOk, List, length};
 ghost use Rattle.ts_page.specs.Volume.{first_element_page};
-ghost use Rattle.ts_model.specs.Definitions.{IsDefinitions};
-ghost use Rattle.ts_layout.specs.Meaning.{ElementPage, KeepLimits};
+ghost use Rattle.ts_model.specs.Definitions.{Definitions, IsDefinitions};
+ghost use Rattle.ts_layout.specs.Meaning.{ElementPage, KeepLimits, HaveOrigins};
 ghost use Rattle.ts_container.specs.Elements.{Describes, Listed, ElementsRead};
 
 use crate::content::{Content, content_of};
 use crate::fault::SurveyFault;
 use crate::read::read;
-use crate::span::{Span, span_of};
+use crate::span::Span;
 use std::alloc::{AllocError, Global};
 use ts_layout::ELEMENTS;
 use ts_model::Defs;
@@ -35,6 +35,7 @@ pub(crate) fn read_elements<P: Pages>(
     requires some { first_element_page ≤ count }
     requires limits { KeepLimits defs.now.definitions }
     requires rules { IsDefinitions defs.now.definitions }
+    requires origins { HaveOrigins defs.now.definitions }
     ensures read { ElementsRead P.tells (count - first_element_page) defs.now.definitions result (P.contents pages.old) (P.contents pages.new) }
     ensures undisturbed { P.undisturbed pages.old pages.new }
 {
@@ -44,7 +45,7 @@ pub(crate) fn read_elements<P: Pages>(
     };
     for number in ELEMENTS..count {
         read(pages, number, page)?;
-        let Some(content) = content_of(page, defs) else {
+        let Some(content) = content_of(alloc, number, page, defs)? else {
             return Err(SurveyFault::NotAStore { page: number });
         };
         elements.add(number, content)?;
@@ -55,16 +56,17 @@ pub(crate) fn read_elements<P: Pages>(
 impl Elements {
     // Adds what one page has.
     fn add(&mut self, number: u32, content: Content) -> Result<(), AllocError>
-        ensures { OnOk result ((es : List ElementPage) (e : ElementPage) → number ≡ first_element_page + length es → Describes content e
-            → Listed self.old.spans.items self.old.free.items es → Listed self.new.spans.items self.new.free.items (es ++ e ∷ [])) }
+        ensures { OnOk result ((d : Definitions) (es : List ElementPage) (e : ElementPage) → number ≡ first_element_page + length es
+            → Describes d number content e → Listed d self.old.spans.items self.old.free.items es
+            → Listed d self.new.spans.items self.new.free.items (es ++ e ∷ [])) }
     {
         match content {
             Content::Free => {
                 self.free.push(number)?;
                 Ok(())
             }
-            Content::Series { slot, extent } => {
-                self.spans.push(span_of(number, slot, extent))?;
+            Content::Series(span) => {
+                self.spans.push(span)?;
                 Ok(())
             }
         }

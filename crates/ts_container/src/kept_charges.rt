@@ -2,11 +2,10 @@
 ghost use Rattle.std.specs.Prelude.{◌≡◌, ◌≢◌, ◌+◌, ◌≤◌, ◌<◌, ◌^◌, ℕ, List, Some, IfOk, length, replicate, slice_index};
 ghost use Rattle.ts_row.specs.RowType.{Heading};
 ghost use Rattle.ts_space.specs.Directory.{Directory, places_of};
-ghost use Rattle.ts_space.specs.Charge.{irregular_places_charge};
 ghost use Rattle.ts_cells.specs.Cell.{page_room};
 ghost use Rattle.ts_model.specs.Definitions.{Definitions, SeriesDef, container_slots, series_slots, at_slot, with_format, IsDefinitions};
 ghost use Rattle.ts_layout.specs.Meaning.{KeepLimits, heading_in};
-ghost use Rattle.ts_layout.specs.Charges.{AreCountable};
+ghost use Rattle.ts_layout.specs.Charges.{AreCountable, places_charge};
 ghost use Rattle.ts_container.specs.KeptCharges.{AreCharges, IsCharged, with_charge};
 
 use crate::charges::charge_of_container;
@@ -83,12 +82,12 @@ impl Charges {
 pub fn a_charge_changes_with_a_series()
     ensures part { (d : Definitions) (space : Directory) (slot : ℕ) (s : SeriesDef) (h : Heading) (sums : List ℕ) →
         IsDefinitions d → at_slot slot d.series ≡ Some s → s.container < container_slots → heading_in d s.container ≡ Some h → AreCharges sums d space →
-        irregular_places_charge (page_room h.columns) (places_of slot space) ≤ slice_index sums s.container }
+        places_charge (page_room h.columns) s.regular (places_of slot space) ≤ slice_index sums s.container }
     ensures changed { (d : Definitions) (space space' : Directory) (slot : ℕ) (s : SeriesDef) (h : Heading) (sums : List ℕ) →
         IsDefinitions d → at_slot slot d.series ≡ Some s → s.container < container_slots → heading_in d s.container ≡ Some h → length sums ≡ container_slots →
         ((t : ℕ) → t < series_slots → t ≢ slot → places_of t space' ≡ places_of t space) → AreCharges sums d space →
-        AreCharges (with_charge s.container (irregular_places_charge (page_room h.columns) (places_of slot space))
-        (irregular_places_charge (page_room h.columns) (places_of slot space')) sums) d space' }
+        AreCharges (with_charge s.container (places_charge (page_room h.columns) s.regular (places_of slot space))
+        (places_charge (page_room h.columns) s.regular (places_of slot space')) sums) d space' }
 {}
 
 /// Another format changes no charge.

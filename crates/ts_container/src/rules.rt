@@ -1,10 +1,11 @@
 // The rules that definitions keep together.
 ghost use Rattle.std.specs.Prelude.{◌≡◌, ◌↔◌, ◌<◌, Some, IsTrue, MatchOption, length};
 ghost use Rattle.ts_model.specs.declared.def.Def.{Def};
-ghost use Rattle.ts_model.specs.Definitions.{limit, at_slot, references, container_slots};
+ghost use Rattle.ts_model.specs.Definitions.{limit, at_slot, references, calendar_reference, container_slots};
 ghost use Rattle.ts_layout.specs.Limits.{IsDef};
 ghost use Rattle.ts_layout.specs.Meaning.{def_at, IsThere, AreThere, KeepLimits, AreFollowing, quota_in, sum_of_quotas, AreThereIn};
 
+use ts_base::Stamp;
 use ts_layout::page_of_slot;
 use ts_model::{Def, Defs, Kind};
 
@@ -62,7 +63,23 @@ fn is_there(defs: &Defs, def: &Def) -> bool
             None => true,
         },
         Def::Container { row_type, .. } => defs.get(Kind::RowType, *row_type as u16).is_some(),
-        Def::Series { container, .. } => defs.get(Kind::Container, *container as u16).is_some(),
+        Def::Series {
+            container,
+            regular,
+            ..
+        } => {
+            defs.get(Kind::Container, *container as u16).is_some() && has_calendar(defs, regular)
+        }
+    }
+}
+
+// Whether a series has a calendar, where it is regular.
+fn has_calendar(defs: &Defs, regular: &Option<(u8, Stamp)>) -> bool
+    ensures { IsTrue result ↔ IsThere defs.now.definitions (calendar_reference regular.now) }
+{
+    match regular {
+        Some((calendar, _)) => defs.get(Kind::Calendar, *calendar as u16).is_some(),
+        None => true,
     }
 }
 

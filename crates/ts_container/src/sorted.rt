@@ -1,4 +1,4 @@
-// The spans of all pages, sorted and judged: those of one series are apart, and two neighbours never fit one page.
+// The spans of all pages, sorted and judged: those of one series are apart, and two neighbours of an irregular one never fit one page.
 ghost use Rattle.std.specs.Prelude.{IsPermutation, MatchOption};
 ghost use Rattle.ts_model.specs.Definitions.{IsDefinitions};
 ghost use Rattle.ts_layout.specs.Meaning.{KeepLimits};
@@ -6,6 +6,7 @@ ghost use Rattle.ts_container.specs.Spans.{AreSorted, IsApart, AreApart, AreMore
 
 use crate::content::row_type_of;
 use crate::lower::lower;
+use crate::shape::is_irregular;
 use crate::span::Span;
 use ts_cells::page_room;
 use ts_model::Defs;
@@ -19,7 +20,7 @@ pub(crate) fn sort(spans: &mut Vec<Span>)
 }
 
 /// The least page that overlaps a neighbour of a lower number; where there is none, the least that fits one page with the next one of
-/// its series.
+/// its series, which is irregular.
 pub(crate) fn bad_page(defs: &Defs, spans: &[Span]) -> Option<u32>
     requires limits { KeepLimits defs.now.definitions }
     requires rules { IsDefinitions defs.now.definitions }
@@ -53,7 +54,7 @@ fn overlap(first: &Span, second: &Span) -> Option<u32>
     None
 }
 
-// The least page that fits one page with the next one of its series.
+// The least page that fits one page with the next one of its series, which is irregular.
 fn sparse(defs: &Defs, spans: &[Span]) -> Option<u32>
     requires limits { KeepLimits defs.now.definitions }
     requires rules { IsDefinitions defs.now.definitions }
@@ -66,14 +67,14 @@ fn sparse(defs: &Defs, spans: &[Span]) -> Option<u32>
     least
 }
 
-// The first page of two, where they are of one series and fit one page.
+// The first page of two, where they are of one irregular series and fit one page.
 fn sparse_page(defs: &Defs, first: &Span, second: &Span) -> Option<u32>
     requires limits { KeepLimits defs.now.definitions }
     requires rules { IsDefinitions defs.now.definitions }
     ensures { MatchOption result (AreMore defs.now.definitions first.now second.now)
         (λ _. AreMore defs.now.definitions first.now second.now → ⊥) }
 {
-    if first.slot != second.slot {
+    if first.slot != second.slot || !is_irregular(defs, first.slot) {
         return None;
     }
     match row_type_of(defs, first.slot) {

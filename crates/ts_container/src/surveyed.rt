@@ -8,7 +8,7 @@ use crate::definitions::read_definitions;
 use crate::directory::directory_of;
 use crate::elements::read_elements;
 use crate::fault::SurveyFault;
-use crate::header::format_of;
+use crate::origins::first_astray;
 use crate::read::read;
 use crate::rules::{first_dangling, sum_of_quotas};
 use crate::sorted::{bad_page, sort};
@@ -16,6 +16,7 @@ use std::alloc::Global;
 use ts_layout::{CONTAINERS, ELEMENTS};
 use ts_model::Defs;
 use ts_page::{Page, Pages};
+use ts_slots::format_of;
 use ts_space::Space;
 
 /// What is kept in memory of a volume.
@@ -83,6 +84,9 @@ fn survey_definitions<P: Pages>(
     }
     if sum_of_quotas(&defs) > (count - ELEMENTS) as u64 {
         return Err(SurveyFault::NotAStore { page: CONTAINERS });
+    }
+    if let Some(bad) = first_astray(&defs) {
+        return Err(SurveyFault::NotAStore { page: bad });
     }
     Ok(defs)
 }

@@ -1,7 +1,7 @@
 use Rattle.std.proofs.Common.{ℕ, Some, None, sym, ap, ◌∙◌, ◌≡◌}
 use Rattle.std.specs.Option.{option_map}
 use Rattle.ts_model.specs.Definitions.{PatternDef, at_slot}
-use Rattle.ts_container.proofs.WrittenLemmas.{completed}
+use Rattle.ts_container.proofs.CompleteLemmas.{completed}
 use Rattle.ts_container.proofs.complete.complete_calendar.Goals as goal
 
 pub returns-in-Own : goal.returns-in-Own

@@ -1,12 +1,10 @@
-use Rattle.ts_container.proofs.ContentLemmas.{no_head}
+use Rattle.std.proofs.Common.{Some, sym, ap, ◌∙◌, refl}
+use Rattle.ts_layout.specs.Meaning.{Free}
+use Rattle.ts_container.proofs.ContentLemmas.{no_head, free_told}
 use Rattle.ts_container.proofs.content.content_of.Goals as goal
 
-pub returns-in_default-clause-none : goal.returns-in_default-clause-none
-returns-in_default-clause-none c =
-    no_head c.args.defs.now.definitions c.args.page.now.bytes
-    (λ free. let a = c.head.ensures in let b = c.in_default.is in let no : ⊥ = cc in no) (λ slot count head. let a = c.head.ensures in let b = c.in_default.is in let no : ⊥ = cc in no)
+pub returns-in_default : goal.returns-in_default
+returns-in_default c = no_head c.args.defs.now.definitions c.args.page.now.bytes (sym c.head.ensures ∙ c.in_default.is)
 
-pub returns-in-Regular-clause-none : goal.returns-in-Regular-clause-none
-returns-in-Regular-clause-none c =
-    no_head c.args.defs.now.definitions c.args.page.now.bytes
-    (λ free. let a = c.head.ensures in let b = c.in-Some.is in let d = c.in-Regular.is in let no : ⊥ = cc in no) (λ slot count head. let a = c.head.ensures in let b = c.in-Some.is in let d = c.in-Regular.is in let no : ⊥ = cc in no)
+pub returns-in-Free : goal.returns-in-Free
+returns-in-Free c = (Free, free_told c.args.page.now.bytes (sym c.head.ensures ∙ c.in-Some.is ∙ ap Some c.in-Free.is), refl)

@@ -8,5 +8,5 @@ returns-then-slot-limit-clause-value c = heading_past c.args.defs.now.definition
 
 pub row_type_in-requires-clause-slot : goal.row_type_in-requires-clause-slot
 row_type_in-requires-clause-slot c =
-    series_limit c.args.defs.now.definitions c.requires.limits c.args.slot (omega arith) _ c.in-Some-Series.container
+    series_limit c.args.defs.now.definitions c.requires.limits c.args.slot (omega arith) _ c.in-Some-Series.container _
     (sym c.get.ensures ∙ ap option_copied c.in-Some-Series.is ∙ ap Some c.in-Some-Series.field-0-is)

@@ -1,9 +1,10 @@
 use Rattle.std.proofs.Common.{◌≡◌, ℕ, List, Option, Some, None, IsSome, refl, sym, ap, subst, ◌∙◌, inl}
 use Rattle.ts_model.specs.Definitions.{Definitions, kind_of, name_of, slots, slot_of, with_slot}
-use Rattle.ts_container.specs.Written.{kind_written, name_written}
+use Rattle.ts_slots.specs.Written.{kind_written, name_written}
 use Rattle.ts_container.specs.Reading.{Completes}
 use Rattle.ts_container.proofs.ReadLemmas.{some_slot, no_slot}
-use Rattle.ts_container.proofs.WrittenLemmas.{kind_same, name_same, hindered}
+use Rattle.ts_slots.proofs.WrittenLemmas.{kind_same, name_same}
+use Rattle.ts_container.proofs.CompleteLemmas.{hindered}
 use Rattle.ts_container.proofs.definitions.admit.Goals as goal
 
 not_some : (o : Option ℕ) → o ≡ None → IsSome o → ⊥

@@ -1,7 +1,7 @@
 use Rattle.std.proofs.Common.{ℕ, refl, subst}
 use Rattle.std.proofs.lemmas.Result.{IfOk-weaker}
-use Rattle.ts_container.specs.declared.slot.Reading.{Reading}
-use Rattle.ts_container.specs.Reading.{IsReadingOf}
+use Rattle.ts_slots.specs.declared.slot.Reading.{Reading}
+use Rattle.ts_slots.specs.Reading.{IsReadingOf}
 use Rattle.ts_container.proofs.ReadLemmas.{slot_read}
 use Rattle.ts_container.proofs.definitions.read_into.Goals as goal
 

@@ -2,7 +2,7 @@ use Rattle.std.proofs.Common.{◌≡◌, ◌+◌, ℕ, length, subst, arith, rul
 use Rattle.ts_layout.specs.Rank.{rank_of_page}
 use Rattle.ts_container.specs.Reading.{AreReadTo, HoldBelow}
 use Rattle.ts_container.proofs.ReadLemmas.{Step, made, step_of, step_is_bad, page_read, behind_none, counted, ended, zeros_to, zeros_from}
-use Rattle.ts_container.proofs.ParseLemmas.{both_ways}
+use Rattle.ts_slots.proofs.ParseLemmas.{both_ways}
 use Rattle.ts_container.proofs.definitions.read_page.Goals as goal
 
 pub loop-k-init : goal.loop-k-init

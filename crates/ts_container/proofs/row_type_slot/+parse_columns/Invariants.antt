@@ -1,5 +1,0 @@
--- Each step goes on with one column less.
-use Rattle.ts_container.proofs.row_type_slot.+parse_columns.Given as goal
-
-abbrev pub decreases-parse_columns : goal.decreases-parse_columns
-decreases-parse_columns l = l.count

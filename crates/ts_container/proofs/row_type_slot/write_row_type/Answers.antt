@@ -1,8 +1,0 @@
-use Rattle.std.proofs.Common.{arith}
-use Rattle.ts_layout.specs.Slot.{row_type_bytes}
-use Rattle.ts_container.proofs.PartLemmas.{behind}
-use Rattle.ts_container.proofs.row_type_slot.write_row_type.Goals as goal
-
-pub returns : goal.returns
-unfolding row_type_bytes
-returns c = behind 1 c.args.page.now c.write_named.new.into _ c.write_named.ensures c.write_named.auto.into (omega arith)

@@ -1,0 +1,5 @@
+pub mod PartLemmas
+pub mod ParseLemmas
+pub mod CalendarLemmas
+pub mod WrittenLemmas
+pub mod WriteLemmas

@@ -1,0 +1,8 @@
+use Rattle.std.proofs.Common.{arith}
+use Rattle.ts_layout.specs.Slot.{pattern_bytes}
+use Rattle.ts_slots.proofs.PartLemmas.{behind}
+use Rattle.ts_slots.proofs.pattern_slot.write_pattern.Goals as goal
+
+pub returns : goal.returns
+unfolding pattern_bytes
+returns c = behind 1 c.args.page.now c.write_named.new.into _ c.write_named.ensures c.write_named.auto.into (omega arith)
