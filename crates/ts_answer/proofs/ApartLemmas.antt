@@ -11,7 +11,7 @@ use Rattle.ts_model.specs.declared.kind.Kind.{Kind}
 use Rattle.ts_model.specs.declared.kind.Kind.TheVariants as kinds
 use Rattle.ts_model.specs.Catalogue.{Catalogue}
 use Rattle.ts_command.specs.Script.{Request}
-use Rattle.ts_answer.specs.Answer.{Tried, Answered, ◌>>=◌, settled, outcome, answer, carried_out, create_row_type, drop_definition, create_pattern, turn_pattern, join_patterns, show_pattern, create_calendar, join_calendars, show_calendar, count_starts, find_start, list_starts, create_container, container_usage, create_irregular, drop_series, list_series, put_element, put_no_dups, insert_element, update_element, delete_element, delete_range, mark_element, get_element, get_last_element, count_elements}
+use Rattle.ts_answer.specs.Answer.{Tried, Answered, ◌>>=◌, settled, outcome, answer, carried_out, create_row_type, drop_definition, create_pattern, turn_pattern, join_patterns, show_pattern, create_calendar, join_calendars, show_calendar, count_starts, find_start, list_starts, create_container, container_usage, create_irregular, create_regular, drop_series, list_series, put_element, put_no_dups, insert_element, update_element, delete_element, delete_range, mark_element, get_element, get_last_element, count_elements}
 use Rattle.ts_answer.proofs.ReplyLemmas.{IsApart, Begins, apart-begins, ok-begins, count-begins, counts-begins, number-begins, stamp-begins, pattern-begins, calendar-begins, stamps-begin, elements-begin, series_text-begins, refusal-apart}
 
 -- what is said of a reply begins with another byte than the memory line
@@ -84,6 +84,10 @@ create_irregular-differs : (key container : List ℕ) (cat : Catalogue) → Diff
 unfolding create_irregular
 create_irregular-differs key container cat = then _ _ (λ a. then _ _ (λ b. ok-begins))
 
+create_regular-differs : (key calendar : List ℕ) (origin : ℤ) (container : List ℕ) (cat : Catalogue) → Differs (create_regular key calendar origin container cat)
+unfolding create_regular
+create_regular-differs key calendar origin container cat = then _ _ (λ a. then _ _ (λ b. then _ _ (λ c. then _ _ (λ grid. stamp-begins grid.origin))))
+
 drop_series-differs : (key : List ℕ) (cat : Catalogue) → Differs (drop_series key cat)
 unfolding drop_series
 drop_series-differs key cat = then _ _ (λ a. ok-begins)
@@ -94,19 +98,19 @@ list_series-differs container cat = then _ _ (λ a. series_text-begins _)
 
 put_element-differs : (key : List ℕ) (stamp : ℤ) (literals : List Literal) (cat : Catalogue) → Differs (put_element key stamp literals cat)
 unfolding put_element
-put_element-differs key stamp literals cat = then _ _ (λ a. then _ _ (λ b. then _ _ (λ place. then _ _ (λ d. stamp-begins place))))
+put_element-differs key stamp literals cat = then _ _ (λ a. then _ _ (λ b. then _ _ (λ at. then _ _ (λ place. then _ _ (λ d. stamp-begins place)))))
 
 put_no_dups-differs : (key : List ℕ) (stamp : ℤ) (literals : List Literal) (cat : Catalogue) → Differs (put_no_dups key stamp literals cat)
 unfolding put_no_dups
-put_no_dups-differs key stamp literals cat = then _ _ (λ a. then _ _ (λ b. then _ _ (λ c. stamp-begins stamp)))
+put_no_dups-differs key stamp literals cat = then _ _ (λ a. then _ _ (λ b. then _ _ (λ at. then _ _ (λ c. stamp-begins at))))
 
 insert_element-differs : (key : List ℕ) (stamp : ℤ) (literals : List Literal) (cat : Catalogue) → Differs (insert_element key stamp literals cat)
 unfolding insert_element
-insert_element-differs key stamp literals cat = then _ _ (λ a. then _ _ (λ b. then _ _ (λ c. then _ _ (λ d. stamp-begins stamp))))
+insert_element-differs key stamp literals cat = then _ _ (λ a. then _ _ (λ b. then _ _ (λ at. then _ _ (λ c. then _ _ (λ d. stamp-begins at)))))
 
 update_element-differs : (key : List ℕ) (stamp : ℤ) (literals : List Literal) (cat : Catalogue) → Differs (update_element key stamp literals cat)
 unfolding update_element
-update_element-differs key stamp literals cat = then _ _ (λ a. then _ _ (λ b. then _ _ (λ c. stamp-begins stamp)))
+update_element-differs key stamp literals cat = then _ _ (λ a. then _ _ (λ b. then _ _ (λ at. then _ _ (λ c. stamp-begins at))))
 
 delete_element-differs : (key : List ℕ) (stamp : ℤ) (cat : Catalogue) → Differs (delete_element key stamp cat)
 unfolding delete_element
@@ -118,7 +122,7 @@ delete_range-differs key from to cat = then _ _ (λ a. count-begins _)
 
 mark_element-differs : (hidden : Bool) (key : List ℕ) (stamp : ℤ) (cat : Catalogue) → Differs (mark_element hidden key stamp cat)
 unfolding mark_element
-mark_element-differs hidden key stamp cat = then _ _ (λ a. then _ _ (λ b. then _ _ (λ c. stamp-begins stamp)))
+mark_element-differs hidden key stamp cat = then _ _ (λ a. then _ _ (λ b. then _ _ (λ at. then _ _ (λ c. stamp-begins at))))
 
 get_element-differs : (key : List ℕ) (stamp : ℤ) (cat : Catalogue) → Differs (get_element key stamp cat)
 unfolding get_element
@@ -153,6 +157,7 @@ carried_out-differs (commands.CalRange calendar from to) cat = list_starts-diffe
 carried_out-differs (commands.TSContainerCreate name row_type quota) cat = create_container-differs name row_type _ cat
 carried_out-differs (commands.TSContainerDestroy name) cat = drop_definition-differs kinds.Container name cat
 carried_out-differs (commands.TSContainerUsage name) cat = container_usage-differs name cat
+carried_out-differs (commands.TSCreate key calendar origin container) cat = create_regular-differs key calendar origin container cat
 carried_out-differs (commands.TSCreateIrr key container) cat = create_irregular-differs key container cat
 carried_out-differs (commands.DropSeries key) cat = drop_series-differs key cat
 carried_out-differs (commands.ListSeries container) cat = list_series-differs container cat

@@ -1,5 +1,6 @@
--- What the crates above cite: tests in a row, names of a kind, deletions of nothing, how a command ends on pages, and what is said.
-pub use Rattle.ts_answer.proofs.TriedLemmas.{refused, passed, wanted-there, wanted-missing, good-columns, bad-columns, good-row, bad-row, row-there, row-missing, format-has, format-hasnt, quota-kept, quota-passed, place-given, place-none, on_ok, on_err, goes, goes_refused, refused_as, stops, fails, no_memory, comes, passes, refuses, tried_ok, tried_err, answered, answered_list, stamp_there, stamp_past}
+-- What the crates above cite: tests in a row, addresses and places, names of a kind, deletions of nothing, how a command ends on pages, and what is said.
+pub use Rattle.ts_answer.proofs.TriedLemmas.{refused, passed, wanted-there, wanted-missing, good-columns, bad-columns, good-row, bad-row, row-there, row-missing, format-has, format-hasnt, quota-kept, quota-passed, on_ok, on_err, goes, goes_refused, refused_as, stops, fails, no_memory, comes, passes, refuses, tried_ok, tried_err, answered, answered_list, stamp_there, stamp_past}
+pub use Rattle.ts_answer.proofs.AddressLemmas.{address-any, address-there, address-off, place-given, place-none, place-same, grid-made}
 pub use Rattle.ts_answer.proofs.NameLemmas.{defined_by, name_wanted, name_unknown, name_new, name_taken, name_beyond, calendar_tried}
 pub use Rattle.ts_answer.proofs.ViewLemmas.{held_same}
 pub use Rattle.ts_answer.proofs.DeletedLemmas.{element_not_there, range_not_there}

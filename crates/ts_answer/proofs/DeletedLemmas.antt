@@ -1,5 +1,6 @@
 -- A deletion of what isn't there leaves the catalogue.
 use Rattle.std.proofs.Common.{◌≡◌, ℕ, ℤ, Bool, true, false, cond, not, Option, Some, None, List, [], ◌∷◌, refl, sym, ap, ◌∙◌}
+use Rattle.std.specs.Prelude.{IfSome}
 use Rattle.std.specs.FinMap.{entries, from_entries, get, get-entries, get-from_entries, get-insert, get-remove, get_tied, insert, int_cmp-IsAntisymmetric, remove, same_map}
 use Rattle.std.specs.Cmp.{int_cmp_total}
 use Rattle.std.specs.declared.cmp.Ordering.{Ordering}
@@ -9,7 +10,7 @@ use Rattle.ts_row.specs.Element.{Element}
 use Rattle.ts_chain.specs.Range.{is_within, within_range, without_range}
 use Rattle.ts_model.specs.Catalogue.{name_cmp, Named, Elements, Series, Catalogue}
 use Rattle.ts_model.proofs.OrderLemmas.{total, same_name, ties-same}
-use Rattle.ts_answer.specs.Answer.{with_elements}
+use Rattle.ts_answer.specs.Elements.{with_elements, without_one}
 
 -- a value that is put where it stands already
 put_again : {X : Type 0} (b : Bool) (there : Option X) (v : X) → (b ≡ true → there ≡ Some v) → cond b (Some v) there ≡ there
@@ -43,9 +44,14 @@ nothing_removed elements stamp none =
     (λ q. get-remove int_cmp_total elements stamp q
     ∙ gone_already (eq_by_cmp int_cmp q stamp) (get elements q) (λ same. sym (get_tied int_cmp_total elements q stamp (is_equal (int_cmp q stamp) same)) ∙ none))
 
-pub element_not_there : (key : List ℕ) (s : Series) (stamp : ℤ) (cat : Catalogue) → get cat.series key ≡ Some s → get s.elements stamp ≡ None
-    → with_elements key s (remove s.elements stamp) cat ≡ cat
-element_not_there key s stamp cat there none = same_elements key s (remove s.elements stamp) cat there (nothing_removed s.elements stamp none)
+none_there : (elements : Elements) (address : Option ℤ) → IfSome address (λ at. get elements at ≡ None) → without_one address elements ≡ elements
+none_there elements None none = refl
+none_there elements (Some at) none = nothing_removed elements at none
+
+-- at an address, if there is one
+pub element_not_there : (key : List ℕ) (s : Series) (address : Option ℤ) (cat : Catalogue) → get cat.series key ≡ Some s
+    → IfSome address (λ at. get s.elements at ≡ None) → with_elements key s (without_one address s.elements) cat ≡ cat
+element_not_there key s address cat there none = same_elements key s (without_one address s.elements) cat there (none_there s.elements address none)
 
 -- what is left where nothing goes
 all_left : (b : Bool) (e : Element) (gone left es : List Element) → (gone ≡ [] → left ≡ es) → cond b (e ∷ gone) gone ≡ [] → cond (not b) (e ∷ left) left ≡ e ∷ es

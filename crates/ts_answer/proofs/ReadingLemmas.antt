@@ -45,6 +45,7 @@ leaves cat (commands.CalRange calendar from to) reading = reads_more cat _ _ _
 leaves cat (commands.TSContainerCreate name row_type quota) reading = absurd (cc)
 leaves cat (commands.TSContainerDestroy name) reading = absurd (cc)
 leaves cat (commands.TSContainerUsage name) reading = reads cat _ _
+leaves cat (commands.TSCreate key calendar origin container) reading = absurd (cc)
 leaves cat (commands.TSCreateIrr key container) reading = absurd (cc)
 leaves cat (commands.DropSeries key) reading = absurd (cc)
 leaves cat (commands.ListSeries container) reading = reads cat _ _

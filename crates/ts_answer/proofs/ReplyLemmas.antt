@@ -80,7 +80,7 @@ element-begins columns e =
     let row = row_text columns e.1 in
     begins-append ((stamp ++ codes " ") ++ row) (codes "\n") (begins-append (stamp ++ codes " ") row (begins-append stamp (codes " ") (stamp_text-begins e.0)))
 
-series-begins : (s : List ℕ × ℕ) → Begins (series_line s)
+series-begins : (s : List ℕ × Bool × ℕ) → Begins (series_line s)
 unfolding series_line
 series-begins s = record { first = 39; rest = _; is = refl; other = λ e. omega (arith, e) }
 
@@ -99,7 +99,7 @@ pub elements-begin : (columns : List Column) (es : List Element) → Begins (ele
 unfolding elements_text
 elements-begin columns es = lines-begin (element_line columns) (element-begins columns) es (count_line (length es)) (count-begins (length es))
 
-pub series_text-begins : (ss : List (List ℕ × ℕ)) → Begins (series_text ss)
+pub series_text-begins : (ss : List (List ℕ × Bool × ℕ)) → Begins (series_text ss)
 unfolding series_text
 series_text-begins ss = lines-begin series_line series-begins ss (count_line (length ss)) (count-begins (length ss))
 

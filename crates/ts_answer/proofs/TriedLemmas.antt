@@ -2,7 +2,7 @@
 use Rattle.std.proofs.Common.{◌≡◌, ℕ, ◌<◌, ◌≤◌, Bool, true, false, Option, Some, None, Result, Ok, Err, IsErrAnd, List, is_some, ℤ, refl, ap, sym, subst}
 use Rattle.std.specs.Prelude.{Vec}
 use Rattle.std.specs.declared.alloc.AllocError.{AllocError}
-use Rattle.std.specs.FinMap.{entries, get, len}
+use Rattle.std.specs.FinMap.{get, len}
 use Rattle.std.proofs.lemmas.Bool.{lt-ltb, le-ltb, le-leb, lt-leb, eq-eqb, ne_eqb}
 use Rattle.ts_base.specs.declared.refusal.Refusal.{Refusal}
 use Rattle.ts_base.specs.declared.refusal.Refusal.TheVariants as refusals
@@ -12,12 +12,11 @@ use Rattle.ts_row.specs.declared.kind.Column.{Column}
 use Rattle.ts_row.specs.declared.value.Literal.{Literal}
 use Rattle.ts_row.specs.RowType.{bad_column}
 use Rattle.ts_row.specs.Row.{Row, row_of}
-use Rattle.ts_chain.specs.Placing.{place_for}
 use Rattle.ts_pattern.specs.Algebra.{Answers}
 use Rattle.ts_offset.specs.Counting.{AnswersList}
 use Rattle.ts_model.specs.declared.format.TheConstants.{OLD_FORMAT}
 use Rattle.ts_model.specs.Catalogue.{Named, Elements}
-use Rattle.ts_answer.specs.Answer.{Tried, Answered, ◌>>=◌, refused_if, known, wanted, unused, within_limit, no_bad_column, beyond_old_format, present, row_at, row_or_mismatch, a_row, within_quota, placed, a_place, in_time}
+use Rattle.ts_answer.specs.Answer.{Tried, Answered, ◌>>=◌, refused_if, known, wanted, unused, within_limit, no_bad_column, beyond_old_format, present, row_at, row_or_mismatch, a_row, within_quota, in_time}
 use Rattle.ts_answer.specs.Tried.{IsTried, IsRefusedAs}
 
 -- the tests, passed and failed
@@ -92,15 +91,6 @@ quota-kept charge quota h = passed _ (refusals.ContainerFull charge quota) (le-l
 pub quota-passed : (charge quota : ℕ) → quota < charge → within_quota charge quota ≡ Err (refusals.ContainerFull charge quota)
 unfolding within_quota
 quota-passed charge quota h = refused _ (refusals.ContainerFull charge quota) (lt-ltb quota charge h)
-
--- the place of an element
-pub place-given : (stamp place : ℤ) (elements : Elements) → place_for stamp (entries elements) ≡ Some place → a_place stamp elements ≡ Ok place
-unfolding a_place
-place-given stamp place elements h = ap placed h
-
-pub place-none : (stamp : ℤ) (elements : Elements) → place_for stamp (entries elements) ≡ None → a_place stamp elements ≡ Err refusals.SecondFull
-unfolding a_place
-place-none stamp elements h = ap placed h
 
 -- a test that is passed goes on
 pub on_ok : {B D : Type 0} (m : Tried B) (b : B) (f : B → Tried D) → m ≡ Ok b → (m >>= f) ≡ f b

@@ -11,17 +11,17 @@ use Rattle.ts_model.specs.Catalogue.{name_cmp, Named, Catalogue}
 use Rattle.ts_model.proofs.OrderLemmas.{total, ties-same}
 use Rattle.ts_model.specs.Kinds.{In, named}
 use Rattle.ts_answer.specs.Commands.{Object, objects, StaysBut}
-use Rattle.ts_answer.specs.Answer.{Answered, Tried, ◌>>=◌, settled, outcome, answer, carried_out, create_row_type, drop_definition, create_pattern, turn_pattern, join_patterns, show_pattern, create_calendar, join_calendars, show_calendar, count_starts, find_start, list_starts, create_container, container_usage, create_irregular, drop_series, list_series, put_element, put_no_dups, insert_element, update_element, delete_element, delete_range, mark_element, get_element, get_last_element, count_elements}
+use Rattle.ts_answer.specs.Answer.{Answered, Tried, ◌>>=◌, settled, outcome, answer, carried_out, create_row_type, drop_definition, create_pattern, turn_pattern, join_patterns, show_pattern, create_calendar, join_calendars, show_calendar, count_starts, find_start, list_starts, create_container, container_usage, create_irregular, create_regular, drop_series, list_series, put_element, put_no_dups, insert_element, update_element, delete_element, delete_range, mark_element, get_element, get_last_element, count_elements}
 
 -- a map with another value under one name, or none
 apart : {X : Type 0} (b : Bool) (q name : List ℕ) (v m : Option X) → (b ≡ true → ⊥) → cond b v m ≡ m
 apart true q name v m other = absurd (other refl)
 apart false q name v m other = refl
 
-inserted : {X : Type 0} (m : Named X) (name q : List ℕ) (v : X) → (q ≡ name → ⊥) → get (insert m name v) q ≡ get m q
+pub inserted : {X : Type 0} (m : Named X) (name q : List ℕ) (v : X) → (q ≡ name → ⊥) → get (insert m name v) q ≡ get m q
 inserted m name q v other = get-insert total m name v q ∙ apart (eq_by_cmp name_cmp q name) q name (Some v) (get m q) (λ same. other (ties-same q name same))
 
-removed : {X : Type 0} (m : Named X) (name q : List ℕ) → (q ≡ name → ⊥) → get (remove m name) q ≡ get m q
+pub removed : {X : Type 0} (m : Named X) (name q : List ℕ) → (q ≡ name → ⊥) → get (remove m name) q ≡ get m q
 removed {X} m name q other = get-remove total m name q ∙ apart (eq_by_cmp name_cmp q name) q name (let o : Option X = None in o) (get m q) (λ same. other (ties-same q name same))
 
 -- another object than the one that is written
@@ -88,7 +88,7 @@ module _ (cat : Catalogue) where
   settles wrote (Err refusal) stays = stays_whole wrote
 
   each : (command : Command) → Tries (objects command).wrote (carried_out command cat)
-  unfolding Tries carried_out create_row_type drop_definition create_pattern turn_pattern join_patterns show_pattern create_calendar join_calendars show_calendar count_starts find_start list_starts create_container container_usage create_irregular drop_series list_series put_element put_no_dups insert_element update_element delete_element delete_range mark_element get_element get_last_element count_elements
+  unfolding Tries carried_out create_row_type drop_definition create_pattern turn_pattern join_patterns show_pattern create_calendar join_calendars show_calendar count_starts find_start list_starts create_container container_usage create_irregular create_regular drop_series list_series put_element put_no_dups insert_element update_element delete_element delete_range mark_element get_element get_last_element count_elements
   each (commands.CreateRowType name stamp columns) = tries _ _ _ (λ good. tries _ _ _ (λ has. tries _ _ _ (λ new. made kinds.RowType name _)))
   each (commands.DropRowType name) = tries _ _ _ (λ there. tries _ _ _ (λ idle. dropped kinds.RowType name))
   each (commands.CreatePattern name text) = tries _ _ _ (λ pattern. tries _ _ _ (λ new. made kinds.Pattern name _))
@@ -108,17 +108,18 @@ module _ (cat : Catalogue) where
   each (commands.TSContainerCreate name row_type quota) = tries _ _ _ (λ heading. tries _ _ _ (λ new. tries _ _ _ (λ fits. made kinds.Container name _)))
   each (commands.TSContainerDestroy name) = tries _ _ _ (λ there. tries _ _ _ (λ idle. dropped kinds.Container name))
   each (commands.TSContainerUsage name) = tries _ _ _ (λ container. stays_whole [])
+  each (commands.TSCreate key calendar origin container) = tries _ _ _ (λ plan. tries _ _ _ (λ there. tries _ _ _ (λ new. tries _ _ _ (λ grid. made kinds.Series key _))))
   each (commands.TSCreateIrr key container) = tries _ _ _ (λ there. tries _ _ _ (λ new. made kinds.Series key _))
   each (commands.DropSeries key) = tries _ _ _ (λ series. dropped kinds.Series key)
   each (commands.ListSeries container) = tries _ _ _ (λ there. stays_whole [])
-  each (commands.PutElem key stamp literals) = tries _ _ _ (λ series. tries _ _ _ (λ row. tries _ _ _ (λ place. tries _ _ _ (λ fits. made kinds.Series key _))))
-  each (commands.PutElemNoDups key stamp literals) = tries _ _ _ (λ series. tries _ _ _ (λ row. tries _ _ _ (λ fits. made kinds.Series key _)))
-  each (commands.InsElem key stamp literals) = tries _ _ _ (λ series. tries _ _ _ (λ row. tries _ _ _ (λ free. tries _ _ _ (λ fits. made kinds.Series key _))))
-  each (commands.UpdElem key stamp literals) = tries _ _ _ (λ series. tries _ _ _ (λ row. tries _ _ _ (λ there. made kinds.Series key _)))
+  each (commands.PutElem key stamp literals) = tries _ _ _ (λ series. tries _ _ _ (λ row. tries _ _ _ (λ at. tries _ _ _ (λ place. tries _ _ _ (λ fits. made kinds.Series key _)))))
+  each (commands.PutElemNoDups key stamp literals) = tries _ _ _ (λ series. tries _ _ _ (λ row. tries _ _ _ (λ at. tries _ _ _ (λ fits. made kinds.Series key _))))
+  each (commands.InsElem key stamp literals) = tries _ _ _ (λ series. tries _ _ _ (λ row. tries _ _ _ (λ at. tries _ _ _ (λ free. tries _ _ _ (λ fits. made kinds.Series key _)))))
+  each (commands.UpdElem key stamp literals) = tries _ _ _ (λ series. tries _ _ _ (λ row. tries _ _ _ (λ at. tries _ _ _ (λ there. made kinds.Series key _))))
   each (commands.DelElem key stamp) = tries _ _ _ (λ series. made kinds.Series key _)
   each (commands.DelClip key from to) = tries _ _ _ (λ series. made kinds.Series key _)
-  each (commands.HideElem key stamp) = tries _ _ _ (λ series. tries _ _ _ (λ marks. tries _ _ _ (λ row. made kinds.Series key _)))
-  each (commands.RevealElem key stamp) = tries _ _ _ (λ series. tries _ _ _ (λ marks. tries _ _ _ (λ row. made kinds.Series key _)))
+  each (commands.HideElem key stamp) = tries _ _ _ (λ series. tries _ _ _ (λ marks. tries _ _ _ (λ at. tries _ _ _ (λ row. made kinds.Series key _))))
+  each (commands.RevealElem key stamp) = tries _ _ _ (λ series. tries _ _ _ (λ marks. tries _ _ _ (λ at. tries _ _ _ (λ row. made kinds.Series key _))))
   each (commands.GetElem key stamp) = tries _ _ _ (λ series. stays_whole [])
   each (commands.GetLastElem key) = tries _ _ _ (λ series. stays_whole [])
   each (commands.GetNelems key) = tries _ _ _ (λ series. stays_whole [])

@@ -14,6 +14,12 @@ pub record Adds (key : List ℕ) (s : Series) (cat : Catalogue) (answered : Answ
   pub line : answered.0 ≡ stamp_line stamp
   pub comes : answered.1 ≡ with_element key s stamp row cat
 
+-- an element stands at a stamp of a series, in place of one that stood there
+pub record Puts (at : ℤ) (key : List ℕ) (s : Series) (cat : Catalogue) (answered : Answered) : Type 0 where
+  pub row : Row
+  pub line : answered.0 ≡ stamp_line at
+  pub comes : answered.1 ≡ with_element key s at row cat
+
 -- The elements of a series whose stamps pass a test go, hidden or not, and are counted; all others stay.
 pub record TakesAway (goes : ℤ → Bool) (key : List ℕ) (s : Series) (cat : Catalogue) (answered : Answered) : Type 0 where
   pub elements : Elements

@@ -1,11 +1,9 @@
 -- What the laws of answers say.
-use Rattle.std.specs.Prelude.{◌≡◌, ◌↔◌, ◌+◌, ◌≤◌, ◌&&◌, [], ◌∷◌, Err, List, ℕ, ℤ, neg_ℤ, pos, Ok, Some, false, true, int_lt, not, length, codes}
+use Rattle.std.specs.Prelude.{◌≡◌, ◌↔◌, ◌+◌, ◌≤◌, [], ◌∷◌, Err, List, ℕ, neg_ℤ, pos, Ok, Some, false, true, length, codes}
 use Rattle.std.specs.FinMap.{get}
-use Rattle.std.specs.Ordering.{int_eq}
 use Rattle.ts_base.specs.declared.refusal.Refusal.{Refusal}
 use Rattle.ts_base.specs.declared.refusal.Refusal.TheVariants as refusals
 use Rattle.ts_base.specs.declared.unit.Unit.TheVariants.{Day}
-use Rattle.ts_row.specs.declared.value.Literal.{Literal}
 use Rattle.ts_page.specs.Pages.{Contents}
 use Rattle.ts_pattern.specs.Plan.{Plan}
 use Rattle.ts_pattern.specs.Runs.{run}
@@ -18,16 +16,17 @@ use Rattle.ts_calendar.specs.Text.{calendar_text}
 use Rattle.ts_command.specs.declared.command.Command.{Command}
 use Rattle.ts_command.specs.declared.command.Command.TheVariants as commands
 use Rattle.ts_command.specs.Script.{Request}
-use Rattle.ts_model.specs.Catalogue.{Catalogue, Series, calendar_of}
+use Rattle.ts_model.specs.Catalogue.{Catalogue, calendar_of}
 use Rattle.ts_answer.specs.Answer.{Answered, answer, outcome, a_calendar}
 use Rattle.ts_answer.specs.CarriedOut.{Grows}
 use Rattle.ts_answer.specs.Commands.{is_writing, objects, StaysBut}
-use Rattle.ts_answer.specs.Edited.{Adds, TakesAway}
 use Rattle.ts_answer.specs.Reply.{refusal_line, count_line, counts_line, number_line, pattern_lines, calendar_lines, stamps_text, series_text}
 
 -- a request that is refused is answered by the line of its refusal, and changes nothing
 abbrev pub RefusalsChangeNothing : Type 0
-RefusalsChangeNothing = (cat : Catalogue) (request : Request) (refusal : Refusal) → outcome request cat ≡ Err refusal → answer cat request ≡ (refusal_line refusal, cat)
+RefusalsChangeNothing =
+    (cat : Catalogue) (request : Request) (refusal : Refusal) → outcome request cat ≡ Err refusal
+    → answer cat request ≡ (refusal_line refusal, cat)
 
 -- a command that only reads changes nothing, whatever it is answered
 abbrev pub ReadingsChangeNothing : Type 0
@@ -36,19 +35,6 @@ ReadingsChangeNothing = (cat : Catalogue) (command : Command) → is_writing com
 -- what a command doesn't write stands in the catalogue as before
 abbrev pub OthersStay : Type 0
 OthersStay = (cat : Catalogue) (command : Command) → StaysBut (objects command).wrote cat (answer cat (Ok command)).1
-
--- an element that PutElem puts comes to those of its series
-abbrev pub PutsAdd : Type 0
-PutsAdd =
-    (cat : Catalogue) (answered : Answered) (key : List ℕ) (stamp : ℤ) (literals : List Literal) (s : Series) → get cat.series key ≡ Some s
-    → outcome (Ok (commands.PutElem key stamp literals)) cat ≡ Ok answered → Adds key s cat answered
-
--- DelElem takes away what stands at its stamp, DelClip what stands from one stamp to another
-pub record DeletionsTakeAway : Type 0 where
-  pub element : (cat : Catalogue) (answered : Answered) (key : List ℕ) (stamp : ℤ) (s : Series) → get cat.series key ≡ Some s
-      → outcome (Ok (commands.DelElem key stamp)) cat ≡ Ok answered → TakesAway (λ at. int_eq at stamp) key s cat answered
-  pub range : (cat : Catalogue) (answered : Answered) (key : List ℕ) (from to : ℤ) (s : Series) → get cat.series key ≡ Some s
-      → outcome (Ok (commands.DelClip key from to)) cat ≡ Ok answered → TakesAway (λ at. not (int_lt at from) && not (int_lt to at)) key s cat answered
 
 -- the text that a catalogue has under this name stands for a calendar that keeps the rules
 pub record HasValidCalendar (name : List ℕ) (cat : Catalogue) : Type 0 where
@@ -60,7 +46,8 @@ pub record HasValidCalendar (name : List ℕ) (cat : Catalogue) : Type 0 where
 
 -- what CreateCalendar makes is such a calendar, and so is what AndOp and OrOp make of calendars that are laid out on stamps
 pub record MadeCalendarsAreValid : Type 0 where
-  pub created : (cat : Catalogue) (answered : Answered) (name text : List ℕ) → outcome (Ok (commands.CreateCalendar name text)) cat ≡ Ok answered → HasValidCalendar name answered.1
+  pub created : (cat : Catalogue) (answered : Answered) (name text : List ℕ)
+      → outcome (Ok (commands.CreateCalendar name text)) cat ≡ Ok answered → HasValidCalendar name answered.1
   pub both : (cat : Catalogue) (answered : Answered) (name first second : List ℕ) (a : CalendarPlan) → a_calendar first cat ≡ Ok a → IsLaid a
       → outcome (Ok (commands.AndCalendars name first second)) cat ≡ Ok answered → HasValidCalendar name answered.1
   pub either : (cat : Catalogue) (answered : Answered) (name first second : List ℕ) (a : CalendarPlan) → a_calendar first cat ≡ Ok a → IsLaid a
@@ -76,7 +63,8 @@ pub record HasCalendarBy (pattern : List ℕ) (cat : Catalogue) : Type 0 where
 -- DropPattern is refused exactly where one was
 abbrev pub UsedPatternsStay : Type 0
 UsedPatternsStay =
-    (cat : Catalogue) (name : List ℕ) (pattern : Plan) → get cat.patterns name ≡ Some pattern → outcome (Ok (commands.DropPattern name)) cat ≡ Err refusals.InUse ↔ HasCalendarBy name cat
+    (cat : Catalogue) (name : List ℕ) (pattern : Plan) → get cat.patterns name ≡ Some pattern
+    → outcome (Ok (commands.DropPattern name)) cat ≡ Err refusals.InUse ↔ HasCalendarBy name cat
 
 -- commands after one another grow a record by no more than each of them, and 32 of them fit one
 pub record CommandsFitOneRecord : Type 0 where
@@ -97,4 +85,5 @@ pub record LinesArePrintedSo : Type 0 where
   pub calendar : calendar_lines (calendar_text (pos 129_392_640_000_000) (pos 129_392_640_000_000) (ByName (codes "ww")))
       ≡ codes "startdate(2011-01-02 00:00:00.00000), pattstart(2011-01-02 00:00:00.00000), pattname(ww)\nok\n"
   pub stamps : stamps_text (pos 129_392_640_000_000 ∷ []) ≡ codes "2011-01-02 00:00:00.00000\nok 1\n"
-  pub series : series_text ((codes "it's", 10) ∷ []) ≡ codes "'it''s' irregular 10\nok 1\n"
+  pub series : series_text ((codes "it's", false, 10) ∷ []) ≡ codes "'it''s' irregular 10\nok 1\n"
+  pub regular : series_text ((codes "a", true, 2) ∷ []) ≡ codes "'a' regular 2\nok 1\n"

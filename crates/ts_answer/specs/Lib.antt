@@ -3,9 +3,12 @@ pub mod CarriedOut
 pub mod Commands
 pub mod Decided
 pub mod Edited
+pub mod Elements
 pub mod Laws
 pub mod Reading
+pub mod Refusals
 pub mod Reply
+pub mod SeriesLaws
 pub mod Slots
 pub mod State
 pub mod Stop

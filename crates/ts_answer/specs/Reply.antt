@@ -1,5 +1,5 @@
 -- The texts of replies: lines, each ended by a line feed, of which the last begins with `ok` or `error`.
-use Rattle.std.specs.Prelude.{ℕ, ℤ, List, ◌++◌, length, codes, decimal, flat_map}
+use Rattle.std.specs.Prelude.{ℕ, ℤ, Bool, true, false, List, ◌++◌, length, codes, decimal, flat_map}
 use Rattle.ts_pattern.specs.Plan.{Plan}
 use Rattle.ts_pattern.specs.Grammar.{printed_plan}
 use Rattle.ts_calendar.specs.declared.text.CalendarText.{CalendarText}
@@ -54,10 +54,15 @@ stamps_text stamps = flat_map stamp_row stamps ++ count_line (length stamps)
 unfoldable pub elements_text : List Column → List Element → List ℕ
 elements_text columns es = flat_map (element_line columns) es ++ count_line (length es)
 
--- an irregular series in a list: its key in quotes, a quote in it twice, and how many elements it has
-unfoldable pub series_line : List ℕ × ℕ → List ℕ
-series_line s = codes "'" ++ flat_map quoted s.0 ++ codes "' irregular " ++ decimal s.1 ++ codes "\n"
+-- what a series is called by how its elements lie
+abbrev pub shape_word : Bool → List ℕ
+shape_word true = codes "regular"
+shape_word false = codes "irregular"
+
+-- a series in a list: its key in quotes, a quote in it twice, whether it is regular, and how many elements it has
+unfoldable pub series_line : List ℕ × Bool × ℕ → List ℕ
+series_line s = codes "'" ++ flat_map quoted s.0 ++ codes "' " ++ shape_word s.1 ++ codes " " ++ decimal s.2 ++ codes "\n"
 
 -- series with the numbers of their elements, one a line, and how many they are
-unfoldable pub series_text : List (List ℕ × ℕ) → List ℕ
+unfoldable pub series_text : List (List ℕ × Bool × ℕ) → List ℕ
 series_text ss = flat_map series_line ss ++ count_line (length ss)

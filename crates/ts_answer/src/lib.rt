@@ -1,10 +1,11 @@
 //! What a catalogue answers to a command, and what it is to carry a command out. The answer is small definitions, one a
-//! routine, whose refusals stand in the order in which they are tried (`specs/Answer`). A command is carried out on
-//! what is in memory and on pages, whatever keeps them (`specs/View`), and gives its effect in memory, which is applied
-//! once the pages are kept (`specs/CarriedOut`). A test in code says what is tried in the catalogue (`specs/Tried`). What
-//! follows of the answers is proved apart (`specs/Laws`).
+//! routine (`specs/Answer`, and `specs/Elements` over the elements of a series), whose refusals stand in the order in which
+//! they are tried (`specs/Refusals`). A command is carried out on what is in memory and on pages, whatever keeps them
+//! (`specs/View`), and gives its effect in memory, applied once the pages are kept (`specs/CarriedOut`). A test in code says
+//! what is tried (`specs/Tried`). What follows of the answers is proved apart (`specs/Laws`, and `specs/SeriesLaws`).
 //! Nothing here speaks of a device, a journal or a commit. Stands on ts_command for commands, on ts_pattern, ts_calendar and
-//! ts_offset for what patterns and calendars are, on ts_model and ts_layout for the catalogue of a layout. Read `specs/Answer.antt`, `specs/View.antt`, then `specs/CarriedOut.antt`.
+//! ts_offset for what patterns, calendars and grids are, on ts_model and ts_layout for the catalogue of a layout. Read
+//! `specs/Answer.antt`, `specs/View.antt`, then `specs/CarriedOut.antt`.
 #![tactic(auto)]
 
 mod effect;
@@ -15,9 +16,10 @@ mod tests;
 
 pub use effect::Effect;
 pub use laws::{
-    a_deletion_takes_what_it_names, a_made_calendar_is_valid, a_pattern_in_use_stays,
-    a_put_replaces_no_element, a_refused_request_changes_nothing, commands_fit_one_record,
-    lines_are_printed_so, reading_changes_nothing, replies_and_the_memory_line_are_apart,
-    what_is_not_written_stays,
+    a_calendar_in_use_stays, a_deletion_takes_what_it_names, a_made_calendar_is_valid,
+    a_pattern_in_use_stays, a_put_on_a_grid_stands_at_its_address, a_put_replaces_no_element,
+    a_refused_request_changes_nothing, a_series_keeps_its_shape, a_stamp_addresses_its_interval,
+    an_origin_is_an_on_start, commands_fit_one_record, lines_are_printed_so,
+    reading_changes_nothing, replies_and_the_memory_line_are_apart, what_is_not_written_stays,
 };
 pub use stop::Stop;

@@ -12,6 +12,11 @@ fn the_laws_are_called(_rt: HostRuntime) -> Result<(), Fail> {
     a_deletion_takes_what_it_names();
     a_made_calendar_is_valid();
     a_pattern_in_use_stays();
+    a_calendar_in_use_stays();
+    a_series_keeps_its_shape();
+    a_put_on_a_grid_stands_at_its_address();
+    a_stamp_addresses_its_interval();
+    an_origin_is_an_on_start();
     commands_fit_one_record();
     lines_are_printed_so();
     Ok(())

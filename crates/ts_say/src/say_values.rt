@@ -4,7 +4,7 @@ ghost use Rattle.std.specs.List.{flat_map};
 ghost use Rattle.ts_base.specs.StampText.{stamp_text};
 ghost use Rattle.ts_row.specs.Row.{fits};
 ghost use Rattle.ts_row.specs.Printed.{quoted};
-ghost use Rattle.ts_answer.specs.Reply.{count_line, counts_line, number_line, stamp_line, element_line, elements_text, series_line};
+ghost use Rattle.ts_answer.specs.Reply.{count_line, counts_line, number_line, stamp_line, element_line, elements_text, series_line, shape_word};
 
 use itoa::Buffer;
 use std::alloc::{AllocError, Global};
@@ -111,16 +111,34 @@ pub fn say_found(
     }
 }
 
-/// Says a series in a line, with the number of its elements.
+/// Says a series in a line: its key, whether it is regular, and the number of its elements.
 #[tactic(auto, unfolding(ts_answer::specs::Reply::series_line))]
-pub fn say_series(out: &mut Reply, key: &[u8], count: u64) -> Result<(), AllocError>
-    ensures { OnOk result (out.new ≡ out.old ++ series_line (key.now, count)) }
+pub fn say_series(
+    out: &mut Reply,
+    key: &[u8],
+    is_regular: bool,
+    count: u64,
+) -> Result<(), AllocError>
+    ensures { OnOk result (out.new ≡ out.old ++ series_line (key.now, is_regular, count)) }
 {
     out.extend_from_slice(b"'")?;
     say_quoted(out, key)?;
-    out.extend_from_slice(b"' irregular ")?;
+    out.extend_from_slice(b"' ")?;
+    say_shape(out, is_regular)?;
+    out.extend_from_slice(b" ")?;
     say_number(out, count)?;
     out.extend_from_slice(b"\n")
+}
+
+// Says what a series is called by how its elements lie.
+fn say_shape(out: &mut Reply, is_regular: bool) -> Result<(), AllocError>
+    ensures { OnOk result (out.new ≡ out.old ++ shape_word is_regular) }
+{
+    if is_regular {
+        out.extend_from_slice(b"regular")
+    } else {
+        out.extend_from_slice(b"irregular")
+    }
 }
 
 /// Says a number in decimal digits.

@@ -12,7 +12,8 @@ fn lines(alloc: Global) -> Result<Reply, Fail> {
     say_ok(&mut out)?;
     say_count(&mut out, 2)?;
     say_counts(&mut out, 1, 65536)?;
-    say_series(&mut out, b"it's", 10)?;
+    say_series(&mut out, b"it's", false, 10)?;
+    say_series(&mut out, b"b", true, 2)?;
     say_refusal(
         &mut out,
         &Refusal::ContainerFull {
@@ -26,7 +27,8 @@ fn lines(alloc: Global) -> Result<Reply, Fail> {
 #[test]
 fn lines_are_said_behind_each_other(rt: HostRuntime) -> Result<(), Fail> {
     let said = lines(rt.alloc())?;
-    let wanted: &[u8] = b"ok\nok 2\nok 1 65536\n'it''s' irregular 10\nerror 30 ContainerFull\n";
+    let wanted: &[u8] =
+        b"ok\nok 2\nok 1 65536\n'it''s' irregular 10\n'b' regular 2\nerror 30 ContainerFull\n";
     assert!(rt; said.as_slice() == wanted);
     Ok(())
 }
