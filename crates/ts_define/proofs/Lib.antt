@@ -1,4 +1,5 @@
 pub mod DefinedLemmas
+pub mod GridLemmas
 pub mod PatternLemmas
 pub mod RedefineLemmas
 pub mod RowTypeLemmas

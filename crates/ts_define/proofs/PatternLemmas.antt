@@ -14,11 +14,11 @@ use Rattle.ts_calendar.specs.Calendar.{is_late, is_apart, valid_calendar}
 use Rattle.ts_model.specs.declared.kind.Kind.{Kind}
 use Rattle.ts_model.specs.declared.def.Def.{Def}
 use Rattle.ts_model.specs.Catalogue.{Catalogue}
-use Rattle.ts_model.specs.Definitions.{Definitions, PatternDef, to_def, of_pattern, table_of, slots, at_slot, has_name, pattern_slots, pattern_reference}
-use Rattle.ts_layout.specs.Meaning.{IsThere}
+use Rattle.ts_model.specs.Definitions.{Definitions, PatternDef, CalendarDef, to_def, of_pattern, table_of, slots, at_slot, has_name, pattern_slots, pattern_reference}
+use Rattle.ts_layout.specs.Meaning.{Layout, IsThere}
 use Rattle.ts_layout.proofs.CallerLemmas.{at_slot-map}
 use Rattle.ts_answer.specs.Answer.{Tried, Answered, ◌>>=◌, outcome, carried_out, join_patterns, join_calendars}
-use Rattle.ts_answer.specs.Slots.{IsSlotNamed}
+use Rattle.ts_answer.specs.Slots.{IsSlotNamed, IsCalendarIn}
 use Rattle.ts_answer.specs.Tried.{IsTried}
 use Rattle.ts_answer.proofs.CallerLemmas.{on_ok, answered}
 use Rattle.ts_define.specs.Patterns.{join_of_patterns, join_of_calendars, IsPatternBy}
@@ -32,6 +32,13 @@ pub filled : (kind : Kind) (slot : ℕ) (name : List ℕ) (d : Definitions) → 
 filled kind slot name d named =
     has_some (to_def kind) (at_slot slot (table_of kind d)) name
     (ap (has_name name) (sym (at_slot-map (to_def kind) slot (table_of kind d))) ∙ (position-Some (has_name name) (slots kind d) slot None named.is).1)
+
+-- the calendar in a slot is the one that was tried
+pub its_plan : (d : Definitions) (l : Layout) (name : List ℕ) (slot : ℕ) (plan made : CalendarPlan) → d ≡ l.definitions → IsCalendarIn name l slot plan → option_map (λ (c : CalendarDef). c.calendar) (at_slot slot d.calendars) ≡ Some made → made ≡ plan
+its_plan d l name slot plan made same stands is =
+    let own : Some made ≡ Some stands.def.calendar =
+    sym is ∙ ap (λ (x : Definitions). option_map (λ (c : CalendarDef). c.calendar) (at_slot slot x.calendars)) same ∙ ap (option_map (λ (c : CalendarDef). c.calendar)) stands.there in
+    let plain : made ≡ stands.def.calendar = cc in plain ∙ sym stands.is
 
 -- what is found goes on
 pub found : {A B D C : Type 0} {tried : Tried B} {Like : C → D → Type 0} {r : Result C Trouble} (value : A → B) (f : B → Tried D) (a : A) → IsTried (Ok a) tried (λ x b. value x ≡ b) → IsTried r (f (value a)) Like → IsTried r (tried >>= f) Like

@@ -7,7 +7,6 @@ ghost use Rattle.ts_model.specs.Definitions.{container_slots};
 ghost use Rattle.ts_layout.specs.Meaning.{sum_of_quotas};
 ghost use Rattle.ts_model.specs.declared.kind.Kind.TheVariants.{Container as Containers};
 ghost use Rattle.ts_answer.specs.Decided.{IsDecision, FitsSlot};
-ghost use Rattle.ts_answer.specs.Reply.{ok_line};
 
 use crate::slots::{slot_for, slot_named};
 use ts_base::{Name, Refusal, Trouble};
@@ -26,7 +25,7 @@ pub fn new_container(
     requires granted { sum_of_quotas defs.now.definitions.containers ≤ pages }
     requires form { HasForm (TSContainerCreate name.now row_type.now quota) }
     ensures fits { IfOk result (λ change. FitsSlot Containers change.0 change.1 defs.now.definitions) }
-    ensures decision { (count : ℕ) → count ≡ first_element_page + pages → IsDecision ok_line Containers (TSContainerCreate name.now row_type.now quota) result defs.now.definitions count }
+    ensures decision { (count : ℕ) → count ≡ first_element_page + pages → IsDecision Containers (TSContainerCreate name.now row_type.now quota) result defs.now.definitions count }
 {
     let target = slot_named(defs, Kind::RowType, row_type)?;
     let slot = slot_for(defs, Kind::Container, name)?;

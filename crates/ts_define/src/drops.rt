@@ -1,12 +1,11 @@
 // Definitions to which nothing refers are dropped, of each kind alike.
 ghost use Rattle.std.specs.Prelude.{◌≡◌, ◌<◌, ℕ, true, false, Some, IfOk};
 ghost use Rattle.ts_model.specs.declared.def.Def.{Def as TheDef};
-ghost use Rattle.ts_model.specs.Definitions.{limit, def_at, Refers, IsUsed, IsUsedBy};
+ghost use Rattle.ts_model.specs.Definitions.{limit, kind_of, def_at, Refers, IsUsed, IsUsedBy};
 ghost use Rattle.ts_layout.specs.Meaning.{Layout, catalogue_of};
 ghost use Rattle.ts_answer.specs.Answer.{drop_definition};
 ghost use Rattle.ts_answer.specs.Decided.{DefinesAs, FitsSlot};
 ghost use Rattle.ts_model.specs.Kinds.{HasNoPages};
-ghost use Rattle.ts_answer.specs.Reply.{ok_line};
 ghost use Rattle.ts_answer.specs.Tried.{IsTried};
 ghost use Rattle.ts_answer.specs.View.{IsDefinedBy};
 
@@ -19,7 +18,7 @@ pub fn drop_definition(defs: &Defs, kind: Kind, name: &Name) -> Result<(u16, Opt
     requires { HasNoPages kind }
     ensures fits { IfOk result (λ change. FitsSlot kind change.0 change.1 defs.now.definitions) }
     ensures tried { (count : ℕ) (l : Layout) → IsDefinedBy defs.now.definitions count l
-        → IsTried result (drop_definition kind name.now (catalogue_of l)) (λ change answered. DefinesAs ok_line kind change.0 change.1 l answered) }
+        → IsTried result (drop_definition kind name.now (catalogue_of l)) (λ change answered. DefinesAs kind change.0 change.1 l answered) }
 {
     let slot = slot_named(defs, kind, name)?;
     if has_user(defs, kind, slot) {
@@ -28,17 +27,30 @@ pub fn drop_definition(defs: &Defs, kind: Kind, name: &Name) -> Result<(u16, Opt
     Ok((slot, None))
 }
 
-// Whether some definition refers to what stands in a slot of a kind. Row types and patterns refer to nothing.
+// Whether some definition refers to what stands in a slot of a kind.
 fn has_user(defs: &Defs, kind: Kind, slot: u16) -> bool
     ensures some { result ≡ true → IsUsed kind slot defs.now.definitions }
     ensures none { result ≡ false → IsUsed kind slot defs.now.definitions → ⊥ }
 {
-    has_user_in(defs, Kind::Calendar, kind, slot)
-        || has_user_in(defs, Kind::Container, kind, slot)
-        || has_user_in(defs, Kind::Series, kind, slot)
+    match user_kind(kind) {
+        Some(users) => has_user_in(defs, users, kind, slot),
+        None => false,
+    }
 }
 
-// Whether some definition of the first kind does.
+// The kind whose definitions can refer to those of a kind; no others do.
+fn user_kind(kind: Kind) -> Option<Kind>
+    ensures { (def : TheDef) (slot : ℕ) → Refers def kind slot → result ≡ Some (kind_of def) }
+{
+    match kind {
+        Kind::Pattern => Some(Kind::Calendar),
+        Kind::RowType => Some(Kind::Container),
+        Kind::Calendar | Kind::Container => Some(Kind::Series),
+        Kind::Series => None,
+    }
+}
+
+// Whether some definition of a kind of users does.
 fn has_user_in(defs: &Defs, users: Kind, kind: Kind, slot: u16) -> bool
     ensures some { result ≡ true → IsUsedBy users kind slot defs.now.definitions }
     ensures none { result ≡ false → IsUsedBy users kind slot defs.now.definitions → ⊥ }
@@ -75,7 +87,17 @@ fn refers(def: &Def, kind: Kind, slot: u16) -> bool
             None => false,
         },
         Def::Container { row_type, .. } => { is_slot(Kind::RowType, *row_type as u16, kind, slot) }
-        Def::Series { container, .. } => is_slot(Kind::Container, *container as u16, kind, slot),
+        Def::Series {
+            container,
+            regular,
+            ..
+        } => {
+            is_slot(Kind::Container, *container as u16, kind, slot)
+                || match regular {
+                    Some((calendar, _)) => is_slot(Kind::Calendar, *calendar as u16, kind, slot),
+                    None => false,
+                }
+        }
     }
 }
 

@@ -9,7 +9,6 @@ ghost use Rattle.ts_layout.specs.Chains.{AreFilled};
 ghost use Rattle.ts_layout.specs.Meaning.{Layout, IsSound, catalogue_of};
 ghost use Rattle.ts_answer.specs.Answer.{wanted};
 ghost use Rattle.ts_answer.specs.Decided.{IsDecision, FitsSlot};
-ghost use Rattle.ts_answer.specs.Reply.{ok_line};
 ghost use Rattle.ts_answer.specs.Slots.{IsFreeSlot};
 ghost use Rattle.ts_answer.specs.Tried.{IsTried};
 ghost use Rattle.ts_answer.specs.View.{IsDefinedBy};
@@ -30,7 +29,7 @@ pub fn new_pattern(
 ) -> Result<(u16, Option<Def>), Trouble>
     requires form { HasForm (CreatePattern name.now text.now) }
     ensures fits { IfOk result (λ change. FitsSlot Patterns change.0 change.1 defs.now.definitions) }
-    ensures decision { (count : ℕ) → IsDecision ok_line Patterns (CreatePattern name.now text.now) result defs.now.definitions count }
+    ensures decision { (count : ℕ) → IsDecision Patterns (CreatePattern name.now text.now) result defs.now.definitions count }
 {
     let pattern = Pattern::read(alloc, text.as_slice())?;
     let slot = slot_for(defs, Kind::Pattern, name)?;
@@ -45,7 +44,7 @@ pub fn turned_pattern(
 ) -> Result<(u16, Option<Def>), Trouble>
     requires form { HasForm (NotOp name.now pattern.now) }
     ensures fits { IfOk result (λ change. FitsSlot Patterns change.0 change.1 defs.now.definitions) }
-    ensures decision { (count : ℕ) → IsDecision ok_line Patterns (NotOp name.now pattern.now) result defs.now.definitions count }
+    ensures decision { (count : ℕ) → IsDecision Patterns (NotOp name.now pattern.now) result defs.now.definitions count }
 {
     let old = pattern_named(defs, pattern)?;
     let slot = slot_for(defs, Kind::Pattern, name)?;
@@ -63,7 +62,7 @@ pub fn joined_pattern(
 ) -> Result<(u16, Option<Def>), Trouble>
     requires form { HasForm (join_of_patterns junction name.now first.now second.now) }
     ensures fits { IfOk result (λ change. FitsSlot Patterns change.0 change.1 defs.now.definitions) }
-    ensures decision { (count : ℕ) → IsDecision ok_line Patterns (join_of_patterns junction name.now first.now second.now) result defs.now.definitions count }
+    ensures decision { (count : ℕ) → IsDecision Patterns (join_of_patterns junction name.now first.now second.now) result defs.now.definitions count }
 {
     let a = pattern_named(defs, first)?;
     let b = pattern_named(defs, second)?;

@@ -6,7 +6,6 @@ ghost use Rattle.ts_command.specs.Form.{HasForm};
 ghost use Rattle.ts_model.specs.declared.kind.Kind.TheVariants.{RowType as RowTypes};
 ghost use Rattle.ts_answer.specs.Answer.{no_bad_column};
 ghost use Rattle.ts_answer.specs.Decided.{IsDecision, FitsSlot};
-ghost use Rattle.ts_answer.specs.Reply.{ok_line};
 ghost use Rattle.ts_answer.specs.Tried.{IsTried};
 ghost use Rattle.ts_define.specs.RowTypes.{MakesRowType};
 
@@ -28,7 +27,7 @@ pub fn new_row_type(
 ) -> Result<(u16, Option<Def>), Trouble>
     requires form { HasForm (CreateRowType name.now stamp.now columns.now) }
     ensures fits { IfOk result (λ change. FitsSlot RowTypes change.0 change.1 defs.now.definitions) }
-    ensures decision { (count : ℕ) → IsDecision ok_line RowTypes (CreateRowType name.now stamp.now columns.now) result defs.now.definitions count }
+    ensures decision { (count : ℕ) → IsDecision RowTypes (CreateRowType name.now stamp.now columns.now) result defs.now.definitions count }
 {
     let kind = row_type_of(alloc, stamp, columns)?;
     in_format(defs, kind.has_long_decimal())?;

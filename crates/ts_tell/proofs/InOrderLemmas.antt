@@ -1,5 +1,5 @@
 -- Series in the order of their keys: the slots of the index, and the entries of the catalogue.
-use Rattle.std.proofs.Common.{◌≡◌, inl, inr, ℕ, zero, suc, ◌+◌, ◌<◌, ◌==◌, Bool, true, false, cond, Option, Some, None, List, [], ◌∷◌, ◌++◌, map, length, refl, ap, sym, ◌∙◌, subst, arith, zero-add, add-zero}
+use Rattle.std.proofs.Common.{◌≡◌, inl, inr, ℕ, ℤ, is_some, zero, suc, ◌+◌, ◌<◌, ◌==◌, Bool, true, false, cond, Option, Some, None, List, [], ◌∷◌, ◌++◌, map, length, refl, ap, sym, ◌∙◌, subst, arith, zero-add, add-zero}
 use Rattle.std.specs.List.{filter, flat_map}
 use Rattle.std.specs.Option.{option_map}
 use Rattle.std.specs.Ordering.{eq_by_cmp}
@@ -15,11 +15,11 @@ use Rattle.ts_space.specs.Directory.{Directory, places_of}
 use Rattle.ts_space.specs.Place.{count_of}
 use Rattle.ts_model.specs.declared.kind.Kind.TheVariants as kinds
 use Rattle.ts_model.specs.declared.def.Def.TheVariants as defs
-use Rattle.ts_model.specs.Catalogue.{name_cmp, Series, series_in}
+use Rattle.ts_model.specs.Catalogue.{name_cmp, Series, is_regular, series_in}
 use Rattle.ts_model.specs.Definitions.{Definitions, SeriesDef, ContainerDef, of_series, name_of, at_slot, slots, slot_of, filled_from, slots_by_name, by_name}
 use Rattle.ts_model.proofs.OrderLemmas.{total, same_name, eq_ties, ties-refl, ties-same}
 use Rattle.ts_model.proofs.IndexLemmas.{empty-list}
-use Rattle.ts_layout.specs.Meaning.{Layout, IsSound, series_of, catalogue_of}
+use Rattle.ts_layout.specs.Meaning.{Layout, IsSound, kind_in, series_of, catalogue_of}
 use Rattle.ts_layout.specs.Surveyed.{ListsPlaces}
 use Rattle.ts_layout.specs.Chains.{AreFilled}
 use Rattle.ts_layout.proofs.CallerLemmas.{one_of, own as own_def, container_found, container_of_series, len_counted}
@@ -136,6 +136,11 @@ not_true false never = refl
 one_slot : (i j : ℕ) → Some i ≡ Some j → i ≡ j
 one_slot i j same = cc
 
+-- whether a series is regular, by its slot and by its kind
+lies_as : (d : Definitions) (regular : Option (ℕ × ℤ)) → is_some regular ≡ is_regular (kind_in d regular)
+lies_as d None = refl
+lies_as d (Some regular) = refl
+
 -- a series stands in the container of that name exactly where it refers to its slot
 module _ (l : Layout) (name : List ℕ) (holder : ℕ) (rules : IsSound l) (is : slot_of name (slots kinds.Container l.definitions) ≡ Some holder) (slot : ℕ) (s : SeriesDef) (here : at_slot slot l.definitions.series ≡ Some s) where
   names_meet : s.container ≡ holder → (series_of l slot s).container ≡ name
@@ -161,10 +166,10 @@ module _ (l : Layout) (name : List ℕ) (holder : ℕ) (rules : IsSound l) (is :
         not_true (bytes_eq (series_of l slot s).container name) (λ t. other (slots_meet (bytes_same (series_of l slot s).container name t))) ∙ sym f
   ]
 
--- what is listed, slot by slot, are the series of the container with the numbers of their elements
+-- what is listed, slot by slot, are the series of the container, whether each is regular, and the numbers of their elements
 module _ (l : Layout) (space : Directory) (name : List ℕ) (holder : ℕ) (rules : IsSound l) (filled : AreFilled l) (lists : ListsPlaces space l) (is : slot_of name (slots kinds.Container l.definitions) ≡ Some holder) where
-  abbrev told : List ℕ × Series → List ℕ × ℕ
-  told e = (e.0, len e.1.elements)
+  abbrev told : List ℕ × Series → List ℕ × Bool × ℕ
+  told e = (e.0, is_regular e.1.kind, len e.1.elements)
 
   abbrev stands_in : List ℕ × Series → Bool
   stands_in e = bytes_eq e.1.container name
@@ -172,18 +177,18 @@ module _ (l : Layout) (space : Directory) (name : List ℕ) (holder : ℕ) (rule
   abbrev of_walk : List ℕ × (ℕ × SeriesDef) → List ℕ × Series
   of_walk e = (e.0, series_of l e.1.0 e.1.1)
 
-  counted_here : (e : List ℕ × (ℕ × SeriesDef)) → Stands l.definitions.series e → (e.1.1.key, count_of (places_of e.1.0 space)) ≡ told (of_walk e)
+  counted_here : (e : List ℕ × (ℕ × SeriesDef)) → Stands l.definitions.series e → (e.1.1.key, is_some e.1.1.regular, count_of (places_of e.1.0 space)) ≡ told (of_walk e)
   counted_here e stands =
       let size = rules.definitions.tables.series.size in
       let below = within_table l.definitions.series e.1.0 e.1.1 stands.0 in
       let within : e.1.0 < 4096 = omega (arith, below, size) in
-      (λ i. (sym stands.1 i, sym (len_counted l space e.1.0 rules filled lists within) i))
+      (λ i. (sym stands.1 i, lies_as l.definitions e.1.1.regular i, sym (len_counted l space e.1.0 rules filled lists within) i))
 
-  one_listed : (e : List ℕ × (ℕ × SeriesDef)) (rest : List (List ℕ × Series)) (more : List (List ℕ × ℕ)) → Stands l.definitions.series e → more ≡ map told rest
+  one_listed : (e : List ℕ × (ℕ × SeriesDef)) (rest : List (List ℕ × Series)) (more : List (List ℕ × Bool × ℕ)) → Stands l.definitions.series e → more ≡ map told rest
       → listed_at l.definitions space holder e.1.0 ++ more ≡ map told (cond (stands_in (of_walk e)) (of_walk e ∷ rest) rest)
   one_listed e rest more stands same =
       ap (λ (o : Option SeriesDef). listed_if space holder e.1.0 o ++ more) stands.0
-      ∙ elim (e.1.1.container == holder) as (λ (b : Bool). (cond b ((e.1.1.key, count_of (places_of e.1.0 space)) ∷ []) [] ++ more) ≡ map told (cond b (of_walk e ∷ rest) rest)) [
+      ∙ elim (e.1.1.container == holder) as (λ (b : Bool). (cond b ((e.1.1.key, is_some e.1.1.regular, count_of (places_of e.1.0 space)) ∷ []) [] ++ more) ≡ map told (cond b (of_walk e ∷ rest) rest)) [
         | true ↦ (λ i. counted_here e stands i ∷ same i)
         | false ↦ same
       ]
@@ -193,27 +198,29 @@ module _ (l : Layout) (space : Directory) (name : List ℕ) (holder : ℕ) (rule
   all_listed [] all = refl
   all_listed (w ∷ ws) all = one_listed w (filter stands_in (map of_walk ws)) (flat_map (listed_at l.definitions space holder) (map (λ e. e.1.0) ws)) all.0 (all_listed ws all.1)
 
-  pub listed_in_order : flat_map (listed_at l.definitions space holder) (values (slots_by_name (slots kinds.Series l.definitions))) ≡ map (λ e. (e.0, len e.1.elements)) (series_in name (catalogue_of l))
+  pub listed_in_order : flat_map (listed_at l.definitions space holder) (values (slots_by_name (slots kinds.Series l.definitions))) ≡ map (λ e. (e.0, is_regular e.1.kind, len e.1.elements)) (series_in name (catalogue_of l))
   listed_in_order =
       ap (flat_map (listed_at l.definitions space holder)) (index_walk l.definitions.series)
       ∙ all_listed (walk l.definitions.series) (walk_stands l.definitions.series)
       ∙ ap (λ (es : List (List ℕ × Series)). map told (filter stands_in es)) (sym (series_walk l l.definitions.series))
 
 -- the line of the series in a slot
-listed_one : (d : Definitions) (space : Directory) (container slot : ℕ) (key : List ℕ) (own : ℕ) → at_slot slot (slots kinds.Series d) ≡ Some (defs.Series key own) → own ≡ container → listed_at d space container slot ≡ (key, count_of (places_of slot space)) ∷ []
-listed_one d space container slot key own is same =
-    let there = own_def of_series slot d.series (defs.Series key own) is in
-    let def = there.2 in
-    let name : there.0.key ≡ key = cc in
-    let holder : there.0.container ≡ own = cc in
-    let both : there.0.container ≡ container = holder ∙ same in
-    let t : (there.0.container == container) ≡ true = grind (arith, nat_tests) in
-    ap (listed_if space container slot) there.1
-    ∙ ap (λ (b : Bool). cond b ((there.0.key, count_of (places_of slot space)) ∷ []) []) t
-    ∙ (λ i. (name i, count_of (places_of slot space)) ∷ [])
+module _ (d : Definitions) (space : Directory) (container slot : ℕ) (key : List ℕ) (own : ℕ) (regular : Option (ℕ × ℤ)) (is : at_slot slot (slots kinds.Series d) ≡ Some (defs.Series key own regular)) (same : own ≡ container) where
+  listed_as : (s : SeriesDef) → s.key ≡ key → s.regular ≡ regular → s.container ≡ container → listed_if space container slot (Some s) ≡ (key, is_some regular, count_of (places_of slot space)) ∷ []
+  listed_as s name lies holder =
+      let t : (s.container == container) ≡ true = grind (arith, nat_tests) in
+      ap (λ (b : Bool). cond b ((s.key, is_some s.regular, count_of (places_of slot space)) ∷ []) []) t ∙ (λ i. (name i, is_some (lies i), count_of (places_of slot space)) ∷ [])
 
-pub line_of_one : (d : Definitions) (space : Directory) (container slot : ℕ) (key : List ℕ) (own : ℕ) (read : List ℕ) (count : ℕ) → at_slot slot (slots kinds.Series d) ≡ Some (defs.Series key own) → own ≡ container → read ≡ key → count ≡ count_of (places_of slot space)
-    → series_line (read, count) ≡ flat_map series_line (listed_at d space container slot)
-line_of_one d space container slot key own read count is same name counted =
-    (λ i. series_line (name i, counted i)) ∙ sym (append-nil (series_line (key, count_of (places_of slot space))))
-    ∙ sym (ap (flat_map series_line) (listed_one d space container slot key own is same))
+  listed_one : listed_at d space container slot ≡ (key, is_some regular, count_of (places_of slot space)) ∷ []
+  listed_one =
+      let there = own_def of_series slot d.series (defs.Series key own regular) is in
+      let def = there.2 in
+      let name : there.0.key ≡ key = cc in
+      let lies : there.0.regular ≡ regular = cc in
+      let holder : there.0.container ≡ own = cc in
+      ap (listed_if space container slot) there.1 ∙ listed_as there.0 name lies (holder ∙ same)
+
+  pub line_of_one : (read : List ℕ) (said : Bool) (count : ℕ) → read ≡ key → said ≡ is_some regular → count ≡ count_of (places_of slot space) → series_line (read, said, count) ≡ flat_map series_line (listed_at d space container slot)
+  line_of_one read said count name lies counted =
+      (λ i. series_line (name i, lies i, counted i)) ∙ sym (append-nil (series_line (key, is_some regular, count_of (places_of slot space))))
+      ∙ sym (ap (flat_map series_line) listed_one)

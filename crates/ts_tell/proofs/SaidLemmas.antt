@@ -8,7 +8,7 @@ use Rattle.ts_space.specs.Place.{count_of}
 use Rattle.ts_space.specs.Directory.{Directory, places_of}
 use Rattle.ts_cells.specs.Cell.{page_room}
 use Rattle.ts_model.specs.declared.kind.Kind.TheVariants as kinds
-use Rattle.ts_model.specs.Catalogue.{Container, Series, series_in}
+use Rattle.ts_model.specs.Catalogue.{Container, Series, is_regular, series_in}
 use Rattle.ts_model.specs.Charge.{container_charge as charge_by_name}
 use Rattle.ts_model.specs.Definitions.{Definitions, RowTypeDef, ContainerDef, at_slot}
 use Rattle.ts_layout.specs.Meaning.{Layout, quota_in, heading_in, heading_of_container, catalogue_of}
@@ -58,10 +58,10 @@ module _ (d : Definitions) (space : Directory) (count : ℕ) (free : List ℕ) (
 
   -- the series of a container
   pub list_said : (name : List ℕ) (container : Container) (middle : List ℕ) (n : ℕ) → Stands kinds.Container name l slot container → middle ≡ old ++ flat_map series_line (listed_in d space slot) → n ≡ length (listed_in d space slot) → out ≡ middle ++ count_line n
-      → SaysOnly out l tt (series_text (map (λ e. (e.0, len e.1.elements)) (series_in name (catalogue_of l))), catalogue_of l)
+      → SaysOnly out l tt (series_text (map (λ e. (e.0, is_regular e.1.kind, len e.1.elements)) (series_in name (catalogue_of l))), catalogue_of l)
   unfolding series_text
   list_said name container middle n there lines counts said =
       let ss = listed_in d space slot in
       let listed = ap (λ (x : Definitions). listed_in x space slot) held.definitions ∙ listed_in_order l space name slot held.rules held.filled held.places there.at.is in
       let first : middle ≡ flat_map series_line ss = lines ∙ ap (λ (t : List ℕ). t ++ flat_map series_line ss) empty in
-      says l out (series_text (map (λ e. (e.0, len e.1.elements)) (series_in name (catalogue_of l)))) (said ∙ (λ i. first i ++ count_line (counts i)) ∙ ap series_text listed)
+      says l out (series_text (map (λ e. (e.0, is_regular e.1.kind, len e.1.elements)) (series_in name (catalogue_of l)))) (said ∙ (λ i. first i ++ count_line (counts i)) ∙ ap series_text listed)

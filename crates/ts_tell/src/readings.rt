@@ -59,7 +59,7 @@ fn quota_in(defs: &Defs, slot: u16) -> u32
     }
 }
 
-/// Lists the series of a container in the order of their keys, with the numbers of their elements.
+/// Lists the series of a container in the order of their keys, whether each is regular, and the numbers of their elements.
 pub fn list_series(
     defs: &Defs,
     space: &Space,
@@ -113,9 +113,10 @@ fn say_if_listed(
             Def::Series {
                 key,
                 container: own,
+                regular,
             },
         ) if *own as u16 == container => {
-            say_series(out, key.as_slice(), space.count(slot))?;
+            say_series(out, key.as_slice(), regular.is_some(), space.count(slot))?;
             Ok(1)
         }
         _ => Ok(0),

@@ -34,7 +34,7 @@ sum_is d count l by sum granted size quota is all new =
 
 abbrev Created : List ℕ → List ℕ → ℤ → Layout → Result (ℕ × Option Def) Trouble → Type 0
 Created name row_type quota l decided =
-    IsTried decided (outcome (Ok (TSContainerCreate name row_type quota)) (catalogue_of l)) (λ change answered. DefinesAs ok_line Containers change.0 change.1 l answered)
+    IsTried decided (outcome (Ok (TSContainerCreate name row_type quota)) (catalogue_of l)) (λ change answered. DefinesAs Containers change.0 change.1 l answered)
 
 pub returns-in_err-target-clause-decision : goal.returns-in_err-target-clause-decision
 unfolding outcome carried_out create_container
@@ -78,10 +78,10 @@ returns-clause-decision c count pages l by =
     let holder = c.args.row_type.now in
     let made : ContainerDef = record { name = name; row_type = target; quota = quota } in
     let value : Container = record { row_type = holder; quota = quota } in
-    comes _ _ (subst (λ (x : Def). let a : Answered = (ok_line, with_named Containers name value (catalogue_of l)) in DefinesAs ok_line Containers c.in_ok-slot.slot (Some x) l a)
+    comes _ _ (subst (λ (x : Def). let a : Answered = (ok_line, with_named Containers name value (catalogue_of l)) in DefinesAs Containers c.in_ok-slot.slot (Some x) l a)
     (λ i. defs.Container (sym c.in_ok-copied.ensures i) target (sym size i))
-    (defined ok_line l by.rules by.filled (defs.Container name target quota) c.in_ok-slot.slot made value refl free (record { name = form.0; row_type = there.at.within; some = bounds.0; most = bounds.1 })
-    (named_there RowType l holder target by.rules there.at.is, tt) tt (omega (arith, c.if-sum-pages.false, sum, pages, by.size, all, c.sum_of_quotas-granted.ensures, size)) (container_named l made holder there.at.is))))))
+    (defined l by.rules by.filled (defs.Container name target quota) c.in_ok-slot.slot made value refl free (record { name = form.0; row_type = there.at.within; some = bounds.0; most = bounds.1 })
+    (named_there RowType l holder target by.rules there.at.is, tt) tt tt (omega (arith, c.if-sum-pages.false, sum, pages, by.size, all, c.sum_of_quotas-granted.ensures, size)) (container_named l made holder there.at.is))))))
 
 pub returns-clause-fits : goal.returns-clause-fits
 returns-clause-fits c = fits_free _ c.in_ok-slot.slot _ c.args.defs.now.definitions c.in_ok-copied.ensures c.in_ok-slot.ensures.free

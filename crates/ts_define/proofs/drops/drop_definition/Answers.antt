@@ -2,7 +2,6 @@ use Rattle.ts_base.specs.declared.refusal.Refusal.TheVariants.{InUse}
 use Rattle.ts_model.specs.Definitions.{Definitions, IsUsed}
 use Rattle.ts_layout.proofs.CallerLemmas.{used_by_name, unused_by_name}
 use Rattle.ts_answer.specs.Answer.{drop_definition}
-use Rattle.ts_answer.specs.Reply.{ok_line}
 use Rattle.ts_answer.proofs.CallerLemmas.{goes, stops, passes, refuses, comes}
 use Rattle.ts_define.proofs.DefinedLemmas.{dropped}
 use Rattle.ts_define.proofs.drops.drop_definition.Goals as goal
@@ -26,4 +25,4 @@ returns-clause-tried c count l by =
     goes _ slot (c.in_ok-slot.ensures.tried count l by) (λ value there.
     let unused = subst (λ (d : Definitions). IsUsed c.args.kind slot d → ⊥) by.definitions (c.has_user.ensures.none c.if-has_user.false) in
     passes InUse _ (unused_by_name c.args.kind slot c.args.name.now l by.rules there.at.is unused)
-    (comes _ _ (dropped ok_line l by.rules by.filled c.args.kind slot c.args.name.now (record { named = there.at.is; pageless = c.requires; unused = unused }))))
+    (comes _ _ (dropped l by.rules by.filled c.args.kind slot c.args.name.now (record { named = there.at.is; pageless = c.requires; unused = unused }))))

@@ -1,29 +1,32 @@
-use Rattle.std.specs.Prelude.{Contains}
-use Rattle.std.proofs.Common.{ℕ, [], arith, sym, ◌∙◌, subst}
+use Rattle.std.proofs.Common.{◌≡◌, ℕ, Some, Option, refl, sym, ap, ◌∙◌, subst}
 use Rattle.ts_model.specs.declared.kind.Kind.{Kind}
 use Rattle.ts_model.specs.declared.kind.Kind.TheVariants as kinds
 use Rattle.ts_model.specs.declared.def.Def.{Def}
-use Rattle.ts_model.specs.Definitions.{Definitions, Refers, IsUsed, IsUsedBy, of_row_type, of_pattern}
+use Rattle.ts_model.specs.Definitions.{Definitions, KindDef, kind_of, to_def, table_of, Refers, IsUsedBy}
 use Rattle.ts_layout.proofs.CallerLemmas.{own}
-use Rattle.ts_define.proofs.drops.has_user.Goals.{then-has_user_in, else-has_user_in}
 use Rattle.ts_define.proofs.drops.has_user.Goals as goal
 
-nothing : (target : Kind × ℕ) → Contains [] target → ⊥
-nothing target (k, below, is) = omega (arith, below)
+-- what stands in a slot of a kind is of that kind
+its_kind : (kind : Kind) (a : KindDef kind) → kind_of (to_def kind a) ≡ kind
+its_kind kinds.RowType a = refl
+its_kind kinds.Pattern a = refl
+its_kind kinds.Calendar a = refl
+its_kind kinds.Container a = refl
+its_kind kinds.Series a = refl
 
--- what no kind uses whose definitions refer to some, nothing does
-none_used : (kind : Kind) (slot : ℕ) (d : Definitions) → (IsUsedBy kinds.Calendar kind slot d → ⊥) → (IsUsedBy kinds.Container kind slot d → ⊥) → (IsUsedBy kinds.Series kind slot d → ⊥) → IsUsed kind slot d → ⊥
-none_used kind slot d calendars containers series (kinds.RowType, (i, def, low, there, refers)) =
-    nothing (kind, slot) (subst (λ (x : Def). Refers x kind slot) (sym (own of_row_type i d.row_types def there).2) refers)
-none_used kind slot d calendars containers series (kinds.Pattern, (i, def, low, there, refers)) =
-    nothing (kind, slot) (subst (λ (x : Def). Refers x kind slot) (sym (own of_pattern i d.patterns def there).2) refers)
-none_used kind slot d calendars containers series (kinds.Calendar, by) = calendars by
-none_used kind slot d calendars containers series (kinds.Container, by) = containers by
-none_used kind slot d calendars containers series (kinds.Series, by) = series by
+-- so where all that refer to a kind are of one kind of users, those that use it are
+of_users : (users : Option Kind) (user kind : Kind) (slot : ℕ) (d : Definitions) → ((def : Def) (at : ℕ) → Refers def kind at → users ≡ Some (kind_of def)) → IsUsedBy user kind slot d → users ≡ Some user
+of_users users user kind slot d refer (i, def, low, there, refers) =
+    let its = own (to_def user) i (table_of user d) def there in
+    refer def slot refers ∙ ap (λ (k : Kind). Some k) (ap kind_of (sym its.2) ∙ its_kind user its.0)
 
-pub returns-else-has_user_in-2-clause-none : goal.returns-else-has_user_in-2-clause-none
-returns-else-has_user_in-2-clause-none c is = elim c.if-has_user_in.branch [
-  | then-has_user_in w ↦ absurd (let some = sym w.value-is ∙ c.if-has_user_in-2.false in cc)
-  | else-has_user_in w ↦
-      none_used c.args.kind c.args.slot c.args.defs.now.definitions (c.has_user_in.ensures.none w.if-has_user_in.false) (w.has_user_in-else-has_user_in.ensures.none (sym w.value-is ∙ c.if-has_user_in-2.false)) (c.has_user_in-else-has_user_in-2.ensures.none is)
-]
+pub returns-in-Some-clause-none : goal.returns-in-Some-clause-none
+returns-in-Some-clause-none c is (user, by) =
+    let d = c.args.defs.now.definitions in
+    let same : Some c.in-Some.users ≡ Some user = sym c.in-Some.is ∙ of_users c.user_kind.result user c.args.kind c.args.slot d c.user_kind.ensures by in
+    let one : c.in-Some.users ≡ user = cc in
+    c.has_user_in.ensures.none is (subst (λ (k : Kind). IsUsedBy k c.args.kind c.args.slot d) (sym one) by)
+
+pub returns-in-None-clause-none : goal.returns-in-None-clause-none
+returns-in-None-clause-none c is (user, by) =
+    let none = sym c.in-None.is ∙ of_users c.user_kind.result user c.args.kind c.args.slot c.args.defs.now.definitions c.user_kind.ensures by in cc

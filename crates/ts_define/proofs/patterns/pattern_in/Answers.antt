@@ -18,5 +18,5 @@ pub returns-clause-made : goal.returns-clause-made
 returns-clause-made c l rules filled free =
     let name = c.args.name.now in
     let made : PatternDef = record { name = name; pattern = c.args.pattern } in
-    comes _ _ (subst (λ (x : List ℕ). let a : Answered = (ok_line, with_named Pattern name c.args.pattern (catalogue_of l)) in DefinesAs ok_line Pattern c.args.slot (Some (defs.Pattern x c.args.pattern)) l a) (sym c.in_ok-copied.ensures)
-    (defined ok_line l rules filled (defs.Pattern name c.args.pattern) c.args.slot made c.args.pattern refl free (record { name = c.requires; runs = c.length-length.ensures.pattern }) tt tt (omega (arith, rules.definitions.quotas)) refl))
+    comes _ _ (subst (λ (x : List ℕ). let a : Answered = (ok_line, with_named Pattern name c.args.pattern (catalogue_of l)) in DefinesAs Pattern c.args.slot (Some (defs.Pattern x c.args.pattern)) l a) (sym c.in_ok-copied.ensures)
+    (defined l rules filled (defs.Pattern name c.args.pattern) c.args.slot made c.args.pattern refl free (record { name = c.requires; runs = c.length-length.ensures.pattern }) tt tt tt (omega (arith, rules.definitions.quotas)) refl))

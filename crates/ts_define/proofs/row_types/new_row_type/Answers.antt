@@ -42,9 +42,9 @@ returns-clause-decision c count l by =
     let heading : Heading = record { stamp = c.args.stamp.now; columns = c.args.columns.now } in
     let form = c.requires.form in
     let made : RowTypeDef = record { name = name; heading = heading } in
-    comes _ _ (subst (λ (x : Def). let a : Answered = (ok_line, with_named RowTypes name heading (catalogue_of l)) in DefinesAs ok_line RowTypes c.in_ok-slot.slot (Some x) l a)
+    comes _ _ (subst (λ (x : Def). let a : Answered = (ok_line, with_named RowTypes name heading (catalogue_of l)) in DefinesAs RowTypes c.in_ok-slot.slot (Some x) l a)
     (λ i. defs.RowType (sym c.in_ok-copied.ensures i) (sym makes.made i))
-    (defined ok_line l by.rules by.filled (defs.RowType name heading) c.in_ok-slot.slot made heading refl free (record { name = form.0; stamp = form.1; columns = all_names c.args.columns.now form.3; rules = makes.rules; of_format = has }) tt tt
+    (defined l by.rules by.filled (defs.RowType name heading) c.in_ok-slot.slot made heading refl free (record { name = form.0; stamp = form.1; columns = all_names c.args.columns.now form.3; rules = makes.rules; of_format = has }) tt tt tt
     (omega (arith, by.rules.definitions.quotas)) refl)))))
 
 pub returns-clause-fits : goal.returns-clause-fits

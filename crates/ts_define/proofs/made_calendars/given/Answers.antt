@@ -8,9 +8,9 @@ use Rattle.ts_layout.proofs.CallerLemmas.{text_named}
 use Rattle.ts_answer.specs.Answer.{given, wanted}
 use Rattle.ts_answer.specs.Tried.{IsTried}
 use Rattle.ts_answer.proofs.CallerLemmas.{fails, tried_ok}
-use Rattle.ts_define.specs.Patterns.{IsGiven}
+use Rattle.ts_define.specs.Patterns.{IsGivenPattern}
 use Rattle.ts_define.proofs.PatternLemmas.{filled}
-use Rattle.ts_define.proofs.calendars.given.Goals as goal
+use Rattle.ts_define.proofs.made_calendars.given.Goals as goal
 
 pub pattern_at-requires-clause-filled : goal.pattern_at-requires-clause-filled
 pattern_at-requires-clause-filled c = filled Pattern c.in_ok-slot-in-Named.slot c.in-Named.name c.args.defs.now.definitions c.in_ok-slot-in-Named.ensures.found
@@ -18,7 +18,7 @@ pattern_at-requires-clause-filled c = filled Pattern c.in_ok-slot-in-Named.slot 
 pub returns-in_err-slot-in-Named : goal.returns-in_err-slot-in-Named
 unfolding wanted
 returns-in_err-slot-in-Named c count l by =
-    subst (λ (part : PatternPart). IsTried c.from_residual.result (given part (catalogue_of l)) (IsGiven part l)) (sym c.in-Named.is)
+    subst (λ (part : PatternPart). IsTried c.from_residual.result (given part (catalogue_of l)) (IsGivenPattern part l)) (sym c.in-Named.is)
     (fails c.in_err-slot-in-Named.field-0.0 c.from_residual.ensures.1 (c.in_err-slot-in-Named.ensures.tried count l by))
 
 pub returns-in_ok-copied-in-Named : goal.returns-in_ok-copied-in-Named
@@ -31,7 +31,7 @@ returns-in_ok-copied-in-Named c count l by =
     let at : option_map (λ (p : PatternDef). p.pattern) (at_slot slot l.definitions.patterns) ≡ Some pattern =
     ap (λ (d : Definitions). option_map (λ (p : PatternDef). p.pattern) (at_slot slot d.patterns)) (sym by.definitions) ∙ c.pattern_at.ensures ∙ ap Some (sym c.in_ok-copied-in-Named.ensures.ok) in
     let same : Some pattern ≡ Some its.0.pattern = sym at ∙ ap (option_map (λ (p : PatternDef). p.pattern)) its.1 in
-    subst (λ (part : PatternPart). IsTried (Ok (pattern, Some slot)) (given part (catalogue_of l)) (IsGiven part l)) (sym c.in-Named.is)
+    subst (λ (part : PatternPart). IsTried (Ok (pattern, Some slot)) (given part (catalogue_of l)) (IsGivenPattern part l)) (sym c.in-Named.is)
     (tried_ok _ tried.0 tried.1 (record {
       same = let e : pattern ≡ its.0.pattern = cc in e ∙ sym its.2;
       by = (tried.2.at.within, at);

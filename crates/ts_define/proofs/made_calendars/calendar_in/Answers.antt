@@ -13,7 +13,7 @@ use Rattle.ts_answer.specs.Reply.{ok_line}
 use Rattle.ts_answer.proofs.CallerLemmas.{comes}
 use Rattle.ts_define.proofs.DefinedLemmas.{defined, fits_free}
 use Rattle.ts_define.proofs.PatternLemmas.{reference}
-use Rattle.ts_define.proofs.calendars.calendar_in.Goals as goal
+use Rattle.ts_define.proofs.made_calendars.calendar_in.Goals as goal
 
 pub returns-clause-fits : goal.returns-clause-fits
 returns-clause-fits c d free = fits_free _ c.args.slot _ d c.in_ok-copied.ensures free
@@ -24,7 +24,7 @@ returns-clause-made c l rules filled free by =
     let made : CalendarDef = record { name = name; calendar = c.args.calendar; by = c.args.by } in
     let its = reference c.args.by c.args.calendar.pattern l.definitions by in
     let start : IsStamp c.args.calendar.start = subst IsStamp c.start.ensures.value (subst IsStamp c.units-start.ensures.value c.units-start.ensures.within) in
-    comes _ _ (subst (λ (x : List ℕ). let a : Answered = (ok_line, with_named Calendar name (text_of l.definitions made) (catalogue_of l)) in DefinesAs ok_line Calendar c.args.slot (Some (defs.Calendar x c.args.calendar c.args.by)) l a) (sym c.in_ok-copied.ensures)
-    (defined ok_line l rules filled (defs.Calendar name c.args.calendar c.args.by) c.args.slot made (text_of l.definitions made) refl free
-    (record { name = c.requires; start = start; patt_start = c.patt_start-patt_start.ensures.laid.stamp; runs = subst (λ (p : Plan). IsTrue (is_pattern p.runs)) c.pattern.ensures c.length-length.ensures.pattern; by = its.within }) its.there (c.start.ensures.valid, its.follows)
+    comes _ _ (subst (λ (x : List ℕ). let a : Answered = (ok_line, with_named Calendar name (text_of l.definitions made) (catalogue_of l)) in DefinesAs Calendar c.args.slot (Some (defs.Calendar x c.args.calendar c.args.by)) l a) (sym c.in_ok-copied.ensures)
+    (defined l rules filled (defs.Calendar name c.args.calendar c.args.by) c.args.slot made (text_of l.definitions made) refl free
+    (record { name = c.requires; start = start; patt_start = c.patt_start-patt_start.ensures.laid.stamp; runs = subst (λ (p : Plan). IsTrue (is_pattern p.runs)) c.pattern.ensures c.length-length.ensures.pattern; by = its.within }) its.there (c.start.ensures.valid, its.follows) tt
     (omega (arith, rules.definitions.quotas)) refl))
