@@ -1,8 +1,8 @@
 -- What a command that edits one element comes to.
-use Rattle.std.proofs.Common.{◌≡◌, ℕ, ◌+◌, ◌<◌, ◌≤◌, cond, Bool, true, ℤ, Option, Some, None, IsSome, is_some, Ok, Err, List, length, refl, ap, sym, ◌∙◌, subst, arith}
+use Rattle.std.proofs.Common.{◌≡◌, ℕ, ◌+◌, ◌<◌, ◌≤◌, ℤ, Option, Some, None, IsSome, is_some, Ok, Err, List, length, refl, ap, sym, ◌∙◌, subst, arith}
 use Rattle.std.specs.Prelude.{if◌then◌else◌}
-use Rattle.std.specs.Cmp.{int_cmp_total}
-use Rattle.std.specs.FinMap.{get, insert, len, entries, len-insert}
+use Rattle.std.specs.Option.{option_map}
+use Rattle.std.specs.FinMap.{get, insert, entries}
 use Rattle.ts_base.specs.declared.refusal.Refusal.{Refusal}
 use Rattle.ts_base.specs.declared.refusal.Refusal.TheVariants as refusals
 use Rattle.ts_row.specs.declared.kind.Column.{Column}
@@ -10,30 +10,39 @@ use Rattle.ts_row.specs.declared.value.Literal.{Literal}
 use Rattle.ts_row.specs.RowType.{Heading}
 use Rattle.ts_row.specs.Row.{Row}
 use Rattle.ts_row.specs.Element.{Element}
-use Rattle.ts_space.specs.Place.{count_of}
+use Rattle.ts_space.specs.declared.place.Place.{Place}
+use Rattle.ts_space.specs.Place.{IsRising}
 use Rattle.ts_space.specs.Directory.{Directory, places_of}
-use Rattle.ts_space.specs.Charge.{irregular_charge}
 use Rattle.ts_cells.specs.Cell.{page_room}
-use Rattle.ts_cells.specs.IrregularPage.{AreInOrder}
 use Rattle.ts_irregular.specs.Edit.{element_at, with_element}
 use Rattle.ts_chain.specs.Placing.{place_for}
 use Rattle.ts_series.specs.declared.edits.EditKind.{EditKind}
 use Rattle.ts_series.specs.declared.edits.EditKind.TheVariants.{Put, PutNoDups, Insert, Update}
-use Rattle.ts_series.specs.Edit.{placed as placed_at, target, charge_with_one}
+use Rattle.ts_calendar.specs.Plan.{CalendarPlan}
+use Rattle.ts_offset.specs.Grid.{GridPlan}
+use Rattle.ts_offset.specs.declared.shape.Shape.{Shape}
+use Rattle.ts_offset.specs.declared.shape.Shape.TheVariants as shapes
 use Rattle.ts_command.specs.declared.command.Command.{Command}
-use Rattle.ts_model.specs.Catalogue.{Catalogue, Elements, Series, columns_of, quota_of}
+use Rattle.ts_model.specs.Catalogue.{Catalogue, Elements, Series, SeriesKind, Irregular, Regular, calendar_named, shape_of, columns_of, quota_of}
+use Rattle.ts_model.specs.Charge.{elements_charge}
 use Rattle.ts_model.specs.Charge.{container_charge as charge_by_name}
 use Rattle.ts_layout.specs.Meaning.{Layout, IsSound, elements_at, series_of, catalogue_of}
+use Rattle.ts_layout.specs.Meaning.{shape_of as shape_in}
 use Rattle.ts_layout.specs.Charges.{container_charge}
 use Rattle.ts_layout.specs.Surveyed.{ListsPlaces}
 use Rattle.ts_layout.specs.Chains.{AreFilled, by_stamp}
-use Rattle.ts_layout.proofs.CallerLemmas.{charge_named, charge_with, charge_pages, columns_named, quota_named, series_count, map_entries, map_found, map_put}
-use Rattle.ts_answer.specs.Answer.{Tried, Answered, ◌>>=◌, wanted, a_row, row_at, refused_if, placed, a_place, within_quota, with_elements, with_element as with_element_of, put_element, put_no_dups, insert_element, update_element, carried_out, outcome}
+use Rattle.ts_answer.specs.Answer.{Tried, Answered, ◌>>=◌, wanted, a_row, row_at, refused_if, placed, a_place, an_address, addressed, within_quota, with_elements, put_element, put_no_dups, insert_element, update_element, carried_out, outcome}
+use Rattle.ts_answer.specs.Answer.{with_element as with_element_of}
 use Rattle.ts_answer.specs.Reply.{stamp_line}
 use Rattle.ts_answer.proofs.CallerLemmas.{wanted-there, refused, passed, row-there, row-missing, quota-kept, quota-passed, on_ok, on_err}
 use Rattle.ts_elements.specs.Elements.{IsSeries, edit_of}
 use Rattle.ts_elements.specs.Room.{IsBudget}
-use Rattle.ts_elements.proofs.SeenLemmas.{SeriesIn}
+use Rattle.ts_elements.specs.Stamps.{HaveElements, IsLaidOut, charge_by, target_from, target_in}
+use Rattle.ts_elements.proofs.LawLemmas.{charges, as_maps}
+use Rattle.ts_elements.proofs.AddressLemmas.{address_is}
+use Rattle.ts_elements.proofs.SeriesLemmas.{costs}
+use Rattle.ts_elements.proofs.SeenLemmas.{SeriesIn, HasSeen, heading_there, found_in, entries_in}
+use Rattle.ts_elements.proofs.MemoryLemmas.{charge_same}
 
 -- it begins with the series of a key, and a row for it
 abbrev pub BeginsWithRow : Command → List ℕ → List Literal → (Catalogue → Series → Row → Tried Answered) → Type 0
@@ -43,12 +52,16 @@ BeginsWithRow command key literals rest = (cat : Catalogue) → outcome (Ok comm
 abbrev pub add_rest : List ℕ → Row → Catalogue → Series → ℤ → Tried Answered
 add_rest key row cat s at = within_quota (charge_by_name s.container (with_element_of key s at row cat)) (quota_of cat s) >>= (λ fits. Ok (stamp_line at, with_element_of key s at row cat))
 
--- each kind of edit, once there is a row for it
+-- each kind of edit, once it is known where the element stands that its stamp addresses
+abbrev edit_from : EditKind → List ℕ → Catalogue → Series → Row → ℤ → Tried Answered
+edit_from Put key cat s row at = a_place s.kind at s.elements >>= add_rest key row cat s
+edit_from PutNoDups key cat s row at = add_rest key row cat s at
+edit_from Insert key cat s row at = refused_if (is_some (get s.elements at)) refusals.Duplicate >>= (λ free. add_rest key row cat s at)
+edit_from Update key cat s row at = row_at at s.elements >>= (λ old. Ok (stamp_line at, with_element_of key s at row cat))
+
+-- and once there is a row for it
 abbrev pub edit_rest : EditKind → List ℕ → ℤ → Catalogue → Series → Row → Tried Answered
-edit_rest Put key stamp cat s row = a_place stamp s.elements >>= add_rest key row cat s
-edit_rest PutNoDups key stamp cat s row = add_rest key row cat s stamp
-edit_rest Insert key stamp cat s row = refused_if (is_some (get s.elements stamp)) refusals.Duplicate >>= (λ free. add_rest key row cat s stamp)
-edit_rest Update key stamp cat s row = row_at stamp s.elements >>= (λ old. Ok (stamp_line stamp, with_element_of key s stamp row cat))
+edit_rest how key stamp cat s row = an_address s stamp cat >>= edit_from how key cat s row
 
 pub edit_begins : (how : EditKind) (key : List ℕ) (stamp : ℤ) (literals : List Literal) → BeginsWithRow (edit_of how key stamp literals) key literals (edit_rest how key stamp)
 unfolding outcome carried_out put_element put_no_dups insert_element update_element
@@ -57,124 +70,168 @@ edit_begins PutNoDups key stamp literals cat = refl
 edit_begins Insert key stamp literals cat = refl
 edit_begins Update key stamp literals cat = refl
 
--- the place of a stamp, by the elements in order
-same_placed : (o : Option ℤ) → placed o ≡ placed_at o
-same_placed (Some at) = refl
-same_placed None = refl
+-- the place of a stamp, by the shape of the series
+not_any : (o : Option CalendarPlan) (f : CalendarPlan → Shape) → ((c : CalendarPlan) → f c ≡ shapes.Irregular → ⊥) → option_map f o ≡ Some shapes.Irregular → ⊥
+not_any None f grid is = absurd (cc)
+not_any (Some c) f grid is = let same : f c ≡ shapes.Irregular = cc in grid c same
 
-place_aims : (stamp : ℤ) (elements : Elements) (es : List Element) → entries elements ≡ es → a_place stamp elements ≡ target Put stamp es
+place_any : (cat : Catalogue) (kind : SeriesKind) (at : ℤ) (m : Elements) → shape_of cat kind ≡ Some shapes.Irregular → a_place kind at m ≡ placed (place_for at (entries m))
 unfolding a_place
-place_aims stamp elements es is = ap (λ (fs : List Element). placed (place_for stamp fs)) is ∙ same_placed (place_for stamp es)
+place_any cat Irregular at m is = refl
+place_any cat (Regular calendar origin) at m is = absurd (not_any (calendar_named cat calendar) _ (λ c same. absurd (cc)) is)
+
+place_same : (cat : Catalogue) (kind : SeriesKind) (grid : GridPlan) (at : ℤ) (m : Elements) → shape_of cat kind ≡ Some (shapes.Regular grid) → a_place kind at m ≡ Ok at
+unfolding a_place
+place_same cat Irregular grid at m is = absurd (cc)
+place_same cat (Regular calendar origin) grid at m is = refl
+
+place_from : (shape : Shape) (cat : Catalogue) (s : Series) (at : ℤ) (es : List Element) → shape_of cat s.kind ≡ Some shape → entries s.elements ≡ es → a_place s.kind at s.elements ≡ target_from shape Put at es
+place_from shapes.Irregular cat s at es lies is = place_any cat s.kind at s.elements lies ∙ ap (λ (fs : List Element). placed (place_for at fs)) is
+place_from (shapes.Regular grid) cat s at es lies is = place_same cat s.kind grid at s.elements lies
+
+-- what the other kinds seek, whatever the shape
+no_dups_from : (shape : Shape) (at : ℤ) (es : List Element) → target_from shape PutNoDups at es ≡ Ok at
+no_dups_from shapes.Irregular at es = refl
+no_dups_from (shapes.Regular grid) at es = refl
+
+insert_from : (shape : Shape) (at : ℤ) (es : List Element) (o : Option Row) → element_at at es ≡ o → target_from shape Insert at es ≡ (if is_some o then Err refusals.Duplicate else Ok at)
+insert_from shapes.Irregular at es o found = ap (λ (p : Option Row). if is_some p then Err refusals.Duplicate else Ok at) found
+insert_from (shapes.Regular grid) at es (Some row) found = rw found refl
+insert_from (shapes.Regular grid) at es None found = rw found refl
+
+update_from : (shape : Shape) (at : ℤ) (es : List Element) (o : Option Row) → element_at at es ≡ o → target_from shape Update at es ≡ (if is_some o then Ok at else Err refusals.Missing)
+update_from shapes.Irregular at es o found = ap (λ (p : Option Row). if is_some p then Ok at else Err refusals.Missing) found
+update_from (shapes.Regular grid) at es (Some row) found = rw found refl
+update_from (shapes.Regular grid) at es None found = rw found refl
 
 -- Each kind of edit seeks the stamp at which its row is put, and then puts it.
-aims_insert : (key : List ℕ) (stamp : ℤ) (cat : Catalogue) (s : Series) (row : Row) (es : List Element) (o : Option Row) → element_at stamp es ≡ o → get s.elements stamp ≡ o → edit_rest Insert key stamp cat s row ≡ (target Insert stamp es >>= add_rest key row cat s)
-aims_insert key stamp cat s row es (Some old) at found =
-    on_err _ refusals.Duplicate _ (refused _ refusals.Duplicate (ap (λ (p : Option Row). is_some p) found))
-    ∙ sym (on_err (target Insert stamp es) refusals.Duplicate (add_rest key row cat s) (ap (λ (p : Option Row). if is_some p then Err refusals.Duplicate else Ok stamp) at))
-aims_insert key stamp cat s row es None at found =
-    on_ok _ tt _ (passed _ refusals.Duplicate (ap (λ (p : Option Row). is_some p) found))
-    ∙ sym (on_ok (target Insert stamp es) stamp (add_rest key row cat s) (ap (λ (p : Option Row). if is_some p then Err refusals.Duplicate else Ok stamp) at))
+module _ (shape : Shape) (key : List ℕ) (cat : Catalogue) (s : Series) (row : Row) (es : List Element) (lies : shape_of cat s.kind ≡ Some shape) (entries_are : entries s.elements ≡ es) (found : (at : ℤ) → get s.elements at ≡ element_at at es) where
+  aims_insert : (at : ℤ) (o : Option Row) → element_at at es ≡ o → edit_from Insert key cat s row at ≡ (target_from shape Insert at es >>= add_rest key row cat s)
+  aims_insert at (Some old) there =
+      on_err _ refusals.Duplicate _ (refused _ refusals.Duplicate (ap (λ (p : Option Row). is_some p) (found at ∙ there)))
+      ∙ sym (on_err (target_from shape Insert at es) refusals.Duplicate (add_rest key row cat s) (insert_from shape at es (Some old) there))
+  aims_insert at None there =
+      on_ok _ tt _ (passed _ refusals.Duplicate (ap (λ (p : Option Row). is_some p) (found at ∙ there)))
+      ∙ sym (on_ok (target_from shape Insert at es) at (add_rest key row cat s) (insert_from shape at es None there))
 
-aims_update : (key : List ℕ) (stamp : ℤ) (cat : Catalogue) (s : Series) (row : Row) (es : List Element) (o : Option Row) → element_at stamp es ≡ o → get s.elements stamp ≡ o → (IsSome o → charge_by_name s.container (with_element_of key s stamp row cat) ≤ quota_of cat s)
-    → edit_rest Update key stamp cat s row ≡ (target Update stamp es >>= add_rest key row cat s)
-aims_update key stamp cat s row es (Some old) at found pays =
-    on_ok _ old _ (row-there stamp s.elements old found)
-    ∙ sym (on_ok (target Update stamp es) stamp (add_rest key row cat s) (ap (λ (p : Option Row). if is_some p then Ok stamp else Err refusals.Missing) at) ∙ on_ok _ tt _ (quota-kept _ _ (pays refl)))
-aims_update key stamp cat s row es None at found pays =
-    on_err _ refusals.Missing _ (row-missing stamp s.elements found)
-    ∙ sym (on_err (target Update stamp es) refusals.Missing (add_rest key row cat s) (ap (λ (p : Option Row). if is_some p then Ok stamp else Err refusals.Missing) at))
+  aims_update : (at : ℤ) (o : Option Row) → element_at at es ≡ o → (target_from shape Update at es ≡ Ok at → IsSome o → charge_by_name s.container (with_element_of key s at row cat) ≤ quota_of cat s)
+      → edit_from Update key cat s row at ≡ (target_from shape Update at es >>= add_rest key row cat s)
+  aims_update at (Some old) there pays =
+      let target = update_from shape at es (Some old) there in
+      on_ok _ old _ (row-there at s.elements old (found at ∙ there))
+      ∙ sym (on_ok (target_from shape Update at es) at (add_rest key row cat s) target ∙ on_ok _ tt _ (quota-kept _ _ (pays target refl)))
+  aims_update at None there pays =
+      on_err _ refusals.Missing _ (row-missing at s.elements (found at ∙ there))
+      ∙ sym (on_err (target_from shape Update at es) refusals.Missing (add_rest key row cat s) (update_from shape at es None there))
 
-edit_aims : (how : EditKind) (key : List ℕ) (stamp : ℤ) (cat : Catalogue) (s : Series) (row : Row) (es : List Element) → entries s.elements ≡ es → get s.elements stamp ≡ element_at stamp es
-    → (IsSome (element_at stamp es) → charge_by_name s.container (with_element_of key s stamp row cat) ≤ quota_of cat s) → edit_rest how key stamp cat s row ≡ (target how stamp es >>= add_rest key row cat s)
-edit_aims Put key stamp cat s row es entries_are found pays = ap (λ (t : Tried ℤ). t >>= add_rest key row cat s) (place_aims stamp s.elements es entries_are)
-edit_aims PutNoDups key stamp cat s row es entries_are found pays = sym (on_ok (Ok stamp) stamp (add_rest key row cat s) refl)
-edit_aims Insert key stamp cat s row es entries_are found pays = aims_insert key stamp cat s row es (element_at stamp es) refl found
-edit_aims Update key stamp cat s row es entries_are found pays = aims_update key stamp cat s row es (element_at stamp es) refl found pays
+  aims_from : (how : EditKind) (at : ℤ) → (target_from shape how at es ≡ Ok at → IsSome (element_at at es) → charge_by_name s.container (with_element_of key s at row cat) ≤ quota_of cat s)
+      → edit_from how key cat s row at ≡ (target_from shape how at es >>= add_rest key row cat s)
+  aims_from Put at pays = ap (λ (t : Tried ℤ). t >>= add_rest key row cat s) (place_from shape cat s at es lies entries_are)
+  aims_from PutNoDups at pays = sym (on_ok (target_from shape PutNoDups at es) at (add_rest key row cat s) (no_dups_from shape at es))
+  aims_from Insert at pays = aims_insert at (element_at at es) refl
+  aims_from Update at pays = aims_update at (element_at at es) refl pays
 
--- a row at a new stamp is one element more, and one at a stamp that is there none
-one_more : (m : Elements) (stamp : ℤ) (row : Row) → get m stamp ≡ None → len (insert m stamp row) ≡ len m + 1
-one_more m stamp row none = len-insert int_cmp_total m stamp row ∙ ap (λ (o : Option Row). cond (is_some o) (len m) (len m + 1)) none
+  module _ (how : EditKind) (stamp : ℤ) (pays : (at : ℤ) → target_in shape how stamp es ≡ Ok at → IsSome (element_at at es) → charge_by_name s.container (with_element_of key s at row cat) ≤ quota_of cat s) where
+    aims_addressed : (t : Tried ℤ) → addressed shape stamp ≡ t → edit_rest how key stamp cat s row ≡ (target_in shape how stamp es >>= add_rest key row cat s)
+    aims_addressed (Ok at) is =
+        let address = address_is s stamp cat shape lies ∙ is in
+        let target = on_ok (addressed shape stamp) at (λ at. target_from shape how at es) is in
+        on_ok (an_address s stamp cat) at (edit_from how key cat s row) address
+        ∙ aims_from how at (λ goes there. pays at (target ∙ goes) there)
+        ∙ ap (λ (t : Tried ℤ). t >>= add_rest key row cat s) (sym target)
+    aims_addressed (Err why) is =
+        let address = address_is s stamp cat shape lies ∙ is in
+        on_err (an_address s stamp cat) why (edit_from how key cat s row) address
+        ∙ sym (on_err (target_in shape how stamp es) why (add_rest key row cat s) (on_err (addressed shape stamp) why (λ at. target_from shape how at es) is))
 
-some_true : (o : Option Row) → IsSome o → is_some o ≡ true
-some_true (Some row) some = refl
-some_true None some = absurd (cc)
+    pub edit_aims : edit_rest how key stamp cat s row ≡ (target_in shape how stamp es >>= add_rest key row cat s)
+    edit_aims = aims_addressed (addressed shape stamp) refl
 
-as_many : (m : Elements) (stamp : ℤ) (row : Row) → IsSome (get m stamp) → len (insert m stamp row) ≡ len m
-as_many m stamp row some = len-insert int_cmp_total m stamp row ∙ ap (λ (b : Bool). cond b (len m) (len m + 1)) (some_true (get m stamp) some)
+-- a stamp that is sought is one
+one_target : (t : Tried ℤ) (at other : ℤ) → t ≡ Ok at → t ≡ Ok other → at ≡ other
+one_target t at other first second = let same : ◌≡◌ {A = Tried ℤ} (Ok at) (Ok other) = sym first ∙ second in cc
 
--- a series with its container, its columns and its elements in order
-module _ (l : Layout) (space : Directory) (key : List ℕ) (slot : ℕ) (h : Heading) (row : Row) (es : List Element) (sound : IsSound l) (filled : AreFilled l) (lists : ListsPlaces space l) (within : slot < 4096) (on : SeriesIn l key slot) (is : IsSeries slot on.s on.c h l.definitions)
-    (elements : elements_at slot l.element_pages ≡ by_stamp es) (order : AreInOrder h.columns es) where
+no_target : (t : Tried ℤ) (at : ℤ) (why : Refusal) → t ≡ Err why → t ≡ Ok at → ⊥
+no_target t at why first second = let same : ◌≡◌ {A = Tried ℤ} (Err why) (Ok at) = sym first ∙ second in cc
+
+none_there : (o : Option Row) → o ≡ None → IsSome o → ⊥
+none_there (Some row) none some = cc
+none_there None none some = absurd (cc)
+
+-- a series with its container, its columns, its shape and its elements in order
+module _ (l : Layout) (space : Directory) (key : List ℕ) (shape : Shape) (laid : IsLaidOut shape) (slot : ℕ) (h : Heading) (row : Row) (pages : ℕ → List ℕ) (es : List Element) (sound : IsSound l) (filled : AreFilled l) (lists : ListsPlaces space l) (within : slot < 4096)
+    (on : SeriesIn l key slot) (is : IsSeries slot on.s on.c h l.definitions) (lies : shape_in l.definitions on.s.regular ≡ Some shape) (kind : shape_of (catalogue_of l) (series_of l slot on.s).kind ≡ Some shape)
+    (has : HasSeen shape slot h.columns pages (places_of slot space) l es) where
   abbrev q : ℕ
   q = page_room h.columns
 
   abbrev series : Series
   series = series_of l slot on.s
 
-  found_as : (stamp : ℤ) → get (elements_at slot l.element_pages) stamp ≡ element_at stamp es
-  found_as stamp = ap (λ (m : Elements). get m stamp) elements ∙ map_found stamp es
-
   quota_is : quota_of (catalogue_of l) series ≡ on.c.quota
-  quota_is = quota_named l (length l.element_pages) slot on.s on.c sound.definitions is.container
+  quota_is = charges.quota l (length l.element_pages) slot on.s on.c sound.definitions is.container
 
   -- what the container is charged with the row at a stamp
   abbrev pub charge_at : ℤ → ℕ
   charge_at at = charge_by_name series.container (with_element_of key series at row (catalogue_of l))
 
-  charge_is : (at : ℤ) (n : ℕ) → len (insert (elements_at slot l.element_pages) at row) ≡ n → charge_at at + irregular_charge q (count_of (places_of slot space)) ≡ container_charge l.definitions space on.s.container q + irregular_charge q n
-  charge_is at n count =
+  charge_is : (at : ℤ) → charge_at at + charge_by shape h.columns (places_of slot space) ≡ container_charge l.definitions space on.s.container q + elements_charge h.columns shape (by_stamp (with_element at row es))
+  charge_is at =
       let elements_now = elements_at slot l.element_pages in
-      let counted = ap (irregular_charge q) (series_count l space slot sound filled lists within) in
-      let with = charge_with l (length l.element_pages) slot on.s on.c h (insert elements_now at row) sound.definitions is.there is.container is.heading in
-      let named = charge_named l on.s.container on.c h sound filled is.container is.heading in
-      let pages = charge_pages l space on.s.container q sound.definitions.tables lists in
-      let more = ap (irregular_charge q) count in
-      let base : charge_by_name on.c.name (with_element_of on.s.key series at row (catalogue_of l)) + irregular_charge q (count_of (places_of slot space)) ≡ container_charge l.definitions space on.s.container q + irregular_charge q n = omega (arith, counted, with, named, pages, more) in
+      let put = as_maps.put at row es ∙ ap (λ (m : Elements). insert m at row) (sym has.elements) in
+      let more = ap (elements_charge h.columns shape) put in
+      let own = charges.elements l space slot on.s h shape sound filled lists within is.there (heading_there l.definitions slot on.s on.c h is) lies
+      ∙ charge_same l.definitions on.s.regular shape lies h.columns (places_of slot space) in
+      let with = charges.with l (length l.element_pages) slot on.s on.c h shape (insert elements_now at row) sound.definitions is.there is.container is.heading lies in
+      let named = charges.name l on.s.container on.c h sound filled is.container is.heading in
+      let placed = charges.pages l space on.s.container q sound.definitions.tables lists in
+      let base : charge_by_name on.c.name (with_element_of on.s.key series at row (catalogue_of l)) + charge_by shape h.columns (places_of slot space)
+      ≡ container_charge l.definitions space on.s.container q + elements_charge h.columns shape (by_stamp (with_element at row es)) = omega (arith, more, own, with, named, placed) in
       let name = ap (λ (name : List ℕ). charge_by_name name (with_element_of key series at row (catalogue_of l))) on.container
       ∙ ap (λ (k : List ℕ). charge_by_name on.c.name (with_element_of k series at row (catalogue_of l))) (sym on.named) in
       omega (arith, base, name)
 
-  -- where none stands there
-  pub charge_added : (at : ℤ) (others quota : ℕ) → IsBudget slot on.s on.c h l.definitions space others quota → element_at at es ≡ None → charge_at at ≡ others + charge_with_one h.columns (places_of slot space)
-  charge_added at others quota budget absent =
-      let count = one_more (elements_at slot l.element_pages) at row (found_as at ∙ absent) ∙ ap (λ (n : ℕ). n + 1) (series_count l space slot sound filled lists within) in
-      let charge = charge_is at (count_of (places_of slot space) + 1) count in
-      let all = budget.all in
-      omega (arith, charge, all)
+  -- by what the others are charged, and what the elements cost with it
+  module _ (others quota : ℕ) (budget : IsBudget slot on.s on.c h l.definitions space others quota) where
+    pub charge_with : (at : ℤ) (n : ℕ) → elements_charge h.columns shape (by_stamp (with_element at row es)) ≡ n → charge_at at ≡ others + n
+    charge_with at n costs =
+        let charge = charge_is at in
+        let all = budget.all in
+        let own = charge_same l.definitions on.s.regular shape lies h.columns (places_of slot space) in
+        omega (arith, charge, all, own, costs)
 
-  -- where one does
-  charge_there : (at : ℤ) → IsSome (element_at at es) → charge_at at ≡ container_charge l.definitions space on.s.container q
-  charge_there at there =
-      let some = subst (λ (o : Option Row). IsSome o) (sym (found_as at)) there in
-      let count = as_many (elements_at slot l.element_pages) at row some ∙ series_count l space slot sound filled lists within in
-      let charge = charge_is at (count_of (places_of slot space)) count in
-      omega (arith, charge)
+    -- where it is written on pages with these places
+    pub charge_written : (at : ℤ) (new : List Place) (written : ℕ → List ℕ) → IsRising new → HaveElements shape slot h.columns written new (with_element at row es) → charge_at at ≡ others + charge_by shape h.columns new
+    charge_written at new written rising have = charge_with at (charge_by shape h.columns new) (costs shape laid slot h.columns written new (with_element at row es) rising have)
 
-  module _ (paid : container_charge l.definitions space on.s.container q ≤ on.c.quota) where
-    pub kept_there : (at : ℤ) → IsSome (element_at at es) → charge_at at ≤ on.c.quota
-    kept_there at there = let charge = charge_there at there in omega (arith, charge, paid)
+  -- what the command comes to
+  module _ (how : EditKind) (stamp : ℤ) (literals : List Literal) (good : a_row h.columns literals ≡ Ok row) where
+    edit_outcome : ((at : ℤ) → target_in shape how stamp es ≡ Ok at → IsSome (element_at at es) → charge_at at ≤ on.c.quota)
+        → outcome (Ok (edit_of how key stamp literals)) (catalogue_of l) ≡ (target_in shape how stamp es >>= add_rest key row (catalogue_of l) series)
+    edit_outcome pays =
+        let columns = charges.columns l (length l.element_pages) slot on.s on.c h sound.definitions is.container is.heading in
+        edit_begins how key stamp literals (catalogue_of l) ∙ on_ok _ series _ (wanted-there key (catalogue_of l).series series on.listed)
+        ∙ on_ok _ row _ (ap (λ (cs : List Column). a_row cs literals) columns ∙ good)
+        ∙ edit_aims shape key (catalogue_of l) series row es kind (entries_in shape slot h.columns pages (places_of slot space) l es has) (found_in shape slot h.columns pages (places_of slot space) l es has) how stamp
+        (λ at goes there. let charge = pays at goes there in omega (arith, charge, quota_is))
 
-    -- what the command comes to
-    module _ (how : EditKind) (stamp : ℤ) (literals : List Literal) (good : a_row h.columns literals ≡ Ok row) where
-      pub edit_outcome : outcome (Ok (edit_of how key stamp literals)) (catalogue_of l) ≡ (target how stamp es >>= add_rest key row (catalogue_of l) series)
-      edit_outcome =
-          let columns = columns_named l (length l.element_pages) slot on.s on.c h sound.definitions is.container is.heading in
-          edit_begins how key stamp literals (catalogue_of l) ∙ on_ok _ series _ (wanted-there key (catalogue_of l).series series on.listed)
-          ∙ on_ok _ row _ (ap (λ (cs : List Column). a_row cs literals) columns ∙ good)
-          ∙ edit_aims how key stamp (catalogue_of l) series row es (ap entries elements ∙ map_entries h.columns es order) (found_as stamp)
-          (λ there. let charge = kept_there stamp there in omega (arith, charge, quota_is))
+    pub edit_done : (at : ℤ) → target_in shape how stamp es ≡ Ok at → charge_at at ≤ on.c.quota
+        → outcome (Ok (edit_of how key stamp literals)) (catalogue_of l) ≡ Ok (stamp_line at, with_elements key series (by_stamp (with_element at row es)) (catalogue_of l))
+    edit_done at aims fits =
+        edit_outcome (λ other goes there. subst (λ (s : ℤ). charge_at s ≤ on.c.quota) (one_target (target_in shape how stamp es) at other aims goes) fits)
+        ∙ on_ok (target_in shape how stamp es) at (add_rest key row (catalogue_of l) series) aims ∙ on_ok _ tt _ (quota-kept _ _ (omega (arith, fits, quota_is)))
+        ∙ ap (λ (m : Elements). Ok (stamp_line at, with_elements key series m (catalogue_of l))) (ap (λ (m : Elements). insert m at row) has.elements ∙ sym (as_maps.put at row es))
 
-      pub edit_done : (at : ℤ) → target how stamp es ≡ Ok at → charge_at at ≤ on.c.quota
-          → outcome (Ok (edit_of how key stamp literals)) (catalogue_of l) ≡ Ok (stamp_line at, with_elements key series (by_stamp (with_element at row es)) (catalogue_of l))
-      edit_done at aims fits =
-          edit_outcome ∙ on_ok (target how stamp es) at (add_rest key row (catalogue_of l) series) aims ∙ on_ok _ tt _ (quota-kept _ _ (omega (arith, fits, quota_is)))
-          ∙ ap (λ (m : Elements). Ok (stamp_line at, with_elements key series m (catalogue_of l))) (ap (λ (m : Elements). insert m at row) elements ∙ sym (map_put at row es))
+    pub edit_refused : (refusal : Refusal) → target_in shape how stamp es ≡ Err refusal → outcome (Ok (edit_of how key stamp literals)) (catalogue_of l) ≡ Err refusal
+    edit_refused refusal why =
+        edit_outcome (λ at goes there. absurd (no_target (target_in shape how stamp es) at refusal why goes))
+        ∙ on_err (target_in shape how stamp es) refusal (add_rest key row (catalogue_of l) series) why
 
-      pub edit_refused : (refusal : Refusal) → target how stamp es ≡ Err refusal → outcome (Ok (edit_of how key stamp literals)) (catalogue_of l) ≡ Err refusal
-      edit_refused refusal why = edit_outcome ∙ on_err (target how stamp es) refusal (add_rest key row (catalogue_of l) series) why
-
-      pub edit_full : (at : ℤ) (charge quota : ℕ) → target how stamp es ≡ Ok at → charge_at at ≡ charge → on.c.quota ≡ quota → quota < charge → outcome (Ok (edit_of how key stamp literals)) (catalogue_of l) ≡ Err (refusals.ContainerFull charge quota)
-      edit_full at charge quota aims charged most over =
-          edit_outcome ∙ on_ok (target how stamp es) at (add_rest key row (catalogue_of l) series) aims
-          ∙ on_err _ (refusals.ContainerFull (charge_at at) (quota_of (catalogue_of l) series)) _ (quota-passed _ _ (omega (arith, charged, quota_is, most, over)))
-          ∙ (λ i. Err (refusals.ContainerFull (charged i) ((quota_is ∙ most) i)))
+    pub edit_full : (at : ℤ) (charge quota : ℕ) → target_in shape how stamp es ≡ Ok at → element_at at es ≡ None → charge_at at ≡ charge → on.c.quota ≡ quota → quota < charge
+        → outcome (Ok (edit_of how key stamp literals)) (catalogue_of l) ≡ Err (refusals.ContainerFull charge quota)
+    edit_full at charge quota aims absent charged most over =
+        edit_outcome (λ other goes there. absurd (
+        none_there (element_at at es) absent (subst (λ (s : ℤ). IsSome (element_at s es)) (sym (one_target (target_in shape how stamp es) at other aims goes)) there)))
+        ∙ on_ok (target_in shape how stamp es) at (add_rest key row (catalogue_of l) series) aims
+        ∙ on_err _ (refusals.ContainerFull (charge_at at) (quota_of (catalogue_of l) series)) _ (quota-passed _ _ (omega (arith, charged, quota_is, most, over)))
+        ∙ (λ i. Err (refusals.ContainerFull (charged i) ((quota_is ∙ most) i)))

@@ -1,32 +1,33 @@
 -- What is kept in memory of a series, whatever the pages hold.
-use Rattle.std.proofs.Common.{◌≡◌, ℕ, zero, suc, ◌+◌, ◌-◌, ◌^◌, ◌<◌, ◌≤◌, Option, Some, None, IsSome, All, List, [], ◌∷◌, length, sum_by, get_or, set, get_or-set_same, get_or-set_other, refl, ap, sym, ◌∙◌, subst, arith}
+use Rattle.std.proofs.Common.{◌≡◌, ℕ, ℤ, zero, suc, ◌+◌, ◌-◌, ◌<◌, ◌≤◌, Option, Some, None, IsSome, List, [], ◌∷◌, length, sum_by, get_or, set, get_or-set_same, get_or-set_other, refl, ap, sym, ◌∙◌, subst, arith}
 use Rattle.std.specs.Option.{option_map, unwrap_or}
 use Rattle.std.proofs.lemmas.List.Sums.{sum_by-cons}
 use Rattle.ts_page.specs.Pages.{Contents}
 use Rattle.ts_row.specs.declared.kind.Column.{Column}
 use Rattle.ts_row.specs.RowType.{Heading}
 use Rattle.ts_space.specs.declared.place.Place.{Place}
-use Rattle.ts_space.specs.Place.{count_of}
+use Rattle.ts_space.specs.Place.{IsRising}
 use Rattle.ts_space.specs.Directory.{Directory, places_of}
-use Rattle.ts_space.specs.Charge.{irregular_charge}
-use Rattle.ts_space.proofs.ChargeLemmas.{charge_grows}
 use Rattle.ts_cells.specs.Cell.{page_room}
-use Rattle.ts_irregular.specs.OnePage.{IsPlace}
-use Rattle.ts_chain.specs.Places.{ArePlaces, AreMoved, CanBeRead}
-use Rattle.ts_series.specs.Edit.{charge_with_one}
+use Rattle.ts_offset.specs.declared.shape.Shape.{Shape}
+use Rattle.ts_offset.specs.declared.shape.Shape.TheVariants.{Irregular, Regular}
 use Rattle.ts_model.specs.declared.kind.Kind.TheVariants as kinds
 use Rattle.ts_model.specs.declared.def.Def.{Def}
-use Rattle.ts_model.specs.Definitions.{ContainerDef, SeriesDef, of_container, of_series, at_slot}
+use Rattle.ts_model.specs.Definitions.{Definitions, ContainerDef, SeriesDef, of_container, of_series, at_slot}
 use Rattle.ts_layout.specs.Limits.{IsSlotOf}
-use Rattle.ts_layout.specs.Meaning.{Layout, IsSound, def_at, heading_in, heading_at, heading_of_container}
-use Rattle.ts_layout.specs.Charges.{container_charge}
+use Rattle.ts_layout.specs.Meaning.{Layout, IsSound, def_at, grid_in, shape_of, shape_at, heading_in, heading_at, heading_of_container}
+use Rattle.ts_layout.specs.Sheets.{room_of}
+use Rattle.ts_layout.specs.Charges.{IsCountable, places_charge, container_charge}
+use Rattle.ts_layout.specs.Placed.{AreMoved}
 use Rattle.ts_layout.specs.Chains.{bare}
-use Rattle.ts_layout.proofs.CallerLemmas.{one_of, chained, series_limit, at_slot-map, bare_sound, charge_own, room_some, quotas_countable, places_edited, places_kept, kept_alike}
+use Rattle.ts_layout.proofs.CallerLemmas.{one_of, chained, series_limit, at_slot-map, room_some}
 use Rattle.ts_answer.specs.Slots.{IsSlotNamed}
 use Rattle.ts_answer.specs.View.{View, KeepsRules}
 use Rattle.ts_elements.specs.Elements.{AreFew, IsSeries}
 use Rattle.ts_elements.specs.Room.{IsBudget}
-use Rattle.ts_elements.proofs.SeenLemmas.{SeriesIn, series_in_slot}
+use Rattle.ts_elements.specs.Stamps.{ArePlaces, charge_by}
+use Rattle.ts_elements.proofs.LawLemmas.{apart, bare_layouts, charges, kept_same, room_left}
+use Rattle.ts_elements.proofs.SeenLemmas.{SeriesIn, series_in_slot, shape_there}
 
 -- a layout without elements that has the definitions
 abbrev pub bare_of : View → Layout
@@ -47,13 +48,23 @@ one_list_fits (ps ∷ lists) (suc slot) =
     let rest = one_list_fits lists slot in
     omega (arith, first, rest)
 
--- all places of it can be read
-pub readable : (columns : List Column) (c : Contents) (places : List Place) → ArePlaces columns c places → All (CanBeRead c) places
-readable columns c places are k d within = let one : IsPlace columns c (get_or places k d) = are.each k d within in record { element = one.element; below = one.below }
+-- what a series of a shape is charged by its places
+regular_charge : {A : Type 0} (f : A → Shape) (is : (a : A) (columns : List Column) (places : List Place) → charge_by (f a) columns places ≡ length places) (o : Option A) (shape : Shape) → option_map f o ≡ Some shape → (columns : List Column) (places : List Place)
+    → length places ≡ charge_by shape columns places
+regular_charge f is None shape lies columns places = absurd (cc)
+regular_charge f is (Some a) shape lies columns places =
+    let same : f a ≡ shape = cc in
+    sym (is a columns places) ∙ ap (λ (z : Shape). charge_by z columns places) same
+
+pub charge_same : (d : Definitions) (regular : Option (ℕ × ℤ)) (shape : Shape) → shape_of d regular ≡ Some shape → (columns : List Column) (places : List Place) → places_charge (page_room columns) regular places ≡ charge_by shape columns places
+charge_same d None shape lies columns places =
+    let same : Irregular ≡ shape = cc in
+    ap (λ (z : Shape). charge_by z columns places) same
+charge_same d (Some regular) shape lies columns places = regular_charge Regular (λ grid columns places. refl) (grid_in d regular) shape lies columns places
 
 module _ (x : View) (kept : KeepsRules x) where
   bare_rules : IsSound (bare_of x)
-  bare_rules = let some = kept.some in let most = kept.most in bare_sound (x.pages.count - 930) x.definitions (omega (arith, some)) (omega (arith, most)) kept.sound
+  bare_rules = let some = kept.some in let most = kept.most in bare_layouts.rules (x.pages.count - 930) x.definitions (omega (arith, some)) (omega (arith, most)) kept.sound
 
   -- no container is charged more pages than a volume has
   quota_few : (slot : ℕ) (c : ContainerDef) → slot < 64 → at_slot slot x.definitions.containers ≡ Some c → c.quota ≤ 65536
@@ -80,9 +91,9 @@ module _ (x : View) (kept : KeepsRules x) where
       let most = kept.most in
       omega (arith, few, all, most)
 
-  -- so few elements that they can be counted
-  pub countable_kept : (slot : ℕ) → slot < 4096 → count_of (places_of slot x.space) < 2 ^ 32
-  countable_kept = quotas_countable x.definitions x.space x.pages.free x.pages.count kept
+  -- so few places and elements that they can be counted
+  pub countable_kept : (slot : ℕ) → slot < 4096 → IsCountable (places_of slot x.space)
+  countable_kept = room_left.countable x.definitions x.space x.pages.free x.pages.count kept
 
   module _ (slot : ℕ) (within : slot < 4096) where
     -- a series that is found has columns
@@ -92,60 +103,75 @@ module _ (x : View) (kept : KeepsRules x) where
     pub defined_kept : (key : List ℕ) → IsSlotNamed kinds.Series slot key x.definitions → IsSome (heading_at x.definitions slot)
     defined_kept key named = subst (λ (o : Option Heading). IsSome o) (sym (series_kept key named).columns) refl
 
+    pub shaped_kept : (key : List ℕ) → IsSlotNamed kinds.Series slot key x.definitions → IsSome (shape_at x.definitions slot)
+    shaped_kept key named = subst (λ (o : Option Shape). IsSome o) (sym (series_kept key named).lies) refl
+
+    pub rising_kept : IsRising (places_of slot x.space)
+    rising_kept = kept.placed.rising slot within
+
     module _ (h : Heading) (columns : heading_at x.definitions slot ≡ Some h) where
       -- its places are such as an edit asks for
-      pub places_seen : ArePlaces h.columns x.pages (places_of slot x.space)
-      places_seen = places_edited x.definitions x.space x.pages slot h kept.placed within columns
+      pub places_seen : (shape : Shape) → shape_at x.definitions slot ≡ Some shape → ArePlaces shape h.columns x.pages (places_of slot x.space)
+      places_seen Irregular lies = apart.irregular x.definitions x.space x.pages slot h kept.placed within columns lies
+      places_seen (Regular grid) lies = apart.regular x.definitions x.space x.pages slot h grid kept.placed within columns lies
 
       -- its container is charged its quota at most
       container_within : (s : SeriesDef) (c : ContainerDef) → IsSeries slot s c h x.definitions → s.container < 64
       container_within s c is =
-          series_limit x.definitions kept.sound.limits slot within s.key s.container (at_slot-map of_series slot x.definitions.series ∙ ap (option_map of_series) is.there)
+          series_limit x.definitions kept.sound.limits slot within s.key s.container s.regular (at_slot-map of_series slot x.definitions.series ∙ ap (option_map of_series) is.there)
 
       pub paid_in : (s : SeriesDef) (c : ContainerDef) → IsSeries slot s c h x.definitions → container_charge x.definitions x.space s.container (page_room h.columns) ≤ c.quota
       paid_in s c is = kept.quotas s.container (container_within s c is) c h is.container is.heading
 
-      module _ (s : SeriesDef) (c : ContainerDef) (is : IsSeries slot s c h x.definitions) (new : List Place) where
-        abbrev q : ℕ
-        q = page_room h.columns
-
-        room : 0 < q
-        room = room_some x.definitions kept.sound.limits s.container c h (container_within s c is) is.container is.heading
-
-        slots : length x.space.lists ≡ 4096
-        slots = kept.placed.slots
-
-        now : places_of slot (with_places slot new x.space) ≡ new
-        now = get_or-set_same x.space.lists slot new [] (omega (arith, within, slots))
-
-        paid : container_charge x.definitions x.space s.container q ≤ c.quota
-        paid = paid_in s c is
-
-        changes : container_charge x.definitions (with_places slot new x.space) s.container q + irregular_charge q (count_of (places_of slot x.space)) ≡ container_charge x.definitions x.space s.container q + irregular_charge q (count_of new)
-        changes =
-            charge_own x.definitions x.space (with_places slot new x.space) slot s q kept.sound.tables is.there (λ t below other. get_or-set_other x.space.lists slot t new [] other)
-            ∙ ap (λ (ps : List Place). container_charge x.definitions x.space s.container q + irregular_charge q (count_of ps)) now
-
-        -- with no more elements it is charged no more
-        pub pays_less : count_of new ≤ count_of (places_of slot x.space) → container_charge x.definitions (with_places slot new x.space) s.container q ≤ c.quota
-        pays_less fewer = let less = charge_grows q (count_of new) (count_of (places_of slot x.space)) room fewer in omega (arith, changes, less, paid)
-
-        -- with one more it is charged what there is room for
-        pub pays_more : (others quota pages : ℕ) → IsBudget slot s c h x.definitions x.space others quota → others + pages ≤ quota → charge_with_one h.columns (places_of slot x.space) ≤ pages → count_of new ≤ count_of (places_of slot x.space) + 1
-            → container_charge x.definitions (with_places slot new x.space) s.container q ≤ c.quota
-        pays_more others quota pages budget left fits more =
-            let grows = charge_grows q (count_of new) (count_of (places_of slot x.space) + 1) room more in
-            let all = budget.all in
-            let same = budget.quota_is in
-            omega (arith, changes, grows, all, same, left, fits)
-
-      -- the rules are kept where its places change and its container is charged its quota at most
-      pub rules_after : (key : List ℕ) → IsSlotNamed kinds.Series slot key x.definitions → (new : List Place) (w : Contents) → AreMoved h.columns (places_of slot x.space) new x.pages w → w.count ≡ x.pages.count
-          → ((s : SeriesDef) (c : ContainerDef) → IsSeries slot s c h x.definitions → container_charge x.definitions (with_places slot new x.space) s.container (page_room h.columns) ≤ c.quota)
-          → KeepsRules (record { definitions = x.definitions; space = with_places slot new x.space; pages = w })
-      rules_after key named new w moved count pays =
+      -- a page has room for an element
+      pub room_in : (key : List ℕ) → IsSlotNamed kinds.Series slot key x.definitions → 0 < page_room h.columns
+      room_in key named =
           let on = series_kept key named in
           let heads : on.h ≡ h = one_of (heading_at x.definitions slot) on.h h on.columns columns in
           let is : IsSeries slot on.s on.c h x.definitions = subst (λ (y : Heading). IsSeries slot on.s on.c y x.definitions) heads on.is in
-          let after = places_kept x.definitions x.space (with_places slot new x.space) x.pages.count slot on.s on.c h new x.pages w kept within is.there is.container is.heading refl moved (pays on.s on.c is) in
-          kept_alike x.definitions x.definitions (with_places slot new x.space) (with_places slot new x.space) w.free w.free x.pages.count w.count after refl refl refl count
+          room_some x.definitions kept.sound.limits on.s.container on.c h (container_within on.s on.c is) is.container is.heading
+
+      module _ (shape : Shape) (lies : shape_at x.definitions slot ≡ Some shape) where
+        module _ (s : SeriesDef) (c : ContainerDef) (is : IsSeries slot s c h x.definitions) (new : List Place) where
+          abbrev q : ℕ
+          q = page_room h.columns
+
+          slots : length x.space.lists ≡ 4096
+          slots = kept.placed.slots
+
+          now : places_of slot (with_places slot new x.space) ≡ new
+          now = get_or-set_same x.space.lists slot new [] (omega (arith, within, slots))
+
+          charge_is : (places : List Place) → places_charge q s.regular places ≡ charge_by shape h.columns places
+          charge_is places = charge_same x.definitions s.regular shape (shape_there x.definitions slot s shape is.there lies) h.columns places
+
+          changes : container_charge x.definitions (with_places slot new x.space) s.container q + charge_by shape h.columns (places_of slot x.space) ≡ container_charge x.definitions x.space s.container q + charge_by shape h.columns new
+          changes =
+              let own = charges.own x.definitions x.space (with_places slot new x.space) slot s q kept.sound.tables is.there (λ t below other. get_or-set_other x.space.lists slot t new [] other) in
+              let before = charge_is (places_of slot x.space) in
+              let after = ap (places_charge q s.regular) now ∙ charge_is new in
+              omega (arith, own, before, after)
+
+          -- where it costs no more, its container is charged no more
+          pub pays_less : charge_by shape h.columns new ≤ charge_by shape h.columns (places_of slot x.space) → container_charge x.definitions (with_places slot new x.space) s.container q ≤ c.quota
+          pays_less less = let change = changes in let paid = paid_in s c is in omega (arith, change, paid, less)
+
+          -- where it costs what there is room for, no more than the quota
+          pub pays_within : (others quota pages : ℕ) → IsBudget slot s c h x.definitions x.space others quota → others + pages ≤ quota → charge_by shape h.columns new ≤ pages → container_charge x.definitions (with_places slot new x.space) s.container q ≤ c.quota
+          pays_within others quota pages budget left fits =
+              let change = changes in
+              let all = budget.all in
+              let own = charge_is (places_of slot x.space) in
+              let same = budget.quota_is in
+              omega (arith, change, all, own, same, left, fits)
+
+        -- the rules are kept where its places change and its container is charged its quota at most
+        pub rules_after : (key : List ℕ) → IsSlotNamed kinds.Series slot key x.definitions → (new : List Place) (w : Contents) → AreMoved (room_of shape h.columns) (places_of slot x.space) new x.pages w → w.count ≡ x.pages.count
+            → ((s : SeriesDef) (c : ContainerDef) → IsSeries slot s c h x.definitions → container_charge x.definitions (with_places slot new x.space) s.container (page_room h.columns) ≤ c.quota)
+            → KeepsRules (record { definitions = x.definitions; space = with_places slot new x.space; pages = w })
+        rules_after key named new w moved count pays =
+            let on = series_kept key named in
+            let heads : on.h ≡ h = one_of (heading_at x.definitions slot) on.h h on.columns columns in
+            let is : IsSeries slot on.s on.c h x.definitions = subst (λ (y : Heading). IsSeries slot on.s on.c y x.definitions) heads on.is in
+            let after = apart.kept x.definitions x.space (with_places slot new x.space) x.pages.count slot on.s on.c h shape new x.pages w kept within is.there is.container is.heading lies refl moved (pays on.s on.c is) in
+            kept_same x.definitions x.definitions (with_places slot new x.space) (with_places slot new x.space) w.free w.free x.pages.count w.count after refl refl refl count

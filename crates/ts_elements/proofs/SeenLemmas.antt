@@ -1,31 +1,46 @@
--- The series that is seen: its columns, its chain, and what readings say of it.
-use Rattle.std.proofs.Common.{◌≡◌, ℕ, ◌<◌, Bool, IsTrue, ℤ, Option, Some, None, IsSome, Ok, List, map, length, ap, sym, ◌∙◌, subst}
+-- The series that is seen: its columns, its shape, its elements, and what readings say of it.
+use Rattle.std.proofs.Common.{◌≡◌, ℕ, ◌<◌, Bool, IsTrue, ℤ, Option, Some, None, IsSome, Ok, Err, List, map, length, refl, ap, sym, ◌∙◌, subst}
 use Rattle.std.specs.Option.{option_map, option_and_then, option_to_list}
-use Rattle.std.specs.FinMap.{get}
+use Rattle.std.specs.FinMap.{get, entries}
+use Rattle.ts_base.specs.declared.refusal.Refusal.{Refusal}
 use Rattle.ts_command.specs.declared.command.Command.{Command}
 use Rattle.ts_page.specs.Pages.{Contents}
+use Rattle.ts_row.specs.declared.kind.Column.{Column}
 use Rattle.ts_row.specs.RowType.{Heading}
 use Rattle.ts_row.specs.Row.{Row}
 use Rattle.ts_row.specs.Element.{Element, seen}
-use Rattle.ts_space.specs.Directory.{places_of}
-use Rattle.ts_irregular.specs.Edit.{last_seen}
+use Rattle.ts_space.specs.declared.place.Place.{Place}
+use Rattle.ts_space.specs.Directory.{Directory, places_of}
+use Rattle.ts_cells.specs.IrregularPage.{AreRising}
+use Rattle.ts_irregular.specs.Edit.{element_at, last_seen}
 use Rattle.ts_irregular.specs.Call.{Reads}
 use Rattle.ts_chain.specs.Chain.{all_in}
-use Rattle.ts_chain.specs.Call.{IsRowIn, IsLastIn}
-use Rattle.ts_chain.proofs.OrderLemmas.{pages_in_order}
-use Rattle.ts_model.specs.Catalogue.{Elements, Series, columns_of}
+use Rattle.ts_regular.specs.Places.{all_in as all_at}
+use Rattle.ts_regular_edits.specs.Stamped.{stamped}
+use Rattle.ts_offset.specs.declared.shape.Shape.{Shape}
+use Rattle.ts_offset.specs.declared.shape.Shape.TheVariants.{Irregular, Regular}
+use Rattle.ts_model.specs.Catalogue.{Elements, Series, columns_of, shape_of}
 use Rattle.ts_model.specs.declared.kind.Kind.TheVariants as kinds
 use Rattle.ts_model.specs.Definitions.{Definitions, RowTypeDef, ContainerDef, SeriesDef, at_slot}
-use Rattle.ts_layout.specs.Meaning.{Layout, IsSound, heading_of_container, heading_in, heading_at, elements_at, series_of, catalogue_of}
-use Rattle.ts_layout.specs.Chains.{IsChainOf}
-use Rattle.ts_layout.proofs.CallerLemmas.{one_of, series_found, container_of_series, row_type_of_container, columns_named, series_chain, map_found, map_entries}
-use Rattle.ts_answer.specs.Answer.{Answered, wanted, outcome, last_element, element_at as element_at_stamp}
+use Rattle.ts_layout.specs.Limits.{AreOfFormat}
+use Rattle.ts_layout.specs.Meaning.{Layout, IsSound, HoldsLayout, heading_of_container, heading_in, heading_at, shape_at, elements_at, series_of, catalogue_of}
+use Rattle.ts_layout.specs.Meaning.{shape_of as shape_in}
+use Rattle.ts_layout.specs.Surveyed.{ListsPlaces}
+use Rattle.ts_layout.specs.Chains.{by_stamp, AreFilled}
+use Rattle.ts_layout.proofs.CallerLemmas.{one_of, series_found, container_of_series, row_type_of_container, shape_found}
+use Rattle.ts_answer.specs.Answer.{Tried, Answered, wanted, outcome, an_address, addressed, reached, last_element, element_at as element_at_stamp}
 use Rattle.ts_answer.specs.Reply.{elements_text}
 use Rattle.ts_answer.specs.Slots.{IsSlotNamed, Stands}
 use Rattle.ts_answer.specs.Tried.{IsTried}
 use Rattle.ts_answer.specs.View.{View, IsViewOf, Shows}
 use Rattle.ts_answer.specs.CarriedOut.{ReadOut}
-use Rattle.ts_elements.specs.Elements.{IsSeries, IsShelfIn}
+use Rattle.ts_answer.proofs.CallerLemmas.{wanted-there}
+use Rattle.ts_elements.specs.Elements.{IsSeries, IsShelf, IsShelfIn}
+use Rattle.ts_elements.specs.Stamps.{HaveElements, IsLaidOut}
+use Rattle.ts_elements.specs.Calls.{IsFound, IsLast}
+use Rattle.ts_elements.proofs.LawLemmas.{charges, on_pages, as_maps, entries_rising}
+use Rattle.ts_elements.proofs.AddressLemmas.{address_is}
+use Rattle.ts_elements.proofs.SeriesLemmas.{in_order}
 
 -- the series of a key in its slot, with its container and their columns
 pub record SeriesIn (l : Layout) (key : List ℕ) (slot : ℕ) : Type 0 where
@@ -34,6 +49,9 @@ pub record SeriesIn (l : Layout) (key : List ℕ) (slot : ℕ) : Type 0 where
   pub h : Heading
   pub is : IsSeries slot s c h l.definitions
   pub columns : heading_at l.definitions slot ≡ Some h
+  pub shape : Shape
+  pub lies : shape_at l.definitions slot ≡ Some shape
+  pub kind : shape_of (catalogue_of l) (series_of l slot s).kind ≡ Some shape
   pub named : s.key ≡ key
   pub container : (series_of l slot s).container ≡ c.name
   pub listed : get (catalogue_of l).series key ≡ Some (series_of l slot s)
@@ -52,6 +70,7 @@ series_in_slot l key slot rules named =
     let c = holder.0 in
     let row_type = row_type_of_container l s.container c rules holder.1.there in
     let h = row_type.0.heading in
+    let shape = shape_found l slot s rules found.1.there in
     let is : IsSeries slot s c h l.definitions = record {
       there = found.1.there;
       container = holder.1.there;
@@ -63,6 +82,9 @@ series_in_slot l key slot rules named =
       h = h;
       is = is;
       columns = heading_there l.definitions slot s c h is;
+      shape = shape.0;
+      lies = shape.1;
+      kind = shape.2;
       named = found.1.its_name;
       container = sym holder.1.its_name;
       listed = found.1.listed;
@@ -73,42 +95,117 @@ pub not_some : {A : Type 0} (o : Option A) → None ≡ o → IsSome o → ⊥
 not_some None none some = absurd (cc)
 not_some (Some a) none some = cc
 
+-- where the elements of a series can stand, by its definition
+pub shape_there : (d : Definitions) (slot : ℕ) (s : SeriesDef) (shape : Shape) → at_slot slot d.series ≡ Some s → shape_at d slot ≡ Some shape → shape_in d s.regular ≡ Some shape
+shape_there d slot s shape there lies = sym (ap (option_and_then (λ (x : SeriesDef). shape_in d x.regular)) there) ∙ lies
+
 module _ (x : View) (l : Layout) (kept : IsViewOf x l) (slot : ℕ) where
   pub series_seen : (key : List ℕ) → IsSlotNamed kinds.Series slot key x.definitions → SeriesIn l key slot
   series_seen key named = series_in_slot l key slot kept.rules (subst (λ (d : Definitions). IsSlotNamed kinds.Series slot key d) kept.definitions named)
 
-  pub columns_seen : (key : List ℕ) (on : SeriesIn l key slot) → heading_at x.definitions slot ≡ Some on.h
-  columns_seen key on = ap (λ (d : Definitions). heading_at d slot) kept.definitions ∙ on.columns
+  -- its columns and its shape are those of the definitions that are kept
+  pub columns_same : (key : List ℕ) (h : Heading) (on : SeriesIn l key slot) → heading_at x.definitions slot ≡ Some h → on.h ≡ h
+  columns_same key h on columns = one_of (heading_at l.definitions slot) on.h h on.columns (ap (λ (d : Definitions). heading_at d slot) (sym kept.definitions) ∙ columns)
 
-  module _ (h : Heading) (columns : heading_at x.definitions slot ≡ Some h) (within : slot < 4096) where
-    pub columns_in : heading_at l.definitions slot ≡ Some h
-    columns_in = ap (λ (d : Definitions). heading_at d slot) (sym kept.definitions) ∙ columns
+  pub shape_same : (key : List ℕ) (shape : Shape) (on : SeriesIn l key slot) → shape_at x.definitions slot ≡ Some shape → on.shape ≡ shape
+  shape_same key shape on lies = one_of (shape_at l.definitions slot) on.shape shape on.lies (ap (λ (d : Definitions). shape_at d slot) (sym kept.definitions) ∙ lies)
 
--- the series of a key with its columns, as it is wanted
-pub shelf_tried : (x : View) (l : Layout) (kept : IsViewOf x l) (key : List ℕ) (slot : ℕ) (h : Heading) → heading_at x.definitions slot ≡ Some h → IsTried (Ok slot) (wanted key (catalogue_of l).series) (Stands kinds.Series key l)
-    → (series : Series) × (wanted key (catalogue_of l).series ≡ Ok series) × IsShelfIn l key slot h series
-shelf_tried x l kept key slot h columns tried =
+  pub columns_in : (h : Heading) → heading_at x.definitions slot ≡ Some h → heading_at l.definitions slot ≡ Some h
+  columns_in h columns = ap (λ (d : Definitions). heading_at d slot) (sym kept.definitions) ∙ columns
+
+  pub shape_in_layout : (shape : Shape) → shape_at x.definitions slot ≡ Some shape → shape_at l.definitions slot ≡ Some shape
+  shape_in_layout shape lies = ap (λ (d : Definitions). shape_at d slot) (sym kept.definitions) ∙ lies
+
+-- the series of a key with its columns and its shape, as it is wanted
+pub shelf_tried : (x : View) (l : Layout) (kept : IsViewOf x l) (key : List ℕ) (slot : ℕ) (h : Heading) (shape : Shape) → heading_at x.definitions slot ≡ Some h → shape_at x.definitions slot ≡ Some shape
+    → IsTried (Ok slot) (wanted key (catalogue_of l).series) (Stands kinds.Series key l) → (series : Series) × (wanted key (catalogue_of l).series ≡ Ok series) × IsShelfIn l key shape slot h series
+shelf_tried x l kept key slot h shape columns lies tried =
     let series = tried.ok.0 in
     let stands = tried.ok.2 in
     let on = series_in_slot l key slot kept.rules stands.at in
-    let heads : on.h ≡ h = one_of (heading_at x.definitions slot) on.h h (columns_seen x l kept slot key on) columns in
     let same : stands.is.0 ≡ on.s = one_of (at_slot slot l.definitions.series) stands.is.0 on.s stands.is.1 on.is.there in
-    let named = columns_named l (length l.element_pages) slot on.s on.c on.h kept.rules.definitions on.is.container on.is.heading in (
+    let is : series ≡ series_of l slot on.s = stands.is.2 ∙ ap (series_of l slot) same in (
       series,
       tried.ok.1,
       record {
         stands = stands;
-        columns = ap (columns_of (catalogue_of l)) (stands.is.2 ∙ ap (series_of l slot) same) ∙ named ∙ ap (λ (y : Heading). y.columns) heads;
+        columns = ap (columns_of (catalogue_of l)) is ∙ charges.columns l (length l.element_pages) slot on.s on.c on.h kept.rules.definitions on.is.container on.is.heading
+            ∙ ap (λ (y : Heading). y.columns) (columns_same x l kept slot key h on columns);
+        lies = ap (λ (s : Series). shape_of (catalogue_of l) s.kind) is ∙ on.kind ∙ ap Some (shape_same x l kept slot key shape on lies);
       },
     )
 
--- the elements at a stamp, as they are said
-pub element_text : (l : Layout) (key : List ℕ) (slot : ℕ) (h : Heading) (series : Series) → IsShelfIn l key slot h series → (stamp : ℤ) (row shown : Option Row) → get (elements_at slot l.element_pages) stamp ≡ row
-    → map (λ r. (stamp, r)) (option_to_list shown) ≡ seen (map (λ r. (stamp, r)) (option_to_list row))
-    → elements_text (columns_of (catalogue_of l) series) (element_at_stamp stamp series.elements) ≡ elements_text h.columns (map (λ r. (stamp, r)) (option_to_list shown))
-element_text l key slot h series is stamp row shown found says =
-    let rows = ap (λ (s : Series). seen (map (λ (r : Row). (stamp, r)) (option_to_list (get s.elements stamp)))) is.stands.is.2 ∙ ap (λ (o : Option Row). seen (map (λ (r : Row). (stamp, r)) (option_to_list o))) found ∙ sym says in
-    λ i. elements_text (is.columns i) (rows i)
+-- where it stands in a slot by the definitions that are kept
+pub shelf_seen : (x : View) (l : Layout) (kept : IsViewOf x l) (key : List ℕ) (shape : Shape) (slot : ℕ) (h : Heading) → IsShelf shape slot h key x.definitions
+    → (series : Series) × (wanted key (catalogue_of l).series ≡ Ok series) × IsShelfIn l key shape slot h series
+shelf_seen x l kept key shape slot h shelf =
+    let on = series_seen x l kept slot key shelf.named in
+    let series = series_of l slot on.s in
+    let at = subst (λ (d : Definitions). IsSlotNamed kinds.Series slot key d) kept.definitions shelf.named in
+    shelf_tried x l kept key slot h shape shelf.columns shelf.lies
+    (record { ok = (series, wanted-there key (catalogue_of l).series series on.listed, record { at = at; listed = on.listed; is = (on.s, on.is.there, refl) }); err = tt })
+
+-- the elements of a series on its pages, and in the layout
+pub record HasSeen (shape : Shape) (slot : ℕ) (columns : List Column) (pages : ℕ → List ℕ) (places : List Place) (l : Layout) (es : List Element) : Type 0 where
+  pub have : HaveElements shape slot columns pages places es
+  pub elements : elements_at slot l.element_pages ≡ by_stamp es
+  pub of_format : AreOfFormat l.definitions.format es
+  pub order : AreRising es
+
+-- all that is found by a stamp, and in what order
+pub found_in : (shape : Shape) (slot : ℕ) (columns : List Column) (pages : ℕ → List ℕ) (places : List Place) (l : Layout) (es : List Element) → HasSeen shape slot columns pages places l es → (stamp : ℤ)
+    → get (elements_at slot l.element_pages) stamp ≡ element_at stamp es
+found_in shape slot columns pages places l es has stamp = ap (λ (m : Elements). get m stamp) has.elements ∙ as_maps.found stamp es
+
+pub entries_in : (shape : Shape) (slot : ℕ) (columns : List Column) (pages : ℕ → List ℕ) (places : List Place) (l : Layout) (es : List Element) → HasSeen shape slot columns pages places l es → entries (elements_at slot l.element_pages) ≡ es
+entries_in shape slot columns pages places l es has = ap entries has.elements ∙ entries_rising es has.order
+
+-- the pages of a layout that hold it have some
+pub pages_have : (shape : Shape) → IsLaidOut shape → (l : Layout) (space : Directory) (slot : ℕ) (h : Heading) (pages : ℕ → List ℕ) → IsSound l → AreFilled l → ListsPlaces space l → slot < 4096 → heading_at l.definitions slot ≡ Some h
+    → shape_at l.definitions slot ≡ Some shape → HoldsLayout pages l → (es : List Element) × HasSeen shape slot h.columns pages (places_of slot space) l es
+pages_have Irregular laid l space slot h pages rules filled lists within columns lies holds =
+    let seen = on_pages.chain l space slot h pages rules filled lists within columns lies holds in
+    let of = seen.1 in
+    let have : HaveElements Irregular slot h.columns pages (places_of slot space) (all_in seen.0) = record { chain = seen.0; is = of.is; on = of.on; all = refl } in (
+      all_in seen.0,
+      record {
+        have = have;
+        elements = of.elements;
+        of_format = of.of_format;
+        order = in_order Irregular laid slot h.columns pages (places_of slot space) (all_in seen.0) (on_pages.rising l space slot lists within) have;
+      },
+    )
+pages_have (Regular grid) laid l space slot h pages rules filled lists within columns lies holds =
+    let seen = on_pages.grid l space slot h grid pages rules filled lists within columns lies holds in
+    let of = seen.1 in
+    let es = stamped grid (all_at seen.0) in
+    let have : HaveElements (Regular grid) slot h.columns pages (places_of slot space) es = record { cells = seen.0; on = of.on; starts = of.starts; all = refl } in (
+      es,
+      record {
+        have = have;
+        elements = of.elements;
+        of_format = of.of_format;
+        order = in_order (Regular grid) laid slot h.columns pages (places_of slot space) es (on_pages.rising l space slot lists within) have;
+      },
+    )
+
+-- what a stamp addresses, as a list of one or none
+seen_at : (o : Option ℤ) (m : Elements) (es : List Element) (found shown : Option Element) → ((at : ℤ) → o ≡ Some at → found ≡ option_map (λ row. (at, row)) (get m at)) → (o ≡ None → found ≡ None) → option_to_list shown ≡ seen (option_to_list found)
+    → element_at_stamp o m ≡ option_to_list shown
+seen_at None m es found shown there none says = sym (says ∙ ap (λ (e : Option Element). seen (option_to_list e)) (none refl))
+seen_at (Some at) m es found shown there none says = ap seen (listed (get m at)) ∙ sym (says ∙ ap (λ (e : Option Element). seen (option_to_list e)) (there at refl)) where
+  listed : (o : Option Row) → map {B = Element} (λ r. (at, r)) (option_to_list o) ≡ option_to_list (option_map (λ row. (at, row)) o)
+  listed (Some row) = refl
+  listed None = refl
+
+-- what is reached of an address
+reached_some : (t : Tried ℤ) (at : ℤ) → reached t ≡ Some at → t ≡ Ok at
+reached_some (Ok s) at is = let same : s ≡ at = cc in ap Ok same
+reached_some (Err why) at is = absurd (cc)
+
+reached_none : (t : Tried ℤ) → reached t ≡ None → (why : Refusal) × (t ≡ Err why)
+reached_none (Ok s) is = absurd (cc)
+reached_none (Err why) is = (why, refl)
 
 -- pages were read, and this is said
 pub read_out : {T : Type 0} (tells : Bool) (command : Command) (x : View) (c : Contents) (t : T) (text out : List ℕ) → out ≡ text → Reads tells (Ok t) x.pages c
@@ -122,27 +219,37 @@ read_out tells command x c t text out is reads says = record {
   no_fault = reads.call.no_fault (λ failed. cc);
 }
 
--- the chain of a series that is seen
-module _ (tells : Bool) (x : View) (l : Layout) (slot : ℕ) (h : Heading) (told : IsTrue tells) (shows : Shows tells x l) (columns : heading_at x.definitions slot ≡ Some h) (within : slot < 4096) where
-  pub chain_seen : (chain : List (List Element)) × IsChainOf slot h.columns x.pages.page (places_of slot x.space) l chain
-  chain_seen =
+-- the elements of a series that is seen
+module _ (tells : Bool) (x : View) (l : Layout) (shape : Shape) (laid : IsLaidOut shape) (slot : ℕ) (h : Heading) (told : IsTrue tells) (shows : Shows tells x l) (columns : heading_at x.definitions slot ≡ Some h) (lies : shape_at x.definitions slot ≡ Some shape)
+    (within : slot < 4096) where
+  pub elements_seen : (es : List Element) × HasSeen shape slot h.columns x.pages.page (places_of slot x.space) l es
+  elements_seen =
       let kept = shows.kept in
-      series_chain l x.space slot h x.pages.page kept.rules kept.filled kept.places within (columns_in x l kept slot h columns within) (shows.holds told)
+      pages_have shape laid l x.space slot h x.pages.page kept.rules kept.filled kept.places within (columns_in x l kept slot h columns) (shape_in_layout x l kept slot shape lies) (shows.holds told)
 
-  -- what is found at a stamp is what the layout has there
-  pub row_seen : (stamp : ℤ) (row : Option Row) → IsRowIn tells slot h.columns stamp (places_of slot x.space) x.pages row → get (elements_at slot l.element_pages) stamp ≡ row
-  row_seen stamp row found =
-      let es = all_in chain_seen.0 in
-      let of = chain_seen.1 in
-      ap (λ (m : Elements). get m stamp) of.elements ∙ map_found stamp es ∙ sym (found told chain_seen.0 of.on of.is)
+  -- the element that a stamp addresses, as it is said
+  pub element_text : (key : List ℕ) (series : Series) (stamp : ℤ) (found shown : Option Element) → IsShelfIn l key shape slot h series → IsFound tells shape slot h.columns stamp (places_of slot x.space) x.pages found
+      → option_to_list shown ≡ seen (option_to_list found)
+      → elements_text (columns_of (catalogue_of l) series) (element_at_stamp (reached (an_address series stamp (catalogue_of l))) series.elements) ≡ elements_text h.columns (option_to_list shown)
+  element_text key series stamp found shown is at says =
+      let es = elements_seen.0 in
+      let has = elements_seen.1 in
+      let m = elements_at slot l.element_pages in
+      let here = at told es has.have in
+      let t = addressed shape stamp in
+      let address = address_is series stamp (catalogue_of l) shape is.lies in
+      let elements : series.elements ≡ m = ap (λ (s : Series). s.elements) is.stands.is.2 in
+      let rows = seen_at (reached t) m es found shown
+      (λ s some. here.0 s (reached_some t s some) ∙ ap (option_map (λ (r : Row). (s, r))) (sym (found_in shape slot h.columns x.pages.page (places_of slot x.space) l es has s)))
+      (λ none. let no = reached_none t none in here.1 no.0 no.1) says in
+      (λ i. elements_text (is.columns i) (element_at_stamp (reached (address i)) (elements i))) ∙ ap (elements_text h.columns) rows
 
   -- the last element, as it is said
-  pub last_text : (key : List ℕ) (series : Series) (last : Option Element) → IsShelfIn l key slot h series → IsLastIn tells slot h.columns (places_of slot x.space) x.pages last
+  pub last_text : (key : List ℕ) (series : Series) (last : Option Element) → IsShelfIn l key shape slot h series → IsLast tells shape slot h.columns (places_of slot x.space) x.pages last
       → elements_text (columns_of (catalogue_of l) series) (last_element series.elements) ≡ elements_text h.columns (option_to_list last)
   last_text key series last is found =
-      let es = all_in chain_seen.0 in
-      let of = chain_seen.1 in
-      let order = pages_in_order h.columns chain_seen.0 of.is.pages in
-      let elements = ap (λ (s : Series). last_element s.elements) is.stands.is.2 ∙ ap last_element of.elements ∙ ap (λ (fs : List Element). option_to_list (last_seen fs)) (map_entries h.columns es order)
-      ∙ ap option_to_list (sym (found told chain_seen.0 of.on of.is)) in
+      let es = elements_seen.0 in
+      let has = elements_seen.1 in
+      let elements = ap (λ (s : Series). last_element s.elements) is.stands.is.2 ∙ ap (λ (fs : List Element). option_to_list (last_seen fs)) (entries_in shape slot h.columns x.pages.page (places_of slot x.space) l es has)
+      ∙ ap option_to_list (sym (found told es has.have)) in
       λ i. elements_text (is.columns i) (elements i)

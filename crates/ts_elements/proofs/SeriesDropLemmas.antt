@@ -7,9 +7,14 @@ use Rattle.std.specs.FinMap.{get, remove}
 use Rattle.ts_command.specs.declared.command.Command.TheVariants.{DropSeries}
 use Rattle.ts_page.specs.Pages.{Contents, IsFreePage}
 use Rattle.ts_page.proofs.PagesLemmas.{zero_is_free}
+use Rattle.ts_space.specs.declared.place.Place.{Place}
 use Rattle.ts_space.specs.Place.{pages_of}
 use Rattle.ts_space.specs.Directory.{Directory, places_of}
+use Rattle.ts_row.specs.declared.kind.Column.{Column}
 use Rattle.ts_irregular.specs.OnePage.{IsPlace}
+use Rattle.ts_regular.specs.Places as cells
+use Rattle.ts_offset.specs.declared.shape.Shape.{Shape}
+use Rattle.ts_offset.specs.declared.shape.Shape.TheVariants.{Irregular, Regular}
 use Rattle.ts_chain.specs.Places.{CanBeFreed}
 use Rattle.ts_chain.specs.Call.{AreFreed}
 use Rattle.ts_model.specs.declared.kind.Kind.TheVariants as kinds
@@ -20,7 +25,7 @@ use Rattle.ts_layout.specs.Meaning.{Layout, HoldsLayout, series_of, catalogue_of
 use Rattle.ts_layout.specs.Chains.{without_series}
 use Rattle.ts_layout.specs.Held.{IsHeldOf}
 use Rattle.ts_layout.specs.Changed.{with_slot_bytes}
-use Rattle.ts_layout.proofs.CallerLemmas.{page_low, page_high, elsewhere, definitions_stay, series_gone_bytes, series_gone_held, series_gone_catalogue, series_gone_kept, kept_alike}
+use Rattle.ts_layout.proofs.CallerLemmas.{page_low, page_high, elsewhere, definitions_stay}
 use Rattle.ts_container.specs.Survey.{SlotWritten}
 use Rattle.ts_answer.specs.declared.effect.Effect.TheVariants.{Series}
 use Rattle.ts_answer.specs.Reply.{ok_line}
@@ -29,6 +34,8 @@ use Rattle.ts_answer.specs.View.{View, Shows, KeepsRules}
 use Rattle.ts_answer.specs.CarriedOut.{CarriedOut, Comes}
 use Rattle.ts_answer.specs.Slots.{IsSlotNamed}
 use Rattle.ts_answer.proofs.CallerLemmas.{held_same, wanted-there, on_ok}
+use Rattle.ts_elements.specs.Stamps.{ArePlaces}
+use Rattle.ts_elements.proofs.LawLemmas.{dropped, kept_same, kept_without}
 use Rattle.ts_elements.proofs.MemoryLemmas.{with_places, few_places, series_kept, places_seen}
 use Rattle.ts_elements.proofs.SeenLemmas.{series_seen}
 
@@ -38,16 +45,25 @@ unfolding outcome carried_out drop_series
 drops key cat s there = on_ok _ s _ (wanted-there key cat.series s there)
 
 -- the pages of a series can be freed
+freeable : (shape : Shape) (columns : List Column) (c : Contents) (places : List Place) → ArePlaces shape columns c places → All (CanBeFreed c) (pages_of places) × AllPairs (λ a b. a ≢ b) (pages_of places)
+freeable Irregular columns c places are = (
+  All-map (CanBeFreed c) (λ place. place.page) places (λ k d inside.
+      let one : IsPlace columns c (get_or places k d) = are.each k d inside in
+      record { element = one.element; below = one.below; used = one.used }),
+  are.different,
+)
+freeable (Regular grid) columns c places are = (
+  All-map (CanBeFreed c) (λ place. place.page) places (λ k d inside.
+      let one : cells.IsPlace columns c (get_or places k d) = are.each k d inside in
+      record { element = one.readable.element; below = one.readable.below; used = one.used }),
+  are.different,
+)
+
 pub can_be_freed : (x : View) → KeepsRules x → (key : List ℕ) (slot : ℕ) → IsSlotNamed kinds.Series slot key x.definitions
     → All (CanBeFreed x.pages) (pages_of (places_of slot x.space)) × AllPairs (λ a b. a ≢ b) (pages_of (places_of slot x.space))
 can_be_freed x kept key slot named =
     let on = series_kept x kept slot named.within key named in
-    let are = places_seen x kept slot named.within on.h on.columns in (
-      All-map (CanBeFreed x.pages) (λ place. place.page) (places_of slot x.space) (λ k d inside.
-          let one : IsPlace on.h.columns x.pages (get_or (places_of slot x.space) k d) = are.each k d inside in
-          record { element = one.element; below = one.below; used = one.used }),
-      are.different,
-    )
+    freeable on.shape on.h.columns x.pages (places_of slot x.space) (places_seen x kept slot named.within on.h on.columns on.shape on.lies)
 
 above_slot : (slot n : ℕ) → slot < 4096 → 930 ≤ n → n ≢ page_of_slot kinds.Series slot
 above_slot slot n within high same = let top = page_high kinds.Series slot within in omega (arith, top, high, same)
@@ -82,7 +98,7 @@ module _ (tells : Bool) (x : View) (key : List ℕ) (slot : ℕ) (named : IsSlot
     bytes_after =
         let holds = shows.holds told in
         let defined = definitions_stay x.pages.page between.page l.definitions (λ n below. gone.others told n (none_below n below)) holds.definitions in
-        series_gone_bytes l x.space slot x.pages.page w.page shows.kept.rules shows.kept.places within (emptied.definitions told l.definitions shows.kept.rules.definitions.tables defined)
+        dropped.bytes l x.space slot x.pages.page w.page shows.kept.rules shows.kept.places within (emptied.definitions told l.definitions shows.kept.rules.definitions.tables defined)
         (slot_stays 0 first_page ∙ gone.others told 0 (none_below 0 (omega arith)))
         (record {
           freed = λ n there.
@@ -93,7 +109,7 @@ module _ (tells : Bool) (x : View) (key : List ℕ) (slot : ℕ) (named : IsSlot
         holds
 
     held_after : IsHeldOf (with_slot kinds.Series slot None l.definitions) space_after x.pages.count w.free (without_series slot l)
-    held_after = series_gone_held l x.space space_after slot x.pages.count x.pages.free w.free (subst (λ (d : Definitions). IsHeldOf d x.space x.pages.count x.pages.free l) shows.kept.definitions shows.kept) within kept.placed.slots refl free_after
+    held_after = dropped.kept l x.space space_after slot x.pages.count x.pages.free w.free (subst (λ (d : Definitions). IsHeldOf d x.space x.pages.count x.pages.free l) shows.kept.definitions shows.kept) within kept.placed.slots refl free_after
 
     comes_without : Comes tells (DropSeries key) (Series slot) ok_line x w l
     comes_without =
@@ -108,7 +124,7 @@ module _ (tells : Bool) (x : View) (key : List ℕ) (slot : ℕ) (named : IsSlot
           comes = λ again.
               drops key (catalogue_of l) (series_of l slot on.s) on.listed
               ∙ ap (λ (k : List ℕ). Ok (ok_line, record (catalogue_of l) { series = remove (catalogue_of l).series k })) (sym on.named)
-              ∙ ap (λ (cat : Catalogue). Ok (ok_line, cat)) (sym (series_gone_catalogue l slot on.s shows.kept.rules on.is.there));
+              ∙ ap (λ (cat : Catalogue). Ok (ok_line, cat)) (sym (dropped.catalogue l slot on.s shows.kept.rules on.is.there));
         }
 
   pub series_dropped : (out : List ℕ) → out ≡ ok_line → w.faults ≡ x.pages.faults → w.change_bytes ≤ x.pages.change_bytes + 5 * length (places_of slot x.space) + 4101 → CarriedOut tells (DropSeries key) (Ok (Series slot)) out x w
@@ -118,8 +134,8 @@ module _ (tells : Bool) (x : View) (key : List ℕ) (slot : ℕ) (named : IsSlot
       let parts = length-append x.pages.free (pages_of (places_of slot x.space)) ∙ ap (λ (n : ℕ). length x.pages.free + n) (length-map (places_of slot x.space) (λ place. place.page)) in
       record {
         keeps = λ rules.
-            kept_alike (with_slot kinds.Series slot None x.definitions) (with_slot kinds.Series slot None x.definitions) space_after space_after w.free w.free x.pages.count w.count
-            (series_gone_kept x.definitions x.space space_after x.pages.free w.free x.pages.count slot kept within refl free_after) refl refl refl (emptied.count ∙ count);
+            kept_same (with_slot kinds.Series slot None x.definitions) (with_slot kinds.Series slot None x.definitions) space_after space_after w.free w.free x.pages.count w.count
+            (kept_without x.definitions x.space space_after x.pages.free w.free x.pages.count slot kept within refl free_after) refl refl refl (emptied.count ∙ count);
         done = λ told l shows. subst (λ (text : List ℕ). Comes tells (DropSeries key) (Series slot) text x w l) (sym said) (comes_without told l shows);
         applies = within;
         reads = λ reads. absurd (cc);

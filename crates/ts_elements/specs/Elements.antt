@@ -8,27 +8,30 @@ use Rattle.ts_command.specs.declared.command.Command.TheVariants.{PutElem, PutEl
 use Rattle.ts_series.specs.declared.edits.EditKind.{EditKind}
 use Rattle.ts_series.specs.declared.edits.EditKind.TheVariants.{Put, PutNoDups, Insert, Update}
 use Rattle.ts_model.specs.declared.kind.Kind.TheVariants as kinds
-use Rattle.ts_model.specs.Catalogue.{Series, columns_of}
+use Rattle.ts_offset.specs.declared.shape.Shape.{Shape}
+use Rattle.ts_model.specs.Catalogue.{Series, columns_of, shape_of}
 use Rattle.ts_model.specs.Definitions.{Definitions, ContainerDef, SeriesDef, at_slot}
-use Rattle.ts_layout.specs.Meaning.{Layout, heading_at, heading_of_container, catalogue_of}
+use Rattle.ts_layout.specs.Meaning.{Layout, heading_at, shape_at, heading_of_container, catalogue_of}
 pub use Rattle.ts_container.specs.KeptCharges.{AreFew}
 unfoldable pub use Rattle.ts_container.specs.KeptCharges.{IsCharged}
 use Rattle.ts_answer.specs.Answer.{a_row}
 use Rattle.ts_answer.specs.Slots.{IsSlotNamed, Stands}
 
--- the series of that key stands in a slot, and has these columns
-pub record IsShelf (slot : ℕ) (h : Heading) (key : List ℕ) (d : Definitions) : Type 0 where
+-- the series of that key stands in a slot, and has these columns and this shape
+pub record IsShelf (shape : Shape) (slot : ℕ) (h : Heading) (key : List ℕ) (d : Definitions) : Type 0 where
   pub named : IsSlotNamed kinds.Series slot key d
   pub columns : heading_at d slot ≡ Some h
+  pub lies : shape_at d slot ≡ Some shape
 
--- for a layout: it stands there for this series, which has these columns
-pub record IsShelfIn (l : Layout) (key : List ℕ) (slot : ℕ) (h : Heading) (series : Series) : Type 0 where
+-- for a layout: it stands there for this series, which has these columns and this shape
+pub record IsShelfIn (l : Layout) (key : List ℕ) (shape : Shape) (slot : ℕ) (h : Heading) (series : Series) : Type 0 where
   pub stands : Stands kinds.Series key l slot series
   pub columns : columns_of (catalogue_of l) series ≡ h.columns
+  pub lies : shape_of (catalogue_of l) series.kind ≡ Some shape
 
 -- literals give this row for the columns of the series of a key
-pub record HasRow (key : List ℕ) (literals : List Literal) (slot : ℕ) (h : Heading) (row : Row) (d : Definitions) : Type 0 where
-  pub shelf : IsShelf slot h key d
+pub record HasRow (key : List ℕ) (literals : List Literal) (shape : Shape) (slot : ℕ) (h : Heading) (row : Row) (d : Definitions) : Type 0 where
+  pub shelf : IsShelf shape slot h key d
   pub gives : a_row h.columns literals ≡ Ok row
 
 -- the series in a slot, its container and their columns

@@ -1,2 +1,4 @@
+pub mod Calls
 pub mod Elements
 pub mod Room
+pub mod Stamps

@@ -2,12 +2,11 @@
 use Rattle.std.specs.Prelude.{◌≡◌, ℕ, ◌+◌}
 use Rattle.ts_row.specs.RowType.{Heading}
 use Rattle.ts_space.specs.Directory.{Directory, places_of}
-use Rattle.ts_space.specs.Charge.{irregular_places_charge}
 use Rattle.ts_cells.specs.Cell.{page_room}
 use Rattle.ts_model.specs.Definitions.{Definitions, ContainerDef, SeriesDef}
-use Rattle.ts_layout.specs.Charges.{container_charge}
+use Rattle.ts_layout.specs.Charges.{container_charge, places_charge}
 
 -- what the other series of the container of one are charged, and the quota of that container
 pub record IsBudget (slot : ℕ) (s : SeriesDef) (c : ContainerDef) (h : Heading) (d : Definitions) (space : Directory) (others quota : ℕ) : Type 0 where
-  pub all : others + irregular_places_charge (page_room h.columns) (places_of slot space) ≡ container_charge d space s.container (page_room h.columns)
+  pub all : others + places_charge (page_room h.columns) s.regular (places_of slot space) ≡ container_charge d space s.container (page_room h.columns)
   pub quota_is : quota ≡ c.quota

@@ -3,30 +3,37 @@ ghost use Rattle.std.specs.Prelude.{◌≡◌, ◌<◌, ℕ, List, [], IsTrue, S
 ghost use Rattle.ts_row.specs.declared.value.Literal.{Literal as TheLiteral};
 ghost use Rattle.ts_row.specs.Row.{fits};
 ghost use Rattle.ts_space.specs.Directory.{places_of};
-ghost use Rattle.ts_chain.specs.Places.{ArePlaces};
+ghost use Rattle.ts_space.specs.Place.{IsRising};
+ghost use Rattle.ts_cells.specs.Cell.{page_room};
 ghost use Rattle.ts_model.specs.Definitions.{series_slots};
-ghost use Rattle.ts_layout.specs.Meaning.{heading_at};
+ghost use Rattle.ts_layout.specs.Meaning.{heading_at, shape_at};
 ghost use Rattle.ts_container.specs.KeptCharges.{AreCharges};
 ghost use Rattle.ts_answer.specs.View.{view, IsSeen};
 ghost use Rattle.ts_answer.specs.CarriedOut.{CarriedOut};
 ghost use Rattle.ts_elements.specs.Elements.{HasRow, edit_of};
+ghost use Rattle.ts_elements.specs.Stamps.{ArePlaces, IsLaidOut};
 
+use crate::calls::edit_in;
 use crate::room::{budget_of, refusal_of, room_in};
 use crate::shelf::{row_for, shelf_of};
+use std::alloc::Global;
 use ts_answer::{Effect, Stop};
 use ts_base::{Key, Reply, Stamp};
 use ts_command::Literals;
 use ts_container::Charges;
 use ts_model::Defs;
+use ts_offset::Shape;
 use ts_page::{Page, Pages};
 use ts_row::{Row, Shelf};
 use ts_say::say_stamp;
-use ts_series::{EditKind, Edited, edit};
+use ts_series::{EditKind, Edited};
 use ts_space::Space;
 
-/// Edits the element at a stamp of a series. A key that no series has is refused, then literals that are no row, then what the kind of
-/// edit refuses, and at last an element that would be added beyond the quota of the container. `page` is room to read one.
+/// Edits the element that a stamp of a series addresses. A key that no series has is refused, then literals that are no row, then a stamp
+/// that a regular series has no place for, then what the kind of edit refuses, and at last an element that would be added beyond the quota
+/// of the container. `page` is room to read one; the memory is for the grid of a regular series.
 pub fn edit_element<P: Pages>(
+    alloc: Global,
     pages: &mut P,
     page: &mut Page,
     defs: &Defs,
@@ -44,10 +51,10 @@ pub fn edit_element<P: Pages>(
     ensures carried { CarriedOut P.tells (edit_of how key.now stamp values.now) result out.new (view defs.now.definitions space.now (P.contents pages.old)) (P.contents pages.new) }
     ensures undisturbed { P.undisturbed pages.old pages.new }
 {
-    let shelf = shelf_of(pages, defs, space, key)?;
+    let (shelf, shape) = shelf_of(alloc, pages, defs, space, key)?;
     let row = row_for(shelf.kind, values)?;
     edit_on(
-        pages, page, defs, space, charges, &shelf, how, stamp, &row, out,
+        pages, page, defs, space, charges, &shelf, &shape, how, stamp, &row, out,
     )
 }
 
@@ -59,6 +66,7 @@ fn edit_on<P: Pages>(
     space: &Space,
     charges: &Charges,
     shelf: &Shelf,
+    shape: &Shape,
     how: EditKind,
     stamp: Stamp,
     row: &Row,
@@ -68,16 +76,20 @@ fn edit_on<P: Pages>(
     requires charged { AreCharges charges.now defs.now.definitions space.now }
     requires slot { shelf.now.series < series_slots }
     requires columns { heading_at defs.now.definitions shelf.now.series ≡ Some shelf.now.kind.now }
-    requires places { ArePlaces shelf.now.kind.now.columns (P.contents pages.old) (places_of shelf.now.series space.now) }
+    requires lies { shape_at defs.now.definitions shelf.now.series ≡ Some shape.now }
+    requires laid { IsLaidOut shape.now }
+    requires some { 0 < page_room shelf.now.kind.now.columns }
+    requires rising { IsRising (places_of shelf.now.series space.now) }
+    requires places { ArePlaces shape.now shelf.now.kind.now.columns (P.contents pages.old) (places_of shelf.now.series space.now) }
     requires fits { IsTrue (fits shelf.now.kind.now.columns row.now) }
     requires empty { out.old ≡ [] }
-    ensures carried { (key : List ℕ) (literals : List TheLiteral) → HasRow key literals shelf.now.series shelf.now.kind.now row.now defs.now.definitions
+    ensures carried { (key : List ℕ) (literals : List TheLiteral) → HasRow key literals shape.now shelf.now.series shelf.now.kind.now row.now defs.now.definitions
         → CarriedOut P.tells (edit_of how key stamp literals) result out.new (view defs.now.definitions space.now (P.contents pages.old)) (P.contents pages.new) }
     ensures undisturbed { P.undisturbed pages.old pages.new }
 {
     let budget = budget_of(defs, space, charges, shelf);
     let room = room_in(pages, space, shelf.series, budget);
-    match edit(pages, page, space, shelf, how, stamp, row, room)? {
+    match edit_in(pages, page, space, shelf, shape, how, stamp, row, room)? {
         Edited::Put { stamp, moved } => {
             say_stamp(out, stamp)?;
             Ok(Effect::Places {
@@ -90,6 +102,6 @@ fn edit_on<P: Pages>(
             Ok(Effect::Pages)
         }
         Edited::Refused(refusal) => Err(Stop::Refused(refusal)),
-        Edited::Full => Err(Stop::Refused(refusal_of(budget, space, shelf))),
+        Edited::Full => Err(Stop::Refused(refusal_of(budget, space, shelf, shape))),
     }
 }

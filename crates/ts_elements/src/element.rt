@@ -1,22 +1,26 @@
 // The routines that read one element.
-ghost use Rattle.std.specs.Prelude.{◌≡◌, ℤ, Some, IfSome, [], map, option_to_list};
-ghost use Rattle.ts_row.specs.Element.{seen};
+ghost use Rattle.std.specs.Prelude.{◌≡◌, ◌<◌, ℕ, List, []};
 ghost use Rattle.ts_command.specs.declared.command.Command.TheVariants.{GetElem, GetLastElem};
+ghost use Rattle.ts_space.specs.Directory.{places_of};
+ghost use Rattle.ts_model.specs.Definitions.{series_slots};
 ghost use Rattle.ts_answer.specs.View.{view, IsSeen};
 ghost use Rattle.ts_answer.specs.CarriedOut.{ReadOut};
+ghost use Rattle.ts_elements.specs.Elements.{IsShelf};
+ghost use Rattle.ts_elements.specs.Stamps.{ArePlaces, IsLaidOut};
 
+use crate::found::{find_in, if_seen, last_in};
 use crate::shelf::shelf_of;
 use std::alloc::Global;
 use ts_answer::Stop;
 use ts_base::{Key, Reply, Stamp};
-use ts_chain::{chain_find, chain_last};
 use ts_model::Defs;
+use ts_offset::Shape;
 use ts_page::{Page, Pages};
-use ts_row::Row;
-use ts_say::{say_found, say_row};
+use ts_row::Shelf;
+use ts_say::say_found;
 use ts_space::Space;
 
-/// Says the element at a stamp of a series, if there is one that isn't hidden. `page` is room to read one.
+/// Says the element that a stamp of a series addresses, if there is one that isn't hidden. `page` is room to read one.
 pub fn get_element<P: Pages>(
     alloc: Global,
     pages: &mut P,
@@ -32,22 +36,34 @@ pub fn get_element<P: Pages>(
     ensures read { ReadOut P.tells (GetElem key.now stamp) result out.new (view defs.now.definitions space.now (P.contents pages.old)) (P.contents pages.new) }
     ensures undisturbed { P.undisturbed pages.old pages.new }
 {
-    let shelf = shelf_of(pages, defs, space, key)?;
-    let row = chain_find(pages, page, space, &shelf, stamp)?;
-    say_row(alloc, out, shelf.kind, stamp, if_seen(row))?;
-    Ok(())
+    let (shelf, shape) = shelf_of(alloc, pages, defs, space, key)?;
+    get_on(alloc, pages, page, defs, space, &shelf, &shape, stamp, out)
 }
 
-// A row, if it isn't hidden.
-fn if_seen(row: Option<Row>) -> Option<Row>
-    ensures seen { (stamp : ℤ) → map (λ r. (stamp, r)) (option_to_list result) ≡ seen (map (λ r. (stamp, r)) (option_to_list row)) }
-    ensures same { IfSome result (λ r. row ≡ Some r) }
+// Says it, once the series is known.
+fn get_on<P: Pages>(
+    alloc: Global,
+    pages: &mut P,
+    page: &mut Page,
+    _defs: &Defs,
+    space: &Space,
+    shelf: &Shelf,
+    shape: &Shape,
+    stamp: Stamp,
+    out: &mut Reply,
+) -> Result<(), Stop>
+    requires seen { IsSeen P.tells (view _defs.now.definitions space.now (P.contents pages.old)) }
+    requires slot { shelf.now.series < series_slots }
+    requires laid { IsLaidOut shape.now }
+    requires places { ArePlaces shape.now shelf.now.kind.now.columns (P.contents pages.old) (places_of shelf.now.series space.now) }
+    requires empty { out.old ≡ [] }
+    ensures read { (key : List ℕ) → IsShelf shape.now shelf.now.series shelf.now.kind.now key _defs.now.definitions
+        → ReadOut P.tells (GetElem key stamp) result out.new (view _defs.now.definitions space.now (P.contents pages.old)) (P.contents pages.new) }
+    ensures undisturbed { P.undisturbed pages.old pages.new }
 {
-    let row = row?;
-    if row.hidden() {
-        return None;
-    }
-    Some(row)
+    let found = find_in(pages, page, space, shelf, shape, stamp)?;
+    say_found(alloc, out, shelf.kind, if_seen(found))?;
+    Ok(())
 }
 
 /// Says the last element of a series that isn't hidden, if it has any. `page` is room to read one.
@@ -65,8 +81,31 @@ pub fn get_last_element<P: Pages>(
     ensures read { ReadOut P.tells (GetLastElem key.now) result out.new (view defs.now.definitions space.now (P.contents pages.old)) (P.contents pages.new) }
     ensures undisturbed { P.undisturbed pages.old pages.new }
 {
-    let shelf = shelf_of(pages, defs, space, key)?;
-    let last = chain_last(pages, page, space, &shelf)?;
+    let (shelf, shape) = shelf_of(alloc, pages, defs, space, key)?;
+    get_last_on(alloc, pages, page, defs, space, &shelf, &shape, out)
+}
+
+// Says the last one, once the series is known.
+fn get_last_on<P: Pages>(
+    alloc: Global,
+    pages: &mut P,
+    page: &mut Page,
+    _defs: &Defs,
+    space: &Space,
+    shelf: &Shelf,
+    shape: &Shape,
+    out: &mut Reply,
+) -> Result<(), Stop>
+    requires seen { IsSeen P.tells (view _defs.now.definitions space.now (P.contents pages.old)) }
+    requires slot { shelf.now.series < series_slots }
+    requires laid { IsLaidOut shape.now }
+    requires places { ArePlaces shape.now shelf.now.kind.now.columns (P.contents pages.old) (places_of shelf.now.series space.now) }
+    requires empty { out.old ≡ [] }
+    ensures read { (key : List ℕ) → IsShelf shape.now shelf.now.series shelf.now.kind.now key _defs.now.definitions
+        → ReadOut P.tells (GetLastElem key) result out.new (view _defs.now.definitions space.now (P.contents pages.old)) (P.contents pages.new) }
+    ensures undisturbed { P.undisturbed pages.old pages.new }
+{
+    let last = last_in(pages, page, space, shelf, shape)?;
     say_found(alloc, out, shelf.kind, last)?;
     Ok(())
 }

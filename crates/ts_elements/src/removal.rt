@@ -1,23 +1,30 @@
 // The routines that take elements away.
-ghost use Rattle.std.specs.Prelude.{◌≡◌, []};
+ghost use Rattle.std.specs.Prelude.{◌≡◌, ◌<◌, ℕ, List, []};
 ghost use Rattle.ts_command.specs.declared.command.Command.TheVariants.{DelElem, DelClip};
+ghost use Rattle.ts_space.specs.Directory.{places_of};
+ghost use Rattle.ts_cells.specs.Cell.{page_room};
+ghost use Rattle.ts_model.specs.Definitions.{series_slots};
 ghost use Rattle.ts_answer.specs.View.{view, IsSeen};
 ghost use Rattle.ts_answer.specs.CarriedOut.{CarriedOut};
+ghost use Rattle.ts_elements.specs.Elements.{IsShelf};
+ghost use Rattle.ts_elements.specs.Stamps.{ArePlaces, IsLaidOut};
 
+use crate::calls::{clear_in, remove_in};
 use crate::shelf::shelf_of;
 use std::alloc::Global;
 use ts_answer::{Effect, Stop};
 use ts_base::{Key, Reply, Stamp};
-use ts_chain::chain_remove;
 use ts_model::Defs;
+use ts_offset::Shape;
 use ts_page::{Page, Pages};
+use ts_row::Shelf;
 use ts_say::say_count;
-use ts_series::del_clip;
 use ts_space::Space;
 
-/// Takes the element at a stamp of a series away, hidden or not. Where none stands there nothing changes, and that is no error. `page` is
-/// room to read one.
+/// Takes the element that a stamp of a series addresses away, hidden or not. Where it addresses none that is there nothing changes, and that
+/// is no error. `page` is room to read one; the memory is for the grid of a regular series.
 pub fn delete_element<P: Pages>(
+    alloc: Global,
     pages: &mut P,
     page: &mut Page,
     defs: &Defs,
@@ -31,8 +38,32 @@ pub fn delete_element<P: Pages>(
     ensures carried { CarriedOut P.tells (DelElem key.now stamp) result out.new (view defs.now.definitions space.now (P.contents pages.old)) (P.contents pages.new) }
     ensures undisturbed { P.undisturbed pages.old pages.new }
 {
-    let shelf = shelf_of(pages, defs, space, key)?;
-    match chain_remove(pages, page, space, &shelf, stamp)? {
+    let (shelf, shape) = shelf_of(alloc, pages, defs, space, key)?;
+    remove_on(pages, page, defs, space, &shelf, &shape, stamp, out)
+}
+
+// Takes it away, once the series is known.
+fn remove_on<P: Pages>(
+    pages: &mut P,
+    page: &mut Page,
+    _defs: &Defs,
+    space: &Space,
+    shelf: &Shelf,
+    shape: &Shape,
+    stamp: Stamp,
+    out: &mut Reply,
+) -> Result<Effect, Stop>
+    requires seen { IsSeen P.tells (view _defs.now.definitions space.now (P.contents pages.old)) }
+    requires slot { shelf.now.series < series_slots }
+    requires laid { IsLaidOut shape.now }
+    requires some { 0 < page_room shelf.now.kind.now.columns }
+    requires places { ArePlaces shape.now shelf.now.kind.now.columns (P.contents pages.old) (places_of shelf.now.series space.now) }
+    requires empty { out.old ≡ [] }
+    ensures carried { (key : List ℕ) → IsShelf shape.now shelf.now.series shelf.now.kind.now key _defs.now.definitions
+        → CarriedOut P.tells (DelElem key stamp) result out.new (view _defs.now.definitions space.now (P.contents pages.old)) (P.contents pages.new) }
+    ensures undisturbed { P.undisturbed pages.old pages.new }
+{
+    match remove_in(pages, page, space, shelf, shape, stamp)? {
         Some(moved) => {
             say_count(out, 1)?;
             Ok(Effect::Places {
@@ -48,7 +79,7 @@ pub fn delete_element<P: Pages>(
 }
 
 /// Takes all elements of a series from one stamp to another away, both included, hidden or not. Where none stands there nothing changes.
-/// `page` is room to read one; the memory is for the numbers of the pages that are freed, 4 bytes each.
+/// `page` is room to read one; the memory is for the grid of a regular series and for the numbers of the pages that are freed, 4 bytes each.
 pub fn delete_range<P: Pages>(
     alloc: Global,
     pages: &mut P,
@@ -65,8 +96,36 @@ pub fn delete_range<P: Pages>(
     ensures carried { CarriedOut P.tells (DelClip key.now from to) result out.new (view defs.now.definitions space.now (P.contents pages.old)) (P.contents pages.new) }
     ensures undisturbed { P.undisturbed pages.old pages.new }
 {
-    let shelf = shelf_of(pages, defs, space, key)?;
-    let (removed, moved) = del_clip(alloc, pages, page, space, &shelf, from, to)?;
+    let (shelf, shape) = shelf_of(alloc, pages, defs, space, key)?;
+    clear_on(
+        alloc, pages, page, defs, space, &shelf, &shape, from, to, out,
+    )
+}
+
+// Takes them away, once the series is known.
+fn clear_on<P: Pages>(
+    alloc: Global,
+    pages: &mut P,
+    page: &mut Page,
+    _defs: &Defs,
+    space: &Space,
+    shelf: &Shelf,
+    shape: &Shape,
+    from: Stamp,
+    to: Stamp,
+    out: &mut Reply,
+) -> Result<Effect, Stop>
+    requires seen { IsSeen P.tells (view _defs.now.definitions space.now (P.contents pages.old)) }
+    requires slot { shelf.now.series < series_slots }
+    requires laid { IsLaidOut shape.now }
+    requires some { 0 < page_room shelf.now.kind.now.columns }
+    requires places { ArePlaces shape.now shelf.now.kind.now.columns (P.contents pages.old) (places_of shelf.now.series space.now) }
+    requires empty { out.old ≡ [] }
+    ensures carried { (key : List ℕ) → IsShelf shape.now shelf.now.series shelf.now.kind.now key _defs.now.definitions
+        → CarriedOut P.tells (DelClip key from to) result out.new (view _defs.now.definitions space.now (P.contents pages.old)) (P.contents pages.new) }
+    ensures undisturbed { P.undisturbed pages.old pages.new }
+{
+    let (removed, moved) = clear_in(alloc, pages, page, space, shelf, shape, from, to)?;
     say_count(out, removed)?;
     match moved {
         Some(moved) => Ok(Effect::Places {

@@ -2,21 +2,20 @@
 ghost use Rattle.std.specs.Prelude.{◌≡◌, ◌+◌, ◌-◌, ◌≤◌, ◌<◌, ◌^◌, Some, length, min};
 ghost use Rattle.ts_row.specs.RowType.{Heading};
 ghost use Rattle.ts_base.specs.declared.refusal.Refusal.TheVariants.{ContainerFull};
-ghost use Rattle.ts_space.specs.Place.{count_of};
 ghost use Rattle.ts_space.specs.Directory.{places_of};
-ghost use Rattle.ts_space.specs.Charge.{irregular_places_charge};
 ghost use Rattle.ts_cells.specs.Cell.{page_room};
 ghost use Rattle.ts_model.specs.Definitions.{ContainerDef, SeriesDef, container_slots, series_slots, IsDefinitions};
 ghost use Rattle.ts_layout.specs.Meaning.{KeepLimits, heading_at};
-ghost use Rattle.ts_layout.specs.Charges.{KeepQuotas, charge_in};
-ghost use Rattle.ts_series.specs.Edit.{charge_with_one};
+ghost use Rattle.ts_layout.specs.Charges.{IsCountable, KeepQuotas, charge_in, places_charge};
 ghost use Rattle.ts_elements.specs.Elements.{IsCharged, IsSeries};
 ghost use Rattle.ts_elements.specs.Room.{IsBudget};
+ghost use Rattle.ts_elements.specs.Stamps.{charge_with_one};
 
-use ts_base::Refusal;
+use ts_base::{Refusal, Stamp};
 use ts_cells::page_room;
 use ts_container::{Charges, charge_of_places};
 use ts_model::{Def, Defs, Kind};
+use ts_offset::Shape;
 use ts_page::Pages;
 use ts_row::Shelf;
 use ts_series::charge_with_one;
@@ -39,12 +38,19 @@ pub(crate) fn budget_of(defs: &Defs, space: &Space, charges: &Charges, shelf: &S
     requires rules { IsDefinitions defs.now.definitions }
     requires charged { IsCharged charges.now defs.now.definitions space.now }
     requires quotas { KeepQuotas defs.now.definitions space.now }
-    requires countable { count_of (places_of shelf.now.series space.now) < 2 ^ 32 }
+    requires countable { IsCountable (places_of shelf.now.series space.now) }
     ensures within { result.others ≤ result.quota }
     ensures budget { (s : SeriesDef) (c : ContainerDef) (h : Heading) → IsSeries shelf.now.series s c h defs.now.definitions
         → IsBudget shelf.now.series s c h defs.now.definitions space.now result.others result.quota }
 {
-    let Some(Def::Series { container, .. }) = defs.get(Kind::Series, shelf.series) else {
+    let Some(
+        Def::Series {
+            container,
+            regular,
+            ..
+        },
+    ) = defs.get(Kind::Series, shelf.series)
+    else {
         return Budget {
             others: 0,
             quota: 0,
@@ -58,7 +64,7 @@ pub(crate) fn budget_of(defs: &Defs, space: &Space, charges: &Charges, shelf: &S
     };
     let all = charge_of(defs, space, charges, *container);
     Budget {
-        others: all - charge_now(space, shelf),
+        others: all - charge_now(space, shelf, *regular),
         quota: *quota,
     }
 }
@@ -74,14 +80,14 @@ fn charge_of(_defs: &Defs, _space: &Space, charges: &Charges, container: u8) -> 
 }
 
 // What a series is charged for its places.
-fn charge_now(space: &Space, shelf: &Shelf) -> u64
+fn charge_now(space: &Space, shelf: &Shelf, regular: Option<(u8, Stamp)>) -> u64
     requires slot { shelf.now.series < series_slots }
-    requires countable { count_of (places_of shelf.now.series space.now) < 2 ^ 32 }
-    ensures { result ≡ irregular_places_charge (page_room shelf.now.kind.now.columns) (places_of shelf.now.series space.now) }
+    requires countable { IsCountable (places_of shelf.now.series space.now) }
+    ensures { result ≡ places_charge (page_room shelf.now.kind.now.columns) regular (places_of shelf.now.series space.now) }
 {
     // A page has room for one row at least, by the greatest width.
     let _width = shelf.kind.width();
-    charge_of_places(space, shelf.series, page_room(shelf.kind))
+    charge_of_places(space, regular, shelf.series, page_room(shelf.kind))
 }
 
 /// How many pages a series may be charged for: what is left of the quota, and no more than the spare pages and its own.
@@ -96,14 +102,27 @@ pub(crate) fn room_in<P: Pages>(pages: &P, space: &Space, slot: u16, budget: Bud
 }
 
 /// Why one element more of a series is refused: what its container would be charged, and its quota.
-pub(crate) fn refusal_of(budget: Budget, space: &Space, shelf: &Shelf) -> Refusal
+pub(crate) fn refusal_of(budget: Budget, space: &Space, shelf: &Shelf, shape: &Shape) -> Refusal
     requires slot { shelf.now.series < series_slots }
     requires within { budget.others ≤ budget.quota }
-    requires countable { count_of (places_of shelf.now.series space.now) < 2 ^ 32 }
-    ensures { result ≡ ContainerFull (budget.others + charge_with_one shelf.now.kind.now.columns (places_of shelf.now.series space.now)) budget.quota }
+    requires countable { IsCountable (places_of shelf.now.series space.now) }
+    ensures { result ≡ ContainerFull (budget.others + charge_with_one shape.now shelf.now.kind.now.columns (places_of shelf.now.series space.now)) budget.quota }
 {
     Refusal::ContainerFull {
-        charge: budget.others + charge_with_one(space, shelf),
+        charge: budget.others + charge_with(space, shelf, shape),
         quota: budget.quota,
+    }
+}
+
+// What a series would be charged for one element more, which on a grid comes on a page of its own.
+fn charge_with(space: &Space, shelf: &Shelf, shape: &Shape) -> u64
+    requires slot { shelf.now.series < series_slots }
+    requires countable { IsCountable (places_of shelf.now.series space.now) }
+    ensures value { result ≡ charge_with_one shape.now shelf.now.kind.now.columns (places_of shelf.now.series space.now) }
+    ensures bound { result < 2 ^ 34 }
+{
+    match shape {
+        Shape::Irregular => charge_with_one(space, shelf),
+        Shape::Regular(_) => space.places(shelf.series).len() as u64 + 1,
     }
 }

@@ -1,5 +1,5 @@
 -- What containers are charged, by definitions and places that are the same, or of which one series changes.
-use Rattle.std.proofs.Common.{◌≡◌, ◌≢◌, ℕ, suc, ◌+◌, ◌<◌, ◌≤◌, ◌^◌, ◌==◌, if◌then◌else◌, Option, Some, None, List, [], ◌∷◌, length, set, get_or, slice_index_or, get_or-set_same, get_or-set_other, length-set, inl, inr, refl, sym, ap, ◌∙◌, subst, arith}
+use Rattle.std.proofs.Common.{◌≡◌, ◌≢◌, ℕ, ℤ, suc, ◌+◌, ◌<◌, ◌≤◌, ◌^◌, ◌==◌, if◌then◌else◌, Option, Some, None, List, [], ◌∷◌, length, set, get_or, slice_index_or, get_or-set_same, get_or-set_other, length-set, inl, inr, refl, sym, ap, ◌∙◌, subst, arith}
 use Rattle.std.specs.Option.{option_map, unwrap_or}
 use Rattle.std.proofs.lemmas.Bool.{cases_eq, cases_lt}
 use Rattle.std.proofs.lemmas.List.{get_or_past}
@@ -9,21 +9,21 @@ use Rattle.ts_space.specs.declared.moved.Moved.{Moved}
 use Rattle.ts_space.specs.Place.{IsRising, count_of}
 use Rattle.ts_space.specs.Moved.{moved_to}
 use Rattle.ts_space.specs.Directory.{Directory, places_of}
-use Rattle.ts_space.specs.Charge.{irregular_places_charge}
 use Rattle.ts_cells.specs.Cell.{page_room}
 use Rattle.ts_model.specs.declared.kind.Kind.TheVariants as kinds
 use Rattle.ts_model.specs.declared.def.Def.TheVariants as defs
 use Rattle.ts_model.specs.Definitions.{Definitions, SeriesDef, at_slot, of_series}
 use Rattle.ts_layout.specs.Meaning.{def_at, KeepLimits, heading_in}
-use Rattle.ts_layout.specs.Charges.{AreCountable, charges_listed, container_charge, charge_in}
+use Rattle.ts_layout.specs.Charges.{IsCountable, AreCountable, places_charge, charges_listed, container_charge, charge_in}
 use Rattle.ts_layout.specs.Placed.{AreKept}
 use Rattle.ts_layout.proofs.CallerLemmas.{at_slot-map, quotas_countable}
-use Rattle.ts_container.specs.KeptCharges.{AreCharges, AreFew}
+use Rattle.ts_container.specs.KeptCharges.{AreCharges, AreFew, with_charge}
 use Rattle.ts_container.proofs.RoomLemmas.{room_in}
 use Rattle.ts_answer.specs.declared.effect.Effect.{Effect}
 use Rattle.ts_answer.specs.declared.effect.Effect.TheVariants.{Places}
 use Rattle.ts_answer.specs.CarriedOut.{definitions_after, lists_after}
-use Rattle.ts_engine.specs.Charged.{CanCount, IsContainerOf}
+use Rattle.ts_engine.specs.Charged.{CanCount, IsRateOf}
+use Rattle.ts_engine.specs.declared.charge.Rate.{Rate}
 use Rattle.ts_engine.specs.Engine.{Kept}
 use Rattle.ts_engine.specs.Ended.{CanCharge}
 
@@ -34,7 +34,7 @@ module _ (space space' : Directory) (same : (t : ℕ) → places_of t space' ≡
   listed_alike container room first (None ∷ table) = ap (λ (n : ℕ). 0 + n) (listed_alike container room (suc first) table)
   listed_alike container room first (Some s ∷ table) =
       let rest = listed_alike container room (suc first) table in
-      λ i. (if s.container == container then irregular_places_charge room (same first i) else 0) + rest i
+      λ i. (if s.container == container then places_charge room s.regular (same first i) else 0) + rest i
 
   alike_in : (d : Definitions) (k : ℕ) (o : Option Heading) → unwrap_or (option_map (λ h. container_charge d space' k (page_room h.columns)) o) 0 ≡ unwrap_or (option_map (λ h. container_charge d space k (page_room h.columns)) o) 0
   alike_in d k None = refl
@@ -73,9 +73,9 @@ places_then effect slot moved lists is within size =
 pub rising_then : (effect : Effect) (slot : ℕ) (moved : Moved) (e : Kept) → effect ≡ Places slot moved → slot < 4096 → length e.space.lists ≡ 4096 → CanCharge effect e → IsRising (moved_to moved (places_of slot e.space))
 rising_then effect slot moved e is within size can = subst IsRising (places_then effect slot moved e.space.lists is within size) (can.rising slot within)
 
-pub countable_then : (effect : Effect) (slot : ℕ) (moved : Moved) (e : Kept) → effect ≡ Places slot moved → slot < 4096 → length e.space.lists ≡ 4096 → CanCharge effect e → count_of (moved_to moved (places_of slot e.space)) < 2 ^ 32
+pub countable_then : (effect : Effect) (slot : ℕ) (moved : Moved) (e : Kept) → effect ≡ Places slot moved → slot < 4096 → length e.space.lists ≡ 4096 → CanCharge effect e → IsCountable (moved_to moved (places_of slot e.space))
 countable_then effect slot moved e is within size can =
-    subst (λ (ps : List Place). count_of ps < 2 ^ 32) (places_then effect slot moved e.space.lists is within size) (can.after.countable slot within)
+    subst IsCountable (places_then effect slot moved e.space.lists is within size) (can.after.countable slot within)
 
 -- what holds of the places of each series holds once one has others of which it holds
 each_after : (P : List Place → Type 0) (lists : List (List Place)) (slot : ℕ) (ps : List Place) → P [] → ((t : ℕ) → t < 4096 → P (slice_index_or lists t [])) → P ps → (t : ℕ) → t < 4096 → P (slice_index_or (set lists slot ps) t [])
@@ -89,38 +89,40 @@ each_after P lists slot ps none each one t within =
       | inr other ↦ subst P (sym (get_or-set_other lists slot t ps [] other)) (each t within)
     ]
 
--- no series has too many elements then
-pub countable_after : (space space' : Directory) (slot : ℕ) (ps : List Place) → space'.lists ≡ set space.lists slot ps → ((t : ℕ) → t < 4096 → count_of (places_of t space) < 2 ^ 32) → count_of ps < 2 ^ 32 → AreCountable space'
+-- no series has too many elements or places then
+pub countable_after : (space space' : Directory) (slot : ℕ) (ps : List Place) → space'.lists ≡ set space.lists slot ps → AreCountable space → IsCountable ps → AreCountable space'
 countable_after space space' slot ps is each one =
-    subst (λ (ls : List (List Place)). (t : ℕ) → t < 4096 → count_of (slice_index_or ls t []) < 2 ^ 32) (sym is)
-    (each_after (λ (qs : List Place). count_of qs < 2 ^ 32) space.lists slot ps (omega arith) each one)
+    subst (λ (ls : List (List Place)). (t : ℕ) → t < 4096 → IsCountable (slice_index_or ls t [])) (sym is)
+    (each_after IsCountable space.lists slot ps (omega arith) each one)
 
 -- the places of every other series stay
 pub others_same : (lists lists' : List (List Place)) (slot : ℕ) (ps : List Place) → lists' ≡ set lists slot ps → (t : ℕ) → t < 4096 → t ≢ slot → slice_index_or lists' t [] ≡ slice_index_or lists t []
 others_same lists lists' slot ps is t within other = ap (λ (ls : List (List Place)). get_or ls t []) is ∙ get_or-set_other lists slot t ps [] other
 
--- the series in a slot, as its container is read
-series_there : (o : Option SeriesDef) (key : List ℕ) (container : ℕ) → option_map of_series o ≡ Some (defs.Series key container) → o ≡ Some (record { key = key; container = container })
-series_there None key container is = absurd (cc)
-series_there (Some s) key container is =
+-- the series in a slot, as it is read
+series_there : (o : Option SeriesDef) (key : List ℕ) (container : ℕ) (regular : Option (ℕ × ℤ)) → option_map of_series o ≡ Some (defs.Series key container regular) → o ≡ Some (record { key = key; container = container; regular = regular })
+series_there None key container regular is = absurd (cc)
+series_there (Some s) key container regular is =
     let keys : s.key ≡ key = cc in
     let containers : s.container ≡ container = cc in
-    λ i. Some (record { key = keys i; container = containers i })
+    let lies : s.regular ≡ regular = cc in
+    λ i. Some (record { key = keys i; container = containers i; regular = lies i })
 
-pub container_is : (d : Definitions) (slot : ℕ) (key : List ℕ) (container : ℕ) (h : Heading) (room : ℕ) → def_at kinds.Series slot d ≡ Some (defs.Series key container) → container < 64 → Some h ≡ heading_in d container → room ≡ page_room h.columns → IsContainerOf slot d container room
-container_is d slot key container h room there below heading size = record {
-  series = record { key = key; container = container };
+pub rate_is : (d : Definitions) (slot : ℕ) (key : List ℕ) (rate : Rate) (h : Heading) → def_at kinds.Series slot d ≡ Some (defs.Series key rate.container rate.regular) → rate.container < 64 → Some h ≡ heading_in d rate.container → rate.room ≡ page_room h.columns → IsRateOf slot d rate
+rate_is d slot key rate h there below heading size = record {
+  series = record { key = key; container = rate.container; regular = rate.regular };
   heading = h;
-  there = series_there (at_slot slot d.series) key container (sym (at_slot-map of_series slot d.series) ∙ there);
-  is = refl;
+  there = series_there (at_slot slot d.series) key rate.container rate.regular (sym (at_slot-map of_series slot d.series) ∙ there);
+  container = refl;
+  regular = refl;
   below = below;
   has = sym heading;
-  has_room = sym size;
+  room = sym size;
 }
 
 -- a page has room for one element at least
-pub room_is : (d : Definitions) → KeepLimits d → (slot container room : ℕ) → IsContainerOf slot d container room → 0 < room
-room_is d limits slot container room is = subst (λ (n : ℕ). 0 < n) is.has_room (room_in d limits container is.heading is.below (sym is.has))
+pub room_is : (d : Definitions) → KeepLimits d → (slot : ℕ) (rate : Rate) → IsRateOf slot d rate → 0 < rate.room
+room_is d limits slot rate is = subst (λ (n : ℕ). 0 < n) is.room (room_in d limits rate.container is.heading is.below (sym is.has))
 
 -- a sum and what one series costs fit their type
 pub sum_fits : (d : Definitions) (space : Directory) (sums : List ℕ) (container more : ℕ) → container < 64 → AreCharges sums d space → AreFew d space → more < 2 ^ 33 → get_or sums container 0 + more < 2 ^ 64
@@ -128,3 +130,15 @@ sum_fits d space sums container more below are few small =
     let is = are container below in
     let little = few container below in
     omega (arith, is, little, small)
+
+-- a series is charged anew where its container's sum changes by what it costs
+module _ (d : Definitions) (space space' : Directory) (slot : ℕ) (rate : Rate) (is : IsRateOf slot d rate) (sums : List ℕ) where
+  -- what it costs by its rate
+  its_charge : (ps : List Place) → places_charge (page_room is.heading.columns) is.series.regular ps ≡ places_charge rate.room rate.regular ps
+  its_charge ps i = places_charge (is.room i) (is.regular i) ps
+
+  pub charged_then : (old new : ℕ) (sums' : List ℕ) → old ≡ places_charge rate.room rate.regular (places_of slot space) → new ≡ places_charge rate.room rate.regular (places_of slot space') → sums' ≡ with_charge rate.container old new sums
+      → AreCharges (with_charge is.series.container (places_charge (page_room is.heading.columns) is.series.regular (places_of slot space)) (places_charge (page_room is.heading.columns) is.series.regular (places_of slot space')) sums) d space' → AreCharges sums' d space'
+  charged_then old new sums' before after changed charged =
+      let same = (λ i. with_charge (is.container i) ((its_charge (places_of slot space) ∙ sym before) i) ((its_charge (places_of slot space') ∙ sym after) i) sums) ∙ sym changed in
+      subst (λ (ss : List ℕ). AreCharges ss d space') same charged

@@ -11,17 +11,16 @@ use Rattle.ts_model.specs.Definitions.{Definitions}
 use Rattle.ts_answer.specs.Commands.{is_writing}
 use Rattle.ts_answer.specs.Decided.{IsDecision, FitsSlot}
 use Rattle.ts_answer.specs.Reading.{IsSaid}
-use Rattle.ts_answer.specs.Reply.{ok_line}
 use Rattle.ts_engine.specs.Work.{IsDecided}
 
 pub decided_case : (kind : Kind) (command case : Command) (decided made : Result (ℕ × Option Def) Trouble) (d : Definitions) (pages : ℕ) → command ≡ case → decided ≡ made → is_writing case ≡ true
-    → IfOk made (λ change. FitsSlot kind change.0 change.1 d) → ((count : ℕ) → count ≡ first_element_page + pages → IsDecision ok_line kind case made d count) → IsDecided kind command decided d pages
+    → IfOk made (λ change. FitsSlot kind change.0 change.1 d) → ((count : ℕ) → count ≡ first_element_page + pages → IsDecision kind case made d count) → IsDecided kind command decided d pages
 decided_case kind command case decided made d pages is came writes fits decision =
     subst (λ (r : Result (ℕ × Option Def) Trouble). IsDecided kind command r d pages) (sym came)
     (record {
       writes = ap is_writing is ∙ writes;
       fits = fits;
-      decision = λ count size. subst (λ (k : Command). IsDecision ok_line kind k made d count) (sym is) (decision count size);
+      decision = λ count size. subst (λ (k : Command). IsDecision kind k made d count) (sym is) (decision count size);
     })
 
 pub said_case : (command case : Command) (result : Result Unit Trouble) (out : List ℕ) (d : Definitions) (space : Directory) → command ≡ case → IsSaid case result out d space → IsSaid command result out d space

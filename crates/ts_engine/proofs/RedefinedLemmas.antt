@@ -4,23 +4,23 @@ use Rattle.std.specs.Option.{option_map, option_and_then, unwrap_or}
 use Rattle.ts_row.specs.RowType.{Heading}
 use Rattle.ts_space.specs.declared.place.Place.{Place}
 use Rattle.ts_space.specs.Directory.{Directory, places_of}
-use Rattle.ts_space.specs.Charge.{irregular_places_charge}
 use Rattle.ts_cells.specs.Cell.{page_room}
 use Rattle.ts_model.specs.declared.kind.Kind.TheVariants as kinds
 use Rattle.ts_model.specs.declared.def.Def.{Def}
 use Rattle.ts_model.specs.Definitions.{Definitions, SeriesDef, from_def, with_slot}
 use Rattle.ts_layout.specs.Meaning.{heading_in}
-use Rattle.ts_layout.specs.Charges.{charge_listed, charges_listed, container_charge}
+use Rattle.ts_layout.specs.Charges.{places_charge, charge_listed, charges_listed, container_charge}
+use Rattle.ts_layout.proofs.CallerLemmas.{nothing_charged}
 use Rattle.ts_container.specs.KeptCharges.{AreCharges}
 
 -- a series without places is charged nothing
-none_if : (b : Bool) → ◌≡◌ {A = ℕ} (if b then 0 else 0) 0
-none_if true = refl
-none_if false = refl
+none_if : (b : Bool) (n : ℕ) → n ≡ 0 → ◌≡◌ {A = ℕ} (if b then n else 0) 0
+none_if true n is = is
+none_if false n is = refl
 
 unplaced : (space : Directory) (k q slot : ℕ) (o : Option SeriesDef) → places_of slot space ≡ [] → charge_listed space k q slot o ≡ 0
 unplaced space k q slot None is = refl
-unplaced space k q slot (Some s) is = ap (λ (ps : List Place). if s.container == k then irregular_places_charge q ps else 0) is ∙ none_if (s.container == k)
+unplaced space k q slot (Some s) is = none_if (s.container == k) (places_charge q s.regular (places_of slot space)) (ap (places_charge q s.regular) is ∙ nothing_charged q s.regular)
 
 listed_unplaced : (space : Directory) (k q first i slot : ℕ) (o : Option SeriesDef) (table : List (Option SeriesDef)) → slot ≡ first + i → places_of slot space ≡ [] → charges_listed space k q first (set table i o) ≡ charges_listed space k q first table
 listed_unplaced space k q first i slot o [] at is = refl

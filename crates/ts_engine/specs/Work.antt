@@ -7,16 +7,15 @@ use Rattle.ts_model.specs.declared.kind.Kind.{Kind}
 use Rattle.ts_model.specs.declared.kind.Kind.TheVariants as kinds
 use Rattle.ts_container.specs.KeptCharges.{AreCharges}
 use Rattle.ts_model.specs.declared.def.Def.{Def}
-use Rattle.ts_model.specs.Definitions.{Definitions as AllDefinitions}
+use Rattle.ts_model.specs.Definitions.{Definitions}
 use Rattle.ts_page.specs.Volume.{first_element_page}
 use Rattle.ts_answer.specs.Commands.{is_writing}
 use Rattle.ts_answer.specs.Decided.{IsDecision, FitsSlot}
-use Rattle.ts_answer.specs.Reply.{ok_line}
 use Rattle.ts_answer.specs.View.{View, IsSeen}
 
 pub data Work : Type 0 where
   -- it makes or drops a definition of a kind
-  Definitions : Kind → Work
+  Defines : Kind → Work
   -- it changes the elements of series
   Elements : Work
   -- it reads elements
@@ -25,26 +24,27 @@ pub data Work : Type 0 where
   Memory : Work
 
 abbrev pub work_of : Command → Work
-work_of (commands.CreateRowType name stamp columns) = Definitions kinds.RowType
-work_of (commands.DropRowType name) = Definitions kinds.RowType
-work_of (commands.CreatePattern name text) = Definitions kinds.Pattern
-work_of (commands.NotOp name pattern) = Definitions kinds.Pattern
-work_of (commands.AndPatterns name first second) = Definitions kinds.Pattern
-work_of (commands.OrPatterns name first second) = Definitions kinds.Pattern
-work_of (commands.DropPattern name) = Definitions kinds.Pattern
-work_of (commands.CreateCalendar name text) = Definitions kinds.Calendar
-work_of (commands.AndCalendars name first second) = Definitions kinds.Calendar
-work_of (commands.OrCalendars name first second) = Definitions kinds.Calendar
-work_of (commands.DropCalendar name) = Definitions kinds.Calendar
+work_of (commands.CreateRowType name stamp columns) = Defines kinds.RowType
+work_of (commands.DropRowType name) = Defines kinds.RowType
+work_of (commands.CreatePattern name text) = Defines kinds.Pattern
+work_of (commands.NotOp name pattern) = Defines kinds.Pattern
+work_of (commands.AndPatterns name first second) = Defines kinds.Pattern
+work_of (commands.OrPatterns name first second) = Defines kinds.Pattern
+work_of (commands.DropPattern name) = Defines kinds.Pattern
+work_of (commands.CreateCalendar name text) = Defines kinds.Calendar
+work_of (commands.AndCalendars name first second) = Defines kinds.Calendar
+work_of (commands.OrCalendars name first second) = Defines kinds.Calendar
+work_of (commands.DropCalendar name) = Defines kinds.Calendar
 work_of (commands.ShowPattern name) = Memory
 work_of (commands.ShowCalendar name) = Memory
 work_of (commands.CalIndex calendar from to) = Memory
 work_of (commands.CalStamp calendar after count) = Memory
 work_of (commands.CalRange calendar from to) = Memory
-work_of (commands.TSContainerCreate name row_type quota) = Definitions kinds.Container
-work_of (commands.TSContainerDestroy name) = Definitions kinds.Container
+work_of (commands.TSContainerCreate name row_type quota) = Defines kinds.Container
+work_of (commands.TSContainerDestroy name) = Defines kinds.Container
 work_of (commands.TSContainerUsage name) = Memory
-work_of (commands.TSCreateIrr key container) = Definitions kinds.Series
+work_of (commands.TSCreate key calendar origin container) = Defines kinds.Series
+work_of (commands.TSCreateIrr key container) = Defines kinds.Series
 work_of (commands.DropSeries key) = Elements
 work_of (commands.ListSeries container) = Memory
 work_of (commands.PutElem key stamp literals) = Elements
@@ -67,7 +67,7 @@ pub record IsGiven (tells : Bool) (x : View) (charges out : List ℕ) : Type 0 w
 
 -- What is decided on a command that makes or drops a definition of a kind, where there are so many element pages: it fits a slot, and it
 -- is what the catalogue of each layout with these definitions answers.
-pub record IsDecided (kind : Kind) (command : Command) (decided : Result (ℕ × Option Def) Trouble) (d : AllDefinitions) (pages : ℕ) : Type 0 where
+pub record IsDecided (kind : Kind) (command : Command) (decided : Result (ℕ × Option Def) Trouble) (d : Definitions) (pages : ℕ) : Type 0 where
   pub writes : is_writing command ≡ true
   pub fits : IfOk decided (λ change. FitsSlot kind change.0 change.1 d)
-  pub decision : (count : ℕ) → count ≡ first_element_page + pages → IsDecision ok_line kind command decided d count
+  pub decision : (count : ℕ) → count ≡ first_element_page + pages → IsDecision kind command decided d count

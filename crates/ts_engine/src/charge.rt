@@ -1,19 +1,32 @@
 // What containers are charged, when the places of a series change.
-ghost use Rattle.std.specs.Prelude.{◌≡◌, ◌<◌, ◌≤◌, ◌^◌, IsTrue, IfSome, Option, [], slice_set};
-ghost use Rattle.ts_space.specs.Place.{IsRising, count_of};
+ghost use Rattle.std.specs.Prelude.{◌≡◌, ◌<◌, ◌≤◌, IsTrue, IfSome, Option, [], slice_set};
+ghost use Rattle.ts_space.specs.Place.{IsRising};
 ghost use Rattle.ts_space.specs.Directory.{places_of, spare_of};
 ghost use Rattle.ts_container.specs.KeptCharges.{AreCharges, AreFew};
 ghost use Rattle.ts_model.specs.declared.kind.Kind.TheVariants.{Series};
 ghost use Rattle.ts_model.specs.declared.def.Def.{Def as TheDef};
 ghost use Rattle.ts_model.specs.Definitions.{Definitions, limit, with_slot};
 ghost use Rattle.ts_layout.specs.Meaning.{KeepLimits};
-ghost use Rattle.ts_engine.specs.Charged.{CanCount, IsContainerOf, places_after};
+ghost use Rattle.ts_layout.specs.Charges.{IsCountable};
+ghost use Rattle.ts_engine.specs.Charged.{CanCount, IsRateOf, places_after};
 
 use std::alloc::Global;
+use ts_base::Stamp;
 use ts_cells::page_room;
 use ts_container::{Charges, a_charge_changes_with_a_series, charge_of_places, row_type_in};
 use ts_model::{Def, Defs, Kind};
 use ts_space::{Moved, Space};
+
+/// How a series is charged.
+#[derive(Drop)]
+struct Rate {
+    /// The slot of its container.
+    container: u8,
+    /// Of a regular series, which is charged for its pages, the slot of its calendar and its origin.
+    regular: Option<(u8, Stamp)>,
+    /// How many of its elements a page has room for.
+    room: usize,
+}
 
 /// The places of a series change, or all go where no change is told, and its container is charged for them in place of those before.
 pub(crate) fn change_places(
@@ -27,7 +40,7 @@ pub(crate) fn change_places(
     requires slot { slot < 4096 }
     requires room { IfSome moved (λ moved. 2 ≤ spare_of slot space.old) }
     requires rising { IsRising (places_after moved (places_of slot space.old)) }
-    requires countable { count_of (places_after moved (places_of slot space.old)) < 2 ^ 32 }
+    requires countable { IsCountable (places_after moved (places_of slot space.old)) }
     requires can { CanCount defs.now.definitions space.old.lists }
     requires few { AreFew defs.now.definitions space.old }
     requires charged { AreCharges charges.old defs.now.definitions space.old }
@@ -35,18 +48,18 @@ pub(crate) fn change_places(
     ensures lists { space.new.lists ≡ slice_set space.old.lists slot (places_after moved (places_of slot space.old)) }
     ensures charged { AreCharges charges.new defs.now.definitions space.new }
 {
-    let Some((container, room)) = container_of(defs, slot) else {
+    let Some(rate) = rate_of(defs, slot) else {
         exchange(alloc, space, slot, moved);
         charges.count(defs, space);
         return;
     };
     // The law of that change; and there is a sum for each container.
     a_charge_changes_with_a_series();
-    let _slots = charges.of(container);
-    let before = charge_of_places(space, slot, room);
+    let _slots = charges.of(rate.container);
+    let before = charge_of_places(space, rate.regular, slot, rate.room);
     exchange(alloc, space, slot, moved);
-    let after = charge_of_places(space, slot, room);
-    charges.change(container, before, after);
+    let after = charge_of_places(space, rate.regular, slot, rate.room);
+    charges.change(rate.container, before, after);
 }
 
 /// A definition came or went: what containers are charged is right again. A series without places changes nothing.
@@ -93,17 +106,28 @@ fn exchange(alloc: Global, space: &mut Space, slot: u16, moved: Option<Moved>)
     }
 }
 
-// The container of the series in a slot, and how many of its elements a page has room for.
-fn container_of(defs: &Defs, slot: u16) -> Option<(u8, usize)>
+// How the series in a slot is charged; nothing where there is none.
+fn rate_of(defs: &Defs, slot: u16) -> Option<Rate>
     requires slot { slot < 4096 }
     requires limits { KeepLimits defs.now.definitions }
-    ensures { IfSome result (λ found. IsContainerOf slot defs.now.definitions found.0 found.1) }
+    ensures { IfSome result (IsRateOf slot defs.now.definitions) }
 {
-    let Some(Def::Series { container, .. }) = defs.get(Kind::Series, slot) else {
+    let Some(
+        Def::Series {
+            container,
+            regular,
+            ..
+        },
+    ) = defs.get(Kind::Series, slot)
+    else {
         return None;
     };
     let Some(kind) = row_type_in(defs, *container) else {
         return None;
     };
-    Some((*container, page_room(kind)))
+    Some(Rate {
+        container: *container,
+        regular: *regular,
+        room: page_room(kind),
+    })
 }

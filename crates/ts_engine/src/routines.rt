@@ -9,7 +9,7 @@ ghost use Rattle.ts_model.specs.declared.kind.Kind.TheVariants.{Pattern as Patte
 ghost use Rattle.ts_model.specs.Definitions.{container_slots};
 ghost use Rattle.ts_layout.specs.Meaning.{sum_of_quotas};
 ghost use Rattle.ts_container.specs.KeptCharges.{AreCharges};
-ghost use Rattle.ts_engine.specs.Work.{Definitions, Elements, Readings, Memory, work_of, IsGiven, IsDecided};
+ghost use Rattle.ts_engine.specs.Work.{Defines, Elements, Readings, Memory, work_of, IsGiven, IsDecided};
 
 use std::alloc::Global;
 use ts_answer::{Effect, Stop};
@@ -17,8 +17,8 @@ use ts_base::{Reply, Trouble};
 use ts_command::Command;
 use ts_container::Charges;
 use ts_define::{
-    drop_definition, joined_calendar, joined_pattern, new_calendar, new_container, new_pattern,
-    new_row_type, new_series, turned_pattern,
+    drop_definition, joined_calendar, joined_pattern, new_calendar, new_container, new_irregular,
+    new_pattern, new_regular, new_row_type, turned_pattern,
 };
 use ts_elements::{
     delete_element, delete_range, drop_series, edit_element, get_element, get_last_element,
@@ -55,38 +55,38 @@ pub(crate) fn edit<P: Pages>(
         Command::PutElem { key, stamp, values } => {
             let edit = EditKind::Put;
             edit_element(
-                pages, page, defs, space, charges, edit, key, *stamp, values, out,
+                alloc, pages, page, defs, space, charges, edit, key, *stamp, values, out,
             )
         }
         Command::PutElemNoDups { key, stamp, values } => {
             let edit = EditKind::PutNoDups;
             edit_element(
-                pages, page, defs, space, charges, edit, key, *stamp, values, out,
+                alloc, pages, page, defs, space, charges, edit, key, *stamp, values, out,
             )
         }
         Command::InsElem { key, stamp, values } => {
             let edit = EditKind::Insert;
             edit_element(
-                pages, page, defs, space, charges, edit, key, *stamp, values, out,
+                alloc, pages, page, defs, space, charges, edit, key, *stamp, values, out,
             )
         }
         Command::UpdElem { key, stamp, values } => {
             let edit = EditKind::Update;
             edit_element(
-                pages, page, defs, space, charges, edit, key, *stamp, values, out,
+                alloc, pages, page, defs, space, charges, edit, key, *stamp, values, out,
             )
         }
         Command::DelElem { key, stamp } => {
-            delete_element(pages, page, defs, space, key, *stamp, out)
+            delete_element(alloc, pages, page, defs, space, key, *stamp, out)
         }
         Command::DelClip { key, from, to } => {
             delete_range(alloc, pages, page, defs, space, key, *from, *to, out)
         }
         Command::HideElem { key, stamp } => {
-            mark_element(pages, page, defs, space, true, key, *stamp, out)
+            mark_element(alloc, pages, page, defs, space, true, key, *stamp, out)
         }
         Command::RevealElem { key, stamp } => {
-            mark_element(pages, page, defs, space, false, key, *stamp, out)
+            mark_element(alloc, pages, page, defs, space, false, key, *stamp, out)
         }
         _ => return None,
     };
@@ -167,7 +167,7 @@ pub(crate) fn decide(
     pages: u32,
     command: &Command,
 ) -> (Kind, Result<(u16, Option<Def>), Trouble>)
-    requires work { (kind : TheKind) × (work_of command.now ≡ Definitions kind) }
+    requires work { (kind : TheKind) × (work_of command.now ≡ Defines kind) }
     requires form { HasForm command.now }
     requires slots { length defs.now.definitions.containers ≡ container_slots }
     requires granted { sum_of_quotas defs.now.definitions.containers ≤ pages }
@@ -204,7 +204,18 @@ pub(crate) fn decide(
             let kind = Kind::Container;
             (kind, drop_definition(defs, kind, name))
         }
-        Command::TSCreateIrr { key, container } => (Kind::Series, new_series(defs, key, container)),
+        Command::TSCreate {
+            key,
+            calendar,
+            origin,
+            container,
+        } => (
+            Kind::Series,
+            new_regular(alloc, defs, key, calendar, *origin, container),
+        ),
+        Command::TSCreateIrr { key, container } => {
+            (Kind::Series, new_irregular(defs, key, container))
+        }
         _ => unreachable!(),
     }
 }
@@ -217,7 +228,7 @@ fn decide_pattern(
 ) -> Option<Result<(u16, Option<Def>), Trouble>>
     requires form { HasForm command.now }
     ensures decided { IfSome result (λ decided. (pages : ℕ) → IsDecided Patterns command.now decided defs.now.definitions pages) }
-    ensures none { IsNone result → work_of command.now ≢ Definitions Patterns }
+    ensures none { IsNone result → work_of command.now ≢ Defines Patterns }
 {
     let decided = match command {
         Command::CreatePattern { name, text } => new_pattern(alloc, defs, name, text),
@@ -246,7 +257,7 @@ fn decide_calendar(
 ) -> Option<Result<(u16, Option<Def>), Trouble>>
     requires form { HasForm command.now }
     ensures decided { IfSome result (λ decided. (pages : ℕ) → IsDecided Calendars command.now decided defs.now.definitions pages) }
-    ensures none { IsNone result → work_of command.now ≢ Definitions Calendars }
+    ensures none { IsNone result → work_of command.now ≢ Defines Calendars }
 {
     let decided = match command {
         Command::CreateCalendar { name, text } => new_calendar(alloc, defs, name, text),

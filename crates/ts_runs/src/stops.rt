@@ -19,7 +19,7 @@ struct Course<'a> {
 }
 
 /// Each statement is refused where the store has what it makes.
-const MAKING: [(&[u8], &[u8], &[u8]); 9] = [
+const MAKING: [(&[u8], &[u8], &[u8]); 13] = [
     (RECORD, b"ok\n", b"error 11 NameTaken\n"),
     (
         b"TSContainerCreate(c1, rd, 8);",
@@ -54,14 +54,33 @@ const MAKING: [(&[u8], &[u8], &[u8]); 9] = [
     ),
     // The calendar has the pattern by its name.
     (b"DropPattern(p);", b"error 32 InUse\n", b"error 32 InUse\n"),
+    (
+        b"TSCreate('r', both, '2011-01-03 12:00:00', c1);",
+        b"ok 2011-01-03 00:00:00.00000\n",
+        b"error 11 NameTaken\n",
+    ),
+    (
+        b"InsElem('r','2011-01-04 10:30:00',4);",
+        b"ok 2011-01-04 00:00:00.00000\n",
+        b"error 23 Duplicate\n",
+    ),
+    // The first offset of the second page.
+    (
+        b"InsElem('r','2012-11-10 00:00:00',5);",
+        b"ok 2012-11-10 00:00:00.00000\n",
+        b"error 23 Duplicate\n",
+    ),
+    // The series lies on the calendar.
+    (b"DropCalendar(both);", b"error 32 InUse\n", b"error 32 InUse\n"),
 ];
 
 /// Reads all that `MAKING` makes.
 const READING: &[u8] = b"TSContainerUsage(c1);ListSeries(c1);GetElem('x','2011-01-03 00:00:00');\
-    GetElem('x','2011-01-03 00:00:02');CalIndex(both,'2011-01-02 00:00:00','2011-01-05 00:00:00');";
+    GetElem('x','2011-01-03 00:00:02');CalIndex(both,'2011-01-02 00:00:00','2011-01-05 00:00:00');\
+    GetElem('r','2011-01-04 23:00:00');GetLastElem('r');GetNelems('r');";
 
-const READ: &[u8] = b"ok 1 8\n'x' irregular 2\nok 1\n2011-01-03 00:00:00.00000 1\nok 1\n\
-    2011-01-03 00:00:02.00000 3\nok 1\nok 3\n";
+const READ: &[u8] = b"ok 3 8\n'r' regular 2\n'x' irregular 2\nok 2\n2011-01-03 00:00:00.00000 1\nok 1\n\
+    2011-01-03 00:00:02.00000 3\nok 1\nok 3\n2011-01-04 00:00:00.00000 4\nok 1\n2012-11-10 00:00:00.00000 5\nok 1\nok 2\n";
 
 // What is said to the statements and the reading where so many of the statements were carried out before.
 fn said_after(alloc: Global, course: &Course, count: usize) -> Result<Vec<u8>, Fail> {

@@ -1,5 +1,5 @@
 -- A header and zeros behind it mean the empty catalogue.
-use Rattle.std.proofs.Common.{◌≡◌, ℕ, zero, suc, ◌+◌, ◌-◌, ◌*◌, ◌<◌, ◌≤◌, Bool, false, cond, Option, Some, None, unwrap_or, List, [], length, take, drop, replicate, get_or, slice_index, refl, sym, ◌∙◌, ap, subst, arith}
+use Rattle.std.proofs.Common.{◌≡◌, ℕ, zero, suc, ◌+◌, ◌-◌, ◌*◌, ◌<◌, ◌≤◌, Bool, false, cond, Some, None, unwrap_or, List, [], length, take, drop, replicate, get_or, slice_index, refl, sym, ◌∙◌, ap, subst, arith}
 use Rattle.std.specs.Option.{option_and_then}
 use Rattle.std.specs.FinMap.{from_entries}
 use Rattle.std.proofs.lemmas.Bool.Decides.{nat_tests}
@@ -117,8 +117,9 @@ empty_is_sound format count known some limit =
         follow = λ slot c here. absurd (some_is_none c (sym here ∙ each_is 256 slot None));
         valid = λ slot c here. absurd (some_is_none c (sym here ∙ each_is 256 slot None));
         quotas = (let none : sum_of_quotas (replicate 64 None) ≡ 0 = refl in omega (arith, none));
+        origins = λ slot s here. absurd (some_is_none s (sym here ∙ each_is 4096 slot None));
       };
-      chains = λ slot h here. absurd (some_is_none h (sym here ∙ ap (option_and_then (λ s. heading_in (nothing_in format) s.container)) (each_is 4096 slot None)));
+      sequences = λ slot h shape here lies. absurd (some_is_none h (sym here ∙ ap (option_and_then (λ s. heading_in (nothing_in format) s.container)) (each_is 4096 slot None)));
       charges = λ i c h here. absurd (some_is_none c (sym here ∙ each_is 64 i None));
     }
 

@@ -28,7 +28,7 @@ returns-in_err-row-clause-carried g c =
     let trouble = c.in_err-row.field-0.0 in
     stopped_first g.P.Pages.tells command c.args.out.now x c.from_residual-in_err-row.result _ c.from_residual-in_err-row.ensures.1
     (tried_stopped g.P.Pages.tells command c.args.out.now x trouble (λ l kept.
-    subst (λ (t : Tried Answered). IsRefusedAs trouble t) (sym (begins (catalogue_of l))) (goes_refused _ c.in_ok-shelf.shelf trouble (c.in_ok-shelf.ensures.tried l kept) (λ series is.
+    subst (λ (t : Tried Answered). IsRefusedAs trouble t) (sym (begins (catalogue_of l))) (goes_refused _ (c.in_ok-shelf.shelf, c.in_ok-shelf.shape) trouble (c.in_ok-shelf.ensures.tried l kept) (λ series is.
     refused_as trouble _ _ (subst (λ (cs : List Column). IsRefusedAs trouble (a_row cs literals)) (sym is.columns) c.in_err-row.ensures.tried.err)))))
 
 pub returns-clause-carried : goal.returns-clause-carried

@@ -1,7 +1,8 @@
-use Rattle.std.proofs.Common.{◌≡◌, ◌<◌, ◌^◌, None, length, sym, subst}
-use Rattle.ts_space.specs.Place.{IsRising, count_of}
+use Rattle.std.proofs.Common.{◌≡◌, None, length, sym, subst}
+use Rattle.ts_space.specs.Place.{IsRising}
 use Rattle.ts_space.specs.Moved.{moved_to}
 use Rattle.ts_space.specs.Directory.{places_of}
+use Rattle.ts_layout.specs.Charges.{IsCountable}
 use Rattle.ts_answer.specs.declared.effect.Effect.{Effect}
 use Rattle.ts_answer.specs.CarriedOut.{CanApply}
 use Rattle.ts_model.specs.Definitions.{Definitions}
@@ -20,7 +21,7 @@ change_places-requires-clause-rising c =
 
 pub change_places-requires-clause-countable : goal.change_places-requires-clause-countable
 change_places-requires-clause-countable c =
-    subst (λ (k : Kept). count_of (moved_to c.in-Places.moved (places_of c.in-Places.slot k.space)) < 2 ^ 32) (sym c.self.view_is)
+    subst (λ (k : Kept). IsCountable (moved_to c.in-Places.moved (places_of c.in-Places.slot k.space))) (sym c.self.view_is)
     (countable_then c.args.effect c.in-Places.slot c.in-Places.moved c.args.self.now c.in-Places.is
     (subst (λ (e : Effect). CanApply e c.args.self.now.tables.definitions) c.in-Places.is c.requires.can)
     (subst (λ (k : Kept). length k.space.lists ≡ 4096) c.self.view_is c.places-slots.ensures.slots) c.requires.charge)
