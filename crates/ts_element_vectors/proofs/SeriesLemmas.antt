@@ -1,5 +1,5 @@
 -- The places of a series after a call.
-use Rattle.std.proofs.Common.{◌≡◌, ◌<◌, ℕ, ℤ, Bool, true, false, Some, List, [], ◌∷◌, get_or, sym, ap, subst, ◌∙◌, arith}
+use Rattle.std.proofs.Common.{◌≡◌, ◌<◌, ℕ, ℤ, Bool, true, false, Some, List, [], ◌∷◌, get_or, sym, ap, subst, arith}
 use Rattle.std.specs.List.{slice_get}
 use Rattle.ts_space.specs.declared.place.Place.{Place}
 use Rattle.ts_space.specs.declared.moved.Moved.{Moved}

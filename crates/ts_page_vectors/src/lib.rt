@@ -1,17 +1,24 @@
-//! Worked directories, definitions, pages and volumes, with what they are read as, changed to or refused for. There are
-//! only tests: they stand apart, since a crate that has tests of its own is proved twice. Stands on the crates that it tests,
-//! ts_space and from ts_model up to ts_container. Read `survey.rt`, then the others in any order.
+//! Worked definitions and elements in the pages of a volume, with their bytes, what a survey reads of them, and the page that it refuses.
+//! There are only tests: they stand apart, since a crate that has tests of its own is proved twice. Stands on ts_container, which it
+//! tests, and on ts_layout, ts_model and ts_page below it. Read `volume.rt`, then `slots.rt` and `elements.rt`, then the others in any
+//! order.
 #![tactic(auto)]
 
 #[cfg(test)]
 mod calendars;
 #[cfg(test)]
-mod definitions;
+mod chains;
 #[cfg(test)]
-mod directory;
+mod charges;
+#[cfg(test)]
+mod elements;
+#[cfg(test)]
+mod grids;
+#[cfg(test)]
+mod header;
 #[cfg(test)]
 mod made;
 #[cfg(test)]
-mod places;
+mod slots;
 #[cfg(test)]
-mod survey;
+mod volume;

@@ -23,7 +23,7 @@ pub(crate) const WEEK: [Run; 3] = [
 ];
 
 /// 2011-01-03 00:00:00.
-const START: i64 = 129_401_280_000_000;
+pub(crate) const START: i64 = 129_401_280_000_000;
 
 pub(crate) fn name(alloc: Global, text: &[u8]) -> Result<Name, StoreFault> {
     match Name::read(alloc, text)? {
@@ -44,9 +44,16 @@ fn integers(alloc: Global) -> Result<RowType, StoreFault> {
     }
 }
 
-fn key(alloc: Global, text: &[u8]) -> Result<Key, StoreFault> {
+pub(crate) fn key(alloc: Global, text: &[u8]) -> Result<Key, StoreFault> {
     match Key::read(alloc, text)? {
         Some(key) => Ok(key),
+        None => Err(StoreFault::Failed),
+    }
+}
+
+pub(crate) fn stamp(units: i64) -> Result<Stamp, StoreFault> {
+    match Stamp::of(units) {
+        Some(stamp) => Ok(stamp),
         None => Err(StoreFault::Failed),
     }
 }
@@ -62,16 +69,14 @@ fn week(alloc: Global) -> Result<Pattern, StoreFault> {
 // The week from its start on.
 pub(crate) fn calendar(alloc: Global) -> Result<Calendar, StoreFault> {
     let pattern = week(alloc)?;
-    let Some(start) = Stamp::of(START) else {
-        return Err(StoreFault::Failed);
-    };
+    let start = stamp(START)?;
     match Calendar::make(start, start, pattern) {
         Ok(calendar) => Ok(calendar),
         Err(_) => Err(StoreFault::Failed),
     }
 }
 
-// A definition of a kind with this name or key: of integers, the week, of 2 pages, in slot 3.
+// A definition of a kind with this name or key: of integers, the week, of 2 pages, an irregular series of the container in slot 3.
 pub(crate) fn def(alloc: Global, kind: Kind, text: &[u8]) -> Result<Def, StoreFault>
     ensures { IfOk result (λ def. kind_of def ≡ kind) }
 {
@@ -98,6 +103,7 @@ pub(crate) fn def(alloc: Global, kind: Kind, text: &[u8]) -> Result<Def, StoreFa
         Kind::Series => Ok(Def::Series {
             key: key(alloc, text)?,
             container: 3,
+            regular: None,
         }),
     }
 }

@@ -1,5 +1,4 @@
-use Rattle.std.proofs.Common.{◌<◌, true, Option, List, subst, arith}
-use Rattle.ts_space.specs.declared.place.Place.{Place}
+use Rattle.std.proofs.Common.{true, Option, List, subst, arith}
 use Rattle.ts_space.specs.declared.moved.Moved.{Moved}
 use Rattle.ts_space.specs.Directory.{places_of}
 use Rattle.ts_page.specs.Memory.{memory_contents}

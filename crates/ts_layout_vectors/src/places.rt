@@ -1,13 +1,14 @@
-// Where the format puts slots.
+// Where the format puts slots, and the laws of layouts.
 use ts_layout::{
     a_catalogue_keeps_its_format, a_definition_is_dropped, a_definition_is_made,
     a_definition_is_used_by_its_slot, a_journal_and_freed_bytes_mean_nothing, a_layout_is_kept,
-    a_series_is_a_chain, a_series_is_dropped_with_its_pages, a_series_is_dropped_with_its_places,
-    a_series_is_rewritten, a_volume_takes_the_newest_format,
-    a_written_slot_changes_definitions_alone, byte_of_slot, charges_follow_the_directory,
-    elements_are_a_map_by_stamps, names_stand_in_slots, page_of_slot, pages_are_free_or_placed,
-    pages_mean_one_catalogue, pages_that_hold_are_filled, places_and_free_pages_stay_apart,
-    quotas_follow_the_directory, references_are_names, slot_size, slots_are_counted, slots_in_page,
+    a_regular_element_is_on_its_grid, a_series_is_dropped_with_its_pages,
+    a_series_is_dropped_with_its_places, a_series_is_on_its_pages, a_series_is_rewritten,
+    a_volume_takes_the_newest_format, a_written_slot_changes_definitions_alone, byte_of_slot,
+    charges_follow_the_directory, elements_are_a_map_by_stamps, names_stand_in_slots, page_of_slot,
+    pages_are_free_or_placed, pages_are_sheets, pages_mean_one_catalogue,
+    pages_that_hold_are_filled, places_and_free_pages_stay_apart, quotas_follow_the_directory,
+    references_are_names, slot_size, slots_are_counted, slots_in_page,
     sound_definitions_are_those_of_a_layout, the_elements_of_a_page_are_of_the_format,
     the_newest_format_has_all, the_places_of_other_series_stay, the_quotas_leave_room,
     the_same_lists_are_kept,
@@ -15,12 +16,13 @@ use ts_layout::{
 use ts_model::Kind;
 
 /// A slot of a kind, its page, and its first byte there.
-const SLOTS: [(Kind, u16, u32, usize); 7] = [
+const SLOTS: [(Kind, u16, u32, usize); 8] = [
     (Kind::RowType, 63, 320, 0),
     (Kind::Pattern, 255, 576, 0),
     (Kind::Calendar, 255, 832, 0),
     (Kind::Container, 63, 833, 3780),
     (Kind::Container, 3, 833, 180),
+    (Kind::Series, 3, 834, 282),
     (Kind::Series, 50, 835, 658),
     (Kind::Series, 4095, 929, 940),
 ];
@@ -68,7 +70,9 @@ fn the_laws_of_formats_are_called() {
 
 #[test]
 fn the_laws_of_elements_are_called() {
-    a_series_is_a_chain();
+    a_series_is_on_its_pages();
+    pages_are_sheets();
+    a_regular_element_is_on_its_grid();
     elements_are_a_map_by_stamps();
     a_series_is_rewritten();
     pages_that_hold_are_filled();

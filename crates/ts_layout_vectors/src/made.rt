@@ -1,0 +1,104 @@
+// Definitions for the tests.
+ghost use Rattle.std.specs.Prelude.{◌≡◌, IfOk};
+ghost use Rattle.ts_model.specs.Definitions.{kind_of};
+
+use std::alloc::Global;
+use ts_base::{Key, Name, Stamp, StoreFault, Unit};
+use ts_calendar::Calendar;
+use ts_model::{Def, Kind};
+use ts_pattern::{Pattern, Run};
+use ts_row::{Column, ColumnKind, RowType};
+
+/// A day off, five on, a day off.
+const WEEK: [Run; 3] = [
+    Run {
+        on: false,
+        count: 1,
+    },
+    Run { on: true, count: 5 },
+    Run {
+        on: false,
+        count: 1,
+    },
+];
+
+/// 2011-01-03 00:00:00.
+const START: i64 = 129_401_280_000_000;
+
+fn name(alloc: Global, text: &[u8]) -> Result<Name, StoreFault> {
+    match Name::read(alloc, text)? {
+        Some(name) => Ok(name),
+        None => Err(StoreFault::Failed),
+    }
+}
+
+// A row type of one integer.
+fn integers(alloc: Global) -> Result<RowType, StoreFault> {
+    let column = Column {
+        name: name(alloc, b"v")?,
+        kind: ColumnKind::Integer,
+    };
+    match RowType::make(alloc, name(alloc, b"t")?, vec![in alloc; column]?) {
+        Ok(made) => Ok(made),
+        Err(_) => Err(StoreFault::Failed),
+    }
+}
+
+fn key(alloc: Global, text: &[u8]) -> Result<Key, StoreFault> {
+    match Key::read(alloc, text)? {
+        Some(key) => Ok(key),
+        None => Err(StoreFault::Failed),
+    }
+}
+
+fn week(alloc: Global) -> Result<Pattern, StoreFault> {
+    let runs = WEEK.as_slice().to_vec(alloc)?;
+    match Pattern::of_runs(Unit::Day, runs) {
+        Some(pattern) => Ok(pattern),
+        None => Err(StoreFault::Failed),
+    }
+}
+
+// The week from its start on.
+fn calendar(alloc: Global) -> Result<Calendar, StoreFault> {
+    let pattern = week(alloc)?;
+    let Some(start) = Stamp::of(START) else {
+        return Err(StoreFault::Failed);
+    };
+    match Calendar::make(start, start, pattern) {
+        Ok(calendar) => Ok(calendar),
+        Err(_) => Err(StoreFault::Failed),
+    }
+}
+
+// A definition of a kind with this name or key: of integers, the week, of 2 pages, an irregular series of the container in slot 3.
+pub(crate) fn def(alloc: Global, kind: Kind, text: &[u8]) -> Result<Def, StoreFault>
+    ensures { IfOk result (λ def. kind_of def ≡ kind) }
+{
+    match kind {
+        Kind::RowType => {
+            let name = name(alloc, text)?;
+            let kind = integers(alloc)?;
+            Ok(Def::RowType { name, kind })
+        }
+        Kind::Pattern => Ok(Def::Pattern {
+            name: name(alloc, text)?,
+            pattern: week(alloc)?,
+        }),
+        Kind::Calendar => Ok(Def::Calendar {
+            name: name(alloc, text)?,
+            calendar: calendar(alloc)?,
+            by: None,
+        }),
+        Kind::Container => Ok(Def::Container {
+            name: name(alloc, text)?,
+            row_type: 0,
+            quota: 2,
+        }),
+        Kind::Series => Ok(Def::Series {
+            key: key(alloc, text)?,
+            container: 3,
+            regular: None,
+        }),
+    }
+}

@@ -1,0 +1,98 @@
+// What containers and series are charged, and of which formats a row type is.
+use crate::made::{START, def, stamp};
+use std::alloc::{AllocError, Global};
+use ts_base::{Stamp, StoreFault};
+use ts_container::{
+    Charges, a_charge_changes_with_a_series, charge_of_places,
+    charges_are_the_same_in_every_format, is_of_format,
+};
+use ts_model::{Def, FORMAT, Kind, OLD_FORMAT};
+use ts_space::{Come, Moved, Place, Space};
+
+// The charges of a container, and of another one, whose first changed.
+fn changed_charges(alloc: Global) -> Result<(u64, u64), AllocError> {
+    let mut charges = Charges::new(alloc)?;
+    charges.change(3, 0, 5);
+    Ok((charges.of(3), charges.of(4)))
+}
+
+#[test]
+fn a_charge_is_changed(rt: HostRuntime) {
+    assert!(rt; matches!(changed_charges(rt.alloc()), Ok((5, 0))));
+    a_charge_changes_with_a_series();
+    charges_are_the_same_in_every_format();
+}
+
+// A directory where a series has these places, which have six elements.
+fn two_places(alloc: Global) -> Result<Space, AllocError> {
+    let mut space = Space::new(alloc)?;
+    space.reserve(7, 2)?;
+    let moved = Moved {
+        index: 0,
+        gone: 0,
+        come: Come::Two(A, B),
+    };
+    space.splice(7, &moved);
+    Ok(space)
+}
+
+const A: Place = Place {
+    at: 0,
+    page: 931,
+    count: 5,
+};
+
+const B: Place = Place {
+    at: 677,
+    page: 930,
+    count: 1,
+};
+
+// What the series in slot 7 is charged where a page has room for five; none where it has more places or elements than a volume.
+fn charge_of(space: &Space, regular: Option<(u8, Stamp)>) -> Option<u64> {
+    if space.count(7) > 1_000_000 || space.places(7).len() > 1_000_000 {
+        return None;
+    }
+    Some(charge_of_places(space, regular, 7, 5))
+}
+
+// The charges of the places, as they are those of an irregular series and of a regular one.
+fn charges_of_two(alloc: Global) -> Result<(Option<u64>, Option<u64>), StoreFault> {
+    let space = two_places(alloc)?;
+    let origin = stamp(START)?;
+    Ok((
+        charge_of(&space, None),
+        charge_of(&space, Some((5, origin))),
+    ))
+}
+
+#[test]
+fn an_irregular_series_is_charged_for_elements_and_a_regular_one_for_places(rt: HostRuntime) {
+    assert!(rt; matches!(charges_of_two(rt.alloc()), Ok((Some(3), Some(2)))));
+}
+
+// What a series without places is charged.
+fn charge_of_none(alloc: Global) -> Result<Option<u64>, AllocError> {
+    let space = Space::new(alloc)?;
+    Ok(charge_of(&space, None))
+}
+
+#[test]
+fn a_series_without_places_is_charged_nothing(rt: HostRuntime) {
+    assert!(rt; matches!(charge_of_none(rt.alloc()), Ok(Some(0))));
+}
+
+// Whether a row type of integers is of both formats.
+fn integers_are_of_all(alloc: Global) -> bool {
+    match def(alloc, Kind::RowType, b"r") {
+        Ok(Def::RowType { kind, .. }) => {
+            is_of_format(OLD_FORMAT, &kind) && is_of_format(FORMAT, &kind)
+        }
+        _ => false,
+    }
+}
+
+#[test]
+fn integers_are_of_both_formats(rt: HostRuntime) {
+    assert!(rt; integers_are_of_all(rt.alloc()));
+}

@@ -1,0 +1,133 @@
+// The volume of the tests: made of bytes, read and surveyed.
+ghost use Rattle.std.specs.Prelude.{◌≡◌, [], IfOk};
+ghost use Rattle.ts_page.specs.Memory.{memory_contents};
+ghost use Rattle.ts_layout.specs.Meaning.{AreSound};
+
+use std::alloc::{AllocError, Global};
+use ts_base::StoreFault;
+use ts_container::{SurveyFault, Surveyed, survey};
+use ts_page::{MemoryPages, Page, Pages};
+
+/// The integer 5 at 2011-01-03 00:00:00.
+pub(crate) const CELL: &[u8] = &[1, 0, 0, 0x75, 0xb0, 0x95, 0x53, 0xf0, 0, 1, 0, 0, 0, 5];
+
+/// Bytes that are put into a page: its number, their place and they.
+pub(crate) type Patch = (u32, usize, &'static [u8]);
+
+/// A volume of the old format with a row type, a container in slot 3, a series in slot 50 and one element.
+const GOOD: [Patch; 10] = [
+    (0, 0, b"TSVOLUME\x01\x00\x00\x00\x03"),
+    (257, 0, b"\x01\x01r"),
+    (257, 34, b"\x01t"),
+    (257, 67, b"\x01\x02\x00\x00\x01v"),
+    (833, 180, b"\x01\x01c"),
+    (833, 214, b"\x00\x00\x00\x00\x02"),
+    (835, 658, b"\x02\x01k"),
+    (835, 724, b"\x03"),
+    (931, 0, b"\x02\x00\x32\x00\x01"),
+    (931, 32, CELL),
+];
+
+/// The byte of the newest format.
+pub(crate) const NEWEST: Patch = (0, 8, &[2]);
+
+// A volume of zeros with 3 element pages.
+pub(crate) fn zeros(alloc: Global) -> Result<MemoryPages, AllocError>
+    ensures count { IfOk result (λ pages. (memory_contents pages).count ≡ 933) }
+    ensures free { IfOk result (λ pages. (memory_contents pages).free ≡ []) }
+{
+    let pages = vec![in alloc; Page::zero(); 933]?;
+    Ok(MemoryPages::new(pages, Vec::new(alloc)))
+}
+
+// Puts bytes into a page.
+fn put(pages: &mut MemoryPages, patch: &Patch) -> Result<(), StoreFault>
+    requires count { (memory_contents pages.old).count ≡ 933 }
+    requires free { (memory_contents pages.old).free ≡ [] }
+    ensures count { (memory_contents pages.new).count ≡ 933 }
+    ensures free { (memory_contents pages.new).free ≡ [] }
+{
+    let (page, at, bytes) = *patch;
+    if page >= 933 || (page >= 1 && page < 257) || at > 4096 || bytes.len() > 4096 - at {
+        return Err(StoreFault::Failed);
+    }
+    let mut changed = Page::zero();
+    pages.get(page, &mut changed)?;
+    changed.bytes[at..at + bytes.len()].copy_from_slice(bytes);
+    pages.put(page, &changed)
+}
+
+// Puts bytes into pages, one after the other.
+pub(crate) fn put_all(pages: &mut MemoryPages, patches: &[Patch]) -> Result<(), StoreFault>
+    requires count { (memory_contents pages.old).count ≡ 933 }
+    requires free { (memory_contents pages.old).free ≡ [] }
+    ensures count { (memory_contents pages.new).count ≡ 933 }
+    ensures free { (memory_contents pages.new).free ≡ [] }
+{
+    for patch in patches {
+        put(pages, patch)?;
+    }
+    Ok(())
+}
+
+// The good volume with these bytes put into its pages.
+pub(crate) fn volume(alloc: Global, patches: &[Patch]) -> Result<MemoryPages, StoreFault>
+    ensures count { IfOk result (λ pages. (memory_contents pages).count ≡ 933) }
+    ensures free { IfOk result (λ pages. (memory_contents pages).free ≡ []) }
+{
+    let mut pages = zeros(alloc)?;
+    put_all(&mut pages, &GOOD)?;
+    put_all(&mut pages, patches)?;
+    Ok(pages)
+}
+
+// What the survey of a volume finds.
+pub(crate) fn survey_of(
+    alloc: Global,
+    made: Result<MemoryPages, StoreFault>,
+) -> Result<Surveyed, SurveyFault>
+    requires { IfOk made (λ pages. (memory_contents pages).count ≡ 933) }
+    ensures { IfOk result (λ found. AreSound 3 found.defs.definitions) }
+{
+    match made {
+        Ok(pages) => {
+            let mut pages = pages;
+            survey(alloc, &mut pages, 933)
+        }
+        Err(_) => Err(SurveyFault::Failed),
+    }
+}
+
+// What the survey of the good volume with these bytes finds.
+pub(crate) fn surveyed(alloc: Global, patches: &[Patch]) -> Result<Surveyed, SurveyFault> {
+    survey_of(alloc, volume(alloc, patches))
+}
+
+// The bad page that is told, if one is.
+pub(crate) fn page_told(found: Result<Surveyed, SurveyFault>) -> Option<Option<u32>> {
+    match found {
+        Ok(_) => Some(None),
+        Err(SurveyFault::NotAStore { page }) => Some(Some(page)),
+        Err(_) => None,
+    }
+}
+
+// A page of a volume.
+pub(crate) fn page_of(pages: &mut MemoryPages, number: u32) -> Option<Page>
+    requires { (memory_contents pages.old).count ≡ 933 }
+{
+    if number >= 933 {
+        return None;
+    }
+    let mut page = Page::zero();
+    pages.get(number, &mut page).ok()?;
+    Some(page)
+}
+
+/// Bytes for the good volume, and the first page that is bad with them, if one is.
+pub(crate) type Case = (&'static [Patch], Option<u32>);
+
+pub(crate) fn is_told(alloc: Global, case: &Case) -> bool {
+    let (patches, wanted) = *case;
+    page_told(surveyed(alloc, patches)) == Some(wanted)
+}
