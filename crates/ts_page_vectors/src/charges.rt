@@ -1,4 +1,8 @@
 // What containers and series are charged, and of which formats a row type is.
+ghost use Rattle.std.specs.Prelude.{◌≡◌, ◌∷◌, [], pos, IfOk};
+ghost use Rattle.ts_space.specs.Directory.{places_of};
+ghost use Rattle.ts_layout.specs.Charges.{IsCountable};
+
 use crate::made::{START, def, stamp};
 use std::alloc::{AllocError, Global};
 use ts_base::{Stamp, StoreFault};
@@ -24,7 +28,9 @@ fn a_charge_is_changed(rt: HostRuntime) {
 }
 
 // A directory where a series has these places, which have six elements.
-fn two_places(alloc: Global) -> Result<Space, AllocError> {
+fn two_places(alloc: Global) -> Result<Space, AllocError>
+    ensures { IfOk result (λ space. places_of 7 space ≡ record { at = pos 0; page = 931; count = 5 } ∷ record { at = pos 677; page = 930; count = 1 } ∷ []) }
+{
     let mut space = Space::new(alloc)?;
     space.reserve(7, 2)?;
     let moved = Moved {
@@ -48,16 +54,15 @@ const B: Place = Place {
     count: 1,
 };
 
-// What the series in slot 7 is charged where a page has room for five; none where it has more places or elements than a volume.
-fn charge_of(space: &Space, regular: Option<(u8, Stamp)>) -> Option<u64> {
-    if space.count(7) > 1_000_000 || space.places(7).len() > 1_000_000 {
-        return None;
-    }
-    Some(charge_of_places(space, regular, 7, 5))
+// What the series in slot 7 is charged where a page has room for five.
+fn charge_of(space: &Space, regular: Option<(u8, Stamp)>) -> u64
+    requires { IsCountable (places_of 7 space.now) }
+{
+    charge_of_places(space, regular, 7, 5)
 }
 
 // The charges of the places, as they are those of an irregular series and of a regular one.
-fn charges_of_two(alloc: Global) -> Result<(Option<u64>, Option<u64>), StoreFault> {
+fn charges_of_two(alloc: Global) -> Result<(u64, u64), StoreFault> {
     let space = two_places(alloc)?;
     let origin = stamp(START)?;
     Ok((
@@ -68,18 +73,18 @@ fn charges_of_two(alloc: Global) -> Result<(Option<u64>, Option<u64>), StoreFaul
 
 #[test]
 fn an_irregular_series_is_charged_for_elements_and_a_regular_one_for_places(rt: HostRuntime) {
-    assert!(rt; matches!(charges_of_two(rt.alloc()), Ok((Some(3), Some(2)))));
+    assert!(rt; matches!(charges_of_two(rt.alloc()), Ok((3, 2))));
 }
 
 // What a series without places is charged.
-fn charge_of_none(alloc: Global) -> Result<Option<u64>, AllocError> {
+fn charge_of_none(alloc: Global) -> Result<u64, AllocError> {
     let space = Space::new(alloc)?;
     Ok(charge_of(&space, None))
 }
 
 #[test]
 fn a_series_without_places_is_charged_nothing(rt: HostRuntime) {
-    assert!(rt; matches!(charge_of_none(rt.alloc()), Ok(Some(0))));
+    assert!(rt; matches!(charge_of_none(rt.alloc()), Ok(0)));
 }
 
 // Whether a row type of integers is of both formats.
