@@ -71,7 +71,11 @@ const MAKING: [(&[u8], &[u8], &[u8]); 13] = [
         b"error 23 Duplicate\n",
     ),
     // The series lies on the calendar.
-    (b"DropCalendar(both);", b"error 32 InUse\n", b"error 32 InUse\n"),
+    (
+        b"DropCalendar(both);",
+        b"error 32 InUse\n",
+        b"error 32 InUse\n",
+    ),
 ];
 
 /// Reads all that `MAKING` makes.
@@ -79,7 +83,8 @@ const READING: &[u8] = b"TSContainerUsage(c1);ListSeries(c1);GetElem('x','2011-0
     GetElem('x','2011-01-03 00:00:02');CalIndex(both,'2011-01-02 00:00:00','2011-01-05 00:00:00');\
     GetElem('r','2011-01-04 23:00:00');GetLastElem('r');GetNelems('r');";
 
-const READ: &[u8] = b"ok 3 8\n'r' regular 2\n'x' irregular 2\nok 2\n2011-01-03 00:00:00.00000 1\nok 1\n\
+const READ: &[u8] =
+    b"ok 3 8\n'r' regular 2\n'x' irregular 2\nok 2\n2011-01-03 00:00:00.00000 1\nok 1\n\
     2011-01-03 00:00:02.00000 3\nok 1\nok 3\n2011-01-04 00:00:00.00000 4\nok 1\n2012-11-10 00:00:00.00000 5\nok 1\nok 2\n";
 
 // What is said to the statements and the reading where so many of the statements were carried out before.
