@@ -1,0 +1,16 @@
+-- The elements of the pages before an index are counted.
+use Rattle.std.proofs.Common.{◌≡◌, ◌-◌, ◌^◌, min, Ok, List, length, take}
+use Rattle.ts_row.specs.Element.{Element, seen}
+use Rattle.ts_irregular.specs.Call.{Reads}
+use Rattle.ts_chain.specs.Chain.{all_in}
+use Rattle.ts_chain.specs.Range.{within_range}
+use Rattle.ts_clip.specs.Chain.{HoldsOfPages}
+use Rattle.ts_clip.proofs.chain_pages.count_pages.Given as goal
+
+abbrev pub invariant-loop-place : goal.invariant-loop-place
+invariant-loop-place g l = record {
+  call : Reads {T = Unit {0}} g.P.Pages.tells (Ok tt) (g.P.Pages.contents l.fn.pages) (g.P.Pages.contents l.pages);
+  undisturbed : g.P.Pages.undisturbed l.fn.pages l.pages;
+  counted : HoldsOfPages g.P.Pages.tells l.shelf.series l.shelf.kind.now.columns l.places (g.P.Pages.contents l.fn.pages)
+      (λ (chain : List (List Element)). l.count ≡ min (length (seen (within_range l.from l.to (all_in (take l.place-index chain))))) (2 ^ 64 - 1));
+}

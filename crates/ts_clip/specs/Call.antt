@@ -1,0 +1,19 @@
+-- What the calls read of the pages of a series.
+use Rattle.std.specs.Prelude.{◌≡◌, ℕ, ℤ, Result, Ok, Err, List, []}
+use Rattle.ts_base.specs.declared.refusal.Refusal.{Refusal}
+use Rattle.ts_row.specs.Element.{Element, seen}
+use Rattle.ts_chain.specs.Range.{within_range}
+use Rattle.ts_entry.specs.Entry.{Entry, elements_of, AreTaken}
+
+-- entries were taken, as many as they are; or they are refused, and none was taken
+abbrev pub IsRead : (List Entry → Type 0) → Result (List Entry) Refusal → Result ℕ Refusal → Type 0
+IsRead took (Ok entries) (Ok count) = AreTaken took entries count
+IsRead took (Ok entries) (Err refusal) = ⊥
+IsRead took (Err why) (Ok count) = ⊥
+IsRead took (Err why) (Err refusal) = (refusal ≡ why) × took []
+
+-- of some elements those from one stamp to another were taken that aren't hidden, perhaps with entries between them that have none
+pub record AreElementsTaken (took : List Entry → Type 0) (from to : ℤ) (es : List Element) : Type 0 where
+  pub entries : List Entry
+  pub taken : took entries
+  pub are : elements_of entries ≡ within_range from to (seen es)

@@ -1,0 +1,52 @@
+-- What is read of the pages of an irregular series: of its elements those of a range that aren't hidden, some of them passed over and some
+-- taken.
+use Rattle.std.specs.Prelude.{◌≡◌, ℕ, ◌+◌, ◌-◌, ◌≤◌, ℤ, pos, neg_ℤ, Bool, IsTrue, List, ◌++◌, length, map, take, drop}
+use Rattle.ts_space.specs.declared.place.Place.{Place}
+use Rattle.ts_page.specs.Pages.{Contents}
+use Rattle.ts_row.specs.declared.kind.Column.{Column}
+use Rattle.ts_row.specs.Element.{Element}
+use Rattle.ts_cells.specs.IrregularPage.{AreElements, AreInOrder, behind_head}
+use Rattle.ts_chain.specs.Chain.{all_in, ArePages}
+use Rattle.ts_chain.specs.Places.{AreChained}
+use Rattle.ts_chain.specs.Range.{within_range}
+use Rattle.ts_entry.specs.Entry.{Entry, filled}
+use Rattle.ts_clip.specs.declared.chain_cells.Wanted.{Wanted}
+
+-- of some elements the entries of those that are wanted
+abbrev pub wanted_of : Wanted → List Element → List Entry
+wanted_of want es = map filled (take want.most (drop want.skip es))
+
+-- These elements were passed: the entries of those that were wanted were taken, and of the elements behind them so many are wanted still.
+pub record ArePassed (took : List Entry → Type 0) (before after : Wanted) (es : List Element) : Type 0 where
+  pub entries : List Entry
+  pub taken : took entries
+  pub number : before.most ≡ after.most + length entries
+  pub are : (rest : List Element) → wanted_of before (es ++ rest) ≡ entries ++ wanted_of after rest
+
+-- this holds of the elements whose cells stand behind the head of a page, so many
+abbrev pub HoldsOfCells : List Column → ℕ → List ℕ → (List Element → Type 0) → Type 0
+HoldsOfCells columns count behind P =
+    (es : List Element) → AreInOrder columns es → length es ≡ count → behind ≡ behind_head columns es → P es
+
+-- this holds of the elements whose cells stand there, so many at least, in whatever order
+abbrev pub HoldsOfMore : List Column → ℕ → List ℕ → (List Element → Type 0) → Type 0
+HoldsOfMore columns least behind P =
+    (es : List Element) → AreElements columns es → least ≤ length es → behind ≡ behind_head columns es → P es
+
+-- where the pages are told, this holds of those that places tell of
+abbrev pub HoldsOfPages : Bool → ℕ → List Column → List Place → Contents → (List (List Element) → Type 0) → Type 0
+HoldsOfPages tells slot columns places v P =
+    IsTrue tells → (chain : List (List Element)) → AreChained slot columns v.page places chain → P chain
+
+-- all elements from one stamp to another stand on the pages of these places from one index on and before another
+abbrev pub HaveRange : ℤ → ℤ → List Place → ℕ → ℕ → Type 0
+HaveRange from to places first stop =
+    (slot : ℕ) (columns : List Column) (pages : ℕ → List ℕ) (chain : List (List Element)) → AreChained slot columns pages places chain
+    → ArePages columns chain → within_range from to (all_in chain) ≡ within_range from to (all_in (take (stop - first) (drop first chain)))
+
+-- the least of all stamps, and the greatest
+abbrev pub first_moment : ℤ
+first_moment = neg_ℤ (pos 6_213_559_680_000_000)
+
+abbrev pub last_moment : ℤ
+last_moment = pos 25_340_230_079_999_999
