@@ -1,0 +1,15 @@
+pub mod OrderLemmas
+pub mod MergeLemmas
+pub mod MergedLemmas
+pub mod HoldLemmas
+pub mod ListingLemmas
+pub mod ElementLemmas
+pub mod TrackLemmas
+pub mod SweptLemmas
+pub mod RisingLemmas
+pub mod MovedLemmas
+pub mod CommonLemmas
+pub mod AnswerLemmas
+pub mod LaggedLemmas
+pub mod LagLemmas
+pub mod NeededLemmas

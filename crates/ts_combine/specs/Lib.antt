@@ -1,0 +1,9 @@
+pub mod Combine
+pub mod Lag
+pub mod Series
+pub mod Rows
+pub mod Call
+pub mod Merge
+pub mod Line
+pub mod Reach
+pub mod Moved
