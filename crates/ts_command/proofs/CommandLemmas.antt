@@ -1,5 +1,5 @@
 -- The command that a statement is read as has its form.
-use Rattle.std.proofs.Common.{◌≡◌, ℕ, ◌<◌, ◌≤◌, ◌^◌, List, [], ◌∷◌, length, length-append, Some, Ok, refl, ap, arith, ℤ, pos}
+use Rattle.std.proofs.Common.{◌≡◌, ℕ, ◌<◌, ◌≤◌, ◌^◌, List, [], ◌∷◌, length, length-append, Some, Ok, true, refl, ap, arith, ℤ, pos, neg_ℤ, int_le}
 use Rattle.ts_row.specs.declared.value.Literal.{Literal}
 use Rattle.ts_text.specs.Phrase.{Phrase, ◌>>=◌, give, a_sign, behind, pair, the_end}
 use Rattle.ts_text.specs.declared.token.TokenKind.{TokenKind}
@@ -8,7 +8,8 @@ use Rattle.ts_text.proofs.CallerLemmas.{Yields, Goes, Any, chain, shrinks_of, si
 use Rattle.ts_tokens.specs.Tokens.{front}
 use Rattle.ts_tokens.specs.Text.{said}
 use Rattle.ts_command.specs.Form.{HasForm}
-use Rattle.ts_command.specs.Grammar.{a_name, a_text, text_in, a_routine, a_name_call, a_names_call, a_name_text_call, a_join_call, a_name_range_call, a_name_stamp_whole_call, a_key_call, a_key_name_call, a_key_name_stamp_name_call, a_key_stamp_call, a_key_range_call, a_names_whole_call, a_key_stamp_values_call, a_name_columns_call, of_name, of_key, of_stamp, of_row, of_text, of_join, of_range, arguments, a_call, a_command}
+use Rattle.ts_command.specs.Routines.{least_place, most_place}
+use Rattle.ts_command.specs.Grammar.{a_name, a_text, text_in, a_routine, a_name_call, a_names_call, a_name_text_call, a_join_call, a_name_range_call, a_name_stamp_whole_call, a_key_call, a_key_name_call, a_key_name_stamp_name_call, a_key_stamp_call, a_key_range_call, a_names_whole_call, a_key_stamp_values_call, a_name_columns_call, a_key_stamp_whole_call, a_key_whole_call, a_keys_range_call, of_name, of_key, of_stamp, of_row, of_text, of_join, of_range, of_clip, of_place, of_keys, arguments, a_call, a_command}
 use Rattle.ts_command.specs.declared.routine.Routine.{Routine}
 use Rattle.ts_command.specs.declared.routine.Routine.TheVariants as calls
 use Rattle.ts_command.specs.declared.routine.NameRoutine.{NameRoutine}
@@ -25,11 +26,17 @@ use Rattle.ts_command.specs.declared.routine.JoinRoutine.{JoinRoutine}
 use Rattle.ts_command.specs.declared.routine.JoinRoutine.TheVariants as joining
 use Rattle.ts_command.specs.declared.routine.RangeRoutine.{RangeRoutine}
 use Rattle.ts_command.specs.declared.routine.RangeRoutine.TheVariants as in_range
-use Rattle.ts_command.specs.declared.routine.Joined.{Joined}
-use Rattle.ts_command.specs.declared.routine.Joined.TheVariants.{Patterns, Calendars}
+use Rattle.ts_command.specs.declared.routine.ClipRoutine.{ClipRoutine}
+use Rattle.ts_command.specs.declared.routine.ClipRoutine.TheVariants as clipping
+use Rattle.ts_command.specs.declared.routine.PlaceRoutine.{PlaceRoutine}
+use Rattle.ts_command.specs.declared.routine.PlaceRoutine.TheVariants as by_place
+use Rattle.ts_command.specs.declared.routine.PairRoutine.{PairRoutine}
+use Rattle.ts_command.specs.declared.routine.PairRoutine.TheVariants as of_pair
+use Rattle.ts_command.specs.declared.word.Joined.{Joined}
+use Rattle.ts_command.specs.declared.word.Joined.TheVariants.{Patterns, Calendars}
 use Rattle.ts_command.specs.declared.command.Command.{Command}
 use Rattle.ts_tokens.proofs.CallerLemmas.{front_laws, said-le}
-use Rattle.ts_command.proofs.FormLemmas.{IsName, IsKey, AreNames, name_yields, routine_yields, name_call_yields, names_call_yields, name_text_call_yields, join_call_yields, name_range_call_yields, name_stamp_whole_call_yields, key_call_yields, key_name_call_yields, key_name_stamp_name_call_yields, key_stamp_call_yields, key_range_call_yields, names_whole_call_yields, key_stamp_values_call_yields, name_columns_call_yields}
+use Rattle.ts_command.proofs.FormLemmas.{IsName, IsKey, IsWithin, AreNames, name_yields, routine_yields, name_call_yields, names_call_yields, name_text_call_yields, join_call_yields, name_range_call_yields, name_stamp_whole_call_yields, key_call_yields, key_name_call_yields, key_name_stamp_name_call_yields, key_stamp_call_yields, key_range_call_yields, names_whole_call_yields, key_stamp_values_call_yields, name_columns_call_yields, key_stamp_whole_call_yields, key_whole_call_yields, keys_range_call_yields}
 
 -- the commands of each group have their form
 of_name-form : (routine : NameRoutine) (name : List ℕ) → IsName name → HasForm (of_name routine name)
@@ -44,6 +51,7 @@ of_name-form by_name.ListSeries name form = form
 
 of_key-form : (routine : KeyRoutine) (key : List ℕ) → IsKey key → HasForm (of_key routine key)
 of_key-form by_key.DropSeries key form = form
+of_key-form by_key.GetFirstElem key form = form
 of_key-form by_key.GetLastElem key form = form
 of_key-form by_key.GetNelems key form = form
 
@@ -73,6 +81,28 @@ of_range-form : (routine : RangeRoutine) (calendar : List ℕ) (from to : ℤ) �
 of_range-form in_range.CalIndex calendar from to form = form
 of_range-form in_range.CalRange calendar from to form = form
 
+of_clip-form : (routine : ClipRoutine) (key : List ℕ) (from to : ℤ) → IsKey key → HasForm (of_clip routine key from to)
+of_clip-form clipping.Clip key from to form = form
+of_clip-form clipping.ClipGetCount key from to form = form
+of_clip-form clipping.DelClip key from to form = form
+
+of_place-form : (routine : PlaceRoutine) (key : List ℕ) (place : ℤ) → IsKey key → IsWithin (least_place routine) (most_place routine) place → HasForm (of_place routine key place)
+of_place-form by_place.GetNthElem key index form within = (form, within.0, within.1)
+of_place-form by_place.Lag key by form within = (form, within.0, within.1)
+
+of_keys-form : (routine : PairRoutine) (first second : List ℕ) (from to : ℤ) → IsKey first → IsKey second → HasForm (of_keys routine first second from to)
+of_keys-form of_pair.Union first second from to one other = (one, other)
+of_keys-form of_pair.Intersect first second from to one other = (one, other)
+
+-- 1 lies in the range of each routine that takes a number
+place_below : (routine : PlaceRoutine) → int_le (least_place routine) (pos 1) ≡ true
+place_below by_place.GetNthElem = refl
+place_below by_place.Lag = refl
+
+place_above : (routine : PlaceRoutine) → int_le (pos 1) (most_place routine) ≡ true
+place_above by_place.GetNthElem = refl
+place_above by_place.Lag = refl
+
 -- what phrases alone tell of each routine's command: its form, and nothing where it has a text
 abbrev FormOf : Routine → Command → Type 0
 FormOf (calls.WithText routine) command = Any command
@@ -85,9 +115,9 @@ arguments_yield calls.CreateRowType = made_yields front front_laws _ HasForm a_n
 arguments_yield calls.TSContainerCreate = made_yields front front_laws _ HasForm (a_names_whole_call (pos 1) (pos 65536)) _ (names_whole_call_yields (pos 1) (pos 65536) refl refl) (λ a form. (form.0, form.1, form.2.0, form.2.1))
 arguments_yield calls.TSCreate = made_yields front front_laws _ HasForm a_key_name_stamp_name_call _ key_name_stamp_name_call_yields (λ a form. (form.0, form.1.0, form.1.2))
 arguments_yield calls.TSCreateIrr = made_yields front front_laws _ HasForm a_key_name_call _ key_name_call_yields (λ a form. form)
-arguments_yield calls.DelClip = made_yields front front_laws _ HasForm a_key_range_call _ key_range_call_yields (λ a form. form.0)
 arguments_yield calls.NotOp = made_yields front front_laws _ HasForm a_names_call _ names_call_yields (λ a form. form)
 arguments_yield calls.CalStamp = made_yields front front_laws _ HasForm (a_name_stamp_whole_call (pos 1) (pos 4294967295)) _ (name_stamp_whole_call_yields (pos 1) (pos 4294967295) refl refl) (λ a form. (form.0, form.2.0, form.2.1))
+arguments_yield calls.ClipCount = made_yields front front_laws _ HasForm (a_key_stamp_whole_call (neg_ℤ (pos 1000000)) (pos 1000000)) _ (key_stamp_whole_call_yields (neg_ℤ (pos 1000000)) (pos 1000000) refl refl) (λ a form. (form.0, form.2.0, form.2.1))
 arguments_yield (calls.ByName routine) = made_yields front front_laws _ HasForm a_name_call _ name_call_yields (of_name-form routine)
 arguments_yield (calls.ByKey routine) = made_yields front front_laws _ HasForm a_key_call _ key_call_yields (of_key-form routine)
 arguments_yield (calls.AtStamp routine) = made_yields front front_laws _ HasForm a_key_stamp_call _ key_stamp_call_yields (λ a form. of_stamp-form routine a.0 a.1 form.0)
@@ -95,6 +125,9 @@ arguments_yield (calls.WithRow routine) = made_yields front front_laws _ HasForm
 arguments_yield (calls.WithText routine) = made_yields front front_laws _ Any a_name_text_call _ name_text_call_yields (λ a form. tt)
 arguments_yield (calls.Joining routine) = made_yields front front_laws _ HasForm a_join_call _ join_call_yields (λ a form. of_join-form routine a.0 a.1 form.1)
 arguments_yield (calls.InRange routine) = made_yields front front_laws _ HasForm a_name_range_call _ name_range_call_yields (λ a form. of_range-form routine a.0 a.1 a.2 form.0)
+arguments_yield (calls.Clipping routine) = made_yields front front_laws _ HasForm a_key_range_call _ key_range_call_yields (λ a form. of_clip-form routine a.0 a.1 a.2 form.0)
+arguments_yield (calls.ByPlace routine) = made_yields front front_laws _ HasForm (a_key_whole_call (least_place routine) (most_place routine)) _ (key_whole_call_yields (least_place routine) (most_place routine) (place_below routine) (place_above routine)) (λ a form. of_place-form routine a.0 a.1 form.0 form.1)
+arguments_yield (calls.OfPair routine) = made_yields front front_laws _ HasForm a_keys_range_call _ keys_range_call_yields (λ a form. of_keys-form routine a.0 a.1.0 a.1.1 a.1.2 form.0 form.1.0)
 
 -- a phrase, with nothing told of what it gives
 goes_on : {A : Type 0} (P : A → Type 0) (phrase : Phrase A) (before : List ℕ) → Goes P phrase before → Goes Any phrase before

@@ -17,14 +17,14 @@ use Rattle.ts_tokens.specs.Tokens.{front, number_length, magnitude_length, fract
 use Rattle.ts_tokens.specs.Text.{undoubled, said}
 use Rattle.ts_tokens.specs.Number.{units_of, scale_of}
 use Rattle.ts_command.specs.Form.{IsColumn, HasForm}
-use Rattle.ts_command.specs.Grammar.{a_literal, literal_in, a_column, a_name, name_in, a_key, key_in, a_stamp, stamp_in, a_text, text_in, a_joined, joined_in, a_type, type_in, kind_behind, a_small, small_in, a_word, a_whole, whole_in, within, a_stamp_column, a_routine, routine_in, a_name_call, a_names_call, a_name_text_call, a_join_call, a_name_range_call, a_name_stamp_whole_call, a_key_call, a_key_name_call, a_key_name_stamp_name_call, a_key_stamp_call, a_key_range_call, a_names_whole_call, a_key_stamp_values_call, a_name_columns_call}
+use Rattle.ts_command.specs.Grammar.{a_literal, literal_in, a_column, a_name, name_in, a_key, key_in, a_stamp, stamp_in, a_text, text_in, a_joined, joined_in, a_type, type_in, kind_behind, a_small, small_in, a_word, a_whole, whole_in, within, a_stamp_column, a_routine, routine_in, a_name_call, a_names_call, a_name_text_call, a_join_call, a_name_range_call, a_name_stamp_whole_call, a_key_call, a_key_name_call, a_key_name_stamp_name_call, a_key_stamp_call, a_key_range_call, a_names_whole_call, a_key_stamp_values_call, a_name_columns_call, a_key_stamp_whole_call, a_key_whole_call, a_keys_range_call}
 use Rattle.ts_command.specs.Routines.{routine_of, joined_of, type_of}
 use Rattle.ts_command.specs.declared.routine.Routine.TheVariants as calls
 use Rattle.ts_command.specs.declared.routine.StampRoutine.TheVariants as at_stamp
-use Rattle.ts_command.specs.declared.routine.Joined.{Joined}
-use Rattle.ts_command.specs.declared.routine.Joined.TheVariants.{Patterns}
-use Rattle.ts_command.specs.declared.routine.TypeName.{TypeName}
-use Rattle.ts_command.specs.declared.routine.TypeName.TheVariants.{SmallInt, Integer, BigInt, Decimal, VarChar}
+use Rattle.ts_command.specs.declared.word.Joined.{Joined}
+use Rattle.ts_command.specs.declared.word.Joined.TheVariants.{Patterns}
+use Rattle.ts_command.specs.declared.word.TypeName.{TypeName}
+use Rattle.ts_command.specs.declared.word.TypeName.TheVariants.{SmallInt, Integer, BigInt, Decimal, VarChar}
 use Rattle.ts_command.specs.declared.command.Command.TheVariants as commands
 use Rattle.ts_tokens.proofs.CallerLemmas.{front_laws, open_sign, close_sign, comma_sign}
 
@@ -260,3 +260,24 @@ pub key_range_call_yields : Yields front (λ (p : List ℕ × ℤ × ℤ). IsKey
 unfolding a_key_range_call
 key_range_call_yields =
     bracketed _ (triple a_key a_stamp a_stamp) (triple_yields front front_laws IsKey Any Any comma_sign a_key a_stamp a_stamp key_yields stamp_yields stamp_yields)
+
+pub key_stamp_whole_call_yields : (least most : ℤ) → int_le least (pos 1) ≡ true → int_le (pos 1) most ≡ true → Yields front (λ (p : List ℕ × ℤ × ℤ). IsKey p.0 × Any p.1 × IsWithin least most p.2) (a_key_stamp_whole_call least most)
+unfolding a_key_stamp_whole_call
+key_stamp_whole_call_yields least most below above =
+    bracketed _ (triple a_key a_stamp (a_whole least most))
+    (triple_yields front front_laws IsKey Any (IsWithin least most) comma_sign a_key a_stamp (a_whole least most) key_yields stamp_yields (whole_yields least most below above))
+
+pub key_whole_call_yields : (least most : ℤ) → int_le least (pos 1) ≡ true → int_le (pos 1) most ≡ true → Yields front (λ (p : List ℕ × ℤ). IsKey p.0 × IsWithin least most p.1) (a_key_whole_call least most)
+unfolding a_key_whole_call
+key_whole_call_yields least most below above =
+    bracketed _ (pair a_key (a_whole least most)) (paired IsKey (IsWithin least most) a_key (a_whole least most) key_yields (whole_yields least most below above))
+
+-- a key, and a key and two stamps
+abbrev pub AreKeys : List ℕ × (List ℕ × ℤ × ℤ) → Type 0
+AreKeys p = IsKey p.0 × (IsKey p.1.0 × Any p.1.1 × Any p.1.2)
+
+pub keys_range_call_yields : Yields front AreKeys a_keys_range_call
+unfolding a_keys_range_call
+keys_range_call_yields =
+    bracketed _ (pair a_key (triple a_key a_stamp a_stamp))
+    (paired IsKey (λ (p : List ℕ × ℤ × ℤ). IsKey p.0 × Any p.1 × Any p.2) a_key (triple a_key a_stamp a_stamp) key_yields (triple_yields front front_laws IsKey Any Any comma_sign a_key a_stamp a_stamp key_yields stamp_yields stamp_yields))

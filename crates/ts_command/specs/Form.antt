@@ -1,5 +1,5 @@
 -- The form of commands: what holds of the names, keys, whole numbers and texts of every command that a statement is read as.
-use Rattle.std.specs.Prelude.{◌<◌, ◌^◌, IsTrue, length, pos, ◌≤ℤ◌}
+use Rattle.std.specs.Prelude.{◌<◌, ◌^◌, IsTrue, length, pos, neg_ℤ, ◌≤ℤ◌}
 use Rattle.std.specs.List.{AllByRecursion}
 use Rattle.ts_base.specs.Name.{is_name, is_key}
 use Rattle.ts_row.specs.declared.kind.Column.{Column}
@@ -45,3 +45,11 @@ HasForm (commands.RevealElem key stamp) = IsTrue (is_key key)
 HasForm (commands.GetElem key stamp) = IsTrue (is_key key)
 HasForm (commands.GetLastElem key) = IsTrue (is_key key)
 HasForm (commands.GetNelems key) = IsTrue (is_key key)
+HasForm (commands.GetFirstElem key) = IsTrue (is_key key)
+HasForm (commands.GetNthElem key index) = IsTrue (is_key key) × (pos 0 ≤ℤ index) × (index ≤ℤ pos 4294967295)
+HasForm (commands.Clip key from to) = IsTrue (is_key key)
+HasForm (commands.ClipCount key stamp count) = IsTrue (is_key key) × (neg_ℤ (pos 1000000) ≤ℤ count) × (count ≤ℤ pos 1000000)
+HasForm (commands.ClipGetCount key from to) = IsTrue (is_key key)
+HasForm (commands.Union first second from to) = IsTrue (is_key first) × IsTrue (is_key second)
+HasForm (commands.Intersect first second from to) = IsTrue (is_key first) × IsTrue (is_key second)
+HasForm (commands.Lag key by) = IsTrue (is_key key) × (neg_ℤ (pos 2147483647) ≤ℤ by) × (by ≤ℤ pos 2147483647)

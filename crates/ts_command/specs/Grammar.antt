@@ -1,5 +1,5 @@
 -- The grammar of statements.
-use Rattle.std.specs.Prelude.{ℕ, ◌==◌, ◌&&◌, nat_le, if◌then◌else◌, List, [], ◌∷◌, length, Option, Some, None, Result, codes, ℤ, pos, int_le}
+use Rattle.std.specs.Prelude.{ℕ, ◌==◌, ◌&&◌, nat_le, if◌then◌else◌, List, [], ◌∷◌, length, Option, Some, None, Result, codes, ℤ, pos, int_le, neg_ℤ}
 use Rattle.std.specs.List.{list_all}
 use Rattle.std.specs.Char.{is_ascii_digit}
 use Rattle.std.specs.Str.{bytes_eq}
@@ -33,11 +33,17 @@ use Rattle.ts_command.specs.declared.routine.JoinRoutine.{JoinRoutine}
 use Rattle.ts_command.specs.declared.routine.JoinRoutine.TheVariants as joining
 use Rattle.ts_command.specs.declared.routine.RangeRoutine.{RangeRoutine}
 use Rattle.ts_command.specs.declared.routine.RangeRoutine.TheVariants as in_range
-use Rattle.ts_command.specs.declared.routine.Joined.{Joined}
-use Rattle.ts_command.specs.declared.routine.Joined.TheVariants.{Patterns, Calendars}
-use Rattle.ts_command.specs.Routines.{routine_of, joined_of, type_of}
-use Rattle.ts_command.specs.declared.routine.TypeName.{TypeName}
-use Rattle.ts_command.specs.declared.routine.TypeName.TheVariants.{SmallInt, Integer, BigInt, Decimal, VarChar}
+use Rattle.ts_command.specs.declared.routine.ClipRoutine.{ClipRoutine}
+use Rattle.ts_command.specs.declared.routine.ClipRoutine.TheVariants as clipping
+use Rattle.ts_command.specs.declared.routine.PlaceRoutine.{PlaceRoutine}
+use Rattle.ts_command.specs.declared.routine.PlaceRoutine.TheVariants as by_place
+use Rattle.ts_command.specs.declared.routine.PairRoutine.{PairRoutine}
+use Rattle.ts_command.specs.declared.routine.PairRoutine.TheVariants as of_pair
+use Rattle.ts_command.specs.declared.word.Joined.{Joined}
+use Rattle.ts_command.specs.declared.word.Joined.TheVariants.{Patterns, Calendars}
+use Rattle.ts_command.specs.Routines.{routine_of, joined_of, type_of, least_place, most_place}
+use Rattle.ts_command.specs.declared.word.TypeName.{TypeName}
+use Rattle.ts_command.specs.declared.word.TypeName.TheVariants.{SmallInt, Integer, BigInt, Decimal, VarChar}
 use Rattle.ts_command.specs.declared.command.Command.{Command}
 use Rattle.ts_command.specs.declared.command.Command.TheVariants as commands
 
@@ -238,6 +244,18 @@ a_name_columns_call = do
 unfoldable pub a_key_range_call : Phrase (List ℕ × ℤ × ℤ)
 a_key_range_call = in_brackets (triple a_key a_stamp a_stamp)
 
+-- a key, a stamp and a whole number between the two
+unfoldable pub a_key_stamp_whole_call : ℤ → ℤ → Phrase (List ℕ × ℤ × ℤ)
+a_key_stamp_whole_call least most = in_brackets (triple a_key a_stamp (a_whole least most))
+
+-- a key and a whole number between the two
+unfoldable pub a_key_whole_call : ℤ → ℤ → Phrase (List ℕ × ℤ)
+a_key_whole_call least most = in_brackets (pair a_key (a_whole least most))
+
+-- a key, and a key and two stamps
+unfoldable pub a_keys_range_call : Phrase (List ℕ × (List ℕ × ℤ × ℤ))
+a_keys_range_call = in_brackets (pair a_key (triple a_key a_stamp a_stamp))
+
 -- the commands of routines that are called with the same arguments
 abbrev pub of_name : NameRoutine → List ℕ → Command
 of_name by_name.DropRowType name = commands.DropRowType name
@@ -251,6 +269,7 @@ of_name by_name.ListSeries container = commands.ListSeries container
 
 abbrev pub of_key : KeyRoutine → List ℕ → Command
 of_key by_key.DropSeries key = commands.DropSeries key
+of_key by_key.GetFirstElem key = commands.GetFirstElem key
 of_key by_key.GetLastElem key = commands.GetLastElem key
 of_key by_key.GetNelems key = commands.GetNelems key
 
@@ -280,15 +299,28 @@ abbrev pub of_range : RangeRoutine → List ℕ → ℤ → ℤ → Command
 of_range in_range.CalIndex calendar from to = commands.CalIndex calendar from to
 of_range in_range.CalRange calendar from to = commands.CalRange calendar from to
 
+abbrev pub of_clip : ClipRoutine → List ℕ → ℤ → ℤ → Command
+of_clip clipping.Clip key from to = commands.Clip key from to
+of_clip clipping.ClipGetCount key from to = commands.ClipGetCount key from to
+of_clip clipping.DelClip key from to = commands.DelClip key from to
+
+abbrev pub of_place : PlaceRoutine → List ℕ → ℤ → Command
+of_place by_place.GetNthElem key index = commands.GetNthElem key index
+of_place by_place.Lag key by = commands.Lag key by
+
+abbrev pub of_keys : PairRoutine → List ℕ → List ℕ → ℤ → ℤ → Command
+of_keys of_pair.Union first second from to = commands.Union first second from to
+of_keys of_pair.Intersect first second from to = commands.Intersect first second from to
+
 -- what each routine is called with, as its command
 unfoldable pub arguments : Routine → Phrase Command
 arguments calls.CreateRowType = made a_name_columns_call (λ a. commands.CreateRowType a.0 a.1 a.2)
 arguments calls.TSContainerCreate = made (a_names_whole_call (pos 1) (pos 65536)) (λ a. commands.TSContainerCreate a.0 a.1 a.2)
 arguments calls.TSCreate = made a_key_name_stamp_name_call (λ a. commands.TSCreate a.0 a.1.0 a.1.1 a.1.2)
 arguments calls.TSCreateIrr = made a_key_name_call (λ a. commands.TSCreateIrr a.0 a.1)
-arguments calls.DelClip = made a_key_range_call (λ a. commands.DelClip a.0 a.1 a.2)
 arguments calls.NotOp = made a_names_call (λ a. commands.NotOp a.0 a.1)
 arguments calls.CalStamp = made (a_name_stamp_whole_call (pos 1) (pos 4294967295)) (λ a. commands.CalStamp a.0 a.1 a.2)
+arguments calls.ClipCount = made (a_key_stamp_whole_call (neg_ℤ (pos 1000000)) (pos 1000000)) (λ a. commands.ClipCount a.0 a.1 a.2)
 arguments (calls.ByName routine) = made a_name_call (of_name routine)
 arguments (calls.ByKey routine) = made a_key_call (of_key routine)
 arguments (calls.AtStamp routine) = made a_key_stamp_call (λ a. of_stamp routine a.0 a.1)
@@ -296,6 +328,9 @@ arguments (calls.WithRow routine) = made a_key_stamp_values_call (λ a. of_row r
 arguments (calls.WithText routine) = made a_name_text_call (λ a. of_text routine a.0 a.1)
 arguments (calls.Joining routine) = made a_join_call (λ a. of_join routine a.0 a.1)
 arguments (calls.InRange routine) = made a_name_range_call (λ a. of_range routine a.0 a.1 a.2)
+arguments (calls.Clipping routine) = made a_key_range_call (λ a. of_clip routine a.0 a.1 a.2)
+arguments (calls.ByPlace routine) = made (a_key_whole_call (least_place routine) (most_place routine)) (λ a. of_place routine a.0 a.1)
+arguments (calls.OfPair routine) = made a_keys_range_call (λ a. of_keys routine a.0 a.1.0 a.1.1 a.1.2)
 
 -- a routine and what it is called with
 unfoldable pub a_call : Phrase Command

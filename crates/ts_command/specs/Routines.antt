@@ -1,5 +1,5 @@
 -- The routines, what is joined, and the types of value columns, by their names.
-use Rattle.std.specs.Prelude.{ℕ, List, [], ◌∷◌, codes, find, Option}
+use Rattle.std.specs.Prelude.{ℕ, List, [], ◌∷◌, codes, find, Option, ℤ, pos, neg_ℤ}
 use Rattle.std.specs.Str.{bytes_eq}
 use Rattle.ts_command.specs.declared.routine.Routine.{Routine}
 use Rattle.ts_command.specs.declared.routine.Routine.TheVariants as calls
@@ -17,10 +17,16 @@ use Rattle.ts_command.specs.declared.routine.JoinRoutine.{JoinRoutine}
 use Rattle.ts_command.specs.declared.routine.JoinRoutine.TheVariants as joining
 use Rattle.ts_command.specs.declared.routine.RangeRoutine.{RangeRoutine}
 use Rattle.ts_command.specs.declared.routine.RangeRoutine.TheVariants as in_range
-use Rattle.ts_command.specs.declared.routine.Joined.{Joined}
-use Rattle.ts_command.specs.declared.routine.Joined.TheVariants.{Patterns, Calendars}
-use Rattle.ts_command.specs.declared.routine.TypeName.{TypeName}
-use Rattle.ts_command.specs.declared.routine.TypeName.TheVariants.{SmallInt, Integer, BigInt, Decimal, VarChar}
+use Rattle.ts_command.specs.declared.routine.ClipRoutine.{ClipRoutine}
+use Rattle.ts_command.specs.declared.routine.ClipRoutine.TheVariants as clipping
+use Rattle.ts_command.specs.declared.routine.PlaceRoutine.{PlaceRoutine}
+use Rattle.ts_command.specs.declared.routine.PlaceRoutine.TheVariants as by_place
+use Rattle.ts_command.specs.declared.routine.PairRoutine.{PairRoutine}
+use Rattle.ts_command.specs.declared.routine.PairRoutine.TheVariants as of_pair
+use Rattle.ts_command.specs.declared.word.Joined.{Joined}
+use Rattle.ts_command.specs.declared.word.Joined.TheVariants.{Patterns, Calendars}
+use Rattle.ts_command.specs.declared.word.TypeName.{TypeName}
+use Rattle.ts_command.specs.declared.word.TypeName.TheVariants.{SmallInt, Integer, BigInt, Decimal, VarChar}
 
 -- the names of the routines that are called with a name
 abbrev pub name_spelling : NameRoutine → List ℕ
@@ -36,6 +42,7 @@ name_spelling by_name.ListSeries = codes "ListSeries"
 -- with a key
 abbrev pub key_spelling : KeyRoutine → List ℕ
 key_spelling by_key.DropSeries = codes "DropSeries"
+key_spelling by_key.GetFirstElem = codes "GetFirstElem"
 key_spelling by_key.GetLastElem = codes "GetLastElem"
 key_spelling by_key.GetNelems = codes "GetNelems"
 
@@ -68,15 +75,40 @@ abbrev pub range_spelling : RangeRoutine → List ℕ
 range_spelling in_range.CalIndex = codes "CalIndex"
 range_spelling in_range.CalRange = codes "CalRange"
 
+-- with a key and two stamps
+abbrev pub clip_spelling : ClipRoutine → List ℕ
+clip_spelling clipping.Clip = codes "Clip"
+clip_spelling clipping.ClipGetCount = codes "ClipGetCount"
+clip_spelling clipping.DelClip = codes "DelClip"
+
+-- with a key and a whole number
+abbrev pub place_spelling : PlaceRoutine → List ℕ
+place_spelling by_place.GetNthElem = codes "GetNthElem"
+place_spelling by_place.Lag = codes "Lag"
+
+-- the least and the greatest number that it may be
+abbrev pub least_place : PlaceRoutine → ℤ
+least_place by_place.GetNthElem = pos 0
+least_place by_place.Lag = neg_ℤ (pos 2147483647)
+
+abbrev pub most_place : PlaceRoutine → ℤ
+most_place by_place.GetNthElem = pos 4294967295
+most_place by_place.Lag = pos 2147483647
+
+-- with two keys and two stamps
+abbrev pub pair_spelling : PairRoutine → List ℕ
+pair_spelling of_pair.Union = codes "Union"
+pair_spelling of_pair.Intersect = codes "Intersect"
+
 -- the name of each routine
 abbrev pub spelling : Routine → List ℕ
 spelling calls.CreateRowType = codes "CreateRowType"
 spelling calls.TSContainerCreate = codes "TSContainerCreate"
 spelling calls.TSCreate = codes "TSCreate"
 spelling calls.TSCreateIrr = codes "TSCreateIrr"
-spelling calls.DelClip = codes "DelClip"
 spelling calls.NotOp = codes "NotOp"
 spelling calls.CalStamp = codes "CalStamp"
+spelling calls.ClipCount = codes "ClipCount"
 spelling (calls.ByName routine) = name_spelling routine
 spelling (calls.ByKey routine) = key_spelling routine
 spelling (calls.AtStamp routine) = stamp_spelling routine
@@ -84,6 +116,9 @@ spelling (calls.WithRow routine) = row_spelling routine
 spelling (calls.WithText routine) = text_spelling routine
 spelling (calls.Joining routine) = join_spelling routine
 spelling (calls.InRange routine) = range_spelling routine
+spelling (calls.Clipping routine) = clip_spelling routine
+spelling (calls.ByPlace routine) = place_spelling routine
+spelling (calls.OfPair routine) = pair_spelling routine
 
 -- all of them
 abbrev pub routines : List Routine
@@ -96,7 +131,15 @@ routines =
     calls.AtStamp at_stamp.DelElem ∷
     calls.AtStamp at_stamp.HideElem ∷
     calls.AtStamp at_stamp.RevealElem ∷
-    calls.DelClip ∷
+    calls.Clipping clipping.Clip ∷
+    calls.Clipping clipping.ClipGetCount ∷
+    calls.Clipping clipping.DelClip ∷
+    calls.ClipCount ∷
+    calls.ByPlace by_place.GetNthElem ∷
+    calls.ByPlace by_place.Lag ∷
+    calls.OfPair of_pair.Union ∷
+    calls.OfPair of_pair.Intersect ∷
+    calls.ByKey by_key.GetFirstElem ∷
     calls.ByKey by_key.GetLastElem ∷
     calls.ByKey by_key.GetNelems ∷
     calls.InRange in_range.CalIndex ∷

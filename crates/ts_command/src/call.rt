@@ -2,13 +2,13 @@
 ghost use Rattle.std.specs.Prelude.{◌≡◌, Ok, IfOk, IfErr};
 ghost use Rattle.ts_text.specs.Misfit.{Refuses};
 ghost use Rattle.ts_text.specs.Phrase.{repeated, onto};
-ghost use Rattle.ts_command.specs.Grammar.{a_literal, a_name_call, a_names_call, a_name_text_call, a_join_call, a_name_range_call, a_name_stamp_whole_call, a_key_call, a_key_name_call, a_key_name_stamp_name_call, a_key_stamp_call, a_key_range_call, a_names_whole_call, a_key_stamp_values_call, a_name_columns_call};
+ghost use Rattle.ts_command.specs.Grammar.{a_literal, a_name_call, a_names_call, a_name_text_call, a_join_call, a_name_range_call, a_name_stamp_whole_call, a_key_call, a_key_name_call, a_key_name_stamp_name_call, a_key_stamp_call, a_key_range_call, a_names_whole_call, a_key_stamp_values_call, a_name_columns_call, a_key_stamp_whole_call, a_key_whole_call, a_keys_range_call};
 
 use crate::column::{read_column, read_columns, read_stamp_column};
 use crate::phrase::{
     read_joined, read_key, read_literal, read_name, read_stamp, read_text, read_whole,
 };
-use crate::routine::Joined;
+use crate::word::Joined;
 use crate::{Columns, Literals};
 use std::alloc::Global;
 use ts_base::{Bytes, Key, Name, Stamp};
@@ -184,6 +184,64 @@ pub(crate) fn read_key_range_call(
     match read_stamp(alloc, read_sign(rest, b',')?) {
         Ok((from, rest)) => match read_stamp(alloc, read_sign(rest, b',')?) {
             Ok((to, rest)) => Ok(((key, from, to), read_sign(rest, b')')?)),
+            Err(misfit) => Err(misfit),
+        },
+        Err(misfit) => Err(misfit),
+    }
+}
+
+/// A key, a stamp and a whole number between the two.
+#[tactic(auto, unfolding(crate::specs::Grammar::a_key_stamp_whole_call))]
+pub(crate) fn read_key_stamp_whole_call(
+    alloc: Global,
+    bytes: &[u8],
+    least: i64,
+    most: i64,
+) -> Result<((Key, Stamp, i64), &[u8]), Misfit>
+    ensures ok { IfOk result (λ found. a_key_stamp_whole_call least most bytes.now ≡ Ok (found.0, found.1.now)) }
+    ensures cause { IfErr result (λ misfit. Refuses misfit (a_key_stamp_whole_call least most bytes.now)) }
+{
+    let (key, rest) = read_key(alloc, read_sign(bytes, b'(')?)?;
+    match read_stamp(alloc, read_sign(rest, b',')?) {
+        Ok((stamp, rest)) => {
+            let (whole, rest) = read_whole(read_sign(rest, b',')?, least, most)?;
+            Ok(((key, stamp, whole), read_sign(rest, b')')?))
+        }
+        Err(misfit) => Err(misfit),
+    }
+}
+
+/// A key and a whole number between the two.
+#[tactic(auto, unfolding(crate::specs::Grammar::a_key_whole_call))]
+pub(crate) fn read_key_whole_call(
+    alloc: Global,
+    bytes: &[u8],
+    least: i64,
+    most: i64,
+) -> Result<((Key, i64), &[u8]), Misfit>
+    ensures ok { IfOk result (λ found. a_key_whole_call least most bytes.now ≡ Ok (found.0, found.1.now)) }
+    ensures cause { IfErr result (λ misfit. Refuses misfit (a_key_whole_call least most bytes.now)) }
+{
+    let (key, rest) = read_key(alloc, read_sign(bytes, b'(')?)?;
+    let (whole, rest) = read_whole(read_sign(rest, b',')?, least, most)?;
+    let rest = read_sign(rest, b')')?;
+    Ok(((key, whole), rest))
+}
+
+/// A key, and a key and two stamps.
+#[tactic(auto, unfolding(crate::specs::Grammar::a_keys_range_call))]
+pub(crate) fn read_keys_range_call(
+    alloc: Global,
+    bytes: &[u8],
+) -> Result<((Key, (Key, Stamp, Stamp)), &[u8]), Misfit>
+    ensures ok { IfOk result (λ found. a_keys_range_call bytes.now ≡ Ok (found.0, found.1.now)) }
+    ensures cause { IfErr result (λ misfit. Refuses misfit (a_keys_range_call bytes.now)) }
+{
+    let (first, rest) = read_key(alloc, read_sign(bytes, b'(')?)?;
+    let (second, rest) = read_key(alloc, read_sign(rest, b',')?)?;
+    match read_stamp(alloc, read_sign(rest, b',')?) {
+        Ok((from, rest)) => match read_stamp(alloc, read_sign(rest, b',')?) {
+            Ok((to, rest)) => Ok(((first, (second, from, to)), read_sign(rest, b')')?)),
             Err(misfit) => Err(misfit),
         },
         Err(misfit) => Err(misfit),

@@ -6,7 +6,7 @@ ghost use Rattle.ts_text.specs.Misfit.{Refuses, RefusesExactly};
 
 use crate::Columns;
 use crate::phrase::{read_name, read_small, read_type, read_word};
-use crate::routine::TypeName;
+use crate::word::TypeName;
 use std::alloc::Global;
 use ts_base::Name;
 use ts_row::{Column, ColumnKind};

@@ -149,6 +149,44 @@ pub enum Command {
     GetNelems {
         key: Key,
     },
+    GetFirstElem {
+        key: Key,
+    },
+    GetNthElem {
+        key: Key,
+        index: i64,
+    },
+    Clip {
+        key: Key,
+        from: Stamp,
+        to: Stamp,
+    },
+    ClipCount {
+        key: Key,
+        stamp: Stamp,
+        count: i64,
+    },
+    ClipGetCount {
+        key: Key,
+        from: Stamp,
+        to: Stamp,
+    },
+    Union {
+        first: Key,
+        second: Key,
+        from: Stamp,
+        to: Stamp,
+    },
+    Intersect {
+        first: Key,
+        second: Key,
+        from: Stamp,
+        to: Stamp,
+    },
+    Lag {
+        key: Key,
+        by: i64,
+    },
 }
 
 /// The values that a statement gives, as it writes them.

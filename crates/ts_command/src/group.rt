@@ -1,17 +1,19 @@
 // Routines that are called with the same arguments: the arguments are read, and the routine chooses the command.
 ghost use Rattle.std.specs.Prelude.{◌≡◌, Ok, IfOk, IfErr};
 ghost use Rattle.ts_text.specs.Misfit.{Refuses};
-ghost use Rattle.ts_command.specs.Grammar.{arguments, of_name, of_key, of_stamp, of_row, of_text, of_join, of_range};
+ghost use Rattle.ts_command.specs.Grammar.{arguments, of_name, of_key, of_stamp, of_row, of_text, of_join, of_range, of_clip, of_place, of_keys};
 ghost use Rattle.ts_command.specs.declared.routine.Routine.{Routine};
 
 use crate::call::{
-    read_join_call, read_key_call, read_key_stamp_call, read_key_stamp_values_call, read_name_call,
+    read_join_call, read_key_call, read_key_range_call, read_key_stamp_call,
+    read_key_stamp_values_call, read_key_whole_call, read_keys_range_call, read_name_call,
     read_name_range_call, read_name_text_call,
 };
 use crate::routine::{
-    JoinRoutine, Joined, KeyRoutine, NameRoutine, RangeRoutine, RowRoutine, StampRoutine,
-    TextRoutine,
+    ClipRoutine, JoinRoutine, KeyRoutine, NameRoutine, PairRoutine, PlaceRoutine, RangeRoutine,
+    RowRoutine, StampRoutine, TextRoutine,
 };
+use crate::word::Joined;
 use crate::{Command, Literals};
 use std::alloc::Global;
 use ts_base::{Bytes, Key, Name, Stamp};
@@ -65,6 +67,7 @@ fn of_key(routine: KeyRoutine, key: Key) -> Command
 {
     match routine {
         KeyRoutine::DropSeries => Command::DropSeries { key },
+        KeyRoutine::GetFirstElem => Command::GetFirstElem { key },
         KeyRoutine::GetLastElem => Command::GetLastElem { key },
         KeyRoutine::GetNelems => Command::GetNelems { key },
     }
@@ -211,5 +214,91 @@ fn of_range(routine: RangeRoutine, calendar: Name, from: Stamp, to: Stamp) -> Co
     match routine {
         RangeRoutine::CalIndex => Command::CalIndex { calendar, from, to },
         RangeRoutine::CalRange => Command::CalRange { calendar, from, to },
+    }
+}
+
+/// The key and the two stamps.
+#[tactic(auto, unfolding(crate::specs::Grammar::arguments))]
+pub(crate) fn read_of_clip(
+    alloc: Global,
+    routine: ClipRoutine,
+    bytes: &[u8],
+) -> Result<(Command, &[u8]), Misfit>
+    ensures ok { IfOk result (λ found. arguments (Routine.Clipping routine) bytes.now ≡ Ok (found.0, found.1.now)) }
+    ensures cause { IfErr result (λ misfit. Refuses misfit (arguments (Routine.Clipping routine) bytes.now)) }
+{
+    match read_key_range_call(alloc, bytes) {
+        Ok(((key, from, to), rest)) => Ok((of_clip(routine, key, from, to), rest)),
+        Err(misfit) => Err(misfit),
+    }
+}
+
+fn of_clip(routine: ClipRoutine, key: Key, from: Stamp, to: Stamp) -> Command
+    ensures { result ≡ of_clip routine key from to }
+{
+    match routine {
+        ClipRoutine::Clip => Command::Clip { key, from, to },
+        ClipRoutine::ClipGetCount => Command::ClipGetCount { key, from, to },
+        ClipRoutine::DelClip => Command::DelClip { key, from, to },
+    }
+}
+
+/// The key and the number, in the routine's range.
+#[tactic(auto, unfolding(crate::specs::Grammar::arguments))]
+pub(crate) fn read_of_place(
+    alloc: Global,
+    routine: PlaceRoutine,
+    bytes: &[u8],
+) -> Result<(Command, &[u8]), Misfit>
+    ensures ok { IfOk result (λ found. arguments (Routine.ByPlace routine) bytes.now ≡ Ok (found.0, found.1.now)) }
+    ensures cause { IfErr result (λ misfit. Refuses misfit (arguments (Routine.ByPlace routine) bytes.now)) }
+{
+    let ((key, place), rest) = read_key_whole_call(alloc, bytes, routine.least(), routine.most())?;
+    Ok((of_place(routine, key, place), rest))
+}
+
+fn of_place(routine: PlaceRoutine, key: Key, place: i64) -> Command
+    ensures { result ≡ of_place routine key place }
+{
+    match routine {
+        PlaceRoutine::GetNthElem => Command::GetNthElem { key, index: place },
+        PlaceRoutine::Lag => Command::Lag { key, by: place },
+    }
+}
+
+/// The two keys and the two stamps.
+#[tactic(auto, unfolding(crate::specs::Grammar::arguments))]
+pub(crate) fn read_of_pair(
+    alloc: Global,
+    routine: PairRoutine,
+    bytes: &[u8],
+) -> Result<(Command, &[u8]), Misfit>
+    ensures ok { IfOk result (λ found. arguments (Routine.OfPair routine) bytes.now ≡ Ok (found.0, found.1.now)) }
+    ensures cause { IfErr result (λ misfit. Refuses misfit (arguments (Routine.OfPair routine) bytes.now)) }
+{
+    match read_keys_range_call(alloc, bytes) {
+        Ok(((first, (second, from, to)), rest)) => {
+            Ok((of_keys(routine, first, second, from, to), rest))
+        }
+        Err(misfit) => Err(misfit),
+    }
+}
+
+fn of_keys(routine: PairRoutine, first: Key, second: Key, from: Stamp, to: Stamp) -> Command
+    ensures { result ≡ of_keys routine first second from to }
+{
+    match routine {
+        PairRoutine::Union => Command::Union {
+            first,
+            second,
+            from,
+            to,
+        },
+        PairRoutine::Intersect => Command::Intersect {
+            first,
+            second,
+            from,
+            to,
+        },
     }
 }

@@ -14,6 +14,7 @@ mod laws;
 mod phrase;
 mod read;
 mod routine;
+mod word;
 
 pub use command::{Columns, Command, Literals};
 pub use laws::{

@@ -5,7 +5,8 @@ ghost use Rattle.ts_tokens.specs.Number.{units_of, scale_of};
 ghost use Rattle.ts_text.specs.Digits.{digit_count};
 ghost use Rattle.ts_text.specs.Misfit.{Refuses, RefusesExactly};
 
-use crate::routine::{Joined, Routine, TypeName, are_same, joined_of, routine_of, type_of};
+use crate::routine::{Routine, routine_of};
+use crate::word::{Joined, TypeName, are_same, joined_of, type_of};
 use std::alloc::Global;
 use ts_base::{Bytes, Key, Name, Stamp};
 use ts_row::Literal;

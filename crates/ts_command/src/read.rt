@@ -7,12 +7,12 @@ ghost use Rattle.ts_command.specs.Misfit.{IsCause};
 
 use crate::Command;
 use crate::call::{
-    read_key_name_call, read_key_name_stamp_name_call, read_key_range_call, read_name_columns_call,
-    read_name_stamp_whole_call, read_names_call, read_names_whole_call,
+    read_key_name_call, read_key_name_stamp_name_call, read_key_stamp_whole_call,
+    read_name_columns_call, read_name_stamp_whole_call, read_names_call, read_names_whole_call,
 };
 use crate::group::{
-    read_joining, read_of_key, read_of_name, read_of_range, read_of_row, read_of_stamp,
-    read_of_text,
+    read_joining, read_of_clip, read_of_key, read_of_name, read_of_pair, read_of_place,
+    read_of_range, read_of_row, read_of_stamp, read_of_text,
 };
 use crate::phrase::read_routine;
 use crate::routine::Routine;
@@ -31,9 +31,9 @@ fn read_arguments(alloc: Global, routine: Routine, bytes: &[u8]) -> Result<(Comm
         Routine::TSContainerCreate => read_create_container(alloc, bytes),
         Routine::TSCreate => read_create_regular(alloc, bytes),
         Routine::TSCreateIrr => read_create_irregular(alloc, bytes),
-        Routine::DelClip => read_delete_range(alloc, bytes),
         Routine::NotOp => read_opposite(alloc, bytes),
         Routine::CalStamp => read_calendar_stamp(alloc, bytes),
+        Routine::ClipCount => read_clip_count(alloc, bytes),
         Routine::ByName(routine) => read_of_name(alloc, routine, bytes),
         Routine::ByKey(routine) => read_of_key(alloc, routine, bytes),
         Routine::AtStamp(routine) => read_of_stamp(alloc, routine, bytes),
@@ -41,6 +41,9 @@ fn read_arguments(alloc: Global, routine: Routine, bytes: &[u8]) -> Result<(Comm
         Routine::WithText(routine) => read_of_text(alloc, routine, bytes),
         Routine::Joining(routine) => read_joining(alloc, routine, bytes),
         Routine::InRange(routine) => read_of_range(alloc, routine, bytes),
+        Routine::Clipping(routine) => read_of_clip(alloc, routine, bytes),
+        Routine::ByPlace(routine) => read_of_place(alloc, routine, bytes),
+        Routine::OfPair(routine) => read_of_pair(alloc, routine, bytes),
     }
 }
 
@@ -104,18 +107,6 @@ fn read_create_irregular(alloc: Global, bytes: &[u8]) -> Result<(Command, &[u8])
     Ok((Command::TSCreateIrr { key, container }, rest))
 }
 
-// The elements of a series from one stamp to another: its key and the two.
-#[tactic(auto, unfolding(crate::specs::Grammar::arguments))]
-fn read_delete_range(alloc: Global, bytes: &[u8]) -> Result<(Command, &[u8]), Misfit>
-    ensures ok { IfOk result (λ found. arguments Routine.DelClip bytes.now ≡ Ok (found.0, found.1.now)) }
-    ensures cause { IfErr result (λ misfit. Refuses misfit (arguments Routine.DelClip bytes.now)) }
-{
-    match read_key_range_call(alloc, bytes) {
-        Ok(((key, from, to), rest)) => Ok((Command::DelClip { key, from, to }, rest)),
-        Err(misfit) => Err(misfit),
-    }
-}
-
 // A pattern that is off where another is on: its name, and that of the other.
 #[tactic(auto, unfolding(crate::specs::Grammar::arguments))]
 fn read_opposite(alloc: Global, bytes: &[u8]) -> Result<(Command, &[u8]), Misfit>
@@ -141,6 +132,18 @@ fn read_calendar_stamp(alloc: Global, bytes: &[u8]) -> Result<(Command, &[u8]), 
             },
             rest,
         )),
+        Err(misfit) => Err(misfit),
+    }
+}
+
+// So many entries of a series at a stamp: its key, the stamp, and how many, where negative up to the stamp.
+#[tactic(auto, unfolding(crate::specs::Grammar::arguments))]
+fn read_clip_count(alloc: Global, bytes: &[u8]) -> Result<(Command, &[u8]), Misfit>
+    ensures ok { IfOk result (λ found. arguments Routine.ClipCount bytes.now ≡ Ok (found.0, found.1.now)) }
+    ensures cause { IfErr result (λ misfit. Refuses misfit (arguments Routine.ClipCount bytes.now)) }
+{
+    match read_key_stamp_whole_call(alloc, bytes, -1000000, 1000000) {
+        Ok(((key, stamp, count), rest)) => Ok((Command::ClipCount { key, stamp, count }, rest)),
         Err(misfit) => Err(misfit),
     }
 }

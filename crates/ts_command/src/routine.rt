@@ -1,7 +1,8 @@
-// The routines that a statement may call, what is joined, and the types of value columns, by their names.
+// The routines that a statement may call, by their names.
 ghost use Rattle.std.specs.Prelude.{◌≡◌};
-ghost use Rattle.std.specs.Str.{bytes_eq};
-ghost use Rattle.ts_command.specs.Routines.{spelling, name_spelling, key_spelling, stamp_spelling, row_spelling, text_spelling, join_spelling, range_spelling, routine_of, joined_spelling, joined_of, type_spelling, type_of};
+ghost use Rattle.ts_command.specs.Routines.{spelling, name_spelling, key_spelling, stamp_spelling, row_spelling, text_spelling, join_spelling, range_spelling, clip_spelling, place_spelling, pair_spelling, least_place, most_place, routine_of};
+
+use crate::word::are_same;
 
 /// The routines, those together that are called with the same arguments.
 #[derive(Clone, Copy, Debug, PartialEq, Eq)]
@@ -10,9 +11,9 @@ pub(crate) enum Routine {
     TSContainerCreate,
     TSCreate,
     TSCreateIrr,
-    DelClip,
     NotOp,
     CalStamp,
+    ClipCount,
     ByName(NameRoutine),
     ByKey(KeyRoutine),
     AtStamp(StampRoutine),
@@ -20,6 +21,9 @@ pub(crate) enum Routine {
     WithText(TextRoutine),
     Joining(JoinRoutine),
     InRange(RangeRoutine),
+    Clipping(ClipRoutine),
+    ByPlace(PlaceRoutine),
+    OfPair(PairRoutine),
 }
 
 /// Those that are called with a name.
@@ -39,6 +43,7 @@ pub(crate) enum NameRoutine {
 #[derive(Clone, Copy, Debug, PartialEq, Eq)]
 pub(crate) enum KeyRoutine {
     DropSeries,
+    GetFirstElem,
     GetLastElem,
     GetNelems,
 }
@@ -82,7 +87,29 @@ pub(crate) enum RangeRoutine {
     CalRange,
 }
 
-const ROUTINES: [Routine; 32] = [
+/// Those that are called with a key and two stamps.
+#[derive(Clone, Copy, Debug, PartialEq, Eq)]
+pub(crate) enum ClipRoutine {
+    Clip,
+    ClipGetCount,
+    DelClip,
+}
+
+/// Those that are called with a key and a whole number.
+#[derive(Clone, Copy, Debug, PartialEq, Eq)]
+pub(crate) enum PlaceRoutine {
+    GetNthElem,
+    Lag,
+}
+
+/// Those that are called with two keys and two stamps.
+#[derive(Clone, Copy, Debug, PartialEq, Eq)]
+pub(crate) enum PairRoutine {
+    Union,
+    Intersect,
+}
+
+const ROUTINES: [Routine; 40] = [
     Routine::WithRow(RowRoutine::PutElem),
     Routine::WithRow(RowRoutine::InsElem),
     Routine::WithRow(RowRoutine::UpdElem),
@@ -91,7 +118,15 @@ const ROUTINES: [Routine; 32] = [
     Routine::AtStamp(StampRoutine::DelElem),
     Routine::AtStamp(StampRoutine::HideElem),
     Routine::AtStamp(StampRoutine::RevealElem),
-    Routine::DelClip,
+    Routine::Clipping(ClipRoutine::Clip),
+    Routine::Clipping(ClipRoutine::ClipGetCount),
+    Routine::Clipping(ClipRoutine::DelClip),
+    Routine::ClipCount,
+    Routine::ByPlace(PlaceRoutine::GetNthElem),
+    Routine::ByPlace(PlaceRoutine::Lag),
+    Routine::OfPair(PairRoutine::Union),
+    Routine::OfPair(PairRoutine::Intersect),
+    Routine::ByKey(KeyRoutine::GetFirstElem),
     Routine::ByKey(KeyRoutine::GetLastElem),
     Routine::ByKey(KeyRoutine::GetNelems),
     Routine::InRange(RangeRoutine::CalIndex),
@@ -126,9 +161,9 @@ impl Routine {
             Routine::TSContainerCreate => b"TSContainerCreate",
             Routine::TSCreate => b"TSCreate",
             Routine::TSCreateIrr => b"TSCreateIrr",
-            Routine::DelClip => b"DelClip",
             Routine::NotOp => b"NotOp",
             Routine::CalStamp => b"CalStamp",
+            Routine::ClipCount => b"ClipCount",
             Routine::ByName(routine) => routine.spelling(),
             Routine::ByKey(routine) => routine.spelling(),
             Routine::AtStamp(routine) => routine.spelling(),
@@ -136,6 +171,9 @@ impl Routine {
             Routine::WithText(routine) => routine.spelling(),
             Routine::Joining(routine) => routine.spelling(),
             Routine::InRange(routine) => routine.spelling(),
+            Routine::Clipping(routine) => routine.spelling(),
+            Routine::ByPlace(routine) => routine.spelling(),
+            Routine::OfPair(routine) => routine.spelling(),
         }
     }
 }
@@ -163,6 +201,7 @@ impl KeyRoutine {
     {
         match self {
             KeyRoutine::DropSeries => b"DropSeries",
+            KeyRoutine::GetFirstElem => b"GetFirstElem",
             KeyRoutine::GetLastElem => b"GetLastElem",
             KeyRoutine::GetNelems => b"GetNelems",
         }
@@ -228,11 +267,58 @@ impl RangeRoutine {
     }
 }
 
-/// Whether the two are the same bytes.
-pub(crate) fn are_same(first: &[u8], second: &[u8]) -> bool
-    ensures { result ≡ bytes_eq first.now second.now }
-{
-    first == second
+impl ClipRoutine {
+    fn spelling(self) -> &'static [u8]
+        ensures { result.now ≡ clip_spelling self }
+    {
+        match self {
+            ClipRoutine::Clip => b"Clip",
+            ClipRoutine::ClipGetCount => b"ClipGetCount",
+            ClipRoutine::DelClip => b"DelClip",
+        }
+    }
+}
+
+impl PlaceRoutine {
+    fn spelling(self) -> &'static [u8]
+        ensures { result.now ≡ place_spelling self }
+    {
+        match self {
+            PlaceRoutine::GetNthElem => b"GetNthElem",
+            PlaceRoutine::Lag => b"Lag",
+        }
+    }
+
+    /// The least number that it is called with.
+    pub(crate) fn least(self) -> i64
+        ensures { result ≡ least_place self }
+    {
+        match self {
+            PlaceRoutine::GetNthElem => 0,
+            PlaceRoutine::Lag => -2147483647,
+        }
+    }
+
+    /// The greatest number that it is called with.
+    pub(crate) fn most(self) -> i64
+        ensures { result ≡ most_place self }
+    {
+        match self {
+            PlaceRoutine::GetNthElem => 4294967295,
+            PlaceRoutine::Lag => 2147483647,
+        }
+    }
+}
+
+impl PairRoutine {
+    fn spelling(self) -> &'static [u8]
+        ensures { result.now ≡ pair_spelling self }
+    {
+        match self {
+            PairRoutine::Union => b"Union",
+            PairRoutine::Intersect => b"Intersect",
+        }
+    }
 }
 
 /// The routine of this name, if there is one.
@@ -244,78 +330,4 @@ pub(crate) fn routine_of(word: &[u8]) -> Option<Routine>
         .iter()
         .copied()
         .find(|routine| are_same(routine.spelling(), word))
-}
-
-/// What a join is of.
-#[derive(Clone, Copy, Debug, PartialEq, Eq)]
-pub(crate) enum Joined {
-    Patterns,
-    Calendars,
-}
-
-const JOINED: [Joined; 2] = [Joined::Patterns, Joined::Calendars];
-
-impl Joined {
-    fn spelling(self) -> &'static [u8]
-        ensures { result.now ≡ joined_spelling self }
-    {
-        match self {
-            Joined::Patterns => b"pattern",
-            Joined::Calendars => b"calendar",
-        }
-    }
-}
-
-/// What is joined where this word stands, if something is.
-#[tactic(auto, unfolding(crate::specs::Routines::joined_of))]
-pub(crate) fn joined_of(word: &[u8]) -> Option<Joined>
-    ensures { result ≡ joined_of word.now }
-{
-    JOINED
-        .iter()
-        .copied()
-        .find(|joined| are_same(joined.spelling(), word))
-}
-
-/// A type of value columns, without its numbers.
-#[derive(Clone, Copy, Debug, PartialEq, Eq)]
-pub(crate) enum TypeName {
-    SmallInt,
-    Integer,
-    BigInt,
-    Decimal,
-    VarChar,
-}
-
-const TYPES: [TypeName; 5] = [
-    TypeName::SmallInt,
-    TypeName::Integer,
-    TypeName::BigInt,
-    TypeName::Decimal,
-    TypeName::VarChar,
-];
-
-impl TypeName {
-    fn spelling(self) -> &'static [u8]
-        ensures { result.now ≡ type_spelling self }
-    {
-        match self {
-            TypeName::SmallInt => b"smallint",
-            TypeName::Integer => b"integer",
-            TypeName::BigInt => b"bigint",
-            TypeName::Decimal => b"decimal",
-            TypeName::VarChar => b"varchar",
-        }
-    }
-}
-
-/// The type of this name, if there is one.
-#[tactic(auto, unfolding(crate::specs::Routines::type_of))]
-pub(crate) fn type_of(word: &[u8]) -> Option<TypeName>
-    ensures { result ≡ type_of word.now }
-{
-    TYPES
-        .iter()
-        .copied()
-        .find(|name| are_same(name.spelling(), word))
 }

@@ -12,6 +12,8 @@ enum Rest {
     Stamp(i64),
     Stamps(i64, i64),
     StampAndName(i64, &'static [u8]),
+    StampAndCount(i64, i64),
+    Place(i64),
     Values(i64, &'static [Value]),
     Quota(i64),
     Columns(&'static [(&'static [u8], ColumnKind)]),
@@ -54,6 +56,14 @@ fn routine_of(command: &Command) -> &'static str {
         Command::GetElem { .. } => "GetElem",
         Command::GetLastElem { .. } => "GetLastElem",
         Command::GetNelems { .. } => "GetNelems",
+        Command::GetFirstElem { .. } => "GetFirstElem",
+        Command::GetNthElem { .. } => "GetNthElem",
+        Command::Clip { .. } => "Clip",
+        Command::ClipCount { .. } => "ClipCount",
+        Command::ClipGetCount { .. } => "ClipGetCount",
+        Command::Union { .. } => "Union",
+        Command::Intersect { .. } => "Intersect",
+        Command::Lag { .. } => "Lag",
         _ => "",
     }
 }
@@ -80,6 +90,14 @@ fn first_of(command: &Command) -> &[u8] {
         Command::GetElem { key, .. } => key.as_slice(),
         Command::GetLastElem { key } => key.as_slice(),
         Command::GetNelems { key } => key.as_slice(),
+        Command::GetFirstElem { key } => key.as_slice(),
+        Command::GetNthElem { key, .. } => key.as_slice(),
+        Command::Clip { key, .. } => key.as_slice(),
+        Command::ClipCount { key, .. } => key.as_slice(),
+        Command::ClipGetCount { key, .. } => key.as_slice(),
+        Command::Union { first, .. } => first.as_slice(),
+        Command::Intersect { first, .. } => first.as_slice(),
+        Command::Lag { key, .. } => key.as_slice(),
         _ => b"",
     }
 }
@@ -90,6 +108,8 @@ fn second_of(command: &Command) -> &[u8] {
         Command::TSContainerCreate { row_type, .. } => row_type.as_slice(),
         Command::TSCreate { calendar, .. } => calendar.as_slice(),
         Command::TSCreateIrr { container, .. } => container.as_slice(),
+        Command::Union { second, .. } => second.as_slice(),
+        Command::Intersect { second, .. } => second.as_slice(),
         _ => b"",
     }
 }
@@ -100,8 +120,10 @@ fn is_rest(command: &Command, rest: Rest) -> bool {
         (Command::RevealElem { stamp, .. }, Rest::Stamp(units)) => stamp.units() == units,
         (Command::GetElem { stamp, .. }, Rest::Stamp(units)) => stamp.units() == units,
         (Command::DelElem { stamp, .. }, Rest::Stamp(units)) => stamp.units() == units,
-        (Command::DelClip { from, to, .. }, Rest::Stamps(first, last)) => {
-            from.units() == first && to.units() == last
+        (_, Rest::Stamps(first, last)) => has_range(command, first, last),
+        (_, Rest::Place(wanted)) => has_place(command, wanted),
+        (Command::ClipCount { stamp, count, .. }, Rest::StampAndCount(units, wanted)) => {
+            stamp.units() == units && *count == wanted
         }
         (
             Command::TSCreate {
@@ -117,6 +139,25 @@ fn is_rest(command: &Command, rest: Rest) -> bool {
             are_columns(columns.as_slice(), wanted)
         }
         (_, Rest::Nothing) => true,
+        _ => false,
+    }
+}
+
+fn has_range(command: &Command, first: i64, last: i64) -> bool {
+    match command {
+        Command::DelClip { from, to, .. }
+        | Command::Clip { from, to, .. }
+        | Command::ClipGetCount { from, to, .. }
+        | Command::Union { from, to, .. }
+        | Command::Intersect { from, to, .. } => from.units() == first && to.units() == last,
+        _ => false,
+    }
+}
+
+fn has_place(command: &Command, wanted: i64) -> bool {
+    match command {
+        Command::GetNthElem { index, .. } => *index == wanted,
+        Command::Lag { by, .. } => *by == wanted,
         _ => false,
     }
 }
@@ -294,6 +335,66 @@ const SEVERAL: [Value; 6] = [
     Value::Text(b""),
     Value::Text(b"a'"),
 ];
+
+/// Readings and combinations, and the commands that they are.
+static READINGS: [(&[u8], Row); 13] = [
+    (
+        b"GetFirstElem('x');",
+        ("GetFirstElem", b"x", b"", Rest::Nothing),
+    ),
+    (
+        b"GetNthElem('it''s', 0);",
+        ("GetNthElem", b"it's", b"", Rest::Place(0)),
+    ),
+    (
+        b"GetNthElem('x',4294967295);",
+        ("GetNthElem", b"x", b"", Rest::Place(4294967295)),
+    ),
+    (
+        b"Clip('x','1970-01-01 00:00:00','1969-12-31 23:59:59.99999');",
+        ("Clip", b"x", b"", Rest::Stamps(0, -1)),
+    ),
+    (
+        b"ClipGetCount('x' , '1970-01-01 00:00:00.00001','1970-01-01 00:00:00');",
+        ("ClipGetCount", b"x", b"", Rest::Stamps(1, 0)),
+    ),
+    (
+        b"ClipCount('x','1970-01-01 00:00:00.00001',-1000000);",
+        ("ClipCount", b"x", b"", Rest::StampAndCount(1, -1000000)),
+    ),
+    (
+        b"ClipCount('x','1970-01-01 00:00:00',1000000);",
+        ("ClipCount", b"x", b"", Rest::StampAndCount(0, 1000000)),
+    ),
+    (
+        b"ClipCount('x','1970-01-01 00:00:00',-0);",
+        ("ClipCount", b"x", b"", Rest::StampAndCount(0, 0)),
+    ),
+    (
+        b"Union('x','y','1970-01-01 00:00:00.00001','1970-01-01 00:00:00');",
+        ("Union", b"x", b"y", Rest::Stamps(1, 0)),
+    ),
+    (
+        b"Intersect('y', 'x', '1970-01-01 00:00:00', '1970-01-01 00:00:00.00001');",
+        ("Intersect", b"y", b"x", Rest::Stamps(0, 1)),
+    ),
+    (
+        b"Lag('x',-2147483647);",
+        ("Lag", b"x", b"", Rest::Place(-2147483647)),
+    ),
+    (
+        b"Lag('x',2147483647);",
+        ("Lag", b"x", b"", Rest::Place(2147483647)),
+    ),
+    (b"Lag('x',007);", ("Lag", b"x", b"", Rest::Place(7))),
+];
+
+#[test]
+fn each_reading_is_read_with_its_arguments(rt: HostRuntime) {
+    for (text, wanted) in &READINGS {
+        assert!(rt; is_read(rt.alloc(), text, *wanted));
+    }
+}
 
 /// Statements, and their values.
 static VALUES: [(&[u8], &[Value]); 8] = [

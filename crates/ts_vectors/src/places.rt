@@ -84,7 +84,10 @@ static STATEMENTS: [(&[u8], u32); 65] = [
     (b"RevealElem('x','2011-02-28 00:00:00',1);", 36),
     (b"RevealElem('x');", 14),
     // The shape of a call that comes next, by a routine that isn't built yet.
-    (b"GetNthElem('x',0);", 0),
+    (
+        b"AggregateRange('sum($v)','x','2011-02-28 00:00:00','2011-02-28 00:00:00');",
+        0,
+    ),
 ];
 
 #[test]
@@ -134,6 +137,60 @@ static DEFINITIONS: [(&[u8], u32); 30] = [
 #[test]
 fn patterns_and_calendars_are_refused_at_their_tokens(rt: HostRuntime) {
     for (text, wanted) in &DEFINITIONS {
+        assert!(rt; place(rt.alloc(), text) == Some(*wanted));
+    }
+}
+
+/// Readings and combinations, and the places where they are refused.
+static READINGS: [(&[u8], u32); 31] = [
+    (b"GetFirstElem();", 13),
+    (b"GetFirstElem('x',0);", 16),
+    (b"GetNthElem('x');", 14),
+    (b"GetNthElem(0,'x');", 11),
+    (b"GetNthElem('x',-1);", 15),
+    (b"GetNthElem('x',4294967296);", 15),
+    (b"GetNthElem('x',0.0);", 15),
+    (b"GetNthElem('x','0');", 15),
+    (b"GetNthElem('x',0,1);", 16),
+    (b"clip('x','2011-02-28 00:00:00','2011-02-28 00:00:00');", 0),
+    (b"Clip(x,'2011-02-28 00:00:00','2011-02-28 00:00:00');", 5),
+    (b"Clip('x','2011-02-28 00:00:00');", 30),
+    (b"Clip('x','2011-02-29 00:00:00','2011-02-28 00:00:00');", 9),
+    (b"Clip('x','2011-02-28 00:00:00',5);", 31),
+    (b"ClipGetCount('x','2011-02-28 00:00:00',1);", 39),
+    (b"ClipCount('x',1);", 14),
+    (b"ClipCount('x','2011-02-28 00:00:00');", 35),
+    (b"ClipCount('x','2011-02-28 00:00:00',1000001);", 36),
+    (b"ClipCount('x','2011-02-28 00:00:00',-1000001);", 36),
+    (b"ClipCount('x','2011-02-28 00:00:00',1.0);", 36),
+    (b"ClipCount('x','2011-02-28 00:00:00',1,1);", 37),
+    (
+        b"Union('x','2011-02-28 00:00:00','2011-02-28 00:00:00');",
+        53,
+    ),
+    (
+        b"Union('x',y,'2011-02-28 00:00:00','2011-02-28 00:00:00');",
+        10,
+    ),
+    (b"Union('x','y','2011-02-28 00:00:00');", 35),
+    (b"Intersect('x');", 13),
+    (
+        b"Intersect('x','y','2011-02-28 00:00:00','2011-02-29 00:00:00');",
+        40,
+    ),
+    (
+        b"Intersect('x','y','2011-02-28 00:00:00','2011-02-28 00:00:00','z');",
+        61,
+    ),
+    (b"Lag('x');", 7),
+    (b"Lag('x',2147483648);", 8),
+    (b"Lag('x',-2147483648);", 8),
+    (b"Lag('x',-1.0);", 8),
+];
+
+#[test]
+fn readings_are_refused_at_their_tokens(rt: HostRuntime) {
+    for (text, wanted) in &READINGS {
         assert!(rt; place(rt.alloc(), text) == Some(*wanted));
     }
 }
