@@ -11,8 +11,8 @@ use Rattle.ts_model.specs.declared.kind.Kind.{Kind}
 use Rattle.ts_model.specs.declared.kind.Kind.TheVariants as kinds
 use Rattle.ts_model.specs.Catalogue.{Catalogue}
 use Rattle.ts_command.specs.Script.{Request}
-use Rattle.ts_answer.specs.Answer.{Tried, Answered, ◌>>=◌, settled, outcome, answer, carried_out, create_row_type, drop_definition, create_pattern, turn_pattern, join_patterns, show_pattern, create_calendar, join_calendars, show_calendar, count_starts, find_start, list_starts, create_container, container_usage, create_irregular, create_regular, drop_series, list_series, put_element, put_no_dups, insert_element, update_element, delete_element, delete_range, mark_element, get_element, get_last_element, count_elements}
-use Rattle.ts_answer.proofs.ReplyLemmas.{IsApart, Begins, apart-begins, ok-begins, count-begins, counts-begins, number-begins, stamp-begins, pattern-begins, calendar-begins, stamps-begin, elements-begin, series_text-begins, refusal-apart}
+use Rattle.ts_answer.specs.Answer.{Tried, Answered, ◌>>=◌, settled, outcome, answer, carried_out, create_row_type, drop_definition, create_pattern, turn_pattern, join_patterns, show_pattern, create_calendar, join_calendars, show_calendar, count_starts, find_start, list_starts, create_container, container_usage, create_irregular, create_regular, drop_series, list_series, put_element, put_no_dups, insert_element, update_element, delete_element, delete_range, mark_element, get_element, get_last_element, count_elements, get_first_element, get_nth_element, clip_series, count_clip, clip_counted, join_series, lag_series}
+use Rattle.ts_answer.proofs.ReplyLemmas.{IsApart, Begins, apart-begins, ok-begins, count-begins, counts-begins, number-begins, stamp-begins, pattern-begins, calendar-begins, stamps-begin, elements-begin, entries-begin, series_text-begins, refusal-apart}
 
 -- what is said of a reply begins with another byte than the memory line
 abbrev Differs : Tried Answered → Type 0
@@ -136,6 +136,34 @@ count_elements-differs : (key : List ℕ) (cat : Catalogue) → Differs (count_e
 unfolding count_elements
 count_elements-differs key cat = then _ _ (λ a. count-begins _)
 
+get_first_element-differs : (key : List ℕ) (cat : Catalogue) → Differs (get_first_element key cat)
+unfolding get_first_element
+get_first_element-differs key cat = then _ _ (λ a. elements-begin _ _)
+
+get_nth_element-differs : (key : List ℕ) (n : ℕ) (cat : Catalogue) → Differs (get_nth_element key n cat)
+unfolding get_nth_element
+get_nth_element-differs key n cat = then _ _ (λ a. then _ _ (λ all. entries-begin _ _))
+
+clip_series-differs : (key : List ℕ) (from to : ℤ) (cat : Catalogue) → Differs (clip_series key from to cat)
+unfolding clip_series
+clip_series-differs key from to cat = then _ _ (λ a. then _ _ (λ all. then _ _ (λ rows. entries-begin _ rows)))
+
+count_clip-differs : (key : List ℕ) (from to : ℤ) (cat : Catalogue) → Differs (count_clip key from to cat)
+unfolding count_clip
+count_clip-differs key from to cat = then _ _ (λ a. then _ _ (λ all. count-begins _))
+
+clip_counted-differs : (key : List ℕ) (stamp n : ℤ) (cat : Catalogue) → Differs (clip_counted key stamp n cat)
+unfolding clip_counted
+clip_counted-differs key stamp n cat = then _ _ (λ a. then _ _ (λ all. entries-begin _ _))
+
+join_series-differs : (junction : Junction) (first second : List ℕ) (from to : ℤ) (cat : Catalogue) → Differs (join_series junction first second from to cat)
+unfolding join_series
+join_series-differs junction first second from to cat = then _ _ (λ a. then _ _ (λ b. then _ _ (λ shape. then _ _ (λ other. then _ _ (λ rows. elements-begin _ rows)))))
+
+lag_series-differs : (key : List ℕ) (by : ℤ) (cat : Catalogue) → Differs (lag_series key by cat)
+unfolding lag_series
+lag_series-differs key by cat = then _ _ (λ a. then _ _ (λ shape. then _ _ (λ rows. elements-begin _ rows)))
+
 carried_out-differs : (command : Command) (cat : Catalogue) → Differs (carried_out command cat)
 unfolding carried_out
 carried_out-differs (commands.CreateRowType name stamp columns) cat = create_row_type-differs name stamp columns cat
@@ -172,6 +200,14 @@ carried_out-differs (commands.RevealElem key stamp) cat = mark_element-differs f
 carried_out-differs (commands.GetElem key stamp) cat = get_element-differs key stamp cat
 carried_out-differs (commands.GetLastElem key) cat = get_last_element-differs key cat
 carried_out-differs (commands.GetNelems key) cat = count_elements-differs key cat
+carried_out-differs (commands.GetFirstElem key) cat = get_first_element-differs key cat
+carried_out-differs (commands.GetNthElem key index) cat = get_nth_element-differs key _ cat
+carried_out-differs (commands.Clip key from to) cat = clip_series-differs key from to cat
+carried_out-differs (commands.ClipCount key stamp count) cat = clip_counted-differs key stamp count cat
+carried_out-differs (commands.ClipGetCount key from to) cat = count_clip-differs key from to cat
+carried_out-differs (commands.Union first second from to) cat = join_series-differs Or first second from to cat
+carried_out-differs (commands.Intersect first second from to) cat = join_series-differs And first second from to cat
+carried_out-differs (commands.Lag key by) cat = lag_series-differs key by cat
 
 outcome-differs : (request : Request) (cat : Catalogue) → Differs (outcome request cat)
 unfolding outcome

@@ -7,7 +7,7 @@ use Rattle.ts_model.specs.declared.kind.Kind.{Kind}
 use Rattle.ts_model.specs.declared.kind.Kind.TheVariants as kinds
 use Rattle.ts_model.specs.Catalogue.{Catalogue}
 use Rattle.ts_model.specs.Kinds.{is_used}
-use Rattle.ts_answer.specs.Answer.{Answered, Tried, ◌>>=◌, settled, outcome, answer, carried_out, create_row_type, drop_definition, create_pattern, turn_pattern, join_patterns, show_pattern, create_calendar, join_calendars, show_calendar, count_starts, find_start, list_starts, create_container, container_usage, create_irregular, create_regular, drop_series, list_series, put_element, put_no_dups, insert_element, update_element, delete_element, delete_range, mark_element, get_element, get_last_element, count_elements}
+use Rattle.ts_answer.specs.Answer.{Answered, Tried, ◌>>=◌, settled, outcome, answer, carried_out, create_row_type, drop_definition, create_pattern, turn_pattern, join_patterns, show_pattern, create_calendar, join_calendars, show_calendar, count_starts, find_start, list_starts, create_container, container_usage, create_irregular, create_regular, drop_series, list_series, put_element, put_no_dups, insert_element, update_element, delete_element, delete_range, mark_element, get_element, get_last_element, count_elements, get_first_element, get_nth_element, clip_series, count_clip, clip_counted, join_series, lag_series}
 use Rattle.ts_answer.specs.SeriesLaws.{SeriesKeepTheirShapes}
 use Rattle.ts_answer.proofs.ShapeLemmas.{Keeps, not_so, shapes_stay, whole, edited, made, dropped}
 
@@ -32,7 +32,7 @@ module _ (cat : Catalogue) where
   idle_goes kind name = tries _ _ (λ there a. tries _ _ (λ done b. dropped cat kind name (not_so (is_used kind name cat) refusals.InUse done b)))
 
   each : (command : Command) → Tries (carried_out command cat)
-  unfolding Tries carried_out create_row_type create_pattern turn_pattern join_patterns show_pattern create_calendar join_calendars show_calendar count_starts find_start list_starts create_container container_usage create_irregular create_regular drop_series list_series put_element put_no_dups insert_element update_element delete_element delete_range mark_element get_element get_last_element count_elements
+  unfolding Tries carried_out create_row_type create_pattern turn_pattern join_patterns show_pattern create_calendar join_calendars show_calendar count_starts find_start list_starts create_container container_usage create_irregular create_regular drop_series list_series put_element put_no_dups insert_element update_element delete_element delete_range mark_element get_element get_last_element count_elements get_first_element get_nth_element clip_series count_clip clip_counted join_series lag_series
   each (commands.CreateRowType name stamp columns) = tries _ _ (λ good a. tries _ _ (λ has b. tries _ _ (made cat kinds.RowType name _)))
   each (commands.DropRowType name) = idle_goes kinds.RowType name
   each (commands.CreatePattern name text) = tries _ _ (λ pattern a. tries _ _ (made cat kinds.Pattern name _))
@@ -67,6 +67,14 @@ module _ (cat : Catalogue) where
   each (commands.GetElem key stamp) = tries _ _ (λ series a. whole cat)
   each (commands.GetLastElem key) = tries _ _ (λ series a. whole cat)
   each (commands.GetNelems key) = tries _ _ (λ series a. whole cat)
+  each (commands.GetFirstElem key) = tries _ _ (λ series a. whole cat)
+  each (commands.GetNthElem key index) = tries _ _ (λ series a. tries _ _ (λ all b. whole cat))
+  each (commands.Clip key from to) = tries _ _ (λ series a. tries _ _ (λ all b. tries _ _ (λ rows c. whole cat)))
+  each (commands.ClipCount key stamp count) = tries _ _ (λ series a. tries _ _ (λ all b. whole cat))
+  each (commands.ClipGetCount key from to) = tries _ _ (λ series a. tries _ _ (λ all b. whole cat))
+  each (commands.Union first second from to) = tries _ _ (λ a b. tries _ _ (λ c d. tries _ _ (λ shape e. tries _ _ (λ other f. tries _ _ (λ rows g. whole cat)))))
+  each (commands.Intersect first second from to) = tries _ _ (λ a b. tries _ _ (λ c d. tries _ _ (λ shape e. tries _ _ (λ other f. tries _ _ (λ rows g. whole cat)))))
+  each (commands.Lag key by) = tries _ _ (λ series a. tries _ _ (λ shape b. tries _ _ (λ rows c. whole cat)))
 
 pub shapes_kept : SeriesKeepTheirShapes
 unfolding answer outcome

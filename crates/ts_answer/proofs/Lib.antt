@@ -3,15 +3,22 @@ pub mod ApartLemmas
 pub mod CalendarLemmas
 pub mod CallerLemmas
 mod CarriedLemmas
+mod ClipLemmas
 mod DeletedLemmas
 mod EditedLemmas
+mod EndLemmas
 mod IntervalLemmas
+mod JoinedLemmas
 mod KeptShapeLemmas
 mod NameLemmas
+mod OffsetLemmas
 mod OriginLemmas
+mod PartLemmas
 mod PlacedLemmas
 mod ReadingLemmas
 mod ReplyLemmas
+mod RowLemmas
+mod SeenLemmas
 mod ShapeLemmas
 mod TriedLemmas
 mod UsedLemmas

@@ -11,8 +11,9 @@ use Rattle.ts_base.specs.declared.refusal.Refusal.TheVariants as refusals
 use Rattle.ts_row.specs.declared.kind.Column.{Column}
 use Rattle.ts_row.specs.Element.{Element}
 use Rattle.ts_row.specs.Printed.{row_text}
+use Rattle.ts_entry.specs.Entry.{Entry}
 use Rattle.ts_replies.specs.Acknowledged.{behind, memory_line}
-use Rattle.ts_answer.specs.Reply.{ok_line, count_line, counts_line, number_line, stamp_line, refusal_line, pattern_lines, calendar_lines, stamp_row, stamps_text, element_line, elements_text, series_line, series_text}
+use Rattle.ts_answer.specs.Reply.{ok_line, count_line, counts_line, number_line, stamp_line, refusal_line, pattern_lines, calendar_lines, stamp_row, stamps_text, element_line, elements_text, row_or_none, entry_line, entries_text, series_line, series_text}
 
 -- neither begins with the other
 pub record IsApart (text : List ℕ) : Type 0 where
@@ -98,6 +99,17 @@ stamps-begin stamps = lines-begin stamp_row stamp_row-begins stamps (count_line 
 pub elements-begin : (columns : List Column) (es : List Element) → Begins (elements_text columns es)
 unfolding elements_text
 elements-begin columns es = lines-begin (element_line columns) (element-begins columns) es (count_line (length es)) (count-begins (length es))
+
+entry-begins : (columns : List Column) (e : Entry) → Begins (entry_line columns e)
+unfolding entry_line
+entry-begins columns e =
+    let stamp = stamp_text e.0 in
+    let row = row_or_none columns e.1 in
+    begins-append ((stamp ++ codes " ") ++ row) (codes "\n") (begins-append (stamp ++ codes " ") row (begins-append stamp (codes " ") (stamp_text-begins e.0)))
+
+pub entries-begin : (columns : List Column) (es : List Entry) → Begins (entries_text columns es)
+unfolding entries_text
+entries-begin columns es = lines-begin (entry_line columns) (entry-begins columns) es (count_line (length es)) (count-begins (length es))
 
 pub series_text-begins : (ss : List (List ℕ × Bool × ℕ)) → Begins (series_text ss)
 unfolding series_text

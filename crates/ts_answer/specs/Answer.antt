@@ -27,7 +27,8 @@ use Rattle.ts_answer.specs.Reply.{ok_line, counts_line, number_line, stamp_line,
 pub use Rattle.ts_answer.specs.Refusals.{Tried, Answered, known, no_bad_column, row_or_mismatch, present, on_grid, addressed, reached, given, in_time, placed}
 unfoldable pub use Rattle.ts_answer.specs.Refusals.{◌>>=◌, refused_if, wanted, unused, within_limit, a_new_name, beyond_old_format, a_row, row_at, a_place, an_address, within_quota, within_pages, a_calendar}
 pub use Rattle.ts_answer.specs.Elements.{with_elements, with_element, seen_elements, last_element, element_at, count_if_any, count_at, without_one}
-unfoldable pub use Rattle.ts_answer.specs.Elements.{put_element, put_no_dups, insert_element, update_element, delete_element, delete_range, mark_element, get_element, get_last_element, count_elements}
+unfoldable pub use Rattle.ts_answer.specs.Elements.{put_element, put_no_dups, insert_element, update_element, delete_element, delete_range, mark_element, get_element, get_last_element, count_elements, get_first_element, get_nth_element, clip_series, count_clip, clip_counted, join_series, lag_series}
+unfoldable pub use Rattle.ts_answer.specs.Elements.{a_reading}
 
 unfoldable pub create_row_type : List ℕ → List ℕ → List Column → Catalogue → Tried Answered
 create_row_type name stamp columns cat = do
@@ -188,6 +189,14 @@ carried_out (commands.RevealElem key stamp) cat = mark_element false key stamp c
 carried_out (commands.GetElem key stamp) cat = get_element key stamp cat
 carried_out (commands.GetLastElem key) cat = get_last_element key cat
 carried_out (commands.GetNelems key) cat = count_elements key cat
+carried_out (commands.GetFirstElem key) cat = get_first_element key cat
+carried_out (commands.GetNthElem key index) cat = get_nth_element key (unsigned_abs index) cat
+carried_out (commands.Clip key from to) cat = clip_series key from to cat
+carried_out (commands.ClipCount key stamp count) cat = clip_counted key stamp count cat
+carried_out (commands.ClipGetCount key from to) cat = count_clip key from to cat
+carried_out (commands.Union first second from to) cat = join_series Or first second from to cat
+carried_out (commands.Intersect first second from to) cat = join_series And first second from to cat
+carried_out (commands.Lag key by) cat = lag_series key by cat
 
 -- what a request comes to
 unfoldable pub outcome : Request → Catalogue → Tried Answered

@@ -49,6 +49,14 @@ is_writing (commands.RevealElem key stamp) = true
 is_writing (commands.GetElem key stamp) = false
 is_writing (commands.GetLastElem key) = false
 is_writing (commands.GetNelems key) = false
+is_writing (commands.GetFirstElem key) = false
+is_writing (commands.GetNthElem key index) = false
+is_writing (commands.Clip key from to) = false
+is_writing (commands.ClipCount key stamp count) = false
+is_writing (commands.ClipGetCount key from to) = false
+is_writing (commands.Union first second from to) = false
+is_writing (commands.Intersect first second from to) = false
+is_writing (commands.Lag key by) = false
 
 -- an object of a catalogue: its kind, and its name or key
 abbrev pub Object : Type 0
@@ -65,6 +73,9 @@ writes kind name = record { wrote = (kind, name) ∷ []; named = [] }
 
 abbrev reads : Kind → List ℕ → Touched
 reads kind name = record { wrote = []; named = (kind, name) ∷ [] }
+
+abbrev reads_both : Kind → List ℕ → List ℕ → Touched
+reads_both kind first second = record { wrote = []; named = (kind, first) ∷ (kind, second) ∷ [] }
 
 -- an object that is made, of which others it is made from
 abbrev makes : Kind → List ℕ → List Object → Touched
@@ -115,6 +126,14 @@ objects (commands.RevealElem key stamp) = writes kinds.Series key
 objects (commands.GetElem key stamp) = reads kinds.Series key
 objects (commands.GetLastElem key) = reads kinds.Series key
 objects (commands.GetNelems key) = reads kinds.Series key
+objects (commands.GetFirstElem key) = reads kinds.Series key
+objects (commands.GetNthElem key index) = reads kinds.Series key
+objects (commands.Clip key from to) = reads kinds.Series key
+objects (commands.ClipCount key stamp count) = reads kinds.Series key
+objects (commands.ClipGetCount key from to) = reads kinds.Series key
+objects (commands.Union first second from to) = reads_both kinds.Series first second
+objects (commands.Intersect first second from to) = reads_both kinds.Series first second
+objects (commands.Lag key by) = reads kinds.Series key
 
 -- the catalogue after has the same format and as many pages, and the same under the name of each object but these
 pub record StaysBut (wrote : List Object) (cat after : Catalogue) : Type 0 where

@@ -1,5 +1,5 @@
 -- What routines over the elements of a series answer: each tries its refusals in order.
-use Rattle.std.specs.Prelude.{ℕ, ◌-◌, Bool, true, [], ℤ, List, length, map, slice_get, Option, Some, None, option_to_list, Ok, is_some}
+use Rattle.std.specs.Prelude.{ℕ, ◌-◌, Bool, true, [], ◌++◌, ℤ, List, length, map, slice_get, Option, Some, None, option_to_list, Ok, is_some}
 use Rattle.std.specs.FinMap.{entries, from_entries, get, insert, remove, len}
 use Rattle.ts_base.specs.declared.refusal.Refusal.TheVariants as refusals
 use Rattle.ts_row.specs.declared.value.Literal.{Literal}
@@ -7,11 +7,17 @@ use Rattle.ts_row.specs.Row.{Row, marked}
 use Rattle.ts_row.specs.Element.{Element, seen}
 use Rattle.ts_chain.specs.Range.{within_range, without_range}
 use Rattle.ts_model.specs.declared.kind.Kind.TheVariants as kinds
-use Rattle.ts_model.specs.Catalogue.{Elements, Series, Catalogue, columns_of, quota_of}
+use Rattle.ts_model.specs.Catalogue.{Elements, Series, Catalogue, columns_of, quota_of, shape_of}
 use Rattle.ts_model.specs.Charge.{container_charge}
 use Rattle.ts_model.specs.Kinds.{with_named}
-use Rattle.ts_answer.specs.Reply.{count_line, stamp_line, elements_text}
-use Rattle.ts_answer.specs.Refusals.{Tried, ◌>>=◌, Answered, reached, refused_if, wanted, beyond_old_format, a_row, row_at, a_place, an_address, within_quota}
+use Rattle.ts_offset.specs.declared.shape.Shape.{Shape}
+use Rattle.ts_pattern.specs.declared.junction.Junction.{Junction}
+use Rattle.ts_entry.specs.Entry.{Entry}
+use Rattle.ts_entry.specs.Reading.{reading, clipped, counted, entry_number, within_rows}
+use Rattle.ts_combine.specs.Combine.{Side, joined}
+use Rattle.ts_combine.specs.Lag.{lagged}
+use Rattle.ts_answer.specs.Reply.{count_line, stamp_line, elements_text, entries_text}
+use Rattle.ts_answer.specs.Refusals.{Tried, ◌>>=◌, Answered, reached, refused_if, wanted, known, beyond_old_format, a_row, row_at, a_place, an_address, within_quota}
 
 -- the catalogue with these elements of a series
 abbrev pub with_elements : List ℕ → Series → Elements → Catalogue → Catalogue
@@ -125,3 +131,69 @@ unfoldable pub count_elements : List ℕ → Catalogue → Tried Answered
 count_elements key cat = do
   series ← wanted key cat.series
   Ok (count_line (len series.elements), cat)
+
+-- the first of the elements that readings speak of, as a list of one or none
+abbrev pub first_element : Elements → List Element
+first_element elements = option_to_list (slice_get (seen_elements elements) 0)
+
+unfoldable pub get_first_element : List ℕ → Catalogue → Tried Answered
+get_first_element key cat = do
+  series ← wanted key cat.series
+  Ok (elements_text (columns_of cat series) (first_element series.elements), cat)
+
+-- what is read of a series
+unfoldable pub a_reading : Series → Catalogue → Tried (List Entry)
+a_reading series cat = do
+  shape ← known (shape_of cat series.kind)
+  Ok (reading shape (entries series.elements))
+
+-- the entry of a number
+unfoldable pub get_nth_element : List ℕ → ℕ → Catalogue → Tried Answered
+get_nth_element key n cat = do
+  series ← wanted key cat.series
+  all ← a_reading series cat
+  Ok (entries_text (columns_of cat series) (entry_number n all), cat)
+
+-- the entries from one stamp to another, both included
+unfoldable pub clip_series : List ℕ → ℤ → ℤ → Catalogue → Tried Answered
+clip_series key from to cat = do
+  series ← wanted key cat.series
+  all ← a_reading series cat
+  rows ← within_rows (clipped from to all)
+  Ok (entries_text (columns_of cat series) rows, cat)
+
+-- how many they are
+unfoldable pub count_clip : List ℕ → ℤ → ℤ → Catalogue → Tried Answered
+count_clip key from to cat = do
+  series ← wanted key cat.series
+  all ← a_reading series cat
+  Ok (count_line (length (clipped from to all)), cat)
+
+-- so many entries from a stamp on, or up to it
+unfoldable pub clip_counted : List ℕ → ℤ → ℤ → Catalogue → Tried Answered
+clip_counted key stamp n cat = do
+  series ← wanted key cat.series
+  all ← a_reading series cat
+  Ok (entries_text (columns_of cat series) (counted stamp n all), cat)
+
+-- a series as it is combined with another
+abbrev pub a_side : Series → Shape → Catalogue → Side
+a_side series shape cat = record { shape = shape; columns = length (columns_of cat series); elements = seen_elements series.elements }
+
+-- two series as one, with the columns of both
+unfoldable pub join_series : Junction → List ℕ → List ℕ → ℤ → ℤ → Catalogue → Tried Answered
+join_series junction first second from to cat = do
+  a ← wanted first cat.series
+  b ← wanted second cat.series
+  shape ← known (shape_of cat a.kind)
+  other ← known (shape_of cat b.kind)
+  rows ← joined junction (a_side a shape cat) (a_side b other cat) from to
+  Ok (elements_text (columns_of cat a ++ columns_of cat b) rows, cat)
+
+-- a regular series against itself so many on starts earlier
+unfoldable pub lag_series : List ℕ → ℤ → Catalogue → Tried Answered
+lag_series key by cat = do
+  series ← wanted key cat.series
+  shape ← known (shape_of cat series.kind)
+  rows ← lagged shape by (seen_elements series.elements)
+  Ok (elements_text (columns_of cat series) rows, cat)

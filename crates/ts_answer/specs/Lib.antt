@@ -6,6 +6,7 @@ pub mod Edited
 pub mod Elements
 pub mod Laws
 pub mod Reading
+pub mod ReadingLaws
 pub mod Refusals
 pub mod Reply
 pub mod SeriesLaws

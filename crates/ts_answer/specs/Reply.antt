@@ -1,5 +1,5 @@
 -- The texts of replies: lines, each ended by a line feed, of which the last begins with `ok` or `error`.
-use Rattle.std.specs.Prelude.{ℕ, ℤ, Bool, true, false, List, ◌++◌, length, codes, decimal, flat_map}
+use Rattle.std.specs.Prelude.{ℕ, ℤ, Bool, true, false, Option, Some, None, List, ◌++◌, length, codes, decimal, flat_map}
 use Rattle.ts_pattern.specs.Plan.{Plan}
 use Rattle.ts_pattern.specs.Grammar.{printed_plan}
 use Rattle.ts_calendar.specs.declared.text.CalendarText.{CalendarText}
@@ -9,7 +9,9 @@ use Rattle.ts_base.specs.declared.refusal.Refusal.{Refusal}
 use Rattle.ts_base.specs.Refusal.{refusal_code, refusal_name}
 use Rattle.ts_row.specs.declared.kind.Column.{Column}
 use Rattle.ts_row.specs.Element.{Element}
+use Rattle.ts_row.specs.Row.{Row}
 use Rattle.ts_row.specs.Printed.{row_text, quoted, number_text}
+use Rattle.ts_entry.specs.Entry.{Entry}
 
 -- `ok`, and the same before a count, two counts, a number with its sign or a stamp
 unfoldable pub ok_line : List ℕ
@@ -53,6 +55,19 @@ stamps_text stamps = flat_map stamp_row stamps ++ count_line (length stamps)
 -- elements, one a line, and how many they are
 unfoldable pub elements_text : List Column → List Element → List ℕ
 elements_text columns es = flat_map (element_line columns) es ++ count_line (length es)
+
+-- the values of a row, or that there is none
+abbrev pub row_or_none : List Column → Option Row → List ℕ
+row_or_none columns None = codes "none"
+row_or_none columns (Some row) = row_text columns row
+
+-- an entry: its stamp, and the values of the element there or that there is none
+unfoldable pub entry_line : List Column → Entry → List ℕ
+entry_line columns e = stamp_text e.0 ++ codes " " ++ row_or_none columns e.1 ++ codes "\n"
+
+-- entries, one a line, and how many they are
+unfoldable pub entries_text : List Column → List Entry → List ℕ
+entries_text columns es = flat_map (entry_line columns) es ++ count_line (length es)
 
 -- what a series is called by how its elements lie
 abbrev pub shape_word : Bool → List ℕ

@@ -2,7 +2,8 @@
 //! routine (`specs/Answer`, and `specs/Elements` over the elements of a series), whose refusals stand in the order in which
 //! they are tried (`specs/Refusals`). A command is carried out on what is in memory and on pages, whatever keeps them
 //! (`specs/View`), and gives its effect in memory, applied once the pages are kept (`specs/CarriedOut`). A test in code says
-//! what is tried (`specs/Tried`). What follows of the answers is proved apart (`specs/Laws`, and `specs/SeriesLaws`).
+//! what is tried (`specs/Tried`). What follows of the answers is proved apart (`specs/Laws`, `specs/SeriesLaws` of series and
+//! their edits, and `specs/ReadingLaws` of what is read of them).
 //! Nothing here speaks of a device, a journal or a commit. Stands on ts_command for commands, on ts_pattern, ts_calendar and
 //! ts_offset for what patterns, calendars and grids are, on ts_model and ts_layout for the catalogue of a layout. Read
 //! `specs/Answer.antt`, `specs/View.antt`, then `specs/CarriedOut.antt`.
@@ -10,6 +11,7 @@
 
 mod effect;
 mod laws;
+mod reading_laws;
 mod stop;
 #[cfg(test)]
 mod tests;
@@ -21,5 +23,10 @@ pub use laws::{
     a_refused_request_changes_nothing, a_series_keeps_its_shape, a_stamp_addresses_its_interval,
     an_origin_is_an_on_start, commands_fit_one_record, lines_are_printed_so,
     reading_changes_nothing, replies_and_the_memory_line_are_apart, what_is_not_written_stays,
+};
+pub use reading_laws::{
+    a_clip_lists_the_entries_between, a_count_is_of_what_is_listed, a_join_is_by_stamps,
+    a_lag_is_by_offsets, a_number_is_an_offset, an_end_has_none_beyond,
+    an_intersection_is_part_of_the_union,
 };
 pub use stop::Stop;

@@ -19,6 +19,13 @@ fn the_laws_are_called(_rt: HostRuntime) -> Result<(), Fail> {
     an_origin_is_an_on_start();
     commands_fit_one_record();
     lines_are_printed_so();
+    a_clip_lists_the_entries_between();
+    a_count_is_of_what_is_listed();
+    an_end_has_none_beyond();
+    a_number_is_an_offset();
+    an_intersection_is_part_of_the_union();
+    a_lag_is_by_offsets();
+    a_join_is_by_stamps();
     Ok(())
 }
 

@@ -1,0 +1,4 @@
+pub mod NumberLemmas
+pub mod BytesLemmas
+pub mod DayLemmas
+pub mod RowsLemmas

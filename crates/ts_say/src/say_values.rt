@@ -158,8 +158,8 @@ pub(crate) fn say_stamp_text(out: &mut Reply, stamp: Stamp) -> Result<(), AllocE
     out.extend_from_slice(&text)
 }
 
-// Each quote twice.
-fn say_quoted(out: &mut Reply, text: &[u8]) -> Result<(), AllocError>
+/// Says a text, each quote in it twice.
+pub(crate) fn say_quoted(out: &mut Reply, text: &[u8]) -> Result<(), AllocError>
     ensures { OnOk result (out.new ≡ out.old ++ flat_map quoted text.now) }
 {
     for byte in text {

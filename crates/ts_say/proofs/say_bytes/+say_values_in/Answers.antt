@@ -1,0 +1,14 @@
+-- One value, a comma and the others.
+use Rattle.std.proofs.Common.{ℕ, take, drop, ap, ◌∙◌, arith}
+use Rattle.std.proofs.lemmas.Grind.{common_steps}
+use Rattle.std.proofs.lemmas.Result.{on_ok_weaker}
+use Rattle.ts_say.proofs.BytesLemmas.{more_said}
+use Rattle.ts_say.proofs.say_bytes.+say_values_in.Goals as goal
+
+pub returns : goal.returns
+returns t c =
+    on_ok_weaker c.say_values_in.result
+    (λ others values is. more_said c.args.columns.now c.in-Some.columns.now c.in-Some.column.now c.args.bytes.now c.split_at.result.0.now c.split_at.result.1.now
+    c.args.out.now c.say_value_in.new.out c.push.new.self c.say_values_in.new.out values c.in-Some.ensures.cases.0 (grind (arith, common_steps))
+    (c.split_at.ensures.front ∙ ap (λ (w : ℕ). take w c.args.bytes.now) c.width.ensures) (c.split_at.ensures.back ∙ ap (λ (w : ℕ). drop w c.args.bytes.now) c.width.ensures)
+    c.in_ok-say_value_in.ensures c.in_ok-push.ensures.ok others is) c.say_values_in.ensures

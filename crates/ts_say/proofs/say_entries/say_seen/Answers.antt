@@ -1,0 +1,12 @@
+-- A stamp, a blank, the values and a line feed.
+use Rattle.std.proofs.lemmas.Result.{on_ok_weaker}
+use Rattle.ts_say.proofs.BytesLemmas.{seen_said, line_said}
+use Rattle.ts_say.proofs.say_entries.say_seen.Goals as goal
+
+pub returns : goal.returns
+returns c =
+    on_ok_weaker c.push.result
+    (λ last row seen. line_said c.args.kind.now.columns c.args.stamp row c.args.out.now c.say.new.out c.say_values_in.new.out c.push.new.self
+    c.in_ok-say.ensures
+    (seen_said c.args.kind.now.stamp c.args.kind.now.columns c.columns.result.now c.args.row.now row c.say.new.out c.say_values_in.new.out c.columns.ensures.rules c.columns.ensures.value seen c.in_ok-say_values_in.ensures) last)
+    c.push.ensures.ok

@@ -1,0 +1,19 @@
+-- The text of a stamp in two parts, that of its day and that of its time of day.
+use Rattle.std.specs.Prelude.{◌≡◌, ℕ, ◌/◌, ◌%◌, ℤ, pos, ◌*ℤ◌, List, [], ◌∷◌, ◌++◌}
+use Rattle.ts_base.specs.Moment.{civil_of, day_of}
+use Rattle.ts_base.specs.StampText.{two_digits, four_digits, five_digits}
+
+-- the text of a day, and a blank
+abbrev pub day_text : ℤ → List ℕ
+day_text day =
+    four_digits (civil_of day).year ++ 45 ∷ two_digits (civil_of day).month ++ 45 ∷ two_digits (civil_of day).day ++ 32 ∷ []
+
+-- the text of the units since midnight
+abbrev pub time_text : ℕ → List ℕ
+time_text clock =
+    two_digits (clock / 360_000_000) ++ 58 ∷ two_digits (clock / 6_000_000 % 60) ++ 58 ∷
+    two_digits (clock / 100_000 % 60) ++ 46 ∷ five_digits (clock % 100_000)
+
+-- a number of units is a midnight
+abbrev pub IsMidnight : ℤ → Type 0
+IsMidnight t = day_of t *ℤ pos 8_640_000_000 ≡ t

@@ -1,0 +1,133 @@
+// The text of the day on which stamps lie.
+ghost use Rattle.std.specs.Prelude.{◌≡◌, ◌<◌, ◌∷◌, ◌++◌, [], take, OnOk};
+ghost use Rattle.ts_base.specs.Moment.{IsStamp, day_of, clock_of};
+ghost use Rattle.ts_base.specs.StampText.{stamp_text, two_digits};
+ghost use Rattle.ts_say.specs.Day.{day_text, time_text, IsMidnight};
+
+use std::alloc::AllocError;
+use ts_base::{Reply, Stamp};
+
+/// The units of a day.
+const DAY: i64 = 8_640_000_000;
+
+/// The day of the stamp that was said last, as text: of stamps on the same day only the time is made anew.
+#[derive(Drop)]
+pub struct DayText {
+    /// In units since 1970.
+    midnight: i64,
+    /// The date and a blank.
+    text: [u8; 11],
+    ghost is_midnight: { IsMidnight midnight },
+    ghost bounds: { IsStamp midnight },
+    ghost is_text: { text ≡ day_text (day_of midnight) },
+}
+
+impl DayText {
+    /// That of 1970-01-01.
+    pub fn first() -> DayText {
+        let Some(stamp) = Stamp::of(0) else {
+            unreachable!()
+        };
+        DayText::of(stamp)
+    }
+
+    // That of a stamp.
+    fn of(stamp: Stamp) -> DayText
+        ensures { day_of result.midnight ≡ day_of stamp }
+    {
+        let mut whole = [0u8; 25];
+        stamp.write_into(&mut whole);
+        DayText {
+            midnight: midnight_before(stamp),
+            text: first_bytes(&whole),
+        }
+    }
+
+    // The units of a stamp since midnight, whose day is the one from now on.
+    fn turn(&mut self, stamp: Stamp) -> u64
+        ensures day { day_of self.new.midnight ≡ day_of stamp }
+        ensures clock { result ≡ clock_of stamp }
+        ensures below { result < 8_640_000_000 }
+    {
+        let since = stamp.units() - self.midnight;
+        if since >= 0 && since < DAY {
+            return since as u64;
+        }
+        *self = DayText::of(stamp);
+        clock(stamp)
+    }
+
+    /// Says a stamp, and a blank behind it.
+    pub(crate) fn say(&mut self, out: &mut Reply, stamp: Stamp) -> Result<(), AllocError>
+        ensures { OnOk result (out.new ≡ out.old ++ stamp_text stamp ++ 32 ∷ []) }
+    {
+        let clock = self.turn(stamp);
+        out.extend_from_slice(&self.text)?;
+        out.extend_from_slice(&time(clock))
+    }
+}
+
+// The bytes of the day in the text of a stamp.
+fn first_bytes(whole: &[u8; 25]) -> [u8; 11]
+    ensures { result ≡ take 11 whole.now }
+{
+    [
+        whole[0], whole[1], whole[2], whole[3], whole[4], whole[5], whole[6], whole[7], whole[8],
+        whole[9], whole[10],
+    ]
+}
+
+// The units of a stamp since midnight.
+fn clock(stamp: Stamp) -> u64
+    ensures value { result ≡ clock_of stamp }
+    ensures below { result < 8_640_000_000 }
+{
+    stamp.units().rem_euclid(DAY) as u64
+}
+
+// The last midnight before a stamp.
+fn midnight_before(stamp: Stamp) -> i64
+    ensures midnight { IsMidnight result }
+    ensures within { IsStamp result }
+    ensures day { day_of result ≡ day_of stamp }
+{
+    stamp.units() - clock(stamp) as i64
+}
+
+// The text of the units since midnight, and a blank.
+fn time(clock: u64) -> [u8; 15]
+    requires { clock < 8_640_000_000 }
+    ensures { result ≡ time_text clock ++ 32 ∷ [] }
+{
+    let [hour_tens, hour_ones] = two_digits((clock / 360_000_000) as u32);
+    let [minute_tens, minute_ones] = two_digits((clock / 6_000_000 % 60) as u32);
+    let [second_tens, second_ones] = two_digits((clock / 100_000 % 60) as u32);
+    let fraction = (clock % 100_000) as u32;
+    let [ten_thousands, thousands] = two_digits(fraction / 1000);
+    let [hundreds, tens] = two_digits(fraction % 1000 / 10);
+    [
+        hour_tens,
+        hour_ones,
+        b':',
+        minute_tens,
+        minute_ones,
+        b':',
+        second_tens,
+        second_ones,
+        b'.',
+        ten_thousands,
+        thousands,
+        hundreds,
+        tens,
+        b'0' + (fraction % 10) as u8,
+        b' ',
+    ]
+}
+
+// A number of at most two digits, as text.
+fn two_digits(n: u32) -> [u8; 2]
+    requires { n < 100 }
+    ensures { result ≡ two_digits n }
+{
+    [b'0' + (n / 10) as u8, b'0' + (n % 10) as u8]
+}

@@ -1,0 +1,127 @@
+// Values said straight from the bytes of their columns: each function takes the first column and goes on with the others,
+// at most 32 in all.
+ghost use Rattle.std.specs.Prelude.{◌≡◌, ℕ, ◌≤◌, ◌+◌, ◌++◌, nat_lt, if◌then◌else◌, IsTrue, OnOk, Some, length};
+ghost use Rattle.std.specs.List.{list_all};
+ghost use Rattle.std.specs.Int.{cast_signed, from_be_bytes, w64, w128};
+ghost use Rattle.ts_row.specs.declared.value.Value.{Value};
+ghost use Rattle.ts_row.specs.RowType.{column_width, is_kind, scale_of, width_of};
+ghost use Rattle.ts_row.specs.Row.{Values};
+ghost use Rattle.ts_row.specs.Decoding.{text_in, filled_in, value_in, values_in};
+ghost use Rattle.ts_row.specs.Printed.{number_text, value_text, values_text};
+
+use crate::say_numbers::{say_long_decimal, say_short_decimal, say_whole};
+use crate::say_values::say_quoted;
+use std::alloc::AllocError;
+use ts_base::Reply;
+use ts_row::{Column, ColumnKind, MOST_DIGITS, SHORT_DIGITS};
+
+/// Says the values that bytes are, with commas between them. Bytes that are no values are said as any.
+pub(crate) fn say_values_in(
+    out: &mut Reply,
+    columns: &[Column],
+    bytes: &[u8],
+) -> Result<(), AllocError>
+    requires kinds { IsTrue (list_all (λ c. is_kind c.kind) columns.now) }
+    requires size { length bytes.now ≡ width_of columns.now }
+    ensures { OnOk result ((values : Values) → values_in columns.now bytes.now ≡ Some values
+        → out.new ≡ out.old ++ values_text columns.now values) }
+{
+    let Some((column, columns)) = columns.split_first() else {
+        return Ok(());
+    };
+    let (cell, rest) = bytes.split_at(column.kind.width());
+    say_value_in(out, column.kind, cell)?;
+    if columns.is_empty() {
+        return Ok(());
+    }
+    out.push(b',')?;
+    say_values_in(out, columns, rest)
+}
+
+// Says the value that the bytes of a column are.
+fn say_value_in(out: &mut Reply, kind: ColumnKind, cell: &[u8]) -> Result<(), AllocError>
+    requires kind { IsTrue (is_kind kind) }
+    requires size { length cell.now ≡ column_width kind }
+    ensures { OnOk result ((value : Value) → value_in kind cell.now ≡ Some value
+        → out.new ≡ out.old ++ value_text (scale_of kind) value) }
+{
+    let Some((flag, bytes)) = cell.split_first() else {
+        return Ok(());
+    };
+    if *flag == 0 {
+        return out.extend_from_slice(b"null");
+    }
+    say_filled_in(out, kind, bytes)
+}
+
+// Says the value that bytes are, which aren't NULL's.
+fn say_filled_in(out: &mut Reply, kind: ColumnKind, bytes: &[u8]) -> Result<(), AllocError>
+    requires kind { IsTrue (is_kind kind) }
+    requires size { length bytes.now + 1 ≡ column_width kind }
+    ensures { OnOk result ((value : Value) → filled_in kind bytes.now ≡ Some value
+        → out.new ≡ out.old ++ value_text (scale_of kind) value) }
+{
+    match kind {
+        ColumnKind::SmallInt => say_whole(out, i16::from_be_bytes([bytes[0], bytes[1]]) as i64),
+        ColumnKind::Integer => {
+            let number = i32::from_be_bytes([bytes[0], bytes[1], bytes[2], bytes[3]]);
+            say_whole(out, number as i64)
+        }
+        ColumnKind::BigInt => say_whole(out, eight_bytes(bytes)),
+        ColumnKind::Decimal { digits, scale } => say_decimal_in(out, digits, scale, bytes),
+        ColumnKind::VarChar { length } => say_text_in(out, length, bytes),
+    }
+}
+
+// Says the number of a decimal that bytes are.
+fn say_decimal_in(out: &mut Reply, digits: u16, scale: u16, bytes: &[u8]) -> Result<(), AllocError>
+    requires digits { digits ≤ MOST_DIGITS }
+    requires scale { scale ≤ digits }
+    requires size { length bytes.now ≡ (if nat_lt SHORT_DIGITS digits then 16 else 8) }
+    ensures { OnOk result (out.new ≡ out.old ++ number_text scale (if nat_lt SHORT_DIGITS digits
+        then cast_signed w128 (from_be_bytes w128 bytes.now) else cast_signed w64 (from_be_bytes w64 bytes.now))) }
+{
+    if digits > SHORT_DIGITS {
+        say_long_decimal(out, sixteen_bytes(bytes), scale as u32)
+    } else {
+        say_short_decimal(out, eight_bytes(bytes), scale as u32)
+    }
+}
+
+// The number that sixteen bytes are.
+fn sixteen_bytes(bytes: &[u8]) -> i128
+    requires { length bytes.now ≡ 16 }
+    ensures { result ≡ cast_signed w128 (from_be_bytes w128 bytes.now) }
+{
+    i128::from_be_bytes([
+        bytes[0], bytes[1], bytes[2], bytes[3], bytes[4], bytes[5], bytes[6], bytes[7], bytes[8],
+        bytes[9], bytes[10], bytes[11], bytes[12], bytes[13], bytes[14], bytes[15],
+    ])
+}
+
+// The number that eight bytes are.
+fn eight_bytes(bytes: &[u8]) -> i64
+    requires { length bytes.now ≡ 8 }
+    ensures { result ≡ cast_signed w64 (from_be_bytes w64 bytes.now) }
+{
+    i64::from_be_bytes([
+        bytes[0], bytes[1], bytes[2], bytes[3], bytes[4], bytes[5], bytes[6], bytes[7],
+    ])
+}
+
+// Says the text that a length, bytes and zeros are.
+fn say_text_in(out: &mut Reply, most: u16, bytes: &[u8]) -> Result<(), AllocError>
+    requires { length bytes.now ≡ most + 1 }
+    ensures { OnOk result ((value : Value) → text_in most bytes.now ≡ Some value
+        → out.new ≡ out.old ++ value_text 0 value) }
+{
+    let Some((length, bytes)) = bytes.split_first() else {
+        return Ok(());
+    };
+    let Some(text) = bytes.get(..*length as usize) else {
+        return Ok(());
+    };
+    out.push(b'\'')?;
+    say_quoted(out, text)?;
+    out.push(b'\'')
+}

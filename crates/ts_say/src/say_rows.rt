@@ -1,0 +1,138 @@
+// Rows of many lines, said from their values.
+ghost use Rattle.std.specs.Prelude.{◌≡◌, ◌↔◌, ◌⊎◌, ◌≤◌, ◌++◌, IsTrue, IfSome, OnOk, length, replicate};
+ghost use Rattle.std.specs.List.{list_all};
+ghost use Rattle.std.specs.Option.{option_copied};
+ghost use Rattle.ts_row.specs.declared.value.Value.TheVariants.{Null};
+ghost use Rattle.ts_row.specs.RowType.{is_kind};
+ghost use Rattle.ts_row.specs.Row.{fits, visible};
+ghost use Rattle.ts_row.specs.Printed.{number_text, value_text, values_text};
+ghost use Rattle.ts_combine.specs.Combine.{values_or_nulls};
+ghost use Rattle.ts_answer.specs.Reply.{element_line};
+
+use crate::day_text::DayText;
+use crate::say_numbers::{say_long_decimal, say_short_decimal};
+use crate::say_values::say_quoted;
+use std::alloc::AllocError;
+use ts_base::{Reply, Stamp};
+use ts_row::{Column, MOST_DIGITS, Row, RowType, SHORT_DIGITS, Value};
+
+/// Says an element in a line.
+#[tactic(auto, unfolding(ts_answer::specs::Reply::element_line))]
+pub fn say_line(
+    out: &mut Reply,
+    day: &mut DayText,
+    kind: &RowType,
+    stamp: Stamp,
+    row: &Row,
+) -> Result<(), AllocError>
+    ensures { OnOk result (out.new ≡ out.old ++ element_line kind.now.columns (stamp, row.now)) }
+{
+    day.say(out, stamp)?;
+    say_values(out, kind.columns(), row.values())?;
+    out.push(b'\n')
+}
+
+/// Says in a line what two series have at a stamp: the values of both, NULL in each column of one that has no row.
+pub fn say_joined(
+    out: &mut Reply,
+    day: &mut DayText,
+    first_kind: &RowType,
+    second_kind: &RowType,
+    stamp: Stamp,
+    first: Option<&Row>,
+    second: Option<&Row>,
+) -> Result<(), AllocError>
+    ensures { OnOk result (IfSome first.entry (λ r. IsTrue (fits first_kind.now.columns r.now))
+        → IfSome second.entry (λ r. IsTrue (fits second_kind.now.columns r.now))
+        → out.new ≡ out.old ++ element_line (first_kind.now.columns ++ second_kind.now.columns) (
+          stamp,
+          visible (values_or_nulls (length first_kind.now.columns) (option_copied first.entry)
+              ++ values_or_nulls (length second_kind.now.columns) (option_copied second.entry)),
+        )) }
+{
+    day.say(out, stamp)?;
+    say_side(out, first_kind.columns(), first)?;
+    out.push(b',')?;
+    say_side(out, second_kind.columns(), second)?;
+    out.push(b'\n')
+}
+
+// Says the values of a row, or NULL for each column where there is none.
+fn say_side(out: &mut Reply, columns: &[Column], row: Option<&Row>) -> Result<(), AllocError>
+    requires { IsTrue (list_all (λ c. is_kind c.kind) columns.now) }
+    ensures { OnOk result (out.new ≡ out.old
+        ++ values_text columns.now (values_or_nulls (length columns.now) (option_copied row.entry))) }
+{
+    match row {
+        Some(row) => say_values(out, columns, row.values()),
+        None => say_nulls(out, columns),
+    }
+}
+
+// Says values, each as its column prints it, with commas between them.
+fn say_values(out: &mut Reply, columns: &[Column], values: &[Value]) -> Result<(), AllocError>
+    requires { IsTrue (list_all (λ c. is_kind c.kind) columns.now) }
+    ensures { OnOk result (out.new ≡ out.old ++ values_text columns.now values.now) }
+{
+    let Some((column, columns)) = columns.split_first() else {
+        return Ok(());
+    };
+    let Some((value, values)) = values.split_first() else {
+        return Ok(());
+    };
+    say_value(out, value, column.kind.scale() as u32)?;
+    if is_end(columns, values) {
+        return Ok(());
+    }
+    out.push(b',')?;
+    say_values(out, columns, values)
+}
+
+// Whether there are no columns or no values.
+fn is_end(columns: &[Column], values: &[Value]) -> bool
+    ensures { IsTrue result ↔ (length columns.now ≡ 0) ⊎ (length values.now ≡ 0) }
+{
+    columns.is_empty() || values.is_empty()
+}
+
+// Says NULL for each column.
+fn say_nulls(out: &mut Reply, columns: &[Column]) -> Result<(), AllocError>
+    ensures { OnOk result (out.new ≡ out.old ++ values_text columns.now (replicate (length columns.now) Null)) }
+{
+    let Some((_, columns)) = columns.split_first() else {
+        return Ok(());
+    };
+    out.extend_from_slice(b"null")?;
+    if columns.is_empty() {
+        return Ok(());
+    }
+    out.push(b',')?;
+    say_nulls(out, columns)
+}
+
+// Says a value, a number with so many digits after the point.
+fn say_value(out: &mut Reply, value: &Value, scale: u32) -> Result<(), AllocError>
+    requires { scale ≤ MOST_DIGITS }
+    ensures { OnOk result (out.new ≡ out.old ++ value_text scale value.now) }
+{
+    match value {
+        Value::Null => out.extend_from_slice(b"null"),
+        Value::Number(number) => say_scaled(out, *number, scale),
+        Value::Text(text) => {
+            out.push(b'\'')?;
+            say_quoted(out, text.as_slice())?;
+            out.push(b'\'')
+        }
+    }
+}
+
+// Says a number with so many digits after the point.
+fn say_scaled(out: &mut Reply, number: i128, scale: u32) -> Result<(), AllocError>
+    requires { scale ≤ MOST_DIGITS }
+    ensures { OnOk result (out.new ≡ out.old ++ number_text scale number) }
+{
+    match i64::try_from(number) {
+        Ok(short) if scale <= SHORT_DIGITS as u32 => say_short_decimal(out, short, scale),
+        _ => say_long_decimal(out, number, scale),
+    }
+}
