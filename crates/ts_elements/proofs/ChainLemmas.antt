@@ -15,7 +15,7 @@ use Rattle.ts_space.specs.Place.{count_of}
 use Rattle.ts_space.specs.Charge.{irregular_charge}
 use Rattle.ts_space.proofs.ChargeLemmas.{charge_grows}
 use Rattle.ts_cells.specs.Cell.{page_room}
-use Rattle.ts_irregular.specs.Edit.{element_at, with_element, without_element, last_seen}
+use Rattle.ts_irregular.specs.Edit.{element_at, with_element, without_element}
 use Rattle.ts_irregular.specs.Call.{ArePagesSame}
 use Rattle.ts_irregular.specs.OnePage.{IsPlace}
 use Rattle.ts_chain.specs.Chain.{IsChain, all_in}
@@ -34,7 +34,7 @@ use Rattle.ts_layout.specs.Chains.{by_stamp}
 use Rattle.ts_model.specs.Catalogue.{Elements}
 use Rattle.ts_answer.specs.CarriedOut.{Stays}
 use Rattle.ts_elements.specs.Stamps.{IsTold, AreWritten, charge_with_one, target_in}
-use Rattle.ts_elements.specs.Calls.{IsEdited, IsFound, IsLast, IsMarked, IsRemoved, IsCleared, WouldCost}
+use Rattle.ts_elements.specs.Calls.{IsEdited, IsFound, IsMarked, IsRemoved, IsCleared, WouldCost}
 use Rattle.ts_elements.proofs.LawLemmas.{as_maps}
 use Rattle.ts_elements.proofs.AddressLemmas.{aims_at_any, one_address}
 use Rattle.ts_elements.proofs.SeriesLemmas.{many}
@@ -85,9 +85,6 @@ module _ (tells : Bool) (slot : ℕ) (columns : List Column) (places : List Plac
         ∙ ap (λ (s : ℤ). option_map (λ (r : Row). (s, r)) (element_at s es)) (sym here),
     λ why none. absurd (cc),
   )
-
-  pub last_chain : (last : Option Element) → call.IsLastIn tells slot columns places v last → IsLast tells Irregular slot columns places v last
-  last_chain last is = told (λ es. last ≡ last_seen es) is
 
   -- a mark
   pub marked_chain : (stamp : ℤ) (hidden there : Bool) (answer : Result ℤ Refusal) → call.IsMarked tells slot columns stamp hidden places v w there → (IsTrue there → answer ≡ Ok stamp) → (there ≡ false → answer ≡ Err Missing)

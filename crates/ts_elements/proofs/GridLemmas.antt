@@ -43,11 +43,11 @@ use Rattle.ts_layout.specs.Chains.{by_stamp}
 use Rattle.ts_answer.specs.Answer.{addressed}
 use Rattle.ts_answer.specs.CarriedOut.{Stays}
 use Rattle.ts_elements.specs.Stamps.{IsTold, AreWritten, HaveElements, charge_with_one, target_in, unless}
-use Rattle.ts_elements.specs.Calls.{IsEdited, IsFound, IsLast, IsMarked, IsRemoved, IsCleared, WouldCost, IsPut}
+use Rattle.ts_elements.specs.Calls.{IsEdited, IsFound, IsMarked, IsRemoved, IsCleared, WouldCost, IsPut}
 use Rattle.ts_elements.proofs.LawLemmas.{charges}
 use Rattle.ts_elements.proofs.AddressLemmas.{on_address, no_address, one_address, not_both, aims_at, aims_at_none}
 use Rattle.ts_elements.proofs.RisingLemmas.{rising_put}
-use Rattle.ts_elements.proofs.StartLemmas.{starts_put, starts_left, last_seen_stamped}
+use Rattle.ts_elements.proofs.StartLemmas.{starts_put, starts_left}
 
 -- its places can be read
 pub readable : (columns : List Column) (c : Contents) (places : List Place) → cells.ArePlaces columns c places → All (cells.CanBeRead c) places
@@ -80,11 +80,6 @@ module _ (tells : Bool) (grid : GridPlan) (laid : IsLaid grid.calendar) (slot : 
     have = record { cells = is.cells; on = is.on; starts = subst (HaveStarts grid) (sym is.all) starts; all = ap (stamped grid) is.all };
     others = is.others;
   }
-
-  -- the last element
-  pub last_cells : (last : Option OffsetElement) (answer : Option Element) → call.IsLastIn tells slot columns places v last → answer ≡ option_and_then (stamped_one grid) last → IsLast tells (Regular grid) slot columns places v answer
-  last_cells last answer is at tell es have =
-      at ∙ ap (option_and_then (stamped_one grid)) (is tell have.cells have.on) ∙ sym (last_seen_stamped grid (all_at have.cells) have.starts) ∙ ap last_seen have.all
 
   module _ (stamp : ℤ) (offset : ℕ) (start : ℤ) (is : IsAddressed grid stamp offset start) where
     address : addressed (Regular grid) stamp ≡ Ok start

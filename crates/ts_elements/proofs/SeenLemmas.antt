@@ -12,7 +12,7 @@ use Rattle.ts_row.specs.Element.{Element, seen}
 use Rattle.ts_space.specs.declared.place.Place.{Place}
 use Rattle.ts_space.specs.Directory.{Directory, places_of}
 use Rattle.ts_cells.specs.IrregularPage.{AreRising}
-use Rattle.ts_irregular.specs.Edit.{element_at, last_seen}
+use Rattle.ts_irregular.specs.Edit.{element_at}
 use Rattle.ts_irregular.specs.Call.{Reads}
 use Rattle.ts_chain.specs.Chain.{all_in}
 use Rattle.ts_regular.specs.Places.{all_in as all_at}
@@ -28,7 +28,7 @@ use Rattle.ts_layout.specs.Meaning.{shape_of as shape_in}
 use Rattle.ts_layout.specs.Surveyed.{ListsPlaces}
 use Rattle.ts_layout.specs.Chains.{by_stamp, AreFilled}
 use Rattle.ts_layout.proofs.CallerLemmas.{one_of, series_found, container_of_series, row_type_of_container, shape_found}
-use Rattle.ts_answer.specs.Answer.{Tried, Answered, wanted, outcome, an_address, addressed, reached, last_element, element_at as element_at_stamp}
+use Rattle.ts_answer.specs.Answer.{Tried, Answered, wanted, outcome, an_address, addressed, reached, seen_elements, element_at as element_at_stamp}
 use Rattle.ts_answer.specs.Reply.{elements_text}
 use Rattle.ts_answer.specs.Slots.{IsSlotNamed, Stands}
 use Rattle.ts_answer.specs.Tried.{IsTried}
@@ -36,8 +36,8 @@ use Rattle.ts_answer.specs.View.{View, IsViewOf, Shows}
 use Rattle.ts_answer.specs.CarriedOut.{ReadOut}
 use Rattle.ts_answer.proofs.CallerLemmas.{wanted-there}
 use Rattle.ts_elements.specs.Elements.{IsSeries, IsShelf, IsShelfIn}
-use Rattle.ts_elements.specs.Stamps.{HaveElements, IsLaidOut}
-use Rattle.ts_elements.specs.Calls.{IsFound, IsLast}
+use Rattle.ts_elements.specs.Stamps.{HaveElements, IsLaidOut, IsTold}
+use Rattle.ts_elements.specs.Calls.{IsFound}
 use Rattle.ts_elements.proofs.LawLemmas.{charges, on_pages, as_maps, entries_rising}
 use Rattle.ts_elements.proofs.AddressLemmas.{address_is}
 use Rattle.ts_elements.proofs.SeriesLemmas.{in_order}
@@ -244,12 +244,15 @@ module _ (tells : Bool) (x : View) (l : Layout) (shape : Shape) (laid : IsLaidOu
       (λ none. let no = reached_none t none in here.1 no.0 no.1) says in
       (λ i. elements_text (is.columns i) (element_at_stamp (reached (address i)) (elements i))) ∙ ap (elements_text h.columns) rows
 
-  -- the last element, as it is said
-  pub last_text : (key : List ℕ) (series : Series) (last : Option Element) → IsShelfIn l key shape slot h series → IsLast tells shape slot h.columns (places_of slot x.space) x.pages last
-      → elements_text (columns_of (catalogue_of l) series) (last_element series.elements) ≡ elements_text h.columns (option_to_list last)
-  last_text key series last is found =
+  -- one of the elements that aren't hidden, as it is said
+  pub one_text : (pick : List Element → Option Element) (key : List ℕ) (series : Series) (found : Option Element) → IsShelfIn l key shape slot h series
+      → IsTold tells shape slot h.columns (places_of slot x.space) x.pages (λ es. found ≡ pick (seen es))
+      → elements_text (columns_of (catalogue_of l) series) (option_to_list (pick (seen_elements series.elements))) ≡ elements_text h.columns (option_to_list found)
+  one_text pick key series found is at =
       let es = elements_seen.0 in
       let has = elements_seen.1 in
-      let elements = ap (λ (s : Series). last_element s.elements) is.stands.is.2 ∙ ap (λ (fs : List Element). option_to_list (last_seen fs)) (entries_in shape slot h.columns x.pages.page (places_of slot x.space) l es has)
-      ∙ ap option_to_list (sym (found told es has.have)) in
+      let elements : option_to_list (pick (seen_elements series.elements)) ≡ option_to_list found =
+      ap (λ (s : Series). option_to_list (pick (seen_elements s.elements))) is.stands.is.2
+      ∙ ap (λ (fs : List Element). option_to_list (pick (seen fs))) (entries_in shape slot h.columns x.pages.page (places_of slot x.space) l es has)
+      ∙ ap option_to_list (sym (at told es has.have)) in
       λ i. elements_text (is.columns i) (elements i)

@@ -62,7 +62,7 @@ stamps_rising grid laid (e ∷ f ∷ es) rising starts =
     let both : AreRising ((t.0, e.1) ∷ (u.0, f.1) ∷ stamped grid es) = (stamps_rise grid laid e.0 f.0 t.0 u.0 rising.0 t.1 u.1, rest) in
     subst AreRising (sym (stamped_cons grid e (f ∷ es) t.0 t.1 ∙ ap (λ (l : List Element). (t.0, e.1) ∷ l) (stamped_cons grid f es u.0 u.1))) both
 
--- the elements that aren't hidden, and the last one
+-- the elements that aren't hidden
 kept_or_not : (grid : GridPlan) (b : Bool) (e : OffsetElement) (t : ℤ) (es : List OffsetElement) (rest : List Element) → stamp_of grid e.0 ≡ Some t → stamped grid es ≡ rest → stamped grid (cond b (e ∷ es) es) ≡ cond b ((t, e.1) ∷ rest) rest
 kept_or_not grid true e t es rest at same = stamped_cons grid e es t at ∙ ap (λ (l : List Element). (t, e.1) ∷ l) same
 kept_or_not grid false e t es rest at same = same
@@ -73,26 +73,3 @@ seen_stamped grid (e ∷ es) starts =
     let t = start_of (stamp_of grid e.0) (All-head (HasStart grid) e es starts) in
     kept_or_not grid (not e.1.hidden) e t.0 (offsets.seen es) (seen (stamped grid es)) t.1 (seen_stamped grid es (All-tail (HasStart grid) e es starts))
     ∙ ap seen (sym (stamped_cons grid e es t.0 t.1))
-
-last_cons : {X : Type 0} (a b : X) (xs : List X) → slice_get (a ∷ b ∷ xs) (length (a ∷ b ∷ xs) - 1) ≡ slice_get (b ∷ xs) (length (b ∷ xs) - 1)
-last_cons a b xs =
-    let step : suc (suc (length xs)) - 1 ≡ suc (suc (length xs) - 1) = omega arith in
-    ap (slice_get (a ∷ b ∷ xs)) step
-
-last_stamped : (grid : GridPlan) (es : List OffsetElement) → HaveStarts grid es → last_of (stamped grid es) ≡ option_and_then (stamped_one grid) (offsets.last_of es)
-last_stamped grid [] starts = refl
-last_stamped grid (e ∷ []) starts =
-    let t = start_of (stamp_of grid e.0) (All-head (HasStart grid) e [] starts) in
-    ap last_of (stamped_cons grid e [] t.0 t.1) ∙ sym (ap (option_map (λ start. (start, e.1))) t.1)
-last_stamped grid (e ∷ f ∷ es) starts =
-    let others = All-tail (HasStart grid) e (f ∷ es) starts in
-    let t = start_of (stamp_of grid e.0) (All-head (HasStart grid) e (f ∷ es) starts) in
-    let u = start_of (stamp_of grid f.0) (All-head (HasStart grid) f es others) in
-    ap last_of (stamped_cons grid e (f ∷ es) t.0 t.1 ∙ ap (λ (l : List Element). (t.0, e.1) ∷ l) (stamped_cons grid f es u.0 u.1))
-    ∙ last_cons (t.0, e.1) (u.0, f.1) (stamped grid es)
-    ∙ ap last_of (sym (stamped_cons grid f es u.0 u.1)) ∙ last_stamped grid (f ∷ es) others
-    ∙ ap (option_and_then (stamped_one grid)) (sym (last_cons e f es))
-
-pub last_seen_stamped : (grid : GridPlan) (es : List OffsetElement) → HaveStarts grid es → last_seen (stamped grid es) ≡ option_and_then (stamped_one grid) (offsets.last_seen es)
-last_seen_stamped grid es starts =
-    ap last_of (sym (seen_stamped grid es starts)) ∙ last_stamped grid (offsets.seen es) (starts_left grid (λ e. not e.1.hidden) es starts)

@@ -4,7 +4,9 @@ use Rattle.ts_row.specs.declared.value.Literal.{Literal}
 use Rattle.ts_row.specs.RowType.{Heading}
 use Rattle.ts_row.specs.Row.{Row}
 use Rattle.ts_command.specs.declared.command.Command.{Command}
-use Rattle.ts_command.specs.declared.command.Command.TheVariants.{PutElem, PutElemNoDups, InsElem, UpdElem, HideElem, RevealElem}
+use Rattle.ts_command.specs.declared.command.Command.TheVariants.{PutElem, PutElemNoDups, InsElem, UpdElem, HideElem, RevealElem, GetNthElem, Clip, ClipCount, Union, Intersect}
+use Rattle.ts_pattern.specs.declared.junction.Junction.{Junction}
+use Rattle.ts_pattern.specs.declared.junction.Junction.TheVariants.{And, Or}
 use Rattle.ts_series.specs.declared.edits.EditKind.{EditKind}
 use Rattle.ts_series.specs.declared.edits.EditKind.TheVariants.{Put, PutNoDups, Insert, Update}
 use Rattle.ts_model.specs.declared.kind.Kind.TheVariants as kinds
@@ -16,6 +18,8 @@ pub use Rattle.ts_container.specs.KeptCharges.{AreFew}
 unfoldable pub use Rattle.ts_container.specs.KeptCharges.{IsCharged}
 use Rattle.ts_answer.specs.Answer.{a_row}
 use Rattle.ts_answer.specs.Slots.{IsSlotNamed, Stands}
+use Rattle.ts_elements.specs.declared.reading.Choice.{Choice}
+use Rattle.ts_elements.specs.declared.reading.Choice.TheVariants.{Number, Range, Count}
 
 -- the series of that key stands in a slot, and has these columns and this shape
 pub record IsShelf (shape : Shape) (slot : ℕ) (h : Heading) (key : List ℕ) (d : Definitions) : Type 0 where
@@ -51,3 +55,14 @@ edit_of Update key stamp literals = UpdElem key stamp literals
 abbrev pub mark_of : Bool → List ℕ → ℤ → Command
 mark_of true key stamp = HideElem key stamp
 mark_of false key stamp = RevealElem key stamp
+
+-- the command that says the chosen entries
+abbrev pub reading_of : Choice → List ℕ → Command
+reading_of (Number index) key = GetNthElem key index
+reading_of (Range from to) key = Clip key from to
+reading_of (Count stamp count) key = ClipCount key stamp count
+
+-- the command that joins two series so
+abbrev pub join_of : Junction → List ℕ → List ℕ → ℤ → ℤ → Command
+join_of And first second from to = Intersect first second from to
+join_of Or first second from to = Union first second from to

@@ -1,5 +1,5 @@
--- The pages of a series as elements at stamps, whatever its shape: at any stamps, or on a grid at the on starts of their offsets.
-use Rattle.std.specs.Prelude.{◌≡◌, ℕ, ◌+◌, ℤ, Bool, IsTrue, Option, Some, None, Contains, Result, Ok, Err, is_some, List, length}
+-- What edits write on the pages of a series, whatever its shape, what it is charged for it, and where an edit puts its row.
+use Rattle.std.specs.Prelude.{◌≡◌, ℕ, ◌+◌, ℤ, Option, Some, None, Contains, Result, Ok, Err, is_some, List, length}
 use Rattle.ts_base.specs.declared.refusal.Refusal.{Refusal}
 use Rattle.ts_page.specs.Pages.{Contents}
 use Rattle.ts_row.specs.declared.kind.Column.{Column}
@@ -9,56 +9,14 @@ use Rattle.ts_space.specs.Place.{pages_of}
 use Rattle.ts_space.specs.Charge.{irregular_places_charge}
 use Rattle.ts_cells.specs.Cell.{page_room}
 use Rattle.ts_irregular.specs.Edit.{element_at}
-use Rattle.ts_chain.specs.Chain.{IsChain, all_in}
-use Rattle.ts_chain.specs.Places.{AreChained}
-use Rattle.ts_chain.specs.Places as chain
 use Rattle.ts_series.specs.declared.edits.EditKind.{EditKind}
 use Rattle.ts_series.specs.Edit.{target}
 use Rattle.ts_series.specs.Edit as irregular
-use Rattle.ts_regular.specs.Places.{OffsetPage, AreOn, all_in as all_at}
-use Rattle.ts_regular.specs.Places as regular
-use Rattle.ts_regular_edits.specs.Stamped.{stamped, HaveStarts}
 use Rattle.ts_regular_edits.specs.Edit.{refusal_if}
-use Rattle.ts_calendar.specs.Intervals.{IsLaid}
-use Rattle.ts_offset.specs.Grid.{GridPlan}
 use Rattle.ts_offset.specs.declared.shape.Shape.{Shape}
 use Rattle.ts_offset.specs.declared.shape.Shape.TheVariants.{Irregular, Regular}
+pub use Rattle.ts_clip.specs.Series.{IsLaidOut, ArePlaces, HaveChain, HaveCells, HaveElements, IsTold}
 use Rattle.ts_answer.specs.Answer.{Tried, ◌>>=◌, addressed}
-
--- the calendar of a grid is laid out on stamps
-abbrev pub IsLaidOut : Shape → Type 0
-IsLaidOut Irregular = Unit {0}
-IsLaidOut (Regular grid) = IsLaid grid.calendar
-
--- places such as an edit asks for
-abbrev pub ArePlaces : Shape → List Column → Contents → List Place → Type 0
-ArePlaces Irregular columns c places = chain.ArePlaces columns c places
-ArePlaces (Regular grid) columns c places = regular.ArePlaces columns c places
-
--- pages have a chain of these elements, of which places tell
-pub record HaveChain (slot : ℕ) (columns : List Column) (pages : ℕ → List ℕ) (places : List Place) (es : List Element) : Type 0 where
-  pub chain : List (List Element)
-  pub is : IsChain columns chain
-  pub on : AreChained slot columns pages places chain
-  pub all : all_in chain ≡ es
-
--- pages have cells on a grid with these elements, each at the on start of its offset, and places tell of them
-pub record HaveCells (grid : GridPlan) (slot : ℕ) (columns : List Column) (pages : ℕ → List ℕ) (places : List Place) (es : List Element) : Type 0 where
-  pub cells : List OffsetPage
-  pub on : AreOn slot columns pages places cells
-  pub starts : HaveStarts grid (all_at cells)
-  pub all : stamped grid (all_at cells) ≡ es
-
--- pages have these elements of a series of a shape, and places tell of them
-abbrev pub HaveElements : Shape → ℕ → List Column → (ℕ → List ℕ) → List Place → List Element → Type 0
-HaveElements Irregular slot columns pages places es = HaveChain slot columns pages places es
-HaveElements (Regular grid) slot columns pages places es = HaveCells grid slot columns pages places es
-
--- Where the pages are told, this holds of the elements that they have and their places tell of. Of pages that have none such it says
--- nothing.
-abbrev pub IsTold : Bool → Shape → ℕ → List Column → List Place → Contents → (List Element → Type 0) → Type 0
-IsTold tells shape slot columns places v P =
-    IsTrue tells → (es : List Element) → HaveElements shape slot columns v.page places es → P es
 
 -- The pages have these elements, of which the new places tell; no page changed but those of the old places and those that `take` could
 -- give.

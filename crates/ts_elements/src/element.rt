@@ -1,6 +1,6 @@
 // The routines that read one element.
 ghost use Rattle.std.specs.Prelude.{◌≡◌, ◌<◌, ℕ, List, []};
-ghost use Rattle.ts_command.specs.declared.command.Command.TheVariants.{GetElem, GetLastElem};
+ghost use Rattle.ts_command.specs.declared.command.Command.TheVariants.{GetElem, GetFirstElem, GetLastElem};
 ghost use Rattle.ts_space.specs.Directory.{places_of};
 ghost use Rattle.ts_model.specs.Definitions.{series_slots};
 ghost use Rattle.ts_answer.specs.View.{view, IsSeen};
@@ -8,11 +8,12 @@ ghost use Rattle.ts_answer.specs.CarriedOut.{ReadOut};
 ghost use Rattle.ts_elements.specs.Elements.{IsShelf};
 ghost use Rattle.ts_elements.specs.Stamps.{ArePlaces, IsLaidOut};
 
-use crate::found::{find_in, if_seen, last_in};
+use crate::found::{find_in, if_seen};
 use crate::shelf::shelf_of;
 use std::alloc::Global;
 use ts_answer::Stop;
 use ts_base::{Key, Reply, Stamp};
+use ts_clip::{first_elem, last_elem};
 use ts_model::Defs;
 use ts_offset::Shape;
 use ts_page::{Page, Pages};
@@ -66,6 +67,28 @@ fn get_on<P: Pages>(
     Ok(())
 }
 
+/// Says the first element of a series that isn't hidden, if it has any. `page` is room to read one.
+pub fn get_first_element<P: Pages>(
+    alloc: Global,
+    pages: &mut P,
+    page: &mut Page,
+    defs: &Defs,
+    space: &Space,
+    key: &Key,
+    out: &mut Reply,
+) -> Result<(), Stop>
+    requires seen { IsSeen P.tells (view defs.now.definitions space.now (P.contents pages.old)) }
+    requires empty { out.old ≡ [] }
+    ensures read { ReadOut P.tells (GetFirstElem key.now) result out.new
+        (view defs.now.definitions space.now (P.contents pages.old)) (P.contents pages.new) }
+    ensures undisturbed { P.undisturbed pages.old pages.new }
+{
+    let (shelf, shape) = shelf_of(alloc, pages, defs, space, key)?;
+    let first = first_elem(pages, page, space, &shelf, &shape)?;
+    say_found(alloc, out, shelf.kind, first)?;
+    Ok(())
+}
+
 /// Says the last element of a series that isn't hidden, if it has any. `page` is room to read one.
 pub fn get_last_element<P: Pages>(
     alloc: Global,
@@ -78,34 +101,12 @@ pub fn get_last_element<P: Pages>(
 ) -> Result<(), Stop>
     requires seen { IsSeen P.tells (view defs.now.definitions space.now (P.contents pages.old)) }
     requires empty { out.old ≡ [] }
-    ensures read { ReadOut P.tells (GetLastElem key.now) result out.new (view defs.now.definitions space.now (P.contents pages.old)) (P.contents pages.new) }
+    ensures read { ReadOut P.tells (GetLastElem key.now) result out.new
+        (view defs.now.definitions space.now (P.contents pages.old)) (P.contents pages.new) }
     ensures undisturbed { P.undisturbed pages.old pages.new }
 {
     let (shelf, shape) = shelf_of(alloc, pages, defs, space, key)?;
-    get_last_on(alloc, pages, page, defs, space, &shelf, &shape, out)
-}
-
-// Says the last one, once the series is known.
-fn get_last_on<P: Pages>(
-    alloc: Global,
-    pages: &mut P,
-    page: &mut Page,
-    _defs: &Defs,
-    space: &Space,
-    shelf: &Shelf,
-    shape: &Shape,
-    out: &mut Reply,
-) -> Result<(), Stop>
-    requires seen { IsSeen P.tells (view _defs.now.definitions space.now (P.contents pages.old)) }
-    requires slot { shelf.now.series < series_slots }
-    requires laid { IsLaidOut shape.now }
-    requires places { ArePlaces shape.now shelf.now.kind.now.columns (P.contents pages.old) (places_of shelf.now.series space.now) }
-    requires empty { out.old ≡ [] }
-    ensures read { (key : List ℕ) → IsShelf shape.now shelf.now.series shelf.now.kind.now key _defs.now.definitions
-        → ReadOut P.tells (GetLastElem key) result out.new (view _defs.now.definitions space.now (P.contents pages.old)) (P.contents pages.new) }
-    ensures undisturbed { P.undisturbed pages.old pages.new }
-{
-    let last = last_in(pages, page, space, shelf, shape)?;
+    let last = last_elem(pages, page, space, &shelf, &shape)?;
     say_found(alloc, out, shelf.kind, last)?;
     Ok(())
 }

@@ -1,5 +1,5 @@
 -- What was decided or said on a command of one case, said of the command that was given.
-use Rattle.std.proofs.Common.{◌≡◌, ℕ, ◌+◌, ◌<◌, ◌≤◌, ◌^◌, ℤ, pos, negsuc, ◌≤ℤ◌, unsigned_abs, true, Option, Result, IfOk, List, ap, sym, ◌∙◌, subst, arith}
+use Rattle.std.proofs.Common.{◌≡◌, ℕ, ◌+◌, ◌<◌, ◌≤◌, ◌^◌, ℤ, pos, negsuc, neg_ℤ, ◌≤ℤ◌, unsigned_abs, Bool, true, Option, Result, IfOk, List, ap, sym, ◌∙◌, subst, arith}
 use Rattle.std.proofs.lemmas.Int.{ints}
 use Rattle.ts_base.specs.declared.fault.Trouble.{Trouble}
 use Rattle.ts_command.specs.declared.command.Command.{Command}
@@ -8,6 +8,10 @@ use Rattle.ts_space.specs.Directory.{Directory}
 use Rattle.ts_model.specs.declared.kind.Kind.{Kind}
 use Rattle.ts_model.specs.declared.def.Def.{Def}
 use Rattle.ts_model.specs.Definitions.{Definitions}
+use Rattle.ts_page.specs.Pages.{Contents}
+use Rattle.ts_answer.specs.declared.stop.Stop.{Stop}
+use Rattle.ts_answer.specs.CarriedOut.{ReadOut}
+use Rattle.ts_answer.specs.View.{View}
 use Rattle.ts_answer.specs.Commands.{is_writing}
 use Rattle.ts_answer.specs.Decided.{IsDecision, FitsSlot}
 use Rattle.ts_answer.specs.Reading.{IsSaid}
@@ -26,7 +30,11 @@ decided_case kind command case decided made d pages is came writes fits decision
 pub said_case : (command case : Command) (result : Result Unit Trouble) (out : List ℕ) (d : Definitions) (space : Directory) → command ≡ case → IsSaid case result out d space → IsSaid command result out d space
 said_case command case result out d space is said = subst (λ (k : Command). IsSaid k result out d space) (sym is) said
 
--- a number from one to a bound fits the type that it is read as
-pub small_number : (most : ℕ) (number : ℤ) → most < 2 ^ 63 → pos 1 ≤ℤ number → number ≤ℤ pos most → unsigned_abs number < 2 ^ 63
+-- a number that isn't further from zero than a bound fits the type that it is read as
+pub small_number : (most : ℕ) (number : ℤ) → most < 2 ^ 63 → neg_ℤ (pos most) ≤ℤ number → number ≤ℤ pos most → unsigned_abs number < 2 ^ 63
 small_number most (pos n) fits low high = grind (arith, ints)
-small_number most (negsuc n) fits low high = absurd (grind (arith, ints))
+small_number most (negsuc n) fits low high = omega (arith, ints)
+
+-- what was answered
+pub read_case : (tells : Bool) (command case : Command) (result : Result Unit Stop) (out : List ℕ) (x : View) (c : Contents) → command ≡ case → ReadOut tells case result out x c → ReadOut tells command result out x c
+read_case tells command case result out x c is read = subst (λ (k : Command). ReadOut tells k result out x c) (sym is) read

@@ -18,8 +18,10 @@ pub data Work : Type 0 where
   Defines : Kind → Work
   -- it changes the elements of series
   Elements : Work
-  -- it reads elements
+  -- it reads a series
   Readings : Work
+  -- it combines the elements of two series, or of one with itself
+  Combinations : Work
   -- it reads what is in memory
   Memory : Work
 
@@ -58,6 +60,14 @@ work_of (commands.RevealElem key stamp) = Elements
 work_of (commands.GetElem key stamp) = Readings
 work_of (commands.GetLastElem key) = Readings
 work_of (commands.GetNelems key) = Memory
+work_of (commands.GetFirstElem key) = Readings
+work_of (commands.GetNthElem key index) = Readings
+work_of (commands.Clip key from to) = Readings
+work_of (commands.ClipCount key stamp count) = Readings
+work_of (commands.ClipGetCount key from to) = Readings
+work_of (commands.Union first second from to) = Combinations
+work_of (commands.Intersect first second from to) = Combinations
+work_of (commands.Lag key by) = Combinations
 
 -- What a command is given: a view of a volume, what containers are charged by it, and no reply yet.
 pub record IsGiven (tells : Bool) (x : View) (charges out : List ℕ) : Type 0 where

@@ -9,7 +9,7 @@ ghost use Rattle.ts_model.specs.declared.kind.Kind.TheVariants.{Pattern as Patte
 ghost use Rattle.ts_model.specs.Definitions.{container_slots};
 ghost use Rattle.ts_layout.specs.Meaning.{sum_of_quotas};
 ghost use Rattle.ts_container.specs.KeptCharges.{AreCharges};
-ghost use Rattle.ts_engine.specs.Work.{Defines, Elements, Readings, Memory, work_of, IsGiven, IsDecided};
+ghost use Rattle.ts_engine.specs.Work.{Defines, Elements, Readings, Combinations, Memory, work_of, IsGiven, IsDecided};
 
 use std::alloc::Global;
 use ts_answer::{Effect, Stop};
@@ -21,8 +21,8 @@ use ts_define::{
     new_pattern, new_regular, new_row_type, turned_pattern,
 };
 use ts_elements::{
-    delete_element, delete_range, drop_series, edit_element, get_element, get_last_element,
-    mark_element,
+    Choice, count_clip, delete_element, delete_range, drop_series, edit_element, get_element,
+    get_first_element, get_last_element, join, lag, mark_element, read_entries,
 };
 use ts_model::{Def, Defs, Kind};
 use ts_page::{Page, Pages};
@@ -93,7 +93,7 @@ pub(crate) fn edit<P: Pages>(
     Some(came)
 }
 
-/// Answers a command that reads elements; none for another one. `page` is room to read one.
+/// Answers a command that reads a series; none for another one. `page` is room to read one.
 pub(crate) fn read<P: Pages>(
     alloc: Global,
     pages: &mut P,
@@ -104,6 +104,7 @@ pub(crate) fn read<P: Pages>(
     out: &mut Reply,
 ) -> Option<Result<(), Stop>>
     requires seen { IsSeen P.tells (view defs.now.definitions space.now (P.contents pages.old)) }
+    requires form { HasForm command.now }
     requires empty { out.old ≡ [] }
     ensures read { IfSome result (λ came. ReadOut P.tells command.now came out.new (view defs.now.definitions space.now (P.contents pages.old)) (P.contents pages.new)) }
     ensures none { IsNone result → (work_of command.now ≢ Readings) × (pages.new ≡ pages.old) × (out.new ≡ []) }
@@ -113,9 +114,73 @@ pub(crate) fn read<P: Pages>(
         Command::GetElem { key, stamp } => {
             get_element(alloc, pages, page, defs, space, key, *stamp, out)
         }
+        Command::GetFirstElem { key } => {
+            get_first_element(alloc, pages, page, defs, space, key, out)
+        }
         Command::GetLastElem { key } => {
             get_last_element(alloc, pages, page, defs, space, key, out)
         }
+        Command::GetNthElem { key, index } => {
+            let one = Choice::Number(*index);
+            read_entries(alloc, pages, page, defs, space, key, one, out)
+        }
+        Command::Clip { key, from, to } => {
+            let range = Choice::Range(*from, *to);
+            read_entries(alloc, pages, page, defs, space, key, range, out)
+        }
+        Command::ClipCount { key, stamp, count } => {
+            let some = Choice::Count(*stamp, *count);
+            read_entries(alloc, pages, page, defs, space, key, some, out)
+        }
+        Command::ClipGetCount { key, from, to } => {
+            count_clip(alloc, pages, page, defs, space, key, *from, *to, out)
+        }
+        _ => return None,
+    };
+    Some(came)
+}
+
+/// Answers a command that combines the elements of two series, or of one with itself; none for another one. `page` is room to read one.
+pub(crate) fn combine<P: Pages>(
+    alloc: Global,
+    pages: &mut P,
+    page: &mut Page,
+    defs: &Defs,
+    space: &Space,
+    command: &Command,
+    out: &mut Reply,
+) -> Option<Result<(), Stop>>
+    requires seen { IsSeen P.tells (view defs.now.definitions space.now (P.contents pages.old)) }
+    requires form { HasForm command.now }
+    requires empty { out.old ≡ [] }
+    ensures read { IfSome result (λ came. ReadOut P.tells command.now came out.new (view defs.now.definitions space.now (P.contents pages.old)) (P.contents pages.new)) }
+    ensures none { IsNone result → (work_of command.now ≢ Combinations) × (pages.new ≡ pages.old) × (out.new ≡ []) }
+    ensures undisturbed { P.undisturbed pages.old pages.new }
+{
+    let came = match command {
+        Command::Union {
+            first,
+            second,
+            from,
+            to,
+        } => {
+            let either = Junction::Or;
+            join(
+                alloc, pages, page, defs, space, either, first, second, *from, *to, out,
+            )
+        }
+        Command::Intersect {
+            first,
+            second,
+            from,
+            to,
+        } => {
+            let both = Junction::And;
+            join(
+                alloc, pages, page, defs, space, both, first, second, *from, *to, out,
+            )
+        }
+        Command::Lag { key, by } => lag(alloc, pages, page, defs, space, key, *by, out),
         _ => return None,
     };
     Some(came)

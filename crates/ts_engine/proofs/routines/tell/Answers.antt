@@ -1,5 +1,5 @@
 use Rattle.std.proofs.Common.{ℤ, w64, subst, arith}
-use Rattle.std.proofs.lemmas.Int.{to_z-of_z, fits_signed_from_abs}
+use Rattle.std.proofs.lemmas.Int.{ints, to_z-of_z, fits_signed_from_abs}
 use Rattle.ts_command.specs.declared.command.Command.TheVariants.{CalStamp}
 use Rattle.ts_command.specs.Form.{HasForm}
 use Rattle.ts_answer.specs.Reading.{IsSaid}
@@ -22,7 +22,7 @@ pub returns-in-CalStamp-clause-said : goal.returns-in-CalStamp-clause-said
 returns-in-CalStamp-clause-said c =
     let at = c.in-CalStamp in
     let form = subst HasForm at.is c.requires.form in
-    let count = to_z-of_z w64 at.count (fits_signed_from_abs w64 at.count (small_number 4294967295 at.count (omega arith) form.1 form.2)) in
+    let count = to_z-of_z w64 at.count (fits_signed_from_abs w64 at.count (small_number 4294967295 at.count (omega arith) (omega (arith, ints, form.1)) form.2)) in
     let d = c.args.defs.now.definitions in
     let space = c.args.space.now in
     said_case c.args.command.now _ c.cal_stamp-came.result c.cal_stamp-came.new.out d space at.is
