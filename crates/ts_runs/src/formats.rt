@@ -50,7 +50,7 @@ fn old_volume(
 }
 
 /// What a migrated volume answers: a mark may be set twice, and what is hidden counts but for the readings.
-const HIDDEN_AND_SHOWN: [(&[u8], &[u8]); 10] = [
+const HIDDEN_AND_SHOWN: [(&[u8], &[u8]); 11] = [
     (
         b"InsElem('x','2011-01-03 00:00:00',1);",
         b"ok 2011-01-03 00:00:00.00000\n",
@@ -61,6 +61,10 @@ const HIDDEN_AND_SHOWN: [(&[u8], &[u8]); 10] = [
     ),
     (HIDE, b"ok 2011-01-03 00:00:00.00000\n"),
     (HIDE, b"ok 2011-01-03 00:00:00.00000\n"),
+    (
+        b"Clip('x','2011-01-01 00:00:00','2011-01-31 00:00:00');",
+        b"2011-01-04 00:00:00.00000 2\nok 1\n",
+    ),
     (
         b"GetElem('x','2011-01-03 00:00:00');GetNelems('x');",
         b"ok 0\nok 2\n",

@@ -5,6 +5,12 @@
 #![tactic(auto)]
 
 #[cfg(test)]
+mod calendars;
+#[cfg(test)]
+mod combining;
+#[cfg(test)]
+mod days;
+#[cfg(test)]
 mod formats;
 #[cfg(test)]
 mod items;
@@ -13,6 +19,10 @@ mod journal;
 #[cfg(test)]
 mod program;
 #[cfg(test)]
+mod readings;
+#[cfg(test)]
 mod statuses;
 #[cfg(test)]
 mod stops;
+#[cfg(test)]
+mod unseen;

@@ -6,8 +6,6 @@
 
 mod calendars;
 mod readings;
-#[cfg(test)]
-mod tests;
 
 pub use calendars::{cal_index, cal_range, cal_stamp, show_calendar, show_pattern};
 pub use readings::{container_usage, count_elements, list_series};
