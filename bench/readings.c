@@ -1,0 +1,109 @@
+// A volume with an irregular and a regular series of a million elements of one integer, both at the same quarter hours; and their rows as
+// text.
+#include <fcntl.h>
+#include <stdint.h>
+#include <stdio.h>
+#include <stdlib.h>
+#include <string.h>
+#include <unistd.h>
+
+// An irregular page has room for 290 cells; edits in any order leave it with some 200.
+enum { PAGE = 4096, FIRST = 930, HEAD = 32, ELEMENTS = 1000000, CELL = 14, ON_PAGE = 200, OFFSET_CELL = 6, ROOM = 677,
+       IRREGULAR = ELEMENTS / ON_PAGE, REGULAR = (ELEMENTS + ROOM - 1) / ROOM, PAGES = 8400 };
+
+// 2011-01-03 00:00:00, and a quarter of an hour, in units of 10 microseconds.
+static const int64_t begin = 129401280000000, quarter = 90000000;
+
+static unsigned char page[PAGE];
+
+static void put(unsigned char *at, int bytes, uint64_t number) {
+  while (bytes--) { at[bytes] = number; number >>= 8; }
+}
+
+static void name(unsigned char *at, const char *text) {
+  *at = strlen(text);
+  memcpy(at + 1, text, *at);
+}
+
+static int write_page(int volume, off_t number) {
+  int wrote = pwrite(volume, page, PAGE, number * PAGE) == PAGE;
+  memset(page, 0, PAGE);
+  return wrote;
+}
+
+static int fill_definitions(int volume) {
+  memcpy(page, "TSVOLUME\2", 9);
+  put(page + 9, 4, PAGES);
+  if (!write_page(volume, 0)) return 1;
+  page[0] = 1; name(page + 1, "reading"); name(page + 34, "t"); page[67] = 1; page[68] = 2; name(page + 71, "wh");
+  if (!write_page(volume, 257)) return 1;
+  // {1 on,14 off},minute
+  page[0] = 1; name(page + 1, "quarters"); put(page + 34, 8, begin); put(page + 42, 8, begin); page[50] = 1;
+  page[52] = 1; put(page + 53, 2, 2); put(page + 55, 4, 0x80000001); put(page + 59, 4, 14);
+  if (!write_page(volume, 577)) return 1;
+  page[0] = 1; name(page + 1, "meters"); put(page + 35, 4, PAGES);
+  if (!write_page(volume, 833)) return 1;
+  page[0] = 2; name(page + 1, "irregular");
+  page[94] = 1; name(page + 94 + 1, "regular"); put(page + 94 + 68, 8, begin);
+  return !write_page(volume, 834);
+}
+
+static int fill(int volume) {
+  if (ftruncate(volume, (off_t)(FIRST + PAGES) * PAGE) || fill_definitions(volume)) return 1;
+  for (uint32_t i = 0; i < IRREGULAR; i++) {
+    page[0] = 2; put(page + 3, 2, ON_PAGE);
+    for (uint32_t cell = 0; cell < ON_PAGE; cell++) {
+      unsigned char *at = page + HEAD + cell * CELL;
+      uint32_t n = i * ON_PAGE + cell;
+      at[0] = 1; put(at + 1, 8, begin + n * quarter); at[9] = 1; put(at + 10, 4, n);
+    }
+    // The order of the pages isn't that of the stamps.
+    if (!write_page(volume, FIRST + (uint64_t)i * 1999 % IRREGULAR)) return 1;
+  }
+  for (uint32_t i = 0; i < REGULAR; i++) {
+    uint32_t count = ELEMENTS - i * ROOM < ROOM ? ELEMENTS - i * ROOM : ROOM;
+    page[0] = 1; put(page + 1, 2, 1); put(page + 3, 2, count); put(page + 5, 8, i * ROOM);
+    for (uint32_t cell = 0; cell < count; cell++) {
+      unsigned char *at = page + HEAD + cell * OFFSET_CELL;
+      at[0] = at[1] = 1; put(at + 2, 4, i * ROOM + cell);
+    }
+    if (!write_page(volume, FIRST + IRREGULAR + (uint64_t)i * 1999 % REGULAR)) return 1;
+  }
+  return fsync(volume);
+}
+
+// The stamp of an element, without a fraction.
+static void stamp(uint32_t n, char text[64]) {
+  int days[] = {31, 28, 31, 30, 31, 30, 31, 31, 30, 31, 30, 31};
+  int day = n / 96 + 2, year = 2011, month = 0;
+  for (;; year++) {
+    int leap = year % 4 == 0 && (year % 100 != 0 || year % 400 == 0);
+    days[1] = 28 + leap;
+    if (day < 365 + leap) break;
+    day -= 365 + leap;
+  }
+  for (; day >= days[month]; month++) day -= days[month];
+  snprintf(text, 64, "%04d-%02d-%02d %02d:%02d:00", year, month + 1, day + 1, n % 96 / 4, n % 4 * 15);
+}
+
+// rows FROM TO STEP FORMAT: a line for each element of the numbers from one up to another, going on by so many round the million; in the
+// format %1$s stands for the stamp, %2$u for the number.
+static int rows(char **words) {
+  uint32_t from = strtoul(words[0], 0, 10), to = strtoul(words[1], 0, 10), step = strtoul(words[2], 0, 10);
+  for (uint32_t i = from; i < to; i++) {
+    uint32_t n = (uint64_t)i * step % ELEMENTS;
+    char text[64];
+    stamp(n, text);
+    printf(words[3], text, n);
+    putchar('\n');
+  }
+  return fflush(stdout);
+}
+
+int main(int count, char **words) {
+  if (count == 3 && strcmp(words[1], "fill") == 0) {
+    int volume = open(words[2], O_RDWR | O_CREAT | O_TRUNC, 0644);
+    return volume < 0 || fill(volume);
+  }
+  return count == 6 && strcmp(words[1], "rows") == 0 ? rows(words + 2) : 2;
+}
