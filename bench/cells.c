@@ -1,44 +1,16 @@
 // The largest volume, as a series of one integer fills it, and what an opening has to do at least: read each page, look at each cell once,
 // and keep a directory of 24 bytes a page.
-#include <fcntl.h>
-#include <stdint.h>
-#include <stdio.h>
-#include <stdlib.h>
-#include <string.h>
-#include <unistd.h>
+#include "volume.h"
 
-enum { PAGE = 4096, FIRST = 930, HEAD = 32, CELL = 14, ROOM = 290, PAGES = 65536, USED = 65000, QUOTA = 65536 };
+enum { CELL = 14, ROOM = 290, PAGES = 65536, USED = 65000, QUOTA = 65536 };
 
-// 2011-01-03 00:00:00, and one minute, in units of 10 microseconds.
-static const int64_t begin = 129401280000000, minute = 6000000;
+// One minute in units of 10 microseconds.
+static const int64_t minute = 6000000;
 
 struct place {
   int64_t at;
   uint32_t page, count, slot, next;
 };
-
-static unsigned char page[PAGE];
-
-static void put(unsigned char *at, int bytes, uint64_t number) {
-  while (bytes--) { at[bytes] = number; number >>= 8; }
-}
-
-static uint64_t get(const unsigned char *at, int bytes) {
-  uint64_t number = 0;
-  while (bytes--) number = number << 8 | *at++;
-  return number;
-}
-
-static void name(unsigned char *at, const char *text) {
-  *at = strlen(text);
-  memcpy(at + 1, text, *at);
-}
-
-static int write_page(int volume, off_t number) {
-  int wrote = pwrite(volume, page, PAGE, number * PAGE) == PAGE;
-  memset(page, 0, PAGE);
-  return wrote;
-}
 
 // Pages of 145 and 146 elements in turn: two neighbours hold one more than a page has room for.
 static int fill(int volume) {

@@ -1,45 +1,14 @@
 // A year of quarter hours of a thousand meters as regular series of one integer, and what an opening has to do at least: read each page, look
 // at each cell once, and keep a directory of 24 bytes a page.
-#include <fcntl.h>
-#include <stdint.h>
-#include <stdio.h>
-#include <stdlib.h>
-#include <string.h>
-#include <unistd.h>
+#include "volume.h"
 
-enum { PAGE = 4096, FIRST = 930, HEAD = 32, CELL = 6, ROOM = 677, METERS = 1000, DAYS = 364, OFFSETS = DAYS * 96, EACH = (OFFSETS + ROOM - 1) / ROOM,
+enum { CELL = 6, ROOM = 677, METERS = 1000, DAYS = 364, OFFSETS = DAYS * 96, EACH = (OFFSETS + ROOM - 1) / ROOM,
        PAGES = 53000, SERIES_PAGE = 834, SERIES = 94, IN_PAGE = 43 };
-
-// 2011-01-03 00:00:00 in units of 10 microseconds.
-static const int64_t begin = 129401280000000;
 
 struct place {
   int64_t at;
   uint32_t page, count, slot, next;
 };
-
-static unsigned char page[PAGE];
-
-static void put(unsigned char *at, int bytes, uint64_t number) {
-  while (bytes--) { at[bytes] = number; number >>= 8; }
-}
-
-static uint64_t get(const unsigned char *at, int bytes) {
-  uint64_t number = 0;
-  while (bytes--) number = number << 8 | *at++;
-  return number;
-}
-
-static void name(unsigned char *at, const char *text) {
-  *at = strlen(text);
-  memcpy(at + 1, text, *at);
-}
-
-static int write_page(int volume, off_t number) {
-  int wrote = pwrite(volume, page, PAGE, number * PAGE) == PAGE;
-  memset(page, 0, PAGE);
-  return wrote;
-}
 
 static int fill_definitions(int volume) {
   memcpy(page, "TSVOLUME\2", 9);

@@ -1,35 +1,13 @@
 // A volume with an irregular and a regular series of a million elements of one integer, both at the same quarter hours; and their rows as
 // text.
-#include <fcntl.h>
-#include <stdint.h>
-#include <stdio.h>
-#include <stdlib.h>
-#include <string.h>
-#include <unistd.h>
+#include "volume.h"
 
 // An irregular page has room for 290 cells; edits in any order leave it with some 200.
-enum { PAGE = 4096, FIRST = 930, HEAD = 32, ELEMENTS = 1000000, CELL = 14, ON_PAGE = 200, OFFSET_CELL = 6, ROOM = 677,
+enum { ELEMENTS = 1000000, CELL = 14, ON_PAGE = 200, OFFSET_CELL = 6, ROOM = 677,
        IRREGULAR = ELEMENTS / ON_PAGE, REGULAR = (ELEMENTS + ROOM - 1) / ROOM, PAGES = 8400 };
 
-// 2011-01-03 00:00:00, and a quarter of an hour, in units of 10 microseconds.
-static const int64_t begin = 129401280000000, quarter = 90000000;
-
-static unsigned char page[PAGE];
-
-static void put(unsigned char *at, int bytes, uint64_t number) {
-  while (bytes--) { at[bytes] = number; number >>= 8; }
-}
-
-static void name(unsigned char *at, const char *text) {
-  *at = strlen(text);
-  memcpy(at + 1, text, *at);
-}
-
-static int write_page(int volume, off_t number) {
-  int wrote = pwrite(volume, page, PAGE, number * PAGE) == PAGE;
-  memset(page, 0, PAGE);
-  return wrote;
-}
+// A quarter of an hour in units of 10 microseconds.
+static const int64_t quarter = 90000000;
 
 static int fill_definitions(int volume) {
   memcpy(page, "TSVOLUME\2", 9);
