@@ -29,6 +29,8 @@ unfoldable pub use Rattle.ts_answer.specs.Refusals.{◌>>=◌, refused_if, wante
 pub use Rattle.ts_answer.specs.Elements.{with_elements, with_element, seen_elements, last_element, element_at, count_if_any, count_at, without_one}
 unfoldable pub use Rattle.ts_answer.specs.Elements.{put_element, put_no_dups, insert_element, update_element, delete_element, delete_range, mark_element, get_element, get_last_element, count_elements, get_first_element, get_nth_element, clip_series, count_clip, clip_counted, join_series, lag_series}
 unfoldable pub use Rattle.ts_answer.specs.Elements.{a_reading}
+pub use Rattle.ts_answer.specs.Aggregates.{scales_of, folded_range, columns_in}
+unfoldable pub use Rattle.ts_answer.specs.Aggregates.{aggregate_by, aggregate_range, aggregate_all}
 
 unfoldable pub create_row_type : List ℕ → List ℕ → List Column → Catalogue → Tried Answered
 create_row_type name stamp columns cat = do
@@ -197,6 +199,9 @@ carried_out (commands.ClipGetCount key from to) cat = count_clip key from to cat
 carried_out (commands.Union first second from to) cat = join_series Or first second from to cat
 carried_out (commands.Intersect first second from to) cat = join_series And first second from to cat
 carried_out (commands.Lag key by) cat = lag_series key by cat
+carried_out (commands.AggregateBy text calendar key from to) cat = aggregate_by text calendar key from to cat
+carried_out (commands.AggregateRange text key from to) cat = aggregate_range text key from to cat
+carried_out (commands.AggregateAll text container from to) cat = aggregate_all text container from to cat
 
 -- what a request comes to
 unfoldable pub outcome : Request → Catalogue → Tried Answered

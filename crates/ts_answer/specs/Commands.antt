@@ -57,6 +57,9 @@ is_writing (commands.ClipGetCount key from to) = false
 is_writing (commands.Union first second from to) = false
 is_writing (commands.Intersect first second from to) = false
 is_writing (commands.Lag key by) = false
+is_writing (commands.AggregateBy text calendar key from to) = false
+is_writing (commands.AggregateRange text key from to) = false
+is_writing (commands.AggregateAll text container from to) = false
 
 -- an object of a catalogue: its kind, and its name or key
 abbrev pub Object : Type 0
@@ -134,6 +137,9 @@ objects (commands.ClipGetCount key from to) = reads kinds.Series key
 objects (commands.Union first second from to) = reads_both kinds.Series first second
 objects (commands.Intersect first second from to) = reads_both kinds.Series first second
 objects (commands.Lag key by) = reads kinds.Series key
+objects (commands.AggregateBy text calendar key from to) = record { wrote = []; named = (kinds.Calendar, calendar) ∷ (kinds.Series, key) ∷ [] }
+objects (commands.AggregateRange text key from to) = reads kinds.Series key
+objects (commands.AggregateAll text container from to) = reads kinds.Container container
 
 -- the catalogue after has the same format and as many pages, and the same under the name of each object but these
 pub record StaysBut (wrote : List Object) (cat after : Catalogue) : Type 0 where

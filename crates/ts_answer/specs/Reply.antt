@@ -1,5 +1,6 @@
 -- The texts of replies: lines, each ended by a line feed, of which the last begins with `ok` or `error`.
-use Rattle.std.specs.Prelude.{ℕ, ℤ, Bool, true, false, Option, Some, None, List, ◌++◌, length, codes, decimal, flat_map}
+use Rattle.std.specs.Prelude.{ℕ, ℤ, Bool, true, false, Option, Some, None, List, [], ◌∷◌, ◌++◌, length, codes, decimal, flat_map}
+use Rattle.std.specs.List.{join_with_byte}
 use Rattle.ts_pattern.specs.Plan.{Plan}
 use Rattle.ts_pattern.specs.Grammar.{printed_plan}
 use Rattle.ts_calendar.specs.declared.text.CalendarText.{CalendarText}
@@ -9,8 +10,8 @@ use Rattle.ts_base.specs.declared.refusal.Refusal.{Refusal}
 use Rattle.ts_base.specs.Refusal.{refusal_code, refusal_name}
 use Rattle.ts_row.specs.declared.kind.Column.{Column}
 use Rattle.ts_row.specs.Element.{Element}
-use Rattle.ts_row.specs.Row.{Row}
-use Rattle.ts_row.specs.Printed.{row_text, quoted, number_text}
+use Rattle.ts_row.specs.Row.{Values, Row}
+use Rattle.ts_row.specs.Printed.{row_text, value_text, quoted, number_text}
 use Rattle.ts_entry.specs.Entry.{Entry}
 
 -- `ok`, and the same before a count, two counts, a number with its sign or a stamp
@@ -81,3 +82,28 @@ series_line s = codes "'" ++ flat_map quoted s.0 ++ codes "' " ++ shape_word s.1
 -- series with the numbers of their elements, one a line, and how many they are
 unfoldable pub series_text : List (List ℕ × Bool × ℕ) → List ℕ
 series_text ss = flat_map series_line ss ++ count_line (length ss)
+
+-- values, each number with as many digits after the point as its scale says
+abbrev pub scaled_texts : List ℕ → Values → List (List ℕ)
+scaled_texts (scale ∷ scales) (value ∷ values) = value_text scale value ∷ scaled_texts scales values
+scaled_texts _ _ = []
+
+-- with commas between them
+abbrev pub scaled_text : List ℕ → Values → List ℕ
+scaled_text scales values = join_with_byte 44 (scaled_texts scales values)
+
+-- what a list makes of elements: a stamp and its values
+unfoldable pub folded_line : List ℕ → Element → List ℕ
+folded_line scales e = stamp_text e.0 ++ codes " " ++ scaled_text scales e.1.values ++ codes "\n"
+
+-- such rows, one a line, and how many they are
+unfoldable pub folded_text : List ℕ → List Element → List ℕ
+folded_text scales es = flat_map (folded_line scales) es ++ count_line (length es)
+
+-- what a list makes of a series: its key in quotes, a quote in it twice, and its values
+unfoldable pub series_folded_line : List ℕ → List ℕ × Row → List ℕ
+series_folded_line scales s = codes "'" ++ flat_map quoted s.0 ++ codes "' " ++ scaled_text scales s.1.values ++ codes "\n"
+
+-- series so, one a line, and how many they are
+unfoldable pub series_folded_text : List ℕ → List (List ℕ × Row) → List ℕ
+series_folded_text scales ss = flat_map (series_folded_line scales) ss ++ count_line (length ss)

@@ -7,11 +7,13 @@
 #![tactic(auto)]
 
 mod bounds;
+mod by_page;
 mod chain;
 mod chain_cells;
 mod chain_first;
 mod chain_pages;
 mod chain_range;
+mod chain_rows;
 mod ends;
 mod grid;
 mod grid_cells;
@@ -19,10 +21,13 @@ mod grid_ends;
 mod grid_offsets;
 mod grid_page;
 mod grid_range;
+mod grid_rows;
 mod grid_visit;
 mod reading;
 #[cfg(test)]
 mod tests;
 
+pub use by_page::rows;
 pub use ends::{first_elem, last_elem};
 pub use reading::{clip, clip_count, clip_len, elements, nth};
+

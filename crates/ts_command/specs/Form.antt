@@ -52,4 +52,7 @@ HasForm (commands.ClipCount key stamp count) = IsTrue (is_key key) × (neg_ℤ (
 HasForm (commands.ClipGetCount key from to) = IsTrue (is_key key)
 HasForm (commands.Union first second from to) = IsTrue (is_key first) × IsTrue (is_key second)
 HasForm (commands.Intersect first second from to) = IsTrue (is_key first) × IsTrue (is_key second)
+HasForm (commands.AggregateBy text calendar key from to) = (length text < 2 ^ 32) × IsTrue (is_name calendar) × IsTrue (is_key key)
+HasForm (commands.AggregateRange text key from to) = (length text < 2 ^ 32) × IsTrue (is_key key)
+HasForm (commands.AggregateAll text container from to) = (length text < 2 ^ 32) × IsTrue (is_name container)
 HasForm (commands.Lag key by) = IsTrue (is_key key) × (neg_ℤ (pos 2147483647) ≤ℤ by) × (by ≤ℤ pos 2147483647)

@@ -256,6 +256,18 @@ a_key_whole_call least most = in_brackets (pair a_key (a_whole least most))
 unfoldable pub a_keys_range_call : Phrase (List ℕ × (List ℕ × ℤ × ℤ))
 a_keys_range_call = in_brackets (pair a_key (triple a_key a_stamp a_stamp))
 
+-- a text, and a key and two stamps
+unfoldable pub a_text_key_range_call : Phrase (List ℕ × (List ℕ × ℤ × ℤ))
+a_text_key_range_call = in_brackets (pair a_text (triple a_key a_stamp a_stamp))
+
+-- a text, and a name and two stamps
+unfoldable pub a_text_name_range_call : Phrase (List ℕ × (List ℕ × ℤ × ℤ))
+a_text_name_range_call = in_brackets (pair a_text (triple a_name a_stamp a_stamp))
+
+-- a text, a name, and a key and two stamps
+unfoldable pub a_text_name_key_range_call : Phrase (List ℕ × (List ℕ × (List ℕ × ℤ × ℤ)))
+a_text_name_key_range_call = in_brackets (pair a_text (pair a_name (triple a_key a_stamp a_stamp)))
+
 -- the commands of routines that are called with the same arguments
 abbrev pub of_name : NameRoutine → List ℕ → Command
 of_name by_name.DropRowType name = commands.DropRowType name

@@ -187,6 +187,25 @@ pub enum Command {
         key: Key,
         by: i64,
     },
+    AggregateBy {
+        text: Bytes,
+        calendar: Name,
+        key: Key,
+        from: Stamp,
+        to: Stamp,
+    },
+    AggregateRange {
+        text: Bytes,
+        key: Key,
+        from: Stamp,
+        to: Stamp,
+    },
+    AggregateAll {
+        text: Bytes,
+        container: Name,
+        from: Stamp,
+        to: Stamp,
+    },
 }
 
 /// The values that a statement gives, as it writes them.

@@ -22,6 +22,8 @@ pub data Work : Type 0 where
   Readings : Work
   -- it combines the elements of two series, or of one with itself
   Combinations : Work
+  -- it folds the elements of series by an aggregate list
+  Aggregates : Work
   -- it reads what is in memory
   Memory : Work
 
@@ -68,6 +70,9 @@ work_of (commands.ClipGetCount key from to) = Readings
 work_of (commands.Union first second from to) = Combinations
 work_of (commands.Intersect first second from to) = Combinations
 work_of (commands.Lag key by) = Combinations
+work_of (commands.AggregateBy text calendar key from to) = Aggregates
+work_of (commands.AggregateRange text key from to) = Aggregates
+work_of (commands.AggregateAll text container from to) = Aggregates
 
 -- What a command is given: a view of a volume, what containers are charged by it, and no reply yet.
 pub record IsGiven (tells : Bool) (x : View) (charges out : List ℕ) : Type 0 where

@@ -1,2 +1,4 @@
 pub mod Entry
 pub mod Reading
+pub mod Rows
+pub mod Intervals

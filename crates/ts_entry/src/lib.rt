@@ -5,10 +5,14 @@
 //! `visitor.rt`.
 #![tactic(auto)]
 
+mod elements;
 mod kept;
+mod rows;
 #[cfg(test)]
 mod tests;
 mod visitor;
 
+pub use elements::ElementVisitor;
 pub use kept::KeptElements;
+pub use rows::RowVisitor;
 pub use visitor::EntryVisitor;

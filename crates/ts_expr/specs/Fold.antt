@@ -7,7 +7,7 @@ use Rattle.std.specs.Cmp.Lexicographic.{slice_cmp}
 use Rattle.ts_row.specs.declared.value.Value.{Value}
 use Rattle.ts_row.specs.declared.value.Value.TheVariants.{Null, Number, Text}
 use Rattle.ts_row.specs.declared.row.Elem.{Elem}
-use Rattle.ts_row.specs.Row.{Values, Row, with_sign}
+use Rattle.ts_row.specs.Row.{Values, Row, visible, with_sign}
 use Rattle.ts_expr.specs.declared.function.Function.{Function}
 use Rattle.ts_expr.specs.declared.function.Function.TheVariants.{Sum, Avg, Count, Min, Max, First, Last}
 use Rattle.ts_expr.specs.declared.item.BoundItem.{BoundItem}
@@ -87,6 +87,10 @@ made Last values = fold later Null values
 -- what the items of a list make of rows in order of stamps
 abbrev pub folded : List BoundItem → List Row → Values
 folded items rows = map (λ i. made i.function (values_of i.column rows)) items
+
+-- the row of what they make
+abbrev pub folded_row : List BoundItem → List Row → Row
+folded_row items rows = visible (folded items rows)
 
 -- the rows of elements
 abbrev pub rows_of : List Elem → List Row

@@ -18,5 +18,7 @@ mod tally;
 pub use bind::Bound;
 pub use fold::Running;
 pub use function::Function;
-pub use item::{BoundItem, Item};
+pub use item::{BoundItem, Item, MOST_SCALE};
 pub use list::{AggList, MOST_ITEMS, aggregate_texts_are_tokens, aggregates_are_refused_in_place};
+pub use sums::Sums;
+pub use tally::Tally;

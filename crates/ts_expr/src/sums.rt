@@ -9,7 +9,7 @@ const PARTS: i128 = 1_000_000;
 
 /// How many values there were, and their sum.
 #[derive(Debug, Drop)]
-pub(crate) struct Sums {
+pub struct Sums {
     count: u64,
     sum: i128,
 }

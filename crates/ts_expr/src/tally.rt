@@ -11,7 +11,7 @@ use ts_row::Value;
 
 /// What is known, for one function, of the values so far.
 #[derive(Debug, Drop)]
-pub(crate) enum Tally {
+pub enum Tally {
     Count(u64),
     Sum(Sums),
     Avg(Sums),
