@@ -30,4 +30,3 @@ mod tests;
 pub use by_page::rows;
 pub use ends::{first_elem, last_elem};
 pub use reading::{clip, clip_count, clip_len, elements, nth};
-
