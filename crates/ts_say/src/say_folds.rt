@@ -1,5 +1,6 @@
 // What an aggregate list makes of elements, said in lines.
 ghost use Rattle.std.specs.Prelude.{◌≡◌, ◌↔◌, ◌⊎◌, ◌≤◌, [], ◌∷◌, ◌++◌, All, IsTrue, OnOk, length};
+ghost use Rattle.ts_expr.specs.declared.item.TheConstants.{MOST_SCALE};
 ghost use Rattle.ts_answer.specs.Reply.{scaled_text, folded_line, folded_text, series_folded_line};
 
 use crate::day_text::DayText;
