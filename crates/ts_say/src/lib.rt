@@ -9,6 +9,7 @@ mod say;
 mod say_bytes;
 mod say_calendars;
 mod say_entries;
+mod say_folds;
 mod say_numbers;
 mod say_rows;
 mod say_values;
@@ -19,6 +20,7 @@ pub use day_text::DayText;
 pub use say::{say_ok, say_refusal};
 pub use say_calendars::{say_calendar, say_pattern, say_stamps};
 pub use say_entries::EntryLines;
+pub use say_folds::{FoldedLines, say_folded, say_series_folded};
 pub use say_rows::{say_joined, say_line};
 pub use say_values::{
     say_count, say_counts, say_element, say_found, say_row, say_series, say_signed, say_stamp,

@@ -1,0 +1,184 @@
+// The commands that `gen` carries out, each made when its turn comes.
+ghost use Rattle.std.specs.Prelude.{◌≡◌, ◌≤◌, ◌<◌, ◌+◌, ◌*◌, ◌^◌, ℕ, IsTrue, IfOk, pos, ◌+ℤ◌, codes, [], ◌∷◌};
+ghost use Rattle.ts_base.specs.Name.{is_name, is_key};
+ghost use Rattle.ts_row.specs.declared.value.Literal.TheVariants.{Number};
+ghost use Rattle.ts_command.specs.declared.command.Command.TheVariants.{PutElem};
+ghost use Rattle.ts_command.specs.Form.{HasForm};
+ghost use Rattle.ts_shell.specs.Generated.{beginning, ending, drawn, edit, put_behind, edits_before, IsNext, IsOpening, IsClosing, add_up, generated};
+
+use std::alloc::{AllocError, Global};
+use ts_base::{Bytes, Key, Name, Stamp};
+use ts_command::{Columns, Command, Literals};
+use ts_row::{Column, ColumnKind, Literal};
+
+/// The commands before the edits.
+const OPENING: u32 = 6;
+
+/// The commands behind them.
+const CLOSING: u32 = 2;
+
+/// 2011-01-03 00:00:00.
+const BEGINNING: i64 = 129_401_280_000_000;
+
+/// 2012-01-01 00:00:00.
+const ENDING: i64 = 132_537_600_000_000;
+
+const SECOND: u64 = 100_000;
+
+const MINUTE: u64 = 6_000_000;
+
+const REGULAR: &[u8] = b"genr";
+
+const IRREGULAR: &[u8] = b"geni";
+
+/// How many commands a count of edits gives.
+pub(crate) fn command_count(count: u32) -> u32 {
+    OPENING + count + CLOSING
+}
+
+/// The number drawn first, of a seed.
+pub(crate) fn first_drawn(seed: u32) -> u64 {
+    seed as u64 % 2_147_483_648
+}
+
+/// The number drawn for a command, where this one was drawn before it: a new one for each edit.
+pub(crate) fn draw(count: u32, number: u32, last: u64) -> u64 {
+    if number >= OPENING && number - OPENING < count {
+        (1_103_515_245 * last + 12_345) % 2_147_483_648
+    } else {
+        last
+    }
+}
+
+/// The command of a number, counted from 0, for which this was drawn.
+pub(crate) fn make_command(
+    alloc: Global,
+    count: u32,
+    number: u32,
+    drawn: u64,
+) -> Result<Command, AllocError> {
+    if number < OPENING {
+        return make_opening(alloc, number);
+    }
+    if number - OPENING < count {
+        return make_edit(alloc, number - OPENING + 1, drawn);
+    }
+    make_closing(alloc, number - OPENING - count)
+}
+
+// A command that makes the two series, or what they stand on.
+fn make_opening(alloc: Global, number: u32) -> Result<Command, AllocError> {
+    match number {
+        0 => make_row_type(alloc),
+        1 => Ok(Command::CreatePattern {
+            name: name(alloc, b"genp")?,
+            text: Bytes::from_slice(alloc, b"{1 on},minute")?,
+        }),
+        2 => Ok(Command::CreateCalendar {
+            name: name(alloc, b"genc")?,
+            text: Bytes::from_slice(
+                alloc,
+                b"startdate(2011-01-03 00:00:00), pattstart(2011-01-03 00:00:00), pattname(genp)",
+            )?,
+        }),
+        3 => Ok(Command::TSContainerCreate {
+            name: name(alloc, b"genk")?,
+            row_type: name(alloc, b"gent")?,
+            quota: 4096,
+        }),
+        4 => Ok(Command::TSCreate {
+            key: key(alloc, REGULAR)?,
+            calendar: name(alloc, b"genc")?,
+            origin: stamp(BEGINNING),
+            container: name(alloc, b"genk")?,
+        }),
+        _ => Ok(Command::TSCreateIrr {
+            key: key(alloc, IRREGULAR)?,
+            container: name(alloc, b"genk")?,
+        }),
+    }
+}
+
+// The row type of both series.
+fn make_row_type(alloc: Global) -> Result<Command, AllocError> {
+    let mut columns = Vec::new(alloc);
+    columns.push(Column {
+        name: name(alloc, b"v")?,
+        kind: ColumnKind::Integer,
+    })?;
+    Ok(Command::CreateRowType {
+        name: name(alloc, b"gent")?,
+        stamp: name(alloc, b"t")?,
+        columns: Columns::from_vec(columns),
+    })
+}
+
+// Edit number `number`, counted from 1.
+fn make_edit(alloc: Global, number: u32, drawn: u64) -> Result<Command, AllocError> {
+    let place = drawn / 1000 % 100_000;
+    let value = drawn % 1000;
+    if number % 2 == 1 {
+        make_put(alloc, REGULAR, place * MINUTE, value)
+    } else {
+        make_put(alloc, IRREGULAR, place * SECOND, value)
+    }
+}
+
+// A value is put into a series, so many units of time behind the beginning.
+fn make_put(alloc: Global, series: &[u8], units: u64, value: u64) -> Result<Command, AllocError> {
+    let mut values = Vec::new(alloc);
+    values.push(Literal::Number {
+        units: value as i128,
+        scale: 0,
+    })?;
+    Ok(Command::PutElem {
+        key: key(alloc, series)?,
+        stamp: stamp(BEGINNING + units as i64),
+        values: Literals::from_vec(values),
+    })
+}
+
+// A command that adds up a series.
+fn make_closing(alloc: Global, number: u32) -> Result<Command, AllocError> {
+    make_sum(alloc, if number == 0 { REGULAR } else { IRREGULAR })
+}
+
+// All elements of a series are added up and counted.
+fn make_sum(alloc: Global, series: &[u8]) -> Result<Command, AllocError> {
+    Ok(Command::AggregateRange {
+        text: Bytes::from_slice(alloc, b"sum($v),count($v)")?,
+        key: key(alloc, series)?,
+        from: stamp(BEGINNING),
+        to: stamp(ENDING),
+    })
+}
+
+// The name with these bytes.
+fn name(alloc: Global, text: &[u8]) -> Result<Name, AllocError>
+    requires { IsTrue (is_name text.now) }
+    ensures { IfOk result (λ made. made ≡ text.now) }
+{
+    match Name::read(alloc, text)? {
+        Some(name) => Ok(name),
+        None => unreachable!(),
+    }
+}
+
+// The key with these bytes.
+fn key(alloc: Global, text: &[u8]) -> Result<Key, AllocError>
+    requires { IsTrue (is_key text.now) }
+    ensures { IfOk result (λ made. made ≡ text.now) }
+{
+    match Key::read(alloc, text)? {
+        Some(key) => Ok(key),
+        None => unreachable!(),
+    }
+}
+
+// The stamp of a number of units in the range.
+fn stamp(units: i64) -> Stamp {
+    match Stamp::of(units) {
+        Some(stamp) => stamp,
+        None => unreachable!(),
+    }
+}
