@@ -1,5 +1,5 @@
 -- What callers cite of tallies: many values that are taken at once.
-use Rattle.std.proofs.Common.{◌≡◌, ℕ, ◌+◌, ℤ, pos, ◌+ℤ◌, List, [], ◌∷◌, ◌++◌, length, append_assoc, map, fold, IsTrue, refl, sym, ◌∙◌, ap, arith}
+use Rattle.std.proofs.Common.{◌≡◌, ℕ, ◌+◌, ◌≤◌, ℤ, pos, ◌+ℤ◌, List, [], ◌∷◌, ◌++◌, length, length-append, append_assoc, map, fold, IsTrue, refl, sym, ◌∙◌, ap, arith}
 use Rattle.std.proofs.lemmas.Int.{ints}
 use Rattle.std.proofs.lemmas.List.{append-nil}
 use Rattle.ts_row.specs.declared.value.Value.{Value}
@@ -77,3 +77,11 @@ added_at_once f values more old new count sum is summed was many all =
     ∙ ap (λ (n : ℕ). with_sums (tally_of f values) n sum) (sym many)
     ∙ ap (λ (z : ℤ). with_sums (tally_of f values) (length more) z) (sym all)
     ∙ all_at_once f values more summed
+
+-- where rows are few enough with others, they are without them
+pub few_first : {A : Type 0} (before rows others : List A) (most : ℕ) → length before + length (rows ++ others) ≤ most → length before + length rows ≤ most
+few_first before rows others most few = omega (arith, few, length-append rows others)
+
+-- and so are the others behind them
+pub few_behind : {A : Type 0} (before rows others : List A) (most : ℕ) → length before + length (rows ++ others) ≤ most → length (before ++ rows) + length others ≤ most
+few_behind before rows others most few = omega (arith, few, length-append rows others, length-append before rows)
