@@ -15,6 +15,7 @@ mod OffsetLemmas
 mod OriginLemmas
 mod PartLemmas
 mod PlacedLemmas
+mod RangeLemmas
 mod ReadingLemmas
 mod ReplyLemmas
 mod RowLemmas
