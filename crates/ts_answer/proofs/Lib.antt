@@ -4,9 +4,11 @@ pub mod CalendarLemmas
 pub mod CallerLemmas
 mod CarriedLemmas
 mod ClipLemmas
+mod ContainerLemmas
 mod DeletedLemmas
 mod EditedLemmas
 mod EndLemmas
+mod GroupLemmas
 mod IntervalLemmas
 mod JoinedLemmas
 mod KeptShapeLemmas

@@ -17,7 +17,10 @@ mod stop;
 #[cfg(test)]
 mod tests;
 
-pub use aggregate_laws::{a_range_is_one_row, others_play_no_part_in_a_range};
+pub use aggregate_laws::{
+    a_range_is_one_row, a_row_is_of_an_interval, each_series_has_its_range,
+    others_play_no_part_in_a_range,
+};
 pub use effect::Effect;
 pub use laws::{
     a_calendar_in_use_stays, a_deletion_takes_what_it_names, a_made_calendar_is_valid,

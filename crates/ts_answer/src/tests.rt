@@ -28,6 +28,8 @@ fn the_laws_are_called(_rt: HostRuntime) -> Result<(), Fail> {
     a_join_is_by_stamps();
     a_range_is_one_row();
     others_play_no_part_in_a_range();
+    each_series_has_its_range();
+    a_row_is_of_an_interval();
     Ok(())
 }
 
