@@ -5,6 +5,7 @@ pub mod CallerLemmas
 mod CarriedLemmas
 mod ClipLemmas
 mod ContainerLemmas
+mod CountLemmas
 mod DeletedLemmas
 mod EditedLemmas
 mod EndLemmas

@@ -51,10 +51,10 @@ same_elements (x ∷ xs) (y ∷ ys) first second there back =
     λ i. one i ∷ rest i
 
 -- the rows of elements, and those that aren't hidden
-abbrev rows_of : List Element → List Row
+abbrev pub rows_of : List Element → List Row
 rows_of es = map (λ (e : Element). e.1) es
 
-abbrev shown : List Row → List Row
+abbrev pub shown : List Row → List Row
 shown rows = filter (λ (r : Row). not r.hidden) rows
 
 -- the same are shown without the hidden elements
@@ -78,7 +78,7 @@ shown_same p (e ∷ es) = by e.1.hidden (p e) refl refl (shown_same p es)
 abbrev made_of : List BoundItem → List Row → Values
 made_of items rows = map (λ (i : BoundItem). made i.function (filter (λ v. not (is_null v)) (map (λ (r : Row). value_at i.column r.values) rows))) items
 
-folded_seen : (items : List BoundItem) (p : Element → Bool) (es : List Element) → folded items (rows_of (filter p es)) ≡ folded items (rows_of (filter p (seen es)))
+pub folded_seen : (items : List BoundItem) (p : Element → Bool) (es : List Element) → folded items (rows_of (filter p es)) ≡ folded items (rows_of (filter p (seen es)))
 folded_seen items p es = ap (made_of items) (shown_same p es)
 
 -- those of the elements that are seen whose stamps pass a test

@@ -1,25 +1,27 @@
 -- What the laws of answers say of aggregates: of a series from one stamp to another, of each series of a container, and of each on
 -- interval of a calendar.
-use Rattle.std.specs.Prelude.{◌≡◌, ℕ, ℤ, ◌≤ℤ◌, ◌<ℤ◌, Some, Ok, List, [], ◌∷◌, map, AllPairs, Contains, ◌↔◌}
+use Rattle.std.specs.Prelude.{◌≡◌, ℕ, ℤ, pos, ◌≤ℤ◌, ◌<ℤ◌, false, Some, Ok, List, [], ◌∷◌, map, AllPairs, Contains, ◌↔◌}
 use Rattle.std.specs.FinMap.{get}
 use Rattle.std.specs.declared.cmp.Ordering.TheVariants.{Less}
 use Rattle.ts_base.specs.Moment.{IsStamp}
 use Rattle.ts_row.specs.declared.kind.Column.{Column}
-use Rattle.ts_row.specs.Row.{Values, Row}
+use Rattle.ts_row.specs.declared.value.Value.TheVariants.{Number}
+use Rattle.ts_row.specs.Row.{Values, Row, visible}
 use Rattle.ts_row.specs.Element.{Element}
 use Rattle.ts_calendar.specs.Plan.{CalendarPlan}
 use Rattle.ts_calendar.specs.Intervals.{IsLaid}
 use Rattle.ts_offset.specs.Walk.{IsOnStart}
 use Rattle.ts_offset.specs.Grid.{IsHeldFrom}
+use Rattle.ts_expr.specs.declared.function.Function.TheVariants.{Count}
 use Rattle.ts_expr.specs.declared.item.Item.{Item}
 use Rattle.ts_expr.specs.declared.item.BoundItem.{BoundItem}
 use Rattle.ts_expr.specs.Grammar.{read_list}
 use Rattle.ts_expr.specs.Binding.{Binding, binding}
-use Rattle.ts_expr.specs.Fold.{folded}
+use Rattle.ts_expr.specs.Fold.{is_null, value_at, folded}
 use Rattle.ts_command.specs.declared.command.Command.TheVariants as commands
-use Rattle.ts_model.specs.Catalogue.{Elements, Series, Catalogue, name_cmp, columns_of}
+use Rattle.ts_model.specs.Catalogue.{Irregular, Elements, Series, Catalogue, name_cmp, columns_of}
 use Rattle.ts_answer.specs.Answer.{Answered, outcome, a_calendar, scales_of, with_elements}
-use Rattle.ts_answer.specs.Reply.{folded_text, series_folded_text}
+use Rattle.ts_answer.specs.Reply.{count_line, folded_text, series_folded_text}
 use Rattle.ts_answer.specs.ReadingLaws.{IsSeenAt}
 
 -- elements are all that are seen of a series at some stamps, their stamps strictly rising
@@ -133,3 +135,20 @@ IntervalsAreListed =
     (cat : Catalogue) (answered : Answered) (text calendar key : List ℕ) (from to : ℤ) (s : Series) (plan : CalendarPlan)
     → get cat.series key ≡ Some s → HasStamps s → a_calendar calendar cat ≡ Ok plan → IsLaid plan
     → outcome (Ok (commands.AggregateBy text calendar key from to)) cat ≡ Ok answered → ListsIntervals text key plan from to s cat answered
+
+-- each element of a series that is seen from one stamp to another has a value in a column
+abbrev pub HaveValues : ℕ → ℤ → ℤ → Series → Type 0
+HaveValues column from to s = (stamp : ℤ) (row : Row) → IsFromTo from to stamp → IsSeenAt s stamp row → is_null (value_at column row.values) ≡ false
+
+-- a number is what ClipGetCount says, and the one value that AggregateRange says
+pub record AreAsMany (text key : List ℕ) (from to : ℤ) (scales : List ℕ) (cat : Catalogue) : Type 0 where
+  pub count : ℕ
+  pub listed : outcome (Ok (commands.ClipGetCount key from to)) cat ≡ Ok (count_line count, cat)
+  pub counted : outcome (Ok (commands.AggregateRange text key from to)) cat ≡ Ok (folded_text scales ((from, visible (Number (pos count) ∷ [])) ∷ []), cat)
+
+-- so is the count of a column of an irregular series whose elements have values there
+abbrev pub CountsAreOfElements : Type 0
+CountsAreOfElements =
+    (cat : Catalogue) (text key : List ℕ) (from to : ℤ) (s : Series) (b : Binding) (item : BoundItem) → get cat.series key ≡ Some s → s.kind ≡ Irregular
+    → IsBound text (columns_of cat s) b → b.items ≡ item ∷ [] → item.function ≡ Count → HaveValues item.column from to s
+    → AreAsMany text key from to (scales_of b) cat

@@ -1,5 +1,5 @@
 // What holds of AggregateRange, AggregateAll and AggregateBy, in the words of one who asks for them.
-ghost use Rattle.ts_answer.specs.AggregateLaws.{RangesAreFolded, OthersPlayNoPart, ContainersAreListed, IntervalsAreListed};
+ghost use Rattle.ts_answer.specs.AggregateLaws.{RangesAreFolded, OthersPlayNoPart, ContainersAreListed, IntervalsAreListed, CountsAreOfElements};
 
 /// AggregateRange says one row, with the first of its two stamps: what the list makes of the elements that aren't hidden and stand
 /// between the two, in order of stamps.
@@ -21,4 +21,9 @@ pub fn each_series_has_its_range()
 /// Each has what AggregateRange says from its start to its last stamp, also where this lies behind the second stamp.
 pub fn a_row_is_of_an_interval()
     ensures { IntervalsAreListed }
+{}
+
+/// Where the elements that aren't hidden of an irregular series have values in a column, AggregateRange counts as many as ClipGetCount.
+pub fn a_count_is_of_elements()
+    ensures { CountsAreOfElements }
 {}

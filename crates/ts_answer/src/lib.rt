@@ -18,7 +18,7 @@ mod stop;
 mod tests;
 
 pub use aggregate_laws::{
-    a_range_is_one_row, a_row_is_of_an_interval, each_series_has_its_range,
+    a_count_is_of_elements, a_range_is_one_row, a_row_is_of_an_interval, each_series_has_its_range,
     others_play_no_part_in_a_range,
 };
 pub use effect::Effect;

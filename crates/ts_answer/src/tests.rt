@@ -30,6 +30,7 @@ fn the_laws_are_called(_rt: HostRuntime) -> Result<(), Fail> {
     others_play_no_part_in_a_range();
     each_series_has_its_range();
     a_row_is_of_an_interval();
+    a_count_is_of_elements();
     Ok(())
 }
 
