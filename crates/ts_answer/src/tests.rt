@@ -26,6 +26,11 @@ fn the_laws_are_called(_rt: HostRuntime) -> Result<(), Fail> {
     an_intersection_is_part_of_the_union();
     a_lag_is_by_offsets();
     a_join_is_by_stamps();
+    a_range_is_one_row();
+    others_play_no_part_in_a_range();
+    each_series_has_its_range();
+    a_row_is_of_an_interval();
+    a_count_is_of_elements();
     Ok(())
 }
 
