@@ -6,6 +6,7 @@ mod CarriedLemmas
 mod ClipLemmas
 mod ContainerLemmas
 mod CountLemmas
+mod CountedLemmas
 mod DeletedLemmas
 mod EditedLemmas
 mod EndLemmas

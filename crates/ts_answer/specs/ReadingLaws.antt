@@ -1,6 +1,6 @@
 -- What the laws of answers say of readings: of a series between two stamps, of its ends and its offsets, of two series as one, and of one
 -- against itself.
-use Rattle.std.specs.Prelude.{◌≡◌, ℕ, ◌≤◌, ℤ, pos, ◌+ℤ◌, ◌≤ℤ◌, ◌<ℤ◌, false, Option, Some, None, Ok, Err, List, [], ◌++◌, length, AllPairs, Contains, ◌⊎◌}
+use Rattle.std.specs.Prelude.{◌≡◌, ℕ, ◌-◌, ◌≤◌, take, drop, unsigned_abs, ℤ, pos, ◌+ℤ◌, ◌≤ℤ◌, ◌<ℤ◌, false, Option, Some, None, Ok, Err, List, [], ◌++◌, length, AllPairs, Contains, ◌⊎◌}
 use Rattle.std.specs.FinMap.{get}
 use Rattle.ts_base.specs.declared.refusal.Refusal.TheVariants as refusals
 use Rattle.ts_row.specs.declared.kind.Column.{Column}
@@ -189,3 +189,30 @@ LagsAreByOffsets =
     (cat : Catalogue) (answered : Answered) (key : List ℕ) (by : ℤ) (s : Series) (grid : GridPlan) → get cat.series key ≡ Some s
     → shape_of cat s.kind ≡ Some (shapes.Regular grid) → IsLaid grid.calendar → outcome (Ok (commands.Lag key by)) cat ≡ Ok answered
     → ListsLagged grid by s cat answered
+
+-- no entry stands behind this stamp, since no element that is seen does
+abbrev pub NoneBehind : Series → ℤ → Type 0
+NoneBehind s last = (stamp : ℤ) → HasSeen s stamp → stamp ≤ℤ last
+
+-- no entry stands before this stamp: no element that is seen, or on a grid no on start from the origin on
+abbrev pub NoneBefore : Series → Shape → ℤ → Type 0
+NoneBefore s shapes.Irregular first = (stamp : ℤ) → HasSeen s stamp → first ≤ℤ stamp
+NoneBefore s (shapes.Regular grid) first = first ≤ℤ grid.origin
+
+-- one reply lists entries, and another those of them that are picked
+pub record ListsPicked (pick : List Entry → List Entry) (cat : Catalogue) (whole part : Answered) : Type 0 where
+  pub columns : List Column
+  pub rows : List Entry
+  pub lines : whole ≡ (entries_text columns rows, cat)
+  pub picked : part ≡ (entries_text columns (pick rows), cat)
+
+-- ClipCount lists the first so many of the entries that Clip lists from a stamp to the end of a series; or, where the number is negative, the
+-- last so many of those that Clip lists from its beginning to the stamp
+pub record CountedClipsAreParts : Type 0 where
+  pub first : (cat : Catalogue) (whole : Answered) (key : List ℕ) (stamp last n : ℤ) (s : Series) (shape : Shape) → get cat.series key ≡ Some s
+      → shape_of cat s.kind ≡ Some shape → pos 0 ≤ℤ n → NoneBehind s last → outcome (Ok (commands.Clip key stamp last)) cat ≡ Ok whole
+      → (part : Answered) × (outcome (Ok (commands.ClipCount key stamp n)) cat ≡ Ok part) × ListsPicked (take (unsigned_abs n)) cat whole part
+  pub last : (cat : Catalogue) (whole : Answered) (key : List ℕ) (first stamp n : ℤ) (s : Series) (shape : Shape) → get cat.series key ≡ Some s
+      → shape_of cat s.kind ≡ Some shape → n <ℤ pos 0 → NoneBefore s shape first → outcome (Ok (commands.Clip key first stamp)) cat ≡ Ok whole
+      → (part : Answered) × (outcome (Ok (commands.ClipCount key stamp n)) cat ≡ Ok part)
+      × ListsPicked (λ rows. drop (length rows - unsigned_abs n) rows) cat whole part

@@ -30,8 +30,8 @@ pub use laws::{
     reading_changes_nothing, replies_and_the_memory_line_are_apart, what_is_not_written_stays,
 };
 pub use reading_laws::{
-    a_clip_lists_the_entries_between, a_count_is_of_what_is_listed, a_join_is_by_stamps,
-    a_lag_is_by_offsets, a_number_is_an_offset, an_end_has_none_beyond,
-    an_intersection_is_part_of_the_union,
+    a_clip_lists_the_entries_between, a_count_is_of_what_is_listed,
+    a_counted_clip_is_part_of_a_clip, a_join_is_by_stamps, a_lag_is_by_offsets,
+    a_number_is_an_offset, an_end_has_none_beyond, an_intersection_is_part_of_the_union,
 };
 pub use stop::Stop;

@@ -1,5 +1,5 @@
-// What holds of Clip, ClipGetCount, GetFirstElem, GetLastElem, GetNthElem, Union, Intersect and Lag, in the words of one who asks for them.
-ghost use Rattle.ts_answer.specs.ReadingLaws.{ClipsListEntries, CountsAreOfClips, EndsAreListed, NumbersAreOffsets, JoinsAreByStamps, IntersectionsArePartOfUnions, LagsAreByOffsets};
+// What holds of Clip, ClipGetCount, ClipCount, GetFirstElem, GetLastElem, GetNthElem, Union, Intersect and Lag, in the words of one who asks for them.
+ghost use Rattle.ts_answer.specs.ReadingLaws.{ClipsListEntries, CountsAreOfClips, CountedClipsAreParts, EndsAreListed, NumbersAreOffsets, JoinsAreByStamps, IntersectionsArePartOfUnions, LagsAreByOffsets};
 
 /// What Clip lists of a series from one stamp to another: its elements that aren't hidden, and on a grid an entry at each other on
 /// start from the origin up to the last of them, the stamps strictly rising.
@@ -10,6 +10,12 @@ pub fn a_clip_lists_the_entries_between()
 /// The number that ClipGetCount says is that of the entries that Clip lists, also where these are too many for a reply.
 pub fn a_count_is_of_what_is_listed()
     ensures { CountsAreOfClips }
+{}
+
+/// ClipCount lists the first of the entries that Clip lists from a stamp to the end of a series, or the last of those from its
+/// beginning to the stamp: so many, or all where there are fewer.
+pub fn a_counted_clip_is_part_of_a_clip()
+    ensures { CountedClipsAreParts }
 {}
 
 /// Before the first element that is listed none is seen, and none after the last; nothing is listed where none is seen.

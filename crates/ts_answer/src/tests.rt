@@ -21,6 +21,7 @@ fn the_laws_are_called(_rt: HostRuntime) -> Result<(), Fail> {
     lines_are_printed_so();
     a_clip_lists_the_entries_between();
     a_count_is_of_what_is_listed();
+    a_counted_clip_is_part_of_a_clip();
     an_end_has_none_beyond();
     a_number_is_an_offset();
     an_intersection_is_part_of_the_union();
