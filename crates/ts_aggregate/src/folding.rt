@@ -1,8 +1,10 @@
 // A fold of rows in their bytes.
-ghost use Rattle.std.specs.Prelude.{◌≡◌, ◌≤◌, [], IfOk, OnOk, List, length};
+ghost use Rattle.std.specs.Prelude.{◌≡◌, ◌≤◌, [], ◌∷◌, IfOk, OnOk, List, length};
 ghost use Rattle.ts_row.specs.Row.{Row as TheRow};
+ghost use Rattle.ts_row.specs.RowType.{width_of};
+ghost use Rattle.ts_entry.specs.Entry.{AreSeenBytes};
 ghost use Rattle.ts_expr.specs.Fold.{folded_row};
-ghost use Rattle.ts_aggregate.specs.Fold.{HasTaken, most_folded};
+ghost use Rattle.ts_aggregate.specs.Fold.{HasTaken, Takes, most_folded};
 
 use std::alloc::{AllocError, Global};
 use std::marker::Model;
@@ -40,6 +42,15 @@ impl<'a> Folding<'a> {
             → row ≡ folded_row self.old.binding.items rows) }
         ensures same { self.new.binding ≡ self.old.binding }
         ensures none { OnOk result (HasTaken self.new []) }
+    {
+        unreachable!()
+    }
+
+    /// Takes a row in its bytes, one that isn't hidden. Bytes that are no such row's may be taken as any.
+    pub fn row(&mut self, kind: &RowType, row: &[u8]) -> Result<(), AllocError>
+        requires size { length row.now ≡ width_of kind.now.columns }
+        ensures takes { OnOk result ((r : TheRow) → AreSeenBytes kind.now.columns row.now r
+            → Takes kind.now.columns self.old (r ∷ []) self.new) }
     {
         unreachable!()
     }
