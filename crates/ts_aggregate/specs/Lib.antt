@@ -1,2 +1,4 @@
 pub mod Fold
 pub mod Call
+pub mod Groups
+pub mod GroupLaws

@@ -5,9 +5,12 @@
 //! calendars; knows nothing of definitions and replies. Read `specs/Fold.antt`, `specs/Call.antt`, `folding.rt`, `range.rt`, `groups.rt`.
 #![tactic(auto)]
 
+mod by_interval;
 mod folding;
 mod groups;
 mod range;
+mod span;
+mod wish;
 
 pub use folding::Folding;
 pub use groups::aggregate_by;
