@@ -1,6 +1,6 @@
 -- All elements of a range grouped, and their groups handed on.
 use Rattle.std.proofs.Common.{◌≡◌, ℕ, ◌<◌, ◌≤◌, ℤ, ◌<ℤ◌, ◌≤ℤ◌, Bool, true, false, cond, Option, Some, None, Result, Ok, Err, List, [], ◌∷◌, ◌++◌, length, map, refl, sym, ap, subst, ◌∙◌, arith, lt-ltb, le-ltb}
-use Rattle.std.specs.Prelude.{filter, not, ◌&&◌, int_lt, nat_lt}
+use Rattle.std.specs.Prelude.{not, ◌&&◌, int_lt, nat_lt}
 use Rattle.std.proofs.lemmas.Int.{by_lt_z, ints}
 use Rattle.std.proofs.lemmas.Bool.{and_parts}
 use Rattle.std.proofs.lemmas.List.{length-map}
@@ -8,9 +8,7 @@ use Rattle.ts_base.specs.Moment.{IsStamp}
 use Rattle.ts_base.specs.declared.refusal.Refusal.{Refusal}
 use Rattle.ts_base.specs.declared.refusal.Refusal.TheVariants.{TooLarge}
 use Rattle.ts_row.specs.declared.kind.Column.{Column}
-use Rattle.ts_row.specs.Row.{Row}
 use Rattle.ts_row.specs.Element.{Element, seen}
-use Rattle.ts_calendar.specs.Plan.{CalendarPlan}
 use Rattle.ts_calendar.proofs.StampLemmas.{int_lt_no, int_lt-false}
 use Rattle.ts_chain.specs.Range.{is_within, within_range}
 use Rattle.ts_offset.specs.Walk.{on_starts}
@@ -23,9 +21,9 @@ use Rattle.ts_clip.specs.Call.{AreElementsTaken}
 use Rattle.ts_expr.specs.Binding.{Binding}
 use Rattle.ts_expr.specs.declared.item.BoundItem.{BoundItem}
 use Rattle.ts_expr.specs.Fold.{folded_row}
-use Rattle.ts_aggregate.specs.Fold.{Fold, HasTaken}
+use Rattle.ts_aggregate.specs.Fold.{Fold}
 use Rattle.ts_aggregate.specs.Call.{AreHanded}
-use Rattle.ts_aggregate.specs.Groups.{WishPlan, is_asked, Grouping, grouping, closed, made_of, AreOrdered, AreGiven, Stands, AreMade, AreGrouped, IsClosed}
+use Rattle.ts_aggregate.specs.Groups.{WishPlan, is_asked, Grouping, closed, made_of, AreOrdered, AreGiven, Stands, AreMade, AreGrouped, IsClosed}
 use Rattle.ts_aggregate.specs.GroupLaws.{made_both, made_as}
 use Rattle.ts_aggregate.proofs.GroupLemmas.{Each, groups_same, kept_within}
 use Rattle.ts_aggregate.proofs.StartLemmas.{each_pass, start_of, none_grouped}

@@ -1,5 +1,5 @@
 -- Stamps that belong to one group, by the intervals of a calendar.
-use Rattle.std.proofs.Common.{◌≡◌, ◌⊎◌, inl, inr, ℕ, zero, suc, ◌<◌, Bool, true, false, cond, not, ◌&&◌, Option, Some, None, List, [], ◌∷◌, refl, sym, ap, subst, ◌∙◌, arith, ℤ, pos, ◌+ℤ◌, ◌≤ℤ◌, ◌<ℤ◌}
+use Rattle.std.proofs.Common.{◌≡◌, inl, inr, ℕ, zero, suc, ◌<◌, Bool, true, false, cond, not, Option, Some, None, List, [], ◌∷◌, refl, sym, ap, subst, ◌∙◌, arith, ℤ, pos, ◌+ℤ◌, ◌≤ℤ◌, ◌<ℤ◌}
 use Rattle.std.specs.Prelude.{filter, int_lt, is_some, IsSome}
 use Rattle.std.specs.List.{slice_get}
 use Rattle.std.proofs.lemmas.Int.{by_lt_z, ints}
@@ -7,19 +7,16 @@ use Rattle.std.proofs.lemmas.Bool.{and_parts}
 use Rattle.std.proofs.lemmas.Option.{same_Some}
 use Rattle.ts_base.specs.Moment.{IsStamp}
 use Rattle.ts_calendar.specs.Plan.{CalendarPlan}
-use Rattle.ts_calendar.specs.Intervals.{IsLaid, IsAround, IsBefore, IsOnStamp, Holds, start_at, starts_from, is_on}
-use Rattle.ts_calendar.specs.First.{IsNear}
-use Rattle.ts_calendar.proofs.StampLemmas.{int_lt_yes, int_lt_no, int_lt-true, int_lt-false}
+use Rattle.ts_calendar.specs.Intervals.{IsLaid, IsAround, IsBefore, start_at, starts_from, is_on}
+use Rattle.ts_calendar.proofs.StampLemmas.{int_lt-true, int_lt-false}
 use Rattle.ts_calendar.proofs.LawLemmas.{starts-rise, starts-whole, starts-around}
-use Rattle.ts_offset.specs.Walk.{IsOnStart, on_starts}
+use Rattle.ts_offset.specs.Walk.{on_starts}
 use Rattle.ts_offset.specs.Grid.{held_start, IsHeldFrom}
-use Rattle.ts_offset.specs.Counting.{starts_later, cal_stamp}
-use Rattle.ts_offset.proofs.StartLemmas.{on-line}
+use Rattle.ts_offset.specs.Counting.{cal_stamp}
 use Rattle.ts_offset.proofs.HeldLemmas.{held-off, on-exists}
 use Rattle.ts_offset.proofs.OwnLemmas.{held-from, from-held}
 use Rattle.ts_offset.proofs.ListedLemmas.{listed-start, start-listed, listed-rise}
-use Rattle.ts_aggregate.specs.declared.span.Span.{Span}
-use Rattle.ts_aggregate.specs.Groups.{WishPlan, asked_start, group_start, IsBound, IsSpan, IsGoingOn}
+use Rattle.ts_aggregate.specs.Groups.{WishPlan, asked_start, IsBound, IsSpan, IsGoingOn}
 use Rattle.ts_aggregate.proofs.GroupLemmas.{IsOneOf}
 use Rattle.ts_aggregate.proofs.StartLemmas.{at_one}
 

@@ -1,9 +1,8 @@
 -- The on starts that are asked for, and the groups at them.
-use Rattle.std.proofs.Common.{◌≡◌, ◌⊎◌, inl, inr, ℕ, zero, suc, ◌<◌, ◌≤◌, ℤ, ◌<ℤ◌, ◌≤ℤ◌, Bool, true, false, cond, not, ◌&&◌, Option, Some, None, List, [], ◌∷◌, ◌++◌, length, map, refl, sym, ap, subst, ◌∙◌, arith}
-use Rattle.std.specs.Prelude.{filter, int_lt}
+use Rattle.std.proofs.Common.{◌≡◌, inl, inr, ℕ, zero, suc, ◌<◌, ◌≤◌, ℤ, ◌<ℤ◌, ◌≤ℤ◌, Bool, true, false, cond, Option, Some, None, List, [], ◌∷◌, ◌++◌, length, refl, sym, ap, subst, ◌∙◌, arith}
+use Rattle.std.specs.Prelude.{filter}
 use Rattle.std.specs.List.{slice_get}
-use Rattle.std.proofs.lemmas.Int.{by_lt_z, ints}
-use Rattle.std.proofs.lemmas.Bool.{and_parts}
+use Rattle.std.proofs.lemmas.Int.{ints}
 use Rattle.std.proofs.lemmas.Option.{same_Some}
 use Rattle.ts_row.specs.Element.{Element}
 use Rattle.ts_calendar.specs.Plan.{CalendarPlan}
@@ -12,7 +11,7 @@ use Rattle.ts_offset.specs.Walk.{IsOnStart, on_starts}
 use Rattle.ts_offset.specs.Grid.{held_start}
 use Rattle.ts_offset.specs.Counting.{starts_between}
 use Rattle.ts_offset.proofs.ListedLemmas.{listed-start, listed-rise}
-use Rattle.ts_entry.specs.Intervals.{Group, grouped, held_from}
+use Rattle.ts_entry.specs.Intervals.{grouped, held_from}
 use Rattle.ts_aggregate.specs.Groups.{WishPlan, is_asked, asked_start, group_start, AreHeldBy, IsOpen, closed, open_group}
 use Rattle.ts_aggregate.proofs.GroupLemmas.{Each, IsOneOf, AreRising, groups_same, groups_empty, kept_less, kept_more, kept_none, earlier_same, earlier_all, earlier_last}
 

@@ -1,5 +1,5 @@
 -- One step of one that groups elements.
-use Rattle.std.proofs.Common.{◌≡◌, ℕ, ◌+◌, ◌<◌, ◌≤◌, ◌^◌, ℤ, ◌<ℤ◌, ◌≤ℤ◌, Bool, true, false, Option, Some, None, List, [], ◌∷◌, ◌++◌, length, map, refl, sym, ap, subst, ◌∙◌, arith, append-nil, length-append}
+use Rattle.std.proofs.Common.{◌≡◌, ℕ, ◌+◌, ◌<◌, ◌≤◌, ◌^◌, ℤ, ◌<ℤ◌, Bool, Option, Some, None, List, [], ◌∷◌, ◌++◌, length, refl, sym, ap, subst, ◌∙◌, arith, length-append}
 use Rattle.std.specs.Prelude.{filter, not}
 use Rattle.std.proofs.lemmas.Int.{ints}
 use Rattle.std.proofs.lemmas.List.{map-append, length-map}
@@ -15,17 +15,15 @@ use Rattle.ts_chain.specs.Chain.{AreEarlier, AreLater}
 use Rattle.ts_chain.proofs.OrderLemmas.{earlier_both, earlier_than, earlier_back}
 use Rattle.ts_offset.specs.Grid.{held_start}
 use Rattle.ts_offset.proofs.OwnLemmas.{from-held}
-use Rattle.ts_entry.specs.Intervals.{Group, held_from, is_start}
+use Rattle.ts_entry.specs.Intervals.{Group}
 use Rattle.ts_entry.specs.Reading.{most_rows}
-use Rattle.ts_expr.specs.declared.item.BoundItem.{BoundItem}
-use Rattle.ts_expr.specs.declared.tally.Tally.{Tally}
 use Rattle.ts_expr.specs.Running.{after}
 use Rattle.ts_expr.specs.Binding.{Binding}
 use Rattle.ts_expr.specs.Fold.{folded_row}
 use Rattle.ts_aggregate.specs.declared.span.Span.{Span}
-use Rattle.ts_aggregate.specs.Fold.{Fold, HasTaken, Takes, most_folded}
-use Rattle.ts_aggregate.specs.Groups.{WishPlan, Grouping, grouping, group_start, IsBound, IsSpan, AreWithin, IsGoingOn, AreHeldBy, IsOpen, MayBeOpen, open_group, IsFilled, open_count, closed, rows_of, made_of, AreOrdered, AreGiven, MayTake, Stands, Waits, Rests, AreMade, GoesOn, AreGrouped, IsClosed, IsReady}
-use Rattle.ts_aggregate.specs.GroupLaws.{given_front, made_same, made_both, made_as}
+use Rattle.ts_aggregate.specs.Fold.{Fold, HasTaken, most_folded}
+use Rattle.ts_aggregate.specs.Groups.{WishPlan, Grouping, grouping, IsBound, IsSpan, AreWithin, IsGoingOn, AreHeldBy, MayBeOpen, open_group, IsFilled, open_count, closed, rows_of, made_of, AreOrdered, AreGiven, MayTake, Stands, Waits, AreMade, AreGrouped, IsClosed, IsReady}
+use Rattle.ts_aggregate.specs.GroupLaws.{given_front, made_same}
 use Rattle.ts_aggregate.proofs.GroupLemmas.{Each}
 use Rattle.ts_aggregate.proofs.StartLemmas.{passed_over, closed_same, open_more, closed_all, open_none, closed_last, group_held, none_grouped}
 

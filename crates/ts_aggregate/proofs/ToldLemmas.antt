@@ -1,18 +1,15 @@
 -- The elements that the pages of a series have: in the order of their stamps, and so many.
-use Rattle.std.proofs.Common.{◌≡◌, ℕ, zero, suc, ◌+◌, ◌<◌, ◌≤◌, ◌^◌, inl, inr, ℤ, pos, ◌+ℤ◌, ◌<ℤ◌, ◌≤ℤ◌, Bool, true, false, cond, Option, Some, None, IsSome, List, [], ◌∷◌, ◌++◌, length, refl, sym, ap, subst, ◌∙◌, arith}
-use Rattle.std.specs.Prelude.{filter, not, ◌&&◌, int_lt}
+use Rattle.std.proofs.Common.{◌≡◌, ℕ, zero, suc, ◌<◌, ◌≤◌, ◌^◌, inl, inr, ℤ, Bool, true, false, cond, Some, IsSome, List, [], ◌∷◌, length, refl, sym, ap, subst, ◌∙◌, arith}
+use Rattle.std.specs.Prelude.{filter, not, int_lt}
 use Rattle.std.specs.List.{slice_get}
-use Rattle.std.proofs.lemmas.Int.{by_lt_z, ints}
 use Rattle.std.proofs.lemmas.List.Elements.{All-head, All-tail}
 use Rattle.std.proofs.lemmas.Option.{same_Some}
 use Rattle.std.proofs.lemmas.List.Filters.{length-filter_both}
 use Rattle.ts_base.specs.Moment.{IsStamp}
-use Rattle.ts_page.specs.Pages.{Contents}
 use Rattle.ts_space.specs.declared.place.Place.{Place}
 use Rattle.ts_space.specs.Place.{IsRising, count_of}
 use Rattle.ts_row.specs.declared.kind.Column.{Column}
-use Rattle.ts_row.specs.Row.{Row}
-use Rattle.ts_row.specs.Element.{Element, seen}
+use Rattle.ts_row.specs.Element.{Element}
 use Rattle.ts_cells.specs.IrregularPage.{AreInOrder, AreElements}
 use Rattle.ts_cells.specs.IrregularPage as cells
 use Rattle.ts_chain.specs.Chain.{AreLater}
@@ -24,8 +21,8 @@ use Rattle.ts_regular.proofs.PlaceLemmas.{pages_rise}
 use Rattle.ts_regular.proofs.CutsLemmas.{told_count}
 use Rattle.ts_series.proofs.ChainLemmas.{counted}
 use Rattle.ts_calendar.specs.Intervals.{IsLaid}
-use Rattle.ts_offset.specs.Walk.{IsOnStart, on_starts}
-use Rattle.ts_offset.specs.Grid.{GridPlan, stamp_of, starts_of}
+use Rattle.ts_offset.specs.Walk.{on_starts}
+use Rattle.ts_offset.specs.Grid.{GridPlan, stamp_of}
 use Rattle.ts_offset.specs.declared.shape.Shape.{Shape}
 use Rattle.ts_offset.specs.declared.shape.Shape.TheVariants.{Irregular, Regular}
 use Rattle.ts_offset.proofs.StartLemmas.{on-line}

@@ -30,7 +30,8 @@ given_front es fs given = record { ordered = ordered_front es fs given.ordered; 
 
 module _ {V : Type 0} (took : V → List Element → V → Type 0) where
   -- no group was handed on
-  pub made_same : (none : (x : V) → took x [] x) (items : List BoundItem) (before after : List Group) (count : ℕ) (x : V) → after ≡ before → AreMade took items before after count x x
+  pub made_same : (none : (x : V) → took x [] x) (items : List BoundItem) (before after : List Group) (count : ℕ) (x : V)
+      → after ≡ before → AreMade took items before after count x x
   made_same none items before after count x same = record {
     rows = [];
     behind = ap (made_of items) same ∙ sym (append-nil (made_of items before));
@@ -38,7 +39,8 @@ module _ {V : Type 0} (took : V → List Element → V → Type 0) where
   }
 
   -- some groups, and then others
-  pub made_both : (then : (x y z : V) (es fs : List Element) → took x es y → took y fs z → took x (es ++ fs) z) (items : List BoundItem) (before mid after : List Group) (less more : ℕ) (x y z : V) → less ≤ more
+  pub made_both : (then : (x y z : V) (es fs : List Element) → took x es y → took y fs z → took x (es ++ fs) z) (items : List BoundItem)
+      (before mid after : List Group) (less more : ℕ) (x y z : V) → less ≤ more
       → AreMade took items before mid less x y → AreMade took items mid after more y z → AreMade took items before after more x z
   made_both then items before mid after less more x y z order p q = record {
     rows = p.rows ++ q.rows;
@@ -47,7 +49,8 @@ module _ {V : Type 0} (took : V → List Element → V → Type 0) where
   }
 
   -- groups that are others only by name
-  pub made_as : (items items' : List BoundItem) (before before' after after' : List Group) (count : ℕ) (x y : V) → items ≡ items' → before ≡ before' → after ≡ after'
+  pub made_as : (items items' : List BoundItem) (before before' after after' : List Group) (count : ℕ) (x y : V) → items ≡ items'
+      → before ≡ before' → after ≡ after'
       → AreMade took items before after count x y → AreMade took items' before' after' count x y
   made_as items items' before before' after after' count x y a b c p =
       subst (λ (i : List BoundItem). AreMade took i before' after' count x y) a
@@ -67,7 +70,8 @@ module _ {V : Type 0} (took : V → List Element → V → Type 0) where
   goes_both : (u v w : Grouping) → GoesOn u v → GoesOn v w → GoesOn u w
   goes_both u v w p q = record { wish = q.wish ∙ p.wish; binding = q.binding ∙ p.binding; more = le_trans p.more q.more }
 
-  grouped_both : (then : (x y z : V) (es fs : List Element) → took x es y → took y fs z → took x (es ++ fs) z) (columns : List Column) (u v w : Grouping) (x y z : V) (es fs : List Element)
+  grouped_both : (then : (x y z : V) (es fs : List Element) → took x es y → took y fs z → took x (es ++ fs) z) (columns : List Column)
+      (u v w : Grouping) (x y z : V) (es fs : List Element)
       → AreGrouped took columns u x es v y → AreGrouped took columns v y fs w z → AreGrouped took columns u x (es ++ fs) w z
   grouped_both then columns u v w x y z es fs p q = record {
     same = goes_both u v w p.same q.same;
@@ -77,16 +81,21 @@ module _ {V : Type 0} (took : V → List Element → V → Type 0) where
         let first = p.taken own given (given_front (given ++ es) fs all) stands in
         let second = q.taken (own ∙ ap (λ (b : Binding). b.columns) (sym p.same.binding)) (given ++ es) all first.0 in (
           subst (Stands w) assoc second.0,
-          made_both then u.fold.binding.items (closed u.wish u.span.start given) (closed u.wish v.span.start (given ++ es)) (closed u.wish w.span.start (given ++ (es ++ fs))) v.count w.count x y z q.same.more first.1
-              (made_as v.fold.binding.items u.fold.binding.items (closed v.wish v.span.start (given ++ es)) (closed u.wish v.span.start (given ++ es))
+          made_both then u.fold.binding.items (closed u.wish u.span.start given) (closed u.wish v.span.start (given ++ es))
+              (closed u.wish w.span.start (given ++ (es ++ fs))) v.count w.count x y z q.same.more first.1
+              (made_as v.fold.binding.items u.fold.binding.items (closed v.wish v.span.start (given ++ es))
+              (closed u.wish v.span.start (given ++ es))
               (closed v.wish w.span.start ((given ++ es) ++ fs)) (closed u.wish w.span.start (given ++ (es ++ fs))) w.count y z
               (ap (λ (b : Binding). b.items) p.same.binding) (ap (λ (a : WishPlan). closed a v.span.start (given ++ es)) p.same.wish)
-              (ap (λ (a : WishPlan). closed a w.span.start ((given ++ es) ++ fs)) p.same.wish ∙ ap (closed u.wish w.span.start) assoc) second.1),
+              (ap (λ (a : WishPlan). closed a w.span.start ((given ++ es) ++ fs)) p.same.wish ∙ ap (closed u.wish w.span.start) assoc)
+              second.1),
         );
   }
 
-  pub grouped_then : (then : (x y z : V) (es fs : List Element) → took x es y → took y fs z → took x (es ++ fs) z) (columns : List Column) (u v w : Grouping) (x y z : V) (es fs : List Entry)
-      → AreGrouped took columns u x (elements_of es) v y → AreGrouped took columns v y (elements_of fs) w z → AreGrouped took columns u x (elements_of (es ++ fs)) w z
+  pub grouped_then : (then : (x y z : V) (es fs : List Element) → took x es y → took y fs z → took x (es ++ fs) z)
+      (columns : List Column) (u v w : Grouping) (x y z : V) (es fs : List Entry)
+      → AreGrouped took columns u x (elements_of es) v y → AreGrouped took columns v y (elements_of fs) w z
+      → AreGrouped took columns u x (elements_of (es ++ fs)) w z
   grouped_then then columns u v w x y z es fs p q =
       subst (λ (l : List Element). AreGrouped took columns u x l w z) (sym (filter_map-append element_of es fs))
       (grouped_both then columns u v w x y z (elements_of es) (elements_of fs) p q)

@@ -38,7 +38,8 @@ group_start wish t = asked_start wish (held_start wish.calendar t)
 
 -- an on interval that holds a stamp before an end starts before one that holds a stamp behind it
 abbrev pub IsBound : CalendarPlan → Option ℤ → Type 0
-IsBound calendar end = (t u s v : ℤ) → IsBefore t end → (IsBefore u end → ⊥) → held_start calendar t ≡ Some s → held_start calendar u ≡ Some v → s <ℤ v
+IsBound calendar end =
+    (t u s v : ℤ) → IsBefore t end → (IsBefore u end → ⊥) → held_start calendar t ≡ Some s → held_start calendar u ≡ Some v → s <ℤ v
 
 -- the stamps from one on up to an end belong to one group, or to none
 pub record IsSpan (wish : WishPlan) (at : ℤ) (span : Span) : Type 0 where
@@ -154,7 +155,8 @@ pub record Rests (v : Grouping) (given : List Element) : Type 0 where
   pub few : v.count ≤ length given
 
 -- between two such states the rows of these groups were handed on, behind those of others, unless they are too many by now
-pub record AreMade {V : Type 0} (took : V → List Element → V → Type 0) (items : List BoundItem) (before after : List Group) (count : ℕ) (x y : V) : Type 0 where
+pub record AreMade {V : Type 0} (took : V → List Element → V → Type 0) (items : List BoundItem) (before after : List Group)
+    (count : ℕ) (x y : V) : Type 0 where
   pub rows : List Element
   pub behind : made_of items after ≡ made_of items before ++ rows
   pub taken : count ≤ most_rows → took x rows y
@@ -166,10 +168,11 @@ pub record GoesOn (v w : Grouping) : Type 0 where
   pub more : v.count ≤ w.count
 
 -- From one state to another these elements were taken.
-pub record AreGrouped {V : Type 0} (took : V → List Element → V → Type 0) (columns : List Column) (v : Grouping) (x : V) (es : List Element) (w : Grouping) (y : V) : Type 0 where
+pub record AreGrouped {V : Type 0} (took : V → List Element → V → Type 0) (columns : List Column) (v : Grouping) (x : V) (es : List Element)
+    (w : Grouping) (y : V) : Type 0 where
   pub same : GoesOn v w
-  pub taken : columns ≡ v.fold.binding.columns → (given : List Element) → AreGiven (given ++ es) → Stands v given
-      → Stands w (given ++ es) × AreMade took v.fold.binding.items (closed v.wish v.span.start given) (closed v.wish w.span.start (given ++ es)) w.count x y
+  pub taken : columns ≡ v.fold.binding.columns → (given : List Element) → AreGiven (given ++ es) → Stands v given → Stands w (given ++ es)
+      × AreMade took v.fold.binding.items (closed v.wish v.span.start given) (closed v.wish w.span.start (given ++ es)) w.count x y
 
 -- From one state to another the open group was closed.
 pub record IsClosed {V : Type 0} (took : V → List Element → V → Type 0) (v : Grouping) (x : V) (w : Grouping) (y : V) : Type 0 where
@@ -180,5 +183,5 @@ pub record IsClosed {V : Type 0} (took : V → List Element → V → Type 0) (v
 -- From one state to another an element at a stamp became awaited.
 pub record IsReady {V : Type 0} (took : V → List Element → V → Type 0) (v : Grouping) (x : V) (at : ℤ) (w : Grouping) (y : V) : Type 0 where
   pub same : GoesOn v w
-  pub taken : (given : List Element) → AreGiven given → AreEarlier at given → Stands v given
-      → Waits w at given × AreMade took v.fold.binding.items (closed v.wish v.span.start given) (closed v.wish w.span.start given) w.count x y
+  pub taken : (given : List Element) → AreGiven given → AreEarlier at given → Stands v given → Waits w at given
+      × AreMade took v.fold.binding.items (closed v.wish v.span.start given) (closed v.wish w.span.start given) w.count x y

@@ -18,8 +18,8 @@ use ts_row::{Row, RowType};
 /// The most rows of a reply.
 pub(crate) const MOST_ROWS: u64 = 1_000_000;
 
-/// Groups elements, which come in the order of their stamps, by the on intervals of a calendar, and hands on what a fold makes of each group,
-/// once an element comes that lies behind it. Rows beyond the most of a reply are counted alone.
+/// Groups elements, which come in the order of their stamps, by the on intervals of a calendar, and hands on what a fold makes of each
+/// group, once an element comes that lies behind it. Rows beyond the most of a reply are counted alone.
 #[derive(Drop)]
 pub(crate) struct ByInterval<'a, 'b, V> {
     wish: &'a Wish<'a>,
@@ -59,7 +59,8 @@ impl<'a, 'b, V: ElementVisitor> ByInterval<'a, 'b, V> {
     pub(crate) fn end(&mut self) -> Result<u64, AllocError>
         ensures same { self.new.out.ghost_name ≡ self.old.out.ghost_name }
         ensures count { IfOk result (λ count. count ≡ self.new.count) }
-        ensures closed { OnOk result (IsClosed V.took (grouping self.old.wish.now self.old.span self.old.folding.now self.old.count) self.old.out.now
+        ensures closed { OnOk result (IsClosed V.took
+            (grouping self.old.wish.now self.old.span self.old.folding.now self.old.count) self.old.out.now
             (grouping self.new.wish.now self.new.span self.new.folding.now self.new.count) self.new.out.now) }
     {
         self.close()?;
@@ -69,7 +70,8 @@ impl<'a, 'b, V: ElementVisitor> ByInterval<'a, 'b, V> {
     // Hands on what the fold makes of the open group, if one is open.
     fn close(&mut self) -> Result<(), AllocError>
         ensures same { self.new.out.ghost_name ≡ self.old.out.ghost_name }
-        ensures closed { OnOk result (IsClosed V.took (grouping self.old.wish.now self.old.span self.old.folding.now self.old.count) self.old.out.now
+        ensures closed { OnOk result (IsClosed V.took
+            (grouping self.old.wish.now self.old.span self.old.folding.now self.old.count) self.old.out.now
             (grouping self.new.wish.now self.new.span self.new.folding.now self.new.count) self.new.out.now) }
     {
         let Some(start) = self.span.start else {
@@ -99,7 +101,8 @@ impl<'a, 'b, V: ElementVisitor> ByInterval<'a, 'b, V> {
     // Goes on to the group of an element at a stamp, where it is another, and closes the one before it.
     fn reach(&mut self, stamp: Stamp) -> Result<(), AllocError>
         ensures same { self.new.out.ghost_name ≡ self.old.out.ghost_name }
-        ensures ready { OnOk result (IsReady V.took (grouping self.old.wish.now self.old.span self.old.folding.now self.old.count) self.old.out.now stamp
+        ensures ready { OnOk result (IsReady V.took
+            (grouping self.old.wish.now self.old.span self.old.folding.now self.old.count) self.old.out.now stamp
             (grouping self.new.wish.now self.new.span self.new.folding.now self.new.count) self.new.out.now) }
     {
         if is_before(stamp, self.span.end) {
@@ -136,7 +139,8 @@ impl<'a, 'b, V: ElementVisitor> EntryVisitor for ByInterval<'a, 'b, V> {
     ghost use Rattle.ts_aggregate.specs.GroupLaws.{grouped_none, grouped_then};
 
     ghost took = { λ columns v es w. (w.out.ghost_name ≡ v.out.ghost_name)
-        × AreGrouped V.took columns (grouping v.wish.now v.span v.folding.now v.count) v.out.now (elements_of es) (grouping w.wish.now w.span w.folding.now w.count) w.out.now };
+        × AreGrouped V.took columns (grouping v.wish.now v.span v.folding.now v.count) v.out.now (elements_of es)
+        (grouping w.wish.now w.span w.folding.now w.count) w.out.now };
 
     fn element(&mut self, kind: &RowType, stamp: Stamp, row: &[u8]) -> Result<(), AllocError> {
         self.reach(stamp)?;
@@ -152,7 +156,8 @@ impl<'a, 'b, V: ElementVisitor> EntryVisitor for ByInterval<'a, 'b, V> {
 
     ghost then = { λ columns a b c es fs p q. (
       q.0 ∙ p.0,
-      grouped_then V.took V.then columns (grouping a.wish.now a.span a.folding.now a.count) (grouping b.wish.now b.span b.folding.now b.count)
-          (grouping c.wish.now c.span c.folding.now c.count) a.out.now b.out.now c.out.now es fs p.1 q.1,
+      grouped_then V.took V.then columns (grouping a.wish.now a.span a.folding.now a.count)
+          (grouping b.wish.now b.span b.folding.now b.count) (grouping c.wish.now c.span c.folding.now c.count)
+          a.out.now b.out.now c.out.now es fs p.1 q.1,
     ) };
 }

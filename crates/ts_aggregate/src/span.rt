@@ -1,5 +1,5 @@
 // Neighbouring stamps at which elements belong to one group.
-ghost use Rattle.std.specs.Prelude.{◌≡◌, ◌↔◌, IsTrue};
+ghost use Rattle.std.specs.Prelude.{◌↔◌, IsTrue};
 ghost use Rattle.ts_calendar.specs.Intervals.{IsBefore};
 
 use ts_base::Stamp;
