@@ -7,11 +7,14 @@
 
 mod cells;
 mod column;
+mod by_interval;
 mod folding;
 mod groups;
 mod numbers;
 mod range;
 mod texts;
+mod span;
+mod wish;
 
 pub use folding::Folding;
 pub use groups::aggregate_by;
