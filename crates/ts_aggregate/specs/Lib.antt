@@ -1,2 +1,4 @@
 pub mod Fold
+pub mod Takes
+pub mod Column
 pub mod Call

@@ -5,9 +5,13 @@
 //! calendars; knows nothing of definitions and replies. Read `specs/Fold.antt`, `specs/Call.antt`, `folding.rt`, `range.rt`, `groups.rt`.
 #![tactic(auto)]
 
+mod cells;
+mod column;
 mod folding;
 mod groups;
+mod numbers;
 mod range;
+mod texts;
 
 pub use folding::Folding;
 pub use groups::aggregate_by;

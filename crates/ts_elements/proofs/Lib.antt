@@ -1,10 +1,13 @@
 pub mod AddressLemmas
+pub mod AggregateLemmas
 pub mod BudgetLemmas
 pub mod ChainLemmas
+pub mod EachSeriesLemmas
 pub mod EditLemmas
 pub mod EntryLemmas
 pub mod FormatLemmas
 pub mod GridLemmas
+pub mod InOrderLemmas
 pub mod JoinLemmas
 pub mod LagLemmas
 pub mod LawLemmas

@@ -1,12 +1,12 @@
 -- What is kept in memory of a series, whatever the pages hold.
-use Rattle.std.proofs.Common.{◌≡◌, ℕ, ℤ, zero, suc, ◌+◌, ◌-◌, ◌<◌, ◌≤◌, Option, Some, None, IsSome, List, [], ◌∷◌, length, sum_by, get_or, set, get_or-set_same, get_or-set_other, refl, ap, sym, ◌∙◌, subst, arith}
+use Rattle.std.proofs.Common.{◌≡◌, ℕ, ℤ, zero, suc, ◌+◌, ◌-◌, ◌<◌, ◌≤◌, ◌^◌, Option, Some, None, IsSome, List, [], ◌∷◌, length, sum_by, get_or, set, get_or-set_same, get_or-set_other, refl, ap, sym, ◌∙◌, subst, arith}
 use Rattle.std.specs.Option.{option_map, unwrap_or}
 use Rattle.std.proofs.lemmas.List.Sums.{sum_by-cons}
 use Rattle.ts_page.specs.Pages.{Contents}
 use Rattle.ts_row.specs.declared.kind.Column.{Column}
 use Rattle.ts_row.specs.RowType.{Heading}
 use Rattle.ts_space.specs.declared.place.Place.{Place}
-use Rattle.ts_space.specs.Place.{IsRising}
+use Rattle.ts_space.specs.Place.{IsRising, count_of}
 use Rattle.ts_space.specs.Directory.{Directory, places_of}
 use Rattle.ts_cells.specs.Cell.{page_room}
 use Rattle.ts_offset.specs.declared.shape.Shape.{Shape}
@@ -63,7 +63,7 @@ charge_same d None shape lies columns places =
 charge_same d (Some regular) shape lies columns places = regular_charge Regular (λ grid columns places. refl) (grid_in d regular) shape lies columns places
 
 module _ (x : View) (kept : KeepsRules x) where
-  bare_rules : IsSound (bare_of x)
+  pub bare_rules : IsSound (bare_of x)
   bare_rules = let some = kept.some in let most = kept.most in bare_layouts.rules (x.pages.count - 930) x.definitions (omega (arith, some)) (omega (arith, most)) kept.sound
 
   -- no container is charged more pages than a volume has
@@ -94,6 +94,9 @@ module _ (x : View) (kept : KeepsRules x) where
   -- so few places and elements that they can be counted
   pub countable_kept : (slot : ℕ) → slot < 4096 → IsCountable (places_of slot x.space)
   countable_kept = room_left.countable x.definitions x.space x.pages.free x.pages.count kept
+
+  pub few_elements : (slot : ℕ) → slot < 4096 → count_of (places_of slot x.space) < 2 ^ 32
+  few_elements slot within = let countable = countable_kept slot within in omega (arith, countable)
 
   module _ (slot : ℕ) (within : slot < 4096) where
     -- a series that is found has columns

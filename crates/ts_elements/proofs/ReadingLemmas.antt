@@ -7,13 +7,16 @@ use Rattle.ts_base.specs.declared.fault.StoreFault.TheVariants as faults
 use Rattle.ts_command.specs.declared.command.Command.{Command}
 use Rattle.ts_page.specs.Pages.{Contents}
 use Rattle.ts_irregular.specs.Call.{Reads}
+use Rattle.ts_space.specs.Directory.{Directory}
+use Rattle.ts_model.specs.Definitions.{Definitions}
 use Rattle.ts_layout.specs.Meaning.{Layout, catalogue_of}
 use Rattle.ts_answer.specs.declared.stop.Stop.{Stop}
 use Rattle.ts_answer.specs.Stop.{store_stop, trouble_stop}
 use Rattle.ts_answer.specs.Answer.{outcome}
 use Rattle.ts_answer.specs.Tried.{IsRefusedAs}
-use Rattle.ts_answer.specs.View.{View, Shows}
+use Rattle.ts_answer.specs.View.{View, view, IsSeen, Shows}
 use Rattle.ts_answer.specs.CarriedOut.{ReadOut, IsStopped, Stays}
+use Rattle.ts_answer.proofs.CallerLemmas.{shows_still, kept_still}
 
 module _ (tells : Bool) (command : Command) (out : List ℕ) (x : View) (c : Contents) where
   -- it is stopped
@@ -71,3 +74,15 @@ then_reads tells a b u v w first second =
       free = second.free ∙ first.free;
       change_bytes = second.change_bytes ∙ first.change_bytes;
     }
+
+-- what is seen is seen still on pages that were only read
+pub seen_still : {A : Type 0} (tells : Bool) (a : A) (d : Definitions) (space : Directory) (v w : Contents) → IsSeen tells (view d space v) → Reads tells (Ok a) v w → IsSeen tells (view d space w)
+seen_still tells a d space v w seen reads =
+    let stays : Stays tells v w = record { free = reads.free; pages = reads.pages } in
+    record {
+      kept = kept_still d space tells v w seen.kept reads.call.count stays;
+      layout = λ told. let some = seen.layout told in (some.0, shows_still tells d space v w some.0 some.1 reads.call.count stays);
+    }
+
+pub layout_still : {A : Type 0} (tells : Bool) (a : A) (d : Definitions) (space : Directory) (v w : Contents) (l : Layout) → Shows tells (view d space v) l → Reads tells (Ok a) v w → Shows tells (view d space w) l
+layout_still tells a d space v w l shows reads = shows_still tells d space v w l shows reads.call.count (record { free = reads.free; pages = reads.pages })

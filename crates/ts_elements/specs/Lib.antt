@@ -1,3 +1,4 @@
+pub mod Aggregates
 pub mod Calls
 pub mod Combining
 pub mod Elements

@@ -9,7 +9,7 @@ ghost use Rattle.ts_model.specs.declared.kind.Kind.TheVariants.{Pattern as Patte
 ghost use Rattle.ts_model.specs.Definitions.{container_slots};
 ghost use Rattle.ts_layout.specs.Meaning.{sum_of_quotas};
 ghost use Rattle.ts_container.specs.KeptCharges.{AreCharges};
-ghost use Rattle.ts_engine.specs.Work.{Defines, Elements, Readings, Combinations, Memory, work_of, IsGiven, IsDecided};
+ghost use Rattle.ts_engine.specs.Work.{Defines, Elements, Readings, Combinations, Aggregates, Memory, work_of, IsGiven, IsDecided};
 
 use std::alloc::Global;
 use ts_answer::{Effect, Stop};
@@ -21,8 +21,9 @@ use ts_define::{
     new_pattern, new_regular, new_row_type, turned_pattern,
 };
 use ts_elements::{
-    Choice, count_clip, delete_element, delete_range, drop_series, edit_element, get_element,
-    get_first_element, get_last_element, join, lag, mark_element, read_entries,
+    Choice, aggregate_all, aggregate_by, aggregate_range, count_clip, delete_element, delete_range,
+    drop_series, edit_element, get_element, get_first_element, get_last_element, join, lag,
+    mark_element, read_entries,
 };
 use ts_model::{Def, Defs, Kind};
 use ts_page::{Page, Pages};
@@ -181,6 +182,52 @@ pub(crate) fn combine<P: Pages>(
             )
         }
         Command::Lag { key, by } => lag(alloc, pages, page, defs, space, key, *by, out),
+        _ => return None,
+    };
+    Some(came)
+}
+
+/// Answers a command that folds the elements of series by an aggregate list; none for another one. `page` is room to read one.
+pub(crate) fn aggregate<P: Pages>(
+    alloc: Global,
+    pages: &mut P,
+    page: &mut Page,
+    defs: &Defs,
+    space: &Space,
+    command: &Command,
+    out: &mut Reply,
+) -> Option<Result<(), Stop>>
+    requires seen { IsSeen P.tells (view defs.now.definitions space.now (P.contents pages.old)) }
+    requires form { HasForm command.now }
+    requires empty { out.old ≡ [] }
+    ensures read { IfSome result (λ came. ReadOut P.tells command.now came out.new (view defs.now.definitions space.now (P.contents pages.old)) (P.contents pages.new)) }
+    ensures none { IsNone result → (work_of command.now ≢ Aggregates) × (pages.new ≡ pages.old) × (out.new ≡ []) }
+    ensures undisturbed { P.undisturbed pages.old pages.new }
+{
+    let came = match command {
+        Command::AggregateBy {
+            text,
+            calendar,
+            key,
+            from,
+            to,
+        } => aggregate_by(
+            alloc, pages, page, defs, space, text, calendar, key, *from, *to, out,
+        ),
+        Command::AggregateRange {
+            text,
+            key,
+            from,
+            to,
+        } => aggregate_range(alloc, pages, page, defs, space, text, key, *from, *to, out),
+        Command::AggregateAll {
+            text,
+            container,
+            from,
+            to,
+        } => aggregate_all(
+            alloc, pages, page, defs, space, text, container, *from, *to, out,
+        ),
         _ => return None,
     };
     Some(came)

@@ -37,7 +37,7 @@ sums_more : (values : List Value) (v : Value) → sums (length (values ++ v ∷ 
 sums_more values v = ap (λ (n : ℕ). sums n (total (values ++ v ∷ []))) (length_more values v) ∙ ap (λ (z : ℤ). sums (length values + 1) z) (total_more values v)
 
 -- one more value
-tally_more : (f : Function) (values : List Value) (v : Value) → tally_of f (values ++ v ∷ []) ≡ with_value (tally_of f values) v
+pub tally_more : (f : Function) (values : List Value) (v : Value) → tally_of f (values ++ v ∷ []) ≡ with_value (tally_of f values) v
 tally_more Count values v = ap (λ (n : ℕ). tally.Count n) (length_more values v)
 tally_more Sum values v = ap (λ (s : Sums). tally.Sum s) (sums_more values v)
 tally_more Avg values v = ap (λ (s : Sums). tally.Avg s) (sums_more values v)

@@ -2,3 +2,4 @@ pub mod NumberLemmas
 pub mod BytesLemmas
 pub mod DayLemmas
 pub mod RowsLemmas
+pub mod FoldsLemmas

@@ -31,13 +31,13 @@ tens_left k n above =
     (ap (λ m. (k * 10 + m) / 10) r ∙ both.0, ap (λ m. (k * 10 + m) % 10) r ∙ both.1)
 
 -- the last digits of a number, written behind a one
-behind_one : (s n : ℕ) → s ≤ 28 → decimal (10 ^ s + n % 10 ^ s) ≡ 49 ∷ last_digits s n
+behind_one : (s n : ℕ) → s ≤ 34 → decimal (10 ^ s + n % 10 ^ s) ≡ 49 ∷ last_digits s n
 behind_one zero n few = ap (λ m. decimal (1 + m)) (let none : n % 1 ≡ 0 = omega arith in none) ∙ decimal_digit 1 (lit< tt)
 behind_one (suc s) n few =
     let power : 10 ^ suc s ≡ 10 ^ s * 10 = pow-suc 10 s in
     let above : 0 < 10 ^ s = ten_pow_positive s in
-    let top : 10 ^ s ≤ 10 ^ 27 = pow-le-pow_right (lit< tt) {i = s} {j = 27} (omega arith) in
-    let wide : 10 ^ 27 * 20 < 10 ^ 64 = lit< tt in
+    let top : 10 ^ s ≤ 10 ^ 33 = pow-le-pow_right (lit< tt) {i = s} {j = 33} (omega arith) in
+    let wide : 10 ^ 33 * 20 < 10 ^ 64 = lit< tt in
     let split = tens_left (10 ^ s) n above in
     let below : n % (10 ^ s * 10) < 10 ^ s * 10 = omega arith in
     ap (λ m. decimal (m + n % m)) power
@@ -45,7 +45,7 @@ behind_one (suc s) n few =
     ∙ (λ j. decimal (split.0 j) ++ (48 + split.1 j) ∷ [])
     ∙ ap (λ l. l ++ (48 + n % 10) ∷ []) (behind_one s (n / 10) (omega arith))
 
--- it has 64 bits where the digits are at most 18, and 128 bits where they are at most 28
+-- it has 64 bits where the digits are at most 18, and 128 bits where they are at most 34
 pub behind_short : (s n : ℕ) → s ≤ 18 → 10 ^ s + n % 10 ^ s < 2 ^ 64
 behind_short s n few =
     let above : 0 < 10 ^ s = ten_pow_positive s in
@@ -54,23 +54,23 @@ behind_short s n few =
     let left : n % 10 ^ s < 10 ^ s = omega arith in
     omega arith
 
-pub behind_long : (s n : ℕ) → s ≤ 28 → 10 ^ s + n % 10 ^ s < 2 ^ 128
+pub behind_long : (s n : ℕ) → s ≤ 34 → 10 ^ s + n % 10 ^ s < 2 ^ 128
 behind_long s n few =
     let above : 0 < 10 ^ s = ten_pow_positive s in
-    let top : 10 ^ s ≤ 10 ^ 28 = pow-le-pow_right (lit< tt) {i = s} {j = 28} few in
-    let wide : 10 ^ 28 * 2 < 2 ^ 128 = lit< tt in
+    let top : 10 ^ s ≤ 10 ^ 34 = pow-le-pow_right (lit< tt) {i = s} {j = 34} few in
+    let wide : 10 ^ 34 * 2 < 2 ^ 128 = lit< tt in
     let left : n % 10 ^ s < 10 ^ s = omega arith in
     omega arith
 
 -- a number is what stands before the point, the point, and what stands behind a one
-size_parts : (s n : ℕ) → s ≢ 0 → s ≤ 28 → size_text s n ≡ decimal (n / 10 ^ s) ++ 46 ∷ drop 1 (decimal (10 ^ s + n % 10 ^ s))
+size_parts : (s n : ℕ) → s ≢ 0 → s ≤ 34 → size_text s n ≡ decimal (n / 10 ^ s) ++ 46 ∷ drop 1 (decimal (10 ^ s + n % 10 ^ s))
 size_parts zero n some few = absurd (some refl)
 size_parts (suc s) n some few =
     let point : (suc s == 0) ≡ false = grind (arith, nat_tests) in
     rw (behind_one (suc s) n few, point) refl
 
 -- so it is said by parts
-pub said_parts : (s n one : ℕ) (old new : List ℕ) → one ≡ 10 ^ s → s ≢ 0 → s ≤ 28
+pub said_parts : (s n one : ℕ) (old new : List ℕ) → one ≡ 10 ^ s → s ≢ 0 → s ≤ 34
     → new ≡ old ++ decimal (n / one) ++ 46 ∷ drop 1 (decimal (one + n % one)) → new ≡ old ++ size_text s n
 said_parts s n one old new power some few is =
     is ∙ ap (λ k. old ++ decimal (n / k) ++ 46 ∷ drop 1 (decimal (k + n % k))) power

@@ -14,7 +14,8 @@ use crate::say_numbers::{say_long_decimal, say_short_decimal};
 use crate::say_values::say_quoted;
 use std::alloc::AllocError;
 use ts_base::{Reply, Stamp};
-use ts_row::{Column, MOST_DIGITS, Row, RowType, SHORT_DIGITS, Value};
+use ts_expr::MOST_SCALE;
+use ts_row::{Column, Row, RowType, SHORT_DIGITS, Value};
 
 /// Says an element in a line.
 #[tactic(auto, unfolding(ts_answer::specs::Reply::element_line))]
@@ -110,9 +111,9 @@ fn say_nulls(out: &mut Reply, columns: &[Column]) -> Result<(), AllocError>
     say_nulls(out, columns)
 }
 
-// Says a value, a number with so many digits after the point.
-fn say_value(out: &mut Reply, value: &Value, scale: u32) -> Result<(), AllocError>
-    requires { scale ≤ MOST_DIGITS }
+/// Says a value, a number with so many digits after the point.
+pub(crate) fn say_value(out: &mut Reply, value: &Value, scale: u32) -> Result<(), AllocError>
+    requires { scale ≤ MOST_SCALE }
     ensures { OnOk result (out.new ≡ out.old ++ value_text scale value.now) }
 {
     match value {
@@ -128,7 +129,7 @@ fn say_value(out: &mut Reply, value: &Value, scale: u32) -> Result<(), AllocErro
 
 // Says a number with so many digits after the point.
 fn say_scaled(out: &mut Reply, number: i128, scale: u32) -> Result<(), AllocError>
-    requires { scale ≤ MOST_DIGITS }
+    requires { scale ≤ MOST_SCALE }
     ensures { OnOk result (out.new ≡ out.old ++ number_text scale number) }
 {
     match i64::try_from(number) {

@@ -1,0 +1,155 @@
+-- What a list makes of each series of a container that is seen.
+use Rattle.std.proofs.Common.{◌≡◌, ℕ, ◌+◌, ◌<◌, ◌==◌, ℤ, Bool, true, cond, IsTrue, Option, Some, None, IsSome, Ok, List, [], ◌∷◌, ◌++◌, map, length, refl, ap, sym, subst, ◌∙◌, arith, append_assoc, append-nil, length-append}
+use Rattle.std.specs.List.{flat_map}
+use Rattle.std.specs.Option.{option_map, option_and_then, unwrap_or}
+use Rattle.std.proofs.lemmas.Bool.Decides.{nat_tests}
+use Rattle.std.proofs.lemmas.List.Concat.{flat_map-append}
+use Rattle.ts_base.specs.declared.fault.Trouble.{Trouble}
+use Rattle.ts_command.specs.declared.command.Command.TheVariants.{AggregateAll}
+use Rattle.ts_page.specs.Pages.{Contents}
+use Rattle.ts_row.specs.declared.kind.Column.{Column}
+use Rattle.ts_row.specs.RowType.{Heading}
+use Rattle.ts_row.specs.Row.{Row}
+use Rattle.ts_space.specs.Directory.{places_of}
+use Rattle.ts_chain.specs.Range.{within_range}
+use Rattle.ts_offset.specs.declared.shape.Shape.{Shape}
+use Rattle.ts_expr.specs.declared.item.Item.{Item}
+use Rattle.ts_expr.specs.Grammar.{read_list}
+use Rattle.ts_expr.specs.Binding.{Binding, binding}
+use Rattle.ts_aggregate.specs.Fold.{Fold, Folds}
+use Rattle.ts_model.specs.declared.kind.Kind.TheVariants as kinds
+use Rattle.ts_model.specs.declared.def.Def.TheVariants as defs
+use Rattle.ts_model.specs.Catalogue.{Container, Series, Catalogue, series_in}
+use Rattle.ts_model.specs.Definitions.{Definitions, RowTypeDef, SeriesDef, of_series, at_slot, slots}
+use Rattle.ts_layout.specs.Meaning.{Layout, IsSound, heading_of_container, heading_in, heading_at, shape_at, series_of, elements_at, catalogue_of}
+use Rattle.ts_layout.proofs.CallerLemmas.{one_of, own as own_def, container_found, row_type_of_container, series_at}
+use Rattle.ts_answer.specs.Answer.{Answered, wanted, outcome, carried_out, aggregate_all, columns_in, scales_of, folded_range}
+use Rattle.ts_answer.specs.Reply.{series_folded_line, series_folded_text, count_line}
+use Rattle.ts_answer.specs.Slots.{IsSlotNamed, Stands}
+use Rattle.ts_answer.specs.Tried.{IsRefusedAs}
+use Rattle.ts_answer.specs.View.{View, IsViewOf, Shows, KeepsRules}
+use Rattle.ts_answer.proofs.CallerLemmas.{on_ok, refused_as}
+use Rattle.ts_elements.specs.Aggregates.{folded_if, folded_at, folded_in, IsFresh, AreSaid}
+use Rattle.ts_elements.specs.Stamps.{IsLaidOut, IsTold}
+use Rattle.ts_elements.proofs.AggregateLemmas.{range_folded}
+use Rattle.ts_elements.proofs.InOrderLemmas.{made_in_order}
+use Rattle.ts_elements.proofs.MemoryLemmas.{bare_of, bare_rules}
+
+-- what they come to, test after test
+module _ (text name : List ℕ) (from to : ℤ) (cat : Catalogue) where
+  pub all_unread : (trouble : Trouble) → IsRefusedAs trouble (read_list text) → IsRefusedAs trouble (outcome (Ok (AggregateAll text name from to)) cat)
+  unfolding outcome carried_out aggregate_all
+  all_unread trouble is = refused_as trouble _ _ is
+
+  module _ (items : List Item) (read : read_list text ≡ Ok items) where
+    pub all_unknown : (trouble : Trouble) → IsRefusedAs trouble (wanted name cat.containers) → IsRefusedAs trouble (outcome (Ok (AggregateAll text name from to)) cat)
+    unfolding outcome carried_out aggregate_all
+    all_unknown trouble is = subst (IsRefusedAs trouble) (sym (on_ok _ items _ read)) (refused_as trouble _ _ is)
+
+    module _ (container : Container) (there : wanted name cat.containers ≡ Ok container) where
+      pub all_unbound : (trouble : Trouble) → IsRefusedAs trouble (binding (columns_in cat container) items) → IsRefusedAs trouble (outcome (Ok (AggregateAll text name from to)) cat)
+      unfolding outcome carried_out aggregate_all
+      all_unbound trouble is = subst (IsRefusedAs trouble) (sym (on_ok _ items _ read ∙ on_ok _ container _ there)) (refused_as trouble _ _ is)
+
+      pub all_come : (b : Binding) → binding (columns_in cat container) items ≡ Ok b
+          → outcome (Ok (AggregateAll text name from to)) cat ≡ Ok (series_folded_text (scales_of b) (map (λ s. (s.0, folded_range b from to s.1.elements)) (series_in name cat)), cat)
+      unfolding outcome carried_out aggregate_all
+      all_come b bound = on_ok _ items _ read ∙ on_ok _ container _ there ∙ on_ok _ b _ bound
+
+-- the columns of a container, by its slot and by its name
+pub container_columns : (l : Layout) (name : List ℕ) (slot : ℕ) (container : Container) (h : Heading) → IsSound l → Stands kinds.Container name l slot container → heading_in l.definitions slot ≡ Some h
+    → columns_in (catalogue_of l) container ≡ h.columns
+container_columns l name slot container h rules stands is =
+    let c = stands.is.0 in
+    let r = row_type_of_container l slot c rules stands.is.1 in
+    let own : heading_in l.definitions slot ≡ Some r.0.heading = ap (option_and_then (heading_of_container l.definitions)) stands.is.1 ∙ ap (option_map (λ (x : RowTypeDef). x.heading)) r.1.there in
+    let same : r.0.heading ≡ h = one_of (heading_in l.definitions slot) r.0.heading h own is in
+    ap (columns_in (catalogue_of l)) stands.is.2 ∙ ap (λ (o : Option Heading). unwrap_or (option_map (λ (heading : Heading). heading.columns) o) []) (r.1.listed ∙ ap Some same)
+
+module _ (x : View) (kept : KeepsRules x) where
+  -- a container that is found has columns
+  pub columns_kept : (slot : ℕ) (name : List ℕ) → IsSlotNamed kinds.Container slot name x.definitions → IsSome (heading_in x.definitions slot)
+  columns_kept slot name named =
+      let rules = bare_rules x kept in
+      let c = container_found (bare_of x) name slot rules named.is in
+      let r = row_type_of_container (bare_of x) slot c.0 rules c.1.there in
+      let own : heading_in x.definitions slot ≡ Some r.0.heading = ap (option_and_then (heading_of_container x.definitions)) c.1.there ∙ ap (option_map (λ (y : RowTypeDef). y.heading)) r.1.there in
+      subst (λ (o : Option Heading). IsSome o) (sym own) refl
+
+  -- a series is found by the key that it has in its slot
+  pub key_kept : (slot : ℕ) (key : List ℕ) (container : ℕ) (regular : Option (ℕ × ℤ)) → slot < 4096 → at_slot slot (slots kinds.Series x.definitions) ≡ Some (defs.Series key container regular)
+      → (key' : List ℕ) × IsSlotNamed kinds.Series slot key' x.definitions
+  key_kept slot key container regular within is =
+      let there = own_def of_series slot x.definitions.series (defs.Series key container regular) is in
+      let at = series_at (bare_of x) slot there.0 (bare_rules x kept) there.1 in
+      (there.0.key, record { within = within; is = at.named })
+
+-- none of a slot that has no series of the container
+pub none_said : (b : Binding) (rows : List (List ℕ × Row)) (out : List ℕ) → rows ≡ [] → AreSaid b rows out out 0
+none_said b rows out none =
+    let line = series_folded_line (scales_of b) in
+    record { lines = sym (append-nil out) ∙ ap (λ (rs : List (List ℕ × Row)). out ++ flat_map line rs) (sym none); number = ap (λ (rs : List (List ℕ × Row)). length rs) (sym none) }
+
+-- the series in a slot of the container
+module _ (tells : Bool) (x : View) (l : Layout) (shape : Shape) (laid : IsLaidOut shape) (slot : ℕ) (h : Heading) (told : IsTrue tells) (shows : Shows tells x l) (columns : heading_at x.definitions slot ≡ Some h) (lies : shape_at x.definitions slot ≡ Some shape)
+    (within : slot < 4096) (container : ℕ) (key : List ℕ) (own : ℕ) (regular : Option (ℕ × ℤ)) (is : at_slot slot (slots kinds.Series x.definitions) ≡ Some (defs.Series key own regular)) (inside : own ≡ container)
+    (b : Binding) (of : option_map (λ (y : Heading). y.columns) (heading_in x.definitions container) ≡ Some b.columns) where
+  abbrev there : (s : SeriesDef) × (at_slot slot x.definitions.series ≡ Some s) × (of_series s ≡ defs.Series key own regular)
+  there = own_def of_series slot x.definitions.series (defs.Series key own regular) is
+
+  its_key : there.0.key ≡ key
+  its_key = let def = there.2 in cc
+
+  its_container : there.0.container ≡ container
+  its_container = let def = there.2 in let same : there.0.container ≡ own = cc in same ∙ inside
+
+  of_columns : b.columns ≡ h.columns
+  of_columns =
+      let at : heading_in x.definitions container ≡ Some h =
+      ap (λ (n : ℕ). heading_in x.definitions n) (sym its_container) ∙ sym (ap (option_and_then (λ (s : SeriesDef). heading_in x.definitions s.container)) there.1) ∙ columns in
+      one_of (option_map (λ (y : Heading). y.columns) (heading_in x.definitions container)) b.columns h.columns of (ap (option_map (λ (y : Heading). y.columns)) at)
+
+  one_listed : (from to : ℤ) → folded_at b from to l container slot ≡ (key, folded_range b from to (elements_at slot l.element_pages)) ∷ []
+  one_listed from to =
+      let t : (there.0.container == container) ≡ true = let same = its_container in grind (arith, nat_tests) in
+      let at : at_slot slot l.definitions.series ≡ Some there.0 = ap (λ (d : Definitions). at_slot slot d.series) (sym shows.kept.definitions) ∙ there.1 in
+      ap (folded_if b from to l container slot) at ∙ ap (λ (c : Bool). cond c ((there.0.key, folded_range b from to (elements_at slot l.element_pages)) ∷ []) []) t
+      ∙ (λ i. (its_key i, folded_range b from to (elements_at slot l.element_pages)) ∷ [])
+
+  pub one_said : (from to : ℤ) (v w : Fold) (row : Row) (out said scales : List ℕ) → IsFresh b v → IsTold tells shape slot h.columns (places_of slot x.space) x.pages (λ es. Folds h.columns v (map (λ e. e.1) (within_range from to es)) row w)
+      → scales ≡ scales_of b → said ≡ out ++ series_folded_line scales (key, row) → IsFresh b w × AreSaid b (folded_at b from to l container slot) out said 1
+  one_said from to v w row out said scales fresh folds are line =
+      let made = range_folded tells x l shape laid slot h told shows columns lies within b of_columns v fresh from to row w folds in
+      let whole : folded_at b from to l container slot ≡ (key, row) ∷ [] = one_listed from to ∙ (λ i. (key, sym made.0 i) ∷ []) in (
+        made.1,
+        record {
+          lines = line ∙ (λ i. out ++ series_folded_line (are i) (key, row)) ∙ (λ i. out ++ sym (append-nil (series_folded_line (scales_of b) (key, row))) i)
+              ∙ ap (λ (rs : List (List ℕ × Row)). out ++ flat_map (series_folded_line (scales_of b)) rs) (sym whole);
+          number = ap (λ (rs : List (List ℕ × Row)). length rs) (sym whole);
+        },
+      )
+
+-- one slot after others
+pub said_behind : (b : Binding) (rows more : List (List ℕ × Row)) (out middle said : List ℕ) (m n : ℕ) → AreSaid b rows out middle m → AreSaid b more middle said n → AreSaid b (rows ++ more) out said (m + n)
+said_behind b rows more out middle said m n first second =
+    let line = series_folded_line (scales_of b) in
+    record {
+      lines = second.lines ∙ ap (λ (l : List ℕ). l ++ flat_map line more) first.lines ∙ append_assoc out (flat_map line rows) (flat_map line more) ∙ ap (λ (l : List ℕ). out ++ l) (sym (flat_map-append line rows more));
+      number = (λ i. first.number i + second.number i) ∙ sym (length-append rows more);
+    }
+
+-- all series of the container
+pub all_listed : (l : Layout) (name : List ℕ) (holder : ℕ) (rules : IsSound l) (container : Container) → Stands kinds.Container name l holder container → (b : Binding) (from to : ℤ)
+    → folded_in b from to l holder ≡ map (λ s. (s.0, folded_range b from to s.1.elements)) (series_in name (catalogue_of l))
+all_listed l name holder rules container stands b from to =
+    made_in_order l name holder rules stands.at.is (folded_at b from to l holder) (λ (s : List ℕ × Series). (s.0, folded_range b from to s.1.elements)) (λ slot s here. ap (folded_if b from to l holder slot) here)
+
+-- they are said, and how many they are
+pub all_said : (l : Layout) (name : List ℕ) (holder : ℕ) (rules : IsSound l) (container : Container) → Stands kinds.Container name l holder container → (b : Binding) (from to : ℤ) (empty middle out : List ℕ) (count : ℕ)
+    → empty ≡ [] → AreSaid b (folded_in b from to l holder) empty middle count → out ≡ middle ++ count_line count
+    → out ≡ series_folded_text (scales_of b) (map (λ s. (s.0, folded_range b from to s.1.elements)) (series_in name (catalogue_of l)))
+unfolding series_folded_text
+all_said l name holder rules container stands b from to empty middle out count none said counted =
+    let rows = folded_in b from to l holder in
+    let lines : middle ≡ flat_map (series_folded_line (scales_of b)) rows = said.lines ∙ ap (λ (t : List ℕ). t ++ flat_map (series_folded_line (scales_of b)) rows) none in
+    counted ∙ (λ i. lines i ++ count_line (said.number i)) ∙ ap (series_folded_text (scales_of b)) (all_listed l name holder rules container stands b from to)

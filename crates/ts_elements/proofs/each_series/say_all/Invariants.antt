@@ -1,0 +1,18 @@
+-- The pages stay, and the series so far are said and counted, by a fold that has taken nothing.
+use Rattle.std.proofs.Common.{◌≡◌, ◌≤◌, IsTrue, Ok, take}
+use Rattle.std.specs.List.{flat_map}
+use Rattle.ts_irregular.specs.Call.{Reads}
+use Rattle.ts_layout.specs.Meaning.{Layout}
+use Rattle.ts_answer.specs.View.{view, Shows}
+use Rattle.ts_elements.specs.Aggregates.{folded_at, IsFresh, AreSaid}
+use Rattle.ts_elements.proofs.each_series.say_all.Given as goal
+
+abbrev pub invariant-loop-slot : goal.invariant-loop-slot
+invariant-loop-slot g l = record {
+  call : Reads {T = Unit {0}} g.P.Pages.tells (Ok tt) (g.P.Pages.contents l.fn.pages) (g.P.Pages.contents l.pages);
+  undisturbed : g.P.Pages.undisturbed l.fn.pages l.pages;
+  few : l.count ≤ l.slot-index;
+  said : IsTrue g.P.Pages.tells → (layout : Layout) → Shows g.P.Pages.tells (view l.defs.definitions l.space (g.P.Pages.contents l.fn.pages)) layout
+      → IsFresh l.bound l.folding
+      × AreSaid l.bound (flat_map (folded_at l.bound l.from l.to layout l.container) (take l.slot-index l.slot-items)) l.fn.out l.out l.count;
+}

@@ -1,0 +1,32 @@
+use Rattle.std.proofs.Common.{sym, ◌∙◌}
+use Rattle.ts_answer.specs.View.{view}
+use Rattle.ts_elements.proofs.MemoryLemmas.{defined_kept, shaped_kept, places_seen, room_in}
+use Rattle.ts_elements.proofs.SeenLemmas.{not_some}
+use Rattle.ts_elements.proofs.shelf.shelf_at.Goals as goal
+
+pub row_type_of-requires : goal.row_type_of-requires
+row_type_of-requires g c =
+    record { limits = c.requires.seen.kept.sound.limits; rules = c.requires.seen.kept.sound.tables }
+
+pub unreachable-requires : goal.unreachable-requires
+unreachable-requires g c =
+    let x = view c.args.defs.now.definitions c.args._space.now (g.P.Pages.contents c.args._pages.now) in
+    let named = c.requires.named in
+    not_some _ c.in_default.ensures.value (defined_kept x c.requires.seen.kept c.args.slot named.1.within named.0 named.1)
+
+pub unreachable-requires-in_default-2 : goal.unreachable-requires-in_default-2
+unreachable-requires-in_default-2 g c =
+    let x = view c.args.defs.now.definitions c.args._space.now (g.P.Pages.contents c.args._pages.now) in
+    let named = c.requires.named in
+    not_some _ (sym c.in_default-2.is ∙ c.in_ok-shape.ensures) (shaped_kept x c.requires.seen.kept c.args.slot named.1.within named.0 named.1)
+
+pub returns-clause-some : goal.returns-clause-some
+returns-clause-some g c =
+    let x = view c.args.defs.now.definitions c.args._space.now (g.P.Pages.contents c.args._pages.now) in
+    let named = c.requires.named in
+    room_in x c.requires.seen.kept c.args.slot named.1.within c.in-Some.kind.now (sym c.in-Some.ensures.value) named.0 named.1
+
+pub returns-clause-places : goal.returns-clause-places
+returns-clause-places g c =
+    let x = view c.args.defs.now.definitions c.args._space.now (g.P.Pages.contents c.args._pages.now) in
+    places_seen x c.requires.seen.kept c.args.slot c.requires.named.1.within c.in-Some.kind.now (sym c.in-Some.ensures.value) c.in-Some-2.shape (sym c.in_ok-shape.ensures ∙ c.in-Some-2.is)

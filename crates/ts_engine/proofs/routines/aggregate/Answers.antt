@@ -1,0 +1,12 @@
+use Rattle.std.proofs.Common.{subst}
+use Rattle.ts_command.specs.Form.{HasForm}
+use Rattle.ts_engine.proofs.routines.aggregate.Goals as goal
+
+pub aggregate_by-came-requires-clause-text : goal.aggregate_by-came-requires-clause-text
+aggregate_by-came-requires-clause-text g c = (subst HasForm c.in-AggregateBy.is c.requires.form).0
+
+pub aggregate_range-came-requires-clause-text : goal.aggregate_range-came-requires-clause-text
+aggregate_range-came-requires-clause-text g c = (subst HasForm c.in-AggregateRange.is c.requires.form).0
+
+pub aggregate_all-came-requires-clause-text : goal.aggregate_all-came-requires-clause-text
+aggregate_all-came-requires-clause-text g c = (subst HasForm c.in-AggregateAll.is c.requires.form).0

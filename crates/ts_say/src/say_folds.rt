@@ -1,0 +1,137 @@
+// What an aggregate list makes of elements, said in lines.
+ghost use Rattle.std.specs.Prelude.{◌≡◌, ◌↔◌, ◌⊎◌, ◌≤◌, [], ◌∷◌, ◌++◌, All, IsTrue, OnOk, length};
+ghost use Rattle.ts_expr.specs.declared.item.TheConstants.{MOST_SCALE};
+ghost use Rattle.ts_answer.specs.Reply.{scaled_text, folded_line, folded_text, series_folded_line};
+
+use crate::day_text::DayText;
+use crate::say_rows::say_value;
+use crate::say_values::{say_count, say_quoted};
+use std::alloc::AllocError;
+use ts_base::{Key, Reply, Stamp};
+use ts_entry::ElementVisitor;
+use ts_expr::MOST_SCALE;
+use ts_row::{Row, Value};
+
+/// The lines of what a list makes, behind what a reply has said: each element that it is handed is said in a line of its own, its numbers
+/// with as many digits after the point as the list's items have.
+#[derive(Drop)]
+pub struct FoldedLines<'a> {
+    out: &'a mut Reply,
+    scales: &'a [u8],
+    day: DayText,
+    ghost most: { All (λ s. s ≤ MOST_SCALE) scales.now },
+}
+
+impl<'a> FoldedLines<'a> {
+    /// None so far.
+    pub fn behind(out: &'a mut Reply, scales: &'a [u8]) -> FoldedLines<'a>
+        requires { All (λ s. s ≤ MOST_SCALE) scales.now }
+        ensures same { result.out.ghost_name ≡ out.entry.ghost_name }
+        ensures none { result.out.now ≡ out.old }
+        ensures scales { result.scales.now ≡ scales.now }
+    {
+        FoldedLines {
+            out,
+            scales,
+            day: DayText::first(),
+        }
+    }
+}
+
+impl<'a> ElementVisitor for FoldedLines<'a> {
+    ghost use Rattle.std.specs.Prelude.{◌≡◌, ◌++◌, List};
+    ghost use Rattle.std.specs.List.{flat_map};
+    ghost use Rattle.std.proofs.Common.{refl, sym, ap, ◌∙◌, append_assoc, append-nil};
+    ghost use Rattle.std.proofs.lemmas.List.Concat.{flat_map-append};
+    ghost use Rattle.ts_answer.specs.Reply.{folded_line};
+
+    ghost took = { λ v es w. (w.out.ghost_name ≡ v.out.ghost_name) × (w.scales.now ≡ v.scales.now)
+        × (w.out.now ≡ v.out.now ++ flat_map (folded_line v.scales.now) es) };
+
+    fn element(&mut self, stamp: Stamp, row: &Row) -> Result<(), AllocError> {
+        say_folded_line(self.out, &mut self.day, self.scales, stamp, row)
+    }
+
+    ghost none = { λ v. (refl, refl, sym (append-nil v.out.now)) };
+
+    ghost then = { λ a b c es fs p q. (
+      q.0 ∙ p.0,
+      q.1 ∙ p.1,
+      q.2 ∙ ap (λ l. b.out.now ++ flat_map (folded_line l) fs) p.1
+          ∙ ap (λ l. l ++ flat_map (folded_line a.scales.now) fs) p.2
+          ∙ append_assoc a.out.now (flat_map (folded_line a.scales.now) es) (flat_map (folded_line a.scales.now) fs)
+          ∙ ap (λ l. a.out.now ++ l) (sym (flat_map-append (folded_line a.scales.now) es fs)),
+    ) };
+}
+
+/// Says what a list makes of elements as one row, and that it is one.
+#[tactic(auto, unfolding(ts_answer::specs::Reply::folded_text))]
+pub fn say_folded(out: &mut Reply, scales: &[u8], stamp: Stamp, row: &Row) -> Result<(), AllocError>
+    requires { All (λ s. s ≤ MOST_SCALE) scales.now }
+    ensures { OnOk result (out.new ≡ out.old ++ folded_text scales.now ((stamp, row.now) ∷ [])) }
+{
+    let mut day = DayText::first();
+    say_folded_line(out, &mut day, scales, stamp, row)?;
+    say_count(out, 1)
+}
+
+/// Says what a list makes of a series in a line.
+#[tactic(auto, unfolding(ts_answer::specs::Reply::series_folded_line))]
+pub fn say_series_folded(
+    out: &mut Reply,
+    key: &Key,
+    scales: &[u8],
+    row: &Row,
+) -> Result<(), AllocError>
+    requires { All (λ s. s ≤ MOST_SCALE) scales.now }
+    ensures { OnOk result (out.new ≡ out.old ++ series_folded_line scales.now (key.now, row.now)) }
+{
+    out.extend_from_slice(b"'")?;
+    say_quoted(out, key.as_slice())?;
+    out.extend_from_slice(b"' ")?;
+    say_scaled_values(out, scales, row.values())?;
+    out.extend_from_slice(b"\n")
+}
+
+// Says what a list makes of elements in a line.
+#[tactic(auto, unfolding(ts_answer::specs::Reply::folded_line))]
+fn say_folded_line(
+    out: &mut Reply,
+    day: &mut DayText,
+    scales: &[u8],
+    stamp: Stamp,
+    row: &Row,
+) -> Result<(), AllocError>
+    requires { All (λ s. s ≤ MOST_SCALE) scales.now }
+    ensures { OnOk result (out.new ≡ out.old ++ folded_line scales.now (stamp, row.now)) }
+{
+    day.say(out, stamp)?;
+    say_scaled_values(out, scales, row.values())?;
+    out.push(b'\n')
+}
+
+// Says values, each number with as many digits after the point as its scale, with commas between them.
+fn say_scaled_values(out: &mut Reply, scales: &[u8], values: &[Value]) -> Result<(), AllocError>
+    requires { All (λ s. s ≤ MOST_SCALE) scales.now }
+    ensures { OnOk result (out.new ≡ out.old ++ scaled_text scales.now values.now) }
+{
+    let Some((scale, scales)) = scales.split_first() else {
+        return Ok(());
+    };
+    let Some((value, values)) = values.split_first() else {
+        return Ok(());
+    };
+    say_value(out, value, *scale as u32)?;
+    if is_end(scales, values) {
+        return Ok(());
+    }
+    out.push(b',')?;
+    say_scaled_values(out, scales, values)
+}
+
+// Whether there are no scales or no values.
+fn is_end(scales: &[u8], values: &[Value]) -> bool
+    ensures { IsTrue result ↔ (length scales.now ≡ 0) ⊎ (length values.now ≡ 0) }
+{
+    scales.is_empty() || values.is_empty()
+}
