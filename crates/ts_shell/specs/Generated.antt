@@ -1,6 +1,6 @@
 -- The commands that `gen` carries out, by a count and a seed: a regular and an irregular series are made, that many elements are put into
 -- them in turn, and both are folded.
-use Rattle.std.specs.Prelude.{ℕ, zero, suc, ◌+◌, ◌*◌, ◌/◌, ◌%◌, ◌==◌, if◌then◌else◌, ℤ, pos, ◌+ℤ◌, List, [], ◌∷◌, ◌++◌, codes}
+use Rattle.std.specs.Prelude.{◌≡◌, ℕ, zero, suc, ◌+◌, ◌-◌, ◌*◌, ◌/◌, ◌%◌, ◌==◌, min, if◌then◌else◌, ℤ, pos, ◌+ℤ◌, List, [], ◌∷◌, ◌++◌, take, codes}
 use Rattle.ts_base.specs.Moment.{units_of}
 use Rattle.ts_row.specs.declared.kind.ColumnKind.TheVariants.{Integer}
 use Rattle.ts_row.specs.declared.value.Literal.TheVariants.{Number}
@@ -8,10 +8,10 @@ use Rattle.ts_command.specs.declared.command.Command.{Command}
 use Rattle.ts_command.specs.declared.command.Command.TheVariants.{CreateRowType, CreatePattern, CreateCalendar, TSContainerCreate, TSCreate, TSCreateIrr, PutElem, AggregateRange}
 
 -- 2011-01-03 00:00:00, where both series begin, and 2012-01-01 00:00:00, which lies behind their elements
-abbrev pub beginning : ℤ
+unfoldable pub beginning : ℤ
 beginning = units_of (record { year = 2011; month = 1; day = 3; hour = 0; minute = 0; second = 0; fraction = 0 })
 
-abbrev pub ending : ℤ
+unfoldable pub ending : ℤ
 ending = units_of (record { year = 2012; month = 1; day = 1; hour = 0; minute = 0; second = 0; fraction = 0 })
 
 -- the keys of the regular series and the irregular one
@@ -63,3 +63,11 @@ closing = add_up regular_key ∷ add_up irregular_key ∷ []
 -- all commands, in their order
 unfoldable pub generated : ℕ → ℕ → List Command
 generated count seed = opening ++ edits seed count ++ closing
+
+-- how many edits stand among the first so many commands
+abbrev pub edits_before : ℕ → ℕ → ℕ
+edits_before count number = min (number - 6) count
+
+-- the command that stands behind the first so many
+abbrev pub IsNext : List Command → ℕ → Command → Type 0
+IsNext commands number command = take (number + 1) commands ≡ take number commands ++ command ∷ []

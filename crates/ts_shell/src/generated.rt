@@ -1,10 +1,9 @@
 // The commands that `gen` carries out, each made when its turn comes.
-ghost use Rattle.std.specs.Prelude.{◌≡◌, ◌≤◌, ◌<◌, ◌+◌, ◌*◌, ◌^◌, ℕ, IsTrue, IfOk, pos, ◌+ℤ◌, codes, [], ◌∷◌};
+ghost use Rattle.std.specs.Prelude.{◌≡◌, ◌≤◌, ◌<◌, ◌+◌, ℕ, pos, ◌+ℤ◌, IsTrue, IfOk};
 ghost use Rattle.ts_base.specs.Name.{is_name, is_key};
-ghost use Rattle.ts_row.specs.declared.value.Literal.TheVariants.{Number};
-ghost use Rattle.ts_command.specs.declared.command.Command.TheVariants.{PutElem};
+ghost use Rattle.ts_base.specs.Moment.{IsStamp};
 ghost use Rattle.ts_command.specs.Form.{HasForm};
-ghost use Rattle.ts_shell.specs.Generated.{beginning, ending, drawn, edit, put_behind, edits_before, IsNext, IsOpening, IsClosing, add_up, generated};
+ghost use Rattle.ts_shell.specs.Generated.{beginning, ending, opening, drawn, edit, put_behind, add_up, closing, generated, edits_before, IsNext};
 
 use std::alloc::{AllocError, Global};
 use ts_base::{Bytes, Key, Name, Stamp};
@@ -32,17 +31,28 @@ const REGULAR: &[u8] = b"genr";
 const IRREGULAR: &[u8] = b"geni";
 
 /// How many commands a count of edits gives.
-pub(crate) fn command_count(count: u32) -> u32 {
+pub(crate) fn command_count(count: u32) -> u32
+    requires { count ≤ 1000000 }
+    ensures { result ≡ count + 8 }
+{
     OPENING + count + CLOSING
 }
 
 /// The number drawn first, of a seed.
-pub(crate) fn first_drawn(seed: u32) -> u64 {
+#[tactic(auto, unfolding(crate::specs::Generated::drawn))]
+pub(crate) fn first_drawn(seed: u32) -> u64
+    ensures value { result ≡ drawn seed 0 }
+    ensures bound { result < 2147483648 }
+{
     seed as u64 % 2_147_483_648
 }
 
 /// The number drawn for a command, where this one was drawn before it: a new one for each edit.
-pub(crate) fn draw(count: u32, number: u32, last: u64) -> u64 {
+pub(crate) fn draw(count: u32, number: u32, last: u64) -> u64
+    requires { last < 2147483648 }
+    ensures value { (seed : ℕ) → last ≡ drawn seed (edits_before count number) → result ≡ drawn seed (edits_before count (number + 1)) }
+    ensures bound { result < 2147483648 }
+{
     if number >= OPENING && number - OPENING < count {
         (1_103_515_245 * last + 12_345) % 2_147_483_648
     } else {
@@ -55,19 +65,29 @@ pub(crate) fn make_command(
     alloc: Global,
     count: u32,
     number: u32,
-    drawn: u64,
-) -> Result<Command, AllocError> {
+    random: u64,
+) -> Result<Command, AllocError>
+    requires count { count ≤ 1000000 }
+    requires number { number < count + 8 }
+    ensures next { IfOk result (λ c. (seed : ℕ) → random ≡ drawn seed (edits_before count (number + 1)) → IsNext (generated count seed) number c) }
+    ensures form { IfOk result HasForm }
+{
     if number < OPENING {
         return make_opening(alloc, number);
     }
     if number - OPENING < count {
-        return make_edit(alloc, number - OPENING + 1, drawn);
+        return make_edit(alloc, number - OPENING + 1, random);
     }
     make_closing(alloc, number - OPENING - count)
 }
 
 // A command that makes the two series, or what they stand on.
-fn make_opening(alloc: Global, number: u32) -> Result<Command, AllocError> {
+#[tactic(auto, unfolding(crate::specs::Generated::opening))]
+fn make_opening(alloc: Global, number: u32) -> Result<Command, AllocError>
+    requires { number < 6 }
+    ensures next { IfOk result (λ c. IsNext opening number c) }
+    ensures form { IfOk result HasForm }
+{
     match number {
         0 => make_row_type(alloc),
         1 => Ok(Command::CreatePattern {
@@ -89,7 +109,7 @@ fn make_opening(alloc: Global, number: u32) -> Result<Command, AllocError> {
         4 => Ok(Command::TSCreate {
             key: key(alloc, REGULAR)?,
             calendar: name(alloc, b"genc")?,
-            origin: stamp(BEGINNING),
+            origin: beginning(),
             container: name(alloc, b"genk")?,
         }),
         _ => Ok(Command::TSCreateIrr {
@@ -100,7 +120,11 @@ fn make_opening(alloc: Global, number: u32) -> Result<Command, AllocError> {
 }
 
 // The row type of both series.
-fn make_row_type(alloc: Global) -> Result<Command, AllocError> {
+#[tactic(auto, unfolding(crate::specs::Generated::opening))]
+fn make_row_type(alloc: Global) -> Result<Command, AllocError>
+    ensures next { IfOk result (λ c. IsNext opening 0 c) }
+    ensures form { IfOk result HasForm }
+{
     let mut columns = Vec::new(alloc);
     columns.push(Column {
         name: name(alloc, b"v")?,
@@ -114,9 +138,13 @@ fn make_row_type(alloc: Global) -> Result<Command, AllocError> {
 }
 
 // Edit number `number`, counted from 1.
-fn make_edit(alloc: Global, number: u32, drawn: u64) -> Result<Command, AllocError> {
-    let place = drawn / 1000 % 100_000;
-    let value = drawn % 1000;
+#[tactic(auto, unfolding(crate::specs::Generated::edit))]
+fn make_edit(alloc: Global, number: u32, random: u64) -> Result<Command, AllocError>
+    ensures edit { IfOk result (λ c. c ≡ edit number random) }
+    ensures form { IfOk result HasForm }
+{
+    let place = random / 1000 % 100_000;
+    let value = random % 1000;
     if number % 2 == 1 {
         make_put(alloc, REGULAR, place * MINUTE, value)
     } else {
@@ -125,7 +153,12 @@ fn make_edit(alloc: Global, number: u32, drawn: u64) -> Result<Command, AllocErr
 }
 
 // A value is put into a series, so many units of time behind the beginning.
-fn make_put(alloc: Global, series: &[u8], units: u64, value: u64) -> Result<Command, AllocError> {
+fn make_put(alloc: Global, series: &[u8], units: u64, value: u64) -> Result<Command, AllocError>
+    requires key { IsTrue (is_key series.now) }
+    requires within { units ≤ 1000000000000 }
+    ensures put { IfOk result (λ c. c ≡ put_behind series.now units value) }
+    ensures form { IfOk result HasForm }
+{
     let mut values = Vec::new(alloc);
     values.push(Literal::Number {
         units: value as i128,
@@ -133,23 +166,36 @@ fn make_put(alloc: Global, series: &[u8], units: u64, value: u64) -> Result<Comm
     })?;
     Ok(Command::PutElem {
         key: key(alloc, series)?,
-        stamp: stamp(BEGINNING + units as i64),
+        stamp: behind_beginning(units),
         values: Literals::from_vec(values),
     })
 }
 
 // A command that adds up a series.
-fn make_closing(alloc: Global, number: u32) -> Result<Command, AllocError> {
-    make_sum(alloc, if number == 0 { REGULAR } else { IRREGULAR })
+#[tactic(auto, unfolding(crate::specs::Generated::closing))]
+fn make_closing(alloc: Global, number: u32) -> Result<Command, AllocError>
+    requires { number < 2 }
+    ensures next { IfOk result (λ c. IsNext closing number c) }
+    ensures form { IfOk result HasForm }
+{
+    if number == 0 {
+        make_sum(alloc, REGULAR)
+    } else {
+        make_sum(alloc, IRREGULAR)
+    }
 }
 
 // All elements of a series are added up and counted.
-fn make_sum(alloc: Global, series: &[u8]) -> Result<Command, AllocError> {
+fn make_sum(alloc: Global, series: &[u8]) -> Result<Command, AllocError>
+    requires { IsTrue (is_key series.now) }
+    ensures sum { IfOk result (λ c. c ≡ add_up series.now) }
+    ensures form { IfOk result HasForm }
+{
     Ok(Command::AggregateRange {
         text: Bytes::from_slice(alloc, b"sum($v),count($v)")?,
         key: key(alloc, series)?,
-        from: stamp(BEGINNING),
-        to: stamp(ENDING),
+        from: beginning(),
+        to: ending(),
     })
 }
 
@@ -175,8 +221,36 @@ fn key(alloc: Global, text: &[u8]) -> Result<Key, AllocError>
     }
 }
 
+// Where both series begin.
+#[tactic(auto, using(crate::proofs::GeneratedLemmas::beginning_is))]
+fn beginning() -> Stamp
+    ensures { result ≡ beginning }
+{
+    stamp(BEGINNING)
+}
+
+// A stamp behind all elements.
+#[tactic(auto, using(crate::proofs::GeneratedLemmas::ending_is))]
+fn ending() -> Stamp
+    ensures { result ≡ ending }
+{
+    stamp(ENDING)
+}
+
+// The stamp so many units of time behind the beginning.
+#[tactic(auto, using(crate::proofs::GeneratedLemmas::beginning_is))]
+fn behind_beginning(units: u64) -> Stamp
+    requires { units ≤ 1000000000000 }
+    ensures { result ≡ beginning +ℤ pos units }
+{
+    stamp(BEGINNING + units as i64)
+}
+
 // The stamp of a number of units in the range.
-fn stamp(units: i64) -> Stamp {
+fn stamp(units: i64) -> Stamp
+    requires { IsStamp units }
+    ensures { result ≡ units }
+{
     match Stamp::of(units) {
         Some(stamp) => stamp,
         None => unreachable!(),
