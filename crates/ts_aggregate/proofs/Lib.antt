@@ -1,2 +1,3 @@
 pub mod CellsLemmas
 pub mod ColumnLemmas
+pub mod RowLemmas
