@@ -3,6 +3,8 @@ use Rattle.std.specs.Prelude.{◌≡◌, ℕ, zero, suc, ◌+◌, ◌*◌, ◌<�
 use Rattle.std.specs.Borrow.{Bor}
 use Rattle.std.specs.Int.{w128, from_be_bytes, cast_signed}
 use Rattle.ts_row.specs.declared.kind.Column.{Column}
+use Rattle.std.specs.Ordering.{is_lt, is_gt}
+use Rattle.std.specs.declared.cmp.Ordering.{Ordering}
 use Rattle.ts_row.specs.declared.kind.ColumnKind.{ColumnKind}
 use Rattle.ts_row.specs.declared.kind.ColumnKind.TheVariants.{VarChar}
 use Rattle.ts_row.specs.declared.value.Value.{Value}
@@ -91,6 +93,10 @@ is_small z = nat_lt (unsigned_abs z) (10 ^ 28)
 -- the lesser or the greater of a value, if there is one, and another
 abbrev pub better : Bool → Value → Value → Value
 better most kept v = if most then greater kept v else lesser kept v
+
+-- what compares so with the one that is kept is lesser, or greater
+abbrev pub is_better : Bool → Ordering → Bool
+is_better most order = if most then is_gt order else is_lt order
 
 -- a number, if there is one
 abbrev pub number_if_any : Option ℤ → Value

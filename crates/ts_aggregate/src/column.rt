@@ -1,10 +1,9 @@
 // A tally takes the values of a column.
 ghost use Rattle.std.specs.Prelude.{◌≡◌, ◌+◌, ◌*◌, ◌^◌, ◌≤◌, IfOk, OnOk, IsTrue, unsigned_abs, fold, map, length};
 ghost use Rattle.std.specs.List.{list_all};
-ghost use Rattle.std.specs.Option.{unwrap_or};
-ghost use Rattle.ts_row.specs.declared.value.Value.TheVariants.{Number, Text};
+ghost use Rattle.ts_row.specs.declared.value.Value.TheVariants.{Null, Number, Text};
 ghost use Rattle.ts_row.specs.RowType.{column_width};
-ghost use Rattle.ts_expr.specs.Fold.{earlier, later};
+ghost use Rattle.ts_expr.specs.Fold.{total, earlier, later};
 ghost use Rattle.ts_expr.specs.Running.{count_of, with_value, with_sums};
 ghost use Rattle.ts_aggregate.specs.Column;
 ghost use Rattle.ts_aggregate.specs.Column.{found, AreWhole, read_values, read_numbers, read_texts, is_small};
@@ -33,16 +32,27 @@ pub(crate) fn take_column(
 {
     match tally {
         Tally::Count(_) => add(tally, count_values(cells), 0),
-        Tally::Sum(_) | Tally::Avg(_) => {
-            let (count, sum) = sum_values(cells, kind);
-            add(tally, count, sum);
-        }
+        Tally::Sum(_) => add_sums(tally, cells, kind),
+        Tally::Avg(_) => add_sums(tally, cells, kind),
         Tally::Min(kept) => keep_best(alloc, kept, cells, kind, false)?,
         Tally::Max(kept) => keep_best(alloc, kept, cells, kind, true)?,
         Tally::First(kept) => keep_first(alloc, kept, cells, kind)?,
         Tally::Last(kept) => keep_last(alloc, kept, cells, kind)?,
     }
     Ok(())
+}
+
+// Takes the values of a column for their sum.
+fn add_sums(tally: &mut Tally, cells: Cells<'_>, kind: ColumnKind)
+    requires few { count_of tally.old ≤ 2 ^ 32 }
+    requires whole { AreWhole cells }
+    requires width { cells.spot.width + 1 ≡ column_width kind }
+    ensures few { count_of tally.new ≤ 2 ^ 32 }
+    ensures value { IsTrue (list_all is_small (read_numbers kind cells.entry)) → count_of tally.old + length (found cells.entry) ≤ 2 ^ 32
+        → tally.new ≡ with_sums tally.old (length (found cells.entry)) (total (read_values kind cells.entry)) }
+{
+    let (count, sum) = sum_values(cells, kind);
+    add(tally, count, sum);
 }
 
 // Takes so many values with this sum, unless they would be too many.
@@ -79,6 +89,7 @@ fn keep_best(
 }
 
 // The same of numbers.
+#[tactic(auto, using(crate::proofs::ColumnLemmas::text_stays))]
 fn keep_best_number(kept: &mut Value, cells: Cells<'_>, kind: ColumnKind, most: bool)
     requires whole { AreWhole cells }
     requires width { cells.spot.width + 1 ≡ column_width kind }
@@ -89,9 +100,10 @@ fn keep_best_number(kept: &mut Value, cells: Cells<'_>, kind: ColumnKind, most: 
         Value::Number(number) => Some(*number),
         Value::Text(_) => return,
     };
-    if let Some(best) = best_number(cells, kind, start, most) {
-        *kept = Value::Number(best);
-    }
+    *kept = match best_number(cells, kind, start, most) {
+        None => Value::Null,
+        Some(best) => Value::Number(best),
+    };
 }
 
 // The same of texts.
@@ -104,25 +116,24 @@ fn keep_best_text(
     requires { AreWhole cells }
     ensures { OnOk result (kept.new ≡ fold (Column.better most) kept.old (map (λ t. Text t) (read_texts cells.entry))) }
 {
-    if let Some(best) = best_text_value(alloc, kept, cells, most)? {
-        *kept = best;
-    }
+    *kept = best_text_value(alloc, kept, cells, most)?;
     Ok(())
 }
 
-// The text that is to be kept, copied once; none where the value that is kept stays.
+// The text that is to be kept, copied once.
+#[tactic(auto, using(crate::proofs::ColumnLemmas::number_stays))]
 fn best_text_value(
     alloc: Global,
     kept: &Value,
     cells: Cells<'_>,
     most: bool,
-) -> Result<Option<Value>, AllocError>
+) -> Result<Value, AllocError>
     requires { AreWhole cells }
-    ensures { IfOk result (λ best. unwrap_or best kept.now ≡ fold (Column.better most) kept.now (map (λ t. Text t) (read_texts cells.entry))) }
+    ensures { IfOk result (λ best. best ≡ fold (Column.better most) kept.now (map (λ t. Text t) (read_texts cells.entry))) }
 {
     let start = match kept {
         Value::Null => None,
-        Value::Number(_) => return Ok(None),
+        Value::Number(number) => return Ok(Value::Number(*number)),
         Value::Text(text) => Some(text.as_slice()),
     };
     let near = Cells {
@@ -131,12 +142,13 @@ fn best_text_value(
         bytes: cells.bytes,
     };
     match best_text(near, start, most) {
-        None => Ok(None),
-        Some(best) => Ok(Some(Value::Text(Bytes::from_slice(alloc, best)?))),
+        None => Ok(Value::Null),
+        Some(best) => Ok(Value::Text(Bytes::from_slice(alloc, best)?)),
     }
 }
 
 // Keeps the value that is kept, or else the first of a column.
+#[tactic(auto, using(crate::proofs::ColumnLemmas::first_stays))]
 fn keep_first(
     alloc: Global,
     kept: &mut Value,
@@ -147,9 +159,25 @@ fn keep_first(
     requires width { cells.spot.width + 1 ≡ column_width kind }
     ensures { OnOk result (kept.new ≡ fold earlier kept.old (read_values kind cells.entry)) }
 {
-    if !matches!(kept, Value::Null) {
-        return Ok(());
+    match kept {
+        Value::Null => set_first(alloc, kept, cells, kind),
+        _ => Ok(()),
     }
+}
+
+// Keeps the first value of a column, where it has one.
+#[tactic(auto, using(crate::proofs::ColumnLemmas::first_is))]
+fn set_first(
+    alloc: Global,
+    kept: &mut Value,
+    cells: Cells<'_>,
+    kind: ColumnKind,
+) -> Result<(), AllocError>
+    requires none { kept.old ≡ Null }
+    requires whole { AreWhole cells }
+    requires width { cells.spot.width + 1 ≡ column_width kind }
+    ensures { OnOk result (kept.new ≡ fold earlier Null (read_values kind cells.entry)) }
+{
     if let Some((bytes, _)) = cells.next() {
         *kept = read_value(alloc, kind, bytes)?;
     }

@@ -1,5 +1,5 @@
 // The values of a column counted, its numbers summed up, and the least or the greatest of them.
-ghost use Rattle.std.specs.Prelude.{◌≡◌, ◌+◌, ◌*◌, ◌^◌, ◌≤◌, ◌<◌, ℤ, pos, ◌+ℤ◌, unsigned_abs, List, IsTrue, fold, map, length};
+ghost use Rattle.std.specs.Prelude.{◌≡◌, ◌&&◌, nat_lt, ◌+◌, ◌*◌, ◌^◌, ◌≤◌, ◌<◌, ℤ, pos, ◌+ℤ◌, unsigned_abs, List, IsTrue, fold, map, length};
 ghost use Rattle.std.specs.List.{list_all};
 ghost use Rattle.std.specs.Int.{cast_signed, from_be_bytes, w64};
 ghost use Rattle.ts_row.specs.declared.value.Value.TheVariants.{Number};
@@ -80,13 +80,20 @@ fn sum_long(cells: Cells<'_>) -> (u64, i128)
     let mut sum = 0;
     while let Some((bytes, more)) = rest.next() {
         let number = sixteen_bytes(bytes);
-        if number.unsigned_abs() < TOO_LONG && count < MOST_FOLDED {
+        if is_summed(number, count) {
             count += 1;
             sum += number;
         }
         rest = more;
     }
     (count, sum)
+}
+
+// Whether a number is summed up after so many others: it is one that a column may hold, and they aren't too many.
+fn is_summed(number: i128, count: u64) -> bool
+    ensures { result ≡ (is_small number && nat_lt count (2 ^ 32)) }
+{
+    number.unsigned_abs() < TOO_LONG && count < MOST_FOLDED
 }
 
 /// The least or the greatest of a number, if there is one, and those of a column.

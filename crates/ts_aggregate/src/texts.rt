@@ -5,6 +5,7 @@ ghost use Rattle.ts_aggregate.specs.Column;
 ghost use Rattle.ts_aggregate.specs.Column.{AreWhole, read_texts, text_if_any};
 
 use crate::cells::Cells;
+use std::cmp::Ordering;
 
 /// The least or the greatest of a text, if there is one, and those of a column.
 pub(crate) fn best_text<'a>(
@@ -31,10 +32,25 @@ fn better<'a>(most: bool, best: Option<&'a [u8]>, text: &'a [u8]) -> &'a [u8]
     match best {
         None => text,
         Some(best) => {
-            let takes = if most { best < text } else { text < best };
-            if takes { text } else { best }
+            if is_better(most, text.cmp(best)) {
+                text
+            } else {
+                best
+            }
         }
     }
+}
+
+// Whether what compares so with the one that is kept is lesser or greater.
+fn is_better(most: bool, order: Ordering) -> bool
+    ensures { result ≡ Column.is_better most order }
+{
+    order
+        == if most {
+            Ordering::Greater
+        } else {
+            Ordering::Less
+        }
 }
 
 /// The text behind its length.

@@ -9,7 +9,7 @@ invariant-loop-bytes l = record {
   whole : AreWhole l.rest;
   spot : l.rest.spot ≡ l.cells.spot;
   best : fold (better l.most) (number_if_any l.best) (map (λ z. Number z) (read_numbers l.kind l.rest))
-      ≡ fold (better l.most) (number_if_any l.start) (map (λ z. Number z) (read_numbers l.kind l.cells));
+      ≡ fold (better l.most) (number_if_any l.fn.start) (map (λ z. Number z) (read_numbers l.kind l.cells));
 }
 
 abbrev pub decreases-loop-bytes : goal.decreases-loop-bytes

@@ -8,7 +8,7 @@ abbrev pub invariant-loop-bytes : goal.invariant-loop-bytes
 invariant-loop-bytes l = record {
   whole : AreWhole l.rest;
   best : fold (better l.most) (text_if_any l.best) (map (λ t. Text t) (read_texts l.rest))
-      ≡ fold (better l.most) (text_if_any l.start) (map (λ t. Text t) (read_texts l.cells));
+      ≡ fold (better l.most) (text_if_any l.fn.start) (map (λ t. Text t) (read_texts l.cells));
 }
 
 abbrev pub decreases-loop-bytes : goal.decreases-loop-bytes
