@@ -8,6 +8,7 @@ ghost use Rattle.ts_aggregate.specs.Fold.{HasTaken};
 ghost use Rattle.ts_aggregate.specs.Groups.{grouping, IsClosed, IsReady, MayTake, Stands};
 
 use crate::Folding;
+use crate::one_row::OneRow;
 use crate::span::{Span, is_before};
 use crate::wish::Wish;
 use std::alloc::AllocError;
@@ -29,6 +30,8 @@ pub(crate) struct ByInterval<'a, 'b, V> {
     out: &'a mut V,
     /// How many groups are closed.
     count: u64,
+    /// Where a row is copied that is folded.
+    one: OneRow,
 }
 
 impl<'a, 'b, V: ElementVisitor> ByInterval<'a, 'b, V> {
@@ -52,6 +55,7 @@ impl<'a, 'b, V: ElementVisitor> ByInterval<'a, 'b, V> {
             folding,
             out,
             count: 0,
+            one: OneRow::new(),
         }
     }
 
@@ -125,7 +129,7 @@ impl<'a, 'b, V: ElementVisitor> ByInterval<'a, 'b, V> {
             → MayTake self.old.span.start kind.now.columns self.old.folding.now r self.new.folding.now) }
     {
         if self.span.start.is_some() {
-            self.folding.row(kind, row)?;
+            self.one.fold(self.folding, kind, row)?;
         }
         Ok(())
     }

@@ -1,13 +1,12 @@
 // A fold of rows in their bytes.
-ghost use Rattle.std.specs.Prelude.{◌≡◌, ◌+◌, ◌≤◌, ◌<◌, [], ◌∷◌, ◌++◌, IfOk, OnOk, IsTrue, All, List, Option, length, map, take};
+ghost use Rattle.std.specs.Prelude.{◌≡◌, ◌+◌, ◌≤◌, ◌<◌, [], ◌++◌, IfOk, OnOk, IsTrue, All, List, Option, length, map, take};
 ghost use Rattle.std.specs.List.{list_all};
 ghost use Rattle.ts_row.specs.Row.{Row as TheRow};
 ghost use Rattle.ts_row.specs.RowType.{is_kind, width_of};
-ghost use Rattle.ts_entry.specs.Entry.{AreSeenBytes};
 ghost use Rattle.ts_entry.specs.Rows.{AreCellsWith, rows_in};
 ghost use Rattle.ts_expr.specs.Fold.{folded_row};
 ghost use Rattle.ts_expr.specs.Running.{after, value_of};
-ghost use Rattle.ts_aggregate.specs.Fold.{HasTaken, Takes, AreTallies, most_folded};
+ghost use Rattle.ts_aggregate.specs.Fold.{HasTaken, AreTallies, most_folded};
 ghost use Rattle.ts_aggregate.specs.Column.{IsSpread};
 
 use crate::cells::{Cells, Spot, Spread};
@@ -59,15 +58,6 @@ impl<'a> Folding<'a> {
             &mut self.tallies,
         )?;
         Ok(Row::of(values))
-    }
-
-    /// Takes a row in its bytes, one that isn't hidden. Bytes that are no such row's may be taken as any.
-    pub fn row(&mut self, kind: &RowType, row: &[u8]) -> Result<(), AllocError>
-        requires size { length row.now ≡ width_of kind.now.columns }
-        ensures takes { OnOk result ((r : TheRow) → AreSeenBytes kind.now.columns row.now r
-            → Takes kind.now.columns self.old (r ∷ []) self.new) }
-    {
-        unreachable!()
     }
 }
 

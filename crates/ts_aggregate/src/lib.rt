@@ -5,15 +5,16 @@
 //! calendars; knows nothing of definitions and replies. Read `specs/Fold.antt`, `specs/Call.antt`, `folding.rt`, `range.rt`, `groups.rt`.
 #![tactic(auto)]
 
+mod by_interval;
 mod cells;
 mod column;
-mod by_interval;
 mod folding;
 mod groups;
 mod numbers;
+mod one_row;
 mod range;
-mod texts;
 mod span;
+mod texts;
 mod wish;
 
 pub use folding::Folding;
