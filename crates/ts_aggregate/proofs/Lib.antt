@@ -1,3 +1,4 @@
 pub mod CellsLemmas
 pub mod ColumnLemmas
 pub mod RowLemmas
+pub mod FoldingLemmas

@@ -1,16 +1,19 @@
 -- What callers cite of tallies: many values that are taken at once.
-use Rattle.std.proofs.Common.{◌≡◌, ℕ, ◌+◌, ◌≤◌, ℤ, pos, ◌+ℤ◌, List, [], ◌∷◌, ◌++◌, length, length-append, append_assoc, map, fold, IsTrue, refl, sym, ◌∙◌, ap, arith}
+use Rattle.std.proofs.Common.{◌≡◌, ℕ, ◌+◌, ◌≤◌, ℤ, pos, ◌+ℤ◌, List, [], ◌∷◌, ◌++◌, length, length-append, append_assoc, map, filter, not, fold, IsTrue, refl, sym, ◌∙◌, ap, arith}
 use Rattle.std.proofs.lemmas.Int.{ints}
-use Rattle.std.proofs.lemmas.List.{append-nil}
+use Rattle.std.proofs.lemmas.List.{append-nil, map-append}
+use Rattle.std.proofs.lemmas.List.Elements.{filter-append}
 use Rattle.ts_row.specs.declared.value.Value.{Value}
+use Rattle.ts_row.specs.Row.{Row}
 use Rattle.ts_expr.specs.declared.function.Function.{Function}
 use Rattle.ts_expr.specs.declared.function.Function.TheVariants.{Sum, Avg, Count, Min, Max, First, Last}
+use Rattle.ts_expr.specs.declared.item.BoundItem.{BoundItem}
 use Rattle.ts_expr.specs.declared.tally.Tally.{Tally}
 use Rattle.ts_expr.specs.declared.tally.Tally.TheVariants as tally
-use Rattle.ts_expr.specs.Fold.{number_of, total}
+use Rattle.ts_expr.specs.Fold.{is_null, value_at, values_of, number_of, total, folded}
 use Rattle.ts_expr.specs.Sums.{Sums}
-use Rattle.ts_expr.specs.Running.{sums, tally_of, is_summed, with_sums, with_value}
-use Rattle.ts_expr.proofs.FoldLemmas.{tally_more}
+use Rattle.ts_expr.specs.Running.{sums, after, value_of, count_of, tally_of, is_summed, with_sums, with_value}
+use Rattle.ts_expr.proofs.FoldLemmas.{tally_more, values-le, count-le, folded_after}
 
 -- a sum that begins with a number
 sum_from : (z : ℤ) (values : List Value) → fold ◌+ℤ◌ z (map number_of values) ≡ z +ℤ total values
@@ -85,3 +88,22 @@ few_first before rows others most few = omega (arith, few, length-append rows ot
 -- and so are the others behind them
 pub few_behind : {A : Type 0} (before rows others : List A) (most : ℕ) → length before + length (rows ++ others) ≤ most → length (before ++ rows) + length others ≤ most
 few_behind before rows others most few = omega (arith, few, length-append rows others, length-append before rows)
+
+-- the values of a column over rows and more
+pub values_all : (column : ℕ) (rows more : List Row) → values_of column (rows ++ more) ≡ values_of column rows ++ values_of column more
+values_all column rows more =
+    ap (λ (l : List Row). filter (λ v. not (is_null v)) (map (λ x. value_at column x.values) l)) (filter-append (λ (x : Row). not x.hidden) rows more)
+    ∙ ap (filter (λ v. not (is_null v))) (map-append (λ (x : Row). value_at column x.values) (filter (λ x. not x.hidden) rows) (filter (λ x. not x.hidden) more))
+    ∙ filter-append (λ (v : Value). not (is_null v)) (map (λ x. value_at column x.values) (filter (λ x. not x.hidden) rows)) (map (λ x. value_at column x.values) (filter (λ x. not x.hidden) more))
+
+-- they are no more than the rows
+pub values_few : (column : ℕ) (rows : List Row) → length (values_of column rows) ≤ length rows
+values_few column rows = values-le column rows
+
+-- and no more are counted
+pub count_few : (f : Function) (values : List Value) → count_of (tally_of f values) ≤ length values
+count_few f values = count-le f values
+
+-- what is known of rows makes what they are folded to
+pub folded_known : (items : List BoundItem) (rows : List Row) → map value_of (after items rows) ≡ folded items rows
+folded_known items rows = folded_after items rows

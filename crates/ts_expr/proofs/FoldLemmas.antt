@@ -114,7 +114,7 @@ filter-le p (x ∷ xs) = elim (cases_Bool (p x)) [
   | inr f ↦ rw f (omega (arith, filter-le p xs))
 ]
 
-values-le : (column : ℕ) (rows : List Row) → length (values_of column rows) ≤ length rows
+pub values-le : (column : ℕ) (rows : List Row) → length (values_of column rows) ≤ length rows
 values-le column rows =
     let seen : List Row = filter (λ r. not r.hidden) rows in
     omega (
@@ -124,7 +124,7 @@ values-le column rows =
       filter-le (λ (r : Row). not r.hidden) rows,
     )
 
-count-le : (f : Function) (values : List Value) → count_of (tally_of f values) ≤ length values
+pub count-le : (f : Function) (values : List Value) → count_of (tally_of f values) ≤ length values
 count-le Count values = omega arith
 count-le Sum values = omega arith
 count-le Avg values = omega arith
