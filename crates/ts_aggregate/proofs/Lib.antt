@@ -7,3 +7,4 @@ pub mod SpanLemmas
 pub mod ToldLemmas
 pub mod HandedLemmas
 pub mod RowLemmas
+pub mod FoldingLemmas

@@ -2,12 +2,12 @@
 use Rattle.std.proofs.Common.{◌≡◌, ◌⊎◌, inl, inr, ℕ, zero, suc, ◌+◌, ◌-◌, ◌*◌, ◌<◌, ◌≤◌, ◌^◌, ◌==◌, ◌&&◌, Bool, true, false, not, nat_le, nat_lt, if◌then◌else◌, ℤ, unsigned_abs, Option, Some, None, slice_get, List, [], ◌∷◌, ◌++◌, length, length-drop, length-take, map, take, drop, drop-drop, get_or, IsTrue, refl, sym, ap, subst, ◌∙◌, arith, lit<}
 use Rattle.std.specs.List.{list_all}
 use Rattle.std.specs.Option.{unwrap_or}
-use Rattle.std.proofs.lemmas.Bool.{cases_Bool}
+use Rattle.std.proofs.lemmas.Bool.{cases_Bool, and_parts}
 use Rattle.std.proofs.lemmas.Bool.Decides.{nat_tests}
 use Rattle.std.proofs.lemmas.Option.{unwrap_or-slice_get}
 use Rattle.std.proofs.lemmas.List.{get_or-take, get_or-drop, drop-take, drop_more}
 use Rattle.std.proofs.lemmas.List.Sums.{sum_by-cons, get_or-le-sum_by}
-use Rattle.std.proofs.Math.Nat.{pow-le-pow_right}
+use Rattle.std.proofs.Math.Nat.{pow-le-pow_right, suc-mul}
 use Rattle.ts_base.specs.Name.{is_text}
 use Rattle.ts_row.specs.declared.kind.ColumnKind.{ColumnKind}
 use Rattle.ts_row.specs.declared.kind.ColumnKind.TheVariants.{SmallInt, Integer, BigInt, Decimal, VarChar}
@@ -183,3 +183,147 @@ by_flag s cell is mark = rw (is, mark) refl
 -- the first byte of a cell
 first_byte : (cell : List ℕ) (n : ℕ) → slice_get cell 0 ≡ Some n → get_or cell 0 0 ≡ n
 first_byte cell n is = sym (unwrap_or-slice_get cell 0 0) ∙ ap (λ (o : Option ℕ). unwrap_or o 0) is
+
+-- where the bytes of a row stand in a cell, the first of them tells whether it is hidden
+mark_of : (cs : List Column) (front : ℕ) (cell : List ℕ) (row : Row) → 1 ≤ length cs → 1 ≤ width_of cs → fits cs row ≡ true → row_bytes cs row ≡ drop front cell
+    → is_mark (get_or cell front 0) ≡ row.hidden
+mark_of cs front cell row some wide fit is =
+    let size : length (drop front cell) ≡ width_of cs = ap length (sym is) ∙ length-row_bytes cs row fit in
+    let within : front < length cell = omega (arith, size, length-drop front cell, wide) in
+    mark_told cs (drop front cell) (get_or cell front 0) (drop (front + 1) cell) some (drop_more cell front 0 within) row fit is
+
+-- of a row that isn't hidden they are those of its values
+values_seen : (cs : List Column) (bytes : List ℕ) (row : Row) → list_all (λ c. is_kind c.kind) cs ≡ true → fits cs row ≡ true → row.hidden ≡ false → row_bytes cs row ≡ bytes
+    → values_in cs bytes ≡ Some row.values
+values_seen cs bytes row kinds fit visible is =
+    let bare : values_bytes cs row.values ≡ bytes = sym (with_mark-none (values_bytes cs row.values)) ∙ ap (λ b. with_mark b (values_bytes cs row.values)) (sym visible) ∙ is in
+    ap (values_in cs) (sym bare) ∙ values_in-values_bytes cs row.values kinds fit
+
+-- the kind of a column may be
+kind_there : (cs : List Column) (k : ℕ) (d : Column) → list_all (λ c. is_kind c.kind) cs ≡ true → k < length cs → is_kind (get_or cs k d).kind ≡ true
+kind_there [] k d kinds within = absurd (omega (arith, within))
+kind_there (c ∷ cs) zero d kinds within = (and_parts (is_kind c.kind) (list_all (λ x. is_kind x.kind) cs) kinds).0
+kind_there (c ∷ cs) (suc k) d kinds within = kind_there cs k d (and_parts (is_kind c.kind) (list_all (λ x. is_kind x.kind) cs) kinds).1 (omega (arith, within))
+
+-- the bytes of a column in a cell
+column_bytes : (p front w : ℕ) (s : Spot) (cell : List ℕ) → s.place ≡ front + p → s.width + 1 ≡ w
+    → (get_or (take w (drop p (drop front cell))) 0 0 ≡ get_or cell s.place 0) × (drop 1 (take w (drop p (drop front cell))) ≡ bytes_of s cell)
+column_bytes p front w s cell place width = (flag, value) where
+  flag : get_or (take w (drop p (drop front cell))) 0 0 ≡ get_or cell s.place 0
+  flag =
+      get_or-take w (drop p (drop front cell)) 0 0 (omega (arith, width))
+      ∙ get_or-drop p (drop front cell) 0 0
+      ∙ get_or-drop front cell (p + 0) 0
+      ∙ ap (λ n. get_or cell n 0) (omega (arith, place))
+
+  size : w ≡ 1 + s.width
+  size = omega (arith, width)
+
+  behind : drop 1 (drop p (drop front cell)) ≡ drop (s.place + 1) cell
+  behind = drop-drop 1 p (drop front cell) ∙ drop-drop (p + 1) front cell ∙ ap (λ n. drop n cell) (omega (arith, place))
+
+  value : drop 1 (take w (drop p (drop front cell))) ≡ bytes_of s cell
+  value = ap (λ n. drop 1 (take n (drop p (drop front cell)))) size ∙ drop-take 1 s.width (drop p (drop front cell)) ∙ ap (take s.width) behind
+
+-- a row that isn't hidden
+row_seen : (cs : List Column) (front k : ℕ) (c : Column) (s : Spot) (cell : List ℕ) (row : Row) → list_all (λ x. is_kind x.kind) cs ≡ true → IsSpot cs front k c s
+    → get_or cell 0 0 ≡ 1 → is_mark (get_or cell s.front 0) ≡ false → row.hidden ≡ false → fits cs row ≡ true → row_bytes cs row ≡ drop front cell
+    → HasNone k s cell (Some row) ⊎ HasOne k c.kind s cell (Some row)
+row_seen cs front k c s cell row kinds spot one mark visible fit is = by_value (told c.kind vb v good there) where
+  v : Value
+  v = value_at k row.values
+
+  vb : List ℕ
+  vb = take (column_width c.kind) (drop (width_of (take k cs)) (drop front cell))
+
+  good : is_kind c.kind ≡ true
+  good = ap (λ (x : Column). is_kind x.kind) (sym spot.column) ∙ kind_there cs k c kinds spot.within
+
+  there : value_in c.kind vb ≡ Some v
+  there =
+      ap (λ (x : Column). value_in x.kind (take (column_width x.kind) (drop (width_of (take k cs)) (drop front cell)))) (sym spot.column)
+      ∙ value_there cs k (drop front cell) row.values c (values_seen cs (drop front cell) row kinds fit visible is) spot.within
+
+  same : (get_or vb 0 0 ≡ get_or cell s.place 0) × (drop 1 vb ≡ bytes_of s cell)
+  same = column_bytes (width_of (take k cs)) front (column_width c.kind) s cell spot.place spot.width
+
+  tells : has_value s cell ≡ (get_or vb 0 0 == 1)
+  tells = by_flag s cell one mark ∙ ap (λ n. n == 1) (sym same.0)
+
+  by_value : IsNone vb v ⊎ IsSome c.kind vb v → HasNone k s cell (Some row) ⊎ HasOne k c.kind s cell (Some row)
+  by_value (inl none) = inl (record { is = tells ∙ none.flag; stays = λ rows. null_none k row rows visible (ap is_null none.none) })
+  by_value (inr some) =
+      let value : v ≡ read_value c.kind (bytes_of s cell) = some.is.value ∙ ap (read_value c.kind) same.1 in
+      inr (record {
+        is = tells ∙ some.flag;
+        small = ap (λ (l : List ℕ). is_small (number_in c.kind l)) (sym same.1) ∙ some.is.small;
+        more = λ rows. some_one k row rows visible some.is.some ∙ ap (λ (x : Value). x ∷ fold.values_of k rows) value;
+      })
+
+-- what a cell tells of a column
+cell_told : (cs : List Column) (front k : ℕ) (c : Column) (s : Spot) (cell : List ℕ) (f : Option Row) → list_all (λ x. is_kind x.kind) cs ≡ true → IsSpot cs front k c s
+    → IsCellWith cs front cell f → HasNone k s cell f ⊎ HasOne k c.kind s cell f
+cell_told cs front k c s cell None kinds spot is = inl (record { is = no_first s cell (first_byte cell 0 is); stays = λ rows. refl })
+cell_told cs front k c s cell (Some row) kinds spot is = by_mark (cases_Bool row.hidden) where
+  one : get_or cell 0 0 ≡ 1
+  one = first_byte cell 1 is.0
+
+  some : 1 ≤ length cs
+  some = omega (arith, spot.within)
+
+  wide : 1 ≤ width_of cs
+  wide = omega (arith, spot.width, ap (λ (x : Column). column_width x.kind) spot.column, get_or-le-sum_by (λ (x : Column). column_width x.kind) cs k c spot.within)
+
+  mark : is_mark (get_or cell s.front 0) ≡ row.hidden
+  mark = ap (λ n. is_mark (get_or cell n 0)) spot.front_is ∙ mark_of cs front cell row some wide is.1 is.2
+
+  by_mark : (row.hidden ≡ true) ⊎ (row.hidden ≡ false) → HasNone k s cell (Some row) ⊎ HasOne k c.kind s cell (Some row)
+  by_mark (inl hidden) = inl (record { is = marked s cell one (mark ∙ hidden); stays = λ rows. hidden_none k row rows hidden })
+  by_mark (inr visible) = row_seen cs front k c s cell row kinds spot one (mark ∙ visible) visible is.1 is.2
+
+-- what cells tell of a column: its values, all of them small
+pub record Reads (k : ℕ) (kind : ColumnKind) (s : Spot) (n : ℕ) (cells : List ℕ) (rows : List Row) : Type 0 where
+  pub values : map (read_value kind) (found_in s n cells) ≡ fold.values_of k rows
+  pub small : list_all is_small (map (number_in kind) (found_in s n cells)) ≡ true
+
+reads_more : (k : ℕ) (kind : ColumnKind) (s : Spot) (m : ℕ) (cells : List ℕ) (f : Option Row) (rows : List Row)
+    → HasNone k s (take s.size cells) f ⊎ HasOne k kind s (take s.size cells) f → Reads k kind s m (drop s.size cells) rows → Reads k kind s (suc m) cells (before_rows f rows)
+reads_more k kind s m cells f rows (inl none) rest =
+    let same : found_in s (suc m) cells ≡ found_in s m (drop s.size cells) = unseen s (take s.size cells) (found_in s m (drop s.size cells)) none.is in
+    record {
+      values = ap (map (read_value kind)) same ∙ rest.values ∙ sym (none.stays rows);
+      small = ap (λ (l : List (List ℕ)). list_all is_small (map (number_in kind) l)) same ∙ rest.small;
+    }
+reads_more k kind s m cells f rows (inr one) rest =
+    let cell : List ℕ = take s.size cells in
+    let same : found_in s (suc m) cells ≡ bytes_of s cell ∷ found_in s m (drop s.size cells) = seen s (take s.size cells) (found_in s m (drop s.size cells)) one.is in
+    record {
+      values = ap (map (read_value kind)) same ∙ ap (λ (l : List Value). read_value kind (bytes_of s cell) ∷ l) rest.values ∙ sym (one.more rows);
+      small = ap (λ (l : List (List ℕ)). list_all is_small (map (number_in kind) l)) same
+          ∙ ap (λ b. b && list_all is_small (map (number_in kind) (found_in s m (drop s.size cells)))) one.small
+          ∙ rest.small;
+    }
+
+rows_first : (f : Option Row) (found : List (Option Row)) → rows_in (f ∷ found) ≡ before_rows f (rows_in found)
+rows_first None found = refl
+rows_first (Some row) found = refl
+
+pub no_cell : (cs : List Column) (front : ℕ) (cell : List ℕ) (f : Option Row) → length cell ≡ 0 → IsCellWith cs front cell f → ⊥
+no_cell cs front [] None empty is = cc
+no_cell cs front [] (Some row) empty is = let first = is.0 in cc
+no_cell cs front (b ∷ cell) f empty is = omega (arith, empty)
+
+-- so cells that are those of rows give the column's values over them
+pub all_read : (cs : List Column) (front k : ℕ) (c : Column) (s : Spot) (found : List (Option Row)) (n : ℕ) (cells : List ℕ) → list_all (λ x. is_kind x.kind) cs ≡ true
+    → IsSpot cs front k c s → 0 < s.size → length cells ≡ n * s.size → AreCellsWith cs front cells found → Reads k c.kind s n cells (rows_in found)
+all_read cs front k c s [] zero cells kinds spot some whole are = record { values = refl; small = refl }
+all_read cs front k c s [] (suc m) cells kinds spot some whole are = absurd (omega (arith, ap length are, whole, some, suc-mul m s.size))
+all_read cs front k c s (f ∷ found) zero cells kinds spot some whole are =
+    let none : 0 * s.size ≡ 0 = omega arith in
+    absurd (no_cell cs front (take (front + width_of cs) cells) f (omega (arith, length-take (front + width_of cs) cells, whole, none)) are.0)
+all_read cs front k c s (f ∷ found) (suc m) cells kinds spot some whole are =
+    let here : IsCellWith cs front (take s.size cells) f = subst (λ n. IsCellWith cs front (take n cells) f) (sym spot.size) are.0 in
+    let there : AreCellsWith cs front (drop s.size cells) found = subst (λ n. AreCellsWith cs front (drop n cells) found) (sym spot.size) are.1 in
+    let others : length (drop s.size cells) ≡ m * s.size = omega (arith, length-drop s.size cells, whole, suc-mul m s.size) in
+    subst (Reads k c.kind s (suc m) cells) (sym (rows_first f found))
+    (reads_more k c.kind s m cells f (rows_in found) (cell_told cs front k c s (take s.size cells) f kinds spot here) (all_read cs front k c s found m (drop s.size cells) kinds spot some others there))

@@ -113,4 +113,5 @@ pub record IsSpread (columns : List Column) (s : Spread) : Type 0 where
   pub some : 0 < s.front
   pub size : s.size ≡ s.front + width_of columns
   pub whole : length s.bytes.now ≡ s.left * s.size
+  pub narrow : width_of columns ≤ 1000
   pub small : s.size < 2 ^ 64

@@ -68,7 +68,10 @@ impl<'a> RowVisitor for Folding<'a> {
     ghost took = { Takes };
 
     fn rows(&mut self, kind: &RowType, cells: &[u8], front: usize) -> Result<(), AllocError> {
-        if cells.is_empty() || kind.width() != self.bound.kind().width() {
+        if cells.is_empty() {
+            return Ok(());
+        }
+        if kind.width() != self.bound.kind().width() {
             return Ok(());
         }
         let size = front + kind.width();
