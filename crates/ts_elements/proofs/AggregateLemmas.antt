@@ -53,7 +53,7 @@ list_unbound columns same items trouble is fails = subst (λ (cs : List Column).
 
 -- rows that were handed on, and those that are refused
 pub handed_all : (took : List Element → Type 0) (answer : Tried (List Element)) (count : ℕ) → AreHanded took answer (Ok count) → (rows : List Element) × (answer ≡ Ok rows) × took rows × (count ≡ length rows)
-handed_all took (Ok rows) count is = (rows, refl, is)
+handed_all took (Ok rows) count is = (rows, refl, is.0, is.1)
 handed_all took (Err why) count is = absurd is
 
 pub handed_none : (took : List Element → Type 0) (answer : Tried (List Element)) (refusal : Refusal) → AreHanded took answer (Err refusal) → answer ≡ Err refusal
@@ -128,8 +128,7 @@ module _ (tells : Bool) (x : View) (l : Layout) (shape : Shape) (laid : IsLaidOu
       let folds = read told all.0 all.1.have in (
         folds.made (fresh_columns b v h.columns of fresh) fresh.1 ∙ ap (λ (c : Binding). folded_row c.items (map (λ e. e.1) (within_range from to all.0))) fresh.0
             ∙ ap (λ (es : List Element). folded_row b.items (map (λ e. e.1) (within_range from to es))) (sym listed),
-        folds.same ∙ fresh.0,
-        folds.none,
+        (folds.same ∙ fresh.0, folds.none),
       )
 
   -- the rows of on intervals

@@ -75,6 +75,15 @@ then_reads tells a b u v w first second =
       change_bytes = second.change_bytes ∙ first.change_bytes;
     }
 
+-- what was read, with another answer
+pub reads_as : {A B : Type 0} (tells : Bool) (a : A) (b : B) (v w : Contents) → Reads tells (Ok a) v w → Reads tells (Ok b) v w
+reads_as tells a b v w reads = record {
+  call = record { count = reads.call.count; faults = reads.call.faults; cause = λ failed. absurd (cc); no_fault = λ fine. reads.call.no_fault (λ failed. cc) };
+  pages = reads.pages;
+  free = reads.free;
+  change_bytes = reads.change_bytes;
+}
+
 -- what is seen is seen still on pages that were only read
 pub seen_still : {A : Type 0} (tells : Bool) (a : A) (d : Definitions) (space : Directory) (v w : Contents) → IsSeen tells (view d space v) → Reads tells (Ok a) v w → IsSeen tells (view d space w)
 seen_still tells a d space v w seen reads =
