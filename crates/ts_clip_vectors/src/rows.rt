@@ -1,5 +1,9 @@
 // The rows of a range, in the bytes of their cells.
-use crate::series::{SLOT, day, filled};
+ghost use Rattle.ts_page.specs.Memory.{memory_contents};
+ghost use Rattle.ts_space.specs.Directory.{places_of};
+ghost use Rattle.ts_clip.specs.Series.{ArePlaces, IsLaidOut};
+
+use crate::series::{SLOT, Series, day, filled, mislead};
 use std::alloc::{AllocError, Global};
 use ts_base::StoreFault;
 use ts_clip::rows;
@@ -45,6 +49,21 @@ fn row_in(cell: &[u8], front: usize) -> &[u8] {
 // What is handed on from one day to another.
 fn handed_on(alloc: Global, regular: bool, from: u8, to: u8) -> Result<Copied, StoreFault> {
     let mut series = filled(alloc, regular)?;
+    copied_of(alloc, &mut series, from, to)
+}
+
+// The same where the place of the page tells of one element more than stand there.
+fn misled(alloc: Global, regular: bool, from: u8, to: u8) -> Result<Copied, StoreFault> {
+    let mut series = filled(alloc, regular)?;
+    mislead(&mut series)?;
+    copied_of(alloc, &mut series, from, to)
+}
+
+// The same of any series.
+fn copied_of(alloc: Global, series: &mut Series, from: u8, to: u8) -> Result<Copied, StoreFault>
+    requires laid { IsLaidOut series.old.shape }
+    requires places { ArePlaces series.old.shape series.old.kind.columns (memory_contents series.old.pages) (places_of 7 series.old.space) }
+{
     let kind = &series.kind;
     let shelf = &Shelf { series: SLOT, kind };
     let page = &mut Page::zero();
@@ -101,4 +120,11 @@ fn a_range_without_cells_hands_on_nothing(rt: HostRuntime) {
     assert!(rt; gives(handed_on(alloc, true, 8, 9), &[], 0, &[]));
     assert!(rt; gives(handed_on(alloc, false, 10, 3), &[], 0, &[]));
     assert!(rt; gives(handed_on(alloc, true, 10, 3), &[], 0, &[]));
+}
+
+#[test]
+fn a_page_that_disagrees_with_its_place_has_no_rows(rt: HostRuntime) {
+    let alloc = rt.alloc();
+    assert!(rt; gives(misled(alloc, false, 1, 31), &[], 0, &[]));
+    assert!(rt; gives(misled(alloc, true, 1, 31), &[], 0, &[]));
 }

@@ -225,6 +225,7 @@ fn hide(series: &mut Series, number: u8) -> Result<(), StoreFault>
     requires count { (memory_contents series.old.pages).count ≡ 931 }
     ensures places { OnOk result (ArePlaces series.new.shape series.new.kind.columns
         (memory_contents series.new.pages) (places_of 7 series.new.space)) }
+    ensures count { OnOk result ((memory_contents series.new.pages).count ≡ 931) }
     ensures shape { series.new.shape ≡ series.old.shape }
 {
     let stamp = day(number)?;
@@ -260,6 +261,7 @@ pub(crate) fn filled(alloc: Global, regular: bool) -> Result<Series, StoreFault>
     ensures shape { IfOk result (λ series. IsLaidOut series.shape) }
     ensures places { IfOk result (λ series. ArePlaces series.shape series.kind.columns
         (memory_contents series.pages) (places_of 7 series.space)) }
+    ensures count { IfOk result (λ series. (memory_contents series.pages).count ≡ 931) }
 {
     let shape = if regular {
         working_days(alloc)?
@@ -273,4 +275,24 @@ pub(crate) fn filled(alloc: Global, regular: bool) -> Result<Series, StoreFault>
     put(&mut series, 10, 4)?;
     hide(&mut series, 6)?;
     Ok(series)
+}
+
+/// Makes the place of the only page tell of one element more than stand there.
+pub(crate) fn mislead(series: &mut Series) -> Result<(), StoreFault>
+    requires { (memory_contents series.old.pages).count ≡ 931 }
+    ensures places { OnOk result (ArePlaces series.new.shape series.new.kind.columns
+        (memory_contents series.new.pages) (places_of 7 series.new.space)) }
+    ensures shape { series.new.shape ≡ series.old.shape }
+{
+    let Some(place) = series.space.places(SLOT).first() else {
+        return Err(StoreFault::Failed);
+    };
+    let misled = Place {
+        at: place.at,
+        page: place.page,
+        count: place.count.saturating_add(1),
+    };
+    series.space.reserve(SLOT, 1)?;
+    series.space.set(SLOT, misled);
+    settled(series)
 }
