@@ -8,3 +8,4 @@ pub mod ToldLemmas
 pub mod HandedLemmas
 pub mod RowLemmas
 pub mod FoldingLemmas
+pub mod OneRowLemmas

@@ -6,24 +6,21 @@ ghost use Rattle.ts_entry.specs.Entry.{AreSeenBytes};
 ghost use Rattle.ts_aggregate.specs.Fold.{Takes};
 
 use crate::Folding;
-use std::alloc::AllocError;
+use std::alloc::{AllocError, Global};
 use ts_entry::RowVisitor;
 use ts_row::RowType;
 
-/// The most bytes of a row, and one before it.
-const MOST_BYTES: usize = 1001;
-
-/// The bytes of a cell that a row is copied into, so that a fold takes it as it takes those of a page.
+/// The bytes of a cell that a row is copied into, so that a fold takes it as it takes those of a page. Its memory is kept from row to row.
 #[derive(Drop)]
 pub(crate) struct OneRow {
-    cell: [u8; MOST_BYTES],
+    cell: Vec<u8>,
 }
 
 impl OneRow {
-    /// No row yet.
-    pub(crate) fn new() -> OneRow {
+    /// No row yet; it takes no memory.
+    pub(crate) fn new(alloc: Global) -> OneRow {
         OneRow {
-            cell: [0; MOST_BYTES],
+            cell: Vec::new(alloc),
         }
     }
 
@@ -38,9 +35,9 @@ impl OneRow {
         ensures takes { OnOk result ((r : TheRow) → AreSeenBytes kind.now.columns row.now r
             → Takes kind.now.columns folding.old (r ∷ []) folding.new) }
     {
-        let size = 1 + kind.width();
-        self.cell[0] = 1;
-        self.cell[1..size].copy_from_slice(row);
-        folding.rows(kind, &self.cell[..size], 1)
+        self.cell.clear();
+        self.cell.push(1)?;
+        self.cell.extend_from_slice(row)?;
+        folding.rows(kind, self.cell.as_slice(), 1)
     }
 }
