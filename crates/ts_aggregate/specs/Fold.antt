@@ -1,16 +1,22 @@
 -- A fold of rows in their bytes, and what it has taken.
-use Rattle.std.specs.Prelude.{◌≡◌, ℕ, ◌+◌, ◌≤◌, ◌^◌, List, [], ◌++◌, length}
+use Rattle.std.specs.Prelude.{◌≡◌, ℕ, ◌+◌, ◌≤◌, ◌^◌, List, [], ◌++◌, length, All}
 use Rattle.ts_row.specs.declared.kind.Column.{Column}
 use Rattle.ts_row.specs.Row.{Row}
 use Rattle.ts_expr.specs.Binding.{Binding}
 use Rattle.ts_expr.specs.declared.tally.Tally.{Tally}
-use Rattle.ts_expr.specs.Running.{after}
+use Rattle.ts_expr.specs.declared.item.BoundItem.{BoundItem}
+use Rattle.ts_expr.specs.Running.{after, count_of}
 use Rattle.ts_expr.specs.Fold.{folded_row}
 
 -- what contracts see of a fold: the list that it is of, with its columns, and what is known so far for each item
 pub record Fold : Type 0 where
   pub binding : Binding
   pub tallies : List Tally
+
+-- there is one for each item, of no more values than are folded
+pub record AreTallies (items : List BoundItem) (tallies : List Tally) : Type 0 where
+  pub size : length tallies ≡ length items
+  pub few : All (λ t. count_of t ≤ 2 ^ 32) tallies
 
 -- it has taken these rows
 abbrev pub HasTaken : Fold → List Row → Type 0

@@ -1,14 +1,21 @@
 // A fold of rows in their bytes.
-ghost use Rattle.std.specs.Prelude.{◌≡◌, ◌≤◌, [], IfOk, OnOk, List, length};
+ghost use Rattle.std.specs.Prelude.{◌≡◌, ◌+◌, ◌≤◌, ◌<◌, [], ◌++◌, IfOk, OnOk, IsTrue, All, List, Option, length, map, take};
+ghost use Rattle.std.specs.List.{list_all};
 ghost use Rattle.ts_row.specs.Row.{Row as TheRow};
+ghost use Rattle.ts_row.specs.RowType.{is_kind, width_of};
+ghost use Rattle.ts_entry.specs.Rows.{AreCellsWith, rows_in};
 ghost use Rattle.ts_expr.specs.Fold.{folded_row};
-ghost use Rattle.ts_aggregate.specs.Fold.{HasTaken, most_folded};
+ghost use Rattle.ts_expr.specs.Running.{after, value_of};
+ghost use Rattle.ts_aggregate.specs.Fold.{HasTaken, AreTallies, most_folded};
+ghost use Rattle.ts_aggregate.specs.Column.{IsSpread};
 
+use crate::cells::{Cells, Spot, Spread};
+use crate::column::take_column;
 use std::alloc::{AllocError, Global};
 use std::marker::Model;
 use ts_entry::RowVisitor;
-use ts_expr::{Bound, Tally};
-use ts_row::{Row, RowType};
+use ts_expr::{Bound, BoundItem, Tally};
+use ts_row::{Column, Row, RowType, Value};
 
 /// A fold of an aggregate list over rows that it takes in their bytes.
 #[derive(Drop)]
@@ -18,11 +25,13 @@ pub struct Folding<'a> {
 }
 
 impl<'a> Model for Folding<'a> {
-    ghost use Rattle.ts_aggregate.specs.Fold.{Fold};
+    ghost use Rattle.ts_aggregate.specs.Fold.{Fold, AreTallies};
 
     ghost Value = { Fold };
 
     ghost view = { λ f. record { binding = f.bound.now; tallies = f.tallies.items } };
+
+    ghost invariant = { λ f. AreTallies f.bound.now.items f.tallies.items };
 }
 
 impl<'a> Folding<'a> {
@@ -31,7 +40,9 @@ impl<'a> Folding<'a> {
         ensures binding { IfOk result (λ folding. folding.binding ≡ bound.now) }
         ensures none { IfOk result (λ folding. HasTaken folding []) }
     {
-        unreachable!()
+        let _alloc = alloc;
+        let tallies = bound.tallies()?;
+        Ok(Folding { bound, tallies })
     }
 
     /// What the items make of the rows that it has taken, of which the sums of 2^32 fit. It then has taken none.
@@ -41,20 +52,112 @@ impl<'a> Folding<'a> {
         ensures same { self.new.binding ≡ self.old.binding }
         ensures none { OnOk result (HasTaken self.new []) }
     {
-        unreachable!()
+        let values = renew_all(
+            *self.tallies.allocator(),
+            self.bound.items(),
+            &mut self.tallies,
+        )?;
+        Ok(Row::of(values))
     }
 }
 
 impl<'a> RowVisitor for Folding<'a> {
     ghost use Rattle.ts_aggregate.specs.Fold.{Takes};
+    ghost use Rattle.ts_aggregate.specs.Takes.{none_taken, both_taken};
 
     ghost took = { Takes };
 
     fn rows(&mut self, kind: &RowType, cells: &[u8], front: usize) -> Result<(), AllocError> {
-        unreachable!()
+        if cells.is_empty() {
+            return Ok(());
+        }
+        if kind.width() != self.bound.kind().width() {
+            return Ok(());
+        }
+        let size = front + kind.width();
+        let spread = Spread {
+            size,
+            front,
+            left: cells.len() / size,
+            bytes: cells,
+        };
+        let alloc = *self.tallies.allocator();
+        take_items(
+            alloc,
+            self.bound.items(),
+            self.bound.kind().columns(),
+            spread,
+            &mut self.tallies,
+        )
     }
 
-    ghost none = { λ columns v. _ };
+    ghost none = { none_taken };
 
-    ghost then = { λ columns a b c rs others p q. _ };
+    ghost then = { both_taken };
+}
+
+// What the items make of what is known of the rows; then nothing is known.
+fn renew_all(
+    alloc: Global,
+    items: &[BoundItem],
+    tallies: &mut [Tally],
+) -> Result<Vec<Value>, AllocError>
+    requires { AreTallies items.now tallies.old }
+    ensures kept { AreTallies items.now tallies.new }
+    ensures value { IfOk result (λ values. values.items ≡ map value_of tallies.old) }
+    ensures none { OnOk result (tallies.new ≡ after items.now []) }
+{
+    let mut values = Vec::with_capacity(alloc, items.len())?;
+    for (number, item) in items.iter().enumerate() {
+        values.push(tallies[number].renew(item.function))?;
+    }
+    Ok(values)
+}
+
+// Each item takes the values of its column.
+fn take_items(
+    alloc: Global,
+    items: &[BoundItem],
+    columns: &[Column],
+    spread: Spread<'_>,
+    tallies: &mut [Tally],
+) -> Result<(), AllocError>
+    requires tallies { AreTallies items.now tallies.old }
+    requires places { All (λ i. i.column < length columns.now) items.now }
+    requires whole { IsSpread columns.now spread }
+    ensures kept { AreTallies items.now tallies.new }
+    ensures took { OnOk result ((found : List (Option TheRow)) → IsTrue (list_all (λ c. is_kind c.kind) columns.now)
+        → AreCellsWith columns.now spread.entry.front spread.entry.bytes.now found
+        → (before : List TheRow) → length before + length (rows_in found) ≤ most_folded
+        → tallies.old ≡ after items.now before → tallies.new ≡ after items.now (before ++ rows_in found)) }
+{
+    for (number, item) in items.iter().enumerate() {
+        let kind = columns[item.column].kind;
+        let spot = Spot {
+            size: spread.size,
+            front: spread.front,
+            place: spread.front + width_before(columns, item.column),
+            width: kind.width() - 1,
+        };
+        let cells = Cells {
+            spot,
+            left: spread.left,
+            bytes: spread.bytes,
+        };
+        take_column(alloc, &mut tallies[number], cells, kind)?;
+    }
+    Ok(())
+}
+
+// The bytes of the columns before one.
+fn width_before(columns: &[Column], column: usize) -> usize
+    requires within { column ≤ length columns.now }
+    requires narrow { width_of columns.now ≤ 1000 }
+    ensures { result ≡ width_of (take column columns.now) }
+{
+    let mut width = 0;
+    for column in &columns[..column] {
+        width += column.kind.width();
+    }
+    width
 }

@@ -12,9 +12,12 @@ ghost use Rattle.ts_aggregate.specs.Fold.{HasTaken};
 ghost use Rattle.ts_aggregate.specs.Call.{AreHanded};
 
 use crate::Folding;
+use crate::by_interval::{ByInterval, MOST_ROWS};
+use crate::wish::Wish;
 use std::alloc::Global;
 use ts_base::{Refusal, Stamp, StoreFault};
 use ts_calendar::Calendar;
+use ts_clip::elements;
 use ts_entry::ElementVisitor;
 use ts_offset::Shape;
 use ts_page::{Page, Pages};
@@ -48,5 +51,15 @@ pub fn aggregate_by<P: Pages, V: ElementVisitor>(
     ensures call { Reads P.tells result (P.contents pages.old) (P.contents pages.new) }
     ensures undisturbed { P.undisturbed pages.old pages.new }
 {
-    unreachable!()
+    // They rise, and so do the elements.
+    let _places = space.places(shelf.series);
+    let wish = Wish::make(alloc, calendar, from, to)?;
+    let last = wish.last();
+    let mut groups = ByInterval::new(&wish, folding, visitor);
+    elements(pages, page, space, shelf, shape, from, last, &mut groups)?;
+    let count = groups.end()?;
+    if count > MOST_ROWS {
+        return Ok(Err(Refusal::TooLarge { rows: count }));
+    }
+    Ok(Ok(count))
 }

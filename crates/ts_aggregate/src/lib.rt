@@ -5,9 +5,17 @@
 //! calendars; knows nothing of definitions and replies. Read `specs/Fold.antt`, `specs/Call.antt`, `folding.rt`, `range.rt`, `groups.rt`.
 #![tactic(auto)]
 
+mod by_interval;
+mod cells;
+mod column;
 mod folding;
 mod groups;
+mod numbers;
+mod one_row;
 mod range;
+mod span;
+mod texts;
+mod wish;
 
 pub use folding::Folding;
 pub use groups::aggregate_by;

@@ -11,8 +11,8 @@ use Rattle.ts_model.specs.declared.kind.Kind.{Kind}
 use Rattle.ts_model.specs.declared.kind.Kind.TheVariants as kinds
 use Rattle.ts_model.specs.Catalogue.{Catalogue}
 use Rattle.ts_command.specs.Script.{Request}
-use Rattle.ts_answer.specs.Answer.{Tried, Answered, ◌>>=◌, settled, outcome, answer, carried_out, create_row_type, drop_definition, create_pattern, turn_pattern, join_patterns, show_pattern, create_calendar, join_calendars, show_calendar, count_starts, find_start, list_starts, create_container, container_usage, create_irregular, create_regular, drop_series, list_series, put_element, put_no_dups, insert_element, update_element, delete_element, delete_range, mark_element, get_element, get_last_element, count_elements, get_first_element, get_nth_element, clip_series, count_clip, clip_counted, join_series, lag_series}
-use Rattle.ts_answer.proofs.ReplyLemmas.{IsApart, Begins, apart-begins, ok-begins, count-begins, counts-begins, number-begins, stamp-begins, pattern-begins, calendar-begins, stamps-begin, elements-begin, entries-begin, series_text-begins, refusal-apart}
+use Rattle.ts_answer.specs.Answer.{Tried, Answered, ◌>>=◌, settled, outcome, answer, carried_out, create_row_type, drop_definition, create_pattern, turn_pattern, join_patterns, show_pattern, create_calendar, join_calendars, show_calendar, count_starts, find_start, list_starts, create_container, container_usage, create_irregular, create_regular, drop_series, list_series, put_element, put_no_dups, insert_element, update_element, delete_element, delete_range, mark_element, get_element, get_last_element, count_elements, get_first_element, get_nth_element, clip_series, count_clip, clip_counted, join_series, lag_series, aggregate_by, aggregate_range, aggregate_all}
+use Rattle.ts_answer.proofs.ReplyLemmas.{IsApart, Begins, apart-begins, ok-begins, count-begins, counts-begins, number-begins, stamp-begins, pattern-begins, calendar-begins, stamps-begin, elements-begin, entries-begin, series_text-begins, folded-begin, series_folded-begin, refusal-apart}
 
 -- what is said of a reply begins with another byte than the memory line
 abbrev Differs : Tried Answered → Type 0
@@ -164,6 +164,18 @@ lag_series-differs : (key : List ℕ) (by : ℤ) (cat : Catalogue) → Differs (
 unfolding lag_series
 lag_series-differs key by cat = then _ _ (λ a. then _ _ (λ shape. then _ _ (λ rows. elements-begin _ rows)))
 
+aggregate_by-differs : (text calendar key : List ℕ) (from to : ℤ) (cat : Catalogue) → Differs (aggregate_by text calendar key from to cat)
+unfolding aggregate_by
+aggregate_by-differs text calendar key from to cat = then _ _ (λ a. then _ _ (λ plan. then _ _ (λ c. then _ _ (λ b. then _ _ (λ rows. folded-begin _ rows)))))
+
+aggregate_range-differs : (text key : List ℕ) (from to : ℤ) (cat : Catalogue) → Differs (aggregate_range text key from to cat)
+unfolding aggregate_range
+aggregate_range-differs text key from to cat = then _ _ (λ a. then _ _ (λ c. then _ _ (λ b. folded-begin _ _)))
+
+aggregate_all-differs : (text container : List ℕ) (from to : ℤ) (cat : Catalogue) → Differs (aggregate_all text container from to cat)
+unfolding aggregate_all
+aggregate_all-differs text container from to cat = then _ _ (λ a. then _ _ (λ c. then _ _ (λ b. series_folded-begin _ _)))
+
 carried_out-differs : (command : Command) (cat : Catalogue) → Differs (carried_out command cat)
 unfolding carried_out
 carried_out-differs (commands.CreateRowType name stamp columns) cat = create_row_type-differs name stamp columns cat
@@ -208,6 +220,9 @@ carried_out-differs (commands.ClipGetCount key from to) cat = count_clip-differs
 carried_out-differs (commands.Union first second from to) cat = join_series-differs Or first second from to cat
 carried_out-differs (commands.Intersect first second from to) cat = join_series-differs And first second from to cat
 carried_out-differs (commands.Lag key by) cat = lag_series-differs key by cat
+carried_out-differs (commands.AggregateBy text calendar key from to) cat = aggregate_by-differs text calendar key from to cat
+carried_out-differs (commands.AggregateRange text key from to) cat = aggregate_range-differs text key from to cat
+carried_out-differs (commands.AggregateAll text container from to) cat = aggregate_all-differs text container from to cat
 
 outcome-differs : (request : Request) (cat : Catalogue) → Differs (outcome request cat)
 unfolding outcome

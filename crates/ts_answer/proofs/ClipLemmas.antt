@@ -24,9 +24,9 @@ use Rattle.ts_entry.specs.Reading.{entry_at, is_reached, starts_to_last, reading
 use Rattle.ts_model.specs.Catalogue.{Catalogue, Series, columns_of, shape_of}
 use Rattle.ts_answer.specs.Answer.{Answered, Tried, ◌>>=◌, outcome, carried_out, wanted, known, a_reading, clip_series, count_clip}
 use Rattle.ts_answer.specs.Reply.{count_line, entries_text}
-use Rattle.ts_answer.specs.ReadingLaws.{IsSeenAt, CanStand, HasLaidCalendar, AreEntriesOf, ListsEntries, CountsAreOfClips}
+use Rattle.ts_answer.specs.ReadingLaws.{IsSeenAt, IsReached, CanStand, HasLaidCalendar, AreEntriesOf, ListsEntries, CountsAreOfClips}
 use Rattle.ts_answer.proofs.RowLemmas.{Among, Rise, among_from, among_contains, among_place, place_among, among_filter, among_filtered, among_map, among_mapped, pairs_map, between_true, between_yes, not_false}
-use Rattle.ts_answer.proofs.SeenLemmas.{seen_later, seen_there, there_seen, among_found, found_among, reached}
+use Rattle.ts_answer.proofs.SeenLemmas.{seen_later, seen_there, there_seen, among_found, found_among, reached, reached_by}
 use Rattle.ts_answer.proofs.TriedLemmas.{came, on_ok, same_answer, wanted-there}
 
 -- the on starts of a grid from its origin on
@@ -66,13 +66,17 @@ module _ (s : Series) (from to : ℤ) where
         among_contains _ (stamp, Some row)
         (among_filter (is_between from to) (map filled (seen (entries s.elements))) (stamp, Some row)
         (among_map filled (seen (entries s.elements)) (stamp, row) (there_seen s stamp row at)) (between_yes from to stamp low high));
-    padded = λ stamp there.
-        let one = among_mapped filled (seen (entries s.elements)) (stamp, None) (listed (stamp, None) there).0 in
-        let no = ap (λ (e : Entry). e.1) one.2 in
-        (cc);
+    padded = no_empty;
+    reached = λ stamp there. absurd (no_empty stamp there);
   } where
     listed : (e : Entry) → Contains (clipped from to (map filled (seen (entries s.elements)))) e → Among e (map filled (seen (entries s.elements))) × (is_between from to e ≡ true)
     listed e there = among_filtered (is_between from to) (map filled (seen (entries s.elements))) e (among_from _ e there)
+
+    no_empty : (stamp : ℤ) → Contains (clipped from to (map filled (seen (entries s.elements)))) (stamp, None) → ⊥
+    no_empty stamp there =
+        let one = among_mapped filled (seen (entries s.elements)) (stamp, None) (listed (stamp, None) there).0 in
+        let no = ap (λ (e : Entry). e.1) one.2 in
+        (cc)
 
     same_one : (stamp : ℤ) (row : Row) (e : Element) → (let entry : Entry = (stamp, Some row) in entry ≡ filled e) → (stamp, row) ≡ e
     same_one stamp row e is = let same : row ≡ e.1 = let at = ap (λ (f : Entry). f.1) is in cc in let stood = ap (λ (f : Entry). f.0) is in λ i. (stood i, same i)
@@ -120,6 +124,10 @@ module _ (s : Series) (from to : ℤ) where
           subst (λ (o : Option Row). Contains (clipped from to (reading (shapes.Regular g) (entries s.elements))) (stamp, o)) found
           (there_listed stamp stamp row at stands (omega (arith, ints)) low high);
       padded = λ start last row at stands before low high. (find int_cmp start (seen (entries s.elements)), there_listed start last row at stands before low high);
+      reached = λ stamp there.
+          let one = listed (stamp, None) there in
+          let kept = among_filtered (is_reached (last_of (seen (entries s.elements)))) (starts_of g) one.0 one.1 in
+          subst (IsReached s) (sym (ap (λ (f : Entry). f.0) one.2)) (reached_by s one.0 kept.1);
     }
 
 entries_clipped : (s : Series) (shape : Shape) (from to : ℤ) → HasLaidCalendar shape → AreEntriesOf s shape from to (clipped from to (reading shape (entries s.elements)))

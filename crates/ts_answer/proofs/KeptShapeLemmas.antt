@@ -7,7 +7,7 @@ use Rattle.ts_model.specs.declared.kind.Kind.{Kind}
 use Rattle.ts_model.specs.declared.kind.Kind.TheVariants as kinds
 use Rattle.ts_model.specs.Catalogue.{Catalogue}
 use Rattle.ts_model.specs.Kinds.{is_used}
-use Rattle.ts_answer.specs.Answer.{Answered, Tried, ◌>>=◌, settled, outcome, answer, carried_out, create_row_type, drop_definition, create_pattern, turn_pattern, join_patterns, show_pattern, create_calendar, join_calendars, show_calendar, count_starts, find_start, list_starts, create_container, container_usage, create_irregular, create_regular, drop_series, list_series, put_element, put_no_dups, insert_element, update_element, delete_element, delete_range, mark_element, get_element, get_last_element, count_elements, get_first_element, get_nth_element, clip_series, count_clip, clip_counted, join_series, lag_series}
+use Rattle.ts_answer.specs.Answer.{Answered, Tried, ◌>>=◌, settled, outcome, answer, carried_out, create_row_type, drop_definition, create_pattern, turn_pattern, join_patterns, show_pattern, create_calendar, join_calendars, show_calendar, count_starts, find_start, list_starts, create_container, container_usage, create_irregular, create_regular, drop_series, list_series, put_element, put_no_dups, insert_element, update_element, delete_element, delete_range, mark_element, get_element, get_last_element, count_elements, get_first_element, get_nth_element, clip_series, count_clip, clip_counted, join_series, lag_series, aggregate_by, aggregate_range, aggregate_all}
 use Rattle.ts_answer.specs.SeriesLaws.{SeriesKeepTheirShapes}
 use Rattle.ts_answer.proofs.ShapeLemmas.{Keeps, not_so, shapes_stay, whole, edited, made, dropped}
 
@@ -32,7 +32,7 @@ module _ (cat : Catalogue) where
   idle_goes kind name = tries _ _ (λ there a. tries _ _ (λ done b. dropped cat kind name (not_so (is_used kind name cat) refusals.InUse done b)))
 
   each : (command : Command) → Tries (carried_out command cat)
-  unfolding Tries carried_out create_row_type create_pattern turn_pattern join_patterns show_pattern create_calendar join_calendars show_calendar count_starts find_start list_starts create_container container_usage create_irregular create_regular drop_series list_series put_element put_no_dups insert_element update_element delete_element delete_range mark_element get_element get_last_element count_elements get_first_element get_nth_element clip_series count_clip clip_counted join_series lag_series
+  unfolding Tries carried_out create_row_type create_pattern turn_pattern join_patterns show_pattern create_calendar join_calendars show_calendar count_starts find_start list_starts create_container container_usage create_irregular create_regular drop_series list_series put_element put_no_dups insert_element update_element delete_element delete_range mark_element get_element get_last_element count_elements get_first_element get_nth_element clip_series count_clip clip_counted join_series lag_series aggregate_by aggregate_range aggregate_all
   each (commands.CreateRowType name stamp columns) = tries _ _ (λ good a. tries _ _ (λ has b. tries _ _ (made cat kinds.RowType name _)))
   each (commands.DropRowType name) = idle_goes kinds.RowType name
   each (commands.CreatePattern name text) = tries _ _ (λ pattern a. tries _ _ (made cat kinds.Pattern name _))
@@ -75,6 +75,9 @@ module _ (cat : Catalogue) where
   each (commands.Union first second from to) = tries _ _ (λ a b. tries _ _ (λ c d. tries _ _ (λ shape e. tries _ _ (λ other f. tries _ _ (λ rows g. whole cat)))))
   each (commands.Intersect first second from to) = tries _ _ (λ a b. tries _ _ (λ c d. tries _ _ (λ shape e. tries _ _ (λ other f. tries _ _ (λ rows g. whole cat)))))
   each (commands.Lag key by) = tries _ _ (λ series a. tries _ _ (λ shape b. tries _ _ (λ rows c. whole cat)))
+  each (commands.AggregateBy text calendar key from to) = tries _ _ (λ items a. tries _ _ (λ plan b. tries _ _ (λ series c. tries _ _ (λ bound d. tries _ _ (λ rows e. whole cat)))))
+  each (commands.AggregateRange text key from to) = tries _ _ (λ items a. tries _ _ (λ series b. tries _ _ (λ bound c. whole cat)))
+  each (commands.AggregateAll text container from to) = tries _ _ (λ items a. tries _ _ (λ there b. tries _ _ (λ bound c. whole cat)))
 
 pub shapes_kept : SeriesKeepTheirShapes
 unfolding answer outcome

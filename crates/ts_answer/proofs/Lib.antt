@@ -4,9 +4,13 @@ pub mod CalendarLemmas
 pub mod CallerLemmas
 mod CarriedLemmas
 mod ClipLemmas
+mod ContainerLemmas
+mod CountLemmas
+mod CountedLemmas
 mod DeletedLemmas
 mod EditedLemmas
 mod EndLemmas
+mod GroupLemmas
 mod IntervalLemmas
 mod JoinedLemmas
 mod KeptShapeLemmas
@@ -15,6 +19,7 @@ mod OffsetLemmas
 mod OriginLemmas
 mod PartLemmas
 mod PlacedLemmas
+mod RangeLemmas
 mod ReadingLemmas
 mod ReplyLemmas
 mod RowLemmas

@@ -1,7 +1,8 @@
 -- What GetNthElem and Lag list of a series on a grid, by offsets.
-use Rattle.std.specs.Prelude.{Contains, int_lt, unsigned_abs}
+use Rattle.std.specs.Prelude.{AllPairs, Contains, int_lt, unsigned_abs}
 use Rattle.std.proofs.Common.{◌≡◌, ℕ, Bool, true, false, cond, not, Option, Some, None, option_map, option_and_then, List, [], ◌∷◌, length, filter_map, map, slice_get, refl, sym, ap, subst, ◌∙◌, arith, inl, inr, ℤ, pos, negsuc, ◌-ℤ◌, ◌<ℤ◌, ◌≤ℤ◌}
 use Rattle.std.proofs.lemmas.Int.{ints}
+use Rattle.std.proofs.lemmas.List.Kept.{AllPairs-filter}
 use Rattle.std.proofs.lemmas.Option.{slice_get-map, option_and_then_some, some_pair_parts}
 use Rattle.std.specs.FinMap.{entries}
 use Rattle.std.specs.Option.{option_to_list}
@@ -19,9 +20,9 @@ use Rattle.ts_combine.specs.Lag.{from_origin, start_before, lagged_at, lagged}
 use Rattle.ts_model.specs.Catalogue.{Series, columns_of, shape_of}
 use Rattle.ts_answer.specs.Answer.{outcome, carried_out, wanted, known, a_reading, get_nth_element, lag_series}
 use Rattle.ts_answer.specs.Reply.{elements_text, entries_text}
-use Rattle.ts_answer.specs.ReadingLaws.{IsSeenAt, NumbersAreOffsets, IsLagged, LagsAreByOffsets}
-use Rattle.ts_answer.proofs.RowLemmas.{Among, among_from, among_contains, among_place, place_among, among_filter, among_filtered, among_taken, among_came, filter_both, few_listed, front_kept, rank_at, not_false}
-use Rattle.ts_answer.proofs.SeenLemmas.{seen_later, seen_there, there_seen, among_found, found_among, reached}
+use Rattle.ts_answer.specs.ReadingLaws.{IsSeenAt, IsReached, NumbersAreOffsets, IsLagged, LagsAreByOffsets}
+use Rattle.ts_answer.proofs.RowLemmas.{Among, among_from, among_contains, among_place, place_among, among_filter, among_filtered, among_mapped, among_taken, among_came, filter_both, few_listed, front_kept, front_keeps, taken_rise, rank_at, not_false}
+use Rattle.ts_answer.proofs.SeenLemmas.{seen_later, seen_there, there_seen, among_found, found_among, reached, reached_by}
 use Rattle.ts_answer.proofs.ClipLemmas.{starts_rise, few_rows, reading_there}
 use Rattle.ts_answer.proofs.TriedLemmas.{came, on_ok, same_answer, wanted-there}
 
@@ -46,6 +47,32 @@ listed_one : {A : Type 0} (o : Option A) (a : A) → Contains (option_to_list o)
 listed_one None a there = absurd (among_from [] a there)
 listed_one (Some b) a there = elim (among_from (b ∷ []) a there) [ inl is ↦ ap Some (sym is) | inr none ↦ absurd none ]
 
+one_listed : {A : Type 0} (o : Option A) (a : A) → o ≡ Some a → Contains (option_to_list o) a
+one_listed {A} o a is = subst (λ (l : Option A). Contains (option_to_list l) a) (sym is) (0, omega arith, refl)
+
+-- the entry of an offset
+module _ (g : GridPlan) (s : Series) (n : ℕ) where
+  -- stands where an element that is seen stands at it or later, and has the one at its stamp
+  entry_found : (e : Entry) → slice_get (reading (shapes.Regular g) (entries s.elements)) n ≡ Some e
+      → IsReached s e.0 × ((row : Row) → e.1 ≡ Some row → IsSeenAt s e.0 row)
+  entry_found e is =
+      let es = seen (entries s.elements) in
+      let one = among_mapped (entry_at es) (starts_to_last g es) e (among_place (map (entry_at es) (starts_to_last g es)) n e is) in
+      let at = ap (λ (f : Entry). f.0) one.2 in
+      let found = ap (λ (f : Entry). f.1) one.2 in (
+        subst (IsReached s) (sym at) (reached_by s one.0 (among_filtered (is_reached (last_of es)) (starts_of g) one.0 one.1).1),
+        λ row some. seen_there s e.0 row (found_among e.0 row es (ap (λ (t : ℤ). element_at t es) at ∙ sym found ∙ some)),
+      )
+
+  -- an on start up to such an element has its entry
+  entry_there : (start : ℤ) → IsLaid g.calendar → stamp_of g n ≡ Some start → IsReached s start
+      → slice_get (reading (shapes.Regular g) (entries s.elements)) n ≡ Some (entry_at (seen (entries s.elements)) start)
+  entry_there start laid is until =
+      let es = seen (entries s.elements) in
+      let passes = reached es (until.last, until.row) (seen_later s.elements) (there_seen s until.last until.row until.at) start until.until in
+      slice_get-map (entry_at es) (starts_to_last g es) n
+      ∙ ap (option_map (entry_at es)) (front_keeps (is_reached (last_of es)) (reached_before (last_of es)) (starts_of g) n start (starts_rise g laid) is passes)
+
 pub nth_at_offset : NumbersAreOffsets
 unfolding outcome carried_out get_nth_element
 nth_at_offset cat answered key n s g there shaped laid is =
@@ -56,7 +83,16 @@ nth_at_offset cat answered key n s g there shaped laid is =
     record {
       rows = entry_number n all;
       one = few_listed (slice_get all n);
-      at = λ e listed. entry_offset g es n e laid (listed_one (slice_get all n) e listed);
+      at = λ e listed.
+          let is = listed_one (slice_get all n) e listed in
+          (entry_offset g es n e laid is, (entry_found g s n e is).0);
+      listed = λ start is until. (element_at start es, one_listed (slice_get all n) (entry_at es start) (entry_there g s n start laid is until));
+      theirs = λ stamp row listed. (entry_found g s n (stamp, Some row) (listed_one (slice_get all n) (stamp, Some row) listed)).1 row refl;
+      each = λ stamp row is at.
+          let until : IsReached s stamp = record { last = stamp; row = row; at = at; until = omega (arith, ints) } in
+          let found = among_found stamp row es (seen_later s.elements) (there_seen s stamp row at) in
+          subst (λ (o : Option Row). Contains (entry_number n all) (stamp, o)) found
+          (one_listed (slice_get all n) (entry_at es stamp) (entry_there g s n stamp laid is until));
       lines = same_answer (entries_text (columns_of cat s) (entry_number n all), cat) answered read;
     }
 
@@ -82,6 +118,14 @@ from_origin_yes n = ap (λ (b : Bool). cond b None (Some n)) (int_lt_no (pos n) 
 -- an element at a stamp
 abbrev at_start : ℤ → Row → Element
 at_start start row = (start, row)
+
+-- what is listed at an on start has its stamp
+lagged_stamp : (g : GridPlan) (by : ℤ) (es : List Element) (start : ℤ) (e : Element) → lagged_at g by es start ≡ Some e → e.0 ≡ start
+lagged_stamp g by es start e is = made (option_and_then (λ t. element_at t es) (start_before g by start)) is
+  where
+    made : (o : Option Row) → option_map (at_start start) o ≡ Some e → e.0 ≡ start
+    made None never = absurd (cc)
+    made (Some row) same = let one : at_start start row ≡ e = cc in sym (ap (λ (f : Element). f.0) one)
 
 module _ (g : GridPlan) (by : ℤ) (s : Series) (laid : IsLaid g.calendar) where
   -- what is listed at an on start
@@ -116,9 +160,17 @@ module _ (g : GridPlan) (by : ℤ) (s : Series) (laid : IsLaid g.calendar) where
           (λ stood stands at. option_and_then_some (stamp_of g) (from_origin (pos (starts_before g start) -ℤ by)) stood stands
           (λ source from stood_there. sourced place.0 source start stood place.1 from stood_there at same.0))
 
-  there_lag : (stamp last : ℤ) (row final : Row) → IsLagged g by s stamp row → IsSeenAt s last final → stamp ≤ℤ last
+  -- up to the last element
+  lag_reached : (stamp : ℤ) (row : Row) → Among (stamp, row) (filter_map (lagged_at g by (seen (entries s.elements))) (starts_to_last g (seen (entries s.elements)))) → IsReached s stamp
+  lag_reached stamp row there =
+      let es = seen (entries s.elements) in
+      let at = among_came (lagged_at g by es) (starts_to_last g es) (stamp, row) there in
+      subst (IsReached s) (sym (lagged_stamp g by es at.0 (stamp, row) at.2))
+      (reached_by s at.0 (among_filtered (is_reached (last_of es)) (starts_of g) at.0 at.1).1)
+
+  there_lag : (stamp : ℤ) (row : Row) → IsLagged g by s stamp row → IsReached s stamp
       → Among (stamp, row) (filter_map (lagged_at g by (seen (entries s.elements))) (starts_to_last g (seen (entries s.elements))))
-  there_lag stamp last row final lagged at before =
+  there_lag stamp row lagged until =
       let es = seen (entries s.elements) in
       let rank = offset_rank g lagged.offset stamp laid lagged.at in
       let sum = lagged.lag in
@@ -131,7 +183,7 @@ module _ (g : GridPlan) (by : ℤ) (s : Series) (laid : IsLaid g.calendar) where
       ∙ ap (option_map (at_start stamp)) found in
       among_taken (lagged_at g by es) (starts_to_last g es) stamp (stamp, row)
       (among_filter (is_reached (last_of es)) (starts_of g) stamp (among_place (starts_of g) lagged.offset stamp lagged.at)
-      (reached es (last, final) (seen_later s.elements) (there_seen s last final at) stamp before)) taken
+      (reached es (until.last, until.row) (seen_later s.elements) (there_seen s until.last until.row until.at) stamp until.until)) taken
 
 pub lag_by_offsets : LagsAreByOffsets
 unfolding outcome carried_out lag_series
@@ -144,8 +196,13 @@ lag_by_offsets cat answered key by s g there shaped laid is =
     let same = few_rows all rows.0 rows.1 in
     record {
       rows = rows.0;
-      theirs = λ stamp row listed. lag_there g by s laid stamp row (subst (λ (l : List Element). Among (stamp, row) l) (sym same) (among_from rows.0 (stamp, row) listed));
-      each = λ stamp last row final lag at before.
-          among_contains rows.0 (stamp, row) (subst (λ (l : List Element). Among (stamp, row) l) same (there_lag g by s laid stamp last row final lag at before));
+      rising = subst (λ (l : List Element). AllPairs (λ a b. a.0 <ℤ b.0) l) same
+          (taken_rise (λ (e : Element). e.0) (lagged_at g by es) (lagged_stamp g by es) (starts_to_last g es)
+          (AllPairs-filter (λ a b. a <ℤ b) (is_reached (last_of es)) (starts_of g) (starts_rise g laid)));
+      theirs = λ stamp row listed.
+          let there = subst (λ (l : List Element). Among (stamp, row) l) (sym same) (among_from rows.0 (stamp, row) listed) in
+          (lag_there g by s laid stamp row there, lag_reached g by s laid stamp row there);
+      each = λ stamp row lag until.
+          among_contains rows.0 (stamp, row) (subst (λ (l : List Element). Among (stamp, row) l) same (there_lag g by s laid stamp row lag until));
       lines = same_answer (elements_text (columns_of cat s) rows.0, cat) answered rows.2;
     }

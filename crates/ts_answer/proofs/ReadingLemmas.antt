@@ -7,7 +7,7 @@ use Rattle.ts_model.specs.Catalogue.{Catalogue}
 use Rattle.ts_command.specs.Script.{Request}
 use Rattle.ts_answer.specs.Commands.{is_writing}
 use Rattle.ts_answer.specs.Reply.{refusal_line}
-use Rattle.ts_answer.specs.Answer.{Tried, Answered, ◌>>=◌, settled, outcome, answer, carried_out, show_pattern, show_calendar, count_starts, find_start, list_starts, container_usage, list_series, get_element, get_last_element, count_elements, get_first_element, get_nth_element, clip_series, count_clip, clip_counted, join_series, lag_series}
+use Rattle.ts_answer.specs.Answer.{Tried, Answered, ◌>>=◌, settled, outcome, answer, carried_out, show_pattern, show_calendar, count_starts, find_start, list_starts, container_usage, list_series, get_element, get_last_element, count_elements, get_first_element, get_nth_element, clip_series, count_clip, clip_counted, join_series, lag_series, aggregate_by, aggregate_range, aggregate_all}
 
 pub refused : (cat : Catalogue) (request : Request) (refusal : Refusal) → outcome request cat ≡ Err refusal → answer cat request ≡ (refusal_line refusal, cat)
 unfolding answer
@@ -30,7 +30,7 @@ settles cat (Err refusal) same = refl
 
 -- each routine that only reads
 each : (cat : Catalogue) (command : Command) → is_writing command ≡ false → Leaves cat (carried_out command cat)
-unfolding Leaves carried_out show_pattern show_calendar count_starts find_start list_starts container_usage list_series get_element get_last_element count_elements get_first_element get_nth_element clip_series count_clip clip_counted join_series lag_series
+unfolding Leaves carried_out show_pattern show_calendar count_starts find_start list_starts container_usage list_series get_element get_last_element count_elements get_first_element get_nth_element clip_series count_clip clip_counted join_series lag_series aggregate_by aggregate_range aggregate_all
 each cat (commands.CreateRowType name stamp columns) reading = absurd (cc)
 each cat (commands.DropRowType name) reading = absurd (cc)
 each cat (commands.CreatePattern name text) reading = absurd (cc)
@@ -73,6 +73,9 @@ each cat (commands.ClipGetCount key from to) reading = tries cat _ _ (λ series.
 each cat (commands.Union first second from to) reading = tries cat _ _ (λ a. tries cat _ _ (λ b. tries cat _ _ (λ shape. tries cat _ _ (λ other. tries cat _ _ (λ rows. refl)))))
 each cat (commands.Intersect first second from to) reading = tries cat _ _ (λ a. tries cat _ _ (λ b. tries cat _ _ (λ shape. tries cat _ _ (λ other. tries cat _ _ (λ rows. refl)))))
 each cat (commands.Lag key by) reading = tries cat _ _ (λ series. tries cat _ _ (λ shape. tries cat _ _ (λ rows. refl)))
+each cat (commands.AggregateBy text calendar key from to) reading = tries cat _ _ (λ items. tries cat _ _ (λ plan. tries cat _ _ (λ series. tries cat _ _ (λ b. tries cat _ _ (λ rows. refl)))))
+each cat (commands.AggregateRange text key from to) reading = tries cat _ _ (λ items. tries cat _ _ (λ series. tries cat _ _ (λ b. refl)))
+each cat (commands.AggregateAll text container from to) reading = tries cat _ _ (λ items. tries cat _ _ (λ there. tries cat _ _ (λ b. refl)))
 
 pub leaves : (cat : Catalogue) (command : Command) → is_writing command ≡ false → (answer cat (Ok command)).1 ≡ cat
 unfolding answer outcome

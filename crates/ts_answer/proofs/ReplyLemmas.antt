@@ -10,10 +10,11 @@ use Rattle.ts_base.specs.declared.refusal.Refusal.{Refusal}
 use Rattle.ts_base.specs.declared.refusal.Refusal.TheVariants as refusals
 use Rattle.ts_row.specs.declared.kind.Column.{Column}
 use Rattle.ts_row.specs.Element.{Element}
+use Rattle.ts_row.specs.Row.{Row}
 use Rattle.ts_row.specs.Printed.{row_text}
 use Rattle.ts_entry.specs.Entry.{Entry}
 use Rattle.ts_replies.specs.Acknowledged.{behind, memory_line}
-use Rattle.ts_answer.specs.Reply.{ok_line, count_line, counts_line, number_line, stamp_line, refusal_line, pattern_lines, calendar_lines, stamp_row, stamps_text, element_line, elements_text, row_or_none, entry_line, entries_text, series_line, series_text}
+use Rattle.ts_answer.specs.Reply.{ok_line, count_line, counts_line, number_line, stamp_line, refusal_line, pattern_lines, calendar_lines, stamp_row, stamps_text, element_line, elements_text, row_or_none, entry_line, entries_text, series_line, series_text, scaled_text, folded_line, folded_text, series_folded_line, series_folded_text}
 
 -- neither begins with the other
 pub record IsApart (text : List ℕ) : Type 0 where
@@ -114,6 +115,25 @@ entries-begin columns es = lines-begin (entry_line columns) (entry-begins column
 pub series_text-begins : (ss : List (List ℕ × Bool × ℕ)) → Begins (series_text ss)
 unfolding series_text
 series_text-begins ss = lines-begin series_line series-begins ss (count_line (length ss)) (count-begins (length ss))
+
+folded_line-begins : (scales : List ℕ) (e : Element) → Begins (folded_line scales e)
+unfolding folded_line
+folded_line-begins scales e =
+    let stamp = stamp_text e.0 in
+    let values = scaled_text scales e.1.values in
+    begins-append ((stamp ++ codes " ") ++ values) (codes "\n") (begins-append (stamp ++ codes " ") values (begins-append stamp (codes " ") (stamp_text-begins e.0)))
+
+pub folded-begin : (scales : List ℕ) (es : List Element) → Begins (folded_text scales es)
+unfolding folded_text
+folded-begin scales es = lines-begin (folded_line scales) (folded_line-begins scales) es (count_line (length es)) (count-begins (length es))
+
+series_folded_line-begins : (scales : List ℕ) (s : List ℕ × Row) → Begins (series_folded_line scales s)
+unfolding series_folded_line
+series_folded_line-begins scales s = record { first = 39; rest = _; is = refl; other = λ e. omega (arith, e) }
+
+pub series_folded-begin : (scales : List ℕ) (ss : List (List ℕ × Row)) → Begins (series_folded_text scales ss)
+unfolding series_folded_text
+series_folded-begin scales ss = lines-begin (series_folded_line scales) (series_folded_line-begins scales) ss (count_line (length ss)) (count-begins (length ss))
 
 pub refusal-apart : (refusal : Refusal) → IsApart (refusal_line refusal)
 unfolding refusal_line digits

@@ -1,9 +1,10 @@
 -- Lists by their elements: what filters and maps keep of them, and what is known of those that rise.
 use Rattle.std.specs.Prelude.{AllPairs, Contains, int_lt}
-use Rattle.std.proofs.Common.{◌≡◌, ℕ, zero, suc, ◌≤◌, ◌⊎◌, Bool, true, false, cond, not, ◌&&◌, Option, Some, None, List, [], ◌∷◌, length, map, filter, filter_map, slice_get, refl, sym, ap, subst, ◌∙◌, arith, inl, inr, ℤ, ◌<ℤ◌, ◌≤ℤ◌}
+use Rattle.std.proofs.Common.{◌≡◌, ℕ, zero, suc, ◌≤◌, ◌⊎◌, Bool, true, false, cond, not, ◌&&◌, Option, Some, None, List, [], ◌∷◌, length, map, filter, filter_map, slice_get, get_or, refl, sym, ap, subst, ◌∙◌, arith, inl, inr, ℤ, ◌<ℤ◌, ◌≤ℤ◌}
 use Rattle.std.specs.List.{cons_option}
 use Rattle.std.specs.Option.{option_to_list}
 use Rattle.std.proofs.lemmas.Int.{ints}
+use Rattle.std.proofs.lemmas.List.{get_or_default}
 use Rattle.std.proofs.lemmas.List.Elements.{All-map}
 use Rattle.std.proofs.lemmas.List.Kept.{AllPairs-cons}
 use Rattle.ts_calendar.proofs.StampLemmas.{int_lt_yes, int_lt_no, int_lt-false}
@@ -149,6 +150,41 @@ front_kept p closed (x ∷ xs) n s rise is = by (p x) refl n is (λ m. front_kep
     by false off m is more =
         let there = among_filtered p xs s (among_place (filter p xs) m s is) in
         absurd (let no = sym off ∙ closed x s (first_least x xs s rise there.0) there.1 in cc)
+
+-- and each that passes keeps its place
+pub front_keeps : (p : ℤ → Bool) → ((a b : ℤ) → a <ℤ b → p b ≡ true → p a ≡ true) → (xs : List ℤ) (n : ℕ) (s : ℤ) → Rise xs → slice_get xs n ≡ Some s → p s ≡ true
+    → slice_get (filter p xs) n ≡ Some s
+front_keeps p closed [] n s rise is passes = is
+front_keeps p closed (x ∷ xs) zero s rise is passes =
+    let same : x ≡ s = cc in
+    ap (λ (b : Bool). slice_get (cond b (x ∷ filter p xs) (filter p xs)) 0) (ap p same ∙ passes) ∙ is
+front_keeps p closed (x ∷ xs) (suc n) s rise is passes =
+    let before = first_least x xs s rise (among_place xs n s is) in
+    ap (λ (b : Bool). slice_get (cond b (x ∷ filter p xs) (filter p xs)) (suc n)) (closed x s before passes)
+    ∙ front_keeps p closed xs n s (rest_rises x xs rise) is passes
+
+-- what is made of them, each at its number, rises too
+module _ {Y : Type 0} (at : Y → ℤ) (f : ℤ → Option Y) (same : (x : ℤ) (y : Y) → f x ≡ Some y → at y ≡ x) where
+  abbrev RiseAt : List Y → Type 0
+  RiseAt ys = AllPairs (λ a b. at a <ℤ at b) ys
+
+  taken_later : (x : ℤ) (xs : List ℤ) (y z : Y) → Rise (x ∷ xs) → f x ≡ Some y → Among z (filter_map f xs) → at y <ℤ at z
+  taken_later x xs y z rise some there =
+      let from = among_came f xs z there in
+      let low = first_least x xs from.0 rise from.1 in
+      subst (λ (t : ℤ). t <ℤ at z) (sym (same x y some)) (subst (λ (t : ℤ). x <ℤ t) (sym (same from.0 z from.2)) low)
+
+  pub taken_rise : (xs : List ℤ) → Rise xs → RiseAt (filter_map f xs)
+  taken_rise [] rise = λ i j d low within. absurd (omega (arith, within))
+  taken_rise (x ∷ xs) rise = by (f x) refl (taken_rise xs (rest_rises x xs rise))
+    where
+      by : (o : Option Y) → f x ≡ o → RiseAt (filter_map f xs) → RiseAt (cons_option o (filter_map f xs))
+      by None none more = more
+      by (Some y) some more = AllPairs-cons (λ a b. at a <ℤ at b) y (filter_map f xs)
+          (λ k d within.
+          let ys = filter_map f xs in
+          let z = get_or ys k d in
+          taken_later x xs y z rise some (among_from ys z (k, within, get_or_default ys k z d within))) more
 
 -- none of them passes
 pub none_kept : (p : ℤ → Bool) (xs : List ℤ) → ((x : ℤ) → Among x xs → p x ≡ false) → filter p xs ≡ []

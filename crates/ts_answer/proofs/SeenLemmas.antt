@@ -1,6 +1,6 @@
 -- The elements of a series that are seen: each is found at its stamp, their stamps rise, and the last stands last.
-use Rattle.std.specs.Prelude.{All, AllPairs}
-use Rattle.std.proofs.Common.{◌≡◌, ℕ, suc, ◌-◌, Bool, true, false, cond, not, T, Option, Some, List, [], ◌∷◌, length, get_or, refl, sym, ap, subst, ◌∙◌, arith, inl, inr, ℤ, ◌<ℤ◌, ◌≤ℤ◌}
+use Rattle.std.specs.Prelude.{All, AllPairs, int_lt}
+use Rattle.std.proofs.Common.{◌≡◌, ℕ, suc, ◌-◌, Bool, true, false, cond, not, T, Option, Some, None, List, [], ◌∷◌, length, get_or, refl, sym, ap, subst, ◌∙◌, arith, inl, inr, ℤ, ◌<ℤ◌, ◌≤ℤ◌}
 use Rattle.std.proofs.lemmas.Bool.{cases_lt}
 use Rattle.std.proofs.lemmas.Int.{ints}
 use Rattle.std.proofs.lemmas.List.Elements.{All-nil, All-cons}
@@ -15,13 +15,13 @@ use Rattle.std.specs.declared.cmp.Ordering.TheVariants.{Less, Equal, Greater}
 use Rattle.std.specs.Ordering.{int_cmp, int_eq, is_eq, is_lt}
 use Rattle.ts_row.specs.Row.{Row}
 use Rattle.ts_row.specs.Element.{Element, seen}
-use Rattle.ts_calendar.proofs.StampLemmas.{int_lt_no}
+use Rattle.ts_calendar.proofs.StampLemmas.{int_lt_no, int_lt-false}
 use Rattle.ts_irregular.specs.Edit.{last_of}
 use Rattle.ts_entry.specs.Reading.{is_reached}
 use Rattle.ts_model.specs.Catalogue.{Elements, Series}
-use Rattle.ts_answer.specs.ReadingLaws.{IsSeenAt}
+use Rattle.ts_answer.specs.ReadingLaws.{IsSeenAt, IsReached}
 use Rattle.ts_answer.proofs.PlacedLemmas.{first, second}
-use Rattle.ts_answer.proofs.RowLemmas.{Among, among_contains, among_filter, among_filtered, not_false}
+use Rattle.ts_answer.proofs.RowLemmas.{Among, among_contains, among_place, among_filter, among_filtered, not_false}
 
 -- elements whose stamps rise strictly
 abbrev pub AreLater : List Element → Type 0
@@ -117,3 +117,16 @@ module _ (es : List Element) (f : Element) (later : AreLater es) (there : Among 
       let after = not_after_last in
       ap (λ (o : Option Element). is_reached o start) (slice_get-get_or es (length es - 1) f (omega (arith, within)))
       ∙ ap not (int_lt_no (get_or es (length es - 1) f).0 start (omega (arith, ints, after, before)))
+
+-- and what is reached isn't later than one that is seen
+pub reached_by : (s : Series) (start : ℤ) → is_reached (last_of (seen (entries s.elements))) start ≡ true → IsReached s start
+reached_by s start is = by (last_of (seen (entries s.elements))) refl is
+  where
+    by : (o : Option Element) → last_of (seen (entries s.elements)) ≡ o → is_reached o start ≡ true → IsReached s start
+    by None none never = absurd (cc)
+    by (Some e) last yes_ = record {
+      last = e.0;
+      row = e.1;
+      at = seen_there s e.0 e.1 (among_place (seen (entries s.elements)) (length (seen (entries s.elements)) - 1) e last);
+      until = int_lt-false e.0 start (not_false (int_lt e.0 start) yes_);
+    }

@@ -1,3 +1,4 @@
+pub mod AggregateLaws
 pub mod Aggregates
 pub mod Answer
 pub mod CarriedOut

@@ -1,6 +1,6 @@
 -- What the laws of answers say of readings: of a series between two stamps, of its ends and its offsets, of two series as one, and of one
 -- against itself.
-use Rattle.std.specs.Prelude.{◌≡◌, ℕ, ◌≤◌, ℤ, pos, ◌+ℤ◌, ◌≤ℤ◌, ◌<ℤ◌, false, Option, Some, None, Ok, Err, List, [], ◌++◌, length, AllPairs, Contains, ◌⊎◌}
+use Rattle.std.specs.Prelude.{◌≡◌, ℕ, ◌-◌, ◌≤◌, take, drop, unsigned_abs, ℤ, pos, ◌+ℤ◌, ◌≤ℤ◌, ◌<ℤ◌, false, Option, Some, None, Ok, Err, List, [], ◌++◌, length, AllPairs, Contains, ◌⊎◌}
 use Rattle.std.specs.FinMap.{get}
 use Rattle.ts_base.specs.declared.refusal.Refusal.TheVariants as refusals
 use Rattle.ts_row.specs.declared.kind.Column.{Column}
@@ -24,6 +24,13 @@ pub record IsSeenAt (s : Series) (stamp : ℤ) (row : Row) : Type 0 where
   pub there : get s.elements stamp ≡ Some row
   pub seen : row.hidden ≡ false
 
+-- an element that is seen stands at a stamp or later
+pub record IsReached (s : Series) (stamp : ℤ) : Type 0 where
+  pub last : ℤ
+  pub row : Row
+  pub at : IsSeenAt s last row
+  pub until : stamp ≤ℤ last
+
 -- where an element of a shape can stand: at each stamp, or at an on start that isn't before the origin
 abbrev pub CanStand : Shape → ℤ → Type 0
 CanStand shapes.Irregular stamp = Unit {0}
@@ -42,14 +49,16 @@ ArePadded (shapes.Regular grid) s from to rows =
     (start last : ℤ) (row : Row) → IsSeenAt s last row → CanStand (shapes.Regular grid) start → start ≤ℤ last → from ≤ℤ start → start ≤ℤ to
     → (o : Option Row) × Contains rows (start, o)
 
--- Entries are what is read of a series from one stamp to another: their stamps rise strictly and lie between the two, those with an element
--- have one that is seen, and each that is seen and lies between the two is among them.
+-- Entries are what is read of a series from one stamp to another: their stamps rise strictly and lie between the two, those with an
+-- element have one that is seen, and each that is seen and lies between the two is among them. None without an element stands behind
+-- the last that is seen.
 pub record AreEntriesOf (s : Series) (shape : Shape) (from to : ℤ) (rows : List Entry) : Type 0 where
   pub rising : AllPairs (λ a b. a.0 <ℤ b.0) rows
   pub within : (e : Entry) → Contains rows e → (from ≤ℤ e.0) × (e.0 ≤ℤ to) × CanStand shape e.0
   pub theirs : (stamp : ℤ) (row : Row) → Contains rows (stamp, Some row) → IsSeenAt s stamp row
   pub each : (stamp : ℤ) (row : Row) → IsSeenAt s stamp row → CanStand shape stamp → from ≤ℤ stamp → stamp ≤ℤ to → Contains rows (stamp, Some row)
   pub padded : ArePadded shape s from to rows
+  pub reached : (stamp : ℤ) → Contains rows (stamp, None) → IsReached s stamp
 
 -- they are what a reply lists
 pub record ListsEntries (s : Series) (shape : Shape) (from to : ℤ) (cat : Catalogue) (answered : Answered) : Type 0 where
@@ -94,11 +103,15 @@ pub record EndsAreListed : Type 0 where
   pub last : (cat : Catalogue) (answered : Answered) (key : List ℕ) (s : Series) → get cat.series key ≡ Some s
       → outcome (Ok (commands.GetLastElem key)) cat ≡ Ok answered → ListsEnd (λ stamp other. other ≤ℤ stamp) s cat answered
 
--- a reply lists an entry at the on start of an offset, or none
+-- A reply lists one entry, at the on start of an offset, if an element that is seen stands there or later, or else none. It has the element
+-- that is seen there, if there is one.
 pub record ListsOffset (grid : GridPlan) (n : ℕ) (s : Series) (cat : Catalogue) (answered : Answered) : Type 0 where
   pub rows : List Entry
   pub one : length rows ≤ 1
-  pub at : (e : Entry) → Contains rows e → stamp_of grid n ≡ Some e.0
+  pub at : (e : Entry) → Contains rows e → (stamp_of grid n ≡ Some e.0) × IsReached s e.0
+  pub listed : (start : ℤ) → stamp_of grid n ≡ Some start → IsReached s start → (o : Option Row) × Contains rows (start, o)
+  pub theirs : (stamp : ℤ) (row : Row) → Contains rows (stamp, Some row) → IsSeenAt s stamp row
+  pub each : (stamp : ℤ) (row : Row) → stamp_of grid n ≡ Some stamp → IsSeenAt s stamp row → Contains rows (stamp, Some row)
   pub lines : answered ≡ (entries_text (columns_of cat s) rows, cat)
 
 -- on a grid GetNthElem speaks of an offset
@@ -162,11 +175,12 @@ pub record IsLagged (grid : GridPlan) (by : ℤ) (s : Series) (stamp : ℤ) (row
   pub there : stamp_of grid source ≡ Some stood
   pub seen : IsSeenAt s stood row
 
--- a reply lists all rows that stand so, up to the last element
+-- a reply lists all rows that stand so, up to the last element, the stamps strictly rising
 pub record ListsLagged (grid : GridPlan) (by : ℤ) (s : Series) (cat : Catalogue) (answered : Answered) : Type 0 where
   pub rows : List Element
-  pub theirs : (stamp : ℤ) (row : Row) → Contains rows (stamp, row) → IsLagged grid by s stamp row
-  pub each : (stamp last : ℤ) (row final : Row) → IsLagged grid by s stamp row → IsSeenAt s last final → stamp ≤ℤ last → Contains rows (stamp, row)
+  pub rising : AllPairs (λ a b. a.0 <ℤ b.0) rows
+  pub theirs : (stamp : ℤ) (row : Row) → Contains rows (stamp, row) → IsLagged grid by s stamp row × IsReached s stamp
+  pub each : (stamp : ℤ) (row : Row) → IsLagged grid by s stamp row → IsReached s stamp → Contains rows (stamp, row)
   pub lines : answered ≡ (elements_text (columns_of cat s) rows, cat)
 
 -- Lag lists them
@@ -175,3 +189,30 @@ LagsAreByOffsets =
     (cat : Catalogue) (answered : Answered) (key : List ℕ) (by : ℤ) (s : Series) (grid : GridPlan) → get cat.series key ≡ Some s
     → shape_of cat s.kind ≡ Some (shapes.Regular grid) → IsLaid grid.calendar → outcome (Ok (commands.Lag key by)) cat ≡ Ok answered
     → ListsLagged grid by s cat answered
+
+-- no entry stands behind this stamp, since no element that is seen does
+abbrev pub NoneBehind : Series → ℤ → Type 0
+NoneBehind s last = (stamp : ℤ) → HasSeen s stamp → stamp ≤ℤ last
+
+-- no entry stands before this stamp: no element that is seen, or on a grid no on start from the origin on
+abbrev pub NoneBefore : Series → Shape → ℤ → Type 0
+NoneBefore s shapes.Irregular first = (stamp : ℤ) → HasSeen s stamp → first ≤ℤ stamp
+NoneBefore s (shapes.Regular grid) first = first ≤ℤ grid.origin
+
+-- one reply lists entries, and another those of them that are picked
+pub record ListsPicked (pick : List Entry → List Entry) (cat : Catalogue) (whole part : Answered) : Type 0 where
+  pub columns : List Column
+  pub rows : List Entry
+  pub lines : whole ≡ (entries_text columns rows, cat)
+  pub picked : part ≡ (entries_text columns (pick rows), cat)
+
+-- ClipCount lists the first so many of the entries that Clip lists from a stamp to the end of a series; or, where the number is negative, the
+-- last so many of those that Clip lists from its beginning to the stamp
+pub record CountedClipsAreParts : Type 0 where
+  pub first : (cat : Catalogue) (whole : Answered) (key : List ℕ) (stamp last n : ℤ) (s : Series) (shape : Shape) → get cat.series key ≡ Some s
+      → shape_of cat s.kind ≡ Some shape → pos 0 ≤ℤ n → NoneBehind s last → outcome (Ok (commands.Clip key stamp last)) cat ≡ Ok whole
+      → (part : Answered) × (outcome (Ok (commands.ClipCount key stamp n)) cat ≡ Ok part) × ListsPicked (take (unsigned_abs n)) cat whole part
+  pub last : (cat : Catalogue) (whole : Answered) (key : List ℕ) (first stamp n : ℤ) (s : Series) (shape : Shape) → get cat.series key ≡ Some s
+      → shape_of cat s.kind ≡ Some shape → n <ℤ pos 0 → NoneBefore s shape first → outcome (Ok (commands.Clip key first stamp)) cat ≡ Ok whole
+      → (part : Answered) × (outcome (Ok (commands.ClipCount key stamp n)) cat ≡ Ok part)
+      × ListsPicked (λ rows. drop (length rows - unsigned_abs n) rows) cat whole part

@@ -3,12 +3,13 @@
 //! they are tried (`specs/Refusals`). A command is carried out on what is in memory and on pages, whatever keeps them
 //! (`specs/View`), and gives its effect in memory, applied once the pages are kept (`specs/CarriedOut`). A test in code says
 //! what is tried (`specs/Tried`). What follows of the answers is proved apart (`specs/Laws`, `specs/SeriesLaws` of series and
-//! their edits, and `specs/ReadingLaws` of what is read of them).
+//! their edits, `specs/ReadingLaws` of what is read of them, and `specs/AggregateLaws` of what is folded).
 //! Nothing here speaks of a device, a journal or a commit. Stands on ts_command for commands, on ts_pattern, ts_calendar and
 //! ts_offset for what patterns, calendars and grids are, on ts_model and ts_layout for the catalogue of a layout. Read
 //! `specs/Answer.antt`, `specs/View.antt`, then `specs/CarriedOut.antt`.
 #![tactic(auto)]
 
+mod aggregate_laws;
 mod effect;
 mod laws;
 mod reading_laws;
@@ -16,6 +17,10 @@ mod stop;
 #[cfg(test)]
 mod tests;
 
+pub use aggregate_laws::{
+    a_count_is_of_elements, a_range_is_one_row, a_row_is_of_an_interval, each_series_has_its_range,
+    others_play_no_part_in_a_range,
+};
 pub use effect::Effect;
 pub use laws::{
     a_calendar_in_use_stays, a_deletion_takes_what_it_names, a_made_calendar_is_valid,
@@ -25,8 +30,8 @@ pub use laws::{
     reading_changes_nothing, replies_and_the_memory_line_are_apart, what_is_not_written_stays,
 };
 pub use reading_laws::{
-    a_clip_lists_the_entries_between, a_count_is_of_what_is_listed, a_join_is_by_stamps,
-    a_lag_is_by_offsets, a_number_is_an_offset, an_end_has_none_beyond,
-    an_intersection_is_part_of_the_union,
+    a_clip_lists_the_entries_between, a_count_is_of_what_is_listed,
+    a_counted_clip_is_part_of_a_clip, a_join_is_by_stamps, a_lag_is_by_offsets,
+    a_number_is_an_offset, an_end_has_none_beyond, an_intersection_is_part_of_the_union,
 };
 pub use stop::Stop;

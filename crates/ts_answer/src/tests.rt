@@ -21,11 +21,17 @@ fn the_laws_are_called(_rt: HostRuntime) -> Result<(), Fail> {
     lines_are_printed_so();
     a_clip_lists_the_entries_between();
     a_count_is_of_what_is_listed();
+    a_counted_clip_is_part_of_a_clip();
     an_end_has_none_beyond();
     a_number_is_an_offset();
     an_intersection_is_part_of_the_union();
     a_lag_is_by_offsets();
     a_join_is_by_stamps();
+    a_range_is_one_row();
+    others_play_no_part_in_a_range();
+    each_series_has_its_range();
+    a_row_is_of_an_interval();
+    a_count_is_of_elements();
     Ok(())
 }
 

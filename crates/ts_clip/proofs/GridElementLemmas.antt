@@ -1,5 +1,5 @@
 -- The elements of a range of offsets among the entries of cells and of pages.
-use Rattle.std.proofs.Common.{◌≡◌, ◌⊎◌, ℕ, zero, suc, ◌+◌, ◌-◌, ◌<◌, ◌≤◌, max, min, true, false, ℤ, pos, Option, Some, None, List, [], ◌∷◌, ◌++◌, length, take, drop, get_or, refl, sym, ap, ◌∙◌, inl, inr, arith, append-nil}
+use Rattle.std.proofs.Common.{◌≡◌, ℕ, zero, suc, ◌+◌, ◌-◌, ◌<◌, ◌≤◌, max, min, true, false, ℤ, pos, Option, Some, None, List, [], ◌∷◌, ◌++◌, length, take, drop, get_or, refl, sym, ap, ◌∙◌, inl, inr, arith, append-nil}
 use Rattle.std.specs.List.{cons_option, slice_get}
 use Rattle.std.specs.Option.{option_map}
 use Rattle.std.proofs.lemmas.Bool.{cases_lt}
@@ -30,7 +30,7 @@ use Rattle.ts_entry.specs.Entry.{Entry, element_of, elements_of}
 use Rattle.ts_clip.specs.Numbered.{numbered, seen_in}
 use Rattle.ts_clip.proofs.GridStartLemmas.{take_parts}
 use Rattle.ts_clip.proofs.GridPlaceLemmas.{PageAt}
-use Rattle.ts_clip.proofs.GridWithinLemmas.{between_before, between_behind, between_in, seen_within, within_both, within_cells, within_none}
+use Rattle.ts_clip.proofs.GridWithinLemmas.{between_before, between_in, none_here, own_here, seen_within, within_both, within_cells, within_none}
 use Rattle.ts_clip.proofs.GridStampLemmas.{seen_stamped, seen_starts}
 use Rattle.ts_clip.proofs.GridNumberLemmas.{numbered_same}
 use Rattle.ts_clip.proofs.GridSeenLemmas.{by_hidden, row_hidden, row_shown, seen_both}
@@ -128,36 +128,12 @@ module _ (grid : GridPlan) where
   -- the elements of a range that a page has cells for
   module _ (lower upper base own_base room from to : ℕ) (cells : List Cell) (long : length cells ≡ room) (same : base ≡ own_base) (from_is : from ≡ max lower base) (to_is : to ≡ min upper (base + room)) where
     pub page_none : to ≤ from → stamped grid (seen (within lower upper (elements_from own_base cells))) ≡ []
-    page_none turned =
-        ap (λ (l : List OffsetElement). stamped grid (seen l))
-        (within_cells lower upper 0 0 own_base cells (λ n above below. out n (aside n (omega (arith, same, above)) (omega (arith, long, same, below)))) ∙ within_none 0 0 (elements_from own_base cells) (omega arith))
-      where
-        none_in : (n : ℕ) → is_between 0 0 n ≡ false
-        none_in n = grind (arith, nat_tests)
-
-        aside : (n : ℕ) → base ≤ n → n < base + room → (n < lower) ⊎ (upper ≤ n)
-        aside n above below = elim (cases_lt n lower) [
-          | inl low ↦ inl low
-          | inr high ↦ inr (omega (arith, from_is, to_is, turned, above, below, high))
-        ]
-
-        out : (n : ℕ) → (n < lower) ⊎ (upper ≤ n) → is_between lower upper n ≡ is_between 0 0 n
-        out n (inl low) = between_before lower upper n low ∙ sym (none_in n)
-        out n (inr high) = between_behind lower upper n high ∙ sym (none_in n)
+    page_none turned = ap (λ (l : List OffsetElement). stamped grid (seen l)) (none_here lower upper base own_base room from to cells long same from_is to_is turned)
 
     pub page_taken : from < to → elements_of (numbered (λ i. seen_in (cell_at cells i)) (from - base) (take (to - base - (from - base)) (drop from (starts_of grid)))) ≡ stamped grid (seen (within lower upper (elements_from own_base cells)))
     page_taken order =
         page_elements own_base (from - base) (to - base - (from - base)) from to cells (omega (arith, same, from_is)) (omega (arith, from_is, order)) (omega (arith, long, from_is, to_is, order))
-        ∙ ap (λ (l : List OffsetElement). stamped grid (seen l)) (within_cells from to lower upper own_base cells (λ n above below. agree n (omega (arith, same, above)) (omega (arith, long, same, below))))
-      where
-        agree : (n : ℕ) → base ≤ n → n < base + room → is_between from to n ≡ is_between lower upper n
-        agree n above below = elim (cases_lt n lower) [
-          | inl low ↦ between_before from to n (omega (arith, from_is, low)) ∙ sym (between_before lower upper n low)
-          | inr high ↦ elim (cases_lt n upper) [
-            | inl inside ↦ between_in from to n (omega (arith, from_is, above, high)) (omega (arith, to_is, below, inside)) ∙ sym (between_in lower upper n high inside)
-            | inr behind ↦ between_behind from to n (omega (arith, to_is, behind)) ∙ sym (between_behind lower upper n behind)
-          ]
-        ]
+        ∙ ap (λ (l : List OffsetElement). stamped grid (seen l)) (own_here lower upper base own_base room from to cells long same from_is to_is order)
 
 -- the elements of pages one after the other
 pub taken_both : (grid : GridPlan) (lower upper : ℕ) (xs ys : List OffsetElement) → stamped grid (seen (within lower upper (xs ++ ys))) ≡ stamped grid (seen (within lower upper xs)) ++ stamped grid (seen (within lower upper ys))

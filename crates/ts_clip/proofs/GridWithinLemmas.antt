@@ -1,5 +1,6 @@
--- The elements of a range of offsets: of two lists, of a range without offsets, of cells.
-use Rattle.std.proofs.Common.{◌≡◌, ℕ, ◌+◌, ◌<◌, ◌≤◌, Bool, true, false, cond, not, Some, None, List, [], ◌∷◌, ◌++◌, length, refl, sym, ap, ◌∙◌, arith}
+-- The elements of a range of offsets: of two lists, of a range without offsets, of cells, of one page.
+use Rattle.std.proofs.Common.{◌≡◌, ◌⊎◌, ℕ, ◌+◌, ◌<◌, ◌≤◌, max, min, Bool, true, false, cond, not, Some, None, List, [], ◌∷◌, ◌++◌, length, refl, sym, ap, ◌∙◌, inl, inr, arith}
+use Rattle.std.proofs.lemmas.Bool.{cases_lt}
 use Rattle.std.proofs.lemmas.Bool.Decides.{nat_tests}
 use Rattle.std.proofs.lemmas.List.Elements.{filter-append}
 use Rattle.ts_regular.specs.Cell.{Cell}
@@ -54,3 +55,34 @@ seen_within lower upper (e ∷ es) = one (not e.1.hidden) (is_between lower uppe
     one true false first second rest = rest ∙ ap (λ (k : Bool). cond k (e ∷ within lower upper (seen es)) (within lower upper (seen es))) second
     one false true first second rest = ap (λ (k : Bool). cond k (e ∷ seen (within lower upper es)) (seen (within lower upper es))) (sym first) ∙ rest
     one false false first second rest = rest
+
+-- the elements of a range that a page has cells for
+module _ (lower upper base own_base room from to : ℕ) (cells : List Cell) (long : length cells ≡ room) (same : base ≡ own_base) (from_is : from ≡ max lower base) (to_is : to ≡ min upper (base + room)) where
+  pub none_here : to ≤ from → within lower upper (elements_from own_base cells) ≡ []
+  none_here turned =
+      within_cells lower upper 0 0 own_base cells (λ n above below. out n (aside n (omega (arith, same, above)) (omega (arith, long, same, below)))) ∙ within_none 0 0 (elements_from own_base cells) (omega arith)
+    where
+      none_in : (n : ℕ) → is_between 0 0 n ≡ false
+      none_in n = grind (arith, nat_tests)
+
+      aside : (n : ℕ) → base ≤ n → n < base + room → (n < lower) ⊎ (upper ≤ n)
+      aside n above below = elim (cases_lt n lower) [
+        | inl low ↦ inl low
+        | inr high ↦ inr (omega (arith, from_is, to_is, turned, above, below, high))
+      ]
+
+      out : (n : ℕ) → (n < lower) ⊎ (upper ≤ n) → is_between lower upper n ≡ is_between 0 0 n
+      out n (inl low) = between_before lower upper n low ∙ sym (none_in n)
+      out n (inr high) = between_behind lower upper n high ∙ sym (none_in n)
+
+  pub own_here : from < to → within from to (elements_from own_base cells) ≡ within lower upper (elements_from own_base cells)
+  own_here order = within_cells from to lower upper own_base cells (λ n above below. agree n (omega (arith, same, above)) (omega (arith, long, same, below)))
+    where
+      agree : (n : ℕ) → base ≤ n → n < base + room → is_between from to n ≡ is_between lower upper n
+      agree n above below = elim (cases_lt n lower) [
+        | inl low ↦ between_before from to n (omega (arith, from_is, low)) ∙ sym (between_before lower upper n low)
+        | inr high ↦ elim (cases_lt n upper) [
+          | inl inside ↦ between_in from to n (omega (arith, from_is, above, high)) (omega (arith, to_is, below, inside)) ∙ sym (between_in lower upper n high inside)
+          | inr behind ↦ between_behind from to n (omega (arith, to_is, behind)) ∙ sym (between_behind lower upper n behind)
+        ]
+      ]

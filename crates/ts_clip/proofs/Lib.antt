@@ -4,6 +4,7 @@ pub mod ChainPageLemmas
 pub mod ChainPassedLemmas
 pub mod ChainRangeLemmas
 pub mod ChainReadingLemmas
+pub mod ChainRowLemmas
 pub mod ChainToldLemmas
 pub mod GridAmongLemmas
 pub mod GridElementLemmas
@@ -15,7 +16,9 @@ pub mod GridPageLemmas
 pub mod GridPlaceLemmas
 pub mod GridReadLemmas
 pub mod GridReadingLemmas
+pub mod GridRowLemmas
 pub mod GridSeenLemmas
 pub mod GridStampLemmas
 pub mod GridStartLemmas
 pub mod GridWithinLemmas
+pub mod RowRunLemmas

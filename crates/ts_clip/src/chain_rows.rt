@@ -1,22 +1,25 @@
 // The rows of an irregular series, a page at a time.
-ghost use Rattle.std.specs.Prelude.{◌<◌, All, IfOk, map};
+ghost use Rattle.std.specs.Prelude.{◌≡◌, ◌-◌, ◌<◌, ◌≤◌, All, IfOk, OnOk, [], ◌∷◌, length, map, take, drop};
+ghost use Rattle.ts_cells.specs.Cell.{page_room};
 ghost use Rattle.ts_space.specs.Directory.{places_of};
 ghost use Rattle.ts_offset.specs.declared.shape.Shape.TheVariants.{Irregular};
 ghost use Rattle.ts_irregular.specs.Call.{Reads};
+ghost use Rattle.ts_irregular.specs.Call as irregular;
 ghost use Rattle.ts_chain.specs.Places.{ArePlaces, CanBeRead};
 ghost use Rattle.ts_chain.specs.Chain.{all_in};
 ghost use Rattle.ts_chain.specs.Range.{within_range};
-ghost use Rattle.ts_clip.specs.Chain.{HoldsOfPages};
+ghost use Rattle.ts_clip.specs.Chain.{HoldsOfMore, HoldsOfPages};
 ghost use Rattle.ts_clip.specs.Series.{IsTold};
 
 use crate::chain_cells::{FRONT, range_on};
 use crate::chain_range::places_between;
+use std::alloc::AllocError;
 use ts_base::{Stamp, StoreFault};
 use ts_cells::cell_size;
 use ts_entry::RowVisitor;
 use ts_irregular::count_told;
 use ts_page::{HEAD, Page, Pages};
-use ts_row::Shelf;
+use ts_row::{RowType, Shelf};
 use ts_space::{Place, Space};
 
 /// `rows`.
@@ -59,12 +62,52 @@ fn rows_on_pages<P: Pages, V: RowVisitor>(
     ensures undisturbed { P.undisturbed pages.old pages.new }
 {
     for place in places {
-        pages.get(place.page, page)?;
-        let count = count_told(shelf, place, page);
-        let behind = &page.bytes[HEAD..];
-        let (first, last) = range_on(shelf.kind, behind, count, from, to);
-        let size = cell_size(shelf.kind);
-        visitor.rows(shelf.kind, &behind[size * first..size * last], FRONT)?;
+        rows_on_page(pages, page, shelf, place, from, to, visitor)?;
     }
     Ok(())
+}
+
+// Hands on those of one page.
+fn rows_on_page<P: Pages, V: RowVisitor>(
+    pages: &mut P,
+    page: &mut Page,
+    shelf: &Shelf,
+    place: &Place,
+    from: Stamp,
+    to: Stamp,
+    visitor: &mut V,
+) -> Result<(), StoreFault>
+    requires readable { CanBeRead (P.contents pages.old) place.now }
+    ensures read { IfOk result (λ done. irregular.IsTold P.tells shelf.now.series shelf.now.kind.now.columns (place.now ∷ [])
+        (P.contents pages.old)
+        (λ es. V.took shelf.now.kind.now.columns visitor.old (map (λ e. e.1) (within_range from to es)) visitor.new)) }
+    ensures call { Reads P.tells result (P.contents pages.old) (P.contents pages.new) }
+    ensures undisturbed { P.undisturbed pages.old pages.new }
+{
+    pages.get(place.page, page)?;
+    let count = count_told(shelf, place, page);
+    let behind = &page.bytes[HEAD..];
+    let (first, last) = range_on(shelf.kind, behind, count, from, to);
+    rows_between(shelf.kind, behind, first, last, visitor)?;
+    Ok(())
+}
+
+// Hands on the rows in the cells from one index on and before another.
+fn rows_between<V: RowVisitor>(
+    kind: &RowType,
+    behind: &[u8],
+    first: usize,
+    last: usize,
+    visitor: &mut V,
+) -> Result<(), AllocError>
+    requires size { length behind.now ≡ 4064 }
+    requires room { last ≤ page_room kind.now.columns }
+    ensures { OnOk result (HoldsOfMore kind.now.columns last behind.now
+        (λ es. V.took kind.now.columns visitor.old (map (λ e. e.1) (take (last - first) (drop first es))) visitor.new)) }
+{
+    if last <= first {
+        return Ok(());
+    }
+    let size = cell_size(kind);
+    visitor.rows(kind, &behind[size * first..size * last], FRONT)
 }

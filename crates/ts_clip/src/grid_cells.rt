@@ -13,8 +13,8 @@ use ts_offset::StartsFrom;
 use ts_regular::regular_room;
 use ts_row::{Row, RowType};
 
-// How many bytes a cell has.
-fn cell_size(kind: &RowType) -> usize
+/// How many bytes a cell has.
+pub(crate) fn cell_size(kind: &RowType) -> usize
     ensures value { result ≡ cell_size kind.now.columns }
     ensures bound { result ≤ 1001 }
 {

@@ -1,22 +1,35 @@
 // The rows of a regular series, a page at a time.
-ghost use Rattle.std.specs.Prelude.{◌<◌, IfOk, map};
+ghost use Rattle.std.specs.Prelude.{◌≡◌, ◌-◌, ◌<◌, ◌≤◌, ◌^◌, All, IfOk, OnOk, List, length, map, take, drop};
+ghost use Rattle.ts_space.specs.Place.{IsRising};
 ghost use Rattle.ts_space.specs.Directory.{places_of};
 ghost use Rattle.ts_calendar.specs.Intervals.{IsLaid};
 ghost use Rattle.ts_offset.specs.declared.shape.Shape.TheVariants.{Regular};
-ghost use Rattle.ts_regular.specs.Places.{ArePlaces};
+ghost use Rattle.ts_regular.specs.Cell.{Cell, regular_room};
+ghost use Rattle.ts_regular.specs.Offsets.{elements_from};
+ghost use Rattle.ts_regular.specs.RegularPage.{AreCells, behind_head};
+ghost use Rattle.ts_regular.specs.Places.{ArePlaces, CanBeRead, all_in};
+ghost use Rattle.ts_regular.specs.Range.{within};
+ghost use Rattle.ts_regular.specs.OnePage.{IsToldOn};
+ghost use Rattle.ts_regular.specs.Call as regular;
 ghost use Rattle.ts_irregular.specs.Call.{Reads};
 ghost use Rattle.ts_chain.specs.Range.{within_range};
+ghost use Rattle.ts_entry.specs.Rows.{rows_in};
 ghost use Rattle.ts_clip.specs.Series.{IsTold};
 
-use crate::grid_offsets::offsets_of;
+use crate::grid_cells::cell_size;
+use crate::grid_offsets::{Offsets, offsets_of};
 use crate::grid_page::{places_between, read_base};
+use std::alloc::AllocError;
 use ts_base::{Stamp, StoreFault};
 use ts_entry::RowVisitor;
 use ts_offset::Grid;
 use ts_page::{HEAD, Page, Pages};
 use ts_regular::regular_room;
-use ts_row::Shelf;
-use ts_space::Space;
+use ts_row::{RowType, Shelf};
+use ts_space::{Place, Space};
+
+// What a cell has before its row: a byte that tells whether an element stands there.
+const FRONT: usize = 1;
 
 /// `rows`.
 pub(crate) fn grid_rows<P: Pages, V: RowVisitor>(
@@ -43,20 +56,81 @@ pub(crate) fn grid_rows<P: Pages, V: RowVisitor>(
         return Ok(());
     }
     let all = space.places(shelf.series);
-    for place in places_between(shelf.kind, all, offsets.lower, offsets.upper) {
-        let Some(base) = read_base(pages, page, shelf, place)? else {
-            continue;
-        };
-        let first = offsets.lower.max(base);
-        let stop = offsets.upper.min(base + regular_room(shelf.kind) as u64);
-        if stop <= first {
-            continue;
-        }
-        let size = shelf.kind.width() + 1;
-        let from = (first - base) as usize;
-        let to = (stop - base) as usize;
-        let behind = &page.bytes[HEAD..];
-        visitor.rows(shelf.kind, &behind[size * from..size * to], 1)?;
+    let places = places_between(shelf.kind, all, offsets.lower, offsets.upper);
+    rows_on_places(pages, page, shelf, places, offsets, visitor)
+}
+
+// Hands on those of some offsets on the pages of some places.
+fn rows_on_places<P: Pages, V: RowVisitor>(
+    pages: &mut P,
+    page: &mut Page,
+    shelf: &Shelf,
+    places: &[Place],
+    offsets: Offsets,
+    visitor: &mut V,
+) -> Result<(), StoreFault>
+    requires readable { All (CanBeRead (P.contents pages.old)) places.now }
+    requires rising { IsRising places.now }
+    requires limit { offsets.upper < 2 ^ 63 }
+    ensures took { OnOk result (regular.IsTold P.tells shelf.now.series shelf.now.kind.now.columns places.now (P.contents pages.old)
+        (λ ps. V.took shelf.now.kind.now.columns visitor.old (map (λ e. e.1) (within offsets.lower offsets.upper (all_in ps)))
+        visitor.new)) }
+    ensures call { Reads P.tells result (P.contents pages.old) (P.contents pages.new) }
+    ensures undisturbed { P.undisturbed pages.old pages.new }
+{
+    for place in places {
+        rows_on_page(pages, page, shelf, place, offsets, visitor)?;
     }
     Ok(())
+}
+
+// Hands on those on the page of a place.
+fn rows_on_page<P: Pages, V: RowVisitor>(
+    pages: &mut P,
+    page: &mut Page,
+    shelf: &Shelf,
+    place: &Place,
+    offsets: Offsets,
+    visitor: &mut V,
+) -> Result<(), StoreFault>
+    requires readable { CanBeRead (P.contents pages.old) place.now }
+    requires limit { offsets.upper < 2 ^ 63 }
+    ensures took { OnOk result (IsToldOn P.tells shelf.now.series shelf.now.kind.now.columns place.now (P.contents pages.old)
+        (λ p. V.took shelf.now.kind.now.columns visitor.old
+        (map (λ e. e.1) (within offsets.lower offsets.upper (elements_from p.0 p.1))) visitor.new)) }
+    ensures call { Reads P.tells result (P.contents pages.old) (P.contents pages.new) }
+    ensures undisturbed { P.undisturbed pages.old pages.new }
+{
+    let Some(base) = read_base(pages, page, shelf, place)? else {
+        return Ok(());
+    };
+    let first = offsets.lower.max(base);
+    let stop = offsets.upper.min(base + regular_room(shelf.kind) as u64);
+    if stop <= first {
+        return Ok(());
+    }
+    let behind = &page.bytes[HEAD..];
+    let from = (first - base) as usize;
+    let to = (stop - base) as usize;
+    rows_between(shelf.kind, behind, from, to, visitor)?;
+    Ok(())
+}
+
+// Hands on the rows in the cells from one number up to, not including, another.
+fn rows_between<V: RowVisitor>(
+    kind: &RowType,
+    behind: &[u8],
+    first: usize,
+    stop: usize,
+    visitor: &mut V,
+) -> Result<(), AllocError>
+    requires size { length behind.now ≡ 4064 }
+    requires order { first ≤ stop }
+    requires within { stop ≤ regular_room kind.now.columns }
+    ensures { OnOk result ((cells : List Cell) → AreCells kind.now.columns cells → length cells ≡ regular_room kind.now.columns
+        → behind.now ≡ behind_head kind.now.columns cells
+        → V.took kind.now.columns visitor.old (rows_in (take (stop - first) (drop first cells))) visitor.new) }
+{
+    let size = cell_size(kind);
+    visitor.rows(kind, &behind[size * first..size * stop], FRONT)
 }

@@ -1,15 +1,15 @@
 -- The command that a statement is read as has its form.
 use Rattle.std.proofs.Common.{◌≡◌, ℕ, ◌<◌, ◌≤◌, ◌^◌, List, [], ◌∷◌, length, length-append, Some, Ok, true, refl, ap, arith, ℤ, pos, neg_ℤ, int_le}
 use Rattle.ts_row.specs.declared.value.Literal.{Literal}
-use Rattle.ts_text.specs.Phrase.{Phrase, ◌>>=◌, give, a_sign, behind, pair, the_end}
+use Rattle.ts_text.specs.Phrase.{Phrase, ◌>>=◌, give, a_sign, behind, in_brackets, pair, triple, made, the_end}
 use Rattle.ts_text.specs.declared.token.TokenKind.{TokenKind}
 use Rattle.ts_text.specs.declared.token.TokenKind.TheVariants.{Word, Number, Text, Sign}
 use Rattle.ts_text.proofs.CallerLemmas.{Yields, Goes, Any, chain, shrinks_of, sign_shrinks, made_yields, bind-ok, pair-parts, token-found, unblanked-le}
 use Rattle.ts_tokens.specs.Tokens.{front}
 use Rattle.ts_tokens.specs.Text.{said}
 use Rattle.ts_command.specs.Form.{HasForm}
-use Rattle.ts_command.specs.Routines.{least_place, most_place}
-use Rattle.ts_command.specs.Grammar.{a_name, a_text, text_in, a_routine, a_name_call, a_names_call, a_name_text_call, a_join_call, a_name_range_call, a_name_stamp_whole_call, a_key_call, a_key_name_call, a_key_name_stamp_name_call, a_key_stamp_call, a_key_range_call, a_names_whole_call, a_key_stamp_values_call, a_name_columns_call, a_key_stamp_whole_call, a_key_whole_call, a_keys_range_call, of_name, of_key, of_stamp, of_row, of_text, of_join, of_range, of_clip, of_place, of_keys, arguments, a_call, a_command}
+use Rattle.ts_command.specs.Routines.{least_number, most_number}
+use Rattle.ts_command.specs.Grammar.{a_name, a_key, a_stamp, a_text, text_in, a_routine, a_name_call, a_names_call, a_name_text_call, a_join_call, a_name_range_call, a_name_stamp_whole_call, a_key_call, a_key_name_call, a_key_name_stamp_name_call, a_key_stamp_call, a_key_range_call, a_names_whole_call, a_key_stamp_values_call, a_name_columns_call, a_key_stamp_whole_call, a_key_whole_call, a_keys_range_call, a_text_key_range_call, a_text_name_range_call, a_text_name_key_range_call, of_name, of_key, of_stamp, of_row, of_text, of_join, of_range, of_clip, of_number, of_keys, arguments, a_call, a_command}
 use Rattle.ts_command.specs.declared.routine.Routine.{Routine}
 use Rattle.ts_command.specs.declared.routine.Routine.TheVariants as calls
 use Rattle.ts_command.specs.declared.routine.NameRoutine.{NameRoutine}
@@ -28,15 +28,15 @@ use Rattle.ts_command.specs.declared.routine.RangeRoutine.{RangeRoutine}
 use Rattle.ts_command.specs.declared.routine.RangeRoutine.TheVariants as in_range
 use Rattle.ts_command.specs.declared.routine.ClipRoutine.{ClipRoutine}
 use Rattle.ts_command.specs.declared.routine.ClipRoutine.TheVariants as clipping
-use Rattle.ts_command.specs.declared.routine.PlaceRoutine.{PlaceRoutine}
-use Rattle.ts_command.specs.declared.routine.PlaceRoutine.TheVariants as by_place
+use Rattle.ts_command.specs.declared.routine.NumberRoutine.{NumberRoutine}
+use Rattle.ts_command.specs.declared.routine.NumberRoutine.TheVariants as by_number
 use Rattle.ts_command.specs.declared.routine.PairRoutine.{PairRoutine}
 use Rattle.ts_command.specs.declared.routine.PairRoutine.TheVariants as of_pair
 use Rattle.ts_command.specs.declared.word.Joined.{Joined}
 use Rattle.ts_command.specs.declared.word.Joined.TheVariants.{Patterns, Calendars}
 use Rattle.ts_command.specs.declared.command.Command.{Command}
 use Rattle.ts_tokens.proofs.CallerLemmas.{front_laws, said-le}
-use Rattle.ts_command.proofs.FormLemmas.{IsName, IsKey, IsWithin, AreNames, name_yields, routine_yields, name_call_yields, names_call_yields, name_text_call_yields, join_call_yields, name_range_call_yields, name_stamp_whole_call_yields, key_call_yields, key_name_call_yields, key_name_stamp_name_call_yields, key_stamp_call_yields, key_range_call_yields, names_whole_call_yields, key_stamp_values_call_yields, name_columns_call_yields, key_stamp_whole_call_yields, key_whole_call_yields, keys_range_call_yields}
+use Rattle.ts_command.proofs.FormLemmas.{IsName, IsKey, IsWithin, AreNames, IsKeyRange, IsNameRange, IsNameAndKey, name_yields, key_range_yields, name_range_yields, name_key_range_yields, text_call_yields, routine_yields, name_call_yields, names_call_yields, name_text_call_yields, join_call_yields, name_range_call_yields, name_stamp_whole_call_yields, key_call_yields, key_name_call_yields, key_name_stamp_name_call_yields, key_stamp_call_yields, key_range_call_yields, names_whole_call_yields, key_stamp_values_call_yields, name_columns_call_yields, key_stamp_whole_call_yields, key_whole_call_yields, keys_range_call_yields}
 
 -- the commands of each group have their form
 of_name-form : (routine : NameRoutine) (name : List ℕ) → IsName name → HasForm (of_name routine name)
@@ -86,27 +86,42 @@ of_clip-form clipping.Clip key from to form = form
 of_clip-form clipping.ClipGetCount key from to form = form
 of_clip-form clipping.DelClip key from to form = form
 
-of_place-form : (routine : PlaceRoutine) (key : List ℕ) (place : ℤ) → IsKey key → IsWithin (least_place routine) (most_place routine) place → HasForm (of_place routine key place)
-of_place-form by_place.GetNthElem key index form within = (form, within.0, within.1)
-of_place-form by_place.Lag key by form within = (form, within.0, within.1)
+of_number-form : (routine : NumberRoutine) (key : List ℕ) (number : ℤ) → IsKey key → IsWithin (least_number routine) (most_number routine) number → HasForm (of_number routine key number)
+of_number-form by_number.GetNthElem key index form within = (form, within.0, within.1)
+of_number-form by_number.Lag key by form within = (form, within.0, within.1)
 
 of_keys-form : (routine : PairRoutine) (first second : List ℕ) (from to : ℤ) → IsKey first → IsKey second → HasForm (of_keys routine first second from to)
 of_keys-form of_pair.Union first second from to one other = (one, other)
 of_keys-form of_pair.Intersect first second from to one other = (one, other)
 
 -- 1 lies in the range of each routine that takes a number
-place_below : (routine : PlaceRoutine) → int_le (least_place routine) (pos 1) ≡ true
-place_below by_place.GetNthElem = refl
-place_below by_place.Lag = refl
+number_below : (routine : NumberRoutine) → int_le (least_number routine) (pos 1) ≡ true
+number_below by_number.GetNthElem = refl
+number_below by_number.Lag = refl
 
-place_above : (routine : PlaceRoutine) → int_le (pos 1) (most_place routine) ≡ true
-place_above by_place.GetNthElem = refl
-place_above by_place.Lag = refl
+number_above : (routine : NumberRoutine) → int_le (pos 1) (most_number routine) ≡ true
+number_above by_number.GetNthElem = refl
+number_above by_number.Lag = refl
 
 -- what phrases alone tell of each routine's command: its form, and nothing where it has a text
 abbrev FormOf : Routine → Command → Type 0
 FormOf (calls.WithText routine) command = Any command
+FormOf calls.AggregateBy command = Any command
+FormOf calls.AggregateRange command = Any command
+FormOf calls.AggregateAll command = Any command
 FormOf routine command = HasForm command
+
+text_key_range_call_yields : Yields front (λ (p : List ℕ × (List ℕ × ℤ × ℤ)). Any p.0 × IsKeyRange p.1) a_text_key_range_call
+unfolding a_text_key_range_call
+text_key_range_call_yields = text_call_yields IsKeyRange (triple a_key a_stamp a_stamp) key_range_yields
+
+text_name_range_call_yields : Yields front (λ (p : List ℕ × (List ℕ × ℤ × ℤ)). Any p.0 × IsNameRange p.1) a_text_name_range_call
+unfolding a_text_name_range_call
+text_name_range_call_yields = text_call_yields IsNameRange (triple a_name a_stamp a_stamp) name_range_yields
+
+text_name_key_range_call_yields : Yields front (λ (p : List ℕ × (List ℕ × (List ℕ × ℤ × ℤ))). Any p.0 × IsNameAndKey p.1) a_text_name_key_range_call
+unfolding a_text_name_key_range_call
+text_name_key_range_call_yields = text_call_yields IsNameAndKey (pair a_name (triple a_key a_stamp a_stamp)) name_key_range_yields
 
 -- and they tell it
 arguments_yield : (routine : Routine) → Yields front (FormOf routine) (arguments routine)
@@ -118,6 +133,9 @@ arguments_yield calls.TSCreateIrr = made_yields front front_laws _ HasForm a_key
 arguments_yield calls.NotOp = made_yields front front_laws _ HasForm a_names_call _ names_call_yields (λ a form. form)
 arguments_yield calls.CalStamp = made_yields front front_laws _ HasForm (a_name_stamp_whole_call (pos 1) (pos 4294967295)) _ (name_stamp_whole_call_yields (pos 1) (pos 4294967295) refl refl) (λ a form. (form.0, form.2.0, form.2.1))
 arguments_yield calls.ClipCount = made_yields front front_laws _ HasForm (a_key_stamp_whole_call (neg_ℤ (pos 1000000)) (pos 1000000)) _ (key_stamp_whole_call_yields (neg_ℤ (pos 1000000)) (pos 1000000) refl refl) (λ a form. (form.0, form.2.0, form.2.1))
+arguments_yield calls.AggregateBy = made_yields front front_laws _ Any a_text_name_key_range_call _ text_name_key_range_call_yields (λ a form. tt)
+arguments_yield calls.AggregateRange = made_yields front front_laws _ Any a_text_key_range_call _ text_key_range_call_yields (λ a form. tt)
+arguments_yield calls.AggregateAll = made_yields front front_laws _ Any a_text_name_range_call _ text_name_range_call_yields (λ a form. tt)
 arguments_yield (calls.ByName routine) = made_yields front front_laws _ HasForm a_name_call _ name_call_yields (of_name-form routine)
 arguments_yield (calls.ByKey routine) = made_yields front front_laws _ HasForm a_key_call _ key_call_yields (of_key-form routine)
 arguments_yield (calls.AtStamp routine) = made_yields front front_laws _ HasForm a_key_stamp_call _ key_stamp_call_yields (λ a form. of_stamp-form routine a.0 a.1 form.0)
@@ -126,7 +144,7 @@ arguments_yield (calls.WithText routine) = made_yields front front_laws _ Any a_
 arguments_yield (calls.Joining routine) = made_yields front front_laws _ HasForm a_join_call _ join_call_yields (λ a form. of_join-form routine a.0 a.1 form.1)
 arguments_yield (calls.InRange routine) = made_yields front front_laws _ HasForm a_name_range_call _ name_range_call_yields (λ a form. of_range-form routine a.0 a.1 a.2 form.0)
 arguments_yield (calls.Clipping routine) = made_yields front front_laws _ HasForm a_key_range_call _ key_range_call_yields (λ a form. of_clip-form routine a.0 a.1 a.2 form.0)
-arguments_yield (calls.ByPlace routine) = made_yields front front_laws _ HasForm (a_key_whole_call (least_place routine) (most_place routine)) _ (key_whole_call_yields (least_place routine) (most_place routine) (place_below routine) (place_above routine)) (λ a form. of_place-form routine a.0 a.1 form.0 form.1)
+arguments_yield (calls.ByNumber routine) = made_yields front front_laws _ HasForm (a_key_whole_call (least_number routine) (most_number routine)) _ (key_whole_call_yields (least_number routine) (most_number routine) (number_below routine) (number_above routine)) (λ a form. of_number-form routine a.0 a.1 form.0 form.1)
 arguments_yield (calls.OfPair routine) = made_yields front front_laws _ HasForm a_keys_range_call _ keys_range_call_yields (λ a form. of_keys-form routine a.0 a.1.0 a.1.1 a.1.2 form.0 form.1.0)
 
 -- a phrase, with nothing told of what it gives
@@ -186,9 +204,35 @@ text-form routine bytes found few is =
     let same = (pair-parts (of_text routine read.0.0.0 read.0.0.1) found.0 read.0.1 found.1 read.2).0 in
     rw (← same) (of_text-form routine read.0.0.0 read.0.0.1 (name_text_call_yields.ok bytes read.0 read.1).0.0 (omega (arith, few, name_text-le bytes read.0 read.1)))
 
+-- so where a text stands first
+first_text-le : {A : Type 0} (other : Phrase A) (bytes : List ℕ) (found : (List ℕ × A) × List ℕ) → in_brackets (pair a_text other) bytes ≡ Ok found → length found.0.0 ≤ length bytes
+first_text-le {A} other bytes found is =
+    let inner = bind-ok (behind 40 (pair a_text other) bytes) (λ both. a_sign 41 >>= (λ close. give both)) found is in
+    let open_ = bind-ok (a_sign 40 bytes) (λ sign. pair a_text other) inner.0 inner.1 in
+    let close = bind-ok (a_sign 41 inner.0.1) (λ close. give inner.0.0) found inner.2 in
+    let text = bind-ok (a_text open_.0.1) (λ a. behind 44 other >>= (λ b. give (a, b))) inner.0 open_.2 in
+    let rest = bind-ok (behind 44 other text.0.1) (λ b. give (text.0.0, b)) inner.0 text.2 in
+    let both : List ℕ × A = (text.0.0, rest.0.0) in
+    let same : text.0.0 ≡ inner.0.0.0 = ap (λ (p : List ℕ × A). p.0) {x = both} {y = inner.0.0} (pair-parts both inner.0.0 rest.0.1 inner.0.1 rest.2).0 in
+    let whole : inner.0.0.0 ≡ found.0.0 = ap (λ (p : List ℕ × A). p.0) {x = inner.0.0} {y = found.0} (pair-parts inner.0.0 found.0 close.0.1 found.1 close.2).0 in
+    omega (arith, ap length same, ap length whole, text-le open_.0.1 text.0 text.1, sign_shrinks 40 bytes open_.0 open_.1)
+
+-- a command that is made of a text and of what else stands there has its form where these have theirs
+first_text-form : {A : Type 0} (P : A → Type 0) (other : Phrase A) (make : List ℕ × A → Command) → Yields front P other
+    → ((a : List ℕ × A) → length a.0 < 2 ^ 32 → P a.1 → HasForm (make a))
+    → (bytes : List ℕ) (found : Command × List ℕ) → length bytes < 2 ^ 32 → made (in_brackets (pair a_text other)) make bytes ≡ Ok found → HasForm found.0
+first_text-form P other make one forms bytes found few is =
+    let read = bind-ok (in_brackets (pair a_text other) bytes) (λ a. give (make a)) found is in
+    let same = (pair-parts (make read.0.0) found.0 read.0.1 found.1 read.2).0 in
+    rw (← same) (forms read.0.0 (omega (arith, few, first_text-le other bytes read.0 read.1)) ((text_call_yields P other one).ok bytes read.0 read.1).0.1)
+
 -- each routine's command, in so few bytes
 arguments-form : (routine : Routine) (bytes : List ℕ) (found : Command × List ℕ) → length bytes < 2 ^ 32 → arguments routine bytes ≡ Ok found → HasForm found.0
+unfolding arguments a_text_name_key_range_call a_text_key_range_call a_text_name_range_call
 arguments-form (calls.WithText routine) bytes found few is = text-form routine bytes found few is
+arguments-form calls.AggregateBy bytes found few is = first_text-form IsNameAndKey (pair a_name (triple a_key a_stamp a_stamp)) _ name_key_range_yields (λ a short form. (short, form.0, form.1.0)) bytes found few is
+arguments-form calls.AggregateRange bytes found few is = first_text-form IsKeyRange (triple a_key a_stamp a_stamp) _ key_range_yields (λ a short form. (short, form.0)) bytes found few is
+arguments-form calls.AggregateAll bytes found few is = first_text-form IsNameRange (triple a_name a_stamp a_stamp) _ name_range_yields (λ a short form. (short, form.0)) bytes found few is
 arguments-form routine bytes found few is = ((arguments_yield routine).ok bytes found is).0
 
 call-form : (bytes : List ℕ) (found : Command × List ℕ) → length bytes < 2 ^ 32 → a_call bytes ≡ Ok found → HasForm found.0

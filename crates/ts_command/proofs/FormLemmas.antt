@@ -198,10 +198,23 @@ join_call_yields =
     bracketed _ (pair a_joined (triple a_name a_name a_name))
     (paired Any AreNames a_joined (triple a_name a_name a_name) joined_yields (triple_yields front front_laws IsName IsName IsName comma_sign a_name a_name a_name name_yields name_yields name_yields))
 
-pub name_range_call_yields : Yields front (λ (p : List ℕ × ℤ × ℤ). IsName p.0 × Any p.1 × Any p.2) a_name_range_call
+-- a key and two stamps, a name and two stamps
+abbrev pub IsKeyRange : List ℕ × ℤ × ℤ → Type 0
+IsKeyRange p = IsKey p.0 × Any p.1 × Any p.2
+
+abbrev pub IsNameRange : List ℕ × ℤ × ℤ → Type 0
+IsNameRange p = IsName p.0 × Any p.1 × Any p.2
+
+pub key_range_yields : Yields front IsKeyRange (triple a_key a_stamp a_stamp)
+key_range_yields = triple_yields front front_laws IsKey Any Any comma_sign a_key a_stamp a_stamp key_yields stamp_yields stamp_yields
+
+pub name_range_yields : Yields front IsNameRange (triple a_name a_stamp a_stamp)
+name_range_yields = triple_yields front front_laws IsName Any Any comma_sign a_name a_stamp a_stamp name_yields stamp_yields stamp_yields
+
+pub name_range_call_yields : Yields front IsNameRange a_name_range_call
 unfolding a_name_range_call
 name_range_call_yields =
-    bracketed _ (triple a_name a_stamp a_stamp) (triple_yields front front_laws IsName Any Any comma_sign a_name a_stamp a_stamp name_yields stamp_yields stamp_yields)
+    bracketed _ (triple a_name a_stamp a_stamp) name_range_yields
 
 pub name_stamp_whole_call_yields : (least most : ℤ) → int_le least (pos 1) ≡ true → int_le (pos 1) most ≡ true → Yields front (λ (p : List ℕ × ℤ × ℤ). IsName p.0 × Any p.1 × IsWithin least most p.2) (a_name_stamp_whole_call least most)
 unfolding a_name_stamp_whole_call
@@ -256,10 +269,10 @@ name_columns_call_yields =
     (λ first f. chain front front_laws (AllByRecursion IsColumn) IsRowType (closed 41 a_column) _ (listed IsColumn a_column column_yields)
     (λ others o. given front IsRowType (name, stamp, first ∷ others) (n, s, omega arith, (f, o))))))
 
-pub key_range_call_yields : Yields front (λ (p : List ℕ × ℤ × ℤ). IsKey p.0 × Any p.1 × Any p.2) a_key_range_call
+pub key_range_call_yields : Yields front IsKeyRange a_key_range_call
 unfolding a_key_range_call
 key_range_call_yields =
-    bracketed _ (triple a_key a_stamp a_stamp) (triple_yields front front_laws IsKey Any Any comma_sign a_key a_stamp a_stamp key_yields stamp_yields stamp_yields)
+    bracketed _ (triple a_key a_stamp a_stamp) key_range_yields
 
 pub key_stamp_whole_call_yields : (least most : ℤ) → int_le least (pos 1) ≡ true → int_le (pos 1) most ≡ true → Yields front (λ (p : List ℕ × ℤ × ℤ). IsKey p.0 × Any p.1 × IsWithin least most p.2) (a_key_stamp_whole_call least most)
 unfolding a_key_stamp_whole_call
@@ -274,10 +287,22 @@ key_whole_call_yields least most below above =
 
 -- a key, and a key and two stamps
 abbrev pub AreKeys : List ℕ × (List ℕ × ℤ × ℤ) → Type 0
-AreKeys p = IsKey p.0 × (IsKey p.1.0 × Any p.1.1 × Any p.1.2)
+AreKeys p = IsKey p.0 × IsKeyRange p.1
 
 pub keys_range_call_yields : Yields front AreKeys a_keys_range_call
 unfolding a_keys_range_call
 keys_range_call_yields =
     bracketed _ (pair a_key (triple a_key a_stamp a_stamp))
-    (paired IsKey (λ (p : List ℕ × ℤ × ℤ). IsKey p.0 × Any p.1 × Any p.2) a_key (triple a_key a_stamp a_stamp) key_yields (triple_yields front front_laws IsKey Any Any comma_sign a_key a_stamp a_stamp key_yields stamp_yields stamp_yields))
+    (paired IsKey IsKeyRange a_key (triple a_key a_stamp a_stamp) key_yields key_range_yields)
+
+-- a text, and what else a call has
+pub text_call_yields : {A : Type 0} (P : A → Type 0) (other : Phrase A) → Yields front P other
+    → Yields front (λ (p : List ℕ × A). Any p.0 × P p.1) (in_brackets (pair a_text other))
+text_call_yields P other one = bracketed _ (pair a_text other) (paired Any P a_text other text_yields one)
+
+-- a name, and a key and two stamps
+abbrev pub IsNameAndKey : List ℕ × (List ℕ × ℤ × ℤ) → Type 0
+IsNameAndKey p = IsName p.0 × IsKeyRange p.1
+
+pub name_key_range_yields : Yields front IsNameAndKey (pair a_name (triple a_key a_stamp a_stamp))
+name_key_range_yields = paired IsName IsKeyRange a_name (triple a_key a_stamp a_stamp) name_yields key_range_yields

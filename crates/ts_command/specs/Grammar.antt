@@ -35,13 +35,13 @@ use Rattle.ts_command.specs.declared.routine.RangeRoutine.{RangeRoutine}
 use Rattle.ts_command.specs.declared.routine.RangeRoutine.TheVariants as in_range
 use Rattle.ts_command.specs.declared.routine.ClipRoutine.{ClipRoutine}
 use Rattle.ts_command.specs.declared.routine.ClipRoutine.TheVariants as clipping
-use Rattle.ts_command.specs.declared.routine.PlaceRoutine.{PlaceRoutine}
-use Rattle.ts_command.specs.declared.routine.PlaceRoutine.TheVariants as by_place
+use Rattle.ts_command.specs.declared.routine.NumberRoutine.{NumberRoutine}
+use Rattle.ts_command.specs.declared.routine.NumberRoutine.TheVariants as by_number
 use Rattle.ts_command.specs.declared.routine.PairRoutine.{PairRoutine}
 use Rattle.ts_command.specs.declared.routine.PairRoutine.TheVariants as of_pair
 use Rattle.ts_command.specs.declared.word.Joined.{Joined}
 use Rattle.ts_command.specs.declared.word.Joined.TheVariants.{Patterns, Calendars}
-use Rattle.ts_command.specs.Routines.{routine_of, joined_of, type_of, least_place, most_place}
+use Rattle.ts_command.specs.Routines.{routine_of, joined_of, type_of, least_number, most_number}
 use Rattle.ts_command.specs.declared.word.TypeName.{TypeName}
 use Rattle.ts_command.specs.declared.word.TypeName.TheVariants.{SmallInt, Integer, BigInt, Decimal, VarChar}
 use Rattle.ts_command.specs.declared.command.Command.{Command}
@@ -316,9 +316,9 @@ of_clip clipping.Clip key from to = commands.Clip key from to
 of_clip clipping.ClipGetCount key from to = commands.ClipGetCount key from to
 of_clip clipping.DelClip key from to = commands.DelClip key from to
 
-abbrev pub of_place : PlaceRoutine → List ℕ → ℤ → Command
-of_place by_place.GetNthElem key index = commands.GetNthElem key index
-of_place by_place.Lag key by = commands.Lag key by
+abbrev pub of_number : NumberRoutine → List ℕ → ℤ → Command
+of_number by_number.GetNthElem key index = commands.GetNthElem key index
+of_number by_number.Lag key by = commands.Lag key by
 
 abbrev pub of_keys : PairRoutine → List ℕ → List ℕ → ℤ → ℤ → Command
 of_keys of_pair.Union first second from to = commands.Union first second from to
@@ -333,6 +333,9 @@ arguments calls.TSCreateIrr = made a_key_name_call (λ a. commands.TSCreateIrr a
 arguments calls.NotOp = made a_names_call (λ a. commands.NotOp a.0 a.1)
 arguments calls.CalStamp = made (a_name_stamp_whole_call (pos 1) (pos 4294967295)) (λ a. commands.CalStamp a.0 a.1 a.2)
 arguments calls.ClipCount = made (a_key_stamp_whole_call (neg_ℤ (pos 1000000)) (pos 1000000)) (λ a. commands.ClipCount a.0 a.1 a.2)
+arguments calls.AggregateBy = made a_text_name_key_range_call (λ a. commands.AggregateBy a.0 a.1.0 a.1.1.0 a.1.1.1 a.1.1.2)
+arguments calls.AggregateRange = made a_text_key_range_call (λ a. commands.AggregateRange a.0 a.1.0 a.1.1 a.1.2)
+arguments calls.AggregateAll = made a_text_name_range_call (λ a. commands.AggregateAll a.0 a.1.0 a.1.1 a.1.2)
 arguments (calls.ByName routine) = made a_name_call (of_name routine)
 arguments (calls.ByKey routine) = made a_key_call (of_key routine)
 arguments (calls.AtStamp routine) = made a_key_stamp_call (λ a. of_stamp routine a.0 a.1)
@@ -341,7 +344,7 @@ arguments (calls.WithText routine) = made a_name_text_call (λ a. of_text routin
 arguments (calls.Joining routine) = made a_join_call (λ a. of_join routine a.0 a.1)
 arguments (calls.InRange routine) = made a_name_range_call (λ a. of_range routine a.0 a.1 a.2)
 arguments (calls.Clipping routine) = made a_key_range_call (λ a. of_clip routine a.0 a.1 a.2)
-arguments (calls.ByPlace routine) = made (a_key_whole_call (least_place routine) (most_place routine)) (λ a. of_place routine a.0 a.1)
+arguments (calls.ByNumber routine) = made (a_key_whole_call (least_number routine) (most_number routine)) (λ a. of_number routine a.0 a.1)
 arguments (calls.OfPair routine) = made a_keys_range_call (λ a. of_keys routine a.0 a.1.0 a.1.1 a.1.2)
 
 -- a routine and what it is called with

@@ -19,8 +19,8 @@ use Rattle.ts_command.specs.declared.routine.RangeRoutine.{RangeRoutine}
 use Rattle.ts_command.specs.declared.routine.RangeRoutine.TheVariants as in_range
 use Rattle.ts_command.specs.declared.routine.ClipRoutine.{ClipRoutine}
 use Rattle.ts_command.specs.declared.routine.ClipRoutine.TheVariants as clipping
-use Rattle.ts_command.specs.declared.routine.PlaceRoutine.{PlaceRoutine}
-use Rattle.ts_command.specs.declared.routine.PlaceRoutine.TheVariants as by_place
+use Rattle.ts_command.specs.declared.routine.NumberRoutine.{NumberRoutine}
+use Rattle.ts_command.specs.declared.routine.NumberRoutine.TheVariants as by_number
 use Rattle.ts_command.specs.declared.routine.PairRoutine.{PairRoutine}
 use Rattle.ts_command.specs.declared.routine.PairRoutine.TheVariants as of_pair
 use Rattle.ts_command.specs.declared.word.Joined.{Joined}
@@ -82,18 +82,18 @@ clip_spelling clipping.ClipGetCount = codes "ClipGetCount"
 clip_spelling clipping.DelClip = codes "DelClip"
 
 -- with a key and a whole number
-abbrev pub place_spelling : PlaceRoutine → List ℕ
-place_spelling by_place.GetNthElem = codes "GetNthElem"
-place_spelling by_place.Lag = codes "Lag"
+abbrev pub number_spelling : NumberRoutine → List ℕ
+number_spelling by_number.GetNthElem = codes "GetNthElem"
+number_spelling by_number.Lag = codes "Lag"
 
 -- the least and the greatest number that it may be
-abbrev pub least_place : PlaceRoutine → ℤ
-least_place by_place.GetNthElem = pos 0
-least_place by_place.Lag = neg_ℤ (pos 2147483647)
+abbrev pub least_number : NumberRoutine → ℤ
+least_number by_number.GetNthElem = pos 0
+least_number by_number.Lag = neg_ℤ (pos 2147483647)
 
-abbrev pub most_place : PlaceRoutine → ℤ
-most_place by_place.GetNthElem = pos 4294967295
-most_place by_place.Lag = pos 2147483647
+abbrev pub most_number : NumberRoutine → ℤ
+most_number by_number.GetNthElem = pos 4294967295
+most_number by_number.Lag = pos 2147483647
 
 -- with two keys and two stamps
 abbrev pub pair_spelling : PairRoutine → List ℕ
@@ -109,6 +109,9 @@ spelling calls.TSCreateIrr = codes "TSCreateIrr"
 spelling calls.NotOp = codes "NotOp"
 spelling calls.CalStamp = codes "CalStamp"
 spelling calls.ClipCount = codes "ClipCount"
+spelling calls.AggregateBy = codes "AggregateBy"
+spelling calls.AggregateRange = codes "AggregateRange"
+spelling calls.AggregateAll = codes "AggregateAll"
 spelling (calls.ByName routine) = name_spelling routine
 spelling (calls.ByKey routine) = key_spelling routine
 spelling (calls.AtStamp routine) = stamp_spelling routine
@@ -117,7 +120,7 @@ spelling (calls.WithText routine) = text_spelling routine
 spelling (calls.Joining routine) = join_spelling routine
 spelling (calls.InRange routine) = range_spelling routine
 spelling (calls.Clipping routine) = clip_spelling routine
-spelling (calls.ByPlace routine) = place_spelling routine
+spelling (calls.ByNumber routine) = number_spelling routine
 spelling (calls.OfPair routine) = pair_spelling routine
 
 -- all of them
@@ -135,10 +138,13 @@ routines =
     calls.Clipping clipping.ClipGetCount ∷
     calls.Clipping clipping.DelClip ∷
     calls.ClipCount ∷
-    calls.ByPlace by_place.GetNthElem ∷
-    calls.ByPlace by_place.Lag ∷
+    calls.ByNumber by_number.GetNthElem ∷
+    calls.ByNumber by_number.Lag ∷
     calls.OfPair of_pair.Union ∷
     calls.OfPair of_pair.Intersect ∷
+    calls.AggregateBy ∷
+    calls.AggregateRange ∷
+    calls.AggregateAll ∷
     calls.ByKey by_key.GetFirstElem ∷
     calls.ByKey by_key.GetLastElem ∷
     calls.ByKey by_key.GetNelems ∷

@@ -2,7 +2,7 @@
 ghost use Rattle.std.specs.Prelude.{◌≡◌, Ok, IfOk, IfErr};
 ghost use Rattle.ts_text.specs.Misfit.{Refuses};
 ghost use Rattle.ts_text.specs.Phrase.{repeated, onto};
-ghost use Rattle.ts_command.specs.Grammar.{a_literal, a_name_call, a_names_call, a_name_text_call, a_join_call, a_name_range_call, a_name_stamp_whole_call, a_key_call, a_key_name_call, a_key_name_stamp_name_call, a_key_stamp_call, a_key_range_call, a_names_whole_call, a_key_stamp_values_call, a_name_columns_call, a_key_stamp_whole_call, a_key_whole_call, a_keys_range_call};
+ghost use Rattle.ts_command.specs.Grammar.{a_literal, a_name_call, a_names_call, a_name_text_call, a_join_call, a_name_range_call, a_name_stamp_whole_call, a_key_call, a_key_name_call, a_key_name_stamp_name_call, a_key_stamp_call, a_key_range_call, a_names_whole_call, a_key_stamp_values_call, a_name_columns_call, a_key_stamp_whole_call, a_key_whole_call, a_keys_range_call, a_text_key_range_call, a_text_name_range_call, a_text_name_key_range_call};
 
 use crate::column::{read_column, read_columns, read_stamp_column};
 use crate::phrase::{
@@ -242,6 +242,67 @@ pub(crate) fn read_keys_range_call(
     match read_stamp(alloc, read_sign(rest, b',')?) {
         Ok((from, rest)) => match read_stamp(alloc, read_sign(rest, b',')?) {
             Ok((to, rest)) => Ok(((first, (second, from, to)), read_sign(rest, b')')?)),
+            Err(misfit) => Err(misfit),
+        },
+        Err(misfit) => Err(misfit),
+    }
+}
+
+/// A text, and a key and two stamps.
+#[tactic(auto, unfolding(crate::specs::Grammar::a_text_key_range_call))]
+pub(crate) fn read_text_key_range_call(
+    alloc: Global,
+    bytes: &[u8],
+) -> Result<((Bytes, (Key, Stamp, Stamp)), &[u8]), Misfit>
+    ensures ok { IfOk result (λ found. a_text_key_range_call bytes.now ≡ Ok (found.0, found.1.now)) }
+    ensures cause { IfErr result (λ misfit. Refuses misfit (a_text_key_range_call bytes.now)) }
+{
+    let (text, rest) = read_text(alloc, read_sign(bytes, b'(')?)?;
+    let (key, rest) = read_key(alloc, read_sign(rest, b',')?)?;
+    match read_stamp(alloc, read_sign(rest, b',')?) {
+        Ok((from, rest)) => match read_stamp(alloc, read_sign(rest, b',')?) {
+            Ok((to, rest)) => Ok(((text, (key, from, to)), read_sign(rest, b')')?)),
+            Err(misfit) => Err(misfit),
+        },
+        Err(misfit) => Err(misfit),
+    }
+}
+
+/// A text, and a name and two stamps.
+#[tactic(auto, unfolding(crate::specs::Grammar::a_text_name_range_call))]
+pub(crate) fn read_text_name_range_call(
+    alloc: Global,
+    bytes: &[u8],
+) -> Result<((Bytes, (Name, Stamp, Stamp)), &[u8]), Misfit>
+    ensures ok { IfOk result (λ found. a_text_name_range_call bytes.now ≡ Ok (found.0, found.1.now)) }
+    ensures cause { IfErr result (λ misfit. Refuses misfit (a_text_name_range_call bytes.now)) }
+{
+    let (text, rest) = read_text(alloc, read_sign(bytes, b'(')?)?;
+    let (name, rest) = read_name(alloc, read_sign(rest, b',')?)?;
+    match read_stamp(alloc, read_sign(rest, b',')?) {
+        Ok((from, rest)) => match read_stamp(alloc, read_sign(rest, b',')?) {
+            Ok((to, rest)) => Ok(((text, (name, from, to)), read_sign(rest, b')')?)),
+            Err(misfit) => Err(misfit),
+        },
+        Err(misfit) => Err(misfit),
+    }
+}
+
+/// A text, a name, and a key and two stamps.
+#[tactic(auto, unfolding(crate::specs::Grammar::a_text_name_key_range_call))]
+pub(crate) fn read_text_name_key_range_call(
+    alloc: Global,
+    bytes: &[u8],
+) -> Result<((Bytes, (Name, (Key, Stamp, Stamp))), &[u8]), Misfit>
+    ensures ok { IfOk result (λ found. a_text_name_key_range_call bytes.now ≡ Ok (found.0, found.1.now)) }
+    ensures cause { IfErr result (λ misfit. Refuses misfit (a_text_name_key_range_call bytes.now)) }
+{
+    let (text, rest) = read_text(alloc, read_sign(bytes, b'(')?)?;
+    let (name, rest) = read_name(alloc, read_sign(rest, b',')?)?;
+    let (key, rest) = read_key(alloc, read_sign(rest, b',')?)?;
+    match read_stamp(alloc, read_sign(rest, b',')?) {
+        Ok((from, rest)) => match read_stamp(alloc, read_sign(rest, b',')?) {
+            Ok((to, rest)) => Ok(((text, (name, (key, from, to))), read_sign(rest, b')')?)),
             Err(misfit) => Err(misfit),
         },
         Err(misfit) => Err(misfit),

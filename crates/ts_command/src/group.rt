@@ -1,7 +1,7 @@
 // Routines that are called with the same arguments: the arguments are read, and the routine chooses the command.
 ghost use Rattle.std.specs.Prelude.{◌≡◌, Ok, IfOk, IfErr};
 ghost use Rattle.ts_text.specs.Misfit.{Refuses};
-ghost use Rattle.ts_command.specs.Grammar.{arguments, of_name, of_key, of_stamp, of_row, of_text, of_join, of_range, of_clip, of_place, of_keys};
+ghost use Rattle.ts_command.specs.Grammar.{arguments, of_name, of_key, of_stamp, of_row, of_text, of_join, of_range, of_clip, of_number, of_keys};
 ghost use Rattle.ts_command.specs.declared.routine.Routine.{Routine};
 
 use crate::call::{
@@ -10,7 +10,7 @@ use crate::call::{
     read_name_range_call, read_name_text_call,
 };
 use crate::routine::{
-    ClipRoutine, JoinRoutine, KeyRoutine, NameRoutine, PairRoutine, PlaceRoutine, RangeRoutine,
+    ClipRoutine, JoinRoutine, KeyRoutine, NameRoutine, NumberRoutine, PairRoutine, RangeRoutine,
     RowRoutine, StampRoutine, TextRoutine,
 };
 use crate::word::Joined;
@@ -245,24 +245,24 @@ fn of_clip(routine: ClipRoutine, key: Key, from: Stamp, to: Stamp) -> Command
 
 /// The key and the number, in the routine's range.
 #[tactic(auto, unfolding(crate::specs::Grammar::arguments))]
-pub(crate) fn read_of_place(
+pub(crate) fn read_of_number(
     alloc: Global,
-    routine: PlaceRoutine,
+    routine: NumberRoutine,
     bytes: &[u8],
 ) -> Result<(Command, &[u8]), Misfit>
-    ensures ok { IfOk result (λ found. arguments (Routine.ByPlace routine) bytes.now ≡ Ok (found.0, found.1.now)) }
-    ensures cause { IfErr result (λ misfit. Refuses misfit (arguments (Routine.ByPlace routine) bytes.now)) }
+    ensures ok { IfOk result (λ found. arguments (Routine.ByNumber routine) bytes.now ≡ Ok (found.0, found.1.now)) }
+    ensures cause { IfErr result (λ misfit. Refuses misfit (arguments (Routine.ByNumber routine) bytes.now)) }
 {
-    let ((key, place), rest) = read_key_whole_call(alloc, bytes, routine.least(), routine.most())?;
-    Ok((of_place(routine, key, place), rest))
+    let ((key, number), rest) = read_key_whole_call(alloc, bytes, routine.least(), routine.most())?;
+    Ok((of_number(routine, key, number), rest))
 }
 
-fn of_place(routine: PlaceRoutine, key: Key, place: i64) -> Command
-    ensures { result ≡ of_place routine key place }
+fn of_number(routine: NumberRoutine, key: Key, number: i64) -> Command
+    ensures { result ≡ of_number routine key number }
 {
     match routine {
-        PlaceRoutine::GetNthElem => Command::GetNthElem { key, index: place },
-        PlaceRoutine::Lag => Command::Lag { key, by: place },
+        NumberRoutine::GetNthElem => Command::GetNthElem { key, index: number },
+        NumberRoutine::Lag => Command::Lag { key, by: number },
     }
 }
 

@@ -9,9 +9,10 @@ use crate::Command;
 use crate::call::{
     read_key_name_call, read_key_name_stamp_name_call, read_key_stamp_whole_call,
     read_name_columns_call, read_name_stamp_whole_call, read_names_call, read_names_whole_call,
+    read_text_key_range_call, read_text_name_key_range_call, read_text_name_range_call,
 };
 use crate::group::{
-    read_joining, read_of_clip, read_of_key, read_of_name, read_of_pair, read_of_place,
+    read_joining, read_of_clip, read_of_key, read_of_name, read_of_number, read_of_pair,
     read_of_range, read_of_row, read_of_stamp, read_of_text,
 };
 use crate::phrase::read_routine;
@@ -34,6 +35,9 @@ fn read_arguments(alloc: Global, routine: Routine, bytes: &[u8]) -> Result<(Comm
         Routine::NotOp => read_opposite(alloc, bytes),
         Routine::CalStamp => read_calendar_stamp(alloc, bytes),
         Routine::ClipCount => read_clip_count(alloc, bytes),
+        Routine::AggregateBy => read_aggregate_by(alloc, bytes),
+        Routine::AggregateRange => read_aggregate_range(alloc, bytes),
+        Routine::AggregateAll => read_aggregate_all(alloc, bytes),
         Routine::ByName(routine) => read_of_name(alloc, routine, bytes),
         Routine::ByKey(routine) => read_of_key(alloc, routine, bytes),
         Routine::AtStamp(routine) => read_of_stamp(alloc, routine, bytes),
@@ -42,7 +46,7 @@ fn read_arguments(alloc: Global, routine: Routine, bytes: &[u8]) -> Result<(Comm
         Routine::Joining(routine) => read_joining(alloc, routine, bytes),
         Routine::InRange(routine) => read_of_range(alloc, routine, bytes),
         Routine::Clipping(routine) => read_of_clip(alloc, routine, bytes),
-        Routine::ByPlace(routine) => read_of_place(alloc, routine, bytes),
+        Routine::ByNumber(routine) => read_of_number(alloc, routine, bytes),
         Routine::OfPair(routine) => read_of_pair(alloc, routine, bytes),
     }
 }
@@ -144,6 +148,67 @@ fn read_clip_count(alloc: Global, bytes: &[u8]) -> Result<(Command, &[u8]), Misf
 {
     match read_key_stamp_whole_call(alloc, bytes, -1000000, 1000000) {
         Ok(((key, stamp, count), rest)) => Ok((Command::ClipCount { key, stamp, count }, rest)),
+        Err(misfit) => Err(misfit),
+    }
+}
+
+// Folds of what the on intervals of a calendar hold: the list, the calendar's name, the series' key, and the range.
+#[tactic(auto, unfolding(crate::specs::Grammar::arguments))]
+fn read_aggregate_by(alloc: Global, bytes: &[u8]) -> Result<(Command, &[u8]), Misfit>
+    ensures ok { IfOk result (λ found. arguments Routine.AggregateBy bytes.now ≡ Ok (found.0, found.1.now)) }
+    ensures cause { IfErr result (λ misfit. Refuses misfit (arguments Routine.AggregateBy bytes.now)) }
+{
+    match read_text_name_key_range_call(alloc, bytes) {
+        Ok(((text, (calendar, (key, from, to))), rest)) => Ok((
+            Command::AggregateBy {
+                text,
+                calendar,
+                key,
+                from,
+                to,
+            },
+            rest,
+        )),
+        Err(misfit) => Err(misfit),
+    }
+}
+
+// A fold of a range of a series: the list, the series' key, and the range.
+#[tactic(auto, unfolding(crate::specs::Grammar::arguments))]
+fn read_aggregate_range(alloc: Global, bytes: &[u8]) -> Result<(Command, &[u8]), Misfit>
+    ensures ok { IfOk result (λ found. arguments Routine.AggregateRange bytes.now ≡ Ok (found.0, found.1.now)) }
+    ensures cause { IfErr result (λ misfit. Refuses misfit (arguments Routine.AggregateRange bytes.now)) }
+{
+    match read_text_key_range_call(alloc, bytes) {
+        Ok(((text, (key, from, to)), rest)) => Ok((
+            Command::AggregateRange {
+                text,
+                key,
+                from,
+                to,
+            },
+            rest,
+        )),
+        Err(misfit) => Err(misfit),
+    }
+}
+
+// A fold of a range of each series of a container: the list, the container's name, and the range.
+#[tactic(auto, unfolding(crate::specs::Grammar::arguments))]
+fn read_aggregate_all(alloc: Global, bytes: &[u8]) -> Result<(Command, &[u8]), Misfit>
+    ensures ok { IfOk result (λ found. arguments Routine.AggregateAll bytes.now ≡ Ok (found.0, found.1.now)) }
+    ensures cause { IfErr result (λ misfit. Refuses misfit (arguments Routine.AggregateAll bytes.now)) }
+{
+    match read_text_name_range_call(alloc, bytes) {
+        Ok(((text, (container, from, to)), rest)) => Ok((
+            Command::AggregateAll {
+                text,
+                container,
+                from,
+                to,
+            },
+            rest,
+        )),
         Err(misfit) => Err(misfit),
     }
 }

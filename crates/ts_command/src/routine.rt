@@ -1,6 +1,6 @@
 // The routines that a statement may call, by their names.
 ghost use Rattle.std.specs.Prelude.{◌≡◌};
-ghost use Rattle.ts_command.specs.Routines.{spelling, name_spelling, key_spelling, stamp_spelling, row_spelling, text_spelling, join_spelling, range_spelling, clip_spelling, place_spelling, pair_spelling, least_place, most_place, routine_of};
+ghost use Rattle.ts_command.specs.Routines.{spelling, name_spelling, key_spelling, stamp_spelling, row_spelling, text_spelling, join_spelling, range_spelling, clip_spelling, number_spelling, pair_spelling, least_number, most_number, routine_of};
 
 use crate::word::are_same;
 
@@ -14,6 +14,9 @@ pub(crate) enum Routine {
     NotOp,
     CalStamp,
     ClipCount,
+    AggregateBy,
+    AggregateRange,
+    AggregateAll,
     ByName(NameRoutine),
     ByKey(KeyRoutine),
     AtStamp(StampRoutine),
@@ -22,7 +25,7 @@ pub(crate) enum Routine {
     Joining(JoinRoutine),
     InRange(RangeRoutine),
     Clipping(ClipRoutine),
-    ByPlace(PlaceRoutine),
+    ByNumber(NumberRoutine),
     OfPair(PairRoutine),
 }
 
@@ -97,7 +100,7 @@ pub(crate) enum ClipRoutine {
 
 /// Those that are called with a key and a whole number.
 #[derive(Clone, Copy, Debug, PartialEq, Eq)]
-pub(crate) enum PlaceRoutine {
+pub(crate) enum NumberRoutine {
     GetNthElem,
     Lag,
 }
@@ -109,7 +112,7 @@ pub(crate) enum PairRoutine {
     Intersect,
 }
 
-const ROUTINES: [Routine; 40] = [
+const ROUTINES: [Routine; 43] = [
     Routine::WithRow(RowRoutine::PutElem),
     Routine::WithRow(RowRoutine::InsElem),
     Routine::WithRow(RowRoutine::UpdElem),
@@ -122,10 +125,13 @@ const ROUTINES: [Routine; 40] = [
     Routine::Clipping(ClipRoutine::ClipGetCount),
     Routine::Clipping(ClipRoutine::DelClip),
     Routine::ClipCount,
-    Routine::ByPlace(PlaceRoutine::GetNthElem),
-    Routine::ByPlace(PlaceRoutine::Lag),
+    Routine::ByNumber(NumberRoutine::GetNthElem),
+    Routine::ByNumber(NumberRoutine::Lag),
     Routine::OfPair(PairRoutine::Union),
     Routine::OfPair(PairRoutine::Intersect),
+    Routine::AggregateBy,
+    Routine::AggregateRange,
+    Routine::AggregateAll,
     Routine::ByKey(KeyRoutine::GetFirstElem),
     Routine::ByKey(KeyRoutine::GetLastElem),
     Routine::ByKey(KeyRoutine::GetNelems),
@@ -164,6 +170,9 @@ impl Routine {
             Routine::NotOp => b"NotOp",
             Routine::CalStamp => b"CalStamp",
             Routine::ClipCount => b"ClipCount",
+            Routine::AggregateBy => b"AggregateBy",
+            Routine::AggregateRange => b"AggregateRange",
+            Routine::AggregateAll => b"AggregateAll",
             Routine::ByName(routine) => routine.spelling(),
             Routine::ByKey(routine) => routine.spelling(),
             Routine::AtStamp(routine) => routine.spelling(),
@@ -172,7 +181,7 @@ impl Routine {
             Routine::Joining(routine) => routine.spelling(),
             Routine::InRange(routine) => routine.spelling(),
             Routine::Clipping(routine) => routine.spelling(),
-            Routine::ByPlace(routine) => routine.spelling(),
+            Routine::ByNumber(routine) => routine.spelling(),
             Routine::OfPair(routine) => routine.spelling(),
         }
     }
@@ -279,33 +288,33 @@ impl ClipRoutine {
     }
 }
 
-impl PlaceRoutine {
+impl NumberRoutine {
     fn spelling(self) -> &'static [u8]
-        ensures { result.now ≡ place_spelling self }
+        ensures { result.now ≡ number_spelling self }
     {
         match self {
-            PlaceRoutine::GetNthElem => b"GetNthElem",
-            PlaceRoutine::Lag => b"Lag",
+            NumberRoutine::GetNthElem => b"GetNthElem",
+            NumberRoutine::Lag => b"Lag",
         }
     }
 
     /// The least number that it is called with.
     pub(crate) fn least(self) -> i64
-        ensures { result ≡ least_place self }
+        ensures { result ≡ least_number self }
     {
         match self {
-            PlaceRoutine::GetNthElem => 0,
-            PlaceRoutine::Lag => -2147483647,
+            NumberRoutine::GetNthElem => 0,
+            NumberRoutine::Lag => -2147483647,
         }
     }
 
     /// The greatest number that it is called with.
     pub(crate) fn most(self) -> i64
-        ensures { result ≡ most_place self }
+        ensures { result ≡ most_number self }
     {
         match self {
-            PlaceRoutine::GetNthElem => 4294967295,
-            PlaceRoutine::Lag => 2147483647,
+            NumberRoutine::GetNthElem => 4294967295,
+            NumberRoutine::Lag => 2147483647,
         }
     }
 }

@@ -37,7 +37,7 @@ sums_more : (values : List Value) (v : Value) → sums (length (values ++ v ∷ 
 sums_more values v = ap (λ (n : ℕ). sums n (total (values ++ v ∷ []))) (length_more values v) ∙ ap (λ (z : ℤ). sums (length values + 1) z) (total_more values v)
 
 -- one more value
-tally_more : (f : Function) (values : List Value) (v : Value) → tally_of f (values ++ v ∷ []) ≡ with_value (tally_of f values) v
+pub tally_more : (f : Function) (values : List Value) (v : Value) → tally_of f (values ++ v ∷ []) ≡ with_value (tally_of f values) v
 tally_more Count values v = ap (λ (n : ℕ). tally.Count n) (length_more values v)
 tally_more Sum values v = ap (λ (s : Sums). tally.Sum s) (sums_more values v)
 tally_more Avg values v = ap (λ (s : Sums). tally.Avg s) (sums_more values v)
@@ -114,7 +114,7 @@ filter-le p (x ∷ xs) = elim (cases_Bool (p x)) [
   | inr f ↦ rw f (omega (arith, filter-le p xs))
 ]
 
-values-le : (column : ℕ) (rows : List Row) → length (values_of column rows) ≤ length rows
+pub values-le : (column : ℕ) (rows : List Row) → length (values_of column rows) ≤ length rows
 values-le column rows =
     let seen : List Row = filter (λ r. not r.hidden) rows in
     omega (
@@ -124,7 +124,7 @@ values-le column rows =
       filter-le (λ (r : Row). not r.hidden) rows,
     )
 
-count-le : (f : Function) (values : List Value) → count_of (tally_of f values) ≤ length values
+pub count-le : (f : Function) (values : List Value) → count_of (tally_of f values) ≤ length values
 count-le Count values = omega arith
 count-le Sum values = omega arith
 count-le Avg values = omega arith

@@ -1,5 +1,5 @@
 -- An aggregate list with the columns that it takes its values from.
-use Rattle.std.specs.Prelude.{ℕ, ◌+◌, ◌<◌, Bool, true, false, if◌then◌else◌, List, [], ◌∷◌, length, Option, Some, None, Result, Ok, Err, IsTrue, All}
+use Rattle.std.specs.Prelude.{ℕ, ◌+◌, ◌<◌, ◌≤◌, Bool, true, false, if◌then◌else◌, List, [], ◌∷◌, length, Option, Some, None, Result, Ok, Err, IsTrue, All}
 use Rattle.std.specs.List.{list_all}
 use Rattle.std.specs.Str.{bytes_eq}
 use Rattle.ts_base.specs.declared.refusal.Refusal.{Refusal}
@@ -12,6 +12,7 @@ use Rattle.ts_expr.specs.declared.function.Function.{Function}
 use Rattle.ts_expr.specs.declared.function.Function.TheVariants.{Sum, Avg, Count}
 use Rattle.ts_expr.specs.declared.item.Item.{Item}
 use Rattle.ts_expr.specs.declared.item.BoundItem.{BoundItem}
+use Rattle.ts_expr.specs.declared.item.TheConstants.{MOST_SCALE}
 
 -- the columns of the rows, and the items with the numbers of their columns
 pub record Binding : Type 0 where
@@ -73,7 +74,8 @@ with_columns columns (Err why) = Err why
 abbrev pub binding : List Column → List Item → Result Binding Refusal
 binding columns items = with_columns columns (bound_items columns items)
 
--- each item has a column, each of a kind that may be
+-- each item has a column, each of a kind that may be, and what it makes has few digits after the point
 pub record IsBinding (b : Binding) : Type 0 where
   pub kinds : IsTrue (list_all (λ c. is_kind c.kind) b.columns)
   pub places : All (λ i. i.column < length b.columns) b.items
+  pub scales : All (λ i. i.scale ≤ MOST_SCALE) b.items

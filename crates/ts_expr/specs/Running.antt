@@ -1,5 +1,5 @@
 -- A fold that is under way: what is known of the rows so far.
-use Rattle.std.specs.Prelude.{◌≡◌, ℕ, ◌+◌, ◌<◌, ◌≤◌, ◌^◌, ◌==◌, if◌then◌else◌, ℤ, pos, ◌+ℤ◌, ◌*ℤ◌, unsigned_abs, List, [], ◌∷◌, length, map, fold}
+use Rattle.std.specs.Prelude.{◌≡◌, ℕ, ◌+◌, ◌<◌, ◌≤◌, ◌^◌, ◌==◌, Bool, true, false, if◌then◌else◌, ℤ, pos, ◌+ℤ◌, ◌*ℤ◌, unsigned_abs, List, [], ◌∷◌, length, map, fold}
 use Rattle.ts_row.specs.declared.value.Value.{Value}
 use Rattle.ts_row.specs.declared.value.Value.TheVariants.{Null, Number}
 use Rattle.ts_row.specs.Row.{Values, Row}
@@ -54,6 +54,23 @@ with_value (tally.Min kept) v = tally.Min (lesser kept v)
 with_value (tally.Max kept) v = tally.Max (greater kept v)
 with_value (tally.First kept) v = tally.First (earlier kept v)
 with_value (tally.Last kept) v = tally.Last (later kept v)
+
+-- what is known for a function is how many values there were, or that and their sum
+abbrev pub is_summed : Function → Bool
+is_summed Count = true
+is_summed Sum = true
+is_summed Avg = true
+is_summed function = false
+
+-- so many values, none of them NULL, with this sum are taken at once, where values are counted
+abbrev pub with_sums : Tally → ℕ → ℤ → Tally
+with_sums (tally.Count n) count sum = tally.Count (n + count)
+with_sums (tally.Sum s) count sum = tally.Sum (sums (s.count + count) (s.sum +ℤ sum))
+with_sums (tally.Avg s) count sum = tally.Avg (sums (s.count + count) (s.sum +ℤ sum))
+with_sums (tally.Min v) count sum = tally.Min v
+with_sums (tally.Max v) count sum = tally.Max v
+with_sums (tally.First v) count sum = tally.First v
+with_sums (tally.Last v) count sum = tally.Last v
 
 -- a value is taken; NULL changes nothing
 abbrev pub taken_into : Tally → Value → Tally

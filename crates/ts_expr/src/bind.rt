@@ -1,8 +1,9 @@
 // An aggregate list with the columns that it takes its values from.
-ghost use Rattle.std.specs.Prelude.{◌≡◌, ◌<◌, Ok, IfOk, IfErr, IfSome, IsTrue, All, length, map};
+ghost use Rattle.std.specs.Prelude.{◌≡◌, ◌<◌, ◌≤◌, Ok, IfOk, IfErr, IfSome, IsTrue, All, length, map};
 ghost use Rattle.std.specs.List.{list_all};
 ghost use Rattle.ts_row.specs.RowType.{is_kind};
 ghost use Rattle.ts_expr.specs.Answer.{Answers, Fails};
+ghost use Rattle.ts_expr.specs.declared.item.TheConstants.{MOST_SCALE};
 ghost use Rattle.ts_expr.specs.Binding.{binding, IsBinding};
 ghost use Rattle.ts_expr.specs.Binding;
 
@@ -54,9 +55,17 @@ impl AggList {
 impl Bound {
     /// The digits after the point of what each item makes: none for a count or a text, those of the column, or six more.
     pub fn scales(&self) -> &[u8]
-        ensures { result.now ≡ map (λ i. i.scale) self.now.items }
+        ensures value { result.now ≡ map (λ i. i.scale) self.now.items }
+        ensures most { All (λ s. s ≤ MOST_SCALE) result.now }
     {
         self.scales.as_slice()
+    }
+
+    /// The row type that the list is bound to.
+    pub fn kind(&self) -> &RowType
+        ensures { result.now.columns ≡ self.now.columns }
+    {
+        &self.kind
     }
 
     /// The items, with their columns.
@@ -78,6 +87,7 @@ fn bound_items(alloc: Global, columns: &[Column], items: &[Item]) -> Result<Vec<
     ensures ok { IfOk result (λ bound. Binding.bound_items columns.now items.now ≡ Ok bound.items) }
     ensures cause { IfErr result (λ trouble. Fails (Binding.bound_items columns.now items.now) trouble) }
     ensures places { IfOk result (λ bound. All (λ i. i.column < length columns.now) bound.items) }
+    ensures scales { IfOk result (λ bound. All (λ i. i.scale ≤ MOST_SCALE) bound.items) }
 {
     let mut bound = Vec::with_capacity(alloc, items.len())?;
     for item in items {
@@ -92,6 +102,7 @@ fn bound_item(columns: &[Column], item: &Item) -> Result<BoundItem, Trouble>
     requires { IsTrue (list_all (λ c. is_kind c.kind) columns.now) }
     ensures value { Answers (Binding.bound columns.now item.now) result }
     ensures within { IfOk result (λ bound. bound.column < length columns.now) }
+    ensures scale { IfOk result (λ bound. bound.scale ≤ MOST_SCALE) }
 {
     let Some((column, kind)) = column_named(columns, item.column.as_slice()) else {
         return Err(Trouble::Refused(Refusal::UnknownColumn));
@@ -134,7 +145,8 @@ fn takes_kind(function: Function, kind: ColumnKind) -> bool
 // The digits after the point of what a function makes of a column's values.
 fn made_scale(function: Function, kind: ColumnKind) -> u8
     requires { IsTrue (is_kind kind) }
-    ensures { result ≡ Binding.made_scale function kind }
+    ensures value { result ≡ Binding.made_scale function kind }
+    ensures most { result ≤ MOST_SCALE }
 {
     match function {
         Function::Count => 0,

@@ -25,26 +25,28 @@ impl Model for Sums {
 }
 
 impl Sums {
-    // No value.
+    /// No value.
     pub fn new() -> Sums
         ensures { result ≡ record { count = 0; sum = pos 0 } }
     {
         Sums { count: 0, sum: 0 }
     }
 
+    /// How many values there were.
     pub fn count(&self) -> u64
         ensures { result ≡ self.now.count }
     {
         self.count
     }
 
+    /// Their sum.
     pub fn sum(&self) -> i128
         ensures { result ≡ self.now.sum }
     {
         self.sum
     }
 
-    // One more value.
+    /// One more value.
     pub fn add(&mut self, number: i128)
         requires few { self.old.count < 2 ^ 32 }
         requires digits { unsigned_abs number < 10 ^ 28 }
@@ -54,8 +56,18 @@ impl Sums {
         self.sum += number;
     }
 
-    // The mean with six more digits after the point, a half rounded away from zero: by quotient and remainder, since the
-    // sum times a million need not fit.
+    /// So many more values, with this sum.
+    pub fn add_many(&mut self, count: u64, sum: i128)
+        requires few { self.old.count + count ≤ 2 ^ 32 }
+        requires digits { unsigned_abs sum ≤ count * 10 ^ 28 }
+        ensures { self.new ≡ record { count = self.old.count + count; sum = self.old.sum +ℤ sum } }
+    {
+        self.count += count;
+        self.sum += sum;
+    }
+
+    /// The mean with six more digits after the point, a half rounded away from zero: by quotient and remainder, since the
+    /// sum times a million need not fit.
     pub fn mean(&self) -> i128
         requires few { self.now.count ≤ 2 ^ 32 }
         requires some { 0 < self.now.count }

@@ -1,12 +1,15 @@
 // What is known, for one function, of the values so far.
-ghost use Rattle.std.specs.Prelude.{◌≡◌, ◌<◌, ◌≤◌, ◌^◌, [], OnOk};
-ghost use Rattle.ts_expr.specs.Fold.{is_null, number_of, value_cmp, lesser, greater, earlier};
-ghost use Rattle.ts_expr.specs.Running.{tally_of, count_of, taken_into, with_value, IsSmall, value_of, sum_if_any};
+ghost use Rattle.std.specs.Prelude.{◌≡◌, ◌<◌, ◌≤◌, ◌+◌, ◌*◌, ◌^◌, List, [], ◌++◌, OnOk, IsTrue, length, unsigned_abs};
+ghost use Rattle.ts_row.specs.declared.value.Value.{Value};
+ghost use Rattle.ts_expr.specs.declared.function.Function.{Function};
+ghost use Rattle.ts_expr.specs.Fold.{is_null, number_of, total, value_cmp, lesser, greater, earlier};
+ghost use Rattle.ts_expr.specs.Running.{tally_of, count_of, taken_into, with_value, is_summed, with_sums, IsSmall, value_of, sum_if_any};
 
 use crate::Function;
 use crate::sums::Sums;
 use std::alloc::AllocError;
 use std::cmp::Ordering;
+use std::mem;
 use ts_row::Value;
 
 /// What is known, for one function, of the values so far.
@@ -22,7 +25,7 @@ pub enum Tally {
 }
 
 impl Tally {
-    // No value.
+    /// No value.
     pub fn new(function: Function) -> Tally
         ensures { result ≡ tally_of function [] }
     {
@@ -37,7 +40,19 @@ impl Tally {
         }
     }
 
-    // One more value; NULL changes nothing.
+    /// How many values it has seen, where it counts them; else 0.
+    pub fn count(&self) -> u64
+        ensures { result ≡ count_of self.now }
+    {
+        match self {
+            Tally::Count(count) => *count,
+            Tally::Sum(sums) => sums.count(),
+            Tally::Avg(sums) => sums.count(),
+            _ => 0,
+        }
+    }
+
+    /// One more value; NULL changes nothing.
     pub fn take(&mut self, value: &Value) -> Result<(), AllocError>
         requires few { count_of self.old < 2 ^ 32 }
         requires small { IsSmall value.now }
@@ -67,7 +82,33 @@ impl Tally {
         Ok(())
     }
 
-    // What the function makes of the values.
+    /// So many more values, none of them NULL, with this sum; they change a count, a sum or a mean alone. It is as if they had been taken
+    /// one after the other.
+    pub fn add(&mut self, count: u64, sum: i128)
+        requires few { count_of self.old + count ≤ 2 ^ 32 }
+        requires small { unsigned_abs sum ≤ count * 10 ^ 28 }
+        ensures value { self.new ≡ with_sums self.old count sum }
+        ensures at_once { (function : Function) (values more : List Value) → IsTrue (is_summed function) → self.old ≡ tally_of function values
+            → length more ≡ count → total more ≡ sum → self.new ≡ tally_of function (values ++ more) }
+    {
+        match self {
+            Tally::Count(kept) => *kept += count,
+            Tally::Sum(sums) => sums.add_many(count, sum),
+            Tally::Avg(sums) => sums.add_many(count, sum),
+            _ => {}
+        }
+    }
+
+    /// What the function makes of the values; then what is known of no value, for this function.
+    pub fn renew(&mut self, function: Function) -> Value
+        requires { count_of self.old ≤ 2 ^ 32 }
+        ensures value { result ≡ value_of self.old }
+        ensures none { self.new ≡ tally_of function [] }
+    {
+        mem::replace(self, Tally::new(function)).into_value()
+    }
+
+    /// What the function makes of the values.
     pub fn into_value(self) -> Value
         requires { count_of self ≤ 2 ^ 32 }
         ensures { result ≡ value_of self }

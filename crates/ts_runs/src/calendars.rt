@@ -7,17 +7,17 @@ const COUNTED: &[(&[u8], &[u8])] = &[
     (b"ShowPattern(ww);", b"{1 off,5 on,1 off},day\nok\n"),
     (
         b"ShowCalendar(wc);",
-        b"startdate(D02), pattstart(D02), pattname(ww)\nok\n",
+        b"startdate(@02), pattstart(@02), pattname(ww)\nok\n",
     ),
-    (b"CalRange(wc,'D06','D10');", b"D06\nD07\nD10\nok 3\n"),
-    (b"CalStamp(wc,'2011-01-07 12:00:00',1);", b"ok D10\n"),
-    (b"CalIndex(wc,'D03','D10');", b"ok 5\n"),
-    (b"CalIndex(wc,'D10','D03');", b"ok -5\n"),
+    (b"CalRange(wc,'@06','@10');", b"@06\n@07\n@10\nok 3\n"),
+    (b"CalStamp(wc,'2011-01-07 12:00:00',1);", b"ok @10\n"),
+    (b"CalIndex(wc,'@03','@10');", b"ok 5\n"),
+    (b"CalIndex(wc,'@10','@03');", b"ok -5\n"),
     (
         b"CalStamp(wc,'9999-12-31 00:00:00',1);",
         b"error 22 PastEnd\n",
     ),
-    (b"TSCreate('b',wc,'2011-01-08 10:00:00',c1);", b"ok D10\n"),
+    (b"TSCreate('b',wc,'2011-01-08 10:00:00',c1);", b"ok @10\n"),
     (b"DropCalendar(wc);", b"error 32 InUse\n"),
     (b"TSContainerDestroy(c1);", b"error 32 InUse\n"),
 ];

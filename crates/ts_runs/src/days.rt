@@ -1,4 +1,4 @@
-// Talks about January 2011: in them `D` before two digits stands for the midnight at which a day of it begins, and `T` before a time for
+// Talks about January 2011: in them `@` before two digits stands for the midnight at which a day of it begins, and `T` before a time for
 // that time on its third day. 2011-01-02 is a Sunday.
 ghost use Rattle.std.specs.Prelude.{◌<◌, IfOk, IfSome, length};
 
@@ -13,11 +13,11 @@ pub(crate) const WORKDAYS: &[(&[u8], &[u8])] = &[
     (b"CreateRowType(rd, t datetime, v integer);", b"ok\n"),
     (b"CreatePattern(ww, '{1 off,5 on,1 off},day');", b"ok\n"),
     (
-        b"CreateCalendar(wc, 'startdate(D02), pattstart(D02), pattname(ww)');",
+        b"CreateCalendar(wc, 'startdate(@02), pattstart(@02), pattname(ww)');",
         b"ok\n",
     ),
     (b"TSContainerCreate(c1, rd, 8);", b"ok\n"),
-    (b"TSCreate('a', wc, 'D03', c1);", b"ok D03\n"),
+    (b"TSCreate('a', wc, '@03', c1);", b"ok @03\n"),
 ];
 
 /// Two irregular series.
@@ -43,8 +43,8 @@ pub(crate) fn answer_all(
     Ok(true)
 }
 
-// Whether a run answers each of these statements with the reply beside it; a stamp is said with its fraction.
-fn answer(
+/// Whether a run answers each of these statements with the reply beside it; a stamp is said with its fraction.
+pub(crate) fn answer(
     rt: &(impl Threads + Sync),
     alloc: Global,
     site: &mut MemorySite,
@@ -97,7 +97,7 @@ fn write_front<'a>(
 fn behind_day(text: &[u8]) -> Option<(&[u8], &[u8])>
     ensures { IfSome result (λ found. length found.1.now < length text.now) }
 {
-    if text.len() < 3 || text[0] != b'D' {
+    if text.len() < 3 || text[0] != b'@' {
         return None;
     }
     if text[1].is_ascii_digit() && text[2].is_ascii_digit() {

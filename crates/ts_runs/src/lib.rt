@@ -5,6 +5,8 @@
 #![tactic(auto)]
 
 #[cfg(test)]
+mod aggregates;
+#[cfg(test)]
 mod calendars;
 #[cfg(test)]
 mod combining;
@@ -12,6 +14,8 @@ mod combining;
 mod days;
 #[cfg(test)]
 mod formats;
+#[cfg(test)]
+mod generated;
 #[cfg(test)]
 mod items;
 #[cfg(test)]

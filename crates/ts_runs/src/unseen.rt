@@ -9,18 +9,18 @@ const NO_ENTRY: &[(&[u8], &[u8])] = &[
     (b"GetNthElem('a',0);", b"ok 0\n"),
     (b"GetNthElem('a',1);", b"ok 0\n"),
     (b"GetNthElem('a',4294967295);", b"ok 0\n"),
-    (b"Clip('a','D01','D31');", b"ok 0\n"),
-    (b"Clip('a','D31','D01');", b"ok 0\n"),
-    (b"ClipGetCount('a','D01','D31');", b"ok 0\n"),
-    (b"ClipCount('a','D01',1);", b"ok 0\n"),
-    (b"ClipCount('a','D31',-1);", b"ok 0\n"),
-    (b"ClipCount('a','D01',0);", b"ok 0\n"),
-    (b"GetElem('a','D03');", b"ok 0\n"),
+    (b"Clip('a','@01','@31');", b"ok 0\n"),
+    (b"Clip('a','@31','@01');", b"ok 0\n"),
+    (b"ClipGetCount('a','@01','@31');", b"ok 0\n"),
+    (b"ClipCount('a','@01',1);", b"ok 0\n"),
+    (b"ClipCount('a','@31',-1);", b"ok 0\n"),
+    (b"ClipCount('a','@01',0);", b"ok 0\n"),
+    (b"GetElem('a','@03');", b"ok 0\n"),
     (b"Lag('a',0);", b"ok 0\n"),
     (b"Lag('a',1);", b"ok 0\n"),
     (b"Lag('a',-1);", b"ok 0\n"),
-    (b"Union('a','a','D01','D31');", b"ok 0\n"),
-    (b"Intersect('a','a','D01','D31');", b"ok 0\n"),
+    (b"Union('a','a','@01','@31');", b"ok 0\n"),
+    (b"Intersect('a','a','@01','@31');", b"ok 0\n"),
 ];
 
 /// The same of irregular ones.
@@ -30,32 +30,32 @@ const NO_ELEMENT: &[(&[u8], &[u8])] = &[
     (b"GetNthElem('x',0);", b"ok 0\n"),
     (b"GetNthElem('x',1);", b"ok 0\n"),
     (b"GetNthElem('x',4294967295);", b"ok 0\n"),
-    (b"Clip('x','D01','D31');", b"ok 0\n"),
-    (b"Clip('x','D31','D01');", b"ok 0\n"),
-    (b"ClipGetCount('x','D01','D31');", b"ok 0\n"),
-    (b"ClipCount('x','D01',1);", b"ok 0\n"),
-    (b"ClipCount('x','D31',-1);", b"ok 0\n"),
-    (b"ClipCount('x','D01',0);", b"ok 0\n"),
-    (b"GetElem('x','D03');", b"ok 0\n"),
-    (b"Union('x','y','D01','D31');", b"ok 0\n"),
-    (b"Intersect('x','y','D01','D31');", b"ok 0\n"),
+    (b"Clip('x','@01','@31');", b"ok 0\n"),
+    (b"Clip('x','@31','@01');", b"ok 0\n"),
+    (b"ClipGetCount('x','@01','@31');", b"ok 0\n"),
+    (b"ClipCount('x','@01',1);", b"ok 0\n"),
+    (b"ClipCount('x','@31',-1);", b"ok 0\n"),
+    (b"ClipCount('x','@01',0);", b"ok 0\n"),
+    (b"GetElem('x','@03');", b"ok 0\n"),
+    (b"Union('x','y','@01','@31');", b"ok 0\n"),
+    (b"Intersect('x','y','@01','@31');", b"ok 0\n"),
 ];
 
 /// Elements of the regular series that are all hidden.
 const HIDDEN_DAYS: &[(&[u8], &[u8])] = &[
-    (b"PutElem('a','D03',1);", b"ok D03\n"),
-    (b"PutElem('a','D05',2);", b"ok D05\n"),
-    (b"HideElem('a','D03');", b"ok D03\n"),
-    (b"HideElem('a','D05');", b"ok D05\n"),
+    (b"PutElem('a','@03',1);", b"ok @03\n"),
+    (b"PutElem('a','@05',2);", b"ok @05\n"),
+    (b"HideElem('a','@03');", b"ok @03\n"),
+    (b"HideElem('a','@05');", b"ok @05\n"),
     (b"GetNelems('a');", b"ok 2\n"),
 ];
 
 /// The same of an irregular one.
 const HIDDEN_ELEMENTS: &[(&[u8], &[u8])] = &[
-    (b"InsElem('x','D03',1);", b"ok D03\n"),
-    (b"InsElem('x','D05',2);", b"ok D05\n"),
-    (b"HideElem('x','D03');", b"ok D03\n"),
-    (b"HideElem('x','D05');", b"ok D05\n"),
+    (b"InsElem('x','@03',1);", b"ok @03\n"),
+    (b"InsElem('x','@05',2);", b"ok @05\n"),
+    (b"HideElem('x','@03');", b"ok @03\n"),
+    (b"HideElem('x','@05');", b"ok @05\n"),
     (b"GetNelems('x');", b"ok 2\n"),
 ];
 
@@ -70,29 +70,29 @@ fn nothing_is_read_where_nothing_is_seen(rt: HostRuntime) -> Result<(), Fail> {
 
 /// A hidden element leaves an entry without one, and none behind the last that is seen.
 const SOME_HIDDEN: &[(&[u8], &[u8])] = &[
-    (b"PutElem('a','D03',1);", b"ok D03\n"),
-    (b"PutElem('a','D04',2);", b"ok D04\n"),
-    (b"PutElem('a','D05',3);", b"ok D05\n"),
-    (b"PutElem('a','D06',4);", b"ok D06\n"),
-    (b"HideElem('a','D03');", b"ok D03\n"),
-    (b"HideElem('a','D04');", b"ok D04\n"),
-    (b"HideElem('a','D06');", b"ok D06\n"),
+    (b"PutElem('a','@03',1);", b"ok @03\n"),
+    (b"PutElem('a','@04',2);", b"ok @04\n"),
+    (b"PutElem('a','@05',3);", b"ok @05\n"),
+    (b"PutElem('a','@06',4);", b"ok @06\n"),
+    (b"HideElem('a','@03');", b"ok @03\n"),
+    (b"HideElem('a','@04');", b"ok @04\n"),
+    (b"HideElem('a','@06');", b"ok @06\n"),
     (
-        b"Clip('a','D01','D31');",
-        b"D03 none\nD04 none\nD05 3\nok 3\n",
+        b"Clip('a','@01','@31');",
+        b"@03 none\n@04 none\n@05 3\nok 3\n",
     ),
-    (b"ClipGetCount('a','D04','D31');", b"ok 2\n"),
-    (b"GetFirstElem('a');", b"D05 3\nok 1\n"),
-    (b"GetLastElem('a');", b"D05 3\nok 1\n"),
-    (b"GetNthElem('a',1);", b"D04 none\nok 1\n"),
+    (b"ClipGetCount('a','@04','@31');", b"ok 2\n"),
+    (b"GetFirstElem('a');", b"@05 3\nok 1\n"),
+    (b"GetLastElem('a');", b"@05 3\nok 1\n"),
+    (b"GetNthElem('a',1);", b"@04 none\nok 1\n"),
     (b"GetNthElem('a',3);", b"ok 0\n"),
-    (b"ClipCount('a','D31',-2);", b"D04 none\nD05 3\nok 2\n"),
-    (b"GetElem('a','D04');", b"ok 0\n"),
-    (b"Lag('a',-1);", b"D04 3\nok 1\n"),
+    (b"ClipCount('a','@31',-2);", b"@04 none\n@05 3\nok 2\n"),
+    (b"GetElem('a','@04');", b"ok 0\n"),
+    (b"Lag('a',-1);", b"@04 3\nok 1\n"),
     (b"Lag('a',1);", b"ok 0\n"),
-    (b"RevealElem('a','D06');", b"ok D06\n"),
-    (b"Clip('a','D05','D31');", b"D05 3\nD06 4\nok 2\n"),
-    (b"Lag('a',1);", b"D06 3\nok 1\n"),
+    (b"RevealElem('a','@06');", b"ok @06\n"),
+    (b"Clip('a','@05','@31');", b"@05 3\n@06 4\nok 2\n"),
+    (b"Lag('a',1);", b"@06 3\nok 1\n"),
 ];
 
 #[test]
@@ -105,20 +105,20 @@ fn a_hidden_element_leaves_an_empty_entry(rt: HostRuntime) -> Result<(), Fail> {
 const REFUSED: &[(&[u8], &[u8])] = &[
     (b"GetFirstElem('n');", b"error 10 UnknownName\n"),
     (b"GetNthElem('n',0);", b"error 10 UnknownName\n"),
-    (b"Clip('n','D01','D31');", b"error 10 UnknownName\n"),
-    (b"ClipGetCount('n','D01','D31');", b"error 10 UnknownName\n"),
-    (b"ClipCount('n','D01',0);", b"error 10 UnknownName\n"),
-    (b"Union('n','x','D01','D31');", b"error 10 UnknownName\n"),
-    (b"Union('x','n','D01','D31');", b"error 10 UnknownName\n"),
+    (b"Clip('n','@01','@31');", b"error 10 UnknownName\n"),
+    (b"ClipGetCount('n','@01','@31');", b"error 10 UnknownName\n"),
+    (b"ClipCount('n','@01',0);", b"error 10 UnknownName\n"),
+    (b"Union('n','x','@01','@31');", b"error 10 UnknownName\n"),
+    (b"Union('x','n','@01','@31');", b"error 10 UnknownName\n"),
     (
-        b"Intersect('n','n','D01','D31');",
+        b"Intersect('n','n','@01','@31');",
         b"error 10 UnknownName\n",
     ),
     (b"Lag('n',1);", b"error 10 UnknownName\n"),
     (b"Lag('x',1);", b"error 40 NotRegular\n"),
     (b"Lag('x',0);", b"error 40 NotRegular\n"),
     (b"GetNthElem('x',-1);", b"error 1 Syntax\n"),
-    (b"ClipCount('x','D01',1000001);", b"error 1 Syntax\n"),
+    (b"ClipCount('x','@01',1000001);", b"error 1 Syntax\n"),
     (b"Lag('n',-2147483648);", b"error 1 Syntax\n"),
 ];
 
@@ -133,10 +133,10 @@ const MANY: &[(&[u8], &[u8])] = &[
     (b"CreateRowType(rd, t datetime, v integer);", b"ok\n"),
     (b"TSContainerCreate(c1, rd, 8);", b"ok\n"),
     (
-        b"CreateCalendar(sc,'startdate(D03), pattstart(D03), pattern({1 on},second)');",
+        b"CreateCalendar(sc,'startdate(@03), pattstart(@03), pattern({1 on},second)');",
         b"ok\n",
     ),
-    (b"TSCreate('s', sc, 'D03', c1);", b"ok D03\n"),
+    (b"TSCreate('s', sc, '@03', c1);", b"ok @03\n"),
     (
         b"PutElem('s','2011-01-14 13:46:40',1);",
         b"ok 2011-01-14 13:46:40.00000\n",
@@ -145,18 +145,18 @@ const MANY: &[(&[u8], &[u8])] = &[
 
 /// More rows than a reply may have are refused, but are counted.
 const TOO_MANY: &[(&[u8], &[u8])] = &[
-    (b"Clip('s','D03','D31');", b"error 34 TooLarge\n"),
-    (b"ClipGetCount('s','D03','D31');", b"ok 1000001\n"),
+    (b"Clip('s','@03','@31');", b"error 34 TooLarge\n"),
+    (b"ClipGetCount('s','@03','@31');", b"ok 1000001\n"),
     (
-        b"ClipGetCount('s','2011-01-03 00:00:01','D31');",
+        b"ClipGetCount('s','2011-01-03 00:00:01','@31');",
         b"ok 1000000\n",
     ),
     (
-        b"Clip('s','2011-01-14 13:46:39','D31');",
+        b"Clip('s','2011-01-14 13:46:39','@31');",
         b"2011-01-14 13:46:39.00000 none\n2011-01-14 13:46:40.00000 1\nok 2\n",
     ),
     (
-        b"ClipCount('s','D31',-2);",
+        b"ClipCount('s','@31',-2);",
         b"2011-01-14 13:46:39.00000 none\n2011-01-14 13:46:40.00000 1\nok 2\n",
     ),
     (
@@ -169,7 +169,7 @@ const TOO_MANY: &[(&[u8], &[u8])] = &[
         b"2011-01-14 13:46:40.00000 1\nok 1\n",
     ),
     (b"Lag('s',0);", b"2011-01-14 13:46:40.00000 1\nok 1\n"),
-    (b"Lag('s',-1000000);", b"D03 1\nok 1\n"),
+    (b"Lag('s',-1000000);", b"@03 1\nok 1\n"),
     (b"Lag('s',-1000001);", b"ok 0\n"),
 ];
 

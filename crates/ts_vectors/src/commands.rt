@@ -3,7 +3,7 @@ use std::alloc::{AllocError, Global};
 use ts_command::{Columns, Command, Literals, read_command};
 use ts_row::{Column, ColumnKind, Literal};
 
-// A command as a row of a table has it: its routine, its name or key, a second one if it has two, and the rest.
+// A command as a row of a table has it: its routine, its name or key, a second one or its calendar if it has one, and the rest.
 type Row = (&'static str, &'static [u8], &'static [u8], Rest);
 
 #[derive(Clone, Copy, Debug)]
@@ -11,6 +11,7 @@ enum Rest {
     Nothing,
     Stamp(i64),
     Stamps(i64, i64),
+    List(&'static [u8], i64, i64),
     StampAndName(i64, &'static [u8]),
     StampAndCount(i64, i64),
     Place(i64),
@@ -64,6 +65,9 @@ fn routine_of(command: &Command) -> &'static str {
         Command::Union { .. } => "Union",
         Command::Intersect { .. } => "Intersect",
         Command::Lag { .. } => "Lag",
+        Command::AggregateBy { .. } => "AggregateBy",
+        Command::AggregateRange { .. } => "AggregateRange",
+        Command::AggregateAll { .. } => "AggregateAll",
         _ => "",
     }
 }
@@ -98,6 +102,9 @@ fn first_of(command: &Command) -> &[u8] {
         Command::Union { first, .. } => first.as_slice(),
         Command::Intersect { first, .. } => first.as_slice(),
         Command::Lag { key, .. } => key.as_slice(),
+        Command::AggregateBy { key, .. } => key.as_slice(),
+        Command::AggregateRange { key, .. } => key.as_slice(),
+        Command::AggregateAll { container, .. } => container.as_slice(),
         _ => b"",
     }
 }
@@ -110,6 +117,7 @@ fn second_of(command: &Command) -> &[u8] {
         Command::TSCreateIrr { container, .. } => container.as_slice(),
         Command::Union { second, .. } => second.as_slice(),
         Command::Intersect { second, .. } => second.as_slice(),
+        Command::AggregateBy { calendar, .. } => calendar.as_slice(),
         _ => b"",
     }
 }
@@ -121,6 +129,9 @@ fn is_rest(command: &Command, rest: Rest) -> bool {
         (Command::GetElem { stamp, .. }, Rest::Stamp(units)) => stamp.units() == units,
         (Command::DelElem { stamp, .. }, Rest::Stamp(units)) => stamp.units() == units,
         (_, Rest::Stamps(first, last)) => has_range(command, first, last),
+        (_, Rest::List(text, first, last)) => {
+            text_of(command) == text && has_range(command, first, last)
+        }
         (_, Rest::Place(wanted)) => has_place(command, wanted),
         (Command::ClipCount { stamp, count, .. }, Rest::StampAndCount(units, wanted)) => {
             stamp.units() == units && *count == wanted
@@ -149,8 +160,21 @@ fn has_range(command: &Command, first: i64, last: i64) -> bool {
         | Command::Clip { from, to, .. }
         | Command::ClipGetCount { from, to, .. }
         | Command::Union { from, to, .. }
-        | Command::Intersect { from, to, .. } => from.units() == first && to.units() == last,
+        | Command::Intersect { from, to, .. }
+        | Command::AggregateBy { from, to, .. }
+        | Command::AggregateRange { from, to, .. }
+        | Command::AggregateAll { from, to, .. } => from.units() == first && to.units() == last,
         _ => false,
+    }
+}
+
+// The aggregate list that a command has.
+fn text_of(command: &Command) -> &[u8] {
+    match command {
+        Command::AggregateBy { text, .. } => text.as_slice(),
+        Command::AggregateRange { text, .. } => text.as_slice(),
+        Command::AggregateAll { text, .. } => text.as_slice(),
+        _ => b"",
     }
 }
 
@@ -336,8 +360,8 @@ const SEVERAL: [Value; 6] = [
     Value::Text(b"a'"),
 ];
 
-/// Readings and combinations, and the commands that they are.
-static READINGS: [(&[u8], Row); 13] = [
+/// Readings, combinations and aggregates, and the commands that they are.
+static READINGS: [(&[u8], Row); 16] = [
     (
         b"GetFirstElem('x');",
         ("GetFirstElem", b"x", b"", Rest::Nothing),
@@ -387,6 +411,18 @@ static READINGS: [(&[u8], Row); 13] = [
         ("Lag", b"x", b"", Rest::Place(2147483647)),
     ),
     (b"Lag('x',007);", ("Lag", b"x", b"", Rest::Place(7))),
+    (
+        b"AggregateBy('sum($v)', c, 'x', '1970-01-01 00:00:00', '1970-01-01 00:00:00.00001');",
+        ("AggregateBy", b"x", b"c", Rest::List(b"sum($v)", 0, 1)),
+    ),
+    (
+        b"AggregateRange('', 'it''s', '1970-01-01 00:00:00.00001', '1970-01-01 00:00:00');",
+        ("AggregateRange", b"it's", b"", Rest::List(b"", 1, 0)),
+    ),
+    (
+        b"AggregateAll('it''s',c1,'1970-01-01 00:00:00','1969-12-31 23:59:59.99999');",
+        ("AggregateAll", b"c1", b"", Rest::List(b"it's", 0, -1)),
+    ),
 ];
 
 #[test]

@@ -83,11 +83,8 @@ static STATEMENTS: [(&[u8], u32); 65] = [
     (b"HideElem('x','2011-02-28 00:00:00',1);", 34),
     (b"RevealElem('x','2011-02-28 00:00:00',1);", 36),
     (b"RevealElem('x');", 14),
-    // The shape of a call that comes next, by a routine that isn't built yet.
-    (
-        b"AggregateRange('sum($v)','x','2011-02-28 00:00:00','2011-02-28 00:00:00');",
-        0,
-    ),
+    // A routine that isn't built yet.
+    (b"RollingPut('x','2011-02-28 00:00:00',1);", 0),
 ];
 
 #[test]
@@ -141,8 +138,8 @@ fn patterns_and_calendars_are_refused_at_their_tokens(rt: HostRuntime) {
     }
 }
 
-/// Readings and combinations, and the places where they are refused.
-static READINGS: [(&[u8], u32); 31] = [
+/// Readings, combinations and aggregates, and the places where they are refused.
+static READINGS: [(&[u8], u32); 40] = [
     (b"GetFirstElem();", 13),
     (b"GetFirstElem('x',0);", 16),
     (b"GetNthElem('x');", 14),
@@ -186,6 +183,33 @@ static READINGS: [(&[u8], u32); 31] = [
     (b"Lag('x',2147483648);", 8),
     (b"Lag('x',-2147483648);", 8),
     (b"Lag('x',-1.0);", 8),
+    (
+        b"AggregateBy(v,c,'x','2011-02-28 00:00:00','2011-02-28 00:00:00');",
+        12,
+    ),
+    (
+        b"AggregateBy('sum($v)','c','x','2011-02-28 00:00:00','2011-02-28 00:00:00');",
+        22,
+    ),
+    (
+        b"AggregateBy('',c,k,'2011-02-28 00:00:00','2011-02-28 00:00:00');",
+        17,
+    ),
+    (b"AggregateBy('',c,'x','2011-02-28 00:00:00');", 42),
+    (b"AggregateRange('','x');", 21),
+    (
+        b"AggregateRange('',c,'x','2011-02-28 00:00:00','2011-02-28 00:00:00');",
+        18,
+    ),
+    (
+        b"AggregateAll('','c1','2011-02-28 00:00:00','2011-02-28 00:00:00');",
+        16,
+    ),
+    (b"AggregateAll('',c1,'2011-02-28 00:00:00');", 40),
+    (
+        b"AggregateAll('',c1,'2011-02-28 00:00:00','2011-02-29 00:00:00');",
+        41,
+    ),
 ];
 
 #[test]

@@ -1,0 +1,49 @@
+use Rattle.std.proofs.Common.{◌≡◌, ◌-◌, List, ℕ, ◌∷◌, length, refl, sym, ap, ◌∙◌, arith}
+use Rattle.ts_aggregate.specs.Column.{found_in}
+use Rattle.ts_aggregate.proofs.CellsLemmas.{one_less, one_fits, first_of, seen, unseen}
+use Rattle.ts_aggregate.proofs.cells.Cells.next.Goals as goal
+
+pub returns-then-has_value : goal.returns-then-has_value
+returns-then-has_value c =
+    let s = c.args.self.spot in
+    let left : ℕ = c.loop-left.left in
+    let bytes : List ℕ = c.loop-left.bytes.now in
+    let cell : List ℕ = c.split_at.result.0.now in
+    let rest : List ℕ = c.split_at.result.1.now in
+    let i = c.loop-left.invariant in
+    record {
+      first = i.same
+          ∙ first_of s left bytes cell rest (omega (arith, c.loop-left-test.true)) c.split_at.ensures.front c.split_at.ensures.back
+          ∙ seen s cell (found_in s (left - 1) rest) (sym c.has_value.ensures ∙ c.if-has_value.true)
+          ∙ ap (λ (l : List ℕ). l ∷ found_in s (left - 1) rest) (sym c.bytes_of.ensures.value);
+      size = c.bytes_of.ensures.size;
+      spot = refl;
+      whole = record {
+        front = c.requires.front;
+        place = c.requires.place;
+        whole = one_less left s.size (length bytes) (length rest) (omega (arith, c.loop-left-test.true)) i.whole.whole
+            (omega (arith, c.split_at.ensures.back_len, one_fits left s.size (length bytes) (omega (arith, c.loop-left-test.true)) i.whole.whole));
+      };
+      fewer = omega (arith, i.fewer, c.loop-left-test.true);
+    }
+
+pub loop-left-preserved : goal.loop-left-preserved
+loop-left-preserved c =
+    let s = c.args.self.spot in
+    let left : ℕ = c.loop-left.left in
+    let bytes : List ℕ = c.loop-left.bytes.now in
+    let cell : List ℕ = c.split_at.result.0.now in
+    let rest : List ℕ = c.split_at.result.1.now in
+    let i = c.loop-left.invariant in
+    record {
+      same = i.same
+          ∙ first_of s left bytes cell rest (omega (arith, c.loop-left-test.true)) c.split_at.ensures.front c.split_at.ensures.back
+          ∙ unseen s cell (found_in s (left - 1) rest) (sym c.has_value.ensures ∙ c.if-has_value.false);
+      whole = record {
+        front = c.requires.front;
+        place = c.requires.place;
+        whole = one_less left s.size (length bytes) (length rest) (omega (arith, c.loop-left-test.true)) i.whole.whole
+            (omega (arith, c.split_at.ensures.back_len, one_fits left s.size (length bytes) (omega (arith, c.loop-left-test.true)) i.whole.whole));
+      };
+      fewer = omega (arith, i.fewer, c.loop-left-test.true);
+    }

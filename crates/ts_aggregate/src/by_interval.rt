@@ -1,0 +1,167 @@
+// One that groups the elements that it is handed.
+ghost use Rattle.std.specs.Prelude.{◌≡◌, ◌+◌, ◌-◌, ◌^◌, ◌≤◌, min, [], ◌∷◌, None, OnOk, IfOk, length};
+ghost use Rattle.ts_row.specs.Row.{Row as TheRow};
+ghost use Rattle.ts_row.specs.RowType.{width_of};
+ghost use Rattle.ts_entry.specs.Entry.{AreSeenBytes};
+ghost use Rattle.ts_entry.specs.Reading.{most_rows};
+ghost use Rattle.ts_aggregate.specs.Fold.{HasTaken};
+ghost use Rattle.ts_aggregate.specs.Groups.{grouping, IsClosed, IsReady, MayTake, Stands};
+
+use crate::Folding;
+use crate::one_row::OneRow;
+use crate::span::{Span, is_before};
+use crate::wish::Wish;
+use std::alloc::AllocError;
+use ts_base::Stamp;
+use ts_entry::{ElementVisitor, EntryVisitor};
+use ts_row::{Row, RowType};
+
+/// The most rows of a reply.
+pub(crate) const MOST_ROWS: u64 = 1_000_000;
+
+/// Groups elements, which come in the order of their stamps, by the on intervals of a calendar, and hands on what a fold makes of each
+/// group, once an element comes that lies behind it. Rows beyond the most of a reply are counted alone.
+#[derive(Drop)]
+pub(crate) struct ByInterval<'a, 'b, V> {
+    wish: &'a Wish<'a>,
+    /// That of the last element.
+    span: Span,
+    folding: &'a mut Folding<'b>,
+    out: &'a mut V,
+    /// How many groups are closed.
+    count: u64,
+    /// Where a row is copied that is folded.
+    one: OneRow,
+}
+
+impl<'a, 'b, V: ElementVisitor> ByInterval<'a, 'b, V> {
+    /// None so far.
+    pub(crate) fn new(
+        wish: &'a Wish<'a>,
+        folding: &'a mut Folding<'b>,
+        out: &'a mut V,
+    ) -> ByInterval<'a, 'b, V>
+        ensures same { result.out.ghost_name ≡ out.entry.ghost_name }
+        ensures none { result.out.now ≡ out.old }
+        ensures wish { result.wish.now ≡ wish.now }
+        ensures fold { result.folding.now ≡ folding.old }
+        ensures start { result.span.start ≡ None }
+        ensures stands { HasTaken folding.old [] → Stands (grouping result.wish.now result.span result.folding.now result.count) [] }
+    {
+        let span = wish.first_span();
+        ByInterval {
+            wish,
+            span,
+            folding,
+            out,
+            count: 0,
+            one: OneRow::new(),
+        }
+    }
+
+    /// Closes the group that is open, if one is. Tells how many groups there are.
+    pub(crate) fn end(&mut self) -> Result<u64, AllocError>
+        ensures same { self.new.out.ghost_name ≡ self.old.out.ghost_name }
+        ensures count { IfOk result (λ count. count ≡ self.new.count) }
+        ensures closed { OnOk result (IsClosed V.took
+            (grouping self.old.wish.now self.old.span self.old.folding.now self.old.count) self.old.out.now
+            (grouping self.new.wish.now self.new.span self.new.folding.now self.new.count) self.new.out.now) }
+    {
+        self.close()?;
+        Ok(self.count)
+    }
+
+    // Hands on what the fold makes of the open group, if one is open.
+    fn close(&mut self) -> Result<(), AllocError>
+        ensures same { self.new.out.ghost_name ≡ self.old.out.ghost_name }
+        ensures closed { OnOk result (IsClosed V.took
+            (grouping self.old.wish.now self.old.span self.old.folding.now self.old.count) self.old.out.now
+            (grouping self.new.wish.now self.new.span self.new.folding.now self.new.count) self.new.out.now) }
+    {
+        let Some(start) = self.span.start else {
+            return Ok(());
+        };
+        let row = self.folding.finish()?;
+        self.hand_on(start, &row)?;
+        Ok(())
+    }
+
+    // Counts a row, and hands it on unless they are too many.
+    fn hand_on(&mut self, start: Stamp, row: &Row) -> Result<(), AllocError>
+        ensures same { self.new.out.ghost_name ≡ self.old.out.ghost_name }
+        ensures wish { self.new.wish.now ≡ self.old.wish.now }
+        ensures fold { self.new.folding.now ≡ self.old.folding.now }
+        ensures count { self.new.count ≡ min (self.old.count + 1) (2 ^ 64 - 1) }
+        ensures more { self.old.count ≤ self.new.count }
+        ensures taken { OnOk result (self.new.count ≤ most_rows → V.took self.old.out.now ((start, row.now) ∷ []) self.new.out.now) }
+    {
+        self.count = self.count.saturating_add(1);
+        if self.count > MOST_ROWS {
+            return Ok(());
+        }
+        self.out.element(start, row)
+    }
+
+    // Goes on to the group of an element at a stamp, where it is another, and closes the one before it.
+    fn reach(&mut self, stamp: Stamp) -> Result<(), AllocError>
+        ensures same { self.new.out.ghost_name ≡ self.old.out.ghost_name }
+        ensures ready { OnOk result (IsReady V.took
+            (grouping self.old.wish.now self.old.span self.old.folding.now self.old.count) self.old.out.now stamp
+            (grouping self.new.wish.now self.new.span self.new.folding.now self.new.count) self.new.out.now) }
+    {
+        if is_before(stamp, self.span.end) {
+            return Ok(());
+        }
+        self.close()?;
+        self.span = self.wish.span_from(stamp);
+        Ok(())
+    }
+
+    // Folds a row, where a group is open.
+    fn fold(&mut self, kind: &RowType, row: &[u8]) -> Result<(), AllocError>
+        requires size { length row.now ≡ width_of kind.now.columns }
+        ensures same { self.new.out.ghost_name ≡ self.old.out.ghost_name }
+        ensures out { self.new.out.now ≡ self.old.out.now }
+        ensures wish { self.new.wish.now ≡ self.old.wish.now }
+        ensures span { self.new.span ≡ self.old.span }
+        ensures count { self.new.count ≡ self.old.count }
+        ensures takes { OnOk result ((r : TheRow) → AreSeenBytes kind.now.columns row.now r
+            → MayTake self.old.span.start kind.now.columns self.old.folding.now r self.new.folding.now) }
+    {
+        if self.span.start.is_some() {
+            self.one.fold(self.folding, kind, row)?;
+        }
+        Ok(())
+    }
+}
+
+impl<'a, 'b, V: ElementVisitor> EntryVisitor for ByInterval<'a, 'b, V> {
+    ghost use Rattle.std.specs.Prelude.{◌≡◌};
+    ghost use Rattle.std.proofs.Common.{refl, ◌∙◌};
+    ghost use Rattle.ts_entry.specs.Entry.{elements_of};
+    ghost use Rattle.ts_aggregate.specs.Groups.{AreGrouped, grouping};
+    ghost use Rattle.ts_aggregate.specs.GroupLaws.{grouped_none, grouped_then};
+
+    ghost took = { λ columns v es w. (w.out.ghost_name ≡ v.out.ghost_name)
+        × AreGrouped V.took columns (grouping v.wish.now v.span v.folding.now v.count) v.out.now (elements_of es)
+        (grouping w.wish.now w.span w.folding.now w.count) w.out.now };
+
+    fn element(&mut self, kind: &RowType, stamp: Stamp, row: &[u8]) -> Result<(), AllocError> {
+        self.reach(stamp)?;
+        self.fold(kind, row)?;
+        Ok(())
+    }
+
+    fn blank(&mut self, _kind: &RowType, _stamp: Stamp) -> Result<(), AllocError> {
+        Ok(())
+    }
+
+    ghost none = { λ columns v. (refl, grouped_none V.took V.none columns (grouping v.wish.now v.span v.folding.now v.count) v.out.now) };
+
+    ghost then = { λ columns a b c es fs p q. (
+      q.0 ∙ p.0,
+      grouped_then V.took V.then columns (grouping a.wish.now a.span a.folding.now a.count)
+          (grouping b.wish.now b.span b.folding.now b.count) (grouping c.wish.now c.span c.folding.now c.count)
+          a.out.now b.out.now c.out.now es fs p.1 q.1,
+    ) };
+}

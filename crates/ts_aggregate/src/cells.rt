@@ -1,0 +1,95 @@
+// Cells that stand one behind the other, and the values of a column in them: NULLs, those of hidden elements and cells without one are passed over.
+ghost use Rattle.std.specs.Prelude.{◌≡◌, ◌+◌, ◌<◌, [], MatchOption, length};
+ghost use Rattle.ts_aggregate.specs.Column;
+ghost use Rattle.ts_aggregate.specs.Column.{found, AreWhole, IsNext, IsLast};
+
+use ts_row::MARK;
+
+/// Cells one behind the other, as many as are left, each of so many bytes with so many before its row.
+#[derive(Clone, Copy)]
+pub(crate) struct Spread<'a> {
+    pub size: usize,
+    pub front: usize,
+    pub left: usize,
+    pub bytes: &'a [u8],
+}
+
+/// Where a column stands in cells.
+#[derive(Clone, Copy)]
+pub(crate) struct Spot {
+    /// The bytes of a cell.
+    pub size: usize,
+    /// Those before its row.
+    pub front: usize,
+    /// Those before the byte that tells whether the column is NULL.
+    pub place: usize,
+    /// Those of a value, which stand behind that byte.
+    pub width: usize,
+}
+
+/// Cells one behind the other, as many as are left, and where a column stands in them.
+#[derive(Clone, Copy)]
+pub(crate) struct Cells<'a> {
+    pub spot: Spot,
+    pub left: usize,
+    pub bytes: &'a [u8],
+}
+
+impl<'a> Cells<'a> {
+    /// The bytes of the first value, and the cells behind it.
+    pub(crate) fn next(self) -> Option<(&'a [u8], Cells<'a>)>
+        requires { AreWhole self }
+        ensures { MatchOption result (found self.entry ≡ []) (λ next. IsNext self.entry next.0.now next.1) }
+    {
+        let mut left = self.left;
+        let mut bytes = self.bytes;
+        while left > 0 {
+            left -= 1;
+            let (cell, rest) = bytes.split_at(self.spot.size);
+            bytes = rest;
+            if has_value(self.spot, cell) {
+                let spot = self.spot;
+                return Some((bytes_of(spot, cell), Cells { spot, left, bytes }));
+            }
+        }
+        None
+    }
+
+    /// The bytes of the last value.
+    pub(crate) fn last(self) -> Option<&'a [u8]>
+        requires { AreWhole self }
+        ensures { MatchOption result (found self.entry ≡ []) (λ last. IsLast self.entry last.now) }
+    {
+        let mut left = self.left;
+        let mut bytes = self.bytes;
+        while left > 0 {
+            left -= 1;
+            let (rest, cell) = bytes.split_at(bytes.len() - self.spot.size);
+            bytes = rest;
+            if has_value(self.spot, cell) {
+                return Some(bytes_of(self.spot, cell));
+            }
+        }
+        None
+    }
+}
+
+// Whether a cell has a value that is folded.
+fn has_value(spot: Spot, cell: &[u8]) -> bool
+    requires front { spot.front < spot.size }
+    requires place { spot.place + spot.width < spot.size }
+    requires size { length cell.now ≡ spot.size }
+    ensures { result ≡ Column.has_value spot cell.now }
+{
+    cell[0] == 1 && cell[spot.front] < MARK && cell[spot.place] == 1
+}
+
+// The bytes of its value.
+fn bytes_of(spot: Spot, cell: &[u8]) -> &[u8]
+    requires place { spot.place + spot.width < spot.size }
+    requires size { length cell.now ≡ spot.size }
+    ensures value { result.now ≡ Column.bytes_of spot cell.now }
+    ensures size { length result.now ≡ spot.width }
+{
+    &cell[spot.place + 1..spot.place + 1 + spot.width]
+}

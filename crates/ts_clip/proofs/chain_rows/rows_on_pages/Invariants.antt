@@ -1,0 +1,16 @@
+-- The rows on the pages before an index were handed on.
+use Rattle.std.proofs.Common.{Ok, List, take}
+use Rattle.ts_row.specs.Element.{Element}
+use Rattle.ts_irregular.specs.Call.{Reads}
+use Rattle.ts_chain.specs.Chain.{all_in}
+use Rattle.ts_clip.specs.Chain.{HoldsOfPages}
+use Rattle.ts_clip.proofs.ChainRowLemmas.{rows_within}
+use Rattle.ts_clip.proofs.chain_rows.rows_on_pages.Given as goal
+
+abbrev pub invariant-loop-place : goal.invariant-loop-place
+invariant-loop-place g l = record {
+  call : Reads {T = Unit {0}} g.P.Pages.tells (Ok tt) (g.P.Pages.contents l.fn.pages) (g.P.Pages.contents l.pages);
+  undisturbed : g.P.Pages.undisturbed l.fn.pages l.pages;
+  taken : HoldsOfPages g.P.Pages.tells l.shelf.series l.shelf.kind.now.columns l.places (g.P.Pages.contents l.fn.pages)
+      (λ (chain : List (List Element)). g.V.RowVisitor.took l.shelf.kind.now.columns l.fn.visitor (rows_within l.from l.to (all_in (take l.place-index chain))) l.visitor);
+}

@@ -1,0 +1,45 @@
+use Rattle.std.proofs.Common.{◌≡◌, ℕ, ◌<◌, Ok, List, length, take, get_or, sym, subst, arith}
+use Rattle.std.proofs.lemmas.List.{take_all}
+use Rattle.ts_space.specs.declared.place.Place.{Place}
+use Rattle.ts_row.specs.declared.kind.Column.{Column}
+use Rattle.ts_row.specs.Row.{Row}
+use Rattle.ts_regular.specs.Offsets.{elements_from}
+use Rattle.ts_regular.specs.Places.{OffsetPage, IsOn, all_in}
+use Rattle.ts_chain.proofs.ReadLemmas.{reads_more}
+use Rattle.ts_clip.proofs.GridPlaceLemmas.{page_at, pages_count}
+use Rattle.ts_clip.proofs.GridRowLemmas.{rows_next, rows_within}
+use Rattle.ts_clip.proofs.grid_rows.rows_on_places.Goals as goal
+
+pub loop-place-preserved : goal.loop-place-preserved
+loop-place-preserved g c =
+    let tells = g.P.Pages.tells in
+    let slot : ℕ = c.args.shelf.now.series in
+    let columns : List Column = c.args.shelf.now.kind.now.columns in
+    let places : List Place = c.args.places.now in
+    let o = c.args.offsets in
+    let u = g.P.Pages.contents c.args.pages.now in
+    let v = g.P.Pages.contents c.loop-place.pages in
+    let w = g.P.Pages.contents c.rows_on_page.new.pages in
+    let i = c.loop-place.invariant in
+    let index : ℕ = c.loop-place.place-index in
+    let within : index < length places = c.loop-place-test.true in
+    let place : Place = get_or places index _ in
+    let done = c.in_ok-rows_on_page.ensures in
+    record {
+      call = reads_more tells tt (Ok tt) u v w i.call done.call;
+      undisturbed = g.met.P.Pages.«then» c.args.pages.now c.loop-place.pages c.rows_on_page.new.pages i.undisturbed done.undisturbed;
+      taken = λ t ps on.
+          let here = page_at slot columns u.page places index _ ps c.requires.rising on within in
+          let own = subst (λ (b : List ℕ). IsOn slot columns b place here.page) (sym (i.call.pages t place.page)) here.on in
+          subst (λ (l : List Row). g.V.RowVisitor.took columns c.args.visitor.now l c.rows_on_page.new.visitor) (rows_next slot columns u.page place o.lower o.upper index ps here)
+          (g.met.V.RowVisitor.«then» columns c.args.visitor.now c.loop-place.visitor c.rows_on_page.new.visitor (rows_within o.lower o.upper (all_in (take index ps))) (rows_within o.lower o.upper (elements_from here.page.0 here.page.1))
+          (i.taken t ps on) (done.took t here.page own));
+    }
+
+pub returns-clause-took : goal.returns-clause-took
+returns-clause-took g c = λ t ps on.
+    let columns : List Column = c.args.shelf.now.kind.now.columns in
+    let o = c.args.offsets in
+    let count = pages_count c.args.shelf.now.series columns (g.P.Pages.contents c.args.pages.now).page c.args.places.now ps on in
+    let all : take c.loop-place.place-index ps ≡ ps = take_all c.loop-place.place-index ps (omega (arith, count, c.loop-place-test.false)) in
+    subst (λ (l : List OffsetPage). g.V.RowVisitor.took columns c.args.visitor.now (rows_within o.lower o.upper (all_in l)) c.loop-place.visitor) all (c.loop-place.invariant.taken t ps on)

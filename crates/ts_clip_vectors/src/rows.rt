@@ -1,0 +1,104 @@
+// The rows of a range, in the bytes of their cells.
+use crate::series::{SLOT, day, filled};
+use std::alloc::{AllocError, Global};
+use ts_base::StoreFault;
+use ts_clip::rows;
+use ts_entry::RowVisitor;
+use ts_page::Page;
+use ts_row::{RowType, Shelf};
+
+/// The bytes of the rows, how many cells there were, and the bytes before the row of a cell, by call.
+#[derive(Drop)]
+struct Copied {
+    rows: Vec<u8>,
+    cells: usize,
+    fronts: Vec<usize>,
+}
+
+impl RowVisitor for Copied {
+    ghost took = { λ _ _ _ _. Unit {0} };
+
+    fn rows(&mut self, kind: &RowType, cells: &[u8], front: usize) -> Result<(), AllocError> {
+        self.fronts.push(front)?;
+        for cell in cells.chunks(front.saturating_add(kind.width())) {
+            self.cells = self.cells.saturating_add(1);
+            if cell.first() == Some(&1) {
+                self.rows.extend_from_slice(row_in(cell, front))?;
+            }
+        }
+        Ok(())
+    }
+
+    ghost none = { λ _ _. tt };
+
+    ghost then = { λ _ _ _ _ _ _ _ _. tt };
+}
+
+// The bytes of the row in a cell.
+fn row_in(cell: &[u8], front: usize) -> &[u8] {
+    if cell.len() < front {
+        return &[];
+    }
+    &cell[front..]
+}
+
+// What is handed on from one day to another.
+fn handed_on(alloc: Global, regular: bool, from: u8, to: u8) -> Result<Copied, StoreFault> {
+    let mut series = filled(alloc, regular)?;
+    let kind = &series.kind;
+    let shelf = &Shelf { series: SLOT, kind };
+    let page = &mut Page::zero();
+    let pages = &mut series.pages;
+    let space = &series.space;
+    let shape = &series.shape;
+    let mut copied = Copied {
+        rows: Vec::new(alloc),
+        cells: 0,
+        fronts: Vec::new(alloc),
+    };
+    let into = &mut copied;
+    rows(pages, page, space, shelf, shape, day(from)?, day(to)?, into)?;
+    Ok(copied)
+}
+
+/// Five bytes a row: 1, or 3 where it is hidden, and the integer.
+const ALL: &[u8] = &[1, 0, 0, 0, 1, 1, 0, 0, 0, 2, 3, 0, 0, 0, 3, 1, 0, 0, 0, 4];
+
+const INSIDE: &[u8] = &[1, 0, 0, 0, 2, 3, 0, 0, 0, 3];
+
+// Whether these rows are handed on in so many cells, in calls with these bytes before a row.
+fn gives(copied: Result<Copied, StoreFault>, rows: &[u8], cells: usize, fronts: &[usize]) -> bool {
+    match copied {
+        Ok(copied) => {
+            copied.rows.as_slice() == rows
+                && copied.cells == cells
+                && copied.fronts.as_slice() == fronts
+        }
+        Err(_) => false,
+    }
+}
+
+#[test]
+fn all_rows_are_handed_on_in_one_call_a_page(rt: HostRuntime) {
+    let alloc = rt.alloc();
+    assert!(rt; gives(handed_on(alloc, false, 1, 31), ALL, 4, &[9]));
+    assert!(rt; gives(handed_on(alloc, true, 1, 31), ALL, 21, &[1]));
+}
+
+#[test]
+fn both_ends_of_a_range_belong_to_it(rt: HostRuntime) {
+    let alloc = rt.alloc();
+    assert!(rt; gives(handed_on(alloc, false, 5, 6), INSIDE, 2, &[9]));
+    assert!(rt; gives(handed_on(alloc, false, 4, 9), INSIDE, 2, &[9]));
+    assert!(rt; gives(handed_on(alloc, true, 5, 6), INSIDE, 2, &[1]));
+    assert!(rt; gives(handed_on(alloc, true, 4, 9), INSIDE, 4, &[1]));
+}
+
+#[test]
+fn a_range_without_cells_hands_on_nothing(rt: HostRuntime) {
+    let alloc = rt.alloc();
+    assert!(rt; gives(handed_on(alloc, false, 8, 9), &[], 0, &[]));
+    assert!(rt; gives(handed_on(alloc, true, 8, 9), &[], 0, &[]));
+    assert!(rt; gives(handed_on(alloc, false, 10, 3), &[], 0, &[]));
+    assert!(rt; gives(handed_on(alloc, true, 10, 3), &[], 0, &[]));
+}
