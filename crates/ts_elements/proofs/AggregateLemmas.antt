@@ -27,8 +27,8 @@ use Rattle.ts_model.specs.Catalogue.{Elements, Series, Catalogue, columns_of}
 use Rattle.ts_layout.specs.Meaning.{Layout, elements_at, heading_at, shape_at, catalogue_of}
 use Rattle.ts_answer.specs.Answer.{Tried, Answered, ◌>>=◌, wanted, a_calendar, outcome, carried_out, aggregate_by, aggregate_range, scales_of, folded_range, seen_elements}
 use Rattle.ts_answer.specs.Reply.{folded_line, folded_text, count_line}
-use Rattle.ts_answer.specs.Tried.{IsTried, IsRefusedAs}
-use Rattle.ts_answer.specs.View.{View, IsViewOf, Shows}
+use Rattle.ts_answer.specs.Tried.{IsRefusedAs}
+use Rattle.ts_answer.specs.View.{View, Shows}
 use Rattle.ts_answer.proofs.CallerLemmas.{on_ok, on_err, refused_as}
 use Rattle.ts_elements.specs.Aggregates.{IsFresh}
 use Rattle.ts_elements.specs.Elements.{IsShelf}

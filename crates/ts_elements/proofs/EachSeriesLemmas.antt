@@ -1,5 +1,5 @@
 -- What a list makes of each series of a container that is seen.
-use Rattle.std.proofs.Common.{◌≡◌, ℕ, ◌+◌, ◌<◌, ◌==◌, ℤ, Bool, true, cond, IsTrue, Option, Some, None, IsSome, Ok, List, [], ◌∷◌, ◌++◌, map, length, take, get_or, refl, ap, sym, subst, ◌∙◌, arith, append_assoc, append-nil, length-append}
+use Rattle.std.proofs.Common.{◌≡◌, ℕ, ◌+◌, ◌<◌, ◌==◌, ℤ, Bool, true, cond, IsTrue, Option, Some, IsSome, Ok, List, [], ◌∷◌, ◌++◌, map, length, take, get_or, refl, ap, sym, subst, ◌∙◌, arith, append_assoc, append-nil, length-append}
 use Rattle.std.specs.List.{flat_map}
 use Rattle.std.specs.Option.{option_map, option_and_then, unwrap_or}
 use Rattle.std.proofs.lemmas.Bool.Decides.{nat_tests}
@@ -7,8 +7,6 @@ use Rattle.std.proofs.lemmas.List.{take_more}
 use Rattle.std.proofs.lemmas.List.Concat.{flat_map-append}
 use Rattle.ts_base.specs.declared.fault.Trouble.{Trouble}
 use Rattle.ts_command.specs.declared.command.Command.TheVariants.{AggregateAll}
-use Rattle.ts_page.specs.Pages.{Contents}
-use Rattle.ts_row.specs.declared.kind.Column.{Column}
 use Rattle.ts_row.specs.RowType.{Heading}
 use Rattle.ts_row.specs.Row.{Row}
 use Rattle.ts_space.specs.Directory.{places_of}
@@ -22,13 +20,13 @@ use Rattle.ts_model.specs.declared.kind.Kind.TheVariants as kinds
 use Rattle.ts_model.specs.declared.def.Def.TheVariants as defs
 use Rattle.ts_model.specs.Catalogue.{Container, Series, Catalogue, series_in}
 use Rattle.ts_model.specs.Definitions.{Definitions, RowTypeDef, SeriesDef, of_series, at_slot, slots}
-use Rattle.ts_layout.specs.Meaning.{Layout, IsSound, heading_of_container, heading_in, heading_at, shape_at, series_of, elements_at, catalogue_of}
+use Rattle.ts_layout.specs.Meaning.{Layout, IsSound, heading_of_container, heading_in, heading_at, shape_at, elements_at, catalogue_of}
 use Rattle.ts_layout.proofs.CallerLemmas.{one_of, own as own_def, container_found, row_type_of_container, series_at}
-use Rattle.ts_answer.specs.Answer.{Answered, wanted, outcome, carried_out, aggregate_all, columns_in, scales_of, folded_range}
+use Rattle.ts_answer.specs.Answer.{wanted, outcome, carried_out, aggregate_all, columns_in, scales_of, folded_range}
 use Rattle.ts_answer.specs.Reply.{series_folded_line, series_folded_text, count_line}
 use Rattle.ts_answer.specs.Slots.{IsSlotNamed, Stands}
 use Rattle.ts_answer.specs.Tried.{IsRefusedAs}
-use Rattle.ts_answer.specs.View.{View, IsViewOf, Shows, KeepsRules}
+use Rattle.ts_answer.specs.View.{View, Shows, KeepsRules}
 use Rattle.ts_answer.proofs.CallerLemmas.{on_ok, refused_as}
 use Rattle.ts_elements.specs.Aggregates.{folded_if, folded_at, folded_in, IsFresh, AreSaid}
 use Rattle.ts_elements.specs.Stamps.{IsLaidOut, IsTold}

@@ -14,7 +14,8 @@ use Rattle.ts_answer.specs.Reply.{series_folded_line}
 -- what a list makes of the series in a slot, with its key, if it stands in the container in a slot
 abbrev pub folded_if : Binding → ℤ → ℤ → Layout → ℕ → ℕ → Option SeriesDef → List (List ℕ × Row)
 folded_if b from to l container slot None = []
-folded_if b from to l container slot (Some s) = if s.container == container then (s.key, folded_range b from to (elements_at slot l.element_pages)) ∷ [] else []
+folded_if b from to l container slot (Some s) =
+    if s.container == container then (s.key, folded_range b from to (elements_at slot l.element_pages)) ∷ [] else []
 
 abbrev pub folded_at : Binding → ℤ → ℤ → Layout → ℕ → ℕ → List (List ℕ × Row)
 folded_at b from to l container slot = folded_if b from to l container slot (at_slot slot l.definitions.series)

@@ -21,10 +21,10 @@ use ts_page::{Page, Pages};
 use ts_say::{say_count, say_series_folded};
 use ts_space::Space;
 
-/// Says what an aggregate list makes of the elements of each series of a container from one stamp to another, both included: a row for each
-/// series, in the order of their keys, and how many they are. A text that is no list is refused first, then a container that isn't there, then
-/// a list that its columns don't bear. `page` is room to read one; the memory is for the list, for the grids of regular series and for the
-/// rows, one at a time.
+/// Says what an aggregate list makes of the elements of each series of a container from one stamp to another, both included: a row for
+/// each series, in the order of their keys, and how many they are. A text that is no list is refused first, then a container that isn't
+/// there, then a list that its columns don't bear. `page` is room to read one; the memory is for the list, for the grids of regular series
+/// and for the rows, one at a time.
 pub fn aggregate_all<P: Pages>(
     alloc: Global,
     pages: &mut P,
@@ -70,7 +70,8 @@ fn say_all<P: Pages>(
 ) -> Result<u64, StoreFault>
     requires seen { IsSeen P.tells (view defs.now.definitions space.now (P.contents pages.old)) }
     requires columns { option_map (λ h. h.columns) (heading_in defs.now.definitions container) ≡ Some bound.now.columns }
-    ensures said { IfOk result (λ count. IsTrue P.tells → (l : Layout) → Shows P.tells (view defs.now.definitions space.now (P.contents pages.old)) l
+    ensures said { IfOk result (λ count. IsTrue P.tells → (l : Layout)
+        → Shows P.tells (view defs.now.definitions space.now (P.contents pages.old)) l
         → AreSaid bound.now (folded_in bound.now from to l container) out.old out.new count) }
     ensures call { Reads P.tells result (P.contents pages.old) (P.contents pages.new) }
     ensures undisturbed { P.undisturbed pages.old pages.new }
@@ -115,7 +116,8 @@ fn say_if_inside<P: Pages>(
     requires slot { slot < series_slots }
     requires columns { option_map (λ h. h.columns) (heading_in defs.now.definitions container) ≡ Some bound.now.columns }
     ensures one { IfOk result (λ count. count ≤ 1) }
-    ensures said { IfOk result (λ count. IsTrue P.tells → (l : Layout) → Shows P.tells (view defs.now.definitions space.now (P.contents pages.old)) l
+    ensures said { IfOk result (λ count. IsTrue P.tells → (l : Layout)
+        → Shows P.tells (view defs.now.definitions space.now (P.contents pages.old)) l
         → IsFresh bound.now folding.old
         → IsFresh bound.now folding.new × AreSaid bound.now (folded_at bound.now from to l container slot) out.old out.new count) }
     ensures call { Reads P.tells result (P.contents pages.old) (P.contents pages.new) }

@@ -200,7 +200,8 @@ pub(crate) fn aggregate<P: Pages>(
     requires seen { IsSeen P.tells (view defs.now.definitions space.now (P.contents pages.old)) }
     requires form { HasForm command.now }
     requires empty { out.old ≡ [] }
-    ensures read { IfSome result (λ came. ReadOut P.tells command.now came out.new (view defs.now.definitions space.now (P.contents pages.old)) (P.contents pages.new)) }
+    ensures read { IfSome result (λ came. ReadOut P.tells command.now came out.new
+        (view defs.now.definitions space.now (P.contents pages.old)) (P.contents pages.new)) }
     ensures none { IsNone result → (work_of command.now ≢ Aggregates) × (pages.new ≡ pages.old) × (out.new ≡ []) }
     ensures undisturbed { P.undisturbed pages.old pages.new }
 {

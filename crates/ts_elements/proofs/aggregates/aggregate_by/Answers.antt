@@ -1,4 +1,4 @@
-use Rattle.std.proofs.Common.{◌≡◌, Ok, sym, ap, refl, ◌∙◌}
+use Rattle.std.proofs.Common.{Ok, sym, ap, refl, ◌∙◌}
 use Rattle.ts_base.specs.declared.fault.Trouble.TheVariants.{Refused, Memory}
 use Rattle.ts_command.specs.declared.command.Command.TheVariants.{AggregateBy}
 use Rattle.ts_layout.specs.Meaning.{catalogue_of}

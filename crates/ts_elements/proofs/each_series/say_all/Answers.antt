@@ -1,4 +1,4 @@
-use Rattle.std.proofs.Common.{◌+◌, Ok, arith}
+use Rattle.std.proofs.Common.{arith}
 use Rattle.ts_elements.specs.Aggregates.{folded_at}
 use Rattle.ts_elements.proofs.ReadingLemmas.{then_reads, reads_as, layout_still}
 use Rattle.ts_elements.proofs.EachSeriesLemmas.{said_next}

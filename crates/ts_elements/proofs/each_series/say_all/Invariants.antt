@@ -1,5 +1,5 @@
 -- The pages stay, and the series so far are said and counted, by a fold that has taken nothing.
-use Rattle.std.proofs.Common.{◌≡◌, ◌≤◌, IsTrue, Ok, take}
+use Rattle.std.proofs.Common.{◌≤◌, IsTrue, Ok, take}
 use Rattle.std.specs.List.{flat_map}
 use Rattle.ts_irregular.specs.Call.{Reads}
 use Rattle.ts_layout.specs.Meaning.{Layout}
