@@ -781,29 +781,56 @@ fn quarter_hours_come_to_a_day(rt: HostRuntime) -> Result<(), Fail> {
     Ok(())
 }
 
-/// The value of one of 128 elements, where the others are 0, and the mean: halves of the last digit, and wholes.
-const MEANS: [(i32, &[u8]); 6] = [
-    (-1, b"@03 -0.007813\nok 1\n"),
-    (1, b"@03 0.007813\nok 1\n"),
-    (-3, b"@03 -0.023438\nok 1\n"),
-    (3, b"@03 0.023438\nok 1\n"),
-    (-2, b"@03 -0.015625\nok 1\n"),
-    (2, b"@03 0.015625\nok 1\n"),
+/// One of 128 elements, where the others are 0: halves of the last digit, and wholes.
+const MEANS: &[(&[u8], &[u8])] = &[
+    (b"UpdElem('x','T00:01:17',-1);", b"ok T00:01:17.00000\n"),
+    (
+        b"AggregateRange('avg($v)','x','@03','@04');",
+        b"@03 -0.007813\nok 1\n",
+    ),
+    (b"UpdElem('x','T00:01:17',1);", b"ok T00:01:17.00000\n"),
+    (
+        b"AggregateRange('avg($v)','x','@03','@04');",
+        b"@03 0.007813\nok 1\n",
+    ),
+    (b"UpdElem('x','T00:01:17',-3);", b"ok T00:01:17.00000\n"),
+    (
+        b"AggregateRange('avg($v)','x','@03','@04');",
+        b"@03 -0.023438\nok 1\n",
+    ),
+    (b"UpdElem('x','T00:01:17',3);", b"ok T00:01:17.00000\n"),
+    (
+        b"AggregateRange('avg($v)','x','@03','@04');",
+        b"@03 0.023438\nok 1\n",
+    ),
+    (b"UpdElem('x','T00:01:17',-2);", b"ok T00:01:17.00000\n"),
+    (
+        b"AggregateRange('avg($v)','x','@03','@04');",
+        b"@03 -0.015625\nok 1\n",
+    ),
+    (b"UpdElem('x','T00:01:17',2);", b"ok T00:01:17.00000\n"),
+    (
+        b"AggregateRange('avg($v)','x','@03','@04');",
+        b"@03 0.015625\nok 1\n",
+    ),
+    (b"UpdElem('x','T00:01:17',0);", b"ok T00:01:17.00000\n"),
+    (
+        b"AggregateRange('avg($v)','x','@03','@04');",
+        b"@03 0.000000\nok 1\n",
+    ),
 ];
 
-// Puts this value and 127 times 0 into a series.
+// Puts 128 times 0 into a series, by the second.
 fn fill_zeros(
     rt: &(impl Threads + Sync),
     alloc: Global,
     site: &mut MemorySite,
-    value: i32,
 ) -> Result<u8, Fail> {
     let mut script = Vec::new(alloc);
     for second in 0..128u8 {
-        let value = if second == 77 { value } else { 0 };
         let (minute, second) = (second / 60, second % 60);
         let statement = format!(in alloc;
-            "InsElem('x','2011-01-03 00:{minute:02}:{second:02}',{value});"
+            "InsElem('x','2011-01-03 00:{minute:02}:{second:02}',0);"
         )?;
         script.extend_from_slice(statement.as_bytes())?;
     }
@@ -813,12 +840,9 @@ fn fill_zeros(
 #[test]
 fn a_mean_is_rounded_away_from_zero(rt: HostRuntime) -> Result<(), Fail> {
     let alloc = rt.alloc();
-    for (value, reply) in MEANS {
-        let mut site = volume(&rt, alloc, "8")?;
-        assert!(rt; answer(&rt, alloc, &mut site, IRREGULAR)?);
-        assert_eq!(rt; fill_zeros(&rt, alloc, &mut site, value)?, 0);
-        let talk: &[(&[u8], &[u8])] = &[(b"AggregateRange('avg($v)','x','@03','@04');", reply)];
-        assert!(rt; answer(&rt, alloc, &mut site, talk)?);
-    }
+    let mut site = volume(&rt, alloc, "8")?;
+    assert!(rt; answer(&rt, alloc, &mut site, IRREGULAR)?);
+    assert_eq!(rt; fill_zeros(&rt, alloc, &mut site)?, 0);
+    assert!(rt; answer(&rt, alloc, &mut site, MEANS)?);
     Ok(())
 }

@@ -30,13 +30,13 @@ const SAID: [(&str, &str, &[u8]); 4] = [
         b"2011-01-03 00:00:00.00000 748,1\nok 1\n2011-01-03 00:00:00.00000 null,0\nok 1\ndone 9 0\n",
     ),
     (
-        "01",
-        "0000000000",
-        b"2011-01-03 00:00:00.00000 345,1\nok 1\n2011-01-03 00:00:00.00000 null,0\nok 1\ndone 9 0\n",
-    ),
-    (
         "20",
         "7",
+        b"2011-01-03 00:00:00.00000 6334,10\nok 1\n2011-01-03 00:00:00.00000 3680,10\nok 1\ndone 28 0\n",
+    ),
+    (
+        "020",
+        "0000000007",
         b"2011-01-03 00:00:00.00000 6334,10\nok 1\n2011-01-03 00:00:00.00000 3680,10\nok 1\ndone 28 0\n",
     ),
 ];
@@ -45,11 +45,9 @@ const SAID: [(&str, &str, &[u8]); 4] = [
 fn a_count_and_a_seed_say_the_same_on_each_volume(rt: HostRuntime) -> Result<(), Fail> {
     let alloc = rt.alloc();
     for (count, seed, said) in SAID {
-        for _ in 0..2u8 {
-            let mut site = volume(&rt, alloc, "4096")?;
-            assert_eq!(rt; generate(&rt, alloc, &["gen", count, seed], &mut site)?, 0);
-            assert_eq!(rt; site.said(), said);
-        }
+        let mut site = volume(&rt, alloc, "4096")?;
+        assert_eq!(rt; generate(&rt, alloc, &["gen", count, seed], &mut site)?, 0);
+        assert_eq!(rt; site.said(), said);
     }
     Ok(())
 }
