@@ -40,8 +40,7 @@ impl<'a> Folding<'a> {
         ensures binding { IfOk result (λ folding. folding.binding ≡ bound.now) }
         ensures none { IfOk result (λ folding. HasTaken folding []) }
     {
-        let _alloc = alloc;
-        let tallies = bound.tallies()?;
+        let tallies = bound.tallies(alloc)?;
         Ok(Folding { bound, tallies })
     }
 

@@ -11,6 +11,8 @@ mod folding;
 mod groups;
 mod numbers;
 mod range;
+#[cfg(test)]
+mod tests;
 mod texts;
 
 pub use folding::Folding;

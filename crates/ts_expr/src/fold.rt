@@ -46,15 +46,15 @@ impl Bound {
     pub fn start(&self) -> Result<Running, AllocError>
         ensures { IfOk result (λ running. running ≡ after self.now.items []) }
     {
-        let tallies = self.tallies()?;
+        let tallies = self.tallies(self.allocator())?;
         Ok(Running { tallies })
     }
 
     /// What is known of no values, for each item.
-    pub fn tallies(&self) -> Result<Vec<Tally>, AllocError>
+    pub fn tallies(&self, alloc: Global) -> Result<Vec<Tally>, AllocError>
         ensures { IfOk result (λ tallies. tallies.items ≡ after self.now.items []) }
     {
-        no_tallies(self.allocator(), self.items())
+        no_tallies(alloc, self.items())
     }
 }
 
