@@ -11,7 +11,6 @@ use Rattle.ts_row.specs.declared.kind.TheConstants.{SHORT_DIGITS}
 use Rattle.ts_row.specs.declared.value.Value.{Value}
 use Rattle.ts_row.specs.declared.value.Value.TheVariants.{Null, Number, Text}
 use Rattle.ts_row.specs.Decoding.{number_in}
-use Rattle.ts_expr.specs.declared.tally.Tally.{Tally}
 use Rattle.ts_expr.specs.declared.tally.Tally.TheVariants as tally
 use Rattle.ts_expr.specs.Sums.{Sums}
 use Rattle.ts_expr.specs.Fold.{number_of, total, earlier, later}

@@ -139,10 +139,6 @@ no_rows cs front cells (f ∷ found) none are = absurd (no_cell cs front (take (
 pub none_there : (cs : List Column) (front : ℕ) (cells : List ℕ) (found : List (Option Row)) (v : Fold) → length cells ≡ 0 → AreCellsWith cs front cells found → Takes cs v (rows_in found) v
 none_there cs front cells found v none are = subst (λ rows. Takes cs v rows v) (sym (no_rows cs front cells found none are)) (none_taken cs v)
 
--- rows of a width that isn't the columns' are none of them
-pub other_columns : (cs : List Column) (rows : List Row) (v : Fold) → (width_of cs ≡ width_of v.binding.columns → ⊥) → Takes cs v rows v
-other_columns cs rows v differs = record { same = refl; taken = λ is before few was. absurd (differs (ap width_of is)) }
-
 -- cells of so many bytes are as many as their length tells
 pub spread_of : (n size len : ℕ) → 0 < size → len ≡ n * size → len ≡ len / size * size
 spread_of n size len some whole = whole ∙ ap (λ k. k * size) (sym (mul-div_cancel n some) ∙ ap (λ l. l / size) (sym whole))

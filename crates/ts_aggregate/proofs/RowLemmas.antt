@@ -1,5 +1,5 @@
 -- Rows in cells, and the values of a column that their bytes give.
-use Rattle.std.proofs.Common.{◌≡◌, ◌⊎◌, inl, inr, ℕ, zero, suc, ◌+◌, ◌-◌, ◌*◌, ◌<◌, ◌≤◌, ◌^◌, ◌==◌, ◌&&◌, Bool, true, false, not, nat_le, nat_lt, if◌then◌else◌, ℤ, unsigned_abs, Option, Some, None, slice_get, List, [], ◌∷◌, ◌++◌, length, length-drop, length-take, map, take, drop, drop-drop, get_or, IsTrue, refl, sym, ap, subst, ◌∙◌, arith, lit<}
+use Rattle.std.proofs.Common.{◌≡◌, ◌⊎◌, inl, inr, ℕ, zero, suc, ◌+◌, ◌*◌, ◌<◌, ◌≤◌, ◌^◌, ◌==◌, ◌&&◌, Bool, true, false, nat_le, nat_lt, if◌then◌else◌, ℤ, unsigned_abs, Option, Some, None, slice_get, List, [], ◌∷◌, length, length-drop, length-take, map, take, drop, drop-drop, get_or, refl, sym, ap, subst, ◌∙◌, arith, lit<}
 use Rattle.std.specs.List.{list_all}
 use Rattle.std.specs.Option.{unwrap_or}
 use Rattle.std.proofs.lemmas.Bool.{cases_Bool, and_parts}
@@ -23,7 +23,7 @@ use Rattle.ts_entry.specs.Rows.{IsCellWith, AreCellsWith, rows_in}
 use Rattle.ts_expr.specs.Fold.{is_null, value_at}
 use Rattle.ts_expr.specs.Fold as fold
 use Rattle.ts_aggregate.specs.declared.cells.Spot.{Spot}
-use Rattle.ts_aggregate.specs.Column.{has_value, bytes_of, with_cell, found_in, text_of, read_value, is_small}
+use Rattle.ts_aggregate.specs.Column.{has_value, bytes_of, found_in, read_value, is_small}
 use Rattle.ts_aggregate.proofs.CellsLemmas.{seen, unseen}
 
 -- the value of the first column, and those of the others

@@ -36,11 +36,10 @@ impl<'a> Model for Folding<'a> {
 
 impl<'a> Folding<'a> {
     /// A fold that has taken no rows.
-    pub fn new(alloc: Global, bound: &'a Bound) -> Result<Folding<'a>, AllocError>
+    pub fn new(_alloc: Global, bound: &'a Bound) -> Result<Folding<'a>, AllocError>
         ensures binding { IfOk result (λ folding. folding.binding ≡ bound.now) }
         ensures none { IfOk result (λ folding. HasTaken folding []) }
     {
-        let _alloc = alloc;
         let tallies = bound.tallies()?;
         Ok(Folding { bound, tallies })
     }

@@ -1,5 +1,5 @@
 // The values of a column counted, its numbers summed up, and the least or the greatest of them.
-ghost use Rattle.std.specs.Prelude.{◌≡◌, ◌&&◌, nat_lt, ◌+◌, ◌*◌, ◌^◌, ◌≤◌, ◌<◌, ℤ, pos, ◌+ℤ◌, unsigned_abs, List, IsTrue, fold, map, length};
+ghost use Rattle.std.specs.Prelude.{◌≡◌, ◌&&◌, nat_lt, ◌+◌, ◌*◌, ◌^◌, ◌≤◌, ◌<◌, ℤ, pos, ◌+ℤ◌, unsigned_abs, IsTrue, fold, map, length};
 ghost use Rattle.std.specs.List.{list_all};
 ghost use Rattle.std.specs.Int.{cast_signed, from_be_bytes, w64};
 ghost use Rattle.ts_row.specs.declared.value.Value.TheVariants.{Number};

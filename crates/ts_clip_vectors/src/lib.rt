@@ -1,8 +1,10 @@
-//! What is read of the pages of series, worked out by hand. There are only tests: they stand apart, since a crate that has tests of its own
-//! is proved twice. Stands on ts_clip, which it tests, and on the crates that write the pages. Read `series.rt`, then the others in any
+//! What is read of the pages of series, and what rows in bytes are folded to, worked out by hand. There are only tests: they stand apart, since a crate that has tests of its own
+//! is proved twice. Stands on ts_clip and ts_aggregate, which it tests, and on the crates that write the pages. Read `series.rt`, then the others in any
 //! order.
 #![tactic(auto)]
 
+#[cfg(test)]
+mod folds;
 #[cfg(test)]
 mod readings;
 #[cfg(test)]

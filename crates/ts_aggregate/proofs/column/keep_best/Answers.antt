@@ -1,5 +1,4 @@
 use Rattle.std.proofs.Common.{rules, fold, sym, ap, ◌∙◌}
-use Rattle.ts_row.specs.declared.value.Value.{Value}
 use Rattle.ts_aggregate.specs.Column.{found, better}
 use Rattle.ts_aggregate.proofs.ColumnLemmas.{HasNumbers, all_numbers}
 use Rattle.ts_aggregate.proofs.column.keep_best.Goals as goal

@@ -1,10 +1,10 @@
-use Rattle.std.proofs.Common.{to_z, of_z, ◌≡◌, ◌&&◌, ◌<◌, ◌^◌, true, false, nat_lt, ◌+ℤ◌, ℤ, List, ℕ, ◌∷◌, map, sym, ap, ◌∙◌, length, unsigned_abs, arith}
+use Rattle.std.proofs.Common.{to_z, of_z, ◌≡◌, ◌&&◌, ◌<◌, ◌^◌, true, nat_lt, ◌+ℤ◌, ℤ, ◌∷◌, map, sym, ap, ◌∙◌, unsigned_abs, arith}
 use Rattle.std.specs.Int.{w128}
 use Rattle.std.proofs.lemmas.Int.{ints}
 use Rattle.std.proofs.lemmas.List.{length-map}
 use Rattle.std.proofs.lemmas.Bool.Decides.{nat_tests}
 use Rattle.ts_aggregate.specs.Column.{found, long_number, is_small}
-use Rattle.ts_aggregate.proofs.ColumnLemmas.{IsSummed, next_summed, none_left_out}
+use Rattle.ts_aggregate.proofs.ColumnLemmas.{next_summed, none_left_out}
 use Rattle.ts_aggregate.proofs.numbers.sum_long.Goals as goal
 
 pub loop-bytes-preserved-then-is_summed : goal.loop-bytes-preserved-then-is_summed

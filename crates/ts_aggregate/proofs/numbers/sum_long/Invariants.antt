@@ -1,5 +1,5 @@
 -- Where all are small and few, those counted and those that are left are all, and their sums are.
-use Rattle.std.proofs.Common.{◌≡◌, ◌≤◌, ◌+◌, ◌*◌, ◌^◌, ◌+ℤ◌, pos, unsigned_abs, fold, map, length, IsTrue}
+use Rattle.std.proofs.Common.{◌≡◌, ◌≤◌, ◌*◌, ◌^◌, unsigned_abs, map, length, IsTrue}
 use Rattle.std.specs.List.{list_all}
 use Rattle.ts_aggregate.specs.Column.{found, AreWhole, long_number, is_small}
 use Rattle.ts_aggregate.proofs.ColumnLemmas.{IsSummed}

@@ -1,4 +1,4 @@
-use Rattle.std.proofs.Common.{to_z, of_z, w64, ◌≡◌, ◌+◌, ◌<◌, ◌^◌, ◌+ℤ◌, ℤ, pos, fold, map, ap, sym, ◌∙◌, length, arith, List, ℕ}
+use Rattle.std.proofs.Common.{to_z, of_z, w64, ◌≡◌, ◌+◌, ◌<◌, ◌^◌, ◌+ℤ◌, ℤ, fold, map, ap, sym, ◌∙◌, length, arith, List, ℕ}
 use Rattle.std.specs.Int.{w128}
 use Rattle.std.proofs.lemmas.Int.{ints}
 use Rattle.ts_row.specs.Decoding.{number_in}

@@ -1,4 +1,4 @@
-use Rattle.std.proofs.Common.{◌≡◌, ◌-◌, List, ℕ, [], ◌∷◌, ◌++◌, length, append-nil, refl, sym, ap, ◌∙◌, arith}
+use Rattle.std.proofs.Common.{◌-◌, List, ℕ, [], ◌∷◌, ◌++◌, length, append-nil, sym, ap, ◌∙◌, arith}
 use Rattle.ts_aggregate.specs.Column.{found_in}
 use Rattle.ts_aggregate.proofs.CellsLemmas.{one_less, one_fits, last_of, seen, unseen}
 use Rattle.ts_aggregate.proofs.cells.Cells.last.Goals as goal

@@ -1,4 +1,4 @@
-use Rattle.std.proofs.Common.{◌≡◌, ◌-◌, List, ℕ, ◌∷◌, length, refl, sym, ap, ◌∙◌, arith}
+use Rattle.std.proofs.Common.{◌-◌, List, ℕ, ◌∷◌, length, refl, sym, ap, ◌∙◌, arith}
 use Rattle.ts_aggregate.specs.Column.{found_in}
 use Rattle.ts_aggregate.proofs.CellsLemmas.{one_less, one_fits, first_of, seen, unseen}
 use Rattle.ts_aggregate.proofs.cells.Cells.next.Goals as goal
