@@ -11,7 +11,7 @@ use crate::Folding;
 use crate::one_row::OneRow;
 use crate::span::{Span, is_before};
 use crate::wish::Wish;
-use std::alloc::{AllocError, Global};
+use std::alloc::AllocError;
 use ts_base::Stamp;
 use ts_entry::{ElementVisitor, EntryVisitor};
 use ts_row::{Row, RowType};
@@ -37,7 +37,6 @@ pub(crate) struct ByInterval<'a, 'b, V> {
 impl<'a, 'b, V: ElementVisitor> ByInterval<'a, 'b, V> {
     /// None so far.
     pub(crate) fn new(
-        alloc: Global,
         wish: &'a Wish<'a>,
         folding: &'a mut Folding<'b>,
         out: &'a mut V,
@@ -56,7 +55,7 @@ impl<'a, 'b, V: ElementVisitor> ByInterval<'a, 'b, V> {
             folding,
             out,
             count: 0,
-            one: OneRow::new(alloc),
+            one: OneRow::new(),
         }
     }
 

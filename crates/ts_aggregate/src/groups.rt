@@ -55,7 +55,7 @@ pub fn aggregate_by<P: Pages, V: ElementVisitor>(
     let _places = space.places(shelf.series);
     let wish = Wish::make(alloc, calendar, from, to)?;
     let last = wish.last();
-    let mut groups = ByInterval::new(alloc, &wish, folding, visitor);
+    let mut groups = ByInterval::new(&wish, folding, visitor);
     elements(pages, page, space, shelf, shape, from, last, &mut groups)?;
     let count = groups.end()?;
     if count > MOST_ROWS {

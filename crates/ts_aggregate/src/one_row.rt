@@ -1,26 +1,29 @@
 // A row that is folded by itself.
-ghost use Rattle.std.specs.Prelude.{◌≡◌, [], ◌∷◌, OnOk, length};
+ghost use Rattle.std.specs.Prelude.{◌≡◌, ◌+◌, [], ◌∷◌, OnOk, length};
 ghost use Rattle.ts_row.specs.Row.{Row as TheRow};
 ghost use Rattle.ts_row.specs.RowType.{width_of};
 ghost use Rattle.ts_entry.specs.Entry.{AreSeenBytes};
 ghost use Rattle.ts_aggregate.specs.Fold.{Takes};
 
 use crate::Folding;
-use std::alloc::{AllocError, Global};
+use std::alloc::AllocError;
 use ts_entry::RowVisitor;
 use ts_row::RowType;
 
-/// The bytes of a cell that a row is copied into, so that a fold takes it as it takes those of a page. Its memory is kept from row to row.
+/// The most bytes of a row, and one before it.
+const MOST_BYTES: usize = 1001;
+
+/// The bytes of a cell that a row is copied into, so that a fold takes it as it takes those of a page.
 #[derive(Drop)]
 pub(crate) struct OneRow {
-    cell: Vec<u8>,
+    cell: [u8; MOST_BYTES],
 }
 
 impl OneRow {
-    /// No row yet; it takes no memory.
-    pub(crate) fn new(alloc: Global) -> OneRow {
+    /// No row yet.
+    pub(crate) fn new() -> OneRow {
         OneRow {
-            cell: Vec::new(alloc),
+            cell: [0; MOST_BYTES],
         }
     }
 
@@ -35,9 +38,19 @@ impl OneRow {
         ensures takes { OnOk result ((r : TheRow) → AreSeenBytes kind.now.columns row.now r
             → Takes kind.now.columns folding.old (r ∷ []) folding.new) }
     {
-        self.cell.clear();
-        self.cell.push(1)?;
-        self.cell.extend_from_slice(row)?;
-        folding.rows(kind, self.cell.as_slice(), 1)
+        let end = kind.width() + 1;
+        let cell = &mut self.cell[..end];
+        fill(cell, row);
+        folding.rows(kind, cell, 1)?;
+        Ok(())
     }
+}
+
+// Makes a cell of a row.
+fn fill(cell: &mut [u8], row: &[u8])
+    requires { length cell.old ≡ length row.now + 1 }
+    ensures { cell.new ≡ 1 ∷ row.now }
+{
+    cell[0] = 1;
+    cell[1..].copy_from_slice(row);
 }

@@ -1,14 +1,15 @@
-use Rattle.std.proofs.Common.{[], ◌∷◌, ◌++◌, Some, ap, ◌∙◌}
-use Rattle.std.proofs.lemmas.Result.{IfOk-weaker}
+use Rattle.std.proofs.Common.{◌≡◌, ℕ, ◌+◌, ◌*◌, Some, List, [], ◌∷◌, length, sym, ap, subst, ◌∙◌, arith}
+use Rattle.ts_row.specs.RowType.{width_of}
+use Rattle.ts_entry.specs.Rows.{AreCellsWith}
 use Rattle.ts_aggregate.proofs.OneRowLemmas.{one_cell}
 use Rattle.ts_aggregate.proofs.one_row.OneRow.fold.Goals as goal
 
+pub rows-requires-clause-whole : goal.rows-requires-clause-whole
+rows-requires-clause-whole c = (1, omega (arith, ap length c.fill.ensures, c.requires.size))
+
 pub returns : goal.returns
 returns c = record {
-  takes =
-      let is = c.as_slice.ensures.value ∙ c.in_ok-extend_from_slice.ensures.items
-      ∙ ap (λ bytes. bytes ++ c.args.row.now) (c.in_ok-push.ensures.items ∙ ap (λ bytes. bytes ++ 1 ∷ []) c.clear.ensures.items) in
-      IfOk-weaker c.rows.result _ _
-      (λ done took r seen. took (Some r ∷ []) (one_cell c.args.kind.now.columns _ c.args.row.now r is c.requires.size seen))
-      c.rows.ensures.took;
+  takes = λ r bytes.
+      let columns = c.args.kind.now.columns in
+      c.in_ok-rows.ensures.took (Some r ∷ []) (subst (λ (l : List ℕ). AreCellsWith columns 1 l (Some r ∷ [])) (sym c.fill.ensures) (one_cell columns c.args.row.now r c.requires.size bytes));
 }
