@@ -1,7 +1,4 @@
 mod ApartLemmas
-pub mod GeneratedLemmas
-pub mod GeneratingLemmas
-pub mod GenLemmas
 pub mod ItemLemmas
 pub mod RanLemmas
 pub mod FeedLemmas
