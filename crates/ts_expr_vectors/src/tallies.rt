@@ -56,7 +56,7 @@ fn a_bound_list_has_its_row_type_and_a_tally_for_each_item(rt: HostRuntime) {
     };
     assert!(rt; bound.kind().columns().len() == 1);
     assert!(rt; bound.kind().width() == 9);
-    let Ok(tallies) = bound.tallies(rt.alloc()) else {
+    let Ok(tallies) = bound.tallies() else {
         panic!(rt; "no memory");
     };
     let [most, count] = tallies.as_slice() else {
