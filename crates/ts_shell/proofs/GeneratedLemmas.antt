@@ -1,7 +1,9 @@
 -- The commands that a count and a seed give, each behind those before it.
-use Rattle.std.proofs.Common.{◌≡◌, ◌⊎◌, inl, inr, ⊎_elim, ℕ, zero, suc, ◌+◌, ◌-◌, ◌*◌, ◌%◌, ◌≤◌, ◌<◌, List, [], ◌∷◌, ◌++◌, length, take, refl, sym, ◌∙◌, ap, subst, arith, append_assoc, length-append, pos}
+use Rattle.std.proofs.Common.{◌≡◌, ◌⊎◌, inl, inr, ⊎_elim, ℕ, zero, suc, ◌+◌, ◌-◌, ◌*◌, ◌%◌, ◌≤◌, ◌<◌, List, [], ◌∷◌, ◌++◌, length, take, refl, sym, ◌∙◌, ap, subst, arith, append_assoc, length-append, codes}
 use Rattle.std.proofs.lemmas.List.{take-append-le}
 use Rattle.std.proofs.Math.Seq.{take-append-add}
+use Rattle.ts_base.specs.Moment.{civil_of, civil_in_years, civil_in_year}
+use Rattle.ts_base.specs.StampText.{stamp_text}
 use Rattle.ts_command.specs.declared.command.Command.{Command}
 use Rattle.ts_shell.specs.Generated.{beginning, ending, opening, drawn, edit, edits, closing, generated, edits_before, IsNext}
 
@@ -72,11 +74,11 @@ pub drawn_more : (seed i j : ℕ) → j ≡ suc i → drawn seed j ≡ (1_103_51
 unfolding drawn
 drawn_more seed i j is = ap (λ (k : ℕ). drawn seed k) is
 
--- the two stamps as numbers
-pub beginning_is : beginning ≡ pos 129_401_280_000_000
-unfolding beginning
-beginning_is = refl
+-- the two stamps, as they are printed
+beginning_text : stamp_text beginning ≡ codes "2011-01-03 00:00:00.00000"
+unfolding stamp_text civil_of civil_in_years civil_in_year
+beginning_text = refl
 
-pub ending_is : ending ≡ pos 132_537_600_000_000
-unfolding ending
-ending_is = refl
+ending_text : stamp_text ending ≡ codes "2012-01-01 00:00:00.00000"
+unfolding stamp_text civil_of civil_in_years civil_in_year
+ending_text = refl

@@ -1,5 +1,5 @@
 -- Commands carried out one behind the other, with nothing said, and what is said of them all.
-use Rattle.std.proofs.Common.{◌≡◌, ◌⊎◌, inl, inr, ⊎_elim, ℕ, zero, suc, ◌+◌, ◌-◌, ◌≤◌, Bool, not, IsTrue, cond, List, [], ◌∷◌, ◌++◌, length, take, drop, codes, Result, Ok, Err, refl, sym, ◌∙◌, ap, subst, arith, append_assoc, length-append, take-append-drop}
+use Rattle.std.proofs.Common.{◌≡◌, ◌⊎◌, inl, inr, ⊎_elim, ℕ, zero, suc, ◌+◌, ◌-◌, ◌≤◌, Bool, not, IsTrue, cond, List, [], ◌∷◌, ◌++◌, length, take, drop, codes, Result, Ok, Err, OnOk, refl, sym, ◌∙◌, ap, subst, arith, append_assoc, length-append, take-append-drop}
 use Rattle.std.specs.Fmt.{decimal}
 use Rattle.std.specs.List.{count_by, flat_map}
 use Rattle.std.proofs.lemmas.List.{append-nil, take-append-le, take_all}
@@ -15,7 +15,9 @@ use Rattle.ts_engine.specs.Volume.{MeansCatalogue}
 use Rattle.ts_engine.specs.Engine.{Kept, IsReady, IsAt}
 use Rattle.ts_engine.specs.Moves.{BeforeOrAfter}
 use Rattle.ts_engine.specs.Step.{Stepped, state_after}
-use Rattle.ts_shell.specs.Generating.{after, replies, ends_with_ok, last_two, done_line, summary, IsTally, IsAmong, QuietFault, RanQuietly, IsWithin, SaysSummary, GeneratedOn, OpenedGen}
+use Rattle.ts_shell.specs.Generating.{after, replies, ends_with_ok, last_two, done_line, summary, IsTally, IsAmong, QuietFault, RanQuietly, IsBehind, IsNextStep, IsUnmade, IsWithin, SaysSummary, GeneratedOn, OpenedGen}
+use Rattle.ts_shell.specs.Generated.{IsNext}
+use Rattle.ts_shell.specs.declared.generate.Generator.{Generator}
 use Rattle.ts_shell.proofs.ItemLemmas.{at_same, rose_on}
 
 -- one command more
@@ -36,8 +38,8 @@ count_more : (test : List ℕ → Bool) (rs : List (List ℕ)) (r : List ℕ) �
 count_more test rs r = sum_by-append (λ x. cond (test x) 1 0) rs (r ∷ []) ∙ omega arith
 
 -- no reply yet
-pub tally_none : IsTally [] [] [] 0 0
-tally_none = record { front = []; two = refl; counted = refl; others = refl }
+pub tally_none : (before reply : List ℕ) → before ≡ [] → reply ≡ [] → IsTally [] before reply 0 0
+tally_none before reply first second = record { front = []; two = λ i. sym first i ∷ sym second i ∷ []; counted = refl; others = refl }
 
 -- one reply more: the last becomes the one before it
 pub tally_more : (rs : List (List ℕ)) (before reply next : List ℕ) (a b c d : ℕ) → c ≡ a + cond (ends_with_ok next) 1 0 → d ≡ b + cond (not (ends_with_ok next)) 1 0
@@ -120,17 +122,6 @@ quiet_none tells e v lawful ready = record {
   no_fault = refl;
 }
 
--- there is no memory for the next command
-pub quiet_wanting : (tells : Bool) (xs : List Command) (error : _) (e f : Kept) (v w : Device) → RanQuietly tells xs (Ok (tt {0})) e f v w → RanQuietly tells xs (Err (faults.Memory error)) e f v w
-quiet_wanting tells xs error e f v w ran = record {
-  ready = tt;
-  at = tt;
-  fault = ran.no_fault;
-  moments = ran.moments;
-  others = ran.others;
-  no_fault = tt;
-}
-
 -- a run that ended before the other commands
 pub quiet_front : (tells : Bool) (n : ℕ) (all : List Command) (fault : StepFault) (e f : Kept) (v w : Device) → RanQuietly tells (take n all) (Err fault) e f v w → RanQuietly tells all (Err fault) e f v w
 quiet_front tells n all fault e f v w ran = record {
@@ -190,16 +181,78 @@ module _ (tells : Bool) (xs : List Command) (c : Command) (out : List ℕ) (e f 
     why (faults.Memory error) stepped = stepped.moves.fault.2 ∙ ran.no_fault
     why (faults.Closed count) stepped = absurd stepped.moves.fault
 
-  -- the reply behind those before it
-  pub tally_step : Stepped tells c (Ok (tt {0})) out f h x w → (a b p q : List ℕ) (i j k l : ℕ)
-      → ((rs : List (List ℕ)) → IsTally rs a b i j → IsTally (rs ++ out ∷ []) p q k l)
-      → (IsTrue tells → (state : State) → IsAt tells e (committed state) v → IsTally (replies state xs) a b i j)
-      → IsTrue tells → (state : State) → IsAt tells e (committed state) v → IsTally (replies state (xs ++ c ∷ [])) p q k l
-  tally_step stepped a b p q i j k l more so_far told state at =
-      let same : out ≡ (run_answer (after state xs) (Ok c)).0 = stepped.answered told (after state xs) (ran.at told state at) in
-      subst (λ (rs : List (List ℕ)). IsTally rs p q k l)
-      (ap (λ (r : List ℕ). replies state xs ++ r ∷ []) same ∙ sym (replies_more state xs c))
-      (more (replies state xs) (so_far told state at))
+-- nothing is in hand but an engine
+pub behind_none : (tells : Bool) (hand : Generator) (v : Device) → Lawful tells v → IsReady tells hand.engine v → IsTally [] hand.before hand.reply hand.answered hand.refused
+    → hand.answered + hand.refused ≡ 0 → IsBehind tells [] hand.engine v hand v
+behind_none tells hand v lawful ready tally total = record { ran = quiet_none tells hand.engine v lawful ready; tally = λ told state at. tally; total = total }
+
+-- one command more of a list
+module _ (tells : Bool) (all : List Command) (n : ℕ) (e : Kept) (v x w : Device) (hand more : Generator) (behind : IsBehind tells (take n all) e v hand x) where
+  pub behind_more : IsNextStep tells all n (Ok (tt {0})) hand more x w → IsBehind tells (take (n + 1) all) e v more w
+  behind_more step =
+      subst (λ (l : List Command). IsBehind tells l e v more w) (sym step.next) (record {
+        ran = quiet_step tells (take n all) step.command more.reply e hand.engine more.engine v x w behind.ran step.stepped;
+        tally = λ told state at.
+            let same : more.reply ≡ (run_answer (after state (take n all)) (Ok step.command)).0 = step.stepped.answered told (after state (take n all)) (behind.ran.at told state at) in
+            subst (λ (rs : List (List ℕ)). IsTally rs more.before more.reply more.answered more.refused)
+            (ap (λ (r : List ℕ). replies state (take n all) ++ r ∷ []) same ∙ sym (replies_more state (take n all) step.command))
+            (step.tally (replies state (take n all)) (behind.tally told state at));
+        total = omega (arith, step.total, behind.total, length-append (take n all) (step.command ∷ []));
+      })
+
+  stopped_step : (fault : StepFault) → IsNextStep tells all n (Err fault) hand more x w → RanQuietly tells all (Err fault) e more.engine v w
+  stopped_step fault step =
+      quiet_front tells (n + 1) all fault e more.engine v w
+      (subst (λ (l : List Command). RanQuietly tells l (Err fault) e more.engine v w) (sym step.next) (quiet_stop tells (take n all) step.command more.reply e hand.engine more.engine v x w behind.ran fault step.stepped))
+
+  -- nothing was done for want of memory
+  unmade_step : (fault : StepFault) → IsUnmade tells fault x w → RanQuietly tells all (Err fault) e more.engine v w
+  unmade_step faults.Disk unmade = absurd unmade.memory
+  unmade_step (faults.Closed count) unmade = absurd unmade.memory
+  unmade_step (faults.Memory error) unmade = quiet_front tells n all (faults.Memory error) e more.engine v w (record {
+    ready = tt;
+    at = tt;
+    fault = unmade.no_fault ∙ behind.ran.no_fault;
+    moments = λ told state at.
+        let there = behind.ran.at told state at in
+        then_on v x w (IsAmong state (take n all) v.said) (behind.ran.moments told state at)
+        (leaves_map x w (λ image said. x.images image × (said ≡ x.said)) (IsAmong state (take n all) v.said)
+        (λ image said now. among_all state (take n all) v.said image said
+        (subst (λ (l : List ℕ). MeansCatalogue l (committed (after state (take n all)))) (sym (there.ready.idle.over.settled image now.0)) there.means)
+        (now.1 ∙ behind.ran.others.said))
+        unmade.reads.moments);
+    others = record {
+      size = unmade.reads.keeps.size ∙ behind.ran.others.size;
+      said = unmade.reads.keeps.said ∙ behind.ran.others.said;
+      say_faults = unmade.reads.keeps.say_faults ∙ behind.ran.others.say_faults;
+      faults = omega (arith, unmade.reads.keeps.faults, behind.ran.others.faults);
+      syncs = λ told. omega (arith, unmade.reads.keeps.syncs told, behind.ran.others.syncs told);
+    };
+    no_fault = tt;
+  })
+
+  pub behind_stopped : (fault : StepFault) → IsUnmade tells fault x w ⊎ IsNextStep tells all n (Err fault) hand more x w → RanQuietly tells all (Err fault) e more.engine v w
+  behind_stopped fault which = ⊎_elim (unmade_step fault) (stopped_step fault) which
+
+-- the next command was carried out
+pub next_step : (tells : Bool) (all : List Command) (n : ℕ) (c : Command) (r : Result Unit StepFault) (hand more : Generator) (v w : Device) → IsNext all n c → Stepped tells c r more.reply hand.engine more.engine v w
+    → OnOk r ((rs : List (List ℕ)) → IsTally rs hand.before hand.reply hand.answered hand.refused → IsTally (rs ++ more.reply ∷ []) more.before more.reply more.answered more.refused)
+    → OnOk r (more.answered + more.refused ≡ hand.answered + hand.refused + 1) → IsNextStep tells all n r hand more v w
+next_step tells all n c r hand more v w next stepped tally total = record { command = c; next = next; stepped = stepped; tally = tally; total = total }
+
+-- where nothing was done
+pub unmade_now : (tells : Bool) (error : _) (v : Device) → Lawful tells v → IsUnmade tells (faults.Memory error) v v
+unmade_now tells error v lawful = record {
+  memory = tt;
+  reads = record {
+    keeps = record { size = refl; said = refl; say_faults = refl; faults = omega arith; syncs = λ told. omega arith };
+    held = refl;
+    images = λ image now. now;
+    no_fewer = λ image now. now;
+    moments = started tells v (λ image said. v.images image × (said ≡ v.said)) lawful (λ image now. (now, refl));
+  };
+  no_fault = refl;
+}
 
 -- all commands were carried out, or not; what is said then
 module _ (tells : Bool) (commands : List Command) (e f : Kept) (v x : Device) where

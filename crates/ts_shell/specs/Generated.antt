@@ -1,18 +1,17 @@
 -- The commands that `gen` carries out, by a count and a seed: a regular and an irregular series are made, that many elements are put into
 -- them in turn, and both are folded.
 use Rattle.std.specs.Prelude.{◌≡◌, ℕ, zero, suc, ◌+◌, ◌-◌, ◌*◌, ◌/◌, ◌%◌, ◌==◌, min, if◌then◌else◌, ℤ, pos, ◌+ℤ◌, List, [], ◌∷◌, ◌++◌, take, codes}
-use Rattle.ts_base.specs.Moment.{units_of}
 use Rattle.ts_row.specs.declared.kind.ColumnKind.TheVariants.{Integer}
 use Rattle.ts_row.specs.declared.value.Literal.TheVariants.{Number}
 use Rattle.ts_command.specs.declared.command.Command.{Command}
 use Rattle.ts_command.specs.declared.command.Command.TheVariants.{CreateRowType, CreatePattern, CreateCalendar, TSContainerCreate, TSCreate, TSCreateIrr, PutElem, AggregateRange}
 
 -- 2011-01-03 00:00:00, where both series begin, and 2012-01-01 00:00:00, which lies behind their elements
-unfoldable pub beginning : ℤ
-beginning = units_of (record { year = 2011; month = 1; day = 3; hour = 0; minute = 0; second = 0; fraction = 0 })
+abbrev pub beginning : ℤ
+beginning = pos 129_401_280_000_000
 
-unfoldable pub ending : ℤ
-ending = units_of (record { year = 2012; month = 1; day = 1; hour = 0; minute = 0; second = 0; fraction = 0 })
+abbrev pub ending : ℤ
+ending = pos 132_537_600_000_000
 
 -- the keys of the regular series and the irregular one
 abbrev pub regular_key : List ℕ

@@ -1,8 +1,8 @@
 -- What `gen` does: it carries out the generated commands, and says what the last two come to and how many there were of each kind.
-use Rattle.std.specs.Prelude.{◌≡◌, ◌≢◌, ◌⊎◌, ℕ, ◌-◌, ◌≤◌, ◌==◌, ◌&&◌, Bool, not, IsTrue, if◌then◌else◌, List, [], ◌∷◌, ◌++◌, length, take, drop, codes, decimal, flat_map, Result, Ok, OnOk, IfErr, nat_eq}
+use Rattle.std.specs.Prelude.{◌≡◌, ◌≢◌, ◌⊎◌, ℕ, ◌+◌, ◌-◌, ◌≤◌, ◌==◌, ◌&&◌, Bool, not, IsTrue, if◌then◌else◌, List, [], ◌∷◌, ◌++◌, length, take, drop, codes, decimal, flat_map, Result, Ok, OnOk, IfErr, nat_eq}
 use Rattle.std.specs.List.{count_by, starts_with}
 use Rattle.ts_disk.specs.Device.{Device, Only, Rose, FirstSync, LeavesOnly, Saying}
-use Rattle.ts_journal.specs.Moment.{Keeps}
+use Rattle.ts_journal.specs.Moment.{Keeps, OnlyReads}
 use Rattle.ts_command.specs.declared.command.Command.{Command}
 use Rattle.ts_model.specs.Catalogue.{Catalogue}
 use Rattle.ts_answer.specs.State.{State, base, committed, run_answer}
@@ -10,8 +10,10 @@ use Rattle.ts_engine.specs.declared.fault.StepFault.{StepFault}
 use Rattle.ts_engine.specs.declared.fault.StepFault.TheVariants.{Disk, Memory, Closed}
 use Rattle.ts_engine.specs.Volume.{MeansCatalogue}
 use Rattle.ts_engine.specs.Engine.{Kept, IsReady, IsAt}
+use Rattle.ts_engine.specs.Step.{Stepped}
+use Rattle.ts_shell.specs.declared.generate.Generator.{Generator}
 use Rattle.ts_shell.specs.Opening.{OpensStore}
-use Rattle.ts_shell.specs.Generated.{generated}
+use Rattle.ts_shell.specs.Generated.{generated, IsNext}
 
 -- the state after commands, one behind the other
 abbrev pub after : State → List Command → State
@@ -76,6 +78,33 @@ pub record RanQuietly (tells : Bool) (commands : List Command) (result : Result 
   pub moments : IsTrue tells → (state : State) → IsAt tells e (committed state) v → LeavesOnly v w (IsAmong state commands v.said)
   pub others : Keeps tells v w
   pub no_fault : OnOk result (w.faults ≡ v.faults)
+
+-- Commands were carried out from an engine `e` on, with nothing said: what is in hand behind them is their engine, and what is kept of
+-- their replies.
+pub record IsBehind (tells : Bool) (commands : List Command) (e : Kept) (v : Device) (hand : Generator) (w : Device) : Type 0 where
+  pub ran : RanQuietly tells commands (Ok (tt {0})) e hand.engine v w
+  pub tally : IsTrue tells → (state : State) → IsAt tells e (committed state) v → IsTally (replies state commands) hand.before hand.reply hand.answered hand.refused
+  pub total : hand.answered + hand.refused ≡ length commands
+
+-- the command behind the first so many was carried out, or not
+pub record IsNextStep (tells : Bool) (commands : List Command) (number : ℕ) (result : Result Unit StepFault) (hand more : Generator) (v w : Device) : Type 0 where
+  pub command : Command
+  pub next : IsNext commands number command
+  pub stepped : Stepped tells command result more.reply hand.engine more.engine v w
+  pub tally : OnOk result ((rs : List (List ℕ)) → IsTally rs hand.before hand.reply hand.answered hand.refused → IsTally (rs ++ more.reply ∷ []) more.before more.reply more.answered more.refused)
+  pub total : OnOk result (more.answered + more.refused ≡ hand.answered + hand.refused + 1)
+
+-- want of memory
+abbrev pub IsMemory : StepFault → Type 0
+IsMemory Disk = ⊥
+IsMemory (Memory error) = Unit {0}
+IsMemory (Closed faults) = ⊥
+
+-- there was no memory to make it, and nothing was done
+pub record IsUnmade (tells : Bool) (fault : StepFault) (v w : Device) : Type 0 where
+  pub memory : IsMemory fault
+  pub reads : OnlyReads tells v w
+  pub no_fault : w.faults ≡ v.faults
 
 -- An image and the bytes said by then: the image means the state after the first commands, however many, and what was said is a front of
 -- the summary of all replies; once a byte was said, these are all commands.

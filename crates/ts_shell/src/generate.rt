@@ -1,11 +1,10 @@
 // The generated commands, carried out one after the other: all are durable before anything is said.
-ghost use Rattle.std.specs.Prelude.{◌≡◌, ◌+◌, ◌≤◌, ◌<◌, ◌^◌, ◌++◌, [], ◌∷◌, ℕ, List, IsTrue, if◌then◌else◌, not, IfOk, OnOk, codes, decimal};
+ghost use Rattle.std.specs.Prelude.{◌≡◌, ◌+◌, ◌≤◌, ◌<◌, ◌^◌, ◌++◌, [], ◌∷◌, ℕ, List, if◌then◌else◌, not, IfOk, OnOk, IfErr, ◌⊎◌, IsErr, codes, decimal};
 ghost use Rattle.ts_command.specs.Form.{HasForm};
-ghost use Rattle.ts_answer.specs.State.{State, committed};
-ghost use Rattle.ts_engine.specs.Engine.{IsReady, IsAt};
+ghost use Rattle.ts_engine.specs.Engine.{IsReady};
 ghost use Rattle.ts_engine.specs.Step.{Stepped};
-ghost use Rattle.ts_shell.specs.Generated.{generated};
-ghost use Rattle.ts_shell.specs.Generating.{GenRan, OpenedGen, RanQuietly, IsTally, replies, ends_with_ok, last_line};
+ghost use Rattle.ts_shell.specs.Generated.{drawn, generated, edits_before};
+ghost use Rattle.ts_shell.specs.Generating.{GenRan, OpenedGen, RanQuietly, IsBehind, IsNextStep, IsUnmade, IsTally, ends_with_ok, last_line};
 
 use crate::fault::unopened;
 use crate::generated::{command_count, draw, first_drawn, make_command};
@@ -20,7 +19,7 @@ use ts_text::print_number;
 /// Commands that are carried out: the engine of the volume, the last two replies, and how many of all end with an `ok` line and how
 /// many don't.
 #[derive(Drop)]
-struct Generator {
+pub(crate) struct Generator {
     engine: Engine,
     before: Reply,
     reply: Reply,
@@ -62,11 +61,13 @@ impl Generator {
         ensures total { OnOk result (self.new.answered + self.new.refused ≡ self.old.answered + self.old.refused + 1) }
     {
         std::mem::swap(&mut self.before, &mut self.reply);
-        let done = self.engine.step(rt, site, command, &mut self.reply);
-        if done.is_ok() {
-            self.count();
+        match self.engine.step(rt, site, command, &mut self.reply) {
+            Ok(()) => {
+                self.count();
+                Ok(())
+            }
+            Err(fault) => Err(fault),
         }
-        done
     }
 
     // Counts the reply in hand.
@@ -83,6 +84,29 @@ impl Generator {
         }
     }
 
+    // Carries out the command of a number, for which this was drawn.
+    fn carry_out_next<S: Site>(
+        &mut self,
+        rt: &(impl Threads + Sync),
+        site: &mut S,
+        count: u32,
+        number: u32,
+        random: u64,
+    ) -> Result<(), StepFault>
+        requires ready { IsReady S.tells self.old.engine (S.device site.old) }
+        requires count { count ≤ 1000000 }
+        requires number { number < count + 8 }
+        requires few { self.old.answered + self.old.refused < 2 ^ 31 }
+        ensures next { OnOk result ((seed : ℕ) → random ≡ drawn seed (edits_before count (number + 1)) → IsNextStep S.tells (generated count seed) number result self.old self.new (S.device site.old) (S.device site.new)) }
+        ensures stopped { IfErr result (λ fault. (seed : ℕ) → random ≡ drawn seed (edits_before count (number + 1))
+            → IsUnmade S.tells fault (S.device site.old) (S.device site.new) ⊎ IsNextStep S.tells (generated count seed) number result self.old self.new (S.device site.old) (S.device site.new)) }
+    {
+        match make_command(self.alloc, count, number, random) {
+            Ok(command) => self.carry_out(rt, site, &command),
+            Err(error) => Err(StepFault::Memory(error)),
+        }
+    }
+
     // Carries out all commands of a count and a seed.
     fn carry_out_all<S: Site>(
         &mut self,
@@ -91,21 +115,19 @@ impl Generator {
         count: u32,
         seed: u32,
     ) -> Result<(), StepFault>
-        requires ready { IsReady S.tells self.old.engine (S.device site.old) }
         requires count { count ≤ 1000000 }
-        requires start { IsTally [] self.old.before self.old.reply self.old.answered self.old.refused }
-        requires none { self.old.answered + self.old.refused ≡ 0 }
-        ensures ran { RanQuietly S.tells (generated count seed) result self.old.engine self.new.engine (S.device site.old) (S.device site.new) }
-        ensures tally { OnOk result (IsTrue S.tells → (state : State) → IsAt S.tells self.old.engine (committed state) (S.device site.old)
-            → IsTally (replies state (generated count seed)) self.new.before self.new.reply self.new.answered self.new.refused) }
+        requires start { IsBehind S.tells [] self.old.engine (S.device site.old) self.old (S.device site.old) }
+        ensures behind { OnOk result (IsBehind S.tells (generated count seed) self.old.engine (S.device site.old) self.new (S.device site.new)) }
+        ensures stopped { IsErr result → RanQuietly S.tells (generated count seed) result self.old.engine self.new.engine (S.device site.old) (S.device site.new) }
     {
         let mut random = first_drawn(seed);
         let mut number = 0;
         while number < command_count(count) {
             random = draw(count, number, random);
-            let command = make_command(self.alloc, count, number, random)?;
-            self.carry_out(rt, site, &command)?;
-            number += 1;
+            match self.carry_out_next(rt, site, count, number, random) {
+                Ok(()) => number += 1,
+                Err(fault) => return Err(fault),
+            }
         }
         Ok(())
     }
@@ -132,10 +154,8 @@ impl Generator {
         count: u32,
         seed: u32,
     ) -> u8
-        requires ready { IsReady S.tells self.old.engine (S.device site.old) }
         requires count { count ≤ 1000000 }
-        requires start { IsTally [] self.old.before self.old.reply self.old.answered self.old.refused }
-        requires none { self.old.answered + self.old.refused ≡ 0 }
+        requires start { IsBehind S.tells [] self.old.engine (S.device site.old) self.old (S.device site.old) }
         ensures ran { OpenedGen S.tells (generated count seed) self.old.engine result (S.device site.old) (S.device site.new) }
     {
         match self.carry_out_all(rt, site, count, seed) {

@@ -222,7 +222,6 @@ fn key(alloc: Global, text: &[u8]) -> Result<Key, AllocError>
 }
 
 // Where both series begin.
-#[tactic(auto, using(crate::proofs::GeneratedLemmas::beginning_is))]
 fn beginning() -> Stamp
     ensures { result ≡ beginning }
 {
@@ -230,7 +229,6 @@ fn beginning() -> Stamp
 }
 
 // A stamp behind all elements.
-#[tactic(auto, using(crate::proofs::GeneratedLemmas::ending_is))]
 fn ending() -> Stamp
     ensures { result ≡ ending }
 {
@@ -238,7 +236,6 @@ fn ending() -> Stamp
 }
 
 // The stamp so many units of time behind the beginning.
-#[tactic(auto, using(crate::proofs::GeneratedLemmas::beginning_is))]
 fn behind_beginning(units: u64) -> Stamp
     requires { units ≤ 1000000000000 }
     ensures { result ≡ beginning +ℤ pos units }
