@@ -24,8 +24,6 @@ mod place;
 mod remove;
 mod split;
 mod spread;
-#[cfg(test)]
-mod tests;
 
 pub use change::{chain_mark, chain_replace};
 pub use find::{chain_find, holder};

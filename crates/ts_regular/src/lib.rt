@@ -22,8 +22,6 @@ mod mark;
 mod page;
 mod put;
 mod remove;
-#[cfg(test)]
-mod tests;
 
 pub use cell::{base_of, regular_room};
 pub use clear::regular_clear;

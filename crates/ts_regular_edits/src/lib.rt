@@ -11,8 +11,6 @@ mod edits;
 mod element;
 mod laws;
 mod range;
-#[cfg(test)]
-mod tests;
 
 pub use edits::edit_at;
 pub use element::{delete_at, find_at, mark_at};

@@ -11,8 +11,6 @@ mod ends;
 mod joins;
 mod keep;
 mod lay;
-#[cfg(test)]
-mod tests;
 
 pub use clip::del_clip;
 pub use edits::{EditKind, Edited, charge_with_one, edit};
