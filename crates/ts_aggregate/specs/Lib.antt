@@ -4,3 +4,4 @@ pub mod Column
 pub mod Call
 pub mod Groups
 pub mod GroupLaws
+pub mod Stacks

@@ -1,5 +1,9 @@
 -- The pages of a series as elements at stamps, whatever its shape: at any stamps, or on a grid at the on starts of their offsets.
-use Rattle.std.specs.Prelude.{◌≡◌, ℕ, Bool, IsTrue, List}
+use Rattle.std.specs.Prelude.{◌≡◌, ℕ, ◌≤◌, ℤ, Bool, IsTrue, All, Contains, List}
+use Rattle.std.specs.List.{AllZip}
+use Rattle.ts_page.specs.declared.page.Page.{Page}
+use Rattle.ts_space.specs.Place.{count_of}
+use Rattle.ts_chain.specs.Range.{within_range}
 use Rattle.ts_page.specs.Pages.{Contents}
 use Rattle.ts_row.specs.declared.kind.Column.{Column}
 use Rattle.ts_row.specs.Element.{Element}
@@ -49,3 +53,21 @@ HaveElements (Regular grid) slot columns pages places es = HaveCells grid slot c
 abbrev pub IsTold : Bool → Shape → ℕ → List Column → List Place → Contents → (List Element → Type 0) → Type 0
 IsTold tells shape slot columns places v P =
     IsTrue tells → (es : List Element) → HaveElements shape slot columns v.page places es → P es
+
+-- pages have these elements where some places tell of them, whatever stands on other pages of the series
+abbrev pub HaveOnPlaces : Shape → ℕ → List Column → (ℕ → List ℕ) → List Place → List Element → Type 0
+HaveOnPlaces Irregular slot columns pages places es =
+    (chain : List (List Element)) × AreChained slot columns pages places chain × (all_in chain ≡ es)
+HaveOnPlaces (Regular grid) slot columns pages places es =
+    (cells : List OffsetPage) × AreOn slot columns pages places cells × HaveStarts grid (all_at cells) × (stamped grid (all_at cells) ≡ es)
+
+-- on the pages of some of the places stand all elements from one stamp to another that the series has
+pub record HoldRange (shape : Shape) (columns : List Column) (from to : ℤ) (places some : List Place) : Type 0 where
+  pub among : All (λ place. Contains places place) some
+  pub few : count_of some ≤ count_of places
+  pub all : (slot : ℕ) (pages : ℕ → List ℕ) (es : List Element) → HaveElements shape slot columns pages places es
+      → (own : List Element) × HaveOnPlaces shape slot columns pages some own × (within_range from to own ≡ within_range from to es)
+
+-- these are the pages of places, each at the index of its place
+abbrev pub ArePagesOf : (ℕ → List ℕ) → List Place → List Page → Type 0
+ArePagesOf pages places read = AllZip (λ place page. page.bytes ≡ pages place.page) places read

@@ -1,0 +1,19 @@
+-- Series whose pages were read, each folded by itself.
+use Rattle.std.specs.Prelude.{◌≡◌, ℕ, ◌^◌, ◌<◌, ℤ, List, map}
+use Rattle.ts_row.specs.Element.{Element}
+use Rattle.ts_row.specs.Row.{Row}
+use Rattle.ts_expr.specs.Binding.{Binding}
+use Rattle.ts_expr.specs.Fold.{folded_row}
+use Rattle.ts_chain.specs.Range.{within_range}
+use Rattle.ts_clip.specs.Series.{IsLaidOut, HaveOnPlaces, ArePagesOf}
+use Rattle.ts_space.specs.Place.{count_of}
+use Rattle.ts_aggregate.specs.declared.series_pages.Stack.{Stack}
+
+-- A list makes this row of the elements from one stamp to another that a stack's pages have and its places tell of, where they have the
+-- list's columns and are few enough for their sums. Of pages that have none such it says nothing.
+abbrev pub IsFoldOf : Binding → ℤ → ℤ → Stack → Row → Type 0
+IsFoldOf b from to stack row =
+    IsLaidOut stack.shape → count_of stack.places.now < 2 ^ 32 → stack.shelf.kind.now.columns ≡ b.columns
+    → (pages : ℕ → List ℕ) (es : List Element) → ArePagesOf pages stack.places.now stack.pages.items
+    → HaveOnPlaces stack.shape stack.shelf.series stack.shelf.kind.now.columns pages stack.places.now es
+    → row ≡ folded_row b.items (map (λ e. e.1) (within_range from to es))

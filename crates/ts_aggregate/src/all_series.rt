@@ -1,0 +1,71 @@
+// Series whose pages were read, folded by several workers.
+ghost use Rattle.std.specs.Prelude.{IfOk};
+ghost use Rattle.std.specs.List.{AllZip};
+ghost use Rattle.ts_aggregate.specs.Stacks.{IsFoldOf};
+
+use crate::folding::Folding;
+use crate::series_pages::Stack;
+use std::alloc::{AllocError, Global};
+use std::thread::Threads;
+use ts_base::Stamp;
+use ts_clip::rows_of_pages;
+use ts_expr::Bound;
+use ts_parallel::{Gate, map_in_order};
+use ts_row::Row;
+
+/// What a list makes of the elements of each stack from one stamp to another, both included, those that aren't hidden: a row for each, in
+/// the order of the stacks, by as many workers as serve. A worker passes the gate before each stack; the rows are the same for every gate.
+/// The memory is for the answers and for what is known of the items of each stack while it is folded.
+pub fn aggregate_all<G: Gate + Sync>(
+    rt: &(impl Threads + Sync),
+    alloc: Global,
+    gate: &G,
+    bound: &Bound,
+    stacks: &[Stack<'_>],
+    from: Stamp,
+    to: Stamp,
+) -> Result<Vec<Row>, AllocError>
+    ensures folded { IfOk result (λ rows. AllZip (IsFoldOf bound.now from to) stacks.now rows.items) }
+{
+    let answers = map_in_order(
+        rt,
+        alloc,
+        gate,
+        stacks,
+        &|stack: &Stack<'_>| -> Result<Row, AllocError>
+            ensures { IfOk result (λ row. IsFoldOf bound.entry.now from to stack.now row) }
+        { fold_stack(alloc, bound, stack, from, to) },
+    )?;
+    all_or_none(alloc, answers)
+}
+
+// What it makes of one.
+fn fold_stack(
+    alloc: Global,
+    bound: &Bound,
+    stack: &Stack<'_>,
+    from: Stamp,
+    to: Stamp,
+) -> Result<Row, AllocError>
+    ensures { IfOk result (λ row. IsFoldOf bound.now from to stack.now row) }
+{
+    let mut folding = Folding::new(alloc, bound)?;
+    rows_of_pages(
+        &stack.pages,
+        stack.places,
+        &stack.shelf,
+        &stack.shape,
+        from,
+        to,
+        &mut folding,
+    )?;
+    folding.finish()
+}
+
+// The rows of all answers, or none where one has none.
+fn all_or_none(
+    alloc: Global,
+    answers: Vec<Result<Row, AllocError>>,
+) -> Result<Vec<Row>, AllocError> {
+    unreachable!()
+}
