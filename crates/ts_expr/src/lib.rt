@@ -10,6 +10,7 @@ mod bind;
 mod fold;
 mod function;
 mod item;
+mod laws;
 mod list;
 mod read;
 mod sums;
@@ -19,6 +20,11 @@ pub use bind::Bound;
 pub use fold::Running;
 pub use function::Function;
 pub use item::{BoundItem, Item, MOST_SCALE};
+pub use laws::{
+    a_mean_is_the_nearest, the_first_item_that_cannot_be_bound_is_refused,
+    the_first_value_is_at_the_front, the_least_is_one_of_the_values,
+    the_values_of_a_column_are_alike,
+};
 pub use list::{AggList, MOST_ITEMS, aggregate_texts_are_tokens, aggregates_are_refused_in_place};
 pub use sums::Sums;
 pub use tally::Tally;
