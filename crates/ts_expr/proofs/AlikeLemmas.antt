@@ -1,10 +1,10 @@
 -- The values of a column are of one kind.
-use Rattle.std.proofs.Common.{◌≡◌, ℕ, zero, suc, Bool, true, false, not, List, [], ◌∷◌, All, refl, inl, inr}
+use Rattle.std.proofs.Common.{◌≡◌, ℕ, zero, suc, Bool, true, false, List, [], ◌∷◌, All, refl, inl, inr}
 use Rattle.std.specs.Prelude.{IsTrue}
 use Rattle.std.proofs.lemmas.Bool.{cases_Bool, and_parts}
 use Rattle.std.proofs.lemmas.List.Elements.{All-nil, All-cons, All-head, All-tail, All-weaker}
 use Rattle.ts_row.specs.declared.kind.ColumnKind.{ColumnKind}
-use Rattle.ts_row.specs.declared.kind.ColumnKind.TheVariants.{SmallInt, Integer, BigInt, Decimal, VarChar}
+use Rattle.ts_row.specs.declared.kind.ColumnKind.TheVariants.{VarChar}
 use Rattle.ts_row.specs.declared.kind.Column.{Column}
 use Rattle.ts_row.specs.declared.value.Value.{Value}
 use Rattle.ts_row.specs.declared.value.Value.TheVariants.{Null, Number, Text}
@@ -14,20 +14,23 @@ use Rattle.ts_expr.specs.Fold.{is_null, value_at, values_of}
 use Rattle.ts_expr.specs.Laws.{is_number, is_text, AreAlike}
 
 -- what holds of the value of each row holds of the values
-each_value : (P : Value → Type 0) (column : ℕ) (rows : List Row) → All (λ r. is_null (value_at column r.values) ≡ false → P (value_at column r.values)) rows →
+each_value : (P : Value → Type 0) (column : ℕ) (rows : List Row) →
+    All (λ r. is_null (value_at column r.values) ≡ false → P (value_at column r.values)) rows →
     All P (values_of column rows)
 each_value P column [] all = All-nil P
 each_value P column (r ∷ rows) all =
-    let others : All P (values_of column rows) = each_value P column rows (All-tail (λ (x : Row). is_null (value_at column x.values) ≡ false → P (value_at column x.values)) r rows all) in
+    let others : All P (values_of column rows) =
+    each_value P column rows (All-tail (λ (x : Row). is_null (value_at column x.values) ≡ false → P
+    (value_at column x.values)) r rows all) in
     elim (cases_Bool r.hidden) [
-  | inl hidden ↦ rw hidden others
-  | inr seen ↦ elim (cases_Bool (is_null (value_at column r.values))) [
-    | inl null ↦ rw (seen, null) others
-    | inr some ↦ rw (seen, some) (All-cons P (value_at column r.values) (values_of column rows) (own some) others)
-  ]
-] where
-  own : is_null (value_at column r.values) ≡ false → P (value_at column r.values)
-  own = All-head (λ (x : Row). is_null (value_at column x.values) ≡ false → P (value_at column x.values)) r rows all
+      | inl hidden ↦ rw hidden others
+      | inr seen ↦ elim (cases_Bool (is_null (value_at column r.values))) [
+        | inl null ↦ rw (seen, null) others
+        | inr some ↦ rw (seen, some) (All-cons P (value_at column r.values) (values_of column rows) (own some) others)
+      ]
+    ] where
+      own : is_null (value_at column r.values) ≡ false → P (value_at column r.values)
+      own = All-head (λ (x : Row). is_null (value_at column x.values) ≡ false → P (value_at column x.values)) r rows all
 
 -- the column has texts
 abbrev has_texts : List Column → ℕ → Bool
@@ -52,20 +55,27 @@ number_at : (columns : List Column) (values : Values) (column : ℕ) → hold co
     is_null (value_at column values) ≡ false → is_number (value_at column values) ≡ true
 number_at columns [] column is numbers some = absurd (cc)
 number_at [] (v ∷ values) column is numbers some = absurd (cc)
-number_at (c ∷ columns) (v ∷ values) zero is numbers some = kind_number c.kind v (and_parts (holds c.kind v) (hold columns values) is).0 numbers some
-number_at (c ∷ columns) (v ∷ values) (suc column) is numbers some = number_at columns values column (and_parts (holds c.kind v) (hold columns values) is).1 numbers some
+number_at (c ∷ columns) (v ∷ values) zero is numbers some =
+    kind_number c.kind v (and_parts (holds c.kind v) (hold columns values) is).0 numbers some
+number_at (c ∷ columns) (v ∷ values) (suc column) is numbers some =
+    number_at columns values column (and_parts (holds c.kind v) (hold columns values) is).1 numbers some
 
 text_at : (columns : List Column) (values : Values) (column : ℕ) → hold columns values ≡ true → has_texts columns column ≡ true →
     is_null (value_at column values) ≡ false → is_text (value_at column values) ≡ true
 text_at columns [] column is texts some = absurd (cc)
 text_at [] (v ∷ values) column is texts some = absurd (cc)
-text_at (c ∷ columns) (v ∷ values) zero is texts some = kind_text c.kind v (and_parts (holds c.kind v) (hold columns values) is).0 texts some
-text_at (c ∷ columns) (v ∷ values) (suc column) is texts some = text_at columns values column (and_parts (holds c.kind v) (hold columns values) is).1 texts some
+text_at (c ∷ columns) (v ∷ values) zero is texts some =
+    kind_text c.kind v (and_parts (holds c.kind v) (hold columns values) is).0 texts some
+text_at (c ∷ columns) (v ∷ values) (suc column) is texts some =
+    text_at columns values column (and_parts (holds c.kind v) (hold columns values) is).1 texts some
 
-pub alike : (columns : List Column) (column : ℕ) (rows : List Row) → All (λ r. IsTrue (fits columns r)) rows → AreAlike (values_of column rows)
+pub alike : (columns : List Column) (column : ℕ) (rows : List Row) → All (λ r. IsTrue (fits columns r)) rows →
+    AreAlike (values_of column rows)
 alike columns column rows fit = elim (cases_Bool (has_texts columns column)) [
   | inl texts ↦ inr (each_value (λ v. is_text v ≡ true) column rows (All-weaker (λ (r : Row). IsTrue (fits columns r))
-      (λ (r : Row). is_null (value_at column r.values) ≡ false → is_text (value_at column r.values) ≡ true) (λ r is. text_at columns r.values column is texts) rows fit))
+      (λ (r : Row). is_null (value_at column r.values) ≡ false → is_text (value_at column r.values) ≡ true)
+      (λ r is. text_at columns r.values column is texts) rows fit))
   | inr numbers ↦ inl (each_value (λ v. is_number v ≡ true) column rows (All-weaker (λ (r : Row). IsTrue (fits columns r))
-      (λ (r : Row). is_null (value_at column r.values) ≡ false → is_number (value_at column r.values) ≡ true) (λ r is. number_at columns r.values column is numbers) rows fit))
+      (λ (r : Row). is_null (value_at column r.values) ≡ false → is_number (value_at column r.values) ≡ true)
+      (λ r is. number_at columns r.values column is numbers) rows fit))
 ]

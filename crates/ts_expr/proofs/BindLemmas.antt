@@ -28,7 +28,8 @@ before_refused columns front i items why is = ap (λ r. before_items front (with
 -- each item is bound
 
 -- where no item is refused, there is one bound item for each
-pub bound_each : (columns : List Column) (items : List Item) (ones : List BoundItem) → AreBoundAs columns items ones → bound_items columns items ≡ Ok ones
+pub bound_each : (columns : List Column) (items : List Item) (ones : List BoundItem) → AreBoundAs columns items ones →
+    bound_items columns items ≡ Ok ones
 bound_each columns [] [] is = refl
 bound_each columns [] (one ∷ ones) is = absurd (cc)
 bound_each columns (i ∷ items) [] is = absurd (cc)
@@ -64,7 +65,8 @@ record IsItemBefore (r : Result BoundItem Refusal) (rest : Result (List BoundIte
   behind : rest ≡ Ok others
   whole : ones ≡ one ∷ others
 
-before_parts : (r : Result BoundItem Refusal) (rest : Result (List BoundItem) Refusal) (ones : List BoundItem) → with_item r rest ≡ Ok ones → IsItemBefore r rest ones
+before_parts : (r : Result BoundItem Refusal) (rest : Result (List BoundItem) Refusal) (ones : List BoundItem) →
+    with_item r rest ≡ Ok ones → IsItemBefore r rest ones
 before_parts (Err why) rest ones is = absurd (cc)
 before_parts (Ok one) (Err why) ones is = absurd (cc)
 before_parts (Ok one) (Ok others) ones is = record { one = one; others = others; here = refl; behind = refl; whole = cc }
@@ -72,21 +74,27 @@ before_parts (Ok one) (Ok others) ones is = record { one = one; others = others;
 -- one more
 bound_more : (columns : List Column) (i : Item) (items : List Item) (one : BoundItem) (others ones : List BoundItem) →
     bound columns i ≡ Ok one → AreBoundAs columns items others → ones ≡ one ∷ others → AreBoundAs columns (i ∷ items) ones
-bound_more columns i items one others ones here behind whole = rw (whole, here) (ap (λ (l : List (Result BoundItem Refusal)). Ok one ∷ l) behind)
+bound_more columns i items one others ones here behind whole =
+    rw (whole, here) (ap (λ (l : List (Result BoundItem Refusal)). Ok one ∷ l) behind)
 
-each_bound : (columns : List Column) (items : List Item) (ones : List BoundItem) → bound_items columns items ≡ Ok ones → AreBoundAs columns items ones
+each_bound : (columns : List Column) (items : List Item) (ones : List BoundItem) → bound_items columns items ≡ Ok ones →
+    AreBoundAs columns items ones
 each_bound columns [] ones is = let none : ones ≡ [] = cc in rw none refl
 each_bound columns (i ∷ items) ones is =
-    let parts : IsItemBefore (bound columns i) (bound_items columns items) ones = before_parts (bound columns i) (bound_items columns items) ones is in
+    let parts : IsItemBefore (bound columns i) (bound_items columns items) ones =
+    before_parts (bound columns i) (bound_items columns items) ones is in
     bound_more columns i items parts.one parts.others ones parts.here (each_bound columns items parts.others parts.behind) parts.whole
 
-made_parts : (columns : List Column) (items : Result (List BoundItem) Refusal) (made : Binding) → with_columns columns items ≡ Ok made → (items ≡ Ok made.items) × (made.columns ≡ columns)
+made_parts : (columns : List Column) (items : Result (List BoundItem) Refusal) (made : Binding) → with_columns columns items ≡ Ok made →
+    (items ≡ Ok made.items) × (made.columns ≡ columns)
 made_parts columns (Err why) made is = absurd (cc)
 made_parts columns (Ok ones) made is =
     let same : made ≡ record { columns = columns; items = ones } = cc in
     rw same (refl, refl)
 
-pub each : (columns : List Column) (items : List Item) (made : Binding) → binding columns items ≡ Ok made → AreBoundAs columns items made.items × (made.columns ≡ columns)
+pub each : (columns : List Column) (items : List Item) (made : Binding) → binding columns items ≡ Ok made →
+    AreBoundAs columns items made.items × (made.columns ≡ columns)
 each columns items made is =
-    let parts : (bound_items columns items ≡ Ok made.items) × (made.columns ≡ columns) = made_parts columns (bound_items columns items) made is in
+    let parts : (bound_items columns items ≡ Ok made.items) × (made.columns ≡ columns) =
+    made_parts columns (bound_items columns items) made is in
     (each_bound columns items made.items parts.0, parts.1)

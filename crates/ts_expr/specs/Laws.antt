@@ -1,7 +1,6 @@
 -- What the laws of aggregate lists say.
-use Rattle.std.specs.Prelude.{◌≡◌, ◌⊎◌, ℕ, ◌*◌, ◌≤◌, Bool, true, false, ℤ, pos, ◌-ℤ◌, ◌*ℤ◌, ◌≤ℤ◌, unsigned_abs, Result, Ok, List, map, All, Contains}
+use Rattle.std.specs.Prelude.{◌≡◌, ◌⊎◌, ℕ, ◌*◌, ◌≤◌, Bool, true, false, ℤ, pos, ◌-ℤ◌, ◌*ℤ◌, ◌≤ℤ◌, unsigned_abs, Ok, List, map, All, Contains}
 use Rattle.std.specs.Ordering.{is_lt, is_gt}
-use Rattle.ts_base.specs.declared.refusal.Refusal.{Refusal}
 use Rattle.ts_row.specs.declared.kind.Column.{Column}
 use Rattle.ts_row.specs.declared.value.Value.{Value}
 use Rattle.ts_row.specs.declared.value.Value.TheVariants.{Null, Number, Text}
@@ -10,17 +9,17 @@ use Rattle.ts_expr.specs.declared.item.BoundItem.{BoundItem}
 use Rattle.ts_expr.specs.Fold.{value_cmp}
 use Rattle.ts_expr.specs.Binding.{bound}
 
--- how far, times the count, a whole number is from a million times the sum divided by the count
+-- the distance of a whole number from a million times the sum divided by the count, times the count
 abbrev pub distance : ℤ → ℕ → ℤ → ℕ
 distance sum count mean = unsigned_abs (mean *ℤ pos count -ℤ sum *ℤ pos 1_000_000)
 
--- a whole number is at most half a unit from a million times the sum divided by the count, on the same side of zero; it isn't the one
--- nearer to zero of two that are exactly half a unit from it
+-- a whole number at most half a unit from a million times the sum divided by the count, and on its side of zero; of two that
+-- are exactly half a unit from it, the one farther from zero
 pub record IsNearestMean (sum : ℤ) (count : ℕ) (mean : ℤ) : Type 0 where
   pub near : 2 * distance sum count mean ≤ count
   pub half : 2 * distance sum count mean ≡ count → unsigned_abs sum * 1_000_000 ≤ unsigned_abs mean * count
-  pub from_zero : pos 0 ≤ℤ sum → pos 0 ≤ℤ mean
-  pub to_zero : sum ≤ℤ pos 0 → mean ≤ℤ pos 0
+  pub not_below_zero : pos 0 ≤ℤ sum → pos 0 ≤ℤ mean
+  pub not_above_zero : sum ≤ℤ pos 0 → mean ≤ℤ pos 0
 
 -- a number
 abbrev pub is_number : Value → Bool
