@@ -3,6 +3,9 @@ pub mod EndLemmas
 pub mod GrammarLemmas
 pub mod BindLemmas
 pub mod FoldLemmas
+pub mod AlikeLemmas
+pub mod LeastLemmas
+pub mod MeanLemmas
 pub mod CallerLemmas
 pub mod SumsLemmas
 pub mod TextLemmas

@@ -5,3 +5,4 @@ pub mod Binding
 pub mod Fold
 pub mod Sums
 pub mod Running
+pub mod Laws

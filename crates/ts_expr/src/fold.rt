@@ -2,12 +2,13 @@
 ghost use Rattle.std.specs.Prelude.{◌≡◌, ◌-◌, ◌≤◌, ◌<◌, ◌^◌, List, [], ◌∷◌, ◌++◌, IfOk, OnOk, IsTrue, All, length, map};
 ghost use Rattle.ts_row.specs.Row.{Row, visible, fits};
 ghost use Rattle.ts_expr.specs.declared.item.BoundItem.{BoundItem};
-ghost use Rattle.ts_expr.specs.Fold.{folded, rows_of, value_at};
+ghost use Rattle.ts_expr.specs.Fold.{folded, rows_of};
+ghost use Rattle.ts_expr.specs.Sums.{most_values};
 ghost use Rattle.ts_expr.specs.Running.{after, IsAfter, count_of, all_taken, value_of, IsSmall};
 
+use crate::BoundItem;
 use crate::bind::Bound;
 use crate::tally::Tally;
-use crate::{BoundItem, Function};
 use std::alloc::{AllocError, Global};
 use std::marker::Model;
 use ts_row::{Elem, Row, Value};
@@ -100,7 +101,7 @@ fn take_values(
 ) -> Result<(), AllocError>
     requires items { length tallies.old ≡ length items.now }
     requires places { All (λ i. i.column < length values.now) items.now }
-    requires few { All (λ t. count_of t < 2 ^ 32) tallies.old }
+    requires few { All (λ t. count_of t < most_values) tallies.old }
     requires small { All IsSmall values.now }
     ensures { OnOk result (tallies.new ≡ all_taken items.now values.now tallies.old) }
 {
@@ -112,7 +113,7 @@ fn take_values(
 
 // What the items make of what is known.
 fn values_of(tallies: Vec<Tally>) -> Result<Vec<Value>, AllocError>
-    requires { All (λ t. count_of t ≤ 2 ^ 32) tallies.items }
+    requires { All (λ t. count_of t ≤ most_values) tallies.items }
     ensures { IfOk result (λ values. values.items ≡ map value_of tallies.items) }
 {
     let mut values = Vec::with_capacity(*tallies.allocator(), tallies.len())?;

@@ -2,14 +2,18 @@
 ghost use Rattle.std.specs.Prelude.{◌≡◌};
 ghost use Rattle.ts_expr.specs.Grammar;
 
-/// What is made of the values of a column.
+/// What is made of the values of a column, hidden rows and NULLs left out.
 #[derive(Clone, Copy, Debug, PartialEq, Eq)]
 pub enum Function {
+    /// The sum, with the digits after the point that the column has.
     Sum,
-    /// The mean, with six more digits after the point than the column has.
+    /// The mean, with six more digits after the point than the column has, a half rounded away from zero.
     Avg,
+    /// How many values there are.
     Count,
+    /// The least value: numbers are compared as numbers, texts byte by byte.
     Min,
+    /// The greatest value, compared like the least.
     Max,
     /// The value with the least stamp.
     First,

@@ -1,5 +1,6 @@
 // A sum of values of at most 28 digits, and their mean.
 ghost use Rattle.std.specs.Prelude.{◌≡◌, ◌+◌, ◌*◌, ◌/◌, ◌^◌, ◌<◌, ◌≤◌, pos, ◌+ℤ◌, ◌*ℤ◌, unsigned_abs};
+ghost use Rattle.ts_expr.specs.Sums.{most_values};
 ghost use Rattle.ts_expr.specs.Fold.{rounded};
 
 use std::marker::Model;
@@ -85,7 +86,7 @@ impl Sums {
 // A million times a size, divided by a count, a half rounded up.
 fn mean_size(size: u128, count: u128) -> u128
     requires some { 0 < count }
-    requires few { count ≤ 2 ^ 32 }
+    requires few { count ≤ most_values }
     requires small { size ≤ count * 10 ^ 28 }
     ensures value { result ≡ (2 * (size * 1_000_000) + count) / (2 * count) }
     ensures small { result ≤ 10 ^ 35 }

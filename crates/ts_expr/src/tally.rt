@@ -3,6 +3,7 @@ ghost use Rattle.std.specs.Prelude.{◌≡◌, ◌<◌, ◌≤◌, ◌+◌, ◌*
 ghost use Rattle.ts_row.specs.declared.value.Value.{Value};
 ghost use Rattle.ts_expr.specs.declared.function.Function.{Function};
 ghost use Rattle.ts_expr.specs.Fold.{is_null, number_of, total, value_cmp, lesser, greater, earlier};
+ghost use Rattle.ts_expr.specs.Sums.{most_values};
 ghost use Rattle.ts_expr.specs.Running.{tally_of, count_of, taken_into, with_value, is_summed, with_sums, IsSmall, value_of, sum_if_any};
 
 use crate::Function;
@@ -15,12 +16,19 @@ use ts_row::Value;
 /// What is known, for one function, of the values so far.
 #[derive(Debug, Drop)]
 pub enum Tally {
+    /// How many values there were.
     Count(u64),
+    /// Their number and their sum.
     Sum(Sums),
+    /// Their number and their sum, of which the mean is made.
     Avg(Sums),
+    /// The least of them, or NULL where there was none.
     Min(Value),
+    /// The greatest of them, or NULL where there was none.
     Max(Value),
+    /// The one taken first, or NULL where there was none.
     First(Value),
+    /// The one taken last, or NULL where there was none.
     Last(Value),
 }
 
@@ -66,7 +74,7 @@ impl Tally {
 
     // One more value that isn't NULL.
     fn take_value(&mut self, value: &Value) -> Result<(), AllocError>
-        requires few { count_of self.old < 2 ^ 32 }
+        requires few { count_of self.old < most_values }
         requires small { IsSmall value.now }
         ensures { OnOk result (self.new ≡ with_value self.old value.now) }
     {
@@ -138,7 +146,7 @@ fn sum_if_any(sums: Sums) -> Value
 
 // The mean, where there are values.
 fn mean_if_any(sums: Sums) -> Value
-    requires { sums.count ≤ 2 ^ 32 }
+    requires { sums.count ≤ most_values }
     ensures { result ≡ value_of (Tally.Avg sums) }
 {
     if sums.count() == 0 {
