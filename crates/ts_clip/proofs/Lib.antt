@@ -21,4 +21,5 @@ pub mod GridSeenLemmas
 pub mod GridStampLemmas
 pub mod GridStartLemmas
 pub mod GridWithinLemmas
+pub mod PageListLemmas
 pub mod RowRunLemmas

@@ -1,15 +1,17 @@
 // The rows of an irregular series, a page at a time.
-ghost use Rattle.std.specs.Prelude.{◌≡◌, ◌-◌, ◌<◌, ◌≤◌, All, IfOk, OnOk, [], ◌∷◌, length, map, take, drop};
+ghost use Rattle.std.specs.Prelude.{◌≡◌, ◌-◌, ◌<◌, ◌≤◌, ℕ, All, IfOk, OnOk, List, [], ◌∷◌, length, map, take, drop};
+ghost use Rattle.ts_row.specs.Element.{Element};
 ghost use Rattle.ts_cells.specs.Cell.{page_room};
 ghost use Rattle.ts_space.specs.Directory.{places_of};
 ghost use Rattle.ts_offset.specs.declared.shape.Shape.TheVariants.{Irregular};
 ghost use Rattle.ts_irregular.specs.Call.{Reads};
 ghost use Rattle.ts_irregular.specs.Call as irregular;
+ghost use Rattle.ts_irregular.specs.OnePage.{IsOn};
 ghost use Rattle.ts_chain.specs.Places.{ArePlaces, CanBeRead};
 ghost use Rattle.ts_chain.specs.Chain.{all_in};
 ghost use Rattle.ts_chain.specs.Range.{within_range};
 ghost use Rattle.ts_clip.specs.Chain.{HoldsOfMore, HoldsOfPages};
-ghost use Rattle.ts_clip.specs.Series.{IsTold};
+ghost use Rattle.ts_clip.specs.Series.{IsTold, HaveOnPlaces, ArePagesOf};
 
 use crate::chain_cells::{FRONT, range_on};
 use crate::chain_range::places_between;
@@ -85,11 +87,45 @@ fn rows_on_page<P: Pages, V: RowVisitor>(
     ensures undisturbed { P.undisturbed pages.old pages.new }
 {
     pages.get(place.page, page)?;
+    rows_of_page(page, shelf, place, from, to, visitor)?;
+    Ok(())
+}
+
+/// `rows_of_pages`.
+pub(crate) fn chain_rows_of_pages<V: RowVisitor>(
+    read: &[Page],
+    places: &[Place],
+    shelf: &Shelf,
+    from: Stamp,
+    to: Stamp,
+    visitor: &mut V,
+) -> Result<(), AllocError>
+    ensures took { OnOk result ((pages : ℕ → List ℕ) (es : List Element) → ArePagesOf pages places.now read.now
+        → HaveOnPlaces Irregular shelf.now.series shelf.now.kind.now.columns pages places.now es
+        → V.took shelf.now.kind.now.columns visitor.old (map (λ e. e.1) (within_range from to es)) visitor.new) }
+{
+    for (place, page) in places.iter().zip(read) {
+        rows_of_page(page, shelf, place, from, to, visitor)?;
+    }
+    Ok(())
+}
+
+// Hands on those of a page that was read: none of one whose head disagrees with its place.
+fn rows_of_page<V: RowVisitor>(
+    page: &Page,
+    shelf: &Shelf,
+    place: &Place,
+    from: Stamp,
+    to: Stamp,
+    visitor: &mut V,
+) -> Result<(), AllocError>
+    ensures took { OnOk result ((es : List Element) → IsOn shelf.now.series shelf.now.kind.now.columns page.now.bytes place.now es
+        → V.took shelf.now.kind.now.columns visitor.old (map (λ e. e.1) (within_range from to es)) visitor.new) }
+{
     let count = count_told(shelf, place, page);
     let behind = &page.bytes[HEAD..];
     let (first, last) = range_on(shelf.kind, behind, count, from, to);
-    rows_between(shelf.kind, behind, first, last, visitor)?;
-    Ok(())
+    rows_between(shelf.kind, behind, first, last, visitor)
 }
 
 // Hands on the rows in the cells from one index on and before another.

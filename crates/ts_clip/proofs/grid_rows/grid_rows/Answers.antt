@@ -7,7 +7,7 @@ use Rattle.ts_row.specs.Element.{Element}
 use Rattle.ts_chain.specs.Range.{within_range}
 use Rattle.ts_regular.specs.Offsets.{OffsetElement}
 use Rattle.ts_regular.specs.Places.{AreOn, CanBeRead, all_in}
-use Rattle.ts_clip.proofs.GridAmongLemmas.{among_each, among_rising, among_told, among_within}
+use Rattle.ts_clip.proofs.GridAmongLemmas.{among_each, among_told, among_within}
 use Rattle.ts_clip.proofs.GridReadLemmas.{readable}
 use Rattle.ts_clip.proofs.GridRowLemmas.{range_rows}
 use Rattle.ts_clip.proofs.GridWithinLemmas.{within_none}
@@ -20,11 +20,6 @@ rows_on_places-requires-clause-readable g c =
     let o = c.offsets_of-offsets.result in
     among_each columns o.lower o.upper c.places-all.result.now c.places_between-places.result.now c.places_between-places.ensures.between (CanBeRead v)
     (subst (All (CanBeRead v)) (sym c.places-all.ensures.ok) (readable columns v _ c.requires.places))
-
-pub rows_on_places-requires-clause-rising : goal.rows_on_places-requires-clause-rising
-rows_on_places-requires-clause-rising g c =
-    let o = c.offsets_of-offsets.result in
-    among_rising c.args.shelf.now.kind.now.columns o.lower o.upper c.places-all.result.now c.places_between-places.result.now c.places_between-places.ensures.between c.places-all.ensures.rising
 
 -- from a later stamp to an earlier one there are none
 pub returns-then-offsets-clause-read : goal.returns-then-offsets-clause-read
