@@ -22,4 +22,5 @@ pub mod GridStampLemmas
 pub mod GridStartLemmas
 pub mod GridWithinLemmas
 pub mod PageListLemmas
+pub mod RangePlaceLemmas
 pub mod RowRunLemmas

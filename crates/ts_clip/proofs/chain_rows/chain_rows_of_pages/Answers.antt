@@ -1,4 +1,4 @@
-use Rattle.std.proofs.Common.{◌≡◌, ℕ, ◌+◌, List, [], ◌∷◌, ◌++◌, length, take, sym, ap, subst, ◌∙◌, arith}
+use Rattle.std.proofs.Common.{◌≡◌, ℕ, ◌+◌, List, [], ◌∷◌, ◌++◌, length, take, get_or, sym, ap, subst, ◌∙◌, arith}
 use Rattle.std.proofs.lemmas.List.{length_push}
 use Rattle.std.proofs.lemmas.Slice.Zip.{AllZip-long, zip_turn, zip_end}
 use Rattle.ts_page.specs.declared.page.Page.{Page}
@@ -28,7 +28,7 @@ loop-place-preserved g c =
     let p = page_in slot columns pages places i place chain on turn.0 in
     let there = read_there pages places read i place c.in-Some.page.now are turn.0 (turn.2 place) (turn.3 c.in-Some.page.now) (λ b q. IsOn slot columns b q p.elements) p.on in
     subst (λ (l : List Row). g.V.RowVisitor.took columns c.args.visitor.now l c.rows_of_page.new.visitor)
-    (rows_next from to slot columns pages _ i chain p ∙ ap (λ (n : ℕ). rows_within from to (all_in (take n chain))) (sym (length_push c.loop-place.yielded (c.in-Some.place, c.in-Some.page))))
+    (rows_next from to slot columns pages (get_or places i place) i chain p ∙ ap (λ (n : ℕ). rows_within from to (all_in (take n chain))) (sym (length_push c.loop-place.yielded (c.in-Some.place, c.in-Some.page))))
     (g.met.V.RowVisitor.«then» columns c.args.visitor.now c.loop-place.visitor c.rows_of_page.new.visitor (rows_within from to (all_in (take i chain))) (rows_within from to p.elements)
     (c.loop-place.invariant pages chain are on) (c.in_ok-rows_of_page.ensures.took p.elements there))
 
