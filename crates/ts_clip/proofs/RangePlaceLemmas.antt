@@ -1,8 +1,8 @@
 -- The places on whose pages the elements of a range stand.
-use Rattle.std.proofs.Common.{◌≡◌, ℕ, ◌+◌, ◌-◌, ◌≤◌, All, ℤ, IsSome, List, [], ◌++◌, take, drop, length, refl, sym, ap, subst, ◌∙◌, arith}
+use Rattle.std.proofs.Common.{◌≡◌, ℕ, ◌-◌, ◌≤◌, All, ℤ, IsSome, List, [], ◌++◌, take, drop, refl, sym, ap, subst, ◌∙◌, arith}
 use Rattle.std.specs.Prelude.{Contains}
 use Rattle.std.proofs.lemmas.List.{take-append-drop}
-use Rattle.std.proofs.lemmas.List.Elements.{All-nil, All-weaker, All-contains_itself, Contains-append_left, Contains-append_right}
+use Rattle.std.proofs.lemmas.List.Elements.{All-nil, All-weaker, All-contains, All-contains_itself, Contains-append_left, Contains-append_right}
 use Rattle.std.proofs.lemmas.List.Sums.{sum_by-append}
 use Rattle.ts_space.specs.declared.place.Place.{Place}
 use Rattle.ts_space.specs.Place.{count_of}
@@ -10,10 +10,10 @@ use Rattle.ts_row.specs.declared.kind.Column.{Column}
 use Rattle.ts_row.specs.Element.{Element}
 use Rattle.ts_calendar.specs.Intervals.{IsLaid}
 use Rattle.ts_offset.specs.Grid.{GridPlan, stamp_of}
+use Rattle.ts_offset.specs.declared.shape.Shape.{Shape}
 use Rattle.ts_offset.specs.declared.shape.Shape.TheVariants.{Irregular, Regular}
 use Rattle.ts_regular.specs.Offsets.{OffsetElement}
-use Rattle.ts_regular.specs.Places.{OffsetPage, all_in as all_at}
-use Rattle.ts_regular.specs.Range.{within}
+use Rattle.ts_regular.specs.Places.{all_in as all_at}
 use Rattle.ts_chain.specs.Chain.{all_in}
 use Rattle.ts_chain.specs.Places.{AreChained}
 use Rattle.ts_chain.specs.Range.{within_range}
@@ -66,9 +66,9 @@ module _ (grid : GridPlan) (laid : IsLaid grid.calendar) (columns : List Column)
           stamped grid (all_at told.own),
           (told.own, told.on, starts, refl),
           sym (within_stamped grid laid from to lower upper offsets (all_at told.own) starts)
-          ∙ ap (stamped grid) (sym (among_within columns lower upper places some between slot pages have.cells order told))
-          ∙ within_stamped grid laid from to lower upper offsets (all_at have.cells) have.starts
-          ∙ ap (within_range from to) have.all,
+              ∙ ap (stamped grid) (sym (among_within columns lower upper places some between slot pages have.cells order told))
+              ∙ within_stamped grid laid from to lower upper offsets (all_at have.cells) have.starts
+              ∙ ap (within_range from to) have.all,
         );
   }
     where
@@ -86,3 +86,7 @@ module _ (grid : GridPlan) (laid : IsLaid grid.calendar) (columns : List Column)
       sym (ap (stamped grid) (within_none lower upper (all_at have.cells) turned)) ∙ within_stamped grid laid from to lower upper offsets (all_at have.cells) have.starts ∙ ap (within_range from to) have.all,
     );
   }
+
+-- what is so of each place is so of those of a range
+pub held_each : (shape : Shape) (columns : List Column) (from to : ℤ) (places some : List Place) → HoldRange shape columns from to places some → (P : Place → Type 0) → All P places → All P some
+held_each shape columns from to places some held P each = All-weaker (Contains places) P (λ place within. All-contains P places place each within) some held.among

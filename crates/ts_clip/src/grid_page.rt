@@ -38,7 +38,11 @@ pub(crate) fn base_on(shelf: &Shelf, place: &Place, page: &Page) -> Option<u64>
     ensures limit { IfSome result (λ n. n < 2 ^ 63) }
 {
     let base = base_in(place)?;
-    if agrees(shelf, place, base, page) { Some(base) } else { None }
+    if agrees(shelf, place, base, page) {
+        Some(base)
+    } else {
+        None
+    }
 }
 
 // The offset of the first cell of the page of a place.

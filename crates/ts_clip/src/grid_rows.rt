@@ -1,24 +1,23 @@
 // The rows of a regular series, a page at a time.
 ghost use Rattle.std.specs.Prelude.{◌≡◌, ◌-◌, ◌<◌, ◌≤◌, ◌^◌, ℕ, All, IfOk, OnOk, List, length, map, take, drop};
 ghost use Rattle.ts_row.specs.Element.{Element};
-ghost use Rattle.ts_space.specs.Directory.{places_of};
 ghost use Rattle.ts_calendar.specs.Intervals.{IsLaid};
 ghost use Rattle.ts_offset.specs.declared.shape.Shape.TheVariants.{Regular};
 ghost use Rattle.ts_regular.specs.Cell.{Cell, regular_room};
 ghost use Rattle.ts_regular.specs.Offsets.{elements_from};
 ghost use Rattle.ts_regular.specs.RegularPage.{AreCells, behind_head};
-ghost use Rattle.ts_regular.specs.Places.{OffsetPage, ArePlaces, AreOn, CanBeRead, IsOn, all_in};
+ghost use Rattle.ts_regular.specs.Places.{OffsetPage, AreOn, CanBeRead, IsOn, all_in};
 ghost use Rattle.ts_regular.specs.Range.{within};
 ghost use Rattle.ts_regular.specs.OnePage.{IsToldOn};
 ghost use Rattle.ts_regular.specs.Call as regular;
 ghost use Rattle.ts_irregular.specs.Call.{Reads};
 ghost use Rattle.ts_chain.specs.Range.{within_range};
 ghost use Rattle.ts_entry.specs.Rows.{rows_in};
-ghost use Rattle.ts_clip.specs.Series.{IsTold, HaveOnPlaces, ArePagesOf};
+ghost use Rattle.ts_clip.specs.Series.{HaveOnPlaces, IsToldOnPlaces, ArePagesOf};
 
 use crate::grid_cells::cell_size;
 use crate::grid_offsets::{Offsets, offsets_of};
-use crate::grid_page::{base_on, places_between};
+use crate::grid_page::base_on;
 use std::alloc::AllocError;
 use ts_base::{Stamp, StoreFault};
 use ts_entry::RowVisitor;
@@ -26,37 +25,31 @@ use ts_offset::Grid;
 use ts_page::{HEAD, Page, Pages};
 use ts_regular::regular_room;
 use ts_row::{RowType, Shelf};
-use ts_space::{Place, Space};
+use ts_space::Place;
 
 // What a cell has before its row: a byte that tells whether an element stands there.
 const FRONT: usize = 1;
 
-/// `rows`.
+/// `rows` on the pages of some places.
 pub(crate) fn grid_rows<P: Pages, V: RowVisitor>(
     pages: &mut P,
     page: &mut Page,
-    space: &Space,
     shelf: &Shelf,
     grid: &Grid,
+    places: &[Place],
     from: Stamp,
     to: Stamp,
     visitor: &mut V,
 ) -> Result<(), StoreFault>
-    requires slot { shelf.now.series < 4096 }
     requires laid { IsLaid grid.now.calendar }
-    requires places { ArePlaces shelf.now.kind.now.columns (P.contents pages.old) (places_of shelf.now.series space.now) }
-    ensures read { IfOk result (λ done. IsTold P.tells (Regular grid.now) shelf.now.series shelf.now.kind.now.columns
-        (places_of shelf.now.series space.now) (P.contents pages.old)
+    requires readable { All (CanBeRead (P.contents pages.old)) places.now }
+    ensures read { IfOk result (λ done. IsToldOnPlaces P.tells (Regular grid.now) shelf.now.series shelf.now.kind.now.columns places.now
+        (P.contents pages.old)
         (λ es. V.took shelf.now.kind.now.columns visitor.old (map (λ e. e.1) (within_range from to es)) visitor.new)) }
     ensures call { Reads P.tells result (P.contents pages.old) (P.contents pages.new) }
     ensures undisturbed { P.undisturbed pages.old pages.new }
 {
     let offsets = offsets_of(grid, from, to);
-    if offsets.lower == offsets.upper {
-        return Ok(());
-    }
-    let all = space.places(shelf.series);
-    let places = places_between(shelf.kind, all, offsets.lower, offsets.upper);
     rows_on_places(pages, page, shelf, places, offsets, visitor)
 }
 

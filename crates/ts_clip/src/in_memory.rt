@@ -8,11 +8,10 @@ ghost use Rattle.ts_offset.specs.declared.shape.Shape.TheVariants.{Irregular, Re
 ghost use Rattle.ts_chain.specs.Range.{within_range};
 ghost use Rattle.ts_clip.specs.Series.{IsLaidOut, HaveOnPlaces, HoldRange, ArePagesOf};
 
-use crate::chain_range;
 use crate::chain_rows::chain_rows_of_pages;
 use crate::grid_offsets::offsets_of;
-use crate::grid_page;
 use crate::grid_rows::grid_rows_of_pages;
+use crate::{chain_range, grid_page};
 use std::alloc::AllocError;
 use ts_base::Stamp;
 use ts_entry::RowVisitor;
