@@ -26,13 +26,15 @@ pub record HasCells (columns : List Column) (count : ℕ) (bytes : List ℕ) (es
   pub number : length es ≡ count
   pub behind : mid_of 32 4064 bytes ≡ behind_head columns es
 
+pub cells_told : (slot count : ℕ) (columns : List Column) (place : Place) (bytes : List ℕ) → ((es : List Element) → IsOn slot columns bytes place es → length es ≡ count) → (es : List Element) → IsOn slot columns bytes place es → HasCells columns count bytes es
+cells_told slot count columns place bytes number es on =
+    let order = on.bytes.fill.elements in
+    let behind = behind_told slot columns es bytes on.bytes in
+    record { order = order; number = number es on; behind = part_behind 4064 bytes (length-page columns es bytes order.each on.bytes.fill.room behind) ∙ behind }
+
 pub page_read : (tells : Bool) (slot count : ℕ) (columns : List Column) (place : Place) (bytes : List ℕ) (v w : Contents) → IsElementPage place.page → Got tells place.page bytes (Ok tt) v w
     → ((es : List Element) → IsOn slot columns bytes place es → length es ≡ count) → IsTrue tells → (es : List Element) → IsOn slot columns (v.page place.page) place es → HasCells columns count bytes es
-page_read tells slot count columns place bytes v w element got number told es on =
-    let read = read_on tells slot columns (place ∷ []) place bytes v w refl element got told es on in
-    let order = read.bytes.fill.elements in
-    let behind = behind_told slot columns es bytes read.bytes in
-    record { order = order; number = number es read; behind = part_behind 4064 bytes (length-page columns es bytes order.each read.bytes.fill.room behind) ∙ behind }
+page_read tells slot count columns place bytes v w element got number told es on = cells_told slot count columns place bytes number es (read_on tells slot columns (place ∷ []) place bytes v w refl element got told es on)
 
 -- the place of a page that was readable stays so
 pub readable_since : (tells : Bool) (u v : Contents) (place : Place) → Reads tells (Ok (tt {0})) u v → CanBeRead u place → CanBeRead v place

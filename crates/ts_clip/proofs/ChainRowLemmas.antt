@@ -1,5 +1,5 @@
 -- The rows of a range on the pages of a chain, hidden ones too.
-use Rattle.std.proofs.Common.{◌≡◌, ℕ, suc, ◌+◌, ◌-◌, ℤ, List, [], ◌∷◌, ◌++◌, map, take, drop, sym, ap, subst, ◌∙◌, arith, append-nil}
+use Rattle.std.proofs.Common.{◌≡◌, ℕ, suc, ◌+◌, ℤ, List, [], ◌∷◌, ◌++◌, map, take, sym, ap, ◌∙◌, arith, append-nil}
 use Rattle.std.proofs.lemmas.List.{map-append}
 use Rattle.std.proofs.lemmas.List.Elements.{filter-append}
 use Rattle.ts_space.specs.declared.place.Place.{Place}
@@ -7,13 +7,9 @@ use Rattle.ts_row.specs.declared.kind.Column.{Column}
 use Rattle.ts_row.specs.Row.{Row}
 use Rattle.ts_row.specs.Element.{Element}
 use Rattle.ts_chain.specs.Chain.{all_in}
-use Rattle.ts_chain.specs.Places.{AreChained}
 use Rattle.ts_chain.specs.Range.{is_within, within_range}
 use Rattle.ts_chain.proofs.OrderLemmas.{all_in-append}
-use Rattle.ts_clip.specs.Chain.{HaveRange}
-use Rattle.ts_clip.specs.Series.{HaveChain}
 use Rattle.ts_clip.proofs.ChainPageLemmas.{PageIn}
-use Rattle.ts_clip.proofs.ChainRangeLemmas.{chained_part}
 
 -- the rows of a range
 abbrev pub rows_within : ℤ → ℤ → List Element → List Row
@@ -30,15 +26,3 @@ rows_next from to slot columns pages place i chain p =
     sym (rows_both from to (all_in (take i chain)) p.elements)
     ∙ ap (λ (l : List Element). rows_within from to (all_in (take i chain) ++ l)) (sym (append-nil p.elements))
     ∙ ap (rows_within from to) (sym (all_in-append (take i chain) (p.elements ∷ [])) ∙ ap all_in (sym p.front) ∙ ap (λ (n : ℕ). all_in (take n chain)) one)
-
--- what was said of the pages of a range is so of all elements of the series
-pub range_told : (slot : ℕ) (columns : List Column) (pages : ℕ → List ℕ) (listed places : List Place) (first stop : ℕ) (from to : ℤ) (es : List Element) → places ≡ listed → HaveRange from to places first stop
-    → HaveChain slot columns pages listed es → (P : List Row → Type 0)
-    → ((chain : List (List Element)) → AreChained slot columns pages (take (stop - first) (drop first places)) chain → P (rows_within from to (all_in chain)))
-    → P (rows_within from to es)
-range_told slot columns pages listed places first stop from to es same range have P all =
-    let on : AreChained slot columns pages places have.chain = subst (λ (ps : List Place). AreChained slot columns pages ps have.chain) (sym same) have.on in
-    let part : List (List Element) = take (stop - first) (drop first have.chain) in
-    let eq : rows_within from to (all_in part) ≡ rows_within from to es =
-    ap (map (λ (e : Element). e.1)) (sym (range slot columns pages have.chain on have.is.pages) ∙ ap (within_range from to) have.all) in
-    subst P eq (all part (chained_part slot columns pages (stop - first) first places have.chain on))

@@ -49,10 +49,10 @@ rising_mid : (xs ys zs : List Place) → IsRising (xs ++ (ys ++ zs)) → IsRisin
 rising_mid [] ys zs rise = rising_first ys zs rise
 rising_mid (q ∷ xs) ys zs rise = rising_mid xs ys zs rise.1
 
-all_first : (P : Place → Type 0) (xs ys : List Place) → All P (xs ++ ys) → All P xs
+pub all_first : {A : Type 0} (P : A → Type 0) (xs ys : List A) → All P (xs ++ ys) → All P xs
 all_first P xs ys all k d within = subst P (get_or_append_left xs ys d k within) (all k d (omega (arith, within, length-append xs ys)))
 
-all_second : (P : Place → Type 0) (xs ys : List Place) → All P (xs ++ ys) → All P ys
+pub all_second : {A : Type 0} (P : A → Type 0) (xs ys : List A) → All P (xs ++ ys) → All P ys
 all_second P [] ys all = all
 all_second P (q ∷ xs) ys all = all_second P xs ys (All-tail P q (xs ++ ys) all)
 

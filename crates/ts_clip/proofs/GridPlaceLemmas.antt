@@ -35,6 +35,14 @@ page_at slot columns pages (q ∷ places) (suc i) d (p ∷ ps) rising on within 
     let rest = page_at slot columns pages places i d ps rising.1 on.1 (omega (arith, within)) in
     record { page = rest.page; next = rest.next; on = rest.on; behind = rest.behind }
 
+-- the page of an index, in whatever order the places are
+pub page_of : (slot : ℕ) (columns : List Column) (pages : ℕ → List ℕ) (places : List Place) (i : ℕ) (d : Place) (ps : List OffsetPage) → AreOn slot columns pages places ps → i < length places
+    → (page : OffsetPage) × (drop i ps ≡ page ∷ drop (suc i) ps) × IsOn slot columns (pages (get_or places i d).page) (get_or places i d) page
+page_of slot columns pages [] i d ps on within = absurd (omega (arith, within))
+page_of slot columns pages (q ∷ places) i d [] on within = absurd on
+page_of slot columns pages (q ∷ places) zero d (p ∷ ps) on within = (p, refl, on.0)
+page_of slot columns pages (q ∷ places) (suc i) d (p ∷ ps) on within = page_of slot columns pages places i d ps on.1 (omega (arith, within))
+
 -- the pages are as many as the places
 pub pages_count : (slot : ℕ) (columns : List Column) (pages : ℕ → List ℕ) (places : List Place) (ps : List OffsetPage) → AreOn slot columns pages places ps → length ps ≡ length places
 pages_count slot columns pages [] [] on = refl

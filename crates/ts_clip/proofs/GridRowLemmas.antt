@@ -3,8 +3,6 @@ use Rattle.std.proofs.Common.{◌≡◌, ℕ, zero, suc, ◌+◌, ◌-◌, ◌<�
 use Rattle.std.proofs.lemmas.Bool.Decides.{nat_tests}
 use Rattle.std.proofs.lemmas.List.{map-append}
 use Rattle.std.proofs.lemmas.List.Elements.{All-filter, All-head, All-tail}
-use Rattle.ts_space.specs.declared.place.Place.{Place}
-use Rattle.ts_row.specs.declared.kind.Column.{Column}
 use Rattle.ts_row.specs.Row.{Row}
 use Rattle.ts_row.specs.Element.{Element}
 use Rattle.ts_calendar.specs.Intervals.{IsLaid}
@@ -20,7 +18,6 @@ use Rattle.ts_regular_edits.specs.Stamped.{stamped, HaveStarts}
 use Rattle.ts_regular_edits.proofs.RangeLemmas.{within_stamped}
 use Rattle.ts_regular_edits.proofs.StampLemmas.{some_start, stamped_cons}
 use Rattle.ts_entry.specs.Rows.{rows_in}
-use Rattle.ts_clip.proofs.GridPlaceLemmas.{PageAt}
 use Rattle.ts_clip.proofs.GridStartLemmas.{take_parts}
 use Rattle.ts_clip.proofs.GridWithinLemmas.{between_before, between_in, none_here, own_here, within_both, within_cells, within_none}
 
@@ -67,13 +64,13 @@ rows_both : (lower upper : ℕ) (xs ys : List OffsetElement) → rows_within low
 rows_both lower upper xs ys = ap (map (λ (e : OffsetElement). e.1)) (within_both lower upper xs ys) ∙ map-append (λ (e : OffsetElement). e.1) (within lower upper xs) (within lower upper ys)
 
 -- from the pages before an index to those up to it
-pub rows_next : (slot : ℕ) (columns : List Column) (pages : ℕ → List ℕ) (place : Place) (lower upper i : ℕ) (ps : List OffsetPage) (here : PageAt slot columns pages place i ps)
-    → rows_within lower upper (all_in (take i ps)) ++ rows_within lower upper (elements_from here.page.0 here.page.1) ≡ rows_within lower upper (all_in (take (i + 1) ps))
-rows_next slot columns pages place lower upper i ps here =
+pub rows_next : (lower upper i : ℕ) (page : OffsetPage) (ps : List OffsetPage) → drop i ps ≡ page ∷ drop (suc i) ps
+    → rows_within lower upper (all_in (take i ps)) ++ rows_within lower upper (elements_from page.0 page.1) ≡ rows_within lower upper (all_in (take (i + 1) ps))
+rows_next lower upper i page ps next =
     sym (
-    ap (λ (l : List OffsetPage). rows_within lower upper (all_in l)) (take_parts i 1 (i + 1) ps refl ∙ ap (λ (l : List OffsetPage). take i ps ++ take 1 l) here.next)
-    ∙ ap (rows_within lower upper) (all_both (take i ps) (here.page ∷ []) ∙ ap (λ (l : List OffsetElement). all_in (take i ps) ++ l) (append-nil (elements_from here.page.0 here.page.1)))
-    ∙ rows_both lower upper (all_in (take i ps)) (elements_from here.page.0 here.page.1))
+    ap (λ (l : List OffsetPage). rows_within lower upper (all_in l)) (take_parts i 1 (i + 1) ps refl ∙ ap (λ (l : List OffsetPage). take i ps ++ take 1 l) next)
+    ∙ ap (rows_within lower upper) (all_both (take i ps) (page ∷ []) ∙ ap (λ (l : List OffsetElement). all_in (take i ps) ++ l) (append-nil (elements_from page.0 page.1)))
+    ∙ rows_both lower upper (all_in (take i ps)) (elements_from page.0 page.1))
 
 -- rows at the on starts of their offsets are the same rows
 rows_stamped : (grid : GridPlan) (es : List OffsetElement) → HaveStarts grid es → map (λ (e : OffsetElement). e.1) es ≡ map (λ (e : Element). e.1) (stamped grid es)

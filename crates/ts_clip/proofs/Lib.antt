@@ -21,4 +21,6 @@ pub mod GridSeenLemmas
 pub mod GridStampLemmas
 pub mod GridStartLemmas
 pub mod GridWithinLemmas
+pub mod PageListLemmas
+pub mod RangePlaceLemmas
 pub mod RowRunLemmas

@@ -61,6 +61,11 @@ HaveOnPlaces Irregular slot columns pages places es =
 HaveOnPlaces (Regular grid) slot columns pages places es =
     (cells : List OffsetPage) × AreOn slot columns pages places cells × HaveStarts grid (all_at cells) × (stamped grid (all_at cells) ≡ es)
 
+-- Where the pages are told, this holds of the elements that they have where these places tell of them.
+abbrev pub IsToldOnPlaces : Bool → Shape → ℕ → List Column → List Place → Contents → (List Element → Type 0) → Type 0
+IsToldOnPlaces tells shape slot columns places v P =
+    IsTrue tells → (es : List Element) → HaveOnPlaces shape slot columns v.page places es → P es
+
 -- on the pages of some of the places stand all elements from one stamp to another that the series has
 pub record HoldRange (shape : Shape) (columns : List Column) (from to : ℤ) (places some : List Place) : Type 0 where
   pub among : All (λ place. Contains places place) some

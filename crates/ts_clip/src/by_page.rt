@@ -7,6 +7,7 @@ ghost use Rattle.ts_clip.specs.Series.{IsLaidOut, ArePlaces, IsTold};
 
 use crate::chain_rows::chain_rows;
 use crate::grid_rows::grid_rows;
+use crate::in_memory::places_of_range;
 use ts_base::{Stamp, StoreFault};
 use ts_entry::RowVisitor;
 use ts_offset::Shape;
@@ -35,8 +36,10 @@ pub fn rows<P: Pages, V: RowVisitor>(
     ensures call { Reads P.tells result (P.contents pages.old) (P.contents pages.new) }
     ensures undisturbed { P.undisturbed pages.old pages.new }
 {
+    let all = space.places(shelf.series);
+    let places = places_of_range(shelf.kind, shape, all, from, to);
     match shape {
-        Shape::Irregular => chain_rows(pages, page, space, shelf, from, to, visitor),
-        Shape::Regular(grid) => grid_rows(pages, page, space, shelf, grid, from, to, visitor),
+        Shape::Irregular => chain_rows(pages, page, shelf, places, from, to, visitor),
+        Shape::Regular(grid) => grid_rows(pages, page, shelf, grid, places, from, to, visitor),
     }
 }

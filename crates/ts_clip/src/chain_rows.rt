@@ -1,18 +1,17 @@
 // The rows of an irregular series, a page at a time.
-ghost use Rattle.std.specs.Prelude.{◌≡◌, ◌-◌, ◌<◌, ◌≤◌, All, IfOk, OnOk, [], ◌∷◌, length, map, take, drop};
+ghost use Rattle.std.specs.Prelude.{◌≡◌, ◌-◌, ◌<◌, ◌≤◌, ℕ, All, IfOk, OnOk, List, [], ◌∷◌, length, map, take, drop};
+ghost use Rattle.ts_row.specs.Element.{Element};
 ghost use Rattle.ts_cells.specs.Cell.{page_room};
-ghost use Rattle.ts_space.specs.Directory.{places_of};
 ghost use Rattle.ts_offset.specs.declared.shape.Shape.TheVariants.{Irregular};
 ghost use Rattle.ts_irregular.specs.Call.{Reads};
 ghost use Rattle.ts_irregular.specs.Call as irregular;
-ghost use Rattle.ts_chain.specs.Places.{ArePlaces, CanBeRead};
-ghost use Rattle.ts_chain.specs.Chain.{all_in};
+ghost use Rattle.ts_irregular.specs.OnePage.{IsOn};
+ghost use Rattle.ts_chain.specs.Places.{CanBeRead};
 ghost use Rattle.ts_chain.specs.Range.{within_range};
-ghost use Rattle.ts_clip.specs.Chain.{HoldsOfMore, HoldsOfPages};
-ghost use Rattle.ts_clip.specs.Series.{IsTold};
+ghost use Rattle.ts_clip.specs.Chain.{HoldsOfMore};
+ghost use Rattle.ts_clip.specs.Series.{HaveOnPlaces, IsToldOnPlaces, ArePagesOf};
 
 use crate::chain_cells::{FRONT, range_on};
-use crate::chain_range::places_between;
 use std::alloc::AllocError;
 use ts_base::{Stamp, StoreFault};
 use ts_cells::cell_size;
@@ -20,33 +19,10 @@ use ts_entry::RowVisitor;
 use ts_irregular::count_told;
 use ts_page::{HEAD, Page, Pages};
 use ts_row::{RowType, Shelf};
-use ts_space::{Place, Space};
+use ts_space::Place;
 
-/// `rows`.
+/// `rows` on the pages of some places.
 pub(crate) fn chain_rows<P: Pages, V: RowVisitor>(
-    pages: &mut P,
-    page: &mut Page,
-    space: &Space,
-    shelf: &Shelf,
-    from: Stamp,
-    to: Stamp,
-    visitor: &mut V,
-) -> Result<(), StoreFault>
-    requires slot { shelf.now.series < 4096 }
-    requires places { ArePlaces shelf.now.kind.now.columns (P.contents pages.old) (places_of shelf.now.series space.now) }
-    ensures read { IfOk result (λ done. IsTold P.tells Irregular shelf.now.series shelf.now.kind.now.columns
-        (places_of shelf.now.series space.now) (P.contents pages.old)
-        (λ es. V.took shelf.now.kind.now.columns visitor.old (map (λ e. e.1) (within_range from to es)) visitor.new)) }
-    ensures call { Reads P.tells result (P.contents pages.old) (P.contents pages.new) }
-    ensures undisturbed { P.undisturbed pages.old pages.new }
-{
-    let places = space.places(shelf.series);
-    let (first, stop) = places_between(places, from, to);
-    rows_on_pages(pages, page, shelf, &places[first..stop], from, to, visitor)
-}
-
-// Hands on those of the pages of some places.
-fn rows_on_pages<P: Pages, V: RowVisitor>(
     pages: &mut P,
     page: &mut Page,
     shelf: &Shelf,
@@ -56,8 +32,9 @@ fn rows_on_pages<P: Pages, V: RowVisitor>(
     visitor: &mut V,
 ) -> Result<(), StoreFault>
     requires readable { All (CanBeRead (P.contents pages.old)) places.now }
-    ensures read { IfOk result (λ done. HoldsOfPages P.tells shelf.now.series shelf.now.kind.now.columns places.now (P.contents pages.old)
-        (λ chain. V.took shelf.now.kind.now.columns visitor.old (map (λ e. e.1) (within_range from to (all_in chain))) visitor.new)) }
+    ensures read { IfOk result (λ done. IsToldOnPlaces P.tells Irregular shelf.now.series shelf.now.kind.now.columns places.now
+        (P.contents pages.old)
+        (λ es. V.took shelf.now.kind.now.columns visitor.old (map (λ e. e.1) (within_range from to es)) visitor.new)) }
     ensures call { Reads P.tells result (P.contents pages.old) (P.contents pages.new) }
     ensures undisturbed { P.undisturbed pages.old pages.new }
 {
@@ -85,11 +62,45 @@ fn rows_on_page<P: Pages, V: RowVisitor>(
     ensures undisturbed { P.undisturbed pages.old pages.new }
 {
     pages.get(place.page, page)?;
+    rows_of_page(page, shelf, place, from, to, visitor)?;
+    Ok(())
+}
+
+/// `rows_of_pages`.
+pub(crate) fn chain_rows_of_pages<V: RowVisitor>(
+    read: &[Page],
+    places: &[Place],
+    shelf: &Shelf,
+    from: Stamp,
+    to: Stamp,
+    visitor: &mut V,
+) -> Result<(), AllocError>
+    ensures took { OnOk result ((pages : ℕ → List ℕ) (es : List Element) → ArePagesOf pages places.now read.now
+        → HaveOnPlaces Irregular shelf.now.series shelf.now.kind.now.columns pages places.now es
+        → V.took shelf.now.kind.now.columns visitor.old (map (λ e. e.1) (within_range from to es)) visitor.new) }
+{
+    for (place, page) in places.iter().zip(read) {
+        rows_of_page(page, shelf, place, from, to, visitor)?;
+    }
+    Ok(())
+}
+
+// Hands on those of a page that was read: none of one whose head disagrees with its place.
+fn rows_of_page<V: RowVisitor>(
+    page: &Page,
+    shelf: &Shelf,
+    place: &Place,
+    from: Stamp,
+    to: Stamp,
+    visitor: &mut V,
+) -> Result<(), AllocError>
+    ensures took { OnOk result ((es : List Element) → IsOn shelf.now.series shelf.now.kind.now.columns page.now.bytes place.now es
+        → V.took shelf.now.kind.now.columns visitor.old (map (λ e. e.1) (within_range from to es)) visitor.new) }
+{
     let count = count_told(shelf, place, page);
     let behind = &page.bytes[HEAD..];
     let (first, last) = range_on(shelf.kind, behind, count, from, to);
-    rows_between(shelf.kind, behind, first, last, visitor)?;
-    Ok(())
+    rows_between(shelf.kind, behind, first, last, visitor)
 }
 
 // Hands on the rows in the cells from one index on and before another.

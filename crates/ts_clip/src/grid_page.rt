@@ -4,7 +4,7 @@ ghost use Rattle.ts_page.specs.Head.{head_of};
 ghost use Rattle.ts_page.specs.declared.page.Head.TheVariants.{Regular};
 ghost use Rattle.ts_space.specs.Place.{IsRising, rank_of};
 ghost use Rattle.ts_irregular.specs.Call.{Reads};
-ghost use Rattle.ts_regular.specs.Places.{CanBeRead, IsOn};
+ghost use Rattle.ts_regular.specs.Places.{OffsetPage, CanBeRead, IsOn};
 ghost use Rattle.ts_regular.specs.OnePage.{IsToldOn};
 ghost use Rattle.ts_clip.specs.Between.{AreBetween};
 
@@ -28,14 +28,21 @@ pub(crate) fn read_base<P: Pages>(
     ensures call { Reads P.tells result (P.contents pages.old) (P.contents pages.new) }
     ensures undisturbed { P.undisturbed pages.old pages.new }
 {
-    let Some(base) = base_in(place) else {
-        return Ok(None);
-    };
     pages.get(place.page, page)?;
-    if !agrees(shelf, place, base, page) {
-        return Ok(None);
+    Ok(base_on(shelf, place, page))
+}
+
+/// The offset of the first cell of the page of a place, once it was read; none where the page's head disagrees with the place.
+pub(crate) fn base_on(shelf: &Shelf, place: &Place, page: &Page) -> Option<u64>
+    ensures base { (p : OffsetPage) → IsOn shelf.now.series shelf.now.kind.now.columns page.now.bytes place.now p → result ≡ Some p.0 }
+    ensures limit { IfSome result (λ n. n < 2 ^ 63) }
+{
+    let base = base_in(place)?;
+    if agrees(shelf, place, base, page) {
+        Some(base)
+    } else {
+        None
     }
-    Ok(Some(base))
 }
 
 // The offset of the first cell of the page of a place.

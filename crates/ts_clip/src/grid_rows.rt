@@ -1,24 +1,23 @@
 // The rows of a regular series, a page at a time.
-ghost use Rattle.std.specs.Prelude.{◌≡◌, ◌-◌, ◌<◌, ◌≤◌, ◌^◌, All, IfOk, OnOk, List, length, map, take, drop};
-ghost use Rattle.ts_space.specs.Place.{IsRising};
-ghost use Rattle.ts_space.specs.Directory.{places_of};
+ghost use Rattle.std.specs.Prelude.{◌≡◌, ◌-◌, ◌<◌, ◌≤◌, ◌^◌, ℕ, All, IfOk, OnOk, List, length, map, take, drop};
+ghost use Rattle.ts_row.specs.Element.{Element};
 ghost use Rattle.ts_calendar.specs.Intervals.{IsLaid};
 ghost use Rattle.ts_offset.specs.declared.shape.Shape.TheVariants.{Regular};
 ghost use Rattle.ts_regular.specs.Cell.{Cell, regular_room};
 ghost use Rattle.ts_regular.specs.Offsets.{elements_from};
 ghost use Rattle.ts_regular.specs.RegularPage.{AreCells, behind_head};
-ghost use Rattle.ts_regular.specs.Places.{ArePlaces, CanBeRead, all_in};
+ghost use Rattle.ts_regular.specs.Places.{OffsetPage, AreOn, CanBeRead, IsOn, all_in};
 ghost use Rattle.ts_regular.specs.Range.{within};
 ghost use Rattle.ts_regular.specs.OnePage.{IsToldOn};
 ghost use Rattle.ts_regular.specs.Call as regular;
 ghost use Rattle.ts_irregular.specs.Call.{Reads};
 ghost use Rattle.ts_chain.specs.Range.{within_range};
 ghost use Rattle.ts_entry.specs.Rows.{rows_in};
-ghost use Rattle.ts_clip.specs.Series.{IsTold};
+ghost use Rattle.ts_clip.specs.Series.{HaveOnPlaces, IsToldOnPlaces, ArePagesOf};
 
 use crate::grid_cells::cell_size;
 use crate::grid_offsets::{Offsets, offsets_of};
-use crate::grid_page::{places_between, read_base};
+use crate::grid_page::base_on;
 use std::alloc::AllocError;
 use ts_base::{Stamp, StoreFault};
 use ts_entry::RowVisitor;
@@ -26,37 +25,31 @@ use ts_offset::Grid;
 use ts_page::{HEAD, Page, Pages};
 use ts_regular::regular_room;
 use ts_row::{RowType, Shelf};
-use ts_space::{Place, Space};
+use ts_space::Place;
 
 // What a cell has before its row: a byte that tells whether an element stands there.
 const FRONT: usize = 1;
 
-/// `rows`.
+/// `rows` on the pages of some places.
 pub(crate) fn grid_rows<P: Pages, V: RowVisitor>(
     pages: &mut P,
     page: &mut Page,
-    space: &Space,
     shelf: &Shelf,
     grid: &Grid,
+    places: &[Place],
     from: Stamp,
     to: Stamp,
     visitor: &mut V,
 ) -> Result<(), StoreFault>
-    requires slot { shelf.now.series < 4096 }
     requires laid { IsLaid grid.now.calendar }
-    requires places { ArePlaces shelf.now.kind.now.columns (P.contents pages.old) (places_of shelf.now.series space.now) }
-    ensures read { IfOk result (λ done. IsTold P.tells (Regular grid.now) shelf.now.series shelf.now.kind.now.columns
-        (places_of shelf.now.series space.now) (P.contents pages.old)
+    requires readable { All (CanBeRead (P.contents pages.old)) places.now }
+    ensures read { IfOk result (λ done. IsToldOnPlaces P.tells (Regular grid.now) shelf.now.series shelf.now.kind.now.columns places.now
+        (P.contents pages.old)
         (λ es. V.took shelf.now.kind.now.columns visitor.old (map (λ e. e.1) (within_range from to es)) visitor.new)) }
     ensures call { Reads P.tells result (P.contents pages.old) (P.contents pages.new) }
     ensures undisturbed { P.undisturbed pages.old pages.new }
 {
     let offsets = offsets_of(grid, from, to);
-    if offsets.lower == offsets.upper {
-        return Ok(());
-    }
-    let all = space.places(shelf.series);
-    let places = places_between(shelf.kind, all, offsets.lower, offsets.upper);
     rows_on_places(pages, page, shelf, places, offsets, visitor)
 }
 
@@ -70,7 +63,6 @@ fn rows_on_places<P: Pages, V: RowVisitor>(
     visitor: &mut V,
 ) -> Result<(), StoreFault>
     requires readable { All (CanBeRead (P.contents pages.old)) places.now }
-    requires rising { IsRising places.now }
     requires limit { offsets.upper < 2 ^ 63 }
     ensures took { OnOk result (regular.IsTold P.tells shelf.now.series shelf.now.kind.now.columns places.now (P.contents pages.old)
         (λ ps. V.took shelf.now.kind.now.columns visitor.old (map (λ e. e.1) (within offsets.lower offsets.upper (all_in ps)))
@@ -101,7 +93,62 @@ fn rows_on_page<P: Pages, V: RowVisitor>(
     ensures call { Reads P.tells result (P.contents pages.old) (P.contents pages.new) }
     ensures undisturbed { P.undisturbed pages.old pages.new }
 {
-    let Some(base) = read_base(pages, page, shelf, place)? else {
+    pages.get(place.page, page)?;
+    rows_of_page(page, shelf, place, offsets, visitor)?;
+    Ok(())
+}
+
+/// `rows_of_pages`.
+pub(crate) fn grid_rows_of_pages<V: RowVisitor>(
+    read: &[Page],
+    places: &[Place],
+    shelf: &Shelf,
+    grid: &Grid,
+    from: Stamp,
+    to: Stamp,
+    visitor: &mut V,
+) -> Result<(), AllocError>
+    ensures took { OnOk result (IsLaid grid.now.calendar → (pages : ℕ → List ℕ) (es : List Element) → ArePagesOf pages places.now read.now
+        → HaveOnPlaces (Regular grid.now) shelf.now.series shelf.now.kind.now.columns pages places.now es
+        → V.took shelf.now.kind.now.columns visitor.old (map (λ e. e.1) (within_range from to es)) visitor.new) }
+{
+    let offsets = offsets_of(grid, from, to);
+    rows_in_memory(read, places, shelf, offsets, visitor)
+}
+
+// Hands on those of some offsets on pages that were read.
+fn rows_in_memory<V: RowVisitor>(
+    read: &[Page],
+    places: &[Place],
+    shelf: &Shelf,
+    offsets: Offsets,
+    visitor: &mut V,
+) -> Result<(), AllocError>
+    requires limit { offsets.upper < 2 ^ 63 }
+    ensures took { OnOk result ((pages : ℕ → List ℕ) (ps : List OffsetPage) → ArePagesOf pages places.now read.now
+        → AreOn shelf.now.series shelf.now.kind.now.columns pages places.now ps
+        → V.took shelf.now.kind.now.columns visitor.old (map (λ e. e.1) (within offsets.lower offsets.upper (all_in ps))) visitor.new) }
+{
+    for (place, page) in places.iter().zip(read) {
+        rows_of_page(page, shelf, place, offsets, visitor)?;
+    }
+    Ok(())
+}
+
+// Hands on those of a page that was read: none of one whose head disagrees with its place.
+fn rows_of_page<V: RowVisitor>(
+    page: &Page,
+    shelf: &Shelf,
+    place: &Place,
+    offsets: Offsets,
+    visitor: &mut V,
+) -> Result<(), AllocError>
+    requires limit { offsets.upper < 2 ^ 63 }
+    ensures took { OnOk result ((p : OffsetPage) → IsOn shelf.now.series shelf.now.kind.now.columns page.now.bytes place.now p
+        → V.took shelf.now.kind.now.columns visitor.old
+        (map (λ e. e.1) (within offsets.lower offsets.upper (elements_from p.0 p.1))) visitor.new) }
+{
+    let Some(base) = base_on(shelf, place, page) else {
         return Ok(());
     };
     let first = offsets.lower.max(base);
@@ -112,8 +159,7 @@ fn rows_on_page<P: Pages, V: RowVisitor>(
     let behind = &page.bytes[HEAD..];
     let from = (first - base) as usize;
     let to = (stop - base) as usize;
-    rows_between(shelf.kind, behind, from, to, visitor)?;
-    Ok(())
+    rows_between(shelf.kind, behind, from, to, visitor)
 }
 
 // Hands on the rows in the cells from one number up to, not including, another.

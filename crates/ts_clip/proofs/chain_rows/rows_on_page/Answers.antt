@@ -1,15 +1,11 @@
-use Rattle.std.proofs.Common.{List, map, sym, subst, arith}
+use Rattle.std.proofs.Common.{List, [], ◌∷◌, refl}
 use Rattle.ts_row.specs.declared.kind.Column.{Column}
-use Rattle.ts_row.specs.Element.{Element}
-use Rattle.ts_clip.proofs.ChainPageLemmas.{page_read}
+use Rattle.ts_irregular.proofs.FindLemmas.{read_on}
 use Rattle.ts_clip.proofs.chain_rows.rows_on_page.Goals as goal
 
 pub returns-clause-read : goal.returns-clause-read
 returns-clause-read g c = λ told es on.
     let columns : List Column = c.args.shelf.now.kind.now.columns in
-    let read =
-    page_read g.P.Pages.tells c.args.shelf.now.series c.count_told-count.result columns c.args.place.now c.get.new.into.bytes (g.P.Pages.contents c.args.pages.now) (g.P.Pages.contents c.get.new.self)
-    c.requires.readable.element c.in_ok-get.ensures.got c.count_told-count.ensures.told told es on in
-    let within = c.range_on-first.ensures.within in
-    subst (λ (l : List Element). g.V.RowVisitor.took columns c.args.visitor.now (map (λ e. e.1) l) c.rows_between.new.visitor) (sym (c.range_on-first.ensures.range es read.order read.number read.behind))
-    (c.in_ok-rows_between.ensures es read.order.each (omega (arith, within, read.number)) read.behind)
+    let place = c.args.place.now in
+    c.in_ok-rows_of_page.ensures.took es
+    (read_on g.P.Pages.tells c.args.shelf.now.series columns (place ∷ []) place c.get.new.into.bytes (g.P.Pages.contents c.args.pages.now) (g.P.Pages.contents c.get.new.self) refl c.requires.readable.element c.in_ok-get.ensures.got told es on)

@@ -1,56 +1,21 @@
-use Rattle.std.proofs.Common.{ℕ, All, List, map, sym, ap, subst, ◌∙◌, arith}
+use Rattle.std.proofs.Common.{List, map, ap, subst, ◌∙◌}
 use Rattle.std.proofs.lemmas.Result.{IfOk-weaker}
-use Rattle.ts_space.specs.declared.place.Place.{Place}
 use Rattle.ts_row.specs.declared.kind.Column.{Column}
 use Rattle.ts_row.specs.Row.{Row}
 use Rattle.ts_row.specs.Element.{Element}
 use Rattle.ts_chain.specs.Range.{within_range}
-use Rattle.ts_regular.specs.Offsets.{OffsetElement}
-use Rattle.ts_regular.specs.Places.{AreOn, CanBeRead, all_in}
-use Rattle.ts_clip.proofs.GridAmongLemmas.{among_each, among_rising, among_told, among_within}
-use Rattle.ts_clip.proofs.GridReadLemmas.{readable}
+use Rattle.ts_regular.specs.Places.{all_in}
 use Rattle.ts_clip.proofs.GridRowLemmas.{range_rows}
-use Rattle.ts_clip.proofs.GridWithinLemmas.{within_none}
 use Rattle.ts_clip.proofs.grid_rows.grid_rows.Goals as goal
-
-pub rows_on_places-requires-clause-readable : goal.rows_on_places-requires-clause-readable
-rows_on_places-requires-clause-readable g c =
-    let v = g.P.Pages.contents c.args.pages.now in
-    let columns : List Column = c.args.shelf.now.kind.now.columns in
-    let o = c.offsets_of-offsets.result in
-    among_each columns o.lower o.upper c.places-all.result.now c.places_between-places.result.now c.places_between-places.ensures.between (CanBeRead v)
-    (subst (All (CanBeRead v)) (sym c.places-all.ensures.ok) (readable columns v _ c.requires.places))
-
-pub rows_on_places-requires-clause-rising : goal.rows_on_places-requires-clause-rising
-rows_on_places-requires-clause-rising g c =
-    let o = c.offsets_of-offsets.result in
-    among_rising c.args.shelf.now.kind.now.columns o.lower o.upper c.places-all.result.now c.places_between-places.result.now c.places_between-places.ensures.between c.places-all.ensures.rising
-
--- from a later stamp to an earlier one there are none
-pub returns-then-offsets-clause-read : goal.returns-then-offsets-clause-read
-returns-then-offsets-clause-read g c = λ t es have.
-    let columns : List Column = c.args.shelf.now.kind.now.columns in
-    let o = c.offsets_of-offsets.result in
-    subst (λ (l : List Row). g.V.RowVisitor.took columns c.args.visitor.now l c.args.visitor.now)
-    (ap (map (λ (e : OffsetElement). e.1)) (sym (within_none o.lower o.upper (all_in have.cells) (omega (arith, c.if-offsets.true))))
-    ∙ range_rows c.args.grid.now c.requires.laid c.args.from c.args.to o.lower o.upper c.offsets_of-offsets.ensures.offsets (all_in have.cells) have.starts
-    ∙ ap (λ (l : List Element). map (λ (e : Element). e.1) (within_range c.args.from c.args.to l)) have.all)
-    (g.met.V.RowVisitor.none columns c.args.visitor.now)
 
 pub returns-clause-read : goal.returns-clause-read
 returns-clause-read g c =
-    let slot : ℕ = c.args.shelf.now.series in
     let columns : List Column = c.args.shelf.now.kind.now.columns in
-    let v = g.P.Pages.contents c.args.pages.now in
-    let places : List Place = c.places-all.result.now in
-    let among : List Place = c.places_between-places.result.now in
-    let between = c.places_between-places.ensures.between in
-    let o = c.offsets_of-offsets.result in
+    let o = c.offsets_of-offsets in
     IfOk-weaker c.rows_on_places.result _ _
-    (λ done taken t es have.
-    let told = among_told columns o.lower o.upper places among between slot v.page have.cells (subst (λ (l : List Place). AreOn slot columns v.page l have.cells) (sym c.places-all.ensures.ok) have.on) in
+    (λ done taken told es have.
     subst (λ (l : List Row). g.V.RowVisitor.took columns c.args.visitor.now l c.rows_on_places.new.visitor)
-    (ap (map (λ (e : OffsetElement). e.1)) (sym (among_within columns o.lower o.upper places among between slot v.page have.cells o.order told))
-    ∙ range_rows c.args.grid.now c.requires.laid c.args.from c.args.to o.lower o.upper c.offsets_of-offsets.ensures.offsets (all_in have.cells) have.starts
-    ∙ ap (λ (l : List Element). map (λ (e : Element). e.1) (within_range c.args.from c.args.to l)) have.all)
-    (taken t told.own told.on)) c.rows_on_places.ensures.took
+    (range_rows c.args.grid.now c.requires.laid c.args.from c.args.to o.result.lower o.result.upper o.ensures.offsets (all_in have.0) have.2
+    ∙ ap (λ (l : List Element). map (λ (e : Element). e.1) (within_range c.args.from c.args.to l)) have.3)
+    (taken told have.0 have.1))
+    c.rows_on_places.ensures.took

@@ -6,7 +6,7 @@ use Rattle.ts_row.specs.Row.{Row}
 use Rattle.ts_regular.specs.Offsets.{elements_from}
 use Rattle.ts_regular.specs.Places.{OffsetPage, IsOn, all_in}
 use Rattle.ts_chain.proofs.ReadLemmas.{reads_more}
-use Rattle.ts_clip.proofs.GridPlaceLemmas.{page_at, pages_count}
+use Rattle.ts_clip.proofs.GridPlaceLemmas.{page_of, pages_count}
 use Rattle.ts_clip.proofs.GridRowLemmas.{rows_next, rows_within}
 use Rattle.ts_clip.proofs.grid_rows.rows_on_places.Goals as goal
 
@@ -29,11 +29,11 @@ loop-place-preserved g c =
       call = reads_more tells tt (Ok tt) u v w i.call done.call;
       undisturbed = g.met.P.Pages.«then» c.args.pages.now c.loop-place.pages c.rows_on_page.new.pages i.undisturbed done.undisturbed;
       taken = λ t ps on.
-          let here = page_at slot columns u.page places index _ ps c.requires.rising on within in
-          let own = subst (λ (b : List ℕ). IsOn slot columns b place here.page) (sym (i.call.pages t place.page)) here.on in
-          subst (λ (l : List Row). g.V.RowVisitor.took columns c.args.visitor.now l c.rows_on_page.new.visitor) (rows_next slot columns u.page place o.lower o.upper index ps here)
-          (g.met.V.RowVisitor.«then» columns c.args.visitor.now c.loop-place.visitor c.rows_on_page.new.visitor (rows_within o.lower o.upper (all_in (take index ps))) (rows_within o.lower o.upper (elements_from here.page.0 here.page.1))
-          (i.taken t ps on) (done.took t here.page own));
+          let here = page_of slot columns u.page places index _ ps on within in
+          let own = subst (λ (b : List ℕ). IsOn slot columns b place here.0) (sym (i.call.pages t place.page)) here.2 in
+          subst (λ (l : List Row). g.V.RowVisitor.took columns c.args.visitor.now l c.rows_on_page.new.visitor) (rows_next o.lower o.upper index here.0 ps here.1)
+          (g.met.V.RowVisitor.«then» columns c.args.visitor.now c.loop-place.visitor c.rows_on_page.new.visitor (rows_within o.lower o.upper (all_in (take index ps))) (rows_within o.lower o.upper (elements_from here.0.0 here.0.1))
+          (i.taken t ps on) (done.took t here.0 own));
     }
 
 pub returns-clause-took : goal.returns-clause-took

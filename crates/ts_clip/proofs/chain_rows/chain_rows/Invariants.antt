@@ -5,7 +5,7 @@ use Rattle.ts_irregular.specs.Call.{Reads}
 use Rattle.ts_chain.specs.Chain.{all_in}
 use Rattle.ts_clip.specs.Chain.{HoldsOfPages}
 use Rattle.ts_clip.proofs.ChainRowLemmas.{rows_within}
-use Rattle.ts_clip.proofs.chain_rows.rows_on_pages.Given as goal
+use Rattle.ts_clip.proofs.chain_rows.chain_rows.Given as goal
 
 abbrev pub invariant-loop-place : goal.invariant-loop-place
 invariant-loop-place g l = record {
