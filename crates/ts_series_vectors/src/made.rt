@@ -13,6 +13,7 @@ use ts_base::{Name, Stamp, StoreFault};
 use ts_cells::page_room;
 use ts_chain::chain_insert;
 use ts_page::{MemoryPages, Page, Pages};
+use ts_regular::regular_room;
 use ts_row::{Column, ColumnKind, Literal, Row, RowType, Shelf, Value};
 use ts_space::{Place, Space, charge_irregular};
 
@@ -156,9 +157,21 @@ pub(crate) fn put(series: &mut Series, at: i64, integer: i128) -> Result<(), Sto
     Ok(())
 }
 
-/// Whether the only place of a regular series is that of the page that was free, with one element.
-pub(crate) fn is_only_place(places: &[Place]) -> bool
+// Whether the only place is that of the page that was free, with one element.
+fn is_only_place(places: &[Place]) -> bool
     ensures { IsTrue result → (place : ThePlace) × (places.now ≡ place ∷ []) × (place.page ≡ 930) × (place.count ≡ 1) }
 {
     places.len() == 1 && places[0].page == 930 && places[0].count == 1
+}
+
+/// A regular series has one element, on the page that was free.
+pub(crate) fn settled(series: &Series) -> Result<(), StoreFault>
+    requires { (memory_contents series.now.pages).count ≡ 933 }
+    ensures { OnOk result (AreRegularPlaces series.now.kind.columns (memory_contents series.now.pages) (places_of 7 series.now.space)) }
+{
+    let _room = regular_room(&series.kind);
+    if series.pages.spare() > 0 || !is_only_place(series.space.places(SLOT)) {
+        return Err(StoreFault::Failed);
+    }
+    Ok(())
 }

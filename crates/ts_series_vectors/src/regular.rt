@@ -1,13 +1,13 @@
 // Each call of ts_regular once, on a series with one element.
-ghost use Rattle.std.specs.Prelude.{◌<◌, ◌^◌, IfOk};
+ghost use Rattle.std.specs.Prelude.{◌≡◌, ◌<◌, ◌≤◌, ◌^◌, IfOk, length};
 ghost use Rattle.ts_page.specs.Memory.{memory_contents};
 ghost use Rattle.ts_space.specs.Directory.{places_of};
 ghost use Rattle.ts_regular.specs.Places.{ArePlaces};
 
-use crate::made::{SLOT, Series, integers, is_five, is_only_place, regular, row_of};
+use crate::made::{SLOT, Series, integers, is_five, regular, row_of, settled};
 use std::alloc::Global;
 use ts_base::StoreFault;
-use ts_page::{Page, Pages};
+use ts_page::Page;
 use ts_regular::{
     base_of, cells_are_elements_at_offsets, pages_of_offsets_rise, regular_clear,
     regular_extent_of, regular_find, regular_last, regular_mark, regular_put, regular_remove,
@@ -16,11 +16,12 @@ use ts_regular::{
 use ts_row::Shelf;
 use ts_space::{Come, Moved};
 
-// With the integer 5 at the offset 3.
-fn filled(alloc: Global) -> Result<Series, StoreFault>
-    ensures { IfOk result (λ series. ArePlaces series.kind.columns (memory_contents series.pages) (places_of 7 series.space)) }
+// Puts the integer 5 at the offset 3.
+fn put(series: &mut Series) -> Result<(), StoreFault>
+    requires places { ArePlaces series.old.kind.columns (memory_contents series.old.pages) (places_of 7 series.old.space) }
+    requires free { 1 ≤ length (memory_contents series.old.pages).free }
+    ensures { (memory_contents series.new.pages).count ≡ (memory_contents series.old.pages).count }
 {
-    let mut series = regular(alloc)?;
     let row = row_of(&series.kind, 5)?;
     series.space.reserve(SLOT, 2)?;
     let shelf = Shelf {
@@ -30,13 +31,16 @@ fn filled(alloc: Global) -> Result<Series, StoreFault>
     let page = &mut Page::zero();
     let moved = regular_put(&mut series.pages, page, &series.space, &shelf, 3, &row)?;
     series.space.splice(SLOT, &moved);
-    let _room = regular_room(&series.kind);
-    if series.pages.spare() > 0 {
-        return Err(StoreFault::Failed);
-    }
-    if !is_only_place(series.space.places(SLOT)) {
-        return Err(StoreFault::Failed);
-    }
+    Ok(())
+}
+
+// With the integer 5 at the offset 3.
+fn filled(alloc: Global) -> Result<Series, StoreFault>
+    ensures { IfOk result (λ series. ArePlaces series.kind.columns (memory_contents series.pages) (places_of 7 series.space)) }
+{
+    let mut series = regular(alloc)?;
+    put(&mut series)?;
+    settled(&series)?;
     Ok(series)
 }
 

@@ -4,21 +4,20 @@ ghost use Rattle.ts_page.specs.Memory.{memory_contents};
 ghost use Rattle.ts_space.specs.Directory.{places_of};
 ghost use Rattle.ts_regular.specs.Places.{ArePlaces};
 
-use crate::made::{SLOT, is_five, is_only_place, regular, row_of};
+use crate::made::{SLOT, Series, is_five, regular, row_of, settled};
 use std::alloc::Global;
 use ts_base::{Refusal, Stamp, StoreFault, Unit};
 use ts_calendar::Calendar;
 use ts_offset::Grid;
-use ts_page::{MemoryPages, Page, Pages};
+use ts_page::Page;
 use ts_pattern::{Pattern, Run};
-use ts_regular::regular_room;
 use ts_regular_edits::{
     clear_at, delete_at, edit_at, edits_at_offsets_are_edits_at_stamps, find_at, mark_at,
     places_are_the_charge, ranges_of_offsets_are_ranges_of_stamps,
 };
-use ts_row::{RowType, Shelf};
+use ts_row::Shelf;
 use ts_series::{EditKind, Edited};
-use ts_space::{Come, Moved, Space};
+use ts_space::{Come, Moved};
 
 /// The origin is a Tuesday.
 const MONDAY: &[u8] = b"2011-01-03 00:00:00";
@@ -30,15 +29,6 @@ const TUESDAY_MORNING: &[u8] = b"2011-01-04 10:30:00";
 const TUESDAY_NIGHT: &[u8] = b"2011-01-04 23:59:59.99999";
 
 const SATURDAY: &[u8] = b"2011-01-08 00:00:00";
-
-/// A series of integers.
-#[derive(Drop)]
-struct Series {
-    pages: MemoryPages,
-    space: Space,
-    kind: RowType,
-    grid: Grid,
-}
 
 fn stamp(text: &[u8]) -> Result<Stamp, StoreFault> {
     Stamp::read(text).ok_or(StoreFault::Failed)
@@ -63,24 +53,8 @@ fn working_days(alloc: Global) -> Result<Grid, StoreFault> {
     }
 }
 
-// Without elements.
-fn empty(alloc: Global) -> Result<Series, StoreFault>
-    ensures places { IfOk result (λ series. ArePlaces series.kind.columns (memory_contents series.pages) (places_of 7 series.space)) }
-    ensures free { IfOk result (λ series. length (memory_contents series.pages).free ≡ 1) }
-    ensures count { IfOk result (λ series. (memory_contents series.pages).count ≡ 933) }
-{
-    let made = regular(alloc)?;
-    let grid = working_days(alloc)?;
-    Ok(Series {
-        pages: made.pages,
-        space: made.space,
-        kind: made.kind,
-        grid,
-    })
-}
-
 // Inserts an integer at a stamp, within so many pages.
-fn insert(series: &mut Series, text: &[u8], room: u64) -> Result<Edited, StoreFault>
+fn insert(series: &mut Series, grid: &Grid, text: &[u8], room: u64) -> Result<Edited, StoreFault>
     requires places { ArePlaces series.old.kind.columns (memory_contents series.old.pages) (places_of 7 series.old.space) }
     requires room { room ≤ length (memory_contents series.old.pages).free }
 {
@@ -95,7 +69,7 @@ fn insert(series: &mut Series, text: &[u8], room: u64) -> Result<Edited, StoreFa
         page,
         &series.space,
         &shelf,
-        &series.grid,
+        grid,
         EditKind::Insert,
         stamp(text)?,
         &row,
@@ -103,11 +77,12 @@ fn insert(series: &mut Series, text: &[u8], room: u64) -> Result<Edited, StoreFa
     )
 }
 
-// With the integer 5 on Tuesday.
-fn filled(alloc: Global) -> Result<Series, StoreFault>
-    ensures { IfOk result (λ series. ArePlaces series.kind.columns (memory_contents series.pages) (places_of 7 series.space)) }
+// Puts the integer 5 on Tuesday.
+fn put(series: &mut Series, grid: &Grid) -> Result<(), StoreFault>
+    requires places { ArePlaces series.old.kind.columns (memory_contents series.old.pages) (places_of 7 series.old.space) }
+    requires free { 1 ≤ length (memory_contents series.old.pages).free }
+    ensures { (memory_contents series.new.pages).count ≡ (memory_contents series.old.pages).count }
 {
-    let mut series = empty(alloc)?;
     let row = row_of(&series.kind, 5)?;
     series.space.reserve(SLOT, 2)?;
     let shelf = Shelf {
@@ -120,7 +95,7 @@ fn filled(alloc: Global) -> Result<Series, StoreFault>
         page,
         &series.space,
         &shelf,
-        &series.grid,
+        grid,
         EditKind::Put,
         stamp(TUESDAY_MORNING)?,
         &row,
@@ -130,19 +105,26 @@ fn filled(alloc: Global) -> Result<Series, StoreFault>
         return Err(StoreFault::Failed);
     };
     series.space.splice(SLOT, &moved);
-    let _room = regular_room(&series.kind);
-    if at != stamp(TUESDAY)? || series.pages.spare() > 0 {
+    if at != stamp(TUESDAY)? {
         return Err(StoreFault::Failed);
     }
-    if !is_only_place(series.space.places(SLOT)) {
-        return Err(StoreFault::Failed);
-    }
+    Ok(())
+}
+
+// With the integer 5 on Tuesday.
+fn filled(alloc: Global, grid: &Grid) -> Result<Series, StoreFault>
+    ensures { IfOk result (λ series. ArePlaces series.kind.columns (memory_contents series.pages) (places_of 7 series.space)) }
+{
+    let mut series = regular(alloc)?;
+    put(&mut series, grid)?;
+    settled(&series)?;
     Ok(series)
 }
 
 // Whether the element that stood on Tuesday is told for that night.
 fn is_found(alloc: Global) -> Result<bool, StoreFault> {
-    let mut series = filled(alloc)?;
+    let grid = working_days(alloc)?;
+    let mut series = filled(alloc, &grid)?;
     let kind = &series.kind;
     let shelf = Shelf { series: SLOT, kind };
     let page = &mut Page::zero();
@@ -151,7 +133,7 @@ fn is_found(alloc: Global) -> Result<bool, StoreFault> {
         page,
         &series.space,
         &shelf,
-        &series.grid,
+        &grid,
         stamp(TUESDAY_NIGHT)?,
     )?;
     let tuesday = stamp(TUESDAY)?;
@@ -159,7 +141,8 @@ fn is_found(alloc: Global) -> Result<bool, StoreFault> {
 }
 
 fn is_marked(alloc: Global) -> Result<bool, StoreFault> {
-    let mut series = filled(alloc)?;
+    let grid = working_days(alloc)?;
+    let mut series = filled(alloc, &grid)?;
     let kind = &series.kind;
     let shelf = Shelf { series: SLOT, kind };
     let page = &mut Page::zero();
@@ -168,7 +151,7 @@ fn is_marked(alloc: Global) -> Result<bool, StoreFault> {
         page,
         &series.space,
         &shelf,
-        &series.grid,
+        &grid,
         stamp(TUESDAY_NIGHT)?,
         true,
     )?;
@@ -177,7 +160,8 @@ fn is_marked(alloc: Global) -> Result<bool, StoreFault> {
 
 // The only element goes, and its place with it.
 fn is_deleted(alloc: Global) -> Result<bool, StoreFault> {
-    let mut series = filled(alloc)?;
+    let grid = working_days(alloc)?;
+    let mut series = filled(alloc, &grid)?;
     let kind = &series.kind;
     let shelf = Shelf { series: SLOT, kind };
     let page = &mut Page::zero();
@@ -186,7 +170,7 @@ fn is_deleted(alloc: Global) -> Result<bool, StoreFault> {
         page,
         &series.space,
         &shelf,
-        &series.grid,
+        &grid,
         stamp(TUESDAY_NIGHT)?,
     )?;
     let expected = Moved {
@@ -199,7 +183,8 @@ fn is_deleted(alloc: Global) -> Result<bool, StoreFault> {
 
 // How many elements go from one stamp to another, and what comes of their places.
 fn cleared(alloc: Global, from: &[u8], to: &[u8]) -> Result<(u64, Option<Moved>), StoreFault> {
-    let mut series = filled(alloc)?;
+    let grid = working_days(alloc)?;
+    let mut series = filled(alloc, &grid)?;
     let kind = &series.kind;
     let shelf = Shelf { series: SLOT, kind };
     let page = &mut Page::zero();
@@ -209,7 +194,7 @@ fn cleared(alloc: Global, from: &[u8], to: &[u8]) -> Result<(u64, Option<Moved>)
         page,
         &series.space,
         &shelf,
-        &series.grid,
+        &grid,
         stamp(from)?,
         stamp(to)?,
     )
@@ -236,8 +221,9 @@ fn has_none_within(alloc: Global, from: &[u8], to: &[u8]) -> Result<bool, StoreF
 fn inserted(alloc: Global, text: &[u8], room: u64) -> Result<Edited, StoreFault>
     requires { room ≤ 1 }
 {
-    let mut series = empty(alloc)?;
-    insert(&mut series, text, room)
+    let grid = working_days(alloc)?;
+    let mut series = regular(alloc)?;
+    insert(&mut series, &grid, text, room)
 }
 
 #[test]
