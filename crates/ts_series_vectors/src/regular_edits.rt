@@ -121,10 +121,29 @@ fn filled(alloc: Global, grid: &Grid) -> Result<Series, StoreFault>
     Ok(series)
 }
 
-// Whether the element that stood on Tuesday is told for that night.
-fn is_found(alloc: Global) -> Result<bool, StoreFault> {
+/// What is asked of it.
+#[derive(Clone, Copy)]
+enum Question {
+    Find,
+    Mark,
+    Delete,
+}
+
+// Whether the answer is the right one.
+fn is_answered(alloc: Global, question: Question) -> Result<bool, StoreFault> {
     let grid = working_days(alloc)?;
     let mut series = filled(alloc, &grid)?;
+    match question {
+        Question::Find => is_found(&mut series, &grid),
+        Question::Mark => is_marked(&mut series, &grid),
+        Question::Delete => is_deleted(&mut series, &grid),
+    }
+}
+
+// Whether the element that stood on Tuesday is told for that night.
+fn is_found(series: &mut Series, grid: &Grid) -> Result<bool, StoreFault>
+    requires { ArePlaces series.old.kind.columns (memory_contents series.old.pages) (places_of 7 series.old.space) }
+{
     let kind = &series.kind;
     let shelf = Shelf { series: SLOT, kind };
     let page = &mut Page::zero();
@@ -133,16 +152,16 @@ fn is_found(alloc: Global) -> Result<bool, StoreFault> {
         page,
         &series.space,
         &shelf,
-        &grid,
+        grid,
         stamp(TUESDAY_NIGHT)?,
     )?;
     let tuesday = stamp(TUESDAY)?;
     Ok(found.is_some_and(|(at, row)| at == tuesday && is_five(&row)))
 }
 
-fn is_marked(alloc: Global) -> Result<bool, StoreFault> {
-    let grid = working_days(alloc)?;
-    let mut series = filled(alloc, &grid)?;
+fn is_marked(series: &mut Series, grid: &Grid) -> Result<bool, StoreFault>
+    requires { ArePlaces series.old.kind.columns (memory_contents series.old.pages) (places_of 7 series.old.space) }
+{
     let kind = &series.kind;
     let shelf = Shelf { series: SLOT, kind };
     let page = &mut Page::zero();
@@ -151,7 +170,7 @@ fn is_marked(alloc: Global) -> Result<bool, StoreFault> {
         page,
         &series.space,
         &shelf,
-        &grid,
+        grid,
         stamp(TUESDAY_NIGHT)?,
         true,
     )?;
@@ -159,9 +178,9 @@ fn is_marked(alloc: Global) -> Result<bool, StoreFault> {
 }
 
 // The only element goes, and its place with it.
-fn is_deleted(alloc: Global) -> Result<bool, StoreFault> {
-    let grid = working_days(alloc)?;
-    let mut series = filled(alloc, &grid)?;
+fn is_deleted(series: &mut Series, grid: &Grid) -> Result<bool, StoreFault>
+    requires { ArePlaces series.old.kind.columns (memory_contents series.old.pages) (places_of 7 series.old.space) }
+{
     let kind = &series.kind;
     let shelf = Shelf { series: SLOT, kind };
     let page = &mut Page::zero();
@@ -170,7 +189,7 @@ fn is_deleted(alloc: Global) -> Result<bool, StoreFault> {
         page,
         &series.space,
         &shelf,
-        &grid,
+        grid,
         stamp(TUESDAY_NIGHT)?,
     )?;
     let expected = Moved {
@@ -228,14 +247,14 @@ fn inserted(alloc: Global, text: &[u8], room: u64) -> Result<Edited, StoreFault>
 
 #[test]
 fn an_element_stands_at_the_start_of_its_interval(rt: HostRuntime) {
-    assert!(rt; matches!(is_found(rt.alloc()), Ok(true)));
+    assert!(rt; matches!(is_answered(rt.alloc(), Question::Find), Ok(true)));
 }
 
 #[test]
 fn an_element_is_edited(rt: HostRuntime) {
     let alloc = rt.alloc();
-    assert!(rt; matches!(is_marked(alloc), Ok(true)));
-    assert!(rt; matches!(is_deleted(alloc), Ok(true)));
+    assert!(rt; matches!(is_answered(alloc, Question::Mark), Ok(true)));
+    assert!(rt; matches!(is_answered(alloc, Question::Delete), Ok(true)));
 }
 
 #[test]

@@ -20,4 +20,5 @@ returns c =
     let told = subst (IsInserted true 7 columns c.in_ok-stamp.stamp c.in_ok-row.row _ v w) c.in-Some.is c.in_ok-told.ensures.ok in
     let same = ap (λ (l : List (List Place)). get_or l 7 []) c.in_ok-reserve.ensures.places in
     subst (λ (ps : List Place). ArePlaces columns w ps) (sym c.splice.ensures.ok)
-    (moved_are true columns _ _ v w c.args.series.now.pages.lawful (subst (λ (ps : List Place). ArePlaces columns v ps) (sym same) c.requires) told.places c.in_ok-told.ensures.call.count)
+    (moved_are true columns _ _ v w c.args.series.now.pages.lawful
+    (subst (λ (ps : List Place). ArePlaces columns v ps) (sym same) c.requires) told.places c.in_ok-told.ensures.call.count)

@@ -15,4 +15,5 @@ splice-requires-clause-rising c =
     let five = c.in_ok-row.row in
     let old = places_of 7 c.reserve.new.self in
     let Done : Edited → Type 0 = IsEdited true 7 columns c.args.grid.now Put c.in_ok-stamp.field-0 five 1 old v w in
-    (put_moved true 7 columns c.args.grid.now Put c.in_ok-stamp.field-0 five 1 old v w c.in-Put.at c.in-Put.moved (subst Done c.in-Put.is c.in_ok-done.ensures.ok)).rising
+    (put_moved true 7 columns c.args.grid.now Put c.in_ok-stamp.field-0 five 1 old v w c.in-Put.at c.in-Put.moved
+    (subst Done c.in-Put.is c.in_ok-done.ensures.ok)).rising
