@@ -99,7 +99,8 @@ pub(crate) fn irregular(alloc: Global) -> Result<Series, StoreFault>
 
 /// A regular series without elements, beside one free page.
 pub(crate) fn regular(alloc: Global) -> Result<Series, StoreFault>
-    ensures places { IfOk result (λ series. AreRegularPlaces series.kind.columns (memory_contents series.pages) (places_of 7 series.space)) }
+    ensures places { IfOk result (λ series. AreRegularPlaces series.kind.columns
+        (memory_contents series.pages) (places_of 7 series.space)) }
     ensures free { IfOk result (λ series. length (memory_contents series.pages).free ≡ 1) }
     ensures count { IfOk result (λ series. (memory_contents series.pages).count ≡ 933) }
 {

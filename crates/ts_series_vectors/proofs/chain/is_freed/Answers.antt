@@ -9,4 +9,5 @@ pub free_pages-requires-clause-each : goal.free_pages-requires-clause-each
 free_pages-requires-clause-each c =
     let columns = c.args.series.now.kind.columns in
     let v = memory_contents c.args.series.now.pages in
-    places_freeable columns v c.places-places.result.now (subst (λ (ps : List Place). ArePlaces columns v ps) (sym c.places-places.ensures.ok) c.requires)
+    places_freeable columns v c.places-places.result.now
+    (subst (λ (ps : List Place). ArePlaces columns v ps) (sym c.places-places.ensures.ok) c.requires)

@@ -14,5 +14,5 @@ returns c =
     let count = only.3 in
     let first : Place = only.0 in
     subst (λ (ps : List Place). ArePlaces columns w ps) (sym (sym c.places.ensures.ok ∙ only.1))
-    (one_place columns w first (omega (arith, page)) (omega (arith, page, c.requires)) (omega (arith, c.spare.ensures, c.if-spare-gt0.false))
-    (omega (arith, count)) (omega (arith, count, c.regular_room-room.ensures.value, c.regular_room-room.ensures.some)))
+    (one_place columns w first (omega (arith, page)) (omega (arith, page, c.requires))
+    (omega (arith, c.spare.ensures, c.if-spare-gt0.false)) (omega (arith, count)) (omega (arith, count, c.regular_room-room.ensures.value, c.regular_room-room.ensures.some)))
