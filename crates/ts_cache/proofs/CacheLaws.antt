@@ -114,8 +114,8 @@ module _ (P : ℕ → List ℕ → Type 0) (n : ℕ) (c : Cache) (each : EachPag
     | true ↦ λ t.
         let here : n ≡ k = sym (eqb-true k n t) in
         let same : Some bytes ≡ Some kept =
-            sym (own_front n bytes (without n c.pages))
-            ∙ if_some _ (λ b. page_of n ((n, bytes) ∷ without n c.pages) ≡ Some b) kept (in_front n c.capacity ((n, bytes) ∷ without n c.pages)) (ap (λ (m : ℕ). page_of m (with_page c.capacity n bytes c.pages)) here ∙ found) in
+        sym (own_front n bytes (without n c.pages))
+        ∙ if_some _ (λ b. page_of n ((n, bytes) ∷ without n c.pages) ≡ Some b) kept (in_front n c.capacity ((n, bytes) ∷ without n c.pages)) (ap (λ (m : ℕ). page_of m (with_page c.capacity n bytes c.pages)) here ∙ found) in
         subst (λ (m : ℕ). P m kept) here (subst (λ (o : Option (List ℕ)). IfSome o (P n)) same own)
     | false ↦ λ t.
         let apart : k ≢ n = λ e. let same_number = eq-eqb k n e in cc in

@@ -9,6 +9,6 @@ mod laws;
 
 pub use cache::PageCache;
 pub use laws::{
-    a_page_is_found_as_it_was_put, a_put_drops_the_last_of_a_full_cache,
-    a_page_is_found_until_it_is_forgotten,
+    a_page_is_found_as_it_was_put, a_page_is_found_until_it_is_forgotten,
+    a_put_drops_the_last_of_a_full_cache,
 };

@@ -38,9 +38,12 @@ returns-then-read-clause-got g c =
 pub returns-then-read-clause-undisturbed : goal.returns-then-read-clause-undisturbed
 returns-then-read-clause-undisturbed g c =
     let s = c.args.self.now.store.now in
-    let v = g.V.Volume.device c.args.self.now.vol.now in
-    (refl, refl, undisturbed_but_cache g.V.Volume.tells s c.read.new.self v v (own_cache s c.read.new.self _ c.read.ensures.cache) (reads_none g.V.Volume.tells v (g.met.V.Volume.lawful c.args.self.now.vol.now))
-    (λ told now. read_cached s c.read.new.self v.held v.held c.args.no c.read.ensures.cache refl now))
+    let v = g.V.Volume.device c.args.self.now.vol.now in (
+      refl,
+      refl,
+      undisturbed_but_cache g.V.Volume.tells s c.read.new.self v v (own_cache s c.read.new.self _ c.read.ensures.cache) (reads_none g.V.Volume.tells v (g.met.V.Volume.lawful c.args.self.now.vol.now))
+          (λ told now. read_cached s c.read.new.self v.held v.held c.args.no c.read.ensures.cache refl now),
+    )
 
 pub invariant_of-self-then-is_err-clause-size : goal.invariant_of-self-then-is_err-clause-size
 invariant_of-self-then-is_err-clause-size g c =
@@ -63,10 +66,13 @@ returns-then-is_err-clause-undisturbed g c =
     let s = c.args.self.now.store.now in
     let v = g.V.Volume.device c.args.self.now.vol.now in
     let w = g.V.Volume.device c.read_at-read.new.self in
-    let read = c.read_at-read.ensures in
-    (refl, refl, undisturbed_but_cache g.V.Volume.tells s c.read.new.self v w (own_cache s c.read.new.self _ c.read.ensures.cache)
-    (reads_one g.V.Volume.tells _ c.read_at-read.new.into c.read_at-read.result v w (g.met.V.Volume.lawful c.args.self.now.vol.now) read)
-    (λ told now. read_cached s c.read.new.self v.held w.held c.args.no c.read.ensures.cache read.held now))
+    let read = c.read_at-read.ensures in (
+      refl,
+      refl,
+      undisturbed_but_cache g.V.Volume.tells s c.read.new.self v w (own_cache s c.read.new.self _ c.read.ensures.cache)
+          (reads_one g.V.Volume.tells _ c.read_at-read.new.into c.read_at-read.result v w (g.met.V.Volume.lawful c.args.self.now.vol.now) read)
+          (λ told now. read_cached s c.read.new.self v.held w.held c.args.no c.read.ensures.cache read.held now),
+    )
 
 pub invariant_of-self-2-clause-size : goal.invariant_of-self-2-clause-size
 invariant_of-self-2-clause-size g c =
@@ -100,9 +106,12 @@ pub returns-clause-undisturbed : goal.returns-clause-undisturbed
 returns-clause-undisturbed g c =
     let s = c.args.self.now.store.now in
     let v = g.V.Volume.device c.args.self.now.vol.now in
-    let w = g.V.Volume.device c.read_at-read.new.self in
-    (refl, refl, undisturbed_but_cache g.V.Volume.tells s c.keep_read.new.self v w (cache_twice s c.read.new.self c.keep_read.new.self _ c.read.ensures.cache c.keep_read.ensures.others)
-    (reads_one g.V.Volume.tells _ c.read_at-read.new.into c.read_at-read.result v w (g.met.V.Volume.lawful c.args.self.now.vol.now) c.read_at-read.ensures)
-    (λ told now. got_cached g.V.Volume.tells s c.read.new.self c.keep_read.new.self c.args.no _ c.read_at-read.new.into c.read_at-read.result v w
-    c.read.ensures.cache c.keep_read.ensures.cache (omega arith) (omega (arith, c.read_at-read.auto.into)) c.read_at-read.ensures
-    (at_ok c.read_at-read.result _ (sym c.is_err.ensures.value ∙ c.if-is_err.false) c.read_at-read.ensures.read told) now))
+    let w = g.V.Volume.device c.read_at-read.new.self in (
+      refl,
+      refl,
+      undisturbed_but_cache g.V.Volume.tells s c.keep_read.new.self v w (cache_twice s c.read.new.self c.keep_read.new.self _ c.read.ensures.cache c.keep_read.ensures.others)
+          (reads_one g.V.Volume.tells _ c.read_at-read.new.into c.read_at-read.result v w (g.met.V.Volume.lawful c.args.self.now.vol.now) c.read_at-read.ensures)
+          (λ told now. got_cached g.V.Volume.tells s c.read.new.self c.keep_read.new.self c.args.no _ c.read_at-read.new.into c.read_at-read.result v w
+          c.read.ensures.cache c.keep_read.ensures.cache (omega arith) (omega (arith, c.read_at-read.auto.into)) c.read_at-read.ensures
+          (at_ok c.read_at-read.result _ (sym c.is_err.ensures.value ∙ c.if-is_err.false) c.read_at-read.ensures.read told) now),
+    )
