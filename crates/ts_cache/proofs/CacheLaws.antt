@@ -3,13 +3,13 @@ use Rattle.std.proofs.Common.{◌≡◌, ◌≢◌, ℕ, zero, suc, ◌<◌, tru
 use Rattle.std.proofs.lemmas.Bool.{eqb-true, eq-eqb}
 use Rattle.std.proofs.lemmas.List.{take_all, take-append-le}
 use Rattle.std.specs.Option.{option_map_or}
-use Rattle.ts_cache.specs.Cache.{Cache, IsCache, cache, page_of, without, brought_forward, with_page, after_get, after_put, after_forget, EachPage}
+use Rattle.ts_cache.specs.Cache.{Cache, IsCache, cache, page_of, without, brought_forward, put_in_front, after_get, after_put, after_forget, EachPage}
 use Rattle.ts_cache.proofs.CacheLemmas.{without_none, length_without_some}
 
 abbrev Pairs : Type 0
 Pairs = List (ℕ × List ℕ)
 
-pub put_is_found : (most n : ℕ) (bytes : List ℕ) (ps : Pairs) → 0 < most → page_of n (with_page most n bytes ps) ≡ Some bytes
+pub put_is_found : (most n : ℕ) (bytes : List ℕ) (ps : Pairs) → 0 < most → page_of n (put_in_front most n bytes ps) ≡ Some bytes
 put_is_found zero n bytes ps h = absurd (omega arith)
 put_is_found (suc most) n bytes ps h = rw (eq-eqb n n refl)
 
@@ -44,9 +44,9 @@ other_front m n bytes ps apart = (elim (nat_eq m n) as (λ y. nat_eq m n ≡ y �
   | false ↦ λ t. rw t (not_out m n ps apart)
 ]) refl
 
-pub others_are_found : (most n m : ℕ) (bytes : List ℕ) (ps : Pairs) → m ≢ n → IfSome (page_of m (with_page most n bytes ps)) (λ kept. page_of m ps ≡ Some kept)
+pub others_are_found : (most n m : ℕ) (bytes : List ℕ) (ps : Pairs) → m ≢ n → IfSome (page_of m (put_in_front most n bytes ps)) (λ kept. page_of m ps ≡ Some kept)
 others_are_found most n m bytes ps apart =
-    subst (λ (o : Option (List ℕ)). IfSome (page_of m (with_page most n bytes ps)) (λ kept. o ≡ Some kept)) (other_front m n bytes ps apart)
+    subst (λ (o : Option (List ℕ)). IfSome (page_of m (put_in_front most n bytes ps)) (λ kept. o ≡ Some kept)) (other_front m n bytes ps apart)
     (in_front m most ((n, bytes) ∷ without n ps))
 
 some_at : (o : Option (List ℕ)) → IsSome o → (bytes : List ℕ) × (o ≡ Some bytes)
@@ -57,19 +57,19 @@ none_at : (o : Option (List ℕ)) → IsNone o → o ≡ None
 none_at None h = refl
 none_at (Some bytes) h = absurd cc
 
-pub put_replaces : (c : Cache) (n : ℕ) (bytes : List ℕ) → IsCache c → IsSome (page_of n c.pages) → with_page c.capacity n bytes c.pages ≡ (n, bytes) ∷ without n c.pages
+pub put_replaces : (c : Cache) (n : ℕ) (bytes : List ℕ) → IsCache c → IsSome (page_of n c.pages) → put_in_front c.capacity n bytes c.pages ≡ (n, bytes) ∷ without n c.pages
 put_replaces c n bytes h there =
     let old = some_at (page_of n c.pages) there in
     let within = h.within in
     take_all c.capacity ((n, bytes) ∷ without n c.pages) (omega (arith, length_without_some n c.pages old.0 old.1))
 
-pub put_has_room : (most n : ℕ) (bytes : List ℕ) (ps : Pairs) → IsNone (page_of n ps) → length ps < most → with_page most n bytes ps ≡ (n, bytes) ∷ ps
+pub put_has_room : (most n : ℕ) (bytes : List ℕ) (ps : Pairs) → IsNone (page_of n ps) → length ps < most → put_in_front most n bytes ps ≡ (n, bytes) ∷ ps
 put_has_room most n bytes ps none room =
     let same = without_none n ps (none_at (page_of n ps) none) in
     ap (λ l. take most ((n, bytes) ∷ l)) same ∙ take_all most ((n, bytes) ∷ ps) (omega arith)
 
 pub put_drops_the_last : (most n : ℕ) (bytes : List ℕ) (front : Pairs) (last : ℕ × List ℕ) → IsNone (page_of n (front ++ last ∷ []))
-    → length (front ++ last ∷ []) ≡ most → with_page most n bytes (front ++ last ∷ []) ≡ (n, bytes) ∷ front
+    → length (front ++ last ∷ []) ≡ most → put_in_front most n bytes (front ++ last ∷ []) ≡ (n, bytes) ∷ front
 put_drops_the_last zero n bytes front last none full = absurd (omega (arith, length-append front (last ∷ [])))
 put_drops_the_last (suc most) n bytes front last none full =
     let same = without_none n (front ++ last ∷ []) (none_at (page_of n (front ++ last ∷ [])) none) in
@@ -115,7 +115,7 @@ module _ (P : ℕ → List ℕ → Type 0) (n : ℕ) (c : Cache) (each : EachPag
         let here : n ≡ k = sym (eqb-true k n t) in
         let same : Some bytes ≡ Some kept =
         sym (own_front n bytes (without n c.pages))
-        ∙ if_some _ (λ b. page_of n ((n, bytes) ∷ without n c.pages) ≡ Some b) kept (in_front n c.capacity ((n, bytes) ∷ without n c.pages)) (ap (λ (m : ℕ). page_of m (with_page c.capacity n bytes c.pages)) here ∙ found) in
+        ∙ if_some _ (λ b. page_of n ((n, bytes) ∷ without n c.pages) ≡ Some b) kept (in_front n c.capacity ((n, bytes) ∷ without n c.pages)) (ap (λ (m : ℕ). page_of m (put_in_front c.capacity n bytes c.pages)) here ∙ found) in
         subst (λ (m : ℕ). P m kept) here (subst (λ (o : Option (List ℕ)). IfSome o (P n)) same own)
     | false ↦ λ t.
         let apart : k ≢ n = λ e. let same_number = eq-eqb k n e in cc in

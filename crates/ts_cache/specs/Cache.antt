@@ -36,15 +36,15 @@ brought_forward number pages =
     option_map_or (λ bytes. (number, bytes) ∷ without number pages) (page_of number pages) pages
 
 -- with a page in front of those of the other numbers, as many as there may be
-abbrev pub with_page : ℕ → ℕ → List ℕ → List (ℕ × List ℕ) → List (ℕ × List ℕ)
-with_page capacity number bytes pages = take capacity ((number, bytes) ∷ without number pages)
+abbrev pub put_in_front : ℕ → ℕ → List ℕ → List (ℕ × List ℕ) → List (ℕ × List ℕ)
+put_in_front capacity number bytes pages = take capacity ((number, bytes) ∷ without number pages)
 
 -- after a page was asked for, put or forgotten
 abbrev pub after_get : ℕ → Cache → Cache
 after_get number c = cache (brought_forward number c.pages) c.capacity
 
 abbrev pub after_put : ℕ → List ℕ → Cache → Cache
-after_put number bytes c = cache (with_page c.capacity number bytes c.pages) c.capacity
+after_put number bytes c = cache (put_in_front c.capacity number bytes c.pages) c.capacity
 
 abbrev pub after_forget : ℕ → Cache → Cache
 after_forget number c = cache (without number c.pages) c.capacity

@@ -29,7 +29,7 @@ over_fresh tells count position entries s d fresh size volume settled stands all
     different = λ i j e before within same. none_within j within;
     listed = λ k e within. absurd (none_within k within);
   };
-  cached = λ told. subst (AreInPlace d.held) (sym fresh.cache) (none_has (IsInPlace d.held) CACHE_PAGES);
+  cached = λ told. subst (AreInPlace d.held) (sym fresh.cache) (record { each = none_has (IsInPlace d.held) CACHE_PAGES });
 }
   where
     none_within : (k : ℕ) → k < length s.free → ⊥

@@ -1,7 +1,8 @@
 use Rattle.std.proofs.Common.{refl, ap}
 use Rattle.std.proofs.lemmas.Result.{on_ok_weaker, on_err_weaker}
 use Rattle.ts_store.specs.OpenBatch.{State}
-use Rattle.ts_store.proofs.KeepLemmas.{free_lawful, free_done, free_undisturbed, same_undisturbed, forgot_cached, same_size}
+use Rattle.ts_store.proofs.KeepLemmas.{free_lawful, free_done, free_undisturbed, same_undisturbed, same_size}
+use Rattle.ts_store.proofs.CacheLemmas.{forgot_cached}
 use Rattle.ts_store.proofs.on.OnPages.free.Goals as goal
 
 pub invariant_of-self-clause-size : goal.invariant_of-self-clause-size

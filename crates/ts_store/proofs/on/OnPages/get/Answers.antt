@@ -1,7 +1,7 @@
 use Rattle.std.proofs.Common.{◌≡◌, arith, sym, ◌∙◌, Result, Ok, Err, OnOk, IsOk, false, is_err, refl}
 use Rattle.ts_recover.proofs.CallerLemmas.{reads_none}
 use Rattle.ts_recover.proofs.ReadLemmas.{reads_one}
-use Rattle.ts_store.proofs.KeepLemmas.{own_cache, cache_twice, got_memory, read_cached, got_cached, lawful_but_cache, size_but_cache, undisturbed_but_cache, got_clean, not_in_memory}
+use Rattle.ts_store.proofs.GetLemmas.{own_cache, cache_twice, got_memory, read_cached, got_cached, lawful_but_cache, size_but_cache, undisturbed_but_cache, got_clean, not_in_memory}
 use Rattle.ts_store.proofs.on.OnPages.get.Goals as goal
 
 at_ok : {T E : Type 0} (r : Result T E) (P : Type 0) → is_err r ≡ false → OnOk r P → P

@@ -2,7 +2,8 @@ use Rattle.std.proofs.Common.{refl, ap, arith}
 use Rattle.std.proofs.lemmas.Result.{on_ok_weaker, on_err_weaker}
 use Rattle.ts_journal.specs.declared.batch.Change.TheVariants.{Image}
 use Rattle.ts_store.specs.OpenBatch.{State}
-use Rattle.ts_store.proofs.KeepLemmas.{put_lawful, put_done, put_undisturbed, same_undisturbed, forgot_cached, same_size, image_bytes}
+use Rattle.ts_store.proofs.KeepLemmas.{put_lawful, put_done, put_undisturbed, same_undisturbed, same_size, image_bytes}
+use Rattle.ts_store.proofs.CacheLemmas.{forgot_cached}
 use Rattle.ts_store.proofs.on.OnPages.put.Goals as goal
 
 pub invariant_of-self-clause-size : goal.invariant_of-self-clause-size

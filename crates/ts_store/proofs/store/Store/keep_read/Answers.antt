@@ -1,6 +1,6 @@
 use Rattle.std.proofs.Common.{◌≡◌, None, sym, subst}
 use Rattle.ts_store.specs.OpenBatch.{State, change_read}
-use Rattle.ts_store.proofs.KeepLemmas.{sound_kept}
+use Rattle.ts_store.proofs.CacheLemmas.{sound_kept}
 use Rattle.ts_store.proofs.store.Store.keep_read.Goals as goal
 
 pub invariant_of-self : goal.invariant_of-self

@@ -1,4 +1,4 @@
-use Rattle.ts_store.proofs.KeepLemmas.{sound_got}
+use Rattle.ts_store.proofs.CacheLemmas.{sound_got}
 use Rattle.ts_store.proofs.store.Store.read.Goals as goal
 
 pub invariant_of-self : goal.invariant_of-self

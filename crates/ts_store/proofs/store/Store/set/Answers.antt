@@ -1,7 +1,7 @@
 use Rattle.std.proofs.Common.{sym, ap, subst, ℕ}
 use Rattle.ts_journal.specs.Entry.{IsAllowed}
 use Rattle.ts_store.specs.OpenBatch.{State}
-use Rattle.ts_store.proofs.KeepLemmas.{sound_set, sound_same}
+use Rattle.ts_store.proofs.CacheLemmas.{sound_set, sound_same}
 use Rattle.ts_store.proofs.store.Store.set.Goals as goal
 
 pub invariant_of-self : goal.invariant_of-self
