@@ -10,7 +10,7 @@ use Rattle.ts_page.proofs.PagesLemmas.{lawful_same}
 use Rattle.ts_journal.specs.Journal.{own_page, pages, ReadsButFreed}
 use Rattle.ts_journal.specs.Moment.{Keeps, OnlyReads}
 use Rattle.ts_store.proofs.CallerLemmas.{keeps_refl, keeps_then, reads_then, reads_none, read_closed, same_but_freed, over_still, idle_dropped, read_dropped, read_committed}
-use Rattle.ts_store.specs.OpenBatch.{State, IsOver, IsIdle, Closes, BeforeOrRead, over, read_pages, contents_over}
+use Rattle.ts_store.specs.OpenBatch.{State, AreInPlace, IsOver, IsIdle, Closes, BeforeOrRead, over, read_pages, contents_over}
 use Rattle.ts_store.specs.Undisturbed.{Undisturbed}
 use Rattle.ts_engine.specs.declared.fault.StepFault.{StepFault}
 use Rattle.ts_engine.specs.declared.fault.StepFault.TheVariants.{Disk, Memory, Closed}
@@ -139,7 +139,7 @@ module _ (tells : Bool) (worked : Result Unit StoreFault) (done : IsOk worked) (
     kept_free = tt;
     spent = tt;
     alike = tt;
-    fault = (record { pages = x.fault.0.pages; journal = x.fault.0.journal; overlay = x.fault.0.overlay; batch = x.fault.0.batch; free = x.fault.0.free; kept_free = x.fault.0.kept_free; spent = x.fault.0.spent; reads = x.fault.0.reads; no_fault = x.fault.0.no_fault }, x.fault.1);
+    fault = (record { pages = x.fault.0.pages; journal = x.fault.0.journal; overlay = x.fault.0.overlay; batch = x.fault.0.batch; free = x.fault.0.free; kept_free = x.fault.0.kept_free; cache = x.fault.0.cache; spent = x.fault.0.spent; reads = x.fault.0.reads; no_fault = x.fault.0.no_fault }, x.fault.1);
     tried = x.tried;
     moments = x.moments;
     others = x.others;
@@ -204,6 +204,7 @@ module _ (tells : Bool) (worked : Result Unit StoreFault) (e g f : Kept) (v : De
         batch = ap (λ (x : Kept). x.store.batch) drop;
         free = ap (λ (x : Kept). x.store.free) drop ∙ ap (λ (x : Kept). x.store.kept_free) is;
         kept_free = ap (λ (x : Kept). x.store.kept_free) drop ∙ ap (λ (x : Kept). x.store.kept_free) is;
+        cache = ap (λ (x : Kept). x.store.cache) drop ∙ ap (λ (x : Kept). x.store.cache) is;
         spent = ap (λ (x : Kept). x.spent) drop ∙ ap (λ (x : Kept). x.spent) is;
         reads = reads_none tells v lawful;
         no_fault = refl;
@@ -265,7 +266,14 @@ module _ (tells : Bool) (Work : Contents → Contents → Type 0) (worked : Resu
       let pages_is : (k : ℕ) → read_pages f.store w.held k ≡ read_pages back x.held k = λ k i. over (drop.batch i) (over (drop.overlay i) (own_page (drop.reads.held i))) k in
       record {
         idle = record {
-          over = over_still tells back f.store x w idle_back.over (record { pages = drop.pages; journal = drop.journal; overlay = drop.overlay; kept_free = drop.kept_free; reads = drop.reads })
+          over = over_still tells back f.store x w idle_back.over (record {
+                pages = drop.pages;
+                journal = drop.journal;
+                overlay = drop.overlay;
+                kept_free = drop.kept_free;
+                reads = drop.reads;
+                cached = λ told now. subst (AreInPlace w.held) (sym drop.cache) (subst (λ (bytes : List ℕ). AreInPlace bytes g.store.cache) (sym drop.reads.held) now);
+              })
               (lawful_same tells (contents_over back x) (contents_over f.store w) idle_back.over.lawful drop.pages (λ told k. pages_is k) drop.free);
           batch = drop.batch;
           kept_free = drop.kept_free ∙ sym drop.free;

@@ -7,6 +7,8 @@
 #[cfg(test)]
 mod aggregates;
 #[cfg(test)]
+mod cached;
+#[cfg(test)]
 mod calendars;
 #[cfg(test)]
 mod combining;

@@ -4,11 +4,9 @@ use Rattle.std.specs.Fmt.{digits}
 use Rattle.std.proofs.lemmas.List.{append-nil}
 use Rattle.ts_disk.specs.Device.{Device, Lawful, Within, LeavesOnly, Says, Rose}
 use Rattle.ts_disk.proofs.Moments.{started, goes_on, leaves_map}
-use Rattle.ts_page.specs.Pages.{IsLawful}
-use Rattle.ts_journal.specs.Entry.{entries_bytes}
-use Rattle.ts_journal.specs.Journal.{IsVolumeSize, StandsOver}
 use Rattle.ts_journal.specs.Moment.{Keeps}
-use Rattle.ts_store.specs.OpenBatch.{IsOver, contents_over, read_pages}
+use Rattle.ts_store.specs.OpenBatch.{IsOver, read_pages}
+use Rattle.ts_store.proofs.CallerLemmas.{over_kept}
 use Rattle.ts_model.specs.Catalogue.{Catalogue}
 use Rattle.ts_layout.specs.Meaning.{HoldsLayout}
 use Rattle.ts_command.specs.declared.command.Command.{Command}
@@ -47,16 +45,7 @@ front_of n piece = (drop n piece, sym (take-append-drop n piece))
 -- where nothing is written, an engine stands where it stood
 module _ (tells : Bool) (e : Kept) (v w : Device) (size : w.size ≡ v.size) (held : w.held ≡ v.held) (faults : w.faults ≡ v.faults) (images : Within v.images w.images) where
   over_same : IsOver tells e.store v → IsOver tells e.store w
-  over_same over =
-      let same : contents_over e.store v ≡ contents_over e.store w = λ j. record { count = e.store.pages; page = read_pages e.store (sym held j); free = e.store.free; change_bytes = length (entries_bytes e.store.batch); faults = sym faults j } in
-      record {
-        size = size ∙ over.size;
-        volume = subst IsVolumeSize (sym size) over.volume;
-        settled = λ image now. over.settled image (images image now) ∙ sym held;
-        stands = λ told. subst (StandsOver e.store.journal e.store.overlay) (sym held) (over.stands told);
-        allowed = over.allowed;
-        lawful = subst (IsLawful tells) same over.lawful;
-      }
+  over_same over = over_kept tells e.store v over w size held images
 
   pub ready_same : IsReady tells e v → IsReady tells e w
   ready_same ready =

@@ -7,7 +7,9 @@ use Rattle.ts_journal.specs.Entry.{Entry, AreAllowed}
 use Rattle.ts_journal.specs.Journal.{IsVolumeSize, page_count, records, pages, StandsOver, ReadsButFreed}
 use Rattle.ts_journal.specs.Moment.{OnlyReads}
 use Rattle.ts_recover.proofs.CallerLemmas.{still_only}
-use Rattle.ts_store.specs.OpenBatch.{State, IsOver, IsIdle, IsFresh, Closes, read_pages, contents_over}
+use Rattle.ts_cache.proofs.CallerLemmas.{none_has}
+use Rattle.ts_store.specs.declared.store.TheConstants.{CACHE_PAGES}
+use Rattle.ts_store.specs.OpenBatch.{State, IsInPlace, AreInPlace, IsOver, IsIdle, IsFresh, Closes, read_pages, contents_over}
 use Rattle.ts_store.specs.Undisturbed.{Undisturbed}
 pub use Rattle.ts_journal.proofs.CallerLemmas.{keeps_refl, keeps_then}
 pub use Rattle.ts_recover.proofs.CallerLemmas.{reads_none, reads_then}
@@ -27,6 +29,7 @@ over_fresh tells count position entries s d fresh size volume settled stands all
     different = λ i j e before within same. none_within j within;
     listed = λ k e within. absurd (none_within k within);
   };
+  cached = λ told. subst (AreInPlace d.held) (sym fresh.cache) (record { each = none_has (IsInPlace d.held) CACHE_PAGES });
 }
   where
     none_within : (k : ℕ) → k < length s.free → ⊥
@@ -48,13 +51,14 @@ over_still tells s t v w over calls lawful = record {
   stands = λ told. subst (λ (p : ℕ). StandsOver p t.overlay w.held) (sym calls.journal) (subst (λ (es : List Entry). StandsOver s.journal es w.held) (sym calls.overlay) (subst (StandsOver s.journal s.overlay) (sym calls.reads.held) (over.stands told)));
   allowed = subst (λ (n : ℕ). AreAllowed n t.overlay) (sym calls.pages) (subst (AreAllowed s.pages) (sym calls.overlay) over.allowed);
   lawful = lawful;
+  cached = λ told. calls.cached told (over.cached told);
 }
 
 -- so does the taking of memory
 pub over_prepared : (tells : Bool) (s t : State) (d : Device) → t ≡ record s { spare = t.spare } → IsOver tells s d → IsOver tells t d
 over_prepared tells s t d is over =
     subst (λ (x : State). IsOver tells x d) (sym is)
-    (record { size = over.size; volume = over.volume; settled = over.settled; stands = over.stands; allowed = over.allowed; lawful = over.lawful })
+    (record { size = over.size; volume = over.volume; settled = over.settled; stands = over.stands; allowed = over.allowed; lawful = over.lawful; cached = over.cached })
 
 -- each volume has an element page
 pub first_element : (tells : Bool) (s : State) (d : Device) → IsOver tells s d → 930 < s.pages
@@ -68,7 +72,7 @@ pub over_dropped : (tells : Bool) (s t u : State) (v w : Device) → IsOver tell
 over_dropped tells s t u v w over calls none kept dropped =
     let back : State = record t { batch = []; free = t.kept_free } in
     subst (λ (x : State). IsOver tells x w) (sym dropped)
-    (over_still tells s back v w over (record { pages = calls.pages; journal = calls.journal; overlay = calls.overlay; kept_free = calls.kept_free; reads = calls.reads })
+    (over_still tells s back v w over (record { pages = calls.pages; journal = calls.journal; overlay = calls.overlay; kept_free = calls.kept_free; reads = calls.reads; cached = calls.cached })
     (lawful_same tells (contents_over s v) (contents_over back w) over.lawful calls.pages (λ told k. read_dropped tells s t v w calls none k) (calls.kept_free ∙ sym kept)))
 
 -- after a commit the pages are those that were read in its batch, but for what the emptying of the journal may change
@@ -119,6 +123,7 @@ module _ (tells : Bool) (s : State) (v : Device) (over : IsOver tells s v) where
     stands = λ told. subst (StandsOver s.journal s.overlay) (sym held) (over.stands told);
     allowed = over.allowed;
     lawful = lawful_same tells (contents_over s v) (contents_over s w) over.lawful refl (λ told k. ap (λ (bytes : List ℕ). read_pages s bytes k) held) refl;
+    cached = λ told. subst (λ (bytes : List ℕ). AreInPlace bytes s.cache) (sym held) (over.cached told);
   }
 
 -- between two batches the pages that are read are those of the volume

@@ -1,31 +1,21 @@
 -- What the calls on an open batch keep.
-use Rattle.std.proofs.Common.{◌≡◌, ℕ, ◌+◌, ◌*◌, ◌<◌, ◌≤◌, ◌^◌, Bool, IsTrue, Result, Ok, Err, OnOk, OnErr, IsOk, None, List, [], ◌∷◌, ltb, eqb, Contains, length, take, drop, refl, ap, sym, ◌∙◌, subst, arith, length-append}
+use Rattle.std.proofs.Common.{◌≡◌, ℕ, ◌+◌, ◌*◌, ◌<◌, ◌≤◌, ◌^◌, Bool, Result, Ok, Err, OnOk, OnErr, List, [], ◌∷◌, ltb, eqb, Contains, length, refl, ap, sym, ◌∙◌, subst, arith, length-append}
 use Rattle.std.specs.Int.{to_be_bytes, w32}
 use Rattle.std.proofs.lemmas.Bool.{cond_both}
-use Rattle.ts_disk.specs.Device.{Device, ReadAt}
+use Rattle.ts_disk.specs.Device.{Device, Lawful}
 use Rattle.ts_page.specs.declared.page.Page.{Page}
-use Rattle.ts_page.specs.Pages.{IsLawful, IsElementPage, with_page, Got, Put, Freed}
+use Rattle.ts_page.specs.Pages.{IsLawful, IsElementPage, with_page, Put, Freed}
 use Rattle.ts_page.proofs.PagesLemmas.{few_free, lawful_put, lawful_freed, lawful_taken}
 use Rattle.ts_journal.specs.declared.batch.Change.{Change}
 use Rattle.ts_journal.specs.declared.batch.Change.TheVariants.{Image, Free}
-use Rattle.ts_journal.specs.Entry.{Entry, entry_bytes, entries_bytes, IsAllowed, AreAllowed, IsRising, content, put, put_all}
+use Rattle.ts_journal.specs.Entry.{Entry, entry_bytes, entries_bytes, AreAllowed, content, put, put_all}
 use Rattle.ts_journal.specs.Journal.{own_page}
-use Rattle.ts_journal.proofs.CallerLemmas.{put_rising}
-use Rattle.ts_recover.proofs.CallerLemmas.{put_allowed}
-use Rattle.ts_store.specs.OpenBatch.{State, IsSound, change_read, over, read_pages, contents_over}
-use Rattle.ts_store.proofs.ReadLemmas.{over_put, read_clean}
-
--- the entries keep the rules with one more
-pub sound_set : {E : Type 0} (r : Result Unit E) (count number : ℕ) (batch new : List Entry) (change : Change) → OnOk r (new ≡ put number change batch) → OnErr r (new ≡ batch)
-    → IsSound count batch → IsAllowed count (number, change) → number < 2 ^ 32 → IsSound count new
-sound_set (Ok done) count number batch new change ok err sound allowed small = record {
-  allowed = subst (AreAllowed count) (sym ok) (put_allowed count batch number change sound.allowed allowed);
-  rising = subst (λ (es : List Entry). IsRising 0 (2 ^ 32) es) (sym ok) (put_rising batch 0 (2 ^ 32) number change sound.rising (omega arith) small);
-}
-sound_set (Err e) count number batch new change ok err sound allowed small = record {
-  allowed = subst (AreAllowed count) (sym err) sound.allowed;
-  rising = subst (λ (es : List Entry). IsRising 0 (2 ^ 32) es) (sym err) sound.rising;
-}
+use Rattle.ts_recover.proofs.CallerLemmas.{put_allowed, reads_none}
+use Rattle.ts_cache.specs.Cache.{after_forget}
+use Rattle.ts_store.specs.OpenBatch.{State, AreInPlace, over, read_pages, contents_over}
+use Rattle.ts_store.specs.Undisturbed.{Undisturbed}
+use Rattle.ts_store.proofs.ReadLemmas.{over_put}
+use Rattle.ts_store.proofs.CacheLemmas.{forget_cached}
 
 -- all of a batch put into an overlay
 pub all_allowed : (count : ℕ) (old es : List Entry) → AreAllowed count old → AreAllowed count es → AreAllowed count (put_all old es)
@@ -54,19 +44,19 @@ free_bytes number = refl
 
 -- a page put over a store
 module _ (tells : Bool) (s t : State) (d : Device) (number : ℕ) where
-  pub put_lawful : {E : Type 0} (r : Result Unit E) (change : Change) → OnOk r (t ≡ record s { batch = put number change s.batch }) → OnErr r (t ≡ s)
+  pub put_lawful : {E : Type 0} (r : Result Unit E) (change : Change) → OnOk r (t ≡ record s { batch = put number change s.batch; cache = after_forget number s.cache }) → OnErr r (t ≡ s)
       → ¬ Contains s.free number → IsLawful tells (contents_over s d) → IsLawful tells (contents_over t d)
   put_lawful (Ok done) change ok err absent lawful =
-      let next : State = record s { batch = put number change s.batch } in
+      let next : State = record s { batch = put number change s.batch; cache = after_forget number s.cache } in
       subst (λ (x : State). IsLawful tells (contents_over x d)) (sym ok)
       (lawful_put tells (contents_over s d) (contents_over next d) lawful refl number (content change) absent
       (λ told n. over_put s.batch number change (over s.overlay (own_page d.held)) n) refl)
   put_lawful (Err e) change ok err absent lawful = subst (λ (x : State). IsLawful tells (contents_over x d)) (sym err) lawful
 
-  pub free_lawful : {E : Type 0} (r : Result Unit E) → OnOk r (t ≡ record s { batch = put number Free s.batch; free = number ∷ s.free }) → OnErr r (t ≡ s)
+  pub free_lawful : {E : Type 0} (r : Result Unit E) → OnOk r (t ≡ record s { batch = put number Free s.batch; free = number ∷ s.free; cache = after_forget number s.cache }) → OnErr r (t ≡ s)
       → IsElementPage number → number < s.pages → ¬ Contains s.free number → IsLawful tells (contents_over s d) → IsLawful tells (contents_over t d)
   free_lawful (Ok done) ok err element below absent lawful =
-      let next : State = record s { batch = put number Free s.batch; free = number ∷ s.free } in
+      let next : State = record s { batch = put number Free s.batch; free = number ∷ s.free; cache = after_forget number s.cache } in
       subst (λ (x : State). IsLawful tells (contents_over x d)) (sym ok)
       (lawful_freed tells (contents_over s d) (contents_over next d) lawful refl number element below absent
       (λ told n. over_put s.batch number Free (over s.overlay (own_page d.held)) n) refl)
@@ -76,7 +66,7 @@ module _ (tells : Bool) (s t : State) (d : Device) (number : ℕ) where
   same_size (Ok done) ok err size = omega (arith, size, ok)
   same_size (Err e) ok err size = omega (arith, size, err)
 
-  pub put_done : (change : Change) (bytes : List ℕ) → bytes ≡ content change → length (entry_bytes (number, change)) ≤ 4101 → t ≡ record s { batch = put number change s.batch } → Put tells number bytes (Ok tt) (contents_over s d) (contents_over t d)
+  pub put_done : (change : Change) (bytes : List ℕ) → bytes ≡ content change → length (entry_bytes (number, change)) ≤ 4101 → t ≡ record s { batch = put number change s.batch; cache = after_forget number s.cache } → Put tells number bytes (Ok tt) (contents_over s d) (contents_over t d)
   put_done change bytes is few done = record {
     call = record { count = ap (λ (x : State). x.pages) done; faults = omega arith; cause = λ failed. absurd (cc); no_fault = λ other. refl };
     put = λ told n. ap (λ (x : State). read_pages x d.held n) done ∙ over_put s.batch number change (over s.overlay (own_page d.held)) n
@@ -86,7 +76,7 @@ module _ (tells : Bool) (s t : State) (d : Device) (number : ℕ) where
     change_bytes = omega (arith, ap (λ (x : State). length (entries_bytes x.batch)) done, put_bytes s.batch number change, few);
   }
 
-  pub free_done : t ≡ record s { batch = put number Free s.batch; free = number ∷ s.free } → Freed tells number (Ok tt) (contents_over s d) (contents_over t d)
+  pub free_done : t ≡ record s { batch = put number Free s.batch; free = number ∷ s.free; cache = after_forget number s.cache } → Freed tells number (Ok tt) (contents_over s d) (contents_over t d)
   free_done done = record {
     call = record { count = ap (λ (x : State). x.pages) done; faults = omega arith; cause = λ failed. absurd (cc); no_fault = λ other. refl };
     freed = λ told n. ap (λ (x : State). read_pages x d.held n) done ∙ over_put s.batch number Free (over s.overlay (own_page d.held)) n;
@@ -101,16 +91,29 @@ module _ (tells : Bool) (s t : State) (d : Device) (number : ℕ) where
       lawful_taken tells (contents_over s d) (contents_over t d) lawful (sym (ap (λ (x : State). x.pages) taken)) number
       (λ told n. sym (ap (λ (x : State). read_pages x d.held n) taken)) (ap (λ (x : State). x.free) taken)
 
--- a page that has no change is read from the volume
-pub got_clean : {E : Type 0} (tells : Bool) (s : State) (number at : ℕ) (into : List ℕ) (r : Result Unit E) (v w : Device) → at ≡ 4096 * number → length into ≡ 4096 → change_read number s ≡ None
-    → ReadAt tells at into r v w → IsOk r → (IsTrue tells → into ≡ take (length into) (drop at v.held)) → Got tells number into (Ok tt) (contents_over s v) (contents_over s w)
-got_clean tells s number at into r v w place size none read answered done = record {
-  call = record { count = refl; faults = read.call.faults; cause = λ failed. absurd (cc); no_fault = λ other. read.call.no_fault answered };
-  read = λ told outside. done told ∙ (λ i. take (size i) (drop (place i) v.held)) ∙ sym (read_clean s v.held number none outside);
-  pages = λ told n. ap (λ (h : List ℕ). read_pages s h n) read.held;
-  free = refl;
-  change_bytes = refl;
-}
+-- a page was put or freed, or nothing was done
+module _ (tells : Bool) (s t : State) (d : Device) (lawful : Lawful tells d) (number : ℕ) where
+  forgot_undisturbed : t.pages ≡ s.pages → t.journal ≡ s.journal → t.overlay ≡ s.overlay → t.kept_free ≡ s.kept_free → t.cache ≡ after_forget number s.cache → Undisturbed tells s t d d
+  forgot_undisturbed pages journal overlay kept cache = record {
+    pages = pages;
+    journal = journal;
+    overlay = overlay;
+    kept_free = kept;
+    reads = reads_none tells d lawful;
+    cached = λ told now. subst (AreInPlace d.held) (sym cache) (forget_cached d.held number s.cache now);
+  }
+
+  pub put_undisturbed : (change : Change) → t ≡ record s { batch = put number change s.batch; cache = after_forget number s.cache } → Undisturbed tells s t d d
+  put_undisturbed change is =
+      forgot_undisturbed (ap (λ (x : State). x.pages) is) (ap (λ (x : State). x.journal) is) (ap (λ (x : State). x.overlay) is) (ap (λ (x : State). x.kept_free) is) (ap (λ (x : State). x.cache) is)
+
+  pub free_undisturbed : t ≡ record s { batch = put number Free s.batch; free = number ∷ s.free; cache = after_forget number s.cache } → Undisturbed tells s t d d
+  free_undisturbed is =
+      forgot_undisturbed (ap (λ (x : State). x.pages) is) (ap (λ (x : State). x.journal) is) (ap (λ (x : State). x.overlay) is) (ap (λ (x : State). x.kept_free) is) (ap (λ (x : State). x.cache) is)
+
+  pub same_undisturbed : t ≡ s → Undisturbed tells s t d d
+  same_undisturbed is = subst (λ (x : State). Undisturbed tells s x d d) (sym is)
+      (record { pages = refl; journal = refl; overlay = refl; kept_free = refl; reads = reads_none tells d lawful; cached = λ told now. now })
 
 pub few_spare : (tells : Bool) (s : State) (d : Device) → s.pages < 2 ^ 32 → IsLawful tells (contents_over s d) → length s.free < 2 ^ 32
 few_spare tells s d few lawful = omega (arith, few, few_free tells (contents_over s d) lawful)

@@ -1,4 +1,6 @@
 pub mod ReadLemmas
+mod CacheLemmas
+mod GetLemmas
 mod KeepLemmas
 pub mod CommitLemmas
 pub mod CallerLemmas

@@ -52,17 +52,18 @@ pub read_closed : (s : State) (held : List ℕ) → s.batch ≡ [] → StandsOve
 read_closed s held none stands k =
     read_over s held stands k ∙ ap (λ (es : List Entry). over es (pages held) k) none
 
+-- outside the journal a page in its place has its bytes there
+pub own_outside : (held : List ℕ) (k : ℕ) → IsOutsideJournal k → own_page held k ≡ bytes_at (4096 * k) 4096 held
+own_outside held k outside = cond-false (is_region k) [] (bytes_at (4096 * k) 4096 held) (not-true (is_region k) (no_region k outside))
+
 -- a page without a change is read in its place
 pub read_clean : (s : State) (held : List ℕ) (k : ℕ) → change_read k s ≡ None → IsOutsideJournal k → read_pages s held k ≡ bytes_at (4096 * k) 4096 held
 read_clean s held k none outside = here (change_of k s.batch) (change_of k s.overlay) none
   where
-    own : own_page held k ≡ bytes_at (4096 * k) 4096 held
-    own = cond-false (is_region k) [] (bytes_at (4096 * k) 4096 held) (not-true (is_region k) (no_region k outside))
-
     here : (b o : Option Change) → change_or b o ≡ None → changed b (changed o (own_page held k)) ≡ bytes_at (4096 * k) 4096 held
     here (Some c) o is = absurd (cc)
     here None (Some c) is = absurd (cc)
-    here None None is = own
+    here None None is = own_outside held k outside
 
 -- only an element page is freed
 pub freed_element : (count : ℕ) (es : List Entry) (k : ℕ) → AreAllowed count es → change_of k es ≡ Some Free → IsElementPage k

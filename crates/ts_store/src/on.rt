@@ -1,9 +1,9 @@
 // A store over its volume, as a keeper of pages.
-ghost use Rattle.std.specs.Prelude.{◌≡◌, ◌*◌};
+ghost use Rattle.std.specs.Prelude.{◌≡◌, ◌*◌, IsTrue};
 ghost use Rattle.std.proofs.Props.{props};
 ghost use Rattle.ts_page.specs.Volume.{page_size};
 ghost use Rattle.ts_page.specs.Pages.{IsLawful};
-ghost use Rattle.ts_store.specs.OpenBatch.{contents_over};
+ghost use Rattle.ts_store.specs.OpenBatch.{AreInPlace, contents_over};
 
 use crate::store::Store;
 use ts_base::StoreFault;
@@ -18,13 +18,14 @@ pub struct On<'a, V: Volume> {
     pub vol: &'a mut V,
     ghost size: { (V.device vol.now).size ≡ page_size * store.now.pages },
     ghost lawful: { IsLawful V.tells (contents_over store.now (V.device vol.now)) } by { Prim.hlevel props },
+    ghost cached: { IsTrue V.tells → AreInPlace (V.device vol.now).held store.now.cache } by { Prim.hlevel props },
 }
 
 impl<'a, V: Volume> Pages for On<'a, V> {
     ghost use Rattle.std.specs.Prelude.{◌<◌, IsSome};
     ghost use Rattle.std.proofs.Common.{refl, ◌∙◌};
     ghost use Rattle.ts_page.specs.Pages.{Got};
-    ghost use Rattle.ts_store.specs.OpenBatch.{change_read};
+    ghost use Rattle.ts_store.specs.OpenBatch.{in_memory};
     ghost use Rattle.ts_recover.proofs.CallerLemmas.{reads_none, reads_then};
     ghost use Rattle.ts_store.specs.Undisturbed.{Undisturbed};
 
@@ -35,25 +36,23 @@ impl<'a, V: Volume> Pages for On<'a, V> {
     ghost undisturbed = { λ a b. (b.store.ghost_name ≡ a.store.ghost_name) × (b.vol.ghost_name ≡ a.vol.ghost_name)
         × Undisturbed V.tells a.store.now b.store.now (V.device a.vol.now) (V.device b.vol.now) };
 
-    /// Reads a page. One of the open batch or of the overlay is read with no call on the volume.
+    /// Reads a page. One of the open batch, the overlay or the cache is read with no call on the volume.
     fn get(&mut self, no: u32, into: &mut Page) -> Result<(), StoreFault>
         requires { no < self.old.store.now.pages }
         ensures got { Got V.tells no into.new.bytes result (contents_over self.old.store.now (V.device self.old.vol.now))
             (contents_over self.new.store.now (V.device self.new.vol.now)) }
         ensures undisturbed { (self.new.store.ghost_name ≡ self.old.store.ghost_name) × (self.new.vol.ghost_name ≡ self.old.vol.ghost_name)
             × Undisturbed V.tells self.old.store.now self.new.store.now (V.device self.old.vol.now) (V.device self.new.vol.now) }
-        ensures kept { IsSome (change_read no self.old.store.now) → self.new.vol.now ≡ self.old.vol.now }
+        ensures kept { IsSome (in_memory no self.old.store.now) → self.new.vol.now ≡ self.old.vol.now }
     {
-        match self.store.find(no) {
-            Some(Change::Image(page)) => *into = *page,
-            Some(Change::Free) => *into = Page::zero(),
-            None => {
-                let read = self.vol.read_at(PAGE * no as u64, &mut into.bytes);
-                if read.is_err() {
-                    return Err(StoreFault::Failed);
-                }
-            }
+        if self.store.read(no, into) {
+            return Ok(());
         }
+        let read = self.vol.read_at(PAGE * no as u64, &mut into.bytes);
+        if read.is_err() {
+            return Err(StoreFault::Failed);
+        }
+        self.store.keep_read(no, into);
         Ok(())
     }
 
@@ -82,7 +81,7 @@ impl<'a, V: Volume> Pages for On<'a, V> {
     ghost stays = { λ on. (
       refl,
       refl,
-      record { pages = refl; journal = refl; overlay = refl; kept_free = refl; reads = reads_none V.tells (V.device on.vol.now) (V.lawful on.vol.now) },
+      record { pages = refl; journal = refl; overlay = refl; kept_free = refl; reads = reads_none V.tells (V.device on.vol.now) (V.lawful on.vol.now); cached = λ told now. now },
     ) };
 
     ghost then = { λ a b c p q. (
@@ -94,6 +93,7 @@ impl<'a, V: Volume> Pages for On<'a, V> {
         overlay = q.2.overlay ∙ p.2.overlay;
         kept_free = q.2.kept_free ∙ p.2.kept_free;
         reads = reads_then V.tells (V.device a.vol.now) (V.device b.vol.now) (V.device c.vol.now) p.2.reads q.2.reads;
+        cached = λ told now. q.2.cached told (p.2.cached told now);
       },
     ) };
 }

@@ -1,0 +1,3 @@
+mod CacheLaws
+mod CacheLemmas
+pub mod CallerLemmas

@@ -1,0 +1,79 @@
+// How many calls on the volume a reading makes.
+use crate::program::{bytes_of, run, volume};
+use std::alloc::Global;
+use std::test::Fail;
+use std::thread::Threads;
+use ts_disk::MemorySite;
+
+/// A regular series by minutes, whose pages have room for five elements.
+const MINUTES: &[u8] =
+    b"CreateRowType(wide, t datetime, p varchar(255), q varchar(255), n varchar(255));\
+    TSContainerCreate(c1, wide, 100);\
+    CreateCalendar(mc,'startdate(2011-01-03 00:00:00), pattstart(2011-01-03 00:00:00), pattern({1 on},minute)');\
+    TSCreate('a', mc, '2011-01-03 00:00:00', c1);";
+
+// The bytes of a volume with one element on each of 100 pages of the series.
+fn hundred_pages(rt: &(impl Threads + Sync), alloc: Global) -> Result<Vec<u8>, Fail> {
+    let mut site = volume(rt, alloc, "100")?;
+    let mut script = Vec::from_slice(alloc, MINUTES)?;
+    for page in 0..100u16 {
+        let (hour, minute) = (page / 12, page % 12 * 5);
+        let statement = format!(in alloc;
+            "PutElem('a','2011-01-03 {hour:02}:{minute:02}:00','{page}','',null);"
+        )?;
+        script.extend_from_slice(statement.as_bytes())?;
+    }
+    run(rt, alloc, &mut site, &script)?;
+    bytes_of(alloc, &mut site)
+}
+
+// How many calls a run of this script makes on a volume of these bytes, if it says this.
+fn calls(
+    rt: &(impl Threads + Sync),
+    alloc: Global,
+    bytes: &[u8],
+    script: &[u8],
+    said: &[u8],
+) -> Result<Option<u64>, Fail> {
+    let mut site = MemorySite::new(Vec::from_slice(alloc, bytes)?)?;
+    let status = run(rt, alloc, &mut site, script)?;
+    if status != 0 || site.said() != said {
+        return Ok(None);
+    }
+    Ok(Some(site.calls()))
+}
+
+#[test]
+fn a_page_is_read_once_and_then_found_in_memory(rt: HostRuntime) -> Result<(), Fail> {
+    let alloc = rt.alloc();
+    let bytes = hundred_pages(&rt, alloc)?;
+    // All quota is charged: 100 pages.
+    let opened = calls(
+        &rt,
+        alloc,
+        &bytes,
+        b"TSContainerUsage(c1);",
+        b"ok 100 100\n",
+    )?;
+    // The page is read, for the opening left none in memory, and the reply is said.
+    let once = calls(
+        &rt,
+        alloc,
+        &bytes,
+        b"TSContainerUsage(c1);GetElem('a','2011-01-03 04:10:00');",
+        b"ok 100 100\n2011-01-03 04:10:00.00000 '50','',null\nok 1\n",
+    )?;
+    assert_eq!(rt; once, opened.map(|before| before.saturating_add(2)));
+    // The reply alone.
+    let twice = calls(
+        &rt,
+        alloc,
+        &bytes,
+        b"TSContainerUsage(c1);GetElem('a','2011-01-03 04:10:00');GetElem('a','2011-01-03 04:10:00');",
+        b"ok 100 100\n2011-01-03 04:10:00.00000 '50','',null\nok 1\n\
+        2011-01-03 04:10:00.00000 '50','',null\nok 1\n",
+    )?;
+    assert_eq!(rt; twice, opened.map(|before| before.saturating_add(3)));
+    assert!(rt; opened.is_some());
+    Ok(())
+}
