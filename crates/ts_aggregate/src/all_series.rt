@@ -1,5 +1,5 @@
 // Series whose pages were read, folded by several workers.
-ghost use Rattle.std.specs.Prelude.{IfOk};
+ghost use Rattle.std.specs.Prelude.{◌≡◌, IfOk, map};
 ghost use Rattle.std.specs.List.{AllZip};
 ghost use Rattle.ts_aggregate.specs.Stacks.{IsFoldOf};
 
@@ -62,10 +62,13 @@ fn fold_stack(
     folding.finish()
 }
 
-// The rows of all answers, or none where one has none.
-fn all_or_none(
-    alloc: Global,
-    answers: Vec<Result<Row, AllocError>>,
-) -> Result<Vec<Row>, AllocError> {
-    unreachable!()
+// The rows of all answers, in their order, or the error where one is an error.
+fn all_or_none(alloc: Global, answers: Vec<Result<Row, AllocError>>) -> Result<Vec<Row>, AllocError>
+    ensures { IfOk result (λ rows. answers.items ≡ map (λ row. Ok row) rows.items) }
+{
+    let mut rows = Vec::with_capacity(alloc, answers.len())?;
+    for answer in answers {
+        rows.push(answer?)?;
+    }
+    Ok(rows)
 }
