@@ -11,3 +11,5 @@ mod readings;
 mod rows;
 #[cfg(test)]
 mod series;
+#[cfg(test)]
+mod stacks;
