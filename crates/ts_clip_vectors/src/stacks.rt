@@ -1,4 +1,7 @@
 // Stacks of pages that are written by hand, and what a list makes of each.
+ghost use Rattle.std.specs.Prelude.{◌≡◌};
+ghost use Rattle.ts_page.specs.Memory.{memory_contents};
+
 use crate::series::{SLOT, Series, day, filled, integers};
 use std::alloc::{AllocError, Global};
 use std::thread::Threads;
@@ -154,14 +157,16 @@ fn two_workers_meet_over_stacks(rt: HostRuntime) {
     assert!(rt; gate.met());
 }
 
-// The stack of the only page of a series.
-fn stack_in(alloc: Global, series: &mut Series) -> Result<Vec<Page>, StoreFault> {
+// The only page of a series.
+fn only_page(alloc: Global, series: &mut Series) -> Result<Vec<Page>, StoreFault>
+    requires { (memory_contents series.old.pages).count ≡ 931 }
+{
     let mut page = Page::zero();
     series.pages.get(930, &mut page)?;
     Ok(vec![in alloc; page]?)
 }
 
-// The sum of a regular series from one day to another.
+// What the sum makes of a regular series from one day to another.
 fn sum_between(
     rt: &(impl Threads + Sync),
     alloc: Global,
@@ -169,7 +174,7 @@ fn sum_between(
     to: u8,
 ) -> Result<Vec<Row>, StoreFault> {
     let mut series = filled(alloc, true)?;
-    let pages = stack_in(alloc, &mut series)?;
+    let pages = only_page(alloc, &mut series)?;
     let Series {
         kind,
         space,
