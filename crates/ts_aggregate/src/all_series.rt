@@ -34,22 +34,16 @@ pub fn aggregate_all<G: Gate + Sync>(
         stacks,
         &|stack: &Stack<'_>| -> Result<Row, AllocError>
             ensures { IfOk result (λ row. IsFoldOf bound.entry.now from to stack.now row) }
-        { fold_stack(alloc, bound, stack, from, to) },
+        { fold_stack(bound, stack, from, to) },
     )?;
     all_or_none(alloc, answers)
 }
 
 // What it makes of one.
-fn fold_stack(
-    alloc: Global,
-    bound: &Bound,
-    stack: &Stack<'_>,
-    from: Stamp,
-    to: Stamp,
-) -> Result<Row, AllocError>
+fn fold_stack(bound: &Bound, stack: &Stack<'_>, from: Stamp, to: Stamp) -> Result<Row, AllocError>
     ensures { IfOk result (λ row. IsFoldOf bound.now from to stack.now row) }
 {
-    let mut folding = Folding::new(alloc, bound)?;
+    let mut folding = Folding::new(bound)?;
     rows_of_pages(
         &stack.pages,
         stack.places,

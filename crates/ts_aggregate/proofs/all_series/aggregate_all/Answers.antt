@@ -16,5 +16,6 @@ returns g c =
     c.args.stacks.now c.in_ok-answers.answers.items c.in_ok-answers.ensures.ok in
     record {
       folded = IfOk-weaker c.all_or_none.result _ (λ rows. AllZip is_fold c.args.stacks.now rows.items)
-          (λ rows are. rows_AllZip _ is_fold c.args.stacks.now rows.items (subst (AllZip (OfRow _ is_fold) c.args.stacks.now) are each)) c.all_or_none.ensures;
+          (λ rows are. rows_AllZip _ is_fold c.args.stacks.now rows.items
+          (subst (AllZip (OfRow _ is_fold) c.args.stacks.now) are each)) c.all_or_none.ensures;
     }

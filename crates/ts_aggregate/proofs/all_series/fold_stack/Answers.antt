@@ -1,4 +1,3 @@
-use Rattle.std.proofs.Common.{rules}
 use Rattle.std.proofs.lemmas.Result.{IfOk-weaker}
 use Rattle.ts_aggregate.specs.Stacks.{IsFoldOf}
 use Rattle.ts_aggregate.proofs.StackLemmas.{is_fold_of}
