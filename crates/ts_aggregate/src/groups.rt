@@ -46,7 +46,8 @@ pub fn aggregate_by<P: Pages, V: ElementVisitor>(
     requires places { ArePlaces shape.now shelf.now.kind.now.columns (P.contents pages.old) (places_of shelf.now.series space.now) }
     requires countable { count_of (places_of shelf.now.series space.now) < 2 ^ 32 }
     ensures read { IfOk result (λ done. IsTold P.tells shape.now shelf.now.series shelf.now.kind.now.columns
-        (places_of shelf.now.series space.now) (P.contents pages.old) (λ es. shelf.now.kind.now.columns ≡ folding.old.binding.columns → HasTaken folding.old []
+        (places_of shelf.now.series space.now) (P.contents pages.old)
+        (λ es. shelf.now.kind.now.columns ≡ folding.old.binding.columns → HasTaken folding.old []
         → AreHanded (λ rows. V.took visitor.old rows visitor.new)
         (within_rows (by_interval (folded_row folding.old.binding.items) calendar.now from to (seen es))) done)) }
     ensures call { Reads P.tells result (P.contents pages.old) (P.contents pages.new) }

@@ -30,7 +30,12 @@ loop-number-preserved c =
     let column : Column = get_or cs i.column c.index-columns-item.result in
     let was : Tally = get_or c.loop-number.tallies n c.index-tallies-number.result in
     let s : ValuePosition =
-    record { size = row_cells.size; front = row_cells.front; place = row_cells.front + c.width_before.result; width = c.width.result - 1 } in
+    record {
+      size = row_cells.size;
+      front = row_cells.front;
+      place = row_cells.front + c.width_before.result;
+      width = c.width.result - 1;
+    } in
     let new : Tally = c.take_column.new.tally in
     record {
       size = length-set c.loop-number.tallies n new ∙ v.size;
