@@ -19,11 +19,11 @@ use Rattle.ts_expr.specs.declared.tally.Tally.{Tally}
 use Rattle.ts_expr.specs.Fold.{values_of}
 use Rattle.ts_expr.specs.Running.{tally_of, after, count_of, value_of, with_value}
 use Rattle.ts_expr.proofs.CallerLemmas.{tally_all, values_all, values_few, count_few}
-use Rattle.ts_aggregate.specs.declared.cells.Spot.{Spot}
+use Rattle.ts_aggregate.specs.declared.cells.ValuePosition.{ValuePosition}
 use Rattle.ts_aggregate.specs.Fold.{Fold, AreTallies, Takes}
 use Rattle.ts_aggregate.specs.Takes.{none_taken}
 use Rattle.ts_aggregate.specs.Column.{found_in, read_value, is_small}
-use Rattle.ts_aggregate.proofs.RowLemmas.{IsSpot, Reads, all_read, no_cell}
+use Rattle.ts_aggregate.proofs.RowLemmas.{IsValuePosition, Reads, all_read, no_cell}
 
 -- what an item knows of rows
 abbrev pub known : BoundItem → List Row → Tally
@@ -32,21 +32,25 @@ known i rows = tally_of i.function (values_of i.column rows)
 -- from one tally to another an item takes the rows in cells
 abbrev pub ItemTakes : List Column → ℕ → List ℕ → BoundItem → Tally → Tally → Type 0
 ItemTakes cs front bytes i old new =
-    (found : List (Option Row)) → IsTrue (list_all (λ c. is_kind c.kind) cs) → AreCellsWith cs front bytes found → (before : List Row) → length before + length (rows_in found) ≤ 2 ^ 32
+    (found : List (Option Row)) → IsTrue (list_all (λ c. is_kind c.kind) cs) → AreCellsWith cs front bytes found → (before : List Row)
+    → length before + length (rows_in found) ≤ 2 ^ 32
     → old ≡ known i before → new ≡ known i (before ++ rows_in found)
 
 -- so it does where it takes the values that its column has in them
-pub item_takes : (cs : List Column) (front : ℕ) (c : Column) (s : Spot) (n : ℕ) (bytes : List ℕ) (i : BoundItem) (old new : Tally) → IsSpot cs front i.column c s → 0 < s.size
+pub item_takes : (cs : List Column) (front : ℕ) (c : Column) (s : ValuePosition) (n : ℕ) (bytes : List ℕ) (i : BoundItem)
+    (old new : Tally) → IsValuePosition cs front i.column c s → 0 < s.size
     → length bytes ≡ n * s.size
     → (IsTrue (list_all is_small (map (number_in c.kind) (found_in s n bytes))) → count_of old + length (found_in s n bytes) ≤ 2 ^ 32
     → new ≡ fold with_value old (map (read_value c.kind) (found_in s n bytes)))
     → ItemTakes cs front bytes i old new
-item_takes cs front c s n bytes i old new spot some whole took = λ found kinds are before few was.
+item_takes cs front c s n bytes i old new position some whole took = λ found kinds are before few was.
     let rows : List Row = rows_in found in
-    let reads : Reads i.column c.kind s n bytes rows = all_read cs front i.column c s found n bytes kinds spot some whole are in
+    let reads : Reads i.column c.kind s n bytes rows = all_read cs front i.column c s found n bytes kinds position some whole are in
     let values : List Value = values_of i.column rows in
-    let many : length (found_in s n bytes) ≡ length values = sym (length-map (found_in s n bytes) (read_value c.kind)) ∙ ap length reads.values in
-    let counted : count_of old ≤ length before = omega (arith, ap count_of was, count_few i.function (values_of i.column before), values_few i.column before) in
+    let many : length (found_in s n bytes) ≡ length values = sym (length-map (found_in s n bytes) (read_value c.kind))
+    ∙ ap length reads.values in
+    let counted : count_of old ≤ length before = omega
+    (arith, ap count_of was, count_few i.function (values_of i.column before), values_few i.column before) in
     took reads.small (omega (arith, many, counted, few, values_few i.column rows))
     ∙ ap (fold with_value old) reads.values
     ∙ ap (λ (t : Tally). fold with_value t values) was
@@ -69,7 +73,8 @@ all_known items tallies rows size each =
 -- where each item takes the rows in cells, all do
 pub all_take : (cs : List Column) (front : ℕ) (bytes : List ℕ) (items : List BoundItem) (old new : List Tally) → length new ≡ length items
     → ((k : ℕ) (d : Tally) → k < length items → ItemTakes cs front bytes (get_or items k an_item) (get_or old k d) (get_or new k d))
-    → (found : List (Option Row)) → IsTrue (list_all (λ c. is_kind c.kind) cs) → AreCellsWith cs front bytes found → (before : List Row) → length before + length (rows_in found) ≤ 2 ^ 32
+    → (found : List (Option Row)) → IsTrue (list_all (λ c. is_kind c.kind) cs) → AreCellsWith cs front bytes found → (before : List Row)
+    → length before + length (rows_in found) ≤ 2 ^ 32
     → old ≡ after items before → new ≡ after items (before ++ rows_in found)
 all_take cs front bytes items old new size each found kinds are before few was =
     all_known items new (before ++ rows_in found) size
@@ -78,7 +83,8 @@ all_take cs front bytes items old new size each found kinds are before few was =
 
 -- one more tally is known after those before it
 pub each_more : (R : ℕ → Tally → Tally → Type 0) (old now : List Tally) (n : ℕ) (was new : Tally) → n < length now → was ≡ get_or now n was
-    → ((k : ℕ) (d : Tally) → k < n → R k (get_or old k d) (get_or now k d)) → ((k : ℕ) (d : Tally) → n ≤ k → get_or now k d ≡ get_or old k d) → R n was new
+    → ((k : ℕ) (d : Tally) → k < n → R k (get_or old k d) (get_or now k d))
+    → ((k : ℕ) (d : Tally) → n ≤ k → get_or now k d ≡ get_or old k d) → R n was new
     → (k : ℕ) (d : Tally) → k < n + 1 → R k (get_or old k d) (get_or (set now n new) k d)
 each_more R old now n was new within is known rest one k d lt = elim (cases_lt k n) [
   | inl below ↦ subst (R k (get_or old k d)) (sym (get_or-set_other now n k new d (λ same. omega (arith, same, below)))) (known k d below)
@@ -96,7 +102,8 @@ rest_more old now n new rest k d le = get_or-set_other now n k new d (λ same. o
 
 -- the values of the tallies, one after the other
 pub values_more : (old now : List Tally) (n : ℕ) (was : Tally) → n < length now → length old ≡ length now → was ≡ get_or now n was
-    → ((k : ℕ) (d : Tally) → n ≤ k → get_or now k d ≡ get_or old k d) → map value_of (take n old) ++ value_of was ∷ [] ≡ map value_of (take (n + 1) old)
+    → ((k : ℕ) (d : Tally) → n ≤ k → get_or now k d ≡ get_or old k d)
+    → map value_of (take n old) ++ value_of was ∷ [] ≡ map value_of (take (n + 1) old)
 values_more old now n was within size is rest =
     let first : was ≡ get_or old n was = is ∙ rest n was (omega arith) in
     ap (λ (t : Tally). map value_of (take n old) ++ value_of t ∷ []) first
@@ -104,9 +111,10 @@ values_more old now n was within size is rest =
     ∙ ap (map value_of) (sym (take_more old n was (omega (arith, within, size))))
 
 -- where the column of an item stands
-pub spot_of : (cs : List Column) (front k place w : ℕ) (c : Column) (size : ℕ) → k < length cs → c ≡ get_or cs k c → size ≡ front + width_of cs → place ≡ width_of (take k cs)
-    → w ≡ column_width c.kind → IsSpot cs front k c (record { size = size; front = front; place = front + place; width = w - 1 })
-spot_of cs front k place w c size within is size_is place_is w_is = record {
+pub position_of : (cs : List Column) (front k place w : ℕ) (c : Column) (size : ℕ) → k < length cs → c ≡ get_or cs k c
+    → size ≡ front + width_of cs → place ≡ width_of (take k cs)
+    → w ≡ column_width c.kind → IsValuePosition cs front k c (record { size = size; front = front; place = front + place; width = w - 1 })
+position_of cs front k place w c size within is size_is place_is w_is = record {
   within = within;
   column = sym is;
   size = size_is;
@@ -116,32 +124,42 @@ spot_of cs front k place w c size within is size_is place_is w_is = record {
 }
 
 -- it stands within a cell
-pub spot_within : (cs : List Column) (front k place w : ℕ) (c : Column) (size : ℕ) → k < length cs → c ≡ get_or cs k c → size ≡ front + width_of cs → place ≡ width_of (take k cs)
+pub position_within : (cs : List Column) (front k place w : ℕ) (c : Column) (size : ℕ) → k < length cs → c ≡ get_or cs k c
+    → size ≡ front + width_of cs → place ≡ width_of (take k cs)
     → w ≡ column_width c.kind → (front < size) × (front + place + (w - 1) < size)
-spot_within cs front k place w c size within is size_is place_is w_is =
-    let more : width_of (take k cs) + column_width (get_or cs k c).kind ≤ width_of cs = sum_by_more_le (λ (x : Column). column_width x.kind) cs k c within in
-    let same : column_width (get_or cs k c).kind ≡ column_width c.kind = ap (λ (x : Column). column_width x.kind) (sym is) in
-    (omega (arith, more, same, size_is, column_width-positive c.kind), omega (arith, more, same, size_is, place_is, w_is, column_width-positive c.kind))
+position_within cs front k place w c size within is size_is place_is w_is =
+    let more : width_of (take k cs) + column_width (get_or cs k c).kind ≤ width_of cs = sum_by_more_le
+    (λ (x : Column). column_width x.kind) cs k c within in
+    let same : column_width (get_or cs k c).kind ≡ column_width c.kind = ap (λ (x : Column). column_width x.kind) (sym is) in (
+      omega (arith, more, same, size_is, column_width-positive c.kind),
+      omega
+          (arith, more, same, size_is, place_is, w_is, column_width-positive c.kind),
+    )
 
 -- what is known of no rows has counted none
 pub none_known : (items : List BoundItem) (tallies : List Tally) → tallies ≡ after items [] → AreTallies items tallies
 none_known items tallies is = record {
   size = ap length is ∙ length-map items (λ (i : BoundItem). known i []);
   few = subst (λ (l : List Tally). All (λ t. count_of t ≤ 2 ^ 32) l) (sym is)
-      (All-map (λ (t : Tally). count_of t ≤ 2 ^ 32) (λ (i : BoundItem). known i []) items (λ k d within. omega (arith, count_few (get_or items k d).function [])));
+      (All-map (λ (t : Tally). count_of t ≤ 2 ^ 32) (λ (i : BoundItem). known i []) items
+      (λ k d within. omega (arith, count_few (get_or items k d).function [])));
 }
 
 -- no bytes are the cells of no rows
-pub no_rows : (cs : List Column) (front : ℕ) (cells : List ℕ) (found : List (Option Row)) → length cells ≡ 0 → AreCellsWith cs front cells found → rows_in found ≡ []
+pub no_rows : (cs : List Column) (front : ℕ) (cells : List ℕ) (found : List (Option Row)) → length cells ≡ 0
+    → AreCellsWith cs front cells found → rows_in found ≡ []
 no_rows cs front cells [] none are = refl
-no_rows cs front cells (f ∷ found) none are = absurd (no_cell cs front (take (front + width_of cs) cells) f (omega (arith, length-take (front + width_of cs) cells, none)) are.0)
+no_rows cs front cells (f ∷ found) none are = absurd
+    (no_cell cs front (take (front + width_of cs) cells) f (omega (arith, length-take (front + width_of cs) cells, none)) are.0)
 
-pub none_there : (cs : List Column) (front : ℕ) (cells : List ℕ) (found : List (Option Row)) (v : Fold) → length cells ≡ 0 → AreCellsWith cs front cells found → Takes cs v (rows_in found) v
-none_there cs front cells found v none are = subst (λ rows. Takes cs v rows v) (sym (no_rows cs front cells found none are)) (none_taken cs v)
+pub none_there : (cs : List Column) (front : ℕ) (cells : List ℕ) (found : List (Option Row)) (v : Fold) → length cells ≡ 0
+    → AreCellsWith cs front cells found → Takes cs v (rows_in found) v
+none_there cs front cells found v none are = subst (λ rows. Takes cs v rows v) (sym (no_rows cs front cells found none are))
+    (none_taken cs v)
 
 -- cells of so many bytes are as many as their length tells
-pub spread_of : (n size len : ℕ) → 0 < size → len ≡ n * size → len ≡ len / size * size
-spread_of n size len some whole = whole ∙ ap (λ k. k * size) (sym (mul-div_cancel n some) ∙ ap (λ l. l / size) (sym whole))
+pub row_cells_of : (n size len : ℕ) → 0 < size → len ≡ n * size → len ≡ len / size * size
+row_cells_of n size len some whole = whole ∙ ap (λ k. k * size) (sym (mul-div_cancel n some) ∙ ap (λ l. l / size) (sym whole))
 
 -- where there are bytes, one cell fits
 pub one_there : (n size len : ℕ) → 0 < len → len ≡ n * size → size ≤ len

@@ -75,7 +75,8 @@ module _ (h : Element → Option ℤ) where
       ap (λ b. cond b (e ∷ of_start es s) (of_start es s)) (start_unless s (h e) others.0) ∙ kept_none s es others.1
 
   -- a filter that keeps those elements
-  pub kept_within : (s : ℤ) (q : Element → Bool) (es : List Element) → Each (λ e. h e ≡ Some s → q e ≡ true) es → of_start (filter q es) s ≡ of_start es s
+  pub kept_within : (s : ℤ) (q : Element → Bool) (es : List Element) → Each (λ e. h e ≡ Some s → q e ≡ true) es
+      → of_start (filter q es) s ≡ of_start es s
   kept_within s q [] keeps = refl
   kept_within s q (e ∷ es) keeps = by (q e) refl (is_start s (h e)) refl (kept_within s q es keeps.1)
     where
@@ -97,11 +98,13 @@ module _ (h : Element → Option ℤ) where
   earlier ss s es = filter (λ g. int_lt g.0 s) (groups ss es)
 
   front_earlier : (s z : ℤ) (es : List Element) (gs : List Group)
-      → filter (λ g. int_lt g.0 s) (before z es gs) ≡ cond (int_lt z s) (before z es (filter (λ g. int_lt g.0 s) gs)) (filter (λ g. int_lt g.0 s) gs)
+      → filter (λ g. int_lt g.0 s) (before z es gs) ≡ cond (int_lt z s) (before z es (filter (λ g. int_lt g.0 s) gs))
+      (filter (λ g. int_lt g.0 s) gs)
   front_earlier s z es gs = by (nat_lt 0 (length es)) (int_lt z s) refl
     where
       by : (b c : Bool) → int_lt z s ≡ c
-          → filter (λ g. int_lt g.0 s) (cond b ((z, es) ∷ gs) gs) ≡ cond (int_lt z s) (cond b ((z, es) ∷ filter (λ g. int_lt g.0 s) gs) (filter (λ g. int_lt g.0 s) gs)) (filter (λ g. int_lt g.0 s) gs)
+          → filter (λ g. int_lt g.0 s) (cond b ((z, es) ∷ gs) gs) ≡ cond (int_lt z s)
+          (cond b ((z, es) ∷ filter (λ g. int_lt g.0 s) gs) (filter (λ g. int_lt g.0 s) gs)) (filter (λ g. int_lt g.0 s) gs)
       by true c is = refl
       by false true is = sym (ap (λ b. cond b (filter (λ g. int_lt g.0 s) gs) (filter (λ g. int_lt g.0 s) gs)) is)
       by false false is = sym (ap (λ b. cond b (filter (λ g. int_lt g.0 s) gs) (filter (λ g. int_lt g.0 s) gs)) is)
@@ -129,7 +132,8 @@ module _ (h : Element → Option ℤ) where
   groups_empty (s ∷ ss) = groups_empty ss
 
   -- an element of the open group changes none of the closed ones
-  pub earlier_same : (s : ℤ) (e : Element) → h e ≡ Some s → (ss : List ℤ) (es : List Element) → earlier ss s (es ++ e ∷ []) ≡ earlier ss s es
+  pub earlier_same : (s : ℤ) (e : Element) → h e ≡ Some s → (ss : List ℤ) (es : List Element)
+      → earlier ss s (es ++ e ∷ []) ≡ earlier ss s es
   earlier_same s e is [] es = refl
   earlier_same s e is (z ∷ ss) es = by_lt_z z s (less (earlier_same s e is ss es)) (more (earlier_same s e is ss es))
     where
@@ -158,13 +162,15 @@ module _ (h : Element → Option ℤ) where
       (λ ge. earlier_no s z ss es ge ∙ rest ∙ sym (ap (λ l. before z l (groups ss es)) (none z ge)))
 
   -- the open group stands behind those that are closed
-  pub earlier_last : (s : ℤ) (es : List Element) → 1 ≤ length (of_start es s) → ((z : ℤ) → s <ℤ z → of_start es z ≡ []) → (ss : List ℤ) → AreRising ss → IsOneOf s ss
+  pub earlier_last : (s : ℤ) (es : List Element) → 1 ≤ length (of_start es s) → ((z : ℤ) → s <ℤ z → of_start es z ≡ []) → (ss : List ℤ)
+      → AreRising ss → IsOneOf s ss
       → groups ss es ≡ earlier ss s es ++ (s, of_start es s) ∷ []
   earlier_last s es some none [] rising one = absurd one
   earlier_last s es some none (z ∷ ss) rising (inl same) =
       let rest : groups ss es ≡ [] = groups_none ss es (each_none ss (subst (λ (y : ℤ). Each (λ z. y <ℤ z) ss) same rising.0)) in
       let closed : earlier (z ∷ ss) s es ≡ [] = earlier_no s z ss es (omega (arith, ints, same)) ∙ ap (filter (λ g. int_lt g.0 s)) rest in
-      ap (λ (y : ℤ). before y (of_start es y) (groups ss es)) same ∙ ap (before s (of_start es s)) rest ∙ filled (of_start es s) some ∙ sym (ap (λ (l : List Group). l ++ (s, of_start es s) ∷ []) closed)
+      ap (λ (y : ℤ). before y (of_start es y) (groups ss es)) same ∙ ap (before s (of_start es s)) rest ∙ filled (of_start es s) some
+      ∙ sym (ap (λ (l : List Group). l ++ (s, of_start es s) ∷ []) closed)
     where
       each_none : (ss : List ℤ) → Each (λ z. s <ℤ z) ss → Each (λ z. of_start es z ≡ []) ss
       each_none [] above = tt
@@ -184,7 +190,8 @@ module _ (h : Element → Option ℤ) where
       one_above y (x ∷ ss) above (inl same) = subst (λ (x : ℤ). y <ℤ x) same above.0
       one_above y (x ∷ ss) above (inr one) = one_above y ss above.1 one
 
-      put : (b : Bool) → cond b ((z, of_start es z) ∷ (earlier ss s es ++ (s, of_start es s) ∷ [])) (earlier ss s es ++ (s, of_start es s) ∷ [])
+      put : (b : Bool) → cond b ((z, of_start es z) ∷ (earlier ss s es ++ (s, of_start es s) ∷ []))
+          (earlier ss s es ++ (s, of_start es s) ∷ [])
           ≡ cond b ((z, of_start es z) ∷ earlier ss s es) (earlier ss s es) ++ (s, of_start es s) ∷ []
       put true = refl
       put false = refl

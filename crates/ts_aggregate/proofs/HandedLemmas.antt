@@ -23,7 +23,7 @@ use Rattle.ts_expr.specs.declared.item.BoundItem.{BoundItem}
 use Rattle.ts_expr.specs.Fold.{folded_row}
 use Rattle.ts_aggregate.specs.Fold.{Fold}
 use Rattle.ts_aggregate.specs.Call.{AreHanded}
-use Rattle.ts_aggregate.specs.Groups.{WishPlan, is_asked, Grouping, closed, made_of, AreOrdered, AreGiven, Stands, AreMade, AreGrouped, IsClosed}
+use Rattle.ts_aggregate.specs.Groups.{WantedPlan, is_asked, Grouping, closed, made_of, AreOrdered, AreGiven, Stands, AreMade, AreGrouped, IsClosed}
 use Rattle.ts_aggregate.specs.GroupLaws.{made_both, made_as}
 use Rattle.ts_aggregate.proofs.GroupLemmas.{Each, groups_same, kept_within}
 use Rattle.ts_aggregate.proofs.StartLemmas.{each_pass, start_of, none_grouped}
@@ -36,85 +36,113 @@ not_true true is = sym is
 not_true false is = refl
 
 -- elements outside a range belong to no group that is asked for
-module _ (wish : WishPlan) (last : ℤ) (behind : (t s : ℤ) → IsStamp t → last <ℤ t → held_start wish.calendar t ≡ Some s → wish.to <ℤ s) where
-  inside : (s : ℤ) → is_asked wish s ≡ true → (e : Element) → IsStamp e.0 → held_start wish.calendar e.0 ≡ Some s → is_within wish.from last e ≡ true
+module _ (wanted : WantedPlan) (last : ℤ) (behind : (t s : ℤ) → IsStamp t → last <ℤ t → held_start wanted.calendar t ≡ Some s
+    → wanted.to <ℤ s) where
+  inside : (s : ℤ) → is_asked wanted s ≡ true → (e : Element) → IsStamp e.0 → held_start wanted.calendar e.0 ≡ Some s
+      → is_within wanted.from last e ≡ true
   inside s asked e stamp held =
-      let parts = and_parts (not (int_lt s wish.from)) (not (int_lt wish.to s)) asked in
-      let from = int_lt-false s wish.from (not_true (int_lt s wish.from) parts.0) in
-      let to = int_lt-false wish.to s (not_true (int_lt wish.to s) parts.1) in
-      let low = held_low wish.calendar e.0 s held in
-      let high : e.0 ≤ℤ last = by_lt_z last e.0 (λ late. let over = behind e.0 s stamp late held in absurd (omega (arith, ints, over, to))) (λ le. le) in
-      ap (λ b. not b && not (int_lt last e.0)) (int_lt_no e.0 wish.from (omega (arith, ints, from, low)))
+      let parts = and_parts (not (int_lt s wanted.from)) (not (int_lt wanted.to s)) asked in
+      let from = int_lt-false s wanted.from (not_true (int_lt s wanted.from) parts.0) in
+      let to = int_lt-false wanted.to s (not_true (int_lt wanted.to s) parts.1) in
+      let low = held_low wanted.calendar e.0 s held in
+      let high : e.0 ≤ℤ last = by_lt_z last e.0 (λ late. let over = behind e.0 s stamp late held in absurd
+      (omega (arith, ints, over, to))) (λ le. le) in
+      ap (λ b. not b && not (int_lt last e.0)) (int_lt_no e.0 wanted.from (omega (arith, ints, from, low)))
       ∙ ap not (int_lt_no last e.0 high)
 
-  all_inside : (s : ℤ) → is_asked wish s ≡ true → (es : List Element) → AreOrdered es → Each (λ e. held_start wish.calendar e.0 ≡ Some s → is_within wish.from last e ≡ true) es
+  all_inside : (s : ℤ) → is_asked wanted s ≡ true → (es : List Element) → AreOrdered es
+      → Each (λ e. held_start wanted.calendar e.0 ≡ Some s → is_within wanted.from last e ≡ true) es
   all_inside s asked [] ordered = tt
   all_inside s asked (e ∷ es) ordered = (λ held. inside s asked e ordered.0 held, all_inside s asked es ordered.2)
 
-  pub range_grouped : (es : List Element) → AreOrdered es → grouped wish.calendar wish.from wish.to (within_range wish.from last es) ≡ grouped wish.calendar wish.from wish.to es
+  pub range_grouped : (es : List Element) → AreOrdered es
+      → grouped wanted.calendar wanted.from wanted.to (within_range wanted.from last es) ≡ grouped wanted.calendar wanted.from wanted.to es
   range_grouped es ordered =
-      groups_same (start_of wish.calendar) (starts_between wish.calendar wish.from wish.to) (within_range wish.from last es) es
-      (each_pass (is_asked wish) (λ s. held_from wish.calendar (within_range wish.from last es) s ≡ held_from wish.calendar es s)
-      (λ s asked. kept_within (start_of wish.calendar) s (is_within wish.from last) es (all_inside s asked es ordered)) (on_starts wish.calendar))
+      groups_same (start_of wanted.calendar) (starts_between wanted.calendar wanted.from wanted.to) (within_range wanted.from last es) es
+      (each_pass (is_asked wanted) (λ s. held_from wanted.calendar (within_range wanted.from last es) s ≡ held_from wanted.calendar es s)
+      (λ s asked. kept_within (start_of wanted.calendar) s (is_within wanted.from last) es (all_inside s asked es ordered))
+      (on_starts wanted.calendar))
 
-module _ {V : Type 0} (took : V → List Element → V → Type 0) (then : (x y z : V) (es fs : List Element) → took x es y → took y fs z → took x (es ++ fs) z) where
+module _ {V : Type 0} (took : V → List Element → V → Type 0)
+    (then : (x y z : V) (es fs : List Element) → took x es y → took y fs z → took x (es ++ fs) z) where
   -- all groups were handed on, unless they are too many
-  all_made : (columns : List Column) (v w u : Grouping) (x y z : V) (es : List Element) → AreGrouped took columns v x es w y → IsClosed took w y u z
+  all_made : (columns : List Column) (v w u : Grouping) (x y z : V) (es : List Element) → AreGrouped took columns v x es w y
+      → IsClosed took w y u z
       → columns ≡ v.fold.binding.columns → v.span.start ≡ None → Stands v [] → AreGiven es
-      → (u.count ≡ length (closed v.wish None es)) × (u.count ≤ most_rows → took x (made_of v.fold.binding.items (closed v.wish None es)) z)
+      → (u.count ≡ length (closed v.wanted None es))
+      × (u.count ≤ most_rows → took x (made_of v.fold.binding.items (closed v.wanted None es)) z)
   all_made columns v w u x y z es p q own start stands are =
       let items : List BoundItem = v.fold.binding.items in
       let first = p.taken own [] are stands in
       let second = q.taken es are first.0 in
-      let both : AreMade took items (closed v.wish v.span.start []) (closed v.wish None es) u.count x z =
-      made_both took then items (closed v.wish v.span.start []) (closed v.wish w.span.start es) (closed v.wish None es) w.count u.count x y z q.same.more first.1
-      (made_as took w.fold.binding.items items (closed w.wish w.span.start es) (closed v.wish w.span.start es) (closed w.wish None es) (closed v.wish None es) u.count y z
-      (ap (λ (b : Binding). b.items) p.same.binding) (ap (λ (a : WishPlan). closed a w.span.start es) p.same.wish) (ap (λ (a : WishPlan). closed a None es) p.same.wish) second.1) in
-      let none : closed v.wish v.span.start [] ≡ [] = ap (λ (o : Option ℤ). closed v.wish o []) start ∙ none_grouped v.wish in
-      let rows : made_of items (closed v.wish None es) ≡ both.rows = both.behind ∙ ap (λ (l : List Group). made_of items l ++ both.rows) none in (
-        second.0.number ∙ ap (λ (a : WishPlan). length (closed a None es)) (q.same.wish ∙ p.same.wish),
+      let both : AreMade took items (closed v.wanted v.span.start []) (closed v.wanted None es) u.count x z =
+      made_both took then items (closed v.wanted v.span.start []) (closed v.wanted w.span.start es)
+      (closed v.wanted None es) w.count u.count x y z q.same.more first.1
+      (made_as took w.fold.binding.items items (closed w.wanted w.span.start es) (closed v.wanted w.span.start es)
+      (closed w.wanted None es) (closed v.wanted None es) u.count y z
+      (ap (λ (b : Binding). b.items) p.same.binding) (ap (λ (a : WantedPlan). closed a w.span.start es) p.same.wanted)
+      (ap (λ (a : WantedPlan). closed a None es) p.same.wanted) second.1) in
+      let none : closed v.wanted v.span.start [] ≡ [] = ap (λ (o : Option ℤ). closed v.wanted o []) start ∙ none_grouped v.wanted in
+      let rows : made_of items (closed v.wanted None es) ≡ both.rows = both.behind
+      ∙ ap (λ (l : List Group). made_of items l ++ both.rows) none in (
+        second.0.number ∙ ap (λ (a : WantedPlan). length (closed a None es)) (q.same.wanted ∙ p.same.wanted),
         λ few. subst (λ (l : List Element). took x l z) (sym rows) (both.taken few),
       )
 
 -- as a call answers
-handed_few : (took : List Element → Type 0) (rows : List Element) (count : ℕ) → count ≡ length rows → count ≤ most_rows → took rows → AreHanded took (within_rows rows) (Ok count)
+handed_few : (took : List Element → Type 0) (rows : List Element) (count : ℕ) → count ≡ length rows → count ≤ most_rows → took rows
+    → AreHanded took (within_rows rows) (Ok count)
 handed_few took rows count is few taken =
     let test : nat_lt most_rows (length rows) ≡ false = le-ltb most_rows (length rows) (omega (arith, is, few)) in
     subst (λ (b : Bool). AreHanded took (cond b (Err (TooLarge (length rows))) (Ok rows)) (Ok count)) (sym test) (taken, is)
 
-handed_many : (took : List Element → Type 0) (rows : List Element) (count : ℕ) → count ≡ length rows → most_rows < count → AreHanded took (within_rows rows) (Err (TooLarge count))
+handed_many : (took : List Element → Type 0) (rows : List Element) (count : ℕ) → count ≡ length rows → most_rows < count
+    → AreHanded took (within_rows rows) (Err (TooLarge count))
 handed_many took rows count is many =
     let test : nat_lt most_rows (length rows) ≡ true = lt-ltb most_rows (length rows) (omega (arith, is, many)) in
-    subst (λ (b : Bool). AreHanded took (cond b (Err (TooLarge (length rows))) (Ok rows)) (Err (TooLarge count))) (sym test) (ap TooLarge is)
+    subst (λ (b : Bool). AreHanded took (cond b (Err (TooLarge (length rows))) (Ok rows)) (Err (TooLarge count))) (sym test)
+    (ap TooLarge is)
 
 -- what an answer says, once what took the rows is no longer borrowed
-module _ {V Name : Type 0} (took : V → List Element → V → Type 0) (then : (x y z : V) (es fs : List Element) → took x es y → took y fs z → took x (es ++ fs) z)
-    (columns : List Column) (wish : WishPlan) (fold : Fold) (first final : V) (name begun going ended : Name) (last : ℤ) (behind : (t s : ℤ) → IsStamp t → last <ℤ t → held_start wish.calendar t ≡ Some s → wish.to <ℤ s)
-    (v w u : Grouping) (x y z : V) (es : List Element) (begins : begun ≡ name) (starts : x ≡ first) (same : v.wish ≡ wish) (folds : v.fold ≡ fold) (start : v.span.start ≡ None) (stands : Stands v [])
-    (taken : AreElementsTaken (λ entries. (going ≡ begun) × AreGrouped took columns v x (elements_of entries) w y) wish.from last es)
-    (ends : ended ≡ going) (closes : IsClosed took w y u z) (back : name ≡ ended → final ≡ z) (are : AreGiven es) (own : columns ≡ fold.binding.columns) where
+module _ {V Name : Type 0} (took : V → List Element → V → Type 0)
+    (then : (x y z : V) (es fs : List Element) → took x es y → took y fs z → took x (es ++ fs) z)
+    (columns : List Column) (wanted : WantedPlan) (fold : Fold) (first final : V) (name begun going ended : Name) (last : ℤ)
+    (behind : (t s : ℤ) → IsStamp t → last <ℤ t → held_start wanted.calendar t ≡ Some s → wanted.to <ℤ s)
+    (v w u : Grouping) (x y z : V) (es : List Element) (begins : begun ≡ name) (starts : x ≡ first) (same : v.wanted ≡ wanted)
+    (folds : v.fold ≡ fold) (start : v.span.start ≡ None) (stands : Stands v [])
+    (taken : AreElementsTaken (λ entries. (going ≡ begun) × AreGrouped took columns v x (elements_of entries) w y) wanted.from last es)
+    (ends : ended ≡ going) (closes : IsClosed took w y u z) (back : name ≡ ended → final ≡ z) (are : AreGiven es)
+    (own : columns ≡ fold.binding.columns) where
   abbrev answer : Result (List Element) Refusal
-  answer = within_rows (by_interval (folded_row fold.binding.items) wish.calendar wish.from wish.to (seen es))
+  answer = within_rows (by_interval (folded_row fold.binding.items) wanted.calendar wanted.from wanted.to (seen es))
 
   abbrev rows : List Element
-  rows = made_of fold.binding.items (grouped wish.calendar wish.from wish.to (seen es))
+  rows = made_of fold.binding.items (grouped wanted.calendar wanted.from wanted.to (seen es))
 
   grouped_all : (u.count ≡ length rows) × (u.count ≤ most_rows → took first rows final)
   grouped_all =
       let given : AreGiven (seen es) = given_kept (λ e. not e.1.hidden) es are in
-      let p : AreGrouped took columns v x (within_range wish.from last (seen es)) w y = subst (λ (l : List Element). AreGrouped took columns v x l w y) taken.are taken.taken.1 in
-      let made = all_made took then columns v w u x y z (within_range wish.from last (seen es)) p closes (own ∙ ap (λ (f : Fold). f.binding.columns) (sym folds)) start stands (given_kept (is_within wish.from last) (seen es) given) in
-      let is : closed v.wish None (within_range wish.from last (seen es)) ≡ grouped wish.calendar wish.from wish.to (seen es) =
-      ap (λ (a : WishPlan). closed a None (within_range wish.from last (seen es))) same ∙ range_grouped wish last behind (seen es) given.ordered in
-      let all : made_of v.fold.binding.items (closed v.wish None (within_range wish.from last (seen es))) ≡ rows =
-      ap (made_of v.fold.binding.items) is ∙ ap (λ (f : Fold). made_of f.binding.items (grouped wish.calendar wish.from wish.to (seen es))) folds in
+      let p : AreGrouped took columns v x (within_range wanted.from last (seen es)) w y = subst
+      (λ (l : List Element). AreGrouped took columns v x l w y) taken.are taken.taken.1 in
+      let made = all_made took then columns v w u x y z (within_range wanted.from last (seen es)) p closes
+      (own ∙ ap (λ (f : Fold). f.binding.columns) (sym folds)) start stands (given_kept (is_within wanted.from last) (seen es) given) in
+      let is : closed v.wanted None (within_range wanted.from last (seen es)) ≡ grouped wanted.calendar wanted.from wanted.to (seen es) =
+      ap (λ (a : WantedPlan). closed a None (within_range wanted.from last (seen es))) same
+      ∙ range_grouped wanted last behind (seen es) given.ordered in
+      let all : made_of v.fold.binding.items (closed v.wanted None (within_range wanted.from last (seen es))) ≡ rows =
+      ap (made_of v.fold.binding.items) is ∙ ap (λ (f : Fold). made_of f.binding.items
+      (grouped wanted.calendar wanted.from wanted.to (seen es))) folds in
       let end : final ≡ z = back (sym (ends ∙ taken.taken.0 ∙ begins)) in (
-        made.0 ∙ sym (length-map (closed v.wish None (within_range wish.from last (seen es))) (λ (g : Group). (g.0, folded_row v.fold.binding.items (map (λ e. e.1) g.1)))) ∙ ap length all,
-        λ few. subst (λ (s : V). took s rows final) starts (subst (λ (s : V). took x rows s) (sym end) (subst (λ (l : List Element). took x l z) all (made.1 few))),
+        made.0 ∙ sym (length-map (closed v.wanted None (within_range wanted.from last (seen es)))
+            (λ (g : Group). (g.0, folded_row v.fold.binding.items (map (λ e. e.1) g.1)))) ∙ ap length all,
+        λ few. subst (λ (s : V). took s rows final) starts
+            (subst (λ (s : V). took x rows s) (sym end) (subst (λ (l : List Element). took x l z) all (made.1 few))),
       )
 
   pub few_handed : (count : ℕ) → count ≡ u.count → count ≤ most_rows → AreHanded (λ rows. took first rows final) answer (Ok count)
-  few_handed count is few = handed_few (λ rows. took first rows final) rows count (is ∙ grouped_all.0) few (grouped_all.1 (omega (arith, is, few)))
+  few_handed count is few = handed_few (λ rows. took first rows final) rows count (is ∙ grouped_all.0) few
+      (grouped_all.1 (omega (arith, is, few)))
 
-  pub many_handed : (count : ℕ) → count ≡ u.count → most_rows < count → AreHanded (λ rows. took first rows final) answer (Err (TooLarge count))
+  pub many_handed : (count : ℕ) → count ≡ u.count → most_rows < count
+      → AreHanded (λ rows. took first rows final) answer (Err (TooLarge count))
   many_handed count is many = handed_many (λ rows. took first rows final) rows count (is ∙ grouped_all.0) many

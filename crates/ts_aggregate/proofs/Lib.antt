@@ -9,3 +9,4 @@ pub mod HandedLemmas
 pub mod RowLemmas
 pub mod FoldingLemmas
 pub mod OneRowLemmas
+pub mod StackLemmas

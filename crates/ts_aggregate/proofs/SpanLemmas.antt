@@ -16,7 +16,7 @@ use Rattle.ts_offset.specs.Counting.{cal_stamp}
 use Rattle.ts_offset.proofs.HeldLemmas.{held-off, on-exists}
 use Rattle.ts_offset.proofs.OwnLemmas.{held-from, from-held}
 use Rattle.ts_offset.proofs.ListedLemmas.{listed-start, start-listed, listed-rise}
-use Rattle.ts_aggregate.specs.Groups.{WishPlan, asked_start, IsBound, IsSpan, IsGoingOn}
+use Rattle.ts_aggregate.specs.Groups.{WantedPlan, asked_start, IsBound, IsSpan, IsGoingOn}
 use Rattle.ts_aggregate.proofs.GroupLemmas.{IsOneOf}
 use Rattle.ts_aggregate.proofs.StartLemmas.{at_one}
 
@@ -47,18 +47,22 @@ module _ (c : CalendarPlan) (laid : IsLaid c) (n end : ℤ) (start : start_at c 
       order : (j : ℤ) → start_at c j ≡ Some s → s <ℤ end → j <ℤ n
       order j is lt = by_lt_z j n (λ less. less) (λ ge. by_lt_z n j
           (λ less. let up = starts-rise c n j end s laid less start is in absurd (omega (arith, ints, up, lt)))
-          (λ le. let same : j ≡ n = omega (arith, ints, ge, le) in let one : s ≡ end = same_Some s end (sym is ∙ ap (start_at c) same ∙ start) in absurd (omega (arith, ints, one, lt))))
+          (λ le. let same : j ≡ n = omega (arith, ints, ge, le) in let one : s ≡ end = same_Some s end
+          (sym is ∙ ap (start_at c) same ∙ start) in absurd (omega (arith, ints, one, lt))))
 
       next : (j t : ℤ) → start_at c j ≡ Some t → j ≤ℤ n → t ≤ℤ end
       next j t is le = by_lt_z j n
           (λ less. let up = starts-rise c j n t end laid less is start in omega (arith, ints, up))
-          (λ ge. let same : j ≡ n = omega (arith, ints, ge, le) in let one : t ≡ end = same_Some t end (sym is ∙ ap (start_at c) same ∙ start) in omega (arith, ints, one))
+          (λ ge. let same : j ≡ n = omega (arith, ints, ge, le) in let one : t ≡ end = same_Some t end
+          (sym is ∙ ap (start_at c) same ∙ start) in omega (arith, ints, one))
 
       low : s <ℤ end → end ≤ℤ s
       low lt =
           let j = w.interval in
           let less = order j w.start lt in
-          let has = some_there (start_at c (j +ℤ pos 1)) (starts-whole c j n (j +ℤ pos 1) laid (omega (arith, ints)) (omega (arith, ints, less)) (there (start_at c j) s w.start) (there (start_at c n) end start)) in
+          let has = some_there (start_at c (j +ℤ pos 1))
+          (starts-whole c j n (j +ℤ pos 1) laid (omega (arith, ints)) (omega (arith, ints, less)) (there (start_at c j) s w.start)
+          (there (start_at c n) end start)) in
           let before : u <ℤ has.0 = subst (IsBefore u) has.1 w.held.before in
           let up = next (j +ℤ pos 1) has.0 has.1 (omega (arith, ints, less)) in
           absurd (omega (arith, ints, before, up, behind))
@@ -101,13 +105,14 @@ module _ (c : CalendarPlan) (laid : IsLaid c) (at k : ℤ) (around : IsAround c 
         held = record { from = f.0; exists_from = f.1; after = omega (arith, ints, low, after); before = before };
       }) ∙ sym f.1
 
-pub span_on : (wish : WishPlan) (at k : ℤ) (start : Option ℤ) → IsLaid wish.calendar → IsAround wish.calendar at k → is_on wish.calendar k ≡ true → start ≡ asked_start wish (start_at wish.calendar k)
-    → IsSpan wish at (record { start = start; end = start_at wish.calendar (k +ℤ pos 1) })
-span_on wish at k start laid around on is = record {
+pub span_on : (wanted : WantedPlan) (at k : ℤ) (start : Option ℤ) → IsLaid wanted.calendar → IsAround wanted.calendar at k
+    → is_on wanted.calendar k ≡ true → start ≡ asked_start wanted (start_at wanted.calendar k)
+    → IsSpan wanted at (record { start = start; end = start_at wanted.calendar (k +ℤ pos 1) })
+span_on wanted at k start laid around on is = record {
   laid = laid;
-  here = before_next wish.calendar laid at k around;
-  inside = λ t stamp after before. ap (asked_start wish) (held_on wish.calendar laid at k around on t stamp after before) ∙ sym is;
-  bound = bound_next wish.calendar laid at k around;
+  here = before_next wanted.calendar laid at k around;
+  inside = λ t stamp after before. ap (asked_start wanted) (held_on wanted.calendar laid at k around on t stamp after before) ∙ sym is;
+  bound = bound_next wanted.calendar laid at k around;
 }
 
 -- the first of the starts behind a stamp
@@ -125,23 +130,30 @@ module _ (at : ℤ) where
   none_between : (s : ℤ) (xs : List ℤ) → ((m n : ℕ) (s t : ℤ) → m < n → slice_get xs m ≡ Some s → slice_get xs n ≡ Some t → s <ℤ t)
       → slice_get (filter (λ x. int_lt at x) xs) 0 ≡ Some s → (n : ℕ) (z : ℤ) → slice_get xs n ≡ Some z → at <ℤ z → s ≤ℤ z
   none_between s [] rises is n z there_ lt = absurd (cc)
-  none_between s (x ∷ xs) rises is n z there_ lt = by (int_lt at x) refl is n there_ (λ found m at_m. none_between s xs (λ i j a b less p q. rises (suc i) (suc j) a b (omega (arith, less)) p q) found m z at_m lt)
+  none_between s (x ∷ xs) rises is n z there_ lt = by (int_lt at x) refl is n there_
+      (λ found m at_m. none_between s xs (λ i j a b less p q. rises (suc i) (suc j) a b (omega (arith, less)) p q) found m z at_m lt)
     where
-      by : (b : Bool) → int_lt at x ≡ b → slice_get (cond b (x ∷ filter (λ x. int_lt at x) xs) (filter (λ x. int_lt at x) xs)) 0 ≡ Some s → (n : ℕ) → slice_get (x ∷ xs) n ≡ Some z
+      by : (b : Bool) → int_lt at x ≡ b → slice_get (cond b (x ∷ filter (λ x. int_lt at x) xs) (filter (λ x. int_lt at x) xs)) 0 ≡ Some s
+          → (n : ℕ) → slice_get (x ∷ xs) n ≡ Some z
           → (slice_get (filter (λ x. int_lt at x) xs) 0 ≡ Some s → (m : ℕ) → slice_get xs m ≡ Some z → s ≤ℤ z) → s ≤ℤ z
-      by true less found zero there_ rest = let one : x ≡ s = same_Some x s found in let two : x ≡ z = same_Some x z there_ in omega (arith, ints, one, two)
-      by true less found (suc n) there_ rest = let one : x ≡ s = same_Some x s found in let up = rises zero (suc n) x z (omega arith) refl there_ in omega (arith, ints, one, up)
-      by false ge found zero there_ rest = let two : x ≡ z = same_Some x z there_ in let no_ = int_lt-false at x ge in absurd (omega (arith, ints, two, no_, lt))
+      by true less found zero there_ rest = let one : x ≡ s = same_Some x s found in let two : x ≡ z = same_Some x z there_ in omega
+          (arith, ints, one, two)
+      by true less found (suc n) there_ rest = let one : x ≡ s = same_Some x s found in let up = rises zero (suc n) x z
+          (omega arith) refl there_ in omega (arith, ints, one, up)
+      by false ge found zero there_ rest = let two : x ≡ z = same_Some x z there_ in let no_ = int_lt-false at x ge in absurd
+          (omega (arith, ints, two, no_, lt))
       by false ge found (suc n) there_ rest = rest found n there_
 
   none_behind : (xs : List ℤ) → slice_get (filter (λ x. int_lt at x) xs) 0 ≡ None → (n : ℕ) (z : ℤ) → slice_get xs n ≡ Some z → at <ℤ z → ⊥
   none_behind [] is n z there_ lt = absurd (cc)
   none_behind (x ∷ xs) is n z there_ lt = by (int_lt at x) refl is n there_ (λ found m at_m. none_behind xs found m z at_m lt)
     where
-      by : (b : Bool) → int_lt at x ≡ b → slice_get (cond b (x ∷ filter (λ x. int_lt at x) xs) (filter (λ x. int_lt at x) xs)) 0 ≡ None → (n : ℕ) → slice_get (x ∷ xs) n ≡ Some z
+      by : (b : Bool) → int_lt at x ≡ b → slice_get (cond b (x ∷ filter (λ x. int_lt at x) xs) (filter (λ x. int_lt at x) xs)) 0 ≡ None
+          → (n : ℕ) → slice_get (x ∷ xs) n ≡ Some z
           → (slice_get (filter (λ x. int_lt at x) xs) 0 ≡ None → (m : ℕ) → slice_get xs m ≡ Some z → ⊥) → ⊥
       by true less found n there_ rest = absurd (cc)
-      by false ge found zero there_ rest = let two : x ≡ z = same_Some x z there_ in let no_ = int_lt-false at x ge in absurd (omega (arith, ints, two, no_, lt))
+      by false ge found zero there_ rest = let two : x ≡ z = same_Some x z there_ in let no_ = int_lt-false at x ge in absurd
+          (omega (arith, ints, two, no_, lt))
       by false ge found (suc n) there_ rest = rest found n there_
 
 -- no on interval holds a stamp that is off, nor one behind it before the next on start
@@ -174,7 +186,8 @@ module _ (c : CalendarPlan) (laid : IsLaid c) (at k : ℤ) (stamp : IsStamp at) 
   none_held t None is none = is
   none_held t (Some z) is none = absurd (none z is)
 
-  pub next_is : (o : Option ℤ) → cal_stamp c at 1 ≡ o → IsBefore at o × IsBound c o × ((t : ℤ) → at ≤ℤ t → IsBefore t o → held_start c t ≡ None)
+  pub next_is : (o : Option ℤ) → cal_stamp c at 1 ≡ o → IsBefore at o × IsBound c o
+      × ((t : ℤ) → at ≤ℤ t → IsBefore t o → held_start c t ≡ None)
   next_is (Some s) is =
       let first = first_of (on_starts c) at s is in
       let listed = at_one (on_starts c) s first.1 in
@@ -199,14 +212,15 @@ module _ (c : CalendarPlan) (laid : IsLaid c) (at k : ℤ) (stamp : IsStamp at) 
         none_behind at (on_starts c) is own.0 z own.1 behind),
   )
 
-pub span_off : (wish : WishPlan) (at k : ℤ) → IsLaid wish.calendar → IsStamp at → IsAround wish.calendar at k → is_on wish.calendar k ≡ false
-    → IsSpan wish at (record { start = None; end = cal_stamp wish.calendar at 1 })
-span_off wish at k laid stamp around off =
-    let next = next_is wish.calendar laid at k stamp around off (cal_stamp wish.calendar at 1) refl in
+pub span_off : (wanted : WantedPlan) (at k : ℤ) → IsLaid wanted.calendar → IsStamp at → IsAround wanted.calendar at k
+    → is_on wanted.calendar k ≡ false
+    → IsSpan wanted at (record { start = None; end = cal_stamp wanted.calendar at 1 })
+span_off wanted at k laid stamp around off =
+    let next = next_is wanted.calendar laid at k stamp around off (cal_stamp wanted.calendar at 1) refl in
     record {
       laid = laid;
       here = next.0;
-      inside = λ t is after before. ap (asked_start wish) (next.2 t after before);
+      inside = λ t is after before. ap (asked_start wanted) (next.2 t after before);
       bound = next.1;
     }
 
@@ -232,16 +246,18 @@ none_early c t early = by (held_start c t) refl
         let low = held_low c t s is in
         absurd (omega (arith, ints, late, low, early))
 
-pub first_going : (wish : WishPlan) → IsLaid wish.calendar → IsGoingOn wish (record { start = None; end = Some wish.calendar.start }) []
-first_going wish laid = record {
+pub first_going : (wanted : WantedPlan) → IsLaid wanted.calendar
+    → IsGoingOn wanted (record { start = None; end = Some wanted.calendar.start }) []
+first_going wanted laid = record {
   laid = laid;
   within = tt;
-  inside = λ t stamp earlier before. ap (asked_start wish) (none_early wish.calendar t before);
-  bound = λ t u s v before behind held later. let none = none_early wish.calendar t before in absurd (cc);
+  inside = λ t stamp earlier before. ap (asked_start wanted) (none_early wanted.calendar t before);
+  bound = λ t u s v before behind held later. let none = none_early wanted.calendar t before in absurd (cc);
 }
 
 -- behind the end of the interval that holds the last start asked for, or behind that stamp where none does, elements belong to later groups
-pub last_on : (c : CalendarPlan) (to k last : ℤ) → IsLaid c → IsAround c to k → is_on c k ≡ true → ((t : ℤ) → IsStamp t → last <ℤ t → IsBefore t (start_at c (k +ℤ pos 1)) → ⊥)
+pub last_on : (c : CalendarPlan) (to k last : ℤ) → IsLaid c → IsAround c to k → is_on c k ≡ true
+    → ((t : ℤ) → IsStamp t → last <ℤ t → IsBefore t (start_at c (k +ℤ pos 1)) → ⊥)
     → (t s : ℤ) → IsStamp t → last <ℤ t → held_start c t ≡ Some s → to <ℤ s
 last_on c to k last laid around on behind t s stamp late held =
     let f = on-exists c k on in
@@ -250,9 +266,11 @@ last_on c to k last laid around on behind t s stamp late held =
     by : (o : Option ℤ) → start_at c (k +ℤ pos 1) ≡ o → to <ℤ s
     by None is = absurd (behind t stamp late (subst (IsBefore t) (sym is) tt))
     by (Some end) is =
-        let high = held_high c laid (k +ℤ pos 1) end is t s (by_lt_z t end (λ lt. absurd (behind t stamp late (subst (IsBefore t) (sym is) lt))) (λ ge. ge)) held in
+        let high = held_high c laid (k +ℤ pos 1) end is t s
+        (by_lt_z t end (λ lt. absurd (behind t stamp late (subst (IsBefore t) (sym is) lt))) (λ ge. ge)) held in
         let next = around.late (k +ℤ pos 1) end (omega (arith, ints)) is in
         omega (arith, ints, high, next)
 
-pub last_off : (c : CalendarPlan) (to k : ℤ) → IsLaid c → IsStamp to → IsAround c to k → is_on c k ≡ false → (t s : ℤ) → IsStamp t → to <ℤ t → held_start c t ≡ Some s → to <ℤ s
+pub last_off : (c : CalendarPlan) (to k : ℤ) → IsLaid c → IsStamp to → IsAround c to k → is_on c k ≡ false → (t s : ℤ) → IsStamp t
+    → to <ℤ t → held_start c t ≡ Some s → to <ℤ s
 last_off c to k laid stamp around off t s own late held = starts_behind c laid to k stamp around off t s (omega (arith, ints, late)) held

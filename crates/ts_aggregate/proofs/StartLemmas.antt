@@ -12,7 +12,7 @@ use Rattle.ts_offset.specs.Grid.{held_start}
 use Rattle.ts_offset.specs.Counting.{starts_between}
 use Rattle.ts_offset.proofs.ListedLemmas.{listed-start, listed-rise}
 use Rattle.ts_entry.specs.Intervals.{grouped, held_from}
-use Rattle.ts_aggregate.specs.Groups.{WishPlan, is_asked, asked_start, group_start, AreHeldBy, IsOpen, closed, open_group}
+use Rattle.ts_aggregate.specs.Groups.{WantedPlan, is_asked, asked_start, group_start, AreHeldBy, IsOpen, closed, open_group}
 use Rattle.ts_aggregate.proofs.GroupLemmas.{Each, IsOneOf, AreRising, groups_same, groups_empty, kept_less, kept_more, kept_none, earlier_same, earlier_all, earlier_last}
 
 -- the members of a list by their places
@@ -74,76 +74,88 @@ module _ (p : ℤ → Bool) where
       by false pass rest = rest
 
 -- the starts that are asked for
-pub asked_rising : (wish : WishPlan) → IsLaid wish.calendar → AreRising (starts_between wish.calendar wish.from wish.to)
-asked_rising wish laid = rising_kept (is_asked wish) (on_starts wish.calendar) (rising_at (on_starts wish.calendar) (λ m n s t lt a b. listed-rise wish.calendar m n s t laid lt a b))
+pub asked_rising : (wanted : WantedPlan) → IsLaid wanted.calendar → AreRising (starts_between wanted.calendar wanted.from wanted.to)
+asked_rising wanted laid = rising_kept (is_asked wanted) (on_starts wanted.calendar)
+    (rising_at (on_starts wanted.calendar) (λ m n s t lt a b. listed-rise wanted.calendar m n s t laid lt a b))
 
-pub asked_one : (wish : WishPlan) (s : ℤ) → IsLaid wish.calendar → IsOnStart wish.calendar s → is_asked wish s ≡ true → IsOneOf s (starts_between wish.calendar wish.from wish.to)
-asked_one wish s laid on asked =
-    let w = listed-start wish.calendar s laid on in
-    one_kept (is_asked wish) s (on_starts wish.calendar) (one_at (on_starts wish.calendar) w.0 s w.1) asked
+pub asked_one : (wanted : WantedPlan) (s : ℤ) → IsLaid wanted.calendar → IsOnStart wanted.calendar s → is_asked wanted s ≡ true
+    → IsOneOf s (starts_between wanted.calendar wanted.from wanted.to)
+asked_one wanted s laid on asked =
+    let w = listed-start wanted.calendar s laid on in
+    one_kept (is_asked wanted) s (on_starts wanted.calendar) (one_at (on_starts wanted.calendar) w.0 s w.1) asked
 
 -- a start that is asked for, from the group of a stamp
-pub group_held : (wish : WishPlan) (o : Option ℤ) (s : ℤ) → asked_start wish o ≡ Some s → (o ≡ Some s) × (is_asked wish s ≡ true)
-group_held wish None s is = absurd (cc)
-group_held wish (Some z) s is = by (is_asked wish z) refl is
+pub group_held : (wanted : WantedPlan) (o : Option ℤ) (s : ℤ) → asked_start wanted o ≡ Some s → (o ≡ Some s) × (is_asked wanted s ≡ true)
+group_held wanted None s is = absurd (cc)
+group_held wanted (Some z) s is = by (is_asked wanted z) refl is
   where
-    by : (b : Bool) → is_asked wish z ≡ b → cond b (Some z) None ≡ Some s → (Some z ≡ Some s) × (is_asked wish s ≡ true)
-    by true asked same = (same, sym (ap (is_asked wish) (same_Some z s same)) ∙ asked)
+    by : (b : Bool) → is_asked wanted z ≡ b → cond b (Some z) None ≡ Some s → (Some z ≡ Some s) × (is_asked wanted s ≡ true)
+    by true asked same = (same, sym (ap (is_asked wanted) (same_Some z s same)) ∙ asked)
     by false asked same = absurd (cc)
 
-pub held_group : (wish : WishPlan) (o : Option ℤ) (s : ℤ) → o ≡ Some s → is_asked wish s ≡ true → asked_start wish o ≡ Some s
-held_group wish o s is asked = ap (asked_start wish) is ∙ ap (λ b. cond b (Some s) None) asked
+pub held_group : (wanted : WantedPlan) (o : Option ℤ) (s : ℤ) → o ≡ Some s → is_asked wanted s ≡ true → asked_start wanted o ≡ Some s
+held_group wanted o s is asked = ap (asked_start wanted) is ∙ ap (λ b. cond b (Some s) None) asked
 
 -- the start of the interval that holds an element
 abbrev pub start_of : CalendarPlan → Element → Option ℤ
 start_of calendar e = held_start calendar e.0
 
-module _ (wish : WishPlan) where
+module _ (wanted : WantedPlan) where
   abbrev ss : List ℤ
-  ss = starts_between wish.calendar wish.from wish.to
+  ss = starts_between wanted.calendar wanted.from wanted.to
 
   -- no elements make no groups
-  pub none_grouped : grouped wish.calendar wish.from wish.to [] ≡ []
-  none_grouped = groups_empty (start_of wish.calendar) ss
+  pub none_grouped : grouped wanted.calendar wanted.from wanted.to [] ≡ []
+  none_grouped = groups_empty (start_of wanted.calendar) ss
 
   -- an element of no group changes none
-  pub passed_over : (given : List Element) (e : Element) → group_start wish e.0 ≡ None → grouped wish.calendar wish.from wish.to (given ++ e ∷ []) ≡ grouped wish.calendar wish.from wish.to given
+  pub passed_over : (given : List Element) (e : Element) → group_start wanted e.0 ≡ None
+      → grouped wanted.calendar wanted.from wanted.to (given ++ e ∷ []) ≡ grouped wanted.calendar wanted.from wanted.to given
   passed_over given e none =
-      groups_same (start_of wish.calendar) ss (given ++ e ∷ []) given
-      (each_pass (is_asked wish) (λ s. held_from wish.calendar (given ++ e ∷ []) s ≡ held_from wish.calendar given s)
-      (λ s asked. kept_less (start_of wish.calendar) s given e (λ held. let there = held_group wish (held_start wish.calendar e.0) s held asked in absurd (cc)))
-      (on_starts wish.calendar))
+      groups_same (start_of wanted.calendar) ss (given ++ e ∷ []) given
+      (each_pass (is_asked wanted) (λ s. held_from wanted.calendar (given ++ e ∷ []) s ≡ held_from wanted.calendar given s)
+      (λ s asked. kept_less (start_of wanted.calendar) s given e
+      (λ held. let there = held_group wanted (held_start wanted.calendar e.0) s held asked in absurd (cc)))
+      (on_starts wanted.calendar))
 
   -- an element of the open group changes none that is closed
-  pub closed_same : (s : ℤ) (given : List Element) (e : Element) → held_start wish.calendar e.0 ≡ Some s → closed wish (Some s) (given ++ e ∷ []) ≡ closed wish (Some s) given
-  closed_same s given e held = earlier_same (start_of wish.calendar) s e held ss given
+  pub closed_same : (s : ℤ) (given : List Element) (e : Element) → held_start wanted.calendar e.0 ≡ Some s
+      → closed wanted (Some s) (given ++ e ∷ []) ≡ closed wanted (Some s) given
+  closed_same s given e held = earlier_same (start_of wanted.calendar) s e held ss given
 
   -- and comes last in it
-  pub open_more : (s : ℤ) (given : List Element) (e : Element) → held_start wish.calendar e.0 ≡ Some s → open_group wish (Some s) (given ++ e ∷ []) ≡ open_group wish (Some s) given ++ e ∷ []
-  open_more s given e held = kept_more (start_of wish.calendar) s given e held
+  pub open_more : (s : ℤ) (given : List Element) (e : Element) → held_start wanted.calendar e.0 ≡ Some s
+      → open_group wanted (Some s) (given ++ e ∷ []) ≡ open_group wanted (Some s) given ++ e ∷ []
+  open_more s given e held = kept_more (start_of wanted.calendar) s given e held
 
   -- none of the elements belongs to a group from one on
-  none_from : (s : ℤ) (given : List Element) → Each (λ e. (z : ℤ) → held_start wish.calendar e.0 ≡ Some z → z <ℤ s) given → (z : ℤ) → s ≤ℤ z → held_from wish.calendar given z ≡ []
-  none_from s given lower z le = kept_none (start_of wish.calendar) z given (each given lower)
+  none_from : (s : ℤ) (given : List Element) → Each (λ e. (z : ℤ) → held_start wanted.calendar e.0 ≡ Some z → z <ℤ s) given → (z : ℤ)
+      → s ≤ℤ z → held_from wanted.calendar given z ≡ []
+  none_from s given lower z le = kept_none (start_of wanted.calendar) z given (each given lower)
     where
-      each : (es : List Element) → Each (λ e. (z : ℤ) → held_start wish.calendar e.0 ≡ Some z → z <ℤ s) es → Each (λ e. held_start wish.calendar e.0 ≡ Some z → ⊥) es
+      each : (es : List Element) → Each (λ e. (z : ℤ) → held_start wanted.calendar e.0 ≡ Some z → z <ℤ s) es
+          → Each (λ e. held_start wanted.calendar e.0 ≡ Some z → ⊥) es
       each [] lower = tt
       each (e ∷ es) lower = (λ held. let lt = lower.0 z held in omega (arith, ints, lt, le), each es lower.1)
 
   -- so all groups are closed before it, and it has none
-  pub closed_all : (s : ℤ) (given : List Element) → Each (λ e. (z : ℤ) → held_start wish.calendar e.0 ≡ Some z → z <ℤ s) given → closed wish (Some s) given ≡ closed wish None given
-  closed_all s given lower = earlier_all (start_of wish.calendar) s given (none_from s given lower) ss
+  pub closed_all : (s : ℤ) (given : List Element) → Each (λ e. (z : ℤ) → held_start wanted.calendar e.0 ≡ Some z → z <ℤ s) given
+      → closed wanted (Some s) given ≡ closed wanted None given
+  closed_all s given lower = earlier_all (start_of wanted.calendar) s given (none_from s given lower) ss
 
-  pub open_none : (s : ℤ) (given : List Element) → Each (λ e. (z : ℤ) → held_start wish.calendar e.0 ≡ Some z → z <ℤ s) given → open_group wish (Some s) given ≡ []
+  pub open_none : (s : ℤ) (given : List Element) → Each (λ e. (z : ℤ) → held_start wanted.calendar e.0 ≡ Some z → z <ℤ s) given
+      → open_group wanted (Some s) given ≡ []
   open_none s given lower = none_from s given lower s (omega (arith, ints))
 
   -- the open group stands behind those that are closed
-  pub closed_last : (s : ℤ) (given : List Element) → IsOpen wish s given → 1 ≤ length (open_group wish (Some s) given) → closed wish None given ≡ closed wish (Some s) given ++ (s, open_group wish (Some s) given) ∷ []
+  pub closed_last : (s : ℤ) (given : List Element) → IsOpen wanted s given → 1 ≤ length (open_group wanted (Some s) given)
+      → closed wanted None given ≡ closed wanted (Some s) given ++ (s, open_group wanted (Some s) given) ∷ []
   closed_last s given open_ some =
-      earlier_last (start_of wish.calendar) s given some
-      (λ z lt. kept_none (start_of wish.calendar) z given (above z lt given open_.last))
-      ss (asked_rising wish open_.laid) (asked_one wish s open_.laid open_.on open_.asked)
+      earlier_last (start_of wanted.calendar) s given some
+      (λ z lt. kept_none (start_of wanted.calendar) z given (above z lt given open_.last))
+      ss (asked_rising wanted open_.laid) (asked_one wanted s open_.laid open_.on open_.asked)
     where
-      above : (z : ℤ) → s <ℤ z → (es : List Element) → AreHeldBy wish.calendar s es → Each (λ e. held_start wish.calendar e.0 ≡ Some z → ⊥) es
+      above : (z : ℤ) → s <ℤ z → (es : List Element) → AreHeldBy wanted.calendar s es
+          → Each (λ e. held_start wanted.calendar e.0 ≡ Some z → ⊥) es
       above z lt [] last = tt
       above z lt (e ∷ es) last = (λ held. let le = last.0 z held in omega (arith, ints, lt, le), above z lt es last.1)

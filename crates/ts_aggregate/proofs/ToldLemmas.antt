@@ -45,7 +45,8 @@ start_kept : (g : GridPlan) (s : ℤ) (xs : List ℤ) (n : ℕ) → slice_get (f
 start_kept g s [] n is = absurd (cc)
 start_kept g s (x ∷ xs) n is = by (not (int_lt x g.origin)) n is (λ m found. start_kept g s xs m found)
   where
-    by : (b : Bool) (n : ℕ) → slice_get (cond b (x ∷ filter (λ x. not (int_lt x g.origin)) xs) (filter (λ x. not (int_lt x g.origin)) xs)) n ≡ Some s
+    by : (b : Bool) (n : ℕ) → slice_get (cond b (x ∷ filter (λ x. not (int_lt x g.origin)) xs)
+        (filter (λ x. not (int_lt x g.origin)) xs)) n ≡ Some s
         → ((m : ℕ) → slice_get (filter (λ x. not (int_lt x g.origin)) xs) m ≡ Some s → IsOneOf s xs) → IsOneOf s (x ∷ xs)
     by true zero found rest = inl (same_Some x s found)
     by true (suc n) found rest = inr (rest n found)
@@ -77,7 +78,8 @@ module _ (g : GridPlan) (laid : IsLaid g.calendar) where
   rest_rising e (f ∷ es) rising = rising.1
 
   -- each of them behind an offset is later than its start
-  later_stamped : (n : ℕ) (s : ℤ) → stamp_of g n ≡ Some s → (es : List OffsetElement) → AreMore n es → HaveStarts g es → AreLater s (stamped g es)
+  later_stamped : (n : ℕ) (s : ℤ) → stamp_of g n ≡ Some s → (es : List OffsetElement) → AreMore n es → HaveStarts g es
+      → AreLater s (stamped g es)
   later_stamped n s is [] more starts = tt
   later_stamped n s is (f ∷ es) more starts =
       let t = start_at g f es starts in
@@ -93,8 +95,12 @@ module _ (g : GridPlan) (laid : IsLaid g.calendar) where
   ordered_stamped (e ∷ es) rising starts =
       let t = start_at g e es starts in
       let rest = starts_rest g e es starts in
-      subst AreOrdered (sym (stamped_cons g e.0 e.1 t.0 es t.1))
-      (stamp_told g laid e.0 t.0 t.1, later_stamped e.0 t.0 t.1 es (more_rising e.0 e es (omega arith) rising) rest, ordered_stamped es (rest_rising e es rising) rest)
+      subst AreOrdered (sym (stamped_cons g e.0 e.1 t.0 es t.1)) (
+        stamp_told g laid e.0 t.0 t.1,
+        later_stamped e.0 t.0 t.1 es (more_rising e.0 e es (omega arith) rising) rest,
+        ordered_stamped es
+            (rest_rising e es rising) rest,
+      )
 
 -- a filter keeps elements in order
 later_kept : (q : Element → Bool) (s : ℤ) (es : List Element) → AreLater s es → AreLater s (filter q es)
@@ -120,17 +126,25 @@ pub given_kept : (q : Element → Bool) (es : List Element) → AreGiven es → 
 given_kept q es given = record { ordered = ordered_kept q es given.ordered; few = omega (arith, few_kept q es, given.few) }
 
 -- how many elements the pages have
-pub count_told : (shape : Shape) (slot : ℕ) (columns : List Column) (pages : ℕ → List ℕ) (places : List Place) (es : List Element) → HaveElements shape slot columns pages places es → length es ≡ count_of places
+pub count_told : (shape : Shape) (slot : ℕ) (columns : List Column) (pages : ℕ → List ℕ) (places : List Place) (es : List Element)
+    → HaveElements shape slot columns pages places es → length es ≡ count_of places
 count_told Irregular slot columns pages places es have = sym (ap length have.all) ∙ counted slot columns pages places have.chain have.on
 count_told (Regular grid) slot columns pages places es have =
-    sym (ap length have.all) ∙ count_stamped grid (regular.all_in have.cells) have.starts ∙ told_count slot columns pages places have.cells have.on
+    sym (ap length have.all) ∙ count_stamped grid (regular.all_in have.cells) have.starts
+    ∙ told_count slot columns pages places have.cells have.on
 
-pub given_told : (shape : Shape) (slot : ℕ) (columns : List Column) (pages : ℕ → List ℕ) (places : List Place) (es : List Element) → IsLaidOut shape → IsRising places → count_of places < 2 ^ 32
+pub given_told : (shape : Shape) (slot : ℕ) (columns : List Column) (pages : ℕ → List ℕ) (places : List Place) (es : List Element)
+    → IsLaidOut shape → IsRising places → count_of places < 2 ^ 32
     → HaveElements shape slot columns pages places es → AreGiven es
 given_told Irregular slot columns pages places es laid rising few have =
     let order = subst (AreInOrder columns) have.all (pages_in_order columns have.chain have.is.pages) in
-    record { ordered = ordered_pages columns es order.each order.rising; few = omega (arith, few, count_told Irregular slot columns pages places es have) }
+    record {
+      ordered = ordered_pages columns es order.each order.rising;
+      few = omega
+          (arith, few, count_told Irregular slot columns pages places es have);
+    }
 given_told (Regular grid) slot columns pages places es laid rising few have = record {
-  ordered = subst AreOrdered have.all (ordered_stamped grid laid (regular.all_in have.cells) (pages_rise slot columns pages places have.cells have.on rising) have.starts);
+  ordered = subst AreOrdered have.all (ordered_stamped grid laid (regular.all_in have.cells)
+      (pages_rise slot columns pages places have.cells have.on rising) have.starts);
   few = omega (arith, few, count_told (Regular grid) slot columns pages places es have);
 }

@@ -12,45 +12,45 @@ use Rattle.ts_row.specs.declared.value.Value.TheVariants.{Null, Number, Text}
 use Rattle.ts_row.specs.RowType.{width_of}
 use Rattle.ts_row.specs.Decoding.{is_mark, number_in}
 use Rattle.ts_expr.specs.Fold.{lesser, greater}
-use Rattle.ts_aggregate.specs.declared.cells.Spread.{Spread}
-use Rattle.ts_aggregate.specs.declared.cells.Spot.{Spot}
+use Rattle.ts_aggregate.specs.declared.cells.RowCells.{RowCells}
+use Rattle.ts_aggregate.specs.declared.cells.ValuePosition.{ValuePosition}
 use Rattle.ts_aggregate.specs.declared.cells.Cells.{Cells}
 
 -- a cell has an element that isn't hidden, and in the column a value, not NULL
-abbrev pub has_value : Spot → List ℕ → Bool
+abbrev pub has_value : ValuePosition → List ℕ → Bool
 has_value s cell = slice_index cell 0 == 1 && not (is_mark (slice_index cell s.front)) && slice_index cell s.place == 1
 
 -- the bytes of that value
-abbrev pub bytes_of : Spot → List ℕ → List ℕ
+abbrev pub bytes_of : ValuePosition → List ℕ → List ℕ
 bytes_of s cell = take s.width (drop (s.place + 1) cell)
 
 -- the bytes of a value before others, where a cell has one
-abbrev pub with_cell : Spot → List ℕ → List (List ℕ) → List (List ℕ)
+abbrev pub with_cell : ValuePosition → List ℕ → List (List ℕ) → List (List ℕ)
 with_cell s cell others = if has_value s cell then bytes_of s cell ∷ others else others
 
 -- the bytes of the values in so many cells, in order
-abbrev pub found_in : Spot → ℕ → List ℕ → List (List ℕ)
+abbrev pub found_in : ValuePosition → ℕ → List ℕ → List (List ℕ)
 found_in s zero cells = []
 found_in s (suc n) cells = with_cell s (take s.size cells) (found_in s n (drop s.size cells))
 
 -- those in all of them
 abbrev pub found : Cells → List (List ℕ)
-found c = found_in c.spot c.left c.bytes.now
+found c = found_in c.position c.left c.bytes.now
 
 -- the column stands within a cell, and there are so many cells
-pub record AreCells (s : Spot) (left : ℕ) (bytes : List ℕ) : Type 0 where
+pub record AreCells (s : ValuePosition) (left : ℕ) (bytes : List ℕ) : Type 0 where
   pub front : s.front < s.size
   pub place : s.place + s.width < s.size
   pub whole : length bytes ≡ left * s.size
 
 abbrev pub AreWhole : Cells → Type 0
-AreWhole c = AreCells c.spot c.left c.bytes.now
+AreWhole c = AreCells c.position c.left c.bytes.now
 
 -- the first value's bytes, and the cells behind it
 pub record IsNext (c : Cells) (value : List ℕ) (rest : Cells) : Type 0 where
   pub first : found c ≡ value ∷ found rest
-  pub size : length value ≡ c.spot.width
-  pub spot : rest.spot ≡ c.spot
+  pub size : length value ≡ c.position.width
+  pub position : rest.position ≡ c.position
   pub whole : AreWhole rest
   pub fewer : rest.left < c.left
 
@@ -58,7 +58,7 @@ pub record IsNext (c : Cells) (value : List ℕ) (rest : Cells) : Type 0 where
 pub record IsLast (c : Cells) (value : List ℕ) : Type 0 where
   pub before : List (List ℕ)
   pub last : found c ≡ before ++ value ∷ []
-  pub size : length value ≡ c.spot.width
+  pub size : length value ≡ c.position.width
 
 -- a text stands behind its length
 abbrev pub text_of : List ℕ → List ℕ
@@ -109,7 +109,7 @@ text_if_any None = Null
 text_if_any (Some text) = Text text.now
 
 -- cells of rows of such columns, each with some bytes before its row
-pub record IsSpread (columns : List Column) (s : Spread) : Type 0 where
+pub record AreRowCells (columns : List Column) (s : RowCells) : Type 0 where
   pub some : 0 < s.front
   pub size : s.size ≡ s.front + width_of columns
   pub whole : length s.bytes.now ≡ s.left * s.size

@@ -10,7 +10,7 @@ use Rattle.ts_entry.specs.Entry.{Entry, element_of, elements_of}
 use Rattle.ts_entry.specs.Intervals.{Group}
 use Rattle.ts_expr.specs.declared.item.BoundItem.{BoundItem}
 use Rattle.ts_expr.specs.Binding.{Binding}
-use Rattle.ts_aggregate.specs.Groups.{WishPlan, Grouping, AreGiven, AreOrdered, AreGrouped, AreMade, GoesOn, Stands, closed, made_of}
+use Rattle.ts_aggregate.specs.Groups.{WantedPlan, Grouping, AreGiven, AreOrdered, AreGrouped, AreMade, GoesOn, Stands, closed, made_of}
 
 -- elements in order, without the last ones
 later_front : (stamp : ℤ) (es fs : List Element) → AreLater stamp (es ++ fs) → AreLater stamp es
@@ -59,16 +59,16 @@ module _ {V : Type 0} (took : V → List Element → V → Type 0) where
 
   pub grouped_none : (none : (x : V) → took x [] x) (columns : List Column) (v : Grouping) (x : V) → AreGrouped took columns v x [] v x
   grouped_none none columns v x = record {
-    same = record { wish = refl; binding = refl; more = le_refl v.count };
+    same = record { wanted = refl; binding = refl; more = le_refl v.count };
     taken = λ own given are stands. (
       subst (Stands v) (sym (append-nil given)) stands,
-      made_same none v.fold.binding.items (closed v.wish v.span.start given) (closed v.wish v.span.start (given ++ [])) v.count x
-          (ap (closed v.wish v.span.start) (append-nil given)),
+      made_same none v.fold.binding.items (closed v.wanted v.span.start given) (closed v.wanted v.span.start (given ++ [])) v.count x
+          (ap (closed v.wanted v.span.start) (append-nil given)),
     );
   }
 
   goes_both : (u v w : Grouping) → GoesOn u v → GoesOn v w → GoesOn u w
-  goes_both u v w p q = record { wish = q.wish ∙ p.wish; binding = q.binding ∙ p.binding; more = le_trans p.more q.more }
+  goes_both u v w p q = record { wanted = q.wanted ∙ p.wanted; binding = q.binding ∙ p.binding; more = le_trans p.more q.more }
 
   grouped_both : (then : (x y z : V) (es fs : List Element) → took x es y → took y fs z → took x (es ++ fs) z) (columns : List Column)
       (u v w : Grouping) (x y z : V) (es fs : List Element)
@@ -81,13 +81,13 @@ module _ {V : Type 0} (took : V → List Element → V → Type 0) where
         let first = p.taken own given (given_front (given ++ es) fs all) stands in
         let second = q.taken (own ∙ ap (λ (b : Binding). b.columns) (sym p.same.binding)) (given ++ es) all first.0 in (
           subst (Stands w) assoc second.0,
-          made_both then u.fold.binding.items (closed u.wish u.span.start given) (closed u.wish v.span.start (given ++ es))
-              (closed u.wish w.span.start (given ++ (es ++ fs))) v.count w.count x y z q.same.more first.1
-              (made_as v.fold.binding.items u.fold.binding.items (closed v.wish v.span.start (given ++ es))
-              (closed u.wish v.span.start (given ++ es))
-              (closed v.wish w.span.start ((given ++ es) ++ fs)) (closed u.wish w.span.start (given ++ (es ++ fs))) w.count y z
-              (ap (λ (b : Binding). b.items) p.same.binding) (ap (λ (a : WishPlan). closed a v.span.start (given ++ es)) p.same.wish)
-              (ap (λ (a : WishPlan). closed a w.span.start ((given ++ es) ++ fs)) p.same.wish ∙ ap (closed u.wish w.span.start) assoc)
+          made_both then u.fold.binding.items (closed u.wanted u.span.start given) (closed u.wanted v.span.start (given ++ es))
+              (closed u.wanted w.span.start (given ++ (es ++ fs))) v.count w.count x y z q.same.more first.1
+              (made_as v.fold.binding.items u.fold.binding.items (closed v.wanted v.span.start (given ++ es))
+              (closed u.wanted v.span.start (given ++ es))
+              (closed v.wanted w.span.start ((given ++ es) ++ fs)) (closed u.wanted w.span.start (given ++ (es ++ fs))) w.count y z
+              (ap (λ (b : Binding). b.items) p.same.binding) (ap (λ (a : WantedPlan). closed a v.span.start (given ++ es)) p.same.wanted)
+              (ap (λ (a : WantedPlan). closed a w.span.start ((given ++ es) ++ fs)) p.same.wanted ∙ ap (closed u.wanted w.span.start) assoc)
               second.1),
         );
   }

@@ -17,24 +17,24 @@ use Rattle.ts_expr.specs.Fold.{folded_row}
 use Rattle.ts_aggregate.specs.declared.span.Span.{Span}
 use Rattle.ts_aggregate.specs.Fold.{Fold, HasTaken, Takes}
 
--- what contracts see of a wish for groups: a calendar, and from which start to which one they are asked for, both included
-pub record WishPlan : Type 0 where
+-- what contracts see of the wanted intervals: a calendar, and from which start to which one they are asked for, both included
+pub record WantedPlan : Type 0 where
   pub calendar : CalendarPlan
   pub from : ℤ
   pub to : ℤ
 
 -- a start is among them
-abbrev pub is_asked : WishPlan → ℤ → Bool
-is_asked wish s = not (int_lt s wish.from) && not (int_lt wish.to s)
+abbrev pub is_asked : WantedPlan → ℤ → Bool
+is_asked wanted s = not (int_lt s wanted.from) && not (int_lt wanted.to s)
 
 -- a start, if it is there and among them
-abbrev pub asked_start : WishPlan → Option ℤ → Option ℤ
-asked_start wish None = None
-asked_start wish (Some s) = if is_asked wish s then Some s else None
+abbrev pub asked_start : WantedPlan → Option ℤ → Option ℤ
+asked_start wanted None = None
+asked_start wanted (Some s) = if is_asked wanted s then Some s else None
 
 -- the start of the group that elements at a stamp belong to, if there is one
-abbrev pub group_start : WishPlan → ℤ → Option ℤ
-group_start wish t = asked_start wish (held_start wish.calendar t)
+abbrev pub group_start : WantedPlan → ℤ → Option ℤ
+group_start wanted t = asked_start wanted (held_start wanted.calendar t)
 
 -- an on interval that holds a stamp before an end starts before one that holds a stamp behind it
 abbrev pub IsBound : CalendarPlan → Option ℤ → Type 0
@@ -42,11 +42,11 @@ IsBound calendar end =
     (t u s v : ℤ) → IsBefore t end → (IsBefore u end → ⊥) → held_start calendar t ≡ Some s → held_start calendar u ≡ Some v → s <ℤ v
 
 -- the stamps from one on up to an end belong to one group, or to none
-pub record IsSpan (wish : WishPlan) (at : ℤ) (span : Span) : Type 0 where
-  pub laid : IsLaid wish.calendar
+pub record IsSpan (wanted : WantedPlan) (at : ℤ) (span : Span) : Type 0 where
+  pub laid : IsLaid wanted.calendar
   pub here : IsBefore at span.end
-  pub inside : (t : ℤ) → IsStamp t → at ≤ℤ t → IsBefore t span.end → group_start wish t ≡ span.start
-  pub bound : IsBound wish.calendar span.end
+  pub inside : (t : ℤ) → IsStamp t → at ≤ℤ t → IsBefore t span.end → group_start wanted t ≡ span.start
+  pub bound : IsBound wanted.calendar span.end
 
 -- each of the elements stands before an end
 abbrev pub AreWithin : Option ℤ → List Element → Type 0
@@ -54,11 +54,11 @@ AreWithin None es = Unit {0}
 AreWithin (Some end) es = AreEarlier end es
 
 -- of the elements that were given, none stands behind a span; what comes behind them, up to its end, belongs to its group
-pub record IsGoingOn (wish : WishPlan) (span : Span) (given : List Element) : Type 0 where
-  pub laid : IsLaid wish.calendar
+pub record IsGoingOn (wanted : WantedPlan) (span : Span) (given : List Element) : Type 0 where
+  pub laid : IsLaid wanted.calendar
   pub within : AreWithin span.end given
-  pub inside : (t : ℤ) → IsStamp t → AreEarlier t given → IsBefore t span.end → group_start wish t ≡ span.start
-  pub bound : IsBound wish.calendar span.end
+  pub inside : (t : ℤ) → IsStamp t → AreEarlier t given → IsBefore t span.end → group_start wanted t ≡ span.start
+  pub bound : IsBound wanted.calendar span.end
 
 -- no on interval that holds one of the elements starts behind this
 abbrev pub AreHeldBy : CalendarPlan → ℤ → List Element → Type 0
@@ -66,26 +66,26 @@ AreHeldBy calendar s [] = Unit {0}
 AreHeldBy calendar s (e ∷ es) = ((z : ℤ) → held_start calendar e.0 ≡ Some z → z ≤ℤ s) × AreHeldBy calendar s es
 
 -- a group that is asked for starts there, and none of the elements belongs to a later one
-pub record IsOpen (wish : WishPlan) (s : ℤ) (given : List Element) : Type 0 where
-  pub laid : IsLaid wish.calendar
-  pub on : IsOnStart wish.calendar s
-  pub asked : is_asked wish s ≡ true
-  pub last : AreHeldBy wish.calendar s given
+pub record IsOpen (wanted : WantedPlan) (s : ℤ) (given : List Element) : Type 0 where
+  pub laid : IsLaid wanted.calendar
+  pub on : IsOnStart wanted.calendar s
+  pub asked : is_asked wanted s ≡ true
+  pub last : AreHeldBy wanted.calendar s given
 
 -- the same of the group that is open, if one is
-abbrev pub MayBeOpen : WishPlan → Option ℤ → List Element → Type 0
-MayBeOpen wish None given = Unit {0}
-MayBeOpen wish (Some s) given = IsOpen wish s given
+abbrev pub MayBeOpen : WantedPlan → Option ℤ → List Element → Type 0
+MayBeOpen wanted None given = Unit {0}
+MayBeOpen wanted (Some s) given = IsOpen wanted s given
 
 -- the elements of the open group
-abbrev pub open_group : WishPlan → Option ℤ → List Element → List Element
-open_group wish None given = []
-open_group wish (Some s) given = held_from wish.calendar given s
+abbrev pub open_group : WantedPlan → Option ℤ → List Element → List Element
+open_group wanted None given = []
+open_group wanted (Some s) given = held_from wanted.calendar given s
 
 -- the open group has some
-abbrev pub IsFilled : WishPlan → Option ℤ → List Element → Type 0
-IsFilled wish None given = Unit {0}
-IsFilled wish (Some s) given = 1 ≤ length (held_from wish.calendar given s)
+abbrev pub IsFilled : WantedPlan → Option ℤ → List Element → Type 0
+IsFilled wanted None given = Unit {0}
+IsFilled wanted (Some s) given = 1 ≤ length (held_from wanted.calendar given s)
 
 -- how many groups are open
 abbrev pub open_count : Option ℤ → ℕ
@@ -93,9 +93,9 @@ open_count None = 0
 open_count (Some s) = 1
 
 -- the groups that are closed: those that start before the open one, or all
-abbrev pub closed : WishPlan → Option ℤ → List Element → List Group
-closed wish None given = grouped wish.calendar wish.from wish.to given
-closed wish (Some s) given = filter (λ g. int_lt g.0 s) (grouped wish.calendar wish.from wish.to given)
+abbrev pub closed : WantedPlan → Option ℤ → List Element → List Group
+closed wanted None given = grouped wanted.calendar wanted.from wanted.to given
+closed wanted (Some s) given = filter (λ g. int_lt g.0 s) (grouped wanted.calendar wanted.from wanted.to given)
 
 -- the rows of elements
 abbrev pub rows_of : List Element → List Row
@@ -117,13 +117,13 @@ pub record AreGiven (es : List Element) : Type 0 where
 
 -- one that groups elements: what is asked for, the span of the last one, the fold of its group, and how many groups are closed
 pub record Grouping : Type 0 where
-  pub wish : WishPlan
+  pub wanted : WantedPlan
   pub span : Span
   pub fold : Fold
   pub count : ℕ
 
-abbrev pub grouping : WishPlan → Span → Fold → ℕ → Grouping
-grouping wish span fold count = record { wish = wish; span = span; fold = fold; count = count }
+abbrev pub grouping : WantedPlan → Span → Fold → ℕ → Grouping
+grouping wanted span fold count = record { wanted = wanted; span = span; fold = fold; count = count }
 
 -- a row is folded, where a group is open
 abbrev pub MayTake : Option ℤ → List Column → Fold → Row → Fold → Type 0
@@ -132,26 +132,26 @@ MayTake (Some s) columns v row w = Takes columns v (row ∷ []) w
 
 -- it has these elements: those of the open group are folded, and the others counted
 pub record Stands (v : Grouping) (given : List Element) : Type 0 where
-  pub going : IsGoingOn v.wish v.span given
-  pub group : MayBeOpen v.wish v.span.start given
-  pub filled : IsFilled v.wish v.span.start given
-  pub folded : HasTaken v.fold (rows_of (open_group v.wish v.span.start given))
-  pub number : v.count ≡ length (closed v.wish v.span.start given)
+  pub going : IsGoingOn v.wanted v.span given
+  pub group : MayBeOpen v.wanted v.span.start given
+  pub filled : IsFilled v.wanted v.span.start given
+  pub folded : HasTaken v.fold (rows_of (open_group v.wanted v.span.start given))
+  pub number : v.count ≡ length (closed v.wanted v.span.start given)
   pub few : v.count + open_count v.span.start ≤ length given
 
 -- The same before an element at a stamp behind them: its group is open, and may have none yet.
 pub record Waits (v : Grouping) (at : ℤ) (given : List Element) : Type 0 where
   pub within : AreWithin v.span.end given
-  pub span : IsSpan v.wish at v.span
-  pub group : MayBeOpen v.wish v.span.start given
-  pub folded : HasTaken v.fold (rows_of (open_group v.wish v.span.start given))
-  pub number : v.count ≡ length (closed v.wish v.span.start given)
+  pub span : IsSpan v.wanted at v.span
+  pub group : MayBeOpen v.wanted v.span.start given
+  pub folded : HasTaken v.fold (rows_of (open_group v.wanted v.span.start given))
+  pub number : v.count ≡ length (closed v.wanted v.span.start given)
   pub few : v.count ≤ length given
 
 -- no group is open
 pub record Rests (v : Grouping) (given : List Element) : Type 0 where
   pub folded : HasTaken v.fold []
-  pub number : v.count ≡ length (closed v.wish None given)
+  pub number : v.count ≡ length (closed v.wanted None given)
   pub few : v.count ≤ length given
 
 -- between two such states the rows of these groups were handed on, behind those of others, unless they are too many by now
@@ -163,7 +163,7 @@ pub record AreMade {V : Type 0} (took : V → List Element → V → Type 0) (it
 
 -- what stays from one state to another
 pub record GoesOn (v w : Grouping) : Type 0 where
-  pub wish : w.wish ≡ v.wish
+  pub wanted : w.wanted ≡ v.wanted
   pub binding : w.fold.binding ≡ v.fold.binding
   pub more : v.count ≤ w.count
 
@@ -172,16 +172,16 @@ pub record AreGrouped {V : Type 0} (took : V → List Element → V → Type 0) 
     (w : Grouping) (y : V) : Type 0 where
   pub same : GoesOn v w
   pub taken : columns ≡ v.fold.binding.columns → (given : List Element) → AreGiven (given ++ es) → Stands v given → Stands w (given ++ es)
-      × AreMade took v.fold.binding.items (closed v.wish v.span.start given) (closed v.wish w.span.start (given ++ es)) w.count x y
+      × AreMade took v.fold.binding.items (closed v.wanted v.span.start given) (closed v.wanted w.span.start (given ++ es)) w.count x y
 
 -- From one state to another the open group was closed.
 pub record IsClosed {V : Type 0} (took : V → List Element → V → Type 0) (v : Grouping) (x : V) (w : Grouping) (y : V) : Type 0 where
   pub same : GoesOn v w
   pub taken : (given : List Element) → AreGiven given → Stands v given
-      → Rests w given × AreMade took v.fold.binding.items (closed v.wish v.span.start given) (closed v.wish None given) w.count x y
+      → Rests w given × AreMade took v.fold.binding.items (closed v.wanted v.span.start given) (closed v.wanted None given) w.count x y
 
 -- From one state to another an element at a stamp became awaited.
 pub record IsReady {V : Type 0} (took : V → List Element → V → Type 0) (v : Grouping) (x : V) (at : ℤ) (w : Grouping) (y : V) : Type 0 where
   pub same : GoesOn v w
   pub taken : (given : List Element) → AreGiven given → AreEarlier at given → Stands v given → Waits w at given
-      × AreMade took v.fold.binding.items (closed v.wish v.span.start given) (closed v.wish w.span.start given) w.count x y
+      × AreMade took v.fold.binding.items (closed v.wanted v.span.start given) (closed v.wanted w.span.start given) w.count x y

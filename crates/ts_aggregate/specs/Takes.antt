@@ -17,7 +17,8 @@ none_taken columns v = record {
 }
 
 -- rows, and then others
-pub both_taken : (columns : List Column) (a b c : Fold) (rs others : List Row) → Takes columns a rs b → Takes columns b others c → Takes columns a (rs ++ others) c
+pub both_taken : (columns : List Column) (a b c : Fold) (rs others : List Row) → Takes columns a rs b → Takes columns b others c
+    → Takes columns a (rs ++ others) c
 both_taken columns a b c rs others p q = record {
   same = q.same ∙ p.same;
   taken = λ is before few was.

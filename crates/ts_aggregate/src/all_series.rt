@@ -1,5 +1,5 @@
 // Series whose pages were read, folded by several workers.
-ghost use Rattle.std.specs.Prelude.{IfOk};
+ghost use Rattle.std.specs.Prelude.{◌≡◌, IfOk, map};
 ghost use Rattle.std.specs.List.{AllZip};
 ghost use Rattle.ts_aggregate.specs.Stacks.{IsFoldOf};
 
@@ -34,22 +34,16 @@ pub fn aggregate_all<G: Gate + Sync>(
         stacks,
         &|stack: &Stack<'_>| -> Result<Row, AllocError>
             ensures { IfOk result (λ row. IsFoldOf bound.entry.now from to stack.now row) }
-        { fold_stack(alloc, bound, stack, from, to) },
+        { fold_stack(bound, stack, from, to) },
     )?;
     all_or_none(alloc, answers)
 }
 
 // What it makes of one.
-fn fold_stack(
-    alloc: Global,
-    bound: &Bound,
-    stack: &Stack<'_>,
-    from: Stamp,
-    to: Stamp,
-) -> Result<Row, AllocError>
+fn fold_stack(bound: &Bound, stack: &Stack<'_>, from: Stamp, to: Stamp) -> Result<Row, AllocError>
     ensures { IfOk result (λ row. IsFoldOf bound.now from to stack.now row) }
 {
-    let mut folding = Folding::new(alloc, bound)?;
+    let mut folding = Folding::new(bound)?;
     rows_of_pages(
         &stack.pages,
         stack.places,
@@ -62,10 +56,13 @@ fn fold_stack(
     folding.finish()
 }
 
-// The rows of all answers, or none where one has none.
-fn all_or_none(
-    alloc: Global,
-    answers: Vec<Result<Row, AllocError>>,
-) -> Result<Vec<Row>, AllocError> {
-    unreachable!()
+// The rows of all answers, in their order, or the error where one is an error.
+fn all_or_none(alloc: Global, answers: Vec<Result<Row, AllocError>>) -> Result<Vec<Row>, AllocError>
+    ensures { IfOk result (λ rows. answers.items ≡ map (λ row. Ok row) rows.items) }
+{
+    let mut rows = Vec::with_capacity(alloc, answers.len())?;
+    for answer in answers {
+        rows.push(answer?)?;
+    }
+    Ok(rows)
 }

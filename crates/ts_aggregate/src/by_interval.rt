@@ -10,7 +10,7 @@ ghost use Rattle.ts_aggregate.specs.Groups.{grouping, IsClosed, IsReady, MayTake
 use crate::Folding;
 use crate::one_row::OneRow;
 use crate::span::{Span, is_before};
-use crate::wish::Wish;
+use crate::wanted::WantedIntervals;
 use std::alloc::AllocError;
 use ts_base::Stamp;
 use ts_entry::{ElementVisitor, EntryVisitor};
@@ -23,7 +23,7 @@ pub(crate) const MOST_ROWS: u64 = 1_000_000;
 /// group, once an element comes that lies behind it. Rows beyond the most of a reply are counted alone.
 #[derive(Drop)]
 pub(crate) struct ByInterval<'a, 'b, V> {
-    wish: &'a Wish<'a>,
+    wanted: &'a WantedIntervals<'a>,
     /// That of the last element.
     span: Span,
     folding: &'a mut Folding<'b>,
@@ -37,20 +37,20 @@ pub(crate) struct ByInterval<'a, 'b, V> {
 impl<'a, 'b, V: ElementVisitor> ByInterval<'a, 'b, V> {
     /// None so far.
     pub(crate) fn new(
-        wish: &'a Wish<'a>,
+        wanted: &'a WantedIntervals<'a>,
         folding: &'a mut Folding<'b>,
         out: &'a mut V,
     ) -> ByInterval<'a, 'b, V>
         ensures same { result.out.ghost_name ≡ out.entry.ghost_name }
         ensures none { result.out.now ≡ out.old }
-        ensures wish { result.wish.now ≡ wish.now }
+        ensures wanted { result.wanted.now ≡ wanted.now }
         ensures fold { result.folding.now ≡ folding.old }
         ensures start { result.span.start ≡ None }
-        ensures stands { HasTaken folding.old [] → Stands (grouping result.wish.now result.span result.folding.now result.count) [] }
+        ensures stands { HasTaken folding.old [] → Stands (grouping result.wanted.now result.span result.folding.now result.count) [] }
     {
-        let span = wish.first_span();
+        let span = wanted.first_span();
         ByInterval {
-            wish,
+            wanted,
             span,
             folding,
             out,
@@ -64,8 +64,8 @@ impl<'a, 'b, V: ElementVisitor> ByInterval<'a, 'b, V> {
         ensures same { self.new.out.ghost_name ≡ self.old.out.ghost_name }
         ensures count { IfOk result (λ count. count ≡ self.new.count) }
         ensures closed { OnOk result (IsClosed V.took
-            (grouping self.old.wish.now self.old.span self.old.folding.now self.old.count) self.old.out.now
-            (grouping self.new.wish.now self.new.span self.new.folding.now self.new.count) self.new.out.now) }
+            (grouping self.old.wanted.now self.old.span self.old.folding.now self.old.count) self.old.out.now
+            (grouping self.new.wanted.now self.new.span self.new.folding.now self.new.count) self.new.out.now) }
     {
         self.close()?;
         Ok(self.count)
@@ -75,8 +75,8 @@ impl<'a, 'b, V: ElementVisitor> ByInterval<'a, 'b, V> {
     fn close(&mut self) -> Result<(), AllocError>
         ensures same { self.new.out.ghost_name ≡ self.old.out.ghost_name }
         ensures closed { OnOk result (IsClosed V.took
-            (grouping self.old.wish.now self.old.span self.old.folding.now self.old.count) self.old.out.now
-            (grouping self.new.wish.now self.new.span self.new.folding.now self.new.count) self.new.out.now) }
+            (grouping self.old.wanted.now self.old.span self.old.folding.now self.old.count) self.old.out.now
+            (grouping self.new.wanted.now self.new.span self.new.folding.now self.new.count) self.new.out.now) }
     {
         let Some(start) = self.span.start else {
             return Ok(());
@@ -89,7 +89,7 @@ impl<'a, 'b, V: ElementVisitor> ByInterval<'a, 'b, V> {
     // Counts a row, and hands it on unless they are too many.
     fn hand_on(&mut self, start: Stamp, row: &Row) -> Result<(), AllocError>
         ensures same { self.new.out.ghost_name ≡ self.old.out.ghost_name }
-        ensures wish { self.new.wish.now ≡ self.old.wish.now }
+        ensures wanted { self.new.wanted.now ≡ self.old.wanted.now }
         ensures fold { self.new.folding.now ≡ self.old.folding.now }
         ensures count { self.new.count ≡ min (self.old.count + 1) (2 ^ 64 - 1) }
         ensures more { self.old.count ≤ self.new.count }
@@ -106,14 +106,14 @@ impl<'a, 'b, V: ElementVisitor> ByInterval<'a, 'b, V> {
     fn reach(&mut self, stamp: Stamp) -> Result<(), AllocError>
         ensures same { self.new.out.ghost_name ≡ self.old.out.ghost_name }
         ensures ready { OnOk result (IsReady V.took
-            (grouping self.old.wish.now self.old.span self.old.folding.now self.old.count) self.old.out.now stamp
-            (grouping self.new.wish.now self.new.span self.new.folding.now self.new.count) self.new.out.now) }
+            (grouping self.old.wanted.now self.old.span self.old.folding.now self.old.count) self.old.out.now stamp
+            (grouping self.new.wanted.now self.new.span self.new.folding.now self.new.count) self.new.out.now) }
     {
         if is_before(stamp, self.span.end) {
             return Ok(());
         }
         self.close()?;
-        self.span = self.wish.span_from(stamp);
+        self.span = self.wanted.span_from(stamp);
         Ok(())
     }
 
@@ -122,7 +122,7 @@ impl<'a, 'b, V: ElementVisitor> ByInterval<'a, 'b, V> {
         requires size { length row.now ≡ width_of kind.now.columns }
         ensures same { self.new.out.ghost_name ≡ self.old.out.ghost_name }
         ensures out { self.new.out.now ≡ self.old.out.now }
-        ensures wish { self.new.wish.now ≡ self.old.wish.now }
+        ensures wanted { self.new.wanted.now ≡ self.old.wanted.now }
         ensures span { self.new.span ≡ self.old.span }
         ensures count { self.new.count ≡ self.old.count }
         ensures takes { OnOk result ((r : TheRow) → AreSeenBytes kind.now.columns row.now r
@@ -143,8 +143,8 @@ impl<'a, 'b, V: ElementVisitor> EntryVisitor for ByInterval<'a, 'b, V> {
     ghost use Rattle.ts_aggregate.specs.GroupLaws.{grouped_none, grouped_then};
 
     ghost took = { λ columns v es w. (w.out.ghost_name ≡ v.out.ghost_name)
-        × AreGrouped V.took columns (grouping v.wish.now v.span v.folding.now v.count) v.out.now (elements_of es)
-        (grouping w.wish.now w.span w.folding.now w.count) w.out.now };
+        × AreGrouped V.took columns (grouping v.wanted.now v.span v.folding.now v.count) v.out.now (elements_of es)
+        (grouping w.wanted.now w.span w.folding.now w.count) w.out.now };
 
     fn element(&mut self, kind: &RowType, stamp: Stamp, row: &[u8]) -> Result<(), AllocError> {
         self.reach(stamp)?;
@@ -156,12 +156,12 @@ impl<'a, 'b, V: ElementVisitor> EntryVisitor for ByInterval<'a, 'b, V> {
         Ok(())
     }
 
-    ghost none = { λ columns v. (refl, grouped_none V.took V.none columns (grouping v.wish.now v.span v.folding.now v.count) v.out.now) };
+    ghost none = { λ columns v. (refl, grouped_none V.took V.none columns (grouping v.wanted.now v.span v.folding.now v.count) v.out.now) };
 
     ghost then = { λ columns a b c es fs p q. (
       q.0 ∙ p.0,
-      grouped_then V.took V.then columns (grouping a.wish.now a.span a.folding.now a.count)
-          (grouping b.wish.now b.span b.folding.now b.count) (grouping c.wish.now c.span c.folding.now c.count)
+      grouped_then V.took V.then columns (grouping a.wanted.now a.span a.folding.now a.count)
+          (grouping b.wanted.now b.span b.folding.now b.count) (grouping c.wanted.now c.span c.folding.now c.count)
           a.out.now b.out.now c.out.now es fs p.1 q.1,
     ) };
 }

@@ -1,4 +1,5 @@
-// Cells that stand one behind the other, and the values of a column in them: NULLs, those of hidden elements and cells without one are passed over.
+// Cells that stand one behind the other, and the values of a column in them: NULLs, those of hidden elements and cells without
+// one are passed over.
 ghost use Rattle.std.specs.Prelude.{◌≡◌, ◌+◌, ◌<◌, [], MatchOption, length};
 ghost use Rattle.ts_aggregate.specs.Column;
 ghost use Rattle.ts_aggregate.specs.Column.{found, AreWhole, IsNext, IsLast};
@@ -7,7 +8,7 @@ use ts_row::MARK;
 
 /// Cells one behind the other, as many as are left, each of so many bytes with so many before its row.
 #[derive(Clone, Copy)]
-pub(crate) struct Spread<'a> {
+pub(crate) struct RowCells<'a> {
     pub size: usize,
     pub front: usize,
     pub left: usize,
@@ -16,7 +17,7 @@ pub(crate) struct Spread<'a> {
 
 /// Where a column stands in cells.
 #[derive(Clone, Copy)]
-pub(crate) struct Spot {
+pub(crate) struct ValuePosition {
     /// The bytes of a cell.
     pub size: usize,
     /// Those before its row.
@@ -30,7 +31,7 @@ pub(crate) struct Spot {
 /// Cells one behind the other, as many as are left, and where a column stands in them.
 #[derive(Clone, Copy)]
 pub(crate) struct Cells<'a> {
-    pub spot: Spot,
+    pub position: ValuePosition,
     pub left: usize,
     pub bytes: &'a [u8],
 }
@@ -45,11 +46,18 @@ impl<'a> Cells<'a> {
         let mut bytes = self.bytes;
         while left > 0 {
             left -= 1;
-            let (cell, rest) = bytes.split_at(self.spot.size);
+            let (cell, rest) = bytes.split_at(self.position.size);
             bytes = rest;
-            if has_value(self.spot, cell) {
-                let spot = self.spot;
-                return Some((bytes_of(spot, cell), Cells { spot, left, bytes }));
+            if has_value(self.position, cell) {
+                let position = self.position;
+                return Some((
+                    bytes_of(position, cell),
+                    Cells {
+                        position,
+                        left,
+                        bytes,
+                    },
+                ));
             }
         }
         None
@@ -64,10 +72,10 @@ impl<'a> Cells<'a> {
         let mut bytes = self.bytes;
         while left > 0 {
             left -= 1;
-            let (rest, cell) = bytes.split_at(bytes.len() - self.spot.size);
+            let (rest, cell) = bytes.split_at(bytes.len() - self.position.size);
             bytes = rest;
-            if has_value(self.spot, cell) {
-                return Some(bytes_of(self.spot, cell));
+            if has_value(self.position, cell) {
+                return Some(bytes_of(self.position, cell));
             }
         }
         None
@@ -75,21 +83,21 @@ impl<'a> Cells<'a> {
 }
 
 // Whether a cell has a value that is folded.
-fn has_value(spot: Spot, cell: &[u8]) -> bool
-    requires front { spot.front < spot.size }
-    requires place { spot.place + spot.width < spot.size }
-    requires size { length cell.now ≡ spot.size }
-    ensures { result ≡ Column.has_value spot cell.now }
+fn has_value(position: ValuePosition, cell: &[u8]) -> bool
+    requires front { position.front < position.size }
+    requires place { position.place + position.width < position.size }
+    requires size { length cell.now ≡ position.size }
+    ensures { result ≡ Column.has_value position cell.now }
 {
-    cell[0] == 1 && cell[spot.front] < MARK && cell[spot.place] == 1
+    cell[0] == 1 && cell[position.front] < MARK && cell[position.place] == 1
 }
 
 // The bytes of its value.
-fn bytes_of(spot: Spot, cell: &[u8]) -> &[u8]
-    requires place { spot.place + spot.width < spot.size }
-    requires size { length cell.now ≡ spot.size }
-    ensures value { result.now ≡ Column.bytes_of spot cell.now }
-    ensures size { length result.now ≡ spot.width }
+fn bytes_of(position: ValuePosition, cell: &[u8]) -> &[u8]
+    requires place { position.place + position.width < position.size }
+    requires size { length cell.now ≡ position.size }
+    ensures value { result.now ≡ Column.bytes_of position cell.now }
+    ensures size { length result.now ≡ position.width }
 {
-    &cell[spot.place + 1..spot.place + 1 + spot.width]
+    &cell[position.place + 1..position.place + 1 + position.width]
 }

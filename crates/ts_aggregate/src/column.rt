@@ -25,9 +25,10 @@ pub(crate) fn take_column(
 ) -> Result<(), AllocError>
     requires few { count_of tally.old ≤ 2 ^ 32 }
     requires whole { AreWhole cells }
-    requires width { cells.spot.width + 1 ≡ column_width kind }
+    requires width { cells.position.width + 1 ≡ column_width kind }
     ensures few { count_of tally.new ≤ 2 ^ 32 }
-    ensures value { OnOk result (IsTrue (list_all is_small (read_numbers kind cells.entry)) → count_of tally.old + length (found cells.entry) ≤ 2 ^ 32
+    ensures value { OnOk result (IsTrue (list_all is_small (read_numbers kind cells.entry))
+        → count_of tally.old + length (found cells.entry) ≤ 2 ^ 32
         → tally.new ≡ fold with_value tally.old (read_values kind cells.entry)) }
 {
     match tally {
@@ -46,7 +47,7 @@ pub(crate) fn take_column(
 fn add_sums(tally: &mut Tally, cells: Cells<'_>, kind: ColumnKind)
     requires few { count_of tally.old ≤ 2 ^ 32 }
     requires whole { AreWhole cells }
-    requires width { cells.spot.width + 1 ≡ column_width kind }
+    requires width { cells.position.width + 1 ≡ column_width kind }
     ensures few { count_of tally.new ≤ 2 ^ 32 }
     ensures value { IsTrue (list_all is_small (read_numbers kind cells.entry)) → count_of tally.old + length (found cells.entry) ≤ 2 ^ 32
         → tally.new ≡ with_sums tally.old (length (found cells.entry)) (total (read_values kind cells.entry)) }
@@ -76,7 +77,7 @@ fn keep_best(
     most: bool,
 ) -> Result<(), AllocError>
     requires whole { AreWhole cells }
-    requires width { cells.spot.width + 1 ≡ column_width kind }
+    requires width { cells.position.width + 1 ≡ column_width kind }
     ensures { OnOk result (kept.new ≡ fold (Column.better most) kept.old (read_values kind cells.entry)) }
 {
     match kind {
@@ -92,7 +93,7 @@ fn keep_best(
 #[tactic(auto, using(crate::proofs::ColumnLemmas::text_stays))]
 fn keep_best_number(kept: &mut Value, cells: Cells<'_>, kind: ColumnKind, most: bool)
     requires whole { AreWhole cells }
-    requires width { cells.spot.width + 1 ≡ column_width kind }
+    requires width { cells.position.width + 1 ≡ column_width kind }
     ensures { kept.new ≡ fold (Column.better most) kept.old (map (λ z. Number z) (read_numbers kind cells.entry)) }
 {
     let start = match kept {
@@ -137,7 +138,7 @@ fn best_text_value(
         Value::Text(text) => Some(text.as_slice()),
     };
     let near = Cells {
-        spot: cells.spot,
+        position: cells.position,
         left: cells.left,
         bytes: cells.bytes,
     };
@@ -156,7 +157,7 @@ fn keep_first(
     kind: ColumnKind,
 ) -> Result<(), AllocError>
     requires whole { AreWhole cells }
-    requires width { cells.spot.width + 1 ≡ column_width kind }
+    requires width { cells.position.width + 1 ≡ column_width kind }
     ensures { OnOk result (kept.new ≡ fold earlier kept.old (read_values kind cells.entry)) }
 {
     match kept {
@@ -175,7 +176,7 @@ fn set_first(
 ) -> Result<(), AllocError>
     requires none { kept.old ≡ Null }
     requires whole { AreWhole cells }
-    requires width { cells.spot.width + 1 ≡ column_width kind }
+    requires width { cells.position.width + 1 ≡ column_width kind }
     ensures { OnOk result (kept.new ≡ fold earlier Null (read_values kind cells.entry)) }
 {
     if let Some((bytes, _)) = cells.next() {
@@ -192,7 +193,7 @@ fn keep_last(
     kind: ColumnKind,
 ) -> Result<(), AllocError>
     requires whole { AreWhole cells }
-    requires width { cells.spot.width + 1 ≡ column_width kind }
+    requires width { cells.position.width + 1 ≡ column_width kind }
     ensures { OnOk result (kept.new ≡ fold later kept.old (read_values kind cells.entry)) }
 {
     if let Some(bytes) = cells.last() {

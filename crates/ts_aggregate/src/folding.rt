@@ -7,9 +7,9 @@ ghost use Rattle.ts_entry.specs.Rows.{AreCellsWith, rows_in};
 ghost use Rattle.ts_expr.specs.Fold.{folded_row};
 ghost use Rattle.ts_expr.specs.Running.{after, value_of};
 ghost use Rattle.ts_aggregate.specs.Fold.{HasTaken, AreTallies, most_folded};
-ghost use Rattle.ts_aggregate.specs.Column.{IsSpread};
+ghost use Rattle.ts_aggregate.specs.Column.{AreRowCells};
 
-use crate::cells::{Cells, Spot, Spread};
+use crate::cells::{Cells, RowCells, ValuePosition};
 use crate::column::take_column;
 use std::alloc::{AllocError, Global};
 use std::marker::Model;
@@ -36,7 +36,7 @@ impl<'a> Model for Folding<'a> {
 
 impl<'a> Folding<'a> {
     /// A fold that has taken no rows.
-    pub fn new(_alloc: Global, bound: &'a Bound) -> Result<Folding<'a>, AllocError>
+    pub fn new(bound: &'a Bound) -> Result<Folding<'a>, AllocError>
         ensures binding { IfOk result (λ folding. folding.binding ≡ bound.now) }
         ensures none { IfOk result (λ folding. HasTaken folding []) }
     {
@@ -74,7 +74,7 @@ impl<'a> RowVisitor for Folding<'a> {
             return Ok(());
         }
         let size = front + kind.width();
-        let spread = Spread {
+        let row_cells = RowCells {
             size,
             front,
             left: cells.len() / size,
@@ -85,7 +85,7 @@ impl<'a> RowVisitor for Folding<'a> {
             alloc,
             self.bound.items(),
             self.bound.kind().columns(),
-            spread,
+            row_cells,
             &mut self.tallies,
         )
     }
@@ -118,30 +118,30 @@ fn take_items(
     alloc: Global,
     items: &[BoundItem],
     columns: &[Column],
-    spread: Spread<'_>,
+    row_cells: RowCells<'_>,
     tallies: &mut [Tally],
 ) -> Result<(), AllocError>
     requires tallies { AreTallies items.now tallies.old }
     requires places { All (λ i. i.column < length columns.now) items.now }
-    requires whole { IsSpread columns.now spread }
+    requires whole { AreRowCells columns.now row_cells }
     ensures kept { AreTallies items.now tallies.new }
     ensures took { OnOk result ((found : List (Option TheRow)) → IsTrue (list_all (λ c. is_kind c.kind) columns.now)
-        → AreCellsWith columns.now spread.entry.front spread.entry.bytes.now found
+        → AreCellsWith columns.now row_cells.entry.front row_cells.entry.bytes.now found
         → (before : List TheRow) → length before + length (rows_in found) ≤ most_folded
         → tallies.old ≡ after items.now before → tallies.new ≡ after items.now (before ++ rows_in found)) }
 {
     for (number, item) in items.iter().enumerate() {
         let kind = columns[item.column].kind;
-        let spot = Spot {
-            size: spread.size,
-            front: spread.front,
-            place: spread.front + width_before(columns, item.column),
+        let position = ValuePosition {
+            size: row_cells.size,
+            front: row_cells.front,
+            place: row_cells.front + width_before(columns, item.column),
             width: kind.width() - 1,
         };
         let cells = Cells {
-            spot,
-            left: spread.left,
-            bytes: spread.bytes,
+            position,
+            left: row_cells.left,
+            bytes: row_cells.bytes,
         };
         take_column(alloc, &mut tallies[number], cells, kind)?;
     }

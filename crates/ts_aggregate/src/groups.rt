@@ -13,7 +13,7 @@ ghost use Rattle.ts_aggregate.specs.Call.{AreHanded};
 
 use crate::Folding;
 use crate::by_interval::{ByInterval, MOST_ROWS};
-use crate::wish::Wish;
+use crate::wanted::WantedIntervals;
 use std::alloc::Global;
 use ts_base::{Refusal, Stamp, StoreFault};
 use ts_calendar::Calendar;
@@ -26,8 +26,8 @@ use ts_space::Space;
 
 /// Hands on a row for each on interval of a calendar that starts from one stamp to another, both included, and holds an element that isn't
 /// hidden: what a list makes of those that it holds, at its start. Tells how many rows they are; TooLarge where they are more than 1000000,
-/// and then some of them were handed on. The fold is one that has taken nothing. The pages that have such elements are read, each once; all pages
-/// stay; `page` is room to read one. The memory is for the on runs of the calendar's pattern.
+/// and then some of them were handed on. The fold is one that has taken nothing. The pages that have such elements are read, each once;
+/// all pages stay; `page` is room to read one. The memory is for the on runs of the calendar's pattern.
 pub fn aggregate_by<P: Pages, V: ElementVisitor>(
     alloc: Global,
     pages: &mut P,
@@ -45,17 +45,19 @@ pub fn aggregate_by<P: Pages, V: ElementVisitor>(
     requires laid { IsLaidOut shape.now }
     requires places { ArePlaces shape.now shelf.now.kind.now.columns (P.contents pages.old) (places_of shelf.now.series space.now) }
     requires countable { count_of (places_of shelf.now.series space.now) < 2 ^ 32 }
-    ensures read { IfOk result (λ done. IsTold P.tells shape.now shelf.now.series shelf.now.kind.now.columns (places_of shelf.now.series space.now)
-        (P.contents pages.old) (λ es. shelf.now.kind.now.columns ≡ folding.old.binding.columns → HasTaken folding.old []
-        → AreHanded (λ rows. V.took visitor.old rows visitor.new) (within_rows (by_interval (folded_row folding.old.binding.items) calendar.now from to (seen es))) done)) }
+    ensures read { IfOk result (λ done. IsTold P.tells shape.now shelf.now.series shelf.now.kind.now.columns
+        (places_of shelf.now.series space.now) (P.contents pages.old)
+        (λ es. shelf.now.kind.now.columns ≡ folding.old.binding.columns → HasTaken folding.old []
+        → AreHanded (λ rows. V.took visitor.old rows visitor.new)
+        (within_rows (by_interval (folded_row folding.old.binding.items) calendar.now from to (seen es))) done)) }
     ensures call { Reads P.tells result (P.contents pages.old) (P.contents pages.new) }
     ensures undisturbed { P.undisturbed pages.old pages.new }
 {
     // They rise, and so do the elements.
     let _places = space.places(shelf.series);
-    let wish = Wish::make(alloc, calendar, from, to)?;
-    let last = wish.last();
-    let mut groups = ByInterval::new(&wish, folding, visitor);
+    let wanted = WantedIntervals::make(alloc, calendar, from, to)?;
+    let last = wanted.last();
+    let mut groups = ByInterval::new(&wanted, folding, visitor);
     elements(pages, page, space, shelf, shape, from, last, &mut groups)?;
     let count = groups.end()?;
     if count > MOST_ROWS {

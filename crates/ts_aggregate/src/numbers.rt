@@ -35,7 +35,7 @@ pub(crate) fn count_values(cells: Cells<'_>) -> u64
 /// How many values there are, and the sum of their numbers; those that a column can't hold may be left out, and those past 2^32.
 pub(crate) fn sum_values(cells: Cells<'_>, kind: ColumnKind) -> (u64, i128)
     requires whole { AreWhole cells }
-    requires width { cells.spot.width + 1 ≡ column_width kind }
+    requires width { cells.position.width + 1 ≡ column_width kind }
     ensures digits { unsigned_abs result.1 ≤ result.0 * 10 ^ 28 }
     ensures value { IsTrue (list_all is_small (read_numbers kind cells.entry)) → length (found cells.entry) ≤ 2 ^ 32
         → (result.0 ≡ length (found cells.entry)) × (result.1 ≡ total (read_values kind cells.entry)) }
@@ -50,8 +50,8 @@ pub(crate) fn sum_values(cells: Cells<'_>, kind: ColumnKind) -> (u64, i128)
 // The same of numbers of at most eight bytes; none is left out.
 fn sum_short(cells: Cells<'_>, kind: ColumnKind) -> (u64, i128)
     requires whole { AreWhole cells }
-    requires width { cells.spot.width + 1 ≡ column_width kind }
-    requires short { cells.spot.width ≤ 8 }
+    requires width { cells.position.width + 1 ≡ column_width kind }
+    requires short { cells.position.width ≤ 8 }
     ensures count { result.0 ≡ length (found cells.entry) }
     ensures sum { result.1 ≡ fold ◌+ℤ◌ (pos 0) (read_numbers kind cells.entry) }
     ensures digits { unsigned_abs result.1 ≤ result.0 * 2 ^ 63 }
@@ -70,7 +70,7 @@ fn sum_short(cells: Cells<'_>, kind: ColumnKind) -> (u64, i128)
 // The same of numbers of sixteen bytes.
 fn sum_long(cells: Cells<'_>) -> (u64, i128)
     requires whole { AreWhole cells }
-    requires width { cells.spot.width ≡ 16 }
+    requires width { cells.position.width ≡ 16 }
     ensures digits { unsigned_abs result.1 ≤ result.0 * 10 ^ 28 }
     ensures value { IsTrue (list_all is_small (map long_number (found cells.entry))) → length (found cells.entry) ≤ 2 ^ 32
         → (result.0 ≡ length (found cells.entry)) × (result.1 ≡ fold ◌+ℤ◌ (pos 0) (map long_number (found cells.entry))) }
@@ -104,7 +104,7 @@ pub(crate) fn best_number(
     most: bool,
 ) -> Option<i128>
     requires whole { AreWhole cells }
-    requires width { cells.spot.width + 1 ≡ column_width kind }
+    requires width { cells.position.width + 1 ≡ column_width kind }
     ensures { number_if_any result ≡ fold (Column.better most) (number_if_any start) (map (λ z. Number z) (read_numbers kind cells.entry)) }
 {
     let mut rest = cells;

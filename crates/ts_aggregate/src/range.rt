@@ -31,8 +31,9 @@ pub fn aggregate_range<P: Pages>(
     requires laid { IsLaidOut shape.now }
     requires places { ArePlaces shape.now shelf.now.kind.now.columns (P.contents pages.old) (places_of shelf.now.series space.now) }
     requires countable { count_of (places_of shelf.now.series space.now) < 2 ^ 32 }
-    ensures folds { IfOk result (λ row. IsTold P.tells shape.now shelf.now.series shelf.now.kind.now.columns (places_of shelf.now.series space.now)
-        (P.contents pages.old) (λ es. Folds shelf.now.kind.now.columns folding.old (map (λ e. e.1) (within_range from to es)) row folding.new)) }
+    ensures folds { IfOk result (λ row. IsTold P.tells shape.now shelf.now.series shelf.now.kind.now.columns
+        (places_of shelf.now.series space.now) (P.contents pages.old)
+        (λ es. Folds shelf.now.kind.now.columns folding.old (map (λ e. e.1) (within_range from to es)) row folding.new)) }
     ensures call { Reads P.tells result (P.contents pages.old) (P.contents pages.new) }
     ensures undisturbed { P.undisturbed pages.old pages.new }
 {

@@ -49,7 +49,7 @@ fn folded(
 ) -> Result<(Row, Row), Trouble> {
     let kind = row_type(alloc, columns)?;
     let bound = AggList::read(alloc, &text[..text.len().min(65_536)])?.bind(&kind)?;
-    let mut folding = Folding::new(alloc, &bound)?;
+    let mut folding = Folding::new(&bound)?;
     take(&mut folding, &kind, pages[0])?;
     take(&mut folding, &kind, pages[1])?;
     let all = folding.finish()?;

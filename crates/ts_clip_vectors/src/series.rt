@@ -56,8 +56,8 @@ fn name(alloc: Global, text: &[u8]) -> Result<Name, StoreFault> {
     Name::read(alloc, text)?.ok_or(StoreFault::Failed)
 }
 
-// A row type of one integer.
-fn integers(alloc: Global) -> Result<RowType, StoreFault> {
+/// A row type of one integer, `v`.
+pub(crate) fn integers(alloc: Global) -> Result<RowType, StoreFault> {
     let stamp = name(alloc, b"t")?;
     let column = Column {
         name: name(alloc, b"v")?,

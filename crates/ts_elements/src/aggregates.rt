@@ -41,7 +41,7 @@ pub fn aggregate_range<P: Pages>(
     let list = AggList::read(alloc, text.as_slice())?;
     let (shelf, shape) = shelf_of(alloc, pages, defs, space, key)?;
     let bound = list.bind(shelf.kind)?;
-    let mut folding = Folding::new(alloc, &bound)?;
+    let mut folding = Folding::new(&bound)?;
     let row = ts_aggregate::aggregate_range(
         pages,
         page,
@@ -85,7 +85,7 @@ pub fn aggregate_by<P: Pages>(
     let plan = calendar_named(defs, calendar)?;
     let (shelf, shape) = shelf_of(alloc, pages, defs, space, key)?;
     let bound = list.bind(shelf.kind)?;
-    let mut folding = Folding::new(alloc, &bound)?;
+    let mut folding = Folding::new(&bound)?;
     let mut lines = FoldedLines::behind(out, bound.scales());
     let done = ts_aggregate::aggregate_by(
         alloc,

@@ -76,7 +76,7 @@ fn say_all<P: Pages>(
     ensures call { Reads P.tells result (P.contents pages.old) (P.contents pages.new) }
     ensures undisturbed { P.undisturbed pages.old pages.new }
 {
-    let mut folding = Folding::new(alloc, bound)?;
+    let mut folding = Folding::new(bound)?;
     let mut count = 0;
     for slot in defs.in_order(Kind::Series) {
         count += say_if_inside(

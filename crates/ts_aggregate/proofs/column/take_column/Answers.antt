@@ -39,19 +39,23 @@ returns-in-Avg-clause-value c = λ small few.
 pub returns-in_ok-keep_best-in-Min-clause-value : goal.returns-in_ok-keep_best-in-Min-clause-value
 returns-in_ok-keep_best-in-Min-clause-value c = λ small few.
     let values : List Value = read_values c.args.kind c.args.cells in
-    ap (λ (v : Value). tally.Min v) c.in_ok-keep_best-in-Min.ensures ∙ least_all c.in-Min.kept values ∙ ap (λ (t : Tally). fold with_value t values) (sym c.in-Min.is)
+    ap (λ (v : Value). tally.Min v) c.in_ok-keep_best-in-Min.ensures ∙ least_all c.in-Min.kept values
+    ∙ ap (λ (t : Tally). fold with_value t values) (sym c.in-Min.is)
 
 pub returns-in_ok-keep_best-in-Max-clause-value : goal.returns-in_ok-keep_best-in-Max-clause-value
 returns-in_ok-keep_best-in-Max-clause-value c = λ small few.
     let values : List Value = read_values c.args.kind c.args.cells in
-    ap (λ (v : Value). tally.Max v) c.in_ok-keep_best-in-Max.ensures ∙ greatest_all c.in-Max.kept values ∙ ap (λ (t : Tally). fold with_value t values) (sym c.in-Max.is)
+    ap (λ (v : Value). tally.Max v) c.in_ok-keep_best-in-Max.ensures ∙ greatest_all c.in-Max.kept values
+    ∙ ap (λ (t : Tally). fold with_value t values) (sym c.in-Max.is)
 
 pub returns-in_ok-keep_first-in-First-clause-value : goal.returns-in_ok-keep_first-in-First-clause-value
 returns-in_ok-keep_first-in-First-clause-value c = λ small few.
     let values : List Value = read_values c.args.kind c.args.cells in
-    ap (λ (v : Value). tally.First v) c.in_ok-keep_first-in-First.ensures ∙ first_all c.in-First.kept values ∙ ap (λ (t : Tally). fold with_value t values) (sym c.in-First.is)
+    ap (λ (v : Value). tally.First v) c.in_ok-keep_first-in-First.ensures ∙ first_all c.in-First.kept values
+    ∙ ap (λ (t : Tally). fold with_value t values) (sym c.in-First.is)
 
 pub returns-in_ok-keep_last-in-Last-clause-value : goal.returns-in_ok-keep_last-in-Last-clause-value
 returns-in_ok-keep_last-in-Last-clause-value c = λ small few.
     let values : List Value = read_values c.args.kind c.args.cells in
-    ap (λ (v : Value). tally.Last v) c.in_ok-keep_last-in-Last.ensures ∙ last_all c.in-Last.kept values ∙ ap (λ (t : Tally). fold with_value t values) (sym c.in-Last.is)
+    ap (λ (v : Value). tally.Last v) c.in_ok-keep_last-in-Last.ensures ∙ last_all c.in-Last.kept values
+    ∙ ap (λ (t : Tally). fold with_value t values) (sym c.in-Last.is)

@@ -24,8 +24,10 @@ loop-number-preserved c =
       values = c.in_ok-push.ensures.items ∙ ap (λ (w : Value). c.loop-number.values.items ++ w ∷ []) c.renew.ensures.value
           ∙ ap (λ (t : Tally). c.loop-number.values.items ++ value_of t ∷ []) (sym c.index-tallies-number.is)
           ∙ ap (λ (l : List Value). l ++ value_of was ∷ []) v.values
-          ∙ values_more old now n was (omega (arith, c.loop-number-test.true, v.size)) (c.requires.size ∙ sym v.size) c.index-tallies-number.is v.rest;
-      none = each_more (λ k t u. u ≡ known (get_or items k an_item) []) old now n was new (omega (arith, c.loop-number-test.true, v.size)) c.index-tallies-number.is v.none v.rest c.renew.ensures.none;
+          ∙ values_more old now n was (omega (arith, c.loop-number-test.true, v.size))
+          (c.requires.size ∙ sym v.size) c.index-tallies-number.is v.rest;
+      none = each_more (λ k t u. u ≡ known (get_or items k an_item) []) old now n was new
+          (omega (arith, c.loop-number-test.true, v.size)) c.index-tallies-number.is v.none v.rest c.renew.ensures.none;
       rest = rest_more old now n new v.rest;
     }
 

@@ -4,18 +4,19 @@ use Rattle.ts_row.specs.declared.kind.Column.{Column}
 use Rattle.ts_expr.specs.declared.item.BoundItem.{BoundItem}
 use Rattle.ts_expr.specs.declared.tally.Tally.{Tally}
 use Rattle.ts_expr.specs.Running.{count_of}
-use Rattle.ts_aggregate.specs.declared.cells.Spot.{Spot}
-use Rattle.ts_aggregate.proofs.FoldingLemmas.{ItemTakes, an_item, item_takes, all_take, each_more, rest_more, spot_of, spot_within}
+use Rattle.ts_aggregate.specs.declared.cells.ValuePosition.{ValuePosition}
+use Rattle.ts_aggregate.proofs.FoldingLemmas.{ItemTakes, an_item, item_takes, all_take, each_more, rest_more, position_of, position_within}
 use Rattle.ts_aggregate.proofs.folding.take_items.Goals as goal
 
 pub take_column-requires-clause-whole : goal.take_column-requires-clause-whole
 take_column-requires-clause-whole c =
     let n = c.loop-number.number in
     let i : BoundItem = get_or c.args.items.now n an_item in
-    let spread = c.args.spread in
+    let row_cells = c.args.row_cells in
     let cs : List Column = c.args.columns.now in
     let column : Column = get_or cs i.column c.index-columns-item.result in
-    let within = spot_within cs spread.front i.column c.width_before.result c.width.result column spread.size (c.requires.places n an_item c.loop-number-test.true)
+    let within = position_within cs row_cells.front i.column c.width_before.result c.width.result column row_cells.size
+    (c.requires.places n an_item c.loop-number-test.true)
     (ap (get_or cs i.column) c.index-columns-item.is) c.requires.whole.size c.width_before.ensures c.width.ensures in
     record { front = within.0; place = within.1; whole = c.requires.whole.whole }
 
@@ -25,18 +26,26 @@ loop-number-preserved c =
     let v = c.loop-number.invariant in
     let i : BoundItem = get_or c.args.items.now n an_item in
     let cs : List Column = c.args.columns.now in
-    let spread = c.args.spread in
+    let row_cells = c.args.row_cells in
     let column : Column = get_or cs i.column c.index-columns-item.result in
     let was : Tally = get_or c.loop-number.tallies n c.index-tallies-number.result in
-    let s : Spot = record { size = spread.size; front = spread.front; place = spread.front + c.width_before.result; width = c.width.result - 1 } in
+    let s : ValuePosition =
+    record {
+      size = row_cells.size;
+      front = row_cells.front;
+      place = row_cells.front + c.width_before.result;
+      width = c.width.result - 1;
+    } in
     let new : Tally = c.take_column.new.tally in
     record {
       size = length-set c.loop-number.tallies n new ∙ v.size;
       few = All-set (λ (t : Tally). count_of t ≤ 2 ^ 32) c.loop-number.tallies n new c.in_ok-take_column.ensures.few v.few;
-      taken = each_more (λ k. ItemTakes cs spread.front spread.bytes.now (get_or c.args.items.now k an_item)) c.args.tallies.now c.loop-number.tallies n was new
+      taken = each_more (λ k. ItemTakes cs row_cells.front row_cells.bytes.now
+          (get_or c.args.items.now k an_item)) c.args.tallies.now c.loop-number.tallies n was new
           (omega (arith, c.loop-number-test.true, v.size)) (ap (get_or c.loop-number.tallies n) c.index-tallies-number.is) v.taken v.rest
-          (item_takes cs spread.front column s spread.left spread.bytes.now i was new
-          (spot_of cs spread.front i.column c.width_before.result c.width.result column spread.size (c.requires.places n an_item c.loop-number-test.true)
+          (item_takes cs row_cells.front column s row_cells.left row_cells.bytes.now i was new
+          (position_of cs row_cells.front i.column c.width_before.result c.width.result column row_cells.size
+          (c.requires.places n an_item c.loop-number-test.true)
           (ap (get_or cs i.column) c.index-columns-item.is) c.requires.whole.size c.width_before.ensures c.width.ensures)
           (omega (arith, c.requires.whole.some, c.requires.whole.size)) c.requires.whole.whole c.in_ok-take_column.ensures.value);
       rest = rest_more c.args.tallies.now c.loop-number.tallies n new v.rest;
@@ -45,5 +54,6 @@ loop-number-preserved c =
 pub returns-clause-took : goal.returns-clause-took
 returns-clause-took c =
     let v = c.loop-number.invariant in
-    all_take c.args.columns.now c.args.spread.front c.args.spread.bytes.now c.args.items.now c.args.tallies.now c.loop-number.tallies v.size
+    all_take c.args.columns.now c.args.row_cells.front c.args.row_cells.bytes.now
+    c.args.items.now c.args.tallies.now c.loop-number.tallies v.size
     (λ k d within. v.taken k d (omega (arith, within, c.loop-number-test.false)))

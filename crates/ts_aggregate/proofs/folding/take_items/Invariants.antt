@@ -9,6 +9,7 @@ abbrev pub invariant-loop-number : goal.invariant-loop-number
 invariant-loop-number l = record {
   size : length l.tallies ≡ length l.items;
   few : All (λ t. count_of t ≤ 2 ^ 32) l.tallies;
-  taken : (k : ℕ) (d : Tally) → k < l.number → ItemTakes l.columns l.spread.front l.spread.bytes.now (get_or l.items k an_item) (get_or l.initial.tallies k d) (get_or l.tallies k d);
+  taken : (k : ℕ) (d : Tally) → k < l.number → ItemTakes l.columns l.row_cells.front l.row_cells.bytes.now (get_or l.items k an_item)
+      (get_or l.initial.tallies k d) (get_or l.tallies k d);
   rest : (k : ℕ) (d : Tally) → l.number ≤ k → get_or l.tallies k d ≡ get_or l.initial.tallies k d;
 }

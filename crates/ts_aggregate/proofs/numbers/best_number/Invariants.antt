@@ -7,7 +7,7 @@ use Rattle.ts_aggregate.proofs.numbers.best_number.Given as goal
 abbrev pub invariant-loop-bytes : goal.invariant-loop-bytes
 invariant-loop-bytes l = record {
   whole : AreWhole l.rest;
-  spot : l.rest.spot ≡ l.cells.spot;
+  position : l.rest.position ≡ l.cells.position;
   best : fold (better l.most) (number_if_any l.best) (map (λ z. Number z) (read_numbers l.kind l.rest))
       ≡ fold (better l.most) (number_if_any l.fn.start) (map (λ z. Number z) (read_numbers l.kind l.cells));
 }

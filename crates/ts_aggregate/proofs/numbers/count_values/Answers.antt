@@ -5,4 +5,10 @@ use Rattle.ts_aggregate.proofs.numbers.count_values.Goals as goal
 pub overflow_add-count : goal.overflow_add-count
 overflow_add-count c =
     let cells = c.args.cells in
-    omega (arith, c.loop-more.invariant.count, ap length c.in-Some.ensures.first, found-few cells.spot cells.left cells.bytes.now c.requires, c.ranges.cells.0)
+    omega (
+      arith,
+      c.loop-more.invariant.count,
+      ap length c.in-Some.ensures.first,
+      found-few cells.position cells.left cells.bytes.now c.requires,
+      c.ranges.cells.0,
+    )

@@ -19,13 +19,15 @@ loop-bytes-preserved-then-is_summed c =
     let few : c.loop-bytes.count < 2 ^ 32 = grind (arith, nat_tests) in
     let more : to_z w128 (of_z w128 (to_z w128 c.loop-bytes.sum-bits +ℤ z)) ≡ sum +ℤ z =
     omega (arith, ints, i.digits, i.few, small) in
-    let left : map long_number (found c.loop-bytes.rest) ≡ long_number c.in-Some.bytes.now ∷ map long_number (found c.in-Some.more) = ap (map long_number) next.first in
+    let left : map long_number (found c.loop-bytes.rest) ≡ long_number c.in-Some.bytes.now ∷ map long_number (found c.in-Some.more) = ap
+    (map long_number) next.first in
     record {
       whole = next.whole;
-      spot = next.spot ∙ i.spot;
+      position = next.position ∙ i.position;
       few = omega (arith, few);
       digits = omega (arith, ints, more, i.digits, small);
-      so_far = λ all most. next_summed (map long_number (found c.args.cells)) c.loop-bytes.count sum _ (long_number c.in-Some.bytes.now) (map long_number (found c.in-Some.more)) (map long_number (found c.loop-bytes.rest))
+      so_far = λ all most. next_summed (map long_number (found c.args.cells)) c.loop-bytes.count sum _ (long_number c.in-Some.bytes.now)
+          (map long_number (found c.in-Some.more)) (map long_number (found c.loop-bytes.rest))
           (i.so_far all most) left (more ∙ ap (λ (x : ℤ). sum +ℤ x) (same ∙ c.sixteen_bytes-number.ensures));
     }
 
@@ -35,13 +37,16 @@ loop-bytes-preserved c =
     let next = c.in-Some.ensures in
     let z : ℤ = to_z w128 (of_z w128 c.sixteen_bytes-number.result) in
     let same : z ≡ c.sixteen_bytes-number.result = omega (arith, ints, c.sixteen_bytes-number.type_inv) in
-    let left : map long_number (found c.loop-bytes.rest) ≡ long_number c.in-Some.bytes.now ∷ map long_number (found c.in-Some.more) = ap (map long_number) next.first in
+    let left : map long_number (found c.loop-bytes.rest) ≡ long_number c.in-Some.bytes.now ∷ map long_number (found c.in-Some.more) = ap
+    (map long_number) next.first in
     record {
       whole = next.whole;
-      spot = next.spot ∙ i.spot;
+      position = next.position ∙ i.position;
       few = i.few;
       digits = i.digits;
-      so_far = λ all most. absurd (none_left_out (map long_number (found c.args.cells)) c.loop-bytes.count (to_z w128 c.loop-bytes.sum-bits) (long_number c.in-Some.bytes.now) z
-          (map long_number (found c.in-Some.more)) (map long_number (found c.loop-bytes.rest)) (i.so_far all most) left (omega (arith, most, length-map (found c.args.cells) long_number))
+      so_far = λ all most. absurd (none_left_out (map long_number (found c.args.cells)) c.loop-bytes.count
+          (to_z w128 c.loop-bytes.sum-bits) (long_number c.in-Some.bytes.now) z
+          (map long_number (found c.in-Some.more)) (map long_number (found c.loop-bytes.rest)) (i.so_far all most) left
+          (omega (arith, most, length-map (found c.args.cells) long_number))
           (same ∙ c.sixteen_bytes-number.ensures) (sym c.is_summed.ensures ∙ c.if-is_summed.false));
     }

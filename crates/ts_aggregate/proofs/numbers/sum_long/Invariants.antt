@@ -8,7 +8,7 @@ use Rattle.ts_aggregate.proofs.numbers.sum_long.Given as goal
 abbrev pub invariant-loop-bytes : goal.invariant-loop-bytes
 invariant-loop-bytes l = record {
   whole : AreWhole l.rest;
-  spot : l.rest.spot ≡ l.cells.spot;
+  position : l.rest.position ≡ l.cells.position;
   few : l.count ≤ 2 ^ 32;
   digits : unsigned_abs l.sum ≤ l.count * 10 ^ 28;
   so_far : IsTrue (list_all is_small (map long_number (found l.cells))) → length (found l.cells) ≤ 2 ^ 32

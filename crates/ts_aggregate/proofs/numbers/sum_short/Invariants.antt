@@ -6,7 +6,7 @@ use Rattle.ts_aggregate.proofs.numbers.sum_short.Given as goal
 abbrev pub invariant-loop-bytes : goal.invariant-loop-bytes
 invariant-loop-bytes l = record {
   whole : AreWhole l.rest;
-  spot : l.rest.spot ≡ l.cells.spot;
+  position : l.rest.position ≡ l.cells.position;
   count : l.count + length (found l.rest) ≡ length (found l.cells);
   sum : fold ◌+ℤ◌ l.sum (read_numbers l.kind l.rest) ≡ fold ◌+ℤ◌ (pos 0) (read_numbers l.kind l.cells);
   small : unsigned_abs l.sum ≤ l.count * 2 ^ 63;

@@ -7,7 +7,8 @@ use Rattle.ts_aggregate.proofs.by_interval.ByInterval.close.Goals as goal
 pub returns-in_default-clause-closed : goal.returns-in_default-clause-closed
 returns-in_default-clause-closed g c =
     let v = c.args.self.now in
-    closed_none g.V.ElementVisitor.took g.met.V.ElementVisitor.none (grouping v.wish.now v.span v.folding.now v.count) v.out.now c.in_default.is
+    closed_none g.V.ElementVisitor.took g.met.V.ElementVisitor.none
+    (grouping v.wanted.now v.span v.folding.now v.count) v.out.now c.in_default.is
 
 pub returns-clause-closed : goal.returns-clause-closed
 returns-clause-closed g c =
@@ -15,7 +16,8 @@ returns-clause-closed g c =
     let w = c.hand_on.new.self in
     let fold = c.in_ok-row.ensures in
     let on = c.hand_on.ensures in
-    closed_some g.V.ElementVisitor.took (grouping v.wish.now v.span v.folding.now v.count) (grouping w.wish.now w.span w.folding.now w.count) v.out.now w.out.now
-    c.in-Some.start c.in_ok-row.row c.in-Some.is on.wish (ap (λ (f : Fold). f.binding) on.fold ∙ fold.same) fold.made
+    closed_some g.V.ElementVisitor.took (grouping v.wanted.now v.span v.folding.now v.count)
+    (grouping w.wanted.now w.span w.folding.now w.count) v.out.now w.out.now
+    c.in-Some.start c.in_ok-row.row c.in-Some.is on.wanted (ap (λ (f : Fold). f.binding) on.fold ∙ fold.same) fold.made
     (subst (λ (f : Fold). HasTaken f []) (sym on.fold) fold.none)
     (λ few. omega (arith, few, on.count)) on.more c.in_ok-hand_on.ensures.taken

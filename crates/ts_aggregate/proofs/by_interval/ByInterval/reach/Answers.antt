@@ -5,13 +5,15 @@ use Rattle.ts_aggregate.proofs.by_interval.ByInterval.reach.Goals as goal
 pub returns-then-is_before-clause-ready : goal.returns-then-is_before-clause-ready
 returns-then-is_before-clause-ready g c =
     let v = c.args.self.now in
-    ready_on g.V.ElementVisitor.took g.met.V.ElementVisitor.none (grouping v.wish.now v.span v.folding.now v.count) v.out.now c.args.stamp
+    ready_on g.V.ElementVisitor.took g.met.V.ElementVisitor.none (grouping v.wanted.now v.span v.folding.now v.count) v.out.now c.args.stamp
     (c.is_before.ensures.0 c.if-is_before.true)
 
 pub returns-clause-ready : goal.returns-clause-ready
 returns-clause-ready g c =
     let v = c.args.self.now in
     let u = c.close.new.self in
-    ready_turned g.V.ElementVisitor.took (grouping v.wish.now v.span v.folding.now v.count) (grouping u.wish.now u.span u.folding.now u.count) c.span_from-self.result
-    v.out.now u.out.now c.args.stamp c.span_from-self.ensures.stamp (λ before. let yes_ = c.is_before.ensures.1 before in let no_ = c.if-is_before.false in absurd (cc))
+    ready_turned g.V.ElementVisitor.took (grouping v.wanted.now v.span v.folding.now v.count)
+    (grouping u.wanted.now u.span u.folding.now u.count) c.span_from-self.result
+    v.out.now u.out.now c.args.stamp c.span_from-self.ensures.stamp
+    (λ before. let yes_ = c.is_before.ensures.1 before in let no_ = c.if-is_before.false in absurd (cc))
     c.in_ok-close.ensures.closed c.span_from-self.ensures.span

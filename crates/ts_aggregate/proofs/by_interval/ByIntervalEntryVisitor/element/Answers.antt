@@ -11,7 +11,9 @@ returns g c = record {
       let w = c.fold.new.self in
       let on = c.in_ok-fold.ensures in (
         on.same ∙ c.in_ok-reach.ensures.same,
-        element_grouped g.V.ElementVisitor.took c.args.kind.now.columns (grouping v.wish.now v.span v.folding.now v.count) (grouping u.wish.now u.span u.folding.now u.count)
-            (grouping w.wish.now w.span w.folding.now w.count) v.out.now u.out.now w.out.now c.args.stamp r c.in_ok-reach.ensures.ready on.wish on.span on.count on.out (on.takes r bytes),
+        element_grouped g.V.ElementVisitor.took c.args.kind.now.columns (grouping v.wanted.now v.span v.folding.now v.count)
+            (grouping u.wanted.now u.span u.folding.now u.count)
+            (grouping w.wanted.now w.span w.folding.now w.count) v.out.now u.out.now w.out.now
+            c.args.stamp r c.in_ok-reach.ensures.ready on.wanted on.span on.count on.out (on.takes r bytes),
       );
 }

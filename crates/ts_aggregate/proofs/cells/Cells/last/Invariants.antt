@@ -5,8 +5,8 @@ use Rattle.ts_aggregate.proofs.cells.Cells.last.Given as goal
 
 abbrev pub invariant-loop-left : goal.invariant-loop-left
 invariant-loop-left l = record {
-  same : found l.self ≡ found_in l.self.spot l.left l.bytes;
-  whole : AreCells l.self.spot l.left l.bytes;
+  same : found l.self ≡ found_in l.self.position l.left l.bytes;
+  whole : AreCells l.self.position l.left l.bytes;
   fewer : l.left ≤ l.self.left;
 }
 

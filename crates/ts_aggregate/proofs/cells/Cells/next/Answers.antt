@@ -5,7 +5,7 @@ use Rattle.ts_aggregate.proofs.cells.Cells.next.Goals as goal
 
 pub returns-then-has_value : goal.returns-then-has_value
 returns-then-has_value c =
-    let s = c.args.self.spot in
+    let s = c.args.self.position in
     let left : ℕ = c.loop-left.left in
     let bytes : List ℕ = c.loop-left.bytes.now in
     let cell : List ℕ = c.split_at.result.0.now in
@@ -17,19 +17,24 @@ returns-then-has_value c =
           ∙ seen s cell (found_in s (left - 1) rest) (sym c.has_value.ensures ∙ c.if-has_value.true)
           ∙ ap (λ (l : List ℕ). l ∷ found_in s (left - 1) rest) (sym c.bytes_of.ensures.value);
       size = c.bytes_of.ensures.size;
-      spot = refl;
+      position = refl;
       whole = record {
         front = c.requires.front;
         place = c.requires.place;
         whole = one_less left s.size (length bytes) (length rest) (omega (arith, c.loop-left-test.true)) i.whole.whole
-            (omega (arith, c.split_at.ensures.back_len, one_fits left s.size (length bytes) (omega (arith, c.loop-left-test.true)) i.whole.whole));
+            (omega (
+              arith,
+              c.split_at.ensures.back_len,
+              one_fits left s.size (length bytes)
+                  (omega (arith, c.loop-left-test.true)) i.whole.whole,
+            ));
       };
       fewer = omega (arith, i.fewer, c.loop-left-test.true);
     }
 
 pub loop-left-preserved : goal.loop-left-preserved
 loop-left-preserved c =
-    let s = c.args.self.spot in
+    let s = c.args.self.position in
     let left : ℕ = c.loop-left.left in
     let bytes : List ℕ = c.loop-left.bytes.now in
     let cell : List ℕ = c.split_at.result.0.now in
@@ -43,7 +48,12 @@ loop-left-preserved c =
         front = c.requires.front;
         place = c.requires.place;
         whole = one_less left s.size (length bytes) (length rest) (omega (arith, c.loop-left-test.true)) i.whole.whole
-            (omega (arith, c.split_at.ensures.back_len, one_fits left s.size (length bytes) (omega (arith, c.loop-left-test.true)) i.whole.whole));
+            (omega (
+              arith,
+              c.split_at.ensures.back_len,
+              one_fits left s.size (length bytes)
+                  (omega (arith, c.loop-left-test.true)) i.whole.whole,
+            ));
       };
       fewer = omega (arith, i.fewer, c.loop-left-test.true);
     }

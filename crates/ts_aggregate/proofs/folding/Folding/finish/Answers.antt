@@ -7,5 +7,6 @@ use Rattle.ts_aggregate.proofs.folding.Folding.finish.Goals as goal
 
 pub returns-clause-made : goal.returns-clause-made
 returns-clause-made c = λ rows taken few.
-    c.of.ensures ∙ ap visible (c.in_ok-values.ensures.value ∙ ap (map value_of) (c.deref_mut.ensures.value ∙ ap (λ (f : Fold). f.tallies) c.self.view_is ∙ taken)
+    c.of.ensures ∙ ap visible (c.in_ok-values.ensures.value
+    ∙ ap (map value_of) (c.deref_mut.ensures.value ∙ ap (λ (f : Fold). f.tallies) c.self.view_is ∙ taken)
     ∙ folded_after c.args.self.now.binding.items rows)

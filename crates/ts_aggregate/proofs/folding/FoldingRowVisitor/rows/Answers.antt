@@ -1,7 +1,7 @@
 use Rattle.std.proofs.Common.{◌≡◌, ◌+◌, ◌*◌, ◌<◌, ℕ, length, sym, ap, ◌∙◌, arith}
 use Rattle.std.proofs.lemmas.Bool.Decides.{nat_tests}
 use Rattle.ts_row.specs.RowType.{width_of}
-use Rattle.ts_aggregate.proofs.FoldingLemmas.{none_there, one_there, spread_of}
+use Rattle.ts_aggregate.proofs.FoldingLemmas.{none_there, one_there, row_cells_of}
 use Rattle.ts_aggregate.proofs.folding.FoldingRowVisitor.rows.Goals as goal
 
 pub returns-then-is_empty : goal.returns-then-is_empty
@@ -19,12 +19,13 @@ take_items-requires-clause-whole c =
     let len : ℕ = length c.args.cells.now in
     let size : ℕ = c.args.front + c.width-3.result in
     let some : 0 < len = grind (arith, nat_tests) in
-    let columns : width_of c.columns.result.now ≡ width_of c.kind.result.now.columns = ap width_of (c.columns.ensures.value ∙ c.kind-2.ensures ∙ sym c.kind.ensures) in
+    let columns : width_of c.columns.result.now ≡ width_of c.kind.result.now.columns = ap width_of
+    (c.columns.ensures.value ∙ c.kind-2.ensures ∙ sym c.kind.ensures) in
     let whole : len ≡ n * size = c.requires.whole.1 ∙ ap (λ w. n * (c.args.front + w)) (sym c.width-3.ensures.value) in
     record {
       some = c.requires.front;
       size = omega (arith, columns, c.if-width.false, c.width.ensures.value, c.width-2.ensures.value, c.width-3.ensures.value);
-      whole = spread_of n size len (omega (arith, c.requires.front)) whole;
+      whole = row_cells_of n size len (omega (arith, c.requires.front)) whole;
       narrow = omega (arith, columns, c.width-2.ensures.value, c.width-2.ensures.bound);
       small = omega (arith, one_there n size len some whole);
     }

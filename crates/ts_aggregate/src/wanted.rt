@@ -17,36 +17,36 @@ const GREATEST: i64 = 25_340_230_079_999_999;
 
 /// Groups of elements by the on intervals of a calendar: those that start from one stamp to another, both included.
 #[derive(Drop)]
-pub(crate) struct Wish<'a> {
+pub(crate) struct WantedIntervals<'a> {
     calendar: &'a Calendar,
     counter: Counter,
     from: Stamp,
     to: Stamp,
 }
 
-impl<'a> Model for Wish<'a> {
+impl<'a> Model for WantedIntervals<'a> {
     ghost use Rattle.std.specs.Prelude.{◌≡◌};
-    ghost use Rattle.ts_aggregate.specs.Groups.{WishPlan};
+    ghost use Rattle.ts_aggregate.specs.Groups.{WantedPlan};
 
-    ghost Value = { WishPlan };
+    ghost Value = { WantedPlan };
 
     ghost view = { λ w. record { calendar = w.calendar.now; from = w.from; to = w.to } };
 
     ghost invariant = { λ w. w.counter ≡ w.calendar.now };
 }
 
-impl<'a> Wish<'a> {
+impl<'a> WantedIntervals<'a> {
     /// These groups. The memory is for the on runs of the calendar's pattern.
     pub(crate) fn make(
         alloc: Global,
         calendar: &'a Calendar,
         from: Stamp,
         to: Stamp,
-    ) -> Result<Wish<'a>, AllocError>
-        ensures { IfOk result (λ wish. wish ≡ record { calendar = calendar.now; from = from; to = to }) }
+    ) -> Result<WantedIntervals<'a>, AllocError>
+        ensures { IfOk result (λ wanted. wanted ≡ record { calendar = calendar.now; from = from; to = to }) }
     {
         let counter = Counter::make(alloc, calendar)?;
-        Ok(Wish {
+        Ok(WantedIntervals {
             calendar,
             counter,
             from,

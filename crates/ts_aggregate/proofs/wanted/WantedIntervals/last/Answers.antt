@@ -4,9 +4,9 @@ use Rattle.ts_base.specs.Moment.{IsStamp}
 use Rattle.ts_calendar.specs.Plan.{CalendarPlan}
 use Rattle.ts_calendar.specs.Intervals.{is_on, start_at, IsBefore}
 use Rattle.ts_offset.specs.Grid.{held_start}
-use Rattle.ts_aggregate.specs.Groups.{WishPlan}
+use Rattle.ts_aggregate.specs.Groups.{WantedPlan}
 use Rattle.ts_aggregate.proofs.SpanLemmas.{last_on, last_off}
-use Rattle.ts_aggregate.proofs.wish.Wish.last.Goals as goal
+use Rattle.ts_aggregate.proofs.wanted.WantedIntervals.last.Goals as goal
 
 pub returns-then-not-is_on : goal.returns-then-not-is_on
 returns-then-not-is_on c =
@@ -16,7 +16,7 @@ returns-then-not-is_on c =
     let e = c.interval_around-interval.ensures in
     let same : to_z w64 (of_z w64 k) ≡ k = omega (arith, ints, e.near) in
     let off : is_on plan k ≡ false = sym (c.is_on.ensures ∙ ap (is_on plan) same) ∙ c.if-not-is_on.true in
-    subst (λ (w : WishPlan). (t s : ℤ) → IsStamp t → to <ℤ t → held_start w.calendar t ≡ Some s → w.to <ℤ s) c.self.view_is
+    subst (λ (w : WantedPlan). (t s : ℤ) → IsStamp t → to <ℤ t → held_start w.calendar t ≡ Some s → w.to <ℤ s) c.self.view_is
     (last_off plan to k e.laid e.stamp e.around off)
 
 pub returns : goal.returns
@@ -31,5 +31,5 @@ returns c =
     let on : is_on plan k ≡ true = sym (c.is_on.ensures ∙ ap (is_on plan) same) ∙ c.if-not-is_on.false in
     let end : c.start_of.result ≡ start_at plan (k +ℤ pos 1) = c.start_of.ensures ∙ ap (start_at plan) next in
     let behind = subst (λ (o : Option ℤ). (t : ℤ) → IsStamp t → last <ℤ t → IsBefore t o → ⊥) end c.last_before.ensures in
-    subst (λ (w : WishPlan). (t s : ℤ) → IsStamp t → last <ℤ t → held_start w.calendar t ≡ Some s → w.to <ℤ s) c.self.view_is
+    subst (λ (w : WantedPlan). (t s : ℤ) → IsStamp t → last <ℤ t → held_start w.calendar t ≡ Some s → w.to <ℤ s) c.self.view_is
     (last_on plan to k last e.laid e.around on behind)

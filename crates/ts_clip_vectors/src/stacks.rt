@@ -1,0 +1,215 @@
+// Stacks of pages that are written by hand, and what a list makes of each.
+ghost use Rattle.std.specs.Prelude.{◌≡◌};
+ghost use Rattle.ts_page.specs.Memory.{memory_contents};
+
+use crate::series::{SLOT, Series, day, filled, integers};
+use std::alloc::{AllocError, Global};
+use std::thread::Threads;
+use ts_aggregate::{Stack, aggregate_all};
+use ts_base::{Stamp, StoreFault, Trouble};
+use ts_expr::{AggList, Bound};
+use ts_offset::Shape;
+use ts_page::{Head, Page, Pages};
+use ts_parallel::{Gate, MeetGate, OpenGate};
+use ts_row::{Row, RowType, Shelf, Value};
+use ts_space::Place;
+
+/// How many stacks there are.
+const STACKS: u16 = 4096;
+
+/// 0001-01-01 00:00:00.00000
+const LEAST: i64 = -6_213_559_680_000_000;
+
+/// 9999-12-31 23:59:59.99999
+const GREATEST: i64 = 25_340_230_079_999_999;
+
+// The sum of the only column.
+fn sum(alloc: Global, kind: &RowType) -> Result<Bound, Trouble> {
+    AggList::read(alloc, b"sum($v)")?.bind(kind)
+}
+
+// A byte 1, a stamp, a byte 1 and an integer.
+fn cell(stamp: i64, integer: u16) -> [u8; 14] {
+    let mut cell = [1; 14];
+    cell[1..9].copy_from_slice(&stamp.to_be_bytes());
+    cell[10..14].copy_from_slice(&u32::from(integer).to_be_bytes());
+    cell
+}
+
+// The page of a series: its number once at the least stamp, or also at the greatest.
+fn page_of(series: u16, count: u16) -> Page {
+    let mut page = Page::zero();
+    page.set_head(&Head::Irregular { series, count });
+    page.set_cell(0, &cell(LEAST, series));
+    if count == 2 {
+        page.set_cell(1, &cell(GREATEST, series));
+    }
+    page
+}
+
+// What a place tells of that page.
+fn place_of(series: u16) -> Place {
+    Place {
+        at: LEAST,
+        page: 930 + u32::from(series),
+        count: series % 3,
+    }
+}
+
+// The stack of a series with the place of its page; it has a page where the number isn't divided by 3.
+fn stack_of<'a>(
+    alloc: Global,
+    kind: &'a RowType,
+    series: u16,
+    place: &'a [Place],
+) -> Result<Stack<'a>, AllocError> {
+    let count = series % 3;
+    let mut pages = Vec::new(alloc);
+    let mut places = &place[..0];
+    if count > 0 {
+        pages.push(page_of(series, count))?;
+        places = place;
+    }
+    Ok(Stack {
+        shelf: Shelf { series, kind },
+        shape: Shape::Irregular,
+        places,
+        pages,
+    })
+}
+
+// The stacks of all series, each with the place of its own.
+fn stacks<'a>(
+    alloc: Global,
+    kind: &'a RowType,
+    places: &'a [Place],
+) -> Result<Vec<Stack<'a>>, AllocError> {
+    let mut stacks = Vec::new(alloc);
+    for (series, place) in (0..STACKS).zip(places.chunks(1)) {
+        stacks.push(stack_of(alloc, kind, series, place)?)?;
+    }
+    Ok(stacks)
+}
+
+// What the sum makes of all stacks.
+fn sums(
+    rt: &(impl Threads + Sync),
+    alloc: Global,
+    gate: &(impl Gate + Sync),
+) -> Result<Vec<Row>, StoreFault> {
+    let kind = integers(alloc)?;
+    let Ok(bound) = sum(alloc, &kind) else {
+        return Err(StoreFault::Failed);
+    };
+    let places: Vec<Place> = (0..STACKS).map(place_of).collect(alloc)?;
+    let stacks = stacks(alloc, &kind, &places)?;
+    let (Some(from), Some(to)) = (Stamp::of(LEAST), Stamp::of(GREATEST)) else {
+        return Err(StoreFault::Failed);
+    };
+    Ok(aggregate_all(rt, alloc, gate, &bound, &stacks, from, to)?)
+}
+
+// Whether a row has this number alone, or NULL.
+fn is_sum(row: &Row, wanted: Option<i128>) -> bool {
+    match (row.values(), wanted) {
+        ([Value::Number(number)], Some(wanted)) => !row.hidden() && *number == wanted,
+        ([Value::Null], None) => !row.hidden(),
+        _ => false,
+    }
+}
+
+// What is wanted of a series.
+fn wanted(series: u16) -> Option<i128> {
+    let times = i128::from(series % 3);
+    if times == 0 {
+        return None;
+    }
+    Some(i128::from(series) * times)
+}
+
+// Whether these are the rows of all stacks.
+fn are_sums(rows: &[Row]) -> bool {
+    rows.len() == 4096
+        && rows
+            .iter()
+            .zip(0..STACKS)
+            .all(|(row, series)| is_sum(row, wanted(series)))
+}
+
+#[test]
+fn each_stack_has_a_row_in_order(rt: HostRuntime) {
+    let Ok(rows) = sums(&rt, rt.alloc(), &OpenGate) else {
+        panic!(rt; "no rows")
+    };
+    assert!(rt; are_sums(&rows));
+    assert!(rt; rows.get(4093).is_some_and(|row| is_sum(row, Some(4093))));
+    assert!(rt; rows.get(4094).is_some_and(|row| is_sum(row, Some(8188))));
+    assert!(rt; rows.get(4095).is_some_and(|row| is_sum(row, None)));
+}
+
+#[test]
+fn two_workers_meet_over_stacks(rt: HostRuntime) {
+    let gate = MeetGate::new(0, 4095, 1_000_000_000);
+    let Ok(rows) = sums(&rt, rt.alloc(), &gate) else {
+        panic!(rt; "no rows")
+    };
+    assert!(rt; are_sums(&rows));
+    assert!(rt; gate.met());
+}
+
+// The only page of a series.
+fn only_page(alloc: Global, series: &mut Series) -> Result<Vec<Page>, StoreFault>
+    requires { (memory_contents series.old.pages).count ≡ 931 }
+{
+    let mut page = Page::zero();
+    series.pages.get(930, &mut page)?;
+    Ok(vec![in alloc; page]?)
+}
+
+// What the sum makes of a regular series from one day to another.
+fn sum_between(
+    rt: &(impl Threads + Sync),
+    alloc: Global,
+    from: u8,
+    to: u8,
+) -> Result<Vec<Row>, StoreFault> {
+    let mut series = filled(alloc, true)?;
+    let pages = only_page(alloc, &mut series)?;
+    let Series {
+        kind,
+        space,
+        shape,
+        ..
+    } = series;
+    let Ok(bound) = sum(alloc, &kind) else {
+        return Err(StoreFault::Failed);
+    };
+    let stack = Stack {
+        shelf: Shelf {
+            series: SLOT,
+            kind: &kind,
+        },
+        shape,
+        places: space.places(SLOT),
+        pages,
+    };
+    Ok(aggregate_all(rt, alloc, &OpenGate, &bound, &[stack], day(from)?, day(to)?)?)
+}
+
+// Whether it is the only row.
+fn gives(rows: Result<Vec<Row>, StoreFault>, wanted: Option<i128>) -> bool {
+    match rows {
+        Ok(rows) => matches!(rows.as_slice(), [row] if is_sum(row, wanted)),
+        Err(_) => false,
+    }
+}
+
+#[test]
+fn a_stack_of_a_regular_series_is_folded_in_a_range(rt: HostRuntime) {
+    let alloc = rt.alloc();
+    assert!(rt; gives(sum_between(&rt, alloc, 1, 31), Some(7)));
+    assert!(rt; gives(sum_between(&rt, alloc, 3, 5), Some(3)));
+    assert!(rt; gives(sum_between(&rt, alloc, 4, 9), Some(2)));
+    assert!(rt; gives(sum_between(&rt, alloc, 6, 9), None));
+    assert!(rt; gives(sum_between(&rt, alloc, 10, 10), Some(4)));
+}
