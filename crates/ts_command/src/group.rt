@@ -5,9 +5,9 @@ ghost use Rattle.ts_command.specs.Grammar.{arguments, of_name, of_key, of_stamp,
 ghost use Rattle.ts_command.specs.declared.routine.Routine.{Routine};
 
 use crate::call::{
-    read_join_call, read_key_call, read_key_range_call, read_key_stamp_call,
-    read_key_stamp_values_call, read_key_whole_call, read_keys_range_call, read_name_call,
-    read_name_range_call, read_name_text_call,
+    read_joined_names, read_key_and_stamp, read_key_and_whole, read_key_range,
+    read_key_stamp_and_values, read_last_key, read_last_name, read_name_and_text, read_name_range,
+    read_two_keys_range,
 };
 use crate::routine::{
     ClipRoutine, JoinRoutine, KeyRoutine, NameRoutine, NumberRoutine, PairRoutine, RangeRoutine,
@@ -29,7 +29,7 @@ pub(crate) fn read_of_name(
     ensures ok { IfOk result (λ found. arguments (Routine.ByName routine) bytes.now ≡ Ok (found.0, found.1.now)) }
     ensures cause { IfErr result (λ misfit. Refuses misfit (arguments (Routine.ByName routine) bytes.now)) }
 {
-    let (name, rest) = read_name_call(alloc, bytes)?;
+    let (name, rest) = read_last_name(alloc, bytes)?;
     Ok((of_name(routine, name), rest))
 }
 
@@ -58,7 +58,7 @@ pub(crate) fn read_of_key(
     ensures ok { IfOk result (λ found. arguments (Routine.ByKey routine) bytes.now ≡ Ok (found.0, found.1.now)) }
     ensures cause { IfErr result (λ misfit. Refuses misfit (arguments (Routine.ByKey routine) bytes.now)) }
 {
-    let (key, rest) = read_key_call(alloc, bytes)?;
+    let (key, rest) = read_last_key(alloc, bytes)?;
     Ok((of_key(routine, key), rest))
 }
 
@@ -83,7 +83,7 @@ pub(crate) fn read_of_stamp(
     ensures ok { IfOk result (λ found. arguments (Routine.AtStamp routine) bytes.now ≡ Ok (found.0, found.1.now)) }
     ensures cause { IfErr result (λ misfit. Refuses misfit (arguments (Routine.AtStamp routine) bytes.now)) }
 {
-    match read_key_stamp_call(alloc, bytes) {
+    match read_key_and_stamp(alloc, bytes) {
         Ok(((key, stamp), rest)) => Ok((of_stamp(routine, key, stamp), rest)),
         Err(misfit) => Err(misfit),
     }
@@ -110,8 +110,8 @@ pub(crate) fn read_of_row(
     ensures ok { IfOk result (λ found. arguments (Routine.WithRow routine) bytes.now ≡ Ok (found.0, found.1.now)) }
     ensures cause { IfErr result (λ misfit. Refuses misfit (arguments (Routine.WithRow routine) bytes.now)) }
 {
-    match read_key_stamp_values_call(alloc, bytes) {
-        Ok(((key, stamp, values), rest)) => Ok((of_row(routine, key, stamp, values), rest)),
+    match read_key_stamp_and_values(alloc, bytes) {
+        Ok(((key, (stamp, values)), rest)) => Ok((of_row(routine, key, stamp, values), rest)),
         Err(misfit) => Err(misfit),
     }
 }
@@ -137,7 +137,7 @@ pub(crate) fn read_of_text(
     ensures ok { IfOk result (λ found. arguments (Routine.WithText routine) bytes.now ≡ Ok (found.0, found.1.now)) }
     ensures cause { IfErr result (λ misfit. Refuses misfit (arguments (Routine.WithText routine) bytes.now)) }
 {
-    let ((name, text), rest) = read_name_text_call(alloc, bytes)?;
+    let ((name, text), rest) = read_name_and_text(alloc, bytes)?;
     Ok((of_text(routine, name, text), rest))
 }
 
@@ -160,14 +160,14 @@ pub(crate) fn read_joining(
     ensures ok { IfOk result (λ found. arguments (Routine.Joining routine) bytes.now ≡ Ok (found.0, found.1.now)) }
     ensures cause { IfErr result (λ misfit. Refuses misfit (arguments (Routine.Joining routine) bytes.now)) }
 {
-    let ((joined, names), rest) = read_join_call(alloc, bytes)?;
+    let ((joined, names), rest) = read_joined_names(alloc, bytes)?;
     Ok((of_join(routine, joined, names), rest))
 }
 
-fn of_join(routine: JoinRoutine, joined: Joined, names: (Name, Name, Name)) -> Command
+fn of_join(routine: JoinRoutine, joined: Joined, names: (Name, (Name, Name))) -> Command
     ensures { result ≡ of_join routine joined names }
 {
-    let (name, first, second) = names;
+    let (name, (first, second)) = names;
     match (routine, joined) {
         (JoinRoutine::AndOp, Joined::Patterns) => Command::AndPatterns {
             name,
@@ -202,8 +202,8 @@ pub(crate) fn read_of_range(
     ensures ok { IfOk result (λ found. arguments (Routine.InRange routine) bytes.now ≡ Ok (found.0, found.1.now)) }
     ensures cause { IfErr result (λ misfit. Refuses misfit (arguments (Routine.InRange routine) bytes.now)) }
 {
-    match read_name_range_call(alloc, bytes) {
-        Ok(((calendar, from, to), rest)) => Ok((of_range(routine, calendar, from, to), rest)),
+    match read_name_range(alloc, bytes) {
+        Ok(((calendar, (from, to)), rest)) => Ok((of_range(routine, calendar, from, to), rest)),
         Err(misfit) => Err(misfit),
     }
 }
@@ -227,8 +227,8 @@ pub(crate) fn read_of_clip(
     ensures ok { IfOk result (λ found. arguments (Routine.Clipping routine) bytes.now ≡ Ok (found.0, found.1.now)) }
     ensures cause { IfErr result (λ misfit. Refuses misfit (arguments (Routine.Clipping routine) bytes.now)) }
 {
-    match read_key_range_call(alloc, bytes) {
-        Ok(((key, from, to), rest)) => Ok((of_clip(routine, key, from, to), rest)),
+    match read_key_range(alloc, bytes) {
+        Ok(((key, (from, to)), rest)) => Ok((of_clip(routine, key, from, to), rest)),
         Err(misfit) => Err(misfit),
     }
 }
@@ -253,7 +253,7 @@ pub(crate) fn read_of_number(
     ensures ok { IfOk result (λ found. arguments (Routine.ByNumber routine) bytes.now ≡ Ok (found.0, found.1.now)) }
     ensures cause { IfErr result (λ misfit. Refuses misfit (arguments (Routine.ByNumber routine) bytes.now)) }
 {
-    let ((key, number), rest) = read_key_whole_call(alloc, bytes, routine.least(), routine.most())?;
+    let ((key, number), rest) = read_key_and_whole(alloc, bytes, routine.least(), routine.most())?;
     Ok((of_number(routine, key, number), rest))
 }
 
@@ -276,8 +276,8 @@ pub(crate) fn read_of_pair(
     ensures ok { IfOk result (λ found. arguments (Routine.OfPair routine) bytes.now ≡ Ok (found.0, found.1.now)) }
     ensures cause { IfErr result (λ misfit. Refuses misfit (arguments (Routine.OfPair routine) bytes.now)) }
 {
-    match read_keys_range_call(alloc, bytes) {
-        Ok(((first, (second, from, to)), rest)) => {
+    match read_two_keys_range(alloc, bytes) {
+        Ok(((first, (second, (from, to))), rest)) => {
             Ok((of_keys(routine, first, second, from, to), rest))
         }
         Err(misfit) => Err(misfit),

@@ -7,9 +7,9 @@ ghost use Rattle.ts_command.specs.Misfit.{IsCause};
 
 use crate::Command;
 use crate::call::{
-    read_key_name_call, read_key_name_stamp_name_call, read_key_stamp_whole_call,
-    read_name_columns_call, read_name_stamp_whole_call, read_names_call, read_names_whole_call,
-    read_text_key_range_call, read_text_name_key_range_call, read_text_name_range_call,
+    read_key_and_name, read_key_name_stamp_and_name, read_key_stamp_and_whole,
+    read_name_and_columns, read_name_stamp_and_whole, read_text_key_range,
+    read_text_name_key_range, read_text_name_range, read_two_names, read_two_names_and_whole,
 };
 use crate::group::{
     read_joining, read_of_clip, read_of_key, read_of_name, read_of_number, read_of_pair,
@@ -19,9 +19,9 @@ use crate::phrase::read_routine;
 use crate::routine::Routine;
 use std::alloc::Global;
 use ts_base::{Refusal, Trouble};
-use ts_text::{Misfit, read_end};
+use ts_text::{Misfit, read_end, read_sign};
 
-// What a routine is called with, as its command.
+// What a routine is called with, up to the closing bracket, as its command.
 #[tactic(auto, unfolding(crate::specs::Grammar::arguments))]
 fn read_arguments(alloc: Global, routine: Routine, bytes: &[u8]) -> Result<(Command, &[u8]), Misfit>
     ensures ok { IfOk result (λ found. arguments routine bytes.now ≡ Ok (found.0, found.1.now)) }
@@ -57,7 +57,7 @@ fn read_create_row_type(alloc: Global, bytes: &[u8]) -> Result<(Command, &[u8]),
     ensures ok { IfOk result (λ found. arguments Routine.CreateRowType bytes.now ≡ Ok (found.0, found.1.now)) }
     ensures cause { IfErr result (λ misfit. Refuses misfit (arguments Routine.CreateRowType bytes.now)) }
 {
-    let ((name, stamp, columns), rest) = read_name_columns_call(alloc, bytes)?;
+    let ((name, (stamp, columns)), rest) = read_name_and_columns(alloc, bytes)?;
     let command = Command::CreateRowType {
         name,
         stamp,
@@ -72,7 +72,7 @@ fn read_create_container(alloc: Global, bytes: &[u8]) -> Result<(Command, &[u8])
     ensures ok { IfOk result (λ found. arguments Routine.TSContainerCreate bytes.now ≡ Ok (found.0, found.1.now)) }
     ensures cause { IfErr result (λ misfit. Refuses misfit (arguments Routine.TSContainerCreate bytes.now)) }
 {
-    let ((name, row_type, quota), rest) = read_names_whole_call(alloc, bytes, 1, 65536)?;
+    let ((name, (row_type, quota)), rest) = read_two_names_and_whole(alloc, bytes, 1, 65536)?;
     let command = Command::TSContainerCreate {
         name,
         row_type,
@@ -87,8 +87,8 @@ fn read_create_regular(alloc: Global, bytes: &[u8]) -> Result<(Command, &[u8]), 
     ensures ok { IfOk result (λ found. arguments Routine.TSCreate bytes.now ≡ Ok (found.0, found.1.now)) }
     ensures cause { IfErr result (λ misfit. Refuses misfit (arguments Routine.TSCreate bytes.now)) }
 {
-    match read_key_name_stamp_name_call(alloc, bytes) {
-        Ok(((key, (calendar, origin, container)), rest)) => Ok((
+    match read_key_name_stamp_and_name(alloc, bytes) {
+        Ok(((key, (calendar, (origin, container))), rest)) => Ok((
             Command::TSCreate {
                 key,
                 calendar,
@@ -107,7 +107,7 @@ fn read_create_irregular(alloc: Global, bytes: &[u8]) -> Result<(Command, &[u8])
     ensures ok { IfOk result (λ found. arguments Routine.TSCreateIrr bytes.now ≡ Ok (found.0, found.1.now)) }
     ensures cause { IfErr result (λ misfit. Refuses misfit (arguments Routine.TSCreateIrr bytes.now)) }
 {
-    let ((key, container), rest) = read_key_name_call(alloc, bytes)?;
+    let ((key, container), rest) = read_key_and_name(alloc, bytes)?;
     Ok((Command::TSCreateIrr { key, container }, rest))
 }
 
@@ -117,7 +117,7 @@ fn read_opposite(alloc: Global, bytes: &[u8]) -> Result<(Command, &[u8]), Misfit
     ensures ok { IfOk result (λ found. arguments Routine.NotOp bytes.now ≡ Ok (found.0, found.1.now)) }
     ensures cause { IfErr result (λ misfit. Refuses misfit (arguments Routine.NotOp bytes.now)) }
 {
-    let ((name, pattern), rest) = read_names_call(alloc, bytes)?;
+    let ((name, pattern), rest) = read_two_names(alloc, bytes)?;
     Ok((Command::NotOp { name, pattern }, rest))
 }
 
@@ -127,8 +127,8 @@ fn read_calendar_stamp(alloc: Global, bytes: &[u8]) -> Result<(Command, &[u8]), 
     ensures ok { IfOk result (λ found. arguments Routine.CalStamp bytes.now ≡ Ok (found.0, found.1.now)) }
     ensures cause { IfErr result (λ misfit. Refuses misfit (arguments Routine.CalStamp bytes.now)) }
 {
-    match read_name_stamp_whole_call(alloc, bytes, 1, 4294967295) {
-        Ok(((calendar, after, count), rest)) => Ok((
+    match read_name_stamp_and_whole(alloc, bytes, 1, 4294967295) {
+        Ok(((calendar, (after, count)), rest)) => Ok((
             Command::CalStamp {
                 calendar,
                 after,
@@ -146,8 +146,8 @@ fn read_clip_count(alloc: Global, bytes: &[u8]) -> Result<(Command, &[u8]), Misf
     ensures ok { IfOk result (λ found. arguments Routine.ClipCount bytes.now ≡ Ok (found.0, found.1.now)) }
     ensures cause { IfErr result (λ misfit. Refuses misfit (arguments Routine.ClipCount bytes.now)) }
 {
-    match read_key_stamp_whole_call(alloc, bytes, -1000000, 1000000) {
-        Ok(((key, stamp, count), rest)) => Ok((Command::ClipCount { key, stamp, count }, rest)),
+    match read_key_stamp_and_whole(alloc, bytes, -1000000, 1000000) {
+        Ok(((key, (stamp, count)), rest)) => Ok((Command::ClipCount { key, stamp, count }, rest)),
         Err(misfit) => Err(misfit),
     }
 }
@@ -158,8 +158,8 @@ fn read_aggregate_by(alloc: Global, bytes: &[u8]) -> Result<(Command, &[u8]), Mi
     ensures ok { IfOk result (λ found. arguments Routine.AggregateBy bytes.now ≡ Ok (found.0, found.1.now)) }
     ensures cause { IfErr result (λ misfit. Refuses misfit (arguments Routine.AggregateBy bytes.now)) }
 {
-    match read_text_name_key_range_call(alloc, bytes) {
-        Ok(((text, (calendar, (key, from, to))), rest)) => Ok((
+    match read_text_name_key_range(alloc, bytes) {
+        Ok(((text, (calendar, (key, (from, to)))), rest)) => Ok((
             Command::AggregateBy {
                 text,
                 calendar,
@@ -179,8 +179,8 @@ fn read_aggregate_range(alloc: Global, bytes: &[u8]) -> Result<(Command, &[u8]),
     ensures ok { IfOk result (λ found. arguments Routine.AggregateRange bytes.now ≡ Ok (found.0, found.1.now)) }
     ensures cause { IfErr result (λ misfit. Refuses misfit (arguments Routine.AggregateRange bytes.now)) }
 {
-    match read_text_key_range_call(alloc, bytes) {
-        Ok(((text, (key, from, to)), rest)) => Ok((
+    match read_text_key_range(alloc, bytes) {
+        Ok(((text, (key, (from, to))), rest)) => Ok((
             Command::AggregateRange {
                 text,
                 key,
@@ -199,8 +199,8 @@ fn read_aggregate_all(alloc: Global, bytes: &[u8]) -> Result<(Command, &[u8]), M
     ensures ok { IfOk result (λ found. arguments Routine.AggregateAll bytes.now ≡ Ok (found.0, found.1.now)) }
     ensures cause { IfErr result (λ misfit. Refuses misfit (arguments Routine.AggregateAll bytes.now)) }
 {
-    match read_text_name_range_call(alloc, bytes) {
-        Ok(((text, (container, from, to)), rest)) => Ok((
+    match read_text_name_range(alloc, bytes) {
+        Ok(((text, (container, (from, to))), rest)) => Ok((
             Command::AggregateAll {
                 text,
                 container,
@@ -213,14 +213,14 @@ fn read_aggregate_all(alloc: Global, bytes: &[u8]) -> Result<(Command, &[u8]), M
     }
 }
 
-// A routine and what it is called with.
+// A routine, and in brackets what it is called with.
 #[tactic(auto, unfolding(crate::specs::Grammar::a_call))]
 fn read_call(alloc: Global, text: &[u8]) -> Result<(Command, &[u8]), Misfit>
     ensures ok { IfOk result (λ found. a_call text.now ≡ Ok (found.0, found.1.now)) }
     ensures cause { IfErr result (λ misfit. Refuses misfit (a_call text.now)) }
 {
     let (routine, rest) = read_routine(text)?;
-    read_arguments(alloc, routine, rest)
+    read_arguments(alloc, routine, read_sign(rest, b'(')?)
 }
 
 // A whole statement.
