@@ -403,6 +403,10 @@ arguments (calls.Clipping routine) = made key_range (λ a. of_clip routine a.0 a
 arguments (calls.ByNumber routine) = made (key_and_whole (least_number routine) (most_number routine)) (λ a. of_number routine a.0 a.1)
 arguments (calls.OfPair routine) = made two_keys_range (λ a. of_keys routine a.0 a.1.0 a.1.1.0 a.1.1.1)
 
+-- so up to the end of the statement
+unfoldable pub arguments_to_end : Routine → Phrase Command
+arguments_to_end routine = ended (59 ∷ []) (arguments routine)
+
 -- a routine, and in brackets what it is called with
 unfoldable pub a_call : Phrase Command
 a_call = do
