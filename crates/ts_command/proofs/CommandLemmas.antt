@@ -1,7 +1,7 @@
 -- The command that a statement is read as has its form.
 use Rattle.std.proofs.Common.{◌≡◌, ℕ, ◌<◌, ◌≤◌, ◌^◌, List, [], ◌∷◌, length, length-append, Some, Ok, true, refl, ap, arith, ℤ, pos, neg_ℤ, int_le}
 use Rattle.ts_row.specs.declared.value.Literal.{Literal}
-use Rattle.ts_text.specs.Phrase.{Phrase, ◌>>=◌, give, a_sign, behind, pair, made, the_end}
+use Rattle.ts_text.specs.Phrase.{Phrase, ◌>>=◌, give, a_sign, behind, made, the_end}
 use Rattle.ts_text.specs.declared.token.TokenKind.{TokenKind}
 use Rattle.ts_text.specs.declared.token.TokenKind.TheVariants.{Word, Number, Text, Sign}
 use Rattle.ts_text.proofs.CallerLemmas.{Yields, Goes, Any, chain, shrinks_of, sign_shrinks, behind_yields, made_yields, bind-ok, pair-parts, token-found, unblanked-le}
@@ -9,7 +9,7 @@ use Rattle.ts_tokens.specs.Tokens.{front}
 use Rattle.ts_tokens.specs.Text.{said}
 use Rattle.ts_command.specs.Form.{HasForm}
 use Rattle.ts_command.specs.Routines.{least_number, most_number}
-use Rattle.ts_command.specs.Grammar.{a_name, a_key, a_stamp, a_text, text_in, a_routine, of_name, of_key, of_stamp, of_row, of_text, of_join, of_range, of_clip, of_number, of_keys, arguments, a_call, a_command, last_name, last_key, last_text, two_names, joined_names, name_and_text, two_names_and_whole, key_and_name, key_and_whole, key_and_stamp, name_range, key_range, two_keys_range, name_key_range, text_key_range, text_name_range, text_name_key_range, key_name_stamp_and_name, name_stamp_and_whole, key_stamp_and_whole, key_stamp_and_values, name_and_columns}
+use Rattle.ts_command.specs.Grammar.{a_name, a_key, a_stamp, a_text, text_in, a_routine, of_name, of_key, of_stamp, of_row, of_text, of_join, of_range, of_clip, of_number, of_keys, arguments, a_call, a_command, before, two, name_before, key_before, text_before, two_names, joined_names, name_and_text, two_names_and_whole, key_and_name, key_and_whole, key_and_stamp, name_range, key_range, two_keys_range, name_key_range, text_key_range, text_name_range, text_name_key_range, key_name_stamp_and_name, name_stamp_and_whole, key_stamp_and_whole, key_stamp_and_values, name_and_columns}
 use Rattle.ts_command.specs.declared.routine.Routine.{Routine}
 use Rattle.ts_command.specs.declared.routine.Routine.TheVariants as calls
 use Rattle.ts_command.specs.declared.routine.NameRoutine.{NameRoutine}
@@ -35,8 +35,8 @@ use Rattle.ts_command.specs.declared.routine.PairRoutine.TheVariants as of_pair
 use Rattle.ts_command.specs.declared.word.Joined.{Joined}
 use Rattle.ts_command.specs.declared.word.Joined.TheVariants.{Patterns, Calendars}
 use Rattle.ts_command.specs.declared.command.Command.{Command}
-use Rattle.ts_tokens.proofs.CallerLemmas.{front_laws, open_sign, said-le}
-use Rattle.ts_command.proofs.FormLemmas.{IsName, IsKey, IsWithin, Both, AreNames, IsKeyRange, IsNameRange, IsNameAndKey, name_yields, key_range_yields, name_range_yields, name_key_range_yields, with_text_yields, routine_yields, last_name_yields, two_names_yields, name_and_text_yields, joined_names_yields, name_stamp_and_whole_yields, last_key_yields, key_and_name_yields, key_name_stamp_and_name_yields, key_and_stamp_yields, two_names_and_whole_yields, key_stamp_and_values_yields, name_and_columns_yields, key_stamp_and_whole_yields, key_and_whole_yields, two_keys_range_yields}
+use Rattle.ts_tokens.proofs.CallerLemmas.{front_laws, open_sign, close_sign, comma_sign, said-le}
+use Rattle.ts_command.proofs.FormLemmas.{IsName, IsKey, IsWithin, Both, AreNames, IsKeyRange, IsNameRange, IsNameAndKey, key_range_yields, name_range_yields, name_key_range_yields, with_text_yields, routine_yields, name_before_yields, two_names_yields, name_and_text_yields, joined_names_yields, name_stamp_and_whole_yields, key_before_yields, key_and_name_yields, key_name_stamp_and_name_yields, key_and_stamp_yields, two_names_and_whole_yields, key_stamp_and_values_yields, name_and_columns_yields, key_stamp_and_whole_yields, key_and_whole_yields, two_keys_range_yields}
 
 -- the commands of each group have their form
 of_name-form : (routine : NameRoutine) (name : List ℕ) → IsName name → HasForm (of_name routine name)
@@ -136,8 +136,8 @@ arguments_yield calls.ClipCount = made_yields front front_laws _ HasForm (key_st
 arguments_yield calls.AggregateBy = made_yields front front_laws _ Any text_name_key_range _ text_name_key_range_yields (λ a form. tt)
 arguments_yield calls.AggregateRange = made_yields front front_laws _ Any text_key_range _ text_key_range_yields (λ a form. tt)
 arguments_yield calls.AggregateAll = made_yields front front_laws _ Any text_name_range _ text_name_range_yields (λ a form. tt)
-arguments_yield (calls.ByName routine) = made_yields front front_laws _ HasForm last_name _ last_name_yields (of_name-form routine)
-arguments_yield (calls.ByKey routine) = made_yields front front_laws _ HasForm last_key _ last_key_yields (of_key-form routine)
+arguments_yield (calls.ByName routine) = made_yields front front_laws _ HasForm (name_before 41) _ (name_before_yields 41 close_sign) (of_name-form routine)
+arguments_yield (calls.ByKey routine) = made_yields front front_laws _ HasForm (key_before 41) _ (key_before_yields 41 close_sign) (of_key-form routine)
 arguments_yield (calls.AtStamp routine) = made_yields front front_laws _ HasForm key_and_stamp _ key_and_stamp_yields (λ a form. of_stamp-form routine a.0 a.1 form.0)
 arguments_yield (calls.WithRow routine) = made_yields front front_laws _ HasForm key_stamp_and_values _ key_stamp_and_values_yields (λ a form. of_row-form routine a.0 a.1.0 a.1.1 form.0)
 arguments_yield (calls.WithText routine) = made_yields front front_laws _ Any name_and_text _ name_and_text_yields (λ a form. tt)
@@ -181,22 +181,21 @@ text-le bytes found is =
     let token = token-found front front_laws text_in bytes found.1 found.0 is in
     omega (arith, text_is token.kind token.text found.0 token.accepted, ap length token.whole, length-append token.text found.1, unblanked-le bytes)
 
-last_text-le : (bytes : List ℕ) (found : List ℕ × List ℕ) → last_text bytes ≡ Ok found → length found.0 ≤ length bytes
-unfolding last_text
-last_text-le bytes found is =
-    let text = bind-ok (a_text bytes) (λ a. a_sign 41 >>= (λ close. give a)) found is in
-    let close = bind-ok (a_sign 41 text.0.1) (λ close. give text.0.0) found text.2 in
-    omega (arith, ap length (pair-parts text.0.0 found.0 close.0.1 found.1 close.2).0, text-le bytes text.0 text.1)
+text_before-le : (sign : ℕ) (bytes : List ℕ) (found : List ℕ × List ℕ) → text_before sign bytes ≡ Ok found → length found.0 ≤ length bytes
+unfolding text_before
+text_before-le sign bytes found is =
+    let text = bind-ok (a_text bytes) (λ a. a_sign sign >>= (λ end. give a)) found is in
+    let end = bind-ok (a_sign sign text.0.1) (λ end. give text.0.0) found text.2 in
+    omega (arith, ap length (pair-parts text.0.0 found.0 end.0.1 found.1 end.2).0, text-le bytes text.0 text.1)
 
 name_text-le : (bytes : List ℕ) (found : (List ℕ × List ℕ) × List ℕ) → name_and_text bytes ≡ Ok found → length found.0.1 ≤ length bytes
 unfolding name_and_text
 name_text-le bytes found is =
-    let name = bind-ok (a_name bytes) (λ a. behind 44 last_text >>= (λ b. give (a, b))) found is in
-    let text = bind-ok (behind 44 last_text name.0.1) (λ b. give (name.0.0, b)) found name.2 in
-    let comma = bind-ok (a_sign 44 name.0.1) (λ sign. last_text) text.0 text.1 in
+    let name = bind-ok (name_before 44 bytes) (λ a. text_before 41 >>= (λ b. give (a, b))) found is in
+    let text = bind-ok (text_before 41 name.0.1) (λ b. give (name.0.0, b)) found name.2 in
     let both : List ℕ × List ℕ = (name.0.0, text.0.0) in
     let same : text.0.0 ≡ found.0.1 = ap (λ (p : List ℕ × List ℕ). p.1) (pair-parts both found.0 text.0.1 found.1 text.2).0 in
-    omega (arith, ap length same, last_text-le comma.0.1 text.0 comma.2, sign_shrinks 44 name.0.1 comma.0 comma.1, shrinks_of front IsName a_name name_yields bytes name.0 name.1)
+    omega (arith, ap length same, text_before-le 41 name.0.1 text.0 text.1, shrinks_of front IsName (name_before 44) (name_before_yields 44 comma_sign) bytes name.0 name.1)
 
 text-form : (routine : TextRoutine) (bytes : List ℕ) (found : Command × List ℕ) → length bytes < 2 ^ 32 → arguments (calls.WithText routine) bytes ≡ Ok found → HasForm found.0
 unfolding arguments
@@ -206,20 +205,20 @@ text-form routine bytes found few is =
     rw (← same) (of_text-form routine read.0.0.0 read.0.0.1 (name_and_text_yields.ok bytes read.0 read.1).0.0 (omega (arith, few, name_text-le bytes read.0 read.1)))
 
 -- so where a text stands first
-first_text-le : {A : Type 0} (other : Phrase A) (bytes : List ℕ) (found : (List ℕ × A) × List ℕ) → pair a_text other bytes ≡ Ok found → length found.0.0 ≤ length bytes
+first_text-le : {A : Type 0} (other : Phrase A) (bytes : List ℕ) (found : (List ℕ × A) × List ℕ) → two (text_before 44) other bytes ≡ Ok found → length found.0.0 ≤ length bytes
 first_text-le {A} other bytes found is =
-    let text = bind-ok (a_text bytes) (λ a. behind 44 other >>= (λ b. give (a, b))) found is in
-    let rest = bind-ok (behind 44 other text.0.1) (λ b. give (text.0.0, b)) found text.2 in
+    let text = bind-ok (text_before 44 bytes) (λ a. other >>= (λ b. give (a, b))) found is in
+    let rest = bind-ok (other text.0.1) (λ b. give (text.0.0, b)) found text.2 in
     let both : List ℕ × A = (text.0.0, rest.0.0) in
     let same : text.0.0 ≡ found.0.0 = ap (λ (p : List ℕ × A). p.0) {x = both} {y = found.0} (pair-parts both found.0 rest.0.1 found.1 rest.2).0 in
-    omega (arith, ap length same, text-le bytes text.0 text.1)
+    omega (arith, ap length same, text_before-le 44 bytes text.0 text.1)
 
 -- a command that is made of a text and of what else stands there has its form where these have theirs
 first_text-form : {A : Type 0} (P : A → Type 0) (other : Phrase A) (make : List ℕ × A → Command) → Yields front P other
     → ((a : List ℕ × A) → length a.0 < 2 ^ 32 → P a.1 → HasForm (make a))
-    → (bytes : List ℕ) (found : Command × List ℕ) → length bytes < 2 ^ 32 → made (pair a_text other) make bytes ≡ Ok found → HasForm found.0
+    → (bytes : List ℕ) (found : Command × List ℕ) → length bytes < 2 ^ 32 → made (two (text_before 44) other) make bytes ≡ Ok found → HasForm found.0
 first_text-form P other make one forms bytes found few is =
-    let read = bind-ok (pair a_text other bytes) (λ a. give (make a)) found is in
+    let read = bind-ok (two (text_before 44) other bytes) (λ a. give (make a)) found is in
     let same = (pair-parts (make read.0.0) found.0 read.0.1 found.1 read.2).0 in
     rw (← same) (forms read.0.0 (omega (arith, few, first_text-le other bytes read.0 read.1)) ((with_text_yields P other one).ok bytes read.0 read.1).0.1)
 

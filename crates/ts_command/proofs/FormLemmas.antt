@@ -9,15 +9,15 @@ use Rattle.ts_base.specs.Moment.{units_of as moment_units}
 use Rattle.ts_row.specs.declared.kind.Column.{Column}
 use Rattle.ts_row.specs.declared.value.Literal.{Literal}
 use Rattle.ts_row.specs.declared.value.Literal.TheVariants as literals
-use Rattle.ts_text.specs.Phrase.{Phrase, word_in, a_sign, behind, pair, closed}
+use Rattle.ts_text.specs.Phrase.{Phrase, word_in, a_sign, behind, closed}
 use Rattle.ts_text.specs.declared.token.TokenKind.{TokenKind}
 use Rattle.ts_text.specs.declared.token.TokenKind.TheVariants.{Word, Number, Text, Sign}
-use Rattle.ts_text.proofs.CallerLemmas.{Yields, Shrinks, shrinks_of, chain, given, Any, of_token, sign_yields, behind_yields, pair_yields, closed_yields}
+use Rattle.ts_text.proofs.CallerLemmas.{IsSign, Yields, Shrinks, shrinks_of, chain, given, Any, of_token, sign_yields, behind_yields, closed_yields}
 use Rattle.ts_tokens.specs.Tokens.{front, number_length, magnitude_length, fraction_length, closing}
 use Rattle.ts_tokens.specs.Text.{undoubled, said}
 use Rattle.ts_tokens.specs.Number.{units_of, scale_of}
 use Rattle.ts_command.specs.Form.{IsColumn}
-use Rattle.ts_command.specs.Grammar.{a_literal, literal_in, a_column, a_name, name_in, a_key, key_in, a_stamp, stamp_in, a_text, text_in, a_joined, joined_in, a_type, type_in, kind_behind, a_small, small_in, a_word, a_whole, whole_in, within, a_stamp_column, a_routine, routine_in, last, last_name, last_key, last_text, last_stamp, last_whole, two_names, three_names, joined_names, name_and_text, name_and_whole, two_names_and_whole, key_and_name, key_and_whole, key_and_stamp, two_stamps, name_range, key_range, two_keys_range, name_key_range, stamp_and_name, name_stamp_and_name, key_name_stamp_and_name, stamp_and_whole, name_stamp_and_whole, key_stamp_and_whole, stamp_and_values, key_stamp_and_values, some_columns, stamp_and_columns, name_and_columns}
+use Rattle.ts_command.specs.Grammar.{a_literal, literal_in, a_column, a_name, name_in, a_key, key_in, a_stamp, stamp_in, a_text, text_in, a_joined, joined_in, a_type, type_in, kind_behind, a_small, small_in, a_word, a_whole, whole_in, within, a_stamp_column, a_routine, routine_in, before, two, name_before, key_before, text_before, stamp_before, whole_before, two_names, three_names, joined_names, name_and_text, name_and_whole, two_names_and_whole, key_and_name, key_and_whole, key_and_stamp, two_stamps, name_range, key_range, two_keys_range, name_key_range, stamp_and_name, name_stamp_and_name, key_name_stamp_and_name, stamp_and_whole, name_stamp_and_whole, key_stamp_and_whole, stamp_and_values, key_stamp_and_values, some_columns, stamp_and_columns, name_and_columns}
 use Rattle.ts_command.specs.Routines.{routine_of, joined_of, type_of}
 use Rattle.ts_command.specs.declared.routine.Routine.TheVariants as calls
 use Rattle.ts_command.specs.declared.routine.StampRoutine.TheVariants as at_stamp
@@ -164,98 +164,100 @@ pub column_shrinks : Shrinks a_column
 column_shrinks = shrinks_of front IsColumn a_column column_yields
 
 -- what stands in the brackets of calls
-ended : {A : Type 0} (P : A → Type 0) (phrase : Phrase A) → Yields front P phrase → Yields front P (last phrase)
-ended P phrase one =
+signed : {A : Type 0} (P : A → Type 0) (sign : ℕ) → IsSign front sign → (phrase : Phrase A) → Yields front P phrase → Yields front P (before sign phrase)
+signed P sign is phrase one =
     chain front front_laws P P phrase _ one
-    (λ a p. chain front front_laws Any P (a_sign 41) _ (sign_yields front front_laws 41 close_sign) (λ end any. given front P a p))
+    (λ a p. chain front front_laws Any P (a_sign sign) _ (sign_yields front front_laws sign is) (λ end any. given front P a p))
 
 -- the two parts of a pair
 abbrev pub Both : {A B : Type 0} → (A → Type 0) → (B → Type 0) → A × B → Type 0
 Both P Q p = P p.0 × Q p.1
 
-paired : {A B : Type 0} (P : A → Type 0) (Q : B → Type 0) (first : Phrase A) (second : Phrase B) → Yields front P first → Yields front Q second → Yields front (Both P Q) (pair first second)
-paired P Q first second one two = pair_yields front front_laws P Q comma_sign first second one two
+both : {A B : Type 0} (P : A → Type 0) (Q : B → Type 0) (first : Phrase A) (second : Phrase B) → Yields front P first → Yields front Q second → Yields front (Both P Q) (two first second)
+both P Q first second one other =
+    chain front front_laws P (Both P Q) first _ one
+    (λ a p. chain front front_laws Q (Both P Q) second _ other (λ b q. given front (Both P Q) (a, b) (p, q)))
 
 listed : {A : Type 0} (P : A → Type 0) (phrase : Phrase A) → Yields front P phrase → Yields front (AllByRecursion P) (closed 41 phrase)
 listed P phrase one = closed_yields front front_laws P 41 comma_sign close_sign refl phrase one
 
 -- names, keys, texts and stamps
-pub last_name_yields : Yields front IsName last_name
-unfolding last_name
-last_name_yields = ended IsName a_name name_yields
+pub name_before_yields : (sign : ℕ) → IsSign front sign → Yields front IsName (name_before sign)
+unfolding name_before
+name_before_yields sign is = signed IsName sign is a_name name_yields
 
-pub last_key_yields : Yields front IsKey last_key
-unfolding last_key
-last_key_yields = ended IsKey a_key key_yields
+pub key_before_yields : (sign : ℕ) → IsSign front sign → Yields front IsKey (key_before sign)
+unfolding key_before
+key_before_yields sign is = signed IsKey sign is a_key key_yields
 
-last_text_yields : Yields front Any last_text
-unfolding last_text
-last_text_yields = ended Any a_text text_yields
+pub text_before_yields : (sign : ℕ) → IsSign front sign → Yields front Any (text_before sign)
+unfolding text_before
+text_before_yields sign is = signed Any sign is a_text text_yields
 
-last_stamp_yields : Yields front Any last_stamp
-unfolding last_stamp
-last_stamp_yields = ended Any a_stamp stamp_yields
+stamp_before_yields : (sign : ℕ) → IsSign front sign → Yields front Any (stamp_before sign)
+unfolding stamp_before
+stamp_before_yields sign is = signed Any sign is a_stamp stamp_yields
 
 pub two_names_yields : Yields front (Both IsName IsName) two_names
 unfolding two_names
-two_names_yields = paired IsName IsName a_name last_name name_yields last_name_yields
+two_names_yields = both IsName IsName (name_before 44) (name_before 41) (name_before_yields 44 comma_sign) (name_before_yields 41 close_sign)
 
 abbrev pub AreNames : List ℕ × (List ℕ × List ℕ) → Type 0
 AreNames names = Both IsName (Both IsName IsName) names
 
 three_names_yields : Yields front AreNames three_names
 unfolding three_names
-three_names_yields = paired IsName (Both IsName IsName) a_name two_names name_yields two_names_yields
+three_names_yields = both IsName (Both IsName IsName) (name_before 44) two_names (name_before_yields 44 comma_sign) two_names_yields
 
 pub joined_names_yields : Yields front (Both Any AreNames) joined_names
 unfolding joined_names
-joined_names_yields = paired Any AreNames a_joined three_names joined_yields three_names_yields
+joined_names_yields = both Any AreNames (before 44 a_joined) three_names (signed Any 44 comma_sign a_joined joined_yields) three_names_yields
 
 pub name_and_text_yields : Yields front (Both IsName Any) name_and_text
 unfolding name_and_text
-name_and_text_yields = paired IsName Any a_name last_text name_yields last_text_yields
+name_and_text_yields = both IsName Any (name_before 44) (text_before 41) (name_before_yields 44 comma_sign) (text_before_yields 41 close_sign)
 
 pub key_and_name_yields : Yields front (Both IsKey IsName) key_and_name
 unfolding key_and_name
-key_and_name_yields = paired IsKey IsName a_key last_name key_yields last_name_yields
+key_and_name_yields = both IsKey IsName (key_before 44) (name_before 41) (key_before_yields 44 comma_sign) (name_before_yields 41 close_sign)
 
 pub key_and_stamp_yields : Yields front (Both IsKey Any) key_and_stamp
 unfolding key_and_stamp
-key_and_stamp_yields = paired IsKey Any a_key last_stamp key_yields last_stamp_yields
+key_and_stamp_yields = both IsKey Any (key_before 44) (stamp_before 41) (key_before_yields 44 comma_sign) (stamp_before_yields 41 close_sign)
 
 -- so with whole numbers, where 1 is one
-last_whole_yields : (least most : ℤ) → int_le least (pos 1) ≡ true → int_le (pos 1) most ≡ true → Yields front (IsWithin least most) (last_whole least most)
-unfolding last_whole
-last_whole_yields least most below above = ended (IsWithin least most) (a_whole least most) (whole_yields least most below above)
+whole_before_yields : (least most : ℤ) → int_le least (pos 1) ≡ true → int_le (pos 1) most ≡ true → Yields front (IsWithin least most) (whole_before 41 least most)
+unfolding whole_before
+whole_before_yields least most below above = signed (IsWithin least most) 41 close_sign (a_whole least most) (whole_yields least most below above)
 
 name_and_whole_yields : (least most : ℤ) → int_le least (pos 1) ≡ true → int_le (pos 1) most ≡ true → Yields front (Both IsName (IsWithin least most)) (name_and_whole least most)
 unfolding name_and_whole
-name_and_whole_yields least most below above = paired IsName (IsWithin least most) a_name (last_whole least most) name_yields (last_whole_yields least most below above)
+name_and_whole_yields least most below above = both IsName (IsWithin least most) (name_before 44) (whole_before 41 least most) (name_before_yields 44 comma_sign) (whole_before_yields least most below above)
 
 pub two_names_and_whole_yields : (least most : ℤ) → int_le least (pos 1) ≡ true → int_le (pos 1) most ≡ true → Yields front (Both IsName (Both IsName (IsWithin least most))) (two_names_and_whole least most)
 unfolding two_names_and_whole
-two_names_and_whole_yields least most below above = paired IsName (Both IsName (IsWithin least most)) a_name (name_and_whole least most) name_yields (name_and_whole_yields least most below above)
+two_names_and_whole_yields least most below above = both IsName (Both IsName (IsWithin least most)) (name_before 44) (name_and_whole least most) (name_before_yields 44 comma_sign) (name_and_whole_yields least most below above)
 
 pub key_and_whole_yields : (least most : ℤ) → int_le least (pos 1) ≡ true → int_le (pos 1) most ≡ true → Yields front (Both IsKey (IsWithin least most)) (key_and_whole least most)
 unfolding key_and_whole
-key_and_whole_yields least most below above = paired IsKey (IsWithin least most) a_key (last_whole least most) key_yields (last_whole_yields least most below above)
+key_and_whole_yields least most below above = both IsKey (IsWithin least most) (key_before 44) (whole_before 41 least most) (key_before_yields 44 comma_sign) (whole_before_yields least most below above)
 
 stamp_and_whole_yields : (least most : ℤ) → int_le least (pos 1) ≡ true → int_le (pos 1) most ≡ true → Yields front (Both Any (IsWithin least most)) (stamp_and_whole least most)
 unfolding stamp_and_whole
-stamp_and_whole_yields least most below above = paired Any (IsWithin least most) a_stamp (last_whole least most) stamp_yields (last_whole_yields least most below above)
+stamp_and_whole_yields least most below above = both Any (IsWithin least most) (stamp_before 44) (whole_before 41 least most) (stamp_before_yields 44 comma_sign) (whole_before_yields least most below above)
 
 pub name_stamp_and_whole_yields : (least most : ℤ) → int_le least (pos 1) ≡ true → int_le (pos 1) most ≡ true → Yields front (Both IsName (Both Any (IsWithin least most))) (name_stamp_and_whole least most)
 unfolding name_stamp_and_whole
-name_stamp_and_whole_yields least most below above = paired IsName (Both Any (IsWithin least most)) a_name (stamp_and_whole least most) name_yields (stamp_and_whole_yields least most below above)
+name_stamp_and_whole_yields least most below above = both IsName (Both Any (IsWithin least most)) (name_before 44) (stamp_and_whole least most) (name_before_yields 44 comma_sign) (stamp_and_whole_yields least most below above)
 
 pub key_stamp_and_whole_yields : (least most : ℤ) → int_le least (pos 1) ≡ true → int_le (pos 1) most ≡ true → Yields front (Both IsKey (Both Any (IsWithin least most))) (key_stamp_and_whole least most)
 unfolding key_stamp_and_whole
-key_stamp_and_whole_yields least most below above = paired IsKey (Both Any (IsWithin least most)) a_key (stamp_and_whole least most) key_yields (stamp_and_whole_yields least most below above)
+key_stamp_and_whole_yields least most below above = both IsKey (Both Any (IsWithin least most)) (key_before 44) (stamp_and_whole least most) (key_before_yields 44 comma_sign) (stamp_and_whole_yields least most below above)
 
 -- with two stamps
 two_stamps_yields : Yields front (Both Any Any) two_stamps
 unfolding two_stamps
-two_stamps_yields = paired Any Any a_stamp last_stamp stamp_yields last_stamp_yields
+two_stamps_yields = both Any Any (stamp_before 44) (stamp_before 41) (stamp_before_yields 44 comma_sign) (stamp_before_yields 41 close_sign)
 
 abbrev pub IsKeyRange : List ℕ × (ℤ × ℤ) → Type 0
 IsKeyRange p = Both IsKey (Both Any Any) p
@@ -265,39 +267,39 @@ IsNameRange p = Both IsName (Both Any Any) p
 
 pub key_range_yields : Yields front IsKeyRange key_range
 unfolding key_range
-key_range_yields = paired IsKey (Both Any Any) a_key two_stamps key_yields two_stamps_yields
+key_range_yields = both IsKey (Both Any Any) (key_before 44) two_stamps (key_before_yields 44 comma_sign) two_stamps_yields
 
 pub name_range_yields : Yields front IsNameRange name_range
 unfolding name_range
-name_range_yields = paired IsName (Both Any Any) a_name two_stamps name_yields two_stamps_yields
+name_range_yields = both IsName (Both Any Any) (name_before 44) two_stamps (name_before_yields 44 comma_sign) two_stamps_yields
 
 pub two_keys_range_yields : Yields front (Both IsKey IsKeyRange) two_keys_range
 unfolding two_keys_range
-two_keys_range_yields = paired IsKey IsKeyRange a_key key_range key_yields key_range_yields
+two_keys_range_yields = both IsKey IsKeyRange (key_before 44) key_range (key_before_yields 44 comma_sign) key_range_yields
 
 abbrev pub IsNameAndKey : List ℕ × (List ℕ × (ℤ × ℤ)) → Type 0
 IsNameAndKey p = Both IsName IsKeyRange p
 
 pub name_key_range_yields : Yields front IsNameAndKey name_key_range
 unfolding name_key_range
-name_key_range_yields = paired IsName IsKeyRange a_name key_range name_yields key_range_yields
+name_key_range_yields = both IsName IsKeyRange (name_before 44) key_range (name_before_yields 44 comma_sign) key_range_yields
 
 -- a text, and what else a call has
-pub with_text_yields : {A : Type 0} (P : A → Type 0) (other : Phrase A) → Yields front P other → Yields front (Both Any P) (pair a_text other)
-with_text_yields P other one = paired Any P a_text other text_yields one
+pub with_text_yields : {A : Type 0} (P : A → Type 0) (other : Phrase A) → Yields front P other → Yields front (Both Any P) (two (text_before 44) other)
+with_text_yields P other one = both Any P (text_before 44) other (text_before_yields 44 comma_sign) one
 
 -- a key, a name, a stamp and a name
 stamp_and_name_yields : Yields front (Both Any IsName) stamp_and_name
 unfolding stamp_and_name
-stamp_and_name_yields = paired Any IsName a_stamp last_name stamp_yields last_name_yields
+stamp_and_name_yields = both Any IsName (stamp_before 44) (name_before 41) (stamp_before_yields 44 comma_sign) (name_before_yields 41 close_sign)
 
 name_stamp_and_name_yields : Yields front (Both IsName (Both Any IsName)) name_stamp_and_name
 unfolding name_stamp_and_name
-name_stamp_and_name_yields = paired IsName (Both Any IsName) a_name stamp_and_name name_yields stamp_and_name_yields
+name_stamp_and_name_yields = both IsName (Both Any IsName) (name_before 44) stamp_and_name (name_before_yields 44 comma_sign) stamp_and_name_yields
 
 pub key_name_stamp_and_name_yields : Yields front (Both IsKey (Both IsName (Both Any IsName))) key_name_stamp_and_name
 unfolding key_name_stamp_and_name
-key_name_stamp_and_name_yields = paired IsKey (Both IsName (Both Any IsName)) a_key name_stamp_and_name key_yields name_stamp_and_name_yields
+key_name_stamp_and_name_yields = both IsKey (Both IsName (Both Any IsName)) (key_before 44) name_stamp_and_name (key_before_yields 44 comma_sign) name_stamp_and_name_yields
 
 -- lists
 stamp_and_values_yields : Yields front Any stamp_and_values
@@ -308,7 +310,7 @@ stamp_and_values_yields =
 
 pub key_stamp_and_values_yields : Yields front (Both IsKey Any) key_stamp_and_values
 unfolding key_stamp_and_values
-key_stamp_and_values_yields = paired IsKey Any a_key stamp_and_values key_yields stamp_and_values_yields
+key_stamp_and_values_yields = both IsKey Any (key_before 44) stamp_and_values (key_before_yields 44 comma_sign) stamp_and_values_yields
 
 abbrev pub AreColumns : List Column → Type 0
 AreColumns columns = (0 < length columns) × AllByRecursion IsColumn columns
@@ -322,8 +324,8 @@ some_columns_yields =
 
 stamp_and_columns_yields : Yields front (Both IsName AreColumns) stamp_and_columns
 unfolding stamp_and_columns
-stamp_and_columns_yields = paired IsName AreColumns a_stamp_column some_columns stamp_column_yields some_columns_yields
+stamp_and_columns_yields = both IsName AreColumns (before 44 a_stamp_column) some_columns (signed IsName 44 comma_sign a_stamp_column stamp_column_yields) some_columns_yields
 
 pub name_and_columns_yields : Yields front (Both IsName (Both IsName AreColumns)) name_and_columns
 unfolding name_and_columns
-name_and_columns_yields = paired IsName (Both IsName AreColumns) a_name stamp_and_columns name_yields stamp_and_columns_yields
+name_and_columns_yields = both IsName (Both IsName AreColumns) (name_before 44) stamp_and_columns (name_before_yields 44 comma_sign) stamp_and_columns_yields

@@ -11,7 +11,7 @@ use Rattle.ts_row.specs.declared.kind.ColumnKind.TheVariants as kinds
 use Rattle.ts_row.specs.declared.value.Literal.{Literal}
 use Rattle.ts_row.specs.declared.value.Literal.TheVariants as literals
 use Rattle.ts_text.specs.Digits.{magnitude_of}
-use Rattle.ts_text.specs.Phrase.{Phrase, ◌>>=◌, give, token, word_in, a_sign, behind, in_brackets, pair, triple, made, closed, ended, outcome}
+use Rattle.ts_text.specs.Phrase.{Phrase, ◌>>=◌, give, token, word_in, a_sign, behind, made, closed, ended, outcome}
 use Rattle.ts_text.specs.declared.token.TokenKind.{TokenKind}
 use Rattle.ts_text.specs.declared.token.TokenKind.TheVariants.{Word, Number, Text, Sign}
 use Rattle.ts_tokens.specs.Tokens.{front}
@@ -179,124 +179,131 @@ a_routine = token front routine_in
 
 -- What stands in the brackets of calls, up to the bracket that closes them.
 
--- the last phrase in brackets, and the bracket behind it
-abbrev pub last : {A : Type 0} → Phrase A → Phrase A
-last phrase = do
+-- a phrase, and this sign behind it
+abbrev pub before : {A : Type 0} → ℕ → Phrase A → Phrase A
+before sign phrase = do
   found ← phrase
-  close ← a_sign 41
+  end ← a_sign sign
   give found
 
--- a name that ends a call
-unfoldable pub last_name : Phrase (List ℕ)
-last_name = last a_name
+-- two phrases
+abbrev pub two : {A B : Type 0} → Phrase A → Phrase B → Phrase (A × B)
+two first second = do
+  a ← first
+  b ← second
+  give (a, b)
 
--- a key that ends a call
-unfoldable pub last_key : Phrase (List ℕ)
-last_key = last a_key
+-- a name, and this sign behind it
+unfoldable pub name_before : ℕ → Phrase (List ℕ)
+name_before sign = before sign a_name
 
--- a text that ends a call
-unfoldable pub last_text : Phrase (List ℕ)
-last_text = last a_text
+-- a key, and this sign behind it
+unfoldable pub key_before : ℕ → Phrase (List ℕ)
+key_before sign = before sign a_key
 
--- a stamp that ends a call
-unfoldable pub last_stamp : Phrase ℤ
-last_stamp = last a_stamp
+-- a text, and this sign behind it
+unfoldable pub text_before : ℕ → Phrase (List ℕ)
+text_before sign = before sign a_text
 
--- a whole number between the two that ends a call
-unfoldable pub last_whole : ℤ → ℤ → Phrase ℤ
-last_whole least most = last (a_whole least most)
+-- a stamp, and this sign behind it
+unfoldable pub stamp_before : ℕ → Phrase ℤ
+stamp_before sign = before sign a_stamp
+
+-- a whole number between the two, and this sign behind it
+unfoldable pub whole_before : ℕ → ℤ → ℤ → Phrase ℤ
+whole_before sign least most = before sign (a_whole least most)
 
 -- two names
 unfoldable pub two_names : Phrase (List ℕ × List ℕ)
-two_names = pair a_name last_name
+two_names = two (name_before 44) (name_before 41)
 
 -- three names
 unfoldable pub three_names : Phrase (List ℕ × (List ℕ × List ℕ))
-three_names = pair a_name two_names
+three_names = two (name_before 44) two_names
 
 -- what is joined, and three names
 unfoldable pub joined_names : Phrase (Joined × (List ℕ × (List ℕ × List ℕ)))
-joined_names = pair a_joined three_names
+joined_names = two (before 44 a_joined) three_names
 
 -- a name and a text
 unfoldable pub name_and_text : Phrase (List ℕ × List ℕ)
-name_and_text = pair a_name last_text
+name_and_text = two (name_before 44) (text_before 41)
 
 -- a name and a whole number between the two
 unfoldable pub name_and_whole : ℤ → ℤ → Phrase (List ℕ × ℤ)
-name_and_whole least most = pair a_name (last_whole least most)
+name_and_whole least most = two (name_before 44) (whole_before 41 least most)
 
 -- two names and a whole number between the two
 unfoldable pub two_names_and_whole : ℤ → ℤ → Phrase (List ℕ × (List ℕ × ℤ))
-two_names_and_whole least most = pair a_name (name_and_whole least most)
+two_names_and_whole least most = two (name_before 44) (name_and_whole least most)
 
 -- a key and a name
 unfoldable pub key_and_name : Phrase (List ℕ × List ℕ)
-key_and_name = pair a_key last_name
+key_and_name = two (key_before 44) (name_before 41)
 
 -- a key and a whole number between the two
 unfoldable pub key_and_whole : ℤ → ℤ → Phrase (List ℕ × ℤ)
-key_and_whole least most = pair a_key (last_whole least most)
+key_and_whole least most = two (key_before 44) (whole_before 41 least most)
 
 -- a key and a stamp
 unfoldable pub key_and_stamp : Phrase (List ℕ × ℤ)
-key_and_stamp = pair a_key last_stamp
+key_and_stamp = two (key_before 44) (stamp_before 41)
 
 -- two stamps
 unfoldable pub two_stamps : Phrase (ℤ × ℤ)
-two_stamps = pair a_stamp last_stamp
+two_stamps = two (stamp_before 44) (stamp_before 41)
 
 -- a name and two stamps
 unfoldable pub name_range : Phrase (List ℕ × (ℤ × ℤ))
-name_range = pair a_name two_stamps
+name_range = two (name_before 44) two_stamps
 
 -- a key and two stamps
 unfoldable pub key_range : Phrase (List ℕ × (ℤ × ℤ))
-key_range = pair a_key two_stamps
+key_range = two (key_before 44) two_stamps
 
 -- two keys and two stamps
 unfoldable pub two_keys_range : Phrase (List ℕ × (List ℕ × (ℤ × ℤ)))
-two_keys_range = pair a_key key_range
+two_keys_range = two (key_before 44) key_range
 
 -- a name, a key and two stamps
 unfoldable pub name_key_range : Phrase (List ℕ × (List ℕ × (ℤ × ℤ)))
-name_key_range = pair a_name key_range
+name_key_range = two (name_before 44) key_range
 
 -- a text, a key and two stamps
 unfoldable pub text_key_range : Phrase (List ℕ × (List ℕ × (ℤ × ℤ)))
-text_key_range = pair a_text key_range
+text_key_range = two (text_before 44) key_range
 
 -- a text, a name and two stamps
 unfoldable pub text_name_range : Phrase (List ℕ × (List ℕ × (ℤ × ℤ)))
-text_name_range = pair a_text name_range
+text_name_range = two (text_before 44) name_range
 
 -- a text, a name, a key and two stamps
 unfoldable pub text_name_key_range : Phrase (List ℕ × (List ℕ × (List ℕ × (ℤ × ℤ))))
-text_name_key_range = pair a_text name_key_range
+text_name_key_range = two (text_before 44) name_key_range
 
 -- a stamp and a name
 unfoldable pub stamp_and_name : Phrase (ℤ × List ℕ)
-stamp_and_name = pair a_stamp last_name
+stamp_and_name = two (stamp_before 44) (name_before 41)
 
 -- a name, a stamp and a name
 unfoldable pub name_stamp_and_name : Phrase (List ℕ × (ℤ × List ℕ))
-name_stamp_and_name = pair a_name stamp_and_name
+name_stamp_and_name = two (name_before 44) stamp_and_name
 
 -- a key, a name, a stamp and a name
 unfoldable pub key_name_stamp_and_name : Phrase (List ℕ × (List ℕ × (ℤ × List ℕ)))
-key_name_stamp_and_name = pair a_key name_stamp_and_name
+key_name_stamp_and_name = two (key_before 44) name_stamp_and_name
 
 -- a stamp and a whole number between the two
 unfoldable pub stamp_and_whole : ℤ → ℤ → Phrase (ℤ × ℤ)
-stamp_and_whole least most = pair a_stamp (last_whole least most)
+stamp_and_whole least most = two (stamp_before 44) (whole_before 41 least most)
 
 -- a name, a stamp and a whole number between the two
 unfoldable pub name_stamp_and_whole : ℤ → ℤ → Phrase (List ℕ × (ℤ × ℤ))
-name_stamp_and_whole least most = pair a_name (stamp_and_whole least most)
+name_stamp_and_whole least most = two (name_before 44) (stamp_and_whole least most)
 
 -- a key, a stamp and a whole number between the two
 unfoldable pub key_stamp_and_whole : ℤ → ℤ → Phrase (List ℕ × (ℤ × ℤ))
-key_stamp_and_whole least most = pair a_key (stamp_and_whole least most)
+key_stamp_and_whole least most = two (key_before 44) (stamp_and_whole least most)
 
 -- a stamp and any number of values
 unfoldable pub stamp_and_values : Phrase (ℤ × List Literal)
@@ -307,7 +314,7 @@ stamp_and_values = do
 
 -- a key, a stamp and any number of values
 unfoldable pub key_stamp_and_values : Phrase (List ℕ × (ℤ × List Literal))
-key_stamp_and_values = pair a_key stamp_and_values
+key_stamp_and_values = two (key_before 44) stamp_and_values
 
 -- one value column at least
 unfoldable pub some_columns : Phrase (List Column)
@@ -318,11 +325,11 @@ some_columns = do
 
 -- the stamp's column and one value column at least
 unfoldable pub stamp_and_columns : Phrase (List ℕ × List Column)
-stamp_and_columns = pair a_stamp_column some_columns
+stamp_and_columns = two (before 44 a_stamp_column) some_columns
 
 -- a name, the stamp's column and one value column at least
 unfoldable pub name_and_columns : Phrase (List ℕ × (List ℕ × List Column))
-name_and_columns = pair a_name stamp_and_columns
+name_and_columns = two (name_before 44) stamp_and_columns
 
 -- the commands of routines that are called with the same arguments
 abbrev pub of_name : NameRoutine → List ℕ → Command
@@ -392,8 +399,8 @@ arguments calls.ClipCount = made (key_stamp_and_whole (neg_ℤ (pos 1000000)) (p
 arguments calls.AggregateBy = made text_name_key_range (λ a. commands.AggregateBy a.0 a.1.0 a.1.1.0 a.1.1.1.0 a.1.1.1.1)
 arguments calls.AggregateRange = made text_key_range (λ a. commands.AggregateRange a.0 a.1.0 a.1.1.0 a.1.1.1)
 arguments calls.AggregateAll = made text_name_range (λ a. commands.AggregateAll a.0 a.1.0 a.1.1.0 a.1.1.1)
-arguments (calls.ByName routine) = made last_name (of_name routine)
-arguments (calls.ByKey routine) = made last_key (of_key routine)
+arguments (calls.ByName routine) = made (name_before 41) (of_name routine)
+arguments (calls.ByKey routine) = made (key_before 41) (of_key routine)
 arguments (calls.AtStamp routine) = made key_and_stamp (λ a. of_stamp routine a.0 a.1)
 arguments (calls.WithRow routine) = made key_stamp_and_values (λ a. of_row routine a.0 a.1.0 a.1.1)
 arguments (calls.WithText routine) = made name_and_text (λ a. of_text routine a.0 a.1)

@@ -2,7 +2,7 @@
 ghost use Rattle.std.specs.Prelude.{◌≡◌, Ok, IfOk, IfErr};
 ghost use Rattle.ts_text.specs.Misfit.{Refuses, RefusesExactly};
 ghost use Rattle.ts_text.specs.Phrase.{repeated, onto};
-ghost use Rattle.ts_command.specs.Grammar.{a_literal, last_name, last_key, last_text, last_stamp, last_whole, two_names, three_names, joined_names, name_and_text, name_and_whole, two_names_and_whole, key_and_name, key_and_whole, key_and_stamp, two_stamps, name_range, key_range, two_keys_range, name_key_range, text_key_range, text_name_range, text_name_key_range, stamp_and_name, name_stamp_and_name, key_name_stamp_and_name, stamp_and_whole, name_stamp_and_whole, key_stamp_and_whole, stamp_and_values, key_stamp_and_values, some_columns, stamp_and_columns, name_and_columns};
+ghost use Rattle.ts_command.specs.Grammar.{a_literal, name_before, key_before, text_before, stamp_before, whole_before, two_names, three_names, joined_names, name_and_text, name_and_whole, two_names_and_whole, key_and_name, key_and_whole, key_and_stamp, two_stamps, name_range, key_range, two_keys_range, name_key_range, text_key_range, text_name_range, text_name_key_range, stamp_and_name, name_stamp_and_name, key_name_stamp_and_name, stamp_and_whole, name_stamp_and_whole, key_stamp_and_whole, stamp_and_values, key_stamp_and_values, some_columns, stamp_and_columns, name_and_columns};
 
 use crate::column::{read_column, read_columns, read_stamp_column};
 use crate::phrase::{
@@ -14,59 +14,76 @@ use std::alloc::Global;
 use ts_base::{Bytes, Key, Name, Stamp};
 use ts_text::{Misfit, behind_sign, read_sign};
 
-/// A name that ends a call.
-#[tactic(auto, unfolding(crate::specs::Grammar::last_name))]
-pub(crate) fn read_last_name(alloc: Global, bytes: &[u8]) -> Result<(Name, &[u8]), Misfit>
-    ensures ok { IfOk result (λ found. last_name bytes.now ≡ Ok (found.0, found.1.now)) }
-    ensures cause { IfErr result (λ misfit. Refuses misfit (last_name bytes.now)) }
+/// A name, and this sign behind it.
+#[tactic(auto, unfolding(crate::specs::Grammar::name_before))]
+pub(crate) fn read_name_before(
+    alloc: Global,
+    bytes: &[u8],
+    sign: u8,
+) -> Result<(Name, &[u8]), Misfit>
+    ensures ok { IfOk result (λ found. name_before sign bytes.now ≡ Ok (found.0, found.1.now)) }
+    ensures cause { IfErr result (λ misfit. Refuses misfit (name_before sign bytes.now)) }
 {
     let (name, rest) = read_name(alloc, bytes)?;
-    let rest = read_sign(rest, b')')?;
+    let rest = read_sign(rest, sign)?;
     Ok((name, rest))
 }
 
-/// A key that ends a call.
-#[tactic(auto, unfolding(crate::specs::Grammar::last_key))]
-pub(crate) fn read_last_key(alloc: Global, bytes: &[u8]) -> Result<(Key, &[u8]), Misfit>
-    ensures ok { IfOk result (λ found. last_key bytes.now ≡ Ok (found.0, found.1.now)) }
-    ensures cause { IfErr result (λ misfit. Refuses misfit (last_key bytes.now)) }
+/// A key, and this sign behind it.
+#[tactic(auto, unfolding(crate::specs::Grammar::key_before))]
+pub(crate) fn read_key_before(alloc: Global, bytes: &[u8], sign: u8) -> Result<(Key, &[u8]), Misfit>
+    ensures ok { IfOk result (λ found. key_before sign bytes.now ≡ Ok (found.0, found.1.now)) }
+    ensures cause { IfErr result (λ misfit. Refuses misfit (key_before sign bytes.now)) }
 {
     let (key, rest) = read_key(alloc, bytes)?;
-    let rest = read_sign(rest, b')')?;
+    let rest = read_sign(rest, sign)?;
     Ok((key, rest))
 }
 
-/// A text that ends a call.
-#[tactic(auto, unfolding(crate::specs::Grammar::last_text))]
-pub(crate) fn read_last_text(alloc: Global, bytes: &[u8]) -> Result<(Bytes, &[u8]), Misfit>
-    ensures ok { IfOk result (λ found. last_text bytes.now ≡ Ok (found.0, found.1.now)) }
-    ensures cause { IfErr result (λ misfit. Refuses misfit (last_text bytes.now)) }
+/// A text, and this sign behind it.
+#[tactic(auto, unfolding(crate::specs::Grammar::text_before))]
+pub(crate) fn read_text_before(
+    alloc: Global,
+    bytes: &[u8],
+    sign: u8,
+) -> Result<(Bytes, &[u8]), Misfit>
+    ensures ok { IfOk result (λ found. text_before sign bytes.now ≡ Ok (found.0, found.1.now)) }
+    ensures cause { IfErr result (λ misfit. Refuses misfit (text_before sign bytes.now)) }
 {
     let (text, rest) = read_text(alloc, bytes)?;
-    let rest = read_sign(rest, b')')?;
+    let rest = read_sign(rest, sign)?;
     Ok((text, rest))
 }
 
-/// A stamp that ends a call.
-#[tactic(auto, unfolding(crate::specs::Grammar::last_stamp))]
-pub(crate) fn read_last_stamp(alloc: Global, bytes: &[u8]) -> Result<(Stamp, &[u8]), Misfit>
-    ensures ok { IfOk result (λ found. last_stamp bytes.now ≡ Ok (found.0, found.1.now)) }
-    ensures cause { IfErr result (λ misfit. Refuses misfit (last_stamp bytes.now)) }
+/// A stamp, and this sign behind it.
+#[tactic(auto, unfolding(crate::specs::Grammar::stamp_before))]
+pub(crate) fn read_stamp_before(
+    alloc: Global,
+    bytes: &[u8],
+    sign: u8,
+) -> Result<(Stamp, &[u8]), Misfit>
+    ensures ok { IfOk result (λ found. stamp_before sign bytes.now ≡ Ok (found.0, found.1.now)) }
+    ensures cause { IfErr result (λ misfit. Refuses misfit (stamp_before sign bytes.now)) }
 {
     match read_stamp(alloc, bytes) {
-        Ok((stamp, rest)) => Ok((stamp, read_sign(rest, b')')?)),
+        Ok((stamp, rest)) => Ok((stamp, read_sign(rest, sign)?)),
         Err(misfit) => Err(misfit),
     }
 }
 
-/// A whole number between the two that ends a call.
-#[tactic(auto, unfolding(crate::specs::Grammar::last_whole))]
-pub(crate) fn read_last_whole(bytes: &[u8], least: i64, most: i64) -> Result<(i64, &[u8]), Misfit>
-    ensures ok { IfOk result (λ found. last_whole least most bytes.now ≡ Ok (found.0, found.1.now)) }
-    ensures cause { IfErr result (λ misfit. RefusesExactly misfit (last_whole least most bytes.now)) }
+/// A whole number between the two, and this sign behind it.
+#[tactic(auto, unfolding(crate::specs::Grammar::whole_before))]
+pub(crate) fn read_whole_before(
+    bytes: &[u8],
+    sign: u8,
+    least: i64,
+    most: i64,
+) -> Result<(i64, &[u8]), Misfit>
+    ensures ok { IfOk result (λ found. whole_before sign least most bytes.now ≡ Ok (found.0, found.1.now)) }
+    ensures cause { IfErr result (λ misfit. RefusesExactly misfit (whole_before sign least most bytes.now)) }
 {
     let (whole, rest) = read_whole(bytes, least, most)?;
-    let rest = read_sign(rest, b')')?;
+    let rest = read_sign(rest, sign)?;
     Ok((whole, rest))
 }
 
@@ -76,8 +93,8 @@ pub(crate) fn read_two_names(alloc: Global, bytes: &[u8]) -> Result<((Name, Name
     ensures ok { IfOk result (λ found. two_names bytes.now ≡ Ok (found.0, found.1.now)) }
     ensures cause { IfErr result (λ misfit. Refuses misfit (two_names bytes.now)) }
 {
-    let (name, rest) = read_name(alloc, bytes)?;
-    let (other, rest) = read_last_name(alloc, read_sign(rest, b',')?)?;
+    let (name, rest) = read_name_before(alloc, bytes, b',')?;
+    let (other, rest) = read_name_before(alloc, rest, b')')?;
     Ok(((name, other), rest))
 }
 
@@ -90,8 +107,8 @@ pub(crate) fn read_three_names(
     ensures ok { IfOk result (λ found. three_names bytes.now ≡ Ok (found.0, found.1.now)) }
     ensures cause { IfErr result (λ misfit. Refuses misfit (three_names bytes.now)) }
 {
-    let (name, rest) = read_name(alloc, bytes)?;
-    let (others, rest) = read_two_names(alloc, read_sign(rest, b',')?)?;
+    let (name, rest) = read_name_before(alloc, bytes, b',')?;
+    let (others, rest) = read_two_names(alloc, rest)?;
     Ok(((name, others), rest))
 }
 
@@ -118,8 +135,8 @@ pub(crate) fn read_name_and_text(
     ensures ok { IfOk result (λ found. name_and_text bytes.now ≡ Ok (found.0, found.1.now)) }
     ensures cause { IfErr result (λ misfit. Refuses misfit (name_and_text bytes.now)) }
 {
-    let (name, rest) = read_name(alloc, bytes)?;
-    let (text, rest) = read_last_text(alloc, read_sign(rest, b',')?)?;
+    let (name, rest) = read_name_before(alloc, bytes, b',')?;
+    let (text, rest) = read_text_before(alloc, rest, b')')?;
     Ok(((name, text), rest))
 }
 
@@ -134,8 +151,8 @@ pub(crate) fn read_name_and_whole(
     ensures ok { IfOk result (λ found. name_and_whole least most bytes.now ≡ Ok (found.0, found.1.now)) }
     ensures cause { IfErr result (λ misfit. Refuses misfit (name_and_whole least most bytes.now)) }
 {
-    let (name, rest) = read_name(alloc, bytes)?;
-    let (whole, rest) = read_last_whole(read_sign(rest, b',')?, least, most)?;
+    let (name, rest) = read_name_before(alloc, bytes, b',')?;
+    let (whole, rest) = read_whole_before(rest, b')', least, most)?;
     Ok(((name, whole), rest))
 }
 
@@ -150,8 +167,8 @@ pub(crate) fn read_two_names_and_whole(
     ensures ok { IfOk result (λ found. two_names_and_whole least most bytes.now ≡ Ok (found.0, found.1.now)) }
     ensures cause { IfErr result (λ misfit. Refuses misfit (two_names_and_whole least most bytes.now)) }
 {
-    let (name, rest) = read_name(alloc, bytes)?;
-    let (others, rest) = read_name_and_whole(alloc, read_sign(rest, b',')?, least, most)?;
+    let (name, rest) = read_name_before(alloc, bytes, b',')?;
+    let (others, rest) = read_name_and_whole(alloc, rest, least, most)?;
     Ok(((name, others), rest))
 }
 
@@ -161,8 +178,8 @@ pub(crate) fn read_key_and_name(alloc: Global, bytes: &[u8]) -> Result<((Key, Na
     ensures ok { IfOk result (λ found. key_and_name bytes.now ≡ Ok (found.0, found.1.now)) }
     ensures cause { IfErr result (λ misfit. Refuses misfit (key_and_name bytes.now)) }
 {
-    let (key, rest) = read_key(alloc, bytes)?;
-    let (name, rest) = read_last_name(alloc, read_sign(rest, b',')?)?;
+    let (key, rest) = read_key_before(alloc, bytes, b',')?;
+    let (name, rest) = read_name_before(alloc, rest, b')')?;
     Ok(((key, name), rest))
 }
 
@@ -177,8 +194,8 @@ pub(crate) fn read_key_and_whole(
     ensures ok { IfOk result (λ found. key_and_whole least most bytes.now ≡ Ok (found.0, found.1.now)) }
     ensures cause { IfErr result (λ misfit. Refuses misfit (key_and_whole least most bytes.now)) }
 {
-    let (key, rest) = read_key(alloc, bytes)?;
-    let (whole, rest) = read_last_whole(read_sign(rest, b',')?, least, most)?;
+    let (key, rest) = read_key_before(alloc, bytes, b',')?;
+    let (whole, rest) = read_whole_before(rest, b')', least, most)?;
     Ok(((key, whole), rest))
 }
 
@@ -191,8 +208,8 @@ pub(crate) fn read_key_and_stamp(
     ensures ok { IfOk result (λ found. key_and_stamp bytes.now ≡ Ok (found.0, found.1.now)) }
     ensures cause { IfErr result (λ misfit. Refuses misfit (key_and_stamp bytes.now)) }
 {
-    let (key, rest) = read_key(alloc, bytes)?;
-    match read_last_stamp(alloc, read_sign(rest, b',')?) {
+    let (key, rest) = read_key_before(alloc, bytes, b',')?;
+    match read_stamp_before(alloc, rest, b')') {
         Ok((stamp, rest)) => Ok(((key, stamp), rest)),
         Err(misfit) => Err(misfit),
     }
@@ -207,8 +224,8 @@ pub(crate) fn read_two_stamps(
     ensures ok { IfOk result (λ found. two_stamps bytes.now ≡ Ok (found.0, found.1.now)) }
     ensures cause { IfErr result (λ misfit. Refuses misfit (two_stamps bytes.now)) }
 {
-    match read_stamp(alloc, bytes) {
-        Ok((from, rest)) => match read_last_stamp(alloc, read_sign(rest, b',')?) {
+    match read_stamp_before(alloc, bytes, b',') {
+        Ok((from, rest)) => match read_stamp_before(alloc, rest, b')') {
             Ok((to, rest)) => Ok(((from, to), rest)),
             Err(misfit) => Err(misfit),
         },
@@ -225,8 +242,8 @@ pub(crate) fn read_name_range(
     ensures ok { IfOk result (λ found. name_range bytes.now ≡ Ok (found.0, found.1.now)) }
     ensures cause { IfErr result (λ misfit. Refuses misfit (name_range bytes.now)) }
 {
-    let (name, rest) = read_name(alloc, bytes)?;
-    match read_two_stamps(alloc, read_sign(rest, b',')?) {
+    let (name, rest) = read_name_before(alloc, bytes, b',')?;
+    match read_two_stamps(alloc, rest) {
         Ok((range, rest)) => Ok(((name, range), rest)),
         Err(misfit) => Err(misfit),
     }
@@ -241,8 +258,8 @@ pub(crate) fn read_key_range(
     ensures ok { IfOk result (λ found. key_range bytes.now ≡ Ok (found.0, found.1.now)) }
     ensures cause { IfErr result (λ misfit. Refuses misfit (key_range bytes.now)) }
 {
-    let (key, rest) = read_key(alloc, bytes)?;
-    match read_two_stamps(alloc, read_sign(rest, b',')?) {
+    let (key, rest) = read_key_before(alloc, bytes, b',')?;
+    match read_two_stamps(alloc, rest) {
         Ok((range, rest)) => Ok(((key, range), rest)),
         Err(misfit) => Err(misfit),
     }
@@ -257,8 +274,8 @@ pub(crate) fn read_two_keys_range(
     ensures ok { IfOk result (λ found. two_keys_range bytes.now ≡ Ok (found.0, found.1.now)) }
     ensures cause { IfErr result (λ misfit. Refuses misfit (two_keys_range bytes.now)) }
 {
-    let (first, rest) = read_key(alloc, bytes)?;
-    match read_key_range(alloc, read_sign(rest, b',')?) {
+    let (first, rest) = read_key_before(alloc, bytes, b',')?;
+    match read_key_range(alloc, rest) {
         Ok((second, rest)) => Ok(((first, second), rest)),
         Err(misfit) => Err(misfit),
     }
@@ -273,8 +290,8 @@ pub(crate) fn read_name_key_range(
     ensures ok { IfOk result (λ found. name_key_range bytes.now ≡ Ok (found.0, found.1.now)) }
     ensures cause { IfErr result (λ misfit. Refuses misfit (name_key_range bytes.now)) }
 {
-    let (name, rest) = read_name(alloc, bytes)?;
-    match read_key_range(alloc, read_sign(rest, b',')?) {
+    let (name, rest) = read_name_before(alloc, bytes, b',')?;
+    match read_key_range(alloc, rest) {
         Ok((key, rest)) => Ok(((name, key), rest)),
         Err(misfit) => Err(misfit),
     }
@@ -289,8 +306,8 @@ pub(crate) fn read_text_key_range(
     ensures ok { IfOk result (λ found. text_key_range bytes.now ≡ Ok (found.0, found.1.now)) }
     ensures cause { IfErr result (λ misfit. Refuses misfit (text_key_range bytes.now)) }
 {
-    let (text, rest) = read_text(alloc, bytes)?;
-    match read_key_range(alloc, read_sign(rest, b',')?) {
+    let (text, rest) = read_text_before(alloc, bytes, b',')?;
+    match read_key_range(alloc, rest) {
         Ok((key, rest)) => Ok(((text, key), rest)),
         Err(misfit) => Err(misfit),
     }
@@ -305,8 +322,8 @@ pub(crate) fn read_text_name_range(
     ensures ok { IfOk result (λ found. text_name_range bytes.now ≡ Ok (found.0, found.1.now)) }
     ensures cause { IfErr result (λ misfit. Refuses misfit (text_name_range bytes.now)) }
 {
-    let (text, rest) = read_text(alloc, bytes)?;
-    match read_name_range(alloc, read_sign(rest, b',')?) {
+    let (text, rest) = read_text_before(alloc, bytes, b',')?;
+    match read_name_range(alloc, rest) {
         Ok((name, rest)) => Ok(((text, name), rest)),
         Err(misfit) => Err(misfit),
     }
@@ -321,8 +338,8 @@ pub(crate) fn read_text_name_key_range(
     ensures ok { IfOk result (λ found. text_name_key_range bytes.now ≡ Ok (found.0, found.1.now)) }
     ensures cause { IfErr result (λ misfit. Refuses misfit (text_name_key_range bytes.now)) }
 {
-    let (text, rest) = read_text(alloc, bytes)?;
-    match read_name_key_range(alloc, read_sign(rest, b',')?) {
+    let (text, rest) = read_text_before(alloc, bytes, b',')?;
+    match read_name_key_range(alloc, rest) {
         Ok((name, rest)) => Ok(((text, name), rest)),
         Err(misfit) => Err(misfit),
     }
@@ -337,9 +354,9 @@ pub(crate) fn read_stamp_and_name(
     ensures ok { IfOk result (λ found. stamp_and_name bytes.now ≡ Ok (found.0, found.1.now)) }
     ensures cause { IfErr result (λ misfit. Refuses misfit (stamp_and_name bytes.now)) }
 {
-    match read_stamp(alloc, bytes) {
+    match read_stamp_before(alloc, bytes, b',') {
         Ok((stamp, rest)) => {
-            let (name, rest) = read_last_name(alloc, read_sign(rest, b',')?)?;
+            let (name, rest) = read_name_before(alloc, rest, b')')?;
             Ok(((stamp, name), rest))
         }
         Err(misfit) => Err(misfit),
@@ -355,8 +372,8 @@ pub(crate) fn read_name_stamp_and_name(
     ensures ok { IfOk result (λ found. name_stamp_and_name bytes.now ≡ Ok (found.0, found.1.now)) }
     ensures cause { IfErr result (λ misfit. Refuses misfit (name_stamp_and_name bytes.now)) }
 {
-    let (name, rest) = read_name(alloc, bytes)?;
-    match read_stamp_and_name(alloc, read_sign(rest, b',')?) {
+    let (name, rest) = read_name_before(alloc, bytes, b',')?;
+    match read_stamp_and_name(alloc, rest) {
         Ok((others, rest)) => Ok(((name, others), rest)),
         Err(misfit) => Err(misfit),
     }
@@ -371,8 +388,8 @@ pub(crate) fn read_key_name_stamp_and_name(
     ensures ok { IfOk result (λ found. key_name_stamp_and_name bytes.now ≡ Ok (found.0, found.1.now)) }
     ensures cause { IfErr result (λ misfit. Refuses misfit (key_name_stamp_and_name bytes.now)) }
 {
-    let (key, rest) = read_key(alloc, bytes)?;
-    match read_name_stamp_and_name(alloc, read_sign(rest, b',')?) {
+    let (key, rest) = read_key_before(alloc, bytes, b',')?;
+    match read_name_stamp_and_name(alloc, rest) {
         Ok((others, rest)) => Ok(((key, others), rest)),
         Err(misfit) => Err(misfit),
     }
@@ -389,9 +406,9 @@ pub(crate) fn read_stamp_and_whole(
     ensures ok { IfOk result (λ found. stamp_and_whole least most bytes.now ≡ Ok (found.0, found.1.now)) }
     ensures cause { IfErr result (λ misfit. Refuses misfit (stamp_and_whole least most bytes.now)) }
 {
-    match read_stamp(alloc, bytes) {
+    match read_stamp_before(alloc, bytes, b',') {
         Ok((stamp, rest)) => {
-            let (whole, rest) = read_last_whole(read_sign(rest, b',')?, least, most)?;
+            let (whole, rest) = read_whole_before(rest, b')', least, most)?;
             Ok(((stamp, whole), rest))
         }
         Err(misfit) => Err(misfit),
@@ -409,8 +426,8 @@ pub(crate) fn read_name_stamp_and_whole(
     ensures ok { IfOk result (λ found. name_stamp_and_whole least most bytes.now ≡ Ok (found.0, found.1.now)) }
     ensures cause { IfErr result (λ misfit. Refuses misfit (name_stamp_and_whole least most bytes.now)) }
 {
-    let (name, rest) = read_name(alloc, bytes)?;
-    match read_stamp_and_whole(alloc, read_sign(rest, b',')?, least, most) {
+    let (name, rest) = read_name_before(alloc, bytes, b',')?;
+    match read_stamp_and_whole(alloc, rest, least, most) {
         Ok((others, rest)) => Ok(((name, others), rest)),
         Err(misfit) => Err(misfit),
     }
@@ -427,8 +444,8 @@ pub(crate) fn read_key_stamp_and_whole(
     ensures ok { IfOk result (λ found. key_stamp_and_whole least most bytes.now ≡ Ok (found.0, found.1.now)) }
     ensures cause { IfErr result (λ misfit. Refuses misfit (key_stamp_and_whole least most bytes.now)) }
 {
-    let (key, rest) = read_key(alloc, bytes)?;
-    match read_stamp_and_whole(alloc, read_sign(rest, b',')?, least, most) {
+    let (key, rest) = read_key_before(alloc, bytes, b',')?;
+    match read_stamp_and_whole(alloc, rest, least, most) {
         Ok((others, rest)) => Ok(((key, others), rest)),
         Err(misfit) => Err(misfit),
     }
@@ -461,8 +478,8 @@ pub(crate) fn read_key_stamp_and_values(
     ensures ok { IfOk result (λ found. key_stamp_and_values bytes.now ≡ Ok (found.0, found.1.now)) }
     ensures cause { IfErr result (λ misfit. Refuses misfit (key_stamp_and_values bytes.now)) }
 {
-    let (key, rest) = read_key(alloc, bytes)?;
-    match read_stamp_and_values(alloc, read_sign(rest, b',')?) {
+    let (key, rest) = read_key_before(alloc, bytes, b',')?;
+    match read_stamp_and_values(alloc, rest) {
         Ok((others, rest)) => Ok(((key, others), rest)),
         Err(misfit) => Err(misfit),
     }
@@ -505,8 +522,8 @@ pub(crate) fn read_name_and_columns(
     ensures ok { IfOk result (λ found. name_and_columns bytes.now ≡ Ok (found.0, found.1.now)) }
     ensures cause { IfErr result (λ misfit. Refuses misfit (name_and_columns bytes.now)) }
 {
-    let (name, rest) = read_name(alloc, bytes)?;
-    let (columns, rest) = read_stamp_and_columns(alloc, read_sign(rest, b',')?)?;
+    let (name, rest) = read_name_before(alloc, bytes, b',')?;
+    let (columns, rest) = read_stamp_and_columns(alloc, rest)?;
     Ok(((name, columns), rest))
 }
 

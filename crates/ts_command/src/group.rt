@@ -6,8 +6,8 @@ ghost use Rattle.ts_command.specs.Grammar.{arguments_to_end, of_name, of_key, of
 ghost use Rattle.ts_command.specs.declared.routine.Routine.{Routine};
 
 use crate::call::{
-    read_joined_names, read_key_and_stamp, read_key_and_whole, read_key_range,
-    read_key_stamp_and_values, read_last_key, read_last_name, read_name_and_text, read_name_range,
+    read_joined_names, read_key_and_stamp, read_key_and_whole, read_key_before, read_key_range,
+    read_key_stamp_and_values, read_name_and_text, read_name_before, read_name_range,
     read_two_keys_range,
 };
 use crate::routine::{
@@ -30,7 +30,7 @@ pub(crate) fn read_of_name(
     ensures ok { IfOk result (λ command. arguments_to_end (Routine.ByName routine) bytes.now ≡ Ok (command, [])) }
     ensures cause { IfErr result (λ misfit. Refuses misfit (arguments_to_end (Routine.ByName routine) bytes.now)) }
 {
-    let (name, rest) = read_last_name(alloc, bytes)?;
+    let (name, rest) = read_name_before(alloc, bytes, b')')?;
     read_end(rest, b";")?;
     Ok(of_name(routine, name))
 }
@@ -60,7 +60,7 @@ pub(crate) fn read_of_key(
     ensures ok { IfOk result (λ command. arguments_to_end (Routine.ByKey routine) bytes.now ≡ Ok (command, [])) }
     ensures cause { IfErr result (λ misfit. Refuses misfit (arguments_to_end (Routine.ByKey routine) bytes.now)) }
 {
-    let (key, rest) = read_last_key(alloc, bytes)?;
+    let (key, rest) = read_key_before(alloc, bytes, b')')?;
     read_end(rest, b";")?;
     Ok(of_key(routine, key))
 }
