@@ -9,7 +9,7 @@ use Rattle.ts_tokens.specs.Tokens.{front}
 use Rattle.ts_tokens.specs.Text.{said}
 use Rattle.ts_command.specs.Form.{HasForm}
 use Rattle.ts_command.specs.Routines.{least_number, most_number}
-use Rattle.ts_command.specs.Grammar.{a_name, a_key, a_stamp, a_text, text_in, a_routine, of_name, of_key, of_stamp, of_row, of_text, of_join, of_range, of_clip, of_number, of_keys, arguments, a_call, a_command, before, two, name_before, key_before, text_before, two_names, joined_names, name_and_text, two_names_and_whole, key_and_name, key_and_whole, key_and_stamp, name_range, key_range, two_keys_range, name_key_range, text_key_range, text_name_range, text_name_key_range, key_name_stamp_and_name, name_stamp_and_whole, key_stamp_and_whole, key_stamp_and_values, name_and_columns}
+use Rattle.ts_command.specs.Grammar.{a_text, text_in, a_routine, of_name, of_key, of_stamp, of_row, of_text, of_join, of_range, of_clip, of_number, of_keys, arguments, a_call, a_command, before, two, name_before, key_before, text_before, two_names, joined_names, name_and_text, two_names_and_whole, key_and_name, key_and_whole, key_and_stamp, name_range, key_range, two_keys_range, name_key_range, text_key_range, text_name_range, text_name_key_range, key_name_stamp_and_name, name_stamp_and_whole, key_stamp_and_whole, key_stamp_and_values, name_and_columns}
 use Rattle.ts_command.specs.declared.routine.Routine.{Routine}
 use Rattle.ts_command.specs.declared.routine.Routine.TheVariants as calls
 use Rattle.ts_command.specs.declared.routine.NameRoutine.{NameRoutine}

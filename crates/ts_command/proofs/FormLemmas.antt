@@ -7,7 +7,6 @@ use Rattle.ts_base.specs.Name.{is_name, is_key, name_if_any, key_if_any}
 use Rattle.ts_base.specs.StampText.{read_stamp, moment_in}
 use Rattle.ts_base.specs.Moment.{units_of as moment_units}
 use Rattle.ts_row.specs.declared.kind.Column.{Column}
-use Rattle.ts_row.specs.declared.value.Literal.{Literal}
 use Rattle.ts_row.specs.declared.value.Literal.TheVariants as literals
 use Rattle.ts_text.specs.Phrase.{Phrase, word_in, a_sign, behind, closed}
 use Rattle.ts_text.specs.declared.token.TokenKind.{TokenKind}
@@ -21,7 +20,6 @@ use Rattle.ts_command.specs.Grammar.{a_literal, literal_in, a_column, a_name, na
 use Rattle.ts_command.specs.Routines.{routine_of, joined_of, type_of}
 use Rattle.ts_command.specs.declared.routine.Routine.TheVariants as calls
 use Rattle.ts_command.specs.declared.routine.StampRoutine.TheVariants as at_stamp
-use Rattle.ts_command.specs.declared.word.Joined.{Joined}
 use Rattle.ts_command.specs.declared.word.Joined.TheVariants.{Patterns}
 use Rattle.ts_command.specs.declared.word.TypeName.{TypeName}
 use Rattle.ts_command.specs.declared.word.TypeName.TheVariants.{SmallInt, Integer, BigInt, Decimal, VarChar}
