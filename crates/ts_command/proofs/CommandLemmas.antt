@@ -1,15 +1,15 @@
 -- The command that a statement is read as has its form.
 use Rattle.std.proofs.Common.{◌≡◌, ℕ, ◌<◌, ◌≤◌, ◌^◌, List, [], ◌∷◌, length, length-append, Some, Ok, true, refl, ap, arith, ℤ, pos, neg_ℤ, int_le}
 use Rattle.ts_row.specs.declared.value.Literal.{Literal}
-use Rattle.ts_text.specs.Phrase.{Phrase, ◌>>=◌, give, a_sign, behind, in_brackets, pair, triple, made, the_end}
+use Rattle.ts_text.specs.Phrase.{Phrase, ◌>>=◌, give, a_sign, behind, made, the_end}
 use Rattle.ts_text.specs.declared.token.TokenKind.{TokenKind}
 use Rattle.ts_text.specs.declared.token.TokenKind.TheVariants.{Word, Number, Text, Sign}
-use Rattle.ts_text.proofs.CallerLemmas.{Yields, Goes, Any, chain, shrinks_of, sign_shrinks, made_yields, bind-ok, pair-parts, token-found, unblanked-le}
+use Rattle.ts_text.proofs.CallerLemmas.{Yields, Goes, Any, chain, shrinks_of, sign_shrinks, behind_yields, made_yields, bind-ok, pair-parts, token-found, unblanked-le}
 use Rattle.ts_tokens.specs.Tokens.{front}
 use Rattle.ts_tokens.specs.Text.{said}
 use Rattle.ts_command.specs.Form.{HasForm}
 use Rattle.ts_command.specs.Routines.{least_number, most_number}
-use Rattle.ts_command.specs.Grammar.{a_name, a_key, a_stamp, a_text, text_in, a_routine, a_name_call, a_names_call, a_name_text_call, a_join_call, a_name_range_call, a_name_stamp_whole_call, a_key_call, a_key_name_call, a_key_name_stamp_name_call, a_key_stamp_call, a_key_range_call, a_names_whole_call, a_key_stamp_values_call, a_name_columns_call, a_key_stamp_whole_call, a_key_whole_call, a_keys_range_call, a_text_key_range_call, a_text_name_range_call, a_text_name_key_range_call, of_name, of_key, of_stamp, of_row, of_text, of_join, of_range, of_clip, of_number, of_keys, arguments, a_call, a_command}
+use Rattle.ts_command.specs.Grammar.{a_text, text_in, a_routine, of_name, of_key, of_stamp, of_row, of_text, of_join, of_range, of_clip, of_number, of_keys, arguments, a_call, a_command, before, two, name_before, key_before, text_before, two_names, joined_names, name_and_text, two_names_and_whole, key_and_name, key_and_whole, key_and_stamp, name_range, key_range, two_keys_range, name_key_range, text_key_range, text_name_range, text_name_key_range, key_name_stamp_and_name, name_stamp_and_whole, key_stamp_and_whole, key_stamp_and_values, name_and_columns}
 use Rattle.ts_command.specs.declared.routine.Routine.{Routine}
 use Rattle.ts_command.specs.declared.routine.Routine.TheVariants as calls
 use Rattle.ts_command.specs.declared.routine.NameRoutine.{NameRoutine}
@@ -35,8 +35,8 @@ use Rattle.ts_command.specs.declared.routine.PairRoutine.TheVariants as of_pair
 use Rattle.ts_command.specs.declared.word.Joined.{Joined}
 use Rattle.ts_command.specs.declared.word.Joined.TheVariants.{Patterns, Calendars}
 use Rattle.ts_command.specs.declared.command.Command.{Command}
-use Rattle.ts_tokens.proofs.CallerLemmas.{front_laws, said-le}
-use Rattle.ts_command.proofs.FormLemmas.{IsName, IsKey, IsWithin, AreNames, IsKeyRange, IsNameRange, IsNameAndKey, name_yields, key_range_yields, name_range_yields, name_key_range_yields, text_call_yields, routine_yields, name_call_yields, names_call_yields, name_text_call_yields, join_call_yields, name_range_call_yields, name_stamp_whole_call_yields, key_call_yields, key_name_call_yields, key_name_stamp_name_call_yields, key_stamp_call_yields, key_range_call_yields, names_whole_call_yields, key_stamp_values_call_yields, name_columns_call_yields, key_stamp_whole_call_yields, key_whole_call_yields, keys_range_call_yields}
+use Rattle.ts_tokens.proofs.CallerLemmas.{front_laws, open_sign, close_sign, comma_sign, said-le}
+use Rattle.ts_command.proofs.FormLemmas.{IsName, IsKey, IsWithin, Both, AreNames, IsKeyRange, IsNameRange, IsNameAndKey, key_range_yields, name_range_yields, name_key_range_yields, with_text_yields, routine_yields, name_before_yields, two_names_yields, name_and_text_yields, joined_names_yields, name_stamp_and_whole_yields, key_before_yields, key_and_name_yields, key_name_stamp_and_name_yields, key_and_stamp_yields, two_names_and_whole_yields, key_stamp_and_values_yields, name_and_columns_yields, key_stamp_and_whole_yields, key_and_whole_yields, two_keys_range_yields}
 
 -- the commands of each group have their form
 of_name-form : (routine : NameRoutine) (name : List ℕ) → IsName name → HasForm (of_name routine name)
@@ -71,11 +71,11 @@ of_text-form : (routine : TextRoutine) (name text : List ℕ) → IsName name �
 of_text-form with_text.CreatePattern name text form few = (form, few)
 of_text-form with_text.CreateCalendar name text form few = (form, few)
 
-of_join-form : (routine : JoinRoutine) (joined : Joined) (names : List ℕ × List ℕ × List ℕ) → AreNames names → HasForm (of_join routine joined names)
-of_join-form joining.AndOp Patterns names form = form
-of_join-form joining.AndOp Calendars names form = form
-of_join-form joining.OrOp Patterns names form = form
-of_join-form joining.OrOp Calendars names form = form
+of_join-form : (routine : JoinRoutine) (joined : Joined) (names : List ℕ × (List ℕ × List ℕ)) → AreNames names → HasForm (of_join routine joined names)
+of_join-form joining.AndOp Patterns names form = (form.0, form.1.0, form.1.1)
+of_join-form joining.AndOp Calendars names form = (form.0, form.1.0, form.1.1)
+of_join-form joining.OrOp Patterns names form = (form.0, form.1.0, form.1.1)
+of_join-form joining.OrOp Calendars names form = (form.0, form.1.0, form.1.1)
 
 of_range-form : (routine : RangeRoutine) (calendar : List ℕ) (from to : ℤ) → IsName calendar → HasForm (of_range routine calendar from to)
 of_range-form in_range.CalIndex calendar from to form = form
@@ -111,41 +111,41 @@ FormOf calls.AggregateRange command = Any command
 FormOf calls.AggregateAll command = Any command
 FormOf routine command = HasForm command
 
-text_key_range_call_yields : Yields front (λ (p : List ℕ × (List ℕ × ℤ × ℤ)). Any p.0 × IsKeyRange p.1) a_text_key_range_call
-unfolding a_text_key_range_call
-text_key_range_call_yields = text_call_yields IsKeyRange (triple a_key a_stamp a_stamp) key_range_yields
+text_key_range_yields : Yields front (Both Any IsKeyRange) text_key_range
+unfolding text_key_range
+text_key_range_yields = with_text_yields IsKeyRange key_range key_range_yields
 
-text_name_range_call_yields : Yields front (λ (p : List ℕ × (List ℕ × ℤ × ℤ)). Any p.0 × IsNameRange p.1) a_text_name_range_call
-unfolding a_text_name_range_call
-text_name_range_call_yields = text_call_yields IsNameRange (triple a_name a_stamp a_stamp) name_range_yields
+text_name_range_yields : Yields front (Both Any IsNameRange) text_name_range
+unfolding text_name_range
+text_name_range_yields = with_text_yields IsNameRange name_range name_range_yields
 
-text_name_key_range_call_yields : Yields front (λ (p : List ℕ × (List ℕ × (List ℕ × ℤ × ℤ))). Any p.0 × IsNameAndKey p.1) a_text_name_key_range_call
-unfolding a_text_name_key_range_call
-text_name_key_range_call_yields = text_call_yields IsNameAndKey (pair a_name (triple a_key a_stamp a_stamp)) name_key_range_yields
+text_name_key_range_yields : Yields front (Both Any IsNameAndKey) text_name_key_range
+unfolding text_name_key_range
+text_name_key_range_yields = with_text_yields IsNameAndKey name_key_range name_key_range_yields
 
 -- and they tell it
 arguments_yield : (routine : Routine) → Yields front (FormOf routine) (arguments routine)
 unfolding arguments
-arguments_yield calls.CreateRowType = made_yields front front_laws _ HasForm a_name_columns_call _ name_columns_call_yields (λ a form. form)
-arguments_yield calls.TSContainerCreate = made_yields front front_laws _ HasForm (a_names_whole_call (pos 1) (pos 65536)) _ (names_whole_call_yields (pos 1) (pos 65536) refl refl) (λ a form. (form.0, form.1, form.2.0, form.2.1))
-arguments_yield calls.TSCreate = made_yields front front_laws _ HasForm a_key_name_stamp_name_call _ key_name_stamp_name_call_yields (λ a form. (form.0, form.1.0, form.1.2))
-arguments_yield calls.TSCreateIrr = made_yields front front_laws _ HasForm a_key_name_call _ key_name_call_yields (λ a form. form)
-arguments_yield calls.NotOp = made_yields front front_laws _ HasForm a_names_call _ names_call_yields (λ a form. form)
-arguments_yield calls.CalStamp = made_yields front front_laws _ HasForm (a_name_stamp_whole_call (pos 1) (pos 4294967295)) _ (name_stamp_whole_call_yields (pos 1) (pos 4294967295) refl refl) (λ a form. (form.0, form.2.0, form.2.1))
-arguments_yield calls.ClipCount = made_yields front front_laws _ HasForm (a_key_stamp_whole_call (neg_ℤ (pos 1000000)) (pos 1000000)) _ (key_stamp_whole_call_yields (neg_ℤ (pos 1000000)) (pos 1000000) refl refl) (λ a form. (form.0, form.2.0, form.2.1))
-arguments_yield calls.AggregateBy = made_yields front front_laws _ Any a_text_name_key_range_call _ text_name_key_range_call_yields (λ a form. tt)
-arguments_yield calls.AggregateRange = made_yields front front_laws _ Any a_text_key_range_call _ text_key_range_call_yields (λ a form. tt)
-arguments_yield calls.AggregateAll = made_yields front front_laws _ Any a_text_name_range_call _ text_name_range_call_yields (λ a form. tt)
-arguments_yield (calls.ByName routine) = made_yields front front_laws _ HasForm a_name_call _ name_call_yields (of_name-form routine)
-arguments_yield (calls.ByKey routine) = made_yields front front_laws _ HasForm a_key_call _ key_call_yields (of_key-form routine)
-arguments_yield (calls.AtStamp routine) = made_yields front front_laws _ HasForm a_key_stamp_call _ key_stamp_call_yields (λ a form. of_stamp-form routine a.0 a.1 form.0)
-arguments_yield (calls.WithRow routine) = made_yields front front_laws _ HasForm a_key_stamp_values_call _ key_stamp_values_call_yields (λ a form. of_row-form routine a.0 a.1 a.2 form)
-arguments_yield (calls.WithText routine) = made_yields front front_laws _ Any a_name_text_call _ name_text_call_yields (λ a form. tt)
-arguments_yield (calls.Joining routine) = made_yields front front_laws _ HasForm a_join_call _ join_call_yields (λ a form. of_join-form routine a.0 a.1 form.1)
-arguments_yield (calls.InRange routine) = made_yields front front_laws _ HasForm a_name_range_call _ name_range_call_yields (λ a form. of_range-form routine a.0 a.1 a.2 form.0)
-arguments_yield (calls.Clipping routine) = made_yields front front_laws _ HasForm a_key_range_call _ key_range_call_yields (λ a form. of_clip-form routine a.0 a.1 a.2 form.0)
-arguments_yield (calls.ByNumber routine) = made_yields front front_laws _ HasForm (a_key_whole_call (least_number routine) (most_number routine)) _ (key_whole_call_yields (least_number routine) (most_number routine) (number_below routine) (number_above routine)) (λ a form. of_number-form routine a.0 a.1 form.0 form.1)
-arguments_yield (calls.OfPair routine) = made_yields front front_laws _ HasForm a_keys_range_call _ keys_range_call_yields (λ a form. of_keys-form routine a.0 a.1.0 a.1.1 a.1.2 form.0 form.1.0)
+arguments_yield calls.CreateRowType = made_yields front front_laws _ HasForm name_and_columns _ name_and_columns_yields (λ a form. (form.0, form.1.0, form.1.1.0, form.1.1.1))
+arguments_yield calls.TSContainerCreate = made_yields front front_laws _ HasForm (two_names_and_whole (pos 1) (pos 65536)) _ (two_names_and_whole_yields (pos 1) (pos 65536) refl refl) (λ a form. (form.0, form.1.0, form.1.1.0, form.1.1.1))
+arguments_yield calls.TSCreate = made_yields front front_laws _ HasForm key_name_stamp_and_name _ key_name_stamp_and_name_yields (λ a form. (form.0, form.1.0, form.1.1.1))
+arguments_yield calls.TSCreateIrr = made_yields front front_laws _ HasForm key_and_name _ key_and_name_yields (λ a form. form)
+arguments_yield calls.NotOp = made_yields front front_laws _ HasForm two_names _ two_names_yields (λ a form. form)
+arguments_yield calls.CalStamp = made_yields front front_laws _ HasForm (name_stamp_and_whole (pos 1) (pos 4294967295)) _ (name_stamp_and_whole_yields (pos 1) (pos 4294967295) refl refl) (λ a form. (form.0, form.1.1.0, form.1.1.1))
+arguments_yield calls.ClipCount = made_yields front front_laws _ HasForm (key_stamp_and_whole (neg_ℤ (pos 1000000)) (pos 1000000)) _ (key_stamp_and_whole_yields (neg_ℤ (pos 1000000)) (pos 1000000) refl refl) (λ a form. (form.0, form.1.1.0, form.1.1.1))
+arguments_yield calls.AggregateBy = made_yields front front_laws _ Any text_name_key_range _ text_name_key_range_yields (λ a form. tt)
+arguments_yield calls.AggregateRange = made_yields front front_laws _ Any text_key_range _ text_key_range_yields (λ a form. tt)
+arguments_yield calls.AggregateAll = made_yields front front_laws _ Any text_name_range _ text_name_range_yields (λ a form. tt)
+arguments_yield (calls.ByName routine) = made_yields front front_laws _ HasForm (name_before 41) _ (name_before_yields 41 close_sign) (of_name-form routine)
+arguments_yield (calls.ByKey routine) = made_yields front front_laws _ HasForm (key_before 41) _ (key_before_yields 41 close_sign) (of_key-form routine)
+arguments_yield (calls.AtStamp routine) = made_yields front front_laws _ HasForm key_and_stamp _ key_and_stamp_yields (λ a form. of_stamp-form routine a.0 a.1 form.0)
+arguments_yield (calls.WithRow routine) = made_yields front front_laws _ HasForm key_stamp_and_values _ key_stamp_and_values_yields (λ a form. of_row-form routine a.0 a.1.0 a.1.1 form.0)
+arguments_yield (calls.WithText routine) = made_yields front front_laws _ Any name_and_text _ name_and_text_yields (λ a form. tt)
+arguments_yield (calls.Joining routine) = made_yields front front_laws _ HasForm joined_names _ joined_names_yields (λ a form. of_join-form routine a.0 a.1 form.1)
+arguments_yield (calls.InRange routine) = made_yields front front_laws _ HasForm name_range _ name_range_yields (λ a form. of_range-form routine a.0 a.1.0 a.1.1 form.0)
+arguments_yield (calls.Clipping routine) = made_yields front front_laws _ HasForm key_range _ key_range_yields (λ a form. of_clip-form routine a.0 a.1.0 a.1.1 form.0)
+arguments_yield (calls.ByNumber routine) = made_yields front front_laws _ HasForm (key_and_whole (least_number routine) (most_number routine)) _ (key_and_whole_yields (least_number routine) (most_number routine) (number_below routine) (number_above routine)) (λ a form. of_number-form routine a.0 a.1 form.0 form.1)
+arguments_yield (calls.OfPair routine) = made_yields front front_laws _ HasForm two_keys_range _ two_keys_range_yields (λ a form. of_keys-form routine a.0 a.1.0 a.1.1.0 a.1.1.1 form.0 form.1.0)
 
 -- a phrase, with nothing told of what it gives
 goes_on : {A : Type 0} (P : A → Type 0) (phrase : Phrase A) (before : List ℕ) → Goes P phrase before → Goes Any phrase before
@@ -164,7 +164,9 @@ loosely P phrase one = record {
 -- a call
 pub call_yields : Yields front Any a_call
 unfolding a_call
-call_yields = chain front front_laws Any Any a_routine arguments routine_yields (λ routine any. loosely (FormOf routine) (arguments routine) (arguments_yield routine))
+call_yields =
+    chain front front_laws Any Any a_routine (λ routine. behind 40 (arguments routine)) routine_yields
+    (λ routine any. behind_yields front front_laws Any 40 open_sign (arguments routine) (loosely (FormOf routine) (arguments routine) (arguments_yield routine)))
 
 -- a text is no longer than the bytes
 text_is : (kind : TokenKind) (token a : List ℕ) → text_in kind token ≡ Some a → length a ≤ length token
@@ -179,67 +181,63 @@ text-le bytes found is =
     let token = token-found front front_laws text_in bytes found.1 found.0 is in
     omega (arith, text_is token.kind token.text found.0 token.accepted, ap length token.whole, length-append token.text found.1, unblanked-le bytes)
 
-pair_text-le : (bytes : List ℕ) (found : (List ℕ × List ℕ) × List ℕ) → pair a_name a_text bytes ≡ Ok found → length found.0.1 ≤ length bytes
-pair_text-le bytes found is =
-    let name = bind-ok (a_name bytes) (λ a. behind 44 a_text >>= (λ b. give (a, b))) found is in
-    let text = bind-ok (behind 44 a_text name.0.1) (λ b. give (name.0.0, b)) found name.2 in
-    let comma = bind-ok (a_sign 44 name.0.1) (λ sign. a_text) text.0 text.1 in
+text_before-le : (sign : ℕ) (bytes : List ℕ) (found : List ℕ × List ℕ) → text_before sign bytes ≡ Ok found → length found.0 ≤ length bytes
+unfolding text_before
+text_before-le sign bytes found is =
+    let text = bind-ok (a_text bytes) (λ a. a_sign sign >>= (λ end. give a)) found is in
+    let end = bind-ok (a_sign sign text.0.1) (λ end. give text.0.0) found text.2 in
+    omega (arith, ap length (pair-parts text.0.0 found.0 end.0.1 found.1 end.2).0, text-le bytes text.0 text.1)
+
+name_text-le : (bytes : List ℕ) (found : (List ℕ × List ℕ) × List ℕ) → name_and_text bytes ≡ Ok found → length found.0.1 ≤ length bytes
+unfolding name_and_text
+name_text-le bytes found is =
+    let name = bind-ok (name_before 44 bytes) (λ a. text_before 41 >>= (λ b. give (a, b))) found is in
+    let text = bind-ok (text_before 41 name.0.1) (λ b. give (name.0.0, b)) found name.2 in
     let both : List ℕ × List ℕ = (name.0.0, text.0.0) in
     let same : text.0.0 ≡ found.0.1 = ap (λ (p : List ℕ × List ℕ). p.1) (pair-parts both found.0 text.0.1 found.1 text.2).0 in
-    omega (arith, ap length same, text-le comma.0.1 text.0 comma.2, sign_shrinks 44 name.0.1 comma.0 comma.1, shrinks_of front IsName a_name name_yields bytes name.0 name.1)
-
-name_text-le : (bytes : List ℕ) (found : (List ℕ × List ℕ) × List ℕ) → a_name_text_call bytes ≡ Ok found → length found.0.1 ≤ length bytes
-unfolding a_name_text_call
-name_text-le bytes found is =
-    let inner = bind-ok (behind 40 (pair a_name a_text) bytes) (λ both. a_sign 41 >>= (λ close. give both)) found is in
-    let open_ = bind-ok (a_sign 40 bytes) (λ sign. pair a_name a_text) inner.0 inner.1 in
-    let close = bind-ok (a_sign 41 inner.0.1) (λ close. give inner.0.0) found inner.2 in
-    let same : inner.0.0.1 ≡ found.0.1 = ap (λ (p : List ℕ × List ℕ). p.1) (pair-parts inner.0.0 found.0 close.0.1 found.1 close.2).0 in
-    omega (arith, ap length same, pair_text-le open_.0.1 inner.0 open_.2, sign_shrinks 40 bytes open_.0 open_.1)
+    omega (arith, ap length same, text_before-le 41 name.0.1 text.0 text.1, shrinks_of front IsName (name_before 44) (name_before_yields 44 comma_sign) bytes name.0 name.1)
 
 text-form : (routine : TextRoutine) (bytes : List ℕ) (found : Command × List ℕ) → length bytes < 2 ^ 32 → arguments (calls.WithText routine) bytes ≡ Ok found → HasForm found.0
 unfolding arguments
 text-form routine bytes found few is =
-    let read = bind-ok (a_name_text_call bytes) (λ a. give (of_text routine a.0 a.1)) found is in
+    let read = bind-ok (name_and_text bytes) (λ a. give (of_text routine a.0 a.1)) found is in
     let same = (pair-parts (of_text routine read.0.0.0 read.0.0.1) found.0 read.0.1 found.1 read.2).0 in
-    rw (← same) (of_text-form routine read.0.0.0 read.0.0.1 (name_text_call_yields.ok bytes read.0 read.1).0.0 (omega (arith, few, name_text-le bytes read.0 read.1)))
+    rw (← same) (of_text-form routine read.0.0.0 read.0.0.1 (name_and_text_yields.ok bytes read.0 read.1).0.0 (omega (arith, few, name_text-le bytes read.0 read.1)))
 
 -- so where a text stands first
-first_text-le : {A : Type 0} (other : Phrase A) (bytes : List ℕ) (found : (List ℕ × A) × List ℕ) → in_brackets (pair a_text other) bytes ≡ Ok found → length found.0.0 ≤ length bytes
+first_text-le : {A : Type 0} (other : Phrase A) (bytes : List ℕ) (found : (List ℕ × A) × List ℕ) → two (text_before 44) other bytes ≡ Ok found → length found.0.0 ≤ length bytes
 first_text-le {A} other bytes found is =
-    let inner = bind-ok (behind 40 (pair a_text other) bytes) (λ both. a_sign 41 >>= (λ close. give both)) found is in
-    let open_ = bind-ok (a_sign 40 bytes) (λ sign. pair a_text other) inner.0 inner.1 in
-    let close = bind-ok (a_sign 41 inner.0.1) (λ close. give inner.0.0) found inner.2 in
-    let text = bind-ok (a_text open_.0.1) (λ a. behind 44 other >>= (λ b. give (a, b))) inner.0 open_.2 in
-    let rest = bind-ok (behind 44 other text.0.1) (λ b. give (text.0.0, b)) inner.0 text.2 in
+    let text = bind-ok (text_before 44 bytes) (λ a. other >>= (λ b. give (a, b))) found is in
+    let rest = bind-ok (other text.0.1) (λ b. give (text.0.0, b)) found text.2 in
     let both : List ℕ × A = (text.0.0, rest.0.0) in
-    let same : text.0.0 ≡ inner.0.0.0 = ap (λ (p : List ℕ × A). p.0) {x = both} {y = inner.0.0} (pair-parts both inner.0.0 rest.0.1 inner.0.1 rest.2).0 in
-    let whole : inner.0.0.0 ≡ found.0.0 = ap (λ (p : List ℕ × A). p.0) {x = inner.0.0} {y = found.0} (pair-parts inner.0.0 found.0 close.0.1 found.1 close.2).0 in
-    omega (arith, ap length same, ap length whole, text-le open_.0.1 text.0 text.1, sign_shrinks 40 bytes open_.0 open_.1)
+    let same : text.0.0 ≡ found.0.0 = ap (λ (p : List ℕ × A). p.0) {x = both} {y = found.0} (pair-parts both found.0 rest.0.1 found.1 rest.2).0 in
+    omega (arith, ap length same, text_before-le 44 bytes text.0 text.1)
 
 -- a command that is made of a text and of what else stands there has its form where these have theirs
 first_text-form : {A : Type 0} (P : A → Type 0) (other : Phrase A) (make : List ℕ × A → Command) → Yields front P other
     → ((a : List ℕ × A) → length a.0 < 2 ^ 32 → P a.1 → HasForm (make a))
-    → (bytes : List ℕ) (found : Command × List ℕ) → length bytes < 2 ^ 32 → made (in_brackets (pair a_text other)) make bytes ≡ Ok found → HasForm found.0
+    → (bytes : List ℕ) (found : Command × List ℕ) → length bytes < 2 ^ 32 → made (two (text_before 44) other) make bytes ≡ Ok found → HasForm found.0
 first_text-form P other make one forms bytes found few is =
-    let read = bind-ok (in_brackets (pair a_text other) bytes) (λ a. give (make a)) found is in
+    let read = bind-ok (two (text_before 44) other bytes) (λ a. give (make a)) found is in
     let same = (pair-parts (make read.0.0) found.0 read.0.1 found.1 read.2).0 in
-    rw (← same) (forms read.0.0 (omega (arith, few, first_text-le other bytes read.0 read.1)) ((text_call_yields P other one).ok bytes read.0 read.1).0.1)
+    rw (← same) (forms read.0.0 (omega (arith, few, first_text-le other bytes read.0 read.1)) ((with_text_yields P other one).ok bytes read.0 read.1).0.1)
 
 -- each routine's command, in so few bytes
 arguments-form : (routine : Routine) (bytes : List ℕ) (found : Command × List ℕ) → length bytes < 2 ^ 32 → arguments routine bytes ≡ Ok found → HasForm found.0
-unfolding arguments a_text_name_key_range_call a_text_key_range_call a_text_name_range_call
+unfolding arguments text_name_key_range text_key_range text_name_range
 arguments-form (calls.WithText routine) bytes found few is = text-form routine bytes found few is
-arguments-form calls.AggregateBy bytes found few is = first_text-form IsNameAndKey (pair a_name (triple a_key a_stamp a_stamp)) _ name_key_range_yields (λ a short form. (short, form.0, form.1.0)) bytes found few is
-arguments-form calls.AggregateRange bytes found few is = first_text-form IsKeyRange (triple a_key a_stamp a_stamp) _ key_range_yields (λ a short form. (short, form.0)) bytes found few is
-arguments-form calls.AggregateAll bytes found few is = first_text-form IsNameRange (triple a_name a_stamp a_stamp) _ name_range_yields (λ a short form. (short, form.0)) bytes found few is
+arguments-form calls.AggregateBy bytes found few is = first_text-form IsNameAndKey name_key_range _ name_key_range_yields (λ a short form. (short, form.0, form.1.0)) bytes found few is
+arguments-form calls.AggregateRange bytes found few is = first_text-form IsKeyRange key_range _ key_range_yields (λ a short form. (short, form.0)) bytes found few is
+arguments-form calls.AggregateAll bytes found few is = first_text-form IsNameRange name_range _ name_range_yields (λ a short form. (short, form.0)) bytes found few is
 arguments-form routine bytes found few is = ((arguments_yield routine).ok bytes found is).0
 
 call-form : (bytes : List ℕ) (found : Command × List ℕ) → length bytes < 2 ^ 32 → a_call bytes ≡ Ok found → HasForm found.0
 unfolding a_call
 call-form bytes found few is =
-    let routine = bind-ok (a_routine bytes) arguments found is in
-    arguments-form routine.0.0 routine.0.1 found (omega (arith, few, shrinks_of front Any a_routine routine_yields bytes routine.0 routine.1)) routine.2
+    let routine = bind-ok (a_routine bytes) (λ r. behind 40 (arguments r)) found is in
+    let bracket = bind-ok (a_sign 40 routine.0.1) (λ sign. arguments routine.0.0) found routine.2 in
+    let short : length bracket.0.1 < 2 ^ 32 = omega (arith, few, sign_shrinks 40 routine.0.1 bracket.0 bracket.1, shrinks_of front Any a_routine routine_yields bytes routine.0 routine.1) in
+    arguments-form routine.0.0 bracket.0.1 found short bracket.2
 
 -- a statement
 pub command-form : (text : List ℕ) (found : Command × List ℕ) → length text < 2 ^ 32 → a_command text ≡ Ok found → HasForm found.0

@@ -1,5 +1,5 @@
 -- What the parts of statements give has its form.
-use Rattle.std.proofs.Common.{◌≡◌, ℕ, ◌==◌, ◌&&◌, true, IsTrue, List, [], ◌∷◌, Some, refl, arith, inl, inr, codes, ℤ, pos, ◌≤ℤ◌, int_le}
+use Rattle.std.proofs.Common.{◌≡◌, ℕ, ◌==◌, ◌&&◌, ◌<◌, length, true, IsTrue, List, [], ◌∷◌, Some, refl, arith, inl, inr, codes, ℤ, pos, ◌≤ℤ◌, int_le}
 use Rattle.std.proofs.lemmas.Bool.{cases_Bool}
 use Rattle.std.proofs.lemmas.Bool.Decides.{nat_tests}
 use Rattle.std.specs.List.{AllByRecursion}
@@ -7,25 +7,22 @@ use Rattle.ts_base.specs.Name.{is_name, is_key, name_if_any, key_if_any}
 use Rattle.ts_base.specs.StampText.{read_stamp, moment_in}
 use Rattle.ts_base.specs.Moment.{units_of as moment_units}
 use Rattle.ts_row.specs.declared.kind.Column.{Column}
-use Rattle.ts_row.specs.declared.value.Literal.{Literal}
 use Rattle.ts_row.specs.declared.value.Literal.TheVariants as literals
-use Rattle.ts_text.specs.Phrase.{Phrase, word_in, a_sign, behind, in_brackets, pair, triple, closed}
+use Rattle.ts_text.specs.Phrase.{Phrase, word_in, a_sign, behind, closed}
 use Rattle.ts_text.specs.declared.token.TokenKind.{TokenKind}
 use Rattle.ts_text.specs.declared.token.TokenKind.TheVariants.{Word, Number, Text, Sign}
-use Rattle.ts_text.proofs.CallerLemmas.{Yields, Shrinks, shrinks_of, chain, given, Any, of_token, sign_yields, behind_yields, brackets_yield, pair_yields, triple_yields, closed_yields}
+use Rattle.ts_text.proofs.CallerLemmas.{IsSign, Yields, Shrinks, shrinks_of, chain, given, Any, of_token, sign_yields, behind_yields, closed_yields}
 use Rattle.ts_tokens.specs.Tokens.{front, number_length, magnitude_length, fraction_length, closing}
 use Rattle.ts_tokens.specs.Text.{undoubled, said}
 use Rattle.ts_tokens.specs.Number.{units_of, scale_of}
-use Rattle.ts_command.specs.Form.{IsColumn, HasForm}
-use Rattle.ts_command.specs.Grammar.{a_literal, literal_in, a_column, a_name, name_in, a_key, key_in, a_stamp, stamp_in, a_text, text_in, a_joined, joined_in, a_type, type_in, kind_behind, a_small, small_in, a_word, a_whole, whole_in, within, a_stamp_column, a_routine, routine_in, a_name_call, a_names_call, a_name_text_call, a_join_call, a_name_range_call, a_name_stamp_whole_call, a_key_call, a_key_name_call, a_key_name_stamp_name_call, a_key_stamp_call, a_key_range_call, a_names_whole_call, a_key_stamp_values_call, a_name_columns_call, a_key_stamp_whole_call, a_key_whole_call, a_keys_range_call}
+use Rattle.ts_command.specs.Form.{IsColumn}
+use Rattle.ts_command.specs.Grammar.{a_literal, literal_in, a_column, a_name, name_in, a_key, key_in, a_stamp, stamp_in, a_text, text_in, a_joined, joined_in, a_type, type_in, kind_behind, a_small, small_in, a_word, a_whole, whole_in, within, a_stamp_column, a_routine, routine_in, before, two, name_before, key_before, text_before, stamp_before, whole_before, two_names, three_names, joined_names, name_and_text, name_and_whole, two_names_and_whole, key_and_name, key_and_whole, key_and_stamp, two_stamps, name_range, key_range, two_keys_range, name_key_range, stamp_and_name, name_stamp_and_name, key_name_stamp_and_name, stamp_and_whole, name_stamp_and_whole, key_stamp_and_whole, stamp_and_values, key_stamp_and_values, some_columns, stamp_and_columns, name_and_columns}
 use Rattle.ts_command.specs.Routines.{routine_of, joined_of, type_of}
 use Rattle.ts_command.specs.declared.routine.Routine.TheVariants as calls
 use Rattle.ts_command.specs.declared.routine.StampRoutine.TheVariants as at_stamp
-use Rattle.ts_command.specs.declared.word.Joined.{Joined}
 use Rattle.ts_command.specs.declared.word.Joined.TheVariants.{Patterns}
 use Rattle.ts_command.specs.declared.word.TypeName.{TypeName}
 use Rattle.ts_command.specs.declared.word.TypeName.TheVariants.{SmallInt, Integer, BigInt, Decimal, VarChar}
-use Rattle.ts_command.specs.declared.command.Command.TheVariants as commands
 use Rattle.ts_tokens.proofs.CallerLemmas.{front_laws, open_sign, close_sign, comma_sign}
 
 -- the bytes of a name
@@ -164,145 +161,169 @@ literal_shrinks = shrinks_of front Any a_literal literal_yields
 pub column_shrinks : Shrinks a_column
 column_shrinks = shrinks_of front IsColumn a_column column_yields
 
--- the shapes of calls
-bracketed : {A : Type 0} (P : A → Type 0) (phrase : Phrase A) → Yields front P phrase → Yields front P (in_brackets phrase)
-bracketed P phrase one = brackets_yield front front_laws P open_sign close_sign phrase one
+-- what stands in the brackets of calls
+signed : {A : Type 0} (P : A → Type 0) (sign : ℕ) → IsSign front sign → (phrase : Phrase A) → Yields front P phrase → Yields front P (before sign phrase)
+signed P sign is phrase one =
+    chain front front_laws P P phrase _ one
+    (λ a p. chain front front_laws Any P (a_sign sign) _ (sign_yields front front_laws sign is) (λ end any. given front P a p))
 
-paired : {A B : Type 0} (P : A → Type 0) (Q : B → Type 0) (first : Phrase A) (second : Phrase B) → Yields front P first → Yields front Q second → Yields front (λ (p : A × B). P p.0 × Q p.1) (pair first second)
-paired P Q first second one two = pair_yields front front_laws P Q comma_sign first second one two
+-- the two parts of a pair
+abbrev pub Both : {A B : Type 0} → (A → Type 0) → (B → Type 0) → A × B → Type 0
+Both P Q p = P p.0 × Q p.1
 
-behind_comma : {A : Type 0} (P : A → Type 0) (phrase : Phrase A) → Yields front P phrase → Yields front P (behind 44 phrase)
-behind_comma P phrase one = behind_yields front front_laws P 44 comma_sign phrase one
+both : {A B : Type 0} (P : A → Type 0) (Q : B → Type 0) (first : Phrase A) (second : Phrase B) → Yields front P first → Yields front Q second → Yields front (Both P Q) (two first second)
+both P Q first second one other =
+    chain front front_laws P (Both P Q) first _ one
+    (λ a p. chain front front_laws Q (Both P Q) second _ other (λ b q. given front (Both P Q) (a, b) (p, q)))
 
 listed : {A : Type 0} (P : A → Type 0) (phrase : Phrase A) → Yields front P phrase → Yields front (AllByRecursion P) (closed 41 phrase)
 listed P phrase one = closed_yields front front_laws P 41 comma_sign close_sign refl phrase one
 
-pub name_call_yields : Yields front IsName a_name_call
-unfolding a_name_call
-name_call_yields = bracketed IsName a_name name_yields
+-- names, keys, texts and stamps
+pub name_before_yields : (sign : ℕ) → IsSign front sign → Yields front IsName (name_before sign)
+unfolding name_before
+name_before_yields sign is = signed IsName sign is a_name name_yields
 
-pub names_call_yields : Yields front (λ (p : List ℕ × List ℕ). IsName p.0 × IsName p.1) a_names_call
-unfolding a_names_call
-names_call_yields = bracketed _ (pair a_name a_name) (paired IsName IsName a_name a_name name_yields name_yields)
+pub key_before_yields : (sign : ℕ) → IsSign front sign → Yields front IsKey (key_before sign)
+unfolding key_before
+key_before_yields sign is = signed IsKey sign is a_key key_yields
 
-pub name_text_call_yields : Yields front (λ (p : List ℕ × List ℕ). IsName p.0 × Any p.1) a_name_text_call
-unfolding a_name_text_call
-name_text_call_yields = bracketed _ (pair a_name a_text) (paired IsName Any a_name a_text name_yields text_yields)
+pub text_before_yields : (sign : ℕ) → IsSign front sign → Yields front Any (text_before sign)
+unfolding text_before
+text_before_yields sign is = signed Any sign is a_text text_yields
 
-abbrev pub AreNames : List ℕ × List ℕ × List ℕ → Type 0
-AreNames names = IsName names.0 × IsName names.1 × IsName names.2
+stamp_before_yields : (sign : ℕ) → IsSign front sign → Yields front Any (stamp_before sign)
+unfolding stamp_before
+stamp_before_yields sign is = signed Any sign is a_stamp stamp_yields
 
-pub join_call_yields : Yields front (λ (p : Joined × (List ℕ × List ℕ × List ℕ)). Any p.0 × AreNames p.1) a_join_call
-unfolding a_join_call
-join_call_yields =
-    bracketed _ (pair a_joined (triple a_name a_name a_name))
-    (paired Any AreNames a_joined (triple a_name a_name a_name) joined_yields (triple_yields front front_laws IsName IsName IsName comma_sign a_name a_name a_name name_yields name_yields name_yields))
+pub two_names_yields : Yields front (Both IsName IsName) two_names
+unfolding two_names
+two_names_yields = both IsName IsName (name_before 44) (name_before 41) (name_before_yields 44 comma_sign) (name_before_yields 41 close_sign)
 
--- a key and two stamps, a name and two stamps
-abbrev pub IsKeyRange : List ℕ × ℤ × ℤ → Type 0
-IsKeyRange p = IsKey p.0 × Any p.1 × Any p.2
+abbrev pub AreNames : List ℕ × (List ℕ × List ℕ) → Type 0
+AreNames names = Both IsName (Both IsName IsName) names
 
-abbrev pub IsNameRange : List ℕ × ℤ × ℤ → Type 0
-IsNameRange p = IsName p.0 × Any p.1 × Any p.2
+three_names_yields : Yields front AreNames three_names
+unfolding three_names
+three_names_yields = both IsName (Both IsName IsName) (name_before 44) two_names (name_before_yields 44 comma_sign) two_names_yields
 
-pub key_range_yields : Yields front IsKeyRange (triple a_key a_stamp a_stamp)
-key_range_yields = triple_yields front front_laws IsKey Any Any comma_sign a_key a_stamp a_stamp key_yields stamp_yields stamp_yields
+pub joined_names_yields : Yields front (Both Any AreNames) joined_names
+unfolding joined_names
+joined_names_yields = both Any AreNames (before 44 a_joined) three_names (signed Any 44 comma_sign a_joined joined_yields) three_names_yields
 
-pub name_range_yields : Yields front IsNameRange (triple a_name a_stamp a_stamp)
-name_range_yields = triple_yields front front_laws IsName Any Any comma_sign a_name a_stamp a_stamp name_yields stamp_yields stamp_yields
+pub name_and_text_yields : Yields front (Both IsName Any) name_and_text
+unfolding name_and_text
+name_and_text_yields = both IsName Any (name_before 44) (text_before 41) (name_before_yields 44 comma_sign) (text_before_yields 41 close_sign)
 
-pub name_range_call_yields : Yields front IsNameRange a_name_range_call
-unfolding a_name_range_call
-name_range_call_yields =
-    bracketed _ (triple a_name a_stamp a_stamp) name_range_yields
+pub key_and_name_yields : Yields front (Both IsKey IsName) key_and_name
+unfolding key_and_name
+key_and_name_yields = both IsKey IsName (key_before 44) (name_before 41) (key_before_yields 44 comma_sign) (name_before_yields 41 close_sign)
 
-pub name_stamp_whole_call_yields : (least most : ℤ) → int_le least (pos 1) ≡ true → int_le (pos 1) most ≡ true → Yields front (λ (p : List ℕ × ℤ × ℤ). IsName p.0 × Any p.1 × IsWithin least most p.2) (a_name_stamp_whole_call least most)
-unfolding a_name_stamp_whole_call
-name_stamp_whole_call_yields least most below above =
-    bracketed _ (triple a_name a_stamp (a_whole least most))
-    (triple_yields front front_laws IsName Any (IsWithin least most) comma_sign a_name a_stamp (a_whole least most) name_yields stamp_yields (whole_yields least most below above))
+pub key_and_stamp_yields : Yields front (Both IsKey Any) key_and_stamp
+unfolding key_and_stamp
+key_and_stamp_yields = both IsKey Any (key_before 44) (stamp_before 41) (key_before_yields 44 comma_sign) (stamp_before_yields 41 close_sign)
 
-pub key_call_yields : Yields front IsKey a_key_call
-unfolding a_key_call
-key_call_yields = bracketed IsKey a_key key_yields
+-- so with whole numbers, where 1 is one
+whole_before_yields : (least most : ℤ) → int_le least (pos 1) ≡ true → int_le (pos 1) most ≡ true → Yields front (IsWithin least most) (whole_before 41 least most)
+unfolding whole_before
+whole_before_yields least most below above = signed (IsWithin least most) 41 close_sign (a_whole least most) (whole_yields least most below above)
 
-pub key_name_call_yields : Yields front (λ (p : List ℕ × List ℕ). IsKey p.0 × IsName p.1) a_key_name_call
-unfolding a_key_name_call
-key_name_call_yields = bracketed _ (pair a_key a_name) (paired IsKey IsName a_key a_name key_yields name_yields)
+name_and_whole_yields : (least most : ℤ) → int_le least (pos 1) ≡ true → int_le (pos 1) most ≡ true → Yields front (Both IsName (IsWithin least most)) (name_and_whole least most)
+unfolding name_and_whole
+name_and_whole_yields least most below above = both IsName (IsWithin least most) (name_before 44) (whole_before 41 least most) (name_before_yields 44 comma_sign) (whole_before_yields least most below above)
 
--- a key, and a name, a stamp and a name
-abbrev pub AreKeyAndNames : List ℕ × (List ℕ × ℤ × List ℕ) → Type 0
-AreKeyAndNames p = IsKey p.0 × (IsName p.1.0 × Any p.1.1 × IsName p.1.2)
+pub two_names_and_whole_yields : (least most : ℤ) → int_le least (pos 1) ≡ true → int_le (pos 1) most ≡ true → Yields front (Both IsName (Both IsName (IsWithin least most))) (two_names_and_whole least most)
+unfolding two_names_and_whole
+two_names_and_whole_yields least most below above = both IsName (Both IsName (IsWithin least most)) (name_before 44) (name_and_whole least most) (name_before_yields 44 comma_sign) (name_and_whole_yields least most below above)
 
-pub key_name_stamp_name_call_yields : Yields front AreKeyAndNames a_key_name_stamp_name_call
-unfolding a_key_name_stamp_name_call
-key_name_stamp_name_call_yields =
-    bracketed _ (pair a_key (triple a_name a_stamp a_name))
-    (paired IsKey (λ (p : List ℕ × ℤ × List ℕ). IsName p.0 × Any p.1 × IsName p.2) a_key (triple a_name a_stamp a_name) key_yields (triple_yields front front_laws IsName Any IsName comma_sign a_name a_stamp a_name name_yields stamp_yields name_yields))
+pub key_and_whole_yields : (least most : ℤ) → int_le least (pos 1) ≡ true → int_le (pos 1) most ≡ true → Yields front (Both IsKey (IsWithin least most)) (key_and_whole least most)
+unfolding key_and_whole
+key_and_whole_yields least most below above = both IsKey (IsWithin least most) (key_before 44) (whole_before 41 least most) (key_before_yields 44 comma_sign) (whole_before_yields least most below above)
 
-pub key_stamp_call_yields : Yields front (λ (p : List ℕ × ℤ). IsKey p.0 × Any p.1) a_key_stamp_call
-unfolding a_key_stamp_call
-key_stamp_call_yields = bracketed _ (pair a_key a_stamp) (paired IsKey Any a_key a_stamp key_yields stamp_yields)
+stamp_and_whole_yields : (least most : ℤ) → int_le least (pos 1) ≡ true → int_le (pos 1) most ≡ true → Yields front (Both Any (IsWithin least most)) (stamp_and_whole least most)
+unfolding stamp_and_whole
+stamp_and_whole_yields least most below above = both Any (IsWithin least most) (stamp_before 44) (whole_before 41 least most) (stamp_before_yields 44 comma_sign) (whole_before_yields least most below above)
 
-pub names_whole_call_yields : (least most : ℤ) → int_le least (pos 1) ≡ true → int_le (pos 1) most ≡ true → Yields front (λ (p : List ℕ × List ℕ × ℤ). IsName p.0 × IsName p.1 × IsWithin least most p.2) (a_names_whole_call least most)
-unfolding a_names_whole_call
-names_whole_call_yields least most below above =
-    bracketed _ (triple a_name a_name (a_whole least most))
-    (triple_yields front front_laws IsName IsName (IsWithin least most) comma_sign a_name a_name (a_whole least most) name_yields name_yields (whole_yields least most below above))
+pub name_stamp_and_whole_yields : (least most : ℤ) → int_le least (pos 1) ≡ true → int_le (pos 1) most ≡ true → Yields front (Both IsName (Both Any (IsWithin least most))) (name_stamp_and_whole least most)
+unfolding name_stamp_and_whole
+name_stamp_and_whole_yields least most below above = both IsName (Both Any (IsWithin least most)) (name_before 44) (stamp_and_whole least most) (name_before_yields 44 comma_sign) (stamp_and_whole_yields least most below above)
 
-pub key_stamp_values_call_yields : Yields front (λ (p : List ℕ × ℤ × List Literal). IsKey p.0) a_key_stamp_values_call
-unfolding a_key_stamp_values_call
-key_stamp_values_call_yields =
-    chain front front_laws IsKey (λ (p : List ℕ × ℤ × List Literal). IsKey p.0) (behind 40 a_key) _ (behind_yields front front_laws IsKey 40 open_sign a_key key_yields)
-    (λ key k. chain front front_laws Any (λ (p : List ℕ × ℤ × List Literal). IsKey p.0) (behind 44 a_stamp) _ (behind_comma Any a_stamp stamp_yields)
-    (λ stamp s. chain front front_laws (AllByRecursion Any) (λ (p : List ℕ × ℤ × List Literal). IsKey p.0) (closed 41 a_literal) _ (listed Any a_literal literal_yields) (λ values v. given front (λ (p : List ℕ × ℤ × List Literal). IsKey p.0) (key, stamp, values) k)))
+pub key_stamp_and_whole_yields : (least most : ℤ) → int_le least (pos 1) ≡ true → int_le (pos 1) most ≡ true → Yields front (Both IsKey (Both Any (IsWithin least most))) (key_stamp_and_whole least most)
+unfolding key_stamp_and_whole
+key_stamp_and_whole_yields least most below above = both IsKey (Both Any (IsWithin least most)) (key_before 44) (stamp_and_whole least most) (key_before_yields 44 comma_sign) (stamp_and_whole_yields least most below above)
 
-abbrev pub IsRowType : List ℕ × List ℕ × List Column → Type 0
-IsRowType p = HasForm (commands.CreateRowType p.0 p.1 p.2)
+-- with two stamps
+two_stamps_yields : Yields front (Both Any Any) two_stamps
+unfolding two_stamps
+two_stamps_yields = both Any Any (stamp_before 44) (stamp_before 41) (stamp_before_yields 44 comma_sign) (stamp_before_yields 41 close_sign)
 
-pub name_columns_call_yields : Yields front IsRowType a_name_columns_call
-unfolding a_name_columns_call
-name_columns_call_yields =
-    chain front front_laws IsName IsRowType (behind 40 a_name) _ (behind_yields front front_laws IsName 40 open_sign a_name name_yields)
-    (λ name n. chain front front_laws IsName IsRowType (behind 44 a_stamp_column) _ (behind_comma IsName a_stamp_column stamp_column_yields)
-    (λ stamp s. chain front front_laws IsColumn IsRowType (behind 44 a_column) _ (behind_comma IsColumn a_column column_yields)
-    (λ first f. chain front front_laws (AllByRecursion IsColumn) IsRowType (closed 41 a_column) _ (listed IsColumn a_column column_yields)
-    (λ others o. given front IsRowType (name, stamp, first ∷ others) (n, s, omega arith, (f, o))))))
+abbrev pub IsKeyRange : List ℕ × (ℤ × ℤ) → Type 0
+IsKeyRange p = Both IsKey (Both Any Any) p
 
-pub key_range_call_yields : Yields front IsKeyRange a_key_range_call
-unfolding a_key_range_call
-key_range_call_yields =
-    bracketed _ (triple a_key a_stamp a_stamp) key_range_yields
+abbrev pub IsNameRange : List ℕ × (ℤ × ℤ) → Type 0
+IsNameRange p = Both IsName (Both Any Any) p
 
-pub key_stamp_whole_call_yields : (least most : ℤ) → int_le least (pos 1) ≡ true → int_le (pos 1) most ≡ true → Yields front (λ (p : List ℕ × ℤ × ℤ). IsKey p.0 × Any p.1 × IsWithin least most p.2) (a_key_stamp_whole_call least most)
-unfolding a_key_stamp_whole_call
-key_stamp_whole_call_yields least most below above =
-    bracketed _ (triple a_key a_stamp (a_whole least most))
-    (triple_yields front front_laws IsKey Any (IsWithin least most) comma_sign a_key a_stamp (a_whole least most) key_yields stamp_yields (whole_yields least most below above))
+pub key_range_yields : Yields front IsKeyRange key_range
+unfolding key_range
+key_range_yields = both IsKey (Both Any Any) (key_before 44) two_stamps (key_before_yields 44 comma_sign) two_stamps_yields
 
-pub key_whole_call_yields : (least most : ℤ) → int_le least (pos 1) ≡ true → int_le (pos 1) most ≡ true → Yields front (λ (p : List ℕ × ℤ). IsKey p.0 × IsWithin least most p.1) (a_key_whole_call least most)
-unfolding a_key_whole_call
-key_whole_call_yields least most below above =
-    bracketed _ (pair a_key (a_whole least most)) (paired IsKey (IsWithin least most) a_key (a_whole least most) key_yields (whole_yields least most below above))
+pub name_range_yields : Yields front IsNameRange name_range
+unfolding name_range
+name_range_yields = both IsName (Both Any Any) (name_before 44) two_stamps (name_before_yields 44 comma_sign) two_stamps_yields
 
--- a key, and a key and two stamps
-abbrev pub AreKeys : List ℕ × (List ℕ × ℤ × ℤ) → Type 0
-AreKeys p = IsKey p.0 × IsKeyRange p.1
+pub two_keys_range_yields : Yields front (Both IsKey IsKeyRange) two_keys_range
+unfolding two_keys_range
+two_keys_range_yields = both IsKey IsKeyRange (key_before 44) key_range (key_before_yields 44 comma_sign) key_range_yields
 
-pub keys_range_call_yields : Yields front AreKeys a_keys_range_call
-unfolding a_keys_range_call
-keys_range_call_yields =
-    bracketed _ (pair a_key (triple a_key a_stamp a_stamp))
-    (paired IsKey IsKeyRange a_key (triple a_key a_stamp a_stamp) key_yields key_range_yields)
+abbrev pub IsNameAndKey : List ℕ × (List ℕ × (ℤ × ℤ)) → Type 0
+IsNameAndKey p = Both IsName IsKeyRange p
+
+pub name_key_range_yields : Yields front IsNameAndKey name_key_range
+unfolding name_key_range
+name_key_range_yields = both IsName IsKeyRange (name_before 44) key_range (name_before_yields 44 comma_sign) key_range_yields
 
 -- a text, and what else a call has
-pub text_call_yields : {A : Type 0} (P : A → Type 0) (other : Phrase A) → Yields front P other
-    → Yields front (λ (p : List ℕ × A). Any p.0 × P p.1) (in_brackets (pair a_text other))
-text_call_yields P other one = bracketed _ (pair a_text other) (paired Any P a_text other text_yields one)
+pub with_text_yields : {A : Type 0} (P : A → Type 0) (other : Phrase A) → Yields front P other → Yields front (Both Any P) (two (text_before 44) other)
+with_text_yields P other one = both Any P (text_before 44) other (text_before_yields 44 comma_sign) one
 
--- a name, and a key and two stamps
-abbrev pub IsNameAndKey : List ℕ × (List ℕ × ℤ × ℤ) → Type 0
-IsNameAndKey p = IsName p.0 × IsKeyRange p.1
+-- a key, a name, a stamp and a name
+stamp_and_name_yields : Yields front (Both Any IsName) stamp_and_name
+unfolding stamp_and_name
+stamp_and_name_yields = both Any IsName (stamp_before 44) (name_before 41) (stamp_before_yields 44 comma_sign) (name_before_yields 41 close_sign)
 
-pub name_key_range_yields : Yields front IsNameAndKey (pair a_name (triple a_key a_stamp a_stamp))
-name_key_range_yields = paired IsName IsKeyRange a_name (triple a_key a_stamp a_stamp) name_yields key_range_yields
+name_stamp_and_name_yields : Yields front (Both IsName (Both Any IsName)) name_stamp_and_name
+unfolding name_stamp_and_name
+name_stamp_and_name_yields = both IsName (Both Any IsName) (name_before 44) stamp_and_name (name_before_yields 44 comma_sign) stamp_and_name_yields
+
+pub key_name_stamp_and_name_yields : Yields front (Both IsKey (Both IsName (Both Any IsName))) key_name_stamp_and_name
+unfolding key_name_stamp_and_name
+key_name_stamp_and_name_yields = both IsKey (Both IsName (Both Any IsName)) (key_before 44) name_stamp_and_name (key_before_yields 44 comma_sign) name_stamp_and_name_yields
+
+-- lists
+stamp_and_values_yields : Yields front Any stamp_and_values
+unfolding stamp_and_values
+stamp_and_values_yields =
+    chain front front_laws Any Any a_stamp _ stamp_yields
+    (λ stamp s. chain front front_laws (AllByRecursion Any) Any (closed 41 a_literal) _ (listed Any a_literal literal_yields) (λ values v. given front Any _ tt))
+
+pub key_stamp_and_values_yields : Yields front (Both IsKey Any) key_stamp_and_values
+unfolding key_stamp_and_values
+key_stamp_and_values_yields = both IsKey Any (key_before 44) stamp_and_values (key_before_yields 44 comma_sign) stamp_and_values_yields
+
+abbrev pub AreColumns : List Column → Type 0
+AreColumns columns = (0 < length columns) × AllByRecursion IsColumn columns
+
+some_columns_yields : Yields front AreColumns some_columns
+unfolding some_columns
+some_columns_yields =
+    chain front front_laws IsColumn AreColumns a_column _ column_yields
+    (λ first f. chain front front_laws (AllByRecursion IsColumn) AreColumns (closed 41 a_column) _ (listed IsColumn a_column column_yields)
+    (λ others o. given front AreColumns (first ∷ others) (omega arith, (f, o))))
+
+stamp_and_columns_yields : Yields front (Both IsName AreColumns) stamp_and_columns
+unfolding stamp_and_columns
+stamp_and_columns_yields = both IsName AreColumns (before 44 a_stamp_column) some_columns (signed IsName 44 comma_sign a_stamp_column stamp_column_yields) some_columns_yields
+
+pub name_and_columns_yields : Yields front (Both IsName (Both IsName AreColumns)) name_and_columns
+unfolding name_and_columns
+name_and_columns_yields = both IsName (Both IsName AreColumns) (name_before 44) stamp_and_columns (name_before_yields 44 comma_sign) stamp_and_columns_yields

@@ -11,7 +11,7 @@ use Rattle.ts_row.specs.declared.kind.ColumnKind.TheVariants as kinds
 use Rattle.ts_row.specs.declared.value.Literal.{Literal}
 use Rattle.ts_row.specs.declared.value.Literal.TheVariants as literals
 use Rattle.ts_text.specs.Digits.{magnitude_of}
-use Rattle.ts_text.specs.Phrase.{Phrase, ◌>>=◌, give, token, word_in, a_sign, behind, in_brackets, pair, triple, made, closed, ended, outcome}
+use Rattle.ts_text.specs.Phrase.{Phrase, ◌>>=◌, give, token, word_in, a_sign, behind, made, closed, ended, outcome}
 use Rattle.ts_text.specs.declared.token.TokenKind.{TokenKind}
 use Rattle.ts_text.specs.declared.token.TokenKind.TheVariants.{Word, Number, Text, Sign}
 use Rattle.ts_tokens.specs.Tokens.{front}
@@ -177,96 +177,159 @@ routine_in kind token = None
 unfoldable pub a_routine : Phrase Routine
 a_routine = token front routine_in
 
--- The shapes of calls, each with its brackets.
+-- What stands in the brackets of calls, up to the bracket that closes them.
 
--- a name
-unfoldable pub a_name_call : Phrase (List ℕ)
-a_name_call = in_brackets a_name
+-- a phrase, and this sign behind it
+abbrev pub before : {A : Type 0} → ℕ → Phrase A → Phrase A
+before sign phrase = do
+  found ← phrase
+  end ← a_sign sign
+  give found
+
+-- two phrases
+abbrev pub two : {A B : Type 0} → Phrase A → Phrase B → Phrase (A × B)
+two first second = do
+  a ← first
+  b ← second
+  give (a, b)
+
+-- a name, and this sign behind it
+unfoldable pub name_before : ℕ → Phrase (List ℕ)
+name_before sign = before sign a_name
+
+-- a key, and this sign behind it
+unfoldable pub key_before : ℕ → Phrase (List ℕ)
+key_before sign = before sign a_key
+
+-- a text, and this sign behind it
+unfoldable pub text_before : ℕ → Phrase (List ℕ)
+text_before sign = before sign a_text
+
+-- a stamp, and this sign behind it
+unfoldable pub stamp_before : ℕ → Phrase ℤ
+stamp_before sign = before sign a_stamp
+
+-- a whole number between the two, and this sign behind it
+unfoldable pub whole_before : ℕ → ℤ → ℤ → Phrase ℤ
+whole_before sign least most = before sign (a_whole least most)
 
 -- two names
-unfoldable pub a_names_call : Phrase (List ℕ × List ℕ)
-a_names_call = in_brackets (pair a_name a_name)
+unfoldable pub two_names : Phrase (List ℕ × List ℕ)
+two_names = two (name_before 44) (name_before 41)
 
--- a name and a text
-unfoldable pub a_name_text_call : Phrase (List ℕ × List ℕ)
-a_name_text_call = in_brackets (pair a_name a_text)
+-- three names
+unfoldable pub three_names : Phrase (List ℕ × (List ℕ × List ℕ))
+three_names = two (name_before 44) two_names
 
 -- what is joined, and three names
-unfoldable pub a_join_call : Phrase (Joined × (List ℕ × List ℕ × List ℕ))
-a_join_call = in_brackets (pair a_joined (triple a_name a_name a_name))
+unfoldable pub joined_names : Phrase (Joined × (List ℕ × (List ℕ × List ℕ)))
+joined_names = two (before 44 a_joined) three_names
 
--- a name and two stamps
-unfoldable pub a_name_range_call : Phrase (List ℕ × ℤ × ℤ)
-a_name_range_call = in_brackets (triple a_name a_stamp a_stamp)
+-- a name and a text
+unfoldable pub name_and_text : Phrase (List ℕ × List ℕ)
+name_and_text = two (name_before 44) (text_before 41)
 
--- a name, a stamp and a whole number between the two
-unfoldable pub a_name_stamp_whole_call : ℤ → ℤ → Phrase (List ℕ × ℤ × ℤ)
-a_name_stamp_whole_call least most = in_brackets (triple a_name a_stamp (a_whole least most))
-
--- a key
-unfoldable pub a_key_call : Phrase (List ℕ)
-a_key_call = in_brackets a_key
-
--- a key and a name
-unfoldable pub a_key_name_call : Phrase (List ℕ × List ℕ)
-a_key_name_call = in_brackets (pair a_key a_name)
-
--- a key, and a name, a stamp and a name
-unfoldable pub a_key_name_stamp_name_call : Phrase (List ℕ × (List ℕ × ℤ × List ℕ))
-a_key_name_stamp_name_call = in_brackets (pair a_key (triple a_name a_stamp a_name))
-
--- a key and a stamp
-unfoldable pub a_key_stamp_call : Phrase (List ℕ × ℤ)
-a_key_stamp_call = in_brackets (pair a_key a_stamp)
+-- a name and a whole number between the two
+unfoldable pub name_and_whole : ℤ → ℤ → Phrase (List ℕ × ℤ)
+name_and_whole least most = two (name_before 44) (whole_before 41 least most)
 
 -- two names and a whole number between the two
-unfoldable pub a_names_whole_call : ℤ → ℤ → Phrase (List ℕ × List ℕ × ℤ)
-a_names_whole_call least most = in_brackets (triple a_name a_name (a_whole least most))
+unfoldable pub two_names_and_whole : ℤ → ℤ → Phrase (List ℕ × (List ℕ × ℤ))
+two_names_and_whole least most = two (name_before 44) (name_and_whole least most)
 
--- a key, a stamp and any number of values
-unfoldable pub a_key_stamp_values_call : Phrase (List ℕ × ℤ × List Literal)
-a_key_stamp_values_call = do
-  key ← behind 40 a_key
-  stamp ← behind 44 a_stamp
-  values ← closed 41 a_literal
-  give (key, stamp, values)
-
--- a name, the stamp's column and one value column at least
-unfoldable pub a_name_columns_call : Phrase (List ℕ × List ℕ × List Column)
-a_name_columns_call = do
-  name ← behind 40 a_name
-  stamp ← behind 44 a_stamp_column
-  first ← behind 44 a_column
-  others ← closed 41 a_column
-  give (name, stamp, first ∷ others)
-
--- a key and two stamps
-unfoldable pub a_key_range_call : Phrase (List ℕ × ℤ × ℤ)
-a_key_range_call = in_brackets (triple a_key a_stamp a_stamp)
-
--- a key, a stamp and a whole number between the two
-unfoldable pub a_key_stamp_whole_call : ℤ → ℤ → Phrase (List ℕ × ℤ × ℤ)
-a_key_stamp_whole_call least most = in_brackets (triple a_key a_stamp (a_whole least most))
+-- a key and a name
+unfoldable pub key_and_name : Phrase (List ℕ × List ℕ)
+key_and_name = two (key_before 44) (name_before 41)
 
 -- a key and a whole number between the two
-unfoldable pub a_key_whole_call : ℤ → ℤ → Phrase (List ℕ × ℤ)
-a_key_whole_call least most = in_brackets (pair a_key (a_whole least most))
+unfoldable pub key_and_whole : ℤ → ℤ → Phrase (List ℕ × ℤ)
+key_and_whole least most = two (key_before 44) (whole_before 41 least most)
 
--- a key, and a key and two stamps
-unfoldable pub a_keys_range_call : Phrase (List ℕ × (List ℕ × ℤ × ℤ))
-a_keys_range_call = in_brackets (pair a_key (triple a_key a_stamp a_stamp))
+-- a key and a stamp
+unfoldable pub key_and_stamp : Phrase (List ℕ × ℤ)
+key_and_stamp = two (key_before 44) (stamp_before 41)
 
--- a text, and a key and two stamps
-unfoldable pub a_text_key_range_call : Phrase (List ℕ × (List ℕ × ℤ × ℤ))
-a_text_key_range_call = in_brackets (pair a_text (triple a_key a_stamp a_stamp))
+-- two stamps
+unfoldable pub two_stamps : Phrase (ℤ × ℤ)
+two_stamps = two (stamp_before 44) (stamp_before 41)
 
--- a text, and a name and two stamps
-unfoldable pub a_text_name_range_call : Phrase (List ℕ × (List ℕ × ℤ × ℤ))
-a_text_name_range_call = in_brackets (pair a_text (triple a_name a_stamp a_stamp))
+-- a name and two stamps
+unfoldable pub name_range : Phrase (List ℕ × (ℤ × ℤ))
+name_range = two (name_before 44) two_stamps
 
--- a text, a name, and a key and two stamps
-unfoldable pub a_text_name_key_range_call : Phrase (List ℕ × (List ℕ × (List ℕ × ℤ × ℤ)))
-a_text_name_key_range_call = in_brackets (pair a_text (pair a_name (triple a_key a_stamp a_stamp)))
+-- a key and two stamps
+unfoldable pub key_range : Phrase (List ℕ × (ℤ × ℤ))
+key_range = two (key_before 44) two_stamps
+
+-- two keys and two stamps
+unfoldable pub two_keys_range : Phrase (List ℕ × (List ℕ × (ℤ × ℤ)))
+two_keys_range = two (key_before 44) key_range
+
+-- a name, a key and two stamps
+unfoldable pub name_key_range : Phrase (List ℕ × (List ℕ × (ℤ × ℤ)))
+name_key_range = two (name_before 44) key_range
+
+-- a text, a key and two stamps
+unfoldable pub text_key_range : Phrase (List ℕ × (List ℕ × (ℤ × ℤ)))
+text_key_range = two (text_before 44) key_range
+
+-- a text, a name and two stamps
+unfoldable pub text_name_range : Phrase (List ℕ × (List ℕ × (ℤ × ℤ)))
+text_name_range = two (text_before 44) name_range
+
+-- a text, a name, a key and two stamps
+unfoldable pub text_name_key_range : Phrase (List ℕ × (List ℕ × (List ℕ × (ℤ × ℤ))))
+text_name_key_range = two (text_before 44) name_key_range
+
+-- a stamp and a name
+unfoldable pub stamp_and_name : Phrase (ℤ × List ℕ)
+stamp_and_name = two (stamp_before 44) (name_before 41)
+
+-- a name, a stamp and a name
+unfoldable pub name_stamp_and_name : Phrase (List ℕ × (ℤ × List ℕ))
+name_stamp_and_name = two (name_before 44) stamp_and_name
+
+-- a key, a name, a stamp and a name
+unfoldable pub key_name_stamp_and_name : Phrase (List ℕ × (List ℕ × (ℤ × List ℕ)))
+key_name_stamp_and_name = two (key_before 44) name_stamp_and_name
+
+-- a stamp and a whole number between the two
+unfoldable pub stamp_and_whole : ℤ → ℤ → Phrase (ℤ × ℤ)
+stamp_and_whole least most = two (stamp_before 44) (whole_before 41 least most)
+
+-- a name, a stamp and a whole number between the two
+unfoldable pub name_stamp_and_whole : ℤ → ℤ → Phrase (List ℕ × (ℤ × ℤ))
+name_stamp_and_whole least most = two (name_before 44) (stamp_and_whole least most)
+
+-- a key, a stamp and a whole number between the two
+unfoldable pub key_stamp_and_whole : ℤ → ℤ → Phrase (List ℕ × (ℤ × ℤ))
+key_stamp_and_whole least most = two (key_before 44) (stamp_and_whole least most)
+
+-- a stamp and any number of values
+unfoldable pub stamp_and_values : Phrase (ℤ × List Literal)
+stamp_and_values = do
+  stamp ← a_stamp
+  values ← closed 41 a_literal
+  give (stamp, values)
+
+-- a key, a stamp and any number of values
+unfoldable pub key_stamp_and_values : Phrase (List ℕ × (ℤ × List Literal))
+key_stamp_and_values = two (key_before 44) stamp_and_values
+
+-- one value column at least
+unfoldable pub some_columns : Phrase (List Column)
+some_columns = do
+  first ← a_column
+  others ← closed 41 a_column
+  give (first ∷ others)
+
+-- the stamp's column and one value column at least
+unfoldable pub stamp_and_columns : Phrase (List ℕ × List Column)
+stamp_and_columns = two (before 44 a_stamp_column) some_columns
+
+-- a name, the stamp's column and one value column at least
+unfoldable pub name_and_columns : Phrase (List ℕ × (List ℕ × List Column))
+name_and_columns = two (name_before 44) stamp_and_columns
 
 -- the commands of routines that are called with the same arguments
 abbrev pub of_name : NameRoutine → List ℕ → Command
@@ -301,11 +364,11 @@ abbrev pub of_text : TextRoutine → List ℕ → List ℕ → Command
 of_text with_text.CreatePattern name text = commands.CreatePattern name text
 of_text with_text.CreateCalendar name text = commands.CreateCalendar name text
 
-abbrev pub of_join : JoinRoutine → Joined → (List ℕ × List ℕ × List ℕ) → Command
-of_join joining.AndOp Patterns names = commands.AndPatterns names.0 names.1 names.2
-of_join joining.AndOp Calendars names = commands.AndCalendars names.0 names.1 names.2
-of_join joining.OrOp Patterns names = commands.OrPatterns names.0 names.1 names.2
-of_join joining.OrOp Calendars names = commands.OrCalendars names.0 names.1 names.2
+abbrev pub of_join : JoinRoutine → Joined → (List ℕ × (List ℕ × List ℕ)) → Command
+of_join joining.AndOp Patterns names = commands.AndPatterns names.0 names.1.0 names.1.1
+of_join joining.AndOp Calendars names = commands.AndCalendars names.0 names.1.0 names.1.1
+of_join joining.OrOp Patterns names = commands.OrPatterns names.0 names.1.0 names.1.1
+of_join joining.OrOp Calendars names = commands.OrCalendars names.0 names.1.0 names.1.1
 
 abbrev pub of_range : RangeRoutine → List ℕ → ℤ → ℤ → Command
 of_range in_range.CalIndex calendar from to = commands.CalIndex calendar from to
@@ -324,34 +387,38 @@ abbrev pub of_keys : PairRoutine → List ℕ → List ℕ → ℤ → ℤ → C
 of_keys of_pair.Union first second from to = commands.Union first second from to
 of_keys of_pair.Intersect first second from to = commands.Intersect first second from to
 
--- what each routine is called with, as its command
+-- what each routine is called with, up to the bracket that closes the call, as its command
 unfoldable pub arguments : Routine → Phrase Command
-arguments calls.CreateRowType = made a_name_columns_call (λ a. commands.CreateRowType a.0 a.1 a.2)
-arguments calls.TSContainerCreate = made (a_names_whole_call (pos 1) (pos 65536)) (λ a. commands.TSContainerCreate a.0 a.1 a.2)
-arguments calls.TSCreate = made a_key_name_stamp_name_call (λ a. commands.TSCreate a.0 a.1.0 a.1.1 a.1.2)
-arguments calls.TSCreateIrr = made a_key_name_call (λ a. commands.TSCreateIrr a.0 a.1)
-arguments calls.NotOp = made a_names_call (λ a. commands.NotOp a.0 a.1)
-arguments calls.CalStamp = made (a_name_stamp_whole_call (pos 1) (pos 4294967295)) (λ a. commands.CalStamp a.0 a.1 a.2)
-arguments calls.ClipCount = made (a_key_stamp_whole_call (neg_ℤ (pos 1000000)) (pos 1000000)) (λ a. commands.ClipCount a.0 a.1 a.2)
-arguments calls.AggregateBy = made a_text_name_key_range_call (λ a. commands.AggregateBy a.0 a.1.0 a.1.1.0 a.1.1.1 a.1.1.2)
-arguments calls.AggregateRange = made a_text_key_range_call (λ a. commands.AggregateRange a.0 a.1.0 a.1.1 a.1.2)
-arguments calls.AggregateAll = made a_text_name_range_call (λ a. commands.AggregateAll a.0 a.1.0 a.1.1 a.1.2)
-arguments (calls.ByName routine) = made a_name_call (of_name routine)
-arguments (calls.ByKey routine) = made a_key_call (of_key routine)
-arguments (calls.AtStamp routine) = made a_key_stamp_call (λ a. of_stamp routine a.0 a.1)
-arguments (calls.WithRow routine) = made a_key_stamp_values_call (λ a. of_row routine a.0 a.1 a.2)
-arguments (calls.WithText routine) = made a_name_text_call (λ a. of_text routine a.0 a.1)
-arguments (calls.Joining routine) = made a_join_call (λ a. of_join routine a.0 a.1)
-arguments (calls.InRange routine) = made a_name_range_call (λ a. of_range routine a.0 a.1 a.2)
-arguments (calls.Clipping routine) = made a_key_range_call (λ a. of_clip routine a.0 a.1 a.2)
-arguments (calls.ByNumber routine) = made (a_key_whole_call (least_number routine) (most_number routine)) (λ a. of_number routine a.0 a.1)
-arguments (calls.OfPair routine) = made a_keys_range_call (λ a. of_keys routine a.0 a.1.0 a.1.1 a.1.2)
+arguments calls.CreateRowType = made name_and_columns (λ a. commands.CreateRowType a.0 a.1.0 a.1.1)
+arguments calls.TSContainerCreate = made (two_names_and_whole (pos 1) (pos 65536)) (λ a. commands.TSContainerCreate a.0 a.1.0 a.1.1)
+arguments calls.TSCreate = made key_name_stamp_and_name (λ a. commands.TSCreate a.0 a.1.0 a.1.1.0 a.1.1.1)
+arguments calls.TSCreateIrr = made key_and_name (λ a. commands.TSCreateIrr a.0 a.1)
+arguments calls.NotOp = made two_names (λ a. commands.NotOp a.0 a.1)
+arguments calls.CalStamp = made (name_stamp_and_whole (pos 1) (pos 4294967295)) (λ a. commands.CalStamp a.0 a.1.0 a.1.1)
+arguments calls.ClipCount = made (key_stamp_and_whole (neg_ℤ (pos 1000000)) (pos 1000000)) (λ a. commands.ClipCount a.0 a.1.0 a.1.1)
+arguments calls.AggregateBy = made text_name_key_range (λ a. commands.AggregateBy a.0 a.1.0 a.1.1.0 a.1.1.1.0 a.1.1.1.1)
+arguments calls.AggregateRange = made text_key_range (λ a. commands.AggregateRange a.0 a.1.0 a.1.1.0 a.1.1.1)
+arguments calls.AggregateAll = made text_name_range (λ a. commands.AggregateAll a.0 a.1.0 a.1.1.0 a.1.1.1)
+arguments (calls.ByName routine) = made (name_before 41) (of_name routine)
+arguments (calls.ByKey routine) = made (key_before 41) (of_key routine)
+arguments (calls.AtStamp routine) = made key_and_stamp (λ a. of_stamp routine a.0 a.1)
+arguments (calls.WithRow routine) = made key_stamp_and_values (λ a. of_row routine a.0 a.1.0 a.1.1)
+arguments (calls.WithText routine) = made name_and_text (λ a. of_text routine a.0 a.1)
+arguments (calls.Joining routine) = made joined_names (λ a. of_join routine a.0 a.1)
+arguments (calls.InRange routine) = made name_range (λ a. of_range routine a.0 a.1.0 a.1.1)
+arguments (calls.Clipping routine) = made key_range (λ a. of_clip routine a.0 a.1.0 a.1.1)
+arguments (calls.ByNumber routine) = made (key_and_whole (least_number routine) (most_number routine)) (λ a. of_number routine a.0 a.1)
+arguments (calls.OfPair routine) = made two_keys_range (λ a. of_keys routine a.0 a.1.0 a.1.1.0 a.1.1.1)
 
--- a routine and what it is called with
+-- so up to the end of the statement
+unfoldable pub arguments_to_end : Routine → Phrase Command
+arguments_to_end routine = ended (59 ∷ []) (arguments routine)
+
+-- a routine, and in brackets what it is called with
 unfoldable pub a_call : Phrase Command
 a_call = do
   routine ← a_routine
-  arguments routine
+  behind 40 (arguments routine)
 
 -- a statement: a call and the `;` that ends it
 unfoldable pub a_command : Phrase Command

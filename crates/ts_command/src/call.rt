@@ -1,8 +1,8 @@
-// Calls by their shape: what stands in their brackets.
+// What stands in the brackets of calls, by its shape.
 ghost use Rattle.std.specs.Prelude.{◌≡◌, Ok, IfOk, IfErr};
-ghost use Rattle.ts_text.specs.Misfit.{Refuses};
+ghost use Rattle.ts_text.specs.Misfit.{Refuses, RefusesExactly};
 ghost use Rattle.ts_text.specs.Phrase.{repeated, onto};
-ghost use Rattle.ts_command.specs.Grammar.{a_literal, a_name_call, a_names_call, a_name_text_call, a_join_call, a_name_range_call, a_name_stamp_whole_call, a_key_call, a_key_name_call, a_key_name_stamp_name_call, a_key_stamp_call, a_key_range_call, a_names_whole_call, a_key_stamp_values_call, a_name_columns_call, a_key_stamp_whole_call, a_key_whole_call, a_keys_range_call, a_text_key_range_call, a_text_name_range_call, a_text_name_key_range_call};
+ghost use Rattle.ts_command.specs.Grammar.{a_literal, name_before, key_before, text_before, stamp_before, whole_before, two_names, three_names, joined_names, name_and_text, name_and_whole, two_names_and_whole, key_and_name, key_and_whole, key_and_stamp, two_stamps, name_range, key_range, two_keys_range, name_key_range, text_key_range, text_name_range, text_name_key_range, stamp_and_name, name_stamp_and_name, key_name_stamp_and_name, stamp_and_whole, name_stamp_and_whole, key_stamp_and_whole, stamp_and_values, key_stamp_and_values, some_columns, stamp_and_columns, name_and_columns};
 
 use crate::column::{read_column, read_columns, read_stamp_column};
 use crate::phrase::{
@@ -14,355 +14,517 @@ use std::alloc::Global;
 use ts_base::{Bytes, Key, Name, Stamp};
 use ts_text::{Misfit, behind_sign, read_sign};
 
-/// A name.
-#[tactic(auto, unfolding(crate::specs::Grammar::a_name_call))]
-pub(crate) fn read_name_call(alloc: Global, bytes: &[u8]) -> Result<(Name, &[u8]), Misfit>
-    ensures ok { IfOk result (λ found. a_name_call bytes.now ≡ Ok (found.0, found.1.now)) }
-    ensures cause { IfErr result (λ misfit. Refuses misfit (a_name_call bytes.now)) }
+/// A name, and this sign behind it.
+#[tactic(auto, unfolding(crate::specs::Grammar::name_before))]
+pub(crate) fn read_name_before(
+    alloc: Global,
+    bytes: &[u8],
+    sign: u8,
+) -> Result<(Name, &[u8]), Misfit>
+    ensures ok { IfOk result (λ found. name_before sign bytes.now ≡ Ok (found.0, found.1.now)) }
+    ensures cause { IfErr result (λ misfit. Refuses misfit (name_before sign bytes.now)) }
 {
-    let (name, rest) = read_name(alloc, read_sign(bytes, b'(')?)?;
-    let rest = read_sign(rest, b')')?;
+    let (name, rest) = read_name(alloc, bytes)?;
+    let rest = read_sign(rest, sign)?;
     Ok((name, rest))
 }
 
-/// Two names.
-#[tactic(auto, unfolding(crate::specs::Grammar::a_names_call))]
-pub(crate) fn read_names_call(alloc: Global, bytes: &[u8]) -> Result<((Name, Name), &[u8]), Misfit>
-    ensures ok { IfOk result (λ found. a_names_call bytes.now ≡ Ok (found.0, found.1.now)) }
-    ensures cause { IfErr result (λ misfit. Refuses misfit (a_names_call bytes.now)) }
+/// A key, and this sign behind it.
+#[tactic(auto, unfolding(crate::specs::Grammar::key_before))]
+pub(crate) fn read_key_before(alloc: Global, bytes: &[u8], sign: u8) -> Result<(Key, &[u8]), Misfit>
+    ensures ok { IfOk result (λ found. key_before sign bytes.now ≡ Ok (found.0, found.1.now)) }
+    ensures cause { IfErr result (λ misfit. Refuses misfit (key_before sign bytes.now)) }
 {
-    let (name, rest) = read_name(alloc, read_sign(bytes, b'(')?)?;
-    let (other, rest) = read_name(alloc, read_sign(rest, b',')?)?;
-    let rest = read_sign(rest, b')')?;
-    Ok(((name, other), rest))
-}
-
-/// A name and a text.
-#[tactic(auto, unfolding(crate::specs::Grammar::a_name_text_call))]
-pub(crate) fn read_name_text_call(
-    alloc: Global,
-    bytes: &[u8],
-) -> Result<((Name, Bytes), &[u8]), Misfit>
-    ensures ok { IfOk result (λ found. a_name_text_call bytes.now ≡ Ok (found.0, found.1.now)) }
-    ensures cause { IfErr result (λ misfit. Refuses misfit (a_name_text_call bytes.now)) }
-{
-    let (name, rest) = read_name(alloc, read_sign(bytes, b'(')?)?;
-    let (text, rest) = read_text(alloc, read_sign(rest, b',')?)?;
-    let rest = read_sign(rest, b')')?;
-    Ok(((name, text), rest))
-}
-
-/// What is joined, and three names.
-#[tactic(auto, unfolding(crate::specs::Grammar::a_join_call))]
-pub(crate) fn read_join_call(
-    alloc: Global,
-    bytes: &[u8],
-) -> Result<((Joined, (Name, Name, Name)), &[u8]), Misfit>
-    ensures ok { IfOk result (λ found. a_join_call bytes.now ≡ Ok (found.0, found.1.now)) }
-    ensures cause { IfErr result (λ misfit. Refuses misfit (a_join_call bytes.now)) }
-{
-    let (joined, rest) = read_joined(read_sign(bytes, b'(')?)?;
-    let (name, rest) = read_name(alloc, read_sign(rest, b',')?)?;
-    let (first, rest) = read_name(alloc, read_sign(rest, b',')?)?;
-    let (second, rest) = read_name(alloc, read_sign(rest, b',')?)?;
-    let rest = read_sign(rest, b')')?;
-    Ok(((joined, (name, first, second)), rest))
-}
-
-/// A name and two stamps.
-#[tactic(auto, unfolding(crate::specs::Grammar::a_name_range_call))]
-pub(crate) fn read_name_range_call(
-    alloc: Global,
-    bytes: &[u8],
-) -> Result<((Name, Stamp, Stamp), &[u8]), Misfit>
-    ensures ok { IfOk result (λ found. a_name_range_call bytes.now ≡ Ok (found.0, found.1.now)) }
-    ensures cause { IfErr result (λ misfit. Refuses misfit (a_name_range_call bytes.now)) }
-{
-    let (name, rest) = read_name(alloc, read_sign(bytes, b'(')?)?;
-    match read_stamp(alloc, read_sign(rest, b',')?) {
-        Ok((from, rest)) => match read_stamp(alloc, read_sign(rest, b',')?) {
-            Ok((to, rest)) => Ok(((name, from, to), read_sign(rest, b')')?)),
-            Err(misfit) => Err(misfit),
-        },
-        Err(misfit) => Err(misfit),
-    }
-}
-
-/// A name, a stamp and a whole number between the two.
-#[tactic(auto, unfolding(crate::specs::Grammar::a_name_stamp_whole_call))]
-pub(crate) fn read_name_stamp_whole_call(
-    alloc: Global,
-    bytes: &[u8],
-    least: i64,
-    most: i64,
-) -> Result<((Name, Stamp, i64), &[u8]), Misfit>
-    ensures ok { IfOk result (λ found. a_name_stamp_whole_call least most bytes.now ≡ Ok (found.0, found.1.now)) }
-    ensures cause { IfErr result (λ misfit. Refuses misfit (a_name_stamp_whole_call least most bytes.now)) }
-{
-    let (name, rest) = read_name(alloc, read_sign(bytes, b'(')?)?;
-    match read_stamp(alloc, read_sign(rest, b',')?) {
-        Ok((stamp, rest)) => {
-            let (whole, rest) = read_whole(read_sign(rest, b',')?, least, most)?;
-            Ok(((name, stamp, whole), read_sign(rest, b')')?))
-        }
-        Err(misfit) => Err(misfit),
-    }
-}
-
-/// A key.
-#[tactic(auto, unfolding(crate::specs::Grammar::a_key_call))]
-pub(crate) fn read_key_call(alloc: Global, bytes: &[u8]) -> Result<(Key, &[u8]), Misfit>
-    ensures ok { IfOk result (λ found. a_key_call bytes.now ≡ Ok (found.0, found.1.now)) }
-    ensures cause { IfErr result (λ misfit. Refuses misfit (a_key_call bytes.now)) }
-{
-    let (key, rest) = read_key(alloc, read_sign(bytes, b'(')?)?;
-    let rest = read_sign(rest, b')')?;
+    let (key, rest) = read_key(alloc, bytes)?;
+    let rest = read_sign(rest, sign)?;
     Ok((key, rest))
 }
 
-/// A key and a name.
-#[tactic(auto, unfolding(crate::specs::Grammar::a_key_name_call))]
-pub(crate) fn read_key_name_call(
+/// A text, and this sign behind it.
+#[tactic(auto, unfolding(crate::specs::Grammar::text_before))]
+pub(crate) fn read_text_before(
     alloc: Global,
     bytes: &[u8],
-) -> Result<((Key, Name), &[u8]), Misfit>
-    ensures ok { IfOk result (λ found. a_key_name_call bytes.now ≡ Ok (found.0, found.1.now)) }
-    ensures cause { IfErr result (λ misfit. Refuses misfit (a_key_name_call bytes.now)) }
+    sign: u8,
+) -> Result<(Bytes, &[u8]), Misfit>
+    ensures ok { IfOk result (λ found. text_before sign bytes.now ≡ Ok (found.0, found.1.now)) }
+    ensures cause { IfErr result (λ misfit. Refuses misfit (text_before sign bytes.now)) }
 {
-    let (key, rest) = read_key(alloc, read_sign(bytes, b'(')?)?;
-    let (name, rest) = read_name(alloc, read_sign(rest, b',')?)?;
-    let rest = read_sign(rest, b')')?;
-    Ok(((key, name), rest))
+    let (text, rest) = read_text(alloc, bytes)?;
+    let rest = read_sign(rest, sign)?;
+    Ok((text, rest))
 }
 
-/// A key, and a name, a stamp and a name.
-#[tactic(auto, unfolding(crate::specs::Grammar::a_key_name_stamp_name_call))]
-pub(crate) fn read_key_name_stamp_name_call(
+/// A stamp, and this sign behind it.
+#[tactic(auto, unfolding(crate::specs::Grammar::stamp_before))]
+pub(crate) fn read_stamp_before(
     alloc: Global,
     bytes: &[u8],
-) -> Result<((Key, (Name, Stamp, Name)), &[u8]), Misfit>
-    ensures ok { IfOk result (λ found. a_key_name_stamp_name_call bytes.now ≡ Ok (found.0, found.1.now)) }
-    ensures cause { IfErr result (λ misfit. Refuses misfit (a_key_name_stamp_name_call bytes.now)) }
+    sign: u8,
+) -> Result<(Stamp, &[u8]), Misfit>
+    ensures ok { IfOk result (λ found. stamp_before sign bytes.now ≡ Ok (found.0, found.1.now)) }
+    ensures cause { IfErr result (λ misfit. Refuses misfit (stamp_before sign bytes.now)) }
 {
-    let (key, rest) = read_key(alloc, read_sign(bytes, b'(')?)?;
-    let (name, rest) = read_name(alloc, read_sign(rest, b',')?)?;
-    match read_stamp(alloc, read_sign(rest, b',')?) {
-        Ok((stamp, rest)) => {
-            let (other, rest) = read_name(alloc, read_sign(rest, b',')?)?;
-            Ok(((key, (name, stamp, other)), read_sign(rest, b')')?))
-        }
+    match read_stamp(alloc, bytes) {
+        Ok((stamp, rest)) => Ok((stamp, read_sign(rest, sign)?)),
         Err(misfit) => Err(misfit),
     }
 }
 
-/// A key and a stamp.
-#[tactic(auto, unfolding(crate::specs::Grammar::a_key_stamp_call))]
-pub(crate) fn read_key_stamp_call(
-    alloc: Global,
+/// A whole number between the two, and this sign behind it.
+#[tactic(auto, unfolding(crate::specs::Grammar::whole_before))]
+pub(crate) fn read_whole_before(
     bytes: &[u8],
-) -> Result<((Key, Stamp), &[u8]), Misfit>
-    ensures ok { IfOk result (λ found. a_key_stamp_call bytes.now ≡ Ok (found.0, found.1.now)) }
-    ensures cause { IfErr result (λ misfit. Refuses misfit (a_key_stamp_call bytes.now)) }
+    sign: u8,
+    least: i64,
+    most: i64,
+) -> Result<(i64, &[u8]), Misfit>
+    ensures ok { IfOk result (λ found. whole_before sign least most bytes.now ≡ Ok (found.0, found.1.now)) }
+    ensures cause { IfErr result (λ misfit. RefusesExactly misfit (whole_before sign least most bytes.now)) }
 {
-    let (key, rest) = read_key(alloc, read_sign(bytes, b'(')?)?;
-    match read_stamp(alloc, read_sign(rest, b',')?) {
-        Ok((stamp, rest)) => Ok(((key, stamp), read_sign(rest, b')')?)),
-        Err(misfit) => Err(misfit),
-    }
+    let (whole, rest) = read_whole(bytes, least, most)?;
+    let rest = read_sign(rest, sign)?;
+    Ok((whole, rest))
 }
 
-/// A key and two stamps.
-#[tactic(auto, unfolding(crate::specs::Grammar::a_key_range_call))]
-pub(crate) fn read_key_range_call(
-    alloc: Global,
-    bytes: &[u8],
-) -> Result<((Key, Stamp, Stamp), &[u8]), Misfit>
-    ensures ok { IfOk result (λ found. a_key_range_call bytes.now ≡ Ok (found.0, found.1.now)) }
-    ensures cause { IfErr result (λ misfit. Refuses misfit (a_key_range_call bytes.now)) }
+/// Two names.
+#[tactic(auto, unfolding(crate::specs::Grammar::two_names))]
+pub(crate) fn read_two_names(alloc: Global, bytes: &[u8]) -> Result<((Name, Name), &[u8]), Misfit>
+    ensures ok { IfOk result (λ found. two_names bytes.now ≡ Ok (found.0, found.1.now)) }
+    ensures cause { IfErr result (λ misfit. Refuses misfit (two_names bytes.now)) }
 {
-    let (key, rest) = read_key(alloc, read_sign(bytes, b'(')?)?;
-    match read_stamp(alloc, read_sign(rest, b',')?) {
-        Ok((from, rest)) => match read_stamp(alloc, read_sign(rest, b',')?) {
-            Ok((to, rest)) => Ok(((key, from, to), read_sign(rest, b')')?)),
-            Err(misfit) => Err(misfit),
-        },
-        Err(misfit) => Err(misfit),
-    }
+    let (name, rest) = read_name_before(alloc, bytes, b',')?;
+    let (other, rest) = read_name_before(alloc, rest, b')')?;
+    Ok(((name, other), rest))
 }
 
-/// A key, a stamp and a whole number between the two.
-#[tactic(auto, unfolding(crate::specs::Grammar::a_key_stamp_whole_call))]
-pub(crate) fn read_key_stamp_whole_call(
+/// Three names.
+#[tactic(auto, unfolding(crate::specs::Grammar::three_names))]
+pub(crate) fn read_three_names(
+    alloc: Global,
+    bytes: &[u8],
+) -> Result<((Name, (Name, Name)), &[u8]), Misfit>
+    ensures ok { IfOk result (λ found. three_names bytes.now ≡ Ok (found.0, found.1.now)) }
+    ensures cause { IfErr result (λ misfit. Refuses misfit (three_names bytes.now)) }
+{
+    let (name, rest) = read_name_before(alloc, bytes, b',')?;
+    let (others, rest) = read_two_names(alloc, rest)?;
+    Ok(((name, others), rest))
+}
+
+/// What is joined, and three names.
+#[tactic(auto, unfolding(crate::specs::Grammar::joined_names))]
+pub(crate) fn read_joined_names(
+    alloc: Global,
+    bytes: &[u8],
+) -> Result<((Joined, (Name, (Name, Name))), &[u8]), Misfit>
+    ensures ok { IfOk result (λ found. joined_names bytes.now ≡ Ok (found.0, found.1.now)) }
+    ensures cause { IfErr result (λ misfit. Refuses misfit (joined_names bytes.now)) }
+{
+    let (joined, rest) = read_joined(bytes)?;
+    let (names, rest) = read_three_names(alloc, read_sign(rest, b',')?)?;
+    Ok(((joined, names), rest))
+}
+
+/// A name and a text.
+#[tactic(auto, unfolding(crate::specs::Grammar::name_and_text))]
+pub(crate) fn read_name_and_text(
+    alloc: Global,
+    bytes: &[u8],
+) -> Result<((Name, Bytes), &[u8]), Misfit>
+    ensures ok { IfOk result (λ found. name_and_text bytes.now ≡ Ok (found.0, found.1.now)) }
+    ensures cause { IfErr result (λ misfit. Refuses misfit (name_and_text bytes.now)) }
+{
+    let (name, rest) = read_name_before(alloc, bytes, b',')?;
+    let (text, rest) = read_text_before(alloc, rest, b')')?;
+    Ok(((name, text), rest))
+}
+
+/// A name and a whole number between the two.
+#[tactic(auto, unfolding(crate::specs::Grammar::name_and_whole))]
+pub(crate) fn read_name_and_whole(
     alloc: Global,
     bytes: &[u8],
     least: i64,
     most: i64,
-) -> Result<((Key, Stamp, i64), &[u8]), Misfit>
-    ensures ok { IfOk result (λ found. a_key_stamp_whole_call least most bytes.now ≡ Ok (found.0, found.1.now)) }
-    ensures cause { IfErr result (λ misfit. Refuses misfit (a_key_stamp_whole_call least most bytes.now)) }
+) -> Result<((Name, i64), &[u8]), Misfit>
+    ensures ok { IfOk result (λ found. name_and_whole least most bytes.now ≡ Ok (found.0, found.1.now)) }
+    ensures cause { IfErr result (λ misfit. Refuses misfit (name_and_whole least most bytes.now)) }
 {
-    let (key, rest) = read_key(alloc, read_sign(bytes, b'(')?)?;
-    match read_stamp(alloc, read_sign(rest, b',')?) {
-        Ok((stamp, rest)) => {
-            let (whole, rest) = read_whole(read_sign(rest, b',')?, least, most)?;
-            Ok(((key, stamp, whole), read_sign(rest, b')')?))
-        }
-        Err(misfit) => Err(misfit),
-    }
+    let (name, rest) = read_name_before(alloc, bytes, b',')?;
+    let (whole, rest) = read_whole_before(rest, b')', least, most)?;
+    Ok(((name, whole), rest))
+}
+
+/// Two names and a whole number between the two.
+#[tactic(auto, unfolding(crate::specs::Grammar::two_names_and_whole))]
+pub(crate) fn read_two_names_and_whole(
+    alloc: Global,
+    bytes: &[u8],
+    least: i64,
+    most: i64,
+) -> Result<((Name, (Name, i64)), &[u8]), Misfit>
+    ensures ok { IfOk result (λ found. two_names_and_whole least most bytes.now ≡ Ok (found.0, found.1.now)) }
+    ensures cause { IfErr result (λ misfit. Refuses misfit (two_names_and_whole least most bytes.now)) }
+{
+    let (name, rest) = read_name_before(alloc, bytes, b',')?;
+    let (others, rest) = read_name_and_whole(alloc, rest, least, most)?;
+    Ok(((name, others), rest))
+}
+
+/// A key and a name.
+#[tactic(auto, unfolding(crate::specs::Grammar::key_and_name))]
+pub(crate) fn read_key_and_name(alloc: Global, bytes: &[u8]) -> Result<((Key, Name), &[u8]), Misfit>
+    ensures ok { IfOk result (λ found. key_and_name bytes.now ≡ Ok (found.0, found.1.now)) }
+    ensures cause { IfErr result (λ misfit. Refuses misfit (key_and_name bytes.now)) }
+{
+    let (key, rest) = read_key_before(alloc, bytes, b',')?;
+    let (name, rest) = read_name_before(alloc, rest, b')')?;
+    Ok(((key, name), rest))
 }
 
 /// A key and a whole number between the two.
-#[tactic(auto, unfolding(crate::specs::Grammar::a_key_whole_call))]
-pub(crate) fn read_key_whole_call(
+#[tactic(auto, unfolding(crate::specs::Grammar::key_and_whole))]
+pub(crate) fn read_key_and_whole(
     alloc: Global,
     bytes: &[u8],
     least: i64,
     most: i64,
 ) -> Result<((Key, i64), &[u8]), Misfit>
-    ensures ok { IfOk result (λ found. a_key_whole_call least most bytes.now ≡ Ok (found.0, found.1.now)) }
-    ensures cause { IfErr result (λ misfit. Refuses misfit (a_key_whole_call least most bytes.now)) }
+    ensures ok { IfOk result (λ found. key_and_whole least most bytes.now ≡ Ok (found.0, found.1.now)) }
+    ensures cause { IfErr result (λ misfit. Refuses misfit (key_and_whole least most bytes.now)) }
 {
-    let (key, rest) = read_key(alloc, read_sign(bytes, b'(')?)?;
-    let (whole, rest) = read_whole(read_sign(rest, b',')?, least, most)?;
-    let rest = read_sign(rest, b')')?;
+    let (key, rest) = read_key_before(alloc, bytes, b',')?;
+    let (whole, rest) = read_whole_before(rest, b')', least, most)?;
     Ok(((key, whole), rest))
 }
 
-/// A key, and a key and two stamps.
-#[tactic(auto, unfolding(crate::specs::Grammar::a_keys_range_call))]
-pub(crate) fn read_keys_range_call(
+/// A key and a stamp.
+#[tactic(auto, unfolding(crate::specs::Grammar::key_and_stamp))]
+pub(crate) fn read_key_and_stamp(
     alloc: Global,
     bytes: &[u8],
-) -> Result<((Key, (Key, Stamp, Stamp)), &[u8]), Misfit>
-    ensures ok { IfOk result (λ found. a_keys_range_call bytes.now ≡ Ok (found.0, found.1.now)) }
-    ensures cause { IfErr result (λ misfit. Refuses misfit (a_keys_range_call bytes.now)) }
+) -> Result<((Key, Stamp), &[u8]), Misfit>
+    ensures ok { IfOk result (λ found. key_and_stamp bytes.now ≡ Ok (found.0, found.1.now)) }
+    ensures cause { IfErr result (λ misfit. Refuses misfit (key_and_stamp bytes.now)) }
 {
-    let (first, rest) = read_key(alloc, read_sign(bytes, b'(')?)?;
-    let (second, rest) = read_key(alloc, read_sign(rest, b',')?)?;
-    match read_stamp(alloc, read_sign(rest, b',')?) {
-        Ok((from, rest)) => match read_stamp(alloc, read_sign(rest, b',')?) {
-            Ok((to, rest)) => Ok(((first, (second, from, to)), read_sign(rest, b')')?)),
+    let (key, rest) = read_key_before(alloc, bytes, b',')?;
+    match read_stamp_before(alloc, rest, b')') {
+        Ok((stamp, rest)) => Ok(((key, stamp), rest)),
+        Err(misfit) => Err(misfit),
+    }
+}
+
+/// Two stamps.
+#[tactic(auto, unfolding(crate::specs::Grammar::two_stamps))]
+pub(crate) fn read_two_stamps(
+    alloc: Global,
+    bytes: &[u8],
+) -> Result<((Stamp, Stamp), &[u8]), Misfit>
+    ensures ok { IfOk result (λ found. two_stamps bytes.now ≡ Ok (found.0, found.1.now)) }
+    ensures cause { IfErr result (λ misfit. Refuses misfit (two_stamps bytes.now)) }
+{
+    match read_stamp_before(alloc, bytes, b',') {
+        Ok((from, rest)) => match read_stamp_before(alloc, rest, b')') {
+            Ok((to, rest)) => Ok(((from, to), rest)),
             Err(misfit) => Err(misfit),
         },
         Err(misfit) => Err(misfit),
     }
 }
 
-/// A text, and a key and two stamps.
-#[tactic(auto, unfolding(crate::specs::Grammar::a_text_key_range_call))]
-pub(crate) fn read_text_key_range_call(
+/// A name and two stamps.
+#[tactic(auto, unfolding(crate::specs::Grammar::name_range))]
+pub(crate) fn read_name_range(
     alloc: Global,
     bytes: &[u8],
-) -> Result<((Bytes, (Key, Stamp, Stamp)), &[u8]), Misfit>
-    ensures ok { IfOk result (λ found. a_text_key_range_call bytes.now ≡ Ok (found.0, found.1.now)) }
-    ensures cause { IfErr result (λ misfit. Refuses misfit (a_text_key_range_call bytes.now)) }
+) -> Result<((Name, (Stamp, Stamp)), &[u8]), Misfit>
+    ensures ok { IfOk result (λ found. name_range bytes.now ≡ Ok (found.0, found.1.now)) }
+    ensures cause { IfErr result (λ misfit. Refuses misfit (name_range bytes.now)) }
 {
-    let (text, rest) = read_text(alloc, read_sign(bytes, b'(')?)?;
-    let (key, rest) = read_key(alloc, read_sign(rest, b',')?)?;
-    match read_stamp(alloc, read_sign(rest, b',')?) {
-        Ok((from, rest)) => match read_stamp(alloc, read_sign(rest, b',')?) {
-            Ok((to, rest)) => Ok(((text, (key, from, to)), read_sign(rest, b')')?)),
-            Err(misfit) => Err(misfit),
-        },
+    let (name, rest) = read_name_before(alloc, bytes, b',')?;
+    match read_two_stamps(alloc, rest) {
+        Ok((range, rest)) => Ok(((name, range), rest)),
         Err(misfit) => Err(misfit),
     }
 }
 
-/// A text, and a name and two stamps.
-#[tactic(auto, unfolding(crate::specs::Grammar::a_text_name_range_call))]
-pub(crate) fn read_text_name_range_call(
+/// A key and two stamps.
+#[tactic(auto, unfolding(crate::specs::Grammar::key_range))]
+pub(crate) fn read_key_range(
     alloc: Global,
     bytes: &[u8],
-) -> Result<((Bytes, (Name, Stamp, Stamp)), &[u8]), Misfit>
-    ensures ok { IfOk result (λ found. a_text_name_range_call bytes.now ≡ Ok (found.0, found.1.now)) }
-    ensures cause { IfErr result (λ misfit. Refuses misfit (a_text_name_range_call bytes.now)) }
+) -> Result<((Key, (Stamp, Stamp)), &[u8]), Misfit>
+    ensures ok { IfOk result (λ found. key_range bytes.now ≡ Ok (found.0, found.1.now)) }
+    ensures cause { IfErr result (λ misfit. Refuses misfit (key_range bytes.now)) }
 {
-    let (text, rest) = read_text(alloc, read_sign(bytes, b'(')?)?;
-    let (name, rest) = read_name(alloc, read_sign(rest, b',')?)?;
-    match read_stamp(alloc, read_sign(rest, b',')?) {
-        Ok((from, rest)) => match read_stamp(alloc, read_sign(rest, b',')?) {
-            Ok((to, rest)) => Ok(((text, (name, from, to)), read_sign(rest, b')')?)),
-            Err(misfit) => Err(misfit),
-        },
+    let (key, rest) = read_key_before(alloc, bytes, b',')?;
+    match read_two_stamps(alloc, rest) {
+        Ok((range, rest)) => Ok(((key, range), rest)),
         Err(misfit) => Err(misfit),
     }
 }
 
-/// A text, a name, and a key and two stamps.
-#[tactic(auto, unfolding(crate::specs::Grammar::a_text_name_key_range_call))]
-pub(crate) fn read_text_name_key_range_call(
+/// Two keys and two stamps.
+#[tactic(auto, unfolding(crate::specs::Grammar::two_keys_range))]
+pub(crate) fn read_two_keys_range(
     alloc: Global,
     bytes: &[u8],
-) -> Result<((Bytes, (Name, (Key, Stamp, Stamp))), &[u8]), Misfit>
-    ensures ok { IfOk result (λ found. a_text_name_key_range_call bytes.now ≡ Ok (found.0, found.1.now)) }
-    ensures cause { IfErr result (λ misfit. Refuses misfit (a_text_name_key_range_call bytes.now)) }
+) -> Result<((Key, (Key, (Stamp, Stamp))), &[u8]), Misfit>
+    ensures ok { IfOk result (λ found. two_keys_range bytes.now ≡ Ok (found.0, found.1.now)) }
+    ensures cause { IfErr result (λ misfit. Refuses misfit (two_keys_range bytes.now)) }
 {
-    let (text, rest) = read_text(alloc, read_sign(bytes, b'(')?)?;
-    let (name, rest) = read_name(alloc, read_sign(rest, b',')?)?;
-    let (key, rest) = read_key(alloc, read_sign(rest, b',')?)?;
-    match read_stamp(alloc, read_sign(rest, b',')?) {
-        Ok((from, rest)) => match read_stamp(alloc, read_sign(rest, b',')?) {
-            Ok((to, rest)) => Ok(((text, (name, (key, from, to))), read_sign(rest, b')')?)),
-            Err(misfit) => Err(misfit),
-        },
+    let (first, rest) = read_key_before(alloc, bytes, b',')?;
+    match read_key_range(alloc, rest) {
+        Ok((second, rest)) => Ok(((first, second), rest)),
         Err(misfit) => Err(misfit),
     }
 }
 
-/// Two names and a whole number between the two.
-#[tactic(auto, unfolding(crate::specs::Grammar::a_names_whole_call))]
-pub(crate) fn read_names_whole_call(
+/// A name, a key and two stamps.
+#[tactic(auto, unfolding(crate::specs::Grammar::name_key_range))]
+pub(crate) fn read_name_key_range(
     alloc: Global,
     bytes: &[u8],
-    least: i64,
-    most: i64,
-) -> Result<((Name, Name, i64), &[u8]), Misfit>
-    ensures ok { IfOk result (λ found. a_names_whole_call least most bytes.now ≡ Ok (found.0, found.1.now)) }
-    ensures cause { IfErr result (λ misfit. Refuses misfit (a_names_whole_call least most bytes.now)) }
+) -> Result<((Name, (Key, (Stamp, Stamp))), &[u8]), Misfit>
+    ensures ok { IfOk result (λ found. name_key_range bytes.now ≡ Ok (found.0, found.1.now)) }
+    ensures cause { IfErr result (λ misfit. Refuses misfit (name_key_range bytes.now)) }
 {
-    let (name, rest) = read_name(alloc, read_sign(bytes, b'(')?)?;
-    let (other, rest) = read_name(alloc, read_sign(rest, b',')?)?;
-    let (whole, rest) = read_whole(read_sign(rest, b',')?, least, most)?;
-    let rest = read_sign(rest, b')')?;
-    Ok(((name, other, whole), rest))
+    let (name, rest) = read_name_before(alloc, bytes, b',')?;
+    match read_key_range(alloc, rest) {
+        Ok((key, rest)) => Ok(((name, key), rest)),
+        Err(misfit) => Err(misfit),
+    }
 }
 
-/// A key, a stamp and values.
-#[tactic(auto, unfolding(crate::specs::Grammar::a_key_stamp_values_call))]
-pub(crate) fn read_key_stamp_values_call(
+/// A text, a key and two stamps.
+#[tactic(auto, unfolding(crate::specs::Grammar::text_key_range))]
+pub(crate) fn read_text_key_range(
     alloc: Global,
     bytes: &[u8],
-) -> Result<((Key, Stamp, Literals), &[u8]), Misfit>
-    ensures ok { IfOk result (λ found. a_key_stamp_values_call bytes.now ≡ Ok (found.0, found.1.now)) }
-    ensures cause { IfErr result (λ misfit. Refuses misfit (a_key_stamp_values_call bytes.now)) }
+) -> Result<((Bytes, (Key, (Stamp, Stamp))), &[u8]), Misfit>
+    ensures ok { IfOk result (λ found. text_key_range bytes.now ≡ Ok (found.0, found.1.now)) }
+    ensures cause { IfErr result (λ misfit. Refuses misfit (text_key_range bytes.now)) }
 {
-    let (key, rest) = read_key(alloc, read_sign(bytes, b'(')?)?;
-    match read_stamp(alloc, read_sign(rest, b',')?) {
+    let (text, rest) = read_text_before(alloc, bytes, b',')?;
+    match read_key_range(alloc, rest) {
+        Ok((key, rest)) => Ok(((text, key), rest)),
+        Err(misfit) => Err(misfit),
+    }
+}
+
+/// A text, a name and two stamps.
+#[tactic(auto, unfolding(crate::specs::Grammar::text_name_range))]
+pub(crate) fn read_text_name_range(
+    alloc: Global,
+    bytes: &[u8],
+) -> Result<((Bytes, (Name, (Stamp, Stamp))), &[u8]), Misfit>
+    ensures ok { IfOk result (λ found. text_name_range bytes.now ≡ Ok (found.0, found.1.now)) }
+    ensures cause { IfErr result (λ misfit. Refuses misfit (text_name_range bytes.now)) }
+{
+    let (text, rest) = read_text_before(alloc, bytes, b',')?;
+    match read_name_range(alloc, rest) {
+        Ok((name, rest)) => Ok(((text, name), rest)),
+        Err(misfit) => Err(misfit),
+    }
+}
+
+/// A text, a name, a key and two stamps.
+#[tactic(auto, unfolding(crate::specs::Grammar::text_name_key_range))]
+pub(crate) fn read_text_name_key_range(
+    alloc: Global,
+    bytes: &[u8],
+) -> Result<((Bytes, (Name, (Key, (Stamp, Stamp)))), &[u8]), Misfit>
+    ensures ok { IfOk result (λ found. text_name_key_range bytes.now ≡ Ok (found.0, found.1.now)) }
+    ensures cause { IfErr result (λ misfit. Refuses misfit (text_name_key_range bytes.now)) }
+{
+    let (text, rest) = read_text_before(alloc, bytes, b',')?;
+    match read_name_key_range(alloc, rest) {
+        Ok((name, rest)) => Ok(((text, name), rest)),
+        Err(misfit) => Err(misfit),
+    }
+}
+
+/// A stamp and a name.
+#[tactic(auto, unfolding(crate::specs::Grammar::stamp_and_name))]
+pub(crate) fn read_stamp_and_name(
+    alloc: Global,
+    bytes: &[u8],
+) -> Result<((Stamp, Name), &[u8]), Misfit>
+    ensures ok { IfOk result (λ found. stamp_and_name bytes.now ≡ Ok (found.0, found.1.now)) }
+    ensures cause { IfErr result (λ misfit. Refuses misfit (stamp_and_name bytes.now)) }
+{
+    match read_stamp_before(alloc, bytes, b',') {
         Ok((stamp, rest)) => {
-            let (values, rest) = read_literals(alloc, rest)?;
-            Ok(((key, stamp, values), read_sign(rest, b')')?))
+            let (name, rest) = read_name_before(alloc, rest, b')')?;
+            Ok(((stamp, name), rest))
         }
         Err(misfit) => Err(misfit),
     }
 }
 
-/// A name, the stamp's column and the value columns.
-#[tactic(auto, unfolding(crate::specs::Grammar::a_name_columns_call))]
-pub(crate) fn read_name_columns_call(
+/// A name, a stamp and a name.
+#[tactic(auto, unfolding(crate::specs::Grammar::name_stamp_and_name))]
+pub(crate) fn read_name_stamp_and_name(
     alloc: Global,
     bytes: &[u8],
-) -> Result<((Name, Name, Columns), &[u8]), Misfit>
-    ensures ok { IfOk result (λ found. a_name_columns_call bytes.now ≡ Ok (found.0, found.1.now)) }
-    ensures cause { IfErr result (λ misfit. Refuses misfit (a_name_columns_call bytes.now)) }
+) -> Result<((Name, (Stamp, Name)), &[u8]), Misfit>
+    ensures ok { IfOk result (λ found. name_stamp_and_name bytes.now ≡ Ok (found.0, found.1.now)) }
+    ensures cause { IfErr result (λ misfit. Refuses misfit (name_stamp_and_name bytes.now)) }
 {
-    let (name, rest) = read_name(alloc, read_sign(bytes, b'(')?)?;
-    let (stamp, rest) = read_stamp_column(alloc, read_sign(rest, b',')?)?;
-    let (first, rest) = read_column(alloc, read_sign(rest, b',')?)?;
+    let (name, rest) = read_name_before(alloc, bytes, b',')?;
+    match read_stamp_and_name(alloc, rest) {
+        Ok((others, rest)) => Ok(((name, others), rest)),
+        Err(misfit) => Err(misfit),
+    }
+}
+
+/// A key, a name, a stamp and a name.
+#[tactic(auto, unfolding(crate::specs::Grammar::key_name_stamp_and_name))]
+pub(crate) fn read_key_name_stamp_and_name(
+    alloc: Global,
+    bytes: &[u8],
+) -> Result<((Key, (Name, (Stamp, Name))), &[u8]), Misfit>
+    ensures ok { IfOk result (λ found. key_name_stamp_and_name bytes.now ≡ Ok (found.0, found.1.now)) }
+    ensures cause { IfErr result (λ misfit. Refuses misfit (key_name_stamp_and_name bytes.now)) }
+{
+    let (key, rest) = read_key_before(alloc, bytes, b',')?;
+    match read_name_stamp_and_name(alloc, rest) {
+        Ok((others, rest)) => Ok(((key, others), rest)),
+        Err(misfit) => Err(misfit),
+    }
+}
+
+/// A stamp and a whole number between the two.
+#[tactic(auto, unfolding(crate::specs::Grammar::stamp_and_whole))]
+pub(crate) fn read_stamp_and_whole(
+    alloc: Global,
+    bytes: &[u8],
+    least: i64,
+    most: i64,
+) -> Result<((Stamp, i64), &[u8]), Misfit>
+    ensures ok { IfOk result (λ found. stamp_and_whole least most bytes.now ≡ Ok (found.0, found.1.now)) }
+    ensures cause { IfErr result (λ misfit. Refuses misfit (stamp_and_whole least most bytes.now)) }
+{
+    match read_stamp_before(alloc, bytes, b',') {
+        Ok((stamp, rest)) => {
+            let (whole, rest) = read_whole_before(rest, b')', least, most)?;
+            Ok(((stamp, whole), rest))
+        }
+        Err(misfit) => Err(misfit),
+    }
+}
+
+/// A name, a stamp and a whole number between the two.
+#[tactic(auto, unfolding(crate::specs::Grammar::name_stamp_and_whole))]
+pub(crate) fn read_name_stamp_and_whole(
+    alloc: Global,
+    bytes: &[u8],
+    least: i64,
+    most: i64,
+) -> Result<((Name, (Stamp, i64)), &[u8]), Misfit>
+    ensures ok { IfOk result (λ found. name_stamp_and_whole least most bytes.now ≡ Ok (found.0, found.1.now)) }
+    ensures cause { IfErr result (λ misfit. Refuses misfit (name_stamp_and_whole least most bytes.now)) }
+{
+    let (name, rest) = read_name_before(alloc, bytes, b',')?;
+    match read_stamp_and_whole(alloc, rest, least, most) {
+        Ok((others, rest)) => Ok(((name, others), rest)),
+        Err(misfit) => Err(misfit),
+    }
+}
+
+/// A key, a stamp and a whole number between the two.
+#[tactic(auto, unfolding(crate::specs::Grammar::key_stamp_and_whole))]
+pub(crate) fn read_key_stamp_and_whole(
+    alloc: Global,
+    bytes: &[u8],
+    least: i64,
+    most: i64,
+) -> Result<((Key, (Stamp, i64)), &[u8]), Misfit>
+    ensures ok { IfOk result (λ found. key_stamp_and_whole least most bytes.now ≡ Ok (found.0, found.1.now)) }
+    ensures cause { IfErr result (λ misfit. Refuses misfit (key_stamp_and_whole least most bytes.now)) }
+{
+    let (key, rest) = read_key_before(alloc, bytes, b',')?;
+    match read_stamp_and_whole(alloc, rest, least, most) {
+        Ok((others, rest)) => Ok(((key, others), rest)),
+        Err(misfit) => Err(misfit),
+    }
+}
+
+/// A stamp and any number of values.
+#[tactic(auto, unfolding(crate::specs::Grammar::stamp_and_values))]
+pub(crate) fn read_stamp_and_values(
+    alloc: Global,
+    bytes: &[u8],
+) -> Result<((Stamp, Literals), &[u8]), Misfit>
+    ensures ok { IfOk result (λ found. stamp_and_values bytes.now ≡ Ok (found.0, found.1.now)) }
+    ensures cause { IfErr result (λ misfit. Refuses misfit (stamp_and_values bytes.now)) }
+{
+    match read_stamp(alloc, bytes) {
+        Ok((stamp, rest)) => {
+            let (values, rest) = read_literals(alloc, rest)?;
+            Ok(((stamp, values), read_sign(rest, b')')?))
+        }
+        Err(misfit) => Err(misfit),
+    }
+}
+
+/// A key, a stamp and any number of values.
+#[tactic(auto, unfolding(crate::specs::Grammar::key_stamp_and_values))]
+pub(crate) fn read_key_stamp_and_values(
+    alloc: Global,
+    bytes: &[u8],
+) -> Result<((Key, (Stamp, Literals)), &[u8]), Misfit>
+    ensures ok { IfOk result (λ found. key_stamp_and_values bytes.now ≡ Ok (found.0, found.1.now)) }
+    ensures cause { IfErr result (λ misfit. Refuses misfit (key_stamp_and_values bytes.now)) }
+{
+    let (key, rest) = read_key_before(alloc, bytes, b',')?;
+    match read_stamp_and_values(alloc, rest) {
+        Ok((others, rest)) => Ok(((key, others), rest)),
+        Err(misfit) => Err(misfit),
+    }
+}
+
+/// One value column at least.
+#[tactic(auto, unfolding(crate::specs::Grammar::some_columns))]
+pub(crate) fn read_some_columns(alloc: Global, bytes: &[u8]) -> Result<(Columns, &[u8]), Misfit>
+    ensures ok { IfOk result (λ found. some_columns bytes.now ≡ Ok (found.0, found.1.now)) }
+    ensures cause { IfErr result (λ misfit. Refuses misfit (some_columns bytes.now)) }
+{
+    let (first, rest) = read_column(alloc, bytes)?;
     let mut columns = Columns::new(alloc);
     columns.push(first)?;
     let rest = read_columns(alloc, &mut columns, rest)?;
     let rest = read_sign(rest, b')')?;
-    Ok(((name, stamp, columns), rest))
+    Ok((columns, rest))
+}
+
+/// The stamp's column and one value column at least.
+#[tactic(auto, unfolding(crate::specs::Grammar::stamp_and_columns))]
+pub(crate) fn read_stamp_and_columns(
+    alloc: Global,
+    bytes: &[u8],
+) -> Result<((Name, Columns), &[u8]), Misfit>
+    ensures ok { IfOk result (λ found. stamp_and_columns bytes.now ≡ Ok (found.0, found.1.now)) }
+    ensures cause { IfErr result (λ misfit. Refuses misfit (stamp_and_columns bytes.now)) }
+{
+    let (stamp, rest) = read_stamp_column(alloc, bytes)?;
+    let (columns, rest) = read_some_columns(alloc, read_sign(rest, b',')?)?;
+    Ok(((stamp, columns), rest))
+}
+
+/// A name, the stamp's column and one value column at least.
+#[tactic(auto, unfolding(crate::specs::Grammar::name_and_columns))]
+pub(crate) fn read_name_and_columns(
+    alloc: Global,
+    bytes: &[u8],
+) -> Result<((Name, (Name, Columns)), &[u8]), Misfit>
+    ensures ok { IfOk result (λ found. name_and_columns bytes.now ≡ Ok (found.0, found.1.now)) }
+    ensures cause { IfErr result (λ misfit. Refuses misfit (name_and_columns bytes.now)) }
+{
+    let (name, rest) = read_name_before(alloc, bytes, b',')?;
+    let (columns, rest) = read_stamp_and_columns(alloc, rest)?;
+    Ok(((name, columns), rest))
 }
 
 // Values, as many as commas stand there.

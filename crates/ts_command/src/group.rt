@@ -1,13 +1,14 @@
-// Routines that are called with the same arguments: the arguments are read, and the routine chooses the command.
-ghost use Rattle.std.specs.Prelude.{◌≡◌, Ok, IfOk, IfErr};
+// Routines that are called with the same arguments: these are read, to the end of the statement, and the routine chooses
+// the command.
+ghost use Rattle.std.specs.Prelude.{◌≡◌, [], Ok, IfOk, IfErr};
 ghost use Rattle.ts_text.specs.Misfit.{Refuses};
-ghost use Rattle.ts_command.specs.Grammar.{arguments, of_name, of_key, of_stamp, of_row, of_text, of_join, of_range, of_clip, of_number, of_keys};
+ghost use Rattle.ts_command.specs.Grammar.{arguments_to_end, of_name, of_key, of_stamp, of_row, of_text, of_join, of_range, of_clip, of_number, of_keys};
 ghost use Rattle.ts_command.specs.declared.routine.Routine.{Routine};
 
 use crate::call::{
-    read_join_call, read_key_call, read_key_range_call, read_key_stamp_call,
-    read_key_stamp_values_call, read_key_whole_call, read_keys_range_call, read_name_call,
-    read_name_range_call, read_name_text_call,
+    read_joined_names, read_key_and_stamp, read_key_and_whole, read_key_before, read_key_range,
+    read_key_stamp_and_values, read_name_and_text, read_name_before, read_name_range,
+    read_two_keys_range,
 };
 use crate::routine::{
     ClipRoutine, JoinRoutine, KeyRoutine, NameRoutine, NumberRoutine, PairRoutine, RangeRoutine,
@@ -17,20 +18,21 @@ use crate::word::Joined;
 use crate::{Command, Literals};
 use std::alloc::Global;
 use ts_base::{Bytes, Key, Name, Stamp};
-use ts_text::Misfit;
+use ts_text::{Misfit, read_end};
 
 /// The name.
-#[tactic(auto, unfolding(crate::specs::Grammar::arguments))]
+#[tactic(auto, unfolding(crate::specs::Grammar::arguments, crate::specs::Grammar::arguments_to_end))]
 pub(crate) fn read_of_name(
     alloc: Global,
     routine: NameRoutine,
     bytes: &[u8],
-) -> Result<(Command, &[u8]), Misfit>
-    ensures ok { IfOk result (λ found. arguments (Routine.ByName routine) bytes.now ≡ Ok (found.0, found.1.now)) }
-    ensures cause { IfErr result (λ misfit. Refuses misfit (arguments (Routine.ByName routine) bytes.now)) }
+) -> Result<Command, Misfit>
+    ensures ok { IfOk result (λ command. arguments_to_end (Routine.ByName routine) bytes.now ≡ Ok (command, [])) }
+    ensures cause { IfErr result (λ misfit. Refuses misfit (arguments_to_end (Routine.ByName routine) bytes.now)) }
 {
-    let (name, rest) = read_name_call(alloc, bytes)?;
-    Ok((of_name(routine, name), rest))
+    let (name, rest) = read_name_before(alloc, bytes, b')')?;
+    read_end(rest, b";")?;
+    Ok(of_name(routine, name))
 }
 
 fn of_name(routine: NameRoutine, name: Name) -> Command
@@ -49,17 +51,18 @@ fn of_name(routine: NameRoutine, name: Name) -> Command
 }
 
 /// The key.
-#[tactic(auto, unfolding(crate::specs::Grammar::arguments))]
+#[tactic(auto, unfolding(crate::specs::Grammar::arguments, crate::specs::Grammar::arguments_to_end))]
 pub(crate) fn read_of_key(
     alloc: Global,
     routine: KeyRoutine,
     bytes: &[u8],
-) -> Result<(Command, &[u8]), Misfit>
-    ensures ok { IfOk result (λ found. arguments (Routine.ByKey routine) bytes.now ≡ Ok (found.0, found.1.now)) }
-    ensures cause { IfErr result (λ misfit. Refuses misfit (arguments (Routine.ByKey routine) bytes.now)) }
+) -> Result<Command, Misfit>
+    ensures ok { IfOk result (λ command. arguments_to_end (Routine.ByKey routine) bytes.now ≡ Ok (command, [])) }
+    ensures cause { IfErr result (λ misfit. Refuses misfit (arguments_to_end (Routine.ByKey routine) bytes.now)) }
 {
-    let (key, rest) = read_key_call(alloc, bytes)?;
-    Ok((of_key(routine, key), rest))
+    let (key, rest) = read_key_before(alloc, bytes, b')')?;
+    read_end(rest, b";")?;
+    Ok(of_key(routine, key))
 }
 
 fn of_key(routine: KeyRoutine, key: Key) -> Command
@@ -74,17 +77,20 @@ fn of_key(routine: KeyRoutine, key: Key) -> Command
 }
 
 /// The key and the stamp.
-#[tactic(auto, unfolding(crate::specs::Grammar::arguments))]
+#[tactic(auto, unfolding(crate::specs::Grammar::arguments, crate::specs::Grammar::arguments_to_end))]
 pub(crate) fn read_of_stamp(
     alloc: Global,
     routine: StampRoutine,
     bytes: &[u8],
-) -> Result<(Command, &[u8]), Misfit>
-    ensures ok { IfOk result (λ found. arguments (Routine.AtStamp routine) bytes.now ≡ Ok (found.0, found.1.now)) }
-    ensures cause { IfErr result (λ misfit. Refuses misfit (arguments (Routine.AtStamp routine) bytes.now)) }
+) -> Result<Command, Misfit>
+    ensures ok { IfOk result (λ command. arguments_to_end (Routine.AtStamp routine) bytes.now ≡ Ok (command, [])) }
+    ensures cause { IfErr result (λ misfit. Refuses misfit (arguments_to_end (Routine.AtStamp routine) bytes.now)) }
 {
-    match read_key_stamp_call(alloc, bytes) {
-        Ok(((key, stamp), rest)) => Ok((of_stamp(routine, key, stamp), rest)),
+    match read_key_and_stamp(alloc, bytes) {
+        Ok(((key, stamp), rest)) => {
+            read_end(rest, b";")?;
+            Ok(of_stamp(routine, key, stamp))
+        }
         Err(misfit) => Err(misfit),
     }
 }
@@ -101,17 +107,20 @@ fn of_stamp(routine: StampRoutine, key: Key, stamp: Stamp) -> Command
 }
 
 /// The key, the stamp and the values.
-#[tactic(auto, unfolding(crate::specs::Grammar::arguments))]
+#[tactic(auto, unfolding(crate::specs::Grammar::arguments, crate::specs::Grammar::arguments_to_end))]
 pub(crate) fn read_of_row(
     alloc: Global,
     routine: RowRoutine,
     bytes: &[u8],
-) -> Result<(Command, &[u8]), Misfit>
-    ensures ok { IfOk result (λ found. arguments (Routine.WithRow routine) bytes.now ≡ Ok (found.0, found.1.now)) }
-    ensures cause { IfErr result (λ misfit. Refuses misfit (arguments (Routine.WithRow routine) bytes.now)) }
+) -> Result<Command, Misfit>
+    ensures ok { IfOk result (λ command. arguments_to_end (Routine.WithRow routine) bytes.now ≡ Ok (command, [])) }
+    ensures cause { IfErr result (λ misfit. Refuses misfit (arguments_to_end (Routine.WithRow routine) bytes.now)) }
 {
-    match read_key_stamp_values_call(alloc, bytes) {
-        Ok(((key, stamp, values), rest)) => Ok((of_row(routine, key, stamp, values), rest)),
+    match read_key_stamp_and_values(alloc, bytes) {
+        Ok(((key, (stamp, values)), rest)) => {
+            read_end(rest, b";")?;
+            Ok(of_row(routine, key, stamp, values))
+        }
         Err(misfit) => Err(misfit),
     }
 }
@@ -128,17 +137,18 @@ fn of_row(routine: RowRoutine, key: Key, stamp: Stamp, values: Literals) -> Comm
 }
 
 /// The name and the text.
-#[tactic(auto, unfolding(crate::specs::Grammar::arguments))]
+#[tactic(auto, unfolding(crate::specs::Grammar::arguments, crate::specs::Grammar::arguments_to_end))]
 pub(crate) fn read_of_text(
     alloc: Global,
     routine: TextRoutine,
     bytes: &[u8],
-) -> Result<(Command, &[u8]), Misfit>
-    ensures ok { IfOk result (λ found. arguments (Routine.WithText routine) bytes.now ≡ Ok (found.0, found.1.now)) }
-    ensures cause { IfErr result (λ misfit. Refuses misfit (arguments (Routine.WithText routine) bytes.now)) }
+) -> Result<Command, Misfit>
+    ensures ok { IfOk result (λ command. arguments_to_end (Routine.WithText routine) bytes.now ≡ Ok (command, [])) }
+    ensures cause { IfErr result (λ misfit. Refuses misfit (arguments_to_end (Routine.WithText routine) bytes.now)) }
 {
-    let ((name, text), rest) = read_name_text_call(alloc, bytes)?;
-    Ok((of_text(routine, name, text), rest))
+    let ((name, text), rest) = read_name_and_text(alloc, bytes)?;
+    read_end(rest, b";")?;
+    Ok(of_text(routine, name, text))
 }
 
 fn of_text(routine: TextRoutine, name: Name, text: Bytes) -> Command
@@ -151,23 +161,24 @@ fn of_text(routine: TextRoutine, name: Name, text: Bytes) -> Command
 }
 
 /// What is joined, and the names.
-#[tactic(auto, unfolding(crate::specs::Grammar::arguments))]
+#[tactic(auto, unfolding(crate::specs::Grammar::arguments, crate::specs::Grammar::arguments_to_end))]
 pub(crate) fn read_joining(
     alloc: Global,
     routine: JoinRoutine,
     bytes: &[u8],
-) -> Result<(Command, &[u8]), Misfit>
-    ensures ok { IfOk result (λ found. arguments (Routine.Joining routine) bytes.now ≡ Ok (found.0, found.1.now)) }
-    ensures cause { IfErr result (λ misfit. Refuses misfit (arguments (Routine.Joining routine) bytes.now)) }
+) -> Result<Command, Misfit>
+    ensures ok { IfOk result (λ command. arguments_to_end (Routine.Joining routine) bytes.now ≡ Ok (command, [])) }
+    ensures cause { IfErr result (λ misfit. Refuses misfit (arguments_to_end (Routine.Joining routine) bytes.now)) }
 {
-    let ((joined, names), rest) = read_join_call(alloc, bytes)?;
-    Ok((of_join(routine, joined, names), rest))
+    let ((joined, names), rest) = read_joined_names(alloc, bytes)?;
+    read_end(rest, b";")?;
+    Ok(of_join(routine, joined, names))
 }
 
-fn of_join(routine: JoinRoutine, joined: Joined, names: (Name, Name, Name)) -> Command
+fn of_join(routine: JoinRoutine, joined: Joined, names: (Name, (Name, Name))) -> Command
     ensures { result ≡ of_join routine joined names }
 {
-    let (name, first, second) = names;
+    let (name, (first, second)) = names;
     match (routine, joined) {
         (JoinRoutine::AndOp, Joined::Patterns) => Command::AndPatterns {
             name,
@@ -193,17 +204,20 @@ fn of_join(routine: JoinRoutine, joined: Joined, names: (Name, Name, Name)) -> C
 }
 
 /// The name and the two stamps.
-#[tactic(auto, unfolding(crate::specs::Grammar::arguments))]
+#[tactic(auto, unfolding(crate::specs::Grammar::arguments, crate::specs::Grammar::arguments_to_end))]
 pub(crate) fn read_of_range(
     alloc: Global,
     routine: RangeRoutine,
     bytes: &[u8],
-) -> Result<(Command, &[u8]), Misfit>
-    ensures ok { IfOk result (λ found. arguments (Routine.InRange routine) bytes.now ≡ Ok (found.0, found.1.now)) }
-    ensures cause { IfErr result (λ misfit. Refuses misfit (arguments (Routine.InRange routine) bytes.now)) }
+) -> Result<Command, Misfit>
+    ensures ok { IfOk result (λ command. arguments_to_end (Routine.InRange routine) bytes.now ≡ Ok (command, [])) }
+    ensures cause { IfErr result (λ misfit. Refuses misfit (arguments_to_end (Routine.InRange routine) bytes.now)) }
 {
-    match read_name_range_call(alloc, bytes) {
-        Ok(((calendar, from, to), rest)) => Ok((of_range(routine, calendar, from, to), rest)),
+    match read_name_range(alloc, bytes) {
+        Ok(((calendar, (from, to)), rest)) => {
+            read_end(rest, b";")?;
+            Ok(of_range(routine, calendar, from, to))
+        }
         Err(misfit) => Err(misfit),
     }
 }
@@ -218,17 +232,20 @@ fn of_range(routine: RangeRoutine, calendar: Name, from: Stamp, to: Stamp) -> Co
 }
 
 /// The key and the two stamps.
-#[tactic(auto, unfolding(crate::specs::Grammar::arguments))]
+#[tactic(auto, unfolding(crate::specs::Grammar::arguments, crate::specs::Grammar::arguments_to_end))]
 pub(crate) fn read_of_clip(
     alloc: Global,
     routine: ClipRoutine,
     bytes: &[u8],
-) -> Result<(Command, &[u8]), Misfit>
-    ensures ok { IfOk result (λ found. arguments (Routine.Clipping routine) bytes.now ≡ Ok (found.0, found.1.now)) }
-    ensures cause { IfErr result (λ misfit. Refuses misfit (arguments (Routine.Clipping routine) bytes.now)) }
+) -> Result<Command, Misfit>
+    ensures ok { IfOk result (λ command. arguments_to_end (Routine.Clipping routine) bytes.now ≡ Ok (command, [])) }
+    ensures cause { IfErr result (λ misfit. Refuses misfit (arguments_to_end (Routine.Clipping routine) bytes.now)) }
 {
-    match read_key_range_call(alloc, bytes) {
-        Ok(((key, from, to), rest)) => Ok((of_clip(routine, key, from, to), rest)),
+    match read_key_range(alloc, bytes) {
+        Ok(((key, (from, to)), rest)) => {
+            read_end(rest, b";")?;
+            Ok(of_clip(routine, key, from, to))
+        }
         Err(misfit) => Err(misfit),
     }
 }
@@ -244,17 +261,18 @@ fn of_clip(routine: ClipRoutine, key: Key, from: Stamp, to: Stamp) -> Command
 }
 
 /// The key and the number, in the routine's range.
-#[tactic(auto, unfolding(crate::specs::Grammar::arguments))]
+#[tactic(auto, unfolding(crate::specs::Grammar::arguments, crate::specs::Grammar::arguments_to_end))]
 pub(crate) fn read_of_number(
     alloc: Global,
     routine: NumberRoutine,
     bytes: &[u8],
-) -> Result<(Command, &[u8]), Misfit>
-    ensures ok { IfOk result (λ found. arguments (Routine.ByNumber routine) bytes.now ≡ Ok (found.0, found.1.now)) }
-    ensures cause { IfErr result (λ misfit. Refuses misfit (arguments (Routine.ByNumber routine) bytes.now)) }
+) -> Result<Command, Misfit>
+    ensures ok { IfOk result (λ command. arguments_to_end (Routine.ByNumber routine) bytes.now ≡ Ok (command, [])) }
+    ensures cause { IfErr result (λ misfit. Refuses misfit (arguments_to_end (Routine.ByNumber routine) bytes.now)) }
 {
-    let ((key, number), rest) = read_key_whole_call(alloc, bytes, routine.least(), routine.most())?;
-    Ok((of_number(routine, key, number), rest))
+    let ((key, number), rest) = read_key_and_whole(alloc, bytes, routine.least(), routine.most())?;
+    read_end(rest, b";")?;
+    Ok(of_number(routine, key, number))
 }
 
 fn of_number(routine: NumberRoutine, key: Key, number: i64) -> Command
@@ -267,18 +285,19 @@ fn of_number(routine: NumberRoutine, key: Key, number: i64) -> Command
 }
 
 /// The two keys and the two stamps.
-#[tactic(auto, unfolding(crate::specs::Grammar::arguments))]
+#[tactic(auto, unfolding(crate::specs::Grammar::arguments, crate::specs::Grammar::arguments_to_end))]
 pub(crate) fn read_of_pair(
     alloc: Global,
     routine: PairRoutine,
     bytes: &[u8],
-) -> Result<(Command, &[u8]), Misfit>
-    ensures ok { IfOk result (λ found. arguments (Routine.OfPair routine) bytes.now ≡ Ok (found.0, found.1.now)) }
-    ensures cause { IfErr result (λ misfit. Refuses misfit (arguments (Routine.OfPair routine) bytes.now)) }
+) -> Result<Command, Misfit>
+    ensures ok { IfOk result (λ command. arguments_to_end (Routine.OfPair routine) bytes.now ≡ Ok (command, [])) }
+    ensures cause { IfErr result (λ misfit. Refuses misfit (arguments_to_end (Routine.OfPair routine) bytes.now)) }
 {
-    match read_keys_range_call(alloc, bytes) {
-        Ok(((first, (second, from, to)), rest)) => {
-            Ok((of_keys(routine, first, second, from, to), rest))
+    match read_two_keys_range(alloc, bytes) {
+        Ok(((first, (second, (from, to))), rest)) => {
+            read_end(rest, b";")?;
+            Ok(of_keys(routine, first, second, from, to))
         }
         Err(misfit) => Err(misfit),
     }

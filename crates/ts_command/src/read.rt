@@ -2,14 +2,14 @@
 ghost use Rattle.std.specs.Prelude.{◌≡◌, ◌^◌, ◌<◌, [], ◌∷◌, Ok, IfOk, IfErr, length};
 ghost use Rattle.ts_command.specs.Form.{HasForm};
 ghost use Rattle.ts_text.specs.Misfit.{Refuses};
-ghost use Rattle.ts_command.specs.Grammar.{a_call, a_command, arguments, command_of};
+ghost use Rattle.ts_command.specs.Grammar.{a_command, arguments_to_end, command_of};
 ghost use Rattle.ts_command.specs.Misfit.{IsCause};
 
 use crate::Command;
 use crate::call::{
-    read_key_name_call, read_key_name_stamp_name_call, read_key_stamp_whole_call,
-    read_name_columns_call, read_name_stamp_whole_call, read_names_call, read_names_whole_call,
-    read_text_key_range_call, read_text_name_key_range_call, read_text_name_range_call,
+    read_key_and_name, read_key_name_stamp_and_name, read_key_stamp_and_whole,
+    read_name_and_columns, read_name_stamp_and_whole, read_text_key_range,
+    read_text_name_key_range, read_text_name_range, read_two_names, read_two_names_and_whole,
 };
 use crate::group::{
     read_joining, read_of_clip, read_of_key, read_of_name, read_of_number, read_of_pair,
@@ -19,13 +19,12 @@ use crate::phrase::read_routine;
 use crate::routine::Routine;
 use std::alloc::Global;
 use ts_base::{Refusal, Trouble};
-use ts_text::{Misfit, read_end};
+use ts_text::{Misfit, read_end, read_sign};
 
-// What a routine is called with, as its command.
-#[tactic(auto, unfolding(crate::specs::Grammar::arguments))]
-fn read_arguments(alloc: Global, routine: Routine, bytes: &[u8]) -> Result<(Command, &[u8]), Misfit>
-    ensures ok { IfOk result (λ found. arguments routine bytes.now ≡ Ok (found.0, found.1.now)) }
-    ensures cause { IfErr result (λ misfit. Refuses misfit (arguments routine bytes.now)) }
+// What a routine is called with, to the end of the statement, as its command.
+fn read_arguments(alloc: Global, routine: Routine, bytes: &[u8]) -> Result<Command, Misfit>
+    ensures ok { IfOk result (λ command. arguments_to_end routine bytes.now ≡ Ok (command, [])) }
+    ensures cause { IfErr result (λ misfit. Refuses misfit (arguments_to_end routine bytes.now)) }
 {
     match routine {
         Routine::CreateRowType => read_create_row_type(alloc, bytes),
@@ -52,186 +51,180 @@ fn read_arguments(alloc: Global, routine: Routine, bytes: &[u8]) -> Result<(Comm
 }
 
 // A row type: its name, the stamp's column and the value columns.
-#[tactic(auto, unfolding(crate::specs::Grammar::arguments))]
-fn read_create_row_type(alloc: Global, bytes: &[u8]) -> Result<(Command, &[u8]), Misfit>
-    ensures ok { IfOk result (λ found. arguments Routine.CreateRowType bytes.now ≡ Ok (found.0, found.1.now)) }
-    ensures cause { IfErr result (λ misfit. Refuses misfit (arguments Routine.CreateRowType bytes.now)) }
+#[tactic(auto, unfolding(crate::specs::Grammar::arguments, crate::specs::Grammar::arguments_to_end))]
+fn read_create_row_type(alloc: Global, bytes: &[u8]) -> Result<Command, Misfit>
+    ensures ok { IfOk result (λ command. arguments_to_end Routine.CreateRowType bytes.now ≡ Ok (command, [])) }
+    ensures cause { IfErr result (λ misfit. Refuses misfit (arguments_to_end Routine.CreateRowType bytes.now)) }
 {
-    let ((name, stamp, columns), rest) = read_name_columns_call(alloc, bytes)?;
-    let command = Command::CreateRowType {
+    let ((name, (stamp, columns)), rest) = read_name_and_columns(alloc, bytes)?;
+    read_end(rest, b";")?;
+    Ok(Command::CreateRowType {
         name,
         stamp,
         columns,
-    };
-    Ok((command, rest))
+    })
 }
 
 // A container: its name, that of its row type, and its quota.
-#[tactic(auto, unfolding(crate::specs::Grammar::arguments))]
-fn read_create_container(alloc: Global, bytes: &[u8]) -> Result<(Command, &[u8]), Misfit>
-    ensures ok { IfOk result (λ found. arguments Routine.TSContainerCreate bytes.now ≡ Ok (found.0, found.1.now)) }
-    ensures cause { IfErr result (λ misfit. Refuses misfit (arguments Routine.TSContainerCreate bytes.now)) }
+#[tactic(auto, unfolding(crate::specs::Grammar::arguments, crate::specs::Grammar::arguments_to_end))]
+fn read_create_container(alloc: Global, bytes: &[u8]) -> Result<Command, Misfit>
+    ensures ok { IfOk result (λ command. arguments_to_end Routine.TSContainerCreate bytes.now ≡ Ok (command, [])) }
+    ensures cause { IfErr result (λ misfit. Refuses misfit (arguments_to_end Routine.TSContainerCreate bytes.now)) }
 {
-    let ((name, row_type, quota), rest) = read_names_whole_call(alloc, bytes, 1, 65536)?;
-    let command = Command::TSContainerCreate {
+    let ((name, (row_type, quota)), rest) = read_two_names_and_whole(alloc, bytes, 1, 65536)?;
+    read_end(rest, b";")?;
+    Ok(Command::TSContainerCreate {
         name,
         row_type,
         quota,
-    };
-    Ok((command, rest))
+    })
 }
 
 // A regular series: its key, the name of its calendar, its origin, and the name of its container.
-#[tactic(auto, unfolding(crate::specs::Grammar::arguments))]
-fn read_create_regular(alloc: Global, bytes: &[u8]) -> Result<(Command, &[u8]), Misfit>
-    ensures ok { IfOk result (λ found. arguments Routine.TSCreate bytes.now ≡ Ok (found.0, found.1.now)) }
-    ensures cause { IfErr result (λ misfit. Refuses misfit (arguments Routine.TSCreate bytes.now)) }
+#[tactic(auto, unfolding(crate::specs::Grammar::arguments, crate::specs::Grammar::arguments_to_end))]
+fn read_create_regular(alloc: Global, bytes: &[u8]) -> Result<Command, Misfit>
+    ensures ok { IfOk result (λ command. arguments_to_end Routine.TSCreate bytes.now ≡ Ok (command, [])) }
+    ensures cause { IfErr result (λ misfit. Refuses misfit (arguments_to_end Routine.TSCreate bytes.now)) }
 {
-    match read_key_name_stamp_name_call(alloc, bytes) {
-        Ok(((key, (calendar, origin, container)), rest)) => Ok((
-            Command::TSCreate {
+    match read_key_name_stamp_and_name(alloc, bytes) {
+        Ok(((key, (calendar, (origin, container))), rest)) => {
+            read_end(rest, b";")?;
+            Ok(Command::TSCreate {
                 key,
                 calendar,
                 origin,
                 container,
-            },
-            rest,
-        )),
+            })
+        }
         Err(misfit) => Err(misfit),
     }
 }
 
 // An irregular series: its key, and the name of its container.
-#[tactic(auto, unfolding(crate::specs::Grammar::arguments))]
-fn read_create_irregular(alloc: Global, bytes: &[u8]) -> Result<(Command, &[u8]), Misfit>
-    ensures ok { IfOk result (λ found. arguments Routine.TSCreateIrr bytes.now ≡ Ok (found.0, found.1.now)) }
-    ensures cause { IfErr result (λ misfit. Refuses misfit (arguments Routine.TSCreateIrr bytes.now)) }
+#[tactic(auto, unfolding(crate::specs::Grammar::arguments, crate::specs::Grammar::arguments_to_end))]
+fn read_create_irregular(alloc: Global, bytes: &[u8]) -> Result<Command, Misfit>
+    ensures ok { IfOk result (λ command. arguments_to_end Routine.TSCreateIrr bytes.now ≡ Ok (command, [])) }
+    ensures cause { IfErr result (λ misfit. Refuses misfit (arguments_to_end Routine.TSCreateIrr bytes.now)) }
 {
-    let ((key, container), rest) = read_key_name_call(alloc, bytes)?;
-    Ok((Command::TSCreateIrr { key, container }, rest))
+    let ((key, container), rest) = read_key_and_name(alloc, bytes)?;
+    read_end(rest, b";")?;
+    Ok(Command::TSCreateIrr { key, container })
 }
 
 // A pattern that is off where another is on: its name, and that of the other.
-#[tactic(auto, unfolding(crate::specs::Grammar::arguments))]
-fn read_opposite(alloc: Global, bytes: &[u8]) -> Result<(Command, &[u8]), Misfit>
-    ensures ok { IfOk result (λ found. arguments Routine.NotOp bytes.now ≡ Ok (found.0, found.1.now)) }
-    ensures cause { IfErr result (λ misfit. Refuses misfit (arguments Routine.NotOp bytes.now)) }
+#[tactic(auto, unfolding(crate::specs::Grammar::arguments, crate::specs::Grammar::arguments_to_end))]
+fn read_opposite(alloc: Global, bytes: &[u8]) -> Result<Command, Misfit>
+    ensures ok { IfOk result (λ command. arguments_to_end Routine.NotOp bytes.now ≡ Ok (command, [])) }
+    ensures cause { IfErr result (λ misfit. Refuses misfit (arguments_to_end Routine.NotOp bytes.now)) }
 {
-    let ((name, pattern), rest) = read_names_call(alloc, bytes)?;
-    Ok((Command::NotOp { name, pattern }, rest))
+    let ((name, pattern), rest) = read_two_names(alloc, bytes)?;
+    read_end(rest, b";")?;
+    Ok(Command::NotOp { name, pattern })
 }
 
 // A stamp of a calendar: the calendar's name, the stamp before, and how many stamps later.
-#[tactic(auto, unfolding(crate::specs::Grammar::arguments))]
-fn read_calendar_stamp(alloc: Global, bytes: &[u8]) -> Result<(Command, &[u8]), Misfit>
-    ensures ok { IfOk result (λ found. arguments Routine.CalStamp bytes.now ≡ Ok (found.0, found.1.now)) }
-    ensures cause { IfErr result (λ misfit. Refuses misfit (arguments Routine.CalStamp bytes.now)) }
+#[tactic(auto, unfolding(crate::specs::Grammar::arguments, crate::specs::Grammar::arguments_to_end))]
+fn read_calendar_stamp(alloc: Global, bytes: &[u8]) -> Result<Command, Misfit>
+    ensures ok { IfOk result (λ command. arguments_to_end Routine.CalStamp bytes.now ≡ Ok (command, [])) }
+    ensures cause { IfErr result (λ misfit. Refuses misfit (arguments_to_end Routine.CalStamp bytes.now)) }
 {
-    match read_name_stamp_whole_call(alloc, bytes, 1, 4294967295) {
-        Ok(((calendar, after, count), rest)) => Ok((
-            Command::CalStamp {
+    match read_name_stamp_and_whole(alloc, bytes, 1, 4294967295) {
+        Ok(((calendar, (after, count)), rest)) => {
+            read_end(rest, b";")?;
+            Ok(Command::CalStamp {
                 calendar,
                 after,
                 count,
-            },
-            rest,
-        )),
+            })
+        }
         Err(misfit) => Err(misfit),
     }
 }
 
 // So many entries of a series at a stamp: its key, the stamp, and how many, where negative up to the stamp.
-#[tactic(auto, unfolding(crate::specs::Grammar::arguments))]
-fn read_clip_count(alloc: Global, bytes: &[u8]) -> Result<(Command, &[u8]), Misfit>
-    ensures ok { IfOk result (λ found. arguments Routine.ClipCount bytes.now ≡ Ok (found.0, found.1.now)) }
-    ensures cause { IfErr result (λ misfit. Refuses misfit (arguments Routine.ClipCount bytes.now)) }
+#[tactic(auto, unfolding(crate::specs::Grammar::arguments, crate::specs::Grammar::arguments_to_end))]
+fn read_clip_count(alloc: Global, bytes: &[u8]) -> Result<Command, Misfit>
+    ensures ok { IfOk result (λ command. arguments_to_end Routine.ClipCount bytes.now ≡ Ok (command, [])) }
+    ensures cause { IfErr result (λ misfit. Refuses misfit (arguments_to_end Routine.ClipCount bytes.now)) }
 {
-    match read_key_stamp_whole_call(alloc, bytes, -1000000, 1000000) {
-        Ok(((key, stamp, count), rest)) => Ok((Command::ClipCount { key, stamp, count }, rest)),
+    match read_key_stamp_and_whole(alloc, bytes, -1000000, 1000000) {
+        Ok(((key, (stamp, count)), rest)) => {
+            read_end(rest, b";")?;
+            Ok(Command::ClipCount { key, stamp, count })
+        }
         Err(misfit) => Err(misfit),
     }
 }
 
 // Folds of what the on intervals of a calendar hold: the list, the calendar's name, the series' key, and the range.
-#[tactic(auto, unfolding(crate::specs::Grammar::arguments))]
-fn read_aggregate_by(alloc: Global, bytes: &[u8]) -> Result<(Command, &[u8]), Misfit>
-    ensures ok { IfOk result (λ found. arguments Routine.AggregateBy bytes.now ≡ Ok (found.0, found.1.now)) }
-    ensures cause { IfErr result (λ misfit. Refuses misfit (arguments Routine.AggregateBy bytes.now)) }
+#[tactic(auto, unfolding(crate::specs::Grammar::arguments, crate::specs::Grammar::arguments_to_end))]
+fn read_aggregate_by(alloc: Global, bytes: &[u8]) -> Result<Command, Misfit>
+    ensures ok { IfOk result (λ command. arguments_to_end Routine.AggregateBy bytes.now ≡ Ok (command, [])) }
+    ensures cause { IfErr result (λ misfit. Refuses misfit (arguments_to_end Routine.AggregateBy bytes.now)) }
 {
-    match read_text_name_key_range_call(alloc, bytes) {
-        Ok(((text, (calendar, (key, from, to))), rest)) => Ok((
-            Command::AggregateBy {
+    match read_text_name_key_range(alloc, bytes) {
+        Ok(((text, (calendar, (key, (from, to)))), rest)) => {
+            read_end(rest, b";")?;
+            Ok(Command::AggregateBy {
                 text,
                 calendar,
                 key,
                 from,
                 to,
-            },
-            rest,
-        )),
+            })
+        }
         Err(misfit) => Err(misfit),
     }
 }
 
 // A fold of a range of a series: the list, the series' key, and the range.
-#[tactic(auto, unfolding(crate::specs::Grammar::arguments))]
-fn read_aggregate_range(alloc: Global, bytes: &[u8]) -> Result<(Command, &[u8]), Misfit>
-    ensures ok { IfOk result (λ found. arguments Routine.AggregateRange bytes.now ≡ Ok (found.0, found.1.now)) }
-    ensures cause { IfErr result (λ misfit. Refuses misfit (arguments Routine.AggregateRange bytes.now)) }
+#[tactic(auto, unfolding(crate::specs::Grammar::arguments, crate::specs::Grammar::arguments_to_end))]
+fn read_aggregate_range(alloc: Global, bytes: &[u8]) -> Result<Command, Misfit>
+    ensures ok { IfOk result (λ command. arguments_to_end Routine.AggregateRange bytes.now ≡ Ok (command, [])) }
+    ensures cause { IfErr result (λ misfit. Refuses misfit (arguments_to_end Routine.AggregateRange bytes.now)) }
 {
-    match read_text_key_range_call(alloc, bytes) {
-        Ok(((text, (key, from, to)), rest)) => Ok((
-            Command::AggregateRange {
+    match read_text_key_range(alloc, bytes) {
+        Ok(((text, (key, (from, to))), rest)) => {
+            read_end(rest, b";")?;
+            Ok(Command::AggregateRange {
                 text,
                 key,
                 from,
                 to,
-            },
-            rest,
-        )),
+            })
+        }
         Err(misfit) => Err(misfit),
     }
 }
 
 // A fold of a range of each series of a container: the list, the container's name, and the range.
-#[tactic(auto, unfolding(crate::specs::Grammar::arguments))]
-fn read_aggregate_all(alloc: Global, bytes: &[u8]) -> Result<(Command, &[u8]), Misfit>
-    ensures ok { IfOk result (λ found. arguments Routine.AggregateAll bytes.now ≡ Ok (found.0, found.1.now)) }
-    ensures cause { IfErr result (λ misfit. Refuses misfit (arguments Routine.AggregateAll bytes.now)) }
+#[tactic(auto, unfolding(crate::specs::Grammar::arguments, crate::specs::Grammar::arguments_to_end))]
+fn read_aggregate_all(alloc: Global, bytes: &[u8]) -> Result<Command, Misfit>
+    ensures ok { IfOk result (λ command. arguments_to_end Routine.AggregateAll bytes.now ≡ Ok (command, [])) }
+    ensures cause { IfErr result (λ misfit. Refuses misfit (arguments_to_end Routine.AggregateAll bytes.now)) }
 {
-    match read_text_name_range_call(alloc, bytes) {
-        Ok(((text, (container, from, to)), rest)) => Ok((
-            Command::AggregateAll {
+    match read_text_name_range(alloc, bytes) {
+        Ok(((text, (container, (from, to))), rest)) => {
+            read_end(rest, b";")?;
+            Ok(Command::AggregateAll {
                 text,
                 container,
                 from,
                 to,
-            },
-            rest,
-        )),
+            })
+        }
         Err(misfit) => Err(misfit),
     }
 }
 
-// A routine and what it is called with.
-#[tactic(auto, unfolding(crate::specs::Grammar::a_call))]
-fn read_call(alloc: Global, text: &[u8]) -> Result<(Command, &[u8]), Misfit>
-    ensures ok { IfOk result (λ found. a_call text.now ≡ Ok (found.0, found.1.now)) }
-    ensures cause { IfErr result (λ misfit. Refuses misfit (a_call text.now)) }
-{
-    let (routine, rest) = read_routine(text)?;
-    read_arguments(alloc, routine, rest)
-}
-
 // A whole statement.
-#[tactic(auto, unfolding(crate::specs::Grammar::a_command))]
+#[tactic(auto, unfolding(crate::specs::Grammar::a_command, crate::specs::Grammar::a_call, crate::specs::Grammar::arguments_to_end))]
 fn read_statement(alloc: Global, text: &[u8]) -> Result<Command, Misfit>
     ensures ok { IfOk result (λ command. a_command text.now ≡ Ok (command, [])) }
     ensures cause { IfErr result (λ misfit. Refuses misfit (a_command text.now)) }
 {
-    let (command, rest) = read_call(alloc, text)?;
-    read_end(rest, b";")?;
-    Ok(command)
+    let (routine, rest) = read_routine(text)?;
+    read_arguments(alloc, routine, read_sign(rest, b'(')?)
 }
 
 /// The command that a statement is, or the place in it that is refused.

@@ -5,7 +5,7 @@ ghost use Rattle.ts_command.specs.Routines.{spelling, name_spelling, key_spellin
 use crate::word::are_same;
 
 /// The routines, those together that are called with the same arguments.
-#[derive(Clone, Copy, Debug, PartialEq, Eq)]
+#[derive(Clone, Copy)]
 pub(crate) enum Routine {
     CreateRowType,
     TSContainerCreate,
@@ -30,7 +30,7 @@ pub(crate) enum Routine {
 }
 
 /// Those that are called with a name.
-#[derive(Clone, Copy, Debug, PartialEq, Eq)]
+#[derive(Clone, Copy)]
 pub(crate) enum NameRoutine {
     DropRowType,
     ShowPattern,
@@ -43,7 +43,7 @@ pub(crate) enum NameRoutine {
 }
 
 /// Those that are called with a key.
-#[derive(Clone, Copy, Debug, PartialEq, Eq)]
+#[derive(Clone, Copy)]
 pub(crate) enum KeyRoutine {
     DropSeries,
     GetFirstElem,
@@ -52,7 +52,7 @@ pub(crate) enum KeyRoutine {
 }
 
 /// Those that are called with a key and a stamp.
-#[derive(Clone, Copy, Debug, PartialEq, Eq)]
+#[derive(Clone, Copy)]
 pub(crate) enum StampRoutine {
     DelElem,
     HideElem,
@@ -61,7 +61,7 @@ pub(crate) enum StampRoutine {
 }
 
 /// Those that are called with a key, a stamp and the values of a row.
-#[derive(Clone, Copy, Debug, PartialEq, Eq)]
+#[derive(Clone, Copy)]
 pub(crate) enum RowRoutine {
     PutElem,
     PutElemNoDups,
@@ -70,28 +70,28 @@ pub(crate) enum RowRoutine {
 }
 
 /// Those that are called with a name and a text.
-#[derive(Clone, Copy, Debug, PartialEq, Eq)]
+#[derive(Clone, Copy)]
 pub(crate) enum TextRoutine {
     CreatePattern,
     CreateCalendar,
 }
 
 /// Those that are called with what they join and three names.
-#[derive(Clone, Copy, Debug, PartialEq, Eq)]
+#[derive(Clone, Copy)]
 pub(crate) enum JoinRoutine {
     AndOp,
     OrOp,
 }
 
 /// Those that are called with a name and two stamps.
-#[derive(Clone, Copy, Debug, PartialEq, Eq)]
+#[derive(Clone, Copy)]
 pub(crate) enum RangeRoutine {
     CalIndex,
     CalRange,
 }
 
 /// Those that are called with a key and two stamps.
-#[derive(Clone, Copy, Debug, PartialEq, Eq)]
+#[derive(Clone, Copy)]
 pub(crate) enum ClipRoutine {
     Clip,
     ClipGetCount,
@@ -99,14 +99,14 @@ pub(crate) enum ClipRoutine {
 }
 
 /// Those that are called with a key and a whole number.
-#[derive(Clone, Copy, Debug, PartialEq, Eq)]
+#[derive(Clone, Copy)]
 pub(crate) enum NumberRoutine {
     GetNthElem,
     Lag,
 }
 
 /// Those that are called with two keys and two stamps.
-#[derive(Clone, Copy, Debug, PartialEq, Eq)]
+#[derive(Clone, Copy)]
 pub(crate) enum PairRoutine {
     Union,
     Intersect,

@@ -11,7 +11,7 @@ pub(crate) fn are_same(first: &[u8], second: &[u8]) -> bool
 }
 
 /// What a join is of.
-#[derive(Clone, Copy, Debug, PartialEq, Eq)]
+#[derive(Clone, Copy)]
 pub(crate) enum Joined {
     Patterns,
     Calendars,
@@ -42,7 +42,7 @@ pub(crate) fn joined_of(word: &[u8]) -> Option<Joined>
 }
 
 /// A type of value columns, without its numbers.
-#[derive(Clone, Copy, Debug, PartialEq, Eq)]
+#[derive(Clone, Copy)]
 pub(crate) enum TypeName {
     SmallInt,
     Integer,
