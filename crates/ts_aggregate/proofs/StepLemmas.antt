@@ -17,7 +17,6 @@ use Rattle.ts_offset.specs.Grid.{held_start}
 use Rattle.ts_offset.proofs.OwnLemmas.{from-held}
 use Rattle.ts_entry.specs.Intervals.{Group}
 use Rattle.ts_entry.specs.Reading.{most_rows}
-use Rattle.ts_expr.specs.Running.{after}
 use Rattle.ts_expr.specs.Binding.{Binding}
 use Rattle.ts_expr.specs.Fold.{folded_row}
 use Rattle.ts_aggregate.specs.declared.span.Span.{Span}
