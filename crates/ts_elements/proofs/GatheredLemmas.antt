@@ -1,0 +1,206 @@
+-- The pages of series read into memory, and what a list makes of them.
+use Rattle.std.proofs.Common.{◌≡◌, ℕ, ◌+◌, ◌<◌, ◌==◌, ℤ, Bool, true, false, cond, IsTrue, Option, Some, None, IsSome, Ok, All, Contains, List, [], ◌∷◌, ◌++◌, map, length, take, get_or, inr, append-nil, refl, ap, sym, subst, ◌∙◌, arith}
+use Rattle.std.specs.List.{AllZip, filter, flat_map}
+use Rattle.std.specs.Option.{option_map, option_and_then}
+use Rattle.std.proofs.lemmas.List.{take_more}
+use Rattle.std.proofs.lemmas.List.Elements.{All-nil, All-cons, All-head, All-tail, All-contains, filter_more}
+use Rattle.std.proofs.lemmas.Slice.Zip.{all_zipped_more}
+use Rattle.std.proofs.lemmas.Bool.{cases_eq}
+use Rattle.std.proofs.lemmas.Bool.Decides.{nat_tests}
+use Rattle.ts_page.specs.declared.page.Page.{Page}
+use Rattle.ts_page.specs.Pages.{Contents, EqualPages, Got}
+use Rattle.ts_row.specs.declared.kind.Column.{Column}
+use Rattle.ts_row.specs.RowType.{Heading}
+use Rattle.ts_row.specs.Row.{Row}
+use Rattle.ts_row.specs.Element.{Element}
+use Rattle.ts_space.specs.declared.place.Place.{Place}
+use Rattle.ts_space.specs.Place.{count_of}
+use Rattle.ts_space.specs.Directory.{Directory, places_of}
+use Rattle.ts_irregular.specs.Call.{Reads}
+use Rattle.ts_irregular.specs.OnePage.{IsPlace}
+use Rattle.ts_chain.specs.Places.{CanBeRead}
+use Rattle.ts_chain.specs.Range.{within_range}
+use Rattle.ts_regular.specs.Places as regular
+use Rattle.ts_offset.specs.declared.shape.Shape.{Shape}
+use Rattle.ts_offset.specs.declared.shape.Shape.TheVariants.{Irregular, Regular}
+use Rattle.ts_expr.specs.Binding.{Binding}
+use Rattle.ts_expr.specs.Fold.{folded_row}
+use Rattle.ts_clip.specs.Series.{HaveOnPlaces, ArePagesOf}
+use Rattle.ts_aggregate.specs.declared.series_pages.Stack.{Stack}
+use Rattle.ts_aggregate.specs.Stacks.{IsFoldOf}
+use Rattle.ts_model.specs.declared.kind.Kind.TheVariants as kinds
+use Rattle.ts_model.specs.declared.def.Def.TheVariants as defs
+use Rattle.ts_model.specs.Definitions.{Definitions, SeriesDef, of_series, at_slot, slots}
+use Rattle.ts_layout.specs.Meaning.{Layout, heading_in, heading_at, elements_at}
+use Rattle.ts_layout.proofs.CallerLemmas.{one_of, chained, at_slot-map}
+use Rattle.ts_answer.specs.Answer.{folded_range}
+use Rattle.ts_answer.specs.Slots.{IsSlotNamed}
+use Rattle.ts_answer.specs.View.{View, view, Shows, KeepsRules}
+use Rattle.ts_elements.specs.Aggregates.{folded_if, folded_at}
+use Rattle.ts_elements.specs.Gathered.{stands_in, inside, IsStackOf, HasSeries, IsLineOf}
+use Rattle.ts_elements.specs.Stamps.{ArePlaces}
+use Rattle.ts_elements.proofs.EachSeriesLemmas.{key_kept}
+use Rattle.ts_elements.proofs.MemoryLemmas.{few_elements}
+use Rattle.ts_elements.proofs.SeenLemmas.{elements_seen, entries_in}
+
+-- the pages of some of the places of a series can be read
+pub readable : (shape : Shape) (columns : List Column) (c : Contents) (places some : List Place) → ArePlaces shape columns c places → All (λ place. Contains places place) some → All (CanBeRead c) some
+readable Irregular columns c places some are among k d below =
+    let is = All-contains (IsPlace columns c) places (get_or some k d) are.each (among k d below) in
+    record { element = is.element; below = is.below }
+readable (Regular grid) columns c places some are among k d below =
+    let is = All-contains (regular.IsPlace columns c) places (get_or some k d) are.each (among k d below) in
+    record { element = is.readable.element; below = is.readable.below }
+
+-- a page that was read, after other readings
+pub got_reads : (tells : Bool) (number : ℕ) (into : List ℕ) (v w : Contents) → Got tells number into (Ok tt) v w → Reads {T = Unit {0}} tells (Ok tt) v w
+got_reads tells number into v w got = record { call = got.call; pages = got.pages; free = got.free; change_bytes = got.change_bytes }
+
+pub readable_still : {A : Type 0} (tells : Bool) (a : A) (v w : Contents) (place : Place) → Reads tells (Ok a) v w → CanBeRead v place → CanBeRead w place
+readable_still tells a v w place reads can =
+    let count = reads.call.count in let below = can.below in
+    record { element = can.element; below = omega (arith, count, below) }
+
+pub page_got : {A : Type 0} (tells : Bool) (a : A) (place : Place) (into : List ℕ) (u v w : Contents) → Reads tells (Ok a) u v → CanBeRead v place → Got tells place.page into (Ok tt) v w → IsTrue tells → into ≡ u.page place.page
+page_got tells a place into u v w reads can got told =
+    let element = can.element in
+    got.read told (inr (omega (arith, element))) ∙ reads.pages told place.page
+
+-- one page more
+pub pages_more : (pages : ℕ → List ℕ) (places : List Place) (i : ℕ) (d : Place) (read : List Page) (page : Page) → i < length places → ArePagesOf pages (take i places) read → page.bytes ≡ pages (get_or places i d).page
+    → ArePagesOf pages (take (i + 1) places) (read ++ page ∷ [])
+pages_more pages places i d read page below are is =
+    let R : Place → Page → Type 0 = λ place page. page.bytes ≡ pages place.page in
+    subst (λ (ps : List Place). ArePagesOf pages ps (read ++ page ∷ [])) (sym (take_more places i d below)) (all_zipped_more R (take i places) read (get_or places i d) page are is)
+
+-- the same of equal pages
+pub pages_same : (u v : ℕ → List ℕ) → EqualPages u v → (places : List Place) (read : List Page) → ArePagesOf v places read → ArePagesOf u places read
+pages_same u v same [] [] are = tt
+pages_same u v same [] (page ∷ read) are = absurd are
+pages_same u v same (place ∷ places) [] are = absurd are
+pages_same u v same (place ∷ places) (page ∷ read) are = (are.0 ∙ same place.page, pages_same u v same places read are.1)
+
+pub stack_same : {A : Type 0} (tells : Bool) (a : A) (d : Definitions) (space : Directory) (u v : Contents) (from to : ℤ) (slot : ℕ) (stack : Stack) → Reads tells (Ok a) u v → IsStackOf tells (view d space v) from to slot stack
+    → IsStackOf tells (view d space u) from to slot stack
+stack_same tells a d space u v from to slot stack reads is = record {
+  series = is.series;
+  columns = is.columns;
+  lies = is.lies;
+  laid = is.laid;
+  holds = is.holds;
+  pages = λ told. pages_same u.page v.page (reads.pages told) stack.places.now stack.pages.items (is.pages told);
+}
+
+-- a series that stands in the container
+pub stands_some : (container : ℕ) (o : Option SeriesDef) → stands_in container o ≡ true → (s : SeriesDef) × (o ≡ Some s) × (s.container ≡ container)
+stands_some container None is = absurd (cc)
+stands_some container (Some s) is = (s, refl, grind (arith, nat_tests))
+
+pub stands_named : (x : View) → KeepsRules x → (container slot : ℕ) → slot < 4096 → stands_in container (at_slot slot x.definitions.series) ≡ true → (key : List ℕ) × IsSlotNamed kinds.Series slot key x.definitions
+stands_named x kept container slot within stands =
+    let there = stands_some container (at_slot slot x.definitions.series) stands in
+    key_kept x kept slot there.0.key there.0.container there.0.regular within (at_slot-map of_series slot x.definitions.series ∙ ap (option_map of_series) there.1)
+
+-- a slot more, by whether its series stands in the container
+module _ (d : Definitions) (container : ℕ) (slots : List ℕ) (i e : ℕ) (below : i < length slots) where
+  abbrev test : ℕ → Bool
+  test slot = stands_in container (at_slot slot d.series)
+
+  inside_more : (b : Bool) → test (get_or slots i e) ≡ b → inside d container (take (i + 1) slots) ≡ inside d container (take i slots) ++ cond b (get_or slots i e ∷ []) []
+  inside_more b is = filter_more test slots i e below ∙ ap (λ (t : Bool). inside d container (take i slots) ++ cond t (get_or slots i e ∷ []) []) is
+
+  pub one_outside : test (get_or slots i e) ≡ false → inside d container (take (i + 1) slots) ≡ inside d container (take i slots)
+  one_outside is = inside_more false is ∙ append-nil (inside d container (take i slots))
+
+  pub one_inside : test (get_or slots i e) ≡ true → inside d container (take (i + 1) slots) ≡ inside d container (take i slots) ++ get_or slots i e ∷ []
+  one_inside is = inside_more true is
+
+-- a stack's slot has a series
+stack_series : (tells : Bool) (x : View) (from to : ℤ) (slot : ℕ) (stack : Stack) → slot < 4096 → IsStackOf tells x from to slot stack → HasSeries x.definitions stack
+stack_series tells x from to slot stack within is =
+    let found = chained (λ (s : SeriesDef). heading_in x.definitions s.container) (at_slot slot x.definitions.series) stack.shelf.kind.now is.columns in
+    let at = is.series in
+    record {
+      within = omega arith;
+      some = subst (λ (o : Option SeriesDef). IsSome o) (sym (ap (λ (n : ℕ). at_slot n x.definitions.series) is.series ∙ found.1)) refl;
+    }
+
+pub all_series : (tells : Bool) (x : View) (from to : ℤ) (slots : List ℕ) (stacks : List Stack) → All (λ slot. slot < 4096) slots → AllZip (IsStackOf tells x from to) slots stacks → All (HasSeries x.definitions) stacks
+all_series tells x from to [] [] within are = All-nil (HasSeries x.definitions)
+all_series tells x from to [] (stack ∷ stacks) within are = absurd are
+all_series tells x from to (slot ∷ slots) [] within are = absurd are
+all_series tells x from to (slot ∷ slots) (stack ∷ stacks) within are =
+    let Below : ℕ → Type 0 = λ slot. slot < 4096 in
+    All-cons (HasSeries x.definitions) stack stacks (stack_series tells x from to slot stack (All-head Below slot slots within) are.0) (all_series tells x from to slots stacks (All-tail Below slot slots within) are.1)
+
+-- a slot of another container has no line
+outside_none : (b : Binding) (from to : ℤ) (l : Layout) (container slot : ℕ) (o : Option SeriesDef) → stands_in container o ≡ false → folded_if b from to l container slot o ≡ []
+outside_none b from to l container slot None is = refl
+outside_none b from to l container slot (Some s) is = ap (λ (t : Bool). cond t ((s.key, folded_range b from to (elements_at slot l.element_pages)) ∷ []) []) is
+
+inside_one : (b : Binding) (from to : ℤ) (l : Layout) (container slot : ℕ) (o : Option SeriesDef) (key : List ℕ) (row : Row) → stands_in container o ≡ true → option_map (λ (s : SeriesDef). s.key) o ≡ Some key → row ≡ folded_range b from to (elements_at slot l.element_pages)
+    → folded_if b from to l container slot o ≡ (key, row) ∷ []
+inside_one b from to l container slot None key row is named made = absurd (cc)
+inside_one b from to l container slot (Some s) key row is named made =
+    let same : s.key ≡ key = cc in
+    ap (λ (t : Bool). cond t ((s.key, folded_range b from to (elements_at slot l.element_pages)) ∷ []) []) is ∙ (λ i. (same i, sym made i) ∷ [])
+
+-- what is said of the stacks of a container is what a list makes of its series
+module _ (tells : Bool) (x : View) (l : Layout) (kept : KeepsRules x) (told : IsTrue tells) (shows : Shows tells x l) (b : Binding) (from to : ℤ) (container : ℕ)
+    (of : option_map (λ (y : Heading). y.columns) (heading_in x.definitions container) ≡ Some b.columns) where
+  module _ (slot : ℕ) (within : slot < 4096) (stands : stands_in container (at_slot slot x.definitions.series) ≡ true) (stack : Stack) (is : IsStackOf tells x from to slot stack) where
+    abbrev h : Heading
+    h = stack.shelf.kind.now
+
+    of_columns : h.columns ≡ b.columns
+    of_columns =
+        let there = stands_some container (at_slot slot x.definitions.series) stands in
+        let at : heading_in x.definitions container ≡ Some h =
+        ap (λ (n : ℕ). heading_in x.definitions n) (sym there.2) ∙ sym (ap (option_and_then (λ (s : SeriesDef). heading_in x.definitions s.container)) there.1) ∙ is.columns in
+        one_of (option_map (λ (y : Heading). y.columns) (heading_in x.definitions container)) h.columns b.columns (ap (option_map (λ (y : Heading). y.columns)) at) of
+
+    row_made : (row : Row) → IsFoldOf b from to stack row → row ≡ folded_range b from to (elements_at slot l.element_pages)
+    row_made row folds =
+        let all = elements_seen tells x l stack.shape is.laid slot h told shows is.columns is.lies within in
+        let own = is.holds.all slot x.pages.page all.0 all.1.have in
+        let few = is.holds.few in
+        let most = few_elements x kept slot within in
+        let have = subst (λ (n : ℕ). HaveOnPlaces stack.shape n h.columns x.pages.page stack.places.now own.0) (sym is.series) own.1 in
+        folds is.laid (omega (arith, few, most)) of_columns x.pages.page own.0 (is.pages told) have
+        ∙ ap (λ (es : List Element). folded_row b.items (map (λ e. e.1) es)) own.2
+        ∙ ap (λ (es : List Element). folded_row b.items (map (λ e. e.1) (within_range from to es))) (sym (entries_in stack.shape slot h.columns x.pages.page (places_of slot x.space) l all.0 all.1))
+
+    line_made : (line : List ℕ × Row) → IsLineOf b from to x.definitions stack line → folded_at b from to l container slot ≡ line ∷ []
+    line_made line said =
+        ap (λ (d : Definitions). folded_if b from to l container slot (at_slot slot d.series)) (sym shows.kept.definitions)
+        ∙ inside_one b from to l container slot (at_slot slot x.definitions.series) line.0 line.1 stands
+            (sym (ap (λ (n : ℕ). option_map (λ (s : SeriesDef). s.key) (at_slot n x.definitions.series)) is.series) ∙ said.key) (row_made line.1 said.row)
+
+  abbrev f : ℕ → List (List ℕ × Row)
+  f = folded_at b from to l container
+
+  abbrev Are : List ℕ → List Stack → List (List ℕ × Row) → Type 0
+  Are slots stacks lines = AllZip (IsStackOf tells x from to) slots stacks × AllZip (IsLineOf b from to x.definitions) stacks lines
+
+  next_made : (slot : ℕ) → slot < 4096 → (rest : List ℕ) (more : List (List ℕ × Row)) (t : Bool) → stands_in container (at_slot slot x.definitions.series) ≡ t → ((stacks : List Stack) (lines : List (List ℕ × Row)) → Are rest stacks lines → more ≡ lines)
+      → (stacks : List Stack) (lines : List (List ℕ × Row)) → Are (cond t (slot ∷ rest) rest) stacks lines → f slot ++ more ≡ lines
+  next_made slot within rest more false other behind stacks lines are =
+      let none : f slot ≡ [] =
+      ap (λ (d : Definitions). folded_if b from to l container slot (at_slot slot d.series)) (sym shows.kept.definitions) ∙ outside_none b from to l container slot (at_slot slot x.definitions.series) other in
+      ap (λ (first : List (List ℕ × Row)). first ++ more) none ∙ behind stacks lines are
+  next_made slot within rest more true stands behind [] lines are = absurd are.0
+  next_made slot within rest more true stands behind (stack ∷ stacks) [] are = absurd are.1
+  next_made slot within rest more true stands behind (stack ∷ stacks) (line ∷ lines) are =
+      let first = line_made slot within stands stack are.0.0 line are.1.0 in
+      let others = behind stacks lines (are.0.1, are.1.1) in
+      (λ i. first i ++ others i)
+
+  pub lines_made : (slots : List ℕ) (stacks : List Stack) (lines : List (List ℕ × Row)) → All (λ slot. slot < 4096) slots → AllZip (IsStackOf tells x from to) (inside x.definitions container slots) stacks → AllZip (IsLineOf b from to x.definitions) stacks lines
+      → flat_map f slots ≡ lines
+  lines_made [] [] [] within are said = refl
+  lines_made [] [] (line ∷ lines) within are said = absurd said
+  lines_made [] (stack ∷ stacks) lines within are said = absurd are
+  lines_made (slot ∷ slots) stacks lines within are said =
+      let Below : ℕ → Type 0 = λ slot. slot < 4096 in
+      next_made slot (All-head Below slot slots within) (inside x.definitions container slots) (flat_map f slots) (stands_in container (at_slot slot x.definitions.series)) refl
+      (λ stacks lines both. lines_made slots stacks lines (All-tail Below slot slots within) both.0 both.1) stacks lines (are, said)
