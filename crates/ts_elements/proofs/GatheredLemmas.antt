@@ -1,10 +1,10 @@
 -- The pages of series read into memory, and what a list makes of them.
-use Rattle.std.proofs.Common.{◌≡◌, ℕ, ◌+◌, ◌<◌, ◌==◌, ℤ, Bool, true, false, cond, IsTrue, Option, Some, None, IsSome, Ok, All, Contains, List, [], ◌∷◌, ◌++◌, map, length, take, get_or, inr, append-nil, refl, ap, sym, subst, ◌∙◌, arith}
+use Rattle.std.proofs.Common.{◌≡◌, ℕ, zero, suc, ◌+◌, ◌<◌, ◌≤◌, ◌==◌, ℤ, Bool, true, false, cond, IsTrue, Option, Some, None, IsSome, Ok, All, Contains, List, [], ◌∷◌, ◌++◌, map, length, take, get_or, inr, append-nil, refl, ap, sym, subst, ◌∙◌, arith}
 use Rattle.std.specs.List.{AllZip, filter, flat_map}
 use Rattle.std.specs.Option.{option_map, option_and_then}
 use Rattle.std.proofs.lemmas.List.{take_more}
 use Rattle.std.proofs.lemmas.List.Elements.{All-nil, All-cons, All-head, All-tail, All-contains, filter_more}
-use Rattle.std.proofs.lemmas.Slice.Zip.{all_zipped_more}
+use Rattle.std.proofs.lemmas.Slice.Zip.{all_zipped_more, AllZip-long}
 use Rattle.std.proofs.lemmas.Bool.{cases_eq}
 use Rattle.std.proofs.lemmas.Bool.Decides.{nat_tests}
 use Rattle.ts_page.specs.declared.page.Page.{Page}
@@ -33,13 +33,14 @@ use Rattle.ts_model.specs.declared.def.Def.TheVariants as defs
 use Rattle.ts_model.specs.Definitions.{Definitions, SeriesDef, of_series, at_slot, slots}
 use Rattle.ts_layout.specs.Meaning.{Layout, heading_in, heading_at, elements_at}
 use Rattle.ts_layout.proofs.CallerLemmas.{one_of, chained, at_slot-map}
-use Rattle.ts_answer.specs.Answer.{folded_range}
+use Rattle.ts_answer.specs.Answer.{scales_of, folded_range}
+use Rattle.ts_answer.specs.Reply.{series_folded_line}
 use Rattle.ts_answer.specs.Slots.{IsSlotNamed}
 use Rattle.ts_answer.specs.View.{View, view, Shows, KeepsRules}
-use Rattle.ts_elements.specs.Aggregates.{folded_if, folded_at}
+use Rattle.ts_elements.specs.Aggregates.{folded_if, folded_at, AreSaid}
 use Rattle.ts_elements.specs.Gathered.{stands_in, inside, IsStackOf, HasSeries, IsLineOf}
 use Rattle.ts_elements.specs.Stamps.{ArePlaces}
-use Rattle.ts_elements.proofs.EachSeriesLemmas.{key_kept}
+use Rattle.ts_elements.proofs.EachSeriesLemmas.{key_kept, said_behind}
 use Rattle.ts_elements.proofs.MemoryLemmas.{few_elements}
 use Rattle.ts_elements.proofs.SeenLemmas.{elements_seen, entries_in}
 
@@ -204,3 +205,41 @@ module _ (tells : Bool) (x : View) (l : Layout) (kept : KeepsRules x) (told : Is
       let Below : ℕ → Type 0 = λ slot. slot < 4096 in
       next_made slot (All-head Below slot slots within) (inside x.definitions container slots) (flat_map f slots) (stands_in container (at_slot slot x.definitions.series)) refl
       (λ stacks lines both. lines_made slots stacks lines (All-tail Below slot slots within) both.0 both.1) stacks lines (are, said)
+
+-- no more slots have stacks than there are
+pub few_lines : (tells : Bool) (x : View) (from to : ℤ) (b : Binding) (container : ℕ) (slots : List ℕ) (stacks : List Stack) (lines : List (List ℕ × Row)) → AllZip (IsStackOf tells x from to) (inside x.definitions container slots) stacks → AllZip (IsLineOf b from to x.definitions) stacks lines
+    → length lines ≤ length slots
+few_lines tells x from to b container slots stacks lines are said =
+    let first = AllZip-long (IsStackOf tells x from to) (inside x.definitions container slots) stacks are in
+    let second = AllZip-long (IsLineOf b from to x.definitions) stacks lines said in
+    let few = length-filter (λ slot. stands_in container (at_slot slot x.definitions.series)) slots in
+    omega (arith, first, second, few)
+
+-- lists that agree place by place do so at an index
+at_zipped : {A B : Type 0} (R : A → B → Type 0) (xs : List A) (ys : List B) (i : ℕ) (d : A) (e : B) → AllZip R xs ys → i < length xs → R (get_or xs i d) (get_or ys i e)
+at_zipped R [] ys i d e are below = absurd (omega arith)
+at_zipped R (x ∷ xs) [] i d e are below = absurd are
+at_zipped R (x ∷ xs) (y ∷ ys) zero d e are below = are.0
+at_zipped R (x ∷ xs) (y ∷ ys) (suc i) d e are below = at_zipped R xs ys i d e are.1 (omega arith)
+
+-- the stacks before an index are said
+abbrev pub AreStacksSaid : Binding → ℤ → ℤ → Definitions → List Stack → List ℕ → List ℕ → ℕ → Type 0
+AreStacksSaid b from to d stacks out said count = (lines : List (List ℕ × Row)) × AllZip (IsLineOf b from to d) stacks lines × AreSaid b lines out said count
+
+-- one stack more
+pub stack_said : (b : Binding) (from to : ℤ) (d : Definitions) (stacks : List Stack) (rows : List Row) (i : ℕ) (stack : Stack) (row : Row) (key scales out middle said : List ℕ) → i < length stacks → stack ≡ get_or stacks i stack → row ≡ get_or rows i row
+    → AllZip (IsFoldOf b from to) stacks rows → option_map (λ (s : SeriesDef). s.key) (at_slot stack.shelf.series d.series) ≡ Some key → scales ≡ scales_of b → said ≡ middle ++ series_folded_line scales (key, row)
+    → AreStacksSaid b from to d (take i stacks) out middle i → AreStacksSaid b from to d (take (i + 1) stacks) out said (i + 1)
+stack_said b from to d stacks rows i stack row key scales out middle said below here there folds named are line so_far =
+    let Is : Stack → List ℕ × Row → Type 0 = IsLineOf b from to d in
+    let fold = subst (λ (s : Stack). IsFoldOf b from to s row) (sym here) (subst (λ (r : Row). IsFoldOf b from to (get_or stacks i stack) r) (sym there) (at_zipped (IsFoldOf b from to) stacks rows i stack row folds below)) in
+    let own : Is stack (key, row) = record { key = named; row = fold } in
+    let last : take (i + 1) stacks ≡ take i stacks ++ stack ∷ [] = take_more stacks i stack below ∙ ap (λ (s : Stack). take i stacks ++ s ∷ []) (sym here) in
+    let next : AreSaid b ((key, row) ∷ []) middle said 1 = record {
+      lines = line ∙ (λ i. middle ++ series_folded_line (are i) (key, row)) ∙ (λ i. middle ++ sym (append-nil (series_folded_line (scales_of b) (key, row))) i);
+      number = refl;
+    } in (
+      so_far.0 ++ (key, row) ∷ [],
+      subst (λ (ss : List Stack). AllZip Is ss (so_far.0 ++ (key, row) ∷ [])) (sym last) (all_zipped_more Is (take i stacks) so_far.0 stack (key, row) so_far.1 own),
+      said_behind b so_far.0 ((key, row) ∷ []) out middle said i 1 so_far.2 next,
+    )

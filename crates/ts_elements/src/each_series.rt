@@ -1,10 +1,10 @@
 // The routine that folds the elements of each series of a container by an aggregate list.
-ghost use Rattle.std.specs.Prelude.{◌≡◌, ◌<◌, ◌≤◌, ◌^◌, ℕ, [], All, IfOk, IsTrue, List, Some, drop, length, option_map, take};
+ghost use Rattle.std.specs.Prelude.{◌≡◌, ◌<◌, ◌≤◌, ◌^◌, ℕ, [], All, IfOk, IsSome, IsTrue, List, Some, length, option_map, take};
 ghost use Rattle.std.specs.List.{AllZip, flat_map};
 ghost use Rattle.ts_row.specs.Row.{Row as RowValue};
 ghost use Rattle.ts_command.specs.declared.command.Command.TheVariants.{AggregateAll};
 ghost use Rattle.ts_irregular.specs.Call.{Reads};
-ghost use Rattle.ts_model.specs.Definitions.{series_slots};
+ghost use Rattle.ts_model.specs.Definitions.{at_slot, series_slots};
 ghost use Rattle.ts_layout.specs.Meaning.{Layout, heading_in};
 ghost use Rattle.ts_answer.specs.View.{view, IsSeen, Shows};
 ghost use Rattle.ts_answer.specs.CarriedOut.{ReadOut};
@@ -17,7 +17,7 @@ use std::alloc::{AllocError, Global};
 use std::thread::Threads;
 use ts_aggregate::{Folding, Stack, aggregate_range};
 use ts_answer::Stop;
-use ts_base::{Bytes, Name, Reply, Stamp, StoreFault};
+use ts_base::{Bytes, Key, Name, Reply, Stamp, StoreFault};
 use ts_container::row_type_in;
 use ts_define::slot_named;
 use ts_expr::{AggList, Bound};
@@ -173,12 +173,22 @@ fn say_stacks(
 {
     let rows = ts_aggregate::aggregate_all(rt, alloc, &OpenGate, bound, stacks, from, to)?;
     for (stack, row) in stacks.iter().zip(&rows) {
-        let Some(Def::Series { key, .. }) = defs.get(Kind::Series, stack.shelf.series) else {
-            unreachable!()
-        };
+        let key = key_at(defs, stack.shelf.series);
         say_series_folded(out, key, bound.scales(), row)?;
     }
     Ok(stacks.len() as u64)
+}
+
+// The key of the series in a slot.
+fn key_at(defs: &Defs, slot: u16) -> &Key
+    requires within { slot < series_slots }
+    requires some { IsSome (at_slot slot defs.now.definitions.series) }
+    ensures { option_map (λ s. s.key) (at_slot slot defs.now.definitions.series) ≡ Some result.now }
+{
+    let Some(Def::Series { key, .. }) = defs.get(Kind::Series, slot) else {
+        unreachable!()
+    };
+    key
 }
 
 // Says what it makes of the series in a slot, if there is one and it stands in the container; and how many that are.
