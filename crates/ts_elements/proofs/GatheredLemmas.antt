@@ -32,7 +32,7 @@ use Rattle.ts_model.specs.declared.kind.Kind.TheVariants as kinds
 use Rattle.ts_model.specs.declared.def.Def.TheVariants as defs
 use Rattle.ts_model.specs.Definitions.{Definitions, SeriesDef, of_series, at_slot, slots}
 use Rattle.ts_layout.specs.Meaning.{Layout, heading_in, heading_at, elements_at}
-use Rattle.ts_layout.proofs.CallerLemmas.{one_of, chained, at_slot-map}
+use Rattle.ts_layout.proofs.CallerLemmas.{one_of, own, chained, at_slot-map}
 use Rattle.ts_answer.specs.Answer.{scales_of, folded_range}
 use Rattle.ts_answer.specs.Reply.{series_folded_line}
 use Rattle.ts_answer.specs.Slots.{IsSlotNamed}
@@ -175,7 +175,7 @@ module _ (tells : Bool) (x : View) (l : Layout) (kept : KeepsRules x) (told : Is
     line_made line said =
         ap (λ (d : Definitions). folded_if b from to l container slot (at_slot slot d.series)) (sym shows.kept.definitions)
         ∙ inside_one b from to l container slot (at_slot slot x.definitions.series) line.0 line.1 stands
-            (sym (ap (λ (n : ℕ). option_map (λ (s : SeriesDef). s.key) (at_slot n x.definitions.series)) is.series) ∙ said.key) (row_made line.1 said.row)
+        (sym (ap (λ (n : ℕ). option_map (λ (s : SeriesDef). s.key) (at_slot n x.definitions.series)) is.series) ∙ said.key) (row_made line.1 said.row)
 
   abbrev f : ℕ → List (List ℕ × Row)
   f = folded_at b from to l container
@@ -207,12 +207,18 @@ module _ (tells : Bool) (x : View) (l : Layout) (kept : KeepsRules x) (told : Is
       (λ stacks lines both. lines_made slots stacks lines (All-tail Below slot slots within) both.0 both.1) stacks lines (are, said)
 
 -- no more slots have stacks than there are
-pub few_lines : (tells : Bool) (x : View) (from to : ℤ) (b : Binding) (container : ℕ) (slots : List ℕ) (stacks : List Stack) (lines : List (List ℕ × Row)) → AllZip (IsStackOf tells x from to) (inside x.definitions container slots) stacks → AllZip (IsLineOf b from to x.definitions) stacks lines
-    → length lines ≤ length slots
-few_lines tells x from to b container slots stacks lines are said =
-    let first = AllZip-long (IsStackOf tells x from to) (inside x.definitions container slots) stacks are in
+few_pass : (test : ℕ → Bool) (items : List ℕ) → length (filter test items) ≤ length items
+few_pass test [] = omega arith
+few_pass test (item ∷ items) =
+    let rest = few_pass test items in
+    elim (test item) as (λ (t : Bool). length (cond t (item ∷ filter test items) (filter test items)) ≤ length (item ∷ items)) [ true ↦ omega arith | false ↦ omega arith ]
+
+pub few_lines : (tells : Bool) (x : View) (from to : ℤ) (b : Binding) (container : ℕ) (passed : List ℕ) (stacks : List Stack) (lines : List (List ℕ × Row)) → AllZip (IsStackOf tells x from to) (inside x.definitions container passed) stacks
+    → AllZip (IsLineOf b from to x.definitions) stacks lines → length lines ≤ length passed
+few_lines tells x from to b container passed stacks lines are said =
+    let first = AllZip-long (IsStackOf tells x from to) (inside x.definitions container passed) stacks are in
     let second = AllZip-long (IsLineOf b from to x.definitions) stacks lines said in
-    let few = length-filter (λ slot. stands_in container (at_slot slot x.definitions.series)) slots in
+    let few = few_pass (λ slot. stands_in container (at_slot slot x.definitions.series)) passed in
     omega (arith, first, second, few)
 
 -- lists that agree place by place do so at an index
@@ -243,3 +249,20 @@ stack_said b from to d stacks rows i stack row key scales out middle said below 
       subst (λ (ss : List Stack). AllZip Is ss (so_far.0 ++ (key, row) ∷ [])) (sym last) (all_zipped_more Is (take i stacks) so_far.0 stack (key, row) so_far.1 own),
       said_behind b so_far.0 ((key, row) ∷ []) out middle said i 1 so_far.2 next,
     )
+
+-- the definition of the series in a slot, and its key
+some_value : {A : Type 0} (o : Option A) → IsSome o → (a : A) × (o ≡ Some a)
+some_value None is = absurd (cc)
+some_value (Some a) is = (a, refl)
+
+pub series_there : (d : Definitions) (slot : ℕ) → IsSome (at_slot slot d.series) → (s : SeriesDef) × (at_slot slot (slots kinds.Series d) ≡ Some (of_series s))
+series_there d slot some =
+    let there = some_value (at_slot slot d.series) some in
+    (there.0, at_slot-map of_series slot d.series ∙ ap (option_map of_series) there.1)
+
+pub key_there : (d : Definitions) (slot : ℕ) (key : List ℕ) (container : ℕ) (regular : Option (ℕ × ℤ)) → at_slot slot (slots kinds.Series d) ≡ Some (defs.Series key container regular) → option_map (λ (s : SeriesDef). s.key) (at_slot slot d.series) ≡ Some key
+key_there d slot key container regular is =
+    let there = own of_series slot d.series (defs.Series key container regular) is in
+    let def = there.2 in
+    let same : there.0.key ≡ key = cc in
+    ap (option_map (λ (s : SeriesDef). s.key)) there.1 ∙ ap Some same

@@ -185,10 +185,13 @@ fn key_at(defs: &Defs, slot: u16) -> &Key
     requires some { IsSome (at_slot slot defs.now.definitions.series) }
     ensures { option_map (λ s. s.key) (at_slot slot defs.now.definitions.series) ≡ Some result.now }
 {
-    let Some(Def::Series { key, .. }) = defs.get(Kind::Series, slot) else {
+    let Some(def) = defs.get(Kind::Series, slot) else {
         unreachable!()
     };
-    key
+    match def {
+        Def::Series { key, .. } => key,
+        _ => unreachable!(),
+    }
 }
 
 // Says what it makes of the series in a slot, if there is one and it stands in the container; and how many that are.

@@ -6,6 +6,7 @@ use Rattle.std.proofs.lemmas.Slice.Zip.{zip_turn, zip_end, AllZip-long}
 use Rattle.ts_row.specs.Row.{Row}
 use Rattle.ts_aggregate.specs.declared.series_pages.Stack.{Stack}
 use Rattle.ts_aggregate.specs.Stacks.{IsFoldOf}
+use Rattle.ts_elements.specs.Gathered.{HasSeries}
 use Rattle.ts_elements.proofs.EachSeriesLemmas.{none_said}
 use Rattle.ts_elements.proofs.GatheredLemmas.{AreStacksSaid, stack_said}
 use Rattle.ts_elements.proofs.each_series.say_stacks.Goals as goal
@@ -16,8 +17,8 @@ key_at-key-requires g c =
     let second : iter_rest (zip_second c.into_iter-stack-iterator.result) ≡ c.in_ok-rows.rows.items = cc in
     let turn = zip_turn c.args.stacks.now c.in_ok-rows.rows.items c.loop-stack.yielded _ _ c.next.new.self c.next.result first second c.loop-stack.yielded_by (c.in-Some.stack, c.in-Some.row) c.in-Some.is c.next.ensures.steps in
     let stack : Stack = c.in-Some.stack.now in
-    let has = c.requires.series (length c.loop-stack.yielded) stack turn.0 in
-    ?
+    let has = subst (HasSeries c.args.defs.now.definitions) (sym (turn.2 stack)) (c.requires.series (length c.loop-stack.yielded) stack turn.0) in
+    record { within = has.within; some = has.some }
 
 pub loop-stack-init : goal.loop-stack-init
 loop-stack-init g c = ([], tt, none_said c.args.bound.now [] c.args.out.now refl)
