@@ -26,4 +26,5 @@ pub mod SeenSideLemmas
 pub mod SeriesDropLemmas
 pub mod SeriesLemmas
 pub mod SideLemmas
+pub mod StackLemmas
 pub mod StartLemmas

@@ -2,7 +2,7 @@ use Rattle.std.proofs.Common.{Some, ap, sym, ◌∙◌}
 use Rattle.std.specs.Option.{option_copied}
 use Rattle.ts_model.specs.Definitions.{of_series}
 use Rattle.ts_layout.proofs.CallerLemmas.{one_of}
-use Rattle.ts_elements.proofs.GatheredLemmas.{series_there, key_there}
+use Rattle.ts_elements.proofs.StackLemmas.{series_there, key_there}
 use Rattle.ts_elements.proofs.each_series.key_at.Goals as goal
 
 pub unreachable-requires : goal.unreachable-requires

@@ -10,7 +10,8 @@ use Rattle.ts_elements.specs.Aggregates.{folded_at, AreSaid}
 use Rattle.ts_elements.specs.Gathered.{stands_in, inside, HasSeries, IsLineOf}
 use Rattle.ts_elements.proofs.ReadingLemmas.{layout_still}
 use Rattle.ts_elements.proofs.EachSeriesLemmas.{said_first}
-use Rattle.ts_elements.proofs.GatheredLemmas.{AreStacksSaid, all_series, lines_made, few_lines}
+use Rattle.ts_elements.proofs.GatheredLemmas.{all_series}
+use Rattle.ts_elements.proofs.StackLemmas.{AreStacksSaid, lines_made, few_lines}
 use Rattle.ts_elements.proofs.each_series.say_next.Goals as goal
 
 pub returns-then-passed-eq0-clause-said : goal.returns-then-passed-eq0-clause-said

@@ -8,7 +8,7 @@ use Rattle.ts_aggregate.specs.declared.series_pages.Stack.{Stack}
 use Rattle.ts_aggregate.specs.Stacks.{IsFoldOf}
 use Rattle.ts_elements.specs.Gathered.{HasSeries}
 use Rattle.ts_elements.proofs.EachSeriesLemmas.{none_said}
-use Rattle.ts_elements.proofs.GatheredLemmas.{AreStacksSaid, stack_said}
+use Rattle.ts_elements.proofs.StackLemmas.{AreStacksSaid, stack_said}
 use Rattle.ts_elements.proofs.each_series.say_stacks.Goals as goal
 
 pub key_at-key-requires : goal.key_at-key-requires

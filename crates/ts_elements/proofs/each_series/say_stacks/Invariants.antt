@@ -1,6 +1,6 @@
 -- The stacks before an index are said.
 use Rattle.std.proofs.Common.{length, take}
-use Rattle.ts_elements.proofs.GatheredLemmas.{AreStacksSaid}
+use Rattle.ts_elements.proofs.StackLemmas.{AreStacksSaid}
 use Rattle.ts_elements.proofs.each_series.say_stacks.Given as goal
 
 abbrev pub invariant-loop-stack : goal.invariant-loop-stack

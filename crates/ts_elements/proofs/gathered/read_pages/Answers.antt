@@ -1,7 +1,6 @@
-use Rattle.std.proofs.Common.{Ok, ℕ, ◌+◌, List, length, take, get_or, ap, sym, subst, ◌∙◌}
+use Rattle.std.proofs.Common.{ℕ, ◌+◌, List, length, take, get_or, ap, sym, subst, ◌∙◌}
 use Rattle.std.proofs.lemmas.List.{length_push}
 use Rattle.ts_page.specs.declared.page.Page.{Page}
-use Rattle.ts_page.specs.Pages.{Contents}
 use Rattle.ts_space.specs.declared.place.Place.{Place}
 use Rattle.ts_clip.specs.Series.{ArePagesOf}
 use Rattle.ts_elements.proofs.ReadingLemmas.{then_reads}
@@ -28,6 +27,6 @@ loop-place-preserved g c =
       undisturbed = g.met.P.Pages.«then» c.args.pages.now c.loop-place.pages c.get.new.self so_far.undisturbed got.undisturbed;
       all = ap (λ (ps : List Page). length ps) pushed ∙ length_push c.loop-place.read.items c.get.new.into ∙ ap (λ (n : ℕ). n + 1) so_far.all;
       read = λ told.
-          subst (λ (ps : List Page). ArePagesOf u.page (take (index + 1) places) ps) (sym pushed)
+          subst (λ (ps : List Page). ArePagesOf u.page (take (index + 1) places) ps) {x = c.loop-place.read.items ++ c.get.new.into ∷ []} (sym pushed)
           (pages_more u.page places index _ c.loop-place.read.items c.get.new.into c.loop-place-test.true (so_far.read told) (page_got tells tt _ _ u v w so_far.call can got.got told));
     }

@@ -2,7 +2,6 @@
 use Rattle.std.proofs.Common.{◌≡◌, IsTrue, Ok, length, take}
 use Rattle.ts_irregular.specs.Call.{Reads}
 use Rattle.ts_clip.specs.Series.{ArePagesOf}
-use Rattle.ts_page.specs.Pages.{Contents}
 use Rattle.ts_elements.proofs.gathered.read_pages.Given as goal
 
 abbrev pub invariant-loop-place : goal.invariant-loop-place
