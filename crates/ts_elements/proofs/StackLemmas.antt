@@ -1,44 +1,31 @@
 -- What a list makes of stacks, and what is said of them.
-use Rattle.std.proofs.Common.{◌≡◌, ℕ, zero, suc, ◌+◌, ◌<◌, ◌≤◌, ℤ, Bool, true, false, cond, IsTrue, Option, Some, None, IsSome, Ok, All, Contains, List, [], ◌∷◌, ◌++◌, map, length, take, get_or, inr, append-nil, refl, ap, sym, subst, ◌∙◌, arith}
+use Rattle.std.proofs.Common.{◌≡◌, ℕ, zero, suc, ◌+◌, ◌<◌, ◌≤◌, ℤ, Bool, true, false, cond, IsTrue, Option, Some, None, IsSome, All, List, [], ◌∷◌, ◌++◌, map, length, take, get_or, append-nil, refl, ap, sym, subst, ◌∙◌, arith}
 use Rattle.std.specs.List.{AllZip, filter, flat_map}
 use Rattle.std.specs.Option.{option_map, option_and_then}
 use Rattle.std.proofs.lemmas.List.{take_more}
-use Rattle.std.proofs.lemmas.List.Elements.{All-nil, All-cons, All-head, All-tail, All-contains, filter_more}
+use Rattle.std.proofs.lemmas.List.Elements.{All-head, All-tail}
 use Rattle.std.proofs.lemmas.Slice.Zip.{all_zipped_more, AllZip-long}
-use Rattle.std.proofs.lemmas.Bool.Decides.{nat_tests}
-use Rattle.ts_page.specs.declared.page.Page.{Page}
-use Rattle.ts_page.specs.Pages.{Contents, EqualPages, Got}
-use Rattle.ts_row.specs.declared.kind.Column.{Column}
 use Rattle.ts_row.specs.RowType.{Heading}
 use Rattle.ts_row.specs.Row.{Row}
 use Rattle.ts_row.specs.Element.{Element}
-use Rattle.ts_space.specs.declared.place.Place.{Place}
-use Rattle.ts_space.specs.Directory.{Directory, places_of}
-use Rattle.ts_irregular.specs.Call.{Reads}
-use Rattle.ts_irregular.specs.OnePage.{IsPlace}
-use Rattle.ts_chain.specs.Places.{CanBeRead}
+use Rattle.ts_space.specs.Directory.{places_of}
 use Rattle.ts_chain.specs.Range.{within_range}
-use Rattle.ts_regular.specs.Places as regular
-use Rattle.ts_offset.specs.declared.shape.Shape.{Shape}
-use Rattle.ts_offset.specs.declared.shape.Shape.TheVariants.{Irregular, Regular}
 use Rattle.ts_expr.specs.Binding.{Binding}
 use Rattle.ts_expr.specs.Fold.{folded_row}
-use Rattle.ts_clip.specs.Series.{HaveOnPlaces, ArePagesOf}
+use Rattle.ts_clip.specs.Series.{HaveOnPlaces}
 use Rattle.ts_aggregate.specs.declared.series_pages.Stack.{Stack}
 use Rattle.ts_aggregate.specs.Stacks.{IsFoldOf}
 use Rattle.ts_model.specs.declared.kind.Kind.TheVariants as kinds
 use Rattle.ts_model.specs.declared.def.Def.TheVariants as defs
 use Rattle.ts_model.specs.Definitions.{Definitions, SeriesDef, of_series, at_slot, slots}
 use Rattle.ts_layout.specs.Meaning.{Layout, heading_in, elements_at}
-use Rattle.ts_layout.proofs.CallerLemmas.{one_of, own, chained, at_slot-map}
+use Rattle.ts_layout.proofs.CallerLemmas.{one_of, own, at_slot-map}
 use Rattle.ts_answer.specs.Answer.{scales_of, folded_range}
 use Rattle.ts_answer.specs.Reply.{series_folded_line}
-use Rattle.ts_answer.specs.Slots.{IsSlotNamed}
-use Rattle.ts_answer.specs.View.{View, view, Shows, KeepsRules}
+use Rattle.ts_answer.specs.View.{View, Shows, KeepsRules}
 use Rattle.ts_elements.specs.Aggregates.{folded_if, folded_at, AreSaid}
-use Rattle.ts_elements.specs.Gathered.{stands_in, inside, IsStackOf, HasSeries, IsLineOf}
-use Rattle.ts_elements.specs.Stamps.{ArePlaces}
-use Rattle.ts_elements.proofs.EachSeriesLemmas.{key_kept, said_behind}
+use Rattle.ts_elements.specs.Gathered.{stands_in, inside, IsStackOf, IsLineOf}
+use Rattle.ts_elements.proofs.EachSeriesLemmas.{said_behind}
 use Rattle.ts_elements.proofs.MemoryLemmas.{few_elements}
 use Rattle.ts_elements.proofs.SeenLemmas.{elements_seen, entries_in}
 use Rattle.ts_elements.proofs.GatheredLemmas.{stands_some}
