@@ -1,9 +1,9 @@
 -- What a list makes of each series of a container that is seen.
-use Rattle.std.proofs.Common.{◌≡◌, ℕ, ◌+◌, ◌<◌, ◌==◌, ℤ, Bool, true, cond, IsTrue, Option, Some, IsSome, Ok, List, [], ◌∷◌, ◌++◌, map, length, take, get_or, refl, ap, sym, subst, ◌∙◌, arith, append_assoc, append-nil, length-append}
+use Rattle.std.proofs.Common.{◌≡◌, ℕ, ◌+◌, ◌<◌, ◌==◌, ℤ, Bool, true, cond, IsTrue, Option, Some, IsSome, Ok, List, [], ◌∷◌, ◌++◌, map, length, take, drop, get_or, refl, ap, sym, subst, ◌∙◌, arith, append_assoc, append-nil, length-append}
 use Rattle.std.specs.List.{flat_map}
 use Rattle.std.specs.Option.{option_map, option_and_then, unwrap_or}
 use Rattle.std.proofs.lemmas.Bool.Decides.{nat_tests}
-use Rattle.std.proofs.lemmas.List.{take_more}
+use Rattle.std.proofs.Math.Seq.{take-add}
 use Rattle.std.proofs.lemmas.List.Concat.{flat_map-append}
 use Rattle.ts_base.specs.declared.fault.Trouble.{Trouble}
 use Rattle.ts_command.specs.declared.command.Command.TheVariants.{AggregateAll}
@@ -137,15 +137,18 @@ said_behind b rows more out middle said m n first second =
       number = (λ i. first.number i + second.number i) ∙ sym (length-append rows more);
     }
 
--- the series in the next of some slots
-pub said_next : (b : Binding) (f : ℕ → List (List ℕ × Row)) (items : List ℕ) (i d : ℕ) (out middle said : List ℕ) (m n : ℕ) → i < length items → AreSaid b (flat_map f (take i items)) out middle m → AreSaid b (f (get_or items i d)) middle said n
-    → AreSaid b (flat_map f (take (i + 1) items)) out said (m + n)
-said_next b f items i d out middle said m n below first second =
-    let item = get_or items i d in
-    let more : flat_map f (take (i + 1) items) ≡ flat_map f (take i items) ++ f item =
-    ap (flat_map f) (take_more items i d below)
-    ∙ flat_map-append f (take i items) (item ∷ []) ∙ ap (λ (rows : List (List ℕ × Row)). flat_map f (take i items) ++ rows) (append-nil (f item)) in
-    subst (λ (rows : List (List ℕ × Row)). AreSaid b rows out said (m + n)) (sym more) (said_behind b (flat_map f (take i items)) (f item) out middle said m n first second)
+-- the series in the first of some slots
+pub said_first : (b : Binding) (f : ℕ → List (List ℕ × Row)) (items : List ℕ) (d : ℕ) (out said : List ℕ) (n : ℕ) → 0 < length items → AreSaid b (f (get_or items 0 d)) out said n → AreSaid b (flat_map f (take 1 items)) out said n
+said_first b f [] d out said n some one = absurd (omega arith)
+said_first b f (item ∷ items) d out said n some one = subst (λ (rows : List (List ℕ × Row)). AreSaid b rows out said n) (sym (append-nil (f item))) one
+
+-- those in the next of some slots
+pub said_next : (b : Binding) (f : ℕ → List (List ℕ × Row)) (items next : List ℕ) (i k : ℕ) (out middle said : List ℕ) (m n : ℕ) → next ≡ drop i items → AreSaid b (flat_map f (take i items)) out middle m → AreSaid b (flat_map f (take k next)) middle said n
+    → AreSaid b (flat_map f (take (i + k) items)) out said (m + n)
+said_next b f items next i k out middle said m n is first second =
+    let more : flat_map f (take (i + k) items) ≡ flat_map f (take i items) ++ flat_map f (take k next) =
+    ap (flat_map f) (take-add i k items) ∙ flat_map-append f (take i items) (take k (drop i items)) ∙ ap (λ (rest : List ℕ). flat_map f (take i items) ++ flat_map f (take k rest)) (sym is) in
+    subst (λ (rows : List (List ℕ × Row)). AreSaid b rows out said (m + n)) (sym more) (said_behind b (flat_map f (take i items)) (flat_map f (take k next)) out middle said m n first second)
 
 -- all series of the container
 pub all_listed : (l : Layout) (name : List ℕ) (holder : ℕ) (rules : IsSound l) (container : Container) → Stands kinds.Container name l holder container → (b : Binding) (from to : ℤ)

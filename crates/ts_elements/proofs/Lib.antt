@@ -6,6 +6,7 @@ pub mod EachSeriesLemmas
 pub mod EditLemmas
 pub mod EntryLemmas
 pub mod FormatLemmas
+pub mod GatheredLemmas
 pub mod GridLemmas
 pub mod InOrderLemmas
 pub mod JoinLemmas
@@ -25,4 +26,5 @@ pub mod SeenSideLemmas
 pub mod SeriesDropLemmas
 pub mod SeriesLemmas
 pub mod SideLemmas
+pub mod StackLemmas
 pub mod StartLemmas

@@ -1,31 +1,40 @@
 // The routine that folds the elements of each series of a container by an aggregate list.
-ghost use Rattle.std.specs.Prelude.{◌≡◌, ◌<◌, ◌≤◌, ◌^◌, [], IfOk, IsTrue, Some, length, option_map};
+ghost use Rattle.std.specs.Prelude.{◌≡◌, ◌<◌, ◌≤◌, ◌^◌, ℕ, [], All, IfOk, IsSome, IsTrue, List, Some, length, option_map, take};
+ghost use Rattle.std.specs.List.{AllZip, flat_map};
+ghost use Rattle.ts_row.specs.Row.{Row as RowValue};
 ghost use Rattle.ts_command.specs.declared.command.Command.TheVariants.{AggregateAll};
 ghost use Rattle.ts_irregular.specs.Call.{Reads};
-ghost use Rattle.ts_model.specs.Definitions.{series_slots};
+ghost use Rattle.ts_model.specs.Definitions.{at_slot, series_slots};
 ghost use Rattle.ts_layout.specs.Meaning.{Layout, heading_in};
 ghost use Rattle.ts_answer.specs.View.{view, IsSeen, Shows};
 ghost use Rattle.ts_answer.specs.CarriedOut.{ReadOut};
 ghost use Rattle.ts_elements.specs.Aggregates.{folded_at, folded_in, IsFresh, AreSaid};
+ghost use Rattle.ts_elements.specs.Gathered.{HasSeries, IsLineOf};
 
+use crate::gathered::gather;
 use crate::shelf::shelf_at;
-use std::alloc::Global;
-use ts_aggregate::{Folding, aggregate_range};
+use std::alloc::{AllocError, Global};
+use std::thread::Threads;
+use ts_aggregate::{Folding, Stack, aggregate_range};
 use ts_answer::Stop;
-use ts_base::{Bytes, Name, Reply, Stamp, StoreFault};
+use ts_base::{Bytes, Key, Name, Reply, Stamp, StoreFault};
 use ts_container::row_type_in;
 use ts_define::slot_named;
 use ts_expr::{AggList, Bound};
 use ts_model::{Def, Defs, Kind};
 use ts_page::{Page, Pages};
+use ts_parallel::OpenGate;
 use ts_say::{say_count, say_series_folded};
 use ts_space::Space;
 
 /// Says what an aggregate list makes of the elements of each series of a container from one stamp to another, both included: a row for
 /// each series, in the order of their keys, and how many they are. A text that is no list is refused first, then a container that isn't
-/// there, then a list that its columns don't bear. `page` is room to read one; the memory is for the list, for the grids of regular series
-/// and for the rows, one at a time.
+/// there, then a list that its columns don't bear. The pages that the range touches are read into memory, 16 MiB of them at most at once,
+/// and folded by as many workers as serve; a series that alone has more is folded a page at a time. `page` is room to read one; the memory
+/// is for these pages, for the list, for the grids of the regular series among them, for what is known of the items while they are folded,
+/// and for the rows.
 pub fn aggregate_all<P: Pages>(
+    rt: &(impl Threads + Sync),
     alloc: Global,
     pages: &mut P,
     page: &mut Page,
@@ -50,13 +59,16 @@ pub fn aggregate_all<P: Pages>(
         unreachable!()
     };
     let bound = list.bind(kind)?;
-    let count = say_all(alloc, pages, page, defs, space, slot, &bound, from, to, out)?;
+    let count = say_all(
+        rt, alloc, pages, page, defs, space, slot, &bound, from, to, out,
+    )?;
     say_count(out, count)?;
     Ok(())
 }
 
 // Says what a list makes of each series of the container in a slot, and gives their number.
 fn say_all<P: Pages>(
+    rt: &(impl Threads + Sync),
     alloc: Global,
     pages: &mut P,
     page: &mut Page,
@@ -77,24 +89,109 @@ fn say_all<P: Pages>(
     ensures undisturbed { P.undisturbed pages.old pages.new }
 {
     let mut folding = Folding::new(bound)?;
+    let slots = defs.in_order(Kind::Series);
     let mut count = 0;
-    for slot in defs.in_order(Kind::Series) {
-        count += say_if_inside(
+    let mut at = 0;
+    while at < slots.len() {
+        let next = &slots[at..];
+        let (said, passed) = say_next(
+            rt,
             alloc,
             pages,
             page,
             defs,
             space,
             container,
-            *slot,
+            next,
             bound,
             &mut folding,
             from,
             to,
             out,
         )?;
+        count += said;
+        at += passed;
     }
     Ok(count)
+}
+
+// Says what it makes of those in the next slots, as many as are folded at once; and gives their number, and how many slots these are.
+fn say_next<P: Pages>(
+    rt: &(impl Threads + Sync),
+    alloc: Global,
+    pages: &mut P,
+    page: &mut Page,
+    defs: &Defs,
+    space: &Space,
+    container: u16,
+    slots: &[u16],
+    bound: &Bound,
+    folding: &mut Folding<'_>,
+    from: Stamp,
+    to: Stamp,
+    out: &mut Reply,
+) -> Result<(u64, usize), StoreFault>
+    requires seen { IsSeen P.tells (view defs.now.definitions space.now (P.contents pages.old)) }
+    requires slots { All (λ slot. slot < series_slots) slots.now }
+    requires some { 0 < length slots.now }
+    requires columns { option_map (λ h. h.columns) (heading_in defs.now.definitions container) ≡ Some bound.now.columns }
+    ensures passed { IfOk result (λ r. (0 < r.1) × (r.1 ≤ length slots.now)) }
+    ensures few { IfOk result (λ r. r.0 ≤ r.1) }
+    ensures said { IfOk result (λ r. IsTrue P.tells → (l : Layout)
+        → Shows P.tells (view defs.now.definitions space.now (P.contents pages.old)) l
+        → IsFresh bound.now folding.old
+        → IsFresh bound.now folding.new
+        × AreSaid bound.now (flat_map (folded_at bound.now from to l container) (take r.1 slots.now)) out.old out.new r.0) }
+    ensures call { Reads P.tells result (P.contents pages.old) (P.contents pages.new) }
+    ensures undisturbed { P.undisturbed pages.old pages.new }
+{
+    let (stacks, passed) = gather(alloc, pages, page, defs, space, container, slots, from, to)?;
+    if passed == 0 {
+        let said = say_if_inside(
+            alloc, pages, page, defs, space, container, slots[0], bound, folding, from, to, out,
+        )?;
+        return Ok((said, 1));
+    }
+    let said = say_stacks(rt, alloc, defs, bound, &stacks, from, to, out)?;
+    Ok((said, passed))
+}
+
+// Says what it makes of each stack, and gives their number.
+fn say_stacks(
+    rt: &(impl Threads + Sync),
+    alloc: Global,
+    defs: &Defs,
+    bound: &Bound,
+    stacks: &[Stack<'_>],
+    from: Stamp,
+    to: Stamp,
+    out: &mut Reply,
+) -> Result<u64, AllocError>
+    requires series { All (HasSeries defs.now.definitions) stacks.now }
+    ensures said { IfOk result (λ count. (lines : List (List ℕ × RowValue)) × AllZip (IsLineOf bound.now from to defs.now.definitions) stacks.now lines
+        × AreSaid bound.now lines out.old out.new count) }
+{
+    let rows = ts_aggregate::aggregate_all(rt, alloc, &OpenGate, bound, stacks, from, to)?;
+    for (stack, row) in stacks.iter().zip(&rows) {
+        let key = key_at(defs, stack.shelf.series);
+        say_series_folded(out, key, bound.scales(), row)?;
+    }
+    Ok(stacks.len() as u64)
+}
+
+// The key of the series in a slot.
+fn key_at(defs: &Defs, slot: u16) -> &Key
+    requires within { slot < series_slots }
+    requires some { IsSome (at_slot slot defs.now.definitions.series) }
+    ensures { option_map (λ s. s.key) (at_slot slot defs.now.definitions.series) ≡ Some result.now }
+{
+    let Some(def) = defs.get(Kind::Series, slot) else {
+        unreachable!()
+    };
+    match def {
+        Def::Series { key, .. } => key,
+        _ => unreachable!(),
+    }
 }
 
 // Says what it makes of the series in a slot, if there is one and it stands in the container; and how many that are.

@@ -15,6 +15,7 @@ mod each_series;
 mod edits;
 mod element;
 mod found;
+mod gathered;
 mod marks;
 mod reading;
 mod removal;

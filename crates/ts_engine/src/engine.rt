@@ -52,10 +52,11 @@ impl Engine {
         }
     }
 
-    /// Carries out a command, and gives its reply. `out` is empty after an error.
+    /// Carries out a command, and gives its reply. `out` is empty after an error. Series of a container are folded by as many workers as
+    /// serve; all else is done in the calling thread.
     pub fn step<V: Volume>(
         &mut self,
-        _rt: &(impl Threads + Sync),
+        rt: &(impl Threads + Sync),
         vol: &mut V,
         command: &Command,
         out: &mut Reply,
@@ -70,7 +71,7 @@ impl Engine {
         if let Some(faults) = self.spent {
             return Err(StepFault::Closed { faults });
         }
-        match self.carry_out(vol, command, out) {
+        match self.carry_out(rt, vol, command, out) {
             Ok(()) => Ok(()),
             Err(fault) => {
                 out.clear();

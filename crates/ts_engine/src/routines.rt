@@ -12,6 +12,7 @@ ghost use Rattle.ts_container.specs.KeptCharges.{AreCharges};
 ghost use Rattle.ts_engine.specs.Work.{Defines, Elements, Readings, Combinations, Aggregates, Memory, work_of, IsGiven, IsDecided};
 
 use std::alloc::Global;
+use std::thread::Threads;
 use ts_answer::{Effect, Stop};
 use ts_base::{Reply, Trouble};
 use ts_command::Command;
@@ -189,6 +190,7 @@ pub(crate) fn combine<P: Pages>(
 
 /// Answers a command that folds the elements of series by an aggregate list; none for another one. `page` is room to read one.
 pub(crate) fn aggregate<P: Pages>(
+    rt: &(impl Threads + Sync),
     alloc: Global,
     pages: &mut P,
     page: &mut Page,
@@ -227,7 +229,7 @@ pub(crate) fn aggregate<P: Pages>(
             from,
             to,
         } => aggregate_all(
-            alloc, pages, page, defs, space, text, container, *from, *to, out,
+            rt, alloc, pages, page, defs, space, text, container, *from, *to, out,
         ),
         _ => return None,
     };

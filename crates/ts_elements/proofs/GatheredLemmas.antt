@@ -1,0 +1,120 @@
+-- The pages of series read into memory, as the stacks of the slots of a container.
+use Rattle.std.proofs.Common.{◌≡◌, ℕ, ◌+◌, ◌<◌, ℤ, Bool, true, false, cond, IsTrue, Option, Some, None, IsSome, Ok, All, Contains, List, [], ◌∷◌, ◌++◌, length, take, get_or, inr, append-nil, refl, ap, sym, subst, ◌∙◌, arith}
+use Rattle.std.specs.List.{AllZip}
+use Rattle.std.specs.Option.{option_map}
+use Rattle.std.proofs.lemmas.List.{take_more}
+use Rattle.std.proofs.lemmas.List.Elements.{All-nil, All-cons, All-head, All-tail, All-contains, filter_more}
+use Rattle.std.proofs.lemmas.Slice.Zip.{all_zipped_more}
+use Rattle.std.proofs.lemmas.Bool.Decides.{nat_tests}
+use Rattle.ts_page.specs.declared.page.Page.{Page}
+use Rattle.ts_page.specs.Pages.{Contents, EqualPages, Got}
+use Rattle.ts_row.specs.declared.kind.Column.{Column}
+use Rattle.ts_space.specs.declared.place.Place.{Place}
+use Rattle.ts_space.specs.Directory.{Directory}
+use Rattle.ts_irregular.specs.Call.{Reads}
+use Rattle.ts_irregular.specs.OnePage.{IsPlace}
+use Rattle.ts_chain.specs.Places.{CanBeRead}
+use Rattle.ts_regular.specs.Places as regular
+use Rattle.ts_offset.specs.declared.shape.Shape.{Shape}
+use Rattle.ts_offset.specs.declared.shape.Shape.TheVariants.{Irregular, Regular}
+use Rattle.ts_clip.specs.Series.{ArePagesOf}
+use Rattle.ts_aggregate.specs.declared.series_pages.Stack.{Stack}
+use Rattle.ts_model.specs.declared.kind.Kind.TheVariants as kinds
+use Rattle.ts_model.specs.Definitions.{Definitions, SeriesDef, of_series, at_slot, slots}
+use Rattle.ts_layout.specs.Meaning.{heading_in}
+use Rattle.ts_layout.proofs.CallerLemmas.{chained, at_slot-map}
+use Rattle.ts_answer.specs.Slots.{IsSlotNamed}
+use Rattle.ts_answer.specs.View.{View, view, KeepsRules}
+use Rattle.ts_elements.specs.Gathered.{stands_in, inside, IsStackOf, HasSeries}
+use Rattle.ts_elements.specs.Stamps.{ArePlaces}
+use Rattle.ts_elements.proofs.EachSeriesLemmas.{key_kept}
+
+-- the pages of some of the places of a series can be read
+pub readable : (shape : Shape) (columns : List Column) (c : Contents) (places some : List Place) → ArePlaces shape columns c places → All (λ place. Contains places place) some → All (CanBeRead c) some
+readable Irregular columns c places some are among k d below =
+    let is = All-contains (IsPlace columns c) places (get_or some k d) are.each (among k d below) in
+    record { element = is.element; below = is.below }
+readable (Regular grid) columns c places some are among k d below =
+    let is = All-contains (regular.IsPlace columns c) places (get_or some k d) are.each (among k d below) in
+    record { element = is.readable.element; below = is.readable.below }
+
+-- a page that was read, after other readings
+pub got_reads : (tells : Bool) (number : ℕ) (into : List ℕ) (v w : Contents) → Got tells number into (Ok tt) v w → Reads {T = Unit {0}} tells (Ok tt) v w
+got_reads tells number into v w got = record { call = got.call; pages = got.pages; free = got.free; change_bytes = got.change_bytes }
+
+pub readable_still : {A : Type 0} (tells : Bool) (a : A) (v w : Contents) (place : Place) → Reads tells (Ok a) v w → CanBeRead v place → CanBeRead w place
+readable_still tells a v w place reads can =
+    let count = reads.call.count in let below = can.below in
+    record { element = can.element; below = omega (arith, count, below) }
+
+pub page_got : {A : Type 0} (tells : Bool) (a : A) (place : Place) (into : List ℕ) (u v w : Contents) → Reads tells (Ok a) u v → CanBeRead v place → Got tells place.page into (Ok tt) v w → IsTrue tells → into ≡ u.page place.page
+page_got tells a place into u v w reads can got told =
+    let element = can.element in
+    got.read told (inr (omega (arith, element))) ∙ reads.pages told place.page
+
+-- one page more
+pub pages_more : (pages : ℕ → List ℕ) (places : List Place) (i : ℕ) (d : Place) (read : List Page) (page : Page) → i < length places → ArePagesOf pages (take i places) read → page.bytes ≡ pages (get_or places i d).page
+    → ArePagesOf pages (take (i + 1) places) (read ++ page ∷ [])
+pages_more pages places i d read page below are is =
+    let R : Place → Page → Type 0 = λ place page. page.bytes ≡ pages place.page in
+    subst (λ (ps : List Place). ArePagesOf pages ps (read ++ page ∷ [])) (sym (take_more places i d below)) (all_zipped_more R (take i places) read (get_or places i d) page are is)
+
+-- the same of equal pages
+pub pages_same : (u v : ℕ → List ℕ) → EqualPages u v → (places : List Place) (read : List Page) → ArePagesOf v places read → ArePagesOf u places read
+pages_same u v same [] [] are = tt
+pages_same u v same [] (page ∷ read) are = absurd are
+pages_same u v same (place ∷ places) [] are = absurd are
+pages_same u v same (place ∷ places) (page ∷ read) are = (are.0 ∙ same place.page, pages_same u v same places read are.1)
+
+pub stack_same : {A : Type 0} (tells : Bool) (a : A) (d : Definitions) (space : Directory) (u v : Contents) (from to : ℤ) (slot : ℕ) (stack : Stack) → Reads tells (Ok a) u v → IsStackOf tells (view d space v) from to slot stack
+    → IsStackOf tells (view d space u) from to slot stack
+stack_same tells a d space u v from to slot stack reads is = record {
+  series = is.series;
+  columns = is.columns;
+  lies = is.lies;
+  laid = is.laid;
+  holds = is.holds;
+  pages = λ told. pages_same u.page v.page (reads.pages told) stack.places.now stack.pages.items (is.pages told);
+}
+
+-- a series that stands in the container
+pub stands_some : (container : ℕ) (o : Option SeriesDef) → stands_in container o ≡ true → (s : SeriesDef) × (o ≡ Some s) × (s.container ≡ container)
+stands_some container None is = absurd (cc)
+stands_some container (Some s) is = (s, refl, grind (arith, nat_tests))
+
+pub stands_named : (x : View) → KeepsRules x → (container slot : ℕ) → slot < 4096 → stands_in container (at_slot slot x.definitions.series) ≡ true → (key : List ℕ) × IsSlotNamed kinds.Series slot key x.definitions
+stands_named x kept container slot within stands =
+    let there = stands_some container (at_slot slot x.definitions.series) stands in
+    key_kept x kept slot there.0.key there.0.container there.0.regular within (at_slot-map of_series slot x.definitions.series ∙ ap (option_map of_series) there.1)
+
+-- a slot more, by whether its series stands in the container
+module _ (d : Definitions) (container : ℕ) (slots : List ℕ) (i e : ℕ) (below : i < length slots) where
+  abbrev test : ℕ → Bool
+  test slot = stands_in container (at_slot slot d.series)
+
+  inside_more : (b : Bool) → test (get_or slots i e) ≡ b → inside d container (take (i + 1) slots) ≡ inside d container (take i slots) ++ cond b (get_or slots i e ∷ []) []
+  inside_more b is = filter_more test slots i e below ∙ ap (λ (t : Bool). inside d container (take i slots) ++ cond t (get_or slots i e ∷ []) []) is
+
+  pub one_outside : test (get_or slots i e) ≡ false → inside d container (take (i + 1) slots) ≡ inside d container (take i slots)
+  one_outside is = inside_more false is ∙ append-nil (inside d container (take i slots))
+
+  pub one_inside : test (get_or slots i e) ≡ true → inside d container (take (i + 1) slots) ≡ inside d container (take i slots) ++ get_or slots i e ∷ []
+  one_inside is = inside_more true is
+
+-- a stack's slot has a series
+stack_series : (tells : Bool) (x : View) (from to : ℤ) (slot : ℕ) (stack : Stack) → slot < 4096 → IsStackOf tells x from to slot stack → HasSeries x.definitions stack
+stack_series tells x from to slot stack within is =
+    let found = chained (λ (s : SeriesDef). heading_in x.definitions s.container) (at_slot slot x.definitions.series) stack.shelf.kind.now is.columns in
+    let at = is.series in
+    record {
+      within = omega arith;
+      some = subst (λ (o : Option SeriesDef). IsSome o) (sym (ap (λ (n : ℕ). at_slot n x.definitions.series) is.series ∙ found.1)) refl;
+    }
+
+pub all_series : (tells : Bool) (x : View) (from to : ℤ) (slots : List ℕ) (stacks : List Stack) → All (λ slot. slot < 4096) slots → AllZip (IsStackOf tells x from to) slots stacks → All (HasSeries x.definitions) stacks
+all_series tells x from to [] [] within are = All-nil (HasSeries x.definitions)
+all_series tells x from to [] (stack ∷ stacks) within are = absurd are
+all_series tells x from to (slot ∷ slots) [] within are = absurd are
+all_series tells x from to (slot ∷ slots) (stack ∷ stacks) within are =
+    let Below : ℕ → Type 0 = λ slot. slot < 4096 in
+    All-cons (HasSeries x.definitions) stack stacks (stack_series tells x from to slot stack (All-head Below slot slots within) are.0) (all_series tells x from to slots stacks (All-tail Below slot slots within) are.1)
