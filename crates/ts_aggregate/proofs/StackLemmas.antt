@@ -13,13 +13,14 @@ use Rattle.ts_regular.specs.Places as regular
 use Rattle.ts_regular.proofs.CutsLemmas.{told_count}
 use Rattle.ts_series.proofs.ChainLemmas.{counted}
 use Rattle.ts_offset.specs.declared.shape.Shape.{Shape}
+use Rattle.ts_page.specs.declared.page.Page.{Page}
 use Rattle.ts_offset.specs.declared.shape.Shape.TheVariants.{Irregular, Regular}
 use Rattle.ts_clip.specs.Series.{IsLaidOut, HaveOnPlaces, ArePagesOf}
 use Rattle.ts_expr.specs.Binding.{Binding}
 use Rattle.ts_expr.specs.Fold.{folded_row}
 use Rattle.ts_aggregate.specs.declared.series_pages.Stack.{Stack}
 use Rattle.ts_aggregate.specs.Fold.{Fold, HasTaken, most_folded, Takes}
-use Rattle.ts_aggregate.specs.Stacks.{IsFoldOf}
+use Rattle.ts_aggregate.specs.Stacks.{IsFoldOf, pages_of}
 use Rattle.ts_aggregate.proofs.ToldLemmas.{count_stamped, few_kept}
 
 -- as many elements as the places tell of
@@ -30,13 +31,13 @@ count_on_places (Regular grid) slot columns pages places es have =
     sym (ap length have.3) ∙ count_stamped grid (regular.all_in have.0) have.2 ∙ told_count slot columns pages places have.0 have.1
 
 -- a fold that had taken nothing takes what the stack's pages hand on, and makes this row of it
-module _ (b : Binding) (from to : ℤ) (stack : Stack) (v w : Fold) (binding : v.binding ≡ b) (empty : HasTaken v []) where
+module _ (b : Binding) (from to : ℤ) (read_list : List Page) (stack : Stack) (v w : Fold) (binding : v.binding ≡ b) (empty : HasTaken v []) where
   pub is_fold_of :
-      (took : IsLaidOut stack.shape → (pages : ℕ → List ℕ) (es : List Element) → ArePagesOf pages stack.places.now stack.pages.items
+      (took : IsLaidOut stack.shape → (pages : ℕ → List ℕ) (es : List Element) → ArePagesOf pages stack.places.now (pages_of read_list stack)
       → HaveOnPlaces stack.shape stack.shelf.series stack.shelf.kind.now.columns pages stack.places.now es
       → Takes stack.shelf.kind.now.columns v (map (λ e. e.1) (within_range from to es)) w)
       → (row : Row) (made : (rows : List Row) → HasTaken w rows → length rows ≤ most_folded → row ≡ folded_row w.binding.items rows)
-      → IsFoldOf b from to stack row
+      → IsFoldOf b from to read_list stack row
   is_fold_of took row made laid countable own pages es read have =
       let rows : List Row = map (λ (e : Element). e.1) (within_range from to es) in
       let takes = took laid pages es read have in

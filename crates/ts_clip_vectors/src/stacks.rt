@@ -56,29 +56,30 @@ fn place_of(series: u16) -> Place {
     }
 }
 
-// The stack of a series with the place of its page; it has a page where the number isn't divided by 3.
-fn stack_of<'a>(
-    alloc: Global,
-    kind: &'a RowType,
-    series: u16,
-    place: &'a [Place],
-) -> Result<Stack<'a>, AllocError> {
-    let count = series % 3;
+// The pages of all series: one where the number isn't divided by 3.
+fn all_pages(alloc: Global) -> Result<Vec<Page>, AllocError> {
     let mut pages = Vec::new(alloc);
-    let mut places = &place[..0];
-    if count > 0 {
-        pages.push(page_of(series, count))?;
-        places = place;
+    for series in 0..STACKS {
+        let count = series % 3;
+        if count > 0 {
+            pages.push(page_of(series, count))?;
+        }
     }
-    Ok(Stack {
+    Ok(pages)
+}
+
+// The stack of a series whose page, if it has one, stands at an index of the list; with the place of that page.
+fn stack_of<'a>(kind: &'a RowType, series: u16, first: usize, place: &'a [Place]) -> Stack<'a> {
+    let places = if series % 3 > 0 { place } else { &place[..0] };
+    Stack {
         shelf: Shelf { series, kind },
         shape: Shape::Irregular,
         places,
-        pages,
-    })
+        first,
+    }
 }
 
-// The stacks of all series, each with the place of its own.
+// The stacks of all series, each with the place of its own. Of three series two have a page.
 fn stacks<'a>(
     alloc: Global,
     kind: &'a RowType,
@@ -86,7 +87,8 @@ fn stacks<'a>(
 ) -> Result<Vec<Stack<'a>>, AllocError> {
     let mut stacks = Vec::new(alloc);
     for (series, place) in (0..STACKS).zip(places.chunks(1)) {
-        stacks.push(stack_of(alloc, kind, series, place)?)?;
+        let first = usize::from(series / 3 * 2 + (series % 3).saturating_sub(1));
+        stacks.push(stack_of(kind, series, first, place))?;
     }
     Ok(stacks)
 }
@@ -103,10 +105,11 @@ fn sums(
     };
     let places: Vec<Place> = (0..STACKS).map(place_of).collect(alloc)?;
     let stacks = stacks(alloc, &kind, &places)?;
+    let pages = all_pages(alloc)?;
     let (Some(from), Some(to)) = (Stamp::of(LEAST), Stamp::of(GREATEST)) else {
         return Err(StoreFault::Failed);
     };
-    Ok(aggregate_all(rt, alloc, gate, &bound, &stacks, from, to)?)
+    Ok(aggregate_all(rt, alloc, gate, &bound, &pages, &stacks, from, to)?)
 }
 
 // Whether a row has this number alone, or NULL.
@@ -191,9 +194,18 @@ fn sum_between(
         },
         shape,
         places: space.places(SLOT),
-        pages,
+        first: 0,
     };
-    Ok(aggregate_all(rt, alloc, &OpenGate, &bound, &[stack], day(from)?, day(to)?)?)
+    Ok(aggregate_all(
+        rt,
+        alloc,
+        &OpenGate,
+        &bound,
+        &pages,
+        &[stack],
+        day(from)?,
+        day(to)?,
+    )?)
 }
 
 // Whether it is the only row.

@@ -10,7 +10,7 @@ use Rattle.ts_aggregate.proofs.all_series.aggregate_all.Goals as goal
 
 pub returns : goal.returns
 returns g c =
-    let is_fold : Stack → Row → Type 0 = IsFoldOf c.args.bound.now c.args.from c.args.to in
+    let is_fold : Stack → Row → Type 0 = IsFoldOf c.args.bound.now c.args.from c.args.to c.args.read.now in
     let each = answers_AllZip _ _ (OfRow _ is_fold)
     (λ stack answer call. subst (λ (s : Stack). OfRow _ is_fold s answer) call.shows call.says.met)
     c.args.stacks.now c.in_ok-answers.answers.items c.in_ok-answers.ensures.ok in
