@@ -267,13 +267,13 @@ module _ (tells : Bool) (Work : Contents → Contents → Type 0) (worked : Resu
       record {
         idle = record {
           over = over_still tells back f.store x w idle_back.over (record {
-                pages = drop.pages;
-                journal = drop.journal;
-                overlay = drop.overlay;
-                kept_free = drop.kept_free;
-                reads = drop.reads;
-                cached = λ told now. subst (AreInPlace w.held) (sym drop.cache) (subst (λ (bytes : List ℕ). AreInPlace bytes g.store.cache) (sym drop.reads.held) now);
-              })
+            pages = drop.pages;
+            journal = drop.journal;
+            overlay = drop.overlay;
+            kept_free = drop.kept_free;
+            reads = drop.reads;
+            cached = λ told now. subst (AreInPlace w.held) (sym drop.cache) (subst (λ (bytes : List ℕ). AreInPlace bytes g.store.cache) (sym drop.reads.held) now);
+          })
               (lawful_same tells (contents_over back x) (contents_over f.store w) idle_back.over.lawful drop.pages (λ told k. pages_is k) drop.free);
           batch = drop.batch;
           kept_free = drop.kept_free ∙ sym drop.free;

@@ -61,9 +61,9 @@ survey_fault tells (NotAStore page) number s v w lawful idle same cause quiet re
 
 -- the pages that were found free can be taken
 pub admitted : (tells : Bool) (s t : State) (d : Device) (x : Definitions) (space : Directory) (free : List ℕ) → IsIdle tells s d → IsFound tells s.pages (contents_over s d) x space free
-    → t ≡ record s { free = free; kept_free = free; caches = true } → IsOver tells t d
+    → t ≡ record s { free = free; kept_free = free } → IsOver tells t d
 admitted tells s t d x space free idle found is =
-    let next : State = record s { free = free; kept_free = free; caches = true } in
+    let next : State = record s { free = free; kept_free = free } in
     let over = idle.over in
     let placed = found.kept.placed in
     let lawful : IsLawful tells (contents_over next d) = record {
@@ -106,7 +106,7 @@ counted_found tells count c x space free found = can_count x space free count fo
 
 -- a volume that was surveyed: its pages can be taken, and then its journal is settled
 module _ (tells : Bool) (s t : State) (v : Device) (x : Definitions) (space : Directory) (free : List ℕ) (idle : IsIdle tells s v) (found : IsFound tells s.pages (contents_over s v) x space free)
-    (admit : t ≡ record s { free = free; kept_free = free; caches = true }) where
+    (admit : t ≡ record s { free = free; kept_free = free }) where
   over_admitted : IsOver tells t v
   over_admitted = admitted tells s t v x space free idle found admit
 

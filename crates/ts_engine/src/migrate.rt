@@ -82,7 +82,11 @@ fn put_newest_format_over<V: Volume>(
     ensures short { length (entries_bytes store.new.batch) ≤ image_entry_size }
     ensures undisturbed { Undisturbed V.tells store.old store.new (V.device vol.old) (V.device vol.new) }
 {
-    let mut on = On { store, vol };
+    let mut on = On {
+        store,
+        vol,
+        scan: false,
+    };
     let pages = on.spare() + space.used();
     put_header(&mut on, FORMAT, pages)
 }

@@ -85,7 +85,11 @@ fn survey_on<V: Volume>(
     ensures no_fault { ¬ IsErrOf result Failed → (V.device vol.new).faults ≡ (V.device vol.old).faults }
     ensures undisturbed { Undisturbed V.tells store.old store.new (V.device vol.old) (V.device vol.new) }
 {
-    let mut on = On { store, vol };
+    let mut on = On {
+        store,
+        vol,
+        scan: true,
+    };
     survey(alloc, &mut on, count)
 }
 

@@ -16,6 +16,8 @@ use ts_page::{PAGE, Page, Pages};
 pub struct On<'a, V: Volume> {
     pub store: &'a mut Store,
     pub vol: &'a mut V,
+    /// Pages are read that nobody will soon ask for again: none of them is put into the cache.
+    pub scan: bool,
     ghost size: { (V.device vol.now).size ≡ page_size * store.now.pages },
     ghost lawful: { IsLawful V.tells (contents_over store.now (V.device vol.now)) } by { Prim.hlevel props },
     ghost cached: { IsTrue V.tells → AreInPlace (V.device vol.now).held store.now.cache } by { Prim.hlevel props },
@@ -25,7 +27,7 @@ impl<'a, V: Volume> Pages for On<'a, V> {
     ghost use Rattle.std.specs.Prelude.{◌<◌, IsSome};
     ghost use Rattle.std.proofs.Common.{refl, ◌∙◌};
     ghost use Rattle.ts_page.specs.Pages.{Got};
-    ghost use Rattle.ts_store.specs.OpenBatch.{in_memory};
+    ghost use Rattle.ts_store.specs.OpenBatch.{in_memory, change_read, after_read};
     ghost use Rattle.ts_recover.proofs.CallerLemmas.{reads_none, reads_then};
     ghost use Rattle.ts_store.specs.Undisturbed.{Undisturbed};
 
@@ -36,7 +38,8 @@ impl<'a, V: Volume> Pages for On<'a, V> {
     ghost undisturbed = { λ a b. (b.store.ghost_name ≡ a.store.ghost_name) × (b.vol.ghost_name ≡ a.vol.ghost_name)
         × Undisturbed V.tells a.store.now b.store.now (V.device a.vol.now) (V.device b.vol.now) };
 
-    /// Reads a page. One of the open batch, the overlay or the cache is read with no call on the volume.
+    /// Reads a page. One of the open batch, the overlay or the cache is read with no call on the volume; another one is then
+    /// in the cache, but for a scan, or where there is no memory.
     fn get(&mut self, no: u32, into: &mut Page) -> Result<(), StoreFault>
         requires { no < self.old.store.now.pages }
         ensures got { Got V.tells no into.new.bytes result (contents_over self.old.store.now (V.device self.old.vol.now))
@@ -44,6 +47,8 @@ impl<'a, V: Volume> Pages for On<'a, V> {
         ensures undisturbed { (self.new.store.ghost_name ≡ self.old.store.ghost_name) × (self.new.vol.ghost_name ≡ self.old.vol.ghost_name)
             × Undisturbed V.tells self.old.store.now self.new.store.now (V.device self.old.vol.now) (V.device self.new.vol.now) }
         ensures kept { IsSome (in_memory no self.old.store.now) → self.new.vol.now ≡ self.old.vol.now }
+        ensures scan { IsTrue self.old.scan
+            → self.new.store.now.cache ≡ after_read (change_read no self.old.store.now) no self.old.store.now.cache }
     {
         if self.store.read(no, into) {
             return Ok(());
@@ -52,7 +57,7 @@ impl<'a, V: Volume> Pages for On<'a, V> {
         if read.is_err() {
             return Err(StoreFault::Failed);
         }
-        self.store.keep_read(no, into);
+        self.store.keep_read(no, into, self.scan);
         Ok(())
     }
 

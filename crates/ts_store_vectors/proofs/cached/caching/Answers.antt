@@ -4,10 +4,10 @@ use Rattle.ts_store.specs.OpenBatch.{State, IsIdle}
 use Rattle.ts_store_vectors.proofs.cached.caching.Goals as goal
 
 -- no page can be taken
-none_admitted : (tells : Bool) (s t : State) (d : Device) (free : List ℕ) → free ≡ [] → t ≡ record s { free = free; kept_free = free; caches = true } → IsIdle tells s d → IsIdle tells t d
+none_admitted : (tells : Bool) (s t : State) (d : Device) (free : List ℕ) → free ≡ [] → t ≡ record s { free = free; kept_free = free } → IsIdle tells s d → IsIdle tells t d
 none_admitted tells s t d free none is idle =
     let over = idle.over in
-    subst (λ (x : State). IsIdle tells x d) (sym (is ∙ ap (λ (l : List ℕ). record s { free = l; kept_free = l; caches = true }) none))
+    subst (λ (x : State). IsIdle tells x d) (sym (is ∙ ap (λ (l : List ℕ). record s { free = l; kept_free = l }) none))
     (record {
       over = record {
         size = over.size;
