@@ -1,4 +1,7 @@
 mod ApartLemmas
+pub mod GeneratedLemmas
+pub mod GeneratingLemmas
+pub mod GenLemmas
 pub mod ItemLemmas
 pub mod RanLemmas
 pub mod FeedLemmas

@@ -4,3 +4,5 @@ pub mod Run
 pub mod Opening
 pub mod Top
 pub mod Migrating
+pub mod Generated
+pub mod Generating

@@ -1,5 +1,5 @@
 //! The top call. `run_ts` does what the program's words ask for: `init` makes an empty store, `run` carries out a
-//! script, and `migrate` brings a store to the newest format. Its clauses say what a stop at any moment leaves (`fair`:
+//! script, `migrate` brings a store to the newest format, and `gen` carries out commands that a seed gives. Its clauses say what a stop at any moment leaves (`fair`:
 //! the catalogue after the replies that were said, or after these and the next request), what is said (a prefix of the
 //! answers of the plain catalogue), and each status by its cause. Stands on ts_disk for the outside, ts_command for
 //! statements, ts_engine for commands and ts_replies for what a list of replies promises. Read `specs/Top.antt`, then
@@ -7,6 +7,8 @@
 #![tactic(auto)]
 
 mod fault;
+mod generate;
+mod generated;
 mod make;
 mod migrate;
 mod run;
