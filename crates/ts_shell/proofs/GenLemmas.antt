@@ -12,7 +12,7 @@ use Rattle.ts_engine.specs.Volume.{MeansCatalogue}
 use Rattle.ts_engine.specs.Start.{Started, StillMeans}
 use Rattle.ts_shell.specs.Opening.{status_of_opening}
 use Rattle.ts_shell.specs.Generated.{generated}
-use Rattle.ts_shell.specs.Generating.{IsWithin, SaysSummary, GeneratedOn, OpenedGen, GeneratedFrom, GenRan}
+use Rattle.ts_shell.specs.Generating.{replies, summary, IsWithin, SaysSummary, GeneratedOn, OpenedGen, GeneratedFrom, GenRan}
 use Rattle.ts_shell.proofs.ItemLemmas.{rose_on}
 use Rattle.ts_shell.proofs.OpeningLemmas.{first_then, unopened_store, unopened_status, is_unopened, opened_store}
 
@@ -85,13 +85,14 @@ generated_behind tells count seed status engine v y w started ran = record {
   from : IsTrue tells → (cat : Catalogue) → MeansCatalogue v.held cat → GeneratedFrom (generated count seed) cat status v w
   from told cat means =
       let commands = generated count seed in
+      let text = summary (replies (base cat) commands) in
       let on = ran.on told (base cat) (started.at told cat means) in
       let good : LeavesOnly y w (IsWithin (base cat) commands v.said) = subst (λ (l : List ℕ). LeavesOnly y w (IsWithin (base cat) commands l)) started.others.said on.moments in
       let moments = first_then v y w (IsWithin (base cat) commands v.said) (opening tells (Ok engine) v y commands started told cat means) (started.synced told) good (ran.syncs told) in
       record {
         says = record {
-          part = (on.says.part.0, on.says.part.1 ∙ ap (λ (l : List ℕ). l ++ take on.says.part.0 _) started.others.said);
-          said = λ zero. on.says.said zero ∙ ap (λ (l : List ℕ). l ++ _) started.others.said;
+          part = (on.says.part.0, on.says.part.1 ∙ ap (λ (l : List ℕ). l ++ take on.says.part.0 text) started.others.said);
+          said = λ zero. on.says.said zero ∙ ap (λ (l : List ℕ). l ++ text) started.others.said;
           means = on.says.means;
         };
         moments = moments;

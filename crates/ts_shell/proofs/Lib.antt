@@ -2,6 +2,8 @@ mod ApartLemmas
 pub mod GeneratedLemmas
 pub mod GeneratingLemmas
 pub mod GenLemmas
+pub mod ReachedLemmas
+pub mod SummaryLemmas
 pub mod ItemLemmas
 pub mod RanLemmas
 pub mod FeedLemmas
