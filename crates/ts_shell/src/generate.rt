@@ -181,7 +181,7 @@ pub(crate) fn generate<S: Site>(
     count: u32,
     seed: u32,
 ) -> u8
-    requires { count ≤ 1000000 }
+    requires count { count ≤ 1000000 }
     ensures ran { GenRan S.tells count seed result (S.device site.old) (S.device site.new) }
 {
     match Engine::start(alloc, site) {

@@ -28,5 +28,5 @@ returns-in-Ok g c =
     let w = g.S.Volume.device c.run.new.site in
     record {
       ran = generated_behind tells c.args.count c.args.seed c.run.result c.in-Ok.engine v y w c.in-Ok.ensures
-      (subst (λ (e : Kept). OpenedGen tells (generated c.args.count c.args.seed) e c.run.result y w) c.new-generator.ensures.engine c.run.ensures.ran);
+          (subst (λ (e : Kept). OpenedGen tells (generated c.args.count c.args.seed) e c.run.result y w) c.new-generator.ensures.engine c.run.ensures.ran);
     }

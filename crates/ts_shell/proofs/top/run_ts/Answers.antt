@@ -198,8 +198,8 @@ returns-in-Some-Migrate-clause-generated g c = λ count seed e.
     let is : ◌≡◌ {A = Option Job} c.read_job.result (Some Migrate) = c.in-Some-Migrate.is ∙ ap Some c.in-Some-Migrate.field-0-is in
     absurd (gen_is_migrate count seed (sym e ∙ sym c.read_job.ensures.job ∙ is))
 
-pub generate-requires : goal.generate-requires
-generate-requires g c =
+pub generate-requires-clause-count : goal.generate-requires-clause-count
+generate-requires-clause-count g c = λ lifetimes outlive.
     let is : ◌≡◌ {A = Option Job} c.read_job.result (Some (Gen c.in-Some-Gen.count c.in-Some-Gen.seed)) = c.in-Some-Gen.is ∙ ap Some c.in-Some-Gen.field-0-is in
     let P : Option Job → Type 0 = λ o. IfSome o IsJob in
     let count : IsJob (Gen c.in-Some-Gen.count c.in-Some-Gen.seed) = subst P is c.read_job.ensures.pages in

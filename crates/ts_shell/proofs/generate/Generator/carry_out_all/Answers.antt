@@ -30,7 +30,7 @@ loop-number-preserved g c =
     record {
       bound = c.draw-random.ensures.bound;
       reached = reached_more tells c.args.count c.args.seed e v c.loop-number.number c.loop-number.random c.loop-number.self x c.loop-number.invariant.reached c.draw-random.result c.carry_out_next.new.self w
-      (omega (arith, c.loop-number-test.true, c.command_count.ensures)) random (c.in-Ok.ensures.next c.args.seed random);
+          (omega (arith, c.loop-number-test.true, c.command_count.ensures)) random (c.in-Ok.ensures.next c.args.seed random);
     }
 
 pub returns-in-Err-clause-stopped : goal.returns-in-Err-clause-stopped
