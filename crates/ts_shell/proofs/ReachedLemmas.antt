@@ -20,7 +20,8 @@ none_before count = omega arith
 
 module _ (tells : Bool) (count seed : ℕ) (e : Kept) (v : Device) where
   -- no command was carried out yet
-  pub reached_first : (random : ℕ) (hand : Generator) (w : Device) → random ≡ drawn seed 0 → IsBehind tells [] e v hand w → HasReached tells count seed 0 random e v hand w
+  pub reached_first : (random : ℕ) (hand : Generator) (w : Device) → random ≡ drawn seed 0 → IsBehind tells [] e v hand w
+      → HasReached tells count seed 0 random e v hand w
   unfolding HasReached
   reached_first random hand w first behind = (omega arith, first ∙ ap (drawn seed) (sym (none_before count)), behind)
 
@@ -38,7 +39,8 @@ module _ (tells : Bool) (count seed : ℕ) (e : Kept) (v : Device) where
         omega (arith, within, total, most, length-take number (generated count seed))
 
     -- the number drawn next is that of one command more
-    pub reached_random : (next : ℕ) → ((s : ℕ) → random ≡ drawn s (edits_before count number) → next ≡ drawn s (edits_before count (number + 1))) → next ≡ drawn seed (edits_before count (number + 1))
+    pub reached_random : (next : ℕ) → ((s : ℕ) → random ≡ drawn s (edits_before count number) → next ≡ drawn s (edits_before count (number + 1)))
+        → next ≡ drawn seed (edits_before count (number + 1))
     unfolding HasReached
     reached_random next draws = draws seed reached.1
 
@@ -46,10 +48,12 @@ module _ (tells : Bool) (count seed : ℕ) (e : Kept) (v : Device) where
     pub reached_more : (next : ℕ) (more : Generator) (w : Device) → number < count + 8 → next ≡ drawn seed (edits_before count (number + 1))
         → IsNextStep tells (generated count seed) number (Ok (tt {0})) hand more x w → HasReached tells count seed (number + 1) next e v more w
     unfolding HasReached
-    reached_more next more w less is step = (omega (arith, less), is, behind_more tells (generated count seed) number e v x w hand more reached.2 step)
+    reached_more next more w less is step =
+        (omega (arith, less), is, behind_more tells (generated count seed) number e v x w hand more reached.2 step)
 
     -- it wasn't, or not whole
-    pub reached_stopped : (more : Generator) (w : Device) (fault : StepFault) → IsUnmade tells fault x w ⊎ IsNextStep tells (generated count seed) number (Err fault) hand more x w
+    pub reached_stopped : (more : Generator) (w : Device) (fault : StepFault)
+        → IsUnmade tells fault x w ⊎ IsNextStep tells (generated count seed) number (Err fault) hand more x w
         → RanQuietly tells (generated count seed) (Err fault) e more.engine v w
     unfolding HasReached
     reached_stopped more w fault which = behind_stopped tells (generated count seed) number e v x w hand more reached.2 fault which
@@ -57,4 +61,6 @@ module _ (tells : Bool) (count seed : ℕ) (e : Kept) (v : Device) where
     -- all were carried out
     pub reached_all : count + 8 ≤ number → IsBehind tells (generated count seed) e v hand x
     unfolding HasReached
-    reached_all most = subst (λ (l : List Command). IsBehind tells l e v hand x) (take_all number (generated count seed) (omega (arith, most, length-generated count seed))) reached.2
+    reached_all most =
+        subst (λ (l : List Command). IsBehind tells l e v hand x)
+        (take_all number (generated count seed) (omega (arith, most, length-generated count seed))) reached.2

@@ -17,21 +17,31 @@ two_replies state count seed = omega (arith, length-replies state (generated cou
 
 module _ (tells : Bool) (count seed : ℕ) (e : Kept) (v x : Device) where
   -- a command was not carried out, for want of memory or since the disk failed
-  pub stopped_memory : (error : _) (f : Kept) → RanQuietly tells (generated count seed) (Err (faults.Memory error)) e f v x → OpenedGen tells (generated count seed) e 7 v x
-  stopped_memory error f ran = ended_unsaid tells (generated count seed) e f v x 7 (Err (faults.Memory error)) ran (inr refl) (λ five. absurd (omega (arith, five))) (λ seven. ran.fault)
+  pub stopped_memory : (error : _) (f : Kept) → RanQuietly tells (generated count seed) (Err (faults.Memory error)) e f v x
+      → OpenedGen tells (generated count seed) e 7 v x
+  stopped_memory error f ran =
+      ended_unsaid tells (generated count seed) e f v x 7 (Err (faults.Memory error)) ran (inr refl)
+      (λ five. absurd (omega (arith, five))) (λ seven. ran.fault)
 
   pub stopped_disk : (f : Kept) → RanQuietly tells (generated count seed) (Err faults.Disk) e f v x → OpenedGen tells (generated count seed) e 5 v x
-  stopped_disk f ran = ended_unsaid tells (generated count seed) e f v x 5 (Err faults.Disk) ran (inl refl) (λ five. ran.fault) (λ seven. absurd (omega (arith, seven)))
+  stopped_disk f ran =
+      ended_unsaid tells (generated count seed) e f v x 5 (Err faults.Disk) ran (inl refl)
+      (λ five. ran.fault) (λ seven. absurd (omega (arith, seven)))
 
   module _ (hand : Generator) (behind : IsBehind tells (generated count seed) e v hand x) where
     -- there is no memory for what is to be said
     pub unsaid_memory : OpenedGen tells (generated count seed) e 7 v x
-    unsaid_memory = ended_unsaid tells (generated count seed) e hand.engine v x 7 (Ok (tt {0})) behind.ran (inr refl) (λ five. absurd (omega (arith, five))) (λ seven. behind.ran.no_fault)
+    unsaid_memory =
+        ended_unsaid tells (generated count seed) e hand.engine v x 7 (Ok (tt {0})) behind.ran (inr refl)
+        (λ five. absurd (omega (arith, five))) (λ seven. behind.ran.no_fault)
 
-    module _ (text : List ℕ) (is : text ≡ hand.before ++ hand.reply ++ codes "done " ++ decimal hand.answered ++ codes " " ++ decimal hand.refused ++ codes "\n") (w : Device) where
+    module _ (text : List ℕ)
+        (is : text ≡ hand.before ++ hand.reply ++ codes "done " ++ decimal hand.answered ++ codes " " ++ decimal hand.refused ++ codes "\n")
+        (w : Device) where
       is_summary : IsTrue tells → (state : State) → IsAt tells e (committed state) v → text ≡ summary (replies state (generated count seed))
       is_summary told state at =
-          summed_up (replies state (generated count seed)) hand.before hand.reply text hand.answered hand.refused (two_replies state count seed) (behind.tally told state at) is
+          summed_up (replies state (generated count seed)) hand.before hand.reply text hand.answered hand.refused
+          (two_replies state count seed) (behind.tally told state at) is
 
       -- the summary was said, whole or in part
       pub said_whole : {E : Type 0} → Says {E = E} tells text (Ok (tt {0})) x w → OpenedGen tells (generated count seed) e 0 v w

@@ -73,7 +73,8 @@ QuietFault (Closed faults) v w = ⊥
 -- what carrying out commands in their order does, with nothing said, and with an engine that is `e` before and `f` behind
 pub record RanQuietly (tells : Bool) (commands : List Command) (result : Result Unit StepFault) (e f : Kept) (v w : Device) : Type 0 where
   pub ready : OnOk result (IsReady tells f w)
-  pub at : OnOk result (IsTrue tells → (state : State) → IsAt tells e (committed state) v → IsAt tells f (committed (after state commands)) w)
+  pub at : OnOk result (IsTrue tells → (state : State) → IsAt tells e (committed state) v
+      → IsAt tells f (committed (after state commands)) w)
   pub fault : IfErr result (λ fault. QuietFault fault v w)
   pub moments : IsTrue tells → (state : State) → IsAt tells e (committed state) v → LeavesOnly v w (IsAmong state commands v.said)
   pub others : Keeps tells v w
@@ -83,7 +84,8 @@ pub record RanQuietly (tells : Bool) (commands : List Command) (result : Result 
 -- their replies.
 pub record IsBehind (tells : Bool) (commands : List Command) (e : Kept) (v : Device) (hand : Generator) (w : Device) : Type 0 where
   pub ran : RanQuietly tells commands (Ok (tt {0})) e hand.engine v w
-  pub tally : IsTrue tells → (state : State) → IsAt tells e (committed state) v → IsTally (replies state commands) hand.before hand.reply hand.answered hand.refused
+  pub tally : IsTrue tells → (state : State) → IsAt tells e (committed state) v
+      → IsTally (replies state commands) hand.before hand.reply hand.answered hand.refused
   pub total : hand.answered + hand.refused ≡ length commands
 
 -- the command behind the first so many was carried out, or not
@@ -91,7 +93,8 @@ pub record IsNextStep (tells : Bool) (commands : List Command) (number : ℕ) (r
   pub command : Command
   pub next : IsNext commands number command
   pub stepped : Stepped tells command result more.reply hand.engine more.engine v w
-  pub tally : OnOk result ((rs : List (List ℕ)) → IsTally rs hand.before hand.reply hand.answered hand.refused → IsTally (rs ++ more.reply ∷ []) more.before more.reply more.answered more.refused)
+  pub tally : OnOk result ((rs : List (List ℕ)) → IsTally rs hand.before hand.reply hand.answered hand.refused
+      → IsTally (rs ++ more.reply ∷ []) more.before more.reply more.answered more.refused)
   pub total : OnOk result (more.answered + more.refused ≡ hand.answered + hand.refused + 1)
 
 -- want of memory
@@ -150,7 +153,8 @@ pub record GeneratedFrom (commands : List Command) (cat : Catalogue) (status : �
   -- before it, and in the whole call where no sync answered Ok, each is an image of the entry with nothing said.
   pub moments : FirstSync v w (IsWithin (base cat) commands v.said)
   -- where nothing was pending at the entry, each moment of the call means it so
-  pub at_rest : Only v.held v.images → (image said : List ℕ) → w.since v.clock image said → IsWithin (base cat) commands v.said image said
+  pub at_rest : Only v.held v.images → (image said : List ℕ) → w.since v.clock image said
+      → IsWithin (base cat) commands v.said image said
   -- unless a call fails all is done, or there is no memory for it
   pub complete : ¬ Rose v.faults w.faults → ¬ Rose v.say_faults w.say_faults → (status ≡ 0) ⊎ (status ≡ 7)
 

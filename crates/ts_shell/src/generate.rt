@@ -55,7 +55,8 @@ impl Generator {
         requires ready { IsReady S.tells self.old.engine (S.device site.old) }
         requires form { HasForm command.now }
         requires few { self.old.answered + self.old.refused < 2 ^ 31 }
-        ensures stepped { Stepped S.tells command.now result self.new.reply self.old.engine self.new.engine (S.device site.old) (S.device site.new) }
+        ensures stepped { Stepped S.tells command.now result self.new.reply self.old.engine self.new.engine
+            (S.device site.old) (S.device site.new) }
         ensures tally { OnOk result ((rs : List (List ℕ)) → IsTally rs self.old.before self.old.reply self.old.answered self.old.refused
             → IsTally (rs ++ self.new.reply ∷ []) self.new.before self.new.reply self.new.answered self.new.refused) }
         ensures total { OnOk result (self.new.answered + self.new.refused ≡ self.old.answered + self.old.refused + 1) }
@@ -97,9 +98,11 @@ impl Generator {
         requires count { count ≤ 1000000 }
         requires number { number < count + 8 }
         requires few { self.old.answered + self.old.refused < 2 ^ 31 }
-        ensures next { OnOk result ((seed : ℕ) → random ≡ drawn seed (edits_before count (number + 1)) → IsNextStep S.tells (generated count seed) number result self.old self.new (S.device site.old) (S.device site.new)) }
+        ensures next { OnOk result ((seed : ℕ) → random ≡ drawn seed (edits_before count (number + 1))
+            → IsNextStep S.tells (generated count seed) number result self.old self.new (S.device site.old) (S.device site.new)) }
         ensures stopped { IfErr result (λ fault. (seed : ℕ) → random ≡ drawn seed (edits_before count (number + 1))
-            → IsUnmade S.tells fault (S.device site.old) (S.device site.new) ⊎ IsNextStep S.tells (generated count seed) number result self.old self.new (S.device site.old) (S.device site.new)) }
+            → IsUnmade S.tells fault (S.device site.old) (S.device site.new)
+            ⊎ IsNextStep S.tells (generated count seed) number result self.old self.new (S.device site.old) (S.device site.new)) }
     {
         match make_command(self.alloc, count, number, random) {
             Ok(command) => self.carry_out(rt, site, &command),
@@ -117,8 +120,10 @@ impl Generator {
     ) -> Result<(), StepFault>
         requires count { count ≤ 1000000 }
         requires start { IsBehind S.tells [] self.old.engine (S.device site.old) self.old (S.device site.old) }
-        ensures behind { OnOk result (IsBehind S.tells (generated count seed) self.old.engine (S.device site.old) self.new (S.device site.new)) }
-        ensures stopped { IsErr result → RanQuietly S.tells (generated count seed) result self.old.engine self.new.engine (S.device site.old) (S.device site.new) }
+        ensures behind { OnOk result
+            (IsBehind S.tells (generated count seed) self.old.engine (S.device site.old) self.new (S.device site.new)) }
+        ensures stopped { IsErr result
+            → RanQuietly S.tells (generated count seed) result self.old.engine self.new.engine (S.device site.old) (S.device site.new) }
     {
         let mut random = first_drawn(seed);
         let mut number = 0;
@@ -134,7 +139,8 @@ impl Generator {
 
     // What is said of all commands.
     fn summary(&self) -> Result<Bytes, AllocError>
-        ensures { IfOk result (λ text. text ≡ self.now.before ++ self.now.reply ++ codes "done " ++ decimal self.now.answered ++ codes " " ++ decimal self.now.refused ++ codes "\n") }
+        ensures { IfOk result (λ text. text ≡ self.now.before ++ self.now.reply
+            ++ codes "done " ++ decimal self.now.answered ++ codes " " ++ decimal self.now.refused ++ codes "\n") }
     {
         let mut text = Bytes::from_slice(self.alloc, self.before.as_slice())?;
         text.extend_from_slice(self.reply.as_slice())?;

@@ -50,7 +50,8 @@ pub(crate) fn first_drawn(seed: u32) -> u64
 /// The number drawn for a command, where this one was drawn before it: a new one for each edit.
 pub(crate) fn draw(count: u32, number: u32, last: u64) -> u64
     requires { last < 2147483648 }
-    ensures value { (seed : ℕ) → last ≡ drawn seed (edits_before count number) → result ≡ drawn seed (edits_before count (number + 1)) }
+    ensures value { (seed : ℕ) → last ≡ drawn seed (edits_before count number)
+        → result ≡ drawn seed (edits_before count (number + 1)) }
     ensures bound { result < 2147483648 }
 {
     if number >= OPENING && number - OPENING < count {
@@ -69,7 +70,8 @@ pub(crate) fn make_command(
 ) -> Result<Command, AllocError>
     requires count { count ≤ 1000000 }
     requires number { number < count + 8 }
-    ensures next { IfOk result (λ c. (seed : ℕ) → random ≡ drawn seed (edits_before count (number + 1)) → IsNext (generated count seed) number c) }
+    ensures next { IfOk result (λ c. (seed : ℕ) → random ≡ drawn seed (edits_before count (number + 1))
+        → IsNext (generated count seed) number c) }
     ensures form { IfOk result HasForm }
 {
     if number < OPENING {

@@ -54,7 +54,8 @@ pub fn run_ts<S: Site, R: Source>(
     ensures init { (pages : ℕ) → job_of (map (λ w. string_bytes w) words.now) ≡ Some (Init pages) → Made S.tells pages result (S.device site.old) (S.device site.new) }
     ensures run { job_of (map (λ w. string_bytes w) words.now) ≡ Some Run → ScriptRan S.tells R.tells result (S.device site.old) (S.device site.new) (R.input source.old) (R.input source.new) }
     ensures migrate { job_of (map (λ w. string_bytes w) words.now) ≡ Some Migrate → MigrateRan S.tells result (S.device site.old) (S.device site.new) }
-    ensures generated { (count seed : ℕ) → job_of (map (λ w. string_bytes w) words.now) ≡ Some (Gen count seed) → GenRan S.tells count seed result (S.device site.old) (S.device site.new) }
+    ensures generated { (count seed : ℕ) → job_of (map (λ w. string_bytes w) words.now) ≡ Some (Gen count seed)
+        → GenRan S.tells count seed result (S.device site.old) (S.device site.new) }
 {
     match read_job(words) {
         None => 2,
