@@ -14,3 +14,5 @@ pub mod MigratingLemmas
 pub mod PullLemmas
 pub mod NewLemmas
 pub mod MakingLemmas
+mod LineLemmas
+mod OutcomeLemmas
