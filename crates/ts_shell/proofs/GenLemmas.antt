@@ -1,5 +1,5 @@
 -- The generated commands behind an opening.
-use Rattle.std.proofs.Common.{◌≡◌, ◌⊎◌, inl, inr, ⊎_elim, ℕ, Bool, IsTrue, List, ◌++◌, length, take, Result, Ok, Err, refl, sym, ◌∙◌, ap, subst, arith}
+use Rattle.std.proofs.Common.{◌≡◌, ◌⊎◌, inl, inr, ⊎_elim, ℕ, Bool, IsTrue, List, ◌++◌, take, Result, Ok, Err, sym, ◌∙◌, ap, subst, arith}
 use Rattle.std.proofs.lemmas.List.{append-nil}
 use Rattle.ts_disk.specs.Device.{Device, Only, Rose, FirstSync, LeavesOnly}
 use Rattle.ts_disk.proofs.Moments.{first_map}
@@ -12,7 +12,7 @@ use Rattle.ts_engine.specs.Volume.{MeansCatalogue}
 use Rattle.ts_engine.specs.Start.{Started, StillMeans}
 use Rattle.ts_shell.specs.Opening.{status_of_opening}
 use Rattle.ts_shell.specs.Generated.{generated}
-use Rattle.ts_shell.specs.Generating.{replies, summary, IsWithin, SaysSummary, GeneratedOn, OpenedGen, GeneratedFrom, GenRan}
+use Rattle.ts_shell.specs.Generating.{replies, summary, IsWithin, OpenedGen, GeneratedFrom, GenRan}
 use Rattle.ts_shell.proofs.ItemLemmas.{rose_on}
 use Rattle.ts_shell.proofs.OpeningLemmas.{first_then, unopened_store, unopened_status, is_unopened, opened_store}
 

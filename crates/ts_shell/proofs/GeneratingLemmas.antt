@@ -4,7 +4,7 @@ use Rattle.std.specs.Fmt.{decimal}
 use Rattle.std.specs.List.{count_by, flat_map}
 use Rattle.std.proofs.lemmas.List.{append-nil, take-append-le, take_all}
 use Rattle.std.proofs.lemmas.List.Sums.{sum_by-append}
-use Rattle.std.proofs.Math.Seq.{take-append_seam, drop-append_seam}
+use Rattle.std.proofs.Math.Seq.{drop-append_seam}
 use Rattle.ts_disk.specs.Device.{Device, Lawful, LeavesOnly, Says, Rose}
 use Rattle.ts_disk.proofs.Moments.{started, goes_on, then_on, leaves_map}
 use Rattle.ts_command.specs.declared.command.Command.{Command}
@@ -15,7 +15,7 @@ use Rattle.ts_engine.specs.Volume.{MeansCatalogue}
 use Rattle.ts_engine.specs.Engine.{Kept, IsReady, IsAt}
 use Rattle.ts_engine.specs.Moves.{BeforeOrAfter}
 use Rattle.ts_engine.specs.Step.{Stepped, state_after}
-use Rattle.ts_shell.specs.Generating.{after, replies, ends_with_ok, last_two, done_line, summary, IsTally, IsAmong, QuietFault, RanQuietly, IsBehind, IsNextStep, IsUnmade, IsWithin, SaysSummary, GeneratedOn, OpenedGen}
+use Rattle.ts_shell.specs.Generating.{after, replies, ends_with_ok, last_two, summary, IsTally, IsAmong, QuietFault, RanQuietly, IsBehind, IsNextStep, IsUnmade, IsWithin, SaysSummary, OpenedGen}
 use Rattle.ts_shell.specs.Generated.{IsNext}
 use Rattle.ts_shell.specs.declared.generate.Generator.{Generator}
 use Rattle.ts_shell.proofs.ItemLemmas.{at_same, rose_on}

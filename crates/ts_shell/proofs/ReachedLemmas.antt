@@ -1,6 +1,6 @@
 -- How far the generated commands were carried out, by the number of the next and the number drawn last.
 use Rattle.std.proofs.Common.{◌≡◌, ◌⊎◌, ℕ, ◌+◌, ◌^◌, ◌≤◌, ◌<◌, Bool, List, [], length, take, Ok, Err, sym, ◌∙◌, ap, subst, arith, length-take, take_all}
-use Rattle.ts_disk.specs.Device.{Device, Lawful}
+use Rattle.ts_disk.specs.Device.{Device}
 use Rattle.ts_command.specs.declared.command.Command.{Command}
 use Rattle.ts_engine.specs.declared.fault.StepFault.{StepFault}
 use Rattle.ts_engine.specs.Engine.{Kept, IsReady}

@@ -1,4 +1,4 @@
-use Rattle.std.proofs.Common.{ℕ, Ok, sym, subst}
+use Rattle.std.proofs.Common.{ℕ, sym, subst}
 use Rattle.ts_engine.specs.Engine.{Kept, IsReady}
 use Rattle.ts_shell.specs.Generated.{generated}
 use Rattle.ts_shell.specs.Generating.{GenRan, OpenedGen}

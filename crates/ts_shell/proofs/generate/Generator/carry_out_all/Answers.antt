@@ -1,4 +1,4 @@
-use Rattle.std.proofs.Common.{◌+◌, arith}
+use Rattle.std.proofs.Common.{arith}
 use Rattle.ts_shell.proofs.ReachedLemmas.{reached_first, reached_ready, reached_few, reached_random, reached_more, reached_stopped}
 use Rattle.ts_shell.proofs.ReachedLemmas.{reached_all}
 use Rattle.ts_shell.proofs.generate.Generator.carry_out_all.Goals as goal

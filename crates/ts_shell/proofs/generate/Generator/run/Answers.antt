@@ -1,5 +1,4 @@
-use Rattle.std.proofs.Common.{◌≡◌, ℕ, List, Err, refl, sym, ◌∙◌, subst}
-use Rattle.ts_disk.specs.Device.{Says}
+use Rattle.std.proofs.Common.{Err, refl, ◌∙◌, subst}
 use Rattle.ts_engine.specs.declared.fault.StepFault.{StepFault}
 use Rattle.ts_shell.specs.Generated.{generated}
 use Rattle.ts_shell.specs.Generating.{RanQuietly}
