@@ -38,6 +38,29 @@ pub(crate) fn advise_migrate(rt: &HostRuntime, path: &str, status: u8) -> u8 {
     status
 }
 
+/// Says what a status of `gen` means for a volume, and answers with it.
+pub(crate) fn advise_gen(rt: &HostRuntime, path: &str, status: u8) -> u8 {
+    match status {
+        4 => complain(
+            rt,
+            path,
+            "standard output failed; every command was carried out: ask for the sums by a script",
+        ),
+        5 => complain(
+            rt,
+            path,
+            "the file failed; some first commands were carried out: check the disk, then begin again on a new store",
+        ),
+        7 => complain(
+            rt,
+            path,
+            "there is no memory for it; some first commands were carried out: free some, then begin again on a new store",
+        ),
+        _ => return advise(rt, path, status),
+    }
+    status
+}
+
 /// Says a line about a volume. Where standard error is closed, the status alone tells.
 pub(crate) fn complain(rt: &HostRuntime, path: &str, what: impl Display + Drop) {
     let _said = eprintln!(rt; "ts: {path}: {what}");
@@ -46,7 +69,7 @@ pub(crate) fn complain(rt: &HostRuntime, path: &str, what: impl Display + Drop) 
 fn advice(status: u8) -> &'static str {
     match status {
         2 =>
-            "these words name no job; say `ts VOLUME init PAGES` with 1 to 65536 pages, `ts VOLUME run < SCRIPT`, or `ts VOLUME migrate`",
+            "these words name no job; say `ts VOLUME init PAGES` with 1 to 65536 pages, `ts VOLUME run < SCRIPT`, `ts VOLUME migrate`, or `ts VOLUME gen COUNT SEED` with 1 to 1000000 edits and a seed",
         3 =>
             "standard input failed; each command whose reply you have is stored: run the rest again",
         4 =>

@@ -1,5 +1,5 @@
 // What comes before the top call, and after it.
-use crate::advice::{advise, advise_migrate, complain, show};
+use crate::advice::{advise, advise_gen, advise_migrate, complain, show};
 use crate::volume_file::{open_volume, sync_folder};
 use std::io::IsTerminal;
 use std::{env, io};
@@ -10,6 +10,8 @@ const HELP: &str = "\
 usage: ts VOLUME init PAGES      makes an empty store with 1 to 65536 element pages
        ts VOLUME run < SCRIPT    carries out the statements of a script, one reply each
        ts VOLUME migrate         brings an older store to the newest format; all that it holds stays
+       ts VOLUME gen COUNT SEED  makes two series, puts 1 to 1000000 elements into them that a seed from
+                                 0 to 4294967295 gives, and says what they come to
        ts --help                 says this
        ts --version              says the version
 
@@ -18,6 +20,7 @@ examples:
        echo 'ListSeries(meters);' | ts meters.volume run
        ts meters.volume run      reads statements from the terminal, to the end of input
        ts meters.volume migrate  makes a store of an earlier version take every statement
+       ts trial.volume gen 5000 7
 
 The status is 0 where all was done; else a line on standard error says what happened and what to do.";
 
@@ -101,6 +104,7 @@ pub(crate) fn finish(rt: &HostRuntime, job: Job, path: &str, status: u8) -> u8 {
         Job::Init(_) => finish_init(rt, path, status),
         Job::Run => advise(rt, path, status),
         Job::Migrate => advise_migrate(rt, path, status),
+        Job::Gen { .. } => advise_gen(rt, path, status),
     }
 }
 

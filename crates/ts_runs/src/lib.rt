@@ -17,6 +17,8 @@ mod days;
 #[cfg(test)]
 mod formats;
 #[cfg(test)]
+mod generated;
+#[cfg(test)]
 mod items;
 #[cfg(test)]
 mod journal;

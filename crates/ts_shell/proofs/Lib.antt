@@ -1,4 +1,9 @@
 mod ApartLemmas
+pub mod GeneratedLemmas
+pub mod GeneratingLemmas
+pub mod GenLemmas
+pub mod ReachedLemmas
+pub mod SummaryLemmas
 pub mod ItemLemmas
 pub mod RanLemmas
 pub mod FeedLemmas
@@ -9,3 +14,5 @@ pub mod MigratingLemmas
 pub mod PullLemmas
 pub mod NewLemmas
 pub mod MakingLemmas
+mod LineLemmas
+mod OutcomeLemmas

@@ -4,3 +4,6 @@ pub mod Run
 pub mod Opening
 pub mod Top
 pub mod Migrating
+pub mod Generated
+pub mod Generating
+pub mod Outcomes

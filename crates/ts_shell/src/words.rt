@@ -1,6 +1,6 @@
 // The words of the command line.
 ghost use Rattle.std.specs.Prelude.{◌≡◌, ◌≤◌, IfSome, map, string_bytes};
-ghost use Rattle.ts_shell.specs.Words.{job_of, IsJob, pages_in, decimal};
+ghost use Rattle.ts_shell.specs.Words.{job_of, gen_job, IsJob, pages_in, count_in, seed_in, decimal};
 
 use ts_text::{are_digits, magnitude};
 
@@ -12,6 +12,8 @@ pub enum Job {
     Run,
     /// Bring a store to the newest format.
     Migrate,
+    /// Carry out the commands of a seed, with so many edits, 1 to 1000000.
+    Gen { count: u32, seed: u32 },
 }
 
 /// The job that the words name, if they name one.
@@ -40,6 +42,25 @@ pub fn read_job(words: &[String]) -> Option<Job>
                 None
             }
         }
+        [word, count, seed] => {
+            if word.as_str() == "gen" {
+                gen_job(read_count(count.as_str()), read_seed(seed.as_str()))
+            } else {
+                None
+            }
+        }
+        _ => None,
+    }
+}
+
+// The job of a count and a seed, where both are there.
+fn gen_job(count: Option<u32>, seed: Option<u32>) -> Option<Job>
+    requires count { IfSome count (λ n. (1 ≤ n) × (n ≤ 1000000)) }
+    ensures job { result ≡ gen_job count seed }
+    ensures count { IfSome result IsJob }
+{
+    match (count, seed) {
+        (Some(count), Some(seed)) => Some(Job::Gen { count, seed }),
         _ => None,
     }
 }
@@ -53,6 +74,39 @@ fn read_pages(text: &str) -> Option<u32>
         Some(count) => {
             if count >= 1 && count <= 65536 {
                 Some(count as u32)
+            } else {
+                None
+            }
+        }
+        None => None,
+    }
+}
+
+// The number of edits that a word gives.
+fn read_count(text: &str) -> Option<u32>
+    ensures value { result ≡ count_in text.now }
+    ensures within { IfSome result (λ n. (1 ≤ n) × (n ≤ 1000000)) }
+{
+    match read_decimal(text.as_bytes()) {
+        Some(count) => {
+            if count >= 1 && count <= 1_000_000 {
+                Some(count as u32)
+            } else {
+                None
+            }
+        }
+        None => None,
+    }
+}
+
+// The seed that a word gives.
+fn read_seed(text: &str) -> Option<u32>
+    ensures { result ≡ seed_in text.now }
+{
+    match read_decimal(text.as_bytes()) {
+        Some(seed) => {
+            if seed <= 4_294_967_295 {
+                Some(seed as u32)
             } else {
                 None
             }

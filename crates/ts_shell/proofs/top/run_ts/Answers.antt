@@ -1,9 +1,10 @@
 use Rattle.std.proofs.Common.{◌≡◌, ◌⊎◌, ℕ, Option, Some, None, refl, sym, ◌∙◌, ap, subst, arith}
 use Rattle.std.specs.Option.{IfSome}
 use Rattle.ts_shell.specs.declared.words.Job.{Job}
-use Rattle.ts_shell.specs.declared.words.Job.TheVariants.{Init, Run, Migrate}
+use Rattle.ts_shell.specs.declared.words.Job.TheVariants.{Init, Run, Migrate, Gen}
 use Rattle.ts_shell.specs.Words.{IsJob}
 use Rattle.ts_shell.specs.Top.{Made}
+use Rattle.ts_shell.specs.Generating.{GenRan}
 use Rattle.ts_shell.proofs.TopLemmas.{untouched_now}
 use Rattle.ts_shell.proofs.top.run_ts.Goals as goal
 
@@ -29,6 +30,24 @@ init_is_migrate a e = cc
 run_is_migrate : ◌≡◌ {A = Option Job} (Some Run) (Some Migrate) → ⊥
 run_is_migrate e = cc
 
+gen_count : (a b c d : ℕ) → ◌≡◌ {A = Option Job} (Some (Gen a b)) (Some (Gen c d)) → a ≡ c
+gen_count a b c d e = cc
+
+gen_seed : (a b c d : ℕ) → ◌≡◌ {A = Option Job} (Some (Gen a b)) (Some (Gen c d)) → b ≡ d
+gen_seed a b c d e = cc
+
+gen_is_none : (a b : ℕ) → ◌≡◌ {A = Option Job} (Some (Gen a b)) None → ⊥
+gen_is_none a b e = cc
+
+gen_is_init : (a b c : ℕ) → ◌≡◌ {A = Option Job} (Some (Gen a b)) (Some (Init c)) → ⊥
+gen_is_init a b c e = cc
+
+gen_is_run : (a b : ℕ) → ◌≡◌ {A = Option Job} (Some (Gen a b)) (Some Run) → ⊥
+gen_is_run a b e = cc
+
+gen_is_migrate : (a b : ℕ) → ◌≡◌ {A = Option Job} (Some (Gen a b)) (Some Migrate) → ⊥
+gen_is_migrate a b e = cc
+
 -- no job answers 2
 made_not_two : (s : ℕ) → (s ≡ 0) ⊎ ((s ≡ 5) ⊎ (s ≡ 10)) → s ≡ 2 → ⊥
 made_not_two s which two = omega (arith, which, two)
@@ -38,6 +57,9 @@ ran_not_two s which two = omega (arith, which, two)
 
 migrated_not_two : (s : ℕ) → (s ≡ 0) ⊎ ((s ≡ 5) ⊎ ((s ≡ 6) ⊎ (s ≡ 7))) → s ≡ 2 → ⊥
 migrated_not_two s which two = omega (arith, which, two)
+
+gen_not_two : (s : ℕ) → (s ≡ 0) ⊎ ((s ≡ 4) ⊎ ((s ≡ 5) ⊎ ((s ≡ 6) ⊎ (s ≡ 7)))) → s ≡ 2 → ⊥
+gen_not_two s which two = omega (arith, which, two)
 
 pub init-requires-clause-some : goal.init-requires-clause-some
 init-requires-clause-some g c =
@@ -157,3 +179,65 @@ returns-in-Some-Migrate-clause-migrate g c = λ e. c.migrate.ensures.ran
 
 pub returns-in-Some-Migrate-clause-no_pull : goal.returns-in-Some-Migrate-clause-no_pull
 returns-in-Some-Migrate-clause-no_pull g c = λ no. refl
+
+pub returns-in-None-clause-generated : goal.returns-in-None-clause-generated
+returns-in-None-clause-generated g c = λ count seed e. absurd (gen_is_none count seed (sym e ∙ sym c.read_job.ensures.job ∙ c.in-None.is))
+
+pub returns-in-Some-Init-clause-generated : goal.returns-in-Some-Init-clause-generated
+returns-in-Some-Init-clause-generated g c = λ count seed e.
+    let is : ◌≡◌ {A = Option Job} c.read_job.result (Some (Init c.in-Some-Init.pages)) = c.in-Some-Init.is ∙ ap Some c.in-Some-Init.field-0-is in
+    absurd (gen_is_init count seed c.in-Some-Init.pages (sym e ∙ sym c.read_job.ensures.job ∙ is))
+
+pub returns-in-Some-Run-clause-generated : goal.returns-in-Some-Run-clause-generated
+returns-in-Some-Run-clause-generated g c = λ count seed e.
+    let is : ◌≡◌ {A = Option Job} c.read_job.result (Some Run) = c.in-Some-Run.is ∙ ap Some c.in-Some-Run.field-0-is in
+    absurd (gen_is_run count seed (sym e ∙ sym c.read_job.ensures.job ∙ is))
+
+pub returns-in-Some-Migrate-clause-generated : goal.returns-in-Some-Migrate-clause-generated
+returns-in-Some-Migrate-clause-generated g c = λ count seed e.
+    let is : ◌≡◌ {A = Option Job} c.read_job.result (Some Migrate) = c.in-Some-Migrate.is ∙ ap Some c.in-Some-Migrate.field-0-is in
+    absurd (gen_is_migrate count seed (sym e ∙ sym c.read_job.ensures.job ∙ is))
+
+pub generate-requires-clause-count : goal.generate-requires-clause-count
+generate-requires-clause-count g c = λ lifetimes outlive.
+    let is : ◌≡◌ {A = Option Job} c.read_job.result (Some (Gen c.in-Some-Gen.count c.in-Some-Gen.seed)) = c.in-Some-Gen.is ∙ ap Some c.in-Some-Gen.field-0-is in
+    let P : Option Job → Type 0 = λ o. IfSome o IsJob in
+    let count : IsJob (Gen c.in-Some-Gen.count c.in-Some-Gen.seed) = subst P is c.read_job.ensures.pages in
+    count.1
+
+pub returns-in-Some-Gen-clause-usage : goal.returns-in-Some-Gen-clause-usage
+returns-in-Some-Gen-clause-usage g c =
+    let is : ◌≡◌ {A = Option Job} c.read_job.result (Some (Gen c.in-Some-Gen.count c.in-Some-Gen.seed)) = c.in-Some-Gen.is ∙ ap Some c.in-Some-Gen.field-0-is in
+    (λ two. absurd (gen_not_two c.generate.result c.generate.ensures.ran.statuses two), λ none. absurd (gen_is_none c.in-Some-Gen.count c.in-Some-Gen.seed (sym is ∙ c.read_job.ensures.job ∙ none)))
+
+pub returns-in-Some-Gen-clause-refused : goal.returns-in-Some-Gen-clause-refused
+returns-in-Some-Gen-clause-refused g c = λ two. absurd (gen_not_two c.generate.result c.generate.ensures.ran.statuses two)
+
+pub returns-in-Some-Gen-clause-init : goal.returns-in-Some-Gen-clause-init
+returns-in-Some-Gen-clause-init g c = λ pages e.
+    let is : ◌≡◌ {A = Option Job} c.read_job.result (Some (Gen c.in-Some-Gen.count c.in-Some-Gen.seed)) = c.in-Some-Gen.is ∙ ap Some c.in-Some-Gen.field-0-is in
+    absurd (gen_is_init c.in-Some-Gen.count c.in-Some-Gen.seed pages (sym is ∙ c.read_job.ensures.job ∙ e))
+
+pub returns-in-Some-Gen-clause-run : goal.returns-in-Some-Gen-clause-run
+returns-in-Some-Gen-clause-run g c = λ e.
+    let is : ◌≡◌ {A = Option Job} c.read_job.result (Some (Gen c.in-Some-Gen.count c.in-Some-Gen.seed)) = c.in-Some-Gen.is ∙ ap Some c.in-Some-Gen.field-0-is in
+    absurd (gen_is_run c.in-Some-Gen.count c.in-Some-Gen.seed (sym is ∙ c.read_job.ensures.job ∙ e))
+
+pub returns-in-Some-Gen-clause-migrate : goal.returns-in-Some-Gen-clause-migrate
+returns-in-Some-Gen-clause-migrate g c = λ e.
+    let is : ◌≡◌ {A = Option Job} c.read_job.result (Some (Gen c.in-Some-Gen.count c.in-Some-Gen.seed)) = c.in-Some-Gen.is ∙ ap Some c.in-Some-Gen.field-0-is in
+    absurd (gen_is_migrate c.in-Some-Gen.count c.in-Some-Gen.seed (sym is ∙ c.read_job.ensures.job ∙ e))
+
+pub returns-in-Some-Gen-clause-generated : goal.returns-in-Some-Gen-clause-generated
+returns-in-Some-Gen-clause-generated g c = λ count seed e.
+    let is : ◌≡◌ {A = Option Job} c.read_job.result (Some (Gen c.in-Some-Gen.count c.in-Some-Gen.seed)) = c.in-Some-Gen.is ∙ ap Some c.in-Some-Gen.field-0-is in
+    let same = sym is ∙ c.read_job.ensures.job ∙ e in
+    let v = g.S.Volume.device c.args.site.now in
+    let w = g.S.Volume.device c.generate.new.site in
+    let P : ℕ → Type 0 = λ n. GenRan g.S.Volume.tells n c.in-Some-Gen.seed c.generate.result v w in
+    let Q : ℕ → Type 0 = λ n. GenRan g.S.Volume.tells count n c.generate.result v w in
+    subst Q (gen_seed c.in-Some-Gen.count c.in-Some-Gen.seed count seed same)
+    (subst P (gen_count c.in-Some-Gen.count c.in-Some-Gen.seed count seed same) c.generate.ensures.ran)
+
+pub returns-in-Some-Gen-clause-no_pull : goal.returns-in-Some-Gen-clause-no_pull
+returns-in-Some-Gen-clause-no_pull g c = λ no. refl
