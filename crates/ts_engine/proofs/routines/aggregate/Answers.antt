@@ -9,4 +9,4 @@ pub aggregate_range-came-requires-clause-text : goal.aggregate_range-came-requir
 aggregate_range-came-requires-clause-text g c = (subst HasForm c.in-AggregateRange.is c.requires.form).0
 
 pub aggregate_all-came-requires-clause-text : goal.aggregate_all-came-requires-clause-text
-aggregate_all-came-requires-clause-text g c = (subst HasForm c.in-AggregateAll.is c.requires.form).0
+aggregate_all-came-requires-clause-text g c κs within = (subst HasForm c.in-AggregateAll.is c.requires.form).0
