@@ -1,8 +1,9 @@
 -- The pages of series read into memory, as the stacks of the slots of a container.
-use Rattle.std.proofs.Common.{◌≡◌, ℕ, ◌+◌, ◌<◌, ℤ, Bool, true, false, cond, IsTrue, Option, Some, None, IsSome, Ok, All, Contains, List, [], ◌∷◌, ◌++◌, length, take, get_or, inr, append-nil, refl, ap, sym, subst, ◌∙◌, arith}
+use Rattle.std.proofs.Common.{◌≡◌, ℕ, ◌+◌, ◌<◌, ◌≤◌, ℤ, Bool, true, false, cond, IsTrue, Option, Some, None, IsSome, Ok, All, Contains, List, [], ◌∷◌, ◌++◌, length, take, drop, get_or, inr, append-nil, refl, ap, sym, subst, ◌∙◌, arith}
 use Rattle.std.specs.List.{AllZip}
 use Rattle.std.specs.Option.{option_map}
-use Rattle.std.proofs.lemmas.List.{take_more}
+use Rattle.std.proofs.Math.Seq.{drop-append_seam}
+use Rattle.std.proofs.lemmas.List.{take_more, take_all, append_assoc, length-append, length_push, length-drop, take-append-le, drop-append-le}
 use Rattle.std.proofs.lemmas.List.Elements.{All-nil, All-cons, All-head, All-tail, All-contains, filter_more}
 use Rattle.std.proofs.lemmas.Slice.Zip.{all_zipped_more}
 use Rattle.std.proofs.lemmas.Bool.Decides.{nat_tests}
@@ -19,13 +20,14 @@ use Rattle.ts_offset.specs.declared.shape.Shape.{Shape}
 use Rattle.ts_offset.specs.declared.shape.Shape.TheVariants.{Irregular, Regular}
 use Rattle.ts_clip.specs.Series.{ArePagesOf}
 use Rattle.ts_aggregate.specs.declared.series_pages.Stack.{Stack}
+use Rattle.ts_aggregate.specs.Stacks.{pages_of}
 use Rattle.ts_model.specs.declared.kind.Kind.TheVariants as kinds
 use Rattle.ts_model.specs.Definitions.{Definitions, SeriesDef, of_series, at_slot, slots}
 use Rattle.ts_layout.specs.Meaning.{heading_in}
 use Rattle.ts_layout.proofs.CallerLemmas.{chained, at_slot-map}
 use Rattle.ts_answer.specs.Slots.{IsSlotNamed}
 use Rattle.ts_answer.specs.View.{View, view, KeepsRules}
-use Rattle.ts_elements.specs.Gathered.{stands_in, inside, IsStackOf, HasSeries}
+use Rattle.ts_elements.specs.Gathered.{stands_in, inside, IsStackOf, AreRead, HasSeries}
 use Rattle.ts_elements.specs.Stamps.{ArePlaces}
 use Rattle.ts_elements.proofs.EachSeriesLemmas.{key_kept}
 
@@ -59,6 +61,39 @@ pages_more pages places i d read page below are is =
     let R : Place → Page → Type 0 = λ place page. page.bytes ≡ pages place.page in
     subst (λ (ps : List Place). ArePagesOf pages ps (read ++ page ∷ [])) (sym (take_more places i d below)) (all_zipped_more R (take i places) read (get_or places i d) page are is)
 
+-- no page is read yet
+pub none_read : (tells : Bool) (pages : ℕ → List ℕ) (held : List Page) → AreRead tells pages [] held held
+none_read tells pages held = record { more = []; behind = sym (append-nil held); all = refl; read = λ told. tt }
+
+-- one page more is read
+pub read_more : (tells : Bool) (pages : ℕ → List ℕ) (places : List Place) (i : ℕ) (d : Place) (old held next : List Page) (page : Page) → i < length places → AreRead tells pages (take i places) old held
+    → (IsTrue tells → page.bytes ≡ pages (get_or places i d).page) → next ≡ held ++ page ∷ [] → AreRead tells pages (take (i + 1) places) old next
+read_more tells pages places i d old held next page below so_far is pushed = record {
+  more = so_far.more ++ page ∷ [];
+  behind = pushed ∙ ap (λ (ps : List Page). ps ++ page ∷ []) so_far.behind ∙ append_assoc old so_far.more (page ∷ []);
+  all =
+      length_push so_far.more page ∙ ap (λ (n : ℕ). n + 1) so_far.all
+      ∙ sym (length_push (take i places) (get_or places i d)) ∙ sym (ap (λ (ps : List Place). length ps) (take_more places i d below));
+  read = λ told. pages_more pages places i d so_far.more page below (so_far.read told) (is told);
+}
+
+-- what is read behind other pages is within the list, and is the stack's
+pub read_within : (tells : Bool) (pages : ℕ → List ℕ) (places : List Place) (old held : List Page) → AreRead tells pages places old held → length old + length places ≡ length held
+read_within tells pages places old held are =
+    let all = are.all in
+    let behind = ap (λ (ps : List Page). length ps) are.behind in
+    let both = length-append old are.more in
+    omega (arith, all, behind, both)
+
+pub own_pages : (tells : Bool) (pages : ℕ → List ℕ) (places : List Place) (old held : List Page) (first : ℕ) → first ≡ length old → AreRead tells pages places old held → IsTrue tells → ArePagesOf pages places (take (length places) (drop first held))
+own_pages tells pages places old held first begins are told =
+    let size = length places in
+    let all = are.all in
+    let same : take size (drop first held) ≡ are.more =
+    ap (λ (n : ℕ). take size (drop n held)) begins ∙ ap (λ (ps : List Page). take size (drop (length old) ps)) are.behind
+    ∙ ap (λ (ps : List Page). take size ps) (drop-append_seam old are.more) ∙ take_all size are.more (omega (arith, all)) in
+    subst (λ (ps : List Page). ArePagesOf pages places ps) (sym same) (are.read told)
+
 -- the same of equal pages
 pub pages_same : (u v : ℕ → List ℕ) → EqualPages u v → (places : List Place) (read : List Page) → ArePagesOf v places read → ArePagesOf u places read
 pages_same u v same [] [] are = tt
@@ -66,16 +101,48 @@ pages_same u v same [] (page ∷ read) are = absurd are
 pages_same u v same (place ∷ places) [] are = absurd are
 pages_same u v same (place ∷ places) (page ∷ read) are = (are.0 ∙ same place.page, pages_same u v same places read are.1)
 
-pub stack_same : {A : Type 0} (tells : Bool) (a : A) (d : Definitions) (space : Directory) (u v : Contents) (from to : ℤ) (slot : ℕ) (stack : Stack) → Reads tells (Ok a) u v → IsStackOf tells (view d space v) from to slot stack
-    → IsStackOf tells (view d space u) from to slot stack
-stack_same tells a d space u v from to slot stack reads is = record {
+pub stack_same : {A : Type 0} (tells : Bool) (a : A) (d : Definitions) (space : Directory) (u v : Contents) (from to : ℤ) (read : List Page) (slot : ℕ) (stack : Stack) → Reads tells (Ok a) u v → IsStackOf tells (view d space v) from to read slot stack
+    → IsStackOf tells (view d space u) from to read slot stack
+stack_same tells a d space u v from to read slot stack reads is = record {
   series = is.series;
   columns = is.columns;
   lies = is.lies;
   laid = is.laid;
   holds = is.holds;
-  pages = λ told. pages_same u.page v.page (reads.pages told) stack.places.now stack.pages.items (is.pages told);
+  within = is.within;
+  pages = λ told. pages_same u.page v.page (reads.pages told) stack.places.now (pages_of read stack) (is.pages told);
 }
+
+-- a stack stays one when pages are added behind it
+pages_still : (read more : List Page) (stack : Stack) → stack.first + length stack.places.now ≤ length read → pages_of (read ++ more) stack ≡ pages_of read stack
+pages_still read more stack within =
+    let size = length stack.places.now in
+    let rest = length-drop stack.first read in
+    ap (λ (ps : List Page). take size ps) (drop-append-le stack.first read more (omega (arith, within))) ∙ take-append-le size (drop stack.first read) more (omega (arith, within, rest))
+
+pub stack_still : (tells : Bool) (x : View) (from to : ℤ) (read more : List Page) (slot : ℕ) (stack : Stack) → IsStackOf tells x from to read slot stack → IsStackOf tells x from to (read ++ more) slot stack
+stack_still tells x from to read more slot stack is =
+    let within = is.within in
+    let long = length-append read more in
+    record {
+      series = is.series;
+      columns = is.columns;
+      lies = is.lies;
+      laid = is.laid;
+      holds = is.holds;
+      within = omega (arith, within, long);
+      pages = λ told. subst (λ (ps : List Page). ArePagesOf x.pages.page stack.places.now ps) (sym (pages_still read more stack is.within)) (is.pages told);
+    }
+
+stacks_append : (tells : Bool) (x : View) (from to : ℤ) (read more : List Page) (slots : List ℕ) (stacks : List Stack) → AllZip (IsStackOf tells x from to read) slots stacks → AllZip (IsStackOf tells x from to (read ++ more)) slots stacks
+stacks_append tells x from to read more [] [] are = tt
+stacks_append tells x from to read more [] (stack ∷ stacks) are = absurd are
+stacks_append tells x from to read more (slot ∷ slots) [] are = absurd are
+stacks_append tells x from to read more (slot ∷ slots) (stack ∷ stacks) are = (stack_still tells x from to read more slot stack are.0, stacks_append tells x from to read more slots stacks are.1)
+
+pub stacks_still : (tells : Bool) (x : View) (from to : ℤ) (read more next : List Page) (slots : List ℕ) (stacks : List Stack) → next ≡ read ++ more → AllZip (IsStackOf tells x from to read) slots stacks → AllZip (IsStackOf tells x from to next) slots stacks
+stacks_still tells x from to read more next slots stacks behind are =
+    subst (λ (ps : List Page). AllZip (IsStackOf tells x from to ps) slots stacks) (sym behind) (stacks_append tells x from to read more slots stacks are)
 
 -- a series that stands in the container
 pub stands_some : (container : ℕ) (o : Option SeriesDef) → stands_in container o ≡ true → (s : SeriesDef) × (o ≡ Some s) × (s.container ≡ container)
@@ -102,8 +169,8 @@ module _ (d : Definitions) (container : ℕ) (slots : List ℕ) (i e : ℕ) (bel
   one_inside is = inside_more true is
 
 -- a stack's slot has a series
-stack_series : (tells : Bool) (x : View) (from to : ℤ) (slot : ℕ) (stack : Stack) → slot < 4096 → IsStackOf tells x from to slot stack → HasSeries x.definitions stack
-stack_series tells x from to slot stack within is =
+stack_series : (tells : Bool) (x : View) (from to : ℤ) (read : List Page) (slot : ℕ) (stack : Stack) → slot < 4096 → IsStackOf tells x from to read slot stack → HasSeries x.definitions stack
+stack_series tells x from to read slot stack within is =
     let found = chained (λ (s : SeriesDef). heading_in x.definitions s.container) (at_slot slot x.definitions.series) stack.shelf.kind.now is.columns in
     let at = is.series in
     record {
@@ -111,10 +178,10 @@ stack_series tells x from to slot stack within is =
       some = subst (λ (o : Option SeriesDef). IsSome o) (sym (ap (λ (n : ℕ). at_slot n x.definitions.series) is.series ∙ found.1)) refl;
     }
 
-pub all_series : (tells : Bool) (x : View) (from to : ℤ) (slots : List ℕ) (stacks : List Stack) → All (λ slot. slot < 4096) slots → AllZip (IsStackOf tells x from to) slots stacks → All (HasSeries x.definitions) stacks
-all_series tells x from to [] [] within are = All-nil (HasSeries x.definitions)
-all_series tells x from to [] (stack ∷ stacks) within are = absurd are
-all_series tells x from to (slot ∷ slots) [] within are = absurd are
-all_series tells x from to (slot ∷ slots) (stack ∷ stacks) within are =
+pub all_series : (tells : Bool) (x : View) (from to : ℤ) (read : List Page) (slots : List ℕ) (stacks : List Stack) → All (λ slot. slot < 4096) slots → AllZip (IsStackOf tells x from to read) slots stacks → All (HasSeries x.definitions) stacks
+all_series tells x from to read [] [] within are = All-nil (HasSeries x.definitions)
+all_series tells x from to read [] (stack ∷ stacks) within are = absurd are
+all_series tells x from to read (slot ∷ slots) [] within are = absurd are
+all_series tells x from to read (slot ∷ slots) (stack ∷ stacks) within are =
     let Below : ℕ → Type 0 = λ slot. slot < 4096 in
-    All-cons (HasSeries x.definitions) stack stacks (stack_series tells x from to slot stack (All-head Below slot slots within) are.0) (all_series tells x from to slots stacks (All-tail Below slot slots within) are.1)
+    All-cons (HasSeries x.definitions) stack stacks (stack_series tells x from to read slot stack (All-head Below slot slots within) are.0) (all_series tells x from to read slots stacks (All-tail Below slot slots within) are.1)

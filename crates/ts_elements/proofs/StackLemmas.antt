@@ -5,6 +5,7 @@ use Rattle.std.specs.Option.{option_map, option_and_then}
 use Rattle.std.proofs.lemmas.List.{take_more}
 use Rattle.std.proofs.lemmas.List.Elements.{All-head, All-tail}
 use Rattle.std.proofs.lemmas.Slice.Zip.{all_zipped_more, AllZip-long}
+use Rattle.ts_page.specs.declared.page.Page.{Page}
 use Rattle.ts_row.specs.RowType.{Heading}
 use Rattle.ts_row.specs.Row.{Row}
 use Rattle.ts_row.specs.Element.{Element}
@@ -43,9 +44,9 @@ inside_one b from to l container slot (Some s) key row is named made =
     ap (λ (t : Bool). cond t ((s.key, folded_range b from to (elements_at slot l.element_pages)) ∷ []) []) is ∙ (λ i. (same i, sym made i) ∷ [])
 
 -- what is said of the stacks of a container is what a list makes of its series
-module _ (tells : Bool) (x : View) (l : Layout) (kept : KeepsRules x) (told : IsTrue tells) (shows : Shows tells x l) (b : Binding) (from to : ℤ) (container : ℕ)
-    (of : option_map (λ (y : Heading). y.columns) (heading_in x.definitions container) ≡ Some b.columns) where
-  module _ (slot : ℕ) (within : slot < 4096) (stands : stands_in container (at_slot slot x.definitions.series) ≡ true) (stack : Stack) (is : IsStackOf tells x from to slot stack) where
+module _ (tells : Bool) (x : View) (l : Layout) (kept : KeepsRules x) (told : IsTrue tells) (shows : Shows tells x l) (b : Binding) (from to : ℤ) (read : List Page)
+    (container : ℕ) (of : option_map (λ (y : Heading). y.columns) (heading_in x.definitions container) ≡ Some b.columns) where
+  module _ (slot : ℕ) (within : slot < 4096) (stands : stands_in container (at_slot slot x.definitions.series) ≡ true) (stack : Stack) (is : IsStackOf tells x from to read slot stack) where
     abbrev h : Heading
     h = stack.shelf.kind.now
 
@@ -56,7 +57,7 @@ module _ (tells : Bool) (x : View) (l : Layout) (kept : KeepsRules x) (told : Is
         ap (λ (n : ℕ). heading_in x.definitions n) (sym there.2) ∙ sym (ap (option_and_then (λ (s : SeriesDef). heading_in x.definitions s.container)) there.1) ∙ is.columns in
         one_of (option_map (λ (y : Heading). y.columns) (heading_in x.definitions container)) h.columns b.columns (ap (option_map (λ (y : Heading). y.columns)) at) of
 
-    row_made : (row : Row) → IsFoldOf b from to stack row → row ≡ folded_range b from to (elements_at slot l.element_pages)
+    row_made : (row : Row) → IsFoldOf b from to read stack row → row ≡ folded_range b from to (elements_at slot l.element_pages)
     row_made row folds =
         let all = elements_seen tells x l stack.shape is.laid slot h told shows is.columns is.lies within in
         let own = is.holds.all slot x.pages.page all.0 all.1.have in
@@ -67,7 +68,7 @@ module _ (tells : Bool) (x : View) (l : Layout) (kept : KeepsRules x) (told : Is
         ∙ ap (λ (es : List Element). folded_row b.items (map (λ e. e.1) es)) own.2
         ∙ ap (λ (es : List Element). folded_row b.items (map (λ e. e.1) (within_range from to es))) (sym (entries_in stack.shape slot h.columns x.pages.page (places_of slot x.space) l all.0 all.1))
 
-    line_made : (line : List ℕ × Row) → IsLineOf b from to x.definitions stack line → folded_at b from to l container slot ≡ line ∷ []
+    line_made : (line : List ℕ × Row) → IsLineOf b from to x.definitions read stack line → folded_at b from to l container slot ≡ line ∷ []
     line_made line said =
         ap (λ (d : Definitions). folded_if b from to l container slot (at_slot slot d.series)) (sym shows.kept.definitions)
         ∙ inside_one b from to l container slot (at_slot slot x.definitions.series) line.0 line.1 stands
@@ -77,7 +78,7 @@ module _ (tells : Bool) (x : View) (l : Layout) (kept : KeepsRules x) (told : Is
   f = folded_at b from to l container
 
   abbrev Are : List ℕ → List Stack → List (List ℕ × Row) → Type 0
-  Are slots stacks lines = AllZip (IsStackOf tells x from to) slots stacks × AllZip (IsLineOf b from to x.definitions) stacks lines
+  Are slots stacks lines = AllZip (IsStackOf tells x from to read) slots stacks × AllZip (IsLineOf b from to x.definitions read) stacks lines
 
   next_made : (slot : ℕ) → slot < 4096 → (rest : List ℕ) (more : List (List ℕ × Row)) (t : Bool) → stands_in container (at_slot slot x.definitions.series) ≡ t → ((stacks : List Stack) (lines : List (List ℕ × Row)) → Are rest stacks lines → more ≡ lines)
       → (stacks : List Stack) (lines : List (List ℕ × Row)) → Are (cond t (slot ∷ rest) rest) stacks lines → f slot ++ more ≡ lines
@@ -92,7 +93,7 @@ module _ (tells : Bool) (x : View) (l : Layout) (kept : KeepsRules x) (told : Is
       let others = behind stacks lines (are.0.1, are.1.1) in
       (λ i. first i ++ others i)
 
-  pub lines_made : (slots : List ℕ) (stacks : List Stack) (lines : List (List ℕ × Row)) → All (λ slot. slot < 4096) slots → AllZip (IsStackOf tells x from to) (inside x.definitions container slots) stacks → AllZip (IsLineOf b from to x.definitions) stacks lines
+  pub lines_made : (slots : List ℕ) (stacks : List Stack) (lines : List (List ℕ × Row)) → All (λ slot. slot < 4096) slots → AllZip (IsStackOf tells x from to read) (inside x.definitions container slots) stacks → AllZip (IsLineOf b from to x.definitions read) stacks lines
       → flat_map f slots ≡ lines
   lines_made [] [] [] within are said = refl
   lines_made [] [] (line ∷ lines) within are said = absurd said
@@ -109,11 +110,11 @@ few_pass test (item ∷ items) =
     let rest = few_pass test items in
     elim (test item) as (λ (t : Bool). length (cond t (item ∷ filter test items) (filter test items)) ≤ length (item ∷ items)) [ true ↦ omega arith | false ↦ omega arith ]
 
-pub few_lines : (tells : Bool) (x : View) (from to : ℤ) (b : Binding) (container : ℕ) (passed : List ℕ) (stacks : List Stack) (lines : List (List ℕ × Row)) → AllZip (IsStackOf tells x from to) (inside x.definitions container passed) stacks
-    → AllZip (IsLineOf b from to x.definitions) stacks lines → length lines ≤ length passed
-few_lines tells x from to b container passed stacks lines are said =
-    let first = AllZip-long (IsStackOf tells x from to) (inside x.definitions container passed) stacks are in
-    let second = AllZip-long (IsLineOf b from to x.definitions) stacks lines said in
+pub few_lines : (tells : Bool) (x : View) (from to : ℤ) (read : List Page) (b : Binding) (container : ℕ) (passed : List ℕ) (stacks : List Stack) (lines : List (List ℕ × Row)) → AllZip (IsStackOf tells x from to read) (inside x.definitions container passed) stacks
+    → AllZip (IsLineOf b from to x.definitions read) stacks lines → length lines ≤ length passed
+few_lines tells x from to read b container passed stacks lines are said =
+    let first = AllZip-long (IsStackOf tells x from to read) (inside x.definitions container passed) stacks are in
+    let second = AllZip-long (IsLineOf b from to x.definitions read) stacks lines said in
     let few = few_pass (λ slot. stands_in container (at_slot slot x.definitions.series)) passed in
     omega (arith, first, second, few)
 
@@ -125,16 +126,16 @@ at_zipped R (x ∷ xs) (y ∷ ys) zero d e are below = are.0
 at_zipped R (x ∷ xs) (y ∷ ys) (suc i) d e are below = at_zipped R xs ys i d e are.1 (omega arith)
 
 -- the stacks before an index are said
-abbrev pub AreStacksSaid : Binding → ℤ → ℤ → Definitions → List Stack → List ℕ → List ℕ → ℕ → Type 0
-AreStacksSaid b from to d stacks out said count = (lines : List (List ℕ × Row)) × AllZip (IsLineOf b from to d) stacks lines × AreSaid b lines out said count
+abbrev pub AreStacksSaid : Binding → ℤ → ℤ → Definitions → List Page → List Stack → List ℕ → List ℕ → ℕ → Type 0
+AreStacksSaid b from to d read stacks out said count = (lines : List (List ℕ × Row)) × AllZip (IsLineOf b from to d read) stacks lines × AreSaid b lines out said count
 
 -- one stack more
-pub stack_said : (b : Binding) (from to : ℤ) (d : Definitions) (stacks : List Stack) (rows : List Row) (i : ℕ) (stack : Stack) (row : Row) (key scales out middle said : List ℕ) → i < length stacks → stack ≡ get_or stacks i stack → row ≡ get_or rows i row
-    → AllZip (IsFoldOf b from to) stacks rows → option_map (λ (s : SeriesDef). s.key) (at_slot stack.shelf.series d.series) ≡ Some key → scales ≡ scales_of b → said ≡ middle ++ series_folded_line scales (key, row)
-    → AreStacksSaid b from to d (take i stacks) out middle i → AreStacksSaid b from to d (take (i + 1) stacks) out said (i + 1)
-stack_said b from to d stacks rows i stack row key scales out middle said below here there folds named are line so_far =
-    let Is : Stack → List ℕ × Row → Type 0 = IsLineOf b from to d in
-    let fold = subst (λ (s : Stack). IsFoldOf b from to s row) (sym here) (subst (λ (r : Row). IsFoldOf b from to (get_or stacks i stack) r) (sym there) (at_zipped (IsFoldOf b from to) stacks rows i stack row folds below)) in
+pub stack_said : (b : Binding) (from to : ℤ) (d : Definitions) (read : List Page) (stacks : List Stack) (rows : List Row) (i : ℕ) (stack : Stack) (row : Row) (key scales out middle said : List ℕ) → i < length stacks → stack ≡ get_or stacks i stack → row ≡ get_or rows i row
+    → AllZip (IsFoldOf b from to read) stacks rows → option_map (λ (s : SeriesDef). s.key) (at_slot stack.shelf.series d.series) ≡ Some key → scales ≡ scales_of b → said ≡ middle ++ series_folded_line scales (key, row)
+    → AreStacksSaid b from to d read (take i stacks) out middle i → AreStacksSaid b from to d read (take (i + 1) stacks) out said (i + 1)
+stack_said b from to d read stacks rows i stack row key scales out middle said below here there folds named are line so_far =
+    let Is : Stack → List ℕ × Row → Type 0 = IsLineOf b from to d read in
+    let fold = subst (λ (s : Stack). IsFoldOf b from to read s row) (sym here) (subst (λ (r : Row). IsFoldOf b from to read (get_or stacks i stack) r) (sym there) (at_zipped (IsFoldOf b from to read) stacks rows i stack row folds below)) in
     let own : Is stack (key, row) = record { key = named; row = fold } in
     let last : take (i + 1) stacks ≡ take i stacks ++ stack ∷ [] = take_more stacks i stack below ∙ ap (λ (s : Stack). take i stacks ++ s ∷ []) (sym here) in
     let next : AreSaid b ((key, row) ∷ []) middle said 1 = record {

@@ -29,10 +29,10 @@ use ts_space::Space;
 
 /// Says what an aggregate list makes of the elements of each series of a container from one stamp to another, both included: a row for
 /// each series, in the order of their keys, and how many they are. A text that is no list is refused first, then a container that isn't
-/// there, then a list that its columns don't bear. The pages that the range touches are read into memory, 16 MiB of them at most at once,
-/// and folded by as many workers as serve; a series that alone has more is folded a page at a time. `page` is room to read one; the memory
-/// is for these pages, for the list, for the grids of the regular series among them, for what is known of the items while they are folded,
-/// and for the rows.
+/// there, then a list that its columns don't bear. The pages that the range touches are read into one list of at most 16 MiB, whose memory
+/// is kept from list to list, and folded by as many workers as serve; a series that alone has more is folded a page at a time. `page` is
+/// room to read one; the memory is for these pages, for the aggregate list, for the grids of the regular series among them, for what is
+/// known of the items while they are folded, and for the rows.
 pub fn aggregate_all<P: Pages>(
     rt: &(impl Threads + Sync),
     alloc: Global,
@@ -89,6 +89,7 @@ fn say_all<P: Pages>(
     ensures undisturbed { P.undisturbed pages.old pages.new }
 {
     let mut folding = Folding::new(bound)?;
+    let mut held = Vec::new(alloc);
     let slots = defs.in_order(Kind::Series);
     let mut count = 0;
     let mut at = 0;
@@ -105,6 +106,7 @@ fn say_all<P: Pages>(
             next,
             bound,
             &mut folding,
+            &mut held,
             from,
             to,
             out,
@@ -116,6 +118,7 @@ fn say_all<P: Pages>(
 }
 
 // Says what it makes of those in the next slots, as many as are folded at once; and gives their number, and how many slots these are.
+// `held` is where their pages are read.
 fn say_next<P: Pages>(
     rt: &(impl Threads + Sync),
     alloc: Global,
@@ -127,6 +130,7 @@ fn say_next<P: Pages>(
     slots: &[u16],
     bound: &Bound,
     folding: &mut Folding<'_>,
+    held: &mut Vec<Page>,
     from: Stamp,
     to: Stamp,
     out: &mut Reply,
@@ -145,33 +149,37 @@ fn say_next<P: Pages>(
     ensures call { Reads P.tells result (P.contents pages.old) (P.contents pages.new) }
     ensures undisturbed { P.undisturbed pages.old pages.new }
 {
-    let (stacks, passed) = gather(alloc, pages, page, defs, space, container, slots, from, to)?;
+    let (stacks, passed) = gather(
+        alloc, pages, page, defs, space, container, slots, from, to, held,
+    )?;
     if passed == 0 {
         let said = say_if_inside(
             alloc, pages, page, defs, space, container, slots[0], bound, folding, from, to, out,
         )?;
         return Ok((said, 1));
     }
-    let said = say_stacks(rt, alloc, defs, bound, &stacks, from, to, out)?;
+    let said = say_stacks(rt, alloc, defs, bound, held, &stacks, from, to, out)?;
     Ok((said, passed))
 }
 
-// Says what it makes of each stack, and gives their number.
+// Says what it makes of each stack, its pages among those that are held, and gives their number.
 fn say_stacks(
     rt: &(impl Threads + Sync),
     alloc: Global,
     defs: &Defs,
     bound: &Bound,
+    held: &[Page],
     stacks: &[Stack<'_>],
     from: Stamp,
     to: Stamp,
     out: &mut Reply,
 ) -> Result<u64, AllocError>
     requires series { All (HasSeries defs.now.definitions) stacks.now }
-    ensures said { IfOk result (λ count. (lines : List (List ℕ × RowValue)) × AllZip (IsLineOf bound.now from to defs.now.definitions) stacks.now lines
+    ensures said { IfOk result (λ count. (lines : List (List ℕ × RowValue))
+        × AllZip (IsLineOf bound.now from to defs.now.definitions held.now) stacks.now lines
         × AreSaid bound.now lines out.old out.new count) }
 {
-    let rows = ts_aggregate::aggregate_all(rt, alloc, &OpenGate, bound, stacks, from, to)?;
+    let rows = ts_aggregate::aggregate_all(rt, alloc, &OpenGate, bound, held, stacks, from, to)?;
     for (stack, row) in stacks.iter().zip(&rows) {
         let key = key_at(defs, stack.shelf.series);
         say_series_folded(out, key, bound.scales(), row)?;

@@ -1,4 +1,4 @@
-use Rattle.std.proofs.Common.{◌≡◌, Ok, ℕ, ◌+◌, ◌-◌, List, length, take, drop, ap, arith}
+use Rattle.std.proofs.Common.{◌≡◌, ℕ, ◌-◌, List, length, take, drop, ap, arith}
 use Rattle.std.proofs.lemmas.List.{length-drop, take_all}
 use Rattle.ts_elements.specs.Aggregates.{folded_at}
 use Rattle.ts_elements.proofs.ReadingLemmas.{then_reads, reads_as, layout_still}

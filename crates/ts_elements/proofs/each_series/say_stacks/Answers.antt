@@ -1,9 +1,8 @@
-use Rattle.std.proofs.Common.{◌≡◌, ℕ, ◌+◌, List, [], length, take, min, refl, ap, sym, subst, ◌∙◌, arith}
+use Rattle.std.proofs.Common.{◌≡◌, ℕ, List, [], length, take, refl, sym, subst, arith}
 use Rattle.std.specs.Slice.Iter.{iter_rest}
 use Rattle.std.specs.Iterator.Adapters.{zip_first, zip_second}
 use Rattle.std.proofs.lemmas.List.{length_push, take_all}
 use Rattle.std.proofs.lemmas.Slice.Zip.{zip_turn, zip_end, AllZip-long}
-use Rattle.ts_row.specs.Row.{Row}
 use Rattle.ts_aggregate.specs.declared.series_pages.Stack.{Stack}
 use Rattle.ts_aggregate.specs.Stacks.{IsFoldOf}
 use Rattle.ts_elements.specs.Gathered.{HasSeries}
@@ -32,8 +31,8 @@ loop-stack-preserved g c =
     let index = length c.loop-stack.yielded in
     let d = c.args.defs.now.definitions in
     let more = length_push c.loop-stack.yielded (c.in-Some.stack, c.in-Some.row) in
-    subst (λ (n : ℕ). AreStacksSaid c.args.bound.now c.args.from c.args.to d (take n stacks) c.args.out.now c.say_series_folded.new.out n) (sym more)
-    (stack_said c.args.bound.now c.args.from c.args.to d stacks c.in_ok-rows.rows.items index c.in-Some.stack.now c.in-Some.row.now c.key_at-key.result.now c.scales.result.now c.args.out.now c.loop-stack.out c.say_series_folded.new.out turn.0
+    subst (λ (n : ℕ). AreStacksSaid c.args.bound.now c.args.from c.args.to d c.args.held.now (take n stacks) c.args.out.now c.say_series_folded.new.out n) (sym more)
+    (stack_said c.args.bound.now c.args.from c.args.to d c.args.held.now stacks c.in_ok-rows.rows.items index c.in-Some.stack.now c.in-Some.row.now c.key_at-key.result.now c.scales.result.now c.args.out.now c.loop-stack.out c.say_series_folded.new.out turn.0
     (turn.2 c.in-Some.stack.now) (turn.3 c.in-Some.row.now) c.in_ok-rows.ensures.folded c.key_at-key.ensures c.scales.ensures.value c.in_ok-say_series_folded.ensures c.loop-stack.invariant)
 
 pub returns : goal.returns
@@ -42,8 +41,8 @@ returns g c =
     let second : iter_rest (zip_second c.into_iter-stack-iterator.result) ≡ c.in_ok-rows.rows.items = cc in
     let all = zip_end c.args.stacks.now c.in_ok-rows.rows.items c.loop-stack.yielded _ _ c.next.new.self c.next.result first second c.loop-stack.yielded_by c.in-None.is c.next.ensures.steps in
     let stacks : List Stack = c.args.stacks.now in
-    let same = AllZip-long (IsFoldOf c.args.bound.now c.args.from c.args.to) stacks c.in_ok-rows.rows.items c.in_ok-rows.ensures.folded in
+    let same = AllZip-long (IsFoldOf c.args.bound.now c.args.from c.args.to c.args.held.now) stacks c.in_ok-rows.rows.items c.in_ok-rows.ensures.folded in
     let index : length c.loop-stack.yielded ≡ length stacks = omega (arith, all, same) in
     let d = c.args.defs.now.definitions in
-    let Said : List Stack → ℕ → Type 0 = λ ss n. AreStacksSaid c.args.bound.now c.args.from c.args.to d ss c.args.out.now c.loop-stack.out n in
+    let Said : List Stack → ℕ → Type 0 = λ ss n. AreStacksSaid c.args.bound.now c.args.from c.args.to d c.args.held.now ss c.args.out.now c.loop-stack.out n in
     record { said = subst (λ (ss : List Stack). Said ss (length stacks)) (take_all (length stacks) stacks (omega arith)) (subst (λ (n : ℕ). Said (take n stacks) n) index c.loop-stack.invariant) }

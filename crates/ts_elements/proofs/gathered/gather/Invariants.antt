@@ -1,8 +1,7 @@
--- The pages stay, and the series of the container in the slots before an index have their stacks, which together are within the bound.
-use Rattle.std.proofs.Common.{◌≡◌, ◌≤◌, Ok, length, sum_by, take}
+-- The pages stay, and the series of the container in the slots before an index have their stacks, whose pages are within the bound.
+use Rattle.std.proofs.Common.{◌≤◌, Ok, length, take}
 use Rattle.std.specs.List.{AllZip}
 use Rattle.ts_irregular.specs.Call.{Reads}
-use Rattle.ts_aggregate.specs.declared.series_pages.Stack.{Stack}
 use Rattle.ts_answer.specs.View.{view}
 use Rattle.ts_elements.specs.declared.gathered.TheConstants.{MOST_PAGES}
 use Rattle.ts_elements.specs.Gathered.{inside, IsStackOf}
@@ -12,8 +11,7 @@ abbrev pub invariant-loop-passed : goal.invariant-loop-passed
 invariant-loop-passed g l = record {
   call : Reads {T = Unit {0}} g.P.Pages.tells (Ok tt) (g.P.Pages.contents l.fn.pages) (g.P.Pages.contents l.pages);
   undisturbed : g.P.Pages.undisturbed l.fn.pages l.pages;
-  all : l.held ≡ sum_by (λ (stack : Stack). length stack.pages.items) l.stacks.items;
-  most : l.held ≤ MOST_PAGES;
-  stacks : AllZip (IsStackOf g.P.Pages.tells (view l.defs.definitions l.space (g.P.Pages.contents l.fn.pages)) l.from l.to)
+  most : length l.held.items ≤ MOST_PAGES;
+  stacks : AllZip (IsStackOf g.P.Pages.tells (view l.defs.definitions l.space (g.P.Pages.contents l.fn.pages)) l.from l.to l.held.items)
       (inside l.defs.definitions l.container (take l.passed l.slots)) l.stacks.items;
 }

@@ -1,14 +1,19 @@
-use Rattle.std.proofs.Common.{ℕ, ◌+◌, List, [], ◌∷◌, ◌++◌, length, take, get_or, ap, sym, subst, ◌∙◌}
-use Rattle.std.proofs.lemmas.List.{length_push}
-use Rattle.ts_page.specs.declared.page.Page.{Page}
+use Rattle.std.proofs.Common.{List, get_or}
 use Rattle.ts_space.specs.declared.place.Place.{Place}
-use Rattle.ts_clip.specs.Series.{ArePagesOf}
+use Rattle.ts_chain.proofs.ReadLemmas.{reads_none}
 use Rattle.ts_elements.proofs.ReadingLemmas.{then_reads}
-use Rattle.ts_elements.proofs.GatheredLemmas.{readable_still, got_reads, page_got, pages_more}
+use Rattle.ts_elements.proofs.GatheredLemmas.{readable_still, got_reads, page_got, none_read, read_more}
 use Rattle.ts_elements.proofs.gathered.read_pages.Goals as goal
 
 pub get-requires : goal.get-requires
 get-requires g c = (readable_still g.P.Pages.tells tt (g.P.Pages.contents c.args.pages.now) (g.P.Pages.contents c.loop-place.pages) _ c.loop-place.invariant.call (c.requires.readable c.loop-place.place-index _ c.loop-place-test.true)).below
+
+pub loop-place-init : goal.loop-place-init
+loop-place-init g c = record {
+  call = reads_none g.P.Pages.tells (g.P.Pages.contents c.args.pages.now);
+  undisturbed = g.met.P.Pages.stays c.args.pages.now;
+  read = none_read g.P.Pages.tells (g.P.Pages.contents c.args.pages.now).page c.args.held.now.items;
+}
 
 pub loop-place-preserved : goal.loop-place-preserved
 loop-place-preserved g c =
@@ -20,13 +25,9 @@ loop-place-preserved g c =
     let places : List Place = c.args.places.now in
     let index = c.loop-place.place-index in
     let got = c.in_ok-get.ensures in
-    let pushed = c.in_ok-push.ensures.items in
     let can = readable_still tells tt u v (get_or places index _) so_far.call (c.requires.readable index _ c.loop-place-test.true) in
     record {
       call = then_reads tells tt tt u v w so_far.call (got_reads tells _ _ v w got.got);
       undisturbed = g.met.P.Pages.«then» c.args.pages.now c.loop-place.pages c.get.new.self so_far.undisturbed got.undisturbed;
-      all = ap (λ (ps : List Page). length ps) pushed ∙ length_push c.loop-place.read.items c.get.new.into ∙ ap (λ (n : ℕ). n + 1) so_far.all;
-      read = λ told.
-          subst (λ (ps : List Page). ArePagesOf u.page (take (index + 1) places) ps) {x = c.loop-place.read.items ++ c.get.new.into ∷ []} (sym pushed)
-          (pages_more u.page places index _ c.loop-place.read.items c.get.new.into c.loop-place-test.true (so_far.read told) (page_got tells tt _ _ u v w so_far.call can got.got told));
+      read = read_more tells u.page places index _ c.args.held.now.items c.loop-place.held.items c.push.new.self.items c.get.new.into c.loop-place-test.true so_far.read (page_got tells tt _ _ u v w so_far.call can got.got) c.in_ok-push.ensures.items;
     }

@@ -1,8 +1,8 @@
-use Rattle.std.proofs.Common.{List, subst}
+use Rattle.std.proofs.Common.{◌≡◌, List, length, subst, arith}
 use Rattle.ts_space.specs.declared.place.Place.{Place}
 use Rattle.ts_space.specs.Directory.{places_of}
 use Rattle.ts_clip.specs.Series.{HoldRange}
-use Rattle.ts_elements.proofs.GatheredLemmas.{readable}
+use Rattle.ts_elements.proofs.GatheredLemmas.{readable, read_within, own_pages}
 use Rattle.ts_elements.proofs.gathered.stack_at.Goals as goal
 
 pub read_pages-requires : goal.read_pages-requires
@@ -19,11 +19,27 @@ returns-clause-stack g c =
     let some = c.places_of_range-places in
     let found = c.in_ok-shelf in
     let columns = found.shelf.kind.now.columns in
+    let tells = g.P.Pages.tells in
+    let pages = (g.P.Pages.contents c.args.pages.now).page in
+    let old = c.args.held.now in
+    let held = c.read_pages.new.held.items in
+    let read = c.in_ok-read_pages.ensures.read in
+    let long = read_within tells pages some.result.now old.items held read in
+    let len = c.len-first.ensures in
+    let same = old.ok.0 in
+    let begins : c.len-first.result ≡ length old.items = omega (arith, len, same) in
     record {
       series = found.ensures.slot;
       columns = found.ensures.columns;
       lies = found.ensures.lies;
       laid = found.ensures.laid;
       holds = subst (λ (ps : List Place). HoldRange found.shape columns c.args.from c.args.to ps some.result.now) c.places.ensures.ok some.ensures.holds;
-      pages = c.in_ok-read.ensures.read;
+      within = omega (arith, long, begins);
+      pages = own_pages tells pages some.result.now old.items held c.len-first.result begins read;
     }
+
+pub returns-clause-behind : goal.returns-clause-behind
+returns-clause-behind g c =
+    let read = c.in_ok-read_pages.ensures.read in
+    let all = read.all in
+    (read.more, read.behind, omega (arith, all))
