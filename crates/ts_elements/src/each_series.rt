@@ -169,8 +169,8 @@ fn say_stacks(
     out: &mut Reply,
 ) -> Result<u64, AllocError>
     requires series { All (HasSeries defs.now.definitions) stacks.now }
-    ensures said { IfOk result (λ count. (lines : List (List ℕ × RowValue)) × AllZip (IsLineOf bound.now from to defs.now.definitions) stacks.now lines
-        × AreSaid bound.now lines out.old out.new count) }
+    ensures said { IfOk result (λ count. (lines : List (List ℕ × RowValue))
+        × AllZip (IsLineOf bound.now from to defs.now.definitions) stacks.now lines × AreSaid bound.now lines out.old out.new count) }
 {
     let rows = ts_aggregate::aggregate_all(rt, alloc, &OpenGate, bound, stacks, from, to)?;
     for (stack, row) in stacks.iter().zip(&rows) {
