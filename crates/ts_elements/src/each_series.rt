@@ -117,7 +117,8 @@ fn say_all<P: Pages>(
     Ok(count)
 }
 
-// Says what it makes of those in the next slots, as many as are folded at once; and gives their number, and how many slots these are.
+// Says what it makes of those in the next slots, as many as are held at once, or of the next one alone, where it has more pages; and gives
+// their number, and how many slots these are.
 // `held` is where their pages are read.
 fn say_next<P: Pages>(
     rt: &(impl Threads + Sync),
