@@ -1,10 +1,10 @@
 -- The pages of series read into memory, as the stacks of the slots of a container.
-use Rattle.std.proofs.Common.{◌≡◌, ℕ, ◌+◌, ◌<◌, ◌≤◌, ℤ, Bool, true, false, cond, IsTrue, Option, Some, None, IsSome, Ok, All, Contains, List, [], ◌∷◌, ◌++◌, length, take, drop, get_or, inr, append-nil, refl, ap, sym, subst, ◌∙◌, arith}
+use Rattle.std.proofs.Common.{◌≡◌, ℕ, ◌+◌, ◌-◌, ◌<◌, ◌≤◌, ℤ, Bool, true, false, cond, IsTrue, Option, Some, None, IsSome, Ok, All, Contains, List, [], ◌∷◌, ◌++◌, length, take, drop, get_or, inr, append-nil, refl, ap, sym, subst, ◌∙◌, arith}
 use Rattle.std.specs.List.{AllZip}
 use Rattle.std.specs.Option.{option_map}
 use Rattle.std.proofs.Math.Seq.{drop-append_seam}
-use Rattle.std.proofs.lemmas.List.{take_more, take_all, append_assoc, length-append, length_push, length-drop, take-append-le, drop-append-le}
-use Rattle.std.proofs.lemmas.List.Elements.{All-nil, All-cons, All-head, All-tail, All-contains, filter_more}
+use Rattle.std.proofs.lemmas.List.{take_more, take_all, get_or_default, append_assoc, length-append, length_push, length-drop, take-append-le, drop-append-le}
+use Rattle.std.proofs.lemmas.List.Elements.{All-nil, All-cons, All-head, All-tail, All-contains, All-take, All-drop, filter_more}
 use Rattle.std.proofs.lemmas.Slice.Zip.{all_zipped_more}
 use Rattle.std.proofs.lemmas.Bool.Decides.{nat_tests}
 use Rattle.ts_page.specs.declared.page.Page.{Page}
@@ -113,6 +113,14 @@ stack_same tells a d space u v from to read slot stack reads is = record {
   pages = λ told. pages_same u.page v.page (reads.pages told) stack.places.now (pages_of read stack) (is.pages told);
 }
 
+pub stacks_same : {A : Type 0} (tells : Bool) (a : A) (d : Definitions) (space : Directory) (u v : Contents) (from to : ℤ) (read : List Page) (slots : List ℕ) (stacks : List Stack) → Reads tells (Ok a) u v
+    → AllZip (IsStackOf tells (view d space v) from to read) slots stacks → AllZip (IsStackOf tells (view d space u) from to read) slots stacks
+stacks_same tells a d space u v from to read [] [] reads are = tt
+stacks_same tells a d space u v from to read [] (stack ∷ stacks) reads are = absurd are
+stacks_same tells a d space u v from to read (slot ∷ slots) [] reads are = absurd are
+stacks_same tells a d space u v from to read (slot ∷ slots) (stack ∷ stacks) reads are =
+    (stack_same tells a d space u v from to read slot stack reads are.0, stacks_same tells a d space u v from to read slots stacks reads are.1)
+
 -- a stack stays one when pages are added behind it
 pages_still : (read more : List Page) (stack : Stack) → stack.first + length stack.places.now ≤ length read → pages_of (read ++ more) stack ≡ pages_of read stack
 pages_still read more stack within =
@@ -185,3 +193,22 @@ all_series tells x from to read (slot ∷ slots) [] within are = absurd are
 all_series tells x from to read (slot ∷ slots) (stack ∷ stacks) within are =
     let Below : ℕ → Type 0 = λ slot. slot < 4096 in
     All-cons (HasSeries x.definitions) stack stacks (stack_series tells x from to read slot stack (All-head Below slot slots within) are.0) (all_series tells x from to read slots stacks (All-tail Below slot slots within) are.1)
+
+-- the slots from an index on, which are series slots
+pub rest_of : (slots : List ℕ) (at : ℕ) → take (length slots - at) (drop at slots) ≡ drop at slots
+rest_of slots at = let long = length-drop at slots in take_all (length slots - at) (drop at slots) (omega (arith, long))
+
+all_below : (slots : List ℕ) → ((k : ℕ) → k < length slots → get_or slots k 0 < 4096) → All (λ slot. slot < 4096) slots
+all_below slots each k d below = subst (λ (n : ℕ). n < 4096) (get_or_default slots k 0 d below) (each k below)
+
+pub rest_below : (slots : List ℕ) (at : ℕ) → ((k : ℕ) → k < length slots → get_or slots k 0 < 4096) → All (λ slot. slot < 4096) (take (length slots - at) (drop at slots))
+rest_below slots at each = let Below : ℕ → Type 0 = λ slot. slot < 4096 in All-take Below (length slots - at) (drop at slots) (All-drop Below at slots (all_below slots each))
+
+-- the first of these slots, and their stacks
+pub passed_below : (slots : List ℕ) (at passed : ℕ) → ((k : ℕ) → k < length slots → get_or slots k 0 < 4096) → All (λ slot. slot < 4096) (take passed (drop at slots))
+passed_below slots at passed each = let Below : ℕ → Type 0 = λ slot. slot < 4096 in All-take Below passed (drop at slots) (All-drop Below at slots (all_below slots each))
+
+pub stacks_in_rest : (tells : Bool) (x : View) (from to : ℤ) (read : List Page) (container : ℕ) (slots : List ℕ) (at passed : ℕ) (stacks : List Stack)
+    → AllZip (IsStackOf tells x from to read) (inside x.definitions container (take passed (take (length slots - at) (drop at slots)))) stacks → AllZip (IsStackOf tells x from to read) (inside x.definitions container (take passed (drop at slots))) stacks
+stacks_in_rest tells x from to read container slots at passed stacks are =
+    subst (λ (ns : List ℕ). AllZip (IsStackOf tells x from to read) (inside x.definitions container (take passed ns)) stacks) (rest_of slots at) are

@@ -1,8 +1,8 @@
 -- What a list makes of stacks, and what is said of them.
-use Rattle.std.proofs.Common.{◌≡◌, ℕ, zero, suc, ◌+◌, ◌<◌, ◌≤◌, ℤ, Bool, true, false, cond, IsTrue, Option, Some, None, IsSome, All, List, [], ◌∷◌, ◌++◌, map, length, take, get_or, append-nil, refl, ap, sym, subst, ◌∙◌, arith}
+use Rattle.std.proofs.Common.{◌≡◌, ℕ, ◌+◌, ◌<◌, ◌≤◌, ℤ, Bool, true, false, cond, IsTrue, Option, Some, None, IsSome, All, List, [], ◌∷◌, ◌++◌, map, length, take, get_or, append-nil, refl, ap, sym, subst, ◌∙◌, arith}
 use Rattle.std.specs.List.{AllZip, filter, flat_map}
 use Rattle.std.specs.Option.{option_map, option_and_then}
-use Rattle.std.proofs.lemmas.List.{take_more}
+use Rattle.std.proofs.lemmas.List.{take_more, map_push}
 use Rattle.std.proofs.lemmas.List.Elements.{All-head, All-tail}
 use Rattle.std.proofs.lemmas.Slice.Zip.{all_zipped_more, AllZip-long}
 use Rattle.ts_page.specs.declared.page.Page.{Page}
@@ -25,11 +25,32 @@ use Rattle.ts_answer.specs.Answer.{scales_of, folded_range}
 use Rattle.ts_answer.specs.Reply.{series_folded_line}
 use Rattle.ts_answer.specs.View.{View, Shows, KeepsRules}
 use Rattle.ts_elements.specs.Aggregates.{folded_if, folded_at, AreSaid}
-use Rattle.ts_elements.specs.Gathered.{stands_in, inside, IsStackOf, IsLineOf}
+use Rattle.ts_elements.specs.Gathered.{stands_in, inside, IsStackOf, AreLinesOf}
 use Rattle.ts_elements.proofs.EachSeriesLemmas.{said_behind}
 use Rattle.ts_elements.proofs.MemoryLemmas.{few_elements}
 use Rattle.ts_elements.proofs.SeenLemmas.{elements_seen, entries_in}
 use Rattle.ts_elements.proofs.GatheredLemmas.{stands_some}
+
+-- a line begins with the key of a stack's series
+abbrev pub IsKeyed : Definitions → Stack → List ℕ × Row → Type 0
+IsKeyed d stack line = option_map (λ (s : SeriesDef). s.key) (at_slot stack.shelf.series d.series) ≡ Some line.0
+
+-- what is said of a stack: the key of its series, and the row that a list makes of its pages among those that were read
+pub record IsLineOf (b : Binding) (from to : ℤ) (d : Definitions) (read : List Page) (stack : Stack) (line : List ℕ × Row) : Type 0 where
+  pub key : IsKeyed d stack line
+  pub row : IsFoldOf b from to read stack line.1
+
+-- the lines of stacks, where their rows are what a list makes of them
+its_lines : (b : Binding) (from to : ℤ) (d : Definitions) (read : List Page) (stacks : List Stack) (lines : List (List ℕ × Row)) → AllZip (IsFoldOf b from to read) stacks (map (λ line. line.1) lines) → AllZip (IsKeyed d) stacks lines
+    → AllZip (IsLineOf b from to d read) stacks lines
+its_lines b from to d read [] [] folds are = tt
+its_lines b from to d read [] (line ∷ lines) folds are = absurd are
+its_lines b from to d read (stack ∷ stacks) [] folds are = absurd are
+its_lines b from to d read (stack ∷ stacks) (line ∷ lines) folds are = (record { key = are.0; row = folds.0 }, its_lines b from to d read stacks lines folds.1 are.1)
+
+pub lines_of : (b : Binding) (from to : ℤ) (d : Definitions) (read : List Page) (stacks : List Stack) (rows : List Row) (lines : List (List ℕ × Row)) → AllZip (IsFoldOf b from to read) stacks rows → AreLinesOf d stacks rows lines
+    → AllZip (IsLineOf b from to d read) stacks lines
+lines_of b from to d read stacks rows lines folds are = its_lines b from to d read stacks lines (subst (AllZip (IsFoldOf b from to read) stacks) (sym are.folded) folds) are.keyed
 
 -- a slot of another container has no line
 outside_none : (b : Binding) (from to : ℤ) (l : Layout) (container slot : ℕ) (o : Option SeriesDef) → stands_in container o ≡ false → folded_if b from to l container slot o ≡ []
@@ -118,32 +139,28 @@ few_lines tells x from to read b container passed stacks lines are said =
     let few = few_pass (λ slot. stands_in container (at_slot slot x.definitions.series)) passed in
     omega (arith, first, second, few)
 
--- lists that agree place by place do so at an index
-at_zipped : {A B : Type 0} (R : A → B → Type 0) (xs : List A) (ys : List B) (i : ℕ) (d : A) (e : B) → AllZip R xs ys → i < length xs → R (get_or xs i d) (get_or ys i e)
-at_zipped R [] ys i d e are below = absurd (omega arith)
-at_zipped R (x ∷ xs) [] i d e are below = absurd are
-at_zipped R (x ∷ xs) (y ∷ ys) zero d e are below = are.0
-at_zipped R (x ∷ xs) (y ∷ ys) (suc i) d e are below = at_zipped R xs ys i d e are.1 (omega arith)
-
--- the stacks before an index are said
-abbrev pub AreStacksSaid : Binding → ℤ → ℤ → Definitions → List Page → List Stack → List ℕ → List ℕ → ℕ → Type 0
-AreStacksSaid b from to d read stacks out said count = (lines : List (List ℕ × Row)) × AllZip (IsLineOf b from to d read) stacks lines × AreSaid b lines out said count
+-- some stacks are said, each with its row
+abbrev pub AreStacksSaid : Binding → Definitions → List Stack → List Row → List ℕ → List ℕ → ℕ → Type 0
+AreStacksSaid b d stacks rows out said count = (lines : List (List ℕ × Row)) × AreLinesOf d stacks rows lines × AreSaid b lines out said count
 
 -- one stack more
-pub stack_said : (b : Binding) (from to : ℤ) (d : Definitions) (read : List Page) (stacks : List Stack) (rows : List Row) (i : ℕ) (stack : Stack) (row : Row) (key scales out middle said : List ℕ) → i < length stacks → stack ≡ get_or stacks i stack → row ≡ get_or rows i row
-    → AllZip (IsFoldOf b from to read) stacks rows → option_map (λ (s : SeriesDef). s.key) (at_slot stack.shelf.series d.series) ≡ Some key → scales ≡ scales_of b → said ≡ middle ++ series_folded_line scales (key, row)
-    → AreStacksSaid b from to d read (take i stacks) out middle i → AreStacksSaid b from to d read (take (i + 1) stacks) out said (i + 1)
-stack_said b from to d read stacks rows i stack row key scales out middle said below here there folds named are line so_far =
-    let Is : Stack → List ℕ × Row → Type 0 = IsLineOf b from to d read in
-    let fold = subst (λ (s : Stack). IsFoldOf b from to read s row) (sym here) (subst (λ (r : Row). IsFoldOf b from to read (get_or stacks i stack) r) (sym there) (at_zipped (IsFoldOf b from to read) stacks rows i stack row folds below)) in
-    let own : Is stack (key, row) = record { key = named; row = fold } in
+pub stack_said : (b : Binding) (d : Definitions) (stacks : List Stack) (rows : List Row) (i : ℕ) (stack : Stack) (row : Row) (key scales out middle said : List ℕ) → i < length stacks → i < length rows → stack ≡ get_or stacks i stack → row ≡ get_or rows i row
+    → option_map (λ (s : SeriesDef). s.key) (at_slot stack.shelf.series d.series) ≡ Some key → scales ≡ scales_of b → said ≡ middle ++ series_folded_line scales (key, row)
+    → AreStacksSaid b d (take i stacks) (take i rows) out middle i → AreStacksSaid b d (take (i + 1) stacks) (take (i + 1) rows) out said (i + 1)
+stack_said b d stacks rows i stack row key scales out middle said below within here there named are line so_far =
+    let Is : Stack → List ℕ × Row → Type 0 = IsKeyed d in
+    let its_row : List ℕ × Row → Row = λ line. line.1 in
     let last : take (i + 1) stacks ≡ take i stacks ++ stack ∷ [] = take_more stacks i stack below ∙ ap (λ (s : Stack). take i stacks ++ s ∷ []) (sym here) in
+    let last_row : take (i + 1) rows ≡ take i rows ++ row ∷ [] = take_more rows i row within ∙ ap (λ (r : Row). take i rows ++ r ∷ []) (sym there) in
     let next : AreSaid b ((key, row) ∷ []) middle said 1 = record {
       lines = line ∙ (λ i. middle ++ series_folded_line (are i) (key, row)) ∙ (λ i. middle ++ sym (append-nil (series_folded_line (scales_of b) (key, row))) i);
       number = refl;
     } in (
       so_far.0 ++ (key, row) ∷ [],
-      subst (λ (ss : List Stack). AllZip Is ss (so_far.0 ++ (key, row) ∷ [])) (sym last) (all_zipped_more Is (take i stacks) so_far.0 stack (key, row) so_far.1 own),
+      record {
+        keyed = subst (λ (ss : List Stack). AllZip Is ss (so_far.0 ++ (key, row) ∷ [])) (sym last) (all_zipped_more Is (take i stacks) so_far.0 stack (key, row) so_far.1.keyed named);
+        folded = map_push its_row so_far.0 (key, row) ∙ ap (λ (rs : List Row). rs ++ row ∷ []) so_far.1.folded ∙ sym last_row;
+      },
       said_behind b so_far.0 ((key, row) ∷ []) out middle said i 1 so_far.2 next,
     )
 

@@ -1,4 +1,4 @@
--- The series of a container folded by an aggregate list, one after the other.
+-- The series of a container folded by an aggregate list, in the order of their keys.
 use Rattle.std.specs.Prelude.{◌≡◌, ℕ, ◌==◌, ℤ, if◌then◌else◌, Option, Some, None, List, [], ◌∷◌, ◌++◌, length}
 use Rattle.std.specs.List.{flat_map}
 use Rattle.std.specs.FinMap.{values}

@@ -1,15 +1,14 @@
 -- The pages of the series of a container in memory: those that a range touches.
-use Rattle.std.specs.Prelude.{◌≡◌, ℕ, ◌+◌, ◌<◌, ◌≤◌, ◌==◌, ℤ, Bool, false, IsTrue, Option, Some, None, IsSome, List, ◌++◌, length}
-use Rattle.std.specs.List.{filter}
+use Rattle.std.specs.Prelude.{◌≡◌, ℕ, ◌+◌, ◌<◌, ◌≤◌, ◌==◌, ℤ, Bool, false, IsTrue, Option, Some, None, IsSome, List, ◌++◌, length, map}
+use Rattle.std.specs.List.{filter, AllZip}
 use Rattle.std.specs.Option.{option_map}
 use Rattle.ts_row.specs.Row.{Row}
 use Rattle.ts_page.specs.declared.page.Page.{Page}
 use Rattle.ts_space.specs.declared.place.Place.{Place}
 use Rattle.ts_space.specs.Directory.{places_of}
-use Rattle.ts_expr.specs.Binding.{Binding}
 use Rattle.ts_clip.specs.Series.{IsLaidOut, HoldRange, ArePagesOf}
 use Rattle.ts_aggregate.specs.declared.series_pages.Stack.{Stack}
-use Rattle.ts_aggregate.specs.Stacks.{IsFoldOf, pages_of}
+use Rattle.ts_aggregate.specs.Stacks.{pages_of}
 use Rattle.ts_model.specs.Definitions.{Definitions, SeriesDef, at_slot, series_slots}
 use Rattle.ts_layout.specs.Meaning.{heading_at, shape_at}
 use Rattle.ts_answer.specs.View.{View}
@@ -46,7 +45,7 @@ pub record HasSeries (d : Definitions) (stack : Stack) : Type 0 where
   pub within : stack.shelf.series < series_slots
   pub some : IsSome (at_slot stack.shelf.series d.series)
 
--- what is said of a stack: the key of its series, and the row that a list makes of its pages among those that were read
-pub record IsLineOf (b : Binding) (from to : ℤ) (d : Definitions) (read : List Page) (stack : Stack) (line : List ℕ × Row) : Type 0 where
-  pub key : option_map (λ s. s.key) (at_slot stack.shelf.series d.series) ≡ Some line.0
-  pub row : IsFoldOf b from to read stack line.1
+-- the lines that are said of some stacks with a row for each: the key of the stack's series, and its row
+pub record AreLinesOf (d : Definitions) (stacks : List Stack) (rows : List Row) (lines : List (List ℕ × Row)) : Type 0 where
+  pub keyed : AllZip (λ stack line. option_map (λ s. s.key) (at_slot stack.shelf.series d.series) ≡ Some line.0) stacks lines
+  pub folded : map (λ line. line.1) lines ≡ rows

@@ -3,18 +3,20 @@ ghost use Rattle.std.specs.Prelude.{◌≡◌, ◌<◌, ◌≤◌, ◌^◌, ℕ,
 ghost use Rattle.std.specs.List.{AllZip, flat_map};
 ghost use Rattle.ts_row.specs.Row.{Row as RowValue};
 ghost use Rattle.ts_command.specs.declared.command.Command.TheVariants.{AggregateAll};
+ghost use Rattle.ts_aggregate.specs.Stacks.{IsFoldOf};
 ghost use Rattle.ts_irregular.specs.Call.{Reads};
 ghost use Rattle.ts_model.specs.Definitions.{at_slot, series_slots};
 ghost use Rattle.ts_layout.specs.Meaning.{Layout, heading_in};
 ghost use Rattle.ts_answer.specs.View.{view, IsSeen, Shows};
 ghost use Rattle.ts_answer.specs.CarriedOut.{ReadOut};
 ghost use Rattle.ts_elements.specs.Aggregates.{folded_at, folded_in, IsFresh, AreSaid};
-ghost use Rattle.ts_elements.specs.Gathered.{HasSeries, IsLineOf};
+ghost use Rattle.ts_elements.specs.Gathered.{inside, AreLinesOf, HasSeries, IsStackOf};
 
 use crate::gathered::gather;
 use crate::shelf::shelf_at;
 use std::alloc::{AllocError, Global};
-use std::thread::Threads;
+use std::mem;
+use std::thread::{Threads, join_mut};
 use ts_aggregate::{Folding, Stack, aggregate_range};
 use ts_answer::Stop;
 use ts_base::{Bytes, Key, Name, Reply, Stamp, StoreFault};
@@ -24,15 +26,16 @@ use ts_expr::{AggList, Bound};
 use ts_model::{Def, Defs, Kind};
 use ts_page::{Page, Pages};
 use ts_parallel::OpenGate;
+use ts_row::Row;
 use ts_say::{say_count, say_series_folded};
 use ts_space::Space;
 
 /// Says what an aggregate list makes of the elements of each series of a container from one stamp to another, both included: a row for
 /// each series, in the order of their keys, and how many they are. A text that is no list is refused first, then a container that isn't
-/// there, then a list that its columns don't bear. The pages that the range touches are read into one list of at most 16 MiB, whose memory
-/// is kept from list to list, and folded by as many workers as serve; a series that alone has more is folded a page at a time. `page` is
-/// room to read one; the memory is for these pages, for the aggregate list, for the grids of the regular series among them, for what is
-/// known of the items while they are folded, and for the rows.
+/// there, then a list that its columns don't bear. The pages that the range touches are read into two lists in turn, 16 MiB of them at
+/// most, whose memory is kept: while one is read, as many workers as serve fold the other. A series that alone has more pages than a list
+/// holds is folded a page at a time. `page` is room to read one; the memory is for these pages, for the aggregate list, for the grids of
+/// the regular series among them, for what is known of the items while they are folded, and for the rows.
 pub fn aggregate_all<P: Pages>(
     rt: &(impl Threads + Sync),
     alloc: Global,
@@ -66,7 +69,8 @@ pub fn aggregate_all<P: Pages>(
     Ok(())
 }
 
-// Says what a list makes of each series of the container in a slot, and gives their number.
+// Says what a list makes of each series of the container in a slot, and gives their number. The series in hand are those in the next slots,
+// as many as `passed` tells; where it tells none, the first of these has more pages than a list holds.
 fn say_all<P: Pages>(
     rt: &(impl Threads + Sync),
     alloc: Global,
@@ -89,98 +93,115 @@ fn say_all<P: Pages>(
     ensures undisturbed { P.undisturbed pages.old pages.new }
 {
     let mut folding = Folding::new(bound)?;
-    let mut held = Vec::new(alloc);
+    let (mut held, mut next) = (Vec::new(alloc), Vec::new(alloc));
     let slots = defs.in_order(Kind::Series);
+    let (mut stacks, mut passed) = gather(
+        alloc, pages, page, defs, space, container, slots, from, to, &mut held,
+    )?;
     let mut count = 0;
     let mut at = 0;
     while at < slots.len() {
-        let next = &slots[at..];
-        let (said, passed) = say_next(
-            rt,
-            alloc,
-            pages,
-            page,
-            defs,
-            space,
-            container,
-            next,
-            bound,
-            &mut folding,
-            &mut held,
-            from,
-            to,
-            out,
-        )?;
-        count += said;
-        at += passed;
+        if passed == 0 {
+            count += say_if_inside(
+                alloc,
+                pages,
+                page,
+                defs,
+                space,
+                container,
+                slots[at],
+                bound,
+                &mut folding,
+                from,
+                to,
+                out,
+            )?;
+            at += 1;
+            let rest = &slots[at..];
+            let (others, beyond) = gather(
+                alloc, pages, page, defs, space, container, rest, from, to, &mut held,
+            )?;
+            stacks = others;
+            passed = beyond;
+        } else {
+            at += passed;
+            let rest = &slots[at..];
+            let (rows, others, beyond) = fold_and_gather(
+                rt, alloc, pages, page, defs, space, container, rest, bound, &held, &stacks,
+                &mut next, from, to,
+            )?;
+            count += say_rows(defs, bound, &stacks, &rows, out)?;
+            mem::swap(&mut held, &mut next);
+            stacks = others;
+            passed = beyond;
+        }
     }
     Ok(count)
 }
 
-// Says what it makes of those in the next slots, as many as are folded at once; and gives their number, and how many slots these are.
-// `held` is where their pages are read.
-fn say_next<P: Pages>(
+// What a list makes of stacks, their pages among those that are held, by several workers, while this thread reads the pages of the series
+// in other slots into the next list: the rows, and what `gather` gives.
+fn fold_and_gather<'a, P: Pages>(
     rt: &(impl Threads + Sync),
     alloc: Global,
     pages: &mut P,
     page: &mut Page,
-    defs: &Defs,
-    space: &Space,
+    defs: &'a Defs,
+    space: &'a Space,
     container: u16,
     slots: &[u16],
     bound: &Bound,
-    folding: &mut Folding<'_>,
-    held: &mut Vec<Page>,
+    held: &[Page],
+    stacks: &[Stack<'_>],
+    next: &mut Vec<Page>,
     from: Stamp,
     to: Stamp,
-    out: &mut Reply,
-) -> Result<(u64, usize), StoreFault>
+) -> Result<(Vec<Row>, Vec<Stack<'a>>, usize), StoreFault>
     requires seen { IsSeen P.tells (view defs.now.definitions space.now (P.contents pages.old)) }
     requires slots { All (λ slot. slot < series_slots) slots.now }
-    requires some { 0 < length slots.now }
-    requires columns { option_map (λ h. h.columns) (heading_in defs.now.definitions container) ≡ Some bound.now.columns }
-    ensures passed { IfOk result (λ r. (0 < r.1) × (r.1 ≤ length slots.now)) }
-    ensures few { IfOk result (λ r. r.0 ≤ r.1) }
-    ensures said { IfOk result (λ r. IsTrue P.tells → (l : Layout)
-        → Shows P.tells (view defs.now.definitions space.now (P.contents pages.old)) l
-        → IsFresh bound.now folding.old
-        → IsFresh bound.now folding.new
-        × AreSaid bound.now (flat_map (folded_at bound.now from to l container) (take r.1 slots.now)) out.old out.new r.0) }
+    ensures folded { IfOk result (λ r. AllZip (IsFoldOf bound.now from to held.now) stacks.now r.0.items) }
+    ensures stacks { IfOk result (λ r. AllZip
+        (IsStackOf P.tells (view defs.now.definitions space.now (P.contents pages.old)) from to next.new.items)
+        (inside defs.now.definitions container (take r.2 slots.now)) r.1.items) }
+    ensures passed { IfOk result (λ r. r.2 ≤ length slots.now) }
     ensures call { Reads P.tells result (P.contents pages.old) (P.contents pages.new) }
     ensures undisturbed { P.undisturbed pages.old pages.new }
 {
-    let (stacks, passed) = gather(
-        alloc, pages, page, defs, space, container, slots, from, to, held,
-    )?;
-    if passed == 0 {
-        let said = say_if_inside(
-            alloc, pages, page, defs, space, container, slots[0], bound, folding, from, to, out,
+    if slots.is_empty() {
+        let rows = ts_aggregate::aggregate_all(
+            rt, alloc, &OpenGate, bound, held, stacks, from, to,
         )?;
-        return Ok((said, 1));
+        return Ok((rows, Vec::new(alloc), 0));
     }
-    let said = say_stacks(rt, alloc, defs, bound, held, &stacks, from, to, out)?;
-    Ok((said, passed))
+    let (folded, gathered) = join_mut(
+        rt,
+        &mut || ts_aggregate::aggregate_all(rt, alloc, &OpenGate, bound, held, stacks, from, to),
+        &mut || {
+            gather(
+                alloc, pages, page, defs, space, container, slots, from, to, next,
+            )
+        },
+    );
+    let (stacks, passed) = gathered?;
+    let rows = folded?;
+    Ok((rows, stacks, passed))
 }
 
-// Says what it makes of each stack, its pages among those that are held, and gives their number.
-fn say_stacks(
-    rt: &(impl Threads + Sync),
-    alloc: Global,
+// Says the row of each stack with the key of its series, and gives their number.
+fn say_rows(
     defs: &Defs,
     bound: &Bound,
-    held: &[Page],
     stacks: &[Stack<'_>],
-    from: Stamp,
-    to: Stamp,
+    rows: &[Row],
     out: &mut Reply,
 ) -> Result<u64, AllocError>
     requires series { All (HasSeries defs.now.definitions) stacks.now }
+    requires as_many { length rows.now ≡ length stacks.now }
     ensures said { IfOk result (λ count. (lines : List (List ℕ × RowValue))
-        × AllZip (IsLineOf bound.now from to defs.now.definitions held.now) stacks.now lines
+        × AreLinesOf defs.now.definitions stacks.now rows.now lines
         × AreSaid bound.now lines out.old out.new count) }
 {
-    let rows = ts_aggregate::aggregate_all(rt, alloc, &OpenGate, bound, held, stacks, from, to)?;
-    for (stack, row) in stacks.iter().zip(&rows) {
+    for (stack, row) in stacks.iter().zip(rows) {
         let key = key_at(defs, stack.shelf.series);
         say_series_folded(out, key, bound.scales(), row)?;
     }

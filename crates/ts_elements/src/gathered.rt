@@ -1,4 +1,4 @@
-// The pages of the series of a container, read into memory: those that a range touches, as many as are held at once.
+// The pages of the series of a container, read into memory: those that a range touches, as many as a list holds.
 ghost use Rattle.std.specs.Prelude.{◌≡◌, ◌<◌, ◌≤◌, ◌++◌, ℕ, All, IfOk, IfSome, List, length, take};
 ghost use Rattle.std.specs.List.{AllZip};
 ghost use Rattle.ts_page.specs.declared.page.Page.{Page};
@@ -19,10 +19,10 @@ use ts_model::{Def, Defs, Kind};
 use ts_page::{Page, Pages};
 use ts_space::{Place, Space};
 
-/// The most pages that are held at once: 16 MiB of them.
-pub(crate) const MOST_PAGES: usize = 4096;
+/// The most pages that a list holds: 8 MiB of them.
+pub(crate) const MOST_PAGES: usize = 2048;
 
-/// Reads the pages that a range touches of the series of a container, those in the first of some slots: as many as are held at once. Tells
+/// Reads the pages that a range touches of the series of a container, those in the first of some slots: as many as a list holds. Tells
 /// how many slots these are; none, where the first series alone has more pages. All pages stay; `page` is room to read one. `held` is
 /// cleared and then has what was read; its memory is kept. After an error nothing is said of it.
 pub(crate) fn gather<'a, P: Pages>(
