@@ -43,37 +43,53 @@ fn calls(
     Ok(Some(site.calls()))
 }
 
+/// Statements, what they say, and how many calls they make: one for each page that is read, and one for each reply.
+const READINGS: [(&[u8], &[u8], u64); 6] = [
+    // The opening left no page in memory.
+    (
+        b"GetElem('a','2011-01-03 04:10:00');",
+        b"2011-01-03 04:10:00.00000 '50','',null\nok 1\n",
+        2,
+    ),
+    (
+        b"GetElem('a','2011-01-03 04:10:00');GetElem('a','2011-01-03 04:10:00');",
+        b"2011-01-03 04:10:00.00000 '50','',null\nok 1\n2011-01-03 04:10:00.00000 '50','',null\nok 1\n",
+        3,
+    ),
+    // A fold of a container reads each page of its range once,
+    (
+        b"AggregateAll('count($p)',c1,'2011-01-01 00:00:00','2011-12-31 00:00:00');",
+        b"'a' 100\nok 1\n",
+        101,
+    ),
+    (
+        b"AggregateAll('count($p)',c1,'2011-01-03 04:10:00','2011-01-03 04:14:59');",
+        b"'a' 1\nok 1\n",
+        2,
+    ),
+    // keeps none in memory,
+    (
+        b"AggregateAll('count($p)',c1,'2011-01-03 04:10:00','2011-01-03 04:14:59');GetElem('a','2011-01-03 04:10:00');",
+        b"'a' 1\nok 1\n2011-01-03 04:10:00.00000 '50','',null\nok 1\n",
+        4,
+    ),
+    // and finds those that are there.
+    (
+        b"GetElem('a','2011-01-03 04:10:00');AggregateAll('count($p)',c1,'2011-01-03 04:10:00','2011-01-03 04:14:59');",
+        b"2011-01-03 04:10:00.00000 '50','',null\nok 1\n'a' 1\nok 1\n",
+        3,
+    ),
+];
+
 #[test]
 fn a_page_is_read_once_and_then_found_in_memory(rt: HostRuntime) -> Result<(), Fail> {
     let alloc = rt.alloc();
     let bytes = hundred_pages(&rt, alloc)?;
-    // All quota is charged: 100 pages.
-    let opened = calls(
-        &rt,
-        alloc,
-        &bytes,
-        b"TSContainerUsage(c1);",
-        b"ok 100 100\n",
-    )?;
-    // The page is read, for the opening left none in memory, and the reply is said.
-    let once = calls(
-        &rt,
-        alloc,
-        &bytes,
-        b"TSContainerUsage(c1);GetElem('a','2011-01-03 04:10:00');",
-        b"ok 100 100\n2011-01-03 04:10:00.00000 '50','',null\nok 1\n",
-    )?;
-    assert_eq!(rt; once, opened.map(|before| before.saturating_add(2)));
-    // The reply alone.
-    let twice = calls(
-        &rt,
-        alloc,
-        &bytes,
-        b"TSContainerUsage(c1);GetElem('a','2011-01-03 04:10:00');GetElem('a','2011-01-03 04:10:00');",
-        b"ok 100 100\n2011-01-03 04:10:00.00000 '50','',null\nok 1\n\
-        2011-01-03 04:10:00.00000 '50','',null\nok 1\n",
-    )?;
-    assert_eq!(rt; twice, opened.map(|before| before.saturating_add(3)));
+    let opened = calls(&rt, alloc, &bytes, b"", b"")?;
     assert!(rt; opened.is_some());
+    for (script, said, added) in READINGS {
+        let by_now = calls(&rt, alloc, &bytes, script, said)?;
+        assert_eq!(rt; by_now, opened.map(|before| before.saturating_add(added)));
+    }
     Ok(())
 }
