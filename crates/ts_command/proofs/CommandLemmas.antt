@@ -1,15 +1,16 @@
 -- The command that a statement is read as has its form.
-use Rattle.std.proofs.Common.{◌≡◌, ℕ, ◌<◌, ◌≤◌, ◌^◌, List, [], ◌∷◌, length, length-append, Some, Ok, true, refl, ap, arith, ℤ, pos, neg_ℤ, int_le}
+use Rattle.std.proofs.Common.{◌≡◌, ℕ, ◌<◌, ◌^◌, List, [], ◌∷◌, length, Ok, codes, true, refl, arith, ℤ, pos, neg_ℤ, int_le}
 use Rattle.ts_row.specs.declared.value.Literal.{Literal}
 use Rattle.ts_text.specs.Phrase.{Phrase, ◌>>=◌, give, a_sign, behind, made, the_end}
-use Rattle.ts_text.specs.declared.token.TokenKind.{TokenKind}
-use Rattle.ts_text.specs.declared.token.TokenKind.TheVariants.{Word, Number, Text, Sign}
-use Rattle.ts_text.proofs.CallerLemmas.{Yields, Goes, Any, chain, shrinks_of, sign_shrinks, behind_yields, made_yields, bind-ok, pair-parts, token-found, unblanked-le}
+use Rattle.ts_text.specs.declared.token.TokenKind.TheVariants.{Word}
+use Rattle.ts_text.proofs.CallerLemmas.{Yields, Goes, Any, chain, shrinks_of, of_token, sign_shrinks, behind_yields, made_yields, bind-ok, pair-parts}
 use Rattle.ts_tokens.specs.Tokens.{front}
-use Rattle.ts_tokens.specs.Text.{said}
+use Rattle.ts_arguments.specs.declared.word.Joined.{Joined}
+use Rattle.ts_arguments.specs.declared.word.Joined.TheVariants.{Patterns, Calendars}
+use Rattle.ts_arguments.specs.Calls.{before, two, name_before, key_before, text_before, two_names, joined_names, name_and_text, two_names_and_whole, key_and_name, key_and_whole, key_and_stamp, name_range, key_range, two_keys_range, name_key_range, text_key_range, text_name_range, text_name_key_range, key_name_stamp_and_name, name_stamp_and_whole, key_stamp_and_whole, key_stamp_and_values, name_and_columns}
 use Rattle.ts_command.specs.Form.{HasForm}
-use Rattle.ts_command.specs.Routines.{least_number, most_number}
-use Rattle.ts_command.specs.Grammar.{a_text, text_in, a_routine, of_name, of_key, of_stamp, of_row, of_text, of_join, of_range, of_clip, of_number, of_keys, arguments, a_call, a_command, before, two, name_before, key_before, text_before, two_names, joined_names, name_and_text, two_names_and_whole, key_and_name, key_and_whole, key_and_stamp, name_range, key_range, two_keys_range, name_key_range, text_key_range, text_name_range, text_name_key_range, key_name_stamp_and_name, name_stamp_and_whole, key_stamp_and_whole, key_stamp_and_values, name_and_columns}
+use Rattle.ts_command.specs.Routines.{routine_of, least_number, most_number}
+use Rattle.ts_command.specs.Grammar.{a_routine, routine_in, of_name, of_key, of_stamp, of_row, of_text, of_join, of_range, of_clip, of_number, of_keys, arguments, a_call, a_command}
 use Rattle.ts_command.specs.declared.routine.Routine.{Routine}
 use Rattle.ts_command.specs.declared.routine.Routine.TheVariants as calls
 use Rattle.ts_command.specs.declared.routine.NameRoutine.{NameRoutine}
@@ -32,11 +33,9 @@ use Rattle.ts_command.specs.declared.routine.NumberRoutine.{NumberRoutine}
 use Rattle.ts_command.specs.declared.routine.NumberRoutine.TheVariants as by_number
 use Rattle.ts_command.specs.declared.routine.PairRoutine.{PairRoutine}
 use Rattle.ts_command.specs.declared.routine.PairRoutine.TheVariants as of_pair
-use Rattle.ts_command.specs.declared.word.Joined.{Joined}
-use Rattle.ts_command.specs.declared.word.Joined.TheVariants.{Patterns, Calendars}
 use Rattle.ts_command.specs.declared.command.Command.{Command}
-use Rattle.ts_tokens.proofs.CallerLemmas.{front_laws, open_sign, close_sign, comma_sign, said-le}
-use Rattle.ts_command.proofs.FormLemmas.{IsName, IsKey, IsWithin, Both, AreNames, IsKeyRange, IsNameRange, IsNameAndKey, key_range_yields, name_range_yields, name_key_range_yields, with_text_yields, routine_yields, name_before_yields, two_names_yields, name_and_text_yields, joined_names_yields, name_stamp_and_whole_yields, key_before_yields, key_and_name_yields, key_name_stamp_and_name_yields, key_and_stamp_yields, two_names_and_whole_yields, key_stamp_and_values_yields, name_and_columns_yields, key_stamp_and_whole_yields, key_and_whole_yields, two_keys_range_yields}
+use Rattle.ts_tokens.proofs.CallerLemmas.{front_laws, open_sign, close_sign}
+use Rattle.ts_arguments.proofs.CallerLemmas.{IsName, IsKey, IsWithin, AreNames, IsKeyRange, IsNameRange, IsNameAndKey, key_range_yields, name_range_yields, name_key_range_yields, with_text_yields, name_before_yields, two_names_yields, name_and_text_yields, joined_names_yields, name_stamp_and_whole_yields, key_before_yields, key_and_name_yields, key_name_stamp_and_name_yields, key_and_stamp_yields, two_names_and_whole_yields, key_stamp_and_values_yields, name_and_columns_yields, key_stamp_and_whole_yields, key_and_whole_yields, two_keys_range_yields, text_key_range_yields, text_name_range_yields, text_name_key_range_yields, name_text-le, first_text-le}
 
 -- the commands of each group have their form
 of_name-form : (routine : NameRoutine) (name : List ℕ) → IsName name → HasForm (of_name routine name)
@@ -111,18 +110,6 @@ FormOf calls.AggregateRange command = Any command
 FormOf calls.AggregateAll command = Any command
 FormOf routine command = HasForm command
 
-text_key_range_yields : Yields front (Both Any IsKeyRange) text_key_range
-unfolding text_key_range
-text_key_range_yields = with_text_yields IsKeyRange key_range key_range_yields
-
-text_name_range_yields : Yields front (Both Any IsNameRange) text_name_range
-unfolding text_name_range
-text_name_range_yields = with_text_yields IsNameRange name_range name_range_yields
-
-text_name_key_range_yields : Yields front (Both Any IsNameAndKey) text_name_key_range
-unfolding text_name_key_range
-text_name_key_range_yields = with_text_yields IsNameAndKey name_key_range name_key_range_yields
-
 -- and they tell it
 arguments_yield : (routine : Routine) → Yields front (FormOf routine) (arguments routine)
 unfolding arguments
@@ -161,6 +148,11 @@ loosely P phrase one = record {
   some = goes_on P phrase [] one.some;
 }
 
+-- the name of a routine
+routine_yields : Yields front Any a_routine
+unfolding a_routine front routine_of
+routine_yields = of_token front front_laws Any routine_in (record { first = 71; more = codes "etElem"; kind = Word; found = calls.AtStamp at_stamp.GetElem; holds = tt; stands = refl; accepted = refl }) (λ kind text a e. tt)
+
 -- a call
 pub call_yields : Yields front Any a_call
 unfolding a_call
@@ -168,50 +160,13 @@ call_yields =
     chain front front_laws Any Any a_routine (λ routine. behind 40 (arguments routine)) routine_yields
     (λ routine any. behind_yields front front_laws Any 40 open_sign (arguments routine) (loosely (FormOf routine) (arguments routine) (arguments_yield routine)))
 
--- a text is no longer than the bytes
-text_is : (kind : TokenKind) (token a : List ℕ) → text_in kind token ≡ Some a → length a ≤ length token
-text_is Word token a is = absurd (cc)
-text_is Number token a is = absurd (cc)
-text_is Text token a is = let same : said token ≡ a = cc in rw (← same) (said-le token)
-text_is Sign token a is = absurd (cc)
-
-text-le : (bytes : List ℕ) (found : List ℕ × List ℕ) → a_text bytes ≡ Ok found → length found.0 ≤ length bytes
-unfolding a_text
-text-le bytes found is =
-    let token = token-found front front_laws text_in bytes found.1 found.0 is in
-    omega (arith, text_is token.kind token.text found.0 token.accepted, ap length token.whole, length-append token.text found.1, unblanked-le bytes)
-
-text_before-le : (sign : ℕ) (bytes : List ℕ) (found : List ℕ × List ℕ) → text_before sign bytes ≡ Ok found → length found.0 ≤ length bytes
-unfolding text_before
-text_before-le sign bytes found is =
-    let text = bind-ok (a_text bytes) (λ a. a_sign sign >>= (λ end. give a)) found is in
-    let end = bind-ok (a_sign sign text.0.1) (λ end. give text.0.0) found text.2 in
-    omega (arith, ap length (pair-parts text.0.0 found.0 end.0.1 found.1 end.2).0, text-le bytes text.0 text.1)
-
-name_text-le : (bytes : List ℕ) (found : (List ℕ × List ℕ) × List ℕ) → name_and_text bytes ≡ Ok found → length found.0.1 ≤ length bytes
-unfolding name_and_text
-name_text-le bytes found is =
-    let name = bind-ok (name_before 44 bytes) (λ a. text_before 41 >>= (λ b. give (a, b))) found is in
-    let text = bind-ok (text_before 41 name.0.1) (λ b. give (name.0.0, b)) found name.2 in
-    let both : List ℕ × List ℕ = (name.0.0, text.0.0) in
-    let same : text.0.0 ≡ found.0.1 = ap (λ (p : List ℕ × List ℕ). p.1) (pair-parts both found.0 text.0.1 found.1 text.2).0 in
-    omega (arith, ap length same, text_before-le 41 name.0.1 text.0 text.1, shrinks_of front IsName (name_before 44) (name_before_yields 44 comma_sign) bytes name.0 name.1)
-
+-- the command of a name and a text
 text-form : (routine : TextRoutine) (bytes : List ℕ) (found : Command × List ℕ) → length bytes < 2 ^ 32 → arguments (calls.WithText routine) bytes ≡ Ok found → HasForm found.0
 unfolding arguments
 text-form routine bytes found few is =
     let read = bind-ok (name_and_text bytes) (λ a. give (of_text routine a.0 a.1)) found is in
     let same = (pair-parts (of_text routine read.0.0.0 read.0.0.1) found.0 read.0.1 found.1 read.2).0 in
     rw (← same) (of_text-form routine read.0.0.0 read.0.0.1 (name_and_text_yields.ok bytes read.0 read.1).0.0 (omega (arith, few, name_text-le bytes read.0 read.1)))
-
--- so where a text stands first
-first_text-le : {A : Type 0} (other : Phrase A) (bytes : List ℕ) (found : (List ℕ × A) × List ℕ) → two (text_before 44) other bytes ≡ Ok found → length found.0.0 ≤ length bytes
-first_text-le {A} other bytes found is =
-    let text = bind-ok (text_before 44 bytes) (λ a. other >>= (λ b. give (a, b))) found is in
-    let rest = bind-ok (other text.0.1) (λ b. give (text.0.0, b)) found text.2 in
-    let both : List ℕ × A = (text.0.0, rest.0.0) in
-    let same : text.0.0 ≡ found.0.0 = ap (λ (p : List ℕ × A). p.0) {x = both} {y = found.0} (pair-parts both found.0 rest.0.1 found.1 rest.2).0 in
-    omega (arith, ap length same, text_before-le 44 bytes text.0 text.1)
 
 -- a command that is made of a text and of what else stands there has its form where these have theirs
 first_text-form : {A : Type 0} (P : A → Type 0) (other : Phrase A) (make : List ℕ × A → Command) → Yields front P other

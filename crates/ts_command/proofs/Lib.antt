@@ -1,3 +1,1 @@
-pub mod FormLemmas
 pub mod CommandLemmas
-pub mod PrintedLemmas

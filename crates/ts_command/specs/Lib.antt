@@ -3,4 +3,3 @@ pub mod Grammar
 pub mod Misfit
 pub mod Form
 pub mod Script
-pub mod Printed

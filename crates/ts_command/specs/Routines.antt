@@ -1,4 +1,4 @@
--- The routines, what is joined, and the types of value columns, by their names.
+-- The routines, by their names.
 use Rattle.std.specs.Prelude.{ℕ, List, [], ◌∷◌, codes, find, Option, ℤ, pos, neg_ℤ}
 use Rattle.std.specs.Str.{bytes_eq}
 use Rattle.ts_command.specs.declared.routine.Routine.{Routine}
@@ -23,10 +23,6 @@ use Rattle.ts_command.specs.declared.routine.NumberRoutine.{NumberRoutine}
 use Rattle.ts_command.specs.declared.routine.NumberRoutine.TheVariants as by_number
 use Rattle.ts_command.specs.declared.routine.PairRoutine.{PairRoutine}
 use Rattle.ts_command.specs.declared.routine.PairRoutine.TheVariants as of_pair
-use Rattle.ts_command.specs.declared.word.Joined.{Joined}
-use Rattle.ts_command.specs.declared.word.Joined.TheVariants.{Patterns, Calendars}
-use Rattle.ts_command.specs.declared.word.TypeName.{TypeName}
-use Rattle.ts_command.specs.declared.word.TypeName.TheVariants.{SmallInt, Integer, BigInt, Decimal, VarChar}
 
 -- the names of the routines that are called with a name
 abbrev pub name_spelling : NameRoutine → List ℕ
@@ -174,27 +170,3 @@ routines =
 -- the routine of this name, if there is one
 unfoldable pub routine_of : List ℕ → Option Routine
 routine_of word = find (λ routine. bytes_eq (spelling routine) word) routines
-
--- the word for what is joined
-abbrev pub joined_spelling : Joined → List ℕ
-joined_spelling Patterns = codes "pattern"
-joined_spelling Calendars = codes "calendar"
-
--- what is joined where this word stands, if something is
-unfoldable pub joined_of : List ℕ → Option Joined
-joined_of word = find (λ joined. bytes_eq (joined_spelling joined) word) (Patterns ∷ Calendars ∷ [])
-
--- the name of a type
-abbrev pub type_spelling : TypeName → List ℕ
-type_spelling SmallInt = codes "smallint"
-type_spelling Integer = codes "integer"
-type_spelling BigInt = codes "bigint"
-type_spelling Decimal = codes "decimal"
-type_spelling VarChar = codes "varchar"
-
-abbrev pub types : List TypeName
-types = SmallInt ∷ Integer ∷ BigInt ∷ Decimal ∷ VarChar ∷ []
-
--- the type of this name, if there is one
-unfoldable pub type_of : List ℕ → Option TypeName
-type_of word = find (λ type. bytes_eq (type_spelling type) word) types

@@ -5,18 +5,17 @@ ghost use Rattle.ts_text.specs.Misfit.{Refuses};
 ghost use Rattle.ts_command.specs.Grammar.{arguments_to_end, of_name, of_key, of_stamp, of_row, of_text, of_join, of_range, of_clip, of_number, of_keys};
 ghost use Rattle.ts_command.specs.declared.routine.Routine.{Routine};
 
-use crate::call::{
-    read_joined_names, read_key_and_stamp, read_key_and_whole, read_key_before, read_key_range,
-    read_key_stamp_and_values, read_name_and_text, read_name_before, read_name_range,
-    read_two_keys_range,
-};
+use crate::Command;
 use crate::routine::{
     ClipRoutine, JoinRoutine, KeyRoutine, NameRoutine, NumberRoutine, PairRoutine, RangeRoutine,
     RowRoutine, StampRoutine, TextRoutine,
 };
-use crate::word::Joined;
-use crate::{Command, Literals};
 use std::alloc::Global;
+use ts_arguments::{
+    Joined, Literals, read_joined_names, read_key_and_stamp, read_key_and_whole, read_key_before,
+    read_key_range, read_key_stamp_and_values, read_name_and_text, read_name_before,
+    read_name_range, read_two_keys_range,
+};
 use ts_base::{Bytes, Key, Name, Stamp};
 use ts_text::{Misfit, read_end};
 

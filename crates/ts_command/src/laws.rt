@@ -6,9 +6,6 @@ ghost use Rattle.ts_text.specs.Place.{everywhere, RefusesInPlace};
 ghost use Rattle.ts_tokens.specs.Tokens.{front};
 ghost use Rattle.ts_command.specs.Grammar.{command_of};
 ghost use Rattle.ts_command.specs.Script.{request_of, requests};
-ghost use Rattle.ts_command.specs.Printed.{ValuesAreReadAgain, RowsAreReadAgain};
-
-use ts_row::{printed_digits_write_the_size, printed_values_fit_again};
 
 /// A statement that is a command is tokens with blanks between them, then blanks and the `;`. Where it is refused,
 /// whole tokens with their blanks stand before the place.
@@ -28,13 +25,3 @@ pub fn requests_of_a_front_come_first()
     ensures { (front_of rest : List ℕ) →
         requests (front_of ++ rest) ≡ requests front_of ++ map request_of (items_from (place_from (Some []) front_of) rest) }
 {}
-
-/// A value that is printed is read again, where a blank, a comma or a closing bracket stands behind it, as one literal;
-/// this fits the column and gives the value back. So for a row, as the last arguments of a statement; it is visible then.
-pub fn printed_values_are_read_again()
-    ensures value { ValuesAreReadAgain }
-    ensures row { RowsAreReadAgain }
-{
-    printed_digits_write_the_size();
-    printed_values_fit_again();
-}

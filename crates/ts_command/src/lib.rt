@@ -1,25 +1,21 @@
 //! The script language: `read_command` gives the command that a statement is, or the first place in it that can't stand
-//! there (`specs/Grammar`, over the tokens of ts_tokens). With the items of a script, which ts_items cuts, that is what a
-//! script asks for (`specs/Script`). Routines stand in groups by what they are called with, each with one reader. A further
+//! there (`specs/Grammar`, over the arguments of ts_arguments). With the items of a script, which ts_items cuts, that is what
+//! a script asks for (`specs/Script`). Routines stand in groups by what they are called with, each with one reader. A further
 //! routine is a variant of its group and of `Command`, a line of the list of routines, its name, its command by its
-//! arguments, and its case of form. Stands on ts_items, ts_tokens, ts_row, ts_text and ts_base; knows nothing of the store.
-//! Read `specs/Grammar.antt`, then `call.rt`, `group.rt` and `read.rt`.
+//! arguments, and its case of form. Stands on ts_arguments, ts_items, ts_tokens, ts_row, ts_text and ts_base; knows nothing
+//! of the store. Read `specs/Grammar.antt`, then `routine.rt`, `group.rt` and `read.rt`.
 #![tactic(auto)]
 
-mod call;
-mod column;
 mod command;
 mod group;
 mod laws;
-mod phrase;
 mod read;
 mod routine;
-mod word;
 
-pub use command::{Columns, Command, Literals};
+pub use command::Command;
 pub use laws::{
-    a_statement_is_its_tokens, printed_values_are_read_again, requests_of_a_front_come_first,
-    statements_are_refused_in_place,
+    a_statement_is_its_tokens, requests_of_a_front_come_first, statements_are_refused_in_place,
 };
 pub use read::read_command;
+pub use ts_arguments::{Columns, Literals, printed_values_are_read_again};
 pub use ts_items::{Cut, Fed, Reader};

@@ -6,18 +6,17 @@ ghost use Rattle.ts_command.specs.Grammar.{a_command, arguments_to_end, command_
 ghost use Rattle.ts_command.specs.Misfit.{IsCause};
 
 use crate::Command;
-use crate::call::{
-    read_key_and_name, read_key_name_stamp_and_name, read_key_stamp_and_whole,
-    read_name_and_columns, read_name_stamp_and_whole, read_text_key_range,
-    read_text_name_key_range, read_text_name_range, read_two_names, read_two_names_and_whole,
-};
 use crate::group::{
     read_joining, read_of_clip, read_of_key, read_of_name, read_of_number, read_of_pair,
     read_of_range, read_of_row, read_of_stamp, read_of_text,
 };
-use crate::phrase::read_routine;
-use crate::routine::Routine;
+use crate::routine::{Routine, read_routine};
 use std::alloc::Global;
+use ts_arguments::{
+    read_key_and_name, read_key_name_stamp_and_name, read_key_stamp_and_whole,
+    read_name_and_columns, read_name_stamp_and_whole, read_text_key_range,
+    read_text_name_key_range, read_text_name_range, read_two_names, read_two_names_and_whole,
+};
 use ts_base::{Refusal, Trouble};
 use ts_text::{Misfit, read_end, read_sign};
 

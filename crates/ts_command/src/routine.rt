@@ -1,8 +1,12 @@
 // The routines that a statement may call, by their names.
-ghost use Rattle.std.specs.Prelude.{◌≡◌};
+ghost use Rattle.std.specs.Prelude.{◌≡◌, Ok, IfOk, IfErr};
+ghost use Rattle.ts_text.specs.Misfit.{RefusesExactly};
 ghost use Rattle.ts_command.specs.Routines.{spelling, name_spelling, key_spelling, stamp_spelling, row_spelling, text_spelling, join_spelling, range_spelling, clip_spelling, number_spelling, pair_spelling, least_number, most_number, routine_of};
+ghost use Rattle.ts_command.specs.Grammar.{a_routine};
 
-use crate::word::are_same;
+use ts_arguments::are_same;
+use ts_text::{Misfit, TokenKind, skip_blanks};
+use ts_tokens::front;
 
 /// The routines, those together that are called with the same arguments.
 #[derive(Clone, Copy)]
@@ -339,4 +343,20 @@ pub(crate) fn routine_of(word: &[u8]) -> Option<Routine>
         .iter()
         .copied()
         .find(|routine| are_same(routine.spelling(), word))
+}
+
+/// The name of a routine.
+#[tactic(auto, unfolding(crate::specs::Grammar::a_routine))]
+pub(crate) fn read_routine(bytes: &[u8]) -> Result<(Routine, &[u8]), Misfit>
+    ensures ok { IfOk result (λ found. a_routine bytes.now ≡ Ok (found.0, found.1.now)) }
+    ensures cause { IfErr result (λ misfit. RefusesExactly misfit (a_routine bytes.now)) }
+{
+    let here = skip_blanks(bytes);
+    if let Some((TokenKind::Word, length)) = front(here) {
+        let (word, rest) = here.split_at(length);
+        if let Some(routine) = routine_of(word) {
+            return Ok((routine, rest));
+        }
+    }
+    Err(Misfit::here(here))
 }

@@ -1,0 +1,5 @@
+pub mod CallerLemmas
+mod FormLemmas
+mod CallLemmas
+mod TextLemmas
+mod PrintedLemmas

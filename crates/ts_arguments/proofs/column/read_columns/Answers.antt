@@ -1,0 +1,22 @@
+use Rattle.std.proofs.Common.{◌∙◌, sym, arith}
+use Rattle.std.proofs.lemmas.Result.{err_from_is_err_and}
+use Rattle.ts_arguments.specs.Arguments.{a_column}
+use Rattle.ts_arguments.proofs.FormLemmas.{column_shrinks}
+use Rattle.ts_text.proofs.CallerLemmas.{sign_shrinks, onto_more, onto_end, list_refused}
+use Rattle.ts_arguments.proofs.column.read_columns.Goals as goal
+
+pub returns-in_err-column-clause-cause : goal.returns-in_err-column-clause-cause
+returns-in_err-column-clause-cause c =
+    let p = err_from_is_err_and c.from_residual.result c.from_residual.ensures.1 in
+    rw (p.1, p.2) (list_refused a_column column_shrinks c.loop-behind.columns c.args.columns.now c.args.bytes.now c.loop-behind.rest.now c.in-Some.behind.now c.in_err-column.field-0.0 c.loop-behind.invariant c.in-Some.ensures.some c.in_err-column.ensures.cause)
+
+pub loop-behind-smaller : goal.loop-behind-smaller
+loop-behind-smaller c =
+    omega (arith, sign_shrinks 44 c.loop-behind.rest.now (tt, c.in-Some.behind.now) c.in-Some.ensures.some, column_shrinks c.in-Some.behind.now (c.in_ok-column.column, c.in_ok-column.more.now) c.in_ok-column.ensures.ok)
+
+pub loop-behind-preserved : goal.loop-behind-preserved
+loop-behind-preserved c =
+    rw c.in_ok-push.ensures.ok (sym (onto_more a_column column_shrinks c.loop-behind.columns c.loop-behind.rest.now c.in-Some.behind.now c.in_ok-column.more.now c.in_ok-column.column c.in-Some.ensures.some c.in_ok-column.ensures.ok) ∙ c.loop-behind.invariant)
+
+pub returns-clause-ok : goal.returns-clause-ok
+returns-clause-ok c = sym c.loop-behind.invariant ∙ onto_end a_column c.loop-behind.columns c.loop-behind.rest.now _ c.in_default.ensures.none
