@@ -1,4 +1,4 @@
-use Rattle.std.proofs.Common.{◌≡◌, ℕ, ◌<◌, Bool, true, List, [], length, refl, ap, sym, ◌∙◌, subst, arith}
+use Rattle.std.proofs.Common.{◌≡◌, ℕ, ◌<◌, Bool, List, [], length, refl, ap, sym, ◌∙◌, subst, arith}
 use Rattle.ts_disk.specs.Device.{Device}
 use Rattle.ts_store.specs.OpenBatch.{State, IsIdle}
 use Rattle.ts_store_vectors.proofs.cached.caching.Goals as goal
