@@ -14,12 +14,10 @@ ghost use Rattle.ts_aggregate.specs.Call.{AreHanded};
 use crate::Folding;
 use crate::by_interval::{ByInterval, MOST_ROWS};
 use crate::wanted::WantedIntervals;
-use std::alloc::Global;
 use ts_base::{Refusal, Stamp, StoreFault};
-use ts_calendar::Calendar;
 use ts_clip::elements;
 use ts_entry::ElementVisitor;
-use ts_offset::Shape;
+use ts_offset::{Counter, Shape};
 use ts_page::{Page, Pages};
 use ts_row::Shelf;
 use ts_space::Space;
@@ -27,15 +25,14 @@ use ts_space::Space;
 /// Hands on a row for each on interval of a calendar that starts from one stamp to another, both included, and holds an element that isn't
 /// hidden: what a list makes of those that it holds, at its start. Tells how many rows they are; TooLarge where they are more than 1000000,
 /// and then some of them were handed on. The fold is one that has taken nothing. The pages that have such elements are read, each once;
-/// all pages stay; `page` is room to read one. The memory is for the on runs of the calendar's pattern.
+/// all pages stay; `page` is room to read one.
 pub fn aggregate_by<P: Pages, V: ElementVisitor>(
-    alloc: Global,
     pages: &mut P,
     page: &mut Page,
     space: &Space,
     shelf: &Shelf,
-    shape: &Shape,
-    calendar: &Calendar,
+    shape: &Shape<'_>,
+    calendar: &Counter,
     folding: &mut Folding<'_>,
     from: Stamp,
     to: Stamp,
@@ -55,7 +52,7 @@ pub fn aggregate_by<P: Pages, V: ElementVisitor>(
 {
     // They rise, and so do the elements.
     let _places = space.places(shelf.series);
-    let wanted = WantedIntervals::make(alloc, calendar, from, to)?;
+    let wanted = WantedIntervals::new(calendar, from, to);
     let last = wanted.last();
     let mut groups = ByInterval::new(&wanted, folding, visitor);
     elements(pages, page, space, shelf, shape, from, last, &mut groups)?;

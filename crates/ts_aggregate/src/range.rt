@@ -22,7 +22,7 @@ pub fn aggregate_range<P: Pages>(
     page: &mut Page,
     space: &Space,
     shelf: &Shelf,
-    shape: &Shape,
+    shape: &Shape<'_>,
     folding: &mut Folding<'_>,
     from: Stamp,
     to: Stamp,

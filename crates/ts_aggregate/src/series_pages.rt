@@ -8,7 +8,7 @@ use ts_space::Place;
 #[derive(Drop)]
 pub struct Stack<'a> {
     pub shelf: Shelf<'a>,
-    pub shape: Shape,
+    pub shape: Shape<'a>,
     pub places: &'a [Place],
     pub first: usize,
 }

@@ -1,15 +1,13 @@
 // Which groups are asked for.
-ghost use Rattle.std.specs.Prelude.{◌≡◌, ℤ, ◌<ℤ◌, [], None, IfOk, pos};
+ghost use Rattle.std.specs.Prelude.{◌≡◌, ℤ, ◌<ℤ◌, [], None, pos};
 ghost use Rattle.ts_base.specs.Moment.{IsStamp};
 ghost use Rattle.ts_calendar.specs.Intervals.{IsBefore};
 ghost use Rattle.ts_offset.specs.Grid.{held_start};
 ghost use Rattle.ts_aggregate.specs.Groups.{asked_start, IsGoingOn, IsSpan};
 
 use crate::span::Span;
-use std::alloc::{AllocError, Global};
 use std::marker::Model;
 use ts_base::Stamp;
-use ts_calendar::Calendar;
 use ts_offset::Counter;
 
 /// The number of the greatest stamp.
@@ -18,40 +16,25 @@ const GREATEST: i64 = 25_340_230_079_999_999;
 /// Groups of elements by the on intervals of a calendar: those that start from one stamp to another, both included.
 #[derive(Drop)]
 pub(crate) struct WantedIntervals<'a> {
-    calendar: &'a Calendar,
-    counter: Counter,
+    counter: &'a Counter,
     from: Stamp,
     to: Stamp,
 }
 
 impl<'a> Model for WantedIntervals<'a> {
-    ghost use Rattle.std.specs.Prelude.{◌≡◌};
     ghost use Rattle.ts_aggregate.specs.Groups.{WantedPlan};
 
     ghost Value = { WantedPlan };
 
-    ghost view = { λ w. record { calendar = w.calendar.now; from = w.from; to = w.to } };
-
-    ghost invariant = { λ w. w.counter ≡ w.calendar.now };
+    ghost view = { λ w. record { calendar = w.counter.now; from = w.from; to = w.to } };
 }
 
 impl<'a> WantedIntervals<'a> {
-    /// These groups. The memory is for the on runs of the calendar's pattern.
-    pub(crate) fn make(
-        alloc: Global,
-        calendar: &'a Calendar,
-        from: Stamp,
-        to: Stamp,
-    ) -> Result<WantedIntervals<'a>, AllocError>
-        ensures { IfOk result (λ wanted. wanted ≡ record { calendar = calendar.now; from = from; to = to }) }
+    /// These groups.
+    pub(crate) fn new(counter: &'a Counter, from: Stamp, to: Stamp) -> WantedIntervals<'a>
+        ensures { result ≡ record { calendar = counter.now; from = from; to = to } }
     {
-        let counter = Counter::make(alloc, calendar)?;
-        Ok(WantedIntervals {
-            calendar,
-            counter,
-            from,
-            to,
-        })
+        WantedIntervals { counter, from, to }
     }
 
     /// The stamps before the first on interval, to which no group belongs.
@@ -59,10 +42,11 @@ impl<'a> WantedIntervals<'a> {
         ensures none { result.start ≡ None }
         ensures going { IsGoingOn self.now result [] }
     {
-        let _laid = self.calendar.patt_start();
+        let calendar = self.counter.calendar();
+        let _laid = calendar.patt_start();
         Span {
             start: None,
-            end: Some(self.calendar.start()),
+            end: Some(calendar.start()),
         }
     }
 
@@ -71,11 +55,12 @@ impl<'a> WantedIntervals<'a> {
         ensures span { IsSpan self.now stamp result }
         ensures stamp { IsStamp stamp }
     {
-        let interval = self.calendar.interval_around(stamp);
-        if self.calendar.is_on(interval) {
+        let calendar = self.counter.calendar();
+        let interval = calendar.interval_around(stamp);
+        if calendar.is_on(interval) {
             return Span {
-                start: self.asked(self.calendar.start_of(interval)),
-                end: self.calendar.start_of(interval + 1),
+                start: self.asked(calendar.start_of(interval)),
+                end: calendar.start_of(interval + 1),
             };
         }
         Span {
@@ -99,11 +84,12 @@ impl<'a> WantedIntervals<'a> {
     pub(crate) fn last(&self) -> Stamp
         ensures { (t s : ℤ) → IsStamp t → result <ℤ t → held_start self.now.calendar t ≡ Some s → self.now.to <ℤ s }
     {
-        let interval = self.calendar.interval_around(self.to);
-        if !self.calendar.is_on(interval) {
+        let calendar = self.counter.calendar();
+        let interval = calendar.interval_around(self.to);
+        if !calendar.is_on(interval) {
             return self.to;
         }
-        last_before(self.calendar.start_of(interval + 1))
+        last_before(calendar.start_of(interval + 1))
     }
 }
 

@@ -2,6 +2,7 @@
 use std::alloc::Global;
 use ts_base::{Stamp, Unit};
 use ts_calendar::Calendar;
+use ts_offset::Counter;
 use ts_pattern::{Pattern, Run};
 
 // 2011-01-03 is a Monday.
@@ -105,4 +106,8 @@ pub(crate) fn calendar(alloc: Global, laid: &Laid) -> Option<Calendar> {
     let start = Stamp::read(laid.start)?;
     let pattern = pattern(alloc, laid.unit, laid.on, laid.counts)?;
     Calendar::make(start, start, pattern).ok()
+}
+
+pub(crate) fn counter(alloc: Global, laid: &Laid) -> Option<Counter> {
+    Counter::make(alloc, calendar(alloc, laid)?).ok()
 }

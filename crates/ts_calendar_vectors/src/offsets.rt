@@ -1,12 +1,14 @@
 // Grids: offsets, their stamps and the starts of a grid.
+ghost use Rattle.std.specs.Prelude.{◌≡◌, IfSome};
+
 use crate::laid::{
     ALL_DAYS, FIRST, FIRST_MONTHS, FIRST_SECONDS, JANUARY_1, JANUARY_2, JANUARY_3, JANUARY_4,
     JANUARY_6, JANUARY_7, JANUARY_8, JANUARY_10, LAST, LAST_DAY, LAST_SECOND, Laid, RARE_MINUTES,
-    WORK, always, calendar,
+    WORK, always, counter,
 };
 use std::alloc::Global;
 use ts_base::Unit::{Day, Hour, Minute, Month, Second, Week, Year};
-use ts_base::{Refusal, Stamp, Trouble, Unit};
+use ts_base::{Refusal, Stamp, Unit};
 use ts_offset::{Counter, Grid, Shape, StartsFrom};
 
 /// Each third month.
@@ -33,10 +35,13 @@ const YEARS: Laid = Laid {
     counts: &[1],
 };
 
-fn grid(alloc: Global, laid: &Laid, origin: &[u8]) -> Option<Grid> {
-    let origin = Stamp::read(origin)?;
-    let calendar = calendar(alloc, laid)?;
-    Grid::make(alloc, &calendar, origin).ok()
+fn grid<'a>(counter: &'a Counter, origin: &[u8]) -> Option<Grid<'a>>
+    ensures { IfSome result (λ g. g.calendar ≡ counter.now) }
+{
+    match Grid::make(counter, Stamp::read(origin)?) {
+        Ok(grid) => Some(grid),
+        Err(_) => None,
+    }
 }
 
 // Whether a stamp is that of a text, or there is neither.
@@ -62,7 +67,8 @@ static LATEST: [(Unit, u64, &[u8]); 7] = [
 fn is_last(alloc: Global, unit: Unit, last: u64, start: &[u8]) -> Option<bool> {
     let end = Stamp::read(LAST)?;
     let start = Stamp::read(start)?;
-    let grid = grid(alloc, &always(unit, FIRST), FIRST)?;
+    let counter = counter(alloc, &always(unit, FIRST))?;
+    let grid = grid(&counter, FIRST)?;
     Some(
         grid.offset_of(end) == Ok(last)
             && grid.stamp_of(last) == Some(start)
@@ -111,10 +117,10 @@ static ORIGINS: [(Laid, &[u8], Option<&[u8]>); 11] = [
 // The origin that a grid takes, if there is one.
 fn moved(alloc: Global, laid: &Laid, origin: &[u8]) -> Option<Option<Stamp>> {
     let origin = Stamp::read(origin)?;
-    let calendar = calendar(alloc, laid)?;
-    match Grid::make(alloc, &calendar, origin) {
+    let counter = counter(alloc, laid)?;
+    match Grid::make(&counter, origin) {
         Ok(grid) => Some(Some(grid.origin())),
-        Err(Trouble::Refused(Refusal::PastEnd)) => Some(None),
+        Err(Refusal::PastEnd) => Some(None),
         Err(_) => None,
     }
 }
@@ -191,7 +197,8 @@ static OFFSETS: [(Laid, &[u8], &[u8], Result<u64, Refusal>); 18] = [
 
 fn offset(alloc: Global, laid: &Laid, origin: &[u8], text: &[u8]) -> Option<Result<u64, Refusal>> {
     let stamp = Stamp::read(text)?;
-    Some(grid(alloc, laid, origin)?.offset_of(stamp))
+    let counter = counter(alloc, laid)?;
+    Some(grid(&counter, origin)?.offset_of(stamp))
 }
 
 #[test]
@@ -240,7 +247,8 @@ fn begins(
     offset: u64,
     start: Option<&[u8]>,
 ) -> Option<bool> {
-    let grid = grid(alloc, laid, origin)?;
+    let counter = counter(alloc, laid)?;
+    let grid = grid(&counter, origin)?;
     Some(is_stamp(grid.stamp_of(offset), start) && is_stamp(grid.starts_from(offset).next(), start))
 }
 
@@ -248,6 +256,26 @@ fn begins(
 fn an_offset_has_a_stamp(rt: HostRuntime) {
     for (laid, origin, offset, start) in &STAMPS {
         assert!(rt; begins(rt.alloc(), laid, origin, *offset, *start) == Some(true));
+    }
+}
+
+// Whether a grid from its origin on knows the offset of a stamp as the grid that moved there does.
+fn stays(counter: &Counter, origin: &[u8], text: &[u8]) -> Option<bool> {
+    let stamp = Stamp::read(text)?;
+    let moved = grid(counter, origin)?;
+    let same = Grid::at(counter, moved.origin());
+    Some(same.origin() == moved.origin() && same.offset_of(stamp) == moved.offset_of(stamp))
+}
+
+fn stay(alloc: Global, laid: &Laid, origin: &[u8], text: &[u8]) -> Option<bool> {
+    let counter = counter(alloc, laid)?;
+    stays(&counter, origin, text)
+}
+
+#[test]
+fn a_grid_from_an_on_start_on_is_the_one_that_moved_there(rt: HostRuntime) {
+    for (laid, origin, text, _) in &OFFSETS {
+        assert!(rt; stay(rt.alloc(), laid, origin, text) == Some(true));
     }
 }
 
@@ -264,7 +292,7 @@ static STARTS: [(u64, &[u8]); 8] = [
 ];
 
 // Whether a grid knows the offset of a start, both ways.
-fn is_start(grid: &Grid, offset: u64, text: &[u8]) -> Option<bool> {
+fn is_start(grid: &Grid<'_>, offset: u64, text: &[u8]) -> Option<bool> {
     let start = Stamp::read(text)?;
     Some(
         grid.offset_of(start) == Ok(offset)
@@ -274,7 +302,8 @@ fn is_start(grid: &Grid, offset: u64, text: &[u8]) -> Option<bool> {
 }
 
 fn are_starts(alloc: Global) -> Option<bool> {
-    let grid = grid(alloc, &WORK, JANUARY_3)?;
+    let counter = counter(alloc, &WORK)?;
+    let grid = grid(&counter, JANUARY_3)?;
     for (offset, text) in &STARTS {
         if !is_start(&grid, *offset, text)? {
             return Some(false);
@@ -305,7 +334,8 @@ fn come_next(starts: &mut StartsFrom, texts: &[&[u8]]) -> bool {
 }
 
 fn come(alloc: Global, offset: u64, texts: &[&[u8]], is_all: bool) -> Option<bool> {
-    let grid = grid(alloc, &WORK, JANUARY_3)?;
+    let counter = counter(alloc, &WORK)?;
+    let grid = grid(&counter, JANUARY_3)?;
     let mut starts = grid.starts_from(offset);
     let come = come_next(&mut starts, texts);
     // An end stays one.
@@ -331,7 +361,8 @@ static BEFORE_STAMPS: [(&[u8], u64); 6] = [
 
 fn before(alloc: Global, text: &[u8]) -> Option<u64> {
     let stamp = Stamp::read(text)?;
-    match Shape::Regular(grid(alloc, &WORK, JANUARY_3)?) {
+    let counter = counter(alloc, &WORK)?;
+    match Shape::Regular(grid(&counter, JANUARY_3)?) {
         Shape::Regular(grid) => Some(grid.offset_from(stamp)),
         Shape::Irregular => None,
     }

@@ -2,12 +2,11 @@
 use crate::laid::{
     FIRST, FIRST_MONTHS, FIRST_SECONDS, JANUARY_1, JANUARY_2, JANUARY_3, JANUARY_4, JANUARY_6,
     JANUARY_7, JANUARY_8, JANUARY_10, JANUARY_14, LAST_DAY, LAST_SECOND, Laid, RARE_MINUTES, WORK,
-    calendar,
+    counter,
 };
 use std::alloc::Global;
 use ts_base::Unit::{Day, Month, Second};
 use ts_base::{Refusal, Stamp, Trouble};
-use ts_offset::Counter;
 
 /// Days whose last one goes on into the next round.
 const DAYS: Laid = Laid {
@@ -40,11 +39,6 @@ const SECONDS: Laid = Laid {
     on: true,
     counts: &[1],
 };
-
-fn counter(alloc: Global, laid: &Laid) -> Option<Counter> {
-    let calendar = calendar(alloc, laid)?;
-    Counter::make(alloc, &calendar).ok()
-}
 
 /// Two stamps, and how many starts lie behind the first one up to the second one.
 static INDEXES: [(Laid, &[u8], &[u8], i64); 17] = [
@@ -87,6 +81,20 @@ fn index(alloc: Global, laid: &Laid, from: &[u8], to: &[u8]) -> Option<i64> {
 fn an_index_counts_the_starts_after_the_first_stamp(rt: HostRuntime) {
     for (laid, from, to, count) in &INDEXES {
         assert!(rt; index(rt.alloc(), laid, from, to) == Some(*count));
+    }
+}
+
+// What a copy of a counter counts.
+fn copied(alloc: Global, laid: &Laid, from: &[u8], to: &[u8]) -> Option<i64> {
+    let from = Stamp::read(from)?;
+    let to = Stamp::read(to)?;
+    Some(counter(alloc, laid)?.copy().ok()?.cal_index(from, to))
+}
+
+#[test]
+fn a_copy_counts_the_same(rt: HostRuntime) {
+    for (laid, from, to, count) in &INDEXES {
+        assert!(rt; copied(rt.alloc(), laid, from, to) == Some(*count));
     }
 }
 

@@ -44,7 +44,7 @@ fn calendar(alloc: Global, unit: Unit, first: bool, runs: u32) -> Option<Calenda
 }
 
 // Whether a grid knows the offset of a start.
-fn grid_agrees(grid: &Grid, offset: u64, start: Stamp) -> bool {
+fn grid_agrees(grid: &Grid<'_>, offset: u64, start: Stamp) -> bool {
     grid.offset_of(start) == Ok(offset)
         && grid.offset_from(start) == offset
         && grid.stamp_of(offset) == Some(start)
@@ -78,19 +78,13 @@ fn lists(counter: &Counter, before: Stamp, starts: &[Stamp]) -> Option<bool> {
 }
 
 // Whether the calls of a counter agree with the starts of a walk.
-fn is_counted(alloc: Global, calendar: &Calendar, before: Stamp, starts: &[Stamp]) -> Option<bool> {
-    let counter = Counter::make(alloc, calendar).ok()?;
-    Some(lists(&counter, before, starts) == Some(true) && counts_each(&counter, before, starts))
+fn is_counted(counter: &Counter, before: Stamp, starts: &[Stamp]) -> bool {
+    lists(counter, before, starts) == Some(true) && counts_each(counter, before, starts)
 }
 
 // Whether a grid knows the offset of each of the starts of a walk.
-fn is_numbered(
-    alloc: Global,
-    calendar: &Calendar,
-    before: Stamp,
-    starts: &[Stamp],
-) -> Option<bool> {
-    let grid = Grid::make(alloc, calendar, before).ok()?;
+fn is_numbered(counter: &Counter, before: Stamp, starts: &[Stamp]) -> Option<bool> {
+    let grid = Grid::make(counter, before).ok()?;
     let mut offset: u64 = 0;
     for start in starts {
         if !grid_agrees(&grid, offset, *start) {
@@ -104,10 +98,10 @@ fn is_numbered(
 // Whether the calls on a calendar agree with the walk over so many of its intervals.
 fn agrees(alloc: Global, unit: Unit, first: bool, runs: u32, steps: u32) -> Option<bool> {
     let before = Stamp::read(b"2011-01-01 00:00:00")?;
-    let calendar = calendar(alloc, unit, first, runs)?;
-    let starts = walked(alloc, &calendar, -9, steps)?;
-    let is_counted = is_counted(alloc, &calendar, before, &starts) == Some(true);
-    Some(is_counted && is_numbered(alloc, &calendar, before, &starts) == Some(true))
+    let counter = Counter::make(alloc, calendar(alloc, unit, first, runs)?).ok()?;
+    let starts = walked(alloc, counter.calendar(), -9, steps)?;
+    let is_counted = is_counted(&counter, before, &starts);
+    Some(is_counted && is_numbered(&counter, before, &starts) == Some(true))
 }
 
 const UNITS: [Unit; 7] = [Second, Minute, Hour, Day, Week, Month, Year];

@@ -15,6 +15,7 @@ use Rattle.ts_regular.specs.OnePage.{cell_at, is_seen}
 use Rattle.ts_regular_edits.specs.Stamped.{stamped, stamped_one, HaveStarts}
 use Rattle.ts_regular_edits.proofs.StampLemmas.{some_start, stamped_cons}
 use Rattle.ts_entry.specs.Reading.{first_seen}
+use Rattle.ts_clip.specs.Grid.{first_of}
 use Rattle.ts_clip.proofs.GridPlaceLemmas.{PageAt}
 use Rattle.ts_clip.proofs.GridSeenLemmas.{seen_both}
 use Rattle.ts_clip.proofs.GridStampLemmas.{seen_stamped, seen_starts}
@@ -27,7 +28,7 @@ seen_yes e es shown = rw shown refl
 
 -- the first cell with one
 pub first_found : (at i n : ℕ) (cells : List Cell) (row : Row) → n ≡ at + i → i < length cells → cell_at cells i ≡ Some row → not row.hidden ≡ true → ((other : ℕ) → other < i → is_seen (cell_at cells other) ≡ false)
-    → slice_get (seen (elements_from at cells)) 0 ≡ Some (n, row)
+    → first_of (elements_from at cells) ≡ Some (n, row)
 first_found at i n [] row is within cell shown none = absurd (omega (arith, within))
 first_found at zero n (None ∷ cells) row is within cell shown none = absurd (cc)
 first_found at zero n (Some own ∷ cells) row is within cell shown none =
@@ -51,18 +52,18 @@ first_before [] ys e first = absurd (cc)
 first_before (x ∷ xs) ys e first = first
 
 -- the page of an index, of which those before it have none
-module _ (slot : ℕ) (columns : List Column) (pages : ℕ → List ℕ) (place : Place) (i : ℕ) (ps : List OffsetPage) (here : PageAt slot columns pages place i ps) (ahead : slice_get (seen (all_in ps)) 0 ≡ slice_get (seen (all_in (drop i ps))) 0) where
-  own : slice_get (seen (all_in ps)) 0 ≡ slice_get (seen (elements_from here.page.0 here.page.1) ++ seen (all_in (drop (suc i) ps))) 0
+module _ (slot : ℕ) (columns : List Column) (pages : ℕ → List ℕ) (place : Place) (i : ℕ) (ps : List OffsetPage) (here : PageAt slot columns pages place i ps) (ahead : first_of (all_in ps) ≡ first_of (all_in (drop i ps))) where
+  own : first_of (all_in ps) ≡ slice_get (seen (elements_from here.page.0 here.page.1) ++ seen (all_in (drop (suc i) ps))) 0
   own =
-      ahead ∙ ap (λ (l : List OffsetPage). slice_get (seen (all_in l)) 0) here.next
+      ahead ∙ ap (λ (l : List OffsetPage). first_of (all_in l)) here.next
       ∙ ap (λ (l : List OffsetElement). slice_get l 0) (seen_both (elements_from here.page.0 here.page.1) (all_in (drop (suc i) ps)))
 
-  pub first_ahead : None ≡ slice_get (seen (elements_from here.page.0 here.page.1)) 0 → slice_get (seen (all_in ps)) 0 ≡ slice_get (seen (all_in (drop (i + 1) ps))) 0
+  pub first_ahead : None ≡ first_of (elements_from here.page.0 here.page.1) → first_of (all_in ps) ≡ first_of (all_in (drop (i + 1) ps))
   first_ahead none =
       own ∙ first_behind (seen (elements_from here.page.0 here.page.1)) (seen (all_in (drop (suc i) ps))) (sym none)
-      ∙ ap (λ (k : ℕ). slice_get (seen (all_in (drop k ps))) 0) (let more : suc i ≡ i + 1 = omega arith in more)
+      ∙ ap (λ (k : ℕ). first_of (all_in (drop k ps))) (let more : suc i ≡ i + 1 = omega arith in more)
 
-  pub first_here : (e : OffsetElement) → Some e ≡ slice_get (seen (elements_from here.page.0 here.page.1)) 0 → Some e ≡ slice_get (seen (all_in ps)) 0
+  pub first_here : (e : OffsetElement) → Some e ≡ first_of (elements_from here.page.0 here.page.1) → Some e ≡ first_of (all_in ps)
   first_here e first = sym (own ∙ first_before (seen (elements_from here.page.0 here.page.1)) (seen (all_in (drop (suc i) ps))) e (sym first))
 
 -- at the start of its offset

@@ -17,7 +17,7 @@ use Rattle.ts_regular_edits.proofs.RangeLemmas.{offsets_of, one_start}
 use Rattle.ts_regular_edits.proofs.StartLemmas.{stamps_rise}
 use Rattle.ts_entry.specs.Entry.{Entry}
 use Rattle.ts_entry.specs.Reading.{clipped, counted}
-use Rattle.ts_clip.specs.Offsets.{AreAtStarts, between}
+use Rattle.ts_clip.specs.Grid.{AreAtStarts, between}
 use Rattle.ts_clip.proofs.GridFilterLemmas.{filter_between, part_first, part_last, part_within}
 use Rattle.ts_clip.proofs.GridStampLemmas.{start_behind}
 

@@ -17,7 +17,7 @@ use Rattle.ts_regular_edits.specs.Stamped.{stamped, stamped_one, HaveStarts}
 use Rattle.ts_regular_edits.proofs.StampLemmas.{some_start, stamped_cons}
 use Rattle.ts_entry.specs.Entry.{Entry}
 use Rattle.ts_entry.specs.Reading.{entry_at, is_reached, reading}
-use Rattle.ts_clip.specs.Offsets.{AreAtStarts, between}
+use Rattle.ts_clip.specs.Grid.{AreAtStarts, between}
 use Rattle.ts_clip.proofs.GridFilterLemmas.{filter_between, part_mapped, part_taken}
 use Rattle.ts_clip.proofs.GridOffsetLemmas.{up_to_own, upper_side}
 use Rattle.ts_clip.proofs.GridStampLemmas.{seen_stamped, seen_starts}

@@ -18,12 +18,9 @@ use Rattle.ts_regular_edits.specs.Stamped.{stamped, HaveStarts}
 use Rattle.ts_regular_edits.proofs.RangeLemmas.{within_stamped}
 use Rattle.ts_regular_edits.proofs.StampLemmas.{some_start, stamped_cons}
 use Rattle.ts_entry.specs.Rows.{rows_in}
+use Rattle.ts_clip.specs.Grid.{rows_within}
 use Rattle.ts_clip.proofs.GridStartLemmas.{take_parts}
 use Rattle.ts_clip.proofs.GridWithinLemmas.{between_before, between_in, none_here, own_here, within_both, within_cells, within_none}
-
--- the rows of a range
-abbrev pub rows_within : ℕ → ℕ → List OffsetElement → List Row
-rows_within lower upper es = map (λ e. e.1) (within lower upper es)
 
 -- of the cells of a page those of a range
 own_cells : (base k m from to : ℕ) (cells : List Cell) → from ≡ base + k → to ≡ from + m → rows_in (take m (drop k cells)) ≡ rows_within from to (elements_from base cells)

@@ -1,15 +1,20 @@
 -- What is read of the pages of an irregular series: of its elements those of a range that aren't hidden, some of them passed over and some
 -- taken.
-use Rattle.std.specs.Prelude.{◌≡◌, ℕ, ◌+◌, ◌-◌, ◌≤◌, ℤ, pos, neg_ℤ, Bool, IsTrue, List, ◌++◌, length, map, take, drop}
+use Rattle.std.specs.Prelude.{◌≡◌, ℕ, ◌+◌, ◌-◌, ◌≤◌, ℤ, pos, neg_ℤ, Bool, IsTrue, List, [], ◌∷◌, ◌++◌, length, map, take, drop}
 use Rattle.ts_space.specs.declared.place.Place.{Place}
+use Rattle.ts_space.specs.Directory.{Directory, places_of}
 use Rattle.ts_page.specs.Pages.{Contents}
 use Rattle.ts_row.specs.declared.kind.Column.{Column}
 use Rattle.ts_row.specs.Element.{Element}
+use Rattle.ts_row.specs.declared.row.Shelf.{Shelf}
+use Rattle.ts_offset.specs.declared.shape.Shape.TheVariants.{Irregular}
+use Rattle.ts_irregular.specs.Call as one_page
 use Rattle.ts_cells.specs.IrregularPage.{AreElements, AreInOrder, behind_head}
 use Rattle.ts_chain.specs.Chain.{all_in, ArePages}
 use Rattle.ts_chain.specs.Places.{AreChained}
 use Rattle.ts_chain.specs.Range.{within_range}
 use Rattle.ts_entry.specs.Entry.{Entry, filled}
+use Rattle.ts_clip.specs.Series.{IsTold}
 use Rattle.ts_clip.specs.declared.chain_cells.Wanted.{Wanted}
 
 -- of some elements the entries of those that are wanted
@@ -33,10 +38,18 @@ abbrev pub HoldsOfMore : List Column → ℕ → List ℕ → (List Element → 
 HoldsOfMore columns least behind P =
     (es : List Element) → AreElements columns es → least ≤ length es → behind ≡ behind_head columns es → P es
 
--- where the pages are told, this holds of those that places tell of
-abbrev pub HoldsOfPages : Bool → ℕ → List Column → List Place → Contents → (List (List Element) → Type 0) → Type 0
-HoldsOfPages tells slot columns places v P =
-    IsTrue tells → (chain : List (List Element)) → AreChained slot columns v.page places chain → P chain
+-- where the pages are told, this holds of the elements of the series
+abbrev pub HoldsOfChain : Bool → Shelf → Directory → Contents → (List Element → Type 0) → Type 0
+HoldsOfChain tells shelf space v P = IsTold tells Irregular shelf.series shelf.kind.now.columns (places_of shelf.series space) v P
+
+-- where they are told, this holds of the pages that places tell of, each the list of its elements
+abbrev pub HoldsOfPages : Bool → Shelf → List Place → Contents → (List (List Element) → Type 0) → Type 0
+HoldsOfPages tells shelf places v P =
+    IsTrue tells → (chain : List (List Element)) → AreChained shelf.series shelf.kind.now.columns v.page places chain → P chain
+
+-- where they are told, this holds of the elements of the page that a place tells of
+abbrev pub HoldsOfPage : Bool → Shelf → Place → Contents → (List Element → Type 0) → Type 0
+HoldsOfPage tells shelf place v P = one_page.IsTold tells shelf.series shelf.kind.now.columns (place ∷ []) v P
 
 -- all elements from one stamp to another stand on the pages of these places from one index on and before another
 abbrev pub HaveRange : ℤ → ℤ → List Place → ℕ → ℕ → Type 0

@@ -1,6 +1,6 @@
 pub mod Between
 pub mod Call
 pub mod Chain
+pub mod Grid
 pub mod Numbered
-pub mod Offsets
 pub mod Series

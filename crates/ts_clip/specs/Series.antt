@@ -37,7 +37,8 @@ pub record HaveChain (slot : ℕ) (columns : List Column) (pages : ℕ → List 
   pub all : all_in chain ≡ es
 
 -- pages have cells on a grid with these elements, each at the on start of its offset, and places tell of them
-pub record HaveCells (grid : GridPlan) (slot : ℕ) (columns : List Column) (pages : ℕ → List ℕ) (places : List Place) (es : List Element) : Type 0 where
+pub record HaveCells (grid : GridPlan) (slot : ℕ) (columns : List Column) (pages : ℕ → List ℕ)
+    (places : List Place) (es : List Element) : Type 0 where
   pub cells : List OffsetPage
   pub on : AreOn slot columns pages places cells
   pub starts : HaveStarts grid (all_at cells)

@@ -1,21 +1,19 @@
 // What is read of an irregular series.
-ghost use Rattle.std.specs.Prelude.{◌≡◌, ◌<◌, ◌≤◌, ◌^◌, IfOk, IfSome, Some, None, length, map, take};
-ghost use Rattle.ts_row.specs.Element.{seen};
+ghost use Rattle.std.specs.Prelude.{◌≡◌, ◌<◌, IfOk, length};
 ghost use Rattle.ts_space.specs.Directory.{places_of};
 ghost use Rattle.ts_offset.specs.declared.shape.Shape.TheVariants.{Irregular};
 ghost use Rattle.ts_irregular.specs.Call.{Reads};
 ghost use Rattle.ts_chain.specs.Places.{ArePlaces};
-ghost use Rattle.ts_chain.specs.Range.{within_range};
-ghost use Rattle.ts_entry.specs.Entry.{AreTaken, filled};
-ghost use Rattle.ts_entry.specs.Reading.{reading, clipped, counted, entry_number, within_rows, last_ones, most_rows};
-ghost use Rattle.ts_clip.specs.Series.{IsTold};
+ghost use Rattle.ts_entry.specs.Entry.{AreTaken};
+ghost use Rattle.ts_entry.specs.Reading.{reading, clipped, counted, entry_number, within_rows};
 ghost use Rattle.ts_clip.specs.Call.{IsRead, AreElementsTaken};
-ghost use Rattle.ts_clip.specs.Chain.{first_moment};
+ghost use Rattle.ts_clip.specs.Chain.{HoldsOfChain};
 
 use crate::bounds::{MOST_ROWS, greatest_stamp, least_stamp};
 use crate::chain_cells::Wanted;
-use crate::chain_pages::{count_back, count_pages, visit_pages};
-use crate::chain_range::{are_few, places_between};
+use crate::chain_pages::{count_pages, visit_pages};
+use crate::chain_range::places_between;
+use crate::chain_visit::{rows_over, visit_last, visit_range};
 use ts_base::{Refusal, Stamp, StoreFault};
 use ts_entry::EntryVisitor;
 use ts_page::{Page, Pages};
@@ -35,8 +33,7 @@ pub(crate) fn chain_clip<P: Pages, V: EntryVisitor>(
 ) -> Result<Result<u64, Refusal>, StoreFault>
     requires slot { shelf.now.series < 4096 }
     requires places { ArePlaces shelf.now.kind.now.columns (P.contents pages.old) (places_of shelf.now.series space.now) }
-    ensures read { IfOk result (λ done. IsTold P.tells Irregular shelf.now.series shelf.now.kind.now.columns
-        (places_of shelf.now.series space.now) (P.contents pages.old)
+    ensures read { IfOk result (λ done. HoldsOfChain P.tells shelf.now space.now (P.contents pages.old)
         (λ es. IsRead (λ entries. V.took shelf.now.kind.now.columns visitor.old entries visitor.new)
         (within_rows (clipped from to (reading Irregular es))) done)) }
     ensures call { Reads P.tells result (P.contents pages.old) (P.contents pages.new) }
@@ -47,37 +44,6 @@ pub(crate) fn chain_clip<P: Pages, V: EntryVisitor>(
     }
     let count = visit_range(pages, page, space, shelf, from, to, MOST_ROWS, visitor)?;
     Ok(Ok(count))
-}
-
-// How many entries stand in a range, where these are more than a reply may have.
-fn rows_over<P: Pages>(
-    pages: &mut P,
-    page: &mut Page,
-    space: &Space,
-    shelf: &Shelf,
-    from: Stamp,
-    to: Stamp,
-) -> Result<Option<u64>, StoreFault>
-    requires slot { shelf.now.series < 4096 }
-    requires places { ArePlaces shelf.now.kind.now.columns (P.contents pages.old) (places_of shelf.now.series space.now) }
-    ensures many { IfOk result (λ over. IfSome over (λ rows. IsTold P.tells Irregular shelf.now.series shelf.now.kind.now.columns
-        (places_of shelf.now.series space.now) (P.contents pages.old)
-        (λ es. (rows ≡ length (within_range from to (seen es))) × (most_rows < rows)))) }
-    ensures few { IfOk result (λ over. over ≡ None → IsTold P.tells Irregular shelf.now.series shelf.now.kind.now.columns
-        (places_of shelf.now.series space.now) (P.contents pages.old) (λ es. length (within_range from to (seen es)) ≤ most_rows)) }
-    ensures call { Reads P.tells result (P.contents pages.old) (P.contents pages.new) }
-    ensures undisturbed { P.undisturbed pages.old pages.new }
-{
-    let places = space.places(shelf.series);
-    let (first, stop) = places_between(places, from, to);
-    if are_few(&places[first..stop]) {
-        return Ok(None);
-    }
-    let rows = count_pages(pages, page, shelf, &places[first..stop], from, to)?;
-    if rows > MOST_ROWS {
-        return Ok(Some(rows));
-    }
-    Ok(None)
 }
 
 /// `clip_len`. One pass looks at the mark of each cell.
@@ -91,8 +57,8 @@ pub(crate) fn chain_clip_len<P: Pages>(
 ) -> Result<u64, StoreFault>
     requires slot { shelf.now.series < 4096 }
     requires places { ArePlaces shelf.now.kind.now.columns (P.contents pages.old) (places_of shelf.now.series space.now) }
-    ensures read { IfOk result (λ count. IsTold P.tells Irregular shelf.now.series shelf.now.kind.now.columns
-        (places_of shelf.now.series space.now) (P.contents pages.old) (λ es. count ≡ length (clipped from to (reading Irregular es)))) }
+    ensures read { IfOk result (λ count. HoldsOfChain P.tells shelf.now space.now (P.contents pages.old)
+        (λ es. count ≡ length (clipped from to (reading Irregular es)))) }
     ensures call { Reads P.tells result (P.contents pages.old) (P.contents pages.new) }
     ensures undisturbed { P.undisturbed pages.old pages.new }
 {
@@ -114,8 +80,7 @@ pub(crate) fn chain_clip_count<P: Pages, V: EntryVisitor>(
 ) -> Result<u64, StoreFault>
     requires slot { shelf.now.series < 4096 }
     requires places { ArePlaces shelf.now.kind.now.columns (P.contents pages.old) (places_of shelf.now.series space.now) }
-    ensures read { IfOk result (λ count. IsTold P.tells Irregular shelf.now.series shelf.now.kind.now.columns
-        (places_of shelf.now.series space.now) (P.contents pages.old)
+    ensures read { IfOk result (λ count. HoldsOfChain P.tells shelf.now space.now (P.contents pages.old)
         (λ es. AreTaken (λ entries. V.took shelf.now.kind.now.columns visitor.old entries visitor.new)
         (counted stamp n (reading Irregular es)) count)) }
     ensures call { Reads P.tells result (P.contents pages.old) (P.contents pages.new) }
@@ -130,37 +95,6 @@ pub(crate) fn chain_clip_count<P: Pages, V: EntryVisitor>(
     }
 }
 
-// Hands the last elements up to a stamp that aren't hidden to a visitor, so many at most, and tells how many they are.
-fn visit_last<P: Pages, V: EntryVisitor>(
-    pages: &mut P,
-    page: &mut Page,
-    space: &Space,
-    shelf: &Shelf,
-    to: Stamp,
-    most: u64,
-    visitor: &mut V,
-) -> Result<u64, StoreFault>
-    requires slot { shelf.now.series < 4096 }
-    requires places { ArePlaces shelf.now.kind.now.columns (P.contents pages.old) (places_of shelf.now.series space.now) }
-    requires most { most ≤ 2 ^ 63 }
-    ensures taken { IfOk result (λ count. IsTold P.tells Irregular shelf.now.series shelf.now.kind.now.columns
-        (places_of shelf.now.series space.now) (P.contents pages.old)
-        (λ es. AreTaken (λ entries. V.took shelf.now.kind.now.columns visitor.old entries visitor.new)
-        (map filled (last_ones most (within_range first_moment to (seen es)))) count)) }
-    ensures call { Reads P.tells result (P.contents pages.old) (P.contents pages.new) }
-    ensures undisturbed { P.undisturbed pages.old pages.new }
-{
-    let from = least_stamp();
-    let places = space.places(shelf.series);
-    let (first, stop) = places_between(places, from, to);
-    let among = &places[first..stop];
-    let (index, count) = count_back(pages, page, shelf, among, from, to, most)?;
-    let skip = count.saturating_sub(most);
-    let want = Wanted { skip, most };
-    let left = visit_pages(pages, page, shelf, &among[index..], from, to, want, visitor)?;
-    Ok(most - left.most)
-}
-
 /// `nth`. The pages are read from the first one on, up to that of the element.
 pub(crate) fn chain_nth<P: Pages, V: EntryVisitor>(
     pages: &mut P,
@@ -172,8 +106,7 @@ pub(crate) fn chain_nth<P: Pages, V: EntryVisitor>(
 ) -> Result<u64, StoreFault>
     requires slot { shelf.now.series < 4096 }
     requires places { ArePlaces shelf.now.kind.now.columns (P.contents pages.old) (places_of shelf.now.series space.now) }
-    ensures read { IfOk result (λ count. IsTold P.tells Irregular shelf.now.series shelf.now.kind.now.columns
-        (places_of shelf.now.series space.now) (P.contents pages.old)
+    ensures read { IfOk result (λ count. HoldsOfChain P.tells shelf.now space.now (P.contents pages.old)
         (λ es. AreTaken (λ entries. V.took shelf.now.kind.now.columns visitor.old entries visitor.new)
         (entry_number n (reading Irregular es)) count)) }
     ensures call { Reads P.tells result (P.contents pages.old) (P.contents pages.new) }
@@ -199,48 +132,11 @@ pub(crate) fn chain_elements<P: Pages, V: EntryVisitor>(
 ) -> Result<(), StoreFault>
     requires slot { shelf.now.series < 4096 }
     requires places { ArePlaces shelf.now.kind.now.columns (P.contents pages.old) (places_of shelf.now.series space.now) }
-    ensures read { IfOk result (λ done. IsTold P.tells Irregular shelf.now.series shelf.now.kind.now.columns
-        (places_of shelf.now.series space.now) (P.contents pages.old)
+    ensures read { IfOk result (λ done. HoldsOfChain P.tells shelf.now space.now (P.contents pages.old)
         (λ es. AreElementsTaken (λ entries. V.took shelf.now.kind.now.columns visitor.old entries visitor.new) from to es)) }
     ensures call { Reads P.tells result (P.contents pages.old) (P.contents pages.new) }
     ensures undisturbed { P.undisturbed pages.old pages.new }
 {
     visit_range(pages, page, space, shelf, from, to, u64::MAX, visitor)?;
     Ok(())
-}
-
-// Hands the first elements of a range that aren't hidden to a visitor, so many at most, and tells how many they are.
-fn visit_range<P: Pages, V: EntryVisitor>(
-    pages: &mut P,
-    page: &mut Page,
-    space: &Space,
-    shelf: &Shelf,
-    from: Stamp,
-    to: Stamp,
-    most: u64,
-    visitor: &mut V,
-) -> Result<u64, StoreFault>
-    requires slot { shelf.now.series < 4096 }
-    requires places { ArePlaces shelf.now.kind.now.columns (P.contents pages.old) (places_of shelf.now.series space.now) }
-    ensures taken { IfOk result (λ count. IsTold P.tells Irregular shelf.now.series shelf.now.kind.now.columns
-        (places_of shelf.now.series space.now) (P.contents pages.old)
-        (λ es. AreTaken (λ entries. V.took shelf.now.kind.now.columns visitor.old entries visitor.new)
-        (map filled (take most (within_range from to (seen es)))) count)) }
-    ensures call { Reads P.tells result (P.contents pages.old) (P.contents pages.new) }
-    ensures undisturbed { P.undisturbed pages.old pages.new }
-{
-    let places = space.places(shelf.series);
-    let (first, stop) = places_between(places, from, to);
-    let want = Wanted { skip: 0, most };
-    let left = visit_pages(
-        pages,
-        page,
-        shelf,
-        &places[first..stop],
-        from,
-        to,
-        want,
-        visitor,
-    )?;
-    Ok(most - left.most)
 }

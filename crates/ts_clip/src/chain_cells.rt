@@ -1,11 +1,13 @@
-// The cells of one page of an irregular series: those of a range are handed on or counted.
-ghost use Rattle.std.specs.Prelude.{◌≡◌, ◌+◌, ◌-◌, ◌<◌, ◌≤◌, IfOk, Some, List, [], ◌∷◌, length, take, drop, slice_get};
+// The cells of one page of an irregular series: those of a range are handed on or counted, and the first that isn't hidden is found.
+ghost use Rattle.std.specs.Prelude.{◌≡◌, ◌-◌, ◌<◌, ◌≤◌, IsTrue, IfOk, IfSome, Some, List, [], ◌∷◌, length, take, drop, slice_get};
+ghost use Rattle.ts_row.specs.Row.{fits};
 ghost use Rattle.ts_row.specs.Element.{Element, seen};
 ghost use Rattle.ts_cells.specs.Cell.{IsElement, cell_bytes, cell_size, page_room};
 ghost use Rattle.ts_cells.specs.IrregularPage.{AreElements, behind_head};
 ghost use Rattle.ts_chain.specs.Placing.{earlier};
 ghost use Rattle.ts_chain.specs.Range.{within_range};
 ghost use Rattle.ts_series.specs.Ends.{later};
+ghost use Rattle.ts_entry.specs.Reading.{first_seen};
 ghost use Rattle.ts_clip.specs.Chain.{ArePassed, HoldsOfCells, HoldsOfMore};
 
 use std::alloc::AllocError;
@@ -13,7 +15,7 @@ use ts_base::Stamp;
 use ts_cells::{cell_size, is_hidden_cell};
 use ts_entry::EntryVisitor;
 use ts_irregular::{search, units_at};
-use ts_row::RowType;
+use ts_row::{Row, RowType};
 
 /// What a cell has before its row: a byte 1 and a stamp.
 pub(crate) const FRONT: usize = 9;
@@ -141,8 +143,8 @@ fn visit_cell<V: EntryVisitor>(
     })
 }
 
-/// The stamp of a cell, where its bytes are those of one.
-pub(crate) fn stamp_in(kind: &RowType, cell: &[u8]) -> Option<Stamp>
+// The stamp of a cell, where its bytes are those of one.
+fn stamp_in(kind: &RowType, cell: &[u8]) -> Option<Stamp>
     requires { length cell.now ≡ cell_size kind.now.columns }
     ensures { (e : Element) → IsElement kind.now.columns e → cell.now ≡ cell_bytes kind.now.columns e → result ≡ Some e.0 }
 {
@@ -164,4 +166,41 @@ pub(crate) fn count_cells(kind: &RowType, behind: &[u8], first: usize, last: usi
         }
     }
     count
+}
+
+/// The first element that isn't hidden, of so many cells.
+pub(crate) fn first_among(
+    kind: &RowType,
+    behind: &[u8],
+    count: usize,
+) -> Result<Option<(Stamp, Row)>, AllocError>
+    requires size { length behind.now ≡ 4064 }
+    requires room { count ≤ page_room kind.now.columns }
+    ensures first { IfOk result (λ first. (es : List Element) → AreElements kind.now.columns es → length es ≡ count
+        → behind.now ≡ behind_head kind.now.columns es → first ≡ first_seen es) }
+    ensures fits { IfOk result (λ first. IfSome first (λ e. IsTrue (fits kind.now.columns e.1))) }
+{
+    for index in 0..count {
+        let cell = cell_at(kind, behind, index);
+        if !is_hidden_cell(kind, cell) {
+            return element_in(kind, cell);
+        }
+    }
+    Ok(None)
+}
+
+// The element of a cell.
+fn element_in(kind: &RowType, cell: &[u8]) -> Result<Option<(Stamp, Row)>, AllocError>
+    requires { length cell.now ≡ cell_size kind.now.columns }
+    ensures found { IfOk result (λ found. (e : Element) → IsElement kind.now.columns e → cell.now ≡ cell_bytes kind.now.columns e
+        → found ≡ Some e) }
+    ensures fits { IfOk result (λ found. IfSome found (λ e. IsTrue (fits kind.now.columns e.1))) }
+{
+    let Some(stamp) = stamp_in(kind, cell) else {
+        return Ok(None);
+    };
+    let Some(row) = kind.decode(&cell[FRONT..])? else {
+        return Ok(None);
+    };
+    Ok(Some((stamp, row)))
 }

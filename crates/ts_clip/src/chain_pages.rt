@@ -1,11 +1,11 @@
 // The pages of an irregular series, read one after the other: their elements of a range are handed on or counted.
-ghost use Rattle.std.specs.Prelude.{◌≡◌, ◌⊎◌, ◌-◌, ◌^◌, ◌<◌, ◌≤◌, IfOk, All, [], ◌∷◌, length, min, drop};
+ghost use Rattle.std.specs.Prelude.{◌≡◌, ◌⊎◌, ◌-◌, ◌^◌, ◌≤◌, IfOk, All, length, min, drop};
 ghost use Rattle.ts_row.specs.Element.{seen};
-ghost use Rattle.ts_irregular.specs.Call.{Reads, IsTold};
+ghost use Rattle.ts_irregular.specs.Call.{Reads};
 ghost use Rattle.ts_chain.specs.Chain.{all_in};
 ghost use Rattle.ts_chain.specs.Places.{CanBeRead};
 ghost use Rattle.ts_chain.specs.Range.{within_range};
-ghost use Rattle.ts_clip.specs.Chain.{ArePassed, HoldsOfPages};
+ghost use Rattle.ts_clip.specs.Chain.{ArePassed, HoldsOfPages, HoldsOfPage};
 
 use crate::chain_cells::{Wanted, count_cells, range_on, visit_cells};
 use ts_base::{Stamp, StoreFault};
@@ -29,8 +29,8 @@ pub(crate) fn visit_pages<P: Pages, V: EntryVisitor>(
     visitor: &mut V,
 ) -> Result<Wanted, StoreFault>
     requires readable { All (CanBeRead (P.contents pages.old)) places.now }
-    ensures passed { IfOk result (λ after. HoldsOfPages P.tells shelf.now.series shelf.now.kind.now.columns places.now
-        (P.contents pages.old) (λ chain. ArePassed (λ entries. V.took shelf.now.kind.now.columns visitor.old entries visitor.new) want after
+    ensures passed { IfOk result (λ after. HoldsOfPages P.tells shelf.now places.now (P.contents pages.old)
+        (λ chain. ArePassed (λ entries. V.took shelf.now.kind.now.columns visitor.old entries visitor.new) want after
         (seen (within_range from to (all_in chain))))) }
     ensures fewer { IfOk result (λ after. after.most ≤ want.most) }
     ensures call { Reads P.tells result (P.contents pages.old) (P.contents pages.new) }
@@ -58,8 +58,8 @@ fn visit_page<P: Pages, V: EntryVisitor>(
     visitor: &mut V,
 ) -> Result<Wanted, StoreFault>
     requires readable { CanBeRead (P.contents pages.old) place.now }
-    ensures passed { IfOk result (λ after. IsTold P.tells shelf.now.series shelf.now.kind.now.columns (place.now ∷ [])
-        (P.contents pages.old) (λ es. ArePassed (λ entries. V.took shelf.now.kind.now.columns visitor.old entries visitor.new) want after
+    ensures passed { IfOk result (λ after. HoldsOfPage P.tells shelf.now place.now (P.contents pages.old)
+        (λ es. ArePassed (λ entries. V.took shelf.now.kind.now.columns visitor.old entries visitor.new) want after
         (seen (within_range from to es)))) }
     ensures fewer { IfOk result (λ after. after.most ≤ want.most) }
     ensures call { Reads P.tells result (P.contents pages.old) (P.contents pages.new) }
@@ -82,7 +82,7 @@ pub(crate) fn count_pages<P: Pages>(
     to: Stamp,
 ) -> Result<u64, StoreFault>
     requires readable { All (CanBeRead (P.contents pages.old)) places.now }
-    ensures count { IfOk result (λ count. HoldsOfPages P.tells shelf.now.series shelf.now.kind.now.columns places.now (P.contents pages.old)
+    ensures count { IfOk result (λ count. HoldsOfPages P.tells shelf.now places.now (P.contents pages.old)
         (λ chain. count ≡ min (length (seen (within_range from to (all_in chain)))) (2 ^ 64 - 1))) }
     ensures call { Reads P.tells result (P.contents pages.old) (P.contents pages.new) }
     ensures undisturbed { P.undisturbed pages.old pages.new }
@@ -107,7 +107,7 @@ pub(crate) fn count_back<P: Pages>(
 ) -> Result<(usize, u64), StoreFault>
     requires readable { All (CanBeRead (P.contents pages.old)) places.now }
     requires enough { enough ≤ 2 ^ 63 }
-    ensures count { IfOk result (λ r. HoldsOfPages P.tells shelf.now.series shelf.now.kind.now.columns places.now (P.contents pages.old)
+    ensures count { IfOk result (λ r. HoldsOfPages P.tells shelf.now places.now (P.contents pages.old)
         (λ chain. r.1 ≡ length (seen (within_range from to (all_in (drop r.0 chain)))))) }
     ensures reached { IfOk result (λ r. (enough ≤ r.1) ⊎ (r.0 ≡ 0)) }
     ensures within { IfOk result (λ r. r.0 ≤ length places.now) }
@@ -133,7 +133,7 @@ fn count_page<P: Pages>(
     to: Stamp,
 ) -> Result<u64, StoreFault>
     requires readable { CanBeRead (P.contents pages.old) place.now }
-    ensures count { IfOk result (λ count. IsTold P.tells shelf.now.series shelf.now.kind.now.columns (place.now ∷ []) (P.contents pages.old)
+    ensures count { IfOk result (λ count. HoldsOfPage P.tells shelf.now place.now (P.contents pages.old)
         (λ es. count ≡ length (seen (within_range from to es)))) }
     ensures few { IfOk result (λ count. count ≤ 65535) }
     ensures call { Reads P.tells result (P.contents pages.old) (P.contents pages.new) }

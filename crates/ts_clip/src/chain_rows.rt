@@ -1,14 +1,13 @@
 // The rows of an irregular series, a page at a time.
-ghost use Rattle.std.specs.Prelude.{◌≡◌, ◌-◌, ◌<◌, ◌≤◌, ℕ, All, IfOk, OnOk, List, [], ◌∷◌, length, map, take, drop};
+ghost use Rattle.std.specs.Prelude.{◌≡◌, ◌-◌, ◌≤◌, ℕ, All, IfOk, OnOk, List, length, map, take, drop};
 ghost use Rattle.ts_row.specs.Element.{Element};
 ghost use Rattle.ts_cells.specs.Cell.{page_room};
 ghost use Rattle.ts_offset.specs.declared.shape.Shape.TheVariants.{Irregular};
 ghost use Rattle.ts_irregular.specs.Call.{Reads};
-ghost use Rattle.ts_irregular.specs.Call as irregular;
 ghost use Rattle.ts_irregular.specs.OnePage.{IsOn};
 ghost use Rattle.ts_chain.specs.Places.{CanBeRead};
 ghost use Rattle.ts_chain.specs.Range.{within_range};
-ghost use Rattle.ts_clip.specs.Chain.{HoldsOfMore};
+ghost use Rattle.ts_clip.specs.Chain.{HoldsOfMore, HoldsOfPage};
 ghost use Rattle.ts_clip.specs.Series.{HaveOnPlaces, IsToldOnPlaces, ArePagesOf};
 
 use crate::chain_cells::{FRONT, range_on};
@@ -55,8 +54,7 @@ fn rows_on_page<P: Pages, V: RowVisitor>(
     visitor: &mut V,
 ) -> Result<(), StoreFault>
     requires readable { CanBeRead (P.contents pages.old) place.now }
-    ensures read { IfOk result (λ done. irregular.IsTold P.tells shelf.now.series shelf.now.kind.now.columns (place.now ∷ [])
-        (P.contents pages.old)
+    ensures read { IfOk result (λ done. HoldsOfPage P.tells shelf.now place.now (P.contents pages.old)
         (λ es. V.took shelf.now.kind.now.columns visitor.old (map (λ e. e.1) (within_range from to es)) visitor.new)) }
     ensures call { Reads P.tells result (P.contents pages.old) (P.contents pages.new) }
     ensures undisturbed { P.undisturbed pages.old pages.new }

@@ -23,13 +23,13 @@ pub fn first_elem<P: Pages>(
     page: &mut Page,
     space: &Space,
     shelf: &Shelf,
-    shape: &Shape,
+    shape: &Shape<'_>,
 ) -> Result<Option<(Stamp, Row)>, StoreFault>
     requires slot { shelf.now.series < 4096 }
     requires laid { IsLaidOut shape.now }
     requires places { ArePlaces shape.now shelf.now.kind.now.columns (P.contents pages.old) (places_of shelf.now.series space.now) }
-    ensures first { IfOk result (λ first. IsTold P.tells shape.now shelf.now.series shelf.now.kind.now.columns (places_of shelf.now.series space.now)
-        (P.contents pages.old) (λ es. first ≡ first_seen es)) }
+    ensures first { IfOk result (λ first. IsTold P.tells shape.now shelf.now.series shelf.now.kind.now.columns
+        (places_of shelf.now.series space.now) (P.contents pages.old) (λ es. first ≡ first_seen es)) }
     ensures fits { IfOk result (λ first. IfSome first (λ e. IsTrue (fits shelf.now.kind.now.columns e.1))) }
     ensures call { Reads P.tells result (P.contents pages.old) (P.contents pages.new) }
     ensures undisturbed { P.undisturbed pages.old pages.new }
@@ -47,13 +47,13 @@ pub fn last_elem<P: Pages>(
     page: &mut Page,
     space: &Space,
     shelf: &Shelf,
-    shape: &Shape,
+    shape: &Shape<'_>,
 ) -> Result<Option<(Stamp, Row)>, StoreFault>
     requires slot { shelf.now.series < 4096 }
     requires laid { IsLaidOut shape.now }
     requires places { ArePlaces shape.now shelf.now.kind.now.columns (P.contents pages.old) (places_of shelf.now.series space.now) }
-    ensures last { IfOk result (λ last. IsTold P.tells shape.now shelf.now.series shelf.now.kind.now.columns (places_of shelf.now.series space.now)
-        (P.contents pages.old) (λ es. last ≡ last_seen es)) }
+    ensures last { IfOk result (λ last. IsTold P.tells shape.now shelf.now.series shelf.now.kind.now.columns
+        (places_of shelf.now.series space.now) (P.contents pages.old) (λ es. last ≡ last_seen es)) }
     ensures fits { IfOk result (λ last. IfSome last (λ e. IsTrue (fits shelf.now.kind.now.columns e.1))) }
     ensures call { Reads P.tells result (P.contents pages.old) (P.contents pages.new) }
     ensures undisturbed { P.undisturbed pages.old pages.new }

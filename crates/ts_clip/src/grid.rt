@@ -7,12 +7,12 @@ ghost use Rattle.ts_regular.specs.Places.{ArePlaces, CanBeRead};
 ghost use Rattle.ts_irregular.specs.Call.{Reads};
 ghost use Rattle.ts_entry.specs.Entry.{AreTaken};
 ghost use Rattle.ts_entry.specs.Reading.{reading, clipped, counted, entry_number, within_rows};
-ghost use Rattle.ts_clip.specs.Series.{IsTold};
 ghost use Rattle.ts_clip.specs.Call.{IsRead};
-ghost use Rattle.ts_clip.specs.Offsets.{between};
+ghost use Rattle.ts_clip.specs.Grid.{HoldsOfGrid, between};
 
 use crate::bounds::MOST_ROWS;
-use crate::grid_offsets::{Offsets, entry_count, offsets_between, offsets_counted};
+use crate::grid_count::entry_count;
+use crate::grid_offsets::{Offsets, offsets_between, offsets_counted};
 use crate::grid_visit::visit_offsets;
 use ts_base::{Refusal, Stamp, StoreFault};
 use ts_entry::EntryVisitor;
@@ -29,7 +29,7 @@ pub(crate) fn grid_clip<P: Pages, V: EntryVisitor>(
     page: &mut Page,
     space: &Space,
     shelf: &Shelf,
-    grid: &Grid,
+    grid: &Grid<'_>,
     from: Stamp,
     to: Stamp,
     visitor: &mut V,
@@ -37,8 +37,8 @@ pub(crate) fn grid_clip<P: Pages, V: EntryVisitor>(
     requires slot { shelf.now.series < 4096 }
     requires laid { IsLaid grid.now.calendar }
     requires places { ArePlaces shelf.now.kind.now.columns (P.contents pages.old) (places_of shelf.now.series space.now) }
-    ensures read { IfOk result (λ done. IsTold P.tells (Regular grid.now) shelf.now.series shelf.now.kind.now.columns
-        (places_of shelf.now.series space.now) (P.contents pages.old) (λ es. IsRead
+    ensures read { IfOk result (λ done. HoldsOfGrid P.tells grid.now shelf.now space.now (P.contents pages.old)
+        (λ es. IsRead
         (λ entries. V.took shelf.now.kind.now.columns visitor.old entries visitor.new)
         (within_rows (clipped from to (reading (Regular grid.now) es))) done)) }
     ensures call { Reads P.tells result (P.contents pages.old) (P.contents pages.new) }
@@ -60,15 +60,14 @@ pub(crate) fn grid_clip_len<P: Pages>(
     page: &mut Page,
     space: &Space,
     shelf: &Shelf,
-    grid: &Grid,
+    grid: &Grid<'_>,
     from: Stamp,
     to: Stamp,
 ) -> Result<u64, StoreFault>
     requires slot { shelf.now.series < 4096 }
     requires laid { IsLaid grid.now.calendar }
     requires places { ArePlaces shelf.now.kind.now.columns (P.contents pages.old) (places_of shelf.now.series space.now) }
-    ensures read { IfOk result (λ count. IsTold P.tells (Regular grid.now) shelf.now.series shelf.now.kind.now.columns
-        (places_of shelf.now.series space.now) (P.contents pages.old)
+    ensures read { IfOk result (λ count. HoldsOfGrid P.tells grid.now shelf.now space.now (P.contents pages.old)
         (λ es. count ≡ length (clipped from to (reading (Regular grid.now) es)))) }
     ensures call { Reads P.tells result (P.contents pages.old) (P.contents pages.new) }
     ensures undisturbed { P.undisturbed pages.old pages.new }
@@ -85,7 +84,7 @@ pub(crate) fn grid_clip_count<P: Pages, V: EntryVisitor>(
     page: &mut Page,
     space: &Space,
     shelf: &Shelf,
-    grid: &Grid,
+    grid: &Grid<'_>,
     stamp: Stamp,
     n: i64,
     visitor: &mut V,
@@ -93,8 +92,8 @@ pub(crate) fn grid_clip_count<P: Pages, V: EntryVisitor>(
     requires slot { shelf.now.series < 4096 }
     requires laid { IsLaid grid.now.calendar }
     requires places { ArePlaces shelf.now.kind.now.columns (P.contents pages.old) (places_of shelf.now.series space.now) }
-    ensures read { IfOk result (λ count. IsTold P.tells (Regular grid.now) shelf.now.series shelf.now.kind.now.columns
-        (places_of shelf.now.series space.now) (P.contents pages.old) (λ es. AreTaken
+    ensures read { IfOk result (λ count. HoldsOfGrid P.tells grid.now shelf.now space.now (P.contents pages.old)
+        (λ es. AreTaken
         (λ entries. V.took shelf.now.kind.now.columns visitor.old entries visitor.new)
         (counted stamp n (reading (Regular grid.now) es)) count)) }
     ensures call { Reads P.tells result (P.contents pages.old) (P.contents pages.new) }
@@ -111,15 +110,15 @@ pub(crate) fn grid_nth<P: Pages, V: EntryVisitor>(
     page: &mut Page,
     space: &Space,
     shelf: &Shelf,
-    grid: &Grid,
+    grid: &Grid<'_>,
     n: u64,
     visitor: &mut V,
 ) -> Result<u64, StoreFault>
     requires slot { shelf.now.series < 4096 }
     requires laid { IsLaid grid.now.calendar }
     requires places { ArePlaces shelf.now.kind.now.columns (P.contents pages.old) (places_of shelf.now.series space.now) }
-    ensures read { IfOk result (λ count. IsTold P.tells (Regular grid.now) shelf.now.series shelf.now.kind.now.columns
-        (places_of shelf.now.series space.now) (P.contents pages.old) (λ es. AreTaken
+    ensures read { IfOk result (λ count. HoldsOfGrid P.tells grid.now shelf.now space.now (P.contents pages.old)
+        (λ es. AreTaken
         (λ entries. V.took shelf.now.kind.now.columns visitor.old entries visitor.new)
         (entry_number n (reading (Regular grid.now) es)) count)) }
     ensures call { Reads P.tells result (P.contents pages.old) (P.contents pages.new) }
@@ -142,7 +141,7 @@ fn visit_range<P: Pages, V: EntryVisitor>(
     page: &mut Page,
     space: &Space,
     shelf: &Shelf,
-    grid: &Grid,
+    grid: &Grid<'_>,
     offsets: Offsets,
     visitor: &mut V,
 ) -> Result<u64, StoreFault>
@@ -150,9 +149,9 @@ fn visit_range<P: Pages, V: EntryVisitor>(
     requires laid { IsLaid grid.now.calendar }
     requires limit { offsets.upper < 2 ^ 63 }
     requires readable { All (CanBeRead (P.contents pages.old)) (places_of shelf.now.series space.now) }
-    ensures taken { IfOk result (λ count. IsTold P.tells (Regular grid.now) shelf.now.series shelf.now.kind.now.columns
-        (places_of shelf.now.series space.now) (P.contents pages.old) (λ es. offsets.upper ≤ length (reading (Regular grid.now) es)
-        → AreTaken (λ entries. V.took shelf.now.kind.now.columns visitor.old entries visitor.new)
+    ensures taken { IfOk result (λ count. HoldsOfGrid P.tells grid.now shelf.now space.now (P.contents pages.old)
+        (λ es. offsets.upper ≤ length (reading (Regular grid.now) es) → AreTaken
+        (λ entries. V.took shelf.now.kind.now.columns visitor.old entries visitor.new)
         (between offsets.lower offsets.upper (reading (Regular grid.now) es)) count)) }
     ensures call { Reads P.tells result (P.contents pages.old) (P.contents pages.new) }
     ensures undisturbed { P.undisturbed pages.old pages.new }

@@ -1,17 +1,15 @@
 // The cells behind the head of a page, each handed on at its on start.
-ghost use Rattle.std.specs.Prelude.{◌≡◌, ◌+◌, ◌-◌, ◌*◌, ◌<◌, ◌≤◌, IsTrue, IfOk, IfSome, OnOk, None, List, [], ◌∷◌, length, map, take, drop};
+ghost use Rattle.std.specs.Prelude.{◌≡◌, ◌-◌, ◌<◌, ◌≤◌, OnOk, None, List, [], ◌∷◌, length, map, take, drop};
 ghost use Rattle.ts_regular.specs.Cell.{Cell, FitsCell, cell_bytes, cell_size, regular_room};
-ghost use Rattle.ts_regular.specs.RegularPage.{AreCells, behind_head};
+ghost use Rattle.ts_regular.specs.RegularPage.{AreCells, HoldsOfCells, behind_head};
 ghost use Rattle.ts_regular.specs.OnePage.{cell_at, is_seen};
-ghost use Rattle.ts_row.specs.Row.{fits};
-ghost use Rattle.ts_clip.specs.Numbered.{IsFirstCell, numbered, seen_in};
+ghost use Rattle.ts_clip.specs.Numbered.{numbered, seen_in};
 
 use std::alloc::AllocError;
 use ts_base::Stamp;
 use ts_entry::EntryVisitor;
 use ts_offset::StartsFrom;
-use ts_regular::regular_room;
-use ts_row::{Row, RowType};
+use ts_row::RowType;
 
 /// How many bytes a cell has.
 pub(crate) fn cell_size(kind: &RowType) -> usize
@@ -33,10 +31,9 @@ pub(crate) fn visit_cells<V: EntryVisitor>(
     requires size { length behind.now ≡ 4064 }
     requires order { first ≤ stop }
     requires within { stop ≤ regular_room kind.now.columns }
-    ensures took { OnOk result ((cells : List Cell) → AreCells kind.now.columns cells → length cells ≡ regular_room kind.now.columns
-        → behind.now ≡ behind_head kind.now.columns cells
-        → V.took kind.now.columns visitor.old
-        (numbered (λ i. seen_in (cell_at cells i)) first (take (stop - first) starts.old)) visitor.new) }
+    ensures took { OnOk result (HoldsOfCells kind.now.columns behind.now
+        (λ cells. V.took kind.now.columns visitor.old
+        (numbered (λ i. seen_in (cell_at cells i)) first (take (stop - first) starts.old)) visitor.new)) }
     ensures left { OnOk result (starts.new ≡ drop (stop - first) starts.old) }
 {
     let size = cell_size(kind);
@@ -49,8 +46,8 @@ pub(crate) fn visit_cells<V: EntryVisitor>(
     Ok(())
 }
 
-// The bytes of a cell.
-fn cell_of<'a>(kind: &RowType, behind: &'a [u8], size: usize, index: usize) -> &'a [u8]
+/// The bytes of a cell.
+pub(crate) fn cell_of<'a>(kind: &RowType, behind: &'a [u8], size: usize, index: usize) -> &'a [u8]
     requires behind { length behind.now ≡ 4064 }
     requires size { size ≡ cell_size kind.now.columns }
     requires index { index < regular_room kind.now.columns }
@@ -80,51 +77,12 @@ fn visit_cell<V: EntryVisitor>(
     }
 }
 
-// Whether a cell has an element that isn't hidden.
-fn is_seen(kind: &RowType, cell: &[u8]) -> bool
+/// Whether a cell has an element that isn't hidden.
+pub(crate) fn is_seen(kind: &RowType, cell: &[u8]) -> bool
     requires { length cell.now ≡ cell_size kind.now.columns }
     ensures { (c : Cell) → FitsCell kind.now.columns c → cell.now ≡ cell_bytes kind.now.columns c → result ≡ is_seen c }
 {
     cell[0] == 1 && !kind.is_hidden(&cell[1..])
-}
-
-/// The number of the first cell with an element that isn't hidden.
-pub(crate) fn first_cell(kind: &RowType, behind: &[u8]) -> Option<usize>
-    requires size { length behind.now ≡ 4064 }
-    ensures first { (cells : List Cell) → AreCells kind.now.columns cells → length cells ≡ regular_room kind.now.columns
-        → behind.now ≡ behind_head kind.now.columns cells → IsFirstCell cells result }
-    ensures within { IfSome result (λ index. index < regular_room kind.now.columns) }
-{
-    let size = cell_size(kind);
-    for index in 0..regular_room(kind) {
-        if is_seen(kind, cell_of(kind, behind, size, index)) {
-            return Some(index);
-        }
-    }
-    None
-}
-
-/// The row in a cell, if it has one.
-pub(crate) fn row_at(kind: &RowType, behind: &[u8], index: usize) -> Result<Option<Row>, AllocError>
-    requires size { length behind.now ≡ 4064 }
-    requires index { index < regular_room kind.now.columns }
-    ensures found { IfOk result (λ found. (cells : List Cell) → AreCells kind.now.columns cells → index < length cells
-        → behind.now ≡ behind_head kind.now.columns cells → found ≡ cell_at cells index) }
-    ensures fits { IfOk result (λ found. IfSome found (λ row. IsTrue (fits kind.now.columns row))) }
-{
-    row_in(kind, cell_of(kind, behind, cell_size(kind), index))
-}
-
-// The row of a cell by its bytes.
-fn row_in(kind: &RowType, cell: &[u8]) -> Result<Option<Row>, AllocError>
-    requires { length cell.now ≡ cell_size kind.now.columns }
-    ensures found { IfOk result (λ found. (c : Cell) → FitsCell kind.now.columns c → cell.now ≡ cell_bytes kind.now.columns c → found ≡ c) }
-    ensures fits { IfOk result (λ found. IfSome found (λ row. IsTrue (fits kind.now.columns row))) }
-{
-    if cell[0] != 1 {
-        return Ok(None);
-    }
-    kind.decode(&cell[1..])
 }
 
 /// Hands on so many of the starts that are left, each without an element.

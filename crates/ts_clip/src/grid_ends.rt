@@ -1,30 +1,22 @@
 // The first and the last element of a regular series.
-ghost use Rattle.std.specs.Prelude.{◌≡◌, ◌<◌, ◌^◌, All, IsTrue, IfOk, IfSome, option_and_then, List, length, slice_get};
+ghost use Rattle.std.specs.Prelude.{◌≡◌, ◌<◌, All, IsTrue, IfOk, IfSome, option_and_then};
 ghost use Rattle.ts_row.specs.Row.{fits};
 ghost use Rattle.ts_space.specs.Directory.{places_of};
 ghost use Rattle.ts_calendar.specs.Intervals.{IsLaid};
-ghost use Rattle.ts_offset.specs.declared.shape.Shape.TheVariants.{Regular};
-ghost use Rattle.ts_regular.specs.Cell.{Cell, regular_room};
-ghost use Rattle.ts_regular.specs.Offsets.{elements_from, seen};
-ghost use Rattle.ts_regular.specs.RegularPage.{AreCells, behind_head};
 ghost use Rattle.ts_regular.specs.Places.{ArePlaces, CanBeRead, all_in};
-ghost use Rattle.ts_regular.specs.OnePage.{IsToldOn};
-ghost use Rattle.ts_regular.specs.Call as regular;
 ghost use Rattle.ts_regular_edits.specs.Stamped.{stamped_one};
 ghost use Rattle.ts_irregular.specs.Call.{Reads};
 ghost use Rattle.ts_irregular.specs.Edit.{last_seen};
 ghost use Rattle.ts_entry.specs.Reading.{first_seen};
-ghost use Rattle.ts_clip.specs.Series.{IsTold};
+ghost use Rattle.ts_clip.specs.Grid.{HoldsOfGrid, HoldsOfCellPages, first_of};
 
-use crate::grid_cells::{first_cell, row_at};
-use crate::grid_page::read_base;
-use std::alloc::AllocError;
+use crate::grid_first::first_on;
 use ts_base::{Stamp, StoreFault};
 use ts_offset::Grid;
-use ts_page::{HEAD, Page, Pages};
+use ts_page::{Page, Pages};
 use ts_regular::regular_last;
-use ts_row::{Row, RowType, Shelf};
-use ts_space::{Place, Space};
+use ts_row::{Row, Shelf};
+use ts_space::Space;
 
 /// The first element that isn't hidden, with its stamp. The pages are read from the first one on, each once, up to the first that has such
 /// an element. All pages stay; `page` is room to read one.
@@ -33,13 +25,13 @@ pub(crate) fn grid_first<P: Pages>(
     page: &mut Page,
     space: &Space,
     shelf: &Shelf,
-    grid: &Grid,
+    grid: &Grid<'_>,
 ) -> Result<Option<(Stamp, Row)>, StoreFault>
     requires slot { shelf.now.series < 4096 }
     requires laid { IsLaid grid.now.calendar }
     requires places { ArePlaces shelf.now.kind.now.columns (P.contents pages.old) (places_of shelf.now.series space.now) }
-    ensures first { IfOk result (λ first. IsTold P.tells (Regular grid.now) shelf.now.series shelf.now.kind.now.columns
-        (places_of shelf.now.series space.now) (P.contents pages.old) (λ es. first ≡ first_seen es)) }
+    ensures first { IfOk result (λ first. HoldsOfGrid P.tells grid.now shelf.now space.now (P.contents pages.old)
+        (λ es. first ≡ first_seen es)) }
     ensures fits { IfOk result (λ first. IfSome first (λ e. IsTrue (fits shelf.now.kind.now.columns e.1))) }
     ensures call { Reads P.tells result (P.contents pages.old) (P.contents pages.new) }
     ensures undisturbed { P.undisturbed pages.old pages.new }
@@ -55,13 +47,13 @@ pub(crate) fn grid_last<P: Pages>(
     page: &mut Page,
     space: &Space,
     shelf: &Shelf,
-    grid: &Grid,
+    grid: &Grid<'_>,
 ) -> Result<Option<(Stamp, Row)>, StoreFault>
     requires slot { shelf.now.series < 4096 }
     requires laid { IsLaid grid.now.calendar }
     requires places { ArePlaces shelf.now.kind.now.columns (P.contents pages.old) (places_of shelf.now.series space.now) }
-    ensures last { IfOk result (λ last. IsTold P.tells (Regular grid.now) shelf.now.series shelf.now.kind.now.columns
-        (places_of shelf.now.series space.now) (P.contents pages.old) (λ es. last ≡ last_seen es)) }
+    ensures last { IfOk result (λ last. HoldsOfGrid P.tells grid.now shelf.now space.now (P.contents pages.old)
+        (λ es. last ≡ last_seen es)) }
     ensures fits { IfOk result (λ last. IfSome last (λ e. IsTrue (fits shelf.now.kind.now.columns e.1))) }
     ensures call { Reads P.tells result (P.contents pages.old) (P.contents pages.new) }
     ensures undisturbed { P.undisturbed pages.old pages.new }
@@ -71,7 +63,7 @@ pub(crate) fn grid_last<P: Pages>(
 }
 
 // An element at an offset, at the on start of that offset.
-fn on_start(grid: &Grid, found: Option<(u64, Row)>) -> Option<(Stamp, Row)>
+fn on_start(grid: &Grid<'_>, found: Option<(u64, Row)>) -> Option<(Stamp, Row)>
     ensures start { result ≡ option_and_then (stamped_one grid.now) found }
     ensures row { IfSome result (λ e. IfSome found (λ f. e.1 ≡ f.1)) }
 {
@@ -89,8 +81,8 @@ fn regular_first<P: Pages>(
 ) -> Result<Option<(u64, Row)>, StoreFault>
     requires slot { shelf.now.series < 4096 }
     requires readable { All (CanBeRead (P.contents pages.old)) (places_of shelf.now.series space.now) }
-    ensures first { IfOk result (λ first. regular.IsTold P.tells shelf.now.series shelf.now.kind.now.columns
-        (places_of shelf.now.series space.now) (P.contents pages.old) (λ ps. first ≡ slice_get (seen (all_in ps)) 0)) }
+    ensures first { IfOk result (λ first. HoldsOfCellPages P.tells shelf.now (places_of shelf.now.series space.now) (P.contents pages.old)
+        (λ ps. first ≡ first_of (all_in ps))) }
     ensures fits { IfOk result (λ first. IfSome first (λ e. IsTrue (fits shelf.now.kind.now.columns e.1))) }
     ensures call { Reads P.tells result (P.contents pages.old) (P.contents pages.new) }
     ensures undisturbed { P.undisturbed pages.old pages.new }
@@ -102,42 +94,4 @@ fn regular_first<P: Pages>(
         }
     }
     Ok(None)
-}
-
-// That of the page of a place.
-fn first_on<P: Pages>(
-    pages: &mut P,
-    page: &mut Page,
-    shelf: &Shelf,
-    place: &Place,
-) -> Result<Option<(u64, Row)>, StoreFault>
-    requires readable { CanBeRead (P.contents pages.old) place.now }
-    ensures first { IfOk result (λ first. IsToldOn P.tells shelf.now.series shelf.now.kind.now.columns place.now (P.contents pages.old)
-        (λ p. first ≡ slice_get (seen (elements_from p.0 p.1)) 0)) }
-    ensures fits { IfOk result (λ first. IfSome first (λ e. IsTrue (fits shelf.now.kind.now.columns e.1))) }
-    ensures call { Reads P.tells result (P.contents pages.old) (P.contents pages.new) }
-    ensures undisturbed { P.undisturbed pages.old pages.new }
-{
-    let Some(base) = read_base(pages, page, shelf, place)? else {
-        return Ok(None);
-    };
-    Ok(first_among(shelf.kind, &page.bytes[HEAD..], base)?)
-}
-
-// That of the cells behind the head of a page.
-fn first_among(kind: &RowType, behind: &[u8], base: u64) -> Result<Option<(u64, Row)>, AllocError>
-    requires size { length behind.now ≡ 4064 }
-    requires limit { base < 2 ^ 63 }
-    ensures first { IfOk result (λ first. (cells : List Cell) → AreCells kind.now.columns cells
-        → length cells ≡ regular_room kind.now.columns → behind.now ≡ behind_head kind.now.columns cells
-        → first ≡ slice_get (seen (elements_from base cells)) 0) }
-    ensures fits { IfOk result (λ first. IfSome first (λ e. IsTrue (fits kind.now.columns e.1))) }
-{
-    let Some(index) = first_cell(kind, behind) else {
-        return Ok(None);
-    };
-    match row_at(kind, behind, index)? {
-        Some(row) => Ok(Some((base + index as u64, row))),
-        None => Ok(None),
-    }
 }

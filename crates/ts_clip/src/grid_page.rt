@@ -5,7 +5,7 @@ ghost use Rattle.ts_page.specs.declared.page.Head.TheVariants.{Regular};
 ghost use Rattle.ts_space.specs.Place.{IsRising, rank_of};
 ghost use Rattle.ts_irregular.specs.Call.{Reads};
 ghost use Rattle.ts_regular.specs.Places.{OffsetPage, CanBeRead, IsOn};
-ghost use Rattle.ts_regular.specs.OnePage.{IsToldOn};
+ghost use Rattle.ts_clip.specs.Grid.{HoldsOfCellPage};
 ghost use Rattle.ts_clip.specs.Between.{AreBetween};
 
 use ts_base::StoreFault;
@@ -22,7 +22,7 @@ pub(crate) fn read_base<P: Pages>(
     place: &Place,
 ) -> Result<Option<u64>, StoreFault>
     requires readable { CanBeRead (P.contents pages.old) place.now }
-    ensures read { IfOk result (λ base. IsToldOn P.tells shelf.now.series shelf.now.kind.now.columns place.now (P.contents pages.old)
+    ensures read { IfOk result (λ base. HoldsOfCellPage P.tells shelf.now place.now (P.contents pages.old)
         (λ p. (base ≡ Some p.0) × IsOn shelf.now.series shelf.now.kind.now.columns page.new.bytes place.now p)) }
     ensures limit { IfOk result (λ base. IfSome base (λ n. n < 2 ^ 63)) }
     ensures call { Reads P.tells result (P.contents pages.old) (P.contents pages.new) }

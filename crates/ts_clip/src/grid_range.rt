@@ -3,26 +3,18 @@ ghost use Rattle.std.specs.Prelude.{◌<◌, ◌^◌, All, IfOk, OnOk};
 ghost use Rattle.ts_space.specs.Place.{IsRising};
 ghost use Rattle.ts_space.specs.Directory.{places_of};
 ghost use Rattle.ts_calendar.specs.Intervals.{IsLaid};
-ghost use Rattle.ts_offset.specs.declared.shape.Shape.TheVariants.{Regular};
-ghost use Rattle.ts_regular.specs.Offsets.{elements_from, seen};
 ghost use Rattle.ts_regular.specs.Places.{ArePlaces, CanBeRead, all_in};
-ghost use Rattle.ts_regular.specs.Range.{within};
-ghost use Rattle.ts_regular.specs.OnePage.{IsToldOn};
-ghost use Rattle.ts_regular.specs.Call as regular;
-ghost use Rattle.ts_regular_edits.specs.Stamped.{stamped};
 ghost use Rattle.ts_irregular.specs.Call.{Reads};
-ghost use Rattle.ts_clip.specs.Series.{IsTold};
 ghost use Rattle.ts_clip.specs.Call.{AreElementsTaken};
-ghost use Rattle.ts_clip.specs.Offsets.{HaveTaken};
+ghost use Rattle.ts_clip.specs.Grid.{HaveTaken, HoldsOfGrid, HoldsOfCellPages, stamped_within};
 
-use crate::grid_cells::visit_cells;
 use crate::grid_offsets::{Offsets, offsets_of};
-use crate::grid_page::{places_between, read_base};
+use crate::grid_page::places_between;
+use crate::grid_page_visit::elements_on_page;
 use ts_base::{Stamp, StoreFault};
 use ts_entry::EntryVisitor;
 use ts_offset::Grid;
-use ts_page::{HEAD, Page, Pages};
-use ts_regular::regular_room;
+use ts_page::{Page, Pages};
 use ts_row::Shelf;
 use ts_space::{Place, Space};
 
@@ -33,7 +25,7 @@ pub(crate) fn grid_elements<P: Pages, V: EntryVisitor>(
     page: &mut Page,
     space: &Space,
     shelf: &Shelf,
-    grid: &Grid,
+    grid: &Grid<'_>,
     from: Stamp,
     to: Stamp,
     visitor: &mut V,
@@ -41,8 +33,8 @@ pub(crate) fn grid_elements<P: Pages, V: EntryVisitor>(
     requires slot { shelf.now.series < 4096 }
     requires laid { IsLaid grid.now.calendar }
     requires places { ArePlaces shelf.now.kind.now.columns (P.contents pages.old) (places_of shelf.now.series space.now) }
-    ensures read { IfOk result (λ done. IsTold P.tells (Regular grid.now) shelf.now.series shelf.now.kind.now.columns
-        (places_of shelf.now.series space.now) (P.contents pages.old) (λ es. AreElementsTaken
+    ensures read { IfOk result (λ done. HoldsOfGrid P.tells grid.now shelf.now space.now (P.contents pages.old)
+        (λ es. AreElementsTaken
         (λ entries. V.took shelf.now.kind.now.columns visitor.old entries visitor.new) from to es)) }
     ensures call { Reads P.tells result (P.contents pages.old) (P.contents pages.new) }
     ensures undisturbed { P.undisturbed pages.old pages.new }
@@ -61,7 +53,7 @@ fn elements_on_places<P: Pages, V: EntryVisitor>(
     pages: &mut P,
     page: &mut Page,
     shelf: &Shelf,
-    grid: &Grid,
+    grid: &Grid<'_>,
     places: &[Place],
     offsets: Offsets,
     visitor: &mut V,
@@ -69,48 +61,14 @@ fn elements_on_places<P: Pages, V: EntryVisitor>(
     requires readable { All (CanBeRead (P.contents pages.old)) places.now }
     requires rising { IsRising places.now }
     requires limit { offsets.upper < 2 ^ 63 }
-    ensures taken { OnOk result (regular.IsTold P.tells shelf.now.series shelf.now.kind.now.columns places.now (P.contents pages.old)
+    ensures taken { OnOk result (HoldsOfCellPages P.tells shelf.now places.now (P.contents pages.old)
         (λ ps. HaveTaken (λ entries. V.took shelf.now.kind.now.columns visitor.old entries visitor.new)
-        (stamped grid.now (seen (within offsets.lower offsets.upper (all_in ps)))))) }
+        (stamped_within grid.now offsets.lower offsets.upper (all_in ps)))) }
     ensures call { Reads P.tells result (P.contents pages.old) (P.contents pages.new) }
     ensures undisturbed { P.undisturbed pages.old pages.new }
 {
     for place in places {
         elements_on_page(pages, page, shelf, grid, place, offsets, visitor)?;
     }
-    Ok(())
-}
-
-// Hands on those on the page of a place.
-fn elements_on_page<P: Pages, V: EntryVisitor>(
-    pages: &mut P,
-    page: &mut Page,
-    shelf: &Shelf,
-    grid: &Grid,
-    place: &Place,
-    offsets: Offsets,
-    visitor: &mut V,
-) -> Result<(), StoreFault>
-    requires readable { CanBeRead (P.contents pages.old) place.now }
-    requires limit { offsets.upper < 2 ^ 63 }
-    ensures taken { OnOk result (IsToldOn P.tells shelf.now.series shelf.now.kind.now.columns place.now (P.contents pages.old)
-        (λ p. HaveTaken (λ entries. V.took shelf.now.kind.now.columns visitor.old entries visitor.new)
-        (stamped grid.now (seen (within offsets.lower offsets.upper (elements_from p.0 p.1)))))) }
-    ensures call { Reads P.tells result (P.contents pages.old) (P.contents pages.new) }
-    ensures undisturbed { P.undisturbed pages.old pages.new }
-{
-    let Some(base) = read_base(pages, page, shelf, place)? else {
-        return Ok(());
-    };
-    let first = offsets.lower.max(base);
-    let stop = offsets.upper.min(base + regular_room(shelf.kind) as u64);
-    if stop <= first {
-        return Ok(());
-    }
-    let mut starts = grid.starts_from(first);
-    let behind = &page.bytes[HEAD..];
-    let from = (first - base) as usize;
-    let to = (stop - base) as usize;
-    visit_cells(shelf.kind, behind, from, to, &mut starts, visitor)?;
     Ok(())
 }

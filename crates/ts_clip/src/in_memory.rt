@@ -24,7 +24,7 @@ use ts_space::Place;
 /// read.
 pub fn places_of_range<'a>(
     kind: &RowType,
-    shape: &Shape,
+    shape: &Shape<'_>,
     places: &'a [Place],
     from: Stamp,
     to: Stamp,
@@ -51,7 +51,7 @@ fn chain_places(places: &[Place], from: Stamp, to: Stamp) -> &[Place]
 // Those of a regular series.
 fn grid_places<'a>(
     kind: &RowType,
-    grid: &Grid,
+    grid: &Grid<'_>,
     places: &'a [Place],
     from: Stamp,
     to: Stamp,
@@ -73,7 +73,7 @@ pub fn rows_of_pages<V: RowVisitor>(
     read: &[Page],
     places: &[Place],
     shelf: &Shelf,
-    shape: &Shape,
+    shape: &Shape<'_>,
     from: Stamp,
     to: Stamp,
     visitor: &mut V,

@@ -18,15 +18,15 @@ use ts_row::Shelf;
 use ts_space::Space;
 
 /// Hands the entries from one stamp to another, both included, to a visitor, and tells how many they are; TooLarge where they are more than
-/// 1000000, and then none is handed on. Of an irregular series the pages of the range are read, twice where they may have more elements than
-/// that; of a regular one those of the range, and before them the pages from the last one backwards, up to the first that has an element
-/// which isn't hidden. All pages stay; `page` is room to read one.
+/// 1000000, and then none is handed on. Of an irregular series the pages of the range are read, twice where they may have more elements
+/// than that; of a regular one those of the range, and before them the pages from the last one backwards, up to the first that has an
+/// element which isn't hidden. All pages stay; `page` is room to read one.
 pub fn clip<P: Pages, V: EntryVisitor>(
     pages: &mut P,
     page: &mut Page,
     space: &Space,
     shelf: &Shelf,
-    shape: &Shape,
+    shape: &Shape<'_>,
     from: Stamp,
     to: Stamp,
     visitor: &mut V,
@@ -34,8 +34,9 @@ pub fn clip<P: Pages, V: EntryVisitor>(
     requires slot { shelf.now.series < 4096 }
     requires laid { IsLaidOut shape.now }
     requires places { ArePlaces shape.now shelf.now.kind.now.columns (P.contents pages.old) (places_of shelf.now.series space.now) }
-    ensures read { IfOk result (λ done. IsTold P.tells shape.now shelf.now.series shelf.now.kind.now.columns (places_of shelf.now.series space.now)
-        (P.contents pages.old) (λ es. IsRead (λ entries. V.took shelf.now.kind.now.columns visitor.old entries visitor.new)
+    ensures read { IfOk result (λ done. IsTold P.tells shape.now shelf.now.series shelf.now.kind.now.columns
+        (places_of shelf.now.series space.now) (P.contents pages.old)
+        (λ es. IsRead (λ entries. V.took shelf.now.kind.now.columns visitor.old entries visitor.new)
         (within_rows (clipped from to (reading shape.now es))) done)) }
     ensures call { Reads P.tells result (P.contents pages.old) (P.contents pages.new) }
     ensures undisturbed { P.undisturbed pages.old pages.new }
@@ -46,22 +47,23 @@ pub fn clip<P: Pages, V: EntryVisitor>(
     }
 }
 
-/// How many entries stand from one stamp to another, both included. Of a regular series the pages are read from the last one backwards, up to
-/// the first that has an element that isn't hidden; of an irregular one those of the range.
+/// How many entries stand from one stamp to another, both included. Of a regular series the pages are read from the last one backwards, up
+/// to the first that has an element that isn't hidden; of an irregular one those of the range.
 pub fn clip_len<P: Pages>(
     pages: &mut P,
     page: &mut Page,
     space: &Space,
     shelf: &Shelf,
-    shape: &Shape,
+    shape: &Shape<'_>,
     from: Stamp,
     to: Stamp,
 ) -> Result<u64, StoreFault>
     requires slot { shelf.now.series < 4096 }
     requires laid { IsLaidOut shape.now }
     requires places { ArePlaces shape.now shelf.now.kind.now.columns (P.contents pages.old) (places_of shelf.now.series space.now) }
-    ensures read { IfOk result (λ count. IsTold P.tells shape.now shelf.now.series shelf.now.kind.now.columns (places_of shelf.now.series space.now)
-        (P.contents pages.old) (λ es. count ≡ length (clipped from to (reading shape.now es)))) }
+    ensures read { IfOk result (λ count. IsTold P.tells shape.now shelf.now.series shelf.now.kind.now.columns
+        (places_of shelf.now.series space.now) (P.contents pages.old)
+        (λ es. count ≡ length (clipped from to (reading shape.now es)))) }
     ensures call { Reads P.tells result (P.contents pages.old) (P.contents pages.new) }
     ensures undisturbed { P.undisturbed pages.old pages.new }
 {
@@ -78,7 +80,7 @@ pub fn clip_count<P: Pages, V: EntryVisitor>(
     page: &mut Page,
     space: &Space,
     shelf: &Shelf,
-    shape: &Shape,
+    shape: &Shape<'_>,
     stamp: Stamp,
     n: i64,
     visitor: &mut V,
@@ -86,8 +88,9 @@ pub fn clip_count<P: Pages, V: EntryVisitor>(
     requires slot { shelf.now.series < 4096 }
     requires laid { IsLaidOut shape.now }
     requires places { ArePlaces shape.now shelf.now.kind.now.columns (P.contents pages.old) (places_of shelf.now.series space.now) }
-    ensures read { IfOk result (λ count. IsTold P.tells shape.now shelf.now.series shelf.now.kind.now.columns (places_of shelf.now.series space.now)
-        (P.contents pages.old) (λ es. AreTaken (λ entries. V.took shelf.now.kind.now.columns visitor.old entries visitor.new)
+    ensures read { IfOk result (λ count. IsTold P.tells shape.now shelf.now.series shelf.now.kind.now.columns
+        (places_of shelf.now.series space.now) (P.contents pages.old)
+        (λ es. AreTaken (λ entries. V.took shelf.now.kind.now.columns visitor.old entries visitor.new)
         (counted stamp n (reading shape.now es)) count)) }
     ensures call { Reads P.tells result (P.contents pages.old) (P.contents pages.new) }
     ensures undisturbed { P.undisturbed pages.old pages.new }
@@ -106,15 +109,16 @@ pub fn nth<P: Pages, V: EntryVisitor>(
     page: &mut Page,
     space: &Space,
     shelf: &Shelf,
-    shape: &Shape,
+    shape: &Shape<'_>,
     n: u64,
     visitor: &mut V,
 ) -> Result<u64, StoreFault>
     requires slot { shelf.now.series < 4096 }
     requires laid { IsLaidOut shape.now }
     requires places { ArePlaces shape.now shelf.now.kind.now.columns (P.contents pages.old) (places_of shelf.now.series space.now) }
-    ensures read { IfOk result (λ count. IsTold P.tells shape.now shelf.now.series shelf.now.kind.now.columns (places_of shelf.now.series space.now)
-        (P.contents pages.old) (λ es. AreTaken (λ entries. V.took shelf.now.kind.now.columns visitor.old entries visitor.new)
+    ensures read { IfOk result (λ count. IsTold P.tells shape.now shelf.now.series shelf.now.kind.now.columns
+        (places_of shelf.now.series space.now) (P.contents pages.old)
+        (λ es. AreTaken (λ entries. V.took shelf.now.kind.now.columns visitor.old entries visitor.new)
         (entry_number n (reading shape.now es)) count)) }
     ensures call { Reads P.tells result (P.contents pages.old) (P.contents pages.new) }
     ensures undisturbed { P.undisturbed pages.old pages.new }
@@ -132,7 +136,7 @@ pub fn elements<P: Pages, V: EntryVisitor>(
     page: &mut Page,
     space: &Space,
     shelf: &Shelf,
-    shape: &Shape,
+    shape: &Shape<'_>,
     from: Stamp,
     to: Stamp,
     visitor: &mut V,
@@ -140,8 +144,9 @@ pub fn elements<P: Pages, V: EntryVisitor>(
     requires slot { shelf.now.series < 4096 }
     requires laid { IsLaidOut shape.now }
     requires places { ArePlaces shape.now shelf.now.kind.now.columns (P.contents pages.old) (places_of shelf.now.series space.now) }
-    ensures read { IfOk result (λ done. IsTold P.tells shape.now shelf.now.series shelf.now.kind.now.columns (places_of shelf.now.series space.now)
-        (P.contents pages.old) (λ es. AreElementsTaken (λ entries. V.took shelf.now.kind.now.columns visitor.old entries visitor.new) from to es)) }
+    ensures read { IfOk result (λ done. IsTold P.tells shape.now shelf.now.series shelf.now.kind.now.columns
+        (places_of shelf.now.series space.now) (P.contents pages.old)
+        (λ es. AreElementsTaken (λ entries. V.took shelf.now.kind.now.columns visitor.old entries visitor.new) from to es)) }
     ensures call { Reads P.tells result (P.contents pages.old) (P.contents pages.new) }
     ensures undisturbed { P.undisturbed pages.old pages.new }
 {

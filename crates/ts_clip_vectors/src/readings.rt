@@ -1,5 +1,5 @@
 // Each reading of entries once, on both series.
-use crate::series::{SLOT, day, filled, integer_of};
+use crate::series::{SLOT, day, filled, integer_of, shape_of};
 use std::alloc::{AllocError, Global};
 use ts_base::{Stamp, StoreFault};
 use ts_clip::{clip, clip_count, clip_len, elements, first_elem, last_elem, nth};
@@ -62,9 +62,9 @@ fn answered(
     let kind = &series.kind;
     let shelf = &Shelf { series: SLOT, kind };
     let page = &mut Page::zero();
+    let shape = &shape_of(&series.counter)?;
     let pages = &mut series.pages;
     let space = &series.space;
-    let shape = &series.shape;
     let mut taken = Taken {
         entries: Vec::new(alloc),
         blanks: !matches!(question, Question::Elements(..)),
@@ -97,16 +97,9 @@ fn length(alloc: Global, regular: bool, from: u8, to: u8) -> Result<u64, StoreFa
     let shelf = &Shelf { series: SLOT, kind };
     let page = &mut Page::zero();
     let space = &series.space;
+    let shape = &shape_of(&series.counter)?;
     let (from, to) = (day(from)?, day(to)?);
-    clip_len(
-        &mut series.pages,
-        page,
-        space,
-        shelf,
-        &series.shape,
-        from,
-        to,
-    )
+    clip_len(&mut series.pages, page, space, shelf, shape, from, to)
 }
 
 // The day and the integer of the first element.
@@ -116,7 +109,8 @@ fn first(alloc: Global, regular: bool) -> Result<(u32, i128), StoreFault> {
     let shelf = &Shelf { series: SLOT, kind };
     let page = &mut Page::zero();
     let space = &series.space;
-    let found = first_elem(&mut series.pages, page, space, shelf, &series.shape)?;
+    let shape = &shape_of(&series.counter)?;
+    let found = first_elem(&mut series.pages, page, space, shelf, shape)?;
     let (stamp, row) = found.ok_or(StoreFault::Failed)?;
     Ok((stamp.day_of_month(), integer_of(&row)))
 }
@@ -128,7 +122,8 @@ fn last(alloc: Global, regular: bool) -> Result<(u32, i128), StoreFault> {
     let shelf = &Shelf { series: SLOT, kind };
     let page = &mut Page::zero();
     let space = &series.space;
-    let found = last_elem(&mut series.pages, page, space, shelf, &series.shape)?;
+    let shape = &shape_of(&series.counter)?;
+    let found = last_elem(&mut series.pages, page, space, shelf, shape)?;
     let (stamp, row) = found.ok_or(StoreFault::Failed)?;
     Ok((stamp.day_of_month(), integer_of(&row)))
 }

@@ -1,9 +1,10 @@
 // The rows of a range, in the bytes of their cells.
 ghost use Rattle.ts_page.specs.Memory.{memory_contents};
 ghost use Rattle.ts_space.specs.Directory.{places_of};
-ghost use Rattle.ts_clip.specs.Series.{ArePlaces, IsLaidOut};
+ghost use Rattle.ts_offset.specs.declared.shape.Shape.{Shape as TheShape};
+ghost use Rattle.ts_clip.specs.Series.{ArePlaces};
 
-use crate::series::{SLOT, Series, day, filled, mislead};
+use crate::series::{SLOT, Series, day, filled, mislead, shape_of};
 use std::alloc::{AllocError, Global};
 use ts_base::StoreFault;
 use ts_clip::rows;
@@ -61,15 +62,15 @@ fn misled(alloc: Global, regular: bool, from: u8, to: u8) -> Result<Copied, Stor
 
 // The same of any series.
 fn copied_of(alloc: Global, series: &mut Series, from: u8, to: u8) -> Result<Copied, StoreFault>
-    requires laid { IsLaidOut series.old.shape }
-    requires places { ArePlaces series.old.shape series.old.kind.columns (memory_contents series.old.pages) (places_of 7 series.old.space) }
+    requires { (shape : TheShape) → ArePlaces shape series.old.kind.columns
+        (memory_contents series.old.pages) (places_of 7 series.old.space) }
 {
     let kind = &series.kind;
     let shelf = &Shelf { series: SLOT, kind };
     let page = &mut Page::zero();
+    let shape = &shape_of(&series.counter)?;
     let pages = &mut series.pages;
     let space = &series.space;
-    let shape = &series.shape;
     let mut copied = Copied {
         rows: Vec::new(alloc),
         cells: 0,

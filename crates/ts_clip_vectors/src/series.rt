@@ -5,6 +5,8 @@ ghost use Rattle.ts_space.specs.declared.place.Place.{Place as ThePlace};
 ghost use Rattle.ts_space.specs.Place.{count_of};
 ghost use Rattle.ts_space.specs.Directory.{places_of};
 ghost use Rattle.ts_row.specs.Row.{fits};
+ghost use Rattle.ts_calendar.specs.Intervals.{IsLaid};
+ghost use Rattle.ts_offset.specs.declared.shape.Shape.{Shape as TheShape};
 ghost use Rattle.ts_clip.specs.Series.{ArePlaces, IsLaidOut};
 
 use std::alloc::Global;
@@ -12,7 +14,7 @@ use ts_base::{Name, Stamp, StoreFault, Unit};
 use ts_calendar::Calendar;
 use ts_cells::page_room;
 use ts_chain::chain_mark;
-use ts_offset::{Grid, Shape};
+use ts_offset::{Counter, Grid, Shape};
 use ts_page::{MemoryPages, Page, Pages};
 use ts_pattern::{Pattern, Run};
 use ts_regular::regular_room;
@@ -35,7 +37,8 @@ pub(crate) struct Series {
     pub(crate) pages: MemoryPages,
     pub(crate) space: Space,
     pub(crate) kind: RowType,
-    pub(crate) shape: Shape,
+    /// None of an irregular series.
+    pub(crate) counter: Option<Counter>,
 }
 
 /// The integer of a row, or -1.
@@ -84,9 +87,7 @@ fn row_of(kind: &RowType, integer: i128) -> Result<Row, StoreFault>
 }
 
 // Five days on and two off, from Monday the third on.
-fn working_days(alloc: Global) -> Result<Shape, StoreFault>
-    ensures { IfOk result IsLaidOut }
-{
+fn working_days(alloc: Global) -> Result<Counter, StoreFault> {
     let on = Run { on: true, count: 5 };
     let off = Run {
         on: false,
@@ -98,10 +99,28 @@ fn working_days(alloc: Global) -> Result<Shape, StoreFault>
     let Ok(calendar) = Calendar::make(start, start, pattern) else {
         return Err(StoreFault::Failed);
     };
+    Ok(Counter::make(alloc, calendar)?)
+}
+
+/// How the elements lie: on the on days of a calendar from the third on, or anywhere where there is none.
+pub(crate) fn shape_of(counter: &Option<Counter>) -> Result<Shape<'_>, StoreFault>
+    ensures { IfOk result IsLaidOut }
+{
+    match counter {
+        Some(counter) => Ok(Shape::Regular(grid_of(counter)?)),
+        None => Ok(Shape::Irregular),
+    }
+}
+
+// The grid of a calendar's on days from the third on.
+fn grid_of(counter: &Counter) -> Result<Grid<'_>, StoreFault>
+    ensures { IfOk result (λ grid. IsLaid grid.calendar) }
+{
+    let start = day(3)?;
     // It is laid out.
-    let _interval = calendar.interval_around(start);
-    match Grid::make(alloc, &calendar, start) {
-        Ok(grid) => Ok(Shape::Regular(grid)),
+    let _interval = counter.calendar().interval_around(start);
+    match Grid::make(counter, start) {
+        Ok(grid) => Ok(grid),
         Err(_) => Err(StoreFault::Failed),
     }
 }
@@ -117,10 +136,8 @@ fn one_free(alloc: Global) -> Result<MemoryPages, StoreFault>
 }
 
 // Without elements.
-fn empty(alloc: Global, shape: Shape) -> Result<Series, StoreFault>
-    requires { IsLaidOut shape }
-    ensures shape { IfOk result (λ series. IsLaidOut series.shape) }
-    ensures places { IfOk result (λ series. ArePlaces series.shape series.kind.columns
+fn empty(alloc: Global, counter: Option<Counter>) -> Result<Series, StoreFault>
+    ensures places { IfOk result (λ series. (shape : TheShape) → ArePlaces shape series.kind.columns
         (memory_contents series.pages) (places_of 7 series.space)) }
     ensures count { IfOk result (λ series. (memory_contents series.pages).count ≡ 931) }
 {
@@ -131,7 +148,7 @@ fn empty(alloc: Global, shape: Shape) -> Result<Series, StoreFault>
         pages,
         space,
         kind,
-        shape,
+        counter,
     })
 }
 
@@ -149,7 +166,7 @@ fn is_only_place(places: &[Place], most: usize) -> bool
 // The only page holds all elements, and none is free.
 fn settled(series: &Series) -> Result<(), StoreFault>
     requires { (memory_contents series.now.pages).count ≡ 931 }
-    ensures { OnOk result (ArePlaces series.now.shape series.now.kind.columns
+    ensures { OnOk result ((shape : TheShape) → ArePlaces shape series.now.kind.columns
         (memory_contents series.now.pages) (places_of 7 series.now.space)) }
 {
     let places = series.space.places(SLOT);
@@ -166,12 +183,12 @@ fn settled(series: &Series) -> Result<(), StoreFault>
 
 // Puts an integer on a day, behind all others.
 fn put(series: &mut Series, number: u8, integer: i128) -> Result<(), StoreFault>
-    requires places { ArePlaces series.old.shape series.old.kind.columns (memory_contents series.old.pages) (places_of 7 series.old.space) }
+    requires places { (shape : TheShape) → ArePlaces shape series.old.kind.columns
+        (memory_contents series.old.pages) (places_of 7 series.old.space) }
     requires count { (memory_contents series.old.pages).count ≡ 931 }
-    ensures places { OnOk result (ArePlaces series.new.shape series.new.kind.columns
+    ensures places { OnOk result ((shape : TheShape) → ArePlaces shape series.new.kind.columns
         (memory_contents series.new.pages) (places_of 7 series.new.space)) }
     ensures count { OnOk result ((memory_contents series.new.pages).count ≡ 931) }
-    ensures shape { series.new.shape ≡ series.old.shape }
 {
     let stamp = day(number)?;
     let row = row_of(&series.kind, integer)?;
@@ -196,10 +213,10 @@ fn are_few(places: &[Place]) -> bool
 
 // Puts it.
 fn edited(series: &mut Series, stamp: Stamp, row: &Row) -> Result<Edited, StoreFault>
-    requires places { ArePlaces series.old.shape series.old.kind.columns (memory_contents series.old.pages) (places_of 7 series.old.space) }
+    requires places { (shape : TheShape) → ArePlaces shape series.old.kind.columns
+        (memory_contents series.old.pages) (places_of 7 series.old.space) }
     requires fits { IsTrue (fits series.old.kind.columns row.now) }
     ensures count { (memory_contents series.new.pages).count ≡ (memory_contents series.old.pages).count }
-    ensures shape { series.new.shape ≡ series.old.shape }
     ensures kind { series.new.kind ≡ series.old.kind }
 {
     let places = series.space.places(SLOT);
@@ -213,20 +230,23 @@ fn edited(series: &mut Series, stamp: Stamp, row: &Row) -> Result<Edited, StoreF
     let pages = &mut series.pages;
     let space = &series.space;
     let how = EditKind::Insert;
-    match &series.shape {
-        Shape::Irregular => edit(pages, page, space, &shelf, how, stamp, row, room),
-        Shape::Regular(grid) => edit_at(pages, page, space, &shelf, grid, how, stamp, row, room),
+    match &series.counter {
+        None => edit(pages, page, space, &shelf, how, stamp, row, room),
+        Some(counter) => {
+            let grid = &grid_of(counter)?;
+            edit_at(pages, page, space, &shelf, grid, how, stamp, row, room)
+        }
     }
 }
 
 // Hides the element of a day.
 fn hide(series: &mut Series, number: u8) -> Result<(), StoreFault>
-    requires places { ArePlaces series.old.shape series.old.kind.columns (memory_contents series.old.pages) (places_of 7 series.old.space) }
+    requires places { (shape : TheShape) → ArePlaces shape series.old.kind.columns
+        (memory_contents series.old.pages) (places_of 7 series.old.space) }
     requires count { (memory_contents series.old.pages).count ≡ 931 }
-    ensures places { OnOk result (ArePlaces series.new.shape series.new.kind.columns
+    ensures places { OnOk result ((shape : TheShape) → ArePlaces shape series.new.kind.columns
         (memory_contents series.new.pages) (places_of 7 series.new.space)) }
     ensures count { OnOk result ((memory_contents series.new.pages).count ≡ 931) }
-    ensures shape { series.new.shape ≡ series.old.shape }
 {
     let stamp = day(number)?;
     if !marked(series, stamp)? {
@@ -237,9 +257,9 @@ fn hide(series: &mut Series, number: u8) -> Result<(), StoreFault>
 
 // Hides it.
 fn marked(series: &mut Series, stamp: Stamp) -> Result<bool, StoreFault>
-    requires places { ArePlaces series.old.shape series.old.kind.columns (memory_contents series.old.pages) (places_of 7 series.old.space) }
+    requires places { (shape : TheShape) → ArePlaces shape series.old.kind.columns
+        (memory_contents series.old.pages) (places_of 7 series.old.space) }
     ensures count { (memory_contents series.new.pages).count ≡ (memory_contents series.old.pages).count }
-    ensures shape { series.new.shape ≡ series.old.shape }
     ensures kind { series.new.kind ≡ series.old.kind }
 {
     let kind = &series.kind;
@@ -247,9 +267,10 @@ fn marked(series: &mut Series, stamp: Stamp) -> Result<bool, StoreFault>
     let page = &mut Page::zero();
     let pages = &mut series.pages;
     let space = &series.space;
-    match &series.shape {
-        Shape::Irregular => chain_mark(pages, page, space, &shelf, stamp, true),
-        Shape::Regular(grid) => {
+    match &series.counter {
+        None => chain_mark(pages, page, space, &shelf, stamp, true),
+        Some(counter) => {
+            let grid = &grid_of(counter)?;
             let told = mark_at(pages, page, space, &shelf, grid, stamp, true)?;
             Ok(told.is_ok())
         }
@@ -258,17 +279,16 @@ fn marked(series: &mut Series, stamp: Stamp) -> Result<bool, StoreFault>
 
 /// The integers 1 on the third, 2 on the fifth, 3 on the sixth, which is hidden, and 4 on the tenth.
 pub(crate) fn filled(alloc: Global, regular: bool) -> Result<Series, StoreFault>
-    ensures shape { IfOk result (λ series. IsLaidOut series.shape) }
-    ensures places { IfOk result (λ series. ArePlaces series.shape series.kind.columns
+    ensures places { IfOk result (λ series. (shape : TheShape) → ArePlaces shape series.kind.columns
         (memory_contents series.pages) (places_of 7 series.space)) }
     ensures count { IfOk result (λ series. (memory_contents series.pages).count ≡ 931) }
 {
-    let shape = if regular {
-        working_days(alloc)?
+    let counter = if regular {
+        Some(working_days(alloc)?)
     } else {
-        Shape::Irregular
+        None
     };
-    let mut series = empty(alloc, shape)?;
+    let mut series = empty(alloc, counter)?;
     put(&mut series, 3, 1)?;
     put(&mut series, 5, 2)?;
     put(&mut series, 6, 3)?;
@@ -280,9 +300,8 @@ pub(crate) fn filled(alloc: Global, regular: bool) -> Result<Series, StoreFault>
 /// Makes the place of the only page tell of one element more than stand there.
 pub(crate) fn mislead(series: &mut Series) -> Result<(), StoreFault>
     requires { (memory_contents series.old.pages).count ≡ 931 }
-    ensures places { OnOk result (ArePlaces series.new.shape series.new.kind.columns
+    ensures places { OnOk result ((shape : TheShape) → ArePlaces shape series.new.kind.columns
         (memory_contents series.new.pages) (places_of 7 series.new.space)) }
-    ensures shape { series.new.shape ≡ series.old.shape }
 {
     let Some(place) = series.space.places(SLOT).first() else {
         return Err(StoreFault::Failed);

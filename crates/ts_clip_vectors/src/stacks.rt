@@ -2,7 +2,7 @@
 ghost use Rattle.std.specs.Prelude.{◌≡◌};
 ghost use Rattle.ts_page.specs.Memory.{memory_contents};
 
-use crate::series::{SLOT, Series, day, filled, integers};
+use crate::series::{SLOT, Series, day, filled, integers, shape_of};
 use std::alloc::{AllocError, Global};
 use std::thread::Threads;
 use ts_aggregate::{Stack, aggregate_all};
@@ -181,7 +181,7 @@ fn sum_between(
     let Series {
         kind,
         space,
-        shape,
+        counter,
         ..
     } = series;
     let Ok(bound) = sum(alloc, &kind) else {
@@ -192,7 +192,7 @@ fn sum_between(
             series: SLOT,
             kind: &kind,
         },
-        shape,
+        shape: shape_of(&counter)?,
         places: space.places(SLOT),
         first: 0,
     };

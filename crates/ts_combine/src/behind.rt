@@ -29,7 +29,12 @@ pub fn lag(alloc: Global, side: &Side, by: i64) -> Result<Vec<Lagged>, Trouble>
 }
 
 // Each element at the on start so many behind its own, in order.
-fn lagged(alloc: Global, grid: &Grid, elems: &[Elem], by: i64) -> Result<Rows<Lagged>, AllocError>
+fn lagged(
+    alloc: Global,
+    grid: &Grid<'_>,
+    elems: &[Elem],
+    by: i64,
+) -> Result<Rows<Lagged>, AllocError>
     ensures { IfOk result (let es = elements_in elems.now in GathersLagged elems.now (filter_map (moved grid.now by (last_offset grid.now es)) es)) }
 {
     let last = last_offset(grid, elems);
@@ -43,7 +48,7 @@ fn lagged(alloc: Global, grid: &Grid, elems: &[Elem], by: i64) -> Result<Rows<La
 }
 
 // The offset of the last element.
-fn last_offset(grid: &Grid, elems: &[Elem]) -> u64
+fn last_offset(grid: &Grid<'_>, elems: &[Elem]) -> u64
     ensures { result ≡ last_offset grid.now (elements_in elems.now) }
 {
     match elems.last() {
@@ -53,7 +58,7 @@ fn last_offset(grid: &Grid, elems: &[Elem]) -> u64
 }
 
 // The on start so many behind a stamp, where it lies from the origin on, up to a last offset.
-fn start_behind(grid: &Grid, by: i64, last: u64, stamp: Stamp) -> Option<Stamp>
+fn start_behind(grid: &Grid<'_>, by: i64, last: u64, stamp: Stamp) -> Option<Stamp>
     ensures { result ≡ start_behind grid.now by last stamp }
 {
     let offset = offset_behind(grid.offset_from(stamp), by, last)?;

@@ -11,7 +11,7 @@ use ts_offset::{Grid, Shape};
 
 /// A stamp from which on the elements of a series are enough where it is combined from a stamp on: on a grid the start of the interval that
 /// holds this one, else this one itself.
-pub fn first_needed(shape: &Shape, from: Stamp) -> Stamp
+pub fn first_needed(shape: &Shape<'_>, from: Stamp) -> Stamp
     ensures { IsEnough shape.now from result }
 {
     match shape {
@@ -21,7 +21,7 @@ pub fn first_needed(shape: &Shape, from: Stamp) -> Stamp
 }
 
 // The start of the interval that a stamp addresses, or the stamp.
-fn held_or_own(grid: &Grid, stamp: Stamp) -> Stamp
+fn held_or_own(grid: &Grid<'_>, stamp: Stamp) -> Stamp
     ensures { IsEnough (Regular grid.now) stamp result }
 {
     let Ok(offset) = grid.offset_of(stamp) else {

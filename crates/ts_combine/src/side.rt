@@ -8,6 +8,6 @@ use ts_row::Elem;
 pub struct Side<'a> {
     pub elems: &'a [Elem],
     pub columns: usize,
-    pub shape: &'a Shape,
+    pub shape: &'a Shape<'a>,
     pub calendar: Option<&'a Calendar>,
 }

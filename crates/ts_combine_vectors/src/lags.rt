@@ -40,7 +40,8 @@ static LAGS: [(Table, i64, &[(&[u8], usize)]); 11] = [
 
 fn lagged(alloc: Global, table: &Table, by: i64) -> Option<Result<Vec<Lagged>, Trouble>> {
     let kept = made(alloc, table)?;
-    Some(lag(alloc, &kept.side(), by))
+    let shape = kept.shape()?;
+    Some(lag(alloc, &kept.side(&shape), by))
 }
 
 fn is_row(row: &Lagged, wanted: &(&'static [u8], usize)) -> bool {

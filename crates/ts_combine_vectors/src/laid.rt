@@ -7,7 +7,7 @@ use std::alloc::Global;
 use ts_base::{Stamp, Unit};
 use ts_calendar::Calendar;
 use ts_combine::Side;
-use ts_offset::{Grid, Shape};
+use ts_offset::{Counter, Grid, Shape};
 use ts_pattern::{Pattern, Run};
 use ts_row::{Elem, Row};
 
@@ -112,12 +112,11 @@ pub(crate) struct Table {
     pub(crate) stamps: &'static [&'static [u8]],
 }
 
-/// The same series as it is kept.
+/// The same series as it is kept, with the sums of its calendar.
 #[derive(Drop)]
 pub(crate) struct Kept {
     pub(crate) elems: Vec<Elem>,
-    pub(crate) calendar: Option<Calendar>,
-    pub(crate) shape: Shape,
+    pub(crate) counter: Option<Counter>,
 }
 
 // A pattern of runs of these counts, whose flags take turns.
@@ -148,47 +147,51 @@ fn elements(alloc: Global, stamps: &[&[u8]]) -> Option<Vec<Elem>> {
 }
 
 // The grid of a calendar from its first on start on.
-fn grid(alloc: Global, calendar: &Calendar) -> Option<Grid>
-    ensures { IfSome result (λ g. g.calendar ≡ calendar.now) }
+fn grid(counter: &Counter) -> Option<Grid<'_>>
+    ensures { IfSome result (λ g. g.calendar ≡ counter.now) }
 {
-    match Grid::make(alloc, calendar, calendar.start()) {
+    match Grid::make(counter, counter.calendar().start()) {
         Ok(grid) => Some(grid),
         Err(_) => None,
     }
 }
 
-pub(crate) fn made(alloc: Global, table: &Table) -> Option<Kept>
-    ensures { IfSome result (λ k. HasOwn k.shape k.calendar) }
-{
+pub(crate) fn made(alloc: Global, table: &Table) -> Option<Kept> {
     let elems = elements(alloc, table.stamps)?;
-    let Some(laid) = &table.laid else {
-        return Some(Kept {
-            elems,
-            calendar: None,
-            shape: Shape::Irregular,
-        });
+    let counter = match &table.laid {
+        Some(laid) => Some(Counter::make(alloc, calendar(alloc, laid)?).ok()?),
+        None => None,
     };
-    let calendar = calendar(alloc, laid)?;
-    let _laid = calendar.patt_start();
-    let grid = grid(alloc, &calendar)?;
-    Some(Kept {
-        elems,
-        calendar: Some(calendar),
-        shape: Shape::Regular(grid),
-    })
+    Some(Kept { elems, counter })
 }
 
 impl Kept {
-    pub(crate) fn side(&self) -> Side<'_>
-        requires { HasOwn self.now.shape self.now.calendar }
+    /// How its elements lie.
+    pub(crate) fn shape(&self) -> Option<Shape<'_>>
+        ensures { IfSome result (λ shape. HasOwn shape self.now.counter) }
+    {
+        let Some(counter) = &self.counter else {
+            return Some(Shape::Irregular);
+        };
+        let _laid = counter.calendar().patt_start();
+        Some(Shape::Regular(grid(counter)?))
+    }
+
+    /// It as it is combined.
+    pub(crate) fn side<'a>(&'a self, shape: &'a Shape<'a>) -> Side<'a>
+        requires { HasOwn shape.now self.now.counter }
         ensures calendar { HasCalendar result }
         ensures laid { IsLaidOut result.shape.now }
     {
+        let calendar = match &self.counter {
+            Some(counter) => Some(counter.calendar()),
+            None => None,
+        };
         Side {
             elems: self.elems.as_slice(),
             columns: 1,
-            shape: &self.shape,
-            calendar: self.calendar.as_ref(),
+            shape,
+            calendar,
         }
     }
 }

@@ -35,7 +35,8 @@ fn size(alloc: Global, to: &[u8]) -> Option<Result<usize, Refusal>> {
     let second = made(alloc, &EMPTY)?;
     let from = Stamp::read(JANUARY_3)?;
     let to = Stamp::read(to)?;
-    match union(alloc, &first.side(), &second.side(), from, to) {
+    let (one, other) = (first.shape()?, second.shape()?);
+    match union(alloc, &first.side(&one), &second.side(&other), from, to) {
         Ok(rows) => Some(Ok(rows.len())),
         Err(Trouble::Refused(why)) => Some(Err(why)),
         Err(Trouble::Memory(_)) => None,
@@ -95,7 +96,7 @@ static NEEDED: [(Table, &[u8], &[u8]); 5] = [
 
 fn needed(alloc: Global, table: &Table, from: &[u8]) -> Option<Stamp> {
     let kept = made(alloc, table)?;
-    Some(first_needed(&kept.shape, Stamp::read(from)?))
+    Some(first_needed(&kept.shape()?, Stamp::read(from)?))
 }
 
 #[test]

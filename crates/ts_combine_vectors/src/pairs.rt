@@ -213,9 +213,11 @@ fn joined(alloc: Global, junction: Junction, pair: &Pair) -> Option<Result<Vec<J
     let second = made(alloc, &pair.second)?;
     let from = Stamp::read(pair.from)?;
     let to = Stamp::read(pair.to)?;
+    let (one, other) = (first.shape()?, second.shape()?);
+    let (first, second) = (first.side(&one), second.side(&other));
     Some(match junction {
-        Junction::Or => union(alloc, &first.side(), &second.side(), from, to),
-        Junction::And => intersect(alloc, &first.side(), &second.side(), from, to),
+        Junction::Or => union(alloc, &first, &second, from, to),
+        Junction::And => intersect(alloc, &first, &second, from, to),
     })
 }
 

@@ -1,12 +1,7 @@
 -- Series and calendars as they stand in their slots, and where the elements of a series can stand.
-use Rattle.std.proofs.Common.{◌≡◌, ℕ, Option, Some, None, Result, Ok, Err, List, refl, sym, ap, subst, ◌∙◌, ℤ}
+use Rattle.std.proofs.Common.{◌≡◌, ℕ, Option, Some, None, List, sym, ap, subst, ◌∙◌, ℤ}
 use Rattle.std.specs.Option.{option_map}
-use Rattle.ts_base.specs.declared.refusal.Refusal.{Refusal}
-use Rattle.ts_base.specs.declared.fault.Trouble.{Trouble}
-use Rattle.ts_base.specs.declared.fault.Trouble.TheVariants.{Refused}
-use Rattle.ts_pattern.specs.Algebra.{Answers}
 use Rattle.ts_calendar.specs.Plan.{CalendarPlan}
-use Rattle.ts_offset.specs.Grid.{GridPlan, grid_of, held_start}
 use Rattle.ts_offset.specs.declared.shape.Shape.TheVariants.{Regular}
 use Rattle.ts_model.specs.declared.kind.Kind.TheVariants as kinds
 use Rattle.ts_model.specs.declared.def.Def.TheVariants as defs
@@ -42,20 +37,7 @@ series_stands d slot key container regular is = series_there (at_slot slot d.ser
 pub of_one : {A : Type 0} (P : A → Type 0) (o : Option A) (a : A) → o ≡ Some a → P a → (b : A) → o ≡ Some b → P b
 of_one P o a is holds b there = let same : a ≡ b = cc in subst P same holds
 
--- the grid of an on start has this start for its origin
-grid_stays : (c : CalendarPlan) (origin : ℤ) → held_start c origin ≡ Some origin → grid_of c origin ≡ Ok (record { calendar = c; origin = origin })
-grid_stays c origin is = rw is refl
-
-one_grid : (r : Result GridPlan Refusal) (a b : GridPlan) → r ≡ Ok a → r ≡ Ok b → a ≡ b
-one_grid r a b first second = cc
-
--- so it is the shape of a series of that origin
-pub shape_on : (d : Definitions) (slot : ℕ) (origin : ℤ) (c : CalendarDef) (grid : GridPlan) → at_slot slot d.calendars ≡ Some c → held_start c.calendar origin ≡ Some origin → grid_of c.calendar origin ≡ Ok grid → Some (Regular grid) ≡ shape_of d (Some (slot, origin))
-shape_on d slot origin c grid there own made =
-    ap (λ (g : GridPlan). Some (Regular g)) (one_grid (grid_of c.calendar origin) grid (record { calendar = c.calendar; origin = origin }) made (grid_stays c.calendar origin own))
-    ∙ sym (ap (λ (o : Option CalendarDef). option_map Regular (option_map (λ x. record { calendar = x.calendar; origin = origin }) o)) there)
-
-pub never_refused : (c : CalendarPlan) (origin : ℤ) (r : Result GridPlan Trouble) (t : Trouble) (why : Refusal) → held_start c origin ≡ Some origin → Answers (grid_of c origin) r → r ≡ Err t → t ≡ Refused why → ⊥
-never_refused c origin r t why own answer failed refused = no (grid_of c origin) (grid_stays c origin own) (subst (Answers (grid_of c origin)) (failed ∙ ap Err refused) answer) where
-  no : (g : Result GridPlan Refusal) → g ≡ Ok (record { calendar = c; origin = origin }) → g ≡ Err why → ⊥
-  no g made refused = cc
+-- the on starts of a calendar from an origin on are the shape of a series of that calendar and that origin
+pub shape_on : (d : Definitions) (slot : ℕ) (origin : ℤ) (c : CalendarDef) → at_slot slot d.calendars ≡ Some c → Some (Regular (record { calendar = c.calendar; origin = origin })) ≡ shape_of d (Some (slot, origin))
+shape_on d slot origin c there =
+    sym (ap (λ (o : Option CalendarDef). option_map Regular (option_map (λ x. record { calendar = x.calendar; origin = origin }) o)) there)

@@ -5,26 +5,35 @@ ghost use Rattle.ts_slots.specs.Written.{IsWritten};
 ghost use Rattle.ts_container.specs.Reading.{Completes, Makes};
 
 use crate::found::Flaw;
-use std::alloc::AllocError;
+use std::alloc::{AllocError, Global};
 use ts_base::{Name, Stamp};
 use ts_calendar::Calendar;
 use ts_model::{Def, Defs, Kind};
+use ts_offset::Counter;
 use ts_pattern::Pattern;
 use ts_slots::{CalendarForm, Part, Written};
 
 /// The definition that is written, among those before it.
-pub(crate) fn complete(written: Written, defs: &Defs) -> Result<Result<Def, Flaw>, AllocError>
+pub(crate) fn complete(
+    alloc: Global,
+    written: Written,
+    defs: &Defs,
+) -> Result<Result<Def, Flaw>, AllocError>
     requires { IsWritten defs.now.definitions.format written }
     ensures { IfOk result (Completes defs.now.definitions written) }
 {
     match written {
         Written::Whole(def) => Ok(Ok(def)),
-        Written::Form(form) => complete_calendar(form, defs),
+        Written::Form(form) => complete_calendar(alloc, form, defs),
     }
 }
 
 // The calendar of a form. One without runs of its own has those of the pattern in the slot that it says.
-fn complete_calendar(form: CalendarForm, defs: &Defs) -> Result<Result<Def, Flaw>, AllocError>
+fn complete_calendar(
+    alloc: Global,
+    form: CalendarForm,
+    defs: &Defs,
+) -> Result<Result<Def, Flaw>, AllocError>
     ensures { IfOk result (Completes defs.now.definitions (Written.Form form)) }
 {
     let CalendarForm {
@@ -34,9 +43,9 @@ fn complete_calendar(form: CalendarForm, defs: &Defs) -> Result<Result<Def, Flaw
         part,
     } = form;
     match part {
-        Part::Own(pattern) => Ok(make(name, start, patt_start, pattern, None)),
+        Part::Own(pattern) => make(alloc, name, start, patt_start, pattern, None),
         Part::By(slot) => match pattern_at(defs, slot)? {
-            Some(pattern) => Ok(make(name, start, patt_start, pattern, Some(slot))),
+            Some(pattern) => make(alloc, name, start, patt_start, pattern, Some(slot)),
             None => Ok(Err(Flaw::Unresolved)),
         },
     }
@@ -54,16 +63,20 @@ fn pattern_at(defs: &Defs, slot: u8) -> Result<Option<Pattern>, AllocError>
 
 // The calendar of these parts, if it breaks no rule.
 fn make(
+    alloc: Global,
     name: Name,
     start: Stamp,
     patt_start: Stamp,
     pattern: Pattern,
     by: Option<u8>,
-) -> Result<Def, Flaw>
-    ensures { Makes name (record { start = start; patt_start = patt_start; pattern = pattern }) by result }
+) -> Result<Result<Def, Flaw>, AllocError>
+    ensures { IfOk result (Makes name (record { start = start; patt_start = patt_start; pattern = pattern }) by) }
 {
     match Calendar::make(start, patt_start, pattern) {
-        Ok(calendar) => Ok(Def::Calendar { name, calendar, by }),
-        Err(_) => Err(Flaw::Invalid),
+        Ok(calendar) => {
+            let calendar = Counter::make(alloc, calendar)?;
+            Ok(Ok(Def::Calendar { name, calendar, by }))
+        }
+        Err(_) => Ok(Err(Flaw::Invalid)),
     }
 }

@@ -1,5 +1,5 @@
 // What stands on one element page.
-ghost use Rattle.std.specs.Prelude.{◌≡◌, ◌<◌, IsSome, IfOk, Some, option_copied};
+ghost use Rattle.std.specs.Prelude.{◌≡◌, ◌<◌, IsSome, Some, option_copied};
 ghost use Rattle.ts_page.specs.Head.{head_of};
 ghost use Rattle.ts_model.specs.Definitions.{IsDefinitions, series_slots, container_slots};
 ghost use Rattle.ts_layout.specs.Meaning.{KeepLimits, HaveOrigins, heading_in, heading_at};
@@ -7,7 +7,6 @@ ghost use Rattle.ts_container.specs.Elements.{IsContentOf, slot_in};
 
 use crate::shape::shape_of;
 use crate::span::{Span, span_of_stamps, span_on_grid};
-use std::alloc::{AllocError, Global};
 use ts_model::{Def, Defs, Kind};
 use ts_offset::Shape;
 use ts_page::{Head, Page};
@@ -21,53 +20,34 @@ pub enum Content {
 }
 
 /// What stands on the element page of a number, if it is one of the format of the volume, of a series that is there and of its kind.
-pub(crate) fn content_of(
-    alloc: Global,
-    number: u32,
-    page: &Page,
-    defs: &Defs,
-) -> Result<Option<Content>, AllocError>
+pub(crate) fn content_of(number: u32, page: &Page, defs: &Defs) -> Option<Content>
     requires limits { KeepLimits defs.now.definitions }
     requires rules { IsDefinitions defs.now.definitions }
     requires origins { HaveOrigins defs.now.definitions }
-    ensures { IfOk result (IsContentOf defs.now.definitions number page.now.bytes) }
+    ensures { IsContentOf defs.now.definitions number page.now.bytes result }
 {
-    let Some(head) = page.head() else {
-        return Ok(None);
-    };
-    match head {
-        Head::Free => Ok(Some(Content::Free)),
-        Head::Irregular { series, .. } => series_content(alloc, number, page, defs, series),
-        Head::Regular { series, .. } => series_content(alloc, number, page, defs, series),
+    match page.head()? {
+        Head::Free => Some(Content::Free),
+        Head::Irregular { series, .. } => series_content(number, page, defs, series),
+        Head::Regular { series, .. } => series_content(number, page, defs, series),
     }
 }
 
 // The elements of the series that the head of a page tells.
-fn series_content(
-    alloc: Global,
-    number: u32,
-    page: &Page,
-    defs: &Defs,
-    slot: u16,
-) -> Result<Option<Content>, AllocError>
+fn series_content(number: u32, page: &Page, defs: &Defs, slot: u16) -> Option<Content>
     requires limits { KeepLimits defs.now.definitions }
     requires rules { IsDefinitions defs.now.definitions }
     requires origins { HaveOrigins defs.now.definitions }
     requires told { slot_in (head_of page.now.bytes) ≡ Some slot }
-    ensures { IfOk result (IsContentOf defs.now.definitions number page.now.bytes) }
+    ensures { IsContentOf defs.now.definitions number page.now.bytes result }
 {
-    let Some(kind) = row_type_of(defs, slot) else {
-        return Ok(None);
-    };
+    let kind = row_type_of(defs, slot)?;
     let format = defs.format();
-    match shape_of(alloc, defs, slot)? {
-        Some(Shape::Irregular) => {
-            Ok(span_of_stamps(kind, format, number, slot, page).map(Content::Series))
+    match shape_of(defs, slot)? {
+        Shape::Irregular => span_of_stamps(kind, format, number, slot, page).map(Content::Series),
+        Shape::Regular(grid) => {
+            span_on_grid(kind, &grid, format, number, slot, page).map(Content::Series)
         }
-        Some(Shape::Regular(grid)) => {
-            Ok(span_on_grid(kind, &grid, format, number, slot, page).map(Content::Series))
-        }
-        None => Ok(None),
     }
 }
 

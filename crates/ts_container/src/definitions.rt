@@ -86,12 +86,18 @@ fn read_into(
     match read_slot(alloc, defs.format(), kind, bytes)? {
         Reading::Bad => Ok(Found::Bad),
         Reading::Empty => Ok(Found::Good),
-        Reading::Filled(written) => admit(kind, slot, written, defs),
+        Reading::Filled(written) => admit(alloc, kind, slot, written, defs),
     }
 }
 
 // Puts what is written in a slot there, if its name is new, it has its pattern and it breaks no rule of calendars.
-fn admit(kind: Kind, slot: u16, written: Written, defs: &mut Defs) -> Result<Found, AllocError>
+fn admit(
+    alloc: Global,
+    kind: Kind,
+    slot: u16,
+    written: Written,
+    defs: &mut Defs,
+) -> Result<Found, AllocError>
     requires slot { slot < limit kind }
     requires kind { kind_written written ≡ kind }
     requires limits { IsWritten defs.old.definitions.format written }
@@ -100,7 +106,7 @@ fn admit(kind: Kind, slot: u16, written: Written, defs: &mut Defs) -> Result<Fou
     if defs.find(kind, written.name()).is_some() {
         return Ok(Found::Flawed(Flaw::Unresolved));
     }
-    let def = match complete(written, defs)? {
+    let def = match complete(alloc, written, defs)? {
         Ok(def) => def,
         Err(flaw) => return Ok(Found::Flawed(flaw)),
     };

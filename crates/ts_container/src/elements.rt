@@ -45,7 +45,7 @@ pub(crate) fn read_elements<P: Pages>(
     };
     for number in ELEMENTS..count {
         read(pages, number, page)?;
-        let Some(content) = content_of(alloc, number, page, defs)? else {
+        let Some(content) = content_of(number, page, defs) else {
             return Err(SurveyFault::NotAStore { page: number });
         };
         elements.add(number, content)?;

@@ -43,7 +43,7 @@ fn is_on_calendar(defs: &Defs, calendar: u8, stamp: Stamp) -> bool
     ensures { IsTrue result ↔ IsOnCalendar defs.now.definitions (calendar, stamp) }
 {
     match defs.get(Kind::Calendar, calendar as u16) {
-        Some(Def::Calendar { calendar, .. }) => is_on_start(calendar, stamp),
+        Some(Def::Calendar { calendar, .. }) => is_on_start(calendar.calendar(), stamp),
         _ => true,
     }
 }

@@ -57,7 +57,7 @@ pub(crate) fn span_of_stamps(
 /// The same of a regular series: each element has an on start.
 pub(crate) fn span_on_grid(
     kind: &RowType,
-    grid: &Grid,
+    grid: &Grid<'_>,
     format: u8,
     number: u32,
     slot: u16,
@@ -82,7 +82,7 @@ pub(crate) fn span_on_grid(
 }
 
 // Whether the elements of a page with this extent all have on starts; they have where the last one has.
-fn have_starts(grid: &Grid, extent: &RegularExtent) -> bool
+fn have_starts(grid: &Grid<'_>, extent: &RegularExtent) -> bool
     ensures starts { (base : ℕ) (cells : List Cell) → HasExtent base cells extent.now →
         IsTrue result ↔ HaveStarts grid.now (elements_from base cells) }
     ensures low { IsTrue result → extent.now.base < 2 ^ 63 }

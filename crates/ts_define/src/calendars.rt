@@ -18,6 +18,7 @@ use std::alloc::Global;
 use ts_base::{Bytes, Name, Trouble};
 use ts_calendar::{Calendar, CalendarText};
 use ts_model::{Def, Defs, Kind};
+use ts_offset::Counter;
 use ts_pattern::Junction;
 
 /// The definition of the calendar that a text gives, and the slot for it.
@@ -38,11 +39,12 @@ pub fn new_calendar(
         Ok(calendar) => calendar,
         Err(why) => return Err(Trouble::Refused(why)),
     };
-    calendar_in(slot, name, calendar, by)
+    calendar_in(alloc, slot, name, calendar, by)
 }
 
 /// The definition of two calendars joined, and the slot for it.
 pub fn joined_calendar(
+    alloc: Global,
     defs: &Defs,
     junction: Junction,
     name: &Name,
@@ -57,11 +59,11 @@ pub fn joined_calendar(
     let b = calendar_named(defs, second)?;
     let slot = slot_for(defs, Kind::Calendar, name)?;
     let joined = join(junction, a, b)?;
-    calendar_in(slot, name, joined, None)
+    calendar_in(alloc, slot, name, joined, None)
 }
 
 /// The calendar that has this name.
-pub fn calendar_named<'a>(defs: &'a Defs, name: &Name) -> Result<&'a Calendar, Trouble>
+pub fn calendar_named<'a>(defs: &'a Defs, name: &Name) -> Result<&'a Counter, Trouble>
     ensures { (count : ℕ) (l : Layout) → IsDefinedBy defs.now.definitions count l → IsTried result (a_calendar name.now (catalogue_of l)) (λ found calendar. found.now ≡ calendar) }
 {
     let slot = calendar_slot(defs, name)?;
@@ -77,7 +79,7 @@ pub(crate) fn calendar_slot(defs: &Defs, name: &Name) -> Result<u16, Trouble>
 }
 
 /// The calendar in a slot.
-pub(crate) fn calendar_at(defs: &Defs, slot: u16) -> &Calendar
+pub(crate) fn calendar_at(defs: &Defs, slot: u16) -> &Counter
     requires within { slot < calendar_slots }
     requires filled { IsSome (at_slot slot defs.now.definitions.calendars) }
     ensures { option_map (λ c. c.calendar) (at_slot slot defs.now.definitions.calendars) ≡ Some result.now }

@@ -1,5 +1,5 @@
 // What calendars are made of: the pattern that a text gives, two calendars joined, and the slot that one goes into.
-ghost use Rattle.std.specs.Prelude.{◌≡◌, ℕ, IfOk, IsTrue};
+ghost use Rattle.std.specs.Prelude.{ℕ, IfOk, IsTrue};
 ghost use Rattle.ts_base.specs.Name.{is_name};
 ghost use Rattle.ts_pattern.specs.Algebra.{Answers};
 ghost use Rattle.ts_calendar.specs.Calendar.{joined_calendar};
@@ -16,9 +16,11 @@ ghost use Rattle.ts_define.specs.Patterns.{IsPatternBy, IsGivenPattern, IsMade};
 
 use crate::patterns::pattern_at;
 use crate::slots::slot_named;
+use std::alloc::Global;
 use ts_base::{Name, Trouble};
 use ts_calendar::{Calendar, PatternPart};
 use ts_model::{Def, Defs, Kind};
+use ts_offset::Counter;
 use ts_pattern::{Junction, Pattern};
 
 /// The pattern that a text gives: a copy of the one of a name, with its slot, or its own.
@@ -36,17 +38,18 @@ pub(crate) fn given(defs: &Defs, part: PatternPart) -> Result<(Pattern, Option<u
 }
 
 /// The two calendars joined.
-pub(crate) fn join(junction: Junction, a: &Calendar, b: &Calendar) -> Result<Calendar, Trouble>
+pub(crate) fn join(junction: Junction, a: &Counter, b: &Counter) -> Result<Calendar, Trouble>
     ensures { Answers (joined_calendar junction a.now b.now) result }
 {
     match junction {
-        Junction::And => a.and_op(b),
-        Junction::Or => a.or_op(b),
+        Junction::And => a.calendar().and_op(b.calendar()),
+        Junction::Or => a.calendar().or_op(b.calendar()),
     }
 }
 
 /// A calendar goes under a new name into the slot for it.
 pub(crate) fn calendar_in(
+    alloc: Global,
     slot: u16,
     name: &Name,
     calendar: Calendar,
@@ -62,11 +65,12 @@ pub(crate) fn calendar_in(
     let _patt_start = calendar.patt_start();
     let _length = calendar.pattern().length();
     let copied = name.copy()?;
+    let counter = Counter::make(alloc, calendar)?;
     Ok((
         slot,
         Some(Def::Calendar {
             name: copied,
-            calendar,
+            calendar: counter,
             by,
         }),
     ))

@@ -7,7 +7,6 @@ ghost use Rattle.ts_answer.specs.Decided.{IsDecision, FitsSlot};
 
 use crate::calendars::{calendar_at, calendar_slot};
 use crate::slots::{slot_for_series, slot_named};
-use std::alloc::Global;
 use ts_base::{Key, Name, Stamp, Trouble};
 use ts_model::{Def, Defs, Kind};
 use ts_offset::Grid;
@@ -38,7 +37,6 @@ pub fn new_irregular(
 /// The definition of a new regular series, and the slot for it. Its origin is the start of the on interval of the calendar that holds the
 /// given one, else the next on start; refused as past the end where there is none.
 pub fn new_regular(
-    alloc: Global,
     defs: &Defs,
     key: &Key,
     calendar: &Name,
@@ -52,7 +50,10 @@ pub fn new_regular(
     let on = calendar_slot(defs, calendar)?;
     let target = slot_named(defs, Kind::Container, container)?;
     let slot = slot_for_series(defs, key)?;
-    let grid = Grid::make(alloc, calendar_at(defs, on), origin)?;
+    let grid = match Grid::make(calendar_at(defs, on), origin) {
+        Ok(grid) => grid,
+        Err(why) => return Err(Trouble::Refused(why)),
+    };
     let start = grid.origin();
     // What each stamp keeps: it is within the years of stamps.
     let _units = start.units();

@@ -8,7 +8,7 @@ use Rattle.std.proofs.lemmas.List.Elements.{All-nil, All-cons, All-head, All-tai
 use Rattle.std.proofs.lemmas.Slice.Zip.{all_zipped_more}
 use Rattle.std.proofs.lemmas.Bool.Decides.{nat_tests}
 use Rattle.ts_page.specs.declared.page.Page.{Page}
-use Rattle.ts_page.specs.Pages.{Contents, EqualPages, Got}
+use Rattle.ts_page.specs.Pages.{Contents, EqualPages, IsOutsideJournal}
 use Rattle.ts_row.specs.declared.kind.Column.{Column}
 use Rattle.ts_space.specs.declared.place.Place.{Place}
 use Rattle.ts_space.specs.Directory.{Directory}
@@ -40,19 +40,17 @@ readable (Regular grid) columns c places some are among k d below =
     let is = All-contains (regular.IsPlace columns c) places (get_or some k d) are.each (among k d below) in
     record { element = is.readable.element; below = is.readable.below }
 
--- a page that was read, after other readings
-pub got_reads : (tells : Bool) (number : ℕ) (into : List ℕ) (v w : Contents) → Got tells number into (Ok tt) v w → Reads {T = Unit {0}} tells (Ok tt) v w
-got_reads tells number into v w got = record { call = got.call; pages = got.pages; free = got.free; change_bytes = got.change_bytes }
-
 pub readable_still : {A : Type 0} (tells : Bool) (a : A) (v w : Contents) (place : Place) → Reads tells (Ok a) v w → CanBeRead v place → CanBeRead w place
 readable_still tells a v w place reads can =
     let count = reads.call.count in let below = can.below in
     record { element = can.element; below = omega (arith, count, below) }
 
-pub page_got : {A : Type 0} (tells : Bool) (a : A) (place : Place) (into : List ℕ) (u v w : Contents) → Reads tells (Ok a) u v → CanBeRead v place → Got tells place.page into (Ok tt) v w → IsTrue tells → into ≡ u.page place.page
-page_got tells a place into u v w reads can got told =
+-- a page that was read, after other readings
+pub page_got : {A : Type 0} (tells : Bool) (a : A) (place : Place) (bytes : List ℕ) (u v : Contents) → Reads tells (Ok a) u v → CanBeRead v place
+    → (IsTrue tells → IsOutsideJournal place.page → bytes ≡ v.page place.page) → IsTrue tells → bytes ≡ u.page place.page
+page_got tells a place bytes u v reads can got told =
     let element = can.element in
-    got.read told (inr (omega (arith, element))) ∙ reads.pages told place.page
+    got told (inr (omega (arith, element))) ∙ reads.pages told place.page
 
 -- one page more
 pub pages_more : (pages : ℕ → List ℕ) (places : List Place) (i : ℕ) (d : Place) (read : List Page) (page : Page) → i < length places → ArePagesOf pages (take i places) read → page.bytes ≡ pages (get_or places i d).page

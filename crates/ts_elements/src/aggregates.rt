@@ -18,7 +18,7 @@ use ts_space::Space;
 
 /// Says what an aggregate list makes of the elements of a series from one stamp to another, both included: one row, at the first stamp. A
 /// text that is no list is refused first, then a key that no series has, then a list that its columns don't bear. `page` is room to read
-/// one; the memory is for the list, for the grid of a regular series and for the row.
+/// one; the memory is for the list and for the row.
 pub fn aggregate_range<P: Pages>(
     alloc: Global,
     pages: &mut P,
@@ -39,7 +39,7 @@ pub fn aggregate_range<P: Pages>(
     ensures undisturbed { P.undisturbed pages.old pages.new }
 {
     let list = AggList::read(alloc, text.as_slice())?;
-    let (shelf, shape) = shelf_of(alloc, pages, defs, space, key)?;
+    let (shelf, shape) = shelf_of(pages, defs, space, key)?;
     let bound = list.bind(shelf.kind)?;
     let mut folding = Folding::new(&bound)?;
     let row = ts_aggregate::aggregate_range(
@@ -59,8 +59,8 @@ pub fn aggregate_range<P: Pages>(
 /// Says what an aggregate list makes of the elements of a series by the on intervals of a calendar that start from one stamp to another,
 /// both included: a row for each that holds an element that isn't hidden, at its start, and how many they are. A text that is no list is
 /// refused first, then a calendar that isn't there, then a key that no series has, then a list that its columns don't bear; TooLarge where
-/// the rows are more than 1000000. `page` is room to read one; the memory is for the list, for the grid and the calendar, and for the rows,
-/// one at a time.
+/// the rows are more than 1000000. `page` is room to read one; the memory is for the list and for the rows, one
+/// at a time.
 pub fn aggregate_by<P: Pages>(
     alloc: Global,
     pages: &mut P,
@@ -83,12 +83,11 @@ pub fn aggregate_by<P: Pages>(
 {
     let list = AggList::read(alloc, text.as_slice())?;
     let plan = calendar_named(defs, calendar)?;
-    let (shelf, shape) = shelf_of(alloc, pages, defs, space, key)?;
+    let (shelf, shape) = shelf_of(pages, defs, space, key)?;
     let bound = list.bind(shelf.kind)?;
     let mut folding = Folding::new(&bound)?;
     let mut lines = FoldedLines::behind(out, bound.scales());
     let done = ts_aggregate::aggregate_by(
-        alloc,
         pages,
         page,
         space,

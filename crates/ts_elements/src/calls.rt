@@ -28,7 +28,7 @@ pub(crate) fn edit_in<P: Pages>(
     page: &mut Page,
     space: &Space,
     shelf: &Shelf,
-    shape: &Shape,
+    shape: &Shape<'_>,
     how: EditKind,
     stamp: Stamp,
     row: &Row,
@@ -62,7 +62,7 @@ pub(crate) fn mark_in<P: Pages>(
     page: &mut Page,
     space: &Space,
     shelf: &Shelf,
-    shape: &Shape,
+    shape: &Shape<'_>,
     stamp: Stamp,
     hidden: bool,
 ) -> Result<Result<Stamp, Refusal>, StoreFault>
@@ -103,7 +103,7 @@ pub(crate) fn remove_in<P: Pages>(
     page: &mut Page,
     space: &Space,
     shelf: &Shelf,
-    shape: &Shape,
+    shape: &Shape<'_>,
     stamp: Stamp,
 ) -> Result<Option<Moved>, StoreFault>
     requires slot { shelf.now.series < series_slots }
@@ -131,7 +131,7 @@ pub(crate) fn clear_in<P: Pages>(
     page: &mut Page,
     space: &Space,
     shelf: &Shelf,
-    shape: &Shape,
+    shape: &Shape<'_>,
     from: Stamp,
     to: Stamp,
 ) -> Result<(u64, Option<Moved>), StoreFault>

@@ -30,7 +30,7 @@ use ts_space::Space;
 
 /// Says two series as one, from one stamp to another, both included: rows with the columns of both. Keys that no series has are refused
 /// first; UnitMismatch and NotAligned where both are regular and have no grid in common, TooLarge where the rows are more than 1000000.
-/// `page` is room to read one; the memory is for the grids of regular series, for the elements that are needed and for the rows.
+/// `page` is room to read one; the memory is for the elements that are needed and for the rows.
 pub fn join<P: Pages>(
     alloc: Global,
     pages: &mut P,
@@ -50,8 +50,8 @@ pub fn join<P: Pages>(
         (view defs.now.definitions space.now (P.contents pages.old)) (P.contents pages.new) }
     ensures undisturbed { P.undisturbed pages.old pages.new }
 {
-    let one = shelf_of(alloc, pages, defs, space, first)?;
-    let other = shelf_of(alloc, pages, defs, space, second)?;
+    let one = shelf_of(pages, defs, space, first)?;
+    let other = shelf_of(pages, defs, space, second)?;
     join_on(
         alloc, pages, page, defs, space, junction, &one, &other, from, to, out,
     )
@@ -65,8 +65,8 @@ fn join_on<P: Pages>(
     defs: &Defs,
     space: &Space,
     junction: Junction,
-    first: &(Shelf<'_>, Shape),
-    second: &(Shelf<'_>, Shape),
+    first: &(Shelf<'_>, Shape<'_>),
+    second: &(Shelf<'_>, Shape<'_>),
     from: Stamp,
     to: Stamp,
     out: &mut Reply,
@@ -102,9 +102,9 @@ fn say_series_joined(
     alloc: Global,
     defs: &Defs,
     junction: Junction,
-    first: &(Shelf<'_>, Shape),
+    first: &(Shelf<'_>, Shape<'_>),
     ones: &KeptElements,
-    second: &(Shelf<'_>, Shape),
+    second: &(Shelf<'_>, Shape<'_>),
     others: &KeptElements,
     from: Stamp,
     to: Stamp,
@@ -127,7 +127,7 @@ fn say_series_joined(
 
 /// Says the elements of a regular series, each at the on start so many behind its own, up to the last element; a negative number leads to
 /// earlier on starts. A key that no series has is refused, then an irregular series as NotRegular, whose pages aren't read; TooLarge where
-/// the rows are more than 1000000. `page` is room to read one; the memory is for the grid, for the elements and for the rows.
+/// the rows are more than 1000000. `page` is room to read one; the memory is for the elements and for the rows.
 pub fn lag<P: Pages>(
     alloc: Global,
     pages: &mut P,
@@ -144,7 +144,7 @@ pub fn lag<P: Pages>(
         (P.contents pages.new) }
     ensures undisturbed { P.undisturbed pages.old pages.new }
 {
-    let found = shelf_of(alloc, pages, defs, space, key)?;
+    let found = shelf_of(pages, defs, space, key)?;
     lag_on(alloc, pages, page, defs, space, &found, by, out)
 }
 
@@ -155,7 +155,7 @@ fn lag_on<P: Pages>(
     page: &mut Page,
     defs: &Defs,
     space: &Space,
-    found: &(Shelf<'_>, Shape),
+    found: &(Shelf<'_>, Shape<'_>),
     by: i64,
     out: &mut Reply,
 ) -> Result<(), Stop>
@@ -182,7 +182,7 @@ fn lag_on<P: Pages>(
 fn say_series_lagged(
     alloc: Global,
     defs: &Defs,
-    found: &(Shelf<'_>, Shape),
+    found: &(Shelf<'_>, Shape<'_>),
     kept: &KeptElements,
     by: i64,
     out: &mut Reply,

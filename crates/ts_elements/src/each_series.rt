@@ -13,6 +13,7 @@ ghost use Rattle.ts_elements.specs.Aggregates.{folded_at, folded_in, IsFresh, Ar
 ghost use Rattle.ts_elements.specs.Gathered.{inside, AreLinesOf, HasSeries, IsStackOf};
 
 use crate::gathered::gather;
+use crate::page_list::PageList;
 use crate::shelf::shelf_at;
 use std::alloc::{AllocError, Global};
 use std::mem;
@@ -34,8 +35,8 @@ use ts_space::Space;
 /// each series, in the order of their keys, and how many they are. A text that is no list is refused first, then a container that isn't
 /// there, then a list that its columns don't bear. The pages that the range touches are read into two lists in turn, 16 MiB of them at
 /// most, whose memory is kept: while one is read, as many workers as serve fold the other. A series that alone has more pages than a list
-/// holds is folded a page at a time. `page` is room to read one; the memory is for these pages, for the aggregate list, for the grids of
-/// the regular series among them, for what is known of the items while they are folded, and for the rows.
+/// holds is folded a page at a time. `page` is room to read one; the memory is for these pages, for the aggregate list, for what is known
+/// of the items while they are folded, and for the rows.
 pub fn aggregate_all<P: Pages>(
     rt: &(impl Threads + Sync),
     alloc: Global,
@@ -93,17 +94,16 @@ fn say_all<P: Pages>(
     ensures undisturbed { P.undisturbed pages.old pages.new }
 {
     let mut folding = Folding::new(bound)?;
-    let (mut held, mut next) = (Vec::new(alloc), Vec::new(alloc));
+    let (mut held, mut next) = (PageList::new(alloc), PageList::new(alloc));
     let slots = defs.in_order(Kind::Series);
     let (mut stacks, mut passed) = gather(
-        alloc, pages, page, defs, space, container, slots, from, to, &mut held,
+        alloc, pages, defs, space, container, slots, from, to, &mut held,
     )?;
     let mut count = 0;
     let mut at = 0;
     while at < slots.len() {
         if passed == 0 {
             count += say_if_inside(
-                alloc,
                 pages,
                 page,
                 defs,
@@ -119,7 +119,7 @@ fn say_all<P: Pages>(
             at += 1;
             let rest = &slots[at..];
             let (others, beyond) = gather(
-                alloc, pages, page, defs, space, container, rest, from, to, &mut held,
+                alloc, pages, defs, space, container, rest, from, to, &mut held,
             )?;
             stacks = others;
             passed = beyond;
@@ -127,8 +127,19 @@ fn say_all<P: Pages>(
             at += passed;
             let rest = &slots[at..];
             let (rows, others, beyond) = fold_and_gather(
-                rt, alloc, pages, page, defs, space, container, rest, bound, &held, &stacks,
-                &mut next, from, to,
+                rt,
+                alloc,
+                pages,
+                defs,
+                space,
+                container,
+                rest,
+                bound,
+                held.as_slice(),
+                &stacks,
+                &mut next,
+                from,
+                to,
             )?;
             count += say_rows(defs, bound, &stacks, &rows, out)?;
             mem::swap(&mut held, &mut next);
@@ -145,7 +156,6 @@ fn fold_and_gather<'a, P: Pages>(
     rt: &(impl Threads + Sync),
     alloc: Global,
     pages: &mut P,
-    page: &mut Page,
     defs: &'a Defs,
     space: &'a Space,
     container: u16,
@@ -153,7 +163,7 @@ fn fold_and_gather<'a, P: Pages>(
     bound: &Bound,
     held: &[Page],
     stacks: &[Stack<'_>],
-    next: &mut Vec<Page>,
+    next: &mut PageList,
     from: Stamp,
     to: Stamp,
 ) -> Result<(Vec<Row>, Vec<Stack<'a>>, usize), StoreFault>
@@ -161,7 +171,7 @@ fn fold_and_gather<'a, P: Pages>(
     requires slots { All (λ slot. slot < series_slots) slots.now }
     ensures folded { IfOk result (λ r. AllZip (IsFoldOf bound.now from to held.now) stacks.now r.0.items) }
     ensures stacks { IfOk result (λ r. AllZip
-        (IsStackOf P.tells (view defs.now.definitions space.now (P.contents pages.old)) from to next.new.items)
+        (IsStackOf P.tells (view defs.now.definitions space.now (P.contents pages.old)) from to next.new)
         (inside defs.now.definitions container (take r.2 slots.now)) r.1.items) }
     ensures passed { IfOk result (λ r. r.2 ≤ length slots.now) }
     ensures call { Reads P.tells result (P.contents pages.old) (P.contents pages.new) }
@@ -176,11 +186,7 @@ fn fold_and_gather<'a, P: Pages>(
     let (folded, gathered) = join_mut(
         rt,
         &mut || ts_aggregate::aggregate_all(rt, alloc, &OpenGate, bound, held, stacks, from, to),
-        &mut || {
-            gather(
-                alloc, pages, page, defs, space, container, slots, from, to, next,
-            )
-        },
+        &mut || { gather(alloc, pages, defs, space, container, slots, from, to, next) },
     );
     let (stacks, passed) = gathered?;
     let rows = folded?;
@@ -225,7 +231,6 @@ fn key_at(defs: &Defs, slot: u16) -> &Key
 
 // Says what it makes of the series in a slot, if there is one and it stands in the container; and how many that are.
 fn say_if_inside<P: Pages>(
-    alloc: Global,
     pages: &mut P,
     page: &mut Page,
     defs: &Defs,
@@ -257,7 +262,7 @@ fn say_if_inside<P: Pages>(
                 ..
             },
         ) if *own as u16 == container => {
-            let (shelf, shape) = shelf_at(alloc, pages, defs, space, slot)?;
+            let (shelf, shape) = shelf_at(pages, defs, space, slot);
             let row = aggregate_range(pages, page, space, &shelf, &shape, folding, from, to)?;
             say_series_folded(out, key, bound.scales(), &row)?;
             Ok(1)

@@ -16,7 +16,6 @@ ghost use Rattle.ts_elements.specs.Stamps.{ArePlaces, IsLaidOut};
 use crate::calls::edit_in;
 use crate::room::{budget_of, refusal_of, room_in};
 use crate::shelf::{row_for, shelf_of};
-use std::alloc::Global;
 use ts_answer::{Effect, Stop};
 use ts_base::{Key, Reply, Stamp};
 use ts_command::Literals;
@@ -31,9 +30,8 @@ use ts_space::Space;
 
 /// Edits the element that a stamp of a series addresses. A key that no series has is refused, then literals that are no row, then a stamp
 /// that a regular series has no place for, then what the kind of edit refuses, and at last an element that would be added beyond the quota
-/// of the container. `page` is room to read one; the memory is for the grid of a regular series.
+/// of the container. `page` is room to read one.
 pub fn edit_element<P: Pages>(
-    alloc: Global,
     pages: &mut P,
     page: &mut Page,
     defs: &Defs,
@@ -51,7 +49,7 @@ pub fn edit_element<P: Pages>(
     ensures carried { CarriedOut P.tells (edit_of how key.now stamp values.now) result out.new (view defs.now.definitions space.now (P.contents pages.old)) (P.contents pages.new) }
     ensures undisturbed { P.undisturbed pages.old pages.new }
 {
-    let (shelf, shape) = shelf_of(alloc, pages, defs, space, key)?;
+    let (shelf, shape) = shelf_of(pages, defs, space, key)?;
     let row = row_for(shelf.kind, values)?;
     edit_on(
         pages, page, defs, space, charges, &shelf, &shape, how, stamp, &row, out,
@@ -66,7 +64,7 @@ fn edit_on<P: Pages>(
     space: &Space,
     charges: &Charges,
     shelf: &Shelf,
-    shape: &Shape,
+    shape: &Shape<'_>,
     how: EditKind,
     stamp: Stamp,
     row: &Row,

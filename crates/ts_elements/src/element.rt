@@ -37,7 +37,7 @@ pub fn get_element<P: Pages>(
     ensures read { ReadOut P.tells (GetElem key.now stamp) result out.new (view defs.now.definitions space.now (P.contents pages.old)) (P.contents pages.new) }
     ensures undisturbed { P.undisturbed pages.old pages.new }
 {
-    let (shelf, shape) = shelf_of(alloc, pages, defs, space, key)?;
+    let (shelf, shape) = shelf_of(pages, defs, space, key)?;
     get_on(alloc, pages, page, defs, space, &shelf, &shape, stamp, out)
 }
 
@@ -49,7 +49,7 @@ fn get_on<P: Pages>(
     _defs: &Defs,
     space: &Space,
     shelf: &Shelf,
-    shape: &Shape,
+    shape: &Shape<'_>,
     stamp: Stamp,
     out: &mut Reply,
 ) -> Result<(), Stop>
@@ -83,7 +83,7 @@ pub fn get_first_element<P: Pages>(
         (view defs.now.definitions space.now (P.contents pages.old)) (P.contents pages.new) }
     ensures undisturbed { P.undisturbed pages.old pages.new }
 {
-    let (shelf, shape) = shelf_of(alloc, pages, defs, space, key)?;
+    let (shelf, shape) = shelf_of(pages, defs, space, key)?;
     let first = first_elem(pages, page, space, &shelf, &shape)?;
     say_found(alloc, out, shelf.kind, first)?;
     Ok(())
@@ -105,7 +105,7 @@ pub fn get_last_element<P: Pages>(
         (view defs.now.definitions space.now (P.contents pages.old)) (P.contents pages.new) }
     ensures undisturbed { P.undisturbed pages.old pages.new }
 {
-    let (shelf, shape) = shelf_of(alloc, pages, defs, space, key)?;
+    let (shelf, shape) = shelf_of(pages, defs, space, key)?;
     let last = last_elem(pages, page, space, &shelf, &shape)?;
     say_found(alloc, out, shelf.kind, last)?;
     Ok(())

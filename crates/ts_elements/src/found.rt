@@ -32,7 +32,7 @@ pub(crate) fn find_in<P: Pages>(
     page: &mut Page,
     space: &Space,
     shelf: &Shelf,
-    shape: &Shape,
+    shape: &Shape<'_>,
     stamp: Stamp,
 ) -> Result<Option<(Stamp, Row)>, StoreFault>
     requires slot { shelf.now.series < series_slots }
@@ -70,7 +70,7 @@ pub(crate) fn entries_in<P: Pages, V: EntryVisitor>(
     page: &mut Page,
     space: &Space,
     shelf: &Shelf,
-    shape: &Shape,
+    shape: &Shape<'_>,
     choice: Choice,
     visitor: &mut V,
 ) -> Result<Result<u64, Refusal>, StoreFault>
@@ -105,7 +105,7 @@ pub(crate) fn elements_in<P: Pages>(
     page: &mut Page,
     space: &Space,
     shelf: &Shelf,
-    shape: &Shape,
+    shape: &Shape<'_>,
     from: Stamp,
     to: Stamp,
 ) -> Result<KeptElements, StoreFault>

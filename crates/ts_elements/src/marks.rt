@@ -9,7 +9,6 @@ ghost use Rattle.ts_elements.specs.Stamps.{ArePlaces, IsLaidOut};
 
 use crate::calls::mark_in;
 use crate::shelf::shelf_of;
-use std::alloc::Global;
 use ts_answer::{Effect, Stop};
 use ts_base::{Key, Reply, Stamp};
 use ts_define::in_format;
@@ -21,10 +20,8 @@ use ts_say::say_stamp;
 use ts_space::Space;
 
 /// Hides the element that a stamp of a series addresses, or shows it again; it may be so already. A key that no series has is refused,
-/// then a volume of format 1, then a stamp that a regular series has no place for, then one without an element. `page` is room to read one;
-/// the memory is for the grid of a regular series.
+/// then a volume of format 1, then a stamp that a regular series has no place for, then one without an element. `page` is room to read one.
 pub fn mark_element<P: Pages>(
-    alloc: Global,
     pages: &mut P,
     page: &mut Page,
     defs: &Defs,
@@ -39,7 +36,7 @@ pub fn mark_element<P: Pages>(
     ensures carried { CarriedOut P.tells (mark_of hidden key.now stamp) result out.new (view defs.now.definitions space.now (P.contents pages.old)) (P.contents pages.new) }
     ensures undisturbed { P.undisturbed pages.old pages.new }
 {
-    let (shelf, shape) = shelf_of(alloc, pages, defs, space, key)?;
+    let (shelf, shape) = shelf_of(pages, defs, space, key)?;
     mark_on(pages, page, defs, space, &shelf, &shape, hidden, stamp, out)
 }
 
@@ -50,7 +47,7 @@ fn mark_on<P: Pages>(
     defs: &Defs,
     space: &Space,
     shelf: &Shelf,
-    shape: &Shape,
+    shape: &Shape<'_>,
     hidden: bool,
     stamp: Stamp,
     out: &mut Reply,

@@ -7,7 +7,6 @@ ghost use Rattle.ts_elements.specs.Elements.{reading_of};
 
 use crate::found::entries_in;
 use crate::shelf::shelf_of;
-use std::alloc::Global;
 use ts_answer::Stop;
 use ts_base::{Key, Reply, Stamp};
 use ts_clip::clip_len;
@@ -28,9 +27,8 @@ pub enum Choice {
 }
 
 /// Says the chosen entries of a series, and how many they are; TooLarge where those of a range are more than 1000000. `page` is room to
-/// read one; the memory is for the grid of a regular series.
+/// read one.
 pub fn read_entries<P: Pages>(
-    alloc: Global,
     pages: &mut P,
     page: &mut Page,
     defs: &Defs,
@@ -45,7 +43,7 @@ pub fn read_entries<P: Pages>(
         (view defs.now.definitions space.now (P.contents pages.old)) (P.contents pages.new) }
     ensures undisturbed { P.undisturbed pages.old pages.new }
 {
-    let (shelf, shape) = shelf_of(alloc, pages, defs, space, key)?;
+    let (shelf, shape) = shelf_of(pages, defs, space, key)?;
     let mut lines = EntryLines::behind(out);
     let done = entries_in(pages, page, space, &shelf, &shape, choice, &mut lines)?;
     match done {
@@ -55,10 +53,8 @@ pub fn read_entries<P: Pages>(
     Ok(())
 }
 
-/// Says how many entries of a series stand from one stamp to another, both included. `page` is room to read one; the memory is for the grid
-/// of a regular series.
+/// Says how many entries of a series stand from one stamp to another, both included. `page` is room to read one.
 pub fn count_clip<P: Pages>(
-    alloc: Global,
     pages: &mut P,
     page: &mut Page,
     defs: &Defs,
@@ -74,7 +70,7 @@ pub fn count_clip<P: Pages>(
         (view defs.now.definitions space.now (P.contents pages.old)) (P.contents pages.new) }
     ensures undisturbed { P.undisturbed pages.old pages.new }
 {
-    let (shelf, shape) = shelf_of(alloc, pages, defs, space, key)?;
+    let (shelf, shape) = shelf_of(pages, defs, space, key)?;
     let count = clip_len(pages, page, space, &shelf, &shape, from, to)?;
     say_count(out, count)?;
     Ok(())

@@ -22,9 +22,8 @@ use ts_say::say_count;
 use ts_space::Space;
 
 /// Takes the element that a stamp of a series addresses away, hidden or not. Where it addresses none that is there nothing changes, and that
-/// is no error. `page` is room to read one; the memory is for the grid of a regular series.
+/// is no error. `page` is room to read one.
 pub fn delete_element<P: Pages>(
-    alloc: Global,
     pages: &mut P,
     page: &mut Page,
     defs: &Defs,
@@ -38,7 +37,7 @@ pub fn delete_element<P: Pages>(
     ensures carried { CarriedOut P.tells (DelElem key.now stamp) result out.new (view defs.now.definitions space.now (P.contents pages.old)) (P.contents pages.new) }
     ensures undisturbed { P.undisturbed pages.old pages.new }
 {
-    let (shelf, shape) = shelf_of(alloc, pages, defs, space, key)?;
+    let (shelf, shape) = shelf_of(pages, defs, space, key)?;
     remove_on(pages, page, defs, space, &shelf, &shape, stamp, out)
 }
 
@@ -49,7 +48,7 @@ fn remove_on<P: Pages>(
     _defs: &Defs,
     space: &Space,
     shelf: &Shelf,
-    shape: &Shape,
+    shape: &Shape<'_>,
     stamp: Stamp,
     out: &mut Reply,
 ) -> Result<Effect, Stop>
@@ -79,7 +78,7 @@ fn remove_on<P: Pages>(
 }
 
 /// Takes all elements of a series from one stamp to another away, both included, hidden or not. Where none stands there nothing changes.
-/// `page` is room to read one; the memory is for the grid of a regular series and for the numbers of the pages that are freed, 4 bytes each.
+/// `page` is room to read one; the memory is for the numbers of the pages that are freed, 4 bytes each.
 pub fn delete_range<P: Pages>(
     alloc: Global,
     pages: &mut P,
@@ -96,7 +95,7 @@ pub fn delete_range<P: Pages>(
     ensures carried { CarriedOut P.tells (DelClip key.now from to) result out.new (view defs.now.definitions space.now (P.contents pages.old)) (P.contents pages.new) }
     ensures undisturbed { P.undisturbed pages.old pages.new }
 {
-    let (shelf, shape) = shelf_of(alloc, pages, defs, space, key)?;
+    let (shelf, shape) = shelf_of(pages, defs, space, key)?;
     clear_on(
         alloc, pages, page, defs, space, &shelf, &shape, from, to, out,
     )
@@ -110,7 +109,7 @@ fn clear_on<P: Pages>(
     _defs: &Defs,
     space: &Space,
     shelf: &Shelf,
-    shape: &Shape,
+    shape: &Shape<'_>,
     from: Stamp,
     to: Stamp,
     out: &mut Reply,

@@ -102,7 +102,7 @@ pub(crate) fn room_in<P: Pages>(pages: &P, space: &Space, slot: u16, budget: Bud
 }
 
 /// Why one element more of a series is refused: what its container would be charged, and its quota.
-pub(crate) fn refusal_of(budget: Budget, space: &Space, shelf: &Shelf, shape: &Shape) -> Refusal
+pub(crate) fn refusal_of(budget: Budget, space: &Space, shelf: &Shelf, shape: &Shape<'_>) -> Refusal
     requires slot { shelf.now.series < series_slots }
     requires within { budget.others ≤ budget.quota }
     requires countable { IsCountable (places_of shelf.now.series space.now) }
@@ -115,7 +115,7 @@ pub(crate) fn refusal_of(budget: Budget, space: &Space, shelf: &Shelf, shape: &S
 }
 
 // What a series would be charged for one element more, which on a grid comes on a page of its own.
-fn charge_with(space: &Space, shelf: &Shelf, shape: &Shape) -> u64
+fn charge_with(space: &Space, shelf: &Shelf, shape: &Shape<'_>) -> u64
     requires slot { shelf.now.series < series_slots }
     requires countable { IsCountable (places_of shelf.now.series space.now) }
     ensures value { result ≡ charge_with_one shape.now shelf.now.kind.now.columns (places_of shelf.now.series space.now) }

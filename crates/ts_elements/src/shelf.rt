@@ -13,7 +13,6 @@ ghost use Rattle.ts_answer.specs.View.{view, IsSeen, IsViewOf};
 ghost use Rattle.ts_elements.specs.Elements.{IsShelf, IsShelfIn};
 ghost use Rattle.ts_elements.specs.Stamps.{ArePlaces, IsLaidOut};
 
-use std::alloc::{AllocError, Global};
 use ts_base::{Key, Trouble};
 use ts_command::Literals;
 use ts_container::{row_type_of, shape_of};
@@ -26,12 +25,11 @@ use ts_space::Space;
 
 /// The series of a key, with its columns, and where its elements can stand. Its pages are such that they can be read and written.
 pub(crate) fn shelf_of<'a, P: Pages>(
-    alloc: Global,
     pages: &P,
     defs: &'a Defs,
     space: &Space,
     key: &Key,
-) -> Result<(Shelf<'a>, Shape), Trouble>
+) -> Result<(Shelf<'a>, Shape<'a>), Trouble>
     requires seen { IsSeen P.tells (view defs.now.definitions space.now (P.contents pages.now)) }
     ensures found { IfOk result (λ r. IsShelf r.1 r.0.series r.0.kind.now key.now defs.now.definitions) }
     ensures laid { IfOk result (λ r. IsLaidOut r.1) }
@@ -42,35 +40,34 @@ pub(crate) fn shelf_of<'a, P: Pages>(
         → IsTried result (wanted key.now (catalogue_of l).series) (λ r series. IsShelfIn l key.now r.1 r.0.series r.0.kind.now series) }
 {
     let slot = series_named(defs, key)?;
-    let found = shelf_at(alloc, pages, defs, space, slot)?;
+    let found = shelf_at(pages, defs, space, slot);
     Ok(found)
 }
 
 /// The same of the series in a slot.
 pub(crate) fn shelf_at<'a, P: Pages>(
-    alloc: Global,
     _pages: &P,
     defs: &'a Defs,
     _space: &Space,
     slot: u16,
-) -> Result<(Shelf<'a>, Shape), AllocError>
+) -> (Shelf<'a>, Shape<'a>)
     requires seen { IsSeen P.tells (view defs.now.definitions _space.now (P.contents _pages.now)) }
     requires named { (key : List ℕ) × IsSlotNamed Series slot key defs.now.definitions }
-    ensures slot { IfOk result (λ r. r.0.series ≡ slot) }
-    ensures columns { IfOk result (λ r. heading_at defs.now.definitions slot ≡ Some r.0.kind.now) }
-    ensures lies { IfOk result (λ r. shape_at defs.now.definitions slot ≡ Some r.1) }
-    ensures laid { IfOk result (λ r. IsLaidOut r.1) }
-    ensures some { IfOk result (λ r. 0 < page_room r.0.kind.now.columns) }
-    ensures rising { IfOk result (λ r. IsRising (places_of slot _space.now)) }
-    ensures places { IfOk result (λ r. ArePlaces r.1 r.0.kind.now.columns (P.contents _pages.now) (places_of slot _space.now)) }
+    ensures slot { result.0.series ≡ slot }
+    ensures columns { heading_at defs.now.definitions slot ≡ Some result.0.kind.now }
+    ensures lies { shape_at defs.now.definitions slot ≡ Some result.1 }
+    ensures laid { IsLaidOut result.1 }
+    ensures some { 0 < page_room result.0.kind.now.columns }
+    ensures rising { IsRising (places_of slot _space.now) }
+    ensures places { ArePlaces result.1 result.0.kind.now.columns (P.contents _pages.now) (places_of slot _space.now) }
 {
     let Some(kind) = row_type_of(defs, slot) else {
         unreachable!()
     };
-    let Some(shape) = shape_of(alloc, defs, slot)? else {
+    let Some(shape) = shape_of(defs, slot) else {
         unreachable!()
     };
-    Ok((Shelf { series: slot, kind }, shape))
+    (Shelf { series: slot, kind }, shape)
 }
 
 /// The row of literals for some columns, or the first column that misfits.

@@ -17,7 +17,7 @@ use ts_row::Shelf;
 pub(crate) fn side_of<'a>(
     defs: &'a Defs,
     shelf: &Shelf<'_>,
-    shape: &'a Shape,
+    shape: &'a Shape<'a>,
     kept: &'a KeptElements,
 ) -> Side<'a>
     requires there { IsThere shape.now shelf.now.series defs.now.definitions }
@@ -53,7 +53,7 @@ fn calendar_in(defs: &Defs, slot: u8) -> Option<&Calendar>
     ensures { option_copied result ≡ option_map (λ c. c.calendar) (at_slot slot defs.now.definitions.calendars) }
 {
     match defs.get(Kind::Calendar, slot as u16) {
-        Some(Def::Calendar { calendar, .. }) => Some(calendar),
+        Some(Def::Calendar { calendar, .. }) => Some(calendar.calendar()),
         _ => None,
     }
 }

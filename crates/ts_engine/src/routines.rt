@@ -57,38 +57,38 @@ pub(crate) fn edit<P: Pages>(
         Command::PutElem { key, stamp, values } => {
             let edit = EditKind::Put;
             edit_element(
-                alloc, pages, page, defs, space, charges, edit, key, *stamp, values, out,
+                pages, page, defs, space, charges, edit, key, *stamp, values, out,
             )
         }
         Command::PutElemNoDups { key, stamp, values } => {
             let edit = EditKind::PutNoDups;
             edit_element(
-                alloc, pages, page, defs, space, charges, edit, key, *stamp, values, out,
+                pages, page, defs, space, charges, edit, key, *stamp, values, out,
             )
         }
         Command::InsElem { key, stamp, values } => {
             let edit = EditKind::Insert;
             edit_element(
-                alloc, pages, page, defs, space, charges, edit, key, *stamp, values, out,
+                pages, page, defs, space, charges, edit, key, *stamp, values, out,
             )
         }
         Command::UpdElem { key, stamp, values } => {
             let edit = EditKind::Update;
             edit_element(
-                alloc, pages, page, defs, space, charges, edit, key, *stamp, values, out,
+                pages, page, defs, space, charges, edit, key, *stamp, values, out,
             )
         }
         Command::DelElem { key, stamp } => {
-            delete_element(alloc, pages, page, defs, space, key, *stamp, out)
+            delete_element(pages, page, defs, space, key, *stamp, out)
         }
         Command::DelClip { key, from, to } => {
             delete_range(alloc, pages, page, defs, space, key, *from, *to, out)
         }
         Command::HideElem { key, stamp } => {
-            mark_element(alloc, pages, page, defs, space, true, key, *stamp, out)
+            mark_element(pages, page, defs, space, true, key, *stamp, out)
         }
         Command::RevealElem { key, stamp } => {
-            mark_element(alloc, pages, page, defs, space, false, key, *stamp, out)
+            mark_element(pages, page, defs, space, false, key, *stamp, out)
         }
         _ => return None,
     };
@@ -124,18 +124,18 @@ pub(crate) fn read<P: Pages>(
         }
         Command::GetNthElem { key, index } => {
             let one = Choice::Number(*index);
-            read_entries(alloc, pages, page, defs, space, key, one, out)
+            read_entries(pages, page, defs, space, key, one, out)
         }
         Command::Clip { key, from, to } => {
             let range = Choice::Range(*from, *to);
-            read_entries(alloc, pages, page, defs, space, key, range, out)
+            read_entries(pages, page, defs, space, key, range, out)
         }
         Command::ClipCount { key, stamp, count } => {
             let some = Choice::Count(*stamp, *count);
-            read_entries(alloc, pages, page, defs, space, key, some, out)
+            read_entries(pages, page, defs, space, key, some, out)
         }
         Command::ClipGetCount { key, from, to } => {
-            count_clip(alloc, pages, page, defs, space, key, *from, *to, out)
+            count_clip(pages, page, defs, space, key, *from, *to, out)
         }
         _ => return None,
     };
@@ -255,17 +255,13 @@ pub(crate) fn tell(
     let came = match command {
         Command::ShowPattern { name } => show_pattern(alloc, defs, name, out),
         Command::ShowCalendar { name } => show_calendar(alloc, defs, name, out),
-        Command::CalIndex { calendar, from, to } => {
-            cal_index(alloc, defs, calendar, *from, *to, out)
-        }
+        Command::CalIndex { calendar, from, to } => { cal_index(defs, calendar, *from, *to, out) }
         Command::CalStamp {
             calendar,
             after,
             count,
-        } => cal_stamp(alloc, defs, calendar, *after, *count, out),
-        Command::CalRange { calendar, from, to } => {
-            cal_range(alloc, defs, calendar, *from, *to, out)
-        }
+        } => cal_stamp(defs, calendar, *after, *count, out),
+        Command::CalRange { calendar, from, to } => { cal_range(defs, calendar, *from, *to, out) }
         Command::TSContainerUsage { name } => container_usage(defs, space, charges, name, out),
         Command::ListSeries { container } => list_series(defs, space, container, out),
         Command::GetNelems { key } => count_elements(defs, space, key, out),
@@ -326,7 +322,7 @@ pub(crate) fn decide(
             container,
         } => (
             Kind::Series,
-            new_regular(alloc, defs, key, calendar, *origin, container),
+            new_regular(defs, key, calendar, *origin, container),
         ),
         Command::TSCreateIrr { key, container } => {
             (Kind::Series, new_irregular(defs, key, container))
@@ -380,12 +376,12 @@ fn decide_calendar(
             name,
             first,
             second,
-        } => joined_calendar(defs, Junction::And, name, first, second),
+        } => joined_calendar(alloc, defs, Junction::And, name, first, second),
         Command::OrCalendars {
             name,
             first,
             second,
-        } => joined_calendar(defs, Junction::Or, name, first, second),
+        } => joined_calendar(alloc, defs, Junction::Or, name, first, second),
         Command::DropCalendar { name } => drop_definition(defs, Kind::Calendar, name),
         _ => return None,
     };

@@ -6,6 +6,7 @@ use std::alloc::Global;
 use ts_base::{Key, Name, Stamp, StoreFault, Unit};
 use ts_calendar::Calendar;
 use ts_model::{Def, Kind};
+use ts_offset::Counter;
 use ts_pattern::{Pattern, Run};
 use ts_row::{Column, ColumnKind, RowType};
 
@@ -60,13 +61,13 @@ fn week(alloc: Global) -> Result<Pattern, StoreFault> {
 }
 
 // The week from its start on.
-fn calendar(alloc: Global) -> Result<Calendar, StoreFault> {
+fn calendar(alloc: Global) -> Result<Counter, StoreFault> {
     let pattern = week(alloc)?;
     let Some(start) = Stamp::of(START) else {
         return Err(StoreFault::Failed);
     };
     match Calendar::make(start, start, pattern) {
-        Ok(calendar) => Ok(calendar),
+        Ok(calendar) => Ok(Counter::make(alloc, calendar)?),
         Err(_) => Err(StoreFault::Failed),
     }
 }

@@ -4,7 +4,7 @@ ghost use Rattle.ts_model.specs.Definitions.{name_of, kind_of};
 use crate::Kind;
 use std::alloc::AllocError;
 use ts_base::{Key, Name, Stamp};
-use ts_calendar::Calendar;
+use ts_offset::Counter;
 use ts_pattern::Pattern;
 use ts_row::RowType;
 
@@ -19,10 +19,11 @@ pub enum Def {
         name: Name,
         pattern: Pattern,
     },
-    /// Where it was made by a pattern's name, `by` is the slot of that pattern, and its runs are the pattern's.
+    /// Kept with its sums, so that no command makes them anew. Where it was made by a pattern's name, `by` is the slot
+    /// of that pattern, and its runs are the pattern's.
     Calendar {
         name: Name,
-        calendar: Calendar,
+        calendar: Counter,
         by: Option<u8>,
     },
     /// Its row type is the one in slot `row_type`; its series may be charged `quota` pages at most.

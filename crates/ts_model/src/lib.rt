@@ -3,8 +3,8 @@
 //! A catalogue is what a volume means and what each answer is computed from (`specs/Catalogue`): names stand for
 //! objects, and the elements of a series are a map from stamps to rows. `Defs` keeps the same definitions without
 //! the elements in numbered slots, found by name (`specs/Definitions`), with the format of their volume; `set` changes
-//! one slot and no other. Stands on ts_calendar, ts_pattern, ts_space, ts_row and ts_base; knows nothing of pages or
-//! disks. Read `specs/Catalogue.antt`, then `specs/Definitions.antt` and `defs.rt`.
+//! one slot and no other. Stands on ts_offset, ts_calendar, ts_pattern, ts_space, ts_row and ts_base; knows nothing of
+//! pages or disks. Read `specs/Catalogue.antt`, then `specs/Definitions.antt` and `defs.rt`.
 #![tactic(auto)]
 
 mod def;

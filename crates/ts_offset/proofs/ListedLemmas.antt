@@ -1,18 +1,11 @@
 -- The list of all on starts.
-use Rattle.std.proofs.Common.{◌≡◌, ℕ, ◌+◌, ◌-◌, ◌<◌, ◌≤◌, cond, length, slice_get, Option, Some, None, refl, ap, ◌∙◌, arith, ℤ, pos, neg_ℤ, ◌+ℤ◌, ◌-ℤ◌, ◌*ℤ◌, ◌≤ℤ◌, ◌<ℤ◌, unsigned_abs, length-append, filter_map}
+use Rattle.std.proofs.Common.{◌≡◌, ℕ, ◌+◌, ◌-◌, ◌<◌, ◌≤◌, cond, length, slice_get, Option, Some, None, refl, ap, ◌∙◌, arith, ℤ, pos, neg_ℤ, ◌+ℤ◌, ◌-ℤ◌, ◌<ℤ◌, unsigned_abs, length-append, filter_map}
 use Rattle.std.proofs.lemmas.Int.{by_lt_z, ints}
-use Rattle.jiff_core.proofs.SignedLemmas.{signed_arith}
-use Rattle.ts_base.specs.declared.unit.Unit as unit
-use Rattle.ts_base.specs.declared.unit.Unit.TheVariants.{Second, Minute, Hour, Day, Week, Month, Year}
-use Rattle.ts_base.specs.Moment.{IsStamp, clock_of}
-use Rattle.ts_base.specs.Months.{day_of_month}
 use Rattle.ts_calendar.specs.Plan.{CalendarPlan}
 use Rattle.ts_calendar.specs.Intervals.{start_at}
-use Rattle.ts_calendar.specs.Line.{line_at, month_line}
 use Rattle.ts_calendar.proofs.LawLemmas.{line-near}
 use Rattle.ts_offset.specs.Walk.{numbers_from, on_start, on_starts, IsOnStart}
 use Rattle.ts_calendar.specs.Intervals.{IsLaid}
-use Rattle.ts_calendar.specs.First.{IsNear}
 use Rattle.ts_offset.proofs.ListLemmas.{taken-at, taken-from, taken-append}
 use Rattle.ts_offset.proofs.StartLemmas.{on-line, rise}
 use Rattle.ts_offset.proofs.WindowLemmas.{on-start}

@@ -48,7 +48,7 @@ fn has_week(defs: &Defs, slot: u16, pattern: Option<u8>) -> bool {
     }
     match defs.get(Kind::Calendar, slot) {
         Some(Def::Calendar { calendar, by, .. }) => {
-            *by == pattern && calendar.pattern().runs() == WEEK.as_slice()
+            *by == pattern && calendar.calendar().pattern().runs() == WEEK.as_slice()
         }
         _ => false,
     }

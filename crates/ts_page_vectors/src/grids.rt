@@ -6,7 +6,7 @@ ghost use Rattle.ts_layout.specs.Meaning.{AreSound};
 
 use crate::made::{START, key, stamp};
 use crate::volume::{Case, NEWEST, Patch, page_of, page_told, put_all, survey_of, volume, zeros};
-use std::alloc::{AllocError, Global};
+use std::alloc::Global;
 use ts_base::StoreFault;
 use ts_container::{Surveyed, shape_of, write_slot};
 use ts_model::{Def, Kind};
@@ -162,7 +162,7 @@ fn the_places_of_a_regular_series_stand_in_the_order_of_their_offsets(rt: HostRu
     }
 }
 
-fn is_at(grid: &Grid, offset: u64, units: i64) -> bool {
+fn is_at(grid: &Grid<'_>, offset: u64, units: i64) -> bool {
     match grid.stamp_of(offset) {
         Some(stamp) => stamp.units() == units,
         None => false,
@@ -170,7 +170,7 @@ fn is_at(grid: &Grid, offset: u64, units: i64) -> bool {
 }
 
 // Whether it is a grid of the days from 2011-01-03 on: 2012-11-10 has the offset 677, and 9999-12-31 is the last one.
-fn has_days(shape: &Option<Shape>) -> bool {
+fn has_days(shape: &Option<Shape<'_>>) -> bool {
     match shape {
         Some(Shape::Regular(grid)) => {
             grid.origin().units() == START
@@ -183,32 +183,32 @@ fn has_days(shape: &Option<Shape>) -> bool {
 }
 
 // Where the elements of the series in a slot can stand.
-fn shape_in(alloc: Global, found: &Surveyed, slot: u16) -> Result<Option<Shape>, AllocError>
+fn shape_in(found: &Surveyed, slot: u16) -> Option<Shape<'_>>
     requires { AreSound 3 found.now.defs.definitions }
 {
-    shape_of(alloc, &found.defs, slot)
+    shape_of(&found.defs, slot)
 }
 
 // Whether the elements of the series in slot 3 can stand at those days, those in slot 50 at all stamps, and in slot 4 is none.
-fn are_shapes(alloc: Global, found: &Surveyed) -> Result<bool, AllocError>
+fn are_shapes(found: &Surveyed) -> bool
     requires { AreSound 3 found.now.defs.definitions }
 {
-    let days = shape_in(alloc, found, 3)?;
-    let any = shape_in(alloc, found, 50)?;
-    let none = shape_in(alloc, found, 4)?;
-    Ok(has_days(&days) && matches!(any, Some(Shape::Irregular)) && none.is_none())
+    let days = shape_in(found, 3);
+    let any = shape_in(found, 50);
+    let none = shape_in(found, 4);
+    has_days(&days) && matches!(any, Some(Shape::Irregular)) && none.is_none()
 }
 
-fn shapes_are_found(alloc: Global) -> Result<bool, AllocError> {
+fn shapes_are_found(alloc: Global) -> bool {
     match survey_of(alloc, with_days(alloc, &[])) {
-        Ok(found) => are_shapes(alloc, &found),
-        Err(_) => Ok(false),
+        Ok(found) => are_shapes(&found),
+        Err(_) => false,
     }
 }
 
 #[test]
 fn a_series_has_the_shape_of_its_definition(rt: HostRuntime) {
-    assert!(rt; matches!(shapes_are_found(rt.alloc()), Ok(true)));
+    assert!(rt; shapes_are_found(rt.alloc()));
 }
 
 /// Bytes for that volume, and the first page that is bad with them, if one is.

@@ -28,6 +28,11 @@ cells_bytes columns cells = flat_map (cell_bytes columns) cells
 abbrev pub behind_head : List Column → List Cell → List ℕ
 behind_head columns cells = cells_bytes columns cells ++ replicate (4064 - cell_size columns * length cells) 0
 
+-- this holds of the cells that stand behind the head of a page, as many as it has
+abbrev pub HoldsOfCells : List Column → List ℕ → (List Cell → Type 0) → Type 0
+HoldsOfCells columns behind P =
+    (cells : List Cell) → AreCells columns cells → length cells ≡ regular_room columns → behind ≡ behind_head columns cells → P cells
+
 -- the page of these cells of the series in a slot; its first cell has the offset `base`
 unfoldable pub regular_page : ℕ → List Column → ℕ → List Cell → List ℕ
 regular_page slot columns base cells = head_bytes (Regular slot (filled_count cells) base) ++ behind_head columns cells

@@ -14,7 +14,7 @@ pub(crate) struct Address {
 }
 
 /// That of the element that a stamp addresses. There are at most 800000000001 on starts.
-pub(crate) fn addressed(grid: &Grid, stamp: Stamp) -> Result<Address, Refusal>
+pub(crate) fn addressed(grid: &Grid<'_>, stamp: Stamp) -> Result<Address, Refusal>
     ensures ok { IfOk result (λ found. IsAddressed grid.now stamp found.offset found.start) }
     ensures limit { IfOk result (λ found. found.offset < 2 ^ 63) }
     ensures err { IfErr result (λ why. offset_of grid.now stamp ≡ Err why) }

@@ -31,7 +31,7 @@ pub fn edit_at<P: Pages>(
     page: &mut Page,
     space: &Space,
     shelf: &Shelf,
-    grid: &Grid,
+    grid: &Grid<'_>,
     how: EditKind,
     stamp: Stamp,
     row: &Row,

@@ -24,7 +24,7 @@ pub fn find_at<P: Pages>(
     page: &mut Page,
     space: &Space,
     shelf: &Shelf,
-    grid: &Grid,
+    grid: &Grid<'_>,
     stamp: Stamp,
 ) -> Result<Option<(Stamp, Row)>, StoreFault>
     requires slot { shelf.now.series < 4096 }
@@ -62,7 +62,7 @@ pub fn mark_at<P: Pages>(
     page: &mut Page,
     space: &Space,
     shelf: &Shelf,
-    grid: &Grid,
+    grid: &Grid<'_>,
     stamp: Stamp,
     hidden: bool,
 ) -> Result<Result<Stamp, Refusal>, StoreFault>
@@ -104,7 +104,7 @@ pub fn delete_at<P: Pages>(
     page: &mut Page,
     space: &Space,
     shelf: &Shelf,
-    grid: &Grid,
+    grid: &Grid<'_>,
     stamp: Stamp,
 ) -> Result<Option<Moved>, StoreFault>
     requires slot { shelf.now.series < 4096 }

@@ -23,7 +23,7 @@ pub fn clear_at<P: Pages>(
     page: &mut Page,
     space: &Space,
     shelf: &Shelf,
-    grid: &Grid,
+    grid: &Grid<'_>,
     from: Stamp,
     to: Stamp,
 ) -> Result<(u64, Option<Moved>), StoreFault>
@@ -45,7 +45,7 @@ pub fn clear_at<P: Pages>(
 }
 
 // How many on starts there are from the origin up to a stamp, one at it included.
-fn offset_after(grid: &Grid, stamp: Stamp) -> u64
+fn offset_after(grid: &Grid<'_>, stamp: Stamp) -> u64
     ensures after { AreUpTo grid.now stamp result }
     ensures few { result < 2 ^ 63 }
 {

@@ -8,7 +8,7 @@ use crate::made::{SLOT, Series, is_five, regular, row_of, settled};
 use std::alloc::Global;
 use ts_base::{Refusal, Stamp, StoreFault, Unit};
 use ts_calendar::Calendar;
-use ts_offset::Grid;
+use ts_offset::{Counter, Grid};
 use ts_page::Page;
 use ts_pattern::{Pattern, Run};
 use ts_regular_edits::{
@@ -34,8 +34,8 @@ fn stamp(text: &[u8]) -> Result<Stamp, StoreFault> {
     Stamp::read(text).ok_or(StoreFault::Failed)
 }
 
-// Five days on and two off, from a Monday; the origin is the next day.
-fn working_days(alloc: Global) -> Result<Grid, StoreFault> {
+// Five days on and two off, from a Monday.
+fn working_days(alloc: Global) -> Result<Counter, StoreFault> {
     let on = Run { on: true, count: 5 };
     let off = Run {
         on: false,
@@ -47,14 +47,24 @@ fn working_days(alloc: Global) -> Result<Grid, StoreFault> {
     let Ok(calendar) = Calendar::make(start, start, pattern) else {
         return Err(StoreFault::Failed);
     };
-    match Grid::make(alloc, &calendar, stamp(TUESDAY)?) {
+    Ok(Counter::make(alloc, calendar)?)
+}
+
+// Their grid from the next day on.
+fn grid_of(counter: &Counter) -> Result<Grid<'_>, StoreFault> {
+    match Grid::make(counter, stamp(TUESDAY)?) {
         Ok(grid) => Ok(grid),
         Err(_) => Err(StoreFault::Failed),
     }
 }
 
 // Inserts an integer at a stamp, within so many pages.
-fn insert(series: &mut Series, grid: &Grid, text: &[u8], room: u64) -> Result<Edited, StoreFault>
+fn insert(
+    series: &mut Series,
+    grid: &Grid<'_>,
+    text: &[u8],
+    room: u64,
+) -> Result<Edited, StoreFault>
     requires places { ArePlaces series.old.kind.columns (memory_contents series.old.pages) (places_of 7 series.old.space) }
     requires room { room ≤ length (memory_contents series.old.pages).free }
 {
@@ -78,7 +88,7 @@ fn insert(series: &mut Series, grid: &Grid, text: &[u8], room: u64) -> Result<Ed
 }
 
 // Puts the integer 5 on Tuesday.
-fn put(series: &mut Series, grid: &Grid) -> Result<(), StoreFault>
+fn put(series: &mut Series, grid: &Grid<'_>) -> Result<(), StoreFault>
     requires places { ArePlaces series.old.kind.columns (memory_contents series.old.pages) (places_of 7 series.old.space) }
     requires free { 1 ≤ length (memory_contents series.old.pages).free }
     ensures { (memory_contents series.new.pages).count ≡ (memory_contents series.old.pages).count }
@@ -112,7 +122,7 @@ fn put(series: &mut Series, grid: &Grid) -> Result<(), StoreFault>
 }
 
 // With the integer 5 on Tuesday.
-fn filled(alloc: Global, grid: &Grid) -> Result<Series, StoreFault>
+fn filled(alloc: Global, grid: &Grid<'_>) -> Result<Series, StoreFault>
     ensures { IfOk result (λ series. ArePlaces series.kind.columns (memory_contents series.pages) (places_of 7 series.space)) }
 {
     let mut series = regular(alloc)?;
@@ -131,7 +141,8 @@ enum Question {
 
 // Whether the answer is the right one.
 fn is_answered(alloc: Global, question: Question) -> Result<bool, StoreFault> {
-    let grid = working_days(alloc)?;
+    let counter = working_days(alloc)?;
+    let grid = grid_of(&counter)?;
     let mut series = filled(alloc, &grid)?;
     match question {
         Question::Find => is_found(&mut series, &grid),
@@ -141,7 +152,7 @@ fn is_answered(alloc: Global, question: Question) -> Result<bool, StoreFault> {
 }
 
 // Whether the element that stood on Tuesday is told for that night.
-fn is_found(series: &mut Series, grid: &Grid) -> Result<bool, StoreFault>
+fn is_found(series: &mut Series, grid: &Grid<'_>) -> Result<bool, StoreFault>
     requires { ArePlaces series.old.kind.columns (memory_contents series.old.pages) (places_of 7 series.old.space) }
 {
     let kind = &series.kind;
@@ -159,7 +170,7 @@ fn is_found(series: &mut Series, grid: &Grid) -> Result<bool, StoreFault>
     Ok(found.is_some_and(|(at, row)| at == tuesday && is_five(&row)))
 }
 
-fn is_marked(series: &mut Series, grid: &Grid) -> Result<bool, StoreFault>
+fn is_marked(series: &mut Series, grid: &Grid<'_>) -> Result<bool, StoreFault>
     requires { ArePlaces series.old.kind.columns (memory_contents series.old.pages) (places_of 7 series.old.space) }
 {
     let kind = &series.kind;
@@ -178,7 +189,7 @@ fn is_marked(series: &mut Series, grid: &Grid) -> Result<bool, StoreFault>
 }
 
 // The only element goes, and its place with it.
-fn is_deleted(series: &mut Series, grid: &Grid) -> Result<bool, StoreFault>
+fn is_deleted(series: &mut Series, grid: &Grid<'_>) -> Result<bool, StoreFault>
     requires { ArePlaces series.old.kind.columns (memory_contents series.old.pages) (places_of 7 series.old.space) }
 {
     let kind = &series.kind;
@@ -202,7 +213,8 @@ fn is_deleted(series: &mut Series, grid: &Grid) -> Result<bool, StoreFault>
 
 // How many elements go from one stamp to another, and what comes of their places.
 fn cleared(alloc: Global, from: &[u8], to: &[u8]) -> Result<(u64, Option<Moved>), StoreFault> {
-    let grid = working_days(alloc)?;
+    let counter = working_days(alloc)?;
+    let grid = grid_of(&counter)?;
     let mut series = filled(alloc, &grid)?;
     let kind = &series.kind;
     let shelf = Shelf { series: SLOT, kind };
@@ -240,7 +252,8 @@ fn has_none_within(alloc: Global, from: &[u8], to: &[u8]) -> Result<bool, StoreF
 fn inserted(alloc: Global, text: &[u8], room: u64) -> Result<Edited, StoreFault>
     requires { room ≤ 1 }
 {
-    let grid = working_days(alloc)?;
+    let counter = working_days(alloc)?;
+    let grid = grid_of(&counter)?;
     let mut series = regular(alloc)?;
     insert(&mut series, &grid, text, room)
 }

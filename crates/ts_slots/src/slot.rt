@@ -134,7 +134,9 @@ pub(crate) fn write_def(def: &Def, slot: &mut [u8])
     match def {
         Def::RowType { name, kind } => write_row_type(name, kind, slot),
         Def::Pattern { name, pattern } => write_pattern(name, pattern, slot),
-        Def::Calendar { name, calendar, by } => write_calendar(name, calendar, *by, slot),
+        Def::Calendar { name, calendar, by } => {
+            write_calendar(name, calendar.calendar(), *by, slot)
+        }
         Def::Container {
             name,
             row_type,

@@ -1,22 +1,18 @@
 // The routines that only read patterns and calendars. Each says the reply of its command, whatever series and pages
 // there are.
-ghost use Rattle.std.specs.Prelude.{◌≡◌, ◌<◌, ℕ, [], IfOk, IsSome, Some, option_copied, option_map, option_and_then};
+ghost use Rattle.std.specs.Prelude.{◌≡◌, ◌<◌, [], IfOk, IsSome, Some, option_copied, option_map, option_and_then};
 ghost use Rattle.ts_command.specs.declared.command.Command.TheVariants.{ShowPattern, ShowCalendar, CalIndex, CalStamp, CalRange};
 ghost use Rattle.ts_command.specs.Form.{HasForm};
 ghost use Rattle.ts_space.specs.Directory.{Directory};
 ghost use Rattle.ts_model.specs.Definitions.{CalendarDef, at_slot, pattern_reference, calendar_slots};
-ghost use Rattle.ts_layout.specs.Meaning.{Layout, IsThere, part_of, text_of, catalogue_of};
-ghost use Rattle.ts_answer.specs.Answer.{a_calendar};
+ghost use Rattle.ts_layout.specs.Meaning.{IsThere, part_of, text_of};
 ghost use Rattle.ts_answer.specs.Reading.{IsSaid};
-ghost use Rattle.ts_answer.specs.Tried.{IsTried};
-ghost use Rattle.ts_answer.specs.View.{IsDefinedBy};
 
 use std::alloc::{AllocError, Global};
 use ts_base::{Name, Refusal, Reply, Stamp, Trouble};
 use ts_calendar::{Calendar, CalendarText, PatternPart};
 use ts_define::{calendar_named, pattern_named, slot_named};
 use ts_model::{Def, Defs, Kind};
-use ts_offset::Counter;
 use ts_say::{say_calendar, say_pattern, say_signed, say_stamp, say_stamps};
 
 /// Says a pattern.
@@ -47,7 +43,6 @@ pub fn show_calendar(
 
 /// Says how many on starts of a calendar lie between two stamps.
 pub fn cal_index(
-    alloc: Global,
     defs: &Defs,
     calendar: &Name,
     from: Stamp,
@@ -57,14 +52,13 @@ pub fn cal_index(
     requires empty { out.old ≡ [] }
     ensures { (space : Directory) → IsSaid (CalIndex calendar.now from to) result out.new defs.now.definitions space }
 {
-    let counter = counter_of(alloc, defs, calendar)?;
+    let counter = calendar_named(defs, calendar)?;
     say_signed(out, counter.cal_index(from, to))?;
     Ok(())
 }
 
 /// Says the on start of a number after a stamp.
 pub fn cal_stamp(
-    alloc: Global,
     defs: &Defs,
     calendar: &Name,
     after: Stamp,
@@ -75,7 +69,7 @@ pub fn cal_stamp(
     requires empty { out.old ≡ [] }
     ensures { (space : Directory) → IsSaid (CalStamp calendar.now after count) result out.new defs.now.definitions space }
 {
-    let counter = counter_of(alloc, defs, calendar)?;
+    let counter = calendar_named(defs, calendar)?;
     let Some(stamp) = counter.cal_stamp(after, count as u32) else {
         return Err(Trouble::Refused(Refusal::PastEnd));
     };
@@ -85,7 +79,6 @@ pub fn cal_stamp(
 
 /// Lists the on starts of a calendar from one stamp to another.
 pub fn cal_range(
-    alloc: Global,
     defs: &Defs,
     calendar: &Name,
     from: Stamp,
@@ -95,19 +88,10 @@ pub fn cal_range(
     requires empty { out.old ≡ [] }
     ensures { (space : Directory) → IsSaid (CalRange calendar.now from to) result out.new defs.now.definitions space }
 {
-    let counter = counter_of(alloc, defs, calendar)?;
+    let counter = calendar_named(defs, calendar)?;
     let starts = counter.cal_range(from, to)?;
     say_stamps(out, &starts)?;
     Ok(())
-}
-
-// A counter of the on starts of a calendar.
-fn counter_of(alloc: Global, defs: &Defs, calendar: &Name) -> Result<Counter, Trouble>
-    ensures { (count : ℕ) (l : Layout) → IsDefinedBy defs.now.definitions count l → IsTried result (a_calendar calendar.now (catalogue_of l)) ◌≡◌ }
-{
-    let found = calendar_named(defs, calendar)?;
-    let counter = Counter::make(alloc, found)?;
-    Ok(counter)
 }
 
 // The text of the calendar in a slot.
@@ -118,9 +102,9 @@ fn text_in(defs: &Defs, slot: u16) -> Result<CalendarText, AllocError>
 {
     match defs.get(Kind::Calendar, slot) {
         Some(Def::Calendar { calendar, by, .. }) => Ok(CalendarText {
-            start: calendar.start(),
-            patt_start: calendar.patt_start(),
-            part: part_in(defs, calendar, *by)?,
+            start: calendar.calendar().start(),
+            patt_start: calendar.calendar().patt_start(),
+            part: part_in(defs, calendar.calendar(), *by)?,
         }),
         _ => unreachable!(),
     }

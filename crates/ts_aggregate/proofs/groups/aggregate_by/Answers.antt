@@ -14,7 +14,7 @@ returns-then-count-gt-MOST_ROWS-clause-read g c = λ told es have own empty.
     let u = c.end.new.self in
     let wanted : WantedPlan = record { calendar = c.args.calendar.now; from = c.args.from; to = c.args.to } in
     let last : ℤ = c.last-last.result in
-    let made : c.in_ok-wanted.wanted ≡ wanted = c.in_ok-wanted.ensures in
+    let made : c.new-wanted.result ≡ wanted = c.new-wanted.ensures in
     let given = given_told c.args.shape.now _ _ _ _ es c.requires.laid
     (subst IsRising c.places-places.ensures.ok c.places-places.ensures.rising) c.requires.countable have in
     many_handed g.V.ElementVisitor.took g.met.V.ElementVisitor.then c.args.shelf.now.kind.now.columns wanted
@@ -36,7 +36,7 @@ returns-clause-read g c = λ told es have own empty.
     let u = c.end.new.self in
     let wanted : WantedPlan = record { calendar = c.args.calendar.now; from = c.args.from; to = c.args.to } in
     let last : ℤ = c.last-last.result in
-    let made : c.in_ok-wanted.wanted ≡ wanted = c.in_ok-wanted.ensures in
+    let made : c.new-wanted.result ≡ wanted = c.new-wanted.ensures in
     let given = given_told c.args.shape.now _ _ _ _ es c.requires.laid
     (subst IsRising c.places-places.ensures.ok c.places-places.ensures.rising) c.requires.countable have in
     few_handed g.V.ElementVisitor.took g.met.V.ElementVisitor.then c.args.shelf.now.kind.now.columns wanted

@@ -13,7 +13,7 @@ invariant-loop-index g l = record {
   few : l.count ≤ 2 ^ 63 + 65535;
   call : Reads {T = Unit {0}} g.P.Pages.tells (Ok tt) (g.P.Pages.contents l.fn.pages) (g.P.Pages.contents l.pages);
   undisturbed : g.P.Pages.undisturbed l.fn.pages l.pages;
-  counted : HoldsOfPages g.P.Pages.tells l.shelf.series l.shelf.kind.now.columns l.places (g.P.Pages.contents l.fn.pages)
+  counted : HoldsOfPages g.P.Pages.tells l.shelf l.places (g.P.Pages.contents l.fn.pages)
       (λ (chain : List (List Element)). l.count ≡ length (seen (within_range l.from l.to (all_in (drop l.index chain)))));
 }
 

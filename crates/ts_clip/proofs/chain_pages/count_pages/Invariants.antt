@@ -11,6 +11,6 @@ abbrev pub invariant-loop-place : goal.invariant-loop-place
 invariant-loop-place g l = record {
   call : Reads {T = Unit {0}} g.P.Pages.tells (Ok tt) (g.P.Pages.contents l.fn.pages) (g.P.Pages.contents l.pages);
   undisturbed : g.P.Pages.undisturbed l.fn.pages l.pages;
-  counted : HoldsOfPages g.P.Pages.tells l.shelf.series l.shelf.kind.now.columns l.places (g.P.Pages.contents l.fn.pages)
+  counted : HoldsOfPages g.P.Pages.tells l.shelf l.places (g.P.Pages.contents l.fn.pages)
       (λ (chain : List (List Element)). l.count ≡ min (length (seen (within_range l.from l.to (all_in (take l.place-index chain))))) (2 ^ 64 - 1));
 }

@@ -13,7 +13,7 @@ invariant-loop-place g l = record {
   call : Reads {T = Unit {0}} g.P.Pages.tells (Ok tt) (g.P.Pages.contents l.fn.pages) (g.P.Pages.contents l.pages);
   undisturbed : g.P.Pages.undisturbed l.fn.pages l.pages;
   fewer : l.left.most ≤ l.fn.want.most;
-  passed : HoldsOfPages g.P.Pages.tells l.shelf.series l.shelf.kind.now.columns l.places (g.P.Pages.contents l.fn.pages)
+  passed : HoldsOfPages g.P.Pages.tells l.shelf l.places (g.P.Pages.contents l.fn.pages)
       (λ (chain : List (List Element)). ArePassed (λ (entries : List Entry). g.V.EntryVisitor.took l.shelf.kind.now.columns l.fn.visitor entries l.visitor) l.fn.want l.left
       (seen (within_range l.from l.to (all_in (take l.place-index chain)))));
 }

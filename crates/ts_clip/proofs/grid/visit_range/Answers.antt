@@ -4,7 +4,7 @@ use Rattle.ts_row.specs.declared.kind.Column.{Column}
 use Rattle.ts_offset.specs.declared.shape.Shape.TheVariants.{Regular}
 use Rattle.ts_entry.specs.Entry.{Entry, AreTaken}
 use Rattle.ts_entry.specs.Reading.{reading}
-use Rattle.ts_clip.specs.Offsets.{between}
+use Rattle.ts_clip.specs.Grid.{between}
 use Rattle.ts_clip.proofs.GridFilterLemmas.{length-part}
 use Rattle.ts_clip.proofs.GridReadingLemmas.{reading_between}
 use Rattle.ts_clip.proofs.GridReadLemmas.{reading_of}

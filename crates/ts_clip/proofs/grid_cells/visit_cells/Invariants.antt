@@ -1,7 +1,6 @@
 -- The cells before the one of this index were handed on, at as many starts.
-use Rattle.std.proofs.Common.{◌≡◌, ◌-◌, List, length, take, drop}
-use Rattle.ts_regular.specs.Cell.{Cell, regular_room}
-use Rattle.ts_regular.specs.RegularPage.{AreCells, behind_head}
+use Rattle.std.proofs.Common.{◌≡◌, ◌-◌, take, drop}
+use Rattle.ts_regular.specs.RegularPage.{HoldsOfCells}
 use Rattle.ts_regular.specs.OnePage.{cell_at}
 use Rattle.ts_clip.specs.Numbered.{numbered, seen_in}
 use Rattle.ts_clip.proofs.grid_cells.visit_cells.Given as goal
@@ -9,6 +8,5 @@ use Rattle.ts_clip.proofs.grid_cells.visit_cells.Given as goal
 abbrev pub invariant-loop-index : goal.invariant-loop-index
 invariant-loop-index g l = record {
   left : l.starts ≡ drop (l.index - l.first) l.fn.starts;
-  took : (cells : List Cell) → AreCells l.kind.columns cells → length cells ≡ regular_room l.kind.columns → l.behind ≡ behind_head l.kind.columns cells
-      → g.V.EntryVisitor.took l.kind.columns l.fn.visitor (numbered (λ i. seen_in (cell_at cells i)) l.first (take (l.index - l.first) l.fn.starts)) l.visitor;
+  took : HoldsOfCells l.kind.columns l.behind (λ cells. g.V.EntryVisitor.took l.kind.columns l.fn.visitor (numbered (λ i. seen_in (cell_at cells i)) l.first (take (l.index - l.first) l.fn.starts)) l.visitor);
 }

@@ -1,12 +1,12 @@
 use Rattle.std.proofs.Common.{◌≡◌, ℕ, Option, Some, None, Ok, List, [], drop, get_or, sym, ap, subst, ◌∙◌, arith}
-use Rattle.std.specs.List.{slice_get}
 use Rattle.std.proofs.lemmas.List.{drop_all}
 use Rattle.ts_space.specs.declared.place.Place.{Place}
 use Rattle.ts_row.specs.declared.kind.Column.{Column}
-use Rattle.ts_regular.specs.Offsets.{OffsetElement, elements_from, seen}
+use Rattle.ts_regular.specs.Offsets.{OffsetElement, elements_from}
 use Rattle.ts_regular.specs.Places.{OffsetPage, AreOn, IsOn, all_in}
 use Rattle.ts_regular.specs.OnePage.{IsToldOn}
 use Rattle.ts_chain.proofs.ReadLemmas.{reads_more, reads_ok}
+use Rattle.ts_clip.specs.Grid.{first_of}
 use Rattle.ts_clip.proofs.GridFirstLemmas.{first_ahead, first_here}
 use Rattle.ts_clip.proofs.GridPlaceLemmas.{page_at, pages_count}
 use Rattle.ts_clip.proofs.grid_ends.regular_first.Goals as goal
@@ -24,8 +24,8 @@ returns-in-Some-clause-first g c = λ t ps on.
     let all = subst (λ (l : List Place). AreOn slot columns u.page l ps) (sym c.places-places.ensures.ok) on in
     let here = page_at slot columns u.page places index _ ps c.places-places.ensures.rising all c.loop-place-test.true in
     let own = subst (λ (b : List ℕ). IsOn slot columns b place here.page) (sym (i.call.pages t place.page)) here.on in
-    let found : IsToldOn g.P.Pages.tells slot columns place v (λ p. Some c.in-Some.first ≡ slice_get (seen (elements_from p.0 p.1)) 0) =
-    subst (λ (o : Option OffsetElement). IsToldOn g.P.Pages.tells slot columns place v (λ p. o ≡ slice_get (seen (elements_from p.0 p.1)) 0)) c.in-Some.is c.in_ok-first.ensures.first in
+    let found : IsToldOn g.P.Pages.tells slot columns place v (λ p. Some c.in-Some.first ≡ first_of (elements_from p.0 p.1)) =
+    subst (λ (o : Option OffsetElement). IsToldOn g.P.Pages.tells slot columns place v (λ p. o ≡ first_of (elements_from p.0 p.1))) c.in-Some.is c.in_ok-first.ensures.first in
     first_here slot columns u.page place index ps here (i.ahead t ps all) c.in-Some.first (found t here.page own)
 
 pub loop-place-preserved : goal.loop-place-preserved
@@ -41,8 +41,8 @@ loop-place-preserved g c =
     let index : ℕ = c.loop-place.place-index in
     let place : Place = get_or places index _ in
     let done = c.in_ok-first.ensures in
-    let found : IsToldOn tells slot columns place v (λ p. None ≡ slice_get (seen (elements_from p.0 p.1)) 0) =
-    subst (λ (o : Option OffsetElement). IsToldOn tells slot columns place v (λ p. o ≡ slice_get (seen (elements_from p.0 p.1)) 0)) c.in_default.is done.first in
+    let found : IsToldOn tells slot columns place v (λ p. None ≡ first_of (elements_from p.0 p.1)) =
+    subst (λ (o : Option OffsetElement). IsToldOn tells slot columns place v (λ p. o ≡ first_of (elements_from p.0 p.1))) c.in_default.is done.first in
     record {
       call = reads_ok tells c.in_ok-first.field-0 tt u w (reads_more tells tt (Ok c.in_ok-first.field-0) u v w i.call done.call);
       undisturbed = g.met.P.Pages.«then» c.args.pages.now c.loop-place.pages c.first_on.new.pages i.undisturbed done.undisturbed;
@@ -60,4 +60,4 @@ returns-clause-first g c = λ t ps on.
     let all = subst (λ (l : List Place). AreOn slot columns u.page l ps) (sym c.places-places.ensures.ok) on in
     let count = pages_count slot columns u.page places ps all in
     let over : drop c.loop-place.place-index ps ≡ [] = drop_all c.loop-place.place-index ps (omega (arith, count, c.loop-place-test.false)) in
-    sym (c.loop-place.invariant.ahead t ps all ∙ ap (λ (l : List OffsetPage). slice_get (seen (all_in l)) 0) over)
+    sym (c.loop-place.invariant.ahead t ps all ∙ ap (λ (l : List OffsetPage). first_of (all_in l)) over)

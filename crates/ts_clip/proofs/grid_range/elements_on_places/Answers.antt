@@ -8,7 +8,7 @@ use Rattle.ts_regular.specs.Range.{within}
 use Rattle.ts_regular_edits.specs.Stamped.{stamped}
 use Rattle.ts_chain.proofs.ReadLemmas.{reads_more}
 use Rattle.ts_entry.specs.Entry.{Entry}
-use Rattle.ts_clip.specs.Offsets.{HaveTaken}
+use Rattle.ts_clip.specs.Grid.{HaveTaken}
 use Rattle.ts_clip.proofs.GridElementLemmas.{elements_both, next_taken}
 use Rattle.ts_clip.proofs.GridPlaceLemmas.{page_at, pages_count}
 use Rattle.ts_clip.proofs.grid_range.elements_on_places.Goals as goal

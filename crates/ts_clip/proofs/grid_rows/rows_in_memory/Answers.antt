@@ -8,7 +8,8 @@ use Rattle.ts_row.specs.Row.{Row}
 use Rattle.ts_regular.specs.Offsets.{elements_from}
 use Rattle.ts_regular.specs.Places.{OffsetPage, IsOn, all_in}
 use Rattle.ts_clip.proofs.GridPlaceLemmas.{page_of, pages_count}
-use Rattle.ts_clip.proofs.GridRowLemmas.{rows_next, rows_within}
+use Rattle.ts_clip.specs.Grid.{rows_within}
+use Rattle.ts_clip.proofs.GridRowLemmas.{rows_next}
 use Rattle.ts_clip.proofs.PageListLemmas.{read_there}
 use Rattle.ts_clip.proofs.grid_rows.rows_in_memory.Goals as goal
 

@@ -7,7 +7,8 @@ use Rattle.ts_regular.specs.Offsets.{elements_from}
 use Rattle.ts_regular.specs.Places.{OffsetPage, IsOn, all_in}
 use Rattle.ts_chain.proofs.ReadLemmas.{reads_more}
 use Rattle.ts_clip.proofs.GridPlaceLemmas.{page_of, pages_count}
-use Rattle.ts_clip.proofs.GridRowLemmas.{rows_next, rows_within}
+use Rattle.ts_clip.specs.Grid.{rows_within}
+use Rattle.ts_clip.proofs.GridRowLemmas.{rows_next}
 use Rattle.ts_clip.proofs.grid_rows.rows_on_places.Goals as goal
 
 pub loop-place-preserved : goal.loop-place-preserved

@@ -16,9 +16,9 @@ of_tests false false false c x is = absurd (cc)
 its_parts : (c x : CalendarPlan) → valid_calendar c ≡ Ok x → x ≡ c
 its_parts c x is = of_tests (is_late c.pattern.unit c.patt_start) (is_apart c) (has_on c.pattern.runs) c x is
 
-pub returns-in-Ok : goal.returns-in-Ok
-returns-in-Ok c =
+pub returns-in_ok-calendar-in-Ok : goal.returns-in_ok-calendar-in-Ok
+returns-in_ok-calendar-in-Ok c =
     let plan : CalendarPlan = record { start = c.args.start; patt_start = c.args.patt_start; pattern = c.args.pattern } in
     let valid : valid_calendar plan ≡ Ok c.in-Ok.calendar = sym c.make.ensures ∙ c.in-Ok.is in
     let same : c.in-Ok.calendar ≡ plan = its_parts plan c.in-Ok.calendar valid in
-    (ap (λ (x : CalendarPlan). defs.Calendar c.args.name x c.args.by) same, search rules, valid ∙ ap Ok same)
+    (ap (λ (x : CalendarPlan). defs.Calendar c.args.name x c.args.by) (c.in_ok-calendar-in-Ok.ensures.ok ∙ same), search rules, valid ∙ ap Ok same)

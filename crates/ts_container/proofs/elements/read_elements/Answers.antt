@@ -21,7 +21,7 @@ returns-in_default-clause-read g c =
       call = reads_refused g.P.Pages.tells tt c.loop-number.number u w (reads_more g.P.Pages.tells tt (Ok tt) u v w c.loop-number.invariant.call got.call);
       read = tt;
       refused = λ told. read_bad c.args.defs.now.definitions u.page c.loop-number.number c.args.count c.read.new.page.bytes c.loop-number.auto.number c.loop-number-test.true
-          (sym (got.read told ∙ c.loop-number.invariant.call.pages told c.loop-number.number)) (subst (IsContentOf c.args.defs.now.definitions c.loop-number.number c.read.new.page.bytes) c.in_default.is c.in_ok-content.ensures);
+          (sym (got.read told ∙ c.loop-number.invariant.call.pages told c.loop-number.number)) (subst (IsContentOf c.args.defs.now.definitions c.loop-number.number c.read.new.page.bytes) c.in_default.is c.content_of.ensures);
     }
 
 pub loop-number-preserved : goal.loop-number-preserved
@@ -34,5 +34,5 @@ loop-number-preserved g c =
       call = reads_more g.P.Pages.tells tt (Ok tt) u v w c.loop-number.invariant.call got.call;
       undisturbed = g.met.P.Pages.«then» c.args.pages.now c.loop-number.pages c.read.new.pages c.loop-number.invariant.undisturbed c.in_ok-read.ensures.undisturbed;
       read = read_more g.P.Pages.tells c.args.defs.now.definitions u c.loop-number.number _ c.add.new.self.spans.items _ c.add.new.self.free.items c.in-Some.content c.read.new.page.bytes c.loop-number.auto.number
-          c.loop-number.invariant.read (subst (IsContentOf c.args.defs.now.definitions c.loop-number.number c.read.new.page.bytes) c.in-Some.is c.in_ok-content.ensures) (c.in_ok-add.ensures c.args.defs.now.definitions) (λ told. sym (got.read told ∙ c.loop-number.invariant.call.pages told c.loop-number.number));
+          c.loop-number.invariant.read (subst (IsContentOf c.args.defs.now.definitions c.loop-number.number c.read.new.page.bytes) c.in-Some.is c.content_of.ensures) (c.in_ok-add.ensures c.args.defs.now.definitions) (λ told. sym (got.read told ∙ c.loop-number.invariant.call.pages told c.loop-number.number));
     }

@@ -1,10 +1,11 @@
-use Rattle.std.proofs.Common.{List, ℕ, IsTrue, Some, refl, sym, subst, arith}
+use Rattle.std.proofs.Common.{IsTrue, Some, refl, sym, subst, arith}
 use Rattle.ts_base.specs.Moment.{IsStamp}
 use Rattle.ts_pattern.specs.Plan.{Plan}
 use Rattle.ts_pattern.specs.Runs.{is_pattern}
 use Rattle.ts_model.specs.Kinds.{with_named}
 use Rattle.ts_model.specs.Definitions.{CalendarDef}
 use Rattle.ts_model.specs.declared.kind.Kind.TheVariants.{Calendar}
+use Rattle.ts_model.specs.declared.def.Def.{Def}
 use Rattle.ts_model.specs.declared.def.Def.TheVariants as defs
 use Rattle.ts_layout.specs.Meaning.{catalogue_of, text_of}
 use Rattle.ts_answer.specs.Answer.{Answered}
@@ -24,7 +25,8 @@ returns-clause-made c l rules filled free by =
     let made : CalendarDef = record { name = name; calendar = c.args.calendar; by = c.args.by } in
     let its = reference c.args.by c.args.calendar.pattern l.definitions by in
     let start : IsStamp c.args.calendar.start = subst IsStamp c.start.ensures.value (subst IsStamp c.units-start.ensures.value c.units-start.ensures.within) in
-    comes _ _ (subst (λ (x : List ℕ). let a : Answered = (ok_line, with_named Calendar name (text_of l.definitions made) (catalogue_of l)) in DefinesAs Calendar c.args.slot (Some (defs.Calendar x c.args.calendar c.args.by)) l a) (sym c.in_ok-copied.ensures)
+    comes _ _ (subst (λ (x : Def). let a : Answered = (ok_line, with_named Calendar name (text_of l.definitions made) (catalogue_of l)) in DefinesAs Calendar c.args.slot (Some x) l a)
+    (λ i. defs.Calendar (sym c.in_ok-copied.ensures i) (sym c.in_ok-counter.ensures.ok i) c.args.by)
     (defined l rules filled (defs.Calendar name c.args.calendar c.args.by) c.args.slot made (text_of l.definitions made) refl free
     (record { name = c.requires; start = start; patt_start = c.patt_start-patt_start.ensures.laid.stamp; runs = subst (λ (p : Plan). IsTrue (is_pattern p.runs)) c.pattern.ensures c.length-length.ensures.pattern; by = its.within }) its.there (c.start.ensures.valid, its.follows) tt
     (omega (arith, rules.definitions.quotas)) refl))

@@ -41,7 +41,7 @@ loop-at-preserved-then-passed-eq0 g c =
     let so_far = c.loop-at.invariant in
     let said = c.in_ok-count.field-0 in
     let beyond = c.in_ok-others.beyond in
-    let held : List Page = c.gather-then-passed-eq0.new.held.items in
+    let held : List Page = c.gather-then-passed-eq0.new.held in
     let first = then_reads tells tt said v u w so_far.call c.in_ok-count.ensures.call in
     let below = c.loop-at-test.true in
     let long = length-drop at slots in
@@ -77,14 +77,14 @@ say_rows-requires-clause-series g c =
     let Below : ℕ → Type 0 = λ slot. slot < 4096 in
     let first : List ℕ = take c.loop-at.passed (drop c.loop-at.at slots) in
     let below = All-filter (λ slot. stands_in c.args.container (at_slot slot x.definitions.series)) Below first (passed_below slots c.loop-at.at c.loop-at.passed c.in_order-slots.ensures.within) in
-    subst (All (HasSeries x.definitions)) (sym c.deref-else-passed-eq0-2.ensures.value)
-    (all_series g.P.Pages.tells x c.args.from c.args.to c.loop-at.held.items (inside x.definitions c.args.container first) c.loop-at.stacks.items below c.loop-at.invariant.stacks)
+    subst (All (HasSeries x.definitions)) (sym c.deref-else-passed-eq0.ensures.value)
+    (all_series g.P.Pages.tells x c.args.from c.args.to c.loop-at.held (inside x.definitions c.args.container first) c.loop-at.stacks.items below c.loop-at.invariant.stacks)
 
 pub say_rows-requires-clause-as_many : goal.say_rows-requires-clause-as_many
 say_rows-requires-clause-as_many g c =
-    let same = AllZip-long (IsFoldOf c.args.bound.now c.args.from c.args.to c.deref.result.now) c.deref-else-passed-eq0.result.now c.in_ok-rows.rows.items c.in_ok-rows.ensures.folded in
-    let rows : c.deref-else-passed-eq0-3.result.now ≡ c.in_ok-rows.rows.items = c.deref-else-passed-eq0-3.ensures.value in
-    let stacks : c.deref-else-passed-eq0-2.result.now ≡ c.deref-else-passed-eq0.result.now = c.deref-else-passed-eq0-2.ensures.value ∙ sym c.deref-else-passed-eq0.ensures.value in
+    let same = AllZip-long (IsFoldOf c.args.bound.now c.args.from c.args.to c.as_slice.result.now) c.deref.result.now c.in_ok-rows.rows.items c.in_ok-rows.ensures.folded in
+    let rows : c.deref-else-passed-eq0-2.result.now ≡ c.in_ok-rows.rows.items = c.deref-else-passed-eq0-2.ensures.value in
+    let stacks : c.deref-else-passed-eq0.result.now ≡ c.deref.result.now = c.deref-else-passed-eq0.ensures.value ∙ sym c.deref.ensures.value in
     ap (λ (rs : List Row). length rs) rows ∙ same ∙ sym (ap (λ (ss : List Stack). length ss) stacks)
 
 pub returns-in_err-count-2-clause-undisturbed : goal.returns-in_err-count-2-clause-undisturbed
@@ -106,18 +106,18 @@ loop-at-preserved g c =
     let passed = c.loop-at.passed in
     let first : List ℕ = take passed (drop at slots) in
     let so_far = c.loop-at.invariant in
-    let held : List Page = c.loop-at.held.items in
+    let held : List Page = c.loop-at.held in
     let stacks : List Stack = c.loop-at.stacks.items in
     let now = c.in_ok-rows.ensures in
     let rows : List Row = c.in_ok-rows.rows.items in
     let beyond = c.in_ok-rows.beyond in
     let count = c.in_ok-count-2.field-0 in
     let folds =
-    subst (λ (ps : List Page). AllZip (IsFoldOf b c.args.from c.args.to ps) stacks rows) c.deref.ensures.value
-    (subst (λ (ss : List Stack). AllZip (IsFoldOf b c.args.from c.args.to c.deref.result.now) ss rows) c.deref-else-passed-eq0.ensures.value now.folded) in
+    subst (λ (ps : List Page). AllZip (IsFoldOf b c.args.from c.args.to ps) stacks rows) c.as_slice.ensures
+    (subst (λ (ss : List Stack). AllZip (IsFoldOf b c.args.from c.args.to c.as_slice.result.now) ss rows) c.deref.ensures.value now.folded) in
     let said =
-    subst (λ (ss : List Stack). AreStacksSaid b d ss rows c.loop-at.out c.say_rows.new.out count) c.deref-else-passed-eq0-2.ensures.value
-    (subst (λ (rs : List Row). AreStacksSaid b d c.deref-else-passed-eq0-2.result.now rs c.loop-at.out c.say_rows.new.out count) c.deref-else-passed-eq0-3.ensures.value c.in_ok-count-2.ensures.said) in
+    subst (λ (ss : List Stack). AreStacksSaid b d ss rows c.loop-at.out c.say_rows.new.out count) c.deref-else-passed-eq0.ensures.value
+    (subst (λ (rs : List Row). AreStacksSaid b d c.deref-else-passed-eq0.result.now rs c.loop-at.out c.say_rows.new.out count) c.deref-else-passed-eq0-2.ensures.value c.in_ok-count-2.ensures.said) in
     let lines = lines_of b c.args.from c.args.to d held stacks rows said.0 folds said.1 in
     let long = length-drop at slots in
     let most = so_far.passed in
@@ -133,9 +133,9 @@ loop-at-preserved g c =
           let before = so_far.few in
           omega (arith, few, number, size, before));
       stacks =
-          subst (λ (ps : List Page). AllZip (IsStackOf tells x c.args.from c.args.to ps) (inside d c.args.container (take beyond (drop (at + passed) slots))) c.in_ok-rows.others.items) (sym (ap (λ list. list.items) c.swap.ensures.x_after))
-          (stacks_in_rest tells x c.args.from c.args.to c.fold_and_gather.new.next.items c.args.container slots (at + passed) beyond c.in_ok-rows.others.items
-          (stacks_same tells tt d space v u c.args.from c.args.to c.fold_and_gather.new.next.items _ c.in_ok-rows.others.items so_far.call now.stacks));
+          subst (λ (ps : List Page). AllZip (IsStackOf tells x c.args.from c.args.to ps) (inside d c.args.container (take beyond (drop (at + passed) slots))) c.in_ok-rows.others.items) (sym c.swap.ensures.x_after)
+          (stacks_in_rest tells x c.args.from c.args.to c.fold_and_gather.new.next c.args.container slots (at + passed) beyond c.in_ok-rows.others.items
+          (stacks_same tells tt d space v u c.args.from c.args.to c.fold_and_gather.new.next _ c.in_ok-rows.others.items so_far.call now.stacks));
       said = λ told layout shows.
           let before = so_far.said told layout shows in
           let f = folded_at b c.args.from c.args.to layout c.args.container in

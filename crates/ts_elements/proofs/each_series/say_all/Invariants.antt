@@ -16,7 +16,7 @@ invariant-loop-at g l = record {
   within : l.at ≤ length l.slots;
   passed : l.passed ≤ length (drop l.at l.slots);
   few : l.count ≤ l.at;
-  stacks : AllZip (IsStackOf g.P.Pages.tells (view l.defs.definitions l.space (g.P.Pages.contents l.fn.pages)) l.from l.to l.held.items)
+  stacks : AllZip (IsStackOf g.P.Pages.tells (view l.defs.definitions l.space (g.P.Pages.contents l.fn.pages)) l.from l.to l.held)
       (inside l.defs.definitions l.container (take l.passed (drop l.at l.slots))) l.stacks.items;
   said : IsTrue g.P.Pages.tells → (layout : Layout) → Shows g.P.Pages.tells (view l.defs.definitions l.space (g.P.Pages.contents l.fn.pages)) layout
       → IsFresh l.bound l.folding

@@ -1,6 +1,5 @@
 use Rattle.std.proofs.Common.{ℕ, List, [], ◌∷◌, ◌++◌, length, take, get_or, ap, sym, subst, arith}
 use Rattle.std.specs.List.{AllZip}
-use Rattle.std.proofs.lemmas.List.{length-append}
 use Rattle.std.proofs.lemmas.Slice.Zip.{all_zipped_more}
 use Rattle.ts_page.specs.declared.page.Page.{Page}
 use Rattle.ts_aggregate.specs.declared.series_pages.Stack.{Stack}
@@ -24,7 +23,7 @@ returns-in_default-clause-stacks g c =
     let x = view c.args.defs.now.definitions c.args.space.now (g.P.Pages.contents c.args.pages.now) in
     let passed = c.loop-passed.passed in
     let behind = c.in_ok-stack.ensures.behind in
-    stacks_still g.P.Pages.tells x c.args.from c.args.to c.loop-passed.held.items behind.0 c.stack_at.new.held.items (inside x.definitions c.args.container (take passed c.args.slots.now)) c.loop-passed.stacks.items behind.1 c.loop-passed.invariant.stacks
+    stacks_still g.P.Pages.tells x c.args.from c.args.to c.loop-passed.held behind.0 c.stack_at.new.held (inside x.definitions c.args.container (take passed c.args.slots.now)) c.loop-passed.stacks.items behind.1 c.loop-passed.invariant.stacks
 
 pub loop-passed-preserved : goal.loop-passed-preserved
 loop-passed-preserved g c =
@@ -41,22 +40,15 @@ loop-passed-preserved g c =
     let stack : Stack = c.in-Some.stack in
     let before : List Stack = c.loop-passed.stacks.items in
     let old = c.loop-passed.held in
-    let held : List Page = c.stack_at.new.held.items in
+    let held : List Page = c.stack_at.new.held in
     let behind = c.in_ok-stack.ensures.behind in
     let Is : ℕ → Stack → Type 0 = IsStackOf tells (view d space u) c.args.from c.args.to held in
     let own = stack_same tells tt d space u v c.args.from c.args.to held slot stack so_far.call (rw c.in-Some.is at c.in_ok-stack.ensures.stack) in
-    let others = stacks_still tells (view d space u) c.args.from c.args.to old.items behind.0 held (inside d c.args.container (take passed slots)) before behind.1 so_far.stacks in
+    let others = stacks_still tells (view d space u) c.args.from c.args.to old behind.0 held (inside d c.args.container (take passed slots)) before behind.1 so_far.stacks in
     let pushed = c.in_ok-push.ensures.items in
-    let room = behind.2 in
-    let long = ap (λ (ps : List Page). length ps) behind.1 in
-    let both = length-append old.items behind.0 in
-    let len = c.len-room.ensures in
-    let same = old.ok.0 in
-    let most = so_far.most in
     record {
       call = reads_as tells c.in_ok-stack.field-0 tt u w (then_reads tells tt c.in_ok-stack.field-0 u v w so_far.call c.in_ok-stack.ensures.call);
       undisturbed = g.met.P.Pages.«then» c.args.pages.now c.loop-passed.pages c.stack_at.new.pages so_far.undisturbed c.in_ok-stack.ensures.undisturbed;
-      most = omega (arith, room, long, both, len, same, most);
       stacks =
           subst (λ (ns : List ℕ). AllZip Is ns c.push.new.self.items) (sym (one_inside d c.args.container slots passed 0 c.loop-passed-test.true (sym c.if-not-stands_in.ensures)))
           (subst (λ (ss : List Stack). AllZip Is (inside d c.args.container (take passed slots) ++ slot ∷ []) ss) (sym pushed)

@@ -1,9 +1,8 @@
--- The pages stay, and the series of the container in the slots before an index have their stacks, whose pages are within the bound.
-use Rattle.std.proofs.Common.{◌≤◌, Ok, length, take}
+-- The pages stay, and the series of the container in the slots before an index have their stacks.
+use Rattle.std.proofs.Common.{Ok, take}
 use Rattle.std.specs.List.{AllZip}
 use Rattle.ts_irregular.specs.Call.{Reads}
 use Rattle.ts_answer.specs.View.{view}
-use Rattle.ts_elements.specs.declared.gathered.TheConstants.{MOST_PAGES}
 use Rattle.ts_elements.specs.Gathered.{inside, IsStackOf}
 use Rattle.ts_elements.proofs.gathered.gather.Given as goal
 
@@ -11,7 +10,6 @@ abbrev pub invariant-loop-passed : goal.invariant-loop-passed
 invariant-loop-passed g l = record {
   call : Reads {T = Unit {0}} g.P.Pages.tells (Ok tt) (g.P.Pages.contents l.fn.pages) (g.P.Pages.contents l.pages);
   undisturbed : g.P.Pages.undisturbed l.fn.pages l.pages;
-  most : length l.held.items ≤ MOST_PAGES;
-  stacks : AllZip (IsStackOf g.P.Pages.tells (view l.defs.definitions l.space (g.P.Pages.contents l.fn.pages)) l.from l.to l.held.items)
+  stacks : AllZip (IsStackOf g.P.Pages.tells (view l.defs.definitions l.space (g.P.Pages.contents l.fn.pages)) l.from l.to l.held)
       (inside l.defs.definitions l.container (take l.passed l.slots)) l.stacks.items;
 }

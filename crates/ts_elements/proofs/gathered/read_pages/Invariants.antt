@@ -8,5 +8,5 @@ abbrev pub invariant-loop-place : goal.invariant-loop-place
 invariant-loop-place g l = record {
   call : Reads {T = Unit {0}} g.P.Pages.tells (Ok tt) (g.P.Pages.contents l.fn.pages) (g.P.Pages.contents l.pages);
   undisturbed : g.P.Pages.undisturbed l.fn.pages l.pages;
-  read : AreRead g.P.Pages.tells (g.P.Pages.contents l.fn.pages).page (take l.place-index l.places) l.fn.held.items l.held.items;
+  read : AreRead g.P.Pages.tells (g.P.Pages.contents l.fn.pages).page (take l.place-index l.places) l.fn.held l.held;
 }

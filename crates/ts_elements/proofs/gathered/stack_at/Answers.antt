@@ -8,38 +8,41 @@ use Rattle.ts_elements.proofs.gathered.stack_at.Goals as goal
 pub read_pages-requires : goal.read_pages-requires
 read_pages-requires g c =
     let some = c.places_of_range-places in
-    let found = c.in_ok-shelf in
-    let columns = found.shelf.kind.now.columns in
+    let found = c.shelf_at-shape in
+    let columns = found.result.0.kind.now.columns in
     let places = places_of c.args.slot c.args.space.now in
-    let holds = subst (λ (ps : List Place). HoldRange found.shape columns c.args.from c.args.to ps some.result.now) c.places.ensures.ok some.ensures.holds in
-    record { readable = readable found.shape columns (g.P.Pages.contents c.args.pages.now) places some.result.now found.ensures.places holds.among }
+    let holds = subst (λ (ps : List Place). HoldRange found.result.1 columns c.args.from c.args.to ps some.result.now) c.places.ensures.ok some.ensures.holds in
+    let first = c.len-first.ensures in
+    let fits = c.if-places-first.false in
+    record {
+      readable = readable found.result.1 columns (g.P.Pages.contents c.args.pages.now) places some.result.now found.ensures.places holds.among;
+      room = omega (arith, first.value, first.few, fits);
+    }
 
 pub returns-clause-stack : goal.returns-clause-stack
 returns-clause-stack g c =
     let some = c.places_of_range-places in
-    let found = c.in_ok-shelf in
-    let columns = found.shelf.kind.now.columns in
+    let found = c.shelf_at-shape in
+    let columns = found.result.0.kind.now.columns in
     let tells = g.P.Pages.tells in
     let pages = (g.P.Pages.contents c.args.pages.now).page in
     let old = c.args.held.now in
-    let held = c.read_pages.new.held.items in
+    let held = c.read_pages.new.held in
     let read = c.in_ok-read_pages.ensures.read in
-    let long = read_within tells pages some.result.now old.items held read in
-    let len = c.len-first.ensures in
-    let same = old.ok.0 in
-    let begins : c.len-first.result ≡ length old.items = omega (arith, len, same) in
+    let long = read_within tells pages some.result.now old held read in
+    let len = c.len-first.ensures.value in
+    let begins : c.len-first.result ≡ length old = omega (arith, len) in
     record {
       series = found.ensures.slot;
       columns = found.ensures.columns;
       lies = found.ensures.lies;
       laid = found.ensures.laid;
-      holds = subst (λ (ps : List Place). HoldRange found.shape columns c.args.from c.args.to ps some.result.now) c.places.ensures.ok some.ensures.holds;
+      holds = subst (λ (ps : List Place). HoldRange found.result.1 columns c.args.from c.args.to ps some.result.now) c.places.ensures.ok some.ensures.holds;
       within = omega (arith, long, begins);
-      pages = own_pages tells pages some.result.now old.items held c.len-first.result begins read;
+      pages = own_pages tells pages some.result.now old held c.len-first.result begins read;
     }
 
 pub returns-clause-behind : goal.returns-clause-behind
 returns-clause-behind g c =
     let read = c.in_ok-read_pages.ensures.read in
-    let all = read.all in
-    (read.more, read.behind, omega (arith, all))
+    (read.more, read.behind)

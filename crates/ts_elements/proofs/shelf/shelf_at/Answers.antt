@@ -1,4 +1,4 @@
-use Rattle.std.proofs.Common.{sym, ◌∙◌}
+use Rattle.std.proofs.Common.{sym}
 use Rattle.ts_answer.specs.View.{view}
 use Rattle.ts_elements.proofs.MemoryLemmas.{defined_kept, shaped_kept, places_seen, room_in}
 use Rattle.ts_elements.proofs.SeenLemmas.{not_some}
@@ -14,11 +14,11 @@ unreachable-requires g c =
     let named = c.requires.named in
     not_some _ c.in_default.ensures.value (defined_kept x c.requires.seen.kept c.args.slot named.1.within named.0 named.1)
 
-pub unreachable-requires-in_default-2 : goal.unreachable-requires-in_default-2
-unreachable-requires-in_default-2 g c =
+pub unreachable-requires-in_default-shape_of : goal.unreachable-requires-in_default-shape_of
+unreachable-requires-in_default-shape_of g c =
     let x = view c.args.defs.now.definitions c.args._space.now (g.P.Pages.contents c.args._pages.now) in
     let named = c.requires.named in
-    not_some _ (sym c.in_default-2.is ∙ c.in_ok-shape.ensures) (shaped_kept x c.requires.seen.kept c.args.slot named.1.within named.0 named.1)
+    not_some _ c.in_default-shape_of.ensures (shaped_kept x c.requires.seen.kept c.args.slot named.1.within named.0 named.1)
 
 pub returns-clause-some : goal.returns-clause-some
 returns-clause-some g c =
@@ -29,4 +29,4 @@ returns-clause-some g c =
 pub returns-clause-places : goal.returns-clause-places
 returns-clause-places g c =
     let x = view c.args.defs.now.definitions c.args._space.now (g.P.Pages.contents c.args._pages.now) in
-    places_seen x c.requires.seen.kept c.args.slot c.requires.named.1.within c.in-Some.kind.now (sym c.in-Some.ensures.value) c.in-Some-2.shape (sym c.in_ok-shape.ensures ∙ c.in-Some-2.is)
+    places_seen x c.requires.seen.kept c.args.slot c.requires.named.1.within c.in-Some.kind.now (sym c.in-Some.ensures.value) c.in-Some-shape_of.shape (sym c.in-Some-shape_of.ensures)

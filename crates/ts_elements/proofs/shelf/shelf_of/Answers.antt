@@ -14,10 +14,10 @@ returns-in_err-slot-clause-tried g c l kept = fails c.in_err-slot.field-0.0 c.fr
 pub returns-clause-tried : goal.returns-clause-tried
 returns-clause-tried g c l kept =
     let x = view c.args.defs.now.definitions c.args.space.now (g.P.Pages.contents c.args.pages.now) in
-    let r = c.in_ok-found.found in
+    let r = c.shelf_at-found.result in
     let key = c.args.key.now in
-    let tried = shelf_tried x l kept key c.in_ok-slot.slot r.0.kind.now r.1 c.in_ok-found.ensures.columns c.in_ok-found.ensures.lies (c.in_ok-slot.ensures.tried _ l (defined_by kept)) in
+    let tried = shelf_tried x l kept key c.in_ok-slot.slot r.0.kind.now r.1 c.shelf_at-found.ensures.columns c.shelf_at-found.ensures.lies (c.in_ok-slot.ensures.tried _ l (defined_by kept)) in
     record {
-      ok = subst (λ (n : ℕ). (series : Series) × (wanted key (catalogue_of l).series ≡ Ok series) × IsShelfIn l key r.1 n r.0.kind.now series) (sym c.in_ok-found.ensures.slot) tried;
+      ok = subst (λ (n : ℕ). (series : Series) × (wanted key (catalogue_of l).series ≡ Ok series) × IsShelfIn l key r.1 n r.0.kind.now series) (sym c.shelf_at-found.ensures.slot) tried;
       err = tt;
     }

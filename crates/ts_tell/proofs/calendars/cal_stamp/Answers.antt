@@ -17,15 +17,15 @@ returns-in_err-counter c space count free l held = stops _ c.in_err-counter.fiel
 pub returns-in_default : goal.returns-in_default
 unfolding outcome carried_out find_start
 returns-in_default c space count free l held =
-    let number = ap (λ (n : ℤ). cal_stamp c.in_ok-counter.counter c.args.after (unsigned_abs n)) (to_z-of_z w64 c.args.count c.ranges.count) in
+    let number = ap (λ (n : ℤ). cal_stamp c.in_ok-counter.counter.now c.args.after (unsigned_abs n)) (to_z-of_z w64 c.args.count c.ranges.count) in
     let none : c.cal_stamp.result ≡ None = search rules in
-    found (λ plan. plan) _ c.in_ok-counter.counter (c.in_ok-counter.ensures count l (defined_by held))
+    found (λ x. x.now) _ c.in_ok-counter.counter (c.in_ok-counter.ensures count l (defined_by held))
     (stops _ (Refused PastEnd) refl (stamp_past _ (sym number ∙ sym c.cal_stamp.ensures.value ∙ none)))
 
 pub returns : goal.returns
 unfolding outcome carried_out find_start
 returns c space count free l held =
-    let number = ap (λ (n : ℤ). cal_stamp c.in_ok-counter.counter c.args.after (unsigned_abs n)) (to_z-of_z w64 c.args.count c.ranges.count) in
-    found (λ plan. plan) _ c.in_ok-counter.counter (c.in_ok-counter.ensures count l (defined_by held))
+    let number = ap (λ (n : ℤ). cal_stamp c.in_ok-counter.counter.now c.args.after (unsigned_abs n)) (to_z-of_z w64 c.args.count c.ranges.count) in
+    found (λ x. x.now) _ c.in_ok-counter.counter (c.in_ok-counter.ensures count l (defined_by held))
     (goes _ c.in-Some.stamp (stamp_there _ c.in-Some.stamp (sym number ∙ sym c.in-Some.ensures.value)) (λ stamp is.
     said_alone l c.args.out.now c.say_stamp.new.out _ _ c.requires.empty c.in_ok-say_stamp.ensures (ap stamp_line is)))

@@ -9,32 +9,37 @@ use Rattle.ts_aggregate.proofs.wanted.WantedIntervals.span_from.Goals as goal
 
 pub returns-then-is_on-clause-span : goal.returns-then-is_on-clause-span
 returns-then-is_on-clause-span c =
-    let plan : CalendarPlan = c.self.inside.calendar.now in
-    let wanted : WantedPlan = record { calendar = plan; from = c.self.inside.from; to = c.self.inside.to } in
+    let asked : CalendarPlan → WantedPlan = λ plan. record { calendar = plan; from = c.self.inside.from; to = c.self.inside.to } in
+    let plan : CalendarPlan = c.calendar-calendar.result.now in
+    let own : plan ≡ c.self.inside.counter.now = c.calendar-calendar.ensures in
+    let seen = ap asked own ∙ c.self.view_is in
+    let wanted : WantedPlan = asked plan in
     let k : ℤ = c.interval_around-interval.result in
     let e = c.interval_around-interval.ensures in
     let same : to_z w64 (of_z w64 k) ≡ k = omega (arith, ints, e.near) in
     let next : to_z w64 (of_z w64 (to_z w64 (of_z w64 k) +ℤ pos 1)) ≡ k +ℤ pos 1 = omega (arith, ints, e.near) in
     let on : is_on plan k ≡ true = sym (c.is_on.ensures ∙ ap (is_on plan) same) ∙ c.if-is_on.true in
     let start : c.asked.result ≡ asked_start wanted (start_at plan k) =
-    c.asked.ensures ∙ ap (λ (w : WantedPlan). asked_start w c.start_of.result) (sym c.self.view_is)
+    c.asked.ensures ∙ ap (λ (w : WantedPlan). asked_start w c.start_of.result) (sym seen)
     ∙ ap (asked_start wanted) (c.start_of.ensures ∙ ap (start_at plan) same) in
     let end : c.start_of-then-is_on.result ≡ start_at plan (k +ℤ pos 1) = c.start_of-then-is_on.ensures ∙ ap (start_at plan) next in
-    subst (λ (w : WantedPlan). IsSpan w c.args.stamp (record { start = c.asked.result; end = c.start_of-then-is_on.result })) c.self.view_is
+    subst (λ (w : WantedPlan). IsSpan w c.args.stamp (record { start = c.asked.result; end = c.start_of-then-is_on.result })) seen
     (subst (λ (o : Option ℤ). IsSpan wanted c.args.stamp (record { start = c.asked.result; end = o })) (sym end)
     (span_on wanted c.args.stamp k c.asked.result e.laid e.around on start))
 
 pub returns-clause-span : goal.returns-clause-span
 returns-clause-span c =
-    let plan : CalendarPlan = c.self.inside.calendar.now in
-    let wanted : WantedPlan = record { calendar = plan; from = c.self.inside.from; to = c.self.inside.to } in
+    let asked : CalendarPlan → WantedPlan = λ plan. record { calendar = plan; from = c.self.inside.from; to = c.self.inside.to } in
+    let plan : CalendarPlan = c.calendar-calendar.result.now in
+    let own : plan ≡ c.self.inside.counter.now = c.calendar-calendar.ensures in
+    let seen = ap asked own ∙ c.self.view_is in
+    let wanted : WantedPlan = asked plan in
     let k : ℤ = c.interval_around-interval.result in
     let e = c.interval_around-interval.ensures in
     let same : to_z w64 (of_z w64 k) ≡ k = omega (arith, ints, e.near) in
     let off : is_on plan k ≡ false = sym (c.is_on.ensures ∙ ap (is_on plan) same) ∙ c.if-is_on.false in
-    let own : c.self.inside.counter ≡ plan = c.self.invariant in
     let end : c.cal_stamp.result ≡ cal_stamp plan c.args.stamp 1 = c.cal_stamp.ensures.value
-    ∙ ap (λ (p : CalendarPlan). cal_stamp p c.args.stamp 1) own in
-    subst (λ (w : WantedPlan). IsSpan w c.args.stamp (record { start = None; end = c.cal_stamp.result })) c.self.view_is
+    ∙ ap (λ (p : CalendarPlan). cal_stamp p c.args.stamp 1) (sym own) in
+    subst (λ (w : WantedPlan). IsSpan w c.args.stamp (record { start = None; end = c.cal_stamp.result })) seen
     (subst (λ (o : Option ℤ). IsSpan wanted c.args.stamp (record { start = None; end = o })) (sym end)
     (span_off wanted c.args.stamp k e.laid e.stamp e.around off))

@@ -1,0 +1,26 @@
+use Rattle.std.proofs.Common.{◌+◌, ◌-◌, List, take, drop, arith}
+use Rattle.std.proofs.lemmas.Result.{IfOk-weaker}
+use Rattle.ts_row.specs.declared.kind.Column.{Column}
+use Rattle.ts_row.specs.RowType.{width_of}
+use Rattle.ts_regular.proofs.BytesLemmas.{cells_fit}
+use Rattle.ts_clip.proofs.RowRunLemmas.{cells_run, run_whole}
+use Rattle.ts_clip.proofs.grid_page_rows.rows_between.Goals as goal
+
+pub rows-requires-clause-whole : goal.rows-requires-clause-whole
+rows-requires-clause-whole g c =
+    let columns : List Column = c.args.kind.now.columns in
+    let fit = cells_fit columns c.args.stop c.requires.within in (
+      c.args.stop - c.args.first,
+      run_whole c.cell_size-size.result c.args.first c.args.stop c.requires.order (1 + width_of columns) c.args.behind.now (omega (arith, c.cell_size-size.ensures.value))
+          (omega (arith, fit, c.requires.size)),
+    )
+
+pub returns : goal.returns
+returns g c =
+    let columns : List Column = c.args.kind.now.columns in
+    let first = c.args.first in
+    let stop = c.args.stop in
+    IfOk-weaker c.rows.result _ _
+    (λ done took cells are room same.
+    took (take (stop - first) (drop first cells)) (cells_run columns c.cell_size-size.result first stop cells c.args.behind.now are c.requires.order (omega (arith, room, c.requires.within)) same c.cell_size-size.ensures.value))
+    c.rows.ensures.took

@@ -1,0 +1,21 @@
+use Rattle.std.proofs.Common.{◌≡◌, ◌∙◌, sym, ap, arith, to_z, of_z, w64, subst}
+use Rattle.jiff_core.proofs.SignedLemmas.{signed_casts}
+use Rattle.ts_calendar.specs.Intervals.{start_at, is_on}
+use Rattle.ts_offset.specs.Walk.{IsOnStart}
+use Rattle.ts_offset.proofs.StartLemmas.{first-at, at-around}
+use Rattle.ts_offset.proofs.grid.Grid.at.Goals as goal
+
+pub invariant_of-result : goal.invariant_of-result
+invariant_of-result c =
+    let plan = c.sums-sums.result.now.calendar in
+    let f = c.interval_around-first in
+    let w : IsOnStart plan c.args.origin = subst (λ p. IsOnStart p c.args.origin) (sym c.sums-sums.ensures) c.requires in
+    let here = at-around plan f.result w.interval c.args.origin f.ensures.laid f.ensures.around w.start in
+    let k = to_z w64 (of_z w64 f.result) in
+    let same : k ≡ f.result = omega (arith, signed_casts, f.ensures.near) in
+    let there = here ∙ sym same in
+    let start = ap (start_at plan) (sym there) ∙ w.start in (
+      first-at plan k c.args.origin f.ensures.laid (omega (arith, signed_casts, f.ensures.near), omega (arith, signed_casts, f.ensures.near)) start,
+      start,
+      ap (is_on plan) (sym there) ∙ w.on,
+    )
