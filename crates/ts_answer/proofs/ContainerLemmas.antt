@@ -1,6 +1,6 @@
 -- What AggregateAll lists: each series of a container, in the order of the keys.
-use Rattle.std.specs.Prelude.{All, AllPairs, Contains}
-use Rattle.std.proofs.Common.{◌≡◌, ℕ, zero, suc, ◌<◌, Bool, true, false, cond, T, Option, Some, None, option_and_then, option_map, unwrap_or, Ok, List, [], ◌∷◌, map, refl, sym, ap, subst, ◌∙◌, arith, inl, inr, ℤ}
+use Rattle.std.specs.Prelude.{All, AllPairs}
+use Rattle.std.proofs.Common.{◌≡◌, ℕ, Bool, true, false, cond, T, Option, Some, None, option_and_then, option_map, unwrap_or, Ok, List, [], ◌∷◌, map, refl, sym, ap, subst, ◌∙◌, arith, inl, inr, ℤ}
 use Rattle.std.proofs.lemmas.List.Elements.{All-nil, All-cons}
 use Rattle.std.proofs.lemmas.List.Kept.{AllPairs-cons, AllPairs-filter}
 use Rattle.std.specs.FinMap.{entries, entries_sorted, find, get, get-entries, is_sorted}
@@ -13,15 +13,14 @@ use Rattle.std.specs.Str.{bytes_eq}
 use Rattle.ts_row.specs.RowType.{Heading}
 use Rattle.ts_row.specs.declared.kind.Column.{Column}
 use Rattle.ts_row.specs.Row.{Row}
-use Rattle.ts_expr.specs.declared.item.Item.{Item}
 use Rattle.ts_expr.specs.Grammar.{read_list}
 use Rattle.ts_expr.specs.Binding.{Binding, binding}
 use Rattle.ts_command.specs.declared.command.Command.TheVariants as commands
 use Rattle.ts_model.specs.Catalogue.{Container, Series, Catalogue, name_cmp, columns_of, series_in}
 use Rattle.ts_model.proofs.OrderLemmas.{total, both, less, turned, eq_ties, ties-refl, ties-same}
-use Rattle.ts_answer.specs.Answer.{Answered, outcome, carried_out, known, wanted, scales_of, folded_range, columns_in, aggregate_all}
+use Rattle.ts_answer.specs.Answer.{outcome, carried_out, known, wanted, scales_of, folded_range, columns_in, aggregate_all}
 use Rattle.ts_answer.specs.Reply.{folded_text, series_folded_text}
-use Rattle.ts_answer.specs.AggregateLaws.{StandsIn, ListsContainer, ContainersAreListed}
+use Rattle.ts_answer.specs.AggregateLaws.{ContainersAreListed}
 use Rattle.ts_answer.proofs.RowLemmas.{Among, among_from, among_contains, among_filter, among_filtered, among_map, among_mapped, pairs_map}
 use Rattle.ts_answer.proofs.RangeLemmas.{range_says}
 use Rattle.ts_answer.proofs.TriedLemmas.{came, same_answer}

@@ -1,7 +1,7 @@
 -- The count of a column without NULLs is the number of the elements.
 use Rattle.std.specs.Prelude.{int_lt}
-use Rattle.std.proofs.Common.{◌≡◌, ℕ, Bool, true, false, cond, not, ◌&&◌, Some, Ok, List, [], ◌∷◌, length, map, filter, refl, sym, ap, ◌∙◌, arith, inl, inr, ℤ, pos}
-use Rattle.std.specs.FinMap.{entries, get}
+use Rattle.std.proofs.Common.{◌≡◌, ℕ, Bool, true, false, cond, not, ◌&&◌, Ok, List, [], ◌∷◌, length, map, filter, refl, ap, ◌∙◌, arith, inl, inr, pos}
+use Rattle.std.specs.FinMap.{entries}
 use Rattle.ts_row.specs.declared.value.Value.{Value}
 use Rattle.ts_row.specs.declared.value.Value.TheVariants.{Number}
 use Rattle.ts_row.specs.Row.{Values, Row, visible}
@@ -9,17 +9,16 @@ use Rattle.ts_row.specs.Element.{Element, seen}
 use Rattle.ts_chain.specs.Range.{is_within, within_range}
 use Rattle.ts_offset.specs.declared.shape.Shape.TheVariants as shapes
 use Rattle.ts_entry.specs.Entry.{Entry, filled}
-use Rattle.ts_entry.specs.Reading.{clipped, reading}
+use Rattle.ts_entry.specs.Reading.{reading}
 use Rattle.ts_expr.specs.declared.function.Function.{Function}
 use Rattle.ts_expr.specs.declared.function.Function.TheVariants.{Count}
 use Rattle.ts_expr.specs.declared.item.BoundItem.{BoundItem}
 use Rattle.ts_expr.specs.Fold.{is_null, value_at, values_of, made, folded}
-use Rattle.ts_command.specs.declared.command.Command.TheVariants as commands
-use Rattle.ts_model.specs.Catalogue.{Series, Catalogue, shape_of}
+use Rattle.ts_model.specs.Catalogue.{shape_of}
 use Rattle.ts_answer.specs.Answer.{Answered, Tried, outcome, carried_out, wanted, a_reading, scales_of, count_clip}
 use Rattle.ts_answer.specs.Reply.{count_line, folded_text}
-use Rattle.ts_answer.specs.AggregateLaws.{HaveValues, CountsAreOfElements}
-use Rattle.ts_answer.proofs.RowLemmas.{Among, among_filtered, between_true, not_false}
+use Rattle.ts_answer.specs.AggregateLaws.{CountsAreOfElements}
+use Rattle.ts_answer.proofs.RowLemmas.{Among, among_filtered, between_true}
 use Rattle.ts_answer.proofs.SeenLemmas.{seen_there}
 use Rattle.ts_answer.proofs.ClipLemmas.{reading_there}
 use Rattle.ts_answer.proofs.RangeLemmas.{rows_of, shown, folded_seen, range_says}

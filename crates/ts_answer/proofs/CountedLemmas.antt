@@ -1,10 +1,10 @@
 -- What ClipCount lists is part of what Clip lists.
 use Rattle.std.specs.Prelude.{int_lt, unsigned_abs}
-use Rattle.std.proofs.Common.{◌≡◌, ℕ, ◌-◌, Bool, cond, not, ◌&&◌, Some, Ok, List, [], ◌∷◌, length, map, filter, take, drop, refl, sym, ap, ◌∙◌, arith, inl, inr, ℤ, pos, ◌<ℤ◌, ◌≤ℤ◌}
+use Rattle.std.proofs.Common.{◌≡◌, ℕ, Bool, cond, not, ◌&&◌, Some, Ok, List, [], ◌∷◌, filter, take, refl, sym, ap, ◌∙◌, arith, inl, inr, ℤ, pos, ◌<ℤ◌, ◌≤ℤ◌}
 use Rattle.std.proofs.Math.Bool.{and-true}
 use Rattle.std.proofs.lemmas.Int.{ints}
 use Rattle.std.specs.FinMap.{entries, get}
-use Rattle.ts_row.specs.Element.{Element, seen}
+use Rattle.ts_row.specs.Element.{seen}
 use Rattle.ts_calendar.proofs.StampLemmas.{int_lt_yes, int_lt_no, int_lt-false}
 use Rattle.ts_command.specs.declared.command.Command.TheVariants as commands
 use Rattle.ts_irregular.specs.Edit.{last_of}
@@ -17,7 +17,7 @@ use Rattle.ts_entry.specs.Reading.{entry_at, is_reached, starts_to_last, reading
 use Rattle.ts_model.specs.Catalogue.{Series, Catalogue, columns_of, shape_of}
 use Rattle.ts_answer.specs.Answer.{Answered, outcome, carried_out, wanted, a_reading, clip_series, clip_counted}
 use Rattle.ts_answer.specs.Reply.{entries_text}
-use Rattle.ts_answer.specs.ReadingLaws.{IsReached, NoneBehind, NoneBefore, ListsPicked, CountedClipsAreParts}
+use Rattle.ts_answer.specs.ReadingLaws.{IsReached, NoneBehind, NoneBefore, CountedClipsAreParts}
 use Rattle.ts_answer.proofs.RowLemmas.{Among, among_filtered, among_mapped, not_false}
 use Rattle.ts_answer.proofs.SeenLemmas.{seen_there, reached_by}
 use Rattle.ts_answer.proofs.ClipLemmas.{few_rows, reading_there}

@@ -1,13 +1,13 @@
 -- What AggregateBy lists: a row for each on interval that holds an element which is seen.
 use Rattle.std.specs.Prelude.{AllPairs, Contains, int_lt, nat_lt}
-use Rattle.std.proofs.Common.{◌≡◌, ℕ, ◌<◌, Bool, true, false, not, ◌&&◌, Option, Some, None, Ok, List, [], ◌∷◌, length, map, get_or, refl, sym, ap, subst, ◌∙◌, arith, inl, ℤ, pos, ◌+ℤ◌, ◌-ℤ◌, ◌<ℤ◌, ◌≤ℤ◌}
+use Rattle.std.proofs.Common.{◌≡◌, ℕ, ◌<◌, Bool, true, not, ◌&&◌, Option, Some, None, Ok, List, [], ◌∷◌, length, map, get_or, refl, sym, ap, subst, ◌∙◌, arith, inl, ℤ, pos, ◌+ℤ◌, ◌-ℤ◌, ◌<ℤ◌, ◌≤ℤ◌}
 use Rattle.std.proofs.lemmas.Bool.{lt-ltb}
 use Rattle.std.proofs.lemmas.Int.{ints}
 use Rattle.std.proofs.lemmas.List.Kept.{AllPairs-filter}
 use Rattle.std.proofs.lemmas.Option.{slice_get-get_or}
 use Rattle.std.specs.FinMap.{get}
 use Rattle.ts_base.specs.Moment.{IsStamp}
-use Rattle.ts_row.specs.Row.{Values, Row, visible}
+use Rattle.ts_row.specs.Row.{Row, visible}
 use Rattle.ts_row.specs.Element.{Element}
 use Rattle.ts_calendar.specs.Plan.{CalendarPlan}
 use Rattle.ts_calendar.specs.Intervals.{IsLaid, IsBefore, start_at}
@@ -26,12 +26,10 @@ use Rattle.ts_expr.specs.Binding.{Binding, binding}
 use Rattle.ts_expr.specs.Fold.{folded, folded_row}
 use Rattle.ts_command.specs.declared.command.Command.TheVariants as commands
 use Rattle.ts_model.specs.Catalogue.{Series, Catalogue, columns_of}
-use Rattle.ts_answer.specs.Answer.{Answered, Tried, outcome, carried_out, wanted, a_calendar, seen_elements, scales_of, folded_range, aggregate_by}
+use Rattle.ts_answer.specs.Answer.{Answered, outcome, carried_out, wanted, a_calendar, seen_elements, scales_of, folded_range, aggregate_by}
 use Rattle.ts_answer.specs.Reply.{folded_text}
-use Rattle.ts_answer.specs.ReadingLaws.{IsSeenAt}
 use Rattle.ts_answer.specs.AggregateLaws.{AreSeenAt, AreFolded, IsFromTo, HoldsSeen, IsLastOf, SaysAsRange, HasStamps, ListsIntervals, IntervalsAreListed}
 use Rattle.ts_answer.proofs.RowLemmas.{Among, Rise, among_from, among_contains, among_place, place_among, among_filter, among_filtered, among_map, among_mapped, pairs_map, between_true, between_yes}
-use Rattle.ts_answer.proofs.SeenLemmas.{seen_there, there_seen}
 use Rattle.ts_answer.proofs.ClipLemmas.{few_rows}
 use Rattle.ts_answer.proofs.RangeLemmas.{chosen, range_folded, same_folded, range_says}
 use Rattle.ts_answer.proofs.TriedLemmas.{came, on_ok, same_answer, wanted-there}

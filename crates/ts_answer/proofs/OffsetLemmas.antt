@@ -1,6 +1,6 @@
 -- What GetNthElem and Lag list of a series on a grid, by offsets.
 use Rattle.std.specs.Prelude.{AllPairs, Contains, int_lt, unsigned_abs}
-use Rattle.std.proofs.Common.{◌≡◌, ℕ, Bool, true, false, cond, not, Option, Some, None, option_map, option_and_then, List, [], ◌∷◌, length, filter_map, map, slice_get, refl, sym, ap, subst, ◌∙◌, arith, inl, inr, ℤ, pos, negsuc, ◌-ℤ◌, ◌<ℤ◌, ◌≤ℤ◌}
+use Rattle.std.proofs.Common.{◌≡◌, ℕ, Bool, true, false, cond, not, Option, Some, None, option_map, option_and_then, List, [], ◌∷◌, length, filter_map, map, slice_get, refl, sym, ap, subst, ◌∙◌, arith, inl, inr, ℤ, pos, negsuc, ◌-ℤ◌, ◌<ℤ◌}
 use Rattle.std.proofs.lemmas.Int.{ints}
 use Rattle.std.proofs.lemmas.List.Kept.{AllPairs-filter}
 use Rattle.std.proofs.lemmas.Option.{slice_get-map, option_and_then_some, some_pair_parts}

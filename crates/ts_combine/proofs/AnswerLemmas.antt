@@ -1,6 +1,5 @@
 -- What a call answers of the rows that were gathered.
-use Rattle.std.proofs.Common.{◌≡◌, ◌∙◌, ◌⊎◌, inl, inr, ℕ, Bool, true, false, cond, ℤ, Option, Some, None, List, map, length, Result, Ok, Err, Vec, nat_lt, refl, sym, ap, subst}
-use Rattle.std.specs.Borrow.{Bor}
+use Rattle.std.proofs.Common.{◌≡◌, ◌∙◌, Bool, true, false, cond, ℤ, List, map, length, Result, Ok, Err, Vec, nat_lt, refl, sym, ap}
 use Rattle.std.proofs.lemmas.List.{length-map}
 use Rattle.ts_base.specs.declared.refusal.Refusal.{Refusal}
 use Rattle.ts_base.specs.declared.refusal.Refusal.TheVariants.{TooLarge}
@@ -16,10 +15,10 @@ use Rattle.ts_offset.specs.declared.shape.Shape.TheVariants.{Irregular, Regular}
 use Rattle.ts_offset.specs.Grid.{GridPlan}
 use Rattle.ts_offset.specs.Counting.{starts_between}
 use Rattle.ts_pattern.specs.declared.junction.Junction.{Junction}
-use Rattle.ts_combine.specs.Combine.{Side, every_start, joined_on, joined_of, joined_there, joined}
+use Rattle.ts_combine.specs.Combine.{Side, every_start, joined_on, joined_of, joined}
 use Rattle.ts_combine.specs.Rows.{AnswersList}
 use Rattle.ts_combine.specs.Call.{AnswersRows, HaveNoGrid}
-use Rattle.ts_combine.specs.Reach.{IsOnCalendar, LiesOn, rows_held}
+use Rattle.ts_combine.specs.Reach.{IsOnCalendar, rows_held}
 
 -- a bound on a list holds of the list that it is mapped to
 within-map : {T : Type 0} (row : T → Element) (all : List T) → within_rows (map row all) ≡ cond (nat_lt most_rows (length all)) (Err (TooLarge (length all))) (Ok (map row all))

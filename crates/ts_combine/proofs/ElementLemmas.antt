@@ -1,5 +1,5 @@
 -- Elements in order of their stamps, by their indices.
-use Rattle.std.proofs.Common.{◌≡◌, ◌∙◌, ℕ, zero, suc, ◌<◌, Bool, true, false, cond, ℤ, ◌<ℤ◌, ◌≤ℤ◌, Some, None, IsSome, List, [], ◌∷◌, filter, slice_get, refl, sym, ap, subst, arith}
+use Rattle.std.proofs.Common.{◌≡◌, ◌∙◌, ℕ, zero, suc, ◌<◌, Bool, true, false, cond, ℤ, ◌<ℤ◌, Some, List, [], ◌∷◌, filter, slice_get, sym, ap, subst, arith}
 use Rattle.std.proofs.lemmas.Int.{by_lt_z, ints}
 use Rattle.std.proofs.lemmas.Option.{same_Some}
 use Rattle.ts_row.specs.Row.{Row}
@@ -9,7 +9,7 @@ use Rattle.ts_irregular.specs.Edit.{element_at}
 use Rattle.ts_irregular.proofs.EditLemmas.{AreRising-tail, element_at-lower, element_at-higher, element_at-same}
 use Rattle.ts_calendar.specs.Plan.{CalendarPlan}
 use Rattle.ts_offset.specs.Walk.{IsOnStart, on_starts}
-use Rattle.ts_offset.specs.Grid.{GridPlan, stamp_of}
+use Rattle.ts_offset.specs.Grid.{GridPlan}
 use Rattle.ts_offset.specs.declared.shape.Shape.{Shape}
 use Rattle.ts_offset.specs.declared.shape.Shape.TheVariants.{Irregular, Regular}
 use Rattle.ts_offset.proofs.ListedLemmas.{start-listed}

@@ -1,11 +1,9 @@
 -- Which starts of a line an interval of a calendar holds.
-use Rattle.std.proofs.Common.{◌≡◌, ◌∙◌, sym, ap, subst, arith, ℤ, pos, ◌+ℤ◌, ◌≤ℤ◌, ◌<ℤ◌, Some, None}
+use Rattle.std.proofs.Common.{◌≡◌, ◌∙◌, sym, subst, arith, ℤ, pos, ◌+ℤ◌, ◌≤ℤ◌, ◌<ℤ◌, Some, None}
 use Rattle.std.proofs.lemmas.Int.{by_lt_z, ints}
 use Rattle.std.proofs.lemmas.Option.{same_Some}
-use Rattle.ts_base.specs.Moment.{IsStamp}
 use Rattle.ts_calendar.specs.Plan.{CalendarPlan}
-use Rattle.ts_calendar.specs.Intervals.{IsLaid, IsAround, IsBefore, start_at}
-use Rattle.ts_calendar.proofs.LawLemmas.{starts-around}
+use Rattle.ts_calendar.specs.Intervals.{IsLaid, IsBefore, start_at}
 use Rattle.ts_offset.specs.Walk.{IsFirstFrom, IsOnStart}
 use Rattle.ts_offset.specs.Grid.{held_start}
 use Rattle.ts_offset.proofs.StartLemmas.{IsAt, on-line, at-around}

@@ -1,5 +1,5 @@
 -- Elements at on starts so many behind their own are what stands there so many on starts earlier.
-use Rattle.std.proofs.Common.{◌≡◌, ◌∙◌, ℕ, zero, suc, ◌+◌, ◌-◌, ◌<◌, ◌≤◌, Bool, true, false, ◌&&◌, not, cond, inl, inr, ℤ, pos, ◌+ℤ◌, ◌-ℤ◌, ◌<ℤ◌, ◌≤ℤ◌, unsigned_abs, nat_le, Option, Some, None, option_map, option_and_then, unwrap_or, List, [], ◌∷◌, length, filter, filter_map, slice_get, refl, sym, ap, subst, arith}
+use Rattle.std.proofs.Common.{◌≡◌, ◌∙◌, ℕ, zero, suc, ◌-◌, ◌<◌, ◌≤◌, Bool, true, false, ◌&&◌, not, cond, inl, inr, ℤ, pos, ◌+ℤ◌, ◌-ℤ◌, ◌<ℤ◌, ◌≤ℤ◌, unsigned_abs, nat_le, Option, Some, None, option_map, option_and_then, unwrap_or, List, [], ◌∷◌, length, filter, filter_map, slice_get, refl, sym, ap, subst, arith}
 use Rattle.std.specs.Prelude.{int_lt}
 use Rattle.std.proofs.lemmas.Bool.{cases_lt}
 use Rattle.std.proofs.lemmas.Bool.Decides.{nat_tests}
@@ -14,10 +14,10 @@ use Rattle.ts_calendar.specs.Intervals.{IsLaid}
 use Rattle.ts_calendar.proofs.StampLemmas.{int_lt_yes, int_lt_no, int_lt-false}
 use Rattle.ts_offset.specs.Walk.{on_starts}
 use Rattle.ts_offset.specs.Grid.{GridPlan, starts_before, starts_of, stamp_of}
-use Rattle.ts_combine.specs.Lag.{from_origin, start_before, lagged_at}
+use Rattle.ts_combine.specs.Lag.{from_origin, lagged_at}
 use Rattle.ts_combine.specs.Series.{IsStartOf}
-use Rattle.ts_combine.specs.Moved.{up_to, offset_behind, start_behind, moved, last_offset}
-use Rattle.ts_combine.proofs.RisingLemmas.{IsOneOf, AreRisen, AreRisenBy, same-risen, risen-kept, risen-given, kept-one, one-kept, one-given, given-one, one-at, at-one, risen-at, count-below, starts-risen}
+use Rattle.ts_combine.specs.Moved.{up_to, moved, last_offset}
+use Rattle.ts_combine.proofs.RisingLemmas.{IsOneOf, AreRisen, same-risen, risen-kept, risen-given, kept-one, one-kept, one-given, given-one, one-at, at-one, risen-at, count-below, starts-risen}
 use Rattle.ts_combine.proofs.OrderLemmas.{rising-risen}
 use Rattle.ts_combine.proofs.ElementLemmas.{found-there, there-found}
 

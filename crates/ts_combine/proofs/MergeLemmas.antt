@@ -1,5 +1,5 @@
 -- The rows of two lists of elements, one stamp after the other.
-use Rattle.std.proofs.Common.{◌≡◌, ◌∙◌, ℕ, ◌+◌, ◌≤◌, ◌<◌, Bool, true, false, cond, ℤ, ◌<ℤ◌, ◌≤ℤ◌, Option, Some, None, List, [], ◌∷◌, ◌++◌, map, filter, filter_map, length, drop, refl, sym, ap, arith}
+use Rattle.std.proofs.Common.{◌≡◌, ◌∙◌, Bool, true, false, cond, ℤ, ◌<ℤ◌, Option, Some, None, List, [], ◌∷◌, ◌++◌, map, filter, filter_map, refl, ap, arith}
 use Rattle.std.specs.List.{cons_option}
 use Rattle.std.specs.FinMap.{entries}
 use Rattle.std.proofs.lemmas.Int.{ints}

@@ -1,9 +1,9 @@
 -- The walk over two lists of elements: what was gathered, and what is left.
-use Rattle.std.proofs.Common.{◌≡◌, ◌∙◌, ℕ, zero, suc, ◌+◌, ◌≤◌, ◌<◌, ◌^◌, Bool, true, false, cond, ℤ, Option, Some, None, IsSome, option_map, is_some, ◌⊎◌, inl, inr, List, [], ◌∷◌, ◌++◌, map, length, drop, refl, sym, ap, subst, arith, slice_get, All}
+use Rattle.std.proofs.Common.{◌≡◌, ◌∙◌, ℕ, zero, suc, ◌+◌, ◌≤◌, ◌<◌, Bool, true, false, cond, ℤ, Option, Some, None, IsSome, option_map, is_some, ◌⊎◌, inl, inr, List, [], ◌∷◌, ◌++◌, map, length, drop, refl, sym, ap, subst, arith, slice_get, All}
 use Rattle.std.specs.Prelude.{◌&&◌, ◌||◌}
 use Rattle.std.specs.List.{cons_option}
 use Rattle.std.proofs.lemmas.List.{append-nil, append_assoc, map-append, drop_more, drop_all, length-map}
-use Rattle.std.proofs.lemmas.List.Elements.{All-push, All-nil}
+use Rattle.std.proofs.lemmas.List.Elements.{All-push}
 use Rattle.std.proofs.lemmas.Option.{slice_get-map, slice_get_within, get_or_from_slice_get, same_Some}
 use Rattle.ts_row.specs.declared.row.Elem.{Elem}
 use Rattle.ts_row.specs.Row.{Row, visible}
@@ -12,7 +12,7 @@ use Rattle.ts_cells.specs.IrregularPage.{AreRising}
 use Rattle.ts_irregular.proofs.EditLemmas.{AreRising-tail}
 use Rattle.ts_pattern.specs.declared.junction.Junction.{Junction}
 use Rattle.ts_pattern.specs.declared.junction.Junction.TheVariants.{And, Or}
-use Rattle.ts_combine.specs.Combine.{Side, is_in, is_kept, joined_at, values_or_nulls, rows_there}
+use Rattle.ts_combine.specs.Combine.{Side, is_in, is_kept, values_or_nulls, rows_there}
 use Rattle.ts_combine.specs.Series.{elements_in, side_of}
 use Rattle.ts_combine.specs.Rows.{Gathers}
 use Rattle.ts_combine.specs.Call.{row_at, joined_row, HasElements, GathersJoined, IsIndex}

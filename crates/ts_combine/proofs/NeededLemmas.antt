@@ -1,13 +1,12 @@
 -- Elements outside a range play no part in what is joined in it.
-use Rattle.std.proofs.Common.{◌≡◌, ◌∙◌, ℕ, Bool, true, false, ◌&&◌, not, cond, ℤ, pos, ◌+ℤ◌, ◌<ℤ◌, ◌≤ℤ◌, Option, Some, None, option_and_then, Result, Ok, Err, List, [], ◌∷◌, ◌++◌, map, filter, filter_map, slice_get, refl, sym, ap, subst, arith}
+use Rattle.std.proofs.Common.{◌≡◌, ◌∙◌, ℕ, Bool, true, false, ◌&&◌, not, cond, ℤ, pos, ◌+ℤ◌, ◌<ℤ◌, ◌≤ℤ◌, Option, Some, None, option_and_then, Result, Ok, Err, List, [], ◌∷◌, ◌++◌, map, filter, filter_map, refl, sym, ap, arith}
 use Rattle.std.specs.Prelude.{int_lt}
 use Rattle.std.specs.List.{cons_option}
 use Rattle.std.specs.Ordering.{int_cmp}
 use Rattle.std.specs.Cmp.{int_cmp_total}
-use Rattle.std.specs.declared.cmp.Ordering.TheVariants.{Equal}
-use Rattle.std.specs.FinMap.{entries, entries_sorted, from_entries, get-entries, get-from_entries, int_cmp-IsAntisymmetric}
-use Rattle.std.specs.FinMap.Entries.{find, find-where_key, is_sorted-where_key, same_entries, where_key}
-use Rattle.std.proofs.lemmas.Bool.{and_parts, cases_Bool}
+use Rattle.std.specs.FinMap.{entries, entries_sorted, get-entries, get-from_entries, int_cmp-IsAntisymmetric}
+use Rattle.std.specs.FinMap.Entries.{find-where_key, is_sorted-where_key, same_entries}
+use Rattle.std.proofs.lemmas.Bool.{and_parts}
 use Rattle.std.proofs.lemmas.Int.{by_lt_z, ints}
 use Rattle.std.proofs.lemmas.List.Elements.{filter-append}
 use Rattle.std.proofs.lemmas.Option.{same_Some}
@@ -25,13 +24,12 @@ use Rattle.ts_calendar.specs.declared.grid.CommonGrid.{CommonGrid}
 use Rattle.ts_calendar.proofs.StampLemmas.{int_lt_no, int_lt-false}
 use Rattle.ts_offset.specs.Grid.{GridPlan, held_start, stamp_of, starts_of, starts_before, offset_at, offset_of}
 use Rattle.ts_offset.specs.Walk.{on_starts}
-use Rattle.ts_offset.specs.Counting.{starts_between}
 use Rattle.ts_offset.specs.declared.shape.Shape.{Shape}
 use Rattle.ts_offset.specs.declared.shape.Shape.TheVariants.{Irregular, Regular}
 use Rattle.ts_offset.proofs.OwnLemmas.{held-from, from-held}
 use Rattle.ts_pattern.specs.declared.junction.Junction.{Junction}
-use Rattle.ts_combine.specs.Combine.{Side, by_stamp, is_in, merged_stamps, stamps_between, every_start, row_around, joined_at, joined_on, joined_there, joined_of, joined, rows_there}
-use Rattle.ts_combine.specs.Series.{IsStartOf, AreOnStarts, IsSeries, IsLaidOut, IsBeforeHeld, IsEnough, side_within}
+use Rattle.ts_combine.specs.Combine.{Side, by_stamp, is_in, merged_stamps, stamps_between, every_start, row_around, joined_at, joined_on, joined_there, joined_of, joined}
+use Rattle.ts_combine.specs.Series.{IsStartOf, AreOnStarts, IsSeries, IsLaidOut, IsEnough, side_within}
 use Rattle.ts_combine.proofs.RisingLemmas.{risen-kept, kept-one, one-at}
 use Rattle.ts_combine.proofs.OrderLemmas.{rising-risen, risen-rising}
 

@@ -1,12 +1,12 @@
 -- Elements that are later than a stamp, and the map that elements make.
-use Rattle.std.proofs.Common.{◌≡◌, ◌∙◌, ℤ, ◌<ℤ◌, ◌≤ℤ◌, None, List, [], ◌∷◌, ◌++◌, map, refl, sym, ap, arith}
+use Rattle.std.proofs.Common.{◌≡◌, ◌∙◌, ℤ, ◌<ℤ◌, None, List, [], ◌∷◌, ◌++◌, map, refl, sym, ap, arith}
 use Rattle.std.specs.Ordering.{int_cmp}
 use Rattle.std.specs.Cmp.{int_cmp_is, int_cmp_total}
 use Rattle.std.specs.declared.cmp.Ordering.{Ordering}
 use Rattle.std.specs.declared.cmp.Ordering.TheVariants.{Less, Equal, Greater}
-use Rattle.std.specs.FinMap.{FinMap, put, entries, empty, from_entries, entries-insert, len-entries, len-empty}
+use Rattle.std.specs.FinMap.{put, entries, empty, entries-insert, len-entries, len-empty}
 use Rattle.std.specs.FinMap.Entries.{by_order}
-use Rattle.std.proofs.lemmas.Int.{by_lt_z, ints}
+use Rattle.std.proofs.lemmas.Int.{ints}
 use Rattle.std.proofs.lemmas.List.{nil_from_length}
 use Rattle.ts_row.specs.Row.{Row}
 use Rattle.ts_row.specs.Element.{Element}

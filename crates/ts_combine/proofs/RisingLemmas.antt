@@ -7,7 +7,7 @@ use Rattle.ts_calendar.specs.Intervals.{IsLaid}
 use Rattle.ts_calendar.specs.First.{reach, near_count}
 use Rattle.ts_calendar.proofs.StampLemmas.{int_lt_yes, int_lt_no}
 use Rattle.ts_calendar.proofs.LawLemmas.{starts-rise}
-use Rattle.std.proofs.lemmas.Int.{by_lt_z, ints}
+use Rattle.std.proofs.lemmas.Int.{ints}
 use Rattle.std.proofs.lemmas.Option.{same_Some}
 use Rattle.ts_offset.specs.Walk.{numbers_from, on_start, on_starts}
 use Rattle.ts_offset.proofs.ListLemmas.{taken-zero, taken-suc}

@@ -1,23 +1,20 @@
 -- A line that is gone along: the rows of its starts so far.
-use Rattle.std.proofs.Common.{◌≡◌, ◌∙◌, ℕ, zero, suc, ◌+◌, ◌-◌, ◌<◌, ◌≤◌, Bool, true, false, cond, ◌⊎◌, inl, inr, ℤ, pos, ◌+ℤ◌, ◌-ℤ◌, ◌≤ℤ◌, ◌<ℤ◌, unsigned_abs, Option, Some, None, is_some, option_map, List, [], ◌∷◌, ◌++◌, All, length, map, filter_map, slice_get, refl, sym, ap, subst, arith}
+use Rattle.std.proofs.Common.{◌≡◌, ◌∙◌, ℕ, zero, suc, ◌+◌, ◌-◌, ◌<◌, ◌≤◌, Bool, true, false, cond, ◌⊎◌, inl, inr, ℤ, pos, ◌+ℤ◌, ◌≤ℤ◌, ◌<ℤ◌, Option, Some, None, is_some, option_map, List, [], ◌∷◌, ◌++◌, All, length, map, filter_map, slice_get, refl, sym, ap, subst, arith}
 use Rattle.std.specs.List.{cons_option}
-use Rattle.std.proofs.lemmas.Bool.{cases_lt}
 use Rattle.std.proofs.lemmas.Int.{by_lt_z, ints}
-use Rattle.std.proofs.lemmas.List.{append-nil, map-append, length-map}
+use Rattle.std.proofs.lemmas.List.{map-append}
 use Rattle.std.proofs.lemmas.List.Elements.{All-append, All-nil, All-map, filter_map-append}
-use Rattle.std.proofs.lemmas.Option.{slice_get-map, slice_get-get_or}
 use Rattle.ts_row.specs.declared.row.Elem.{Elem}
-use Rattle.ts_row.specs.Row.{Row, visible}
+use Rattle.ts_row.specs.Row.{visible}
 use Rattle.ts_row.specs.Element.{Element}
 use Rattle.ts_calendar.specs.Plan.{CalendarPlan}
 use Rattle.ts_calendar.specs.Intervals.{start_at}
-use Rattle.ts_offset.specs.Walk.{gap, numbers_from}
+use Rattle.ts_offset.specs.Walk.{gap}
 use Rattle.ts_offset.proofs.ListLemmas.{taken-zero, taken-suc, taken-append}
 use Rattle.ts_offset.proofs.WindowLemmas.{gap-none}
 use Rattle.ts_offset.proofs.CountLemmas.{gap-le}
 use Rattle.ts_pattern.specs.declared.junction.Junction.{Junction}
-use Rattle.ts_pattern.specs.declared.junction.Junction.TheVariants.{And, Or}
-use Rattle.ts_combine.specs.Combine.{Side, is_kept, joined_at, values_or_nulls}
+use Rattle.ts_combine.specs.Combine.{is_kept, joined_at, values_or_nulls}
 use Rattle.ts_combine.specs.Series.{elements_in, side_of, IsSeries}
 use Rattle.ts_combine.specs.Rows.{Gathers}
 use Rattle.ts_combine.specs.Call.{row_at, joined_row, IsIndex, HasElements, GathersJoined}

@@ -1,9 +1,8 @@
 -- The reach of an element while a line is gone along, and the row that is held there.
-use Rattle.std.proofs.Common.{◌≡◌, ◌∙◌, ◌⊎◌, inl, inr, ℕ, zero, suc, ◌+◌, ◌<◌, ◌≤◌, Bool, true, false, cond, ℤ, ◌<ℤ◌, ◌≤ℤ◌, Option, Some, None, IsSome, option_map, List, [], ◌∷◌, option_and_then, length, slice_get, refl, sym, ap, subst, arith}
+use Rattle.std.proofs.Common.{◌≡◌, ◌∙◌, inl, inr, ℕ, zero, suc, ◌+◌, ◌<◌, ◌≤◌, Bool, true, false, cond, ℤ, ◌<ℤ◌, ◌≤ℤ◌, Option, Some, None, option_map, List, [], ◌∷◌, option_and_then, length, slice_get, refl, sym, ap, subst, arith}
 use Rattle.std.specs.Prelude.{int_lt, not, ◌&&◌}
 use Rattle.std.proofs.lemmas.Bool.{cases_lt}
 use Rattle.std.proofs.lemmas.Int.{by_lt_z, ints}
-use Rattle.std.proofs.lemmas.List.{length-map}
 use Rattle.std.proofs.lemmas.Option.{same_Some, slice_get-map, slice_get_within}
 use Rattle.ts_row.specs.declared.row.Elem.{Elem}
 use Rattle.ts_row.specs.Row.{Row}
@@ -17,7 +16,6 @@ use Rattle.ts_offset.specs.Grid.{held_start}
 use Rattle.ts_offset.proofs.OwnLemmas.{from-held}
 use Rattle.ts_combine.specs.Series.{elements_in, side_of, IsSeries}
 use Rattle.ts_combine.specs.Call.{row_at, IsIndex}
-use Rattle.ts_combine.specs.Line.{AreHeldFrom}
 use Rattle.ts_combine.specs.Reach.{IsOnCalendar, IsReach, IsNext, row_held, reach_end, index_at}
 use Rattle.ts_combine.specs.declared.reach.Reach.{Reach}
 use Rattle.ts_combine.specs.declared.side.Side as given

@@ -1,5 +1,5 @@
 -- A series on a grid against itself so many on starts earlier.
-use Rattle.std.specs.Prelude.{ℕ, ℤ, pos, ◌-ℤ◌, int_lt, unsigned_abs, if◌then◌else◌, Option, Some, None, option_map, option_and_then, Result, Ok, Err, List, filter_map}
+use Rattle.std.specs.Prelude.{ℕ, ℤ, pos, ◌-ℤ◌, int_lt, unsigned_abs, if◌then◌else◌, Option, Some, None, option_map, option_and_then, Result, Err, List, filter_map}
 use Rattle.ts_base.specs.declared.refusal.Refusal.{Refusal}
 use Rattle.ts_base.specs.declared.refusal.Refusal.TheVariants.{NotRegular}
 use Rattle.ts_offset.specs.Grid.{GridPlan, starts_before, stamp_of}

@@ -1,5 +1,5 @@
 -- Starts of intervals one after the other, and those that an interval of another calendar holds.
-use Rattle.std.specs.Prelude.{◌≡◌, ℕ, ℤ, ◌<ℤ◌, ◌≤ℤ◌, Option, Some, None, IsSome, List, filter_map}
+use Rattle.std.specs.Prelude.{◌≡◌, ℕ, ℤ, ◌<ℤ◌, ◌≤ℤ◌, Some, IsSome, List, filter_map}
 use Rattle.ts_calendar.specs.Plan.{CalendarPlan}
 use Rattle.ts_calendar.specs.Intervals.{start_at}
 use Rattle.ts_offset.specs.Walk.{numbers_from, gap}

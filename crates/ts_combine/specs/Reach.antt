@@ -12,7 +12,7 @@ use Rattle.ts_offset.specs.declared.shape.Shape.{Shape}
 use Rattle.ts_offset.specs.declared.shape.Shape.TheVariants.{Irregular, Regular}
 use Rattle.ts_pattern.specs.declared.junction.Junction.{Junction}
 use Rattle.ts_combine.specs.Combine.{Side, joined_at}
-use Rattle.ts_combine.specs.Line.{AreHeldFrom, starts_up_to}
+use Rattle.ts_combine.specs.Line.{AreHeldFrom}
 use Rattle.ts_combine.specs.declared.joined.Joined.{Joined}
 use Rattle.ts_combine.specs.declared.reach.Reach.{Reach}
 

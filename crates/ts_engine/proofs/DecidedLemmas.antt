@@ -1,5 +1,5 @@
 -- What was decided or said on a command of one case, said of the command that was given.
-use Rattle.std.proofs.Common.{◌≡◌, ℕ, ◌+◌, ◌<◌, ◌≤◌, ◌^◌, ℤ, pos, negsuc, neg_ℤ, ◌≤ℤ◌, unsigned_abs, Bool, true, Option, Result, IfOk, List, ap, sym, ◌∙◌, subst, arith}
+use Rattle.std.proofs.Common.{◌≡◌, ℕ, ◌+◌, ◌<◌, ◌^◌, ℤ, pos, negsuc, neg_ℤ, ◌≤ℤ◌, unsigned_abs, Bool, true, Option, Result, IfOk, List, ap, sym, ◌∙◌, subst, arith}
 use Rattle.std.proofs.lemmas.Int.{ints}
 use Rattle.ts_base.specs.declared.fault.Trouble.{Trouble}
 use Rattle.ts_command.specs.declared.command.Command.{Command}

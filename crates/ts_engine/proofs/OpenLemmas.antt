@@ -1,5 +1,5 @@
 -- An opening: what it finds, and what a stop within it leaves.
-use Rattle.std.proofs.Common.{true, ◌≡◌, ◌≢◌, inl, ℕ, ◌+◌, ◌-◌, ◌<◌, ◌≤◌, Bool, IsTrue, Result, Ok, Err, IfErr, IsErrAnd, None, List, [], slice_index, length, get_or, IsPermutation, refl, ap, sym, ◌∙◌, subst, arith}
+use Rattle.std.proofs.Common.{◌≡◌, ◌≢◌, inl, ℕ, ◌+◌, ◌<◌, ◌≤◌, Bool, IsTrue, Result, Ok, Err, IfErr, IsErrAnd, None, List, [], slice_index, length, get_or, IsPermutation, refl, ap, sym, ◌∙◌, subst, arith}
 use Rattle.std.proofs.lemmas.List.Sorted.{IsPermutation-refl}
 use Rattle.ts_disk.specs.Device.{Device, Lawful, Only, Rose, LeavesOnly}
 use Rattle.ts_disk.proofs.Moments.{then_on, leaves_map}

@@ -1,5 +1,5 @@
 -- Elements by the on intervals of a calendar that hold their stamps.
-use Rattle.std.specs.Prelude.{◌≡◌, ◌&&◌, not, Bool, true, false, ℤ, int_lt, Option, Some, None, List, [], ◌∷◌, length, map, filter, nat_lt}
+use Rattle.std.specs.Prelude.{◌&&◌, not, Bool, false, ℤ, int_lt, Option, Some, None, List, length, map, filter, nat_lt}
 use Rattle.ts_row.specs.Row.{Row}
 use Rattle.ts_row.specs.Element.{Element}
 use Rattle.ts_calendar.specs.Plan.{CalendarPlan}

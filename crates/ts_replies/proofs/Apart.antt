@@ -1,5 +1,5 @@
 -- Replies that the memory line tells apart.
-use Rattle.std.proofs.Common.{◌≡◌, ◌∙◌, ℕ, List, [], ◌++◌, Some, None, ap, refl}
+use Rattle.std.proofs.Common.{◌≡◌, ◌∙◌, ℕ, List, [], ◌++◌, Some, ap, refl}
 use Rattle.ts_replies.specs.Acknowledged.{Protocol, behind, memory_line, AreApart, TellsApart}
 use Rattle.ts_replies.proofs.Behind.{none-front}
 

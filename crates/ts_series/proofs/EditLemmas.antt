@@ -1,6 +1,5 @@
 -- What an edit did, seen from pages that were the same before, and told by another kind of edit.
 use Rattle.std.proofs.Common.{◌≡◌, ℕ, ◌+◌, ◌-◌, ◌^◌, min, ◌≤◌, ℤ, Bool, IsTrue, None, IsSome, Result, Ok, Err, IfOk, Contains, IsPermutation, List, ◌++◌, length, sym, ap, ◌∙◌, subst, arith}
-use Rattle.ts_base.specs.declared.refusal.Refusal.TheVariants as refusals
 use Rattle.ts_base.specs.declared.fault.StoreFault.{StoreFault}
 use Rattle.ts_space.specs.declared.place.Place.{Place}
 use Rattle.ts_space.specs.Place.{pages_of}

@@ -1,5 +1,5 @@
 -- The generated commands behind an opening.
-use Rattle.std.proofs.Common.{◌≡◌, ◌⊎◌, inl, inr, ⊎_elim, ℕ, Bool, IsTrue, List, ◌++◌, take, Result, Ok, Err, sym, ◌∙◌, ap, subst, arith}
+use Rattle.std.proofs.Common.{◌≡◌, inl, inr, ⊎_elim, ℕ, Bool, IsTrue, List, ◌++◌, take, Result, Ok, Err, sym, ◌∙◌, ap, subst, arith}
 use Rattle.std.proofs.lemmas.List.{append-nil}
 use Rattle.ts_disk.specs.Device.{Device, Only, Rose, FirstSync, LeavesOnly}
 use Rattle.ts_disk.proofs.Moments.{first_map}

@@ -1,5 +1,5 @@
 -- One request: what is said, and what a stop within it leaves.
-use Rattle.std.proofs.Common.{◌≡◌, ◌⊎◌, inl, inr, ℕ, ◌≤◌, Bool, false, IsTrue, codes, List, [], ◌∷◌, ◌++◌, length, take, drop, Some, Result, Ok, Err, IsErr, refl, sym, ◌∙◌, ap, subst, arith, take-append-drop, IsErrOf}
+use Rattle.std.proofs.Common.{◌≡◌, ◌⊎◌, inl, inr, ℕ, ◌≤◌, Bool, false, IsTrue, codes, List, [], ◌∷◌, ◌++◌, take, drop, Some, Result, Ok, Err, IsErr, refl, sym, ◌∙◌, ap, subst, arith, take-append-drop, IsErrOf}
 use Rattle.std.specs.Fmt.{digits}
 use Rattle.std.proofs.lemmas.List.{append-nil}
 use Rattle.ts_disk.specs.Device.{Device, Lawful, Within, LeavesOnly, Says, Rose}

@@ -1,5 +1,5 @@
 -- One element after the other, with or without a start.
-use Rattle.std.proofs.Common.{◌≡◌, ◌∙◌, ◌+◌, ℤ, ℕ, to_z, of_z, w64, refl, length, filter_map, sym, ap, subst, arith}
+use Rattle.std.proofs.Common.{◌≡◌, ◌∙◌, ◌+◌, ℤ, ℕ, to_z, of_z, w64, refl, length, filter_map, sym, subst, arith}
 use Rattle.std.proofs.lemmas.Int.{ints}
 use Rattle.std.proofs.lemmas.Option.{slice_get_read}
 use Rattle.ts_combine.specs.Series.{elements_in}

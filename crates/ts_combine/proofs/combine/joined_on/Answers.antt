@@ -1,5 +1,5 @@
 -- The rows along the common line are those on the common grid.
-use Rattle.std.proofs.Common.{◌≡◌, ◌∙◌, inl, ℤ, List, Result, Ok, sym, ap, subst}
+use Rattle.std.proofs.Common.{◌∙◌, inl, ℤ, List, Result, sym, ap, subst}
 use Rattle.ts_row.specs.Element.{Element}
 use Rattle.ts_base.specs.declared.refusal.Refusal.{Refusal}
 use Rattle.ts_entry.specs.Reading.{within_rows}

@@ -1,8 +1,7 @@
 -- The starts of the common grid are those of one of the calendars, from the later start on.
-use Rattle.std.proofs.Common.{◌≡◌, ◌∙◌, ℤ, pos, ◌+ℤ◌, ◌-ℤ◌, ◌≤ℤ◌, to_z, of_z, w64, sym, ap, subst, arith}
+use Rattle.std.proofs.Common.{◌≡◌, ◌∙◌, ℤ, to_z, of_z, w64, sym, ap, subst, arith}
 use Rattle.std.specs.Int.{int_max}
 use Rattle.std.proofs.lemmas.Int.{ints}
-use Rattle.ts_calendar.specs.Line.{line_at}
 use Rattle.ts_calendar.proofs.JoinedLemmas.{grid-parts}
 use Rattle.ts_offset.specs.Walk.{IsFirstFrom}
 use Rattle.ts_combine.specs.Line.{starts_up_to, AllExist}

@@ -1,5 +1,5 @@
 -- The starts that are held begin at the stamp and end at the next interval's start, where there is one.
-use Rattle.std.proofs.Common.{◌≡◌, ◌∙◌, sym, ap, arith, ℤ, pos, ◌+ℤ◌, to_z, of_z, w64, subst, Some, None}
+use Rattle.std.proofs.Common.{◌≡◌, ◌∙◌, sym, ap, arith, ℤ, pos, ◌+ℤ◌, to_z, of_z, w64, subst}
 use Rattle.std.proofs.lemmas.Int.{ints}
 use Rattle.ts_calendar.specs.Intervals.{start_at}
 use Rattle.ts_calendar.proofs.LawLemmas.{starts-around}

@@ -1,5 +1,5 @@
 -- A stamp that is addressed, and one that isn't.
-use Rattle.std.proofs.Common.{◌≡◌, ◌∙◌, sym}
+use Rattle.std.proofs.Common.{◌∙◌, sym}
 use Rattle.ts_combine.proofs.NeededLemmas.{held-enough, off-enough}
 use Rattle.ts_combine.proofs.needed.held_or_own.Goals as goal
 

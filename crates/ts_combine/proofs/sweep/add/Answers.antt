@@ -1,5 +1,5 @@
 -- The rows of a stretch are as many as its starts, and are listed or passed over.
-use Rattle.std.proofs.Common.{◌≡◌, ◌∙◌, ◌++◌, [], Bool, cond, ℕ, List, sym, subst, arith, to_z-of_z}
+use Rattle.std.proofs.Common.{◌∙◌, ◌++◌, [], Bool, cond, ℕ, sym, subst, arith, to_z-of_z}
 use Rattle.std.proofs.lemmas.Int.{ints}
 use Rattle.ts_combine.specs.Rows.{Gathers}
 use Rattle.ts_combine.specs.Line.{starts_up_to, starts_of_next, AllExist}

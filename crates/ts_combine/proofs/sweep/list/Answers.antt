@@ -1,5 +1,5 @@
 -- Each start exists, and its row is listed.
-use Rattle.std.proofs.Common.{◌≡◌, ◌∙◌, ◌++◌, ℕ, ℤ, pos, ◌+ℤ◌, to_z, of_z, w64, sym, ap, subst, arith}
+use Rattle.std.proofs.Common.{◌≡◌, ◌∙◌, ◌++◌, ℕ, ℤ, pos, ◌+ℤ◌, to_z, of_z, w64, ap, subst, arith}
 use Rattle.std.proofs.lemmas.Int.{ints}
 use Rattle.ts_calendar.specs.Intervals.{start_at}
 use Rattle.ts_combine.specs.Rows.{Gathers}

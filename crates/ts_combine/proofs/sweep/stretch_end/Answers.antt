@@ -1,5 +1,5 @@
 -- A stretch that goes on ends by both reaches; where it doesn't, one of them is over.
-use Rattle.std.proofs.Common.{◌≡◌, ◌≤ℤ◌, ◌<ℤ◌, ◌⊎◌, inl, inr, sym, arith, to_z, of_z, w64, to_z-of_z}
+use Rattle.std.proofs.Common.{◌≡◌, inl, inr, arith, to_z-of_z}
 use Rattle.std.proofs.lemmas.Int.{ints}
 use Rattle.ts_combine.specs.Reach.{reach_end}
 use Rattle.ts_combine.proofs.sweep.stretch_end.Goals as goal

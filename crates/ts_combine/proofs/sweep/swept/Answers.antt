@@ -1,13 +1,11 @@
 -- A stretch of the line after the other.
-use Rattle.std.proofs.Common.{◌≡◌, ◌∙◌, ◌++◌, [], cond, ◌⊎◌, ℤ, ◌≤ℤ◌, ◌<ℤ◌, ◌<◌, ◌+◌, ◌^◌, Option, ℕ, List, to_z, of_z, w64, sym, ap, subst, arith}
+use Rattle.std.proofs.Common.{◌≡◌, ◌++◌, [], cond, ◌⊎◌, ℤ, ◌≤ℤ◌, ◌<ℤ◌, Option, ℕ, to_z, of_z, w64, subst, arith}
 use Rattle.std.proofs.lemmas.Int.{ints}
-use Rattle.ts_offset.specs.Walk.{gap}
 use Rattle.ts_offset.proofs.CountLemmas.{gap-le}
 use Rattle.ts_combine.specs.Combine.{is_kept}
 use Rattle.ts_combine.specs.Rows.{Gathers}
 use Rattle.ts_combine.specs.Line.{starts_up_to}
 use Rattle.ts_combine.specs.Reach.{reach_end, index_at, rows_with}
-use Rattle.ts_combine.specs.declared.joined.Joined.{Joined}
 use Rattle.ts_combine.proofs.SweptLemmas.{IsSwept, swept-first, swept-on, all-swept, sweep-ends}
 use Rattle.ts_combine.proofs.sweep.swept.Goals as goal
 use Rattle.ts_combine.proofs.sweep.swept.Goals.{After-stretch_end-end, After-next_reach-there}
