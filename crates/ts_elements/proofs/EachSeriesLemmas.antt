@@ -1,5 +1,5 @@
 -- What a list makes of each series of a container that is seen.
-use Rattle.std.proofs.Common.{◌≡◌, ℕ, ◌+◌, ◌<◌, ◌==◌, ℤ, Bool, true, cond, IsTrue, Option, Some, IsSome, Ok, List, [], ◌∷◌, ◌++◌, map, length, take, drop, get_or, refl, ap, sym, subst, ◌∙◌, arith, append_assoc, append-nil, length-append}
+use Rattle.std.proofs.Common.{◌≡◌, ℕ, ◌+◌, ◌<◌, ℤ, Bool, true, false, cond, IsTrue, Option, Some, None, IsSome, Ok, List, [], ◌∷◌, ◌++◌, map, length, take, drop, get_or, refl, ap, sym, subst, ◌∙◌, arith, append_assoc, append-nil, length-append}
 use Rattle.std.specs.List.{flat_map}
 use Rattle.std.specs.Option.{option_map, option_and_then, unwrap_or}
 use Rattle.std.proofs.lemmas.Bool.Decides.{nat_tests}
@@ -8,6 +8,7 @@ use Rattle.std.proofs.lemmas.List.Concat.{flat_map-append}
 use Rattle.ts_base.specs.declared.fault.Trouble.{Trouble}
 use Rattle.ts_command.specs.declared.command.Command.TheVariants.{AggregateAll}
 use Rattle.ts_row.specs.RowType.{Heading}
+use Rattle.ts_row.specs.declared.kind.Column.{Column}
 use Rattle.ts_row.specs.Row.{Row}
 use Rattle.ts_space.specs.Directory.{places_of}
 use Rattle.ts_chain.specs.Range.{within_range}
@@ -29,6 +30,7 @@ use Rattle.ts_answer.specs.Tried.{IsRefusedAs}
 use Rattle.ts_answer.specs.View.{View, Shows, KeepsRules}
 use Rattle.ts_answer.proofs.CallerLemmas.{on_ok, refused_as}
 use Rattle.ts_elements.specs.Aggregates.{folded_if, folded_at, folded_in, IsFresh, AreSaid}
+use Rattle.ts_elements.specs.Gathered.{stands_in}
 use Rattle.ts_elements.specs.Stamps.{IsLaidOut, IsTold}
 use Rattle.ts_elements.proofs.AggregateLemmas.{range_folded}
 use Rattle.ts_elements.proofs.InOrderLemmas.{made_in_order}
@@ -83,43 +85,48 @@ module _ (x : View) (kept : KeepsRules x) where
       let at = series_at (bare_of x) slot there.0 (bare_rules x kept) there.1 in
       (there.0.key, record { within = within; is = at.named })
 
+-- of a slot whose series doesn't stand in the container nothing is said
+pub outside_none : (b : Binding) (from to : ℤ) (l : Layout) (container slot : ℕ) (o : Option SeriesDef) → stands_in container o ≡ false → folded_if b from to l container slot o ≡ []
+outside_none b from to l container slot None is = refl
+outside_none b from to l container slot (Some s) is = ap (λ (t : Bool). cond t ((s.key, folded_range b from to (elements_at slot l.element_pages)) ∷ []) []) is
+
 -- none of a slot that has no series of the container
 pub none_said : (b : Binding) (rows : List (List ℕ × Row)) (out : List ℕ) → rows ≡ [] → AreSaid b rows out out 0
 none_said b rows out none =
     let line = series_folded_line (scales_of b) in
     record { lines = sym (append-nil out) ∙ ap (λ (rs : List (List ℕ × Row)). out ++ flat_map line rs) (sym none); number = ap (λ (rs : List (List ℕ × Row)). length rs) (sym none) }
 
+-- a series that stands in the container, and what is said of it
+pub stands_some : (container : ℕ) (o : Option SeriesDef) → stands_in container o ≡ true → (s : SeriesDef) × (o ≡ Some s) × (s.container ≡ container)
+stands_some container None is = absurd (cc)
+stands_some container (Some s) is = (s, refl, grind (arith, nat_tests))
+
+pub inside_one : (b : Binding) (from to : ℤ) (l : Layout) (container slot : ℕ) (o : Option SeriesDef) (key : List ℕ) (row : Row) → stands_in container o ≡ true → option_map (λ (s : SeriesDef). s.key) o ≡ Some key → row ≡ folded_range b from to (elements_at slot l.element_pages)
+    → folded_if b from to l container slot o ≡ (key, row) ∷ []
+inside_one b from to l container slot None key row is named made = absurd (cc)
+inside_one b from to l container slot (Some s) key row is named made =
+    let same : s.key ≡ key = cc in
+    ap (λ (t : Bool). cond t ((s.key, folded_range b from to (elements_at slot l.element_pages)) ∷ []) []) is ∙ (λ i. (same i, sym made i) ∷ [])
+
+-- the columns of the container of a series
+pub own_columns : (x : View) (container slot : ℕ) (h : Heading) → stands_in container (at_slot slot x.definitions.series) ≡ true → heading_at x.definitions slot ≡ Some h → (columns : List Column)
+    → option_map (λ (y : Heading). y.columns) (heading_in x.definitions container) ≡ Some columns → columns ≡ h.columns
+own_columns x container slot h stands is columns of =
+    let there = stands_some container (at_slot slot x.definitions.series) stands in
+    let at : heading_in x.definitions container ≡ Some h =
+    ap (λ (n : ℕ). heading_in x.definitions n) (sym there.2) ∙ sym (ap (option_and_then (λ (s : SeriesDef). heading_in x.definitions s.container)) there.1) ∙ is in
+    one_of (option_map (λ (y : Heading). y.columns) (heading_in x.definitions container)) columns h.columns of (ap (option_map (λ (y : Heading). y.columns)) at)
+
 -- the series in a slot of the container
 module _ (tells : Bool) (x : View) (l : Layout) (shape : Shape) (laid : IsLaidOut shape) (slot : ℕ) (h : Heading) (told : IsTrue tells) (shows : Shows tells x l) (columns : heading_at x.definitions slot ≡ Some h) (lies : shape_at x.definitions slot ≡ Some shape)
-    (within : slot < 4096) (container : ℕ) (key : List ℕ) (own : ℕ) (regular : Option (ℕ × ℤ)) (is : at_slot slot (slots kinds.Series x.definitions) ≡ Some (defs.Series key own regular)) (inside : own ≡ container)
+    (within : slot < 4096) (container : ℕ) (stands : stands_in container (at_slot slot x.definitions.series) ≡ true) (key : List ℕ) (named : option_map (λ (s : SeriesDef). s.key) (at_slot slot x.definitions.series) ≡ Some key)
     (b : Binding) (of : option_map (λ (y : Heading). y.columns) (heading_in x.definitions container) ≡ Some b.columns) where
-  abbrev there : (s : SeriesDef) × (at_slot slot x.definitions.series ≡ Some s) × (of_series s ≡ defs.Series key own regular)
-  there = own_def of_series slot x.definitions.series (defs.Series key own regular) is
-
-  its_key : there.0.key ≡ key
-  its_key = let def = there.2 in cc
-
-  its_container : there.0.container ≡ container
-  its_container = let def = there.2 in let same : there.0.container ≡ own = cc in same ∙ inside
-
-  of_columns : b.columns ≡ h.columns
-  of_columns =
-      let at : heading_in x.definitions container ≡ Some h =
-      ap (λ (n : ℕ). heading_in x.definitions n) (sym its_container) ∙ sym (ap (option_and_then (λ (s : SeriesDef). heading_in x.definitions s.container)) there.1) ∙ columns in
-      one_of (option_map (λ (y : Heading). y.columns) (heading_in x.definitions container)) b.columns h.columns of (ap (option_map (λ (y : Heading). y.columns)) at)
-
-  one_listed : (from to : ℤ) → folded_at b from to l container slot ≡ (key, folded_range b from to (elements_at slot l.element_pages)) ∷ []
-  one_listed from to =
-      let t : (there.0.container == container) ≡ true = let same = its_container in grind (arith, nat_tests) in
-      let at : at_slot slot l.definitions.series ≡ Some there.0 = ap (λ (d : Definitions). at_slot slot d.series) (sym shows.kept.definitions) ∙ there.1 in
-      ap (folded_if b from to l container slot) at ∙ ap (λ (c : Bool). cond c ((there.0.key, folded_range b from to (elements_at slot l.element_pages)) ∷ []) []) t
-      ∙ (λ i. (its_key i, folded_range b from to (elements_at slot l.element_pages)) ∷ [])
-
   pub one_said : (from to : ℤ) (v w : Fold) (row : Row) (out said scales : List ℕ) → IsFresh b v → IsTold tells shape slot h.columns (places_of slot x.space) x.pages (λ es. Folds h.columns v (map (λ e. e.1) (within_range from to es)) row w)
       → scales ≡ scales_of b → said ≡ out ++ series_folded_line scales (key, row) → IsFresh b w × AreSaid b (folded_at b from to l container slot) out said 1
   one_said from to v w row out said scales fresh folds are line =
-      let made = range_folded tells x l shape laid slot h told shows columns lies within b of_columns v fresh from to row w folds in
-      let whole : folded_at b from to l container slot ≡ (key, row) ∷ [] = one_listed from to ∙ (λ i. (key, sym made.0 i) ∷ []) in (
+      let made = range_folded tells x l shape laid slot h told shows columns lies within b (own_columns x container slot h stands columns b.columns of) v fresh from to row w folds in
+      let whole : folded_at b from to l container slot ≡ (key, row) ∷ [] =
+      ap (λ (d : Definitions). folded_if b from to l container slot (at_slot slot d.series)) (sym shows.kept.definitions) ∙ inside_one b from to l container slot (at_slot slot x.definitions.series) key row stands named made.0 in (
         made.1,
         record {
           lines = line ∙ (λ i. out ++ series_folded_line (are i) (key, row)) ∙ (λ i. out ++ sym (append-nil (series_folded_line (scales_of b) (key, row))) i)

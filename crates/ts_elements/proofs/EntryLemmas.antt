@@ -1,5 +1,5 @@
 -- The entries of a series that is seen, those of them that are chosen, and what is said of them.
-use Rattle.std.proofs.Common.{◌≡◌, ℕ, ℤ, Bool, IsTrue, Result, Ok, Err, Some, List, [], ◌++◌, length, refl, ap, sym, subst, ◌∙◌}
+use Rattle.std.proofs.Common.{◌≡◌, ℕ, ℤ, Bool, IsTrue, Result, Ok, Err, List, [], ◌++◌, length, refl, ap, sym, subst, ◌∙◌}
 use Rattle.std.specs.List.{flat_map}
 use Rattle.std.specs.FinMap.{entries}
 use Rattle.ts_base.specs.declared.refusal.Refusal.{Refusal}
@@ -14,7 +14,7 @@ use Rattle.ts_entry.specs.Entry.{Entry, AreTaken}
 use Rattle.ts_entry.specs.Reading.{reading, clipped}
 use Rattle.ts_clip.specs.Call.{IsRead}
 use Rattle.ts_model.specs.Catalogue.{Series, Catalogue, columns_of, shape_of}
-use Rattle.ts_layout.specs.Meaning.{Layout, heading_at, shape_at, catalogue_of}
+use Rattle.ts_layout.specs.Meaning.{Layout, catalogue_of}
 use Rattle.ts_answer.specs.Answer.{Tried, Answered, ◌>>=◌, known, wanted, outcome, carried_out, a_reading, get_nth_element, clip_series, clip_counted, count_clip}
 use Rattle.ts_answer.specs.Reply.{entry_line, entries_text, count_line}
 use Rattle.ts_answer.specs.Tried.{IsRefusedAs}

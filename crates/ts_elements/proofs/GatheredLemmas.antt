@@ -1,12 +1,11 @@
 -- The pages of series read into memory, as the stacks of the slots of a container.
-use Rattle.std.proofs.Common.{◌≡◌, ℕ, ◌+◌, ◌-◌, ◌<◌, ◌≤◌, ℤ, Bool, true, false, cond, IsTrue, Option, Some, None, IsSome, Ok, All, Contains, List, [], ◌∷◌, ◌++◌, length, take, drop, get_or, inr, append-nil, refl, ap, sym, subst, ◌∙◌, arith}
+use Rattle.std.proofs.Common.{◌≡◌, ℕ, ◌+◌, ◌-◌, ◌<◌, ◌≤◌, ℤ, Bool, true, false, cond, IsTrue, Option, IsSome, Ok, All, Contains, List, [], ◌∷◌, ◌++◌, length, take, drop, get_or, inr, append-nil, refl, ap, sym, subst, ◌∙◌, arith}
 use Rattle.std.specs.List.{AllZip}
 use Rattle.std.specs.Option.{option_map}
 use Rattle.std.proofs.Math.Seq.{drop-append_seam}
 use Rattle.std.proofs.lemmas.List.{take_more, take_all, get_or_default, append_assoc, length-append, length_push, length-drop, take-append-le, drop-append-le}
 use Rattle.std.proofs.lemmas.List.Elements.{All-nil, All-cons, All-head, All-tail, All-contains, All-take, All-drop, filter_more}
 use Rattle.std.proofs.lemmas.Slice.Zip.{all_zipped_more}
-use Rattle.std.proofs.lemmas.Bool.Decides.{nat_tests}
 use Rattle.ts_page.specs.declared.page.Page.{Page}
 use Rattle.ts_page.specs.Pages.{Contents, EqualPages, IsOutsideJournal}
 use Rattle.ts_row.specs.declared.kind.Column.{Column}
@@ -27,9 +26,11 @@ use Rattle.ts_layout.specs.Meaning.{heading_in}
 use Rattle.ts_layout.proofs.CallerLemmas.{chained, at_slot-map}
 use Rattle.ts_answer.specs.Slots.{IsSlotNamed}
 use Rattle.ts_answer.specs.View.{View, view, KeepsRules}
-use Rattle.ts_elements.specs.Gathered.{stands_in, inside, IsStackOf, AreRead, HasSeries}
+use Rattle.ts_elements.specs.declared.gathered.ContainerRange.{ContainerRange}
+use Rattle.ts_elements.specs.declared.gathered.Gathered.{Gathered}
+use Rattle.ts_elements.specs.Gathered.{stands_in, inside, IsStackOf, IsGathered, AreRead, HasSeries}
 use Rattle.ts_elements.specs.Stamps.{ArePlaces}
-use Rattle.ts_elements.proofs.EachSeriesLemmas.{key_kept}
+use Rattle.ts_elements.proofs.EachSeriesLemmas.{key_kept, stands_some}
 
 -- the pages of some of the places of a series can be read
 pub readable : (shape : Shape) (columns : List Column) (c : Contents) (places some : List Place) → ArePlaces shape columns c places → All (λ place. Contains places place) some → All (CanBeRead c) some
@@ -150,11 +151,7 @@ pub stacks_still : (tells : Bool) (x : View) (from to : ℤ) (read more next : L
 stacks_still tells x from to read more next slots stacks behind are =
     subst (λ (ps : List Page). AllZip (IsStackOf tells x from to ps) slots stacks) (sym behind) (stacks_append tells x from to read more slots stacks are)
 
--- a series that stands in the container
-pub stands_some : (container : ℕ) (o : Option SeriesDef) → stands_in container o ≡ true → (s : SeriesDef) × (o ≡ Some s) × (s.container ≡ container)
-stands_some container None is = absurd (cc)
-stands_some container (Some s) is = (s, refl, grind (arith, nat_tests))
-
+-- a series that stands in the container is found by its key
 pub stands_named : (x : View) → KeepsRules x → (container slot : ℕ) → slot < 4096 → stands_in container (at_slot slot x.definitions.series) ≡ true → (key : List ℕ) × IsSlotNamed kinds.Series slot key x.definitions
 stands_named x kept container slot within stands =
     let there = stands_some container (at_slot slot x.definitions.series) stands in
@@ -196,7 +193,7 @@ all_series tells x from to read (slot ∷ slots) (stack ∷ stacks) within are =
 pub rest_of : (slots : List ℕ) (at : ℕ) → take (length slots - at) (drop at slots) ≡ drop at slots
 rest_of slots at = let long = length-drop at slots in take_all (length slots - at) (drop at slots) (omega (arith, long))
 
-all_below : (slots : List ℕ) → ((k : ℕ) → k < length slots → get_or slots k 0 < 4096) → All (λ slot. slot < 4096) slots
+pub all_below : (slots : List ℕ) → ((k : ℕ) → k < length slots → get_or slots k 0 < 4096) → All (λ slot. slot < 4096) slots
 all_below slots each k d below = subst (λ (n : ℕ). n < 4096) (get_or_default slots k 0 d below) (each k below)
 
 pub rest_below : (slots : List ℕ) (at : ℕ) → ((k : ℕ) → k < length slots → get_or slots k 0 < 4096) → All (λ slot. slot < 4096) (take (length slots - at) (drop at slots))
@@ -206,7 +203,13 @@ rest_below slots at each = let Below : ℕ → Type 0 = λ slot. slot < 4096 in 
 pub passed_below : (slots : List ℕ) (at passed : ℕ) → ((k : ℕ) → k < length slots → get_or slots k 0 < 4096) → All (λ slot. slot < 4096) (take passed (drop at slots))
 passed_below slots at passed each = let Below : ℕ → Type 0 = λ slot. slot < 4096 in All-take Below passed (drop at slots) (All-drop Below at slots (all_below slots each))
 
-pub stacks_in_rest : (tells : Bool) (x : View) (from to : ℤ) (read : List Page) (container : ℕ) (slots : List ℕ) (at passed : ℕ) (stacks : List Stack)
-    → AllZip (IsStackOf tells x from to read) (inside x.definitions container (take passed (take (length slots - at) (drop at slots)))) stacks → AllZip (IsStackOf tells x from to read) (inside x.definitions container (take passed (drop at slots))) stacks
-stacks_in_rest tells x from to read container slots at passed stacks are =
-    subst (λ (ns : List ℕ). AllZip (IsStackOf tells x from to read) (inside x.definitions container (take passed ns)) stacks) (rest_of slots at) are
+-- what is gathered of the slots from an index on, after other readings
+pub gathered_rest : {A : Type 0} (tells : Bool) (a : A) (range : ContainerRange) (u v : Contents) (slots : List ℕ) (at : ℕ) (gathered : Gathered) → Reads tells (Ok a) u v → IsGathered tells v range (take (length slots - at) (drop at slots)) gathered
+    → IsGathered tells u range (drop at slots) gathered
+gathered_rest tells a range u v slots at gathered reads is =
+    let own = subst (λ (ns : List ℕ). IsGathered tells v range ns gathered) (rest_of slots at) is in
+    record {
+      passed = own.passed;
+      stacks = stacks_same tells a range.defs.now.definitions range.space.now u v range.from range.to gathered.pages
+          (inside range.defs.now.definitions range.container (take gathered.passed (drop at slots))) gathered.stacks.items reads own.stacks;
+    }

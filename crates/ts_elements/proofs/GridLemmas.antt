@@ -3,7 +3,7 @@ use Rattle.std.proofs.Common.{◌≡◌, ℕ, ◌+◌, ◌≤◌, ◌⊎◌, inl
 use Rattle.std.proofs.lemmas.List.{length-map}
 use Rattle.std.proofs.lemmas.List.Sorted.{length_permutation}
 use Rattle.std.specs.Prelude.{if◌then◌else◌}
-use Rattle.std.specs.Option.{option_map, option_and_then}
+use Rattle.std.specs.Option.{option_map}
 use Rattle.ts_base.specs.declared.refusal.Refusal.{Refusal}
 use Rattle.ts_page.specs.Pages.{Contents}
 use Rattle.ts_row.specs.declared.kind.Column.{Column}
@@ -13,7 +13,7 @@ use Rattle.ts_space.specs.declared.place.Place.{Place}
 use Rattle.ts_space.specs.declared.moved.Moved.{Moved}
 use Rattle.ts_space.specs.Moved.{moved_to}
 use Rattle.ts_space.specs.Place.{IsRising, pages_of, place_at}
-use Rattle.ts_irregular.specs.Edit.{element_at, with_element, without_element, last_seen}
+use Rattle.ts_irregular.specs.Edit.{element_at, with_element, without_element}
 use Rattle.ts_regular.specs.Cell.{regular_room, base_of}
 use Rattle.ts_regular.specs.Offsets as offsets
 use Rattle.ts_regular.specs.Offsets.{OffsetElement}
@@ -23,7 +23,7 @@ use Rattle.ts_regular.specs.Call as call
 use Rattle.ts_regular.specs.Range.{is_between, outside}
 use Rattle.ts_regular.proofs.PlaceLemmas.{pages_rise}
 use Rattle.ts_chain.specs.Range.{within_range, without_range}
-use Rattle.ts_regular_edits.specs.Stamped.{stamped, stamped_one, HaveStarts}
+use Rattle.ts_regular_edits.specs.Stamped.{stamped, HaveStarts}
 use Rattle.ts_regular_edits.specs.Address.{IsAddressed}
 use Rattle.ts_regular_edits.specs.Edit as edit
 use Rattle.ts_regular_edits.specs.Element as element

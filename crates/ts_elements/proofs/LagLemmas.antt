@@ -1,7 +1,7 @@
 -- What a series comes to against itself: all its elements are read, from the origin to the last of all stamps.
-use Rattle.std.proofs.Common.{◌≡◌, ℕ, zero, suc, ℤ, pos, ◌≤ℤ◌, Bool, true, false, cond, not, ◌&&◌, IsTrue, Result, Ok, Err, IsErrAnd, Some, All, List, [], ◌∷◌, ◌++◌, filter, refl, ap, sym, subst, ◌∙◌, arith}
+use Rattle.std.proofs.Common.{◌≡◌, ℕ, zero, suc, ℤ, pos, ◌≤ℤ◌, Bool, true, false, cond, not, IsTrue, Result, Ok, Err, IsErrAnd, Some, All, List, [], ◌∷◌, ◌++◌, filter, refl, ap, sym, subst, ◌∙◌}
 use Rattle.std.specs.Prelude.{int_lt, slice_get}
-use Rattle.std.proofs.lemmas.Int.{by_lt_z, ints}
+use Rattle.std.proofs.lemmas.Int.{by_lt_z}
 use Rattle.std.proofs.lemmas.List.Elements.{All-head, All-tail}
 use Rattle.ts_base.specs.Moment.{IsStamp}
 use Rattle.ts_base.specs.declared.refusal.Refusal.TheVariants.{NotRegular}

@@ -1,11 +1,11 @@
 -- What pages have of a series that is combined: elements in order where the series can have them, whose rows fit its columns; and so are those
 -- of them that pass a test.
-use Rattle.std.proofs.Common.{◌≡◌, ℕ, ◌+◌, ◌<◌, ℤ, Bool, true, false, cond, IsTrue, IsSome, Option, Some, None, All, List, [], ◌∷◌, ◌++◌, filter, sym, subst, ◌∙◌, arith}
+use Rattle.std.proofs.Common.{◌≡◌, ℕ, ◌+◌, ℤ, Bool, true, false, cond, IsTrue, IsSome, Some, None, All, List, [], ◌∷◌, filter, sym, subst, ◌∙◌, arith}
 use Rattle.std.proofs.lemmas.Int.{by_lt_z, ints}
 use Rattle.std.proofs.lemmas.List.Elements.{All-append, All-cons, All-filter, All-head, All-tail}
 use Rattle.ts_row.specs.declared.kind.Column.{Column}
 use Rattle.ts_row.specs.Row.{Row, fits}
-use Rattle.ts_row.specs.Element.{Element, seen}
+use Rattle.ts_row.specs.Element.{Element}
 use Rattle.ts_space.specs.declared.place.Place.{Place}
 use Rattle.ts_cells.specs.IrregularPage.{AreElements, AreRising}
 use Rattle.ts_irregular.specs.Edit.{element_at}

@@ -1,7 +1,7 @@
 -- What a list makes of stacks, and what is said of them.
 use Rattle.std.proofs.Common.{◌≡◌, ℕ, ◌+◌, ◌<◌, ◌≤◌, ℤ, Bool, true, false, cond, IsTrue, Option, Some, None, IsSome, All, List, [], ◌∷◌, ◌++◌, map, length, take, get_or, append-nil, refl, ap, sym, subst, ◌∙◌, arith}
 use Rattle.std.specs.List.{AllZip, filter, flat_map}
-use Rattle.std.specs.Option.{option_map, option_and_then}
+use Rattle.std.specs.Option.{option_map}
 use Rattle.std.proofs.lemmas.List.{take_more, map_push}
 use Rattle.std.proofs.lemmas.List.Elements.{All-head, All-tail}
 use Rattle.std.proofs.lemmas.Slice.Zip.{all_zipped_more, AllZip-long}
@@ -20,16 +20,15 @@ use Rattle.ts_model.specs.declared.kind.Kind.TheVariants as kinds
 use Rattle.ts_model.specs.declared.def.Def.TheVariants as defs
 use Rattle.ts_model.specs.Definitions.{Definitions, SeriesDef, of_series, at_slot, slots}
 use Rattle.ts_layout.specs.Meaning.{Layout, heading_in, elements_at}
-use Rattle.ts_layout.proofs.CallerLemmas.{one_of, own, at_slot-map}
+use Rattle.ts_layout.proofs.CallerLemmas.{own, at_slot-map}
 use Rattle.ts_answer.specs.Answer.{scales_of, folded_range}
 use Rattle.ts_answer.specs.Reply.{series_folded_line}
 use Rattle.ts_answer.specs.View.{View, Shows, KeepsRules}
 use Rattle.ts_elements.specs.Aggregates.{folded_if, folded_at, AreSaid}
 use Rattle.ts_elements.specs.Gathered.{stands_in, inside, IsStackOf, AreLinesOf}
-use Rattle.ts_elements.proofs.EachSeriesLemmas.{said_behind}
+use Rattle.ts_elements.proofs.EachSeriesLemmas.{outside_none, inside_one, own_columns, said_behind}
 use Rattle.ts_elements.proofs.MemoryLemmas.{few_elements}
 use Rattle.ts_elements.proofs.SeenLemmas.{elements_seen, entries_in}
-use Rattle.ts_elements.proofs.GatheredLemmas.{stands_some}
 
 -- a line begins with the key of a stack's series
 abbrev pub IsKeyed : Definitions → Stack → List ℕ × Row → Type 0
@@ -52,31 +51,12 @@ pub lines_of : (b : Binding) (from to : ℤ) (d : Definitions) (read : List Page
     → AllZip (IsLineOf b from to d read) stacks lines
 lines_of b from to d read stacks rows lines folds are = its_lines b from to d read stacks lines (subst (AllZip (IsFoldOf b from to read) stacks) (sym are.folded) folds) are.keyed
 
--- a slot of another container has no line
-outside_none : (b : Binding) (from to : ℤ) (l : Layout) (container slot : ℕ) (o : Option SeriesDef) → stands_in container o ≡ false → folded_if b from to l container slot o ≡ []
-outside_none b from to l container slot None is = refl
-outside_none b from to l container slot (Some s) is = ap (λ (t : Bool). cond t ((s.key, folded_range b from to (elements_at slot l.element_pages)) ∷ []) []) is
-
-inside_one : (b : Binding) (from to : ℤ) (l : Layout) (container slot : ℕ) (o : Option SeriesDef) (key : List ℕ) (row : Row) → stands_in container o ≡ true → option_map (λ (s : SeriesDef). s.key) o ≡ Some key → row ≡ folded_range b from to (elements_at slot l.element_pages)
-    → folded_if b from to l container slot o ≡ (key, row) ∷ []
-inside_one b from to l container slot None key row is named made = absurd (cc)
-inside_one b from to l container slot (Some s) key row is named made =
-    let same : s.key ≡ key = cc in
-    ap (λ (t : Bool). cond t ((s.key, folded_range b from to (elements_at slot l.element_pages)) ∷ []) []) is ∙ (λ i. (same i, sym made i) ∷ [])
-
 -- what is said of the stacks of a container is what a list makes of its series
 module _ (tells : Bool) (x : View) (l : Layout) (kept : KeepsRules x) (told : IsTrue tells) (shows : Shows tells x l) (b : Binding) (from to : ℤ) (read : List Page)
     (container : ℕ) (of : option_map (λ (y : Heading). y.columns) (heading_in x.definitions container) ≡ Some b.columns) where
   module _ (slot : ℕ) (within : slot < 4096) (stands : stands_in container (at_slot slot x.definitions.series) ≡ true) (stack : Stack) (is : IsStackOf tells x from to read slot stack) where
     abbrev h : Heading
     h = stack.shelf.kind.now
-
-    of_columns : h.columns ≡ b.columns
-    of_columns =
-        let there = stands_some container (at_slot slot x.definitions.series) stands in
-        let at : heading_in x.definitions container ≡ Some h =
-        ap (λ (n : ℕ). heading_in x.definitions n) (sym there.2) ∙ sym (ap (option_and_then (λ (s : SeriesDef). heading_in x.definitions s.container)) there.1) ∙ is.columns in
-        one_of (option_map (λ (y : Heading). y.columns) (heading_in x.definitions container)) h.columns b.columns (ap (option_map (λ (y : Heading). y.columns)) at) of
 
     row_made : (row : Row) → IsFoldOf b from to read stack row → row ≡ folded_range b from to (elements_at slot l.element_pages)
     row_made row folds =
@@ -85,7 +65,7 @@ module _ (tells : Bool) (x : View) (l : Layout) (kept : KeepsRules x) (told : Is
         let few = is.holds.few in
         let most = few_elements x kept slot within in
         let have = subst (λ (n : ℕ). HaveOnPlaces stack.shape n h.columns x.pages.page stack.places.now own.0) (sym is.series) own.1 in
-        folds is.laid (omega (arith, few, most)) of_columns x.pages.page own.0 (is.pages told) have
+        folds is.laid (omega (arith, few, most)) (sym (own_columns x container slot h stands is.columns b.columns of)) x.pages.page own.0 (is.pages told) have
         ∙ ap (λ (es : List Element). folded_row b.items (map (λ e. e.1) es)) own.2
         ∙ ap (λ (es : List Element). folded_row b.items (map (λ e. e.1) (within_range from to es))) (sym (entries_in stack.shape slot h.columns x.pages.page (places_of slot x.space) l all.0 all.1))
 

@@ -1,6 +1,6 @@
 // The routine that folds the elements of each series of a container by an aggregate list.
-ghost use Rattle.std.specs.Prelude.{◌≡◌, ◌<◌, ◌≤◌, ◌^◌, ℕ, [], All, IfOk, IsSome, IsTrue, List, Some, length, option_map, take};
-ghost use Rattle.std.specs.List.{AllZip, flat_map};
+ghost use Rattle.std.specs.Prelude.{◌≡◌, ◌<◌, ◌≤◌, ◌^◌, ℕ, [], All, IfOk, IsSome, IsTrue, List, Some, length, option_map};
+ghost use Rattle.std.specs.List.{AllZip};
 ghost use Rattle.ts_row.specs.Row.{Row as RowValue};
 ghost use Rattle.ts_command.specs.declared.command.Command.TheVariants.{AggregateAll};
 ghost use Rattle.ts_aggregate.specs.Stacks.{IsFoldOf};
@@ -10,10 +10,9 @@ ghost use Rattle.ts_layout.specs.Meaning.{Layout, heading_in};
 ghost use Rattle.ts_answer.specs.View.{view, IsSeen, Shows};
 ghost use Rattle.ts_answer.specs.CarriedOut.{ReadOut};
 ghost use Rattle.ts_elements.specs.Aggregates.{folded_at, folded_in, IsFresh, AreSaid};
-ghost use Rattle.ts_elements.specs.Gathered.{inside, AreLinesOf, HasSeries, IsStackOf};
+ghost use Rattle.ts_elements.specs.Gathered.{seen_by, AreLinesOf, HasSeries, IsGathered};
 
-use crate::gathered::gather;
-use crate::page_list::PageList;
+use crate::gathered::{ContainerRange, Gathered, gather, stands_in};
 use crate::shelf::shelf_at;
 use std::alloc::{AllocError, Global};
 use std::mem;
@@ -63,134 +62,107 @@ pub fn aggregate_all<P: Pages>(
         unreachable!()
     };
     let bound = list.bind(kind)?;
-    let count = say_all(
-        rt, alloc, pages, page, defs, space, slot, &bound, from, to, out,
-    )?;
+    let range = ContainerRange {
+        defs,
+        space,
+        container: slot,
+        from,
+        to,
+    };
+    let count = say_all(rt, alloc, pages, page, &range, &bound, out)?;
     say_count(out, count)?;
     Ok(())
 }
 
-// Says what a list makes of each series of the container in a slot, and gives their number. The series in hand are those in the next slots,
-// as many as `passed` tells; where it tells none, the first of these has more pages than a list holds.
+// Says what a list makes of each series of a range's container, and gives their number. What is gathered is of the slots that come next;
+// where none of them is passed, the first has a series with more pages than a list holds.
 fn say_all<P: Pages>(
     rt: &(impl Threads + Sync),
     alloc: Global,
     pages: &mut P,
     page: &mut Page,
-    defs: &Defs,
-    space: &Space,
-    container: u16,
+    range: &ContainerRange<'_>,
     bound: &Bound,
-    from: Stamp,
-    to: Stamp,
     out: &mut Reply,
 ) -> Result<u64, StoreFault>
-    requires seen { IsSeen P.tells (view defs.now.definitions space.now (P.contents pages.old)) }
-    requires columns { option_map (λ h. h.columns) (heading_in defs.now.definitions container) ≡ Some bound.now.columns }
-    ensures said { IfOk result (λ count. IsTrue P.tells → (l : Layout)
-        → Shows P.tells (view defs.now.definitions space.now (P.contents pages.old)) l
-        → AreSaid bound.now (folded_in bound.now from to l container) out.old out.new count) }
+    requires seen { IsSeen P.tells (seen_by range.now (P.contents pages.old)) }
+    requires columns { option_map (λ h. h.columns) (heading_in range.now.defs.now.definitions range.now.container) ≡ Some bound.now.columns }
+    ensures said { IfOk result (λ count. IsTrue P.tells → (l : Layout) → Shows P.tells (seen_by range.now (P.contents pages.old)) l
+        → AreSaid bound.now (folded_in bound.now range.now.from range.now.to l range.now.container) out.old out.new count) }
     ensures call { Reads P.tells result (P.contents pages.old) (P.contents pages.new) }
     ensures undisturbed { P.undisturbed pages.old pages.new }
 {
+    let slots = range.defs.in_order(Kind::Series);
     let mut folding = Folding::new(bound)?;
-    let (mut held, mut next) = (PageList::new(alloc), PageList::new(alloc));
-    let slots = defs.in_order(Kind::Series);
-    let (mut stacks, mut passed) = gather(
-        alloc, pages, defs, space, container, slots, from, to, &mut held,
-    )?;
+    let (mut current, mut next) = (Gathered::new(alloc), Gathered::new(alloc));
+    gather(pages, range, slots, &mut current)?;
     let mut count = 0;
     let mut at = 0;
     while at < slots.len() {
-        if passed == 0 {
-            count += say_if_inside(
-                pages,
-                page,
-                defs,
-                space,
-                container,
-                slots[at],
-                bound,
-                &mut folding,
-                from,
-                to,
-                out,
-            )?;
+        if current.passed == 0 {
+            count += say_if_inside(pages, page, range, slots[at], bound, &mut folding, out)?;
             at += 1;
-            let rest = &slots[at..];
-            let (others, beyond) = gather(
-                alloc, pages, defs, space, container, rest, from, to, &mut held,
-            )?;
-            stacks = others;
-            passed = beyond;
+            gather(pages, range, &slots[at..], &mut current)?;
         } else {
-            at += passed;
+            at += current.passed;
             let rest = &slots[at..];
-            let (rows, others, beyond) = fold_and_gather(
-                rt,
-                alloc,
-                pages,
-                defs,
-                space,
-                container,
-                rest,
-                bound,
-                held.as_slice(),
-                &stacks,
-                &mut next,
-                from,
-                to,
-            )?;
-            count += say_rows(defs, bound, &stacks, &rows, out)?;
-            mem::swap(&mut held, &mut next);
-            stacks = others;
-            passed = beyond;
+            let rows = fold_and_gather(rt, alloc, pages, range, rest, bound, &current, &mut next)?;
+            count += say_rows(range.defs, bound, &current.stacks, &rows, out)?;
+            mem::swap(&mut current, &mut next);
         }
     }
     Ok(count)
 }
 
-// What a list makes of stacks, their pages among those that are held, by several workers, while this thread reads the pages of the series
-// in other slots into the next list: the rows, and what `gather` gives.
+// What a list makes of what is gathered, by several workers: a row for each stack. Meanwhile this thread gathers the series in other slots
+// into `next`, of which after an error nothing is said.
 fn fold_and_gather<'a, P: Pages>(
     rt: &(impl Threads + Sync),
     alloc: Global,
     pages: &mut P,
-    defs: &'a Defs,
-    space: &'a Space,
-    container: u16,
+    range: &ContainerRange<'a>,
     slots: &[u16],
     bound: &Bound,
-    held: &[Page],
-    stacks: &[Stack<'_>],
-    next: &mut PageList,
-    from: Stamp,
-    to: Stamp,
-) -> Result<(Vec<Row>, Vec<Stack<'a>>, usize), StoreFault>
-    requires seen { IsSeen P.tells (view defs.now.definitions space.now (P.contents pages.old)) }
+    current: &Gathered<'a>,
+    next: &mut Gathered<'a>,
+) -> Result<Vec<Row>, StoreFault>
+    requires seen { IsSeen P.tells (seen_by range.now (P.contents pages.old)) }
     requires slots { All (λ slot. slot < series_slots) slots.now }
-    ensures folded { IfOk result (λ r. AllZip (IsFoldOf bound.now from to held.now) stacks.now r.0.items) }
-    ensures stacks { IfOk result (λ r. AllZip
-        (IsStackOf P.tells (view defs.now.definitions space.now (P.contents pages.old)) from to next.new)
-        (inside defs.now.definitions container (take r.2 slots.now)) r.1.items) }
-    ensures passed { IfOk result (λ r. r.2 ≤ length slots.now) }
+    ensures folded { IfOk result (λ rows. AllZip (IsFoldOf bound.now range.now.from range.now.to current.now.pages) current.now.stacks.items rows.items) }
+    ensures gathered { IfOk result (λ _. IsGathered P.tells (P.contents pages.old) range.now slots.now next.new) }
     ensures call { Reads P.tells result (P.contents pages.old) (P.contents pages.new) }
     ensures undisturbed { P.undisturbed pages.old pages.new }
 {
     if slots.is_empty() {
-        let rows = ts_aggregate::aggregate_all(
-            rt, alloc, &OpenGate, bound, held, stacks, from, to,
-        )?;
-        return Ok((rows, Vec::new(alloc), 0));
+        next.clear();
+        let rows = fold(rt, alloc, range, bound, current)?;
+        return Ok(rows);
     }
-    let (folded, gathered) = join_mut(
+    let (rows, gathered) = join_mut(
         rt,
-        &mut || ts_aggregate::aggregate_all(rt, alloc, &OpenGate, bound, held, stacks, from, to),
-        &mut || { gather(alloc, pages, defs, space, container, slots, from, to, next) },
+        &mut || fold(rt, alloc, range, bound, current),
+        &mut || { gather(pages, range, slots, next) },
     );
-    let (stacks, passed) = gathered?;
-    let rows = folded?;
-    Ok((rows, stacks, passed))
+    gathered?;
+    let rows = rows?;
+    Ok(rows)
+}
+
+// What a list makes of what is gathered: a row for each stack.
+fn fold(
+    rt: &(impl Threads + Sync),
+    alloc: Global,
+    range: &ContainerRange<'_>,
+    bound: &Bound,
+    gathered: &Gathered<'_>,
+) -> Result<Vec<Row>, AllocError>
+    ensures { IfOk result (λ rows. AllZip (IsFoldOf bound.now range.now.from range.now.to gathered.now.pages) gathered.now.stacks.items rows.items) }
+{
+    let pages = gathered.pages.as_slice();
+    let stacks = &gathered.stacks;
+    ts_aggregate::aggregate_all(
+        rt, alloc, &OpenGate, bound, pages, stacks, range.from, range.to,
+    )
 }
 
 // Says the row of each stack with the key of its series, and gives their number.
@@ -229,44 +201,32 @@ fn key_at(defs: &Defs, slot: u16) -> &Key
     }
 }
 
-// Says what it makes of the series in a slot, if there is one and it stands in the container; and how many that are.
+// Says what it makes of the series in a slot, if it stands in the range's container; and how many that are.
 fn say_if_inside<P: Pages>(
     pages: &mut P,
     page: &mut Page,
-    defs: &Defs,
-    space: &Space,
-    container: u16,
+    range: &ContainerRange<'_>,
     slot: u16,
     bound: &Bound,
     folding: &mut Folding<'_>,
-    from: Stamp,
-    to: Stamp,
     out: &mut Reply,
 ) -> Result<u64, StoreFault>
-    requires seen { IsSeen P.tells (view defs.now.definitions space.now (P.contents pages.old)) }
+    requires seen { IsSeen P.tells (seen_by range.now (P.contents pages.old)) }
     requires slot { slot < series_slots }
-    requires columns { option_map (λ h. h.columns) (heading_in defs.now.definitions container) ≡ Some bound.now.columns }
+    requires columns { option_map (λ h. h.columns) (heading_in range.now.defs.now.definitions range.now.container) ≡ Some bound.now.columns }
     ensures one { IfOk result (λ count. count ≤ 1) }
-    ensures said { IfOk result (λ count. IsTrue P.tells → (l : Layout)
-        → Shows P.tells (view defs.now.definitions space.now (P.contents pages.old)) l
-        → IsFresh bound.now folding.old
-        → IsFresh bound.now folding.new × AreSaid bound.now (folded_at bound.now from to l container slot) out.old out.new count) }
+    ensures said { IfOk result (λ count. IsTrue P.tells → (l : Layout) → Shows P.tells (seen_by range.now (P.contents pages.old)) l
+        → IsFresh bound.now folding.old → IsFresh bound.now folding.new
+        × AreSaid bound.now (folded_at bound.now range.now.from range.now.to l range.now.container slot) out.old out.new count) }
     ensures call { Reads P.tells result (P.contents pages.old) (P.contents pages.new) }
     ensures undisturbed { P.undisturbed pages.old pages.new }
 {
-    match defs.get(Kind::Series, slot) {
-        Some(
-            Def::Series {
-                key,
-                container: own,
-                ..
-            },
-        ) if *own as u16 == container => {
-            let (shelf, shape) = shelf_at(pages, defs, space, slot);
-            let row = aggregate_range(pages, page, space, &shelf, &shape, folding, from, to)?;
-            say_series_folded(out, key, bound.scales(), &row)?;
-            Ok(1)
-        }
-        _ => Ok(0),
+    if !stands_in(range, slot) {
+        return Ok(0);
     }
+    let (shelf, shape) = shelf_at(pages, range.defs, range.space, slot);
+    let (from, to) = (range.from, range.to);
+    let row = aggregate_range(pages, page, range.space, &shelf, &shape, folding, from, to)?;
+    say_series_folded(out, key_at(range.defs, slot), bound.scales(), &row)?;
+    Ok(1)
 }

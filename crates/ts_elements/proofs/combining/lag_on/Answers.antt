@@ -1,10 +1,8 @@
-use Rattle.std.proofs.Common.{◌≡◌, ◌++◌, ℤ, Some, refl, ap, ◌∙◌, to_z, of_z, w64}
+use Rattle.std.proofs.Common.{◌≡◌, Some, refl, ap, ◌∙◌, to_z, of_z, w64}
 use Rattle.std.proofs.lemmas.Int.{to_z-of_z}
 use Rattle.ts_base.specs.declared.refusal.Refusal.TheVariants.{NotRegular}
 use Rattle.ts_base.specs.declared.fault.Trouble.TheVariants.{Refused}
 use Rattle.ts_command.specs.declared.command.Command.TheVariants.{Lag}
-use Rattle.ts_row.specs.Element.{Element, seen}
-use Rattle.ts_chain.specs.Range.{within_range}
 use Rattle.ts_layout.specs.Meaning.{catalogue_of}
 use Rattle.ts_answer.specs.View.{view}
 use Rattle.ts_answer.proofs.CallerLemmas.{read_stopped_first, tried_stopped}

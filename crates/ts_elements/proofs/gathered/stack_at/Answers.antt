@@ -10,8 +10,8 @@ read_pages-requires g c =
     let some = c.places_of_range-places in
     let found = c.shelf_at-shape in
     let columns = found.result.0.kind.now.columns in
-    let places = places_of c.args.slot c.args.space.now in
-    let holds = subst (λ (ps : List Place). HoldRange found.result.1 columns c.args.from c.args.to ps some.result.now) c.places.ensures.ok some.ensures.holds in
+    let places = places_of c.args.slot c.args.range.now.space.now in
+    let holds = subst (λ (ps : List Place). HoldRange found.result.1 columns c.args.range.now.from c.args.range.now.to ps some.result.now) c.places-all_places.ensures.ok some.ensures.holds in
     let first = c.len-first.ensures in
     let fits = c.if-places-first.false in
     record {
@@ -37,7 +37,7 @@ returns-clause-stack g c =
       columns = found.ensures.columns;
       lies = found.ensures.lies;
       laid = found.ensures.laid;
-      holds = subst (λ (ps : List Place). HoldRange found.result.1 columns c.args.from c.args.to ps some.result.now) c.places.ensures.ok some.ensures.holds;
+      holds = subst (λ (ps : List Place). HoldRange found.result.1 columns c.args.range.now.from c.args.range.now.to ps some.result.now) c.places-all_places.ensures.ok some.ensures.holds;
       within = omega (arith, long, begins);
       pages = own_pages tells pages some.result.now old held c.len-first.result begins read;
     }

@@ -1,4 +1,3 @@
-use Rattle.std.proofs.Common.{◌∙◌}
 use Rattle.ts_command.specs.declared.command.Command.TheVariants.{ClipGetCount}
 use Rattle.ts_answer.specs.Answer.{outcome, carried_out, count_clip}
 use Rattle.ts_answer.specs.View.{view}
