@@ -1,9 +1,10 @@
--- What containers are charged, when one series comes or goes that has no places.
+-- What containers are charged, when a definition comes or goes on which no charge depends.
 use Rattle.std.proofs.Common.{◌≡◌, ℕ, zero, suc, ◌+◌, ◌==◌, if◌then◌else◌, Bool, true, false, Option, Some, None, List, [], ◌∷◌, set, refl, sym, ap, ◌∙◌, arith}
 use Rattle.std.specs.Option.{option_map, option_and_then, unwrap_or}
 use Rattle.ts_row.specs.RowType.{Heading}
 use Rattle.ts_space.specs.Directory.{Directory, places_of}
 use Rattle.ts_cells.specs.Cell.{page_room}
+use Rattle.ts_model.specs.declared.kind.Kind.{Kind}
 use Rattle.ts_model.specs.declared.kind.Kind.TheVariants as kinds
 use Rattle.ts_model.specs.declared.def.Def.{Def}
 use Rattle.ts_model.specs.Definitions.{Definitions, SeriesDef, from_def, with_slot}
@@ -11,6 +12,7 @@ use Rattle.ts_layout.specs.Meaning.{heading_in}
 use Rattle.ts_layout.specs.Charges.{places_charge, charge_listed, charges_listed, container_charge}
 use Rattle.ts_layout.proofs.CallerLemmas.{nothing_charged}
 use Rattle.ts_container.specs.KeptCharges.{AreCharges}
+use Rattle.ts_engine.specs.Charged.{IsNeverCharged}
 
 -- a series without places is charged nothing
 none_if : (b : Bool) (n : ℕ) → n ≡ 0 → ◌≡◌ {A = ℕ} (if b then n else 0) 0
@@ -38,3 +40,11 @@ charge_by d space table k (Some h) same = same (page_room h.columns)
 pub charges_stay : (d : Definitions) (space : Directory) (slot : ℕ) (def : Option Def) (sums : List ℕ) → places_of slot space ≡ [] → AreCharges sums d space → AreCharges sums (with_slot kinds.Series slot def d) space
 charges_stay d space slot def sums none are k below =
     are k below ∙ sym (charge_by d space (set d.series slot (option_and_then (from_def kinds.Series) def)) k (heading_in d k) (λ q. listed_unplaced space k q 0 slot slot (option_and_then (from_def kinds.Series) def) d.series (omega arith) none))
+
+-- and so they do with any definition on which no charge depends
+pub charges_stay_with : (kind : Kind) (d : Definitions) (space : Directory) (slot : ℕ) (def : Option Def) (sums : List ℕ) → IsNeverCharged kind slot space → AreCharges sums d space → AreCharges sums (with_slot kind slot def d) space
+charges_stay_with kinds.RowType d space slot def sums never are = absurd never
+charges_stay_with kinds.Pattern d space slot def sums never are = are
+charges_stay_with kinds.Calendar d space slot def sums never are = are
+charges_stay_with kinds.Container d space slot def sums never are = absurd never
+charges_stay_with kinds.Series d space slot def sums never are = charges_stay d space slot def sums never are

@@ -1,10 +1,13 @@
 -- What containers are charged, when definitions or places change.
-use Rattle.std.specs.Prelude.{◌≡◌, ℕ, ◌<◌, Option, Some, None, List, [], slice_index_or}
+use Rattle.std.specs.Prelude.{◌≡◌, ℕ, ◌<◌, ⊤, ⊥, Option, Some, None, List, [], slice_index_or}
 use Rattle.ts_row.specs.RowType.{Heading}
 use Rattle.ts_space.specs.declared.place.Place.{Place}
 use Rattle.ts_space.specs.declared.moved.Moved.{Moved}
 use Rattle.ts_space.specs.Moved.{moved_to}
 use Rattle.ts_cells.specs.Cell.{page_room}
+use Rattle.ts_space.specs.Directory.{Directory, places_of}
+use Rattle.ts_model.specs.declared.kind.Kind.{Kind}
+use Rattle.ts_model.specs.declared.kind.Kind.TheVariants as kinds
 use Rattle.ts_model.specs.Definitions.{Definitions, SeriesDef, at_slot, container_slots, series_slots, IsDefinitions}
 use Rattle.ts_layout.specs.Meaning.{KeepLimits, heading_in}
 use Rattle.ts_layout.specs.Charges.{IsCountable}
@@ -14,6 +17,14 @@ use Rattle.ts_engine.specs.declared.charge.Rate.{Rate}
 abbrev pub places_after : Option Moved → List Place → List Place
 places_after (Some moved) places = moved_to moved places
 places_after None places = []
+
+-- no charge depends on the definition in a slot: that of a pattern or a calendar, or of a series without places
+abbrev pub IsNeverCharged : Kind → ℕ → Directory → Type 0
+IsNeverCharged kinds.RowType slot space = ⊥
+IsNeverCharged kinds.Pattern slot space = ⊤
+IsNeverCharged kinds.Calendar slot space = ⊤
+IsNeverCharged kinds.Container slot space = ⊥
+IsNeverCharged kinds.Series slot space = places_of slot space ≡ []
 
 -- what containers are charged can be counted: definitions keep the rules, and no series has too many elements or places
 pub record CanCount (d : Definitions) (lists : List (List Place)) : Type 0 where

@@ -1,14 +1,13 @@
 // What containers are charged, when the places of a series change.
-ghost use Rattle.std.specs.Prelude.{◌≡◌, ◌<◌, ◌≤◌, IsTrue, IfSome, Option, [], slice_set};
+ghost use Rattle.std.specs.Prelude.{◌≡◌, ◌<◌, ◌≤◌, IsTrue, IfSome, Option, slice_set};
 ghost use Rattle.ts_space.specs.Place.{IsRising};
 ghost use Rattle.ts_space.specs.Directory.{places_of, spare_of};
 ghost use Rattle.ts_container.specs.KeptCharges.{AreCharges, AreFew};
-ghost use Rattle.ts_model.specs.declared.kind.Kind.TheVariants.{Series};
 ghost use Rattle.ts_model.specs.declared.def.Def.{Def as TheDef};
 ghost use Rattle.ts_model.specs.Definitions.{Definitions, limit, with_slot};
 ghost use Rattle.ts_layout.specs.Meaning.{KeepLimits};
 ghost use Rattle.ts_layout.specs.Charges.{IsCountable};
-ghost use Rattle.ts_engine.specs.Charged.{CanCount, IsRateOf, places_after};
+ghost use Rattle.ts_engine.specs.Charged.{CanCount, IsNeverCharged, IsRateOf, places_after};
 
 use std::alloc::Global;
 use ts_base::Stamp;
@@ -62,7 +61,7 @@ pub(crate) fn change_places(
     charges.change(rate.container, before, after);
 }
 
-/// A definition came or went: what containers are charged is right again. A series without places changes nothing.
+/// A definition came or went: what containers are charged is right again. A pattern, a calendar and a series without places change nothing.
 pub(crate) fn charge_definition(
     defs: &Defs,
     space: &Space,
@@ -75,20 +74,21 @@ pub(crate) fn charge_definition(
     ensures { (d : Definitions) (def : Option TheDef) → defs.now.definitions ≡ with_slot kind slot def d → AreCharges charges.old d space.now
         → AreCharges charges.new defs.now.definitions space.now }
 {
-    if is_bare_series(space, kind, slot) {
+    if is_never_charged(space, kind, slot) {
         return;
     }
     charges.count(defs, space);
 }
 
-// Whether it is the slot of a series, and no place is one of its.
-fn is_bare_series(space: &Space, kind: Kind, slot: u16) -> bool
+// Whether no charge depends on a definition: that of a pattern or a calendar, or of a series that has no place.
+fn is_never_charged(space: &Space, kind: Kind, slot: u16) -> bool
     requires slot { slot < limit kind }
-    ensures { IsTrue result → (kind ≡ Series) × (places_of slot space.now ≡ []) }
+    ensures { IsTrue result → IsNeverCharged kind slot space.now }
 {
     match kind {
+        Kind::Pattern | Kind::Calendar => true,
         Kind::Series => space.places(slot).is_empty(),
-        _ => false,
+        Kind::RowType | Kind::Container => false,
     }
 }
 
