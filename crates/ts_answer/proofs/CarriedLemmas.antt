@@ -108,45 +108,6 @@ module _ (tells : Bool) (command : Command) (d : Definitions) (space : Directory
     no_fault = read.no_fault;
   }
 
--- after pages were looked at
-module _ (tells : Bool) (command : Command) (d : Definitions) (space : Directory) (u v w : Contents) (out : List ℕ) (count : v.count ≡ u.count) (stay : Stays tells u v) (bytes : v.change_bytes ≡ u.change_bytes) (faults : v.faults ≡ u.faults) where
-  later_stays : Stays tells v w → Stays tells u w
-  later_stays stays = record { free = stays.free ∙ stay.free; pages = λ told k. stays.pages told k ∙ stay.pages told k }
-
-  later_grows : Grows 1 v w → Grows 1 u w
-  later_grows grows = let free = ap (λ (ns : List ℕ). length ns) stay.free in omega (arith, grows, free, bytes)
-
-  later_stopped : (stop : Stop) → IsStopped tells command stop (view d space v) w → IsStopped tells command stop (view d space u) w
-  later_stopped (stops.Refused refusal) stopped = (later_stays stopped.0, later_grows stopped.1, stopped.2 ∙ faults, λ told l shows. stopped.3 told l (shows_still tells d space u v l shows count stay))
-  later_stopped stops.Failed stopped = omega (arith, stopped, faults)
-  later_stopped (stops.Memory error) stopped = stopped ∙ faults
-
-  pub carried_after : (r : Result Effect Stop) → CarriedOut tells command r out (view d space v) w → CarriedOut tells command r out (view d space u) w
-  carried_after (Ok effect) carried = record {
-    keeps = λ kept. carried.keeps (kept_still d space tells u v kept count stay);
-    done = λ told l shows. let comes = carried.done told l (shows_still tells d space u v l shows count stay) in record { layout = comes.layout; shows = comes.shows; comes = comes.comes };
-    applies = carried.applies;
-    reads = carried.reads;
-    stays = λ none. later_stays (carried.stays none);
-    stopped = tt;
-    count = carried.count ∙ count;
-    bytes = let more = carried.bytes in omega (arith, more, bytes);
-    grows = later_grows carried.grows;
-    no_fault = carried.no_fault ∙ faults;
-  }
-  carried_after (Err stop) carried = record {
-    keeps = tt;
-    done = tt;
-    applies = tt;
-    reads = tt;
-    stays = tt;
-    stopped = later_stopped stop carried.stopped;
-    count = carried.count ∙ count;
-    bytes = let more = carried.bytes in omega (arith, more, bytes);
-    grows = tt;
-    no_fault = tt;
-  }
-
 -- of what is in memory
 module _ (tells : Bool) (command : Command) (d : Definitions) (space : Directory) (v : Contents) (out : List ℕ) where
   pub said_carried : IsSaid command (Ok tt) out d space → CarriedOut tells command (Ok Nothing) out (view d space v) v

@@ -16,7 +16,7 @@ use Rattle.ts_pattern.specs.Algebra.{Answers}
 use Rattle.ts_offset.specs.Counting.{AnswersList}
 use Rattle.ts_model.specs.declared.format.TheConstants.{OLD_FORMAT}
 use Rattle.ts_model.specs.Catalogue.{Named, Elements}
-use Rattle.ts_answer.specs.Answer.{Tried, Answered, ◌>>=◌, refused_if, known, wanted, unused, within_limit, no_bad_column, beyond_old_format, present, row_at, row_or_mismatch, a_row, within_quota, in_time}
+use Rattle.ts_answer.specs.Answer.{Tried, ◌>>=◌, refused_if, known, wanted, unused, within_limit, no_bad_column, beyond_old_format, present, row_at, row_or_mismatch, a_row, within_quota, in_time}
 use Rattle.ts_answer.specs.Tried.{IsTried, IsRefusedAs}
 
 -- the tests, passed and failed
@@ -100,15 +100,6 @@ on_ok m b f h = ap (λ t. t >>= f) h
 pub on_err : {B D : Type 0} (m : Tried B) (refusal : Refusal) (f : B → Tried D) → m ≡ Err refusal → (m >>= f) ≡ Err refusal
 unfolding ◌>>=◌
 on_err m refusal f h = ap (λ t. t >>= f) h
-
--- what came to something passed each test
-pub came : {A B : Type 0} (m : Tried A) (f : A → Tried B) (b : B) → (m >>= f) ≡ Ok b → (a : A) × (m ≡ Ok a) × (f a ≡ Ok b)
-unfolding ◌>>=◌
-came (Ok a) f b is = (a, refl, is)
-came (Err refusal) f b is = absurd (cc)
-
-pub same_answer : (a b : Answered) → let left : Tried Answered = Ok a in left ≡ Ok b → b ≡ a
-same_answer a b is = cc
 
 pub goes : {A B C D : Type 0} {tried : Tried B} {Alike : A → B → Type 0} {Like : C → D → Type 0} {r : Result C Trouble} (f : B → Tried D) (a : A) → IsTried (Ok a) tried Alike → ((b : B) → Alike a b → IsTried r (f b) Like) → IsTried r (tried >>= f) Like
 goes {tried = tried} {Like = Like} {r = r} f a passes rest = subst (λ t. IsTried r t Like) (sym (on_ok tried passes.ok.0 f passes.ok.1)) (rest passes.ok.0 passes.ok.2)

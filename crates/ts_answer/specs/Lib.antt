@@ -1,17 +1,12 @@
-pub mod AggregateLaws
 pub mod Aggregates
 pub mod Answer
 pub mod CarriedOut
 pub mod Commands
 pub mod Decided
-pub mod Edited
 pub mod Elements
-pub mod Laws
 pub mod Reading
-pub mod ReadingLaws
 pub mod Refusals
 pub mod Reply
-pub mod SeriesLaws
 pub mod Slots
 pub mod State
 pub mod Stop

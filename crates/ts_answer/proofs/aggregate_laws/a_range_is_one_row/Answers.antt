@@ -1,5 +1,0 @@
-use Rattle.ts_answer.proofs.RangeLemmas.{ranges_folded}
-use Rattle.ts_answer.proofs.aggregate_laws.a_range_is_one_row.Goals as goal
-
-pub returns : goal.returns
-returns c = ranges_folded

@@ -1,5 +1,0 @@
-use Rattle.ts_answer.proofs.EditedLemmas.{put_stands}
-use Rattle.ts_answer.proofs.laws.a_put_on_a_grid_stands_at_its_address.Goals as goal
-
-pub returns : goal.returns
-returns c = put_stands

@@ -1,5 +1,0 @@
-use Rattle.ts_answer.proofs.KeptShapeLemmas.{shapes_kept}
-use Rattle.ts_answer.proofs.laws.a_series_keeps_its_shape.Goals as goal
-
-pub returns : goal.returns
-returns c = shapes_kept

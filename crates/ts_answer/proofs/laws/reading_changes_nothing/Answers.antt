@@ -1,5 +1,0 @@
-use Rattle.ts_answer.proofs.ReadingLemmas.{leaves}
-use Rattle.ts_answer.proofs.laws.reading_changes_nothing.Goals as goal
-
-pub returns : goal.returns
-returns c = leaves

@@ -1,5 +1,0 @@
-use Rattle.ts_answer.proofs.WrittenLemmas.{written_alone}
-use Rattle.ts_answer.proofs.laws.what_is_not_written_stays.Goals as goal
-
-pub returns : goal.returns
-returns c = written_alone

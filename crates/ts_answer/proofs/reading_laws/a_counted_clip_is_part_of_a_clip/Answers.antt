@@ -1,5 +1,0 @@
-use Rattle.ts_answer.proofs.CountedLemmas.{counted_parts}
-use Rattle.ts_answer.proofs.reading_laws.a_counted_clip_is_part_of_a_clip.Goals as goal
-
-pub returns : goal.returns
-returns c = counted_parts

@@ -1,5 +1,0 @@
-use Rattle.ts_answer.proofs.OffsetLemmas.{nth_at_offset}
-use Rattle.ts_answer.proofs.reading_laws.a_number_is_an_offset.Goals as goal
-
-pub returns : goal.returns
-returns c = nth_at_offset

@@ -1,0 +1,6 @@
+pub mod AggregateLaws
+pub mod Edited
+pub mod Laws
+pub mod Objects
+pub mod ReadingLaws
+pub mod SeriesLaws
