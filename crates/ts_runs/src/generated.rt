@@ -1,4 +1,4 @@
-// The generated script: what it says, what it leaves, and the words that name it.
+// The generated script: what a second run of it says and leaves, and the words that name it.
 use crate::program::{answers, bytes_of, status, volume};
 use std::alloc::Global;
 use std::test::Fail;
@@ -14,44 +14,6 @@ fn generate(
 ) -> Result<u8, Fail> {
     let mut source = MemorySource::new(Vec::new(alloc), 1);
     Ok(status(rt, alloc, words, site, &mut source)?)
-}
-
-/// A count and a seed, and what is said on a volume where there is room; a remainder of the seed counts, and the edits go in turn into the two
-/// series.
-const SAID: [(&str, &str, &[u8]); 4] = [
-    (
-        "2",
-        "1",
-        b"2011-01-03 00:00:00.00000 590,1\nok 1\n2011-01-03 00:00:00.00000 575,1\nok 1\ndone 10 0\n",
-    ),
-    (
-        "1",
-        "4294967295",
-        b"2011-01-03 00:00:00.00000 748,1\nok 1\n2011-01-03 00:00:00.00000 null,0\nok 1\ndone 9 0\n",
-    ),
-    (
-        "01",
-        "0000000000",
-        b"2011-01-03 00:00:00.00000 345,1\nok 1\n2011-01-03 00:00:00.00000 null,0\nok 1\ndone 9 0\n",
-    ),
-    (
-        "20",
-        "7",
-        b"2011-01-03 00:00:00.00000 6334,10\nok 1\n2011-01-03 00:00:00.00000 3680,10\nok 1\ndone 28 0\n",
-    ),
-];
-
-#[test]
-fn a_count_and_a_seed_say_the_same_on_each_volume(rt: HostRuntime) -> Result<(), Fail> {
-    let alloc = rt.alloc();
-    for (count, seed, said) in SAID {
-        for _ in 0..2u8 {
-            let mut site = volume(&rt, alloc, "4096")?;
-            assert_eq!(rt; generate(&rt, alloc, &["gen", count, seed], &mut site)?, 0);
-            assert_eq!(rt; site.said(), said);
-        }
-    }
-    Ok(())
 }
 
 /// What the second of two runs leaves: the regular series has the element again, the irregular one has it beside itself.
@@ -85,18 +47,6 @@ fn what_is_there_is_refused_and_the_edits_go_on(rt: HostRuntime) -> Result<(), F
         b"2011-01-03 00:00:00.00000 590,1\nok 1\n2011-01-03 00:00:00.00000 1150,2\nok 1\ndone 4 6\n";
     assert_eq!(rt; site.said().get(before..), Some(said.as_slice()));
     assert!(rt; answers(&rt, alloc, &mut site, LEFT)?);
-    Ok(())
-}
-
-#[test]
-fn a_volume_without_room_refuses_all_but_the_definitions(rt: HostRuntime) -> Result<(), Fail> {
-    let alloc = rt.alloc();
-    let mut site = volume(&rt, alloc, "8")?;
-    assert_eq!(rt; generate(&rt, alloc, &["gen", "2", "1"], &mut site)?, 0);
-    assert_eq!(rt;
-        site.said(),
-        b"error 10 UnknownName\nerror 10 UnknownName\ndone 3 7\n".as_slice()
-    );
     Ok(())
 }
 

@@ -5,15 +5,7 @@
 #![tactic(auto)]
 
 #[cfg(test)]
-mod aggregates;
-#[cfg(test)]
 mod cached;
-#[cfg(test)]
-mod calendars;
-#[cfg(test)]
-mod combining;
-#[cfg(test)]
-mod days;
 #[cfg(test)]
 mod formats;
 #[cfg(test)]
@@ -25,10 +17,6 @@ mod journal;
 #[cfg(test)]
 mod program;
 #[cfg(test)]
-mod readings;
-#[cfg(test)]
 mod statuses;
 #[cfg(test)]
 mod stops;
-#[cfg(test)]
-mod unseen;
