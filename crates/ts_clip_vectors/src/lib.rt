@@ -1,12 +1,11 @@
-//! What is read of the pages of series, what rows in bytes are folded to, and what stacks of pages are, worked out by hand. There are only
-//! tests: they stand apart, since a crate that has tests of its own is proved twice. Stands on ts_clip, ts_aggregate and ts_parallel, which
-//! it tests, and on the crates that write the pages. Read `series.rt`, then the others in any order.
+//! The rows of a range in the bytes of their cells, and what stacks of pages are folded to, worked out by hand; and the laws of the crates
+//! below are called. There are only tests: they stand apart, since a crate that has tests of its own is proved twice. Stands on ts_clip,
+//! ts_aggregate and ts_parallel, which it tests. Read `series.rt`, then the others in any order. What is read of a series by entries, and
+//! what lists make of its rows, stand in the folder examples/.
 #![tactic(auto)]
 
 #[cfg(test)]
-mod folds;
-#[cfg(test)]
-mod readings;
+mod laws;
 #[cfg(test)]
 mod rows;
 #[cfg(test)]

@@ -1,10 +1,8 @@
-// An irregular and a regular series with four elements, one of them hidden.
-ghost use Rattle.std.specs.Prelude.{◌≡◌, ◌≤◌, ◌<◌, ◌^◌, IfOk, OnOk, IsTrue, [], ◌∷◌};
+// An irregular and a regular series with four elements, one of them hidden, by the bytes of their pages.
+ghost use Rattle.std.specs.Prelude.{◌≡◌, ◌≤◌, IfOk, OnOk, IsTrue, [], ◌∷◌};
 ghost use Rattle.ts_page.specs.Memory.{memory_contents};
 ghost use Rattle.ts_space.specs.declared.place.Place.{Place as ThePlace};
-ghost use Rattle.ts_space.specs.Place.{count_of};
 ghost use Rattle.ts_space.specs.Directory.{places_of};
-ghost use Rattle.ts_row.specs.Row.{fits};
 ghost use Rattle.ts_calendar.specs.Intervals.{IsLaid};
 ghost use Rattle.ts_offset.specs.declared.shape.Shape.{Shape as TheShape};
 ghost use Rattle.ts_clip.specs.Series.{ArePlaces, IsLaidOut};
@@ -13,15 +11,12 @@ use std::alloc::Global;
 use ts_base::{Name, Stamp, StoreFault, Unit};
 use ts_calendar::Calendar;
 use ts_cells::page_room;
-use ts_chain::chain_mark;
 use ts_offset::{Counter, Grid, Shape};
 use ts_page::{MemoryPages, Page, Pages};
 use ts_pattern::{Pattern, Run};
 use ts_regular::regular_room;
-use ts_regular_edits::{edit_at, mark_at};
-use ts_row::{Column, ColumnKind, Literal, Row, RowType, Shelf, Value};
-use ts_series::{EditKind, Edited, edit};
-use ts_space::{Come, Place, Space};
+use ts_row::{Column, ColumnKind, RowType};
+use ts_space::{Place, Space};
 
 /// The series.
 pub(crate) const SLOT: u16 = 7;
@@ -39,14 +34,6 @@ pub(crate) struct Series {
     pub(crate) kind: RowType,
     /// None of an irregular series.
     pub(crate) counter: Option<Counter>,
-}
-
-/// The integer of a row, or -1.
-pub(crate) fn integer_of(row: &Row) -> i128 {
-    match row.values() {
-        [Value::Number(number)] => *number,
-        _ => -1,
-    }
 }
 
 /// A day of January 2011.
@@ -68,20 +55,6 @@ pub(crate) fn integers(alloc: Global) -> Result<RowType, StoreFault> {
     };
     match RowType::make(alloc, stamp, vec![in alloc; column]?) {
         Ok(made) => Ok(made),
-        Err(_) => Err(StoreFault::Failed),
-    }
-}
-
-// The row of an integer.
-fn row_of(kind: &RowType, integer: i128) -> Result<Row, StoreFault>
-    ensures { IfOk result (λ row. IsTrue (fits kind.now.columns row)) }
-{
-    let literal = Literal::Number {
-        units: integer,
-        scale: 0,
-    };
-    match kind.row_of(&[literal]) {
-        Ok(row) => Ok(row),
         Err(_) => Err(StoreFault::Failed),
     }
 }
@@ -125,34 +98,63 @@ fn grid_of(counter: &Counter) -> Result<Grid<'_>, StoreFault>
     }
 }
 
-// Pages of which one is free.
-fn one_free(alloc: Global) -> Result<MemoryPages, StoreFault>
+/// Bytes that stand in a page, each behind so many.
+type Patches = &'static [(usize, &'static [u8])];
+
+/// The integers 1 on the third, 2 on the fifth, 3 on the sixth, which is hidden, and 4 on the tenth: a head, and a cell of a byte 1, a
+/// stamp and a row for each.
+const IRREGULAR: Patches = &[
+    (0, b"\x02\x00\x07\x00\x04"),
+    (
+        32,
+        b"\x01\x00\x00\x75\xb0\x95\x53\xf0\x00\x01\x00\x00\x00\x01",
+    ),
+    (
+        46,
+        b"\x01\x00\x00\x75\xb4\x9b\x4b\xd0\x00\x01\x00\x00\x00\x02",
+    ),
+    (
+        60,
+        b"\x01\x00\x00\x75\xb6\x9e\x47\xc0\x00\x03\x00\x00\x00\x03",
+    ),
+    (
+        74,
+        b"\x01\x00\x00\x75\xbe\xaa\x37\x80\x00\x01\x00\x00\x00\x04",
+    ),
+];
+
+/// The same on working days: a head, and cells of a byte 1 and a row at the offsets 0, 2, 3 and 5.
+const REGULAR: Patches = &[
+    (0, b"\x01\x00\x07\x00\x04"),
+    (32, b"\x01\x01\x00\x00\x00\x01"),
+    (44, b"\x01\x01\x00\x00\x00\x02"),
+    (50, b"\x01\x03\x00\x00\x00\x03"),
+    (62, b"\x01\x01\x00\x00\x00\x04"),
+];
+
+// The page of these bytes.
+fn page_of(patches: Patches) -> Result<Page, StoreFault> {
+    let mut page = Page::zero();
+    for (at, bytes) in patches {
+        if *at > 4096 || bytes.len() > 4096 - *at {
+            return Err(StoreFault::Failed);
+        }
+        page.bytes[*at..*at + bytes.len()].copy_from_slice(bytes);
+    }
+    Ok(page)
+}
+
+// Pages of which the last is this one, and none is free.
+fn pages_of(alloc: Global, page: &Page) -> Result<MemoryPages, StoreFault>
     ensures { IfOk result (λ pages. (memory_contents pages).count ≡ 931) }
 {
     let zeros = vec![in alloc; Page::zero(); 931]?;
     let mut pages = MemoryPages::new(zeros, Vec::new(alloc));
-    pages.free(930)?;
+    pages.put(930, page)?;
     Ok(pages)
 }
 
-// Without elements.
-fn empty(alloc: Global, counter: Option<Counter>) -> Result<Series, StoreFault>
-    ensures places { IfOk result (λ series. (shape : TheShape) → ArePlaces shape series.kind.columns
-        (memory_contents series.pages) (places_of 7 series.space)) }
-    ensures count { IfOk result (λ series. (memory_contents series.pages).count ≡ 931) }
-{
-    let pages = one_free(alloc)?;
-    let space = Space::new(alloc)?;
-    let kind = integers(alloc)?;
-    Ok(Series {
-        pages,
-        space,
-        kind,
-        counter,
-    })
-}
-
-// Whether the only place is that of the page that was free, with some elements and no more than so many.
+// Whether the only place is that of the page, with some elements and no more than so many.
 fn is_only_place(places: &[Place], most: usize) -> bool
     ensures { IsTrue result → (place : ThePlace) × (places.now ≡ place ∷ []) × (place.page ≡ 930)
         × (1 ≤ place.count) × (place.count ≤ most) }
@@ -181,100 +183,33 @@ fn settled(series: &Series) -> Result<(), StoreFault>
     Ok(())
 }
 
-// Puts an integer on a day, behind all others.
-fn put(series: &mut Series, number: u8, integer: i128) -> Result<(), StoreFault>
-    requires places { (shape : TheShape) → ArePlaces shape series.old.kind.columns
-        (memory_contents series.old.pages) (places_of 7 series.old.space) }
-    requires count { (memory_contents series.old.pages).count ≡ 931 }
-    ensures places { OnOk result ((shape : TheShape) → ArePlaces shape series.new.kind.columns
-        (memory_contents series.new.pages) (places_of 7 series.new.space)) }
-    ensures count { OnOk result ((memory_contents series.new.pages).count ≡ 931) }
-{
-    let stamp = day(number)?;
-    let row = row_of(&series.kind, integer)?;
-    let done = edited(series, stamp, &row)?;
-    let Edited::Put { moved, .. } = done else {
-        return Err(StoreFault::Failed);
+// A directory where the only place of the series is that of its page, from a unit or an offset on.
+fn space_of(alloc: Global, at: i64) -> Result<Space, StoreFault> {
+    let place = Place {
+        at,
+        page: 930,
+        count: 4,
     };
-    let Come::One(place) = moved.come else {
-        return Err(StoreFault::Failed);
+    let mut space = Space::new(alloc)?;
+    space.reserve(SLOT, 1)?;
+    space.set(SLOT, place);
+    Ok(space)
+}
+
+// The series of this page and directory.
+fn made(alloc: Global, page: &Page, at: i64) -> Result<Series, StoreFault>
+    ensures places { IfOk result (λ series. (shape : TheShape) → ArePlaces shape series.kind.columns
+        (memory_contents series.pages) (places_of 7 series.space)) }
+    ensures count { IfOk result (λ series. (memory_contents series.pages).count ≡ 931) }
+{
+    let series = Series {
+        pages: pages_of(alloc, page)?,
+        space: space_of(alloc, at)?,
+        kind: integers(alloc)?,
+        counter: None,
     };
-    series.space.reserve(SLOT, 1)?;
-    series.space.set(SLOT, place);
-    settled(series)
-}
-
-// Whether places tell of few elements.
-fn are_few(places: &[Place]) -> bool
-    ensures { IsTrue result → count_of places.now < 2 ^ 32 }
-{
-    places.is_empty() || places.len() == 1 && places[0].count < 1000
-}
-
-// Puts it.
-fn edited(series: &mut Series, stamp: Stamp, row: &Row) -> Result<Edited, StoreFault>
-    requires places { (shape : TheShape) → ArePlaces shape series.old.kind.columns
-        (memory_contents series.old.pages) (places_of 7 series.old.space) }
-    requires fits { IsTrue (fits series.old.kind.columns row.now) }
-    ensures count { (memory_contents series.new.pages).count ≡ (memory_contents series.old.pages).count }
-    ensures kind { series.new.kind ≡ series.old.kind }
-{
-    let places = series.space.places(SLOT);
-    if !are_few(places) {
-        return Err(StoreFault::Failed);
-    }
-    let room = series.pages.spare() as u64 + places.len() as u64;
-    let kind = &series.kind;
-    let shelf = Shelf { series: SLOT, kind };
-    let page = &mut Page::zero();
-    let pages = &mut series.pages;
-    let space = &series.space;
-    let how = EditKind::Insert;
-    match &series.counter {
-        None => edit(pages, page, space, &shelf, how, stamp, row, room),
-        Some(counter) => {
-            let grid = &grid_of(counter)?;
-            edit_at(pages, page, space, &shelf, grid, how, stamp, row, room)
-        }
-    }
-}
-
-// Hides the element of a day.
-fn hide(series: &mut Series, number: u8) -> Result<(), StoreFault>
-    requires places { (shape : TheShape) → ArePlaces shape series.old.kind.columns
-        (memory_contents series.old.pages) (places_of 7 series.old.space) }
-    requires count { (memory_contents series.old.pages).count ≡ 931 }
-    ensures places { OnOk result ((shape : TheShape) → ArePlaces shape series.new.kind.columns
-        (memory_contents series.new.pages) (places_of 7 series.new.space)) }
-    ensures count { OnOk result ((memory_contents series.new.pages).count ≡ 931) }
-{
-    let stamp = day(number)?;
-    if !marked(series, stamp)? {
-        return Err(StoreFault::Failed);
-    }
-    settled(series)
-}
-
-// Hides it.
-fn marked(series: &mut Series, stamp: Stamp) -> Result<bool, StoreFault>
-    requires places { (shape : TheShape) → ArePlaces shape series.old.kind.columns
-        (memory_contents series.old.pages) (places_of 7 series.old.space) }
-    ensures count { (memory_contents series.new.pages).count ≡ (memory_contents series.old.pages).count }
-    ensures kind { series.new.kind ≡ series.old.kind }
-{
-    let kind = &series.kind;
-    let shelf = Shelf { series: SLOT, kind };
-    let page = &mut Page::zero();
-    let pages = &mut series.pages;
-    let space = &series.space;
-    match &series.counter {
-        None => chain_mark(pages, page, space, &shelf, stamp, true),
-        Some(counter) => {
-            let grid = &grid_of(counter)?;
-            let told = mark_at(pages, page, space, &shelf, grid, stamp, true)?;
-            Ok(told.is_ok())
-        }
-    }
+    settled(&series)?;
+    Ok(series)
 }
 
 /// The integers 1 on the third, 2 on the fifth, 3 on the sixth, which is hidden, and 4 on the tenth.
@@ -283,17 +218,11 @@ pub(crate) fn filled(alloc: Global, regular: bool) -> Result<Series, StoreFault>
         (memory_contents series.pages) (places_of 7 series.space)) }
     ensures count { IfOk result (λ series. (memory_contents series.pages).count ≡ 931) }
 {
-    let counter = if regular {
-        Some(working_days(alloc)?)
-    } else {
-        None
-    };
-    let mut series = empty(alloc, counter)?;
-    put(&mut series, 3, 1)?;
-    put(&mut series, 5, 2)?;
-    put(&mut series, 6, 3)?;
-    put(&mut series, 10, 4)?;
-    hide(&mut series, 6)?;
+    if !regular {
+        return made(alloc, &page_of(IRREGULAR)?, day(3)?.units());
+    }
+    let mut series = made(alloc, &page_of(REGULAR)?, 0)?;
+    series.counter = Some(working_days(alloc)?);
     Ok(series)
 }
 

@@ -1,15 +1,12 @@
 // Stacks of pages that are written by hand, and what a list makes of each.
-ghost use Rattle.std.specs.Prelude.{◌≡◌};
-ghost use Rattle.ts_page.specs.Memory.{memory_contents};
-
-use crate::series::{SLOT, Series, day, filled, integers, shape_of};
+use crate::series::integers;
 use std::alloc::{AllocError, Global};
 use std::thread::Threads;
 use ts_aggregate::{Stack, aggregate_all};
 use ts_base::{Stamp, StoreFault, Trouble};
 use ts_expr::{AggList, Bound};
 use ts_offset::Shape;
-use ts_page::{Head, Page, Pages};
+use ts_page::{Head, Page};
 use ts_parallel::{Gate, MeetGate, OpenGate};
 use ts_row::{Row, RowType, Shelf, Value};
 use ts_space::Place;
@@ -158,70 +155,4 @@ fn two_workers_meet_over_stacks(rt: HostRuntime) {
     };
     assert!(rt; are_sums(&rows));
     assert!(rt; gate.met());
-}
-
-// The only page of a series.
-fn only_page(alloc: Global, series: &mut Series) -> Result<Vec<Page>, StoreFault>
-    requires { (memory_contents series.old.pages).count ≡ 931 }
-{
-    let mut page = Page::zero();
-    series.pages.get(930, &mut page)?;
-    Ok(vec![in alloc; page]?)
-}
-
-// What the sum makes of a regular series from one day to another.
-fn sum_between(
-    rt: &(impl Threads + Sync),
-    alloc: Global,
-    from: u8,
-    to: u8,
-) -> Result<Vec<Row>, StoreFault> {
-    let mut series = filled(alloc, true)?;
-    let pages = only_page(alloc, &mut series)?;
-    let Series {
-        kind,
-        space,
-        counter,
-        ..
-    } = series;
-    let Ok(bound) = sum(alloc, &kind) else {
-        return Err(StoreFault::Failed);
-    };
-    let stack = Stack {
-        shelf: Shelf {
-            series: SLOT,
-            kind: &kind,
-        },
-        shape: shape_of(&counter)?,
-        places: space.places(SLOT),
-        first: 0,
-    };
-    Ok(aggregate_all(
-        rt,
-        alloc,
-        &OpenGate,
-        &bound,
-        &pages,
-        &[stack],
-        day(from)?,
-        day(to)?,
-    )?)
-}
-
-// Whether it is the only row.
-fn gives(rows: Result<Vec<Row>, StoreFault>, wanted: Option<i128>) -> bool {
-    match rows {
-        Ok(rows) => matches!(rows.as_slice(), [row] if is_sum(row, wanted)),
-        Err(_) => false,
-    }
-}
-
-#[test]
-fn a_stack_of_a_regular_series_is_folded_in_a_range(rt: HostRuntime) {
-    let alloc = rt.alloc();
-    assert!(rt; gives(sum_between(&rt, alloc, 1, 31), Some(7)));
-    assert!(rt; gives(sum_between(&rt, alloc, 3, 5), Some(3)));
-    assert!(rt; gives(sum_between(&rt, alloc, 4, 9), Some(2)));
-    assert!(rt; gives(sum_between(&rt, alloc, 6, 9), None));
-    assert!(rt; gives(sum_between(&rt, alloc, 10, 10), Some(4)));
 }
