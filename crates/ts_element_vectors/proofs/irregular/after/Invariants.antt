@@ -1,7 +1,0 @@
-use Rattle.ts_page.specs.Memory.{memory_contents}
-use Rattle.ts_space.specs.Directory.{places_of}
-use Rattle.ts_chain.specs.Places.{ArePlaces}
-use Rattle.ts_element_vectors.proofs.irregular.after.Given as goal
-
-abbrev pub invariant-loop-step : goal.invariant-loop-step
-invariant-loop-step l = ArePlaces l.series.kind.columns (memory_contents l.series.pages) (places_of 7 l.series.space)
