@@ -20,15 +20,9 @@ pub(crate) const JANUARY_4: &[u8] = b"2011-01-04 00:00:00";
 
 pub(crate) const JANUARY_5: &[u8] = b"2011-01-05 00:00:00";
 
-pub(crate) const JANUARY_6: &[u8] = b"2011-01-06 00:00:00";
-
-pub(crate) const JANUARY_7: &[u8] = b"2011-01-07 00:00:00";
-
 pub(crate) const JANUARY_8: &[u8] = b"2011-01-08 00:00:00";
 
 pub(crate) const JANUARY_9: &[u8] = b"2011-01-09 00:00:00";
-
-pub(crate) const JANUARY_10: &[u8] = b"2011-01-10 00:00:00";
 
 pub(crate) const LAST: &[u8] = b"9999-12-31 23:59:59.99999";
 
@@ -49,25 +43,9 @@ pub(crate) const WORK: Laid = Laid {
     counts: &[1, 5, 1],
 };
 
-/// All days from 2011-01-04 on.
-pub(crate) const DAYS: Laid = Laid {
-    start: JANUARY_4,
-    unit: Unit::Day,
-    on: true,
-    counts: &[1],
-};
-
 /// All hours from 2011-01-03 on.
 pub(crate) const HOURS: Laid = Laid {
     start: JANUARY_3,
-    unit: Unit::Hour,
-    on: true,
-    counts: &[1],
-};
-
-/// All hours from half past one on.
-pub(crate) const LATE_HOURS: Laid = Laid {
-    start: b"2011-01-03 01:30:00",
     unit: Unit::Hour,
     on: true,
     counts: &[1],
@@ -85,22 +63,6 @@ pub(crate) const SECONDS: Laid = Laid {
 pub(crate) const WEEKS: Laid = Laid {
     start: JANUARY_2,
     unit: Unit::Week,
-    on: true,
-    counts: &[1],
-};
-
-/// All months from November 2010 on.
-pub(crate) const MONTHS: Laid = Laid {
-    start: b"2010-11-01 00:00:00",
-    unit: Unit::Month,
-    on: true,
-    counts: &[1],
-};
-
-/// All years from 2010 on.
-pub(crate) const YEARS: Laid = Laid {
-    start: b"2010-01-01 00:00:00",
-    unit: Unit::Year,
     on: true,
     counts: &[1],
 };
