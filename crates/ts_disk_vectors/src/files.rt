@@ -21,7 +21,7 @@ fn a_file_holds_what_is_written(rt: HostRuntime) -> Result<(), Fail> {
         .create(true)
         .truncate(true)
         .open(&rt, "a_file_holds_what_is_written.ts")?;
-    let mut site = FileSite::new(file, 0, rt.stdout());
+    let mut site = FileSite::new(&rt, file, 0, u64::MAX);
     assert!(rt; count_done(&mut site, &steps) == 6);
     for (at, wanted) in [
         (4999, *b"\0p"),
@@ -45,7 +45,7 @@ fn a_write_that_is_not_taken_fails(rt: HostRuntime) -> Result<(), Fail> {
     let file = OpenOptions::new()
         .read(true)
         .open(&rt, "a_write_that_is_not_taken_fails.ts")?;
-    let mut site = FileSite::new(file, 8, rt.stdout());
+    let mut site = FileSite::new(&rt, file, 8, u64::MAX);
     assert!(rt; count_done(&mut site, &[Step::Write(0, b"5")]) == 0);
     // The file ends before the length that was told.
     let mut beyond = [0u8; 8];
@@ -57,7 +57,7 @@ fn a_write_that_is_not_taken_fails(rt: HostRuntime) -> Result<(), Fail> {
 
 #[test]
 fn standard_input_ends(rt: HostRuntime) {
-    let mut source = StdSource::new(rt.stdin());
+    let mut source = StdSource::new(&rt);
     let mut into = [0u8; 4096];
     for _ in 0..1_000_000u32 {
         if source.pull(&mut into) == Ok(0) {

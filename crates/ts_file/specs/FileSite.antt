@@ -7,6 +7,10 @@ use Rattle.ts_file.specs.declared.file_site.FileSite.{FileSite}
 abbrev pub size_of : FileSite → ℕ
 size_of f = f.size
 
+-- the most bytes that the system lets a file have
+abbrev pub limit_of : FileSite → ℕ
+limit_of f = f.limit
+
 -- how many calls of the volume failed
 abbrev pub faults_of : FileSite → ℕ
 faults_of f = f.faults

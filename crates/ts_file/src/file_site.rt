@@ -2,8 +2,9 @@
 ghost use Rattle.std.specs.Prelude.{◌≡◌, ◌+◌, ◌≤◌, ◌<◌, false, length, ◌^◌, IsTrue, IsErr};
 ghost use Rattle.ts_disk.specs.Device.{Resized, ReadAt, WrittenAt, Synced, Says};
 
+use crate::wait::write_some;
 use std::fs::File;
-use std::io::{self, Stdout, Write};
+use std::io;
 use std::os::unix::fs::FileExt;
 use ts_disk::{Failed, SayFailed, Site, Volume, raise};
 
@@ -11,9 +12,11 @@ use ts_disk::{Failed, SayFailed, Site, Volume, raise};
 #[derive(Drop)]
 pub struct FileSite {
     file: File,
-    output: Stdout,
+    rt: HostRuntime,
     /// The file's length in bytes.
     size: u64,
+    /// The most bytes that the system lets a file have.
+    limit: u64,
     /// The length changed since the last sync.
     is_resized: bool,
     /// A sync failed: what the file holds is not known any more.
@@ -23,18 +26,21 @@ pub struct FileSite {
 }
 
 impl FileSite {
-    ghost use Rattle.ts_file.specs.FileSite.{size_of, faults_of, say_faults_of, is_lost_of, SameCounts};
+    ghost use Rattle.ts_file.specs.FileSite.{size_of, limit_of, faults_of, say_faults_of, is_lost_of, SameCounts};
 
-    /// The site of a file that was opened for reading and writing and has this length now.
-    pub fn new(file: File, len: u64, output: Stdout) -> FileSite
+    /// The site of a file that was opened for reading and writing and has this length now, and of standard output.
+    /// The system ends a program that writes past its limit on file sizes, in bytes, so no such call is made.
+    pub fn new(rt: &HostRuntime, file: File, len: u64, limit: u64) -> FileSite
         ensures size { size_of result ≡ len }
+        ensures limit { limit_of result ≡ limit }
         ensures faults { faults_of result ≡ 0 }
         ensures say_faults { say_faults_of result ≡ 0 }
     {
         FileSite {
             file,
-            output,
+            rt: *rt,
             size: len,
+            limit,
             is_resized: false,
             is_lost: false,
             faults: 0,
@@ -94,10 +100,10 @@ fn write_all_at(file: &File, at: u64, from: &[u8]) -> io::Result<()>
 }
 
 // The same to standard output.
-fn write_all(output: &mut Stdout, piece: &[u8]) -> io::Result<()> {
+fn write_all(rt: &HostRuntime, piece: &[u8]) -> io::Result<()> {
     let mut done = 0;
     while done < piece.len() {
-        let put = output.write(&piece[done..])?;
+        let put = write_some(rt, &piece[done..])?;
         if put == 0 {
             return Err(io::ErrorKind::WriteZero.into());
         }
@@ -107,7 +113,7 @@ fn write_all(output: &mut Stdout, piece: &[u8]) -> io::Result<()> {
 }
 
 impl Volume for FileSite {
-    ghost use Rattle.ts_file.specs.FileSite.{file_device, faults_of, is_lost_of};
+    ghost use Rattle.ts_file.specs.FileSite.{file_device, limit_of, faults_of, is_lost_of};
 
     ghost tells = { false };
 
@@ -129,12 +135,13 @@ impl Volume for FileSite {
         requires no_shorter { (file_device self.old).size ≤ bytes }
         requires limit { bytes ≤ 272244736 }
         ensures resized { Resized false bytes result (file_device self.old) (file_device self.new) }
+        ensures beyond { limit_of self.old < bytes → IsErr result }
         ensures closed { IsTrue (is_lost_of self.old) → IsErr result }
         ensures full { faults_of self.old ≡ u64.MAX → IsErr result }
     {
         // A resize that failed may have changed the length too.
         self.is_resized = true;
-        if self.is_closed() || self.file.set_len(bytes).is_err() {
+        if self.is_closed() || bytes > self.limit || self.file.set_len(bytes).is_err() {
             raise(&mut self.faults);
             return Err(Failed);
         }
@@ -160,12 +167,14 @@ impl Volume for FileSite {
     fn write_at(&mut self, at: u64, from: &[u8]) -> Result<(), Failed>
         requires { at + length from.now ≤ (file_device self.old).size }
         ensures written { WrittenAt false at from.now result (file_device self.old) (file_device self.new) }
+        ensures beyond { limit_of self.old < at + length from.now → IsErr result }
         ensures closed { IsTrue (is_lost_of self.old) → IsErr result }
         ensures full { faults_of self.old ≡ u64.MAX → IsErr result }
     {
         // The range lies within the length, which is a u64.
         let _size = self.size;
-        if self.is_closed() || write_all_at(&self.file, at, from).is_err() {
+        let is_beyond = at + from.len() as u64 > self.limit;
+        if self.is_closed() || is_beyond || write_all_at(&self.file, at, from).is_err() {
             raise(&mut self.faults);
             return Err(Failed);
         }
@@ -194,7 +203,7 @@ impl Site for FileSite {
         ensures says { Says false piece.now result (file_device self.old) (file_device self.new) }
         ensures full { say_faults_of self.old ≡ u64.MAX → IsErr result }
     {
-        if self.say_faults == u64::MAX || write_all(&mut self.output, piece).is_err() {
+        if self.say_faults == u64::MAX || write_all(&self.rt, piece).is_err() {
             raise(&mut self.say_faults);
             return Err(SayFailed);
         }

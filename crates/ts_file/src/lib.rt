@@ -3,11 +3,13 @@
 //! that each `Err` raised its count (`specs/FileSite`), and no `Ok` did. A read of nothing inside the file and a write that
 //! takes nothing are failures. A call fails once its count stands at its last value (`full`). Once a sync failed, every
 //! later call of the volume fails (`closed`, `lost`), since a kernel may drop what was written and answer Ok to the next
-//! sync. Stands on ts_disk alone.
+//! sync. A call that would take the file past the system's limit on file sizes fails (`beyond`), since the system would end
+//! the program. Standard input and output that don't block are waited for (`wait.rt`). Stands on ts_disk alone.
 #![tactic(auto)]
 
 mod file_site;
 mod std_source;
+mod wait;
 
 pub use file_site::FileSite;
 pub use std_source::StdSource;

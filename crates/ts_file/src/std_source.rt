@@ -2,13 +2,13 @@
 ghost use Rattle.std.specs.Prelude.{◌≡◌, ◌<◌, length, false, IsErr};
 ghost use Rattle.ts_disk.specs.Input.{Pulled};
 
-use std::io::{Read, Stdin};
+use crate::wait::read_some;
 use ts_disk::{PullFailed, Source, raise};
 
 /// Standard input. It tells no bytes.
 #[derive(Drop)]
 pub struct StdSource {
-    input: Stdin,
+    rt: HostRuntime,
     pulls: u64,
     pull_faults: u64,
 }
@@ -16,12 +16,12 @@ pub struct StdSource {
 impl StdSource {
     ghost use Rattle.ts_file.specs.StdSource.{std_input};
 
-    pub fn new(input: Stdin) -> StdSource
+    pub fn new(rt: &HostRuntime) -> StdSource
         ensures pulls { (std_input result).pulls ≡ 0 }
         ensures faults { (std_input result).pull_faults ≡ 0 }
     {
         StdSource {
-            input,
+            rt: *rt,
             pulls: 0,
             pull_faults: 0,
         }
@@ -44,7 +44,7 @@ impl Source for StdSource {
         if self.pull_faults == u64::MAX {
             return Err(PullFailed);
         }
-        match self.input.read(into) {
+        match read_some(&self.rt, into) {
             Ok(count) => Ok(count),
             Err(_) => {
                 raise(&mut self.pull_faults);

@@ -1,6 +1,10 @@
 // One plain line on standard error for each status but 0: what happened, and what to do.
 use std::fmt::Display;
 
+/// What the words may be.
+pub(crate) const USAGE: &str =
+    "say `ts VOLUME init PAGES` with 1 to 65536 pages, `ts VOLUME run < SCRIPT`, `ts VOLUME migrate`, or `ts VOLUME gen COUNT SEED` with 1 to 1000000 edits and a seed";
+
 /// Prints a text, and answers with the status.
 pub(crate) fn show(rt: &HostRuntime, text: &str) -> u8 {
     match println!(rt; "{text}") {
@@ -14,10 +18,24 @@ pub(crate) fn show(rt: &HostRuntime, text: &str) -> u8 {
 
 /// Says what a status means for a volume, and answers with it.
 pub(crate) fn advise(rt: &HostRuntime, path: &str, status: u8) -> u8 {
-    if status != 0 {
-        complain(rt, path, advice(status));
+    match status {
+        0 => {}
+        2 => complain(rt, path, format_args!("these words name no job; {USAGE}")),
+        _ => complain(rt, path, advice(status)),
     }
     status
+}
+
+/// Says that a first word that begins with `-` is no volume's path, and answers with the status of a faulty command line.
+pub(crate) fn refuse_option(rt: &HostRuntime, word: &str) -> u8 {
+    complain(
+        rt,
+        word,
+        format_args!(
+            "is no path, as it begins with `-`; {USAGE}; a file of such a name is given as `./-NAME`"
+        ),
+    );
+    2
 }
 
 /// Says what a status of `migrate` means for a volume, and answers with it.
@@ -26,7 +44,7 @@ pub(crate) fn advise_migrate(rt: &HostRuntime, path: &str, status: u8) -> u8 {
         5 => complain(
             rt,
             path,
-            "the file failed; all that it holds stays, in its own format or the newest: check the disk, then migrate again",
+            "the file failed; all that it holds stays, in its own format or the newest: check the disk and the limit on file sizes, then migrate again",
         ),
         7 => complain(
             rt,
@@ -49,7 +67,7 @@ pub(crate) fn advise_gen(rt: &HostRuntime, path: &str, status: u8) -> u8 {
         5 => complain(
             rt,
             path,
-            "the file failed; some first commands were carried out: check the disk, then begin again on a new store",
+            "the file failed; some first commands were carried out: check the disk and the limit on file sizes, then begin again on a new store",
         ),
         7 => complain(
             rt,
@@ -68,14 +86,12 @@ pub(crate) fn complain(rt: &HostRuntime, path: &str, what: impl Display + Drop) 
 
 fn advice(status: u8) -> &'static str {
     match status {
-        2 =>
-            "these words name no job; say `ts VOLUME init PAGES` with 1 to 65536 pages, `ts VOLUME run < SCRIPT`, `ts VOLUME migrate`, or `ts VOLUME gen COUNT SEED` with 1 to 1000000 edits and a seed",
         3 =>
-            "standard input failed; each command whose reply you have is stored: run the rest again",
+            "standard input failed; each statement whose reply was said is stored, and no other: run the rest",
         4 =>
-            "standard output failed; each command whose reply you have is stored, and the one after it may be: run the rest again",
+            "standard output failed; each statement whose reply was said is stored, and the next one may be: look with GetElem how far the volume is before a PutElem is said again, then run the rest",
         5 =>
-            "the file failed; each command whose reply you have is stored: check the disk, then run the rest again",
+            "the file failed; each statement whose reply was said is stored, and the next one may be: check the disk and the limit on file sizes, look with GetElem how far the volume is before a PutElem is said again, then run the rest",
         6 =>
             "this is no store, or its pages are damaged; nothing was changed: take another file, or a copy of this one",
         7 =>

@@ -5,11 +5,12 @@
 #![tactic(auto)]
 
 mod advice;
+mod limit;
 mod start;
+mod streams;
 mod volume_file;
 
-use advice::complain;
-use start::{Start, finish, prepare, read_words};
+use start::{Start, finish, prepare, read_words, refuse_words};
 use std::process::ExitCode;
 use ts_file::StdSource;
 use ts_shell::run_ts;
@@ -17,19 +18,12 @@ use ts_shell::run_ts;
 fn main(rt: HostRuntime) -> ExitCode {
     let words = match read_words(&rt) {
         Ok(words) => words,
-        Err(error) => {
-            complain(
-                &rt,
-                "the command line",
-                format_args!("can't be read: {error}"),
-            );
-            return ExitCode::from(2);
-        }
+        Err(error) => return ExitCode::from(refuse_words(&rt, &error)),
     };
     ExitCode::from(match prepare(&rt, &words) {
         Start::Ended(status) => status,
         Start::Opened(mut opened) => {
-            let mut source = StdSource::new(rt.stdin());
+            let mut source = StdSource::new(&rt);
             let status = run_ts(&rt, rt.alloc(), opened.words, &mut opened.site, &mut source);
             finish(&rt, opened.job, opened.path, status)
         }

@@ -1,8 +1,11 @@
 // What comes before the top call, and after it.
-use crate::advice::{advise, advise_gen, advise_migrate, complain, show};
-use crate::volume_file::{open_volume, sync_folder};
+use crate::advice::{USAGE, advise, advise_gen, advise_migrate, complain, refuse_option, show};
+use crate::limit::file_limit;
+use crate::streams::may_complain;
+use crate::volume_file::{OpenError, open_volume, sync_folder};
 use std::io::IsTerminal;
-use std::{env, io};
+use std::rt::Env;
+use std::{env, io, str};
 use ts_file::FileSite;
 use ts_shell::{Job, read_job};
 
@@ -25,6 +28,12 @@ examples:
 The status is 0 where all was done; else a line on standard error says what happened and what to do.";
 
 const VERSION: &str = "ts 0.1.0";
+
+/// The system opens no longer path.
+const LONGEST_PATH: usize = 4096;
+
+/// First words that stand where the path is left out.
+const JOBS: [&str; 6] = ["init", "run", "migrate", "gen", "help", "version"];
 
 /// Whether there is work to do.
 #[derive(Drop)]
@@ -52,6 +61,22 @@ pub(crate) fn read_words(rt: &HostRuntime) -> io::Result<Vec<String>> {
     Ok(words)
 }
 
+/// Says that the words can't be read, and answers with the status of a faulty command line. Standard error may be the
+/// file that the first word names, whatever the others are: then the line goes nowhere.
+pub(crate) fn refuse_words(rt: &HostRuntime, error: &io::Error) -> u8 {
+    let mut room = [0; LONGEST_PATH];
+    let first = rt.arg(1, &mut room).ok();
+    let path = first.and_then(|len| str::from_utf8(&room[..len]).ok());
+    if may_complain(rt, path) {
+        complain(
+            rt,
+            "the command line",
+            format_args!("can't be read: {error}"),
+        );
+    }
+    2
+}
+
 /// Opens the volume that the words name. Only `init` with a right number may make its file.
 pub(crate) fn prepare<'a>(rt: &HostRuntime, words: &'a [String]) -> Start<'a> {
     let [path, words @ ..] = words else {
@@ -64,12 +89,12 @@ pub(crate) fn prepare<'a>(rt: &HostRuntime, words: &'a [String]) -> Start<'a> {
     if path == "--version" {
         return Start::Ended(show(rt, VERSION));
     }
+    if path.starts_with('-') {
+        return Start::Ended(refuse_option(rt, path));
+    }
     let job = read_job(words);
     match open_volume(rt, path, matches!(job, Some(Job::Init(_)))) {
-        Err(error) => {
-            complain(rt, path, error);
-            Start::Ended(11)
-        }
+        Err(error) => Start::Ended(refuse_volume(rt, path, error)),
         Ok((file, len)) => match job {
             None => Start::Ended(advise(rt, path, 2)),
             Some(job) => {
@@ -80,11 +105,25 @@ pub(crate) fn prepare<'a>(rt: &HostRuntime, words: &'a [String]) -> Start<'a> {
                     job,
                     path,
                     words,
-                    site: FileSite::new(file, len, rt.stdout()),
+                    site: FileSite::new(rt, file, len, file_limit(rt)),
                 })
             }
         },
     }
+}
+
+/// Says why a volume's file can't be used, and answers with the status of that.
+fn refuse_volume(rt: &HostRuntime, path: &str, error: OpenError) -> u8 {
+    if matches!(error, OpenError::Missing) && JOBS.contains(&path) {
+        complain(
+            rt,
+            path,
+            format_args!("isn't there, and the volume's path comes first; {USAGE}"),
+        );
+    } else if error.may_be_said(rt) {
+        complain(rt, path, error);
+    }
+    11
 }
 
 /// Says to somebody at a terminal what a run waits for.
@@ -114,7 +153,7 @@ fn finish_init(rt: &HostRuntime, path: &str, status: u8) -> u8 {
         complain(
             rt,
             path,
-            "the file failed, so it may be no store; remove it, and run init again",
+            "the file failed, so it may be no store; check the disk and the limit on file sizes, remove it, and run init again",
         );
         return 5;
     }
