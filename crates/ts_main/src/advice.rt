@@ -3,7 +3,8 @@ use std::fmt::Display;
 
 /// What the words may be.
 pub(crate) const USAGE: &str =
-    "say `ts VOLUME init PAGES` with 1 to 65536 pages, `ts VOLUME run < SCRIPT`, `ts VOLUME migrate`, or `ts VOLUME gen COUNT SEED` with 1 to 1000000 edits and a seed";
+    "say `ts VOLUME init PAGES` with 1 to 65536 pages, `ts VOLUME run < SCRIPT`, `ts VOLUME migrate`, or `ts VOLUME \
+     gen COUNT SEED` with 1 to 1000000 edits and a seed";
 
 /// Prints a text, and answers with the status.
 pub(crate) fn show(rt: &HostRuntime, text: &str) -> u8 {
@@ -26,7 +27,8 @@ pub(crate) fn advise(rt: &HostRuntime, path: &str, status: u8) -> u8 {
     status
 }
 
-/// Says that a first word that begins with `-` is no volume's path, and answers with the status of a faulty command line.
+/// Says that a first word that begins with `-` is no volume's path, and answers with the status of a faulty command
+/// line.
 pub(crate) fn refuse_option(rt: &HostRuntime, word: &str) -> u8 {
     complain(
         rt,
@@ -44,7 +46,8 @@ pub(crate) fn advise_migrate(rt: &HostRuntime, path: &str, status: u8) -> u8 {
         5 => complain(
             rt,
             path,
-            "the file failed; all that it holds stays, in its own format or the newest: check the disk and the limit on file sizes, then migrate again",
+            "the file failed; all that it holds stays, in its own format or the newest: check the disk and the \
+             limit on file sizes, then migrate again",
         ),
         7 => complain(
             rt,
@@ -67,12 +70,14 @@ pub(crate) fn advise_gen(rt: &HostRuntime, path: &str, status: u8) -> u8 {
         5 => complain(
             rt,
             path,
-            "the file failed; some first commands were carried out: check the disk and the limit on file sizes, then begin again on a new store",
+            "the file failed; some first commands were carried out: check the disk and the limit on file sizes, \
+             then begin again on a new store",
         ),
         7 => complain(
             rt,
             path,
-            "there is no memory for it; some first commands were carried out: free some, then begin again on a new store",
+            "there is no memory for it; some first commands were carried out: free some, then begin again on a new \
+             store",
         ),
         _ => return advise(rt, path, status),
     }
@@ -89,9 +94,12 @@ fn advice(status: u8) -> &'static str {
         3 =>
             "standard input failed; each statement whose reply was said is stored, and no other: run the rest",
         4 =>
-            "standard output failed; each statement whose reply was said is stored, and the next one may be: look with GetElem how far the volume is before a PutElem is said again, then run the rest",
+            "standard output failed; each statement whose reply was said is stored, and the next one may be: look \
+             with GetElem how far the volume is before a PutElem is said again, then run the rest",
         5 =>
-            "the file failed; each statement whose reply was said is stored, and the next one may be: check the disk and the limit on file sizes, look with GetElem how far the volume is before a PutElem is said again, then run the rest",
+            "the file failed; each statement whose reply was said is stored, and the next one may be: check the \
+             disk and the limit on file sizes, look with GetElem how far the volume is before a PutElem is said \
+             again, then run the rest",
         6 =>
             "this is no store, or its pages are damaged; nothing was changed: take another file, or a copy of this one",
         7 =>

@@ -1,7 +1,7 @@
 //! The program `ts`. Its first word is the volume's path; with the other words, the open file, standard output and
-//! standard input it calls `run_ts`, and ends with that status. Here are only the way to the file and the lines on
-//! standard error; what is promised of the volume is on `run_ts`. Stands on ts_shell for the work and on ts_file for
-//! the outside.
+//! standard input it calls `run_ts`, and ends with that status. Here are only the way to the file, what keeps the
+//! standard streams apart from it, and the lines on standard error; what is promised of the volume is on `run_ts`.
+//! Stands on ts_shell for the work and on ts_file for the outside.
 #![tactic(auto)]
 
 mod advice;

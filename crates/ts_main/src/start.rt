@@ -153,7 +153,8 @@ fn finish_init(rt: &HostRuntime, path: &str, status: u8) -> u8 {
         complain(
             rt,
             path,
-            "the file failed, so it may be no store; check the disk and the limit on file sizes, remove it, and run init again",
+            "the file failed, so it may be no store; check the disk and the limit on file sizes, remove it, and run \
+             init again",
         );
         return 5;
     }

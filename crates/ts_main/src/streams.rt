@@ -1,5 +1,5 @@
-// The standard streams beside the volume's file. What a job says must never land in the volume, so a stream that is that
-// file is refused before anything is said, and so is one that can't be asked which file it is.
+// The standard streams beside the volume's file. What a job says must never land in the volume, so a stream that is
+// that file is refused before anything is said, and so is one that can't be asked which file it is.
 use std::fmt::{self, Display, Formatter};
 use std::fs::{self, Metadata};
 use std::io::IsTerminal;
