@@ -8,8 +8,6 @@
 mod elements;
 mod kept;
 mod rows;
-#[cfg(test)]
-mod tests;
 mod visitor;
 
 pub use elements::ElementVisitor;

@@ -1,8 +1,8 @@
 // Elements that are kept of entries that are handed on.
-use super::*;
 use std::alloc::Global;
 use std::test::Fail;
 use ts_base::{Name, Stamp};
+use ts_entry::{EntryVisitor, KeptElements};
 use ts_row::{Column, ColumnKind, Elem, RowType, Value};
 
 // A row type of one small number.
