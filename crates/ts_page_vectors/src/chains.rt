@@ -1,12 +1,7 @@
 // The pages of an irregular series: their order, how full they are, and the first bad page.
-ghost use Rattle.std.specs.Prelude.{◌≡◌, IfOk};
-ghost use Rattle.ts_page.specs.Memory.{memory_contents};
-
-use crate::volume::{Case, Patch, page_told, put_all, survey_of, volume};
+use crate::volume::{Case, Patch, first_missed, surveyed};
 use std::alloc::Global;
-use ts_base::StoreFault;
 use ts_container::Surveyed;
-use ts_page::MemoryPages;
 use ts_space::Place;
 
 /// What makes the rows of the good volume so wide that a page holds four: its page has the stamps 0, 2, 4 and 6 then, without values,
@@ -23,15 +18,6 @@ const WIDE: [Patch; 10] = [
     (931, 2050, b"\x01\x00\x00\x75\xb0\x95\x53\xf0\x04"),
     (931, 3059, b"\x01\x00\x00\x75\xb0\x95\x53\xf0\x06"),
 ];
-
-// The volume with wide rows and with these bytes put into its pages.
-fn wide(alloc: Global, patches: &[Patch]) -> Result<MemoryPages, StoreFault>
-    ensures { IfOk result (λ pages. (memory_contents pages).count ≡ 933) }
-{
-    let mut pages = volume(alloc, &WIDE)?;
-    put_all(&mut pages, patches)?;
-    Ok(pages)
-}
 
 /// Bytes of pages of the series with wide rows.
 const CHAINS: [Case; 7] = [
@@ -84,13 +70,6 @@ const AT_10: Patch = (930, 2050, b"\x01\x00\x00\x75\xb0\x95\x53\xf0\x0a");
 
 const AT_11: Patch = (930, 3059, b"\x01\x00\x00\x75\xb0\x95\x53\xf0\x0b");
 
-#[test]
-fn a_bad_chain_of_pages_is_told(rt: HostRuntime) {
-    for (patches, wanted) in &CHAINS {
-        assert!(rt; page_told(survey_of(rt.alloc(), wide(rt.alloc(), patches))) == Some(*wanted));
-    }
-}
-
 // Whether the directory has the pages in the order of their stamps.
 fn is_chain(found: &Surveyed) -> bool {
     let places = found.space.places(50);
@@ -108,7 +87,7 @@ fn is_chain(found: &Surveyed) -> bool {
 }
 
 fn is_chained(alloc: Global) -> bool {
-    match survey_of(alloc, wide(alloc, &[HEAD, AT_7])) {
+    match surveyed(alloc, &WIDE, &[HEAD, AT_7]) {
         Ok(found) => is_chain(&found),
         Err(_) => false,
     }
@@ -117,4 +96,9 @@ fn is_chained(alloc: Global) -> bool {
 #[test]
 fn the_places_of_a_series_stand_in_the_order_of_their_stamps(rt: HostRuntime) {
     assert!(rt; is_chained(rt.alloc()));
+}
+
+#[test]
+fn a_bad_chain_of_pages_is_told(rt: HostRuntime) {
+    assert_eq!(rt; first_missed(rt.alloc(), &WIDE, &CHAINS), None);
 }

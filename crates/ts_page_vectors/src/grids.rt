@@ -5,7 +5,7 @@ ghost use Rattle.ts_page.specs.Memory.{memory_contents};
 ghost use Rattle.ts_layout.specs.Meaning.{AreSound};
 
 use crate::made::{START, key, stamp};
-use crate::volume::{Case, NEWEST, Patch, page_of, page_told, put_all, survey_of, volume, zeros};
+use crate::volume::{Case, NEWEST, Patch, first_missed, page_of, surveyed, volume, zeros};
 use std::alloc::Global;
 use ts_base::StoreFault;
 use ts_container::{Surveyed, shape_of, write_slot};
@@ -15,14 +15,17 @@ use ts_page::MemoryPages;
 use ts_space::Place;
 
 /// In slot 3 the regular series `g` of the container in slot 3, on the calendar in slot 5, from 2011-01-03 00:00:00 on.
-const SERIES: [Patch; 2] = [
-    (834, 282, b"\x01\x01g"),
-    (834, 348, b"\x03\x05\x00\x00\x75\xb0\x95\x53\xf0\x00"),
-];
+const SERIES: [Patch; 2] = [KEY, REST];
 
-/// The calendar, of each day from 2011-01-03 on, and a page of 677 cells from offset 677 on, with the integer 7 in its first cell and NULL
+const KEY: Patch = (834, 282, b"\x01\x01g");
+
+const REST: Patch = (834, 348, b"\x03\x05\x00\x00\x75\xb0\x95\x53\xf0\x00");
+
+/// That series, the calendar, of each day from 2011-01-03 on, and a page of 677 cells from offset 677 on, with the integer 7 in its first cell and NULL
 /// in its last.
-const DAYS: [Patch; 6] = [
+const DAYS: [Patch; 8] = [
+    KEY,
+    REST,
     (582, 0, b"\x01\x01d"),
     (582, 34, b"\x00\x00\x75\xb0\x95\x53\xf0\x00"),
     (
@@ -45,16 +48,6 @@ const SEVEN: &[u8] = b"\x01\x01\x00\x00\x00\x07";
 const NULL: &[u8] = b"\x01\x00\x00\x00\x00\x00";
 
 const NONE: &[u8] = b"\x00\x00\x00\x00\x00\x00";
-
-// The good volume with the series, its calendar and its page, and with these bytes put into its pages.
-fn with_days(alloc: Global, patches: &[Patch]) -> Result<MemoryPages, StoreFault>
-    ensures { IfOk result (λ pages. (memory_contents pages).count ≡ 933) }
-{
-    let mut pages = volume(alloc, &SERIES)?;
-    put_all(&mut pages, &DAYS)?;
-    put_all(&mut pages, patches)?;
-    Ok(pages)
-}
 
 // The series.
 fn series(alloc: Global) -> Result<Def, StoreFault>
@@ -80,7 +73,7 @@ fn written(alloc: Global) -> Result<MemoryPages, StoreFault>
 // Whether the page of its slot is that of a volume with these bytes.
 fn is_written(alloc: Global) -> Option<bool> {
     let page = page_of(&mut written(alloc).ok()?, 834)?;
-    let wanted = page_of(&mut volume(alloc, &SERIES).ok()?, 834)?;
+    let wanted = page_of(&mut volume(alloc, &SERIES, &[]).ok()?, 834)?;
     Some(page == wanted)
 }
 
@@ -118,7 +111,7 @@ fn is_good(found: &Surveyed) -> bool {
 }
 
 fn is_surveyed(alloc: Global) -> bool {
-    match survey_of(alloc, with_days(alloc, &[])) {
+    match surveyed(alloc, &DAYS, &[]) {
         Ok(found) => is_good(&found),
         Err(_) => false,
     }
@@ -149,7 +142,7 @@ const BEHIND: Place = Place {
 };
 
 fn are_placed(alloc: Global, patches: &[Patch], places: &[Place]) -> bool {
-    match survey_of(alloc, with_days(alloc, patches)) {
+    match surveyed(alloc, &DAYS, patches) {
         Ok(found) => found.space.places(3) == places,
         Err(_) => false,
     }
@@ -200,7 +193,7 @@ fn are_shapes(found: &Surveyed) -> bool
 }
 
 fn shapes_are_found(alloc: Global) -> bool {
-    match survey_of(alloc, with_days(alloc, &[])) {
+    match surveyed(alloc, &DAYS, &[]) {
         Ok(found) => are_shapes(&found),
         Err(_) => false,
     }
@@ -314,21 +307,12 @@ const CELL_0: Patch = (930, 32, SEVEN);
 /// The quota is three pages.
 const THREE: Patch = (833, 218, &[3]);
 
-fn is_told(alloc: Global, case: &Case) -> bool {
-    let (patches, wanted) = *case;
-    page_told(survey_of(alloc, with_days(alloc, patches))) == Some(wanted)
-}
-
 #[test]
 fn a_bad_slot_of_a_regular_series_is_told(rt: HostRuntime) {
-    for case in &SLOTS {
-        assert!(rt; is_told(rt.alloc(), case));
-    }
+    assert_eq!(rt; first_missed(rt.alloc(), &DAYS, &SLOTS), None);
 }
 
 #[test]
 fn a_bad_regular_page_is_told(rt: HostRuntime) {
-    for case in &PAGES {
-        assert!(rt; is_told(rt.alloc(), case));
-    }
+    assert_eq!(rt; first_missed(rt.alloc(), &DAYS, &PAGES), None);
 }

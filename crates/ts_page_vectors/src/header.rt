@@ -38,7 +38,7 @@ const FORMATS: [(Patch, Option<u8>); 5] = [
 
 // The format of a volume; none where its header is bad.
 fn format_of(alloc: Global, patch: Patch) -> Option<Option<u8>> {
-    match surveyed(alloc, &[patch]) {
+    match surveyed(alloc, &[], &[patch]) {
         Ok(found) => Some(Some(found.defs.format())),
         Err(SurveyFault::NotAStore { page: 0 }) => Some(None),
         Err(_) => None,
@@ -56,7 +56,7 @@ fn the_survey_tells_the_format(rt: HostRuntime) {
 fn renewed(alloc: Global) -> Result<MemoryPages, StoreFault>
     ensures { IfOk result (λ pages. (memory_contents pages).count ≡ 933) }
 {
-    let mut pages = volume(alloc, &[])?;
+    let mut pages = volume(alloc, &[], &[])?;
     put_header(&mut pages, FORMAT, 3)?;
     Ok(pages)
 }
@@ -64,7 +64,7 @@ fn renewed(alloc: Global) -> Result<MemoryPages, StoreFault>
 // Whether a page of it is that of the good volume with another byte in its header.
 fn is_renewed(alloc: Global, number: u32) -> Option<bool> {
     let page = page_of(&mut renewed(alloc).ok()?, number)?;
-    let wanted = page_of(&mut volume(alloc, &[NEWEST]).ok()?, number)?;
+    let wanted = page_of(&mut volume(alloc, &[], &[NEWEST]).ok()?, number)?;
     Some(page == wanted)
 }
 

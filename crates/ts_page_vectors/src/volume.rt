@@ -58,7 +58,7 @@ fn put(pages: &mut MemoryPages, patch: &Patch) -> Result<(), StoreFault>
 }
 
 // Puts bytes into pages, one after the other.
-pub(crate) fn put_all(pages: &mut MemoryPages, patches: &[Patch]) -> Result<(), StoreFault>
+fn put_all(pages: &mut MemoryPages, patches: &[Patch]) -> Result<(), StoreFault>
     requires count { (memory_contents pages.old).count ≡ 933 }
     requires free { (memory_contents pages.old).free ≡ [] }
     ensures count { (memory_contents pages.new).count ≡ 933 }
@@ -70,22 +70,24 @@ pub(crate) fn put_all(pages: &mut MemoryPages, patches: &[Patch]) -> Result<(), 
     Ok(())
 }
 
-// The good volume with these bytes put into its pages.
-pub(crate) fn volume(alloc: Global, patches: &[Patch]) -> Result<MemoryPages, StoreFault>
+// The good volume with these bytes put into its pages, the one behind the other.
+pub(crate) fn volume(
+    alloc: Global,
+    base: &[Patch],
+    patches: &[Patch],
+) -> Result<MemoryPages, StoreFault>
     ensures count { IfOk result (λ pages. (memory_contents pages).count ≡ 933) }
     ensures free { IfOk result (λ pages. (memory_contents pages).free ≡ []) }
 {
     let mut pages = zeros(alloc)?;
     put_all(&mut pages, &GOOD)?;
+    put_all(&mut pages, base)?;
     put_all(&mut pages, patches)?;
     Ok(pages)
 }
 
 // What the survey of a volume finds.
-pub(crate) fn survey_of(
-    alloc: Global,
-    made: Result<MemoryPages, StoreFault>,
-) -> Result<Surveyed, SurveyFault>
+fn survey_of(alloc: Global, made: Result<MemoryPages, StoreFault>) -> Result<Surveyed, SurveyFault>
     requires { IfOk made (λ pages. (memory_contents pages).count ≡ 933) }
     ensures { IfOk result (λ found. AreSound 3 found.defs.definitions) }
 {
@@ -99,12 +101,18 @@ pub(crate) fn survey_of(
 }
 
 // What the survey of the good volume with these bytes finds.
-pub(crate) fn surveyed(alloc: Global, patches: &[Patch]) -> Result<Surveyed, SurveyFault> {
-    survey_of(alloc, volume(alloc, patches))
+pub(crate) fn surveyed(
+    alloc: Global,
+    base: &[Patch],
+    patches: &[Patch],
+) -> Result<Surveyed, SurveyFault>
+    ensures { IfOk result (λ found. AreSound 3 found.defs.definitions) }
+{
+    survey_of(alloc, volume(alloc, base, patches))
 }
 
 // The bad page that is told, if one is.
-pub(crate) fn page_told(found: Result<Surveyed, SurveyFault>) -> Option<Option<u32>> {
+fn page_told(found: Result<Surveyed, SurveyFault>) -> Option<Option<u32>> {
     match found {
         Ok(_) => Some(None),
         Err(SurveyFault::NotAStore { page }) => Some(Some(page)),
@@ -127,7 +135,17 @@ pub(crate) fn page_of(pages: &mut MemoryPages, number: u32) -> Option<Page>
 /// Bytes for the good volume, and the first page that is bad with them, if one is.
 pub(crate) type Case = (&'static [Patch], Option<u32>);
 
-pub(crate) fn is_told(alloc: Global, case: &Case) -> bool {
-    let (patches, wanted) = *case;
-    page_told(surveyed(alloc, patches)) == Some(wanted)
+// The first bad page of the good volume with these bytes, the one behind the other, if one is told.
+fn told(alloc: Global, base: &[Patch], patches: &[Patch]) -> Option<Option<u32>> {
+    page_told(surveyed(alloc, base, patches))
+}
+
+/// Which of these cases is the first whose bytes, put into the good volume behind others, don't have the page that is wanted.
+pub(crate) fn first_missed(alloc: Global, base: &[Patch], cases: &[Case]) -> Option<usize> {
+    for (number, (patches, wanted)) in cases.iter().enumerate() {
+        if told(alloc, base, patches) != Some(*wanted) {
+            return Some(number);
+        }
+    }
+    None
 }
