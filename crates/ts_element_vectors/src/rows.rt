@@ -376,12 +376,16 @@ const LONG_ROW: &[u8] =
 const LONG_ROW_TEXT: &[u8] = b"9999999999999999999999999999,-0.9999999999999999999999999999";
 
 // Whether the bytes of a row are these.
-fn is_written(alloc: Global, row_type: &RowType, row: &Row, wanted: &[u8]) -> Option<bool>
+fn is_written(row_type: &RowType, row: &Row, wanted: &[u8]) -> Option<bool>
     requires { IsTrue (fits row_type.now.columns row.now) }
 {
-    let mut bytes = vec![in alloc; 0xaa; row_type.width()].ok()?;
-    row_type.encode(row, bytes.as_mut_slice());
-    Some(bytes.as_slice() == wanted)
+    let width = row_type.width();
+    if width > 64 {
+        return None;
+    }
+    let mut bytes = [0xaa; 64];
+    row_type.encode(row, &mut bytes[..width]);
+    Some(&bytes[..width] == wanted)
 }
 
 // Whether the text of a row is this.
@@ -394,7 +398,7 @@ fn is_printed(alloc: Global, row_type: &RowType, row: &Row, wanted: &[u8]) -> Op
 // Whether bytes are those of a row, which is written as they are, and has this text.
 fn is_row_of(alloc: Global, row_type: &RowType, bytes: &[u8], text: &[u8]) -> Option<bool> {
     let row = row_type.decode(bytes).ok()??;
-    let is_written = is_written(alloc, row_type, &row, bytes)?;
+    let is_written = is_written(row_type, &row, bytes)?;
     Some(is_written && is_printed(alloc, row_type, &row, text)?)
 }
 
@@ -458,7 +462,7 @@ fn is_marked(
 ) -> Option<bool> {
     let mut row = row_type.decode(from).ok()??;
     row.mark(hidden);
-    let is_written = is_written(alloc, row_type, &row, to)?;
+    let is_written = is_written(row_type, &row, to)?;
     let copy_is_marked = row.copy().ok()?.hidden() == hidden;
     let mut bytes = Vec::from_slice(alloc, from).ok()?;
     row_type.mark(hidden, bytes.as_mut_slice());
