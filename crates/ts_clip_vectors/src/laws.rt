@@ -1,4 +1,5 @@
-// The laws of ts_irregular, ts_chain, ts_regular and ts_regular_edits, and what a page of a regular series has room for.
+// The laws of ts_irregular, ts_chain, ts_regular and ts_regular_edits, and what a page of a regular series has room
+// for.
 use crate::series::integers;
 use std::alloc::Global;
 use ts_base::StoreFault;
@@ -36,7 +37,8 @@ fn the_laws_are_called() {
     ranges_of_offsets_are_ranges_of_stamps();
 }
 
-// Whether an integer has so many cells on a page, an offset belongs to the page of this one, and a page of zeros is no regular one.
+// Whether an integer has so many cells on a page, an offset belongs to the page of this one, and a page of zeros is
+// no regular one.
 fn is_measured(alloc: Global) -> Result<bool, StoreFault> {
     let kind = integers(alloc)?;
     Ok(

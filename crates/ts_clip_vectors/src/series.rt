@@ -101,8 +101,8 @@ fn grid_of(counter: &Counter) -> Result<Grid<'_>, StoreFault>
 /// Bytes that stand in a page, each behind so many.
 type Patches = &'static [(usize, &'static [u8])];
 
-/// The integers 1 on the third, 2 on the fifth, 3 on the sixth, which is hidden, and 4 on the tenth: a head, and a cell of a byte 1, a
-/// stamp and a row for each.
+/// The integers 1 on the third, 2 on the fifth, 3 on the sixth, which is hidden, and 4 on the tenth: a head, and a
+/// cell of a byte 1, a stamp and a row for each.
 const IRREGULAR: Patches = &[
     (0, b"\x02\x00\x07\x00\x04"),
     (
