@@ -1,0 +1,2 @@
+pub mod AggregateLemmas
+pub mod EntryLemmas
