@@ -1,0 +1,9 @@
+pub mod EachSeriesLemmas
+pub mod GatheredLemmas
+pub mod InOrderLemmas
+pub mod JoinLemmas
+pub mod LagLemmas
+pub mod SaidRowsLemmas
+pub mod SeenSideLemmas
+pub mod SideLemmas
+pub mod StackLemmas

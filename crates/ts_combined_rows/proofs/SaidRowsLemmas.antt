@@ -1,0 +1,66 @@
+-- Rows that are said one after the other.
+use Rattle.std.proofs.Common.{◌≡◌, ℕ, ℤ, ◌+◌, ◌<◌, ◌≤◌, IsTrue, Option, Some, None, IfSome, List, [], ◌∷◌, ◌++◌, map, take, length, get_or, refl, ap, sym, subst, ◌∙◌, append_assoc, append-nil}
+use Rattle.std.specs.Prelude.{slice_get}
+use Rattle.std.specs.Borrow.{Bor}
+use Rattle.std.specs.List.{flat_map}
+use Rattle.std.specs.Option.{option_map, option_copied, unwrap_or}
+use Rattle.std.proofs.lemmas.List.{map_more, take_all, length-map}
+use Rattle.std.proofs.lemmas.List.Concat.{flat_map-append}
+use Rattle.std.proofs.lemmas.Option.{slice_get_within, slice_get-get_or, slice_get-map, get_or_from_slice_get}
+use Rattle.ts_row.specs.declared.kind.Column.{Column}
+use Rattle.ts_row.specs.declared.row.Elem.{Elem}
+use Rattle.ts_row.specs.Row.{Row, fits, visible}
+use Rattle.ts_row.specs.Element.{Element}
+use Rattle.ts_combine.specs.Combine.{values_or_nulls}
+use Rattle.ts_combine.specs.Series.{elements_in}
+use Rattle.ts_combine.specs.Call.{row_at}
+use Rattle.ts_combine.specs.Moved.{lagged_row}
+use Rattle.ts_combine.specs.declared.joined.Lagged.{Lagged}
+use Rattle.ts_answer.specs.Reply.{element_line, elements_text, count_line}
+use Rattle.ts_combined_rows.specs.Combining.{AllFit}
+
+-- one more
+pub said_more : {T : Type 0} (line : Element → List ℕ) (f : T → Element) (rows : List T) (i : ℕ) (row : T) (begun out after : List ℕ) → i < length rows → row ≡ get_or rows i row → out ≡ begun ++ flat_map line (map f (take i rows))
+    → after ≡ out ++ line (f row) → after ≡ begun ++ flat_map line (map f (take (i + 1) rows))
+said_more line f rows i row begun out after below is said one =
+    let front = flat_map line (map f (take i rows)) in
+    let lines : flat_map line (map f (take (i + 1) rows)) ≡ front ++ line (f row) =
+    ap (flat_map line) (map_more f rows i row below ∙ ap (λ r. map f (take i rows) ++ f r ∷ []) (sym is))
+    ∙ flat_map-append line (map f (take i rows)) (f row ∷ []) ∙ ap (λ l. front ++ l) (append-nil (line (f row))) in
+    one ∙ ap (λ l. l ++ line (f row)) said ∙ append_assoc begun front (line (f row)) ∙ ap (λ l. begun ++ l) (sym lines)
+
+-- all of them, and how many they are
+pub said_all : {T : Type 0} (columns : List Column) (f : T → Element) (rows : List T) (i : ℕ) (begun out after : List ℕ) → length rows ≤ i → out ≡ begun ++ flat_map (element_line columns) (map f (take i rows))
+    → after ≡ out ++ count_line (length rows) → after ≡ begun ++ elements_text columns (map f rows)
+unfolding elements_text
+said_all columns f rows i begun out after past said count =
+    let lines = flat_map (element_line columns) (map f rows) in
+    let all : out ≡ begun ++ lines = said ∙ ap (λ r. begun ++ flat_map (element_line columns) (map f r)) (take_all i rows past) in
+    count ∙ ap (λ l. l ++ count_line (length rows)) all ∙ ap (λ n. (begun ++ lines) ++ count_line n) (sym (length-map rows f)) ∙ append_assoc begun lines (count_line (length (map f rows)))
+
+fits_at : (columns : List Column) (es : List Element) (i : ℕ) (found : Option Element) (r : Row) → slice_get es i ≡ found → option_map (λ (e : Element). e.1) found ≡ Some r → AllFit columns es → IsTrue (fits columns r)
+fits_at columns es i None r at is all = absurd (cc)
+fits_at columns es i (Some e) r at is all =
+    let row : e.1 ≡ r = cc in
+    subst (λ (x : Row). IsTrue (fits columns x)) (ap (λ (x : Element). x.1) (get_or_from_slice_get es i e e at) ∙ row) (all i e (slice_get_within es i e at))
+
+-- a row that is there fits, where all do
+pub row_fits : (columns : List Column) (es : List Element) (index : Option ℕ) (found : Option (Bor Row)) → option_copied found ≡ row_at es index → AllFit columns es → IfSome found (λ r. IsTrue (fits columns r.now))
+row_fits columns es index None is all = tt
+row_fits columns es None (Some r) is all = absurd (cc)
+row_fits columns es (Some i) (Some r) is all = fits_at columns es i (slice_get es i) r.now refl (sym is) all
+
+-- a joined line, by the columns and rows of its sides
+pub joined_line : (line : Element → List ℕ) (stamp : ℤ) (m n a b : ℕ) (x y x' y' : Option Row) (out after : List ℕ) → after ≡ out ++ line (stamp, visible (values_or_nulls m x ++ values_or_nulls n y)) → a ≡ m → b ≡ n → x ≡ x' → y ≡ y'
+    → after ≡ out ++ line (stamp, visible (values_or_nulls a x' ++ values_or_nulls b y'))
+joined_line line stamp m n a b x y x' y' out after said first second one other =
+    let left : m ≡ a = sym first in
+    let right : n ≡ b = sym second in
+    said ∙ (λ i. out ++ line (stamp, visible (values_or_nulls (left i) (one i) ++ values_or_nulls (right i) (other i))))
+
+-- the line of an element at another stamp, found by its index
+pub moved_line : (line : Element → List ℕ) (elems : List Elem) (l : Lagged) (d : Elem) (out after : List ℕ) → l.index < length elems → after ≡ out ++ line (l.stamp, (get_or elems l.index d).row) → after ≡ out ++ line (lagged_row (elements_in elems) l)
+moved_line line elems l d out after below said =
+    let e = get_or elems l.index d in
+    let at : slice_get (elements_in elems) l.index ≡ Some (e.stamp, e.row) = slice_get-map (λ x. (x.stamp, x.row)) elems l.index ∙ ap (option_map (λ x. (x.stamp, x.row))) (slice_get-get_or elems l.index d below) in
+    said ∙ ap (λ (o : Option Element). out ++ line (l.stamp, unwrap_or (option_map (λ x. x.1) o) (visible []))) (sym at)

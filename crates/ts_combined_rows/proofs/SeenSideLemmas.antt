@@ -1,0 +1,62 @@
+-- A series as it is seen, as one that is combined, by what was read of it.
+use Rattle.std.proofs.Common.{◌≡◌, ℕ, ℤ, Bool, not, IsTrue, Result, Ok, Err, Some, List, ap, sym, subst, ◌∙◌}
+use Rattle.ts_base.specs.declared.fault.Trouble.{Trouble}
+use Rattle.ts_page.specs.Pages.{Contents, EqualPages}
+use Rattle.ts_row.specs.declared.kind.Column.{Column}
+use Rattle.ts_row.specs.RowType.{Heading}
+use Rattle.ts_row.specs.Element.{Element, seen}
+use Rattle.ts_space.specs.Directory.{places_of}
+use Rattle.ts_chain.specs.Range.{within_range}
+use Rattle.ts_offset.specs.declared.shape.Shape.{Shape}
+use Rattle.ts_clip.specs.Series.{HaveElements, IsLaidOut, IsTold}
+use Rattle.ts_model.specs.Catalogue.{Series, Catalogue, columns_of, shape_of}
+use Rattle.ts_layout.specs.Meaning.{Layout, catalogue_of}
+use Rattle.ts_answer.specs.Answer.{Tried, ◌>>=◌, wanted, seen_elements}
+use Rattle.ts_answer.specs.Tried.{IsTried}
+use Rattle.ts_answer.specs.View.{View, Shows}
+use Rattle.ts_answer.proofs.CallerLemmas.{on_ok, refused_as}
+use Rattle.ts_shelf.specs.Shelf.{IsShelf}
+use Rattle.ts_shelf.proofs.SeenLemmas.{elements_seen, entries_in, shelf_seen}
+use Rattle.ts_combined_rows.proofs.SideLemmas.{HasSide, on_pages, tested}
+
+-- a series of a key in a catalogue, with these elements that aren't hidden
+pub record IsSide (cat : Catalogue) (key : List ℕ) (shape : Shape) (columns : List Column) (es : List Element) : Type 0 where
+  pub series : Series
+  pub there : wanted key cat.series ≡ Ok series
+  pub columns_are : columns_of cat series ≡ columns
+  pub lies : shape_of cat series.kind ≡ Some shape
+  pub elements : seen_elements series.elements ≡ es
+  pub has : HasSide shape columns es
+
+-- one that is seen, by what was read of it
+module _ (tells : Bool) (x : View) (l : Layout) (told : IsTrue tells) (shows : Shows tells x l) (shape : Shape) (laid : IsLaidOut shape) (slot : ℕ) (h : Heading) (key : List ℕ) (found : IsShelf shape slot h key x.definitions) where
+  pub seen_es : List Element
+  seen_es = seen (elements_seen tells x l shape laid slot h told shows found.columns found.lies found.named.within).0
+
+  pub side_seen : IsSide (catalogue_of l) key shape h.columns seen_es
+  unfolding seen_es
+  side_seen =
+      let all = elements_seen tells x l shape laid slot h told shows found.columns found.lies found.named.within in
+      let tried = shelf_seen x l shows.kept key shape slot h found in
+      record {
+        series = tried.0;
+        there = tried.1;
+        columns_are = tried.2.columns;
+        lies = tried.2.lies;
+        elements = ap (λ (s : Series). seen_elements s.elements) tried.2.stands.is.2 ∙ ap seen (entries_in shape slot h.columns x.pages.page (places_of slot x.space) l all.0 all.1);
+        has = tested (λ (e : Element). not e.1.hidden) shape h.columns all.0 (on_pages shape slot h.columns x.pages.page (places_of slot x.space) all.0 all.1.order all.1.have);
+      }
+
+  pub kept_seen : (v : Contents) (from to : ℤ) (kept : List Element) → EqualPages x.pages.page v.page → IsTold tells shape slot h.columns (places_of slot x.space) v (λ es. kept ≡ within_range from to (seen es)) → kept ≡ within_range from to seen_es
+  unfolding seen_es
+  kept_seen v from to kept same read =
+      let all = elements_seen tells x l shape laid slot h told shows found.columns found.lies found.named.within in
+      read told all.0 (subst (λ (p : ℕ → List ℕ). HaveElements shape slot h.columns p (places_of slot x.space) all.0) (sym (λ i k. same k i)) all.1.have)
+
+-- a test and what follows it, as one
+pub tried_then : {A B D : Type 0} (r : Result A Trouble) (tried : Tried B) (f : B → Tried D) (Alike : A → B → Type 0) (Like : A → D → Type 0) → IsTried r tried Alike → ((a : A) (b : B) → Alike a b → (d : D) × (f b ≡ Ok d) × Like a d)
+    → IsTried r (tried >>= f) Like
+tried_then (Ok a) tried f Alike Like is then =
+    let next = then a is.ok.0 is.ok.2 in
+    record { ok = (next.0, on_ok tried is.ok.0 f is.ok.1 ∙ next.1, next.2); err = tt }
+tried_then (Err trouble) tried f Alike Like is then = record { ok = tt; err = refused_as trouble tried f is.err }

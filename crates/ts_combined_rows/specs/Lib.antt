@@ -1,0 +1,3 @@
+pub mod Aggregates
+pub mod Combining
+pub mod Gathered

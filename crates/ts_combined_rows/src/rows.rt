@@ -1,0 +1,94 @@
+// What is said of series that are combined: their rows, each in a line, and how many they are.
+ghost use Rattle.std.specs.Prelude.{◌≡◌, ◌<◌, ◌++◌, OnOk, All, map, length};
+ghost use Rattle.std.specs.Option.{option_copied};
+ghost use Rattle.ts_combine.specs.Combine.{joined};
+ghost use Rattle.ts_combine.specs.Series.{side_of, elements_in, IsSeries, HasCalendar};
+ghost use Rattle.ts_combine.specs.Call.{AnswersRows, joined_row, row_at};
+ghost use Rattle.ts_combine.specs.Moved.{lagged_row};
+ghost use Rattle.ts_answer.specs.Reply.{elements_text};
+ghost use Rattle.ts_combined_rows.specs.Combining.{AllFit};
+
+use std::alloc::{AllocError, Global};
+use ts_base::{Reply, Stamp, Trouble};
+use ts_combine::{Joined, Lagged, Side, intersect, union};
+use ts_pattern::Junction;
+use ts_row::{Elem, Row, RowType};
+use ts_say::{DayText, say_count, say_joined, say_line};
+
+/// The rows of two series as one, from one stamp to another.
+pub(crate) fn rows_of(
+    alloc: Global,
+    junction: Junction,
+    first: &Side,
+    second: &Side,
+    from: Stamp,
+    to: Stamp,
+) -> Result<Vec<Joined>, Trouble>
+    requires first { HasCalendar first.now }
+    requires second { HasCalendar second.now }
+    ensures { let a = side_of first.now in let b = side_of second.now in IsSeries a → IsSeries b
+        → AnswersRows (joined_row a b) (joined junction a b from to) result }
+{
+    match junction {
+        Junction::And => intersect(alloc, first, second, from, to),
+        Junction::Or => union(alloc, first, second, from, to),
+    }
+}
+
+/// Says the rows of two series as one, and how many they are.
+pub(crate) fn say_rows(
+    out: &mut Reply,
+    first_kind: &RowType,
+    second_kind: &RowType,
+    first: &Side,
+    second: &Side,
+    rows: &[Joined],
+) -> Result<(), AllocError>
+    requires first { first.now.columns ≡ length first_kind.now.columns }
+    requires second { second.now.columns ≡ length second_kind.now.columns }
+    ensures { OnOk result (AllFit first_kind.now.columns (elements_in first.now.elems.now)
+        → AllFit second_kind.now.columns (elements_in second.now.elems.now)
+        → out.new ≡ out.old ++ elements_text (first_kind.now.columns ++ second_kind.now.columns)
+        (map (joined_row (side_of first.now) (side_of second.now)) rows.now)) }
+{
+    let mut day = DayText::first();
+    for row in rows {
+        let one = row_at(first.elems, row.first);
+        let other = row_at(second.elems, row.second);
+        say_joined(
+            out,
+            &mut day,
+            first_kind,
+            second_kind,
+            row.stamp,
+            one,
+            other,
+        )?;
+    }
+    say_count(out, rows.len() as u64)
+}
+
+/// Says elements at other stamps than their own, each in a line, and how many they are.
+pub(crate) fn say_moved(
+    out: &mut Reply,
+    kind: &RowType,
+    elems: &[Elem],
+    rows: &[Lagged],
+) -> Result<(), AllocError>
+    requires { All (λ l. l.index < length elems.now) rows.now }
+    ensures { OnOk result (out.new ≡ out.old ++ elements_text kind.now.columns (map (lagged_row (elements_in elems.now)) rows.now)) }
+{
+    let mut day = DayText::first();
+    for row in rows {
+        say_line(out, &mut day, kind, row.stamp, &elems[row.index].row)?;
+    }
+    say_count(out, rows.len() as u64)
+}
+
+// The row of an element by its index, if there is an index.
+fn row_at(elems: &[Elem], index: Option<usize>) -> Option<&Row>
+    ensures { option_copied result ≡ row_at (elements_in elems.now) index }
+{
+    let elem = elems.get(index?)?;
+    Some(&elem.row)
+}
