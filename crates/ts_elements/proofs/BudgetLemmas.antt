@@ -12,7 +12,7 @@ use Rattle.ts_layout.specs.Charges.{KeepQuotas, places_charge, container_charge,
 use Rattle.ts_layout.proofs.CallerLemmas.{one_of, chained, at_slot-map, series_limit}
 use Rattle.ts_container.specs.KeptCharges.{AreCharges}
 use Rattle.ts_container.proofs.KeptChargeLemmas.{charge_part}
-use Rattle.ts_elements.specs.Elements.{IsSeries}
+use Rattle.ts_shelf.specs.Shelf.{IsSeries}
 use Rattle.ts_elements.specs.Room.{IsBudget}
 
 same_container : (k key : List ℕ) (c container : ℕ) (r regular : Option (ℕ × ℤ)) → Some (defs.Series k c r) ≡ Some (defs.Series key container regular) → (c ≡ container) × (r ≡ regular)

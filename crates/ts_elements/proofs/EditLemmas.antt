@@ -24,24 +24,24 @@ use Rattle.ts_offset.specs.declared.shape.Shape.{Shape}
 use Rattle.ts_offset.specs.declared.shape.Shape.TheVariants as shapes
 use Rattle.ts_command.specs.declared.command.Command.{Command}
 use Rattle.ts_model.specs.Catalogue.{Catalogue, Elements, Series, SeriesKind, Irregular, Regular, calendar_named, shape_of, columns_of, quota_of}
-use Rattle.ts_model.specs.Charge.{elements_charge}
-use Rattle.ts_model.specs.Charge.{container_charge as charge_by_name}
-use Rattle.ts_layout.specs.Meaning.{Layout, IsSound, elements_at, series_of, catalogue_of}
-use Rattle.ts_layout.specs.Meaning.{shape_of as shape_in}
+use Rattle.ts_model.specs.Charge.{elements_charge, container_charge as charge_by_name}
+use Rattle.ts_layout.specs.Meaning.{Layout, IsSound, elements_at, series_of, catalogue_of, shape_of as shape_in}
 use Rattle.ts_layout.specs.Charges.{container_charge}
 use Rattle.ts_layout.specs.Surveyed.{ListsPlaces}
 use Rattle.ts_layout.specs.Chains.{AreFilled, by_stamp}
-use Rattle.ts_answer.specs.Answer.{Tried, Answered, ◌>>=◌, wanted, a_row, row_at, refused_if, placed, a_place, an_address, addressed, within_quota, with_elements, put_element, put_no_dups, insert_element, update_element, carried_out, outcome}
-use Rattle.ts_answer.specs.Answer.{with_element as with_element_of}
+use Rattle.ts_answer.specs.Answer.{Tried, Answered, ◌>>=◌, wanted, a_row, row_at, refused_if, placed, a_place, an_address, addressed, within_quota, with_elements, put_element, put_no_dups, insert_element, update_element, carried_out, outcome, with_element as with_element_of}
 use Rattle.ts_answer.specs.Reply.{stamp_line}
 use Rattle.ts_answer.proofs.CallerLemmas.{wanted-there, refused, passed, row-there, row-missing, quota-kept, quota-passed, on_ok, on_err}
-use Rattle.ts_elements.specs.Elements.{IsSeries, edit_of}
+use Rattle.ts_shelf.specs.Shelf.{IsSeries}
+use Rattle.ts_shelf.proofs.LawLemmas.{charges}
+use Rattle.ts_shelf.proofs.SeenLemmas.{SeriesIn, HasSeen, heading_there, entries_in}
+use Rattle.ts_elements.specs.Elements.{edit_of}
 use Rattle.ts_elements.specs.Room.{IsBudget}
 use Rattle.ts_elements.specs.Stamps.{HaveElements, IsLaidOut, charge_by, target_from, target_in}
-use Rattle.ts_elements.proofs.LawLemmas.{charges, as_maps}
+use Rattle.ts_elements.proofs.LawLemmas.{as_maps}
 use Rattle.ts_elements.proofs.AddressLemmas.{address_is}
 use Rattle.ts_elements.proofs.SeriesLemmas.{costs}
-use Rattle.ts_elements.proofs.SeenLemmas.{SeriesIn, HasSeen, heading_there, found_in, entries_in}
+use Rattle.ts_elements.proofs.FoundLemmas.{found_in}
 use Rattle.ts_elements.proofs.MemoryLemmas.{charge_same}
 
 -- it begins with the series of a key, and a row for it

@@ -18,7 +18,7 @@ use Rattle.ts_regular.specs.Cell.{regular_room, base_of}
 use Rattle.ts_regular.specs.Offsets as offsets
 use Rattle.ts_regular.specs.Offsets.{OffsetElement}
 use Rattle.ts_regular.specs.Places as cells
-use Rattle.ts_regular.specs.Places.{OffsetPage, all_in as all_at}
+use Rattle.ts_regular.specs.Places.{all_in as all_at}
 use Rattle.ts_regular.specs.Call as call
 use Rattle.ts_regular.specs.Range.{is_between, outside}
 use Rattle.ts_regular.proofs.PlaceLemmas.{pages_rise}
@@ -42,9 +42,9 @@ use Rattle.ts_layout.specs.Placed.{AreMoved}
 use Rattle.ts_layout.specs.Chains.{by_stamp}
 use Rattle.ts_answer.specs.Answer.{addressed}
 use Rattle.ts_answer.specs.CarriedOut.{Stays}
+use Rattle.ts_shelf.proofs.LawLemmas.{charges}
 use Rattle.ts_elements.specs.Stamps.{IsTold, AreWritten, HaveElements, charge_with_one, target_in, unless}
 use Rattle.ts_elements.specs.Calls.{IsEdited, IsFound, IsMarked, IsRemoved, IsCleared, WouldCost, IsPut}
-use Rattle.ts_elements.proofs.LawLemmas.{charges}
 use Rattle.ts_elements.proofs.AddressLemmas.{on_address, no_address, one_address, not_both, aims_at, aims_at_none}
 use Rattle.ts_elements.proofs.RisingLemmas.{rising_put}
 use Rattle.ts_elements.proofs.StartLemmas.{starts_put, starts_left}

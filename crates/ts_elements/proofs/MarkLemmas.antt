@@ -19,8 +19,7 @@ use Rattle.ts_model.specs.Definitions.{Definitions}
 use Rattle.ts_layout.specs.Meaning.{Layout, elements_at, series_of, catalogue_of}
 use Rattle.ts_answer.specs.declared.effect.Effect.TheVariants.{Pages}
 use Rattle.ts_answer.specs.declared.stop.Stop.TheVariants as stops
-use Rattle.ts_answer.specs.Answer.{Tried, Answered, ◌>>=◌, wanted, row_at, an_address, addressed, beyond_old_format, with_elements, mark_element, carried_out, outcome}
-use Rattle.ts_answer.specs.Answer.{with_element as with_element_of}
+use Rattle.ts_answer.specs.Answer.{Tried, Answered, ◌>>=◌, wanted, row_at, an_address, addressed, beyond_old_format, with_elements, mark_element, carried_out, outcome, with_element as with_element_of}
 use Rattle.ts_answer.specs.Commands.{is_writing}
 use Rattle.ts_answer.specs.Reply.{stamp_line}
 use Rattle.ts_answer.specs.Slots.{IsSlotNamed}
@@ -28,12 +27,14 @@ use Rattle.ts_answer.specs.Tried.{IsRefusedAs}
 use Rattle.ts_answer.specs.View.{View, IsViewOf, Shows, KeepsRules}
 use Rattle.ts_answer.specs.CarriedOut.{CarriedOut}
 use Rattle.ts_answer.proofs.CallerLemmas.{wanted-there, format-has, row-there, row-missing, on_ok, on_err, refused_as, refuses_still, stopped}
-use Rattle.ts_elements.specs.Elements.{IsShelf, mark_of}
+use Rattle.ts_shelf.specs.Shelf.{IsShelf}
+use Rattle.ts_shelf.proofs.SeenLemmas.{SeriesIn, HasSeen, series_seen, shape_same, elements_seen}
+use Rattle.ts_elements.specs.Elements.{mark_of}
 use Rattle.ts_elements.specs.Stamps.{IsLaidOut}
 use Rattle.ts_elements.specs.Calls.{IsMarked, IsMarkSet, IsUnmarked}
 use Rattle.ts_elements.proofs.LawLemmas.{as_maps}
 use Rattle.ts_elements.proofs.AddressLemmas.{address_is}
-use Rattle.ts_elements.proofs.SeenLemmas.{SeriesIn, HasSeen, found_in, series_seen, shape_same, elements_seen}
+use Rattle.ts_elements.proofs.FoundLemmas.{found_in}
 use Rattle.ts_elements.proofs.MemoryLemmas.{pays_less}
 use Rattle.ts_elements.proofs.RewriteLemmas.{Becomes, stays_moved, rewritten_carried}
 

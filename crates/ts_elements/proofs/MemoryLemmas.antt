@@ -1,37 +1,34 @@
--- What is kept in memory of a series, whatever the pages hold.
-use Rattle.std.proofs.Common.{◌≡◌, ℕ, ℤ, zero, suc, ◌+◌, ◌-◌, ◌<◌, ◌≤◌, ◌^◌, Option, Some, None, IsSome, List, [], ◌∷◌, length, sum_by, get_or, set, get_or-set_same, get_or-set_other, refl, ap, sym, ◌∙◌, subst, arith}
+-- What is kept in memory of a series and its container, whatever the pages hold, and where its places change.
+use Rattle.std.proofs.Common.{◌≡◌, ℕ, ℤ, zero, suc, ◌+◌, ◌<◌, ◌≤◌, Option, Some, None, List, [], ◌∷◌, length, sum_by, get_or, set, get_or-set_same, get_or-set_other, refl, ap, sym, ◌∙◌, subst, arith}
 use Rattle.std.specs.Option.{option_map, unwrap_or}
 use Rattle.std.proofs.lemmas.List.Sums.{sum_by-cons}
 use Rattle.ts_page.specs.Pages.{Contents}
 use Rattle.ts_row.specs.declared.kind.Column.{Column}
 use Rattle.ts_row.specs.RowType.{Heading}
 use Rattle.ts_space.specs.declared.place.Place.{Place}
-use Rattle.ts_space.specs.Place.{IsRising, count_of}
 use Rattle.ts_space.specs.Directory.{Directory, places_of}
 use Rattle.ts_cells.specs.Cell.{page_room}
 use Rattle.ts_offset.specs.declared.shape.Shape.{Shape}
 use Rattle.ts_offset.specs.declared.shape.Shape.TheVariants.{Irregular, Regular}
 use Rattle.ts_model.specs.declared.kind.Kind.TheVariants as kinds
 use Rattle.ts_model.specs.declared.def.Def.{Def}
-use Rattle.ts_model.specs.Definitions.{Definitions, ContainerDef, SeriesDef, of_container, of_series, at_slot}
+use Rattle.ts_model.specs.Definitions.{Definitions, ContainerDef, SeriesDef, of_container, at_slot}
 use Rattle.ts_layout.specs.Limits.{IsSlotOf}
-use Rattle.ts_layout.specs.Meaning.{Layout, IsSound, def_at, grid_in, shape_of, shape_at, heading_in, heading_at, heading_of_container}
+use Rattle.ts_layout.specs.Meaning.{def_at, grid_in, shape_of, shape_at, heading_in, heading_at, heading_of_container}
 use Rattle.ts_layout.specs.Sheets.{room_of}
-use Rattle.ts_layout.specs.Charges.{IsCountable, places_charge, container_charge}
+use Rattle.ts_layout.specs.Charges.{places_charge, container_charge}
 use Rattle.ts_layout.specs.Placed.{AreMoved}
-use Rattle.ts_layout.specs.Chains.{bare}
-use Rattle.ts_layout.proofs.CallerLemmas.{one_of, chained, series_limit, at_slot-map, room_some}
+use Rattle.ts_layout.proofs.CallerLemmas.{one_of, chained, at_slot-map}
 use Rattle.ts_answer.specs.Slots.{IsSlotNamed}
 use Rattle.ts_answer.specs.View.{View, KeepsRules}
-use Rattle.ts_elements.specs.Elements.{AreFew, IsSeries}
+use Rattle.ts_shelf.specs.Shelf.{IsSeries}
+use Rattle.ts_shelf.proofs.LawLemmas.{apart, charges}
+use Rattle.ts_shelf.proofs.SeenLemmas.{shape_there}
+use Rattle.ts_shelf.proofs.MemoryLemmas.{container_within, series_kept}
+use Rattle.ts_elements.specs.Elements.{AreFew}
 use Rattle.ts_elements.specs.Room.{IsBudget}
-use Rattle.ts_elements.specs.Stamps.{ArePlaces, charge_by}
-use Rattle.ts_elements.proofs.LawLemmas.{apart, bare_layouts, charges, kept_same, room_left}
-use Rattle.ts_elements.proofs.SeenLemmas.{SeriesIn, series_in_slot, shape_there}
-
--- a layout without elements that has the definitions
-abbrev pub bare_of : View → Layout
-bare_of x = bare (x.pages.count - 930) x.definitions
+use Rattle.ts_elements.specs.Stamps.{charge_by}
+use Rattle.ts_elements.proofs.LawLemmas.{kept_same}
 
 -- the directory in which a series has these places
 abbrev pub with_places : ℕ → List Place → Directory → Directory
@@ -63,9 +60,6 @@ charge_same d None shape lies columns places =
 charge_same d (Some regular) shape lies columns places = regular_charge Regular (λ grid columns places. refl) (grid_in d regular) shape lies columns places
 
 module _ (x : View) (kept : KeepsRules x) where
-  pub bare_rules : IsSound (bare_of x)
-  bare_rules = let some = kept.some in let most = kept.most in bare_layouts.rules (x.pages.count - 930) x.definitions (omega (arith, some)) (omega (arith, most)) kept.sound
-
   -- no container is charged more pages than a volume has
   quota_few : (slot : ℕ) (c : ContainerDef) → slot < 64 → at_slot slot x.definitions.containers ≡ Some c → c.quota ≤ 65536
   quota_few slot c within there =
@@ -91,48 +85,11 @@ module _ (x : View) (kept : KeepsRules x) where
       let most = kept.most in
       omega (arith, few, all, most)
 
-  -- so few places and elements that they can be counted
-  pub countable_kept : (slot : ℕ) → slot < 4096 → IsCountable (places_of slot x.space)
-  countable_kept = room_left.countable x.definitions x.space x.pages.free x.pages.count kept
-
-  pub few_elements : (slot : ℕ) → slot < 4096 → count_of (places_of slot x.space) < 2 ^ 32
-  few_elements slot within = let countable = countable_kept slot within in omega (arith, countable)
-
   module _ (slot : ℕ) (within : slot < 4096) where
-    -- a series that is found has columns
-    pub series_kept : (key : List ℕ) → IsSlotNamed kinds.Series slot key x.definitions → SeriesIn (bare_of x) key slot
-    series_kept key named = series_in_slot (bare_of x) key slot bare_rules named
-
-    pub defined_kept : (key : List ℕ) → IsSlotNamed kinds.Series slot key x.definitions → IsSome (heading_at x.definitions slot)
-    defined_kept key named = subst (λ (o : Option Heading). IsSome o) (sym (series_kept key named).columns) refl
-
-    pub shaped_kept : (key : List ℕ) → IsSlotNamed kinds.Series slot key x.definitions → IsSome (shape_at x.definitions slot)
-    shaped_kept key named = subst (λ (o : Option Shape). IsSome o) (sym (series_kept key named).lies) refl
-
-    pub rising_kept : IsRising (places_of slot x.space)
-    rising_kept = kept.placed.rising slot within
-
     module _ (h : Heading) (columns : heading_at x.definitions slot ≡ Some h) where
-      -- its places are such as an edit asks for
-      pub places_seen : (shape : Shape) → shape_at x.definitions slot ≡ Some shape → ArePlaces shape h.columns x.pages (places_of slot x.space)
-      places_seen Irregular lies = apart.irregular x.definitions x.space x.pages slot h kept.placed within columns lies
-      places_seen (Regular grid) lies = apart.regular x.definitions x.space x.pages slot h grid kept.placed within columns lies
-
       -- its container is charged its quota at most
-      container_within : (s : SeriesDef) (c : ContainerDef) → IsSeries slot s c h x.definitions → s.container < 64
-      container_within s c is =
-          series_limit x.definitions kept.sound.limits slot within s.key s.container s.regular (at_slot-map of_series slot x.definitions.series ∙ ap (option_map of_series) is.there)
-
       pub paid_in : (s : SeriesDef) (c : ContainerDef) → IsSeries slot s c h x.definitions → container_charge x.definitions x.space s.container (page_room h.columns) ≤ c.quota
-      paid_in s c is = kept.quotas s.container (container_within s c is) c h is.container is.heading
-
-      -- a page has room for an element
-      pub room_in : (key : List ℕ) → IsSlotNamed kinds.Series slot key x.definitions → 0 < page_room h.columns
-      room_in key named =
-          let on = series_kept key named in
-          let heads : on.h ≡ h = one_of (heading_at x.definitions slot) on.h h on.columns columns in
-          let is : IsSeries slot on.s on.c h x.definitions = subst (λ (y : Heading). IsSeries slot on.s on.c y x.definitions) heads on.is in
-          room_some x.definitions kept.sound.limits on.s.container on.c h (container_within on.s on.c is) is.container is.heading
+      paid_in s c is = kept.quotas s.container (container_within x kept slot within h columns s c is) c h is.container is.heading
 
       module _ (shape : Shape) (lies : shape_at x.definitions slot ≡ Some shape) where
         module _ (s : SeriesDef) (c : ContainerDef) (is : IsSeries slot s c h x.definitions) (new : List Place) where
@@ -173,7 +130,7 @@ module _ (x : View) (kept : KeepsRules x) where
             → ((s : SeriesDef) (c : ContainerDef) → IsSeries slot s c h x.definitions → container_charge x.definitions (with_places slot new x.space) s.container (page_room h.columns) ≤ c.quota)
             → KeepsRules (record { definitions = x.definitions; space = with_places slot new x.space; pages = w })
         rules_after key named new w moved count pays =
-            let on = series_kept key named in
+            let on = series_kept x kept slot within key named in
             let heads : on.h ≡ h = one_of (heading_at x.definitions slot) on.h h on.columns columns in
             let is : IsSeries slot on.s on.c h x.definitions = subst (λ (y : Heading). IsSeries slot on.s on.c y x.definitions) heads on.is in
             let after = apart.kept x.definitions x.space (with_places slot new x.space) x.pages.count slot on.s on.c h shape new x.pages w kept within is.there is.container is.heading lies refl moved (pays on.s on.c is) in

@@ -19,8 +19,7 @@ use Rattle.ts_series.specs.declared.edits.EditKind.TheVariants as kinds
 use Rattle.ts_offset.specs.declared.shape.Shape.{Shape}
 use Rattle.ts_model.specs.Catalogue.{shape_of}
 use Rattle.ts_model.specs.Definitions.{Definitions, ContainerDef, SeriesDef}
-use Rattle.ts_layout.specs.Meaning.{Layout, series_of, catalogue_of}
-use Rattle.ts_layout.specs.Meaning.{shape_of as shape_in}
+use Rattle.ts_layout.specs.Meaning.{Layout, series_of, catalogue_of, shape_of as shape_in}
 use Rattle.ts_layout.specs.Charges.{container_charge}
 use Rattle.ts_layout.specs.Held.{IsHeldOf}
 use Rattle.ts_answer.specs.declared.effect.Effect.TheVariants.{Pages, Places}
@@ -31,12 +30,13 @@ use Rattle.ts_answer.specs.Reply.{stamp_line}
 use Rattle.ts_answer.specs.View.{View, Shows, KeepsRules}
 use Rattle.ts_answer.specs.CarriedOut.{CarriedOut, Grows, Stays}
 use Rattle.ts_answer.proofs.CallerLemmas.{refuses_still, stopped}
-use Rattle.ts_elements.specs.Elements.{HasRow, IsSeries, edit_of}
+use Rattle.ts_shelf.specs.Shelf.{IsSeries}
+use Rattle.ts_shelf.proofs.LawLemmas.{room_left}
+use Rattle.ts_shelf.proofs.SeenLemmas.{SeriesIn, HasSeen, series_seen, columns_same, shape_same, shape_there, shape_in_layout, elements_seen}
+use Rattle.ts_elements.specs.Elements.{HasRow, edit_of}
 use Rattle.ts_elements.specs.Room.{IsBudget}
 use Rattle.ts_elements.specs.Stamps.{IsLaidOut, charge_by, charge_with_one}
 use Rattle.ts_elements.specs.Calls.{IsPut, IsGivenRow, IsRefused, IsFull}
-use Rattle.ts_elements.proofs.LawLemmas.{room_left}
-use Rattle.ts_elements.proofs.SeenLemmas.{SeriesIn, HasSeen, series_seen, columns_same, shape_same, shape_there, shape_in_layout, elements_seen}
 use Rattle.ts_elements.proofs.MemoryLemmas.{charge_same, paid_in, pays_less, pays_within}
 use Rattle.ts_elements.proofs.RewriteLemmas.{Becomes, stays_moved, rewritten_carried}
 use Rattle.ts_elements.proofs.RowLemmas.{row_visible}

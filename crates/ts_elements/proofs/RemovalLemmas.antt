@@ -29,12 +29,13 @@ use Rattle.ts_answer.specs.Reply.{count_line}
 use Rattle.ts_answer.specs.View.{View, Shows, KeepsRules}
 use Rattle.ts_answer.specs.CarriedOut.{CarriedOut, Grows, Stays}
 use Rattle.ts_answer.proofs.CallerLemmas.{wanted-there, on_ok, shows_still, kept_still, element_not_there, range_not_there}
-use Rattle.ts_elements.specs.Elements.{IsShelf}
+use Rattle.ts_shelf.specs.Shelf.{IsShelf}
+use Rattle.ts_shelf.proofs.SeenLemmas.{SeriesIn, HasSeen, entries_in, series_seen, shape_same, elements_seen}
 use Rattle.ts_elements.specs.Stamps.{IsLaidOut, IsTold}
 use Rattle.ts_elements.specs.Calls.{IsTakenAway, AreCleared}
 use Rattle.ts_elements.proofs.LawLemmas.{as_maps}
 use Rattle.ts_elements.proofs.AddressLemmas.{address_is}
-use Rattle.ts_elements.proofs.SeenLemmas.{SeriesIn, HasSeen, found_in, entries_in, series_seen, shape_same, elements_seen}
+use Rattle.ts_elements.proofs.FoundLemmas.{found_in}
 use Rattle.ts_elements.proofs.MemoryLemmas.{pays_less}
 use Rattle.ts_elements.proofs.FormatLemmas.{left_visible}
 use Rattle.ts_elements.proofs.RewriteLemmas.{Becomes, rewritten_carried}

@@ -18,8 +18,7 @@ use Rattle.ts_layout.specs.Meaning.{Layout, heading_at, shape_at, series_of, cat
 use Rattle.ts_layout.specs.Charges.{container_charge}
 use Rattle.ts_layout.specs.Placed.{AreMoved, IsPlaceIn}
 use Rattle.ts_layout.specs.Surveyed.{ListsPlaces}
-use Rattle.ts_layout.specs.Chains.{by_stamp, KeepsQuotaOf}
-use Rattle.ts_layout.specs.Chains.{rewritten as rewritten_layout}
+use Rattle.ts_layout.specs.Chains.{by_stamp, KeepsQuotaOf, rewritten as rewritten_layout}
 use Rattle.ts_layout.specs.Held.{IsHeldOf, IsRewrittenIn}
 use Rattle.ts_layout.proofs.CallerLemmas.{one_of}
 use Rattle.ts_answer.specs.declared.effect.Effect.{Effect}
@@ -28,11 +27,12 @@ use Rattle.ts_answer.specs.Commands.{is_writing}
 use Rattle.ts_answer.specs.View.{View, Shows, KeepsRules}
 use Rattle.ts_answer.specs.CarriedOut.{CarriedOut, CanApply, Comes, Grows, is_nothing, definitions_after, lists_after}
 use Rattle.ts_answer.proofs.CallerLemmas.{held_same}
-use Rattle.ts_elements.specs.Elements.{IsShelf, IsSeries}
+use Rattle.ts_shelf.specs.Shelf.{IsShelf, IsSeries}
+use Rattle.ts_shelf.proofs.LawLemmas.{charges}
+use Rattle.ts_shelf.proofs.SeenLemmas.{SeriesIn, HasSeen, heading_there, series_seen, columns_in, shape_in_layout, elements_seen}
 use Rattle.ts_elements.specs.Stamps.{AreWritten, IsLaidOut}
-use Rattle.ts_elements.proofs.LawLemmas.{rewritten, charges, kept_same}
+use Rattle.ts_elements.proofs.LawLemmas.{rewritten, kept_same}
 use Rattle.ts_elements.proofs.SeriesLemmas.{AreSheets, sheets_of}
-use Rattle.ts_elements.proofs.SeenLemmas.{SeriesIn, HasSeen, heading_there, series_seen, columns_in, shape_in_layout, elements_seen}
 use Rattle.ts_elements.proofs.MemoryLemmas.{with_places, rules_after}
 
 -- the elements of a series become these, and so a command answers

@@ -34,10 +34,11 @@ use Rattle.ts_answer.specs.View.{View, Shows, KeepsRules}
 use Rattle.ts_answer.specs.CarriedOut.{CarriedOut, Comes}
 use Rattle.ts_answer.specs.Slots.{IsSlotNamed}
 use Rattle.ts_answer.proofs.CallerLemmas.{held_same, wanted-there, on_ok}
+use Rattle.ts_shelf.proofs.MemoryLemmas.{series_kept, places_seen}
+use Rattle.ts_shelf.proofs.SeenLemmas.{series_seen}
 use Rattle.ts_elements.specs.Stamps.{ArePlaces}
 use Rattle.ts_elements.proofs.LawLemmas.{dropped, kept_same, kept_without}
-use Rattle.ts_elements.proofs.MemoryLemmas.{with_places, few_places, series_kept, places_seen}
-use Rattle.ts_elements.proofs.SeenLemmas.{series_seen}
+use Rattle.ts_elements.proofs.MemoryLemmas.{with_places, few_places}
 
 -- what the command comes to
 drops : (key : List ℕ) (cat : Catalogue) (s : SomeSeries) → get cat.series key ≡ Some s → outcome (Ok (DropSeries key)) cat ≡ Ok (ok_line, record cat { series = remove cat.series key })

@@ -1,5 +1,5 @@
--- What pages that have elements of a series say of them: their order, their charge, and the sheets that they are.
-use Rattle.std.proofs.Common.{◌≡◌, ℕ, List, length, sym, ap, subst, ◌∙◌}
+-- What pages that have elements of a series say of them: their charge, and the sheets that they are.
+use Rattle.std.proofs.Common.{◌≡◌, ℕ, List, length, sym, ap, ◌∙◌}
 use Rattle.std.specs.FinMap.{len, len-entries}
 use Rattle.ts_row.specs.declared.kind.Column.{Column}
 use Rattle.ts_row.specs.Element.{Element}
@@ -8,7 +8,6 @@ use Rattle.ts_space.specs.Place.{IsRising}
 use Rattle.ts_space.specs.Charge.{irregular_charge}
 use Rattle.ts_cells.specs.Cell.{page_room}
 use Rattle.ts_cells.specs.IrregularPage.{AreRising}
-use Rattle.ts_chain.proofs.OrderLemmas.{pages_in_order}
 use Rattle.ts_chain.proofs.PutLemmas.{chained_count}
 use Rattle.ts_regular.specs.Places.{all_in as all_at}
 use Rattle.ts_regular.proofs.PlaceLemmas.{pages_rise}
@@ -18,15 +17,10 @@ use Rattle.ts_offset.specs.declared.shape.Shape.TheVariants.{Irregular, Regular}
 use Rattle.ts_model.specs.Charge.{elements_charge}
 use Rattle.ts_layout.specs.Sheets.{Sheet, AreInSequence, AreSheetsOn, elements_in}
 use Rattle.ts_layout.specs.Chains.{by_stamp, chain_sheets, grid_sheets}
+use Rattle.ts_shelf.proofs.LawLemmas.{charges, entries_rising}
+use Rattle.ts_shelf.proofs.OrderLemmas.{in_order}
 use Rattle.ts_elements.specs.Stamps.{HaveElements, IsLaidOut, charge_by}
-use Rattle.ts_elements.proofs.LawLemmas.{as_sheets, charges, entries_rising}
-use Rattle.ts_elements.proofs.StartLemmas.{stamps_rising}
-
--- they are in order
-pub in_order : (shape : Shape) → IsLaidOut shape → (slot : ℕ) (columns : List Column) (pages : ℕ → List ℕ) (places : List Place) (es : List Element) → IsRising places → HaveElements shape slot columns pages places es → AreRising es
-in_order Irregular laid slot columns pages places es rising have = subst AreRising have.all (pages_in_order columns have.chain have.is.pages).rising
-in_order (Regular grid) laid slot columns pages places es rising have =
-    subst AreRising have.all (stamps_rising grid laid (all_at have.cells) (pages_rise slot columns pages places have.cells have.on rising) have.starts)
+use Rattle.ts_elements.proofs.LawLemmas.{as_sheets}
 
 -- as many as there are entries of their map
 pub many : (es : List Element) → AreRising es → len (by_stamp es) ≡ length es

@@ -1,5 +1,5 @@
 -- What the calls on the pages of a series do, whatever its shape.
-use Rattle.std.specs.Prelude.{◌≡◌, ◌⊎◌, ℕ, ◌<◌, ◌≤◌, ℤ, unsigned_abs, Bool, Option, Some, None, IsSome, option_map, Result, Ok, Err, List, [], length}
+use Rattle.std.specs.Prelude.{◌≡◌, ◌⊎◌, ℕ, ◌<◌, ◌≤◌, ℤ, Bool, Option, Some, None, IsSome, option_map, Result, Ok, Err, List, [], length}
 use Rattle.ts_base.specs.declared.refusal.Refusal.{Refusal}
 use Rattle.ts_base.specs.declared.refusal.Refusal.TheVariants.{Missing}
 use Rattle.ts_page.specs.Pages.{Contents}
@@ -15,16 +15,12 @@ use Rattle.ts_series.specs.declared.edits.EditKind.{EditKind}
 use Rattle.ts_series.specs.declared.edits.Edited.{Edited}
 use Rattle.ts_series.specs.declared.edits.Edited.TheVariants as edited
 use Rattle.ts_offset.specs.declared.shape.Shape.{Shape}
-use Rattle.ts_entry.specs.Entry.{Entry}
-use Rattle.ts_entry.specs.Reading.{clipped, counted, entry_number, within_rows}
 use Rattle.ts_model.specs.Charge.{elements_charge}
 use Rattle.ts_layout.specs.Sheets.{room_of}
 use Rattle.ts_layout.specs.Placed.{AreMoved}
 use Rattle.ts_layout.specs.Chains.{by_stamp}
 use Rattle.ts_answer.specs.Answer.{addressed}
 use Rattle.ts_answer.specs.CarriedOut.{Stays}
-use Rattle.ts_elements.specs.declared.reading.Choice.{Choice}
-use Rattle.ts_elements.specs.declared.reading.Choice.TheVariants.{Number, Range, Count}
 use Rattle.ts_elements.specs.Stamps.{IsTold, AreWritten, charge_by, charge_with_one, target_in}
 
 -- a row is put at a stamp, and the places become these, which cost what the room allows, or no more than before
@@ -73,12 +69,6 @@ IsAddressed shape stamp es found =
 
 abbrev pub IsFound : Bool → Shape → ℕ → List Column → ℤ → List Place → Contents → Option Element → Type 0
 IsFound tells shape slot columns stamp places v found = IsTold tells shape slot columns places v (λ es. IsAddressed shape stamp es found)
-
--- of the entries of a reading those that are chosen, or why they are too many
-abbrev pub chosen : Choice → List Entry → Result (List Entry) Refusal
-chosen (Number index) entries = Ok (entry_number (unsigned_abs index) entries)
-chosen (Range from to) entries = within_rows (clipped from to entries)
-chosen (Count stamp count) entries = Ok (counted stamp count entries)
 
 -- the element that a stamp addresses, at this one, gets a mark; all places stay
 pub record IsMarkSet (tells : Bool) (shape : Shape) (slot : ℕ) (columns : List Column) (stamp : ℤ) (hidden : Bool) (at : ℤ) (places : List Place) (v w : Contents) : Type 0 where

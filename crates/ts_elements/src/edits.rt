@@ -1,5 +1,5 @@
 // The routines that edit the element at a stamp.
-ghost use Rattle.std.specs.Prelude.{◌≡◌, ◌<◌, ℕ, List, [], IsTrue, Some};
+ghost use Rattle.std.specs.Prelude.{◌≡◌, ◌<◌, ℕ, List, [], IsTrue, IfOk, Some};
 ghost use Rattle.ts_row.specs.declared.value.Literal.{Literal as TheLiteral};
 ghost use Rattle.ts_row.specs.Row.{fits};
 ghost use Rattle.ts_space.specs.Directory.{places_of};
@@ -10,22 +10,24 @@ ghost use Rattle.ts_layout.specs.Meaning.{heading_at, shape_at};
 ghost use Rattle.ts_container.specs.KeptCharges.{AreCharges};
 ghost use Rattle.ts_answer.specs.View.{view, IsSeen};
 ghost use Rattle.ts_answer.specs.CarriedOut.{CarriedOut};
+ghost use Rattle.ts_answer.specs.Answer.{a_row};
+ghost use Rattle.ts_answer.specs.Tried.{IsTried};
 ghost use Rattle.ts_elements.specs.Elements.{HasRow, edit_of};
 ghost use Rattle.ts_elements.specs.Stamps.{ArePlaces, IsLaidOut};
 
 use crate::calls::edit_in;
 use crate::room::{budget_of, refusal_of, room_in};
-use crate::shelf::{row_for, shelf_of};
 use ts_answer::{Effect, Stop};
-use ts_base::{Key, Reply, Stamp};
+use ts_base::{Key, Reply, Stamp, Trouble};
 use ts_command::Literals;
 use ts_container::Charges;
 use ts_model::Defs;
 use ts_offset::Shape;
 use ts_page::{Page, Pages};
-use ts_row::{Row, Shelf};
+use ts_row::{Row, RowType, Shelf};
 use ts_say::say_stamp;
 use ts_series::{EditKind, Edited};
+use ts_shelf::shelf_of;
 use ts_space::Space;
 
 /// Edits the element that a stamp of a series addresses. A key that no series has is refused, then literals that are no row, then a stamp
@@ -54,6 +56,14 @@ pub fn edit_element<P: Pages>(
     edit_on(
         pages, page, defs, space, charges, &shelf, &shape, how, stamp, &row, out,
     )
+}
+
+// The row of literals for some columns, or the first column that misfits.
+fn row_for(kind: &RowType, values: &Literals) -> Result<Row, Trouble>
+    ensures tried { IsTried result (a_row kind.now.columns values.now) (λ row value. value ≡ row) }
+    ensures fits { IfOk result (λ row. IsTrue (fits kind.now.columns row)) }
+{
+    kind.row_of(values.as_slice())
 }
 
 // Edits it, once the series and a row for it are known.

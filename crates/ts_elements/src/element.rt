@@ -5,11 +5,10 @@ ghost use Rattle.ts_space.specs.Directory.{places_of};
 ghost use Rattle.ts_model.specs.Definitions.{series_slots};
 ghost use Rattle.ts_answer.specs.View.{view, IsSeen};
 ghost use Rattle.ts_answer.specs.CarriedOut.{ReadOut};
-ghost use Rattle.ts_elements.specs.Elements.{IsShelf};
+ghost use Rattle.ts_shelf.specs.Shelf.{IsShelf};
 ghost use Rattle.ts_elements.specs.Stamps.{ArePlaces, IsLaidOut};
 
 use crate::found::{find_in, if_seen};
-use crate::shelf::shelf_of;
 use std::alloc::Global;
 use ts_answer::Stop;
 use ts_base::{Key, Reply, Stamp};
@@ -19,6 +18,7 @@ use ts_offset::Shape;
 use ts_page::{Page, Pages};
 use ts_row::Shelf;
 use ts_say::say_found;
+use ts_shelf::shelf_of;
 use ts_space::Space;
 
 /// Says the element that a stamp of a series addresses, if there is one that isn't hidden. `page` is room to read one.

@@ -4,11 +4,11 @@ ghost use Rattle.ts_space.specs.Directory.{places_of};
 ghost use Rattle.ts_model.specs.Definitions.{series_slots};
 ghost use Rattle.ts_answer.specs.View.{view, IsSeen};
 ghost use Rattle.ts_answer.specs.CarriedOut.{CarriedOut};
-ghost use Rattle.ts_elements.specs.Elements.{IsShelf, mark_of};
+ghost use Rattle.ts_shelf.specs.Shelf.{IsShelf};
+ghost use Rattle.ts_elements.specs.Elements.{mark_of};
 ghost use Rattle.ts_elements.specs.Stamps.{ArePlaces, IsLaidOut};
 
 use crate::calls::mark_in;
-use crate::shelf::shelf_of;
 use ts_answer::{Effect, Stop};
 use ts_base::{Key, Reply, Stamp};
 use ts_define::in_format;
@@ -17,6 +17,7 @@ use ts_offset::Shape;
 use ts_page::{Page, Pages};
 use ts_row::Shelf;
 use ts_say::say_stamp;
+use ts_shelf::shelf_of;
 use ts_space::Space;
 
 /// Hides the element that a stamp of a series addresses, or shows it again; it may be so already. A key that no series has is refused,

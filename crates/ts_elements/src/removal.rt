@@ -6,11 +6,10 @@ ghost use Rattle.ts_cells.specs.Cell.{page_room};
 ghost use Rattle.ts_model.specs.Definitions.{series_slots};
 ghost use Rattle.ts_answer.specs.View.{view, IsSeen};
 ghost use Rattle.ts_answer.specs.CarriedOut.{CarriedOut};
-ghost use Rattle.ts_elements.specs.Elements.{IsShelf};
+ghost use Rattle.ts_shelf.specs.Shelf.{IsShelf};
 ghost use Rattle.ts_elements.specs.Stamps.{ArePlaces, IsLaidOut};
 
 use crate::calls::{clear_in, remove_in};
-use crate::shelf::shelf_of;
 use std::alloc::Global;
 use ts_answer::{Effect, Stop};
 use ts_base::{Key, Reply, Stamp};
@@ -19,6 +18,7 @@ use ts_offset::Shape;
 use ts_page::{Page, Pages};
 use ts_row::Shelf;
 use ts_say::say_count;
+use ts_shelf::shelf_of;
 use ts_space::Space;
 
 /// Takes the element that a stamp of a series addresses away, hidden or not. Where it addresses none that is there nothing changes, and that

@@ -15,6 +15,7 @@ use std::alloc::Global;
 use std::thread::Threads;
 use ts_answer::{Effect, Stop};
 use ts_base::{Reply, Trouble};
+use ts_combined_rows::{aggregate_all, join, lag};
 use ts_command::Command;
 use ts_container::Charges;
 use ts_define::{
@@ -22,14 +23,14 @@ use ts_define::{
     new_pattern, new_regular, new_row_type, turned_pattern,
 };
 use ts_elements::{
-    Choice, aggregate_all, aggregate_by, aggregate_range, count_clip, delete_element, delete_range,
-    drop_series, edit_element, get_element, get_first_element, get_last_element, join, lag,
-    mark_element, read_entries,
+    delete_element, delete_range, drop_series, edit_element, get_element, get_first_element,
+    get_last_element, mark_element,
 };
 use ts_model::{Def, Defs, Kind};
 use ts_page::{Page, Pages};
 use ts_pattern::Junction;
 use ts_series::EditKind;
+use ts_series_rows::{Choice, aggregate_by, aggregate_range, count_clip, read_entries};
 use ts_space::Space;
 use ts_tell::{
     cal_index, cal_range, cal_stamp, container_usage, count_elements, list_series, show_calendar,

@@ -4,9 +4,10 @@ use Rattle.ts_series.specs.declared.edits.Edited.{Edited}
 use Rattle.ts_answer.specs.Reply.{stamp_line}
 use Rattle.ts_answer.specs.View.{view}
 use Rattle.ts_answer.proofs.CallerLemmas.{said_line}
+use Rattle.ts_shelf.proofs.MemoryLemmas.{countable_kept}
 use Rattle.ts_elements.specs.Elements.{IsCharged}
 use Rattle.ts_elements.specs.Calls.{IsEdited}
-use Rattle.ts_elements.proofs.MemoryLemmas.{few_kept, countable_kept}
+use Rattle.ts_elements.proofs.MemoryLemmas.{few_kept}
 use Rattle.ts_elements.proofs.PutLemmas.{put_carried, given_carried, refused_carried, full_carried}
 use Rattle.ts_elements.proofs.edits.edit_on.Goals as goal
 

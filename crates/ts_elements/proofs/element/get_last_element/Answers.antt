@@ -5,8 +5,9 @@ use Rattle.ts_layout.specs.Meaning.{catalogue_of}
 use Rattle.ts_answer.specs.Answer.{Answered, outcome, carried_out, get_last_element}
 use Rattle.ts_answer.specs.View.{view}
 use Rattle.ts_answer.proofs.CallerLemmas.{read_stopped_first, tried_stopped, refused_as, on_ok, said_line}
-use Rattle.ts_elements.proofs.ReadingLemmas.{failed_out}
-use Rattle.ts_elements.proofs.SeenLemmas.{shelf_seen, one_text, read_out}
+use Rattle.ts_shelf.proofs.ReadingLemmas.{failed_out}
+use Rattle.ts_shelf.proofs.SeenLemmas.{shelf_seen, read_out}
+use Rattle.ts_elements.proofs.FoundLemmas.{one_text}
 use Rattle.ts_elements.proofs.element.get_last_element.Goals as goal
 
 pub returns-in_err-shelf-clause-read : goal.returns-in_err-shelf-clause-read

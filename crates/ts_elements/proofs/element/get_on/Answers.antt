@@ -4,7 +4,8 @@ use Rattle.ts_layout.specs.Meaning.{catalogue_of}
 use Rattle.ts_answer.specs.Answer.{Answered, outcome, carried_out, get_element}
 use Rattle.ts_answer.specs.View.{view}
 use Rattle.ts_answer.proofs.CallerLemmas.{on_ok, said_line}
-use Rattle.ts_elements.proofs.SeenLemmas.{shelf_seen, element_text, read_out}
+use Rattle.ts_shelf.proofs.SeenLemmas.{shelf_seen, read_out}
+use Rattle.ts_elements.proofs.FoundLemmas.{element_text}
 use Rattle.ts_elements.proofs.element.get_on.Goals as goal
 
 pub returns-clause-read : goal.returns-clause-read

@@ -1,7 +1,0 @@
--- The stacks before an index are said.
-use Rattle.std.proofs.Common.{length, take}
-use Rattle.ts_elements.proofs.StackLemmas.{AreStacksSaid}
-use Rattle.ts_elements.proofs.each_series.say_rows.Given as goal
-
-abbrev pub invariant-loop-stack : goal.invariant-loop-stack
-invariant-loop-stack l = AreStacksSaid l.bound l.defs.definitions (take (length l.yielded) l.stacks) (take (length l.yielded) l.rows) l.fn.out l.out (length l.yielded)
