@@ -3,7 +3,7 @@ use Rattle.ts_row.specs.declared.value.Literal.{Literal}
 use Rattle.ts_answer.specs.Answer.{a_row}
 use Rattle.ts_answer.specs.Tried.{IsTried}
 use Rattle.ts_elements.proofs.RowLemmas.{row_tried}
-use Rattle.ts_elements.proofs.shelf.row_for.Goals as goal
+use Rattle.ts_elements.proofs.edits.row_for.Goals as goal
 
 pub returns-clause-tried : goal.returns-clause-tried
 returns-clause-tried c =
