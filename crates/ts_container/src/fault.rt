@@ -7,7 +7,7 @@ use ts_base::StoreFault;
 /// The pages mean no catalogue, or they could not be read.
 #[derive(Debug, Drop)]
 pub enum SurveyFault {
-    /// A bad page of the first step that finds one; `survey` says which.
+    /// Some page is bad. Which one is told no clause says.
     NotAStore { page: u32 },
     Failed,
     Memory(AllocError),

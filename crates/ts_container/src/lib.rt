@@ -1,10 +1,10 @@
-//! The survey of a volume, and what containers are charged. A survey reads each page once and keeps the format, the definitions,
-//! the directory and the free pages, or tells a bad page of the first step that finds one; no volume that it refuses means a
-//! catalogue (`specs/Survey`). Definitions are found by their slots and by those before them (`specs/Reading`); the pages of series
-//! are sorted once and judged by neighbours (`specs/Spans`). What containers are charged can be kept as sums
-//! (`specs/KeptCharges`). What the pages mean is ts_layout's, and ts_slots reads and writes a slot; stands on both, and on ts_cells,
-//! ts_regular, ts_space, ts_model and ts_page; knows nothing of disks, journals or commands. Read `specs/Survey.antt`, then
-//! `surveyed.rt` and `charges.rt`.
+//! The survey of a volume, and what containers are charged. A survey reads each page once and keeps the format, the
+//! definitions, the directory and the free pages, or tells a page that is bad (which one, no clause says); no volume
+//! that it refuses means a catalogue (`specs/Survey`). Definitions are found by their slots and by those before them
+//! (`specs/Reading`); the pages of series are sorted once and judged by neighbours (`specs/Spans`). What containers
+//! are charged can be kept as sums (`specs/KeptCharges`). What the pages mean is ts_layout's, and ts_slots reads and
+//! writes a slot; stands on both, and on ts_cells, ts_regular, ts_space, ts_model and ts_page; knows nothing of disks,
+//! journals or commands. Read `specs/Survey.antt`, then `surveyed.rt` and `charges.rt`.
 #![tactic(auto)]
 
 mod charges;

@@ -29,10 +29,10 @@ pub struct Surveyed {
 }
 
 /// Reads all pages of a volume but the journal's, each once: `count` is the number of all. They give the format, the
-/// definitions, the directory and the free pages, or a bad page: the least that the first step with one finds. Where pages of a series
-/// overlap, it is the least that overlaps a neighbour of a lower number; a page that overlaps others alone isn't looked for, and no calendar
-/// that has the name of one that breaks a rule. The pages
-/// stay as they are, and so does the list of free ones.
+/// definitions, the directory and the free pages, or a bad page; which one, no clause says. The code takes the first step
+/// that finds one, and the least that this step finds; where pages of a series overlap, the least that overlaps a
+/// neighbour of a lower number. It doesn't look for a page that overlaps others alone, nor for a calendar that has the
+/// name of one that breaks a rule. The pages stay as they are, and so does the list of free ones.
 pub fn survey<P: Pages>(alloc: Global, pages: &mut P, count: u32) -> Result<Surveyed, SurveyFault>
     requires count { count ≡ (P.contents pages.old).count }
     requires some { first_element_page + 1 ≤ count }
