@@ -1,0 +1,9 @@
+pub mod PlaceLemmas
+pub mod GrammarLemmas
+pub mod MistakeLemmas
+pub mod ReadLemmas
+pub mod ToldLemmas
+pub mod TellLemmas
+pub mod LineLemmas
+pub mod CheckLemmas
+pub mod LawLemmas

@@ -1,0 +1,9 @@
+pub mod Places
+pub mod Mistakes
+pub mod Output
+pub mod MemoryOutput
+pub mod Lines
+pub mod Reading
+pub mod Checked
+pub mod Statuses
+pub mod Laws

@@ -1,0 +1,15 @@
+// What holds of the mistakes of every script, in the words of one who writes it.
+ghost use Rattle.std.specs.Prelude.{◌≡◌, List, ℕ, map};
+ghost use Rattle.std.specs.List.{AllByRecursion};
+ghost use Rattle.ts_syntax.specs.Mistakes.{mistakes};
+ghost use Rattle.ts_syntax.specs.Laws.{refusals, IsPlaced};
+
+/// The mistakes of a script are its refused statements, in their order and for the same causes, and nothing else.
+pub fn mistakes_are_the_refusals()
+    ensures { (script : List ℕ) → map (λ m. m.refusal) (mistakes script) ≡ refusals script }
+{}
+
+/// The place of each mistake is where the grammar refuses the bytes of a statement that stand there in the script.
+pub fn mistakes_stand_in_their_statements()
+    ensures { (script : List ℕ) → AllByRecursion (IsPlaced script) (mistakes script) }
+{}
