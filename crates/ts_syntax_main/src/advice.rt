@@ -38,7 +38,8 @@ pub(crate) fn advice(status: u8) -> Option<&'static str> {
             "there is no memory; more may be refused than was told: free some, and check it again",
         ),
         8 => Some(
-            "the script has more than 268435456 bytes, which no run takes; what ends within these was checked: cut it in parts",
+            "the script has more than 268435456 bytes, which no run takes; what ends within these was checked: cut it in \
+             parts",
         ),
         _ => Some("the check ended"),
     }

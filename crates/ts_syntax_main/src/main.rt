@@ -25,7 +25,7 @@ fn read_words(rt: &HostRuntime) -> io::Result<Vec<String>> {
 // Checks the script of standard input.
 fn check(rt: &HostRuntime) -> u8 {
     let mut output = StdOutput::new(rt.stdout());
-    let mut source = StdSource::new(rt.stdin());
+    let mut source = StdSource::new(rt);
     check_syntax(rt.alloc(), &mut output, &mut source)
 }
 
