@@ -1,10 +1,29 @@
-//! The sum and the number of the last n values, as they come in one by one. They are those of the window from nothing
-//! (`specs/Window`), though a push adds one value and takes the oldest away. Stands on circular_buffer; knows nothing
-//! of rows, stamps or expressions. Read `specs/Window.antt`, then `running.rt`.
+//! Windows of running values, and expressions over the columns of a row, as in `$v*($w+1), -$v`. A window holds the last
+//! values, and its sum and number are those of the window from nothing (`specs/Window`). What a text reads as, or the place
+//! at which it is refused, is `specs/Grammar`; it is read exactly where it is the tokens of expressions with blanks between
+//! them (`specs/Spelling`). Bound to a row type each column has its number and scale (`specs/Binding`), and the values are
+//! those of `specs/Operands`, part by part (`specs/Parts`). The code keeps an expression as steps over a stack. Stands on
+//! circular_buffer, ts_expr, ts_text, ts_row and ts_base; knows nothing of stamps, pages or scripts. Read
+//! `specs/Grammar.antt`, `specs/Binding.antt` and `specs/Operands.antt`, then `running.rt`, `list.rt`, `bind.rt`, `value.rt`.
 #![tactic(auto)]
 
+mod bind;
+mod fault;
+mod front;
 mod laws;
+mod list;
+mod read;
 mod running;
+mod scale;
+mod step;
+mod value;
 
+pub use bind::{BoundExpr, MOST_PART_SCALE, Source};
+pub use fault::ApplyError;
 pub use laws::{a_window_holds_the_last_values, an_empty_window_has_no_sum};
+pub use list::{
+    ExprList, MOST_EXPRS, expression_texts_are_tokens, expressions_are_refused_in_place,
+};
+pub use read::{MOST_DIGITS, MOST_INSIDE};
 pub use running::Running;
+pub use step::Operation;

@@ -1,0 +1,6 @@
+use Rattle.std.proofs.Common.{◌≡◌, drop}
+use Rattle.ts_expr.specs.Binding.{column_from}
+use Rattle.ts_running.proofs.bind.source_named.Given as goal
+
+abbrev pub invariant-loop-number : goal.invariant-loop-number
+invariant-loop-number l = column_from 0 l.name l.columns ≡ column_from l.number l.name (drop l.number l.columns)

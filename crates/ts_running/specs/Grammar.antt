@@ -1,0 +1,92 @@
+-- The text of expressions, as in `$v*($w+1), -$v`: its grammar, and what it reads as.
+use Rattle.std.specs.Prelude.{ℕ, zero, suc, ◌-◌, nat_le, if◌then◌else◌, List, [], ◌∷◌, length, Option, Some, None, Result, Ok, Err}
+use Rattle.ts_base.specs.declared.refusal.Refusal.{Refusal}
+use Rattle.ts_base.specs.declared.refusal.Refusal.TheVariants.{BadExpression}
+use Rattle.ts_text.specs.Digits.{magnitude_of}
+use Rattle.ts_text.specs.Phrase.{Phrase, ◌>>=◌, give, token, a_sign, made, phrases, ended, outcome}
+use Rattle.ts_text.specs.declared.token.TokenKind.{TokenKind}
+use Rattle.ts_text.specs.declared.token.TokenKind.TheVariants.{Number}
+use Rattle.ts_expr.specs.Grammar.{name_as}
+use Rattle.ts_running.specs.declared.step.Operation.TheVariants.{Plus, Less, Times}
+use Rattle.ts_running.specs.declared.read.TheConstants.{MOST_DIGITS, MOST_INSIDE}
+use Rattle.ts_running.specs.declared.list.TheConstants.{MOST_EXPRS}
+use Rattle.ts_running.specs.Expr.{Expr, Column, Digits, Opposite}
+use Rattle.ts_running.specs.Front.{expr_front}
+use Rattle.ts_running.specs.Signs.{Signs, if_sign, joined_by}
+
+-- an expression over columns that are given by their names
+abbrev pub Named : Type 0
+Named = Expr (List ℕ)
+
+-- the name of a column
+unfoldable pub name_in : Phrase (List ℕ)
+name_in = token expr_front name_as
+
+-- 1 to 18 digits
+abbrev pub digits_as : TokenKind → List ℕ → Option ℕ
+digits_as Number digits = if nat_le (length digits) MOST_DIGITS then Some (magnitude_of digits) else None
+digits_as kind token = None
+
+-- the number that they write
+unfoldable pub digits_in : Phrase ℕ
+digits_in = token expr_front digits_as
+
+-- a column behind a `$`, or digits
+unfoldable pub leaf_in : Phrase Named
+leaf_in = if_sign 36 (made name_in (λ name. Column name)) (made digits_in (λ n. Digits n))
+
+-- the signs between the factors of a term, and between the terms of a sum
+abbrev pub times_signs : Signs
+times_signs = (42, Times) ∷ []
+
+abbrev pub sum_signs : Signs
+sum_signs = (43, Plus) ∷ (45, Less) ∷ []
+
+-- factors joined by `*`
+unfoldable pub term_of : Phrase Named → Phrase Named
+term_of factor = joined_by times_signs factor
+
+-- terms joined by `+` and `-`
+unfoldable pub sum_of : Phrase Named → Phrase Named
+sum_of factor = joined_by sum_signs (term_of factor)
+
+-- a sum up to the bracket that closes it
+abbrev pub in_bracket : Phrase Named → Phrase Named
+in_bracket factor = do
+  found ← sum_of factor
+  close ← a_sign 41
+  give found
+
+-- a factor in which at most so many more stand inside each other: each `-` and each bracket has one inside
+unfoldable pub factor_in : ℕ → Phrase Named
+factor_in zero = leaf_in
+factor_in (suc inside) =
+    if_sign 45 (made (factor_in inside) (λ e. Opposite e)) (if_sign 40 (in_bracket (factor_in inside)) leaf_in)
+
+-- an expression
+unfoldable pub expr_in : Phrase Named
+expr_in = sum_of (factor_in MOST_INSIDE)
+
+-- at most so many more, each behind a comma
+unfoldable pub further : ℕ → Phrase (List Named)
+further most = phrases expr_in most
+
+-- 1 to 32 expressions joined by commas
+unfoldable pub list_in : Phrase (List Named)
+list_in = do
+  first ← expr_in
+  others ← further (MOST_EXPRS - 1)
+  give (first ∷ others)
+
+-- a text that is a list's, or the place of what can't stand there
+abbrev pub written_exprs : List ℕ → Result (List Named) ℕ
+written_exprs text = outcome (length text) (ended [] list_in text)
+
+-- what a text reads as
+abbrev pub exprs_or_place : Result (List Named) ℕ → Result (List Named) Refusal
+exprs_or_place (Ok exprs) = Ok exprs
+exprs_or_place (Err place) = Err (BadExpression place)
+
+-- the list that a text reads as, or why there is none
+abbrev pub read_exprs : List ℕ → Result (List Named) Refusal
+read_exprs text = exprs_or_place (written_exprs text)
