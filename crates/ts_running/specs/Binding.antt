@@ -47,7 +47,8 @@ abbrev pub bound_expr : List TheColumn → Named → Result Sourced Refusal
 bound_expr columns (Column name) = with_one (λ s. Column s) (source_named columns name)
 bound_expr columns (Digits n) = Ok (Digits n)
 bound_expr columns (Opposite e) = with_one (λ x. Opposite x) (bound_expr columns e)
-bound_expr columns (Joined operation a b) = with_two (λ x y. Joined operation x y) (bound_expr columns a) (bound_expr columns b)
+bound_expr columns (Joined operation a b) =
+    with_two (λ x y. Joined operation x y) (bound_expr columns a) (bound_expr columns b)
 
 -- the expressions of a list, from left to right
 abbrev pub bound_exprs : List TheColumn → List Named → Result (List Sourced) Refusal

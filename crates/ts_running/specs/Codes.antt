@@ -42,7 +42,8 @@ step_of_kind column (suc (suc (suc n))) numbers = step.Joined (operation_of (fir
 abbrev pub step_of_code : {C : Type 0} → (List ℕ → C) → ℕ × List ℕ → Step C
 step_of_code column code = step_of_kind column code.0 code.1
 
-pub step_again : {C : Type 0} (numbers : C → List ℕ) (column : List ℕ → C) → ((c : C) → column (numbers c) ≡ c) → (s : Step C) → step_of_code column (coded_step numbers s) ≡ s
+pub step_again : {C : Type 0} (numbers : C → List ℕ) (column : List ℕ → C) → ((c : C) → column (numbers c) ≡ c) →
+    (s : Step C) → step_of_code column (coded_step numbers s) ≡ s
 step_again {C} numbers column same (step.Column c) = ap (λ (x : C). step.Column x) (same c)
 step_again numbers column same (step.Digits n) = refl
 step_again numbers column same step.Opposite = refl
@@ -50,20 +51,23 @@ step_again numbers column same (step.Joined Plus) = refl
 step_again numbers column same (step.Joined Less) = refl
 step_again numbers column same (step.Joined Times) = refl
 
-pub steps_again : {C : Type 0} (numbers : C → List ℕ) (column : List ℕ → C) → ((c : C) → column (numbers c) ≡ c) → (steps : List (Step C)) →
-    map (step_of_code column) (map (coded_step numbers) steps) ≡ steps
+pub steps_again : {C : Type 0} (numbers : C → List ℕ) (column : List ℕ → C) → ((c : C) → column (numbers c) ≡ c) →
+    (steps : List (Step C)) → map (step_of_code column) (map (coded_step numbers) steps) ≡ steps
 steps_again numbers column same [] = refl
 steps_again {C} numbers column same (s ∷ steps) =
-    ap (λ (x : Step C). x ∷ map (step_of_code column) (map (coded_step numbers) steps)) (step_again numbers column same s)
+    ap (λ (x : Step C). x ∷ map (step_of_code column) (map (coded_step numbers) steps))
+    (step_again numbers column same s)
     ∙ ap (λ (l : List (Step C)). s ∷ l) (steps_again numbers column same steps)
 
 -- lists of expressions over columns that are lists of numbers
-abbrev pub exprs_code : {C : Type 0} → (numbers : C → List ℕ) → (column : List ℕ → C) → ((c : C) → column (numbers c) ≡ c) → Coded (List (Expr C))
+abbrev pub exprs_code : {C : Type 0} → (numbers : C → List ℕ) → (column : List ℕ → C) →
+    ((c : C) → column (numbers c) ≡ c) → Coded (List (Expr C))
 exprs_code {C} numbers column same =
     code_by (List (ℕ × List ℕ)) (coded_list (coded× coded_ℕ (coded_list coded_ℕ)))
     (λ exprs. map (coded_step numbers) (all_steps exprs))
     (λ codes. exprs_of (map (step_of_code column) codes))
-    (λ exprs. ap (λ (steps : List (Step C)). exprs_of steps) (steps_again numbers column same (all_steps exprs)) ∙ exprs_again exprs)
+    (λ exprs. ap (λ (steps : List (Step C)). exprs_of steps) (steps_again numbers column same (all_steps exprs))
+    ∙ exprs_again exprs)
 
 -- over names
 abbrev pub named_code : Coded (List (Expr (List ℕ)))

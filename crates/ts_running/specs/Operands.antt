@@ -46,7 +46,9 @@ opposite_of a = at_scale a.scale (of_number (λ x. checked (neg_ℤ x)) a.value)
 -- a sum or a difference: both are brought to the greater scale
 abbrev pub at_greater : (ℤ → ℤ → ℤ) → ℕ → Operand → Operand → Option Operand
 at_greater make scale a b =
-    at_scale scale (of_numbers (λ x y. of_two (λ p q. checked (make p q)) (brought (scale - a.scale) x) (brought (scale - b.scale) y)) a.value b.value)
+    at_scale scale
+    (of_numbers (λ x y. of_two (λ p q. checked (make p q)) (brought (scale - a.scale) x) (brought (scale - b.scale) y))
+    a.value b.value)
 
 abbrev pub joined_of : Operation → Operand → Operand → Option Operand
 joined_of Plus a b = at_greater ◌+ℤ◌ (max a.scale b.scale) a b
@@ -79,7 +81,8 @@ value_if_any (Some z) = Number z
 
 -- the visible row of the values of expressions; none where a number has no place
 abbrev pub applied : List Sourced → Values → Option Row
-applied exprs values = option_map (λ operands. visible (map (λ o. value_if_any o.value) operands)) (made_of_all (numbers values) exprs)
+applied exprs values =
+    option_map (λ operands. visible (map (λ o. value_if_any o.value) operands)) (made_of_all (numbers values) exprs)
 
 -- a call gives this, or says that a number has no place, or that there is no memory
 abbrev pub Applies : {A : Type 0} → Option A → Result A ApplyError → Type 0

@@ -26,7 +26,8 @@ by_sign (sign ∷ signs) behind other = if_sign sign.0 (behind sign.1) (by_sign 
 abbrev pub onward_most : {C : Type 0} → Signs → Phrase (Expr C) → ℕ → Expr C → Phrase (Expr C)
 onward_most signs phrase zero before = give before
 onward_most signs phrase (suc n) before =
-    by_sign signs (λ operation. phrase >>= (λ next. onward_most signs phrase n (Joined operation before next))) (give before)
+    by_sign signs (λ operation. phrase >>= (λ next. onward_most signs phrase n (Joined operation before next)))
+    (give before)
 
 -- by as many as stand there
 unfoldable pub onward : {C : Type 0} → Signs → Phrase (Expr C) → Expr C → Phrase (Expr C)

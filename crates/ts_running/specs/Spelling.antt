@@ -18,31 +18,42 @@ pub data Level : Type 0 where
 abbrev pub Tokens : Type 0
 Tokens = List (List ℕ)
 
--- these tokens write an expression; at most so many factors stand inside each of its factors, each inside the one before
+-- these tokens write an expression; at most so many factors stand inside each of its factors, one inside the other
 pub data IsWritten : Level → ℕ → Named → Tokens → Type 0 where
-  column : {inside : ℕ} {name : List ℕ} → is_name name ≡ true → IsWritten Factor inside (Column name) ((36 ∷ []) ∷ name ∷ [])
-  digits : {inside : ℕ} {token : List ℕ} → all_digits token ≡ true → 1 ≤ length token → length token ≤ MOST_DIGITS → IsWritten Factor inside (Digits (number_of token)) (token ∷ [])
-  minus : {inside : ℕ} {e : Named} {tokens : Tokens} → IsWritten Factor inside e tokens → IsWritten Factor (suc inside) (Opposite e) ((45 ∷ []) ∷ tokens)
-  brackets : {inside : ℕ} {e : Named} {tokens : Tokens} → IsWritten Sum inside e tokens → IsWritten Factor (suc inside) e ((40 ∷ []) ∷ (tokens ++ (41 ∷ []) ∷ []))
-  factor : {inside : ℕ} {e : Named} {tokens : Tokens} → IsWritten Factor inside e tokens → IsWritten Term inside e tokens
-  product : {inside : ℕ} {a b : Named} {first second : Tokens} → IsWritten Term inside a first → IsWritten Factor inside b second →
+  column : {inside : ℕ} {name : List ℕ} → is_name name ≡ true →
+      IsWritten Factor inside (Column name) ((36 ∷ []) ∷ name ∷ [])
+  digits : {inside : ℕ} {token : List ℕ} → all_digits token ≡ true → 1 ≤ length token → length token ≤ MOST_DIGITS →
+      IsWritten Factor inside (Digits (number_of token)) (token ∷ [])
+  minus : {inside : ℕ} {e : Named} {tokens : Tokens} → IsWritten Factor inside e tokens →
+      IsWritten Factor (suc inside) (Opposite e) ((45 ∷ []) ∷ tokens)
+  brackets : {inside : ℕ} {e : Named} {tokens : Tokens} → IsWritten Sum inside e tokens →
+      IsWritten Factor (suc inside) e ((40 ∷ []) ∷ (tokens ++ (41 ∷ []) ∷ []))
+  factor : {inside : ℕ} {e : Named} {tokens : Tokens} → IsWritten Factor inside e tokens →
+      IsWritten Term inside e tokens
+  product : {inside : ℕ} {a b : Named} {first second : Tokens} →
+      IsWritten Term inside a first → IsWritten Factor inside b second →
       IsWritten Term inside (Joined Times a b) (first ++ (42 ∷ []) ∷ second)
   term : {inside : ℕ} {e : Named} {tokens : Tokens} → IsWritten Term inside e tokens → IsWritten Sum inside e tokens
-  sum : {inside : ℕ} {a b : Named} {first second : Tokens} → IsWritten Sum inside a first → IsWritten Term inside b second →
+  sum : {inside : ℕ} {a b : Named} {first second : Tokens} →
+      IsWritten Sum inside a first → IsWritten Term inside b second →
       IsWritten Sum inside (Joined Plus a b) (first ++ (43 ∷ []) ∷ second)
-  difference : {inside : ℕ} {a b : Named} {first second : Tokens} → IsWritten Sum inside a first → IsWritten Term inside b second →
+  difference : {inside : ℕ} {a b : Named} {first second : Tokens} →
+      IsWritten Sum inside a first → IsWritten Term inside b second →
       IsWritten Sum inside (Joined Less a b) (first ++ (45 ∷ []) ∷ second)
 
 -- these write expressions, each behind a comma
 abbrev pub AreBehindCommas : List Named → Tokens → Type 0
 AreBehindCommas [] tokens = tokens ≡ []
 AreBehindCommas (e ∷ exprs) tokens =
-    (first : Tokens) × (rest : Tokens) × IsWritten Sum MOST_INSIDE e first × AreBehindCommas exprs rest × (tokens ≡ (44 ∷ []) ∷ (first ++ rest))
+    (first : Tokens) × (rest : Tokens) × IsWritten Sum MOST_INSIDE e first × AreBehindCommas exprs rest
+    × (tokens ≡ (44 ∷ []) ∷ (first ++ rest))
 
 -- these write expressions with commas between them, and one at least
 abbrev pub AreWritten : List Named → Tokens → Type 0
 AreWritten [] tokens = ⊥
-AreWritten (e ∷ exprs) tokens = (first : Tokens) × (rest : Tokens) × IsWritten Sum MOST_INSIDE e first × AreBehindCommas exprs rest × (tokens ≡ first ++ rest)
+AreWritten (e ∷ exprs) tokens =
+    (first : Tokens) × (rest : Tokens) × IsWritten Sum MOST_INSIDE e first × AreBehindCommas exprs rest
+    × (tokens ≡ first ++ rest)
 
 -- the text is that of a list of these expressions
 pub record IsListText (exprs : List Named) (text : List ℕ) : Type 0 where

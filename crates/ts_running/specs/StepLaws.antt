@@ -25,37 +25,47 @@ steps_make parts (Digits n) steps stack = onto_more parts steps stack (parts.dig
 steps_make {C} {A} parts (Opposite e) steps stack =
     ap (λ (l : List (Step C)). after_steps parts l stack) (append_assoc (steps_of e) (step.Opposite ∷ []) steps)
     ∙ steps_make parts e (step.Opposite ∷ steps) stack ∙ of_made (made_of parts e) where
-      of_made : (made : Option A) → over_more parts (step.Opposite ∷ steps) stack made ≡ over_more parts steps stack (option_and_then parts.opposite made)
+      of_made : (made : Option A) →
+          over_more parts (step.Opposite ∷ steps) stack made ≡ over_more parts steps stack (option_and_then parts.opposite made)
       of_made None = refl
       of_made (Some a) = onto_more parts steps stack (parts.opposite a)
 steps_make {C} {A} parts (Joined operation a b) steps stack =
-    ap (λ (l : List (Step C)). after_steps parts l stack) (append_assoc (steps_of a) (steps_of b ++ step.Joined operation ∷ []) steps)
+    ap (λ (l : List (Step C)). after_steps parts l stack)
+    (append_assoc (steps_of a) (steps_of b ++ step.Joined operation ∷ []) steps)
     ∙ steps_make parts a ((steps_of b ++ step.Joined operation ∷ []) ++ steps) stack
     ∙ of_first (λ x. steps_make parts b (step.Joined operation ∷ steps) (x ∷ stack)) (made_of parts a) where
-      last : (x : A) (made : Option A) → over_more parts (step.Joined operation ∷ steps) (x ∷ stack) made ≡ over_more parts steps stack (of_two (parts.joined operation) (Some x) made)
+      last : (x : A) (made : Option A) → over_more parts (step.Joined operation ∷ steps) (x ∷ stack) made ≡
+          over_more parts steps stack (of_two (parts.joined operation) (Some x) made)
       last x None = refl
       last x (Some y) = onto_more parts steps stack (parts.joined operation x y)
 
-      of_first : ((x : A) → after_steps parts (steps_of b ++ step.Joined operation ∷ steps) (x ∷ stack) ≡ over_more parts (step.Joined operation ∷ steps) (x ∷ stack) (made_of parts b)) →
-          (made : Option A) → over_more parts ((steps_of b ++ step.Joined operation ∷ []) ++ steps) stack made ≡ over_more parts steps stack (of_two (parts.joined operation) made (made_of parts b))
+      of_first : ((x : A) → after_steps parts (steps_of b ++ step.Joined operation ∷ steps) (x ∷ stack) ≡
+          over_more parts (step.Joined operation ∷ steps) (x ∷ stack) (made_of parts b)) → (made : Option A) →
+          over_more parts ((steps_of b ++ step.Joined operation ∷ []) ++ steps) stack made ≡
+          over_more parts steps stack (of_two (parts.joined operation) made (made_of parts b))
       of_first second None = refl
       of_first second (Some x) =
-          ap (λ (l : List (Step C)). after_steps parts l (x ∷ stack)) (append_assoc (steps_of b) (step.Joined operation ∷ []) steps)
+          ap (λ (l : List (Step C)). after_steps parts l (x ∷ stack))
+          (append_assoc (steps_of b) (step.Joined operation ∷ []) steps)
           ∙ second x ∙ last x (made_of parts b)
 
 -- and so do those of a list, one after the other
 pub all_make : {C A : Type 0} (parts : Parts C A) (exprs : List (Expr C)) (stack : List A) →
     after_steps parts (all_steps exprs) stack ≡ option_map (λ made. reverse_aux made stack) (made_of_all parts exprs)
 all_make parts [] stack = refl
-all_make {C} {A} parts (e ∷ exprs) stack = steps_make parts e (all_steps exprs) stack ∙ of_made (λ a. all_make parts exprs (a ∷ stack)) (made_of parts e) where
-  rest : (a : A) (made : Option (List A)) → option_map (λ others. reverse_aux others (a ∷ stack)) made ≡ option_map (λ all. reverse_aux all stack) (with_others (Some a) made)
-  rest a None = refl
-  rest a (Some others) = refl
+all_make {C} {A} parts (e ∷ exprs) stack =
+    steps_make parts e (all_steps exprs) stack ∙ of_made (λ a. all_make parts exprs (a ∷ stack)) (made_of parts e) where
+      rest : (a : A) (made : Option (List A)) → option_map (λ others. reverse_aux others (a ∷ stack)) made ≡
+          option_map (λ all. reverse_aux all stack) (with_others (Some a) made)
+      rest a None = refl
+      rest a (Some others) = refl
 
-  of_made : ((a : A) → after_steps parts (all_steps exprs) (a ∷ stack) ≡ option_map (λ made. reverse_aux made (a ∷ stack)) (made_of_all parts exprs)) →
-      (made : Option A) → over_more parts (all_steps exprs) stack made ≡ option_map (λ all. reverse_aux all stack) (with_others made (made_of_all parts exprs))
-  of_made others None = refl
-  of_made others (Some a) = others a ∙ rest a (made_of_all parts exprs)
+      of_made : ((a : A) → after_steps parts (all_steps exprs) (a ∷ stack) ≡
+          option_map (λ made. reverse_aux made (a ∷ stack)) (made_of_all parts exprs)) →
+          (made : Option A) → over_more parts (all_steps exprs) stack made ≡
+          option_map (λ all. reverse_aux all stack) (with_others made (made_of_all parts exprs))
+      of_made others None = refl
+      of_made others (Some a) = others a ∙ rest a (made_of_all parts exprs)
 
 -- what is built is the expression
 
@@ -76,5 +86,6 @@ building_all {C} (e ∷ exprs) =
 -- steps give their expressions back
 pub exprs_again : {C : Type 0} (exprs : List (Expr C)) → exprs_of (all_steps exprs) ≡ exprs
 exprs_again {C} exprs =
-    ap (λ (x : Option (List (Expr C))). reverse (unwrap_or x [])) (all_make building exprs [] ∙ ap (option_map (λ (l : List (Expr C)). reverse_aux l [])) (building_all exprs))
+    ap (λ (x : Option (List (Expr C))). reverse (unwrap_or x []))
+    (all_make building exprs [] ∙ ap (option_map (λ (l : List (Expr C)). reverse_aux l [])) (building_all exprs))
     ∙ reverse-reverse exprs

@@ -52,8 +52,8 @@ impl Model for BoundExpr {
 }
 
 impl ExprList {
-    /// The expressions over the columns of a row type. Else why not: the first name from left to right that no value column
-    /// has, or that of a column of texts; after all names a part with over 28 digits after the point.
+    /// The expressions over the columns of a row type. Else why not: the first name from left to right that no value
+    /// column has, or that of a column of texts; after all names a part with over 28 digits after the point.
     pub fn bind(&self, kind: &RowType) -> Result<BoundExpr, Trouble>
         ensures { Answers (binding kind.now.columns self.now) result }
     {
@@ -67,8 +67,8 @@ impl ExprList {
 }
 
 impl BoundExpr {
-    /// The digits after the point of each expression: none for a number, for a sum or a difference the greater of both, for
-    /// a product their sum.
+    /// The digits after the point of each expression: none for a number, for a sum or a difference the greater of both,
+    /// for a product their sum.
     pub fn scales(&self) -> &[u8]
         ensures value { made_of_all part_scales self.now ≡ Some result.now }
         ensures most { All (λ s. s ≤ MOST_PART_SCALE) result.now }

@@ -71,9 +71,9 @@ pub fn expression_texts_are_tokens()
     ensures { (text : List ℕ) → (exprs : List Named) → written_exprs text ≡ Ok exprs ↔ IsListText exprs text }
 {}
 
-/// Where a text is refused as a list of expressions, what stands before the place goes on to a list's text; with the token
-/// that stands at the place none does: whatever comes behind it that leaves it this token, the text is refused at this
-/// place. Nothing is said of bytes that begin no token.
+/// Where a text is refused as a list of expressions, what stands before the place goes on to a list's text; with the
+/// token that stands at the place none does: whatever comes behind it that leaves it this token, the text is refused at
+/// this place. Nothing is said of bytes that begin no token.
 pub fn expressions_are_refused_in_place()
     ensures { RefusesInPlace (everywhere expr_front) written_exprs }
 {}

@@ -91,7 +91,8 @@ fn read_factor<'a>(
     steps: &mut Vec<Step<Name>>,
     text: &'a [u8],
 ) -> Result<&'a [u8], Misfit>
-    ensures ok { IfOk result (λ rest. Reads (Grammar.factor_in inside) text.now steps.old.items steps.new.items rest.now) }
+    ensures ok { IfOk result
+        (λ rest. Reads (Grammar.factor_in inside) text.now steps.old.items steps.new.items rest.now) }
     ensures cause { IfErr result (λ misfit. Refuses misfit (Grammar.factor_in inside text.now)) }
     ensures shorter { IfOk result (λ rest. length rest.now ≤ length text.now) }
 {
@@ -119,7 +120,8 @@ fn read_term<'a>(
     steps: &mut Vec<Step<Name>>,
     text: &'a [u8],
 ) -> Result<&'a [u8], Misfit>
-    ensures ok { IfOk result (λ rest. Reads (Grammar.term_of (Grammar.factor_in inside)) text.now steps.old.items steps.new.items rest.now) }
+    ensures ok { IfOk result
+        (λ rest. Reads (Grammar.term_of (Grammar.factor_in inside)) text.now steps.old.items steps.new.items rest.now) }
     ensures cause { IfErr result (λ misfit. Refuses misfit (Grammar.term_of (Grammar.factor_in inside) text.now)) }
     ensures shorter { IfOk result (λ rest. length rest.now ≤ length text.now) }
 {
@@ -139,7 +141,8 @@ fn read_sum<'a>(
     steps: &mut Vec<Step<Name>>,
     text: &'a [u8],
 ) -> Result<&'a [u8], Misfit>
-    ensures ok { IfOk result (λ rest. Reads (Grammar.sum_of (Grammar.factor_in inside)) text.now steps.old.items steps.new.items rest.now) }
+    ensures ok { IfOk result
+        (λ rest. Reads (Grammar.sum_of (Grammar.factor_in inside)) text.now steps.old.items steps.new.items rest.now) }
     ensures cause { IfErr result (λ misfit. Refuses misfit (Grammar.sum_of (Grammar.factor_in inside) text.now)) }
     ensures shorter { IfOk result (λ rest. length rest.now ≤ length text.now) }
 {
@@ -193,7 +196,8 @@ fn read_more<'a>(
     steps: &mut Vec<Step<Name>>,
     text: &'a [u8],
 ) -> Result<&'a [u8], Misfit>
-    ensures ok { IfOk result (λ rest. ReadsAll (Grammar.further (MOST_EXPRS - 1)) text.now steps.old.items steps.new.items rest.now) }
+    ensures ok { IfOk result
+        (λ rest. ReadsAll (Grammar.further (MOST_EXPRS - 1)) text.now steps.old.items steps.new.items rest.now) }
     ensures cause { IfErr result (λ misfit. Refuses misfit (Grammar.further (MOST_EXPRS - 1) text.now)) }
 {
     let mut rest = text;

@@ -14,7 +14,8 @@ pub(crate) fn scales_of(
     alloc: Global,
     steps: &[Step<Source>],
 ) -> Result<Option<Vec<u8>>, AllocError>
-    ensures { IfOk result (λ found. after_steps part_scales steps.now [] ≡ option_map (λ stack. reverse stack.items) found) }
+    ensures { IfOk result
+        (λ found. after_steps part_scales steps.now [] ≡ option_map (λ stack. reverse stack.items) found) }
 {
     let mut stack = Vec::new(alloc);
     for step in steps {
@@ -40,7 +41,8 @@ fn scale_made(step: &Step<Source>, stack: &mut Vec<u8>) -> Option<u8>
 
 // The scale of what is made of the last two.
 fn scale_of_two(operation: Operation, stack: &mut Vec<u8>) -> Option<u8>
-    ensures { over_two (part_scales.joined operation) (reverse stack.old.items) ≡ onto_stack (reverse stack.new.items) result }
+    ensures { over_two (part_scales.joined operation) (reverse stack.old.items)
+        ≡ onto_stack (reverse stack.new.items) result }
 {
     let b = stack.pop()?;
     let a = stack.pop()?;

@@ -21,9 +21,9 @@ pub(crate) struct Operand {
 }
 
 impl BoundExpr {
-    /// The visible row of the values of the expressions over the values of an element. Overflow comes exactly where some
-    /// number has no place: what an operation without NULL makes, or an operand of it that is brought to the scale of the
-    /// other.
+    /// The visible row of the values of the expressions over the values of an element, whether it is hidden or not.
+    /// Overflow comes exactly where some number has no place: what an operation without NULL makes, or an operand of it
+    /// that is brought to the scale of the other.
     pub fn apply(&self, elem: &Elem) -> Result<Row, ApplyError>
         ensures { Applies (applied self.now elem.now.row.values) result }
     {
@@ -58,8 +58,10 @@ fn carried_out(
 // What a step leaves, and the operands that it takes for it.
 fn made_by(step: &Step<Source>, values: &[Value], stack: &mut Vec<Operand>) -> Option<Operand>
     requires { IsSome (after_step part_scales step.now (map (λ o. o.scale) (reverse stack.old.items))) }
-    ensures value { after_step (numbers values.now) step.now (reverse stack.old.items) ≡ onto_stack (reverse stack.new.items) result }
-    ensures scale { IfSome result (λ made. after_step part_scales step.now (map (λ o. o.scale) (reverse stack.old.items))
+    ensures value { after_step (numbers values.now) step.now (reverse stack.old.items)
+        ≡ onto_stack (reverse stack.new.items) result }
+    ensures scale { IfSome result (λ made.
+        after_step part_scales step.now (map (λ o. o.scale) (reverse stack.old.items))
         ≡ Some (made.scale ∷ map (λ o. o.scale) (reverse stack.new.items))) }
 {
     match step {
@@ -90,7 +92,8 @@ fn column_value(source: Source, values: &[Value]) -> Operand
 // The number of opposite sign in place of the last one.
 fn opposite_made(stack: &mut Vec<Operand>) -> Option<Operand>
     ensures value { over_one opposite_of (reverse stack.old.items) ≡ onto_stack (reverse stack.new.items) result }
-    ensures scale { IfSome result (λ made. map (λ o. o.scale) (reverse stack.old.items) ≡ made.scale ∷ map (λ o. o.scale) (reverse stack.new.items)) }
+    ensures scale { IfSome result (λ made. map (λ o. o.scale) (reverse stack.old.items)
+        ≡ made.scale ∷ map (λ o. o.scale) (reverse stack.new.items)) }
 {
     let a = stack.pop()?;
     opposite_of(a)
@@ -99,8 +102,10 @@ fn opposite_made(stack: &mut Vec<Operand>) -> Option<Operand>
 // What is made of the last two.
 fn joined_made(operation: Operation, stack: &mut Vec<Operand>) -> Option<Operand>
     requires { IsSome (over_two (part_scales.joined operation) (map (λ o. o.scale) (reverse stack.old.items))) }
-    ensures value { over_two (Operands.joined_of operation) (reverse stack.old.items) ≡ onto_stack (reverse stack.new.items) result }
-    ensures scale { IfSome result (λ made. over_two (part_scales.joined operation) (map (λ o. o.scale) (reverse stack.old.items))
+    ensures value { over_two (Operands.joined_of operation) (reverse stack.old.items)
+        ≡ onto_stack (reverse stack.new.items) result }
+    ensures scale { IfSome result (λ made.
+        over_two (part_scales.joined operation) (map (λ o. o.scale) (reverse stack.old.items))
         ≡ Some (made.scale ∷ map (λ o. o.scale) (reverse stack.new.items))) }
 {
     let b = stack.pop()?;
