@@ -1,4 +1,5 @@
 // One plain line on standard error for each status but 0: what happened, and what to do.
+use crate::streams::may_complain;
 use std::fmt::Display;
 
 /// What the words may be.
@@ -28,15 +29,17 @@ pub(crate) fn advise(rt: &HostRuntime, path: &str, status: u8) -> u8 {
 }
 
 /// Says that a first word that begins with `-` is no volume's path, and answers with the status of a faulty command
-/// line.
+/// line. Standard error may be a volume of this name all the same: then the line goes nowhere.
 pub(crate) fn refuse_option(rt: &HostRuntime, word: &str) -> u8 {
-    complain(
-        rt,
-        word,
-        format_args!(
-            "is no path, as it begins with `-`; {USAGE}; a file of such a name is given as `./-NAME`"
-        ),
-    );
+    if may_complain(rt, Some(word)) {
+        complain(
+            rt,
+            word,
+            format_args!(
+                "is no path, as it begins with `-`; {USAGE}; a file of such a name is given as `./-NAME`"
+            ),
+        );
+    }
     2
 }
 

@@ -15,7 +15,7 @@ refusals_of (Err refusal) = refusal ∷ []
 abbrev pub refusals : List ℕ → List Refusal
 refusals script = flat_map refusals_of (requests script ++ last_request script)
 
--- the statement of a mistake stands in the script, and its place in the statement
+-- what stands before a mistake is a front of the script that ends with as many of some bytes as the grammar takes
 pub record IsPlaced (script : List ℕ) (mistake : Mistake) : Type 0 where
   pub start : List ℕ
   pub text : List ℕ

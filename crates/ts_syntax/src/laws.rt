@@ -9,7 +9,8 @@ pub fn mistakes_are_the_refusals()
     ensures { (script : List ℕ) → map (λ m. m.refusal) (mistakes script) ≡ refusals script }
 {}
 
-/// The place of each mistake is where the grammar refuses the bytes of a statement that stand there in the script.
+/// What stands before each mistake is a front of the script, and ends with those of some bytes that the grammar takes.
+/// Which bytes these are, a statement's, the definition alone says.
 pub fn mistakes_stand_in_their_statements()
     ensures { (script : List ℕ) → AllByRecursion (IsPlaced script) (mistakes script) }
 {}

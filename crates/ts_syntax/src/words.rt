@@ -13,7 +13,7 @@ const SHOWN: usize = 40;
 pub(crate) fn describe(alloc: Global, before: &[u8], here: &[u8]) -> Result<Bytes, AllocError> {
     let mut words = Bytes::new(alloc);
     if here.is_empty() {
-        words.extend_from_slice(b"nothing more stands here")?;
+        words.extend_from_slice(b"the statement breaks off here")?;
     } else {
         words.push(b'`')?;
         words.extend_from_slice(shown(here))?;
@@ -69,7 +69,7 @@ fn advice_on_word(before: &[u8], word: &[u8]) -> &'static str {
 
 fn advice_on_text(here: &[u8]) -> &'static str {
     match here {
-        [_, b'0'..=b'9' | b'@', ..] => {
+        [_, b'0'..=b'9', ..] => {
             "a stamp is 'YYYY-MM-DD HH:MM:SS', perhaps with a point and 1 to 5 digits; a name and a number stand without quotes"
         }
         _ => {
@@ -83,7 +83,7 @@ fn advice_on_byte(here: &[u8]) -> &'static str {
         [] => "a `;` ends a statement, and a bracket its arguments",
         [b';', ..] => "an argument or the `)` is missing",
         [b'\'', ..] => {
-            "this quote opens a text that isn't closed, or that has a line end or another control byte in it"
+            "this quote opens a text that isn't closed before the statement breaks off, or that has a control byte in it"
         }
         [b'"', ..] => "a key, a text and a stamp stand in single quotes",
         [b'#' | b'/' | b'-', ..] => "scripts have no comments; a number is -1 or 1.5",

@@ -30,16 +30,13 @@ pub(crate) fn advice(status: u8) -> Option<&'static str> {
     match status {
         0 | 1 => None,
         2 => Some("it takes no words but --help and --version; say `ts_syntax < SCRIPT`"),
-        3 => Some(
-            "standard input failed; what was told is of the statements before: check it again",
-        ),
-        4 => Some("standard output failed; more may be refused than was told: check it again"),
+        3 => Some("standard input failed; more may be refused than was told: check it again"),
+        4 => Some("standard output failed, so not all was said: say it again"),
         7 => Some(
             "there is no memory; more may be refused than was told: free some, and check it again",
         ),
         8 => Some(
-            "the script has more than 268435456 bytes, which no run takes; what ends within these was checked: cut it in \
-             parts",
+            "the script has more than 268435456 bytes, which no run takes; more may be refused than was told: cut it",
         ),
         _ => Some("the check ended"),
     }

@@ -36,11 +36,12 @@ fn run(rt: &HostRuntime) -> u8 {
     };
     match words.as_slice() {
         [] => check(rt),
-        [word, ..] => match word.as_str() {
+        [word] => match word.as_str() {
             "--help" => show(rt, HELP),
             "--version" => show(rt, VERSION),
             _ => 2,
         },
+        _ => 2,
     }
 }
 
