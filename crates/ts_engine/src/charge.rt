@@ -61,7 +61,8 @@ pub(crate) fn change_places(
     charges.change(rate.container, before, after);
 }
 
-/// A definition came or went: what containers are charged is right again. A pattern, a calendar and a series without places change nothing.
+/// A definition came or went: what containers are charged is right again. A pattern, a calendar and a series without
+/// places change nothing.
 pub(crate) fn charge_definition(
     defs: &Defs,
     space: &Space,

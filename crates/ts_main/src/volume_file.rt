@@ -33,8 +33,8 @@ impl OpenError {
 }
 
 /// Opens a plain file for reading and writing, or makes an empty one where that is wished, and locks it until it is
-/// closed. The file and its length in bytes. What isn't a plain file, or is a standard stream,
-/// is refused before it is opened; what comes to the path in between, after that.
+/// closed. The file and its length in bytes. What isn't a plain file, or is a standard stream, is refused before it is
+/// opened; what comes to the path in between, after that.
 pub(crate) fn open_volume(
     rt: &HostRuntime,
     path: &str,
