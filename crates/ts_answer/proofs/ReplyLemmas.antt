@@ -164,4 +164,10 @@ refusal-apart (refusals.TooLarge rows) = record { memory = λ x. refl; reply = r
 refusal-apart refusals.NotRegular = record { memory = λ x. refl; reply = refl }
 refusal-apart (refusals.BadExpression place) = record { memory = λ x. refl; reply = refl }
 refusal-apart refusals.UnknownColumn = record { memory = λ x. refl; reply = refl }
+refusal-apart refusals.Overflow = record { memory = λ x. refl; reply = refl }
 refusal-apart refusals.OldFormat = record { memory = λ x. refl; reply = refl }
+refusal-apart (refusals.WindowGone newest) = record { memory = λ x. refl; reply = refl }
+refusal-apart refusals.NotOpen = record { memory = λ x. refl; reply = refl }
+refusal-apart refusals.AlreadyOpen = record { memory = λ x. refl; reply = refl }
+refusal-apart refusals.TransactionFull = record { memory = λ x. refl; reply = refl }
+refusal-apart (refusals.Conflict commit) = record { memory = λ x. refl; reply = refl }

@@ -2,7 +2,14 @@
 use Rattle.std.specs.Prelude.{ℕ, Bool, false, ◌&&◌, ◌||◌, ◌==◌, nat_le, not, if◌then◌else◌, Option, Some, None, List, [], ◌∷◌, length}
 use Rattle.std.specs.List.{list_all}
 use Rattle.std.specs.Char.{is_ascii_digit}
-use Rattle.ts_base.specs.declared.name.TheConstants.{NAME_BYTES, KEY_BYTES}
+
+-- the most bytes of a name
+abbrev pub most_name_bytes : ℕ
+most_name_bytes = 32
+
+-- the most bytes of a key
+abbrev pub most_key_bytes : ℕ
+most_key_bytes = 64
 
 -- a letter of either case
 abbrev pub is_letter : ℕ → Bool
@@ -23,7 +30,7 @@ is_word (c ∷ rest) = begins_word c && list_all continues_word rest
 
 -- a word of 1 to 32 bytes
 abbrev pub is_name : List ℕ → Bool
-is_name s = is_word s && nat_le (length s) NAME_BYTES
+is_name s = is_word s && nat_le (length s) most_name_bytes
 
 -- a blank: a space, a tab, a carriage return or a line feed
 abbrev pub is_blank : ℕ → Bool
@@ -39,7 +46,7 @@ is_text = list_all is_text_byte
 
 -- 1 to 64 bytes of a text
 abbrev pub is_key : List ℕ → Bool
-is_key s = nat_le 1 (length s) && nat_le (length s) KEY_BYTES && is_text s
+is_key s = nat_le 1 (length s) && nat_le (length s) most_key_bytes && is_text s
 
 -- the name with these bytes, if they are one's
 abbrev pub name_if_any : List ℕ → Option (List ℕ)

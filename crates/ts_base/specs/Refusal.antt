@@ -1,7 +1,7 @@
 -- Why a command is refused.
 use Rattle.std.specs.Prelude.{ℕ, List, codes}
 use Rattle.ts_base.specs.declared.refusal.Refusal.{Refusal}
-use Rattle.ts_base.specs.declared.refusal.Refusal.TheVariants.{Syntax, TooLong, Unended, UnknownName, NameTaken, BadRowType, BadPattern, BadCalendar, AllOff, UnitMismatch, PatternTooLong, NotAligned, OffStamp, BeforeOrigin, PastEnd, Duplicate, Missing, SecondFull, RowMismatch, ContainerFull, VolumeFull, InUse, TooMany, TooLarge, NotRegular, BadExpression, UnknownColumn, OldFormat}
+use Rattle.ts_base.specs.declared.refusal.Refusal.TheVariants.{Syntax, TooLong, Unended, UnknownName, NameTaken, BadRowType, BadPattern, BadCalendar, AllOff, UnitMismatch, PatternTooLong, NotAligned, OffStamp, BeforeOrigin, PastEnd, Duplicate, Missing, SecondFull, RowMismatch, ContainerFull, VolumeFull, InUse, TooMany, TooLarge, NotRegular, BadExpression, UnknownColumn, Overflow, OldFormat, WindowGone, NotOpen, AlreadyOpen, TransactionFull, Conflict}
 
 -- the number in the line `error NN Name`
 abbrev pub refusal_code : Refusal → ℕ
@@ -32,7 +32,13 @@ refusal_code (TooLarge rows) = 34
 refusal_code NotRegular = 40
 refusal_code (BadExpression place) = 41
 refusal_code UnknownColumn = 42
+refusal_code Overflow = 43
 refusal_code OldFormat = 44
+refusal_code (WindowGone newest) = 45
+refusal_code NotOpen = 50
+refusal_code AlreadyOpen = 51
+refusal_code TransactionFull = 52
+refusal_code (Conflict commit) = 53
 
 -- the name in that line
 abbrev pub refusal_name : Refusal → List ℕ
@@ -63,4 +69,10 @@ refusal_name (TooLarge rows) = codes "TooLarge"
 refusal_name NotRegular = codes "NotRegular"
 refusal_name (BadExpression place) = codes "BadExpression"
 refusal_name UnknownColumn = codes "UnknownColumn"
+refusal_name Overflow = codes "Overflow"
 refusal_name OldFormat = codes "OldFormat"
+refusal_name (WindowGone newest) = codes "WindowGone"
+refusal_name NotOpen = codes "NotOpen"
+refusal_name AlreadyOpen = codes "AlreadyOpen"
+refusal_name TransactionFull = codes "TransactionFull"
+refusal_name (Conflict commit) = codes "Conflict"

@@ -52,8 +52,20 @@ pub enum Refusal {
     NotRegular,
     BadExpression { place: u32 },
     UnknownColumn,
+    /// A number that a row's expression makes is out of range.
+    Overflow,
     /// The format of the volume has no such thing.
     OldFormat,
+    /// The window that the stamp falls into went when a newer one came; `newest` is the number of the newest.
+    WindowGone { newest: u64 },
+    /// No transaction is open that could end.
+    NotOpen,
+    /// A transaction is open.
+    AlreadyOpen,
+    /// The transaction has as many writing commands as it may have.
+    TransactionFull,
+    /// A later commit than the transaction's begin wrote what the transaction reads or writes.
+    Conflict { commit: u32 },
 }
 
 impl Refusal {
@@ -89,7 +101,13 @@ impl Refusal {
             Refusal::NotRegular => 40,
             Refusal::BadExpression { .. } => 41,
             Refusal::UnknownColumn => 42,
+            Refusal::Overflow => 43,
             Refusal::OldFormat => 44,
+            Refusal::WindowGone { .. } => 45,
+            Refusal::NotOpen => 50,
+            Refusal::AlreadyOpen => 51,
+            Refusal::TransactionFull => 52,
+            Refusal::Conflict { .. } => 53,
         }
     }
 
@@ -125,7 +143,13 @@ impl Refusal {
             Refusal::NotRegular => b"NotRegular",
             Refusal::BadExpression { .. } => b"BadExpression",
             Refusal::UnknownColumn => b"UnknownColumn",
+            Refusal::Overflow => b"Overflow",
             Refusal::OldFormat => b"OldFormat",
+            Refusal::WindowGone { .. } => b"WindowGone",
+            Refusal::NotOpen => b"NotOpen",
+            Refusal::AlreadyOpen => b"AlreadyOpen",
+            Refusal::TransactionFull => b"TransactionFull",
+            Refusal::Conflict { .. } => b"Conflict",
         }
     }
 }

@@ -1,7 +1,7 @@
 // Stamps and their texts, names and keys, refusals and faults.
 use std::alloc::{AllocError, Global};
 use ts_base::{
-    Bytes, Key, Name, Refusal, Reply, SeriesFault, Stamp, StoreFault, Trouble, is_blank,
+    Bytes, Key, Name, Refusal, Reply, SeriesFault, Stamp, StoreFault, Trouble, Unit, is_blank,
     month_start,
 };
 
@@ -129,7 +129,7 @@ fn months_move_the_month_and_nothing_else(rt: HostRuntime) {
 }
 
 /// Refusals, with their numbers and names.
-static REFUSALS: [(Refusal, u8, &[u8]); 28] = [
+static REFUSALS: [(Refusal, u8, &[u8]); 34] = [
     (Refusal::Syntax { place: 7 }, 1, b"Syntax"),
     (Refusal::TooLong, 2, b"TooLong"),
     (Refusal::Unended, 3, b"Unended"),
@@ -157,7 +157,13 @@ static REFUSALS: [(Refusal, u8, &[u8]); 28] = [
     (Refusal::NotRegular, 40, b"NotRegular"),
     (Refusal::BadExpression { place: 3 }, 41, b"BadExpression"),
     (Refusal::UnknownColumn, 42, b"UnknownColumn"),
+    (Refusal::Overflow, 43, b"Overflow"),
     (Refusal::OldFormat, 44, b"OldFormat"),
+    (Refusal::WindowGone { newest: u64::MAX }, 45, b"WindowGone"),
+    (Refusal::NotOpen, 50, b"NotOpen"),
+    (Refusal::AlreadyOpen, 51, b"AlreadyOpen"),
+    (Refusal::TransactionFull, 52, b"TransactionFull"),
+    (Refusal::Conflict { commit: 1 }, 53, b"Conflict"),
 ];
 
 #[test]
@@ -289,7 +295,10 @@ fn the_types_may_go_to_other_threads() {
     goes_to_threads::<Key>();
     goes_to_threads::<Bytes>();
     goes_to_threads::<Reply>();
+    goes_to_threads::<Unit>();
+    goes_to_threads::<Refusal>();
     goes_to_threads::<Trouble>();
+    goes_to_threads::<StoreFault>();
     goes_to_threads::<SeriesFault>();
 }
 
