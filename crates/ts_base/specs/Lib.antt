@@ -4,3 +4,4 @@ pub mod Months
 pub mod Refusal
 pub mod Name
 pub mod Fault
+pub mod Answer

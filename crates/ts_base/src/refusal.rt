@@ -52,11 +52,11 @@ pub enum Refusal {
     NotRegular,
     BadExpression { place: u32 },
     UnknownColumn,
-    /// A number that a row's expression makes is out of range.
+    /// A number that an expression makes of some row is out of range.
     Overflow,
     /// The format of the volume has no such thing.
     OldFormat,
-    /// The window that the stamp falls into went when a newer one came; `newest` is the number of the newest.
+    /// The window of the stamp is older than those that are kept; `newest` is the number of the newest.
     WindowGone { newest: u64 },
     /// No transaction is open that could end.
     NotOpen,
@@ -64,7 +64,7 @@ pub enum Refusal {
     AlreadyOpen,
     /// The transaction has as many writing commands as it may have.
     TransactionFull,
-    /// A later commit than the transaction's begin wrote what the transaction reads or writes.
+    /// The first commit behind the transaction's begin that wrote what one of its commands writes or names.
     Conflict { commit: u32 },
 }
 

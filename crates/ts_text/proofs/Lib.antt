@@ -10,3 +10,4 @@ mod ListLemmas
 mod PlaceLemmas
 mod PlainLemmas
 mod PartedLemmas
+mod OnwardLemmas

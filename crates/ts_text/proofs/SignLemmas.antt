@@ -51,6 +51,11 @@ pub sign_other : (wanted other : ℕ) (bytes rest : List ℕ) → (other == want
 unfolding a_sign
 sign_other wanted other bytes rest differs is = ap (behind_byte wanted) is ∙ rw differs (ap (λ (l : List ℕ). Err (length l)) (sym is))
 
+-- nothing but blanks: there is no sign
+pub sign_end : (wanted : ℕ) (bytes : List ℕ) → unblanked bytes ≡ [] → a_sign wanted bytes ≡ Err 0
+unfolding a_sign
+sign_end wanted bytes none = ap (behind_byte wanted) none
+
 pub sign_shrinks : (wanted : ℕ) (bytes : List ℕ) (found : Unit {0} × List ℕ) → a_sign wanted bytes ≡ Ok found → length found.1 < length bytes
 sign_shrinks wanted bytes found is =
     let whole = sign_is wanted bytes found.1 is in

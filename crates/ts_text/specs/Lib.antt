@@ -6,4 +6,5 @@ pub mod Parted
 pub mod Phrase
 pub mod Place
 pub mod Plain
+pub mod Signs
 pub mod Spelling

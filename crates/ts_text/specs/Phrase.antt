@@ -1,6 +1,7 @@
 -- How phrases of a grammar are read.
 use Rattle.std.specs.Prelude.{ℕ, zero, suc, ◌-◌, ◌==◌, if◌then◌else◌, List, [], ◌∷◌, ◌++◌, length, take, drop, Option, Some, None, Result, Ok, Err}
 use Rattle.std.specs.Str.{bytes_eq}
+use Rattle.ts_base.specs.Name.{name_if_any}
 use Rattle.ts_text.specs.Blanks.{unblanked}
 use Rattle.ts_text.specs.Front.{Front}
 use Rattle.ts_text.specs.declared.token.TokenKind.{TokenKind}
@@ -46,6 +47,11 @@ token front accept = λ bytes. taken_front accept (unblanked bytes) (front (unbl
 abbrev pub word_in : List ℕ → TokenKind → List ℕ → Option (Unit {0})
 word_in wanted Word word = if bytes_eq word wanted then Some tt else None
 word_in wanted kind token = None
+
+-- a token that is a name: a word of 1 to 32 bytes
+abbrev pub name_as : TokenKind → List ℕ → Option (List ℕ)
+name_as Word word = name_if_any word
+name_as kind token = None
 
 -- the bytes behind a byte in front
 abbrev pub behind_byte : ℕ → List ℕ → Read (Unit {0})

@@ -1,0 +1,16 @@
+-- What a call answers.
+use Rattle.std.specs.Prelude.{◌≡◌, Result, Ok, Err}
+use Rattle.ts_base.specs.declared.refusal.Refusal.{Refusal}
+use Rattle.ts_base.specs.declared.fault.Trouble.{Trouble}
+use Rattle.ts_base.specs.declared.fault.Trouble.TheVariants.{Refused, Memory}
+
+-- a call answers this, or that there is no memory
+abbrev pub Answers : {A : Type 0} → Result A Refusal → Result A Trouble → Type 0
+Answers answer (Ok value) = answer ≡ Ok value
+Answers answer (Err (Refused why)) = answer ≡ Err why
+Answers answer (Err (Memory error)) = Unit {0}
+
+-- the call fails for this, or for want of memory
+abbrev pub Fails : {A : Type 0} → Result A Refusal → Trouble → Type 0
+Fails answer (Refused why) = answer ≡ Err why
+Fails answer (Memory error) = Unit {0}
