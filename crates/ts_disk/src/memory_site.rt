@@ -1,9 +1,9 @@
 // A site in memory, which keeps its first bytes and each call.
 ghost use Rattle.std.specs.Prelude.{◌≡◌, ◌+◌, ◌≤◌, ◌<◌, ◌⊎◌, ℕ, List, length, OnOk, OnErr, IfOk, IsErr, IsTrue, [], ◌∷◌, ◌++◌, true, vec_capacity, vec_len, IsOk, replicate, ◌-◌, take, drop, ◌^◌};
-ghost use Rattle.ts_disk.specs.Replay.{events_of, used_by, run, fresh};
+ghost use Rattle.ts_disk.specs.Replay.{events_of, used_by, run, fresh, IsOfBytes};
 ghost use Rattle.ts_disk.specs.Replay.{State, after_call, used, put};
 ghost use Rattle.ts_disk.specs.Picks.{pick_write, pick_grow, pick_within, pick_after};
-ghost use Rattle.ts_disk.specs.Device.{Rose, overwritten};
+ghost use Rattle.ts_disk.specs.Device.{AreBytes, Rose, overwritten};
 
 use crate::calls::{Call, Pick};
 use crate::{Failed, SayFailed, Site, Volume, raise};
@@ -29,6 +29,7 @@ pub struct MemorySite {
     fuse: u64,
     ghost taped: { used_by calls.items ≡ length tape.items },
     ghost held: { bytes.items ≡ (run (fresh first.items) (events_of calls.items tape.items)).held },
+    ghost small: { IsOfBytes (run (fresh first.items) (events_of calls.items tape.items)) },
     ghost told: { said.items ≡ (run (fresh first.items) (events_of calls.items tape.items)).said },
 }
 
@@ -111,12 +112,14 @@ impl MemorySite {
             let count = used(call);
             let bytes = part(&self.tape, place, count);
             pick_after(&mut image, pick, call, bytes, &held)?;
+            all_bytes(&image);
             hold(&mut held, call, bytes)?;
             place += count;
         }
         let call = self.calls[moment as usize];
         let bytes = part(&self.tape, place, used(call));
         pick_within(&mut image, pick, call, bytes)?;
+        all_bytes(&image);
         Ok(image)
     }
 
@@ -220,6 +223,11 @@ fn part(tape: &[u8], place: usize, count: usize) -> &[u8]
 {
     &tape[place..place + count]
 }
+
+// What their type says of them.
+fn all_bytes(bytes: &[u8])
+    ensures { AreBytes bytes.now }
+{}
 
 // Writes the bytes as far as the file goes.
 fn put(image: &mut Vec<u8>, at: u64, bytes: &[u8])
@@ -335,7 +343,7 @@ impl Volume for MemorySite {
 
     ghost device = { site_device };
 
-    ghost lawful = { λ m. lawful_replay m.first.items (events_of m.calls.items m.tape.items) m.faults m.say_faults };
+    ghost lawful = { λ m. lawful_replay m.first.items (events_of m.calls.items m.tape.items) m.faults m.say_faults m.small };
 
     fn len(&self) -> u64 {
         self.bytes.len() as u64

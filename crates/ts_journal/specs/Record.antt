@@ -1,4 +1,5 @@
 -- A record: a gate, the number of bytes of its entries, these entries, and behind them the next gate.
+pub use Rattle.ts_disk.specs.Device.{AreBytes}
 use Rattle.std.specs.Prelude.{◌≡◌, ◌≢◌, ℕ, zero, suc, ◌+◌, ◌<◌, ◌≤◌, ◌&&◌, ◌==◌, not, nat_lt, nat_le, if◌then◌else◌, Option, Some, None, option_and_then, List, [], ◌∷◌, ◌++◌, length, take, drop, replicate, slice_index}
 use Rattle.std.specs.Option.{option_map}
 use Rattle.std.specs.Int.{from_be_bytes, to_be_bytes, w32}
@@ -20,10 +21,6 @@ record_frame = 20
 -- the last position in the region at which a gate has room
 abbrev pub last_position : ℕ
 last_position = 1048568
-
--- each number is that of a byte
-abbrev pub AreBytes : List ℕ → Type 0
-AreBytes bytes = (i : ℕ) → slice_index bytes i < 256
 
 -- The record of these entries stands at the front, by the rules of a volume of so many pages: behind its gate the number of bytes
 -- of the entries, then these, and there is room for a next gate.

@@ -3,7 +3,6 @@ ghost use Rattle.std.specs.Prelude.{◌≡◌, ◌+◌, ◌*◌, ◌≤◌, ◌<
 ghost use Rattle.ts_disk.specs.Device.{Only, LeavesOnly, Rose};
 ghost use Rattle.ts_page.specs.Volume.{page_size};
 ghost use Rattle.ts_journal.specs.Entry.{AreAllowed};
-ghost use Rattle.ts_journal.specs.Record.{AreBytes};
 ghost use Rattle.ts_journal.specs.Journal.{IsVolumeSize, page_count, StandsAt, StandsOver, StaysUnread, ReadsButFreed, pages};
 ghost use Rattle.ts_journal.specs.Moment.{Keeps, OnlyReads, SamePages};
 ghost use Rattle.ts_recover.specs.Overlay.{RecoverCause, PageOneCause};
@@ -65,7 +64,7 @@ pub fn recover<V: Volume>(alloc: Global, vol: &mut V) -> Result<Replayed, Recove
     ensures unread { IfOk result (λ r. IsTrue V.tells → StaysUnread r.journal (V.device vol.old).held) }
     ensures allowed { IfOk result (λ r. AreAllowed (page_count (V.device vol.old).size) r.overlay.entries) }
     ensures cause { RecoverCause V.tells result (V.device vol.old) (V.device vol.new) }
-    ensures malformed { IsTrue V.tells → AreBytes (V.device vol.old).held → PageOneCause result (V.device vol.old).held }
+    ensures malformed { IsTrue V.tells → PageOneCause result (V.device vol.old).held }
     ensures no_fault { ¬ IsErrOf result RecoverFault.Failed → (V.device vol.new).faults ≡ (V.device vol.old).faults }
     ensures others { OnlyReads V.tells (V.device vol.old) (V.device vol.new) }
 {

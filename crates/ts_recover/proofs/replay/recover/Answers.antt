@@ -32,15 +32,19 @@ returns-clause-unread g c told =
     (stays_unread v.held c.in-Some.length over.rs (omega (arith, (g.met.V.Volume.lawful c.args.vol.now).size told, volume_long v.size (returns-clause-size g c))) over.stands)
 
 pub returns-in_default-clause-malformed : goal.returns-in_default-clause-malformed
-returns-in_default-clause-malformed g c told small one =
+returns-in_default-clause-malformed g c told one =
     let v = g.V.Volume.device c.args.vol.now in
+    let lawful = g.met.V.Volume.lawful c.args.vol.now in
+    let small = lawful.bytes told v.held (lawful.held told) in
     let is = c.len-bytes.ensures in
     let size : IsVolumeSize v.size = (v.size / 4096 - 930, omega arith, omega arith, omega arith) in
-    journal_malformed v.held (subst IsVolumeSize (sym ((g.met.V.Volume.lawful c.args.vol.now).size told)) size) small
+    journal_malformed v.held (subst IsVolumeSize (sym (lawful.size told)) size) small
     (subst (λ o. JournalRead o v.held c.read_journal.new.overlay.entries) c.in_default.is (c.in_ok-length.ensures.ok told))
 
 pub returns-clause-malformed : goal.returns-clause-malformed
-returns-clause-malformed g c told small malformed =
+returns-clause-malformed g c told malformed =
     let v = g.V.Volume.device c.args.vol.now in
+    let lawful = g.met.V.Volume.lawful c.args.vol.now in
+    let small = lawful.bytes told v.held (lawful.held told) in
     let over = subst (λ o. JournalRead o v.held c.read_journal.new.overlay.entries) c.in-Some.is (c.in_ok-length.ensures.ok told) in
-    none-some over.rs (sym (journal_is_none v.held (subst IsVolumeSize (sym ((g.met.V.Volume.lawful c.args.vol.now).size told)) (returns-clause-size g c)) small malformed) ∙ over.stands.records)
+    none-some over.rs (sym (journal_is_none v.held (subst IsVolumeSize (sym (lawful.size told)) (returns-clause-size g c)) small malformed) ∙ over.stands.records)
