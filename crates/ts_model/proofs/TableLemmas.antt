@@ -171,6 +171,20 @@ kept-empty count room order vacant most enough same lowest =
       spare = λ e. enough;
     }
 
+-- a table with the same slots and the same index, whose index has memory for all slots that there are
+pub kept-copied : (count capacity room : ℕ) (items made : List (Option Def)) (order sorted : List ℕ) (vacant : Option ℕ) → IsIndexed count items order vacant capacity
+    → made ≡ items → sorted ≡ order → length items ≤ room → IsIndexed count made sorted vacant room
+kept-copied count capacity room items made order sorted vacant is same also wide =
+    subst (λ (l : List (Option Def)). IsIndexed count l sorted vacant room) (sym same)
+    (subst (λ (l : List ℕ). IsIndexed count items l vacant room) (sym also) (record {
+      most = is.most;
+      size = is.size;
+      apart = is.apart;
+      index = is.index;
+      lowest = is.lowest;
+      spare = λ full. omega (arith, full, wide);
+    }))
+
 -- no memory was taken yet
 pub kept-new : (count room : ℕ) → 0 < count → count ≤ 4096 → IsIndexed count [] [] (Some 0) room
 kept-new count room some most = record {

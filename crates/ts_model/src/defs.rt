@@ -1,4 +1,4 @@
-ghost use Rattle.std.specs.Prelude.{◌≡◌, ◌<◌, ◌⊎◌, true, OnOk, OnErr, IsOk, IfSome, IsSome, EachIndex, slice_index, option_copied};
+ghost use Rattle.std.specs.Prelude.{◌≡◌, ◌<◌, ◌⊎◌, true, OnOk, OnErr, IsOk, IfOk, IfSome, IsSome, EachIndex, slice_index, option_copied};
 ghost use Rattle.std.specs.FinMap.{values};
 ghost use Rattle.ts_model.specs.Definitions.{limit, kind_of, name_of, slots, with_slot, has_room, with_room, no_tables, at_slot, slot_of, vacant_slot, slots_by_name, with_format, IsNewName, IsFormat, IsDefinitions};
 
@@ -126,6 +126,25 @@ impl Defs {
             Kind::Container => self.containers.set(slot, def),
             Kind::Series => self.series.set(slot, def),
         }
+    }
+
+    /// The same definitions anew, with the same room.
+    pub fn copy(&self) -> Result<Defs, AllocError>
+        ensures { IfOk result (λ made. made ≡ self.now) }
+    {
+        let row_types = self.row_types.copy()?;
+        let patterns = self.patterns.copy()?;
+        let calendars = self.calendars.copy()?;
+        let containers = self.containers.copy()?;
+        let series = self.series.copy()?;
+        Ok(Defs {
+            format: self.format,
+            row_types,
+            patterns,
+            calendars,
+            containers,
+            series,
+        })
     }
 
     // The slots of a kind.

@@ -104,6 +104,22 @@ impl Table {
         Ok(())
     }
 
+    /// The same slots anew, with the same room. Where no slot was ever filled it takes no memory.
+    pub(crate) fn copy(&self) -> Result<Table, AllocError>
+        ensures { IfOk result (λ made. made ≡ self.now) }
+    {
+        let alloc = *self.slots.allocator();
+        let slots = copied(alloc, self.slots.as_slice())?;
+        let mut order = Vec::with_capacity(alloc, self.slots.len())?;
+        order.extend_from_slice(self.order.as_slice())?;
+        Ok(Table {
+            count: self.count,
+            slots,
+            order,
+            vacant: self.vacant,
+        })
+    }
+
     /// Fills a slot with a definition, or empties it.
     pub(crate) fn set(&mut self, slot: u16, def: Option<Def>)
         requires slot { slot < self.old.count }
@@ -230,4 +246,29 @@ fn empty_slots(alloc: Global, count: usize) -> Result<Vec<Option<Def>>, AllocErr
         made.push(None)?;
     }
     Ok(made)
+}
+
+// Slots with copies of their definitions.
+fn copied(alloc: Global, slots: &[Option<Def>]) -> Result<Vec<Option<Def>>, AllocError>
+    ensures { IfOk result (λ made. made.items ≡ slots.now) }
+{
+    let mut made = Vec::with_capacity(alloc, slots.len())?;
+    for slot in slots {
+        let copy = copied_slot(slot)?;
+        made.push(copy)?;
+    }
+    Ok(made)
+}
+
+// A copy of what stands in a slot.
+fn copied_slot(slot: &Option<Def>) -> Result<Option<Def>, AllocError>
+    ensures { IfOk result (λ made. made ≡ slot.now) }
+{
+    match slot {
+        Some(def) => {
+            let copy = def.copy()?;
+            Ok(Some(copy))
+        }
+        None => Ok(None),
+    }
 }

@@ -53,6 +53,25 @@ impl Space {
         })
     }
 
+    /// The same places anew: a list takes room for its places alone, and one without places none.
+    pub fn copy(&self) -> Result<Space, AllocError>
+        ensures { IfOk result (λ made. made.lists ≡ self.now.lists) }
+    {
+        let alloc = self.alloc;
+        let mut lists = Vec::with_capacity(alloc, SLOTS)?;
+        for list in &self.lists {
+            let places = Vec::from_slice(alloc, list)?;
+            lists.push(places)?;
+        }
+        let counts = Vec::from_slice(alloc, &self.counts)?;
+        Ok(Space {
+            alloc,
+            lists,
+            counts,
+            used: self.used,
+        })
+    }
+
     /// The places of a series, rising in `at`.
     pub fn places(&self, series: u16) -> &[Place]
         requires { series < 4096 }
