@@ -11,7 +11,7 @@ use Rattle.ts_command.specs.declared.command.Command.{Command}
 use Rattle.ts_answer.specs.State.{State, committed, run_answer}
 use Rattle.ts_engine.specs.declared.fault.StepFault.{StepFault}
 use Rattle.ts_engine.specs.declared.fault.StepFault.TheVariants as faults
-use Rattle.ts_engine.specs.Volume.{MeansCatalogue}
+use Rattle.ts_volume.specs.Volume.{MeansCatalogue}
 use Rattle.ts_engine.specs.Engine.{Kept, IsReady, IsAt}
 use Rattle.ts_engine.specs.Moves.{BeforeOrAfter}
 use Rattle.ts_engine.specs.Step.{Stepped, state_after}
