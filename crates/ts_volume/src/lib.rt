@@ -8,6 +8,5 @@
 mod laws;
 
 pub use laws::{
-    bytes_mean_one_catalogue, layouts_are_meant, no_volume_means_nothing,
-    same_pages_mean_the_same,
+    bytes_mean_one_catalogue, layouts_are_meant, no_volume_means_nothing, same_pages_mean_the_same,
 };
