@@ -1,9 +1,9 @@
 pub mod Aggregates
 pub mod Answer
 pub mod CarriedOut
-pub mod Commands
 pub mod Decided
 pub mod Elements
+pub mod Outcomes
 pub mod Reading
 pub mod Refusals
 pub mod Reply

@@ -5,7 +5,7 @@ use Rattle.ts_command.specs.declared.command.Command.{Command}
 use Rattle.ts_command.specs.declared.command.Command.TheVariants as commands
 use Rattle.ts_model.specs.Catalogue.{Catalogue}
 use Rattle.ts_command.specs.Script.{Request}
-use Rattle.ts_answer.specs.Commands.{is_writing}
+use Rattle.ts_command.specs.Writing.{is_writing}
 use Rattle.ts_answer.specs.Reply.{refusal_line}
 use Rattle.ts_answer.specs.Answer.{Tried, Answered, ◌>>=◌, settled, outcome, answer, carried_out, show_pattern, show_calendar, count_starts, find_start, list_starts, container_usage, list_series, get_element, get_last_element, count_elements, get_first_element, get_nth_element, clip_series, count_clip, clip_counted, join_series, lag_series, aggregate_by, aggregate_range, aggregate_all}
 

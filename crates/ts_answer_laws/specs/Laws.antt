@@ -19,7 +19,7 @@ use Rattle.ts_command.specs.Script.{Request}
 use Rattle.ts_model.specs.Catalogue.{Catalogue, calendar_of}
 use Rattle.ts_answer.specs.Answer.{Answered, answer, outcome, a_calendar}
 use Rattle.ts_answer.specs.CarriedOut.{Grows}
-use Rattle.ts_answer.specs.Commands.{is_writing}
+use Rattle.ts_command.specs.Writing.{is_writing}
 use Rattle.ts_answer.specs.Reply.{refusal_line, count_line, counts_line, number_line, pattern_lines, calendar_lines, stamps_text, series_text}
 use Rattle.ts_answer_laws.specs.Objects.{objects, StaysBut}
 

@@ -3,3 +3,4 @@ pub mod Grammar
 pub mod Misfit
 pub mod Form
 pub mod Script
+pub mod Writing

@@ -2,8 +2,8 @@
 //! there (`specs/Grammar`, over the arguments of ts_arguments). With the items of a script, which ts_items cuts, that is what
 //! a script asks for (`specs/Script`). Routines stand in groups by what they are called with, each with one reader. A further
 //! routine is a variant of its group and of `Command`, a line of the list of routines, its name, its command by its
-//! arguments, and its case of form. Stands on ts_arguments, ts_items, ts_tokens, ts_row, ts_text and ts_base; knows nothing
-//! of the store. Read `specs/Grammar.antt`, then `routine.rt`, `group.rt` and `read.rt`.
+//! arguments, its case of form, and whether it writes (`specs/Writing`). Stands on ts_arguments, ts_items, ts_tokens,
+//! ts_row, ts_text and ts_base; knows nothing of the store. Read `specs/Grammar.antt`, then `routine.rt`, `group.rt` and `read.rt`.
 #![tactic(auto)]
 
 mod command;
@@ -11,6 +11,7 @@ mod group;
 mod laws;
 mod read;
 mod routine;
+mod writing;
 
 pub use command::Command;
 pub use laws::{

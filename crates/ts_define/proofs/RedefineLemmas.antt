@@ -19,7 +19,7 @@ use Rattle.ts_container.specs.Survey.{SlotWritten}
 use Rattle.ts_answer.specs.declared.effect.Effect.TheVariants.{Slot}
 use Rattle.ts_answer.specs.View.{view, IsDefinedBy, Shows, KeepsRules}
 use Rattle.ts_answer.specs.CarriedOut.{CarriedOut, Comes}
-use Rattle.ts_answer.specs.Commands.{is_writing}
+use Rattle.ts_command.specs.Writing.{is_writing}
 use Rattle.ts_answer.specs.Decided.{IsDecision, FitsSlot, made_line}
 use Rattle.ts_answer.proofs.CallerLemmas.{defined_by}
 

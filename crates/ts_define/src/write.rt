@@ -5,7 +5,7 @@ ghost use Rattle.ts_page.specs.Volume.{first_element_page};
 ghost use Rattle.ts_space.specs.Directory.{Directory};
 ghost use Rattle.ts_model.specs.Definitions.{Definitions, limit, kind_of};
 ghost use Rattle.ts_answer.specs.CarriedOut.{CarriedOut};
-ghost use Rattle.ts_answer.specs.Commands.{is_writing};
+ghost use Rattle.ts_command.specs.Writing.{is_writing};
 ghost use Rattle.ts_answer.specs.Decided.{IsDecision, FitsSlot, made_line};
 ghost use Rattle.ts_answer.specs.View.{view};
 

@@ -7,12 +7,14 @@
 
 mod calls;
 mod count;
+mod end;
 mod memory_site;
 mod memory_source;
 mod volume;
 
 pub use calls::Pick;
 pub use count::raise;
+pub use end::either;
 pub use memory_site::MemorySite;
 pub use memory_source::{BlankSource, MemorySource};
 pub use volume::{Failed, PullFailed, SayFailed, Site, Source, Volume};

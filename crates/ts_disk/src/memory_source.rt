@@ -2,7 +2,7 @@
 ghost use Rattle.std.specs.Prelude.{◌≡◌, ◌+◌, ◌≤◌, ◌<◌, ℕ, List, length, OnOk, OnErr, IfOk, IsErr, IsTrue, [], ◌∷◌, ◌++◌, take, drop, true, false, min, is_err, replicate};
 ghost use Rattle.ts_disk.specs.Input.{Pulled};
 
-use crate::{PullFailed, Source, raise};
+use crate::{PullFailed, Source, either, raise};
 use std::alloc::AllocError;
 
 /// Bytes in memory, given in pieces of at most one size.
@@ -17,6 +17,10 @@ pub struct MemorySource {
     /// The numbers of the pulls that are to fail, counted from 0.
     failing: Vec<u64>,
     faults: u64,
+    /// A pull answered 0.
+    ended: bool,
+    /// A pull was made behind that.
+    past_end: bool,
     ghost within: { at ≤ length bytes.items },
     ghost moves: { 0 < piece },
 }
@@ -29,6 +33,8 @@ impl MemorySource {
         ensures left { (source_input result).left ≡ bytes.items }
         ensures pulls { (source_input result).pulls ≡ 0 }
         ensures faults { (source_input result).pull_faults ≡ 0 }
+        ensures ended { (source_input result).ended ≡ false }
+        ensures past_end { (source_input result).past_end ≡ false }
         ensures piece { piece_of result ≡ piece }
         ensures failing { failing_pulls result ≡ [] }
     {
@@ -40,6 +46,8 @@ impl MemorySource {
             pulls: 0,
             failing: Vec::new(alloc),
             faults: 0,
+            ended: false,
+            past_end: false,
         }
     }
 
@@ -81,6 +89,7 @@ impl Source for MemorySource {
     {
         let number = self.pulls;
         self.pulls = self.pulls.saturating_add(1);
+        self.past_end = either(self.past_end, self.ended);
         if self.failing.contains(&number) {
             raise(&mut self.faults);
             return Err(PullFailed);
@@ -89,6 +98,7 @@ impl Source for MemorySource {
         let count = self.piece.min(into.len()).min(left);
         move_out(&self.bytes, self.at, count, into);
         self.at += count;
+        self.ended = either(self.ended, count == 0);
         Ok(count)
     }
 }

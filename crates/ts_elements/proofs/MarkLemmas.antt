@@ -20,7 +20,7 @@ use Rattle.ts_layout.specs.Meaning.{Layout, elements_at, series_of, catalogue_of
 use Rattle.ts_answer.specs.declared.effect.Effect.TheVariants.{Pages}
 use Rattle.ts_answer.specs.declared.stop.Stop.TheVariants as stops
 use Rattle.ts_answer.specs.Answer.{Tried, Answered, ◌>>=◌, wanted, row_at, an_address, addressed, beyond_old_format, with_elements, mark_element, carried_out, outcome, with_element as with_element_of}
-use Rattle.ts_answer.specs.Commands.{is_writing}
+use Rattle.ts_command.specs.Writing.{is_writing}
 use Rattle.ts_answer.specs.Reply.{stamp_line}
 use Rattle.ts_answer.specs.Slots.{IsSlotNamed}
 use Rattle.ts_answer.specs.Tried.{IsRefusedAs}

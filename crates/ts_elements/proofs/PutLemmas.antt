@@ -25,7 +25,7 @@ use Rattle.ts_layout.specs.Held.{IsHeldOf}
 use Rattle.ts_answer.specs.declared.effect.Effect.TheVariants.{Pages, Places}
 use Rattle.ts_answer.specs.declared.stop.Stop.TheVariants as stops
 use Rattle.ts_answer.specs.Answer.{outcome}
-use Rattle.ts_answer.specs.Commands.{is_writing}
+use Rattle.ts_command.specs.Writing.{is_writing}
 use Rattle.ts_answer.specs.Reply.{stamp_line}
 use Rattle.ts_answer.specs.View.{View, Shows, KeepsRules}
 use Rattle.ts_answer.specs.CarriedOut.{CarriedOut, Grows, Stays}

@@ -23,7 +23,7 @@ use Rattle.ts_layout.specs.Held.{IsHeldOf, IsRewrittenIn}
 use Rattle.ts_layout.proofs.CallerLemmas.{one_of}
 use Rattle.ts_answer.specs.declared.effect.Effect.{Effect}
 use Rattle.ts_answer.specs.Answer.{outcome, with_elements}
-use Rattle.ts_answer.specs.Commands.{is_writing}
+use Rattle.ts_command.specs.Writing.{is_writing}
 use Rattle.ts_answer.specs.View.{View, Shows, KeepsRules}
 use Rattle.ts_answer.specs.CarriedOut.{CarriedOut, CanApply, Comes, Grows, is_nothing, definitions_after, lists_after}
 use Rattle.ts_answer.proofs.CallerLemmas.{held_same}

@@ -12,7 +12,7 @@ use Rattle.ts_page.specs.Pages.{Contents}
 use Rattle.ts_answer.specs.declared.stop.Stop.{Stop}
 use Rattle.ts_answer.specs.CarriedOut.{ReadOut}
 use Rattle.ts_answer.specs.View.{View}
-use Rattle.ts_answer.specs.Commands.{is_writing}
+use Rattle.ts_command.specs.Writing.{is_writing}
 use Rattle.ts_answer.specs.Decided.{IsDecision, FitsSlot}
 use Rattle.ts_answer.specs.Reading.{IsSaid}
 use Rattle.ts_engine.specs.Work.{IsDecided}

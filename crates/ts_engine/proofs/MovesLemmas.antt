@@ -14,12 +14,12 @@ use Rattle.ts_layout.specs.Placed.{AreKept}
 use Rattle.ts_container.specs.KeptCharges.{AreCharges}
 use Rattle.ts_engine.specs.declared.fault.StepFault.{StepFault}
 use Rattle.ts_engine.specs.declared.fault.StepFault.TheVariants.{Disk, Memory, Closed}
-use Rattle.ts_engine.specs.Volume.{MeansCatalogue}
+use Rattle.ts_volume.specs.Volume.{MeansCatalogue}
 use Rattle.ts_engine.specs.Engine.{Kept, IsKeptOf, IsReady, IsAt}
 use Rattle.ts_engine.specs.Moves.{BeforeOrAfter, IsUntouched, Moves}
 use Rattle.ts_engine.specs.Change.{IsStill, ChangeLeaves, Changed}
 use Rattle.ts_engine.proofs.ChargedLemmas.{charges_same}
-use Rattle.ts_engine.proofs.MeansLemmas.{holds_still, means_layout}
+use Rattle.ts_volume.proofs.CallerLemmas.{holds_still, means_layout}
 use Rattle.ts_engine.proofs.StandLemmas.{rules_same, layout_same, means_alike, means_held, at_layout}
 
 -- a call that only reads leaves what the volume means

@@ -20,14 +20,15 @@ use Rattle.ts_container.specs.Survey.{IsFound, IfRefused, HoldNoLayout}
 use Rattle.ts_layout.specs.Surveyed.{free_pages}
 use Rattle.ts_layout.proofs.CallerLemmas.{free_at, kept_alike, pairs_front}
 use Rattle.ts_engine.specs.declared.engine.Engine.{Engine}
-use Rattle.ts_engine.specs.Volume.{MeansCatalogue, MeansNothing}
+use Rattle.ts_volume.specs.Volume.{MeansCatalogue, MeansNothing}
 use Rattle.ts_container.specs.KeptCharges.{AreCharges}
 use Rattle.ts_layout.specs.Placed.{AreKept, used_pages}
 use Rattle.ts_engine.specs.Charged.{CanCount}
 use Rattle.ts_engine.proofs.ChargedLemmas.{can_count}
 use Rattle.ts_engine.specs.Engine.{Kept, IsKeptOf, IsReady}
 use Rattle.ts_engine.specs.Start.{StillMeans, StartFault, ReadFault, Opened}
-use Rattle.ts_engine.proofs.MeansLemmas.{holds_still, means_layout, still_means}
+use Rattle.ts_volume.proofs.CallerLemmas.{holds_still, means_layout}
+use Rattle.ts_engine.proofs.MeansLemmas.{still_means}
 
 -- an answer that is an error by another call
 pub if_err : {T : Type 0} (r : Result T SurveyFault) (fault : SurveyFault) (P : SurveyFault → Type 0) → IsErrAnd r (λ x. x ≡ fault) → P fault → IfErr r P

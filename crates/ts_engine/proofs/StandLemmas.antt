@@ -1,19 +1,18 @@
 -- What an engine keeps, and what its volume means.
-use Rattle.std.proofs.Common.{◌≡◌, inl, ℕ, Bool, IsTrue, List, [], length, refl, ap, sym, ◌∙◌, subst}
+use Rattle.std.proofs.Common.{◌≡◌, inl, ℕ, Bool, IsTrue, List, [], refl, ap, sym, ◌∙◌, subst}
 use Rattle.ts_disk.specs.Device.{Device, Lawful}
-use Rattle.ts_journal.specs.Journal.{pages, page_count}
 use Rattle.ts_store.proofs.CallerLemmas.{reads_none, read_closed, counted, idle_dropped, read_dropped}
 use Rattle.ts_store.specs.OpenBatch.{State, IsIdle, read_pages}
 use Rattle.ts_store.specs.Undisturbed.{Undisturbed}
 use Rattle.ts_model.specs.Catalogue.{Catalogue}
 use Rattle.ts_layout.specs.Meaning.{Layout, HoldsLayout, catalogue_of}
 use Rattle.ts_layout.specs.Placed.{AreKept}
-use Rattle.ts_layout.proofs.CallerLemmas.{same_catalogue, kept_alike}
+use Rattle.ts_layout.proofs.CallerLemmas.{kept_alike}
 use Rattle.ts_answer.proofs.CallerLemmas.{held_same}
-use Rattle.ts_engine.specs.Volume.{MeansCatalogue}
+use Rattle.ts_volume.specs.Volume.{MeansCatalogue}
 use Rattle.ts_engine.specs.Engine.{Kept, IsKeptOf, HoldsKept}
 use Rattle.ts_engine.specs.Change.{ReadsAlike, IsStill}
-use Rattle.ts_engine.proofs.MeansLemmas.{means_layout}
+use Rattle.ts_volume.proofs.CallerLemmas.{means_layout, one_catalogue}
 
 -- what is kept stays what a layout has
 pub kept_same : (e f : Kept) (l : Layout) → IsKeptOf e l → f.tables.definitions ≡ e.tables.definitions → f.space.lists ≡ e.space.lists → f.store.pages ≡ e.store.pages → f.store.free ≡ e.store.free → IsKeptOf f l
@@ -45,7 +44,7 @@ module _ (tells : Bool) (e : Kept) (v : Device) (l : Layout) (lawful : Lawful te
 
   -- and there is no other
   pub at_layout : IsTrue tells → HoldsLayout (read_pages e.store v.held) l → (cat : Catalogue) → MeansCatalogue v.held cat → cat ≡ catalogue_of l
-  at_layout told holds cat means = same_catalogue (page_count (length v.held)) (pages v.held) cat (catalogue_of l) means.pages (means_held told holds).pages
+  at_layout told holds cat means = one_catalogue v.held cat (catalogue_of l) means (means_held told holds)
 
 -- nothing is done
 pub still_none : (tells : Bool) (s : State) (v : Device) → Lawful tells v → IsIdle tells s v → IsStill tells s s v v

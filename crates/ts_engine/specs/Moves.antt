@@ -5,7 +5,7 @@ use Rattle.ts_journal.specs.Moment.{Keeps, OnlyReads}
 use Rattle.ts_answer.specs.State.{State, committed}
 use Rattle.ts_engine.specs.declared.fault.StepFault.{StepFault}
 use Rattle.ts_engine.specs.declared.fault.StepFault.TheVariants.{Disk, Memory, Closed}
-use Rattle.ts_engine.specs.Volume.{MeansCatalogue}
+use Rattle.ts_volume.specs.Volume.{MeansCatalogue}
 use Rattle.ts_engine.specs.Engine.{Kept, IsReady, IsAt, IsSame}
 
 -- an image that means the state before or the one after, and nothing said

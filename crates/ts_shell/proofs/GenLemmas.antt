@@ -6,13 +6,13 @@ use Rattle.ts_disk.proofs.Moments.{first_map}
 use Rattle.ts_command.specs.declared.command.Command.{Command}
 use Rattle.ts_model.specs.Catalogue.{Catalogue}
 use Rattle.ts_container.specs.declared.fault.SurveyFault.{SurveyFault}
-use Rattle.ts_answer.specs.State.{base}
+use Rattle.ts_answer.specs.State.{base, replies}
 use Rattle.ts_engine.specs.declared.engine.Engine.{Engine}
-use Rattle.ts_engine.specs.Volume.{MeansCatalogue}
+use Rattle.ts_volume.specs.Volume.{MeansCatalogue}
 use Rattle.ts_engine.specs.Start.{Started, StillMeans}
 use Rattle.ts_shell.specs.Opening.{status_of_opening}
 use Rattle.ts_shell.specs.Generated.{generated}
-use Rattle.ts_shell.specs.Generating.{replies, summary, IsWithin, OpenedGen, GeneratedFrom, GenRan}
+use Rattle.ts_shell.specs.Generating.{summary, IsWithin, OpenedGen, GeneratedFrom, GenRan}
 use Rattle.ts_shell.proofs.ItemLemmas.{rose_on}
 use Rattle.ts_shell.proofs.OpeningLemmas.{first_then, unopened_store, unopened_status, is_unopened, opened_store}
 

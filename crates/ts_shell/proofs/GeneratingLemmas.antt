@@ -8,30 +8,19 @@ use Rattle.std.proofs.Math.Seq.{drop-append_seam}
 use Rattle.ts_disk.specs.Device.{Device, Lawful, LeavesOnly, Says, Rose}
 use Rattle.ts_disk.proofs.Moments.{started, goes_on, then_on, leaves_map}
 use Rattle.ts_command.specs.declared.command.Command.{Command}
-use Rattle.ts_answer.specs.State.{State, committed, run_answer}
+use Rattle.ts_answer.specs.State.{State, committed, run_answer, after, replies}
+use Rattle.ts_answer.specs.Outcomes.{ends_with_ok}
+use Rattle.ts_answer.proofs.CallerLemmas.{after_more, replies_more}
 use Rattle.ts_engine.specs.declared.fault.StepFault.{StepFault}
 use Rattle.ts_engine.specs.declared.fault.StepFault.TheVariants as faults
-use Rattle.ts_engine.specs.Volume.{MeansCatalogue}
+use Rattle.ts_volume.specs.Volume.{MeansCatalogue}
 use Rattle.ts_engine.specs.Engine.{Kept, IsReady, IsAt}
 use Rattle.ts_engine.specs.Moves.{BeforeOrAfter}
 use Rattle.ts_engine.specs.Step.{Stepped, state_after}
-use Rattle.ts_shell.specs.Generating.{after, replies, ends_with_ok, last_two, summary, IsTally, IsAmong, QuietFault, RanQuietly, IsBehind, IsNextStep, IsUnmade, IsWithin, SaysSummary, OpenedGen}
+use Rattle.ts_shell.specs.Generating.{last_two, summary, IsTally, IsAmong, QuietFault, RanQuietly, IsBehind, IsNextStep, IsUnmade, IsWithin, SaysSummary, OpenedGen}
 use Rattle.ts_shell.specs.Generated.{IsNext}
 use Rattle.ts_shell.specs.declared.generate.Generator.{Generator}
 use Rattle.ts_shell.proofs.ItemLemmas.{at_same, rose_on}
-
--- one command more
-pub after_more : (state : State) (xs : List Command) (c : Command) → after state (xs ++ c ∷ []) ≡ state_after c (after state xs)
-after_more state [] c = refl
-after_more state (x ∷ xs) c = after_more (state_after x state) xs c
-
-pub replies_more : (state : State) (xs : List Command) (c : Command) → replies state (xs ++ c ∷ []) ≡ replies state xs ++ (run_answer (after state xs) (Ok c)).0 ∷ []
-replies_more state [] c = refl
-replies_more state (x ∷ xs) c = ap (λ (l : List (List ℕ)). (run_answer state (Ok x)).0 ∷ l) (replies_more (state_after x state) xs c)
-
-pub length-replies : (state : State) (xs : List Command) → length (replies state xs) ≡ length xs
-length-replies state [] = refl
-length-replies state (x ∷ xs) = ap suc (length-replies (state_after x state) xs)
 
 -- one reply more is counted where it passes the test
 count_more : (test : List ℕ → Bool) (rs : List (List ℕ)) (r : List ℕ) → count_by test (rs ++ r ∷ []) ≡ count_by test rs + cond (test r) 1 0

@@ -22,7 +22,7 @@ use Rattle.ts_engine.specs.declared.fault.StepFault.{StepFault}
 use Rattle.ts_engine.specs.declared.fault.StepFault.TheVariants as faults
 use Rattle.ts_answer.specs.Answer.{answer, outcome}
 use Rattle.ts_answer.specs.Reply.{refusal_line}
-use Rattle.ts_engine.specs.Volume.{MeansCatalogue}
+use Rattle.ts_volume.specs.Volume.{MeansCatalogue}
 use Rattle.ts_engine.specs.Engine.{Kept, IsReady, IsAt}
 use Rattle.ts_engine.specs.Step.{Stepped}
 use Rattle.ts_shell.specs.declared.fault.RunFault.{RunFault}

@@ -14,5 +14,3 @@ pub mod MigratingLemmas
 pub mod PullLemmas
 pub mod NewLemmas
 pub mod MakingLemmas
-mod LineLemmas
-mod OutcomeLemmas

@@ -8,7 +8,7 @@ use Rattle.ts_container.specs.declared.fault.SurveyFault.TheVariants.{NotAStore,
 use Rattle.ts_engine.specs.declared.engine.Engine.{Engine}
 use Rattle.ts_engine.specs.declared.fault.StepFault.{StepFault}
 use Rattle.ts_engine.specs.declared.fault.StepFault.TheVariants as step
-use Rattle.ts_engine.specs.Volume.{MeansCatalogue}
+use Rattle.ts_volume.specs.Volume.{MeansCatalogue}
 use Rattle.ts_engine.specs.Engine.{Kept}
 use Rattle.ts_engine.specs.Start.{Started, StillMeans}
 use Rattle.ts_engine.specs.Moves.{Moves}

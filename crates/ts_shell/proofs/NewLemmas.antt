@@ -18,7 +18,7 @@ use Rattle.ts_layout.specs.Limits.{IsSlotOf}
 use Rattle.ts_layout.specs.Slot.{header_bytes, slot_size, slot_bytes, page_of_slot, byte_of_slot, slots_in_page, bytes_of_slots}
 use Rattle.ts_layout.specs.Meaning.{Free, Layout, def_at, heading_in, HoldsDefinitions, HoldsElements, IsSound, text_of, container_of, series_of, catalogue_of, sum_of_quotas}
 use Rattle.ts_layout.proofs.CallerLemmas.{page_low, page_high, slot_end, slot_empty, fits_page}
-use Rattle.ts_engine.specs.Volume.{MeansCatalogue}
+use Rattle.ts_volume.specs.Volume.{MeansCatalogue}
 
 -- page number n as it stands in its place
 abbrev pub page_at : ℕ → List ℕ → List ℕ

@@ -7,7 +7,7 @@ use Rattle.ts_command.specs.Script.{Request}
 use Rattle.ts_replies.proofs.Steps.{none_good, answered_then, moment_more, moment_then}
 use Rattle.ts_replies.proofs.Hearing.{fair_more, fair_then}
 use Rattle.ts_model.specs.Catalogue.{Catalogue}
-use Rattle.ts_engine.specs.Volume.{MeansCatalogue}
+use Rattle.ts_volume.specs.Volume.{MeansCatalogue}
 use Rattle.ts_engine.specs.Engine.{Kept, IsReady, IsAt}
 use Rattle.ts_shell.specs.declared.fault.RunFault.{RunFault}
 use Rattle.ts_shell.specs.declared.fault.RunFault.TheVariants.{Disk, Output}

@@ -2,14 +2,15 @@
 use Rattle.std.proofs.Common.{◌≡◌, inl, inr, ℕ, ◌≤◌, Bool, IsTrue, List, ◌++◌, length, codes, Ok, Err, refl, arith}
 use Rattle.std.specs.Fmt.{decimal}
 use Rattle.ts_disk.specs.Device.{Device, Says}
-use Rattle.ts_answer.specs.State.{State, committed}
+use Rattle.ts_answer.specs.State.{State, committed, replies}
+use Rattle.ts_answer.proofs.CallerLemmas.{length-replies}
 use Rattle.ts_engine.specs.declared.fault.StepFault.TheVariants as faults
 use Rattle.ts_engine.specs.Engine.{Kept, IsAt}
 use Rattle.ts_shell.specs.declared.generate.Generator.{Generator}
 use Rattle.ts_shell.specs.Generated.{generated}
-use Rattle.ts_shell.specs.Generating.{replies, summary, RanQuietly, IsBehind, OpenedGen}
+use Rattle.ts_shell.specs.Generating.{summary, RanQuietly, IsBehind, OpenedGen}
 use Rattle.ts_shell.proofs.GeneratedLemmas.{length-generated}
-use Rattle.ts_shell.proofs.GeneratingLemmas.{length-replies, summed_up, ended_unsaid, said_all, said_part}
+use Rattle.ts_shell.proofs.GeneratingLemmas.{summed_up, ended_unsaid, said_all, said_part}
 
 -- there are two replies at least
 two_replies : (state : State) (count seed : ℕ) → 2 ≤ length (replies state (generated count seed))

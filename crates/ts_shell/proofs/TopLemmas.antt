@@ -9,7 +9,7 @@ use Rattle.ts_replies.proofs.Steps.{none_good}
 use Rattle.ts_model.specs.Catalogue.{Catalogue}
 use Rattle.ts_container.specs.declared.fault.SurveyFault.{SurveyFault}
 use Rattle.ts_engine.specs.declared.engine.Engine.{Engine}
-use Rattle.ts_engine.specs.Volume.{MeansCatalogue}
+use Rattle.ts_volume.specs.Volume.{MeansCatalogue}
 use Rattle.ts_engine.specs.Start.{Started, StillMeans}
 use Rattle.ts_shell.proofs.ApartLemmas.{apart}
 use Rattle.ts_shell.specs.Run.{script, IsGoodRun, SaysFairly}

@@ -5,37 +5,16 @@ use Rattle.ts_disk.specs.Device.{Device, Only, Rose, FirstSync, LeavesOnly, Sayi
 use Rattle.ts_journal.specs.Moment.{Keeps, OnlyReads}
 use Rattle.ts_command.specs.declared.command.Command.{Command}
 use Rattle.ts_model.specs.Catalogue.{Catalogue}
-use Rattle.ts_answer.specs.State.{State, base, committed, run_answer}
+use Rattle.ts_answer.specs.State.{State, base, committed, after, replies}
+use Rattle.ts_answer.specs.Outcomes.{ends_with_ok}
 use Rattle.ts_engine.specs.declared.fault.StepFault.{StepFault}
 use Rattle.ts_engine.specs.declared.fault.StepFault.TheVariants.{Disk, Memory, Closed}
-use Rattle.ts_engine.specs.Volume.{MeansCatalogue}
+use Rattle.ts_volume.specs.Volume.{MeansCatalogue}
 use Rattle.ts_engine.specs.Engine.{Kept, IsReady, IsAt}
 use Rattle.ts_engine.specs.Step.{Stepped}
 use Rattle.ts_shell.specs.declared.generate.Generator.{Generator}
 use Rattle.ts_shell.specs.Opening.{OpensStore}
 use Rattle.ts_shell.specs.Generated.{generated, IsNext}
-
--- the state after commands, one behind the other
-abbrev pub after : State → List Command → State
-after state [] = state
-after state (command ∷ commands) = after (run_answer state (Ok command)).1 commands
-
--- the replies to them
-abbrev pub replies : State → List Command → List (List ℕ)
-replies state [] = []
-replies state (command ∷ commands) = (run_answer state (Ok command)).0 ∷ replies (run_answer state (Ok command)).1 commands
-
--- the last line of a text, where this line was reached: behind a line feed the next begins, if anything stands there
-abbrev pub last_line_from : List ℕ → List ℕ → List ℕ
-last_line_from line [] = line
-last_line_from line (b ∷ rest) = last_line_from (if (b == 10) && not (length rest == 0) then rest else line) rest
-
-abbrev pub last_line : List ℕ → List ℕ
-last_line text = last_line_from text text
-
--- the last line of a reply begins with `ok`
-unfoldable pub ends_with_ok : List ℕ → Bool
-ends_with_ok reply = starts_with nat_eq (last_line reply) (codes "ok")
 
 -- the last two of some replies, one behind the other
 abbrev pub last_two : List (List ℕ) → List ℕ

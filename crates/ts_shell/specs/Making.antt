@@ -3,7 +3,7 @@ use Rattle.std.specs.Prelude.{◌≡◌, ◌⊎◌, ℕ, ◌≤◌, List}
 use Rattle.ts_disk.specs.Device.{Device}
 use Rattle.ts_model.specs.declared.format.TheConstants.{OLD_FORMAT, FORMAT}
 use Rattle.ts_model.specs.Catalogue.{Catalogue, empty_catalogue}
-use Rattle.ts_engine.specs.Volume.{MeansCatalogue}
+use Rattle.ts_volume.specs.Volume.{MeansCatalogue}
 
 -- an image that means the empty catalogue of either format with so many element pages, or means none
 abbrev pub IsEmptyOrNone : ℕ → List ℕ → Type 0

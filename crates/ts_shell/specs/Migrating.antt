@@ -2,7 +2,7 @@
 use Rattle.std.specs.Prelude.{◌≡◌, ◌⊎◌, ℕ, Bool, IsTrue, List}
 use Rattle.ts_disk.specs.Device.{Device, Only, Rose, FirstSync}
 use Rattle.ts_model.specs.Catalogue.{Catalogue, in_newest_format}
-use Rattle.ts_engine.specs.Volume.{MeansCatalogue}
+use Rattle.ts_volume.specs.Volume.{MeansCatalogue}
 use Rattle.ts_engine.specs.Start.{StillMeans}
 use Rattle.ts_shell.specs.Opening.{OpensStore}
 

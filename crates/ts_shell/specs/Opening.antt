@@ -3,7 +3,7 @@ use Rattle.std.specs.Prelude.{◌≡◌, ◌≢◌, ◌⊎◌, ℕ, ◌≤◌, B
 use Rattle.ts_disk.specs.Device.{Device, Within, Rose}
 use Rattle.ts_container.specs.declared.fault.SurveyFault.{SurveyFault}
 use Rattle.ts_container.specs.declared.fault.SurveyFault.TheVariants.{NotAStore, Failed, Memory}
-use Rattle.ts_engine.specs.Volume.{MeansNothing}
+use Rattle.ts_volume.specs.Volume.{MeansNothing}
 use Rattle.ts_engine.specs.Start.{LeavesAsItWas}
 
 -- the status of a volume that is not opened

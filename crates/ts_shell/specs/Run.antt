@@ -8,7 +8,7 @@ use Rattle.ts_replies.specs.Acknowledged.{Protocol, IsFair, AllAnswered}
 use Rattle.ts_replies.specs.Good.{IsGoodMoment}
 use Rattle.ts_model.specs.Catalogue.{Catalogue}
 use Rattle.ts_answer.specs.State.{State, committed, run_answer, stand_in}
-use Rattle.ts_engine.specs.Volume.{MeansCatalogue}
+use Rattle.ts_volume.specs.Volume.{MeansCatalogue}
 use Rattle.ts_engine.specs.Engine.{Kept, IsReady, IsAt}
 use Rattle.ts_shell.specs.declared.fault.RunFault.{RunFault}
 use Rattle.ts_shell.specs.declared.fault.RunFault.TheVariants.{Disk, Output}

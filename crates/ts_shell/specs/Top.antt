@@ -6,7 +6,7 @@ use Rattle.ts_command.specs.Script.{Request, requests, last_request}
 use Rattle.ts_replies.specs.Acknowledged.{Protocol, AllAnswered}
 use Rattle.ts_model.specs.declared.format.TheConstants.{FORMAT}
 use Rattle.ts_model.specs.Catalogue.{Catalogue, empty_catalogue}
-use Rattle.ts_engine.specs.Volume.{MeansCatalogue}
+use Rattle.ts_volume.specs.Volume.{MeansCatalogue}
 use Rattle.ts_engine.specs.Engine.{Kept, IsAt}
 use Rattle.ts_shell.specs.declared.fault.RunFault.{RunFault}
 use Rattle.ts_shell.specs.declared.fault.RunFault.TheVariants.{Disk, Output}

@@ -4,12 +4,14 @@ ghost use Rattle.ts_command.specs.Form.{HasForm};
 ghost use Rattle.ts_engine.specs.Engine.{IsReady};
 ghost use Rattle.ts_engine.specs.Step.{Stepped};
 ghost use Rattle.ts_shell.specs.Generated.{drawn, generated, edits_before};
-ghost use Rattle.ts_shell.specs.Generating.{GenRan, OpenedGen, RanQuietly, IsBehind, IsNextStep, IsUnmade, IsTally, ends_with_ok, last_line};
+ghost use Rattle.ts_shell.specs.Generating.{GenRan, OpenedGen, RanQuietly, IsBehind, IsNextStep, IsUnmade, IsTally};
+ghost use Rattle.ts_answer.specs.Outcomes.{ends_with_ok};
 
 use crate::fault::unopened;
 use crate::generated::{command_count, draw, first_drawn, make_command};
 use std::alloc::{AllocError, Global};
 use std::thread::Threads;
+use ts_answer::ends_with_ok;
 use ts_base::{Bytes, Reply};
 use ts_command::Command;
 use ts_disk::Site;
@@ -197,27 +199,4 @@ pub(crate) fn generate<S: Site>(
             generator.run(rt, site, count, seed)
         }
     }
-}
-
-// Whether the last line of a reply begins with `ok`.
-#[tactic(auto, unfolding(crate::specs::Generating::ends_with_ok))]
-fn ends_with_ok(reply: &[u8]) -> bool
-    ensures { result ≡ ends_with_ok reply.now }
-{
-    last_line(reply).starts_with(b"ok")
-}
-
-// The last line of a text.
-fn last_line(text: &[u8]) -> &[u8]
-    ensures { result.now ≡ last_line text.now }
-{
-    let mut line = text;
-    let mut rest = text;
-    while let [byte, more @ ..] = rest {
-        if *byte == b'\n' && !more.is_empty() {
-            line = more;
-        }
-        rest = more;
-    }
-    line
 }

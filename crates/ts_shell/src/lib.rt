@@ -2,14 +2,13 @@
 //! script, `migrate` brings a store to the newest format, and `gen` carries out commands that a seed gives. Its clauses say
 //! what a stop at any moment leaves (`fair`: the catalogue after the replies that were said, or after these and the next
 //! request), what is said (a prefix of the answers of the plain catalogue), and each status by its cause. What the counts
-//! mean that `gen` says is a law (`laws.rt`). Stands on ts_disk for the outside, ts_command for statements, ts_engine for
-//! commands and ts_replies for what a list of replies promises. Read `specs/Top.antt`, then `top.rt`.
+//! mean that `gen` says is a law of ts_answer. Stands on ts_disk for the outside, ts_command for statements, ts_engine
+//! for commands and ts_replies for what a list of replies promises. Read `specs/Top.antt`, then `top.rt`.
 #![tactic(auto)]
 
 mod fault;
 mod generate;
 mod generated;
-mod laws;
 mod make;
 mod migrate;
 mod run;
@@ -17,6 +16,5 @@ mod session;
 mod top;
 mod words;
 
-pub use laws::{counts_are_of_outcomes, ok_lines_are_answers};
 pub use top::run_ts;
 pub use words::{Job, read_job};

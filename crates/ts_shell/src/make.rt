@@ -3,7 +3,7 @@ ghost use Rattle.std.specs.Prelude.{◌≡◌, ◌+◌, ◌*◌, ◌≤◌, ◌<
 ghost use Rattle.ts_disk.specs.Device.{Only, Rose};
 ghost use Rattle.ts_model.specs.Catalogue.{empty_catalogue};
 ghost use Rattle.ts_model.specs.declared.format.TheConstants.{FORMAT as NEWEST};
-ghost use Rattle.ts_engine.specs.Volume.{MeansCatalogue};
+ghost use Rattle.ts_volume.specs.Volume.{MeansCatalogue};
 ghost use Rattle.ts_shell.specs.Making.{EmptyFrom};
 
 use ts_container::write_header;

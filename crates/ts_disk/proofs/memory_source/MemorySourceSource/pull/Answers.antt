@@ -1,4 +1,4 @@
-use Rattle.std.proofs.Common.{◌≤◌, ◌≡◌, ◌+◌, ◌++◌, ◌∙◌, refl, sym, ap, take, drop, length, List, ℕ, arith, length-drop, take-append-drop}
+use Rattle.std.proofs.Common.{◌≤◌, ◌≡◌, ◌+◌, ◌++◌, ◌∙◌, refl, sym, ap, take, drop, length, List, ℕ, arith, length-drop, take-append-drop, rules}
 use Rattle.std.proofs.lemmas.List.{take_at, drop_all, drop-drop, length-take-le}
 use Rattle.ts_disk.proofs.memory_source.MemorySourceSource.pull.Goals as goal
 
@@ -24,4 +24,6 @@ returns-clause-pulled c =
       pull_faults = omega arith;
       cause = λ err. absurd (cc);
       no_fault = λ ok. refl;
+      ended = search rules;
+      past_end = search rules;
     }

@@ -1,10 +1,21 @@
--- What the two counts of `done` are counts of.
-use Rattle.std.specs.Prelude.{◌≡◌, Bool, true, false, not, List, [], ◌∷◌, Ok, Err}
-use Rattle.std.specs.List.{count_by}
+-- How the last line of a reply tells whether its command was refused.
+use Rattle.std.specs.Prelude.{◌≡◌, ℕ, ◌==◌, ◌&&◌, Bool, true, false, not, if◌then◌else◌, List, [], ◌∷◌, length, codes, Ok, Err, nat_eq}
+use Rattle.std.specs.List.{count_by, starts_with}
 use Rattle.ts_command.specs.declared.command.Command.{Command}
 use Rattle.ts_answer.specs.Answer.{outcome}
-use Rattle.ts_answer.specs.State.{State, committed, run_answer}
-use Rattle.ts_shell.specs.Generating.{replies, ends_with_ok}
+use Rattle.ts_answer.specs.State.{State, committed, run_answer, replies}
+
+-- the last line of a text, where this line was reached: behind a line feed the next begins, if anything stands there
+abbrev pub last_line_from : List ℕ → List ℕ → List ℕ
+last_line_from line [] = line
+last_line_from line (b ∷ rest) = last_line_from (if (b == 10) && not (length rest == 0) then rest else line) rest
+
+abbrev pub last_line : List ℕ → List ℕ
+last_line text = last_line_from text text
+
+-- the last line of a reply begins with `ok`
+unfoldable pub ends_with_ok : List ℕ → Bool
+ends_with_ok reply = starts_with nat_eq (last_line reply) (codes "ok")
 
 -- a command comes to an answer, and not to a refusal
 abbrev pub is_answered : State → Command → Bool

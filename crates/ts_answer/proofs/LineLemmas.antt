@@ -13,7 +13,7 @@ use Rattle.ts_row.specs.Element.{Element}
 use Rattle.ts_row.specs.Row.{Row}
 use Rattle.ts_row.specs.Printed.{number_text, quoted}
 use Rattle.ts_answer.specs.Reply.{ok_line, count_line, counts_line, number_line, stamp_line, refusal_line, stamp_row, stamps_text, element_line, elements_text, entry_line, entries_text, shape_word, series_line, series_text, scaled_text, folded_line, folded_text, series_folded_line, series_folded_text}
-use Rattle.ts_shell.specs.Generating.{last_line_from, last_line, ends_with_ok}
+use Rattle.ts_answer.specs.Outcomes.{last_line_from, last_line, ends_with_ok}
 
 -- no line feed stands in a text
 abbrev Plain : List ℕ → Type 0

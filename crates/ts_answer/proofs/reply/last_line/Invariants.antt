@@ -1,6 +1,6 @@
 use Rattle.std.proofs.Common.{◌≡◌, length}
-use Rattle.ts_shell.specs.Generating.{last_line, last_line_from}
-use Rattle.ts_shell.proofs.generate.last_line.Given as goal
+use Rattle.ts_answer.specs.Outcomes.{last_line, last_line_from}
+use Rattle.ts_answer.proofs.reply.last_line.Given as goal
 
 abbrev pub invariant-loop-rest : goal.invariant-loop-rest
 invariant-loop-rest l = last_line_from l.line l.rest ≡ last_line l.text

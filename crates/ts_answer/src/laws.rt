@@ -1,5 +1,5 @@
-// What follows of the definitions of what is said.
-ghost use Rattle.ts_shell.specs.Outcomes.{OkLinesAreAnswers, CountsAreOfOutcomes};
+// What the last lines of replies tell.
+ghost use Rattle.ts_answer.specs.Outcomes.{OkLinesAreAnswers, CountsAreOfOutcomes};
 
 /// A reply ends with an `ok` line exactly where its command isn't refused.
 pub fn ok_lines_are_answers()

@@ -1,5 +1,0 @@
-use Rattle.ts_shell.proofs.OutcomeLemmas.{ok_lines_are_answers}
-use Rattle.ts_shell.proofs.laws.ok_lines_are_answers.Goals as goal
-
-pub returns : goal.returns
-returns c = ok_lines_are_answers

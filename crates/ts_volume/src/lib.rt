@@ -1,0 +1,12 @@
+//! What the bytes of a volume mean, and what holds of it: bytes mean a catalogue where they are as many as a volume has,
+//! no record of their journal is malformed, and the pages that they have by it are laid out as that catalogue
+//! (`specs/Volume`). Definitions alone, which the engine and all that stands on it cite; the laws are in `laws.rt`. Reads
+//! and writes nothing; stands on ts_journal for the pages that a volume has, and on ts_layout for what pages mean. Read
+//! `specs/Volume.antt`, then `specs/Laws.antt`.
+#![tactic(auto)]
+
+mod laws;
+
+pub use laws::{
+    bytes_mean_one_catalogue, layouts_are_meant, no_volume_means_nothing, same_pages_mean_the_same,
+};
