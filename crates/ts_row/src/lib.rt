@@ -25,6 +25,6 @@ pub use laws::{printed_digits_write_the_size, printed_values_fit_again};
 pub use mark::MARK;
 pub use print::print_value;
 pub use row::{Elem, Row, Shelf};
-pub use row_type::RowType;
+pub use row_type::{RowType, copy_columns};
 pub use value::{Literal, Value};
 pub use zeros::is_zero;

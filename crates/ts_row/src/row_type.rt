@@ -180,8 +180,8 @@ impl RowType {
     }
 }
 
-// The same columns once more.
-fn copy_columns(alloc: Global, columns: &[Column]) -> Result<Vec<Column>, AllocError>
+/// The same columns once more.
+pub fn copy_columns(alloc: Global, columns: &[Column]) -> Result<Vec<Column>, AllocError>
     ensures { IfOk result (λ made. made.items ≡ columns.now) }
 {
     let mut made = Vec::with_capacity(alloc, columns.len())?;

@@ -30,3 +30,18 @@ pub enum Literal {
     Number { units: i128, scale: u8 },
     Text(Bytes),
 }
+
+impl Literal {
+    pub fn copy(&self) -> Result<Self, AllocError>
+        ensures { IfOk result (λ made. made ≡ self.now) }
+    {
+        match self {
+            Literal::Null => Ok(Literal::Null),
+            Literal::Number { units, scale } => Ok(Literal::Number {
+                units: *units,
+                scale: *scale,
+            }),
+            Literal::Text(text) => Ok(Literal::Text(text.copy()?)),
+        }
+    }
+}
