@@ -2,7 +2,7 @@
 ghost use Rattle.std.specs.Prelude.{◌≡◌, ◌+◌, ◌≤◌, ◌<◌, false, length, ◌^◌, IsTrue, IsErr};
 ghost use Rattle.ts_disk.specs.Device.{Resized, ReadAt, WrittenAt, Synced, Says};
 
-use crate::wait::write_some;
+use crate::wait::write_out;
 use std::fs::File;
 use std::io;
 use std::os::unix::fs::FileExt;
@@ -91,19 +91,6 @@ fn write_all_at(file: &File, at: u64, from: &[u8]) -> io::Result<()>
     let mut done = 0;
     while done < from.len() {
         let put = file.write_at(&from[done..], at + done as u64)?;
-        if put == 0 {
-            return Err(io::ErrorKind::WriteZero.into());
-        }
-        done += put;
-    }
-    Ok(())
-}
-
-// The same to standard output.
-fn write_all(rt: &HostRuntime, piece: &[u8]) -> io::Result<()> {
-    let mut done = 0;
-    while done < piece.len() {
-        let put = write_some(rt, &piece[done..])?;
         if put == 0 {
             return Err(io::ErrorKind::WriteZero.into());
         }
@@ -203,7 +190,7 @@ impl Site for FileSite {
         ensures says { Says false piece.now result (file_device self.old) (file_device self.new) }
         ensures full { say_faults_of self.old ≡ u64.MAX → IsErr result }
     {
-        if self.say_faults == u64::MAX || write_all(&self.rt, piece).is_err() {
+        if self.say_faults == u64::MAX || write_out(&self.rt, piece).is_err() {
             raise(&mut self.say_faults);
             return Err(SayFailed);
         }

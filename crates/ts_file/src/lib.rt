@@ -14,3 +14,4 @@ mod wait;
 
 pub use file_site::FileSite;
 pub use std_source::StdSource;
+pub use wait::write_out;

@@ -52,13 +52,13 @@ pub shows_on : (text rest : List ℕ) → all_blank text ≡ false → all_blank
 shows_on text rest shows = list_all-append is_blank text rest ∙ rw shows refl
 
 -- what a byte behind the text of a statement does
-data Outcome (text : List ℕ) (b : ℕ) : Type 0 where
+pub data Outcome (text : List ℕ) (b : ℕ) : Type 0 where
   GoesOn : after (Some text) b ≡ ([], Some (text ++ b ∷ [])) → Outcome text b
   Ends : after (Some text) b ≡ (Statement (text ++ b ∷ []) ∷ [], Some []) → all_blank text ≡ false → Outcome text b
   Overflows : after (Some text) b ≡ (TooLong ∷ [], None) → all_blank (text ++ b ∷ []) ≡ false → Outcome text b
   Restarts : after (Some text) b ≡ ([], Some []) → all_blank text ≡ true → Outcome text b
 
-outcome_of : (text : List ℕ) (b : ℕ) → Outcome text b
+pub outcome_of : (text : List ℕ) (b : ℕ) → Outcome text b
 unfolding after
 outcome_of text b = elim (cases_Bool (b == 59 && quotes_match text)) [
   | inl e ↦ elim (cases_Bool (all_blank text)) [
@@ -401,23 +401,3 @@ end_none script place is = elim (cases_Bool (is_unended_at place)) [
 -- where a checker stands behind more bytes
 pub has_place : (front bytes : List ℕ) (e f : Checker) → HasRead front e → HasRead (front ++ bytes) f → f.reader.place ≡ place_from e.reader.place bytes
 has_place front bytes e f has more = more.place ∙ place_from-append (Some []) front bytes ∙ ap (λ (p : Option (List ℕ)). place_from p bytes) (sym has.place)
-
-none_past : (b : ℕ) → text_at (after None b).1 ≡ []
-unfolding after
-none_past b = elim (cases_Bool (b == 59)) [
-  | inl t ↦ rw t refl
-  | inr f ↦ rw f refl
-]
-
--- The statement so far is the last part of what was read.
-pub text_last : (front : List ℕ) (place : Option (List ℕ)) (start : List ℕ) (b : ℕ) → front ≡ start ++ text_at place → (next : List ℕ) × (front ++ b ∷ [] ≡ next ++ text_at (after place b).1)
-text_last front None start b is = (front ++ b ∷ [], sym (append-nil (front ++ b ∷ [])) ∙ sym (ap (λ (l : List ℕ). (front ++ b ∷ []) ++ l) (none_past b)))
-text_last front (Some text) start b is = go (outcome_of text b) where
-  fresh : (next : Option (List ℕ)) → text_at next ≡ [] → (after (Some text) b).1 ≡ next → (start' : List ℕ) × (front ++ b ∷ [] ≡ start' ++ text_at (after (Some text) b).1)
-  fresh next none e = (front ++ b ∷ [], sym (append-nil (front ++ b ∷ [])) ∙ sym (ap (λ (l : List ℕ). (front ++ b ∷ []) ++ l) (ap text_at e ∙ none)))
-
-  go : Outcome text b → (next : List ℕ) × (front ++ b ∷ [] ≡ next ++ text_at (after (Some text) b).1)
-  go (GoesOn e) = (start, ap (λ (l : List ℕ). l ++ b ∷ []) is ∙ append_assoc start text (b ∷ []) ∙ sym (ap (λ (x : List Item × Option (List ℕ)). start ++ text_at x.1) e))
-  go (Ends e k) = fresh (Some []) refl (ap (λ (x : List Item × Option (List ℕ)). x.1) e)
-  go (Overflows e k) = fresh None refl (ap (λ (x : List Item × Option (List ℕ)). x.1) e)
-  go (Restarts e k) = fresh (Some []) refl (ap (λ (x : List Item × Option (List ℕ)). x.1) e)

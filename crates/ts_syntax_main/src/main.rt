@@ -24,7 +24,7 @@ fn read_words(rt: &HostRuntime) -> io::Result<Vec<String>> {
 
 // Checks the script of standard input.
 fn check(rt: &HostRuntime) -> u8 {
-    let mut output = StdOutput::new(rt.stdout());
+    let mut output = StdOutput::new(rt);
     let mut source = StdSource::new(rt);
     check_syntax(rt.alloc(), &mut output, &mut source)
 }

@@ -1,34 +1,21 @@
-// Standard output.
+// Standard output, as ts_file writes to it: one that doesn't block is waited for.
 ghost use Rattle.std.specs.Prelude.{◌≡◌, false};
 
-use std::io::{self, Stdout, Write};
 use ts_disk::{SayFailed, raise};
+use ts_file::write_out;
 use ts_syntax::Output;
 
 /// Standard output. It tells no bytes.
 #[derive(Drop)]
 pub(crate) struct StdOutput {
-    output: Stdout,
+    rt: HostRuntime,
     faults: u64,
 }
 
 impl StdOutput {
-    pub(crate) fn new(output: Stdout) -> StdOutput {
-        StdOutput { output, faults: 0 }
+    pub(crate) fn new(rt: &HostRuntime) -> StdOutput {
+        StdOutput { rt: *rt, faults: 0 }
     }
-}
-
-// Writes until all bytes are taken.
-fn write_all(output: &mut Stdout, piece: &[u8]) -> io::Result<()> {
-    let mut done = 0;
-    while done < piece.len() {
-        let put = output.write(&piece[done..])?;
-        if put == 0 {
-            return Err(io::ErrorKind::WriteZero.into());
-        }
-        done += put;
-    }
-    Ok(())
 }
 
 impl Output for StdOutput {
@@ -39,7 +26,7 @@ impl Output for StdOutput {
     ghost heard = { std_heard };
 
     fn say(&mut self, piece: &[u8]) -> Result<(), SayFailed> {
-        if self.faults == u64::MAX || write_all(&mut self.output, piece).is_err() {
+        if self.faults == u64::MAX || write_out(&self.rt, piece).is_err() {
             raise(&mut self.faults);
             return Err(SayFailed);
         }

@@ -1,5 +1,5 @@
 use Rattle.std.proofs.Common.{length, ◌-◌, ◌≤◌}
-use Rattle.ts_file.proofs.file_site.write_all.Given as goal
+use Rattle.ts_file.proofs.wait.write_out.Given as goal
 
 abbrev pub invariant-loop-done : goal.invariant-loop-done
 invariant-loop-done l = l.done ≤ length l.piece
