@@ -197,7 +197,8 @@ fn read_more<'a>(
     text: &'a [u8],
 ) -> Result<&'a [u8], Misfit>
     ensures ok { IfOk result
-        (λ rest. ReadsAll (Grammar.further (Grammar.most_exprs - 1)) text.now steps.old.items steps.new.items rest.now) }
+        (λ rest. ReadsAll (Grammar.further (Grammar.most_exprs - 1)) text.now steps.old.items steps.new.items
+            rest.now) }
     ensures cause { IfErr result (λ misfit. Refuses misfit (Grammar.further (Grammar.most_exprs - 1) text.now)) }
 {
     let mut rest = text;
