@@ -7,7 +7,7 @@ use Rattle.std.proofs.lemmas.Bool.Decides.{nat_tests}
 use Rattle.std.proofs.lemmas.List.{length-map}
 use Rattle.ts_row.specs.declared.kind.ColumnKind.{ColumnKind}
 use Rattle.ts_row.specs.declared.kind.ColumnKind.TheVariants.{SmallInt, Integer, BigInt, Decimal, VarChar}
-use Rattle.ts_row.specs.declared.kind.TheConstants.{SHORT_DIGITS}
+use Rattle.ts_row.specs.RowType.{short_digits}
 use Rattle.ts_row.specs.declared.value.Value.{Value}
 use Rattle.ts_row.specs.declared.value.Value.TheVariants.{Null, Number, Text}
 use Rattle.ts_row.specs.Decoding.{number_in}
@@ -87,7 +87,7 @@ pub total_texts : (most : ℕ) (found : List (List ℕ)) → total (map (read_va
 total_texts most found = fold_texts most (pos 0) found
 
 -- numbers of sixteen bytes
-pub long_numbers : (digits scale : ℕ) (found : List (List ℕ)) → nat_lt SHORT_DIGITS digits ≡ true
+pub long_numbers : (digits scale : ℕ) (found : List (List ℕ)) → nat_lt short_digits digits ≡ true
     → map (number_in (Decimal digits scale)) found ≡ map long_number found
 long_numbers digits scale [] long = refl
 long_numbers digits scale (bytes ∷ found) long =

@@ -12,7 +12,7 @@ use Rattle.ts_row.specs.declared.kind.Column.{Column}
 use Rattle.ts_row.specs.declared.value.Literal.{Literal}
 use Rattle.ts_row.specs.RowType.{bad_column}
 use Rattle.ts_row.specs.Row.{Row, row_of}
-use Rattle.ts_pattern.specs.Algebra.{Answers}
+use Rattle.ts_base.specs.Answer.{Answers}
 use Rattle.ts_offset.specs.Counting.{AnswersList}
 use Rattle.ts_model.specs.declared.format.TheConstants.{OLD_FORMAT}
 use Rattle.ts_model.specs.Catalogue.{Named, Elements}

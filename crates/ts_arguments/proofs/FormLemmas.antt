@@ -7,14 +7,14 @@ use Rattle.ts_base.specs.StampText.{read_stamp, moment_in}
 use Rattle.ts_base.specs.Moment.{units_of as moment_units}
 use Rattle.ts_row.specs.declared.kind.Column.{Column}
 use Rattle.ts_row.specs.declared.value.Literal.TheVariants as literals
-use Rattle.ts_text.specs.Phrase.{word_in, a_sign, behind}
+use Rattle.ts_text.specs.Phrase.{word_in, a_sign, behind, name_as}
 use Rattle.ts_text.specs.declared.token.TokenKind.{TokenKind}
 use Rattle.ts_text.specs.declared.token.TokenKind.TheVariants.{Word, Number, Text, Sign}
 use Rattle.ts_text.proofs.CallerLemmas.{Yields, Shrinks, shrinks_of, chain, given, Any, of_token, sign_yields, behind_yields}
 use Rattle.ts_tokens.specs.Tokens.{front, number_length, magnitude_length, fraction_length, closing}
 use Rattle.ts_tokens.specs.Text.{undoubled, said}
 use Rattle.ts_tokens.specs.Number.{units_of, scale_of}
-use Rattle.ts_arguments.specs.Arguments.{a_literal, literal_in, a_column, a_name, name_in, a_key, key_in, a_stamp, stamp_in, a_text, text_in, a_joined, joined_in, a_type, type_in, kind_behind, a_small, small_in, a_word, a_whole, whole_in, within, a_stamp_column}
+use Rattle.ts_arguments.specs.Arguments.{a_literal, literal_in, a_column, a_name, a_key, key_in, a_stamp, stamp_in, a_text, text_in, a_joined, joined_in, a_type, type_in, kind_behind, a_small, small_in, a_word, a_whole, whole_in, within, a_stamp_column}
 use Rattle.ts_arguments.specs.Words.{joined_of, type_of}
 use Rattle.ts_arguments.specs.declared.word.Joined.TheVariants.{Patterns}
 use Rattle.ts_arguments.specs.declared.word.TypeName.{TypeName}
@@ -40,7 +40,7 @@ IsName name = IsTrue (is_name name)
 abbrev pub IsKey : List ℕ → Type 0
 IsKey key = IsTrue (is_key key)
 
-name_of : (kind : TokenKind) (word a : List ℕ) → name_in kind word ≡ Some a → IsName a
+name_of : (kind : TokenKind) (word a : List ℕ) → name_as kind word ≡ Some a → IsName a
 name_of Word word a is = name_is word a is
 name_of Number word a is = absurd (cc)
 name_of Text word a is = absurd (cc)
@@ -55,7 +55,7 @@ key_of Sign text a is = absurd (cc)
 -- the tokens, each with one that may stand there
 pub name_yields : Yields front IsName a_name
 unfolding a_name front
-name_yields = of_token front front_laws IsName name_in (record { first = 97; more = []; kind = Word; found = 97 ∷ []; holds = refl; stands = refl; accepted = refl }) name_of
+name_yields = of_token front front_laws IsName name_as (record { first = 97; more = []; kind = Word; found = 97 ∷ []; holds = refl; stands = refl; accepted = refl }) name_of
 
 pub key_yields : Yields front IsKey a_key
 unfolding a_key front closing undoubled

@@ -3,7 +3,7 @@ use Rattle.std.specs.Prelude.{ℕ, ◌==◌, ◌&&◌, nat_le, if◌then◌else�
 use Rattle.std.specs.List.{list_all}
 use Rattle.std.specs.Char.{is_ascii_digit}
 use Rattle.std.specs.Str.{bytes_eq}
-use Rattle.ts_base.specs.Name.{name_if_any, key_if_any}
+use Rattle.ts_base.specs.Name.{key_if_any}
 use Rattle.ts_base.specs.StampText.{read_stamp}
 use Rattle.ts_row.specs.declared.kind.Column.{Column}
 use Rattle.ts_row.specs.declared.kind.ColumnKind.{ColumnKind}
@@ -11,7 +11,7 @@ use Rattle.ts_row.specs.declared.kind.ColumnKind.TheVariants as kinds
 use Rattle.ts_row.specs.declared.value.Literal.{Literal}
 use Rattle.ts_row.specs.declared.value.Literal.TheVariants as literals
 use Rattle.ts_text.specs.Digits.{magnitude_of}
-use Rattle.ts_text.specs.Phrase.{Phrase, ◌>>=◌, give, token, word_in, a_sign, behind}
+use Rattle.ts_text.specs.Phrase.{Phrase, ◌>>=◌, give, token, word_in, name_as, a_sign, behind}
 use Rattle.ts_text.specs.declared.token.TokenKind.{TokenKind}
 use Rattle.ts_text.specs.declared.token.TokenKind.TheVariants.{Word, Number, Text, Sign}
 use Rattle.ts_tokens.specs.Tokens.{front}
@@ -22,14 +22,9 @@ use Rattle.ts_arguments.specs.Words.{joined_of, type_of}
 use Rattle.ts_arguments.specs.declared.word.TypeName.{TypeName}
 use Rattle.ts_arguments.specs.declared.word.TypeName.TheVariants.{SmallInt, Integer, BigInt, Decimal, VarChar}
 
--- a word of 1 to 32 bytes
-abbrev pub name_in : TokenKind → List ℕ → Option (List ℕ)
-name_in Word word = name_if_any word
-name_in kind token = None
-
 -- a name
 unfoldable pub a_name : Phrase (List ℕ)
-a_name = token front name_in
+a_name = token front name_as
 
 -- a text of 1 to 64 bytes
 abbrev pub key_in : TokenKind → List ℕ → Option (List ℕ)

@@ -11,7 +11,8 @@ use Rattle.ts_pattern.specs.declared.junction.Junction.{Junction}
 use Rattle.ts_pattern.specs.Plan.{Plan}
 use Rattle.ts_pattern.specs.Runs.{has_on, same_flag}
 use Rattle.ts_pattern.specs.Units.{smaller_unit, is_monthly, size}
-use Rattle.ts_pattern.specs.Algebra.{Answers, joined_plan, joined_in, joined_flag, joined_length}
+use Rattle.ts_base.specs.Answer.{Answers}
+use Rattle.ts_pattern.specs.Algebra.{joined_plan, joined_in, joined_flag, joined_length}
 use Rattle.ts_pattern.proofs.PlanLemmas.{plan-is, smaller-made}
 use Rattle.ts_calendar.specs.Plan.{CalendarPlan}
 use Rattle.ts_calendar.specs.Intervals.{start_in}

@@ -11,7 +11,7 @@ use Rattle.ts_base.specs.StampText.{read_stamp, moment_in}
 use Rattle.ts_base.specs.Moment.{units_of as moment_units}
 use Rattle.ts_text.specs.Blanks.{unblanked, are_blanks}
 use Rattle.ts_text.specs.Parted.{IsParted}
-use Rattle.ts_text.specs.Phrase.{Read, Phrase, go_on, ◌>>=◌, give, word_in, a_sign, behind, in_brackets, the_end, ended}
+use Rattle.ts_text.specs.Phrase.{Read, Phrase, go_on, ◌>>=◌, give, word_in, a_sign, behind, in_brackets, the_end, ended, name_as}
 use Rattle.ts_text.specs.Place.{RefusesInPlace}
 use Rattle.ts_text.specs.Plain.{plain_front, a_word}
 use Rattle.ts_text.specs.declared.token.TokenKind.{TokenKind}
@@ -21,7 +21,7 @@ use Rattle.ts_pattern.specs.Grammar.{pattern_in}
 use Rattle.ts_pattern.proofs.GrammarLemmas.{pattern_yields}
 use Rattle.ts_calendar.specs.declared.text.PatternPart.TheVariants.{Named, Own}
 use Rattle.ts_calendar.specs.declared.text.CalendarText.{CalendarText}
-use Rattle.ts_calendar.specs.Text.{calendar_text, inside_len, inside, trimmed, stamp_or_not, stamp_in, date_in, name_as, name_in, name_part_in, pattern_part_in, part_as, part_word_in, part_behind, part_in, dates_in, calendar_in, written_calendar}
+use Rattle.ts_calendar.specs.Text.{calendar_text, inside_len, inside, trimmed, stamp_or_not, stamp_in, date_in, name_in, name_part_in, pattern_part_in, part_as, part_word_in, part_behind, part_in, dates_in, calendar_in, written_calendar}
 use Rattle.ts_calendar.specs.Front.{stamp_front, IsBeforeStamp, calendar_fronts}
 use Rattle.ts_calendar.proofs.StampTextLemmas.{is_inner, stamp-plain}
 use Rattle.ts_calendar.proofs.TextLemmas.{in_date, trimmed-split, named-stamp, stamp-read}

@@ -12,7 +12,7 @@ use Rattle.ts_base.specs.Name.{is_blank, is_word, is_name, name_if_any}
 use Rattle.ts_base.specs.StampText.{read_stamp}
 use Rattle.ts_text.specs.Blanks.{unblanked, are_blanks}
 use Rattle.ts_text.specs.Parted.{IsParted}
-use Rattle.ts_text.specs.Phrase.{Read, Phrase, go_on, ◌>>=◌, give, a_sign, behind, in_brackets, made, the_end, ended, outcome}
+use Rattle.ts_text.specs.Phrase.{Read, Phrase, go_on, ◌>>=◌, give, a_sign, behind, in_brackets, made, the_end, ended, outcome, name_as}
 use Rattle.ts_text.specs.Plain.{plain_front, a_word}
 use Rattle.ts_text.specs.declared.token.TokenKind.{TokenKind}
 use Rattle.ts_text.specs.declared.token.TokenKind.TheVariants.{Word as TheWord, Number, Text, Sign}
@@ -24,7 +24,7 @@ use Rattle.ts_pattern.proofs.PatternTextLemmas.{pattern-found, pattern-read}
 use Rattle.ts_calendar.specs.declared.text.PatternPart.{PatternPart}
 use Rattle.ts_calendar.specs.declared.text.PatternPart.TheVariants.{Named, Own}
 use Rattle.ts_calendar.specs.declared.text.CalendarText.{CalendarText}
-use Rattle.ts_calendar.specs.Text.{calendar_text, inside_len, trimmed, inside, stamp_or_not, stamp_in, date_in, name_as, name_in, name_part_in, pattern_part_in, part_as, part_word_in, part_behind, part_in, dates_in, calendar_in, written_calendar}
+use Rattle.ts_calendar.specs.Text.{calendar_text, inside_len, trimmed, inside, stamp_or_not, stamp_in, date_in, name_in, name_part_in, pattern_part_in, part_as, part_word_in, part_behind, part_in, dates_in, calendar_in, written_calendar}
 use Rattle.ts_calendar.specs.Spelling.{part_tokens, IsPart, IsCalendarText}
 use Rattle.ts_calendar.proofs.StampTextLemmas.{is_inner, IsPlain, stamp-plain}
 

@@ -18,7 +18,8 @@ use Rattle.ts_pattern.specs.declared.junction.Junction.{Junction}
 use Rattle.ts_pattern.specs.Plan.{Plan}
 use Rattle.ts_pattern.specs.Runs.{total, flag, has_on, runs_of}
 use Rattle.ts_pattern.specs.Units.{is_monthly, smaller_unit}
-use Rattle.ts_pattern.specs.Algebra.{Answers, joined_plan, joined_in, joined_flag, joined_length}
+use Rattle.ts_base.specs.Answer.{Answers}
+use Rattle.ts_pattern.specs.Algebra.{joined_plan, joined_in, joined_flag, joined_length}
 use Rattle.ts_pattern.proofs.PlanLemmas.{plan-is}
 use Rattle.ts_pattern.proofs.JoinLemmas.{total-runs_from}
 use Rattle.ts_pattern.proofs.GrowLemmas.{runs_of-zero}

@@ -3,7 +3,7 @@
 use Rattle.std.specs.Prelude.{ℕ, ◌==◌, not, Bool, true, false, if◌then◌else◌, ℤ, List, [], ◌∷◌, ◌++◌, length, take, drop, reverse, Option, Some, None, Result, Ok, Err, IsTrue, codes}
 use Rattle.std.specs.Str.{bytes_eq}
 use Rattle.std.specs.List.{prefix_len}
-use Rattle.ts_base.specs.Name.{is_name, name_if_any}
+use Rattle.ts_base.specs.Name.{is_name}
 use Rattle.ts_base.specs.StampText.{read_stamp, stamp_text}
 use Rattle.ts_base.specs.declared.refusal.Refusal.{Refusal}
 use Rattle.ts_base.specs.declared.refusal.Refusal.TheVariants.{BadCalendar}
@@ -12,7 +12,7 @@ use Rattle.ts_pattern.specs.Plan.{Plan}
 use Rattle.ts_pattern.specs.Runs.{is_pattern}
 use Rattle.ts_pattern.specs.Grammar.{pattern_in, plan_of_written, printed_plan}
 use Rattle.ts_text.specs.Blanks.{unblanked}
-use Rattle.ts_text.specs.Phrase.{Read, Phrase, ◌>>=◌, give, token, a_sign, behind, in_brackets, made, ended, outcome}
+use Rattle.ts_text.specs.Phrase.{Read, Phrase, ◌>>=◌, give, token, name_as, a_sign, behind, in_brackets, made, ended, outcome}
 use Rattle.ts_text.specs.Plain.{plain_front, a_word}
 use Rattle.ts_text.specs.declared.token.TokenKind.{TokenKind}
 use Rattle.ts_text.specs.declared.token.TokenKind.TheVariants.{Word}
@@ -50,11 +50,6 @@ unfoldable pub date_in : List ℕ → Phrase ℤ
 date_in word = do
   name ← a_word word
   in_brackets stamp_in
-
--- a name: a word of 1 to 32 bytes
-abbrev pub name_as : TokenKind → List ℕ → Option (List ℕ)
-name_as Word word = name_if_any word
-name_as kind token = None
 
 -- the name of a pattern
 unfoldable pub name_in : Phrase (List ℕ)

@@ -1,6 +1,6 @@
 // Reading the text of a calendar. What can't stand where it is found is told by how many bytes are left from it on.
 ghost use Rattle.std.specs.Prelude.{◌≡◌, ◌^◌, ◌<◌, ◌≤◌, Ok, IfOk, IfErr, [], length};
-ghost use Rattle.ts_pattern.specs.Algebra.{Answers};
+ghost use Rattle.ts_base.specs.Answer.{Answers};
 ghost use Rattle.ts_text.specs.Misfit.{Refuses, RefusesExactly};
 ghost use Rattle.ts_text.specs.Phrase.{a_sign, the_end, ended};
 ghost use Rattle.ts_text.specs.Plain.{a_word};

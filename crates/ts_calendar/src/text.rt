@@ -1,6 +1,6 @@
 // Calendars as texts: `startdate(S), pattstart(S), pattname(N)` or `.., pattern(P)`.
 ghost use Rattle.std.specs.Prelude.{◌≡◌, ◌↔◌, ℕ, List, ◌++◌, ◌^◌, ◌<◌, Ok, length, IfOk, OnOk, OnErr};
-ghost use Rattle.ts_pattern.specs.Algebra.{Answers};
+ghost use Rattle.ts_base.specs.Answer.{Answers};
 ghost use Rattle.ts_base.specs.StampText.{stamp_text};
 ghost use Rattle.ts_calendar.specs.declared.text.CalendarText.{CalendarText};
 ghost use Rattle.ts_text.specs.Place.{RefusesInPlace};

@@ -8,7 +8,7 @@ use Rattle.ts_pattern.specs.declared.junction.Junction.TheVariants.{And, Or}
 use Rattle.ts_pattern.specs.Plan.{Plan}
 use Rattle.ts_base.specs.declared.refusal.Refusal.TheVariants.{BadCalendar, AllOff}
 use Rattle.ts_pattern.specs.Runs.{has_on}
-use Rattle.ts_pattern.specs.Algebra.{Answers}
+use Rattle.ts_base.specs.Answer.{Answers}
 use Rattle.ts_calendar.specs.Plan.{CalendarPlan}
 use Rattle.ts_calendar.specs.Calendar.{is_late, is_apart, valid_calendar}
 use Rattle.ts_model.specs.declared.kind.Kind.{Kind}

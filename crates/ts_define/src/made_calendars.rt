@@ -1,7 +1,7 @@
 // What calendars are made of: the pattern that a text gives, two calendars joined, and the slot that one goes into.
 ghost use Rattle.std.specs.Prelude.{ℕ, IfOk, IsTrue};
 ghost use Rattle.ts_base.specs.Name.{is_name};
-ghost use Rattle.ts_pattern.specs.Algebra.{Answers};
+ghost use Rattle.ts_base.specs.Answer.{Answers};
 ghost use Rattle.ts_calendar.specs.Calendar.{joined_calendar};
 ghost use Rattle.ts_model.specs.declared.kind.Kind.TheVariants.{Calendar as Calendars};
 ghost use Rattle.ts_model.specs.Definitions.{Definitions};

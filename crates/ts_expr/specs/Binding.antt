@@ -12,7 +12,10 @@ use Rattle.ts_expr.specs.declared.function.Function.{Function}
 use Rattle.ts_expr.specs.declared.function.Function.TheVariants.{Sum, Avg, Count}
 use Rattle.ts_expr.specs.declared.item.Item.{Item}
 use Rattle.ts_expr.specs.declared.item.BoundItem.{BoundItem}
-use Rattle.ts_expr.specs.declared.item.TheConstants.{MOST_SCALE}
+
+-- the most digits after the point of what an item makes: those of a decimal, and six more of a mean
+abbrev pub most_scale : ℕ
+most_scale = 34
 
 -- the columns of the rows, and the items with the numbers of their columns
 pub record Binding : Type 0 where
@@ -78,4 +81,4 @@ binding columns items = with_columns columns (bound_items columns items)
 pub record IsBinding (b : Binding) : Type 0 where
   pub kinds : IsTrue (list_all (λ c. is_kind c.kind) b.columns)
   pub places : All (λ i. i.column < length b.columns) b.items
-  pub scales : All (λ i. i.scale ≤ MOST_SCALE) b.items
+  pub scales : All (λ i. i.scale ≤ most_scale) b.items

@@ -1,17 +1,19 @@
 -- The text of an aggregate list, as in `sum($v), COUNT( $w )`: its grammar, and what it reads as.
 use Rattle.std.specs.Prelude.{ℕ, ◌-◌, Bool, true, false, ◌||◌, if◌then◌else◌, List, [], ◌∷◌, length, Option, Some, None, Result, Ok, Err, codes}
 use Rattle.std.specs.Str.{bytes_eq}
-use Rattle.ts_base.specs.Name.{name_if_any}
 use Rattle.ts_base.specs.declared.refusal.Refusal.{Refusal}
 use Rattle.ts_base.specs.declared.refusal.Refusal.TheVariants.{BadExpression}
-use Rattle.ts_text.specs.Phrase.{Phrase, ◌>>=◌, give, token, behind, in_brackets, phrases, ended, outcome}
+use Rattle.ts_text.specs.Phrase.{Phrase, ◌>>=◌, give, token, name_as, behind, in_brackets, phrases, ended, outcome}
 use Rattle.ts_text.specs.Plain.{plain_front}
 use Rattle.ts_text.specs.declared.token.TokenKind.{TokenKind}
 use Rattle.ts_text.specs.declared.token.TokenKind.TheVariants.{Word}
 use Rattle.ts_expr.specs.declared.function.Function.{Function}
 use Rattle.ts_expr.specs.declared.function.Function.TheVariants.{Sum, Avg, Count, Min, Max, First, Last}
 use Rattle.ts_expr.specs.declared.item.Item.{Item}
-use Rattle.ts_expr.specs.declared.list.TheConstants.{MOST_ITEMS}
+
+-- the most items of a list
+abbrev pub most_items : ℕ
+most_items = 32
 
 -- the word of a function, in upper or in lower case
 abbrev pub function_word : Bool → Function → List ℕ
@@ -45,11 +47,6 @@ function_as kind token = None
 unfoldable pub function_in : Phrase Function
 function_in = token plain_front function_as
 
--- a name: a word of 1 to 32 bytes
-abbrev pub name_as : TokenKind → List ℕ → Option (List ℕ)
-name_as Word word = name_if_any word
-name_as kind token = None
-
 -- the name of a column
 unfoldable pub name_in : Phrase (List ℕ)
 name_in = token plain_front name_as
@@ -77,7 +74,7 @@ further most = phrases item_in most
 unfoldable pub list_in : Phrase (List Item)
 list_in = do
   first ← item_in
-  others ← further (MOST_ITEMS - 1)
+  others ← further (most_items - 1)
   give (first ∷ others)
 
 -- a text that is a list's, or the place of what can't stand there

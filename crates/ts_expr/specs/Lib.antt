@@ -1,4 +1,3 @@
-pub mod Answer
 pub mod Grammar
 pub mod Spelling
 pub mod Binding

@@ -5,8 +5,7 @@ use Rattle.ts_base.specs.Name.{is_name}
 use Rattle.ts_text.specs.Parted.{IsParted}
 use Rattle.ts_expr.specs.declared.function.Function.{Function}
 use Rattle.ts_expr.specs.declared.item.Item.{Item}
-use Rattle.ts_expr.specs.declared.list.TheConstants.{MOST_ITEMS}
-use Rattle.ts_expr.specs.Grammar.{function_word, item}
+use Rattle.ts_expr.specs.Grammar.{most_items, function_word, item}
 
 -- an item as a text has it: the case of its function, the function, and the column
 pub record Written : Type 0 where
@@ -32,7 +31,7 @@ item_of w = item w.function w.column
 pub record IsListText (items : List Item) (text : List ℕ) : Type 0 where
   pub written : List Written
   pub some : 1 ≤ length written
-  pub few : length written ≤ MOST_ITEMS
+  pub few : length written ≤ most_items
   pub columns : list_all (λ (w : Written). is_name w.column) written ≡ true
   pub value : map item_of written ≡ items
   pub parted : IsParted (items_before written []) text

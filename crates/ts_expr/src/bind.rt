@@ -2,9 +2,8 @@
 ghost use Rattle.std.specs.Prelude.{◌≡◌, ◌<◌, ◌≤◌, Ok, IfOk, IfErr, IfSome, IsTrue, All, length, map};
 ghost use Rattle.std.specs.List.{list_all};
 ghost use Rattle.ts_row.specs.RowType.{is_kind};
-ghost use Rattle.ts_expr.specs.Answer.{Answers, Fails};
-ghost use Rattle.ts_expr.specs.declared.item.TheConstants.{MOST_SCALE};
-ghost use Rattle.ts_expr.specs.Binding.{binding, IsBinding};
+ghost use Rattle.ts_base.specs.Answer.{Answers, Fails};
+ghost use Rattle.ts_expr.specs.Binding.{most_scale, binding, IsBinding};
 ghost use Rattle.ts_expr.specs.Binding;
 
 use crate::{AggList, BoundItem, Function, Item};
@@ -56,7 +55,7 @@ impl Bound {
     /// The digits after the point of what each item makes: none for a count or a text, those of the column, or six more.
     pub fn scales(&self) -> &[u8]
         ensures value { result.now ≡ map (λ i. i.scale) self.now.items }
-        ensures most { All (λ s. s ≤ MOST_SCALE) result.now }
+        ensures most { All (λ s. s ≤ most_scale) result.now }
     {
         self.scales.as_slice()
     }
@@ -87,7 +86,7 @@ fn bound_items(alloc: Global, columns: &[Column], items: &[Item]) -> Result<Vec<
     ensures ok { IfOk result (λ bound. Binding.bound_items columns.now items.now ≡ Ok bound.items) }
     ensures cause { IfErr result (λ trouble. Fails (Binding.bound_items columns.now items.now) trouble) }
     ensures places { IfOk result (λ bound. All (λ i. i.column < length columns.now) bound.items) }
-    ensures scales { IfOk result (λ bound. All (λ i. i.scale ≤ MOST_SCALE) bound.items) }
+    ensures scales { IfOk result (λ bound. All (λ i. i.scale ≤ most_scale) bound.items) }
 {
     let mut bound = Vec::with_capacity(alloc, items.len())?;
     for item in items {
@@ -102,7 +101,7 @@ fn bound_item(columns: &[Column], item: &Item) -> Result<BoundItem, Trouble>
     requires { IsTrue (list_all (λ c. is_kind c.kind) columns.now) }
     ensures value { Answers (Binding.bound columns.now item.now) result }
     ensures within { IfOk result (λ bound. bound.column < length columns.now) }
-    ensures scale { IfOk result (λ bound. bound.scale ≤ MOST_SCALE) }
+    ensures scale { IfOk result (λ bound. bound.scale ≤ most_scale) }
 {
     let Some((column, kind)) = column_named(columns, item.column.as_slice()) else {
         return Err(Trouble::Refused(Refusal::UnknownColumn));
@@ -146,7 +145,7 @@ fn takes_kind(function: Function, kind: ColumnKind) -> bool
 fn made_scale(function: Function, kind: ColumnKind) -> u8
     requires { IsTrue (is_kind kind) }
     ensures value { result ≡ Binding.made_scale function kind }
-    ensures most { result ≤ MOST_SCALE }
+    ensures most { result ≤ most_scale }
 {
     match function {
         Function::Count => 0,

@@ -1,9 +1,6 @@
 use crate::Function;
 use ts_base::Name;
 
-/// The most digits after the point of what an item makes: those of a decimal, and six more of a mean.
-pub const MOST_SCALE: u8 = 34;
-
 /// A function, and the name of the column whose values it takes.
 #[derive(Debug, Drop)]
 pub struct Item {

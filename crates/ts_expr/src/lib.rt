@@ -21,7 +21,7 @@ mod tally;
 pub use bind::Bound;
 pub use fold::Running;
 pub use function::Function;
-pub use item::{BoundItem, Item, MOST_SCALE};
+pub use item::{BoundItem, Item};
 pub use laws::{
     a_mean_is_the_nearest, the_first_item_that_cannot_be_bound_is_refused,
     the_first_value_is_at_the_front, the_least_is_one_of_the_values,

@@ -3,8 +3,8 @@ ghost use Rattle.std.specs.Prelude.{◌≡◌, ◌≤◌, ◌<◌, ◌^◌, ◌�
 ghost use Rattle.ts_text.specs.Place.{everywhere, RefusesInPlace};
 ghost use Rattle.ts_text.specs.Plain.{plain_front};
 ghost use Rattle.ts_expr.specs.declared.item.Item.{Item};
-ghost use Rattle.ts_expr.specs.Answer.{Answers};
-ghost use Rattle.ts_expr.specs.Grammar.{read_list, written_list};
+ghost use Rattle.ts_base.specs.Answer.{Answers};
+ghost use Rattle.ts_expr.specs.Grammar.{most_items, read_list, written_list};
 ghost use Rattle.ts_expr.specs.Spelling.{IsListText};
 
 use crate::Item;
@@ -26,13 +26,13 @@ pub struct AggList {
 impl Model for AggList {
     ghost use Rattle.std.specs.Prelude.{◌≤◌, List, length};
     ghost use Rattle.ts_expr.specs.declared.item.Item.{Item};
-    ghost use Rattle.ts_expr.specs.declared.list.TheConstants.{MOST_ITEMS};
+    ghost use Rattle.ts_expr.specs.Grammar.{most_items};
 
     ghost Value = { List Item };
 
     ghost view = { λ l. l.items.items };
 
-    ghost invariant = { λ l. (1 ≤ length l.items.items) × (length l.items.items ≤ MOST_ITEMS) };
+    ghost invariant = { λ l. (1 ≤ length l.items.items) × (length l.items.items ≤ most_items) };
 }
 
 impl AggList {
@@ -55,7 +55,7 @@ impl AggList {
     pub fn items(&self) -> &[Item]
         ensures value { result.now ≡ self.now }
         ensures some { 1 ≤ length self.now }
-        ensures few { length self.now ≤ MOST_ITEMS }
+        ensures few { length self.now ≤ most_items }
     {
         self.items.as_slice()
     }

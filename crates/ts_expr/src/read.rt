@@ -67,10 +67,11 @@ fn item_in(alloc: Global, text: &[u8]) -> Result<(Item, &[u8]), Misfit>
 // Further items, as many as commas stand there, up to the most that a list has.
 fn read_items<'a>(alloc: Global, items: &mut Vec<Item>, text: &'a [u8]) -> Result<&'a [u8], Misfit>
     requires { length items.old.items ≡ 1 }
-    ensures ok { IfOk result (λ rest. onto items.old.items (Grammar.further (MOST_ITEMS - 1) text.now) ≡ Ok (items.new.items, rest.now)) }
-    ensures cause { IfErr result (λ misfit. Refuses misfit (Grammar.further (MOST_ITEMS - 1) text.now)) }
+    ensures ok { IfOk result (λ rest. onto items.old.items (Grammar.further (Grammar.most_items - 1) text.now)
+        ≡ Ok (items.new.items, rest.now)) }
+    ensures cause { IfErr result (λ misfit. Refuses misfit (Grammar.further (Grammar.most_items - 1) text.now)) }
     ensures some { OnOk result (1 ≤ length items.new.items) }
-    ensures few { OnOk result (length items.new.items ≤ MOST_ITEMS) }
+    ensures few { OnOk result (length items.new.items ≤ Grammar.most_items) }
 {
     let mut rest = text;
     for _ in 1..MOST_ITEMS {
@@ -90,7 +91,7 @@ pub(crate) fn written_items(alloc: Global, text: &[u8]) -> Result<Vec<Item>, Mis
     ensures ok { IfOk result (λ items. ended [] Grammar.list_in text.now ≡ Ok (items.items, [])) }
     ensures cause { IfErr result (λ misfit. Refuses misfit (ended [] Grammar.list_in text.now)) }
     ensures some { IfOk result (λ items. 1 ≤ length items.items) }
-    ensures few { IfOk result (λ items. length items.items ≤ MOST_ITEMS) }
+    ensures few { IfOk result (λ items. length items.items ≤ Grammar.most_items) }
 {
     let (first, rest) = item_in(alloc, text)?;
     let mut items = Vec::new(alloc);

@@ -2,7 +2,7 @@
 use crate::made::{list, row_type};
 use std::alloc::Global;
 use ts_base::Trouble;
-use ts_expr::{Bound, Function, Sums, Tally};
+use ts_expr::{AggList, Bound, BoundItem, Function, Item, Running, Sums, Tally};
 use ts_row::{ColumnKind, Value};
 
 fn is_number(value: &Value, wanted: i128) -> bool {
@@ -65,3 +65,17 @@ fn a_bound_list_has_its_row_type_and_a_tally_for_each_item(rt: HostRuntime) {
     assert!(rt; matches!(most, Tally::Max(Value::Null)));
     assert!(rt; matches!(count, Tally::Count(0)));
 }
+
+#[test]
+fn the_types_may_go_to_other_threads() {
+    goes_to_threads::<AggList>();
+    goes_to_threads::<Item>();
+    goes_to_threads::<Bound>();
+    goes_to_threads::<BoundItem>();
+    goes_to_threads::<Function>();
+    goes_to_threads::<Running>();
+    goes_to_threads::<Tally>();
+    goes_to_threads::<Sums>();
+}
+
+fn goes_to_threads<T: Send + Sync>() {}

@@ -1,10 +1,8 @@
 -- The algebra of patterns: expanding, AND and OR, interval by interval.
-use Rattle.std.specs.Prelude.{◌≡◌, ℕ, ◌*◌, Bool, ◌&&◌, ◌||◌, nat_lt, if◌then◌else◌, ℤ, pos, ◌+ℤ◌, List, length, Option, Some, None, Result, Ok, Err}
+use Rattle.std.specs.Prelude.{ℕ, ◌*◌, Bool, ◌&&◌, ◌||◌, nat_lt, if◌then◌else◌, ℤ, pos, ◌+ℤ◌, List, length, Option, Some, None, Result, Ok, Err}
 use Rattle.std.specs.Int.{int_div_euclid}
 use Rattle.ts_base.specs.declared.refusal.Refusal.{Refusal}
 use Rattle.ts_base.specs.declared.refusal.Refusal.TheVariants.{UnitMismatch, PatternTooLong}
-use Rattle.ts_base.specs.declared.fault.Trouble.{Trouble}
-use Rattle.ts_base.specs.declared.fault.Trouble.TheVariants.{Refused, Memory}
 use Rattle.ts_base.specs.declared.unit.Unit as unit
 use Rattle.ts_pattern.specs.declared.run.Run.{Run}
 use Rattle.ts_pattern.specs.declared.junction.Junction.{Junction}
@@ -13,12 +11,6 @@ use Rattle.ts_pattern.specs.Plan.{Plan}
 use Rattle.ts_pattern.specs.Runs.{total, flag, runs_of}
 use Rattle.ts_pattern.specs.Units.{factor, is_made_of, smaller_unit}
 use Rattle.ts_pattern.specs.Multiples.{least_common_multiple}
-
--- a call answers this, or that there is no memory
-abbrev pub Answers : {A : Type 0} → Result A Refusal → Result A Trouble → Type 0
-Answers answer (Ok value) = answer ≡ Ok value
-Answers answer (Err (Refused why)) = answer ≡ Err why
-Answers answer (Err (Memory error)) = Unit {0}
 
 -- the pattern of the first n flags, where they and their runs aren't too many
 abbrev pub plan_of_flags : unit.Unit → (ℕ → Bool) → ℕ → Result Plan Refusal

@@ -1,7 +1,8 @@
 ghost use Rattle.std.specs.Prelude.{◌≡◌, ℕ, ◌+◌, ◌-◌, ◌*◌, ◌/◌, ◌<◌, ◌≤◌, ◌↔◌, not, length, IsTrue, IsSome, IfSome, IfOk, Ok, map, ℤ, pos, unsigned_abs};
 ghost use Rattle.std.specs.Int.{int_rem_euclid};
 ghost use Rattle.ts_pattern.specs.Runs.{total, flag_at, flag, is_pattern, turned, scaled};
-ghost use Rattle.ts_pattern.specs.Algebra.{Answers, plan_of_flags, joined_flag, joined_length};
+ghost use Rattle.ts_base.specs.Answer.{Answers};
+ghost use Rattle.ts_pattern.specs.Algebra.{plan_of_flags, joined_flag, joined_length};
 ghost use Rattle.ts_pattern.specs.Line.{side_by_side};
 ghost use Rattle.ts_base.specs.declared.refusal.Refusal.{Refusal};
 ghost use Rattle.ts_base.specs.declared.fault.Trouble.{Trouble};

@@ -4,7 +4,7 @@ ghost use Rattle.ts_text.specs.Place.{everywhere, RefusesInPlace};
 ghost use Rattle.ts_text.specs.Plain.{plain_front};
 ghost use Rattle.ts_text.specs.Spelling.{AreItsTokens};
 ghost use Rattle.ts_pattern.specs.Runs.{total, flag_at, runs_of, is_pattern};
-ghost use Rattle.ts_pattern.specs.Algebra.{Answers};
+ghost use Rattle.ts_base.specs.Answer.{Answers};
 ghost use Rattle.ts_pattern.specs.Grammar.{are_counts, plan_of_written, read_plan, written_plan, printed_run, printed_runs, printed_plan};
 ghost use Rattle.ts_pattern.specs.Grammar;
 ghost use Rattle.ts_pattern.specs.Plan.{Plan};

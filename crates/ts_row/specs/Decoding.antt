@@ -7,11 +7,10 @@ use Rattle.ts_base.specs.Name.{is_text}
 use Rattle.ts_row.specs.declared.kind.ColumnKind.{ColumnKind}
 use Rattle.ts_row.specs.declared.kind.ColumnKind.TheVariants.{SmallInt, Integer, BigInt, Decimal, VarChar}
 use Rattle.ts_row.specs.declared.kind.Column.{Column}
-use Rattle.ts_row.specs.declared.kind.TheConstants.{SHORT_DIGITS}
-use Rattle.ts_row.specs.declared.mark.TheConstants.{MARK}
 use Rattle.ts_row.specs.declared.value.Value.{Value}
 use Rattle.ts_row.specs.declared.value.Value.TheVariants.{Null, Number, Text}
-use Rattle.ts_row.specs.RowType.{column_width}
+use Rattle.ts_row.specs.RowType.{short_digits, column_width}
+use Rattle.ts_row.specs.Encoding.{hidden_mark}
 use Rattle.ts_row.specs.Row.{Values, Row, holds_size, visible}
 
 -- zeros and nothing else
@@ -24,7 +23,7 @@ number_in SmallInt bytes = cast_signed w16 (from_be_bytes w16 bytes)
 number_in Integer bytes = cast_signed w32 (from_be_bytes w32 bytes)
 number_in BigInt bytes = cast_signed w64 (from_be_bytes w64 bytes)
 number_in (Decimal digits scale) bytes =
-    if nat_lt SHORT_DIGITS digits then cast_signed w128 (from_be_bytes w128 bytes) else cast_signed w64 (from_be_bytes w64 bytes)
+    if nat_lt short_digits digits then cast_signed w128 (from_be_bytes w128 bytes) else cast_signed w64 (from_be_bytes w64 bytes)
 number_in (VarChar most) bytes = cast_signed w64 0
 
 -- the number, if the column holds it
@@ -64,11 +63,11 @@ values_in (column ∷ columns) bytes =
 
 -- a first byte is one of a hidden row
 abbrev pub is_mark : ℕ → Bool
-is_mark byte = nat_le MARK byte
+is_mark byte = nat_le hidden_mark byte
 
 -- a first byte without the mark
 abbrev pub unmarked : ℕ → ℕ
-unmarked byte = if is_mark byte then byte - MARK else byte
+unmarked byte = if is_mark byte then byte - hidden_mark else byte
 
 -- the row that bytes are: its mark in the first byte, and the values that the bytes without it are
 abbrev pub row_in : List Column → List ℕ → Option Row

@@ -4,11 +4,9 @@ use Rattle.std.specs.Int.{w16, w32, w64, w128, to_be_bytes, cast_unsigned}
 use Rattle.ts_row.specs.declared.kind.ColumnKind.{ColumnKind}
 use Rattle.ts_row.specs.declared.kind.ColumnKind.TheVariants.{SmallInt, Integer, BigInt, Decimal, VarChar}
 use Rattle.ts_row.specs.declared.kind.Column.{Column}
-use Rattle.ts_row.specs.declared.kind.TheConstants.{SHORT_DIGITS}
-use Rattle.ts_row.specs.declared.mark.TheConstants.{MARK}
 use Rattle.ts_row.specs.declared.value.Value.{Value}
 use Rattle.ts_row.specs.declared.value.Value.TheVariants.{Null, Number, Text}
-use Rattle.ts_row.specs.RowType.{column_width}
+use Rattle.ts_row.specs.RowType.{short_digits, column_width}
 use Rattle.ts_row.specs.Row.{Values, Row, fits, marked}
 
 -- the bytes of a number: two's complement, the highest byte first
@@ -17,7 +15,7 @@ number_bytes SmallInt z = to_be_bytes w16 (cast_unsigned w16 z)
 number_bytes Integer z = to_be_bytes w32 (cast_unsigned w32 z)
 number_bytes BigInt z = to_be_bytes w64 (cast_unsigned w64 z)
 number_bytes (Decimal digits scale) z =
-    if nat_lt SHORT_DIGITS digits then to_be_bytes w128 (cast_unsigned w128 z) else to_be_bytes w64 (cast_unsigned w64 z)
+    if nat_lt short_digits digits then to_be_bytes w128 (cast_unsigned w128 z) else to_be_bytes w64 (cast_unsigned w64 z)
 number_bytes (VarChar most) z = []
 
 -- the bytes of a text: its length, its bytes, then zeros
@@ -36,9 +34,13 @@ abbrev pub values_bytes : List Column → Values → List ℕ
 values_bytes (column ∷ columns) (value ∷ values) = value_bytes column.kind value ++ values_bytes columns values
 values_bytes _ _ = []
 
+-- what the mark of a hidden row adds to its first byte
+abbrev pub hidden_mark : ℕ
+hidden_mark = 2
+
 -- what the mark adds to the first byte of a row: 2 where the row is hidden
 abbrev pub mark_byte : Bool → ℕ
-mark_byte hidden = if hidden then MARK else 0
+mark_byte hidden = if hidden then hidden_mark else 0
 
 -- bytes with a mark in the first
 abbrev pub with_mark : Bool → List ℕ → List ℕ

@@ -8,7 +8,14 @@ use Rattle.ts_base.specs.declared.refusal.Refusal.TheVariants.{BadRowType}
 use Rattle.ts_row.specs.declared.kind.ColumnKind.{ColumnKind}
 use Rattle.ts_row.specs.declared.kind.ColumnKind.TheVariants.{SmallInt, Integer, BigInt, Decimal, VarChar}
 use Rattle.ts_row.specs.declared.kind.Column.{Column}
-use Rattle.ts_row.specs.declared.kind.TheConstants.{MOST_DIGITS, SHORT_DIGITS}
+
+-- the most digits of a decimal
+abbrev pub most_digits : ℕ
+most_digits = 28
+
+-- the most digits of a decimal whose numbers have eight bytes; with more they have sixteen
+abbrev pub short_digits : ℕ
+short_digits = 18
 
 -- the name of the stamp's column, and the value columns
 pub record Heading : Type 0 where
@@ -20,7 +27,7 @@ abbrev pub is_long : ColumnKind → Bool
 is_long SmallInt = false
 is_long Integer = false
 is_long BigInt = false
-is_long (Decimal digits scale) = nat_lt SHORT_DIGITS digits
+is_long (Decimal digits scale) = nat_lt short_digits digits
 is_long (VarChar most) = false
 
 -- some column is a decimal of over 18 digits
@@ -32,7 +39,7 @@ abbrev pub column_width : ColumnKind → ℕ
 column_width SmallInt = 3
 column_width Integer = 5
 column_width BigInt = 9
-column_width (Decimal digits scale) = if nat_lt SHORT_DIGITS digits then 17 else 9
+column_width (Decimal digits scale) = if nat_lt short_digits digits then 17 else 9
 column_width (VarChar most) = most + 2
 
 -- a decimal has 1 to 28 digits, and at most these after the point; a text has 1 to 255 bytes at most
@@ -40,7 +47,7 @@ abbrev pub is_kind : ColumnKind → Bool
 is_kind SmallInt = true
 is_kind Integer = true
 is_kind BigInt = true
-is_kind (Decimal digits scale) = nat_le 1 digits && nat_le digits MOST_DIGITS && nat_le scale digits
+is_kind (Decimal digits scale) = nat_le 1 digits && nat_le digits most_digits && nat_le scale digits
 is_kind (VarChar most) = nat_le 1 most && nat_le most 255
 
 -- the digits after the point

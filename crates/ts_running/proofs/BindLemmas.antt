@@ -5,7 +5,7 @@ use Rattle.ts_base.specs.declared.refusal.Refusal.TheVariants.{BadExpression}
 use Rattle.ts_base.specs.declared.fault.Trouble.{Trouble}
 use Rattle.ts_base.specs.declared.fault.Trouble.TheVariants.{Refused, Memory}
 use Rattle.ts_row.specs.declared.kind.Column.{Column as TheColumn}
-use Rattle.ts_expr.specs.Answer.{Answers, Fails}
+use Rattle.ts_base.specs.Answer.{Answers, Fails}
 use Rattle.ts_running.specs.declared.step.Step.{Step}
 use Rattle.ts_running.specs.declared.step.Step.TheVariants as step
 use Rattle.ts_running.specs.declared.bind.Source.{Source}

@@ -11,18 +11,17 @@ use Rattle.ts_text.specs.Blanks.{unblanked, are_blanks}
 use Rattle.ts_text.specs.Front.{Front}
 use Rattle.ts_text.specs.Phrase.{Read, Phrase, go_on, ◌>>=◌, give, behind_byte, a_sign, made, token, phrases, the_end, ended, outcome}
 use Rattle.ts_text.specs.Place.{everywhere, RefusesInPlace}
+use Rattle.ts_text.specs.Signs.{parted_by, if_sign, Signs, by_sign, onward_most, onward, joined_by, sign_or, sign_in}
 use Rattle.ts_text.specs.declared.token.TokenKind.{TokenKind}
 use Rattle.ts_text.specs.declared.token.TokenKind.TheVariants.{Sign}
-use Rattle.ts_text.proofs.CallerLemmas.{Alike, Any, Carries, Follows, Goes, IsSign, Shrinks, Stops, Yields, YieldsIn, begins, blanked, blanks_before, bind-ok, bytes_taking, in_bytes, sign_is, sign_left, sign_yields, split_same, stops-le, stops_here, token-found, token_is, unblanked_past}
+use Rattle.ts_text.proofs.CallerLemmas.{by_sign_some, by_sign_none, onward_enough, one_more, sign_absent, sign_end, sign_other, sign_there, Alike, Any, Carries, Follows, Goes, IsSign, Shrinks, Stops, Yields, YieldsIn, begins, blanked, blanks_before, bind-ok, bytes_taking, in_bytes, sign_is, sign_left, sign_yields, split_same, stops-le, stops_here, token-found, token_is, unblanked_past}
 use Rattle.ts_expr.proofs.EndLemmas.{Way, end_is}
 use Rattle.ts_running.specs.declared.step.Operation.{Operation}
 use Rattle.ts_running.specs.declared.step.Operation.TheVariants.{Plus, Less, Times}
 use Rattle.ts_running.specs.Expr.{Column, Digits, Opposite, Joined}
 use Rattle.ts_running.specs.Front.{expr_front}
-use Rattle.ts_running.specs.Signs.{parted_by, if_sign, Signs, by_sign, onward_most, onward, joined_by, sign_or, sign_in}
-use Rattle.ts_running.specs.Grammar.{Named, name_in, digits_as, digits_in, leaf_in, times_signs, sum_signs, term_of, sum_of, in_bracket, factor_in, expr_in, further, list_in}
+use Rattle.ts_running.specs.Grammar.{Named, joined, name_in, digits_as, digits_in, leaf_in, times_signs, sum_signs, term_of, sum_of, in_bracket, factor_in, expr_in, further, list_in}
 use Rattle.ts_running.proofs.FrontLemmas.{expr_laws, operator_sign, other_sign}
-use Rattle.ts_running.proofs.OnwardLemmas.{by_sign_some, by_sign_none, onward_enough, more}
 use Rattle.ts_running.proofs.GrammarLemmas.{name_yields, digits_yields, factor_shrinks, term_shrinks}
 
 -- bytes that can't be
@@ -232,16 +231,6 @@ end_closes = record {
 abbrev Quiet : {A : Type 0} → ℕ → Phrase A → Type 0
 Quiet {A} sign phrase = (bytes : List ℕ) (found : A × List ℕ) → phrase bytes ≡ Ok found → (left : ℕ) × (a_sign sign bytes ≡ Err left)
 
--- where another byte stands there is no sign
-pub sign_other : (wanted other : ℕ) (bytes rest : List ℕ) → (other == wanted) ≡ false → unblanked bytes ≡ other ∷ rest → a_sign wanted bytes ≡ Err (length (unblanked bytes))
-unfolding a_sign
-sign_other wanted other bytes rest differs is = ap (behind_byte wanted) is ∙ rw differs (ap (λ (l : List ℕ). Err (length l)) (sym is))
-
--- nor where nothing is left
-pub sign_end : (wanted : ℕ) (bytes : List ℕ) → unblanked bytes ≡ [] → a_sign wanted bytes ≡ Err 0
-unfolding a_sign
-sign_end wanted bytes none = ap (behind_byte wanted) none
-
 -- behind bytes that aren't all blank it plays no part what comes
 sign_within : (sign : ℕ) (before here there : List ℕ) (left : ℕ) → are_blanks before ≡ false → a_sign sign (before ++ here) ≡ Err left → (other : ℕ) × (a_sign sign (before ++ there) ≡ Err other)
 unfolding a_sign
@@ -253,12 +242,6 @@ sign_within sign (b ∷ before) here there left some is = elim (cases_Bool (is_b
     | inr differs ↦ (suc (length (before ++ there)), rw (f, differs) refl)
   ]
 ]
-
-if_there : {A : Type 0} (sign : ℕ) (first other : Phrase A) (bytes : List ℕ) (x : Unit {0} × List ℕ) → a_sign sign bytes ≡ Ok x → if_sign sign first other bytes ≡ first x.1
-if_there sign first other bytes x e = ap (λ (r : Read (Unit {0})). parted_by r first other bytes) e
-
-if_absent : {A : Type 0} (sign : ℕ) (first other : Phrase A) (bytes : List ℕ) (left : ℕ) → a_sign sign bytes ≡ Err left → if_sign sign first other bytes ≡ other bytes
-if_absent sign first other bytes left e = ap (λ (r : Read (Unit {0})). parted_by r first other bytes) e
 
 -- a phrase behind a sign, and another where it doesn't stand
 if_sign_closes : {B : Type 0} (sign : ℕ) → IsSign expr_front sign → (first other : Phrase B) → Closes first → Closes other → Quiet sign other → Closes (if_sign sign first other)
@@ -277,11 +260,11 @@ if_sign_closes {B} sign is_sign first other one two quiet = record {
   by_other : (before : List ℕ) → Way other before → Way (if_sign sign first other) before
   by_other before way =
       let none = quiet (before ++ 32 ∷ way.more) (way.found, []) way.reads in
-      record { more = way.more; found = way.found; reads = if_absent sign first other (before ++ 32 ∷ way.more) none.0 none.1 ∙ way.reads }
+      record { more = way.more; found = way.found; reads = sign_absent sign first other (before ++ 32 ∷ way.more) none.0 none.1 ∙ way.reads }
 
   err_sign : (bytes : List ℕ) (left : ℕ) (read : Read (Unit {0})) → a_sign sign bytes ≡ read → if_sign sign first other bytes ≡ Err left → Stops (Carries expr_front) bytes left
-  err_sign bytes left (Err before) e is = two.err bytes left (sym (if_absent sign first other bytes before e) ∙ is)
-  err_sign bytes left (Ok x) e is = stops_on bytes x.1 left (signs.ok bytes x e).1 (one.err x.1 left (sym (if_there sign first other bytes x e) ∙ is))
+  err_sign bytes left (Err before) e is = two.err bytes left (sym (sign_absent sign first other bytes before e) ∙ is)
+  err_sign bytes left (Ok x) e is = stops_on bytes x.1 left (signs.ok bytes x e).1 (one.err x.1 left (sym (sign_there sign first other bytes x.1 e) ∙ is))
 
   -- where it doesn't stand it doesn't with the same token either
   still_none : (before here there : List ℕ) → Alike expr_front here there → (left : ℕ) → a_sign sign (before ++ here) ≡ Err left → (left_there : ℕ) × (a_sign sign (before ++ there) ≡ Err left_there)
@@ -300,25 +283,25 @@ if_sign_closes {B} sign is_sign first other one two quiet = record {
   fails_sign : (before here there : List ℕ) → Alike expr_front here there → (read : Read (Unit {0})) → a_sign sign (before ++ here) ≡ read → if_sign sign first other (before ++ here) ≡ Err (length here) →
       if_sign sign first other (before ++ there) ≡ Err (length there)
   fails_sign before here there alike (Err left) e is =
-      let at : other (before ++ here) ≡ Err (length here) = sym (if_absent sign first other (before ++ here) left e) ∙ is in
+      let at : other (before ++ here) ≡ Err (length here) = sym (sign_absent sign first other (before ++ here) left e) ∙ is in
       let none = still_none before here there alike left e in
-      if_absent sign first other (before ++ there) none.0 none.1 ∙ two.fails before here there at alike
+      sign_absent sign first other (before ++ there) none.0 none.1 ∙ two.fails before here there at alike
   fails_sign before here there alike (Ok x) e is =
-      let at : first x.1 ≡ Err (length here) = sym (if_there sign first other (before ++ here) x e) ∙ is in
+      let at : first x.1 ≡ Err (length here) = sym (sign_there sign first other (before ++ here) x.1 e) ∙ is in
       let lies = passes (a_sign sign) signs before here x e (one.err x.1 (length here) at) in
-      if_there sign first other (before ++ there) (x.0, lies.middle ++ there) (lies.goes there (inl alike))
+      sign_there sign first other (before ++ there) (lies.middle ++ there) (lies.goes there (inl alike))
       ∙ one.fails lies.middle here there (ap first (sym lies.rest) ∙ at) alike
 
   goes_sign : (before here : List ℕ) (read : Read (Unit {0})) → a_sign sign (before ++ here) ≡ read → if_sign sign first other (before ++ here) ≡ Err (length here) → Way (if_sign sign first other) before
-  goes_sign before here (Err left) e is = by_other before (two.goes before here (sym (if_absent sign first other (before ++ here) left e) ∙ is))
+  goes_sign before here (Err left) e is = by_other before (two.goes before here (sym (sign_absent sign first other (before ++ here) left e) ∙ is))
   goes_sign before here (Ok x) e is =
-      let at : first x.1 ≡ Err (length here) = sym (if_there sign first other (before ++ here) x e) ∙ is in
+      let at : first x.1 ≡ Err (length here) = sym (sign_there sign first other (before ++ here) x.1 e) ∙ is in
       let lies = passes (a_sign sign) signs before here x e (one.err x.1 (length here) at) in
       let way = one.goes lies.middle here (ap first (sym lies.rest) ∙ at) in
       record {
         more = way.more;
         found = way.found;
-        reads = if_there sign first other (before ++ 32 ∷ way.more) (x.0, lies.middle ++ 32 ∷ way.more) (lies.goes (32 ∷ way.more) (inr (record { first = 32; more = way.more; split = refl; blank = refl }))) ∙ way.reads;
+        reads = sign_there sign first other (before ++ 32 ∷ way.more) (lies.middle ++ 32 ∷ way.more) (lies.goes (32 ∷ way.more) (inr (record { first = 32; more = way.more; split = refl; blank = refl }))) ∙ way.reads;
       }
 
 -- what begins with another sign
@@ -332,7 +315,7 @@ quiet_if : {A : Type 0} (sign other : ℕ) → (other == sign) ≡ false → (fi
 quiet_if {A} sign other differs first rest quiet bytes found is = by_read (a_sign other bytes) refl where
   by_read : (read : Read (Unit {0})) → a_sign other bytes ≡ read → (left : ℕ) × (a_sign sign bytes ≡ Err left)
   by_read (Ok x) e = (length (unblanked bytes), sign_other sign other bytes x.1 differs (sign_is other bytes x.1 e))
-  by_read (Err left) e = quiet bytes found (sym (if_absent other first rest bytes left e) ∙ is)
+  by_read (Err left) e = quiet bytes found (sym (sign_absent other first rest bytes left e) ∙ is)
 
 -- what begins with digits
 quiet_digits : {A : Type 0} (sign : ℕ) → IsSign expr_front sign → (phrase : ℕ → Phrase A) → Quiet sign (digits_in >>= phrase)
@@ -353,7 +336,7 @@ quiet_digits {A} sign is_sign phrase bytes found is = by_read (a_sign sign bytes
       absurd (no_sign token_there.kind token_there.text token_there.accepted (length token_there.text) at)
 
 -- none of some signs stands where this phrase is read
-abbrev QuietAll : {A : Type 0} → Signs → Phrase A → Type 0
+abbrev QuietAll : {A : Type 0} → Signs Operation → Phrase A → Type 0
 QuietAll {A} signs phrase = (bytes : List ℕ) (found : A × List ℕ) → phrase bytes ≡ Ok found → sign_in signs bytes ≡ None
 
 -- what comes behind an expression
@@ -376,67 +359,67 @@ behind_if {A} {B} sign first other last bytes = by_read (a_sign sign bytes) wher
 
 -- Expressions with signs between them, and then something that begins with none of these. Other signs may be asked not to
 -- stand there, by what closes one of the expressions.
-module _ {B : Type 0} (signs others : Signs) (phrase : Phrase Named) (shrinks : Shrinks phrase)
+module _ {B : Type 0} (signs others : Signs Operation) (phrase : Phrase Named) (shrinks : Shrinks phrase)
     (apart : (bytes : List ℕ) (x : Operation × List ℕ) → sign_in signs bytes ≡ Some x → sign_in others bytes ≡ None)
     (parts_close : (behind : Operation → Phrase B) (other : Phrase B) → ((operation : Operation) → Closes (behind operation)) → Closes other → QuietAll signs other → Closes (by_sign signs behind other))
     (closing : (next : Named → Phrase B) → ((e : Named) → Closes (next e)) → ((e : Named) → QuietAll others (next e)) → Closes (phrase >>= next))
     (last : Named → Phrase B) (last_closes : (e : Named) → Closes (last e)) (quiet : (e : Named) → QuietAll signs (last e)) (hush : (e : Named) → QuietAll others (last e)) where
   -- behind a sign
   abbrev next_behind : ℕ → Named → Operation → Phrase B
-  next_behind n e operation = phrase >>= (λ next. onward_most signs phrase n (Joined operation e next) >>= last)
+  next_behind n e operation = phrase >>= (λ next. onward_most joined signs phrase n (Joined operation e next) >>= last)
 
-  most_none : (n : ℕ) (e : Named) (bytes : List ℕ) → sign_in signs bytes ≡ None → (onward_most signs phrase n e >>= last) bytes ≡ last e bytes
+  most_none : (n : ℕ) (e : Named) (bytes : List ℕ) → sign_in signs bytes ≡ None → (onward_most joined signs phrase n e >>= last) bytes ≡ last e bytes
   most_none zero e bytes none = refl
-  most_none (suc n) e bytes none = ap (λ (r : Read Named). go_on r last) (by_sign_none signs (more signs phrase n e) (give e) bytes none)
+  most_none (suc n) e bytes none = ap (λ (r : Read Named). go_on r last) (by_sign_none signs (one_more joined signs phrase n e) (give e) bytes none)
 
-  most_some : (n : ℕ) (e : Named) (bytes : List ℕ) (x : Operation × List ℕ) → sign_in signs bytes ≡ Some x → (onward_most signs phrase (suc n) e >>= last) bytes ≡ next_behind n e x.0 x.1
+  most_some : (n : ℕ) (e : Named) (bytes : List ℕ) (x : Operation × List ℕ) → sign_in signs bytes ≡ Some x → (onward_most joined signs phrase (suc n) e >>= last) bytes ≡ next_behind n e x.0 x.1
   most_some n e bytes x there =
-      ap (λ (r : Read Named). go_on r last) (by_sign_some signs (more signs phrase n e) (give e) bytes x there)
-      ∙ behind_both phrase (λ next. onward_most signs phrase n (Joined x.0 e next)) last x.1
+      ap (λ (r : Read Named). go_on r last) (by_sign_some signs (one_more joined signs phrase n e) (give e) bytes x there)
+      ∙ behind_both phrase (λ next. onward_most joined signs phrase n (Joined x.0 e next)) last x.1
 
-  most_is : (n : ℕ) (e : Named) (bytes : List ℕ) → (onward_most signs phrase (suc n) e >>= last) bytes ≡ by_sign signs (next_behind n e) (last e) bytes
+  most_is : (n : ℕ) (e : Named) (bytes : List ℕ) → (onward_most joined signs phrase (suc n) e >>= last) bytes ≡ by_sign signs (next_behind n e) (last e) bytes
   most_is n e bytes = by_found (sign_in signs bytes) refl where
-    by_found : (found : Option (Operation × List ℕ)) → sign_in signs bytes ≡ found → (onward_most signs phrase (suc n) e >>= last) bytes ≡ by_sign signs (next_behind n e) (last e) bytes
+    by_found : (found : Option (Operation × List ℕ)) → sign_in signs bytes ≡ found → (onward_most joined signs phrase (suc n) e >>= last) bytes ≡ by_sign signs (next_behind n e) (last e) bytes
     by_found None none = most_none (suc n) e bytes none ∙ sym (by_sign_none signs (next_behind n e) (last e) bytes none)
     by_found (Some x) there = most_some n e bytes x there ∙ sym (by_sign_some signs (next_behind n e) (last e) bytes x there)
 
-  most_hush : (n : ℕ) (e : Named) → QuietAll others (onward_most signs phrase n e >>= last)
+  most_hush : (n : ℕ) (e : Named) → QuietAll others (onward_most joined signs phrase n e >>= last)
   most_hush zero e bytes found is = hush e bytes found is
   most_hush (suc n) e bytes found is = by_found (sign_in signs bytes) refl where
     by_found : (read : Option (Operation × List ℕ)) → sign_in signs bytes ≡ read → sign_in others bytes ≡ None
     by_found None none = hush e bytes found (sym (most_none (suc n) e bytes none) ∙ is)
     by_found (Some x) there = apart bytes x there
 
-  most_closes : (n : ℕ) (e : Named) → Closes (onward_most signs phrase n e >>= last)
-  most_closes zero e = closes_same (last e) (onward_most signs phrase 0 e >>= last) (λ bytes. refl) (last_closes e)
+  most_closes : (n : ℕ) (e : Named) → Closes (onward_most joined signs phrase n e >>= last)
+  most_closes zero e = closes_same (last e) (onward_most joined signs phrase 0 e >>= last) (λ bytes. refl) (last_closes e)
   most_closes (suc n) e =
-      closes_same (by_sign signs (next_behind n e) (last e)) (onward_most signs phrase (suc n) e >>= last) (most_is n e)
+      closes_same (by_sign signs (next_behind n e) (last e)) (onward_most joined signs phrase (suc n) e >>= last) (most_is n e)
       (parts_close (next_behind n e) (last e)
-      (λ operation. closing (λ next. onward_most signs phrase n (Joined operation e next) >>= last) (λ next. most_closes n (Joined operation e next)) (λ next. most_hush n (Joined operation e next)))
+      (λ operation. closing (λ next. onward_most joined signs phrase n (Joined operation e next) >>= last) (λ next. most_closes n (Joined operation e next)) (λ next. most_hush n (Joined operation e next)))
       (last_closes e) (quiet e))
 
   -- what is read of some is read of more
-  most_more : (n m : ℕ) → n ≤ m → (e : Named) (bytes : List ℕ) (found : B × List ℕ) → (onward_most signs phrase n e >>= last) bytes ≡ Ok found → (onward_most signs phrase m e >>= last) bytes ≡ Ok found
+  most_more : (n m : ℕ) → n ≤ m → (e : Named) (bytes : List ℕ) (found : B × List ℕ) → (onward_most joined signs phrase n e >>= last) bytes ≡ Ok found → (onward_most joined signs phrase m e >>= last) bytes ≡ Ok found
   most_more zero m le e bytes found is = most_none m e bytes (quiet e bytes found is) ∙ is
   most_more (suc n) zero le e bytes found is = absurd (omega arith)
   most_more (suc n) (suc m) le e bytes found is = by_found (λ from at got. most_more n m (omega arith) from at found got) (sign_in signs bytes) refl where
-    by_first : ((from : Named) (at : List ℕ) → (onward_most signs phrase n from >>= last) at ≡ Ok found → (onward_most signs phrase m from >>= last) at ≡ Ok found) → (x : Operation × List ℕ) (read : Read Named) → phrase x.1 ≡ read →
+    by_first : ((from : Named) (at : List ℕ) → (onward_most joined signs phrase n from >>= last) at ≡ Ok found → (onward_most joined signs phrase m from >>= last) at ≡ Ok found) → (x : Operation × List ℕ) (read : Read Named) → phrase x.1 ≡ read →
         next_behind n e x.0 x.1 ≡ Ok found → next_behind m e x.0 x.1 ≡ Ok found
     by_first again x (Err left) one at = absurd (let none = rw one at at in cc)
     by_first again x (Ok y) one at =
-        ap (λ (r : Read Named). go_on r (λ next. onward_most signs phrase m (Joined x.0 e next) >>= last)) one
-        ∙ again (Joined x.0 e y.0) y.1 (sym (ap (λ (r : Read Named). go_on r (λ next. onward_most signs phrase n (Joined x.0 e next) >>= last)) one) ∙ at)
+        ap (λ (r : Read Named). go_on r (λ next. onward_most joined signs phrase m (Joined x.0 e next) >>= last)) one
+        ∙ again (Joined x.0 e y.0) y.1 (sym (ap (λ (r : Read Named). go_on r (λ next. onward_most joined signs phrase n (Joined x.0 e next) >>= last)) one) ∙ at)
 
-    by_found : ((from : Named) (at : List ℕ) → (onward_most signs phrase n from >>= last) at ≡ Ok found → (onward_most signs phrase m from >>= last) at ≡ Ok found) → (read : Option (Operation × List ℕ)) →
-        sign_in signs bytes ≡ read → (onward_most signs phrase (suc m) e >>= last) bytes ≡ Ok found
+    by_found : ((from : Named) (at : List ℕ) → (onward_most joined signs phrase n from >>= last) at ≡ Ok found → (onward_most joined signs phrase m from >>= last) at ≡ Ok found) → (read : Option (Operation × List ℕ)) →
+        sign_in signs bytes ≡ read → (onward_most joined signs phrase (suc m) e >>= last) bytes ≡ Ok found
     by_found again None none = most_none (suc m) e bytes none ∙ sym (most_none (suc n) e bytes none) ∙ is
     by_found again (Some x) there = most_some m e bytes x there ∙ by_first again x (phrase x.1) refl (sym (most_some n e bytes x there) ∙ is)
 
-  enough : (e : Named) (bytes : List ℕ) (n : ℕ) → length bytes ≤ n → (onward signs phrase e >>= last) bytes ≡ (onward_most signs phrase n e >>= last) bytes
+  enough : (e : Named) (bytes : List ℕ) (n : ℕ) → length bytes ≤ n → (onward joined signs phrase e >>= last) bytes ≡ (onward_most joined signs phrase n e >>= last) bytes
   unfolding onward
-  enough e bytes n le = ap (λ (r : Read Named). go_on r last) (onward_enough signs phrase shrinks (length bytes) n e bytes (omega arith) le)
+  enough e bytes n le = ap (λ (r : Read Named). go_on r last) (onward_enough joined signs phrase shrinks (length bytes) n e bytes (omega arith) le)
 
-  onward_closes : (e : Named) → Closes (onward signs phrase e >>= last)
+  onward_closes : (e : Named) → Closes (onward joined signs phrase e >>= last)
   onward_closes e = record {
     err = λ bytes left is. (most_closes (length bytes) e).err bytes left (sym (enough e bytes (length bytes) (omega arith)) ∙ is);
     fails = λ before here there is alike.
@@ -447,18 +430,18 @@ module _ {B : Type 0} (signs others : Signs) (phrase : Phrase Named) (shrinks : 
         by_most before n ((most_closes n e).goes before here (sym (enough e (before ++ here) n (omega arith)) ∙ is));
     some = by_most [] 0 (most_closes 0 e).some;
   } where
-    by_most : (before : List ℕ) (n : ℕ) → Way (onward_most signs phrase n e >>= last) before → Way (onward signs phrase e >>= last) before
+    by_most : (before : List ℕ) (n : ℕ) → Way (onward_most joined signs phrase n e >>= last) before → Way (onward joined signs phrase e >>= last) before
     by_most before n way =
         let bytes : List ℕ = before ++ 32 ∷ way.more in
         record { more = way.more; found = way.found; reads = enough e bytes (n + length bytes) (omega arith) ∙ most_more n (n + length bytes) (omega arith) e bytes (way.found, []) way.reads }
 
-  onward_hush : (e : Named) → QuietAll others (onward signs phrase e >>= last)
+  onward_hush : (e : Named) → QuietAll others (onward joined signs phrase e >>= last)
   onward_hush e bytes found is = most_hush (length bytes) e bytes found (sym (enough e bytes (length bytes) (omega arith)) ∙ is)
 
-  joined_closes : Closes (joined_by signs phrase >>= last)
+  joined_closes : Closes (joined_by joined signs phrase >>= last)
   joined_closes =
-      closes_same (phrase >>= (λ first. onward signs phrase first >>= last)) (joined_by signs phrase >>= last) (behind_both phrase (λ first. onward signs phrase first) last)
-      (closing (λ first. onward signs phrase first >>= last) onward_closes onward_hush)
+      closes_same (phrase >>= (λ first. onward joined signs phrase first >>= last)) (joined_by joined signs phrase >>= last) (behind_both phrase (λ first. onward joined signs phrase first) last)
+      (closing (λ first. onward joined signs phrase first >>= last) onward_closes onward_hush)
 
 -- the signs of products and of sums
 
@@ -514,7 +497,7 @@ sum_closes : {B : Type 0} (factor : Phrase Named) → Shrinks factor → ((next 
     (last : Named → Phrase B) → ((e : Named) → Closes (last e)) → ((e : Named) → QuietAll times_signs (last e)) → ((e : Named) → QuietAll sum_signs (last e)) → Closes (sum_of factor >>= last)
 unfolding sum_of term_of
 sum_closes factor shrinks one last closes quiet_times quiet_sum =
-    joined_closes sum_signs times_signs (joined_by times_signs factor) (term_shrinks factor shrinks) sum_apart sums_close
+    joined_closes sum_signs times_signs (joined_by joined times_signs factor) (term_shrinks factor shrinks) sum_apart sums_close
     (λ next each quiet. joined_closes times_signs [] factor shrinks (λ bytes x there. refl) times_close (λ after each_after none. one after each_after) next each quiet (λ e bytes found is. refl))
     last closes quiet_sum quiet_times
 
@@ -703,8 +686,8 @@ listed_closes (suc n) = closes_same (if_sign 44 (headed expr_in n) nothing) (lis
     same : (bytes : List ℕ) → listed expr_in (suc n) bytes ≡ if_sign 44 (headed expr_in n) nothing bytes
     same bytes = by_read (a_sign 44 bytes) refl where
       by_read : (read : Read (Unit {0})) → a_sign 44 bytes ≡ read → listed expr_in (suc n) bytes ≡ if_sign 44 (headed expr_in n) nothing bytes
-      by_read (Ok x) e = listed_more expr_in n bytes x e ∙ sym (if_there 44 (headed expr_in n) nothing bytes x e)
-      by_read (Err left) e = listed_none expr_in (suc n) bytes left e ∙ sym (if_absent 44 (headed expr_in n) nothing bytes left e)
+      by_read (Ok x) e = listed_more expr_in n bytes x e ∙ sym (sign_there 44 (headed expr_in n) nothing bytes x.1 e)
+      by_read (Err left) e = listed_none expr_in (suc n) bytes left e ∙ sym (sign_absent 44 (headed expr_in n) nothing bytes left e)
 
 -- a whole text is refused in its place
 closed_in_place : {A : Type 0} (phrase : Phrase A) → Closes (ended [] phrase) → RefusesInPlace (everywhere expr_front) (λ text. outcome (length text) (ended [] phrase text))

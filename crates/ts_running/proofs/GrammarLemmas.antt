@@ -3,24 +3,22 @@ use Rattle.std.proofs.Common.{◌≡◌, ℕ, zero, suc, ◌-◌, ◌≤◌, Lis
 use Rattle.std.proofs.lemmas.List.{append-nil}
 use Rattle.std.proofs.lemmas.Grind.{flat_map-append}
 use Rattle.ts_text.specs.Misfit.{Refuses, RefusesExactly}
-use Rattle.ts_text.specs.Phrase.{Read, Phrase, go_on, ◌>>=◌, give, a_sign, made, phrases, onto, the_end, ended}
+use Rattle.ts_text.specs.Phrase.{Read, Phrase, go_on, ◌>>=◌, give, a_sign, made, phrases, onto, the_end, ended, name_as}
+use Rattle.ts_text.specs.Signs.{if_sign, Signs, onward, joined_by, sign_in}
 use Rattle.ts_text.specs.declared.misfit.Misfit.{Misfit}
 use Rattle.ts_text.specs.declared.misfit.Misfit.TheVariants.{At, Memory}
-use Rattle.ts_text.proofs.CallerLemmas.{Yields, Any, Shrinks, of_token, shrinks_of, sign_shrinks, pair-parts, bind-ok, exactly_refused}
+use Rattle.ts_text.proofs.CallerLemmas.{Yields, Any, Shrinks, of_token, shrinks_of, sign_shrinks, sign_there, sign_absent, made_shrinks, if_sign_shrinks, joined_shrinks, onward_none, onward_some, pair-parts, bind-ok, exactly_refused}
 use Rattle.ts_text.specs.Plain.{plain_front}
 use Rattle.ts_text.specs.declared.token.TokenKind.TheVariants.{Word, Number}
-use Rattle.ts_expr.specs.Grammar.{name_as}
 use Rattle.ts_expr.proofs.ListLemmas.{few_more, few_end, few_full}
-use Rattle.ts_running.specs.declared.list.TheConstants.{MOST_EXPRS}
 use Rattle.ts_running.specs.declared.step.Operation.{Operation}
 use Rattle.ts_running.specs.declared.step.Step.TheVariants as step
 use Rattle.ts_running.specs.Expr.{Column, Digits, Opposite, Joined, steps_of, all_steps}
 use Rattle.ts_running.specs.Front.{expr_front}
-use Rattle.ts_running.specs.Signs.{parted_by, if_sign, Signs, onward, joined_by, sign_in}
-use Rattle.ts_running.specs.Grammar.{Named, name_in, digits_as, digits_in, leaf_in, times_signs, sum_signs, term_of, sum_of, in_bracket, factor_in, expr_in, further, list_in}
+use Rattle.ts_running.specs.Grammar.{most_exprs, Named, joined, name_in, digits_as, digits_in, leaf_in, times_signs, sum_signs, term_of, sum_of, in_bracket, factor_in, expr_in, further, list_in}
 use Rattle.ts_running.specs.Reading.{NamedSteps, Reads, ReadsAll}
 use Rattle.ts_running.proofs.FrontLemmas.{expr_laws}
-use Rattle.ts_running.proofs.OnwardLemmas.{Onward, onward_none, onward_some, joined_shrinks}
+use Rattle.ts_running.proofs.OnwardLemmas.{Onward}
 
 -- what is read leaves no more bytes than there were
 
@@ -38,30 +36,13 @@ name_shrinks = shrinks_of expr_front Any name_in name_yields
 digits_shrinks : Shrinks digits_in
 digits_shrinks = shrinks_of expr_front Any digits_in digits_yields
 
-made_shrinks : {A B : Type 0} (phrase : Phrase A) (make : A → B) → Shrinks phrase → Shrinks (made phrase make)
-made_shrinks phrase make shrinks bytes found is =
-    let first = bind-ok (phrase bytes) (λ a. give (make a)) found is in
-    let same = pair-parts (make first.0.0) found.0 first.0.1 found.1 first.2 in
-    let less = shrinks bytes first.0 first.1 in
-    omega (arith, less, ap length same.1)
-
-if_sign_shrinks : {A : Type 0} (sign : ℕ) (behind other : Phrase A) → Shrinks behind → Shrinks other → Shrinks (if_sign sign behind other)
-if_sign_shrinks {A} sign behind other one two bytes found is = by_read (a_sign sign bytes) refl where
-  by_read : (read : Read (Unit {0})) → a_sign sign bytes ≡ read → length found.1 ≤ length bytes
-  by_read (Ok y) e =
-      let at = sym (ap (λ (r : Read (Unit {0})). parted_by r behind other bytes) e) ∙ is in
-      let less = sign_shrinks sign bytes y e in
-      let rest = one y.1 found at in
-      omega (arith, less, rest)
-  by_read (Err left) e = two bytes found (sym (ap (λ (r : Read (Unit {0})). parted_by r behind other bytes) e) ∙ is)
-
 leaf_shrinks : Shrinks leaf_in
 unfolding leaf_in
 leaf_shrinks = if_sign_shrinks 36 (made name_in (λ name. Column name)) (made digits_in (λ n. Digits n)) (made_shrinks name_in (λ name. Column name) name_shrinks) (made_shrinks digits_in (λ n. Digits n) digits_shrinks)
 
 pub sum_shrinks : (factor : Phrase Named) → Shrinks factor → Shrinks (sum_of factor)
 unfolding sum_of term_of
-sum_shrinks factor one = joined_shrinks sum_signs (term_of factor) (joined_shrinks times_signs factor one)
+sum_shrinks factor one = joined_shrinks joined sum_signs (term_of factor) (joined_shrinks joined times_signs factor one)
 
 bracket_shrinks : (factor : Phrase Named) → Shrinks factor → Shrinks (in_bracket factor)
 bracket_shrinks factor one bytes found is =
@@ -82,7 +63,7 @@ factor_shrinks (suc inside) =
 
 pub term_shrinks : (factor : Phrase Named) → Shrinks factor → Shrinks (term_of factor)
 unfolding term_of
-term_shrinks factor one = joined_shrinks times_signs factor one
+term_shrinks factor one = joined_shrinks joined times_signs factor one
 
 -- a misfit of what was read is one of the whole
 pub refuses_as : {A B : Type 0} (misfit : Misfit) (read : Read A) (whole : Read B) → ((left : ℕ) → read ≡ Err left → whole ≡ Err left) → Refuses misfit read → Refuses misfit whole
@@ -95,13 +76,6 @@ made_err {A} phrase make bytes left e = ap (λ (r : Read A). go_on r (λ found. 
 
 made_ok : {A B : Type 0} (phrase : Phrase A) (make : A → B) (bytes rest : List ℕ) (a : A) → phrase bytes ≡ Ok (a, rest) → made phrase make bytes ≡ Ok (make a, rest)
 made_ok {A} phrase make bytes rest a e = ap (λ (r : Read A). go_on r (λ found. give (make found))) e
-
--- behind a sign, and where it doesn't stand
-pub sign_there : {A : Type 0} (sign : ℕ) (behind other : Phrase A) (bytes rest : List ℕ) → a_sign sign bytes ≡ Ok (tt, rest) → if_sign sign behind other bytes ≡ behind rest
-sign_there sign behind other bytes rest e = ap (λ (r : Read (Unit {0})). parted_by r behind other bytes) e
-
-pub sign_absent : {A : Type 0} (sign : ℕ) (behind other : Phrase A) (bytes : List ℕ) (left : ℕ) → a_sign sign bytes ≡ Err left → if_sign sign behind other bytes ≡ other bytes
-sign_absent sign behind other bytes left e = ap (λ (r : Read (Unit {0})). parted_by r behind other bytes) e
 
 -- leaves
 
@@ -205,19 +179,19 @@ refused_same phrase other text misfit same r = refuses_as misfit (phrase text) (
 
 -- what goes on behind signs
 
-module _ (signs : Signs) (phrase : Phrase Named) (shrinks : Shrinks phrase) where
-  begins : (text rest : List ℕ) (old new : NamedSteps) → Reads phrase text old new rest → Onward (joined_by signs phrase) signs phrase text old new rest
-  begins text rest old new r = record { expr = r.expr; goes = ap (λ (x : Read Named). go_on x (λ first. onward signs phrase first)) r.read; steps = r.steps }
+module _ (signs : Signs Operation) (phrase : Phrase Named) (shrinks : Shrinks phrase) where
+  begins : (text rest : List ℕ) (old new : NamedSteps) → Reads phrase text old new rest → Onward (joined_by joined signs phrase) signs phrase text old new rest
+  begins text rest old new r = record { expr = r.expr; goes = ap (λ (x : Read Named). go_on x (λ first. onward joined signs phrase first)) r.read; steps = r.steps }
 
-  begins_refused : (text : List ℕ) (misfit : Misfit) → Refuses misfit (phrase text) → Refuses misfit (joined_by signs phrase text)
+  begins_refused : (text : List ℕ) (misfit : Misfit) → Refuses misfit (phrase text) → Refuses misfit (joined_by joined signs phrase text)
   begins_refused text misfit r =
-      refuses_as misfit (phrase text) (joined_by signs phrase text) (λ left e. ap (λ (x : Read Named). go_on x (λ first. onward signs phrase first)) e) r
+      refuses_as misfit (phrase text) (joined_by joined signs phrase text) (λ left e. ap (λ (x : Read Named). go_on x (λ first. onward joined signs phrase first)) e) r
 
   pub goes : (whole : Phrase Named) (text bytes rest : List ℕ) (x : Operation × List ℕ) (old middle read new : NamedSteps) → Onward whole signs phrase text old middle bytes → sign_in signs bytes ≡ Some x →
       Reads phrase x.1 middle read rest → new ≡ read ++ step.Joined x.0 ∷ [] → Onward whole signs phrase text old new rest
   goes whole text bytes rest x old middle read new o sign r is = record {
     expr = Joined x.0 o.expr r.expr;
-    goes = o.goes ∙ onward_some signs phrase shrinks o.expr bytes x sign ∙ ap (λ (y : Read Named). go_on y (λ next. onward signs phrase (Joined x.0 o.expr next))) r.read;
+    goes = o.goes ∙ onward_some joined signs phrase shrinks o.expr bytes x sign ∙ ap (λ (y : Read Named). go_on y (λ next. onward joined signs phrase (Joined x.0 o.expr next))) r.read;
     steps = is
         ∙ ap (λ (l : NamedSteps). l ++ step.Joined x.0 ∷ []) (r.steps ∙ ap (λ (l : NamedSteps). l ++ steps_of r.expr) o.steps)
         ∙ append_assoc (old ++ steps_of o.expr) (steps_of r.expr) (step.Joined x.0 ∷ [])
@@ -227,10 +201,10 @@ module _ (signs : Signs) (phrase : Phrase Named) (shrinks : Shrinks phrase) wher
   pub goes_refused : (whole : Phrase Named) (text bytes : List ℕ) (x : Operation × List ℕ) (old middle : NamedSteps) (misfit : Misfit) → Onward whole signs phrase text old middle bytes → sign_in signs bytes ≡ Some x →
       Refuses misfit (phrase x.1) → Refuses misfit (whole text)
   goes_refused whole text bytes x old middle misfit o sign r = refuses_as misfit (phrase x.1) (whole text)
-      (λ left e. o.goes ∙ onward_some signs phrase shrinks o.expr bytes x sign ∙ ap (λ (y : Read Named). go_on y (λ next. onward signs phrase (Joined x.0 o.expr next))) e) r
+      (λ left e. o.goes ∙ onward_some joined signs phrase shrinks o.expr bytes x sign ∙ ap (λ (y : Read Named). go_on y (λ next. onward joined signs phrase (Joined x.0 o.expr next))) e) r
 
   pub stays : (whole : Phrase Named) (text rest : List ℕ) (old new : NamedSteps) → Onward whole signs phrase text old new rest → sign_in signs rest ≡ None → Reads whole text old new rest
-  stays whole text rest old new o none = record { expr = o.expr; read = o.goes ∙ onward_none signs phrase o.expr rest none; steps = o.steps }
+  stays whole text rest old new o none = record { expr = o.expr; read = o.goes ∙ onward_none joined signs phrase o.expr rest none; steps = o.steps }
 
 -- terms and sums begin
 
@@ -305,9 +279,9 @@ more_full most m text rest old new is o = record {
 -- whole texts
 
 abbrev others : Named → Phrase (List Named)
-others first = further (MOST_EXPRS - 1) >>= (λ others. give (first ∷ others))
+others first = further (most_exprs - 1) >>= (λ others. give (first ∷ others))
 
-pub list_read : (text middle rest : List ℕ) (first all : NamedSteps) → Reads expr_in text [] first middle → ReadsAll (further (MOST_EXPRS - 1)) middle first all rest → the_end [] rest ≡ Ok (tt, []) →
+pub list_read : (text middle rest : List ℕ) (first all : NamedSteps) → Reads expr_in text [] first middle → ReadsAll (further (most_exprs - 1)) middle first all rest → the_end [] rest ≡ Ok (tt, []) →
     ReadsAll (ended [] list_in) text [] all []
 unfolding list_in
 list_read text middle rest first all r more end = record {
@@ -323,14 +297,14 @@ unfolding list_in
 first_refused text misfit r = refuses_as misfit (expr_in text) (ended [] list_in text)
     (λ left e. ap (λ (x : Read Named). go_on (go_on x others) (λ found. the_end [] >>= (λ end. give found))) e) r
 
-pub others_refused : (text middle : List ℕ) (first : NamedSteps) (misfit : Misfit) → Reads expr_in text [] first middle → Refuses misfit (further (MOST_EXPRS - 1) middle) → Refuses misfit (ended [] list_in text)
+pub others_refused : (text middle : List ℕ) (first : NamedSteps) (misfit : Misfit) → Reads expr_in text [] first middle → Refuses misfit (further (most_exprs - 1) middle) → Refuses misfit (ended [] list_in text)
 unfolding list_in
-others_refused text middle first misfit r more = refuses_as misfit (further (MOST_EXPRS - 1) middle) (ended [] list_in text)
+others_refused text middle first misfit r more = refuses_as misfit (further (most_exprs - 1) middle) (ended [] list_in text)
     (λ left e.
     ap (λ (x : Read Named). go_on (go_on x others) (λ found. the_end [] >>= (λ end. give found))) r.read
     ∙ ap (λ (x : Read (List Named)). go_on (go_on x (λ others. give (r.expr ∷ others))) (λ found. the_end [] >>= (λ end. give found))) e) more
 
-pub end_refused : (text middle rest : List ℕ) (first all : NamedSteps) (misfit : Misfit) → Reads expr_in text [] first middle → ReadsAll (further (MOST_EXPRS - 1)) middle first all rest →
+pub end_refused : (text middle rest : List ℕ) (first all : NamedSteps) (misfit : Misfit) → Reads expr_in text [] first middle → ReadsAll (further (most_exprs - 1)) middle first all rest →
     RefusesExactly misfit (the_end [] rest) → Refuses misfit (ended [] list_in text)
 unfolding list_in
 end_refused text middle rest first all misfit r more end = refuses_as misfit (the_end [] rest) (ended [] list_in text)

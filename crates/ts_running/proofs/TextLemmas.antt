@@ -10,25 +10,22 @@ use Rattle.ts_base.specs.StampText.{all_digits, number_of}
 use Rattle.ts_text.specs.Blanks.{unblanked}
 use Rattle.ts_text.specs.Digits.{magnitude_of}
 use Rattle.ts_text.specs.Parted.{IsParted}
-use Rattle.ts_text.specs.Phrase.{Read, Phrase, go_on, ◌>>=◌, give, a_sign, made, phrases, the_end, ended, outcome, token}
+use Rattle.ts_text.specs.Phrase.{Read, Phrase, go_on, ◌>>=◌, give, a_sign, made, phrases, the_end, ended, outcome, token, name_as}
 use Rattle.ts_text.specs.declared.token.TokenKind.{TokenKind}
 use Rattle.ts_text.specs.declared.token.TokenKind.TheVariants.{Word, Number, Text, Sign}
 use Rattle.ts_text.proofs.CallerLemmas.{bind-ok, digits_kept, digits-end, end-found, end-read, ends-token, pair-parts, parted-token, sign-found, sign-read, sign_is, stops-word, token-first, token-found, token-read, token_is}
 use Rattle.ts_expr.proofs.EndLemmas.{end_is}
-use Rattle.ts_running.proofs.EndLemmas.{sign_other, sign_end}
-use Rattle.ts_text.proofs.CallerLemmas.{StopsWord}
-use Rattle.ts_expr.specs.Grammar.{name_as}
+use Rattle.ts_text.proofs.CallerLemmas.{by_sign_some, by_sign_none, one_more, onward_none, onward_some, sign_absent, sign_end, sign_other, sign_there, StopsWord}
 use Rattle.ts_running.specs.declared.step.Operation.{Operation}
 use Rattle.ts_running.specs.declared.step.Operation.TheVariants.{Plus, Less, Times}
 use Rattle.ts_running.specs.Expr.{Column, Digits, Opposite, Joined}
 use Rattle.ts_text.specs.Plain.{is_sign, plain_front}
 use Rattle.ts_running.specs.Front.{is_operator, expr_front}
-use Rattle.ts_running.specs.Signs.{if_sign, Signs, onward_most, onward, joined_by, sign_or, sign_in}
-use Rattle.ts_running.specs.Grammar.{Named, name_in, digits_as, digits_in, leaf_in, times_signs, sum_signs, term_of, sum_of, in_bracket, factor_in, expr_in, further, list_in, written_exprs}
+use Rattle.ts_text.specs.Signs.{if_sign, Signs, onward_most, onward, joined_by, sign_or, sign_in}
+use Rattle.ts_running.specs.Grammar.{Named, joined, name_in, digits_as, digits_in, leaf_in, times_signs, sum_signs, term_of, sum_of, in_bracket, factor_in, expr_in, further, list_in, written_exprs}
 use Rattle.ts_running.specs.Spelling.{Level, Factor, Term, Sum, Tokens, IsWritten, column, digits, minus, brackets, factor, product, term, sum, difference, AreBehindCommas, AreWritten, IsListText}
 use Rattle.ts_running.proofs.FrontLemmas.{expr_laws, operator_front, plain_is, word_front, digits_front}
-use Rattle.ts_running.proofs.OnwardLemmas.{by_sign_some, by_sign_none, more, onward_none, onward_some}
-use Rattle.ts_running.proofs.GrammarLemmas.{factor_shrinks, term_shrinks, sign_there, sign_absent}
+use Rattle.ts_running.proofs.GrammarLemmas.{factor_shrinks, term_shrinks}
 
 -- what was read, and its tokens
 record Found (level : Level) (inside : ℕ) (text : List ℕ) (e : Named) (rest : List ℕ) : Type 0 where
@@ -151,30 +148,30 @@ signed sign text middle behind rest first second one is two more p =
     subst (λ (l : Tokens). IsParted l text) (sym (append_assoc first ((sign ∷ []) ∷ second) more))
     (one ((sign ∷ []) ∷ (second ++ more)) (sign-found sign middle behind (second ++ more) is (two more p)))
 
-module _ (signs : Signs) (phrase : Phrase Named) (high low : Level) (inside : ℕ)
+module _ (signs : Signs Operation) (phrase : Phrase Named) (high low : Level) (inside : ℕ)
     (one : (text rest : List ℕ) (e : Named) → phrase text ≡ Ok (e, rest) → Found low inside text e rest)
     (first : (text rest : List ℕ) (e : Named) → Found low inside text e rest → Found high inside text e rest)
     (both : (text middle rest : List ℕ) (x : Operation × List ℕ) (a b : Named) → Found high inside text a middle → sign_in signs middle ≡ Some x → Found low inside x.1 b rest → Found high inside text (Joined x.0 a b) rest) where
-  most_found : (n : ℕ) (before e : Named) (text middle rest : List ℕ) → Found high inside text before middle → onward_most signs phrase n before middle ≡ Ok (e, rest) → Found high inside text e rest
+  most_found : (n : ℕ) (before e : Named) (text middle rest : List ℕ) → Found high inside text before middle → onward_most joined signs phrase n before middle ≡ Ok (e, rest) → Found high inside text e rest
   most_found zero before e text middle rest f is =
       let same = pair-parts {A = Named} {B = List ℕ} before e middle rest is in found_same high inside text before e middle rest same.0 same.1 f
   most_found (suc n) before e text middle rest f is = by_found (λ from at g. most_found n from e text at rest g) (sign_in signs middle) refl where
-    by_phrase : ((from : Named) (at : List ℕ) → Found high inside text from at → onward_most signs phrase n from at ≡ Ok (e, rest) → Found high inside text e rest) → (x : Operation × List ℕ) → sign_in signs middle ≡ Some x →
-        (read : Read Named) → phrase x.1 ≡ read → go_on read (λ next. onward_most signs phrase n (Joined x.0 before next)) ≡ Ok (e, rest) → Found high inside text e rest
+    by_phrase : ((from : Named) (at : List ℕ) → Found high inside text from at → onward_most joined signs phrase n from at ≡ Ok (e, rest) → Found high inside text e rest) → (x : Operation × List ℕ) → sign_in signs middle ≡ Some x →
+        (read : Read Named) → phrase x.1 ≡ read → go_on read (λ next. onward_most joined signs phrase n (Joined x.0 before next)) ≡ Ok (e, rest) → Found high inside text e rest
     by_phrase again x sign (Err left) r at = absurd (cc)
     by_phrase again x sign (Ok y) r at = again (Joined x.0 before y.0) y.1 (both text middle y.1 x before y.0 f sign (one x.1 y.1 y.0 r)) at
 
-    by_found : ((from : Named) (at : List ℕ) → Found high inside text from at → onward_most signs phrase n from at ≡ Ok (e, rest) → Found high inside text e rest) → (found : Option (Operation × List ℕ)) →
+    by_found : ((from : Named) (at : List ℕ) → Found high inside text from at → onward_most joined signs phrase n from at ≡ Ok (e, rest) → Found high inside text e rest) → (found : Option (Operation × List ℕ)) →
         sign_in signs middle ≡ found → Found high inside text e rest
     by_found again None none =
-        let same = pair-parts {A = Named} {B = List ℕ} before e middle rest (sym (by_sign_none signs (more signs phrase n before) (give before) middle none) ∙ is) in
+        let same = pair-parts {A = Named} {B = List ℕ} before e middle rest (sym (by_sign_none signs (one_more joined signs phrase n before) (give before) middle none) ∙ is) in
         found_same high inside text before e middle rest same.0 same.1 f
-    by_found again (Some x) sign = by_phrase again x sign (phrase x.1) refl (sym (by_sign_some signs (more signs phrase n before) (give before) middle x sign) ∙ is)
+    by_found again (Some x) sign = by_phrase again x sign (phrase x.1) refl (sym (by_sign_some signs (one_more joined signs phrase n before) (give before) middle x sign) ∙ is)
 
-  joined_found : (text rest : List ℕ) (e : Named) → joined_by signs phrase text ≡ Ok (e, rest) → Found high inside text e rest
+  joined_found : (text rest : List ℕ) (e : Named) → joined_by joined signs phrase text ≡ Ok (e, rest) → Found high inside text e rest
   unfolding onward
   joined_found text rest e is =
-      let begin = bind-ok (phrase text) (λ e. onward signs phrase e) (e, rest) is in
+      let begin = bind-ok (phrase text) (λ e. onward joined signs phrase e) (e, rest) is in
       most_found (length begin.0.1) begin.0.0 e text begin.0.1 rest (first text begin.0.1 begin.0.0 (one text begin.0.1 begin.0.0 begin.1)) begin.2
 
 -- the sign that stands there
@@ -362,13 +359,13 @@ record ReadTo (phrase : Phrase Named) (text : List ℕ) (e : Named) (behind : To
   parted : IsParted behind rest
 
 -- the phrase has read an expression up to these tokens, and goes on from there
-record LeadsTo (whole : Phrase Named) (signs : Signs) (phrase : Phrase Named) (text : List ℕ) (e : Named) (behind : Tokens) : Type 0 where
+record LeadsTo (whole : Phrase Named) (signs : Signs Operation) (phrase : Phrase Named) (text : List ℕ) (e : Named) (behind : Tokens) : Type 0 where
   rest : List ℕ
-  goes : whole text ≡ onward signs phrase e rest
+  goes : whole text ≡ onward joined signs phrase e rest
   parted : IsParted behind rest
 
 -- none of some signs begins these tokens
-abbrev Without : Signs → Tokens → Type 0
+abbrev Without : Signs Operation → Tokens → Type 0
 Without signs behind = (text : List ℕ) → IsParted behind text → sign_in signs text ≡ None
 
 abbrev ReadAs : Level → ℕ → Named → Tokens → Type 0
@@ -485,7 +482,7 @@ bracket_read inside e tokens one text behind stops p =
     let q : IsParted (tokens ++ ((41 ∷ []) ∷ behind)) p.1 = subst (λ (l : Tokens). IsParted l p.1) (append_assoc tokens ((41 ∷ []) ∷ []) behind) p.4 in
     let inner = one p.1 ((41 ∷ []) ∷ behind) refl (without_times 41 behind refl refl) q in
     let all : sum_of (factor_in inside) p.1 ≡ Ok (e, inner.rest) =
-    inner.goes ∙ onward_none sum_signs (term_of (factor_in inside)) e inner.rest (without_sum 41 behind refl refl refl inner.rest inner.parted) in
+    inner.goes ∙ onward_none joined sum_signs (term_of (factor_in inside)) e inner.rest (without_sum 41 behind refl refl refl inner.rest inner.parted) in
     let close = sign-read 41 inner.rest behind refl inner.parted in
     record {
       rest = inner.parted.1;
@@ -500,7 +497,7 @@ factor_leads : (inside : ℕ) (e : Named) (tokens : Tokens) → ReadAs Factor in
 unfolding term_of
 factor_leads inside e tokens one text behind stops p =
     let inner = one text behind stops p in
-    record { rest = inner.rest; goes = ap (λ (r : Read Named). go_on r (λ first. onward times_signs (factor_in inside) first)) inner.value; parted = inner.parted }
+    record { rest = inner.rest; goes = ap (λ (r : Read Named). go_on r (λ first. onward joined times_signs (factor_in inside) first)) inner.value; parted = inner.parted }
 
 product_leads : (inside : ℕ) (a b : Named) (first second : Tokens) → ReadAs Term inside a first → ReadAs Factor inside b second → ReadAs Term inside (Joined Times a b) (first ++ (42 ∷ []) ∷ second)
 product_leads inside a b first second one two text behind stops p =
@@ -511,20 +508,20 @@ product_leads inside a b first second one two text behind stops p =
     record {
       rest = last.rest;
       goes = before.goes
-          ∙ onward_some times_signs (factor_in inside) (factor_shrinks inside) a before.rest (Times, before.parted.1) (ap (λ (r : Read (Unit {0})). sign_or Times r None) sign)
-          ∙ ap (λ (r : Read Named). go_on r (λ next. onward times_signs (factor_in inside) (Joined Times a next))) last.value;
+          ∙ onward_some joined times_signs (factor_in inside) (factor_shrinks inside) a before.rest (Times, before.parted.1) (ap (λ (r : Read (Unit {0})). sign_or Times r None) sign)
+          ∙ ap (λ (r : Read Named). go_on r (λ next. onward joined times_signs (factor_in inside) (Joined Times a next))) last.value;
       parted = last.parted;
     }
 
 -- a term that ends
 term_ends : (inside : ℕ) (e : Named) (text : List ℕ) (behind : Tokens) → Without times_signs behind → LeadsTo (term_of (factor_in inside)) times_signs (factor_in inside) text e behind → ReadTo (term_of (factor_in inside)) text e behind
-term_ends inside e text behind without t = record { rest = t.rest; value = t.goes ∙ onward_none times_signs (factor_in inside) e t.rest (without t.rest t.parted); parted = t.parted }
+term_ends inside e text behind without t = record { rest = t.rest; value = t.goes ∙ onward_none joined times_signs (factor_in inside) e t.rest (without t.rest t.parted); parted = t.parted }
 
 term_leads : (inside : ℕ) (e : Named) (tokens : Tokens) → ReadAs Term inside e tokens → ReadAs Sum inside e tokens
 unfolding sum_of
 term_leads inside e tokens one text behind stops without p =
     let inner = term_ends inside e text behind without (one text behind stops p) in
-    record { rest = inner.rest; goes = ap (λ (r : Read Named). go_on r (λ first. onward sum_signs (term_of (factor_in inside)) first)) inner.value; parted = inner.parted }
+    record { rest = inner.rest; goes = ap (λ (r : Read Named). go_on r (λ first. onward joined sum_signs (term_of (factor_in inside)) first)) inner.value; parted = inner.parted }
 
 sum_leads : (sign : ℕ) (operation : Operation) (inside : ℕ) (a b : Named) (first second : Tokens) → is_blank sign ≡ false → (sign == 42) ≡ false → continues_word sign ≡ false →
     ((bytes rest : List ℕ) → a_sign sign bytes ≡ Ok (tt, rest) → sign_in sum_signs bytes ≡ Some (operation, rest)) →
@@ -537,8 +534,8 @@ sum_leads sign operation inside a b first second shows differs ends is one two t
     record {
       rest = last.rest;
       goes = before.goes
-          ∙ onward_some sum_signs (term_of (factor_in inside)) (term_shrinks (factor_in inside) (factor_shrinks inside)) a before.rest (operation, before.parted.1) (is before.rest before.parted.1 there)
-          ∙ ap (λ (r : Read Named). go_on r (λ next. onward sum_signs (term_of (factor_in inside)) (Joined operation a next))) last.value;
+          ∙ onward_some joined sum_signs (term_of (factor_in inside)) (term_shrinks (factor_in inside) (factor_shrinks inside)) a before.rest (operation, before.parted.1) (is before.rest before.parted.1 there)
+          ∙ ap (λ (r : Read Named). go_on r (λ next. onward joined sum_signs (term_of (factor_in inside)) (Joined operation a next))) last.value;
       parted = last.parted;
     }
 
@@ -568,7 +565,7 @@ expr_read : (text : List ℕ) (e : Named) (tokens behind : Tokens) → IsWritten
 unfolding expr_in
 expr_read text e tokens behind w stops times sums p =
     let s = written_read Sum 63 e tokens w text behind stops times p in
-    record { rest = s.rest; value = s.goes ∙ onward_none sum_signs (term_of (factor_in 63)) e s.rest (sums s.rest s.parted); parted = s.parted }
+    record { rest = s.rest; value = s.goes ∙ onward_none joined sum_signs (term_of (factor_in 63)) e s.rest (sums s.rest s.parted); parted = s.parted }
 
 -- what stands behind commas begins with one, or is nothing
 record Ends (behind : Tokens) : Type 0 where

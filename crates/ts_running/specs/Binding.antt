@@ -11,10 +11,13 @@ use Rattle.ts_running.specs.declared.step.Operation.TheVariants.{Plus, Less, Tim
 use Rattle.ts_running.specs.declared.step.Step.{Step}
 use Rattle.ts_running.specs.declared.step.Step.TheVariants as step
 use Rattle.ts_running.specs.declared.bind.Source.{Source}
-use Rattle.ts_running.specs.declared.bind.TheConstants.{MOST_PART_SCALE}
 use Rattle.ts_running.specs.Expr.{Expr, Column, Digits, Opposite, Joined}
 use Rattle.ts_running.specs.Parts.{Parts, made_of_all}
 use Rattle.ts_running.specs.Grammar.{Named}
+
+-- the most digits after the point that a part of an expression may have
+abbrev pub most_part_scale : ℕ
+most_part_scale = 28
 
 -- an expression over columns that are given by their numbers and scales
 abbrev pub Sourced : Type 0
@@ -57,7 +60,7 @@ bound_exprs columns (e ∷ exprs) = with_two (λ x others. x ∷ others) (bound_
 
 -- a scale that a part may have
 abbrev pub scale_if_small : ℕ → Option ℕ
-scale_if_small scale = if nat_le scale MOST_PART_SCALE then Some scale else None
+scale_if_small scale = if nat_le scale most_part_scale then Some scale else None
 
 -- the scale of what is made of two numbers: the greater of theirs, for a product their sum
 abbrev pub joined_scale : Operation → ℕ → ℕ → ℕ

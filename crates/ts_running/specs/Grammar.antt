@@ -3,16 +3,26 @@ use Rattle.std.specs.Prelude.{ℕ, zero, suc, ◌-◌, nat_le, if◌then◌else�
 use Rattle.ts_base.specs.declared.refusal.Refusal.{Refusal}
 use Rattle.ts_base.specs.declared.refusal.Refusal.TheVariants.{BadExpression}
 use Rattle.ts_text.specs.Digits.{magnitude_of}
-use Rattle.ts_text.specs.Phrase.{Phrase, ◌>>=◌, give, token, a_sign, made, phrases, ended, outcome}
+use Rattle.ts_text.specs.Phrase.{Phrase, ◌>>=◌, give, token, a_sign, made, phrases, ended, outcome, name_as}
+use Rattle.ts_text.specs.Signs.{Signs, if_sign, joined_by}
 use Rattle.ts_text.specs.declared.token.TokenKind.{TokenKind}
 use Rattle.ts_text.specs.declared.token.TokenKind.TheVariants.{Number}
-use Rattle.ts_expr.specs.Grammar.{name_as}
+use Rattle.ts_running.specs.declared.step.Operation.{Operation}
 use Rattle.ts_running.specs.declared.step.Operation.TheVariants.{Plus, Less, Times}
-use Rattle.ts_running.specs.declared.read.TheConstants.{MOST_DIGITS, MOST_INSIDE}
-use Rattle.ts_running.specs.declared.list.TheConstants.{MOST_EXPRS}
-use Rattle.ts_running.specs.Expr.{Expr, Column, Digits, Opposite}
+use Rattle.ts_running.specs.Expr.{Expr, Column, Digits, Opposite, Joined}
 use Rattle.ts_running.specs.Front.{expr_front}
-use Rattle.ts_running.specs.Signs.{Signs, if_sign, joined_by}
+
+-- the most digits of a number
+abbrev pub most_digits : ℕ
+most_digits = 18
+
+-- how many factors may stand inside each other
+abbrev pub most_factors : ℕ
+most_factors = 64
+
+-- the most expressions of a list
+abbrev pub most_exprs : ℕ
+most_exprs = 32
 
 -- an expression over columns that are given by their names
 abbrev pub Named : Type 0
@@ -24,7 +34,7 @@ name_in = token expr_front name_as
 
 -- 1 to 18 digits
 abbrev pub digits_as : TokenKind → List ℕ → Option ℕ
-digits_as Number digits = if nat_le (length digits) MOST_DIGITS then Some (magnitude_of digits) else None
+digits_as Number digits = if nat_le (length digits) most_digits then Some (magnitude_of digits) else None
 digits_as kind token = None
 
 -- the number that they write
@@ -36,19 +46,23 @@ unfoldable pub leaf_in : Phrase Named
 leaf_in = if_sign 36 (made name_in (λ name. Column name)) (made digits_in (λ n. Digits n))
 
 -- the signs between the factors of a term, and between the terms of a sum
-abbrev pub times_signs : Signs
+abbrev pub times_signs : Signs Operation
 times_signs = (42, Times) ∷ []
 
-abbrev pub sum_signs : Signs
+abbrev pub sum_signs : Signs Operation
 sum_signs = (43, Plus) ∷ (45, Less) ∷ []
+
+-- two expressions, and what stands between them
+abbrev pub joined : Operation → Named → Named → Named
+joined operation before next = Joined operation before next
 
 -- factors joined by `*`
 unfoldable pub term_of : Phrase Named → Phrase Named
-term_of factor = joined_by times_signs factor
+term_of factor = joined_by joined times_signs factor
 
 -- terms joined by `+` and `-`
 unfoldable pub sum_of : Phrase Named → Phrase Named
-sum_of factor = joined_by sum_signs (term_of factor)
+sum_of factor = joined_by joined sum_signs (term_of factor)
 
 -- a sum up to the bracket that closes it
 abbrev pub in_bracket : Phrase Named → Phrase Named
@@ -65,7 +79,7 @@ factor_in (suc inside) =
 
 -- an expression
 unfoldable pub expr_in : Phrase Named
-expr_in = sum_of (factor_in MOST_INSIDE)
+expr_in = sum_of (factor_in (most_factors - 1))
 
 -- at most so many more, each behind a comma
 unfoldable pub further : ℕ → Phrase (List Named)
@@ -75,7 +89,7 @@ further most = phrases expr_in most
 unfoldable pub list_in : Phrase (List Named)
 list_in = do
   first ← expr_in
-  others ← further (MOST_EXPRS - 1)
+  others ← further (most_exprs - 1)
   give (first ∷ others)
 
 -- a text that is a list's, or the place of what can't stand there

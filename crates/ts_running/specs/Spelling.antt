@@ -1,13 +1,11 @@
 -- Which tokens are those of expressions.
-use Rattle.std.specs.Prelude.{◌≡◌, ℕ, suc, ◌≤◌, List, [], ◌∷◌, ◌++◌, length, true}
+use Rattle.std.specs.Prelude.{◌≡◌, ℕ, suc, ◌-◌, ◌≤◌, List, [], ◌∷◌, ◌++◌, length, true}
 use Rattle.ts_base.specs.Name.{is_name}
 use Rattle.ts_base.specs.StampText.{all_digits, number_of}
 use Rattle.ts_text.specs.Parted.{IsParted}
 use Rattle.ts_running.specs.declared.step.Operation.TheVariants.{Plus, Less, Times}
-use Rattle.ts_running.specs.declared.read.TheConstants.{MOST_DIGITS, MOST_INSIDE}
-use Rattle.ts_running.specs.declared.list.TheConstants.{MOST_EXPRS}
 use Rattle.ts_running.specs.Expr.{Column, Digits, Opposite, Joined}
-use Rattle.ts_running.specs.Grammar.{Named}
+use Rattle.ts_running.specs.Grammar.{most_digits, most_factors, most_exprs, Named}
 
 -- what an expression is written as: a factor, factors joined by `*`, or terms joined by `+` and `-`
 pub data Level : Type 0 where
@@ -22,7 +20,7 @@ Tokens = List (List ℕ)
 pub data IsWritten : Level → ℕ → Named → Tokens → Type 0 where
   column : {inside : ℕ} {name : List ℕ} → is_name name ≡ true →
       IsWritten Factor inside (Column name) ((36 ∷ []) ∷ name ∷ [])
-  digits : {inside : ℕ} {token : List ℕ} → all_digits token ≡ true → 1 ≤ length token → length token ≤ MOST_DIGITS →
+  digits : {inside : ℕ} {token : List ℕ} → all_digits token ≡ true → 1 ≤ length token → length token ≤ most_digits →
       IsWritten Factor inside (Digits (number_of token)) (token ∷ [])
   minus : {inside : ℕ} {e : Named} {tokens : Tokens} → IsWritten Factor inside e tokens →
       IsWritten Factor (suc inside) (Opposite e) ((45 ∷ []) ∷ tokens)
@@ -45,19 +43,19 @@ pub data IsWritten : Level → ℕ → Named → Tokens → Type 0 where
 abbrev pub AreBehindCommas : List Named → Tokens → Type 0
 AreBehindCommas [] tokens = tokens ≡ []
 AreBehindCommas (e ∷ exprs) tokens =
-    (first : Tokens) × (rest : Tokens) × IsWritten Sum MOST_INSIDE e first × AreBehindCommas exprs rest
+    (first : Tokens) × (rest : Tokens) × IsWritten Sum (most_factors - 1) e first × AreBehindCommas exprs rest
     × (tokens ≡ (44 ∷ []) ∷ (first ++ rest))
 
 -- these write expressions with commas between them, and one at least
 abbrev pub AreWritten : List Named → Tokens → Type 0
 AreWritten [] tokens = ⊥
 AreWritten (e ∷ exprs) tokens =
-    (first : Tokens) × (rest : Tokens) × IsWritten Sum MOST_INSIDE e first × AreBehindCommas exprs rest
+    (first : Tokens) × (rest : Tokens) × IsWritten Sum (most_factors - 1) e first × AreBehindCommas exprs rest
     × (tokens ≡ first ++ rest)
 
 -- the text is that of a list of these expressions
 pub record IsListText (exprs : List Named) (text : List ℕ) : Type 0 where
   pub tokens : Tokens
-  pub few : length exprs ≤ MOST_EXPRS
+  pub few : length exprs ≤ most_exprs
   pub written : AreWritten exprs tokens
   pub parted : IsParted tokens text

@@ -2,11 +2,10 @@
 ghost use Rattle.std.specs.Prelude.{◌≡◌, ◌≤◌, All, ◌≤◌, Ok, Some, IfOk, IfErr, IsTrue};
 ghost use Rattle.std.specs.List.{list_all};
 ghost use Rattle.ts_row.specs.RowType.{is_kind};
-ghost use Rattle.ts_expr.specs.Answer.{Answers, Fails};
-ghost use Rattle.ts_running.specs.declared.bind.TheConstants.{MOST_PART_SCALE};
+ghost use Rattle.ts_base.specs.Answer.{Answers, Fails};
 ghost use Rattle.ts_running.specs.Expr.{all_steps};
 ghost use Rattle.ts_running.specs.Parts.{made_of_all};
-ghost use Rattle.ts_running.specs.Binding.{binding, part_scales};
+ghost use Rattle.ts_running.specs.Binding.{most_part_scale, binding, part_scales};
 ghost use Rattle.ts_running.specs.Binding;
 
 use crate::list::ExprList;
@@ -71,7 +70,7 @@ impl BoundExpr {
     /// for a product their sum.
     pub fn scales(&self) -> &[u8]
         ensures value { made_of_all part_scales self.now ≡ Some result.now }
-        ensures most { All (λ s. s ≤ MOST_PART_SCALE) result.now }
+        ensures most { All (λ s. s ≤ most_part_scale) result.now }
     {
         self.scales.as_slice()
     }

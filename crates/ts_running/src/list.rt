@@ -1,7 +1,7 @@
 // Lists of expressions as texts: `$v*$w+1, -$v`.
 ghost use Rattle.std.specs.Prelude.{◌≡◌, ◌<◌, ◌^◌, ◌↔◌, ℕ, List, Ok, length};
 ghost use Rattle.ts_text.specs.Place.{everywhere, RefusesInPlace};
-ghost use Rattle.ts_expr.specs.Answer.{Answers};
+ghost use Rattle.ts_base.specs.Answer.{Answers};
 ghost use Rattle.ts_running.specs.Expr.{all_steps};
 ghost use Rattle.ts_running.specs.Front.{expr_front};
 ghost use Rattle.ts_running.specs.Grammar.{Named, read_exprs, written_exprs};

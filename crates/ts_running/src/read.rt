@@ -3,7 +3,7 @@ ghost use Rattle.std.specs.Prelude.{◌≡◌, ◌-◌, ◌<◌, ◌≤◌, ◌^
 ghost use Rattle.ts_text.specs.Digits.{magnitude_of};
 ghost use Rattle.ts_text.specs.Misfit.{Refuses, RefusesExactly};
 ghost use Rattle.ts_text.specs.Phrase.{ended};
-ghost use Rattle.ts_running.specs.Signs.{sign_in};
+ghost use Rattle.ts_text.specs.Signs.{sign_in};
 ghost use Rattle.ts_running.specs.Grammar;
 ghost use Rattle.ts_running.specs.Reading.{Reads, ReadsAll};
 
@@ -56,7 +56,7 @@ fn digits_in(text: &[u8]) -> Result<(u64, &[u8]), Misfit>
 
 // The number that at most 18 bytes write.
 fn small_number(digits: &[u8]) -> u64
-    requires { length digits.now ≤ MOST_DIGITS }
+    requires { length digits.now ≤ Grammar.most_digits }
     ensures { result ≡ magnitude_of digits.now }
 {
     let number = magnitude(digits);
@@ -197,8 +197,9 @@ fn read_more<'a>(
     text: &'a [u8],
 ) -> Result<&'a [u8], Misfit>
     ensures ok { IfOk result
-        (λ rest. ReadsAll (Grammar.further (MOST_EXPRS - 1)) text.now steps.old.items steps.new.items rest.now) }
-    ensures cause { IfErr result (λ misfit. Refuses misfit (Grammar.further (MOST_EXPRS - 1) text.now)) }
+        (λ rest. ReadsAll (Grammar.further (Grammar.most_exprs - 1)) text.now steps.old.items steps.new.items
+            rest.now) }
+    ensures cause { IfErr result (λ misfit. Refuses misfit (Grammar.further (Grammar.most_exprs - 1) text.now)) }
 {
     let mut rest = text;
     for _ in 1..MOST_EXPRS {

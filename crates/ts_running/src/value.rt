@@ -3,11 +3,11 @@ ghost use Rattle.std.specs.Prelude.{◌≡◌, ◌≤◌, ◌^◌, ◌+ℤ◌, �
 ghost use Rattle.std.specs.Option.{option_and_then};
 ghost use Rattle.ts_running.specs.declared.step.Operation.TheVariants.{Plus, Less, Times};
 ghost use Rattle.ts_running.specs.Parts.{onto_stack, over_one, over_two, after_step, after_steps};
-ghost use Rattle.ts_running.specs.Binding.{part_scales, joined_scale};
+ghost use Rattle.ts_running.specs.Binding.{most_part_scale, part_scales, joined_scale};
 ghost use Rattle.ts_running.specs.Operands.{checked, opposite_of, numbers, value_if_any, applied, Applies, ApplyFails};
 ghost use Rattle.ts_running.specs.Operands;
 
-use crate::bind::{BoundExpr, MOST_PART_SCALE, Source};
+use crate::bind::{BoundExpr, Source};
 use crate::fault::ApplyError;
 use crate::step::{Operation, Step};
 use std::alloc::{AllocError, Global};
@@ -128,7 +128,7 @@ fn opposite_of(a: Operand) -> Option<Operand>
 }
 
 fn joined_of(operation: Operation, a: Operand, b: Operand) -> Option<Operand>
-    requires { joined_scale operation a.scale b.scale ≤ MOST_PART_SCALE }
+    requires { joined_scale operation a.scale b.scale ≤ most_part_scale }
     ensures value { result ≡ Operands.joined_of operation a b }
     ensures scale { IfSome result (λ made. made.scale ≡ joined_scale operation a.scale b.scale) }
 {
@@ -140,7 +140,7 @@ fn joined_of(operation: Operation, a: Operand, b: Operand) -> Option<Operand>
 }
 
 fn added(a: Operand, b: Operand) -> Option<Operand>
-    requires { joined_scale Plus a.scale b.scale ≤ MOST_PART_SCALE }
+    requires { joined_scale Plus a.scale b.scale ≤ most_part_scale }
     ensures value { result ≡ Operands.joined_of Plus a b }
     ensures scale { IfSome result (λ made. made.scale ≡ joined_scale Plus a.scale b.scale) }
 {
@@ -155,7 +155,7 @@ fn added(a: Operand, b: Operand) -> Option<Operand>
 }
 
 fn taken_away(a: Operand, b: Operand) -> Option<Operand>
-    requires { joined_scale Less a.scale b.scale ≤ MOST_PART_SCALE }
+    requires { joined_scale Less a.scale b.scale ≤ most_part_scale }
     ensures value { result ≡ Operands.joined_of Less a b }
     ensures scale { IfSome result (λ made. made.scale ≡ joined_scale Less a.scale b.scale) }
 {
@@ -170,7 +170,7 @@ fn taken_away(a: Operand, b: Operand) -> Option<Operand>
 }
 
 fn multiplied(a: Operand, b: Operand) -> Option<Operand>
-    requires { joined_scale Times a.scale b.scale ≤ MOST_PART_SCALE }
+    requires { joined_scale Times a.scale b.scale ≤ most_part_scale }
     ensures value { result ≡ Operands.joined_of Times a b }
     ensures scale { IfSome result (λ made. made.scale ≡ joined_scale Times a.scale b.scale) }
 {
@@ -184,14 +184,14 @@ fn multiplied(a: Operand, b: Operand) -> Option<Operand>
 
 // A number with so many more digits after the point.
 fn brought(digits: u8, number: i128) -> Option<i128>
-    requires { digits ≤ MOST_PART_SCALE }
+    requires { digits ≤ most_part_scale }
     ensures { result ≡ Operands.brought digits number }
 {
     product(number, power_of_ten(digits))
 }
 
 fn power_of_ten(digits: u8) -> i128
-    requires { digits ≤ MOST_PART_SCALE }
+    requires { digits ≤ most_part_scale }
     ensures { result ≡ pos (10 ^ digits) }
 {
     let power = 10u128.pow(digits as u32);

@@ -1,6 +1,6 @@
 // What an aggregate list makes of elements, said in lines.
 ghost use Rattle.std.specs.Prelude.{◌≡◌, ◌↔◌, ◌⊎◌, ◌≤◌, [], ◌∷◌, ◌++◌, All, IsTrue, OnOk, length};
-ghost use Rattle.ts_expr.specs.declared.item.TheConstants.{MOST_SCALE};
+ghost use Rattle.ts_expr.specs.Binding.{most_scale};
 ghost use Rattle.ts_answer.specs.Reply.{scaled_text, folded_line, folded_text, series_folded_line};
 
 use crate::day_text::DayText;
@@ -9,7 +9,6 @@ use crate::say_values::{say_count, say_quoted};
 use std::alloc::AllocError;
 use ts_base::{Key, Reply, Stamp};
 use ts_entry::ElementVisitor;
-use ts_expr::MOST_SCALE;
 use ts_row::{Row, Value};
 
 /// The lines of what a list makes, behind what a reply has said: each element that it is handed is said in a line of its own, its numbers
@@ -19,13 +18,13 @@ pub struct FoldedLines<'a> {
     out: &'a mut Reply,
     scales: &'a [u8],
     day: DayText,
-    ghost most: { All (λ s. s ≤ MOST_SCALE) scales.now },
+    ghost most: { All (λ s. s ≤ most_scale) scales.now },
 }
 
 impl<'a> FoldedLines<'a> {
     /// None so far.
     pub fn behind(out: &'a mut Reply, scales: &'a [u8]) -> FoldedLines<'a>
-        requires { All (λ s. s ≤ MOST_SCALE) scales.now }
+        requires { All (λ s. s ≤ most_scale) scales.now }
         ensures same { result.out.ghost_name ≡ out.entry.ghost_name }
         ensures none { result.out.now ≡ out.old }
         ensures scales { result.scales.now ≡ scales.now }
@@ -67,7 +66,7 @@ impl<'a> ElementVisitor for FoldedLines<'a> {
 /// Says what a list makes of elements as one row, and that it is one.
 #[tactic(auto, unfolding(ts_answer::specs::Reply::folded_text))]
 pub fn say_folded(out: &mut Reply, scales: &[u8], stamp: Stamp, row: &Row) -> Result<(), AllocError>
-    requires { All (λ s. s ≤ MOST_SCALE) scales.now }
+    requires { All (λ s. s ≤ most_scale) scales.now }
     ensures { OnOk result (out.new ≡ out.old ++ folded_text scales.now ((stamp, row.now) ∷ [])) }
 {
     let mut day = DayText::first();
@@ -83,7 +82,7 @@ pub fn say_series_folded(
     scales: &[u8],
     row: &Row,
 ) -> Result<(), AllocError>
-    requires { All (λ s. s ≤ MOST_SCALE) scales.now }
+    requires { All (λ s. s ≤ most_scale) scales.now }
     ensures { OnOk result (out.new ≡ out.old ++ series_folded_line scales.now (key.now, row.now)) }
 {
     out.extend_from_slice(b"'")?;
@@ -102,7 +101,7 @@ fn say_folded_line(
     stamp: Stamp,
     row: &Row,
 ) -> Result<(), AllocError>
-    requires { All (λ s. s ≤ MOST_SCALE) scales.now }
+    requires { All (λ s. s ≤ most_scale) scales.now }
     ensures { OnOk result (out.new ≡ out.old ++ folded_line scales.now (stamp, row.now)) }
 {
     day.say(out, stamp)?;
@@ -112,7 +111,7 @@ fn say_folded_line(
 
 // Says values, each number with as many digits after the point as its scale, with commas between them.
 fn say_scaled_values(out: &mut Reply, scales: &[u8], values: &[Value]) -> Result<(), AllocError>
-    requires { All (λ s. s ≤ MOST_SCALE) scales.now }
+    requires { All (λ s. s ≤ most_scale) scales.now }
     ensures { OnOk result (out.new ≡ out.old ++ scaled_text scales.now values.now) }
 {
     let Some((scale, scales)) = scales.split_first() else {

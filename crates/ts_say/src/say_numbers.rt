@@ -1,11 +1,11 @@
 // Numbers with digits after a point.
 ghost use Rattle.std.specs.Prelude.{◌≡◌, ◌≤◌, ◌∷◌, ◌++◌, drop, OnOk};
 ghost use Rattle.ts_row.specs.Printed.{number_text, size_text};
+ghost use Rattle.ts_expr.specs.Binding.{most_scale};
 
 use itoa::{Buffer, Integer};
 use std::alloc::AllocError;
 use ts_base::Reply;
-use ts_expr::MOST_SCALE;
 use ts_row::SHORT_DIGITS;
 
 /// Says a whole number.
@@ -42,7 +42,7 @@ fn say_short_size(out: &mut Reply, size: u64, scale: u32) -> Result<(), AllocErr
 
 /// Says a number of 128 bits with so many digits after the point.
 pub(crate) fn say_long_decimal(out: &mut Reply, number: i128, scale: u32) -> Result<(), AllocError>
-    requires { scale ≤ MOST_SCALE }
+    requires { scale ≤ most_scale }
     ensures { OnOk result (out.new ≡ out.old ++ number_text scale number) }
 {
     if number < 0 {
@@ -54,7 +54,7 @@ pub(crate) fn say_long_decimal(out: &mut Reply, number: i128, scale: u32) -> Res
 // Says a size of 128 bits with so many digits after the point.
 #[tactic(auto, using(ts_row::proofs::LiteralLemmas::powers, crate::proofs::NumberLemmas::bounds))]
 fn say_long_size(out: &mut Reply, size: u128, scale: u32) -> Result<(), AllocError>
-    requires { scale ≤ MOST_SCALE }
+    requires { scale ≤ most_scale }
     ensures { OnOk result (out.new ≡ out.old ++ size_text scale size) }
 {
     if scale == 0 {

@@ -7,6 +7,7 @@ ghost use Rattle.ts_row.specs.RowType.{is_kind};
 ghost use Rattle.ts_row.specs.Row.{fits, visible};
 ghost use Rattle.ts_row.specs.Printed.{number_text, value_text, values_text};
 ghost use Rattle.ts_combine.specs.Combine.{values_or_nulls};
+ghost use Rattle.ts_expr.specs.Binding.{most_scale};
 ghost use Rattle.ts_answer.specs.Reply.{element_line};
 
 use crate::day_text::DayText;
@@ -14,7 +15,6 @@ use crate::say_numbers::{say_long_decimal, say_short_decimal};
 use crate::say_values::say_quoted;
 use std::alloc::AllocError;
 use ts_base::{Reply, Stamp};
-use ts_expr::MOST_SCALE;
 use ts_row::{Column, Row, RowType, SHORT_DIGITS, Value};
 
 /// Says an element in a line.
@@ -113,7 +113,7 @@ fn say_nulls(out: &mut Reply, columns: &[Column]) -> Result<(), AllocError>
 
 /// Says a value, a number with so many digits after the point.
 pub(crate) fn say_value(out: &mut Reply, value: &Value, scale: u32) -> Result<(), AllocError>
-    requires { scale ≤ MOST_SCALE }
+    requires { scale ≤ most_scale }
     ensures { OnOk result (out.new ≡ out.old ++ value_text scale value.now) }
 {
     match value {
@@ -129,7 +129,7 @@ pub(crate) fn say_value(out: &mut Reply, value: &Value, scale: u32) -> Result<()
 
 // Says a number with so many digits after the point.
 fn say_scaled(out: &mut Reply, number: i128, scale: u32) -> Result<(), AllocError>
-    requires { scale ≤ MOST_SCALE }
+    requires { scale ≤ most_scale }
     ensures { OnOk result (out.new ≡ out.old ++ number_text scale number) }
 {
     match i64::try_from(number) {

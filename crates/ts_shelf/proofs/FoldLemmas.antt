@@ -11,7 +11,7 @@ use Rattle.ts_space.specs.Directory.{places_of}
 use Rattle.ts_chain.specs.Range.{within_range}
 use Rattle.ts_offset.specs.declared.shape.Shape.{Shape}
 use Rattle.ts_expr.specs.declared.item.Item.{Item}
-use Rattle.ts_expr.specs.Answer.{Answers}
+use Rattle.ts_base.specs.Answer.{Answers}
 use Rattle.ts_expr.specs.Grammar.{read_list}
 use Rattle.ts_expr.specs.Binding.{Binding, binding}
 use Rattle.ts_expr.specs.Fold.{folded_row}

@@ -2,7 +2,7 @@ use Rattle.std.proofs.Common.{◌≡◌, true, nat_lt, ℤ, pos, ◌+ℤ◌, ℕ
 use Rattle.std.specs.List.{list_all}
 use Rattle.std.proofs.lemmas.Bool.Decides.{nat_tests}
 use Rattle.ts_row.specs.declared.kind.ColumnKind.{ColumnKind}
-use Rattle.ts_row.specs.declared.kind.TheConstants.{SHORT_DIGITS}
+use Rattle.ts_row.specs.RowType.{short_digits}
 use Rattle.ts_row.specs.Decoding.{number_in}
 use Rattle.ts_expr.specs.Fold.{total}
 use Rattle.ts_aggregate.specs.Column.{found, read_values, read_numbers, long_number, is_small}
@@ -23,7 +23,7 @@ returns-in-Decimal-clause-value c = λ small few.
     let all : List (List ℕ) = found cells in
     let is = c.in-Decimal.is in
     let over = c.if-digits-gt-SHORT_DIGITS.true in
-    let long : nat_lt SHORT_DIGITS c.in-Decimal.digits ≡ true = grind (arith, nat_tests) in
+    let long : nat_lt short_digits c.in-Decimal.digits ≡ true = grind (arith, nat_tests) in
     let same : read_numbers c.args.kind cells ≡ map long_number all = ap (λ (k : ColumnKind). map (number_in k) all) is
     ∙ long_numbers c.in-Decimal.digits c.in-Decimal.scale all long in
     let both = c.sum_long.ensures.value (subst (λ (l : List ℤ). IsTrue (list_all is_small l)) same small) few in

@@ -1,6 +1,5 @@
 use Rattle.std.proofs.Common.{◌≡◌, ◌<◌, ◌≤◌, All, length, drop}
-use Rattle.ts_expr.specs.declared.item.TheConstants.{MOST_SCALE}
-use Rattle.ts_expr.specs.Binding.{bound_items}
+use Rattle.ts_expr.specs.Binding.{most_scale, bound_items}
 use Rattle.ts_expr.proofs.BindLemmas.{before_items}
 use Rattle.ts_expr.proofs.bind.bound_items.Given as goal
 
@@ -8,5 +7,5 @@ abbrev pub invariant-loop-item : goal.invariant-loop-item
 invariant-loop-item l = record {
   so_far : bound_items l.columns l.items ≡ before_items l.bound.items (bound_items l.columns (drop l.item-index l.items));
   places : All (λ i. i.column < length l.columns) l.bound.items;
-  scales : All (λ i. i.scale ≤ MOST_SCALE) l.bound.items;
+  scales : All (λ i. i.scale ≤ most_scale) l.bound.items;
 }

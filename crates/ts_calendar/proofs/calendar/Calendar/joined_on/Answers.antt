@@ -1,7 +1,8 @@
 use Rattle.std.proofs.Common.{◌≡◌, ◌∙◌, ◌-ℤ◌, sym, ap, arith, Some, Ok, rules, FitsSigned, to_z, of_z, to_z-of_z, w64, subst}
 use Rattle.std.specs.Int.{int_max}
 use Rattle.jiff_core.proofs.SignedLemmas.{signed_casts}
-use Rattle.ts_pattern.specs.Algebra.{Answers, joined_plan}
+use Rattle.ts_base.specs.Answer.{Answers}
+use Rattle.ts_pattern.specs.Algebra.{joined_plan}
 use Rattle.ts_calendar.specs.Plan.{CalendarPlan}
 use Rattle.ts_calendar.specs.Intervals.{IsEarly, start_in}
 use Rattle.ts_calendar.specs.Calendar.{first_step, with_pattern, joined_calendar}

@@ -4,7 +4,7 @@ use Rattle.std.specs.Prelude.{reverse}
 use Rattle.std.specs.Option.{option_map}
 use Rattle.ts_base.specs.declared.refusal.Refusal.{Refusal}
 use Rattle.ts_row.specs.declared.kind.Column.{Column as TheColumn}
-use Rattle.ts_expr.specs.Answer.{Fails}
+use Rattle.ts_base.specs.Answer.{Fails}
 use Rattle.ts_running.specs.declared.step.Step.{Step}
 use Rattle.ts_running.specs.declared.bind.Source.{Source}
 use Rattle.ts_running.specs.Expr.{all_steps}
