@@ -3,7 +3,9 @@ use Rattle.std.proofs.lemmas.List.{length-take-le}
 use Rattle.ts_items.specs.Items.{place_from}
 use Rattle.ts_items.proofs.ItemLaws.{place_from-append}
 use Rattle.ts_shell.specs.Top.{OpenedRan}
-use Rattle.ts_shell.proofs.ItemLemmas.{rose_on}
+use Rattle.ts_shell.specs.Run.{script, by_engine}
+use Rattle.ts_shell.proofs.SayingLemmas.{rose_on}
+use Rattle.ts_shell.proofs.ItemLemmas.{steady}
 use Rattle.ts_shell.proofs.RanLemmas.{ran_none}
 use Rattle.ts_shell.proofs.FeedLemmas.{ran_behind, ran_to_end}
 use Rattle.ts_shell.proofs.PullLemmas.{pulls_on, taken_on, taken_all, nothing_left}
@@ -16,7 +18,7 @@ loop-session-init g c = record {
   faults = refl;
   pulls = omega arith;
   ready = c.requires.ready;
-  run = ([], refl, c.requires.start, λ told. refl, ran_none g.S.Volume.tells (tt {0}) c.args.session.now.engine (g.S.Volume.device c.args.site.now) (g.met.S.Volume.lawful c.args.site.now) c.requires.ready);
+  run = ([], refl, c.requires.start, λ told. refl, ran_none (by_engine g.S.Volume.tells) script (steady g.S.Volume.tells) (tt {0}) c.args.session.now.engine (g.S.Volume.device c.args.site.now) (g.met.S.Volume.lawful c.args.site.now) c.requires.ready);
 }
 
 pub returns-in-Err : goal.returns-in-Err
