@@ -48,7 +48,7 @@ ran_on cat status asked v w i j took same fair moments = record {
 abbrev took_part : (status : ℕ) (i j : Input) (taken : List ℕ) → i.left ≡ taken ++ j.left → Took most_script IsScriptEnd status i j
 took_part status i j taken cut = record { taken = taken; ended = false; cut = cut; end = λ yes. never yes }
 
-module _ (tells told : Bool) (e f : Kept) (v w : Device) (i j : Input) (faults : i.pull_faults ≤ j.pull_faults) (pulls : j.pulls ≤ i.pulls + 268435457) (taken : List ℕ) (each : j.pulls ≤ i.pulls + length taken + 1) where
+module _ (tells told : Bool) (e f : Kept) (v w : Device) (i j : Input) (faults : i.pull_faults ≤ j.pull_faults) (pulls : j.pulls ≤ i.pulls + 268435457) (taken : List ℕ) (each : j.pulls ≤ i.pulls + length taken + 1) (once : i.ended ≡ false → j.past_end ≡ i.past_end) where
   -- a pull took each byte, and one more was made
   pulls_of : (piece : List ℕ) → i.left ≡ piece ++ j.left → length taken ≤ length piece → j.pulls + length j.left ≤ i.pulls + length i.left + 1
   pulls_of piece cut le = omega (arith, each, le, ap length cut, length-append piece j.left)
@@ -75,6 +75,7 @@ module _ (tells told : Bool) (e f : Kept) (v w : Device) (i j : Input) (faults :
     no_pull_fault = λ no. absurd (no refl);
     pulls = λ s. pulls_of taken (cut s) (omega arith);
     pulls_most = pulls;
+    once = once;
   }
 
   -- a pull went past the limit
@@ -101,6 +102,7 @@ module _ (tells told : Bool) (e f : Kept) (v w : Device) (i j : Input) (faults :
         no_pull_fault = λ no. same_pulls;
         pulls = λ s. pulls_of whole (cut s) (omega (arith, length-append taken piece));
         pulls_most = pulls;
+        once = once;
       }
 
   -- an item failed
@@ -126,6 +128,7 @@ module _ (tells told : Bool) (e f : Kept) (v w : Device) (i j : Input) (faults :
       no_pull_fault = λ no. same_pulls;
       pulls = λ s. pulls_of taken (cut s) (omega arith);
       pulls_most = pulls;
+      once = once;
     }
     failed Output run = record {
       fair = λ t s cat at. ran_on cat 4 (requests taken) v w i j (took_part 4 i j taken (cut s)) (asked_so_far taken short) (run.fair t cat at) (run.moments t cat at);
@@ -147,6 +150,7 @@ module _ (tells told : Bool) (e f : Kept) (v w : Device) (i j : Input) (faults :
       no_pull_fault = λ no. same_pulls;
       pulls = λ s. pulls_of taken (cut s) (omega arith);
       pulls_most = pulls;
+      once = once;
     }
 
     -- the script has ended
@@ -184,6 +188,7 @@ module _ (tells told : Bool) (e f : Kept) (v w : Device) (i j : Input) (faults :
         no_pull_fault = λ no. same_pulls;
         pulls = λ s. pulls_of taken (cut s) (omega arith);
         pulls_most = pulls;
+        once = once;
       }
       ended (Err Disk) output run = absurd (let clash : ◌≡◌ {A = Result Unit RunFault} (Err Disk) (Err Output) = output refl in cc)
       ended (Err Output) output run = record {
@@ -206,4 +211,5 @@ module _ (tells told : Bool) (e f : Kept) (v w : Device) (i j : Input) (faults :
         no_pull_fault = λ no. same_pulls;
         pulls = λ s. pulls_of taken (cut s) (omega arith);
         pulls_most = pulls;
+        once = once;
       }

@@ -71,6 +71,7 @@ unpulled tells told status v w i store which said say_faults first unwritten = r
   no_pull_fault = λ no. refl;
   pulls = λ s. omega arith;
   pulls_most = omega arith;
+  once = λ live. refl;
   complete = λ t s cat means short not_disk not_output not_pull. elim which [
     | inl five ↦ absurd (not_disk (store.disk five))
     | inr (inl six) ↦ absurd (store.no_store six t cat means)
@@ -137,6 +138,7 @@ module _ (tells told : Bool) (engine : Engine) (v y w : Device) (i j : Input) (s
     no_pull_fault = ran.no_pull_fault;
     pulls = ran.pulls;
     pulls_most = ran.pulls_most;
+    once = ran.once;
     complete = λ t s cat means short not_disk not_output not_pull. elim ran.statuses [
       | inl zero ↦ inl zero
       | inr (inl three) ↦ absurd (not_pull (ran.pull three))

@@ -1,5 +1,5 @@
 -- What the top call does, by its words.
-use Rattle.std.specs.Prelude.{◌≡◌, ◌⊎◌, ℕ, ◌+◌, ◌*◌, ◌<◌, ◌≤◌, Bool, IsTrue, if◌then◌else◌, List, [], ◌++◌, length, take, Result, Ok, Err, ◌≢◌}
+use Rattle.std.specs.Prelude.{◌≡◌, ◌⊎◌, ℕ, ◌+◌, ◌*◌, ◌<◌, ◌≤◌, Bool, false, IsTrue, if◌then◌else◌, List, [], ◌++◌, length, take, Result, Ok, Err, ◌≢◌}
 use Rattle.ts_disk.specs.Device.{Device, Within, Only, Rose, FirstSync, LeavesOnly}
 use Rattle.ts_disk.specs.Input.{Input}
 use Rattle.ts_command.specs.Script.{Request, requests, last_request}
@@ -142,6 +142,7 @@ pub record OpenedRan (tells told : Bool) (e : Kept) (status : ℕ) (v w : Device
   pub no_pull_fault : status ≢ 3 → j.pull_faults ≡ i.pull_faults
   pub pulls : IsTrue told → j.pulls + length j.left ≤ i.pulls + length i.left + 1
   pub pulls_most : j.pulls ≤ i.pulls + 268435457
+  pub once : i.ended ≡ false → j.past_end ≡ i.past_end
 
 -- What was said and what a stop leaves, over a volume that means this catalogue at the entry.
 pub record RanFrom (cat : Catalogue) (status : ℕ) (v w : Device) (i j : Input) : Type 0 where
@@ -181,6 +182,8 @@ pub record ScriptRan (tells told : Bool) (status : ℕ) (v w : Device) (i j : In
   -- as many pulls at most as bytes were taken, and one more; of a source that tells nothing as many as the limit has, and one more
   pub pulls : IsTrue told → j.pulls + length j.left ≤ i.pulls + length i.left + 1
   pub pulls_most : j.pulls ≤ i.pulls + 268435457
+  -- of no source, told or not, is more asked once it answered its end in this run
+  pub once : i.ended ≡ false → j.past_end ≡ i.past_end
   -- a volume that means a catalogue and a source that ends within the limit: unless a count rose, the script is carried out whole,
   -- or there was no memory to open the volume
   pub complete : IsTrue tells → IsTrue told → (cat : Catalogue) → MeansCatalogue v.held cat → length i.left ≤ 268435456
