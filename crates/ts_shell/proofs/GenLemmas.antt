@@ -13,7 +13,7 @@ use Rattle.ts_engine.specs.Start.{Started, StillMeans}
 use Rattle.ts_shell.specs.Opening.{status_of_opening}
 use Rattle.ts_shell.specs.Generated.{generated}
 use Rattle.ts_shell.specs.Generating.{summary, IsWithin, OpenedGen, GeneratedFrom, GenRan}
-use Rattle.ts_shell.proofs.ItemLemmas.{rose_on}
+use Rattle.ts_shell.proofs.SayingLemmas.{rose_on}
 use Rattle.ts_shell.proofs.OpeningLemmas.{first_then, unopened_store, unopened_status, is_unopened, opened_store}
 
 -- before the first command the volume means what it meant

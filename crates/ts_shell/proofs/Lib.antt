@@ -4,6 +4,7 @@ pub mod GeneratingLemmas
 pub mod GenLemmas
 pub mod ReachedLemmas
 pub mod SummaryLemmas
+pub mod SayingLemmas
 pub mod ItemLemmas
 pub mod RanLemmas
 pub mod FeedLemmas

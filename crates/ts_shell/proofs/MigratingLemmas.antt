@@ -14,7 +14,7 @@ use Rattle.ts_engine.specs.Start.{Started, StillMeans}
 use Rattle.ts_engine.specs.Moves.{Moves}
 use Rattle.ts_shell.specs.Opening.{status_of_opening}
 use Rattle.ts_shell.specs.Migrating.{InEitherFormat, MigratedFrom, MigrateRan}
-use Rattle.ts_shell.proofs.ItemLemmas.{rose_on}
+use Rattle.ts_shell.proofs.SayingLemmas.{rose_on}
 use Rattle.ts_shell.proofs.OpeningLemmas.{first_then, unopened_store, unopened_status, is_unopened, opened_store}
 
 -- a volume that means what it meant has it in either format

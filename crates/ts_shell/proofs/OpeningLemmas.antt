@@ -7,7 +7,7 @@ use Rattle.ts_container.specs.declared.fault.SurveyFault.TheVariants.{NotAStore,
 use Rattle.ts_engine.specs.declared.engine.Engine.{Engine}
 use Rattle.ts_engine.specs.Start.{Started}
 use Rattle.ts_shell.specs.Opening.{status_of_opening, OpensStore}
-use Rattle.ts_shell.proofs.ItemLemmas.{rose_on}
+use Rattle.ts_shell.proofs.SayingLemmas.{rose_on}
 
 -- what follows the first sync
 pub first_then : (v x w : Device) (P : List ℕ → List ℕ → Type 0) → FirstSync v x P → v.syncs < x.syncs → LeavesOnly x w P → x.syncs ≤ w.syncs → FirstSync v w P

@@ -8,9 +8,9 @@ use Rattle.ts_model.specs.Catalogue.{Catalogue}
 use Rattle.ts_engine.specs.Engine.{Kept, IsAt}
 use Rattle.ts_shell.specs.declared.fault.RunFault.{RunFault}
 use Rattle.ts_shell.specs.declared.fault.RunFault.TheVariants.{Disk, Output}
-use Rattle.ts_shell.specs.Run.{script, IsGoodRun, SaysFairly, Answered, Ran}
-use Rattle.ts_shell.proofs.ItemLemmas.{never}
-use Rattle.ts_shell.specs.Top.{status_of, status_of_end, asked_in, asked_of, AllDone, Took, RanOn, OpenedRan}
+use Rattle.ts_shell.specs.Run.{script, by_engine, IsGoodRun, SaysFairly, Answered, Ran}
+use Rattle.ts_shell.proofs.SayingLemmas.{never}
+use Rattle.ts_shell.specs.Top.{status_of, status_of_end, asked_in, asked_of, AllDone, most_script, IsScriptEnd, Took, RanOn, OpenedRan}
 
 -- what bytes ask for that keep the limit
 in_limit : (taken : List ℕ) → length taken ≤ 268435456 → requests taken ≡ asked_in taken
@@ -27,7 +27,7 @@ up_to_limit : (taken piece : List ℕ) → length taken ≡ 268435456 → reques
 up_to_limit taken piece full = ap requests (sym (take_at taken piece 268435456 full))
 
 -- every request is answered
-done : (tells : Bool) (cat : Catalogue) (asked other : List Request) (f : Kept) (v w : Device) → asked ≡ other → Answered tells cat asked f v w → AllDone script cat other v w
+done : (tells : Bool) (cat : Catalogue) (asked other : List Request) (f : Kept) (v w : Device) → asked ≡ other → Answered (by_engine tells) script cat asked f v w → AllDone script cat other v w
 done tells cat asked other f v w same all = subst (λ (l : List Request). AllDone script cat l v w) same (record {
   gained = all.gained;
   last = all.last;
@@ -38,23 +38,23 @@ done tells cat asked other f v w same all = subst (λ (l : List Request). AllDon
 })
 
 -- what was said and what a stop leaves
-ran_on : (cat : Catalogue) (status : ℕ) (asked : List Request) (v w : Device) (i j : Input) (took : Took status i j) → asked ≡ asked_of took.ended took.taken → SaysFairly script cat asked v w → LeavesOnly v w (IsGoodRun script cat asked v.said) → RanOn script asked_of cat status v w i j
+ran_on : (cat : Catalogue) (status : ℕ) (asked : List Request) (v w : Device) (i j : Input) (took : Took most_script IsScriptEnd status i j) → asked ≡ asked_of took.ended took.taken → SaysFairly script cat asked v w → LeavesOnly v w (IsGoodRun script cat asked v.said) → RanOn script most_script IsScriptEnd asked_of cat status v w i j
 ran_on cat status asked v w i j took same fair moments = record {
   took = took;
   fair = subst (λ (l : List Request). SaysFairly script cat l v w) same fair;
   moments = subst (λ (l : List Request). LeavesOnly v w (IsGoodRun script cat l v.said)) same moments;
 }
 
-abbrev took_part : (status : ℕ) (i j : Input) (taken : List ℕ) → i.left ≡ taken ++ j.left → Took status i j
+abbrev took_part : (status : ℕ) (i j : Input) (taken : List ℕ) → i.left ≡ taken ++ j.left → Took most_script IsScriptEnd status i j
 took_part status i j taken cut = record { taken = taken; ended = false; cut = cut; end = λ yes. never yes }
 
-module _ (tells told : Bool) (e f : Kept) (v w : Device) (i j : Input) (faults : i.pull_faults ≤ j.pull_faults) (pulls : j.pulls ≤ i.pulls + 268435457) (taken : List ℕ) (each : j.pulls ≤ i.pulls + length taken + 1) where
+module _ (tells told : Bool) (e f : Kept) (v w : Device) (i j : Input) (faults : i.pull_faults ≤ j.pull_faults) (pulls : j.pulls ≤ i.pulls + 268435457) (taken : List ℕ) (each : j.pulls ≤ i.pulls + length taken + 1) (once : i.ended ≡ false → j.past_end ≡ i.past_end) where
   -- a pull took each byte, and one more was made
   pulls_of : (piece : List ℕ) → i.left ≡ piece ++ j.left → length taken ≤ length piece → j.pulls + length j.left ≤ i.pulls + length i.left + 1
   pulls_of piece cut le = omega (arith, each, le, ap length cut, length-append piece j.left)
 
   -- a pull failed
-  pub stopped : (value : Unit {0}) → length taken ≤ 268435456 → (IsTrue told → i.left ≡ taken ++ j.left) → Rose i.pull_faults j.pull_faults → Ran tells (requests taken) (Ok value) e f v w → OpenedRan tells told e 3 v w i j
+  pub stopped : (value : Unit {0}) → length taken ≤ 268435456 → (IsTrue told → i.left ≡ taken ++ j.left) → Rose i.pull_faults j.pull_faults → Ran (by_engine tells) script (requests taken) (Ok value) e f v w → OpenedRan tells told e 3 v w i j
   stopped value short cut rose run = record {
     fair = λ t s cat at. ran_on cat 3 (requests taken) v w i j (took_part 3 i j taken (cut s)) (asked_so_far taken short) (run.fair t cat at) (run.moments t cat at);
     all = λ zero. absurd (omega arith);
@@ -75,10 +75,11 @@ module _ (tells told : Bool) (e f : Kept) (v w : Device) (i j : Input) (faults :
     no_pull_fault = λ no. absurd (no refl);
     pulls = λ s. pulls_of taken (cut s) (omega arith);
     pulls_most = pulls;
+    once = once;
   }
 
   -- a pull went past the limit
-  pub overlong : (value : Unit {0}) (piece : List ℕ) → length taken ≡ 268435456 → 0 < length piece → (IsTrue told → i.left ≡ (taken ++ piece) ++ j.left) → j.pull_faults ≡ i.pull_faults → Ran tells (requests taken) (Ok value) e f v w → OpenedRan tells told e 8 v w i j
+  pub overlong : (value : Unit {0}) (piece : List ℕ) → length taken ≡ 268435456 → 0 < length piece → (IsTrue told → i.left ≡ (taken ++ piece) ++ j.left) → j.pull_faults ≡ i.pull_faults → Ran (by_engine tells) script (requests taken) (Ok value) e f v w → OpenedRan tells told e 8 v w i j
   overlong value piece full some cut same_pulls run =
       let whole : List ℕ = taken ++ piece in
       let same : requests taken ≡ asked_in whole = up_to_limit taken piece full in record {
@@ -101,11 +102,12 @@ module _ (tells told : Bool) (e f : Kept) (v w : Device) (i j : Input) (faults :
         no_pull_fault = λ no. same_pulls;
         pulls = λ s. pulls_of whole (cut s) (omega (arith, length-append taken piece));
         pulls_most = pulls;
+        once = once;
       }
 
   -- an item failed
   module _ (short : length taken ≤ 268435456) (cut : IsTrue told → i.left ≡ taken ++ j.left) (same_pulls : j.pull_faults ≡ i.pull_faults) where
-    pub failed : (fault : RunFault) → Ran {T = Unit {0}} tells (requests taken) (Err fault) e f v w → OpenedRan tells told e (status_of fault) v w i j
+    pub failed : (fault : RunFault) → Ran {T = Unit {0}} (by_engine tells) script (requests taken) (Err fault) e f v w → OpenedRan tells told e (status_of fault) v w i j
     failed Disk run = record {
       fair = λ t s cat at. ran_on cat 5 (requests taken) v w i j (took_part 5 i j taken (cut s)) (asked_so_far taken short) (run.fair t cat at) (run.moments t cat at);
       all = λ zero. absurd (omega arith);
@@ -126,6 +128,7 @@ module _ (tells told : Bool) (e f : Kept) (v w : Device) (i j : Input) (faults :
       no_pull_fault = λ no. same_pulls;
       pulls = λ s. pulls_of taken (cut s) (omega arith);
       pulls_most = pulls;
+      once = once;
     }
     failed Output run = record {
       fair = λ t s cat at. ran_on cat 4 (requests taken) v w i j (took_part 4 i j taken (cut s)) (asked_so_far taken short) (run.fair t cat at) (run.moments t cat at);
@@ -147,20 +150,21 @@ module _ (tells told : Bool) (e f : Kept) (v w : Device) (i j : Input) (faults :
       no_pull_fault = λ no. same_pulls;
       pulls = λ s. pulls_of taken (cut s) (omega arith);
       pulls_most = pulls;
+      once = once;
     }
 
     -- the script has ended
     module _ (none : IsTrue told → j.left ≡ []) where
-      abbrev took_all : (status : ℕ) → (status ≡ 0) ⊎ (status ≡ 4) → IsTrue told → Took status i j
+      abbrev took_all : (status : ℕ) → (status ≡ 0) ⊎ (status ≡ 4) → IsTrue told → Took most_script IsScriptEnd status i j
       took_all status last s = record { taken = taken; ended = true; cut = cut s; end = λ yes. (none s, short, last) }
 
       whole : IsTrue told → i.left ≡ taken
       whole s = cut s ∙ ap (λ (l : List ℕ). taken ++ l) (none s) ∙ append-nil taken
 
-      ended_fair : (status : ℕ) → (status ≡ 0) ⊎ (status ≡ 4) → (r : Result Unit RunFault) → Ran tells (requests taken ++ last_request taken) r e f v w → IsTrue tells → IsTrue told → (cat : Catalogue) → IsAt tells e cat v → RanOn script asked_of cat status v w i j
+      ended_fair : (status : ℕ) → (status ≡ 0) ⊎ (status ≡ 4) → (r : Result Unit RunFault) → Ran (by_engine tells) script (requests taken ++ last_request taken) r e f v w → IsTrue tells → IsTrue told → (cat : Catalogue) → IsAt tells e cat v → RanOn script most_script IsScriptEnd asked_of cat status v w i j
       ended_fair status last r run t s cat at = ran_on cat status (requests taken ++ last_request taken) v w i j (took_all status last s) (asked_to_end taken short) (run.fair t cat at) (run.moments t cat at)
 
-      pub ended : (r : Result Unit RunFault) → (IsErr r → r ≡ Err Output) → Ran tells (requests taken ++ last_request taken) r e f v w → OpenedRan tells told e (status_of_end r) v w i j
+      pub ended : (r : Result Unit RunFault) → (IsErr r → r ≡ Err Output) → Ran (by_engine tells) script (requests taken ++ last_request taken) r e f v w → OpenedRan tells told e (status_of_end r) v w i j
       ended (Ok value) output run = record {
         fair = ended_fair 0 (inl refl) (Ok value) run;
         all = λ zero t s cat at. record {
@@ -184,6 +188,7 @@ module _ (tells told : Bool) (e f : Kept) (v w : Device) (i j : Input) (faults :
         no_pull_fault = λ no. same_pulls;
         pulls = λ s. pulls_of taken (cut s) (omega arith);
         pulls_most = pulls;
+        once = once;
       }
       ended (Err Disk) output run = absurd (let clash : ◌≡◌ {A = Result Unit RunFault} (Err Disk) (Err Output) = output refl in cc)
       ended (Err Output) output run = record {
@@ -206,4 +211,5 @@ module _ (tells told : Bool) (e f : Kept) (v w : Device) (i j : Input) (faults :
         no_pull_fault = λ no. same_pulls;
         pulls = λ s. pulls_of taken (cut s) (omega arith);
         pulls_most = pulls;
+        once = once;
       }

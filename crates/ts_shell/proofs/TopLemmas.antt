@@ -14,8 +14,8 @@ use Rattle.ts_engine.specs.Start.{Started, StillMeans}
 use Rattle.ts_shell.proofs.ApartLemmas.{apart}
 use Rattle.ts_shell.specs.Run.{script, IsGoodRun, SaysFairly}
 use Rattle.ts_shell.specs.Opening.{status_of_opening, OpensStore}
-use Rattle.ts_shell.specs.Top.{Untouched, Took, TookEnough, TookTooMuch, asked_of, OpenedRan, RanFrom, ScriptRan, AllDone}
-use Rattle.ts_shell.proofs.ItemLemmas.{never, rose_on}
+use Rattle.ts_shell.specs.Top.{Untouched, most_script, IsScriptEnd, Took, TookEnough, TookTooMuch, asked_of, OpenedRan, RanFrom, ScriptRan, AllDone}
+use Rattle.ts_shell.proofs.SayingLemmas.{never, rose_on}
 use Rattle.ts_shell.proofs.OpeningLemmas.{first_then, first_now, unopened_now, unopened_store, unopened_status, unopened_unwritten, is_unopened, opened_store}
 
 -- nothing was done
@@ -30,14 +30,14 @@ pub good_first : (cat : Catalogue) (asked : List Request) (before image said : L
 good_first cat asked before image said means same = ([], same ∙ sym (append-nil before), none_good script apart (MeansCatalogue image) cat asked means)
 
 -- nothing was taken of the source
-abbrev nothing_taken : (status : ℕ) (i : Input) → Took status i i
+abbrev nothing_taken : (status : ℕ) (i : Input) → Took most_script IsScriptEnd status i i
 nothing_taken status i = record { taken = []; ended = false; cut = refl; end = λ yes. never yes }
 
-taken_enough : (i : Input) → TookEnough i i
+taken_enough : (i : Input) → TookEnough most_script i i
 taken_enough i = record { taken = []; cut = refl; short = omega arith }
 
 -- what was said and what a stop leaves; where nothing was pending, each moment is good
-pub ran_from : (cat : Catalogue) (status : ℕ) (v w : Device) (i j : Input) → MeansCatalogue v.held cat → (took : Took status i j) → SaysFairly script cat (asked_of took.ended took.taken) v w → FirstSync v w (IsGoodRun script cat (asked_of took.ended took.taken) v.said) → RanFrom cat status v w i j
+pub ran_from : (cat : Catalogue) (status : ℕ) (v w : Device) (i j : Input) → MeansCatalogue v.held cat → (took : Took most_script IsScriptEnd status i j) → SaysFairly script cat (asked_of took.ended took.taken) v w → FirstSync v w (IsGoodRun script cat (asked_of took.ended took.taken) v.said) → RanFrom cat status v w i j
 ran_from cat status v w i j means took fair moments = record {
   took = took;
   fair = fair;
@@ -71,6 +71,7 @@ unpulled tells told status v w i store which said say_faults first unwritten = r
   no_pull_fault = λ no. refl;
   pulls = λ s. omega arith;
   pulls_most = omega arith;
+  once = λ live. refl;
   complete = λ t s cat means short not_disk not_output not_pull. elim which [
     | inl five ↦ absurd (not_disk (store.disk five))
     | inr (inl six) ↦ absurd (store.no_store six t cat means)
@@ -137,6 +138,7 @@ module _ (tells told : Bool) (engine : Engine) (v y w : Device) (i j : Input) (s
     no_pull_fault = ran.no_pull_fault;
     pulls = ran.pulls;
     pulls_most = ran.pulls_most;
+    once = ran.once;
     complete = λ t s cat means short not_disk not_output not_pull. elim ran.statuses [
       | inl zero ↦ inl zero
       | inr (inl three) ↦ absurd (not_pull (ran.pull three))
@@ -145,7 +147,7 @@ module _ (tells told : Bool) (engine : Engine) (v y w : Device) (i j : Input) (s
       | inr (inr (inr (inr eight))) ↦ absurd (overlong_not (ran.too_long eight s) short)
     ];
   } where
-    overlong_not : TookTooMuch i j → length i.left ≤ 268435456 → ⊥
+    overlong_not : TookTooMuch most_script i j → length i.left ≤ 268435456 → ⊥
     overlong_not much short = omega (arith, much.long, short, ap length much.cut, length-append much.taken j.left)
 
     neither : (status ≡ 6) ⊎ (status ≡ 7) → ⊥

@@ -6,7 +6,6 @@ use Rattle.ts_items.specs.Items.{items_from, is_unended_at}
 use Rattle.ts_command.specs.Script.{Request, request_of}
 use Rattle.ts_replies.specs.Acknowledged.{Protocol, IsFair, AllAnswered}
 use Rattle.ts_replies.specs.Good.{IsGoodMoment}
-use Rattle.ts_model.specs.Catalogue.{Catalogue}
 use Rattle.ts_answer.specs.State.{State, committed, run_answer, stand_in}
 use Rattle.ts_volume.specs.Volume.{MeansCatalogue}
 use Rattle.ts_engine.specs.Engine.{Kept, IsReady, IsAt}
@@ -34,20 +33,35 @@ SaysFairly p cat asked v w = (gained : List ℕ) × (w.said ≡ v.said ++ gained
 abbrev pub IsGoodRun : {C I : Type 0} → Protocol C I → C → List I → List ℕ → List ℕ → List ℕ → Type 0
 IsGoodRun p cat asked before image said = IsGoodMoment p cat asked before image said
 
--- every request has its whole reply, and the engine stands at the catalogue after them
-pub record Answered (tells : Bool) (cat : Catalogue) (asked : List Request) (f : Kept) (v w : Device) : Type 0 where
-  pub gained : List ℕ
-  pub last : Catalogue
-  pub said : w.said ≡ v.said ++ gained
-  pub all : AllAnswered script cat asked gained last
-  pub at : IsAt tells f last w
+-- What carries items out: whether its device tells what it holds, when it can go on, and when it stands at a state. A run
+-- is said in these words, whatever its items and its states are.
+pub record Carrier (E C : Type 0) : Type 1 where
+  pub tells : Bool
+  -- on every device, between two items
+  pub ready : E → Device → Type 0
+  pub stands : E → C → Device → Type 0
 
--- what carrying out requests in their order does, with an engine that is `e` before and `f` behind
-pub record Ran {T : Type 0} (tells : Bool) (asked : List Request) (result : Result T RunFault) (e f : Kept) (v w : Device) : Type 0 where
-  pub ready : OnOk result (IsReady tells f w)
-  pub answered : OnOk result (IsTrue tells → (cat : Catalogue) → IsAt tells e cat v → Answered tells cat asked f v w)
-  pub fair : IsTrue tells → (cat : Catalogue) → IsAt tells e cat v → SaysFairly script cat asked v w
-  pub moments : IsTrue tells → (cat : Catalogue) → IsAt tells e cat v → LeavesOnly v w (IsGoodRun script cat asked v.said)
+-- an engine stands at the catalogue that its volume means
+abbrev pub by_engine : Bool → Carrier Kept State
+by_engine tells =
+    record { tells = tells; ready = IsReady tells; stands = λ e state d. IsAt tells e (committed state) d }
+
+-- every item has its whole reply, and what carries them out stands at the state after them
+pub record Answered {E C I : Type 0} (c : Carrier E C) (p : Protocol C I)
+    (state : C) (asked : List I) (f : E) (v w : Device) : Type 0 where
+  pub gained : List ℕ
+  pub last : C
+  pub said : w.said ≡ v.said ++ gained
+  pub all : AllAnswered p state asked gained last
+  pub at : c.stands f last w
+
+-- what carrying out items in their order does, by one that is `e` before and `f` behind
+pub record Ran {E C I T : Type 0} (c : Carrier E C) (p : Protocol C I)
+    (asked : List I) (result : Result T RunFault) (e f : E) (v w : Device) : Type 0 where
+  pub ready : OnOk result (c.ready f w)
+  pub answered : OnOk result (IsTrue c.tells → (state : C) → c.stands e state v → Answered c p state asked f v w)
+  pub fair : IsTrue c.tells → (state : C) → c.stands e state v → SaysFairly p state asked v w
+  pub moments : IsTrue c.tells → (state : C) → c.stands e state v → LeavesOnly v w (IsGoodRun p state asked v.said)
   pub disk : result ≡ Err Disk → Rose v.faults w.faults
   pub output : result ≡ Err Output → Rose v.say_faults w.say_faults
   -- only a failed call raises its count
@@ -57,4 +71,4 @@ pub record Ran {T : Type 0} (tells : Bool) (asked : List Request) (result : Resu
   pub size : w.size ≡ v.size
   pub faults : v.faults ≤ w.faults
   pub say_faults : v.say_faults ≤ w.say_faults
-  pub syncs : IsTrue tells → v.syncs ≤ w.syncs
+  pub syncs : IsTrue c.tells → v.syncs ≤ w.syncs

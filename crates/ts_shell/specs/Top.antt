@@ -1,5 +1,5 @@
 -- What the top call does, by its words.
-use Rattle.std.specs.Prelude.{◌≡◌, ◌⊎◌, ℕ, ◌+◌, ◌*◌, ◌<◌, ◌≤◌, Bool, IsTrue, if◌then◌else◌, List, [], ◌++◌, length, take, Result, Ok, Err, ◌≢◌}
+use Rattle.std.specs.Prelude.{◌≡◌, ◌⊎◌, ℕ, ◌+◌, ◌*◌, ◌<◌, ◌≤◌, Bool, false, IsTrue, if◌then◌else◌, List, [], ◌++◌, length, take, Result, Ok, Err, ◌≢◌}
 use Rattle.ts_disk.specs.Device.{Device, Within, Only, Rose, FirstSync, LeavesOnly}
 use Rattle.ts_disk.specs.Input.{Input}
 use Rattle.ts_command.specs.Script.{Request, requests, last_request}
@@ -74,13 +74,21 @@ pub record AllDone {C I : Type 0} (p : Protocol C I) (cat : C) (asked : List I) 
   pub means : p.means w.held last
   pub only : Only w.held w.images
 
--- The bytes that were taken from the source, and whether it answered its end: then nothing is left, the limit was kept, and only
--- the last reply may be missing.
-pub record Took (status : ℕ) (i j : Input) : Type 0 where
+-- the most bytes of a script
+abbrev pub most_script : ℕ
+most_script = 268435456
+
+-- a script that was taken to its end ends so: every request is answered, or only the last reply may be missing
+abbrev pub IsScriptEnd : ℕ → Type 0
+IsScriptEnd status = (status ≡ 0) ⊎ (status ≡ 4)
+
+-- The bytes that were taken from the source, and whether it answered its end: then nothing is left, the limit was kept,
+-- and the status is one of an end.
+pub record Took (limit : ℕ) (IsEnd : ℕ → Type 0) (status : ℕ) (i j : Input) : Type 0 where
   pub taken : List ℕ
   pub ended : Bool
   pub cut : i.left ≡ taken ++ j.left
-  pub end : IsTrue ended → (j.left ≡ []) × (length taken ≤ 268435456) × ((status ≡ 0) ⊎ (status ≡ 4))
+  pub end : IsTrue ended → (j.left ≡ []) × (length taken ≤ limit) × IsEnd status
 
 -- everything was taken up to the end of the source, and every request of the script is answered
 pub record DoneToEnd (cat : Catalogue) (v w : Device) (i j : Input) : Type 0 where
@@ -94,33 +102,35 @@ pub record DoneSoFar (cat : Catalogue) (v w : Device) (i j : Input) : Type 0 whe
   pub done : AllDone script cat (asked_in taken) v w
 
 -- the bytes that were taken are more than the limit
-pub record TookTooMuch (i j : Input) : Type 0 where
+pub record TookTooMuch (limit : ℕ) (i j : Input) : Type 0 where
   pub taken : List ℕ
   pub cut : i.left ≡ taken ++ j.left
-  pub long : 268435456 < length taken
+  pub long : limit < length taken
 
 -- the bytes that were taken keep the limit
-pub record TookEnough (i j : Input) : Type 0 where
+pub record TookEnough (limit : ℕ) (i j : Input) : Type 0 where
   pub taken : List ℕ
   pub cut : i.left ≡ taken ++ j.left
-  pub short : length taken ≤ 268435456
+  pub short : length taken ≤ limit
 
 -- What was said over an engine that stood at this catalogue, and what a stop left. `asked` tells the items of what was taken.
-pub record RanOn {C I : Type 0} (p : Protocol C I) (asked : Bool → List ℕ → List I) (cat : C) (status : ℕ) (v w : Device) (i j : Input) : Type 0 where
-  pub took : Took status i j
+pub record RanOn {C I : Type 0} (p : Protocol C I) (limit : ℕ) (IsEnd : ℕ → Type 0) (asked : Bool → List ℕ → List I)
+    (cat : C) (status : ℕ) (v w : Device) (i j : Input) : Type 0 where
+  pub took : Took limit IsEnd status i j
   pub fair : SaysFairly p cat (asked took.ended took.taken) v w
   pub moments : LeavesOnly v w (IsGoodRun p cat (asked took.ended took.taken) v.said)
 
 -- What a script does over an engine.
 pub record OpenedRan (tells told : Bool) (e : Kept) (status : ℕ) (v w : Device) (i j : Input) : Type 0 where
-  pub fair : IsTrue tells → IsTrue told → (cat : Catalogue) → IsAt tells e cat v → RanOn script asked_of cat status v w i j
+  pub fair : IsTrue tells → IsTrue told → (cat : Catalogue) → IsAt tells e cat v
+      → RanOn script most_script IsScriptEnd asked_of cat status v w i j
   pub all : status ≡ 0 → IsTrue tells → IsTrue told → (cat : Catalogue) → IsAt tells e cat v → DoneToEnd cat v w i j
   pub so_far : (status ≡ 3) ⊎ (status ≡ 8) → IsTrue tells → IsTrue told → (cat : Catalogue) → IsAt tells e cat v → DoneSoFar cat v w i j
   pub pull : status ≡ 3 → Rose i.pull_faults j.pull_faults
   pub output : status ≡ 4 → Rose v.say_faults w.say_faults
   pub disk : status ≡ 5 → Rose v.faults w.faults
-  pub too_long : status ≡ 8 → IsTrue told → TookTooMuch i j
-  pub short : IsTrue told → (status ≡ 8) ⊎ TookEnough i j
+  pub too_long : status ≡ 8 → IsTrue told → TookTooMuch most_script i j
+  pub short : IsTrue told → (status ≡ 8) ⊎ TookEnough most_script i j
   pub statuses : (status ≡ 0) ⊎ ((status ≡ 3) ⊎ ((status ≡ 4) ⊎ ((status ≡ 5) ⊎ (status ≡ 8))))
   pub size : w.size ≡ v.size
   pub syncs : IsTrue tells → v.syncs ≤ w.syncs
@@ -132,10 +142,11 @@ pub record OpenedRan (tells told : Bool) (e : Kept) (status : ℕ) (v w : Device
   pub no_pull_fault : status ≢ 3 → j.pull_faults ≡ i.pull_faults
   pub pulls : IsTrue told → j.pulls + length j.left ≤ i.pulls + length i.left + 1
   pub pulls_most : j.pulls ≤ i.pulls + 268435457
+  pub once : i.ended ≡ false → j.past_end ≡ i.past_end
 
 -- What was said and what a stop leaves, over a volume that means this catalogue at the entry.
 pub record RanFrom (cat : Catalogue) (status : ℕ) (v w : Device) (i j : Input) : Type 0 where
-  pub took : Took status i j
+  pub took : Took most_script IsScriptEnd status i j
   pub fair : SaysFairly script cat (asked_of took.ended took.taken) v w
   -- From the end of the first sync on each moment is good; before it, and in the whole call where no sync answered Ok, each is
   -- an image of the entry with nothing said.
@@ -155,8 +166,8 @@ pub record ScriptRan (tells told : Bool) (status : ℕ) (v w : Device) (i j : In
   pub pull : status ≡ 3 → Rose i.pull_faults j.pull_faults
   pub output : status ≡ 4 → Rose v.say_faults w.say_faults
   -- 8 comes exactly where a pull gave bytes past the first 268435456
-  pub too_long : status ≡ 8 → IsTrue told → TookTooMuch i j
-  pub short : IsTrue told → (status ≡ 8) ⊎ TookEnough i j
+  pub too_long : status ≡ 8 → IsTrue told → TookTooMuch most_script i j
+  pub short : IsTrue told → (status ≡ 8) ⊎ TookEnough most_script i j
   -- at 6 and 7 nothing was said or written, and the script wasn't pulled
   pub quiet : (status ≡ 6) ⊎ (status ≡ 7) → w.said ≡ v.said
   pub unwritten : status ≡ 7 → (w.held ≡ v.held) × Within v.images w.images
@@ -171,6 +182,8 @@ pub record ScriptRan (tells told : Bool) (status : ℕ) (v w : Device) (i j : In
   -- as many pulls at most as bytes were taken, and one more; of a source that tells nothing as many as the limit has, and one more
   pub pulls : IsTrue told → j.pulls + length j.left ≤ i.pulls + length i.left + 1
   pub pulls_most : j.pulls ≤ i.pulls + 268435457
+  -- of no source, told or not, is more asked once it answered its end in this run
+  pub once : i.ended ≡ false → j.past_end ≡ i.past_end
   -- a volume that means a catalogue and a source that ends within the limit: unless a count rose, the script is carried out whole,
   -- or there was no memory to open the volume
   pub complete : IsTrue tells → IsTrue told → (cat : Catalogue) → MeansCatalogue v.held cat → length i.left ≤ 268435456

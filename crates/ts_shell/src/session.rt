@@ -7,7 +7,7 @@ ghost use Rattle.ts_command.specs.Form.{HasForm};
 ghost use Rattle.ts_command.specs.Grammar.{command_of};
 ghost use Rattle.ts_command.specs.Script.{request_of, or_syntax};
 ghost use Rattle.ts_engine.specs.Engine.{IsReady};
-ghost use Rattle.ts_shell.specs.Run.{Ran, requests_from, requests_at_end};
+ghost use Rattle.ts_shell.specs.Run.{script, by_engine, Ran, requests_from, requests_at_end};
 
 use crate::fault::RunFault;
 use std::alloc::Global;
@@ -55,7 +55,8 @@ impl Session {
     ) -> Result<(), RunFault>
         requires ready { IsReady S.tells self.old.engine (S.device site.old) }
         requires form { HasForm command.now }
-        ensures ran { Ran S.tells (Ok command.now ∷ []) result self.old.engine self.new.engine (S.device site.old) (S.device site.new) }
+        ensures ran { Ran (by_engine S.tells) script (Ok command.now ∷ [])
+            result self.old.engine self.new.engine (S.device site.old) (S.device site.new) }
         ensures reader { self.new.reader ≡ self.old.reader }
     {
         match self.engine.step(rt, site, command, &mut self.reply) {
@@ -73,7 +74,8 @@ impl Session {
         site: &mut S,
     ) -> Result<(), RunFault>
         requires ready { IsReady S.tells self.old.engine (S.device site.old) }
-        ensures ran { Ran S.tells (or_syntax (command_of self.old.reader.text) ∷ []) result self.old.engine self.new.engine (S.device site.old) (S.device site.new) }
+        ensures ran { Ran (by_engine S.tells) script (or_syntax (command_of self.old.reader.text) ∷ [])
+            result self.old.engine self.new.engine (S.device site.old) (S.device site.new) }
         ensures reader { self.new.reader ≡ self.old.reader }
     {
         match read_command(self.alloc, self.reader.text()) {
@@ -91,7 +93,8 @@ impl Session {
         cut: Cut,
     ) -> Result<(), RunFault>
         requires ready { IsReady S.tells self.old.engine (S.device site.old) }
-        ensures ran { Ran S.tells (request_of (item_of cut self.old.reader.text) ∷ []) result self.old.engine self.new.engine (S.device site.old) (S.device site.new) }
+        ensures ran { Ran (by_engine S.tells) script (request_of (item_of cut self.old.reader.text) ∷ [])
+            result self.old.engine self.new.engine (S.device site.old) (S.device site.new) }
         ensures reader { self.new.reader ≡ self.old.reader }
     {
         match cut {
@@ -111,9 +114,11 @@ impl Session {
         requires ready { IsReady S.tells self.old.engine (S.device site.old) }
         ensures within { IfOk result (λ n. n ≤ length bytes.now) }
         ensures some { IfOk result (λ n. 0 < length bytes.now → 0 < n) }
-        ensures ran { IfOk result (λ n. Ran S.tells (requests_from self.old.reader.place (take n bytes.now)) result self.old.engine self.new.engine (S.device site.old) (S.device site.new)) }
+        ensures ran { IfOk result (λ n. Ran (by_engine S.tells) script (requests_from self.old.reader.place (take n bytes.now))
+            result self.old.engine self.new.engine (S.device site.old) (S.device site.new)) }
         ensures place { IfOk result (λ n. self.new.reader.place ≡ place_from self.old.reader.place (take n bytes.now)) }
-        ensures fault { IsErr result → Ran S.tells (requests_from self.old.reader.place bytes.now) result self.old.engine self.new.engine (S.device site.old) (S.device site.new) }
+        ensures fault { IsErr result → Ran (by_engine S.tells) script (requests_from self.old.reader.place bytes.now)
+            result self.old.engine self.new.engine (S.device site.old) (S.device site.new) }
     {
         let fed = self.reader.feed(bytes);
         match fed.cut {
@@ -133,7 +138,8 @@ impl Session {
         piece: &[u8],
     ) -> Result<(), RunFault>
         requires ready { IsReady S.tells self.old.engine (S.device site.old) }
-        ensures ran { Ran S.tells (requests_from self.old.reader.place piece.now) result self.old.engine self.new.engine (S.device site.old) (S.device site.new) }
+        ensures ran { Ran (by_engine S.tells) script (requests_from self.old.reader.place piece.now)
+            result self.old.engine self.new.engine (S.device site.old) (S.device site.new) }
         ensures place { OnOk result (self.new.reader.place ≡ place_from self.old.reader.place piece.now) }
     {
         let mut rest = piece;
@@ -149,7 +155,8 @@ impl Session {
     /// Says the reply to a statement that the end of the script cuts off.
     pub(crate) fn carry_out_end<S: Site>(&mut self, site: &mut S) -> Result<(), RunFault>
         requires ready { IsReady S.tells self.old.engine (S.device site.old) }
-        ensures ran { Ran S.tells (requests_at_end self.old.reader.place) result self.old.engine self.new.engine (S.device site.old) (S.device site.new) }
+        ensures ran { Ran (by_engine S.tells) script (requests_at_end self.old.reader.place)
+            result self.old.engine self.new.engine (S.device site.old) (S.device site.new) }
         ensures output { IsErr result → result ≡ Err RunFault.Output }
     {
         match self.reader.finish() {

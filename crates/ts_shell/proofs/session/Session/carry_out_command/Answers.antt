@@ -2,7 +2,9 @@ use Rattle.std.proofs.Common.{◌≡◌, ℕ, List, Result, Ok, Err, sym, ◌∙
 use Rattle.ts_engine.specs.declared.fault.StepFault.{StepFault}
 use Rattle.ts_engine.specs.declared.fault.StepFault.TheVariants as faults
 use Rattle.ts_replies.specs.Acknowledged.{memory_line}
-use Rattle.ts_shell.proofs.ItemLemmas.{Steps, steps_done, steps_wanting, said_ran, failed_ran, never_closed}
+use Rattle.ts_shell.proofs.SayingLemmas.{Steps, said_ran}
+use Rattle.ts_shell.proofs.ItemLemmas.{steady, steps_done, steps_wanting, failed_ran, never_closed}
+use Rattle.ts_shell.specs.Run.{script, by_engine}
 use Rattle.ts_shell.proofs.session.Session.carry_out_command.Goals as goal
 
 pub returns-in-Ok-clause-ran : goal.returns-in-Ok-clause-ran
@@ -15,7 +17,7 @@ returns-in-Ok-clause-ran g c =
     let f = c.step.new.self in
     let line : List ℕ = c.as_slice.result.now in
     let steps = steps_done tells c.args.command.now c.step.new.out e f v x (c.in-Ok.ensures.stepped c.requires.ready.unspent) in
-    said_ran tells (Ok c.args.command.now) line e f v x (subst (λ (l : List ℕ). Steps tells (Ok c.args.command.now) l e f v x) (sym c.as_slice.ensures) steps) w c.say.result c.say.ensures.says c.say.ensures.output
+    said_ran (by_engine tells) script (steady tells) (Ok c.args.command.now) line e f v x (subst (λ (l : List ℕ). Steps (by_engine tells) script (Ok c.args.command.now) l e f v x) (sym c.as_slice.ensures) steps) w c.say.result c.say.ensures.says c.say.ensures.output
 
 pub returns-in-Err-Memory-clause-ran : goal.returns-in-Err-Memory-clause-ran
 returns-in-Err-Memory-clause-ran g c =
@@ -26,7 +28,7 @@ returns-in-Err-Memory-clause-ran g c =
     let e = c.args.self.now.engine in
     let f = c.step.new.self in
     let is : ◌≡◌ {A = Result Unit StepFault} c.step.result (Err (faults.Memory _)) = c.in-Err-Memory.is ∙ ap Err c.in-Err-Memory.field-0-is in
-    said_ran tells (Ok c.args.command.now) memory_line e f v x (steps_wanting tells c.args.command.now c.step.result _ c.step.new.out e f v x is (c.step.ensures.stepped c.requires.ready.unspent)) w c.say-in-Err-Memory.result c.say-in-Err-Memory.ensures.says c.say-in-Err-Memory.ensures.output
+    said_ran (by_engine tells) script (steady tells) (Ok c.args.command.now) memory_line e f v x (steps_wanting tells c.args.command.now c.step.result _ c.step.new.out e f v x is (c.step.ensures.stepped c.requires.ready.unspent)) w c.say-in-Err-Memory.result c.say-in-Err-Memory.ensures.says c.say-in-Err-Memory.ensures.output
 
 pub returns-in-Err-Disk-clause-ran : goal.returns-in-Err-Disk-clause-ran
 returns-in-Err-Disk-clause-ran g c =
