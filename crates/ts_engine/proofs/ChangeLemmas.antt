@@ -25,7 +25,7 @@ on_ok (Err e) P ok holds = absurd (cc)
 
 -- bytes of which an emptied journal leaves the pages
 alike_but_freed : (tells : Bool) (s : State) (v : Device) (wanted : ℕ → List ℕ) (image : List ℕ) → IsOver tells s v → ReadsButFreed v.size s.overlay wanted image → ReadsAlike v.size wanted image
-alike_but_freed tells s v wanted image over reads = record { size = reads.size; sound = reads.sound; alike = same_but_freed s.pages v.size s.overlay wanted image over.allowed reads }
+alike_but_freed tells s v wanted image over reads = record { size = reads.size; sound = reads.sound; alike = same_but_freed s.pages v.size s.overlay wanted image over.read.allowed reads }
 
 -- a commit of a batch on which the work was done
 module _ (tells : Bool) (e f : Kept) (v w : Device) (before : IsOver tells e.store v) (moments : IsTrue tells → LeavesOnly v w (BeforeOrRead e.store v)) (keeps : Keeps tells v w) where
@@ -153,7 +153,7 @@ module _ (tells : Bool) (worked : Result Unit StoreFault) (done : IsOk worked) (
 
 -- the bytes held read as their pages
 alike_held : (tells : Bool) (told : IsTrue tells) (s : State) (v : Device) → Lawful tells v → IsOver tells s v → ReadsAlike v.size (pages v.held) v.held
-alike_held tells told s v lawful over = record { size = lawful.size told; sound = ((over.stands told).rs, (over.stands told).stands.records); alike = λ k. inl refl }
+alike_held tells told s v lawful over = record { size = lawful.size told; sound = ((over.read.stands told).rs, (over.read.stands told).stands.records); alike = λ k. inl refl }
 
 -- a moment before anything is written
 before_finish : (tells : Bool) (worked : Result Unit StoreFault) (s : State) (v : Device) → Lawful tells v → IsOver tells s v → IsTrue tells → LeavesOnly v v (FinishLeaves worked s v)
@@ -226,7 +226,7 @@ module _ (tells : Bool) (Work : Contents → Contents → Type 0) (worked : Resu
     (calls : Undisturbed tells e.store g.store v x) (work : OnOk worked (Work (contents_over e.store v) (contents_over g.store x))) (cause : worked ≡ Err StoreFailed → Rose v.faults x.faults) (quiet : (worked ≡ Err StoreFailed → ⊥) → x.faults ≡ v.faults) where
   -- what is read before the work is what the pages are
   before_work : IsTrue tells → read_pages e.store v.held ≡ pages v.held
-  before_work told = λ i k. read_closed e.store v.held idle.batch (idle.over.stands told) k i
+  before_work told = λ i k. read_closed e.store v.held idle.batch (idle.over.read.stands told) k i
 
   alike_before : IsTrue tells → ReadsAlike v.size (read_pages e.store v.held) v.held
   unfolding before_work
@@ -274,7 +274,7 @@ module _ (tells : Bool) (Work : Contents → Contents → Type 0) (worked : Resu
             reads = drop.reads;
             cached = λ told now. subst (AreInPlace w.held) (sym drop.cache) (subst (λ (bytes : List ℕ). AreInPlace bytes g.store.cache) (sym drop.reads.held) now);
           })
-              (lawful_same tells (contents_over back x) (contents_over f.store w) idle_back.over.lawful drop.pages (λ told k. pages_is k) drop.free);
+              (lawful_same tells (contents_over back x) (contents_over f.store w) idle_back.over.read.lawful drop.pages (λ told k. pages_is k) drop.free);
           batch = drop.batch;
           kept_free = drop.kept_free ∙ sym drop.free;
         };

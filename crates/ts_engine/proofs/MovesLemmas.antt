@@ -104,7 +104,7 @@ module _ (tells : Bool) (after : Catalogue → Catalogue) (Work : Contents → C
             (λ new.
             let to = next told new.0 new.1 in
             inr (subst (MeansCatalogue image) (sym (goes told cat at new.0 new.1))
-            (means_layout v.size new.0.page image to.layout ready.idle.over.volume new.2.size new.2.sound new.2.alike (counted v.size e.store.pages ready.idle.over.size ∙ (ready.layout told).1.size ∙ ap (λ (n : ℕ). 930 + n) (sym to.size)) (to.holds told) to.rules))) now.0,
+            (means_layout v.size new.0.page image to.layout ready.idle.over.read.volume new.2.size new.2.sound new.2.alike (counted v.size e.store.pages ready.idle.over.read.size ∙ (ready.layout told).1.size ∙ ap (λ (n : ℕ). 930 + n) (sym to.size)) (to.holds told) to.rules))) now.0,
         now.1,
       ))
       (changed.moments told)

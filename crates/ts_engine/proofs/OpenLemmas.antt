@@ -41,7 +41,7 @@ opened_err tells (Err other) fault v w is opened = subst (λ (x : SurveyFault). 
 
 -- what is read of an idle store is what the pages are
 pub read_idle : (tells : Bool) (told : IsTrue tells) (s : State) (d : Device) → IsIdle tells s d → read_pages s d.held ≡ pages d.held
-read_idle tells told s d idle = λ i k. read_closed s d.held idle.batch (idle.over.stands told) k i
+read_idle tells told s d idle = λ i k. read_closed s d.held idle.batch (idle.over.read.stands told) k i
 
 -- pages of which no layout serves are those of no store
 pub survey_fault : (tells : Bool) (fault : SurveyFault) (number : ℕ) (s : State) (v w : Device) → Lawful tells v → IsIdle tells s v → number ≡ s.pages
@@ -50,7 +50,7 @@ survey_fault tells Failed number s v w lawful idle same cause quiet refused = ca
 survey_fault tells (Memory error) number s v w lawful idle same cause quiet refused = quiet (λ failed. cc)
 survey_fault tells (NotAStore page) number s v w lawful idle same cause quiet refused = (
   λ told cat means.
-      let count : page_count (length v.held) ≡ number = ap page_count (lawful.size told) ∙ counted v.size s.pages idle.over.size ∙ sym same in
+      let count : page_count (length v.held) ≡ number = ap page_count (lawful.size told) ∙ counted v.size s.pages idle.over.read.size ∙ sym same in
       let laid = means.pages.1 in
       refused told means.pages.0 (record {
         size = sym count ∙ laid.size;
@@ -83,7 +83,10 @@ admitted tells s t d x space free idle found is =
           };
     } in
     subst (λ (z : State). IsOver tells z d) (sym is)
-    (record { size = over.size; volume = over.volume; settled = over.settled; stands = over.stands; allowed = over.allowed; lawful = lawful; cached = over.cached })
+    (record {
+      read = record { size = over.read.size; volume = over.read.volume; stands = over.read.stands; allowed = over.read.allowed; lawful = lawful; cached = over.read.cached };
+      settled = over.settled;
+    })
 
 -- what was found is found still once the batch is dropped
 pub found_dropped : (tells : Bool) (count : ℕ) (s t u : State) (v w : Device) (x : Definitions) (space : Directory) (free : List ℕ) → IsIdle tells s v → Undisturbed tells s t v w → u ≡ record t { batch = []; free = t.kept_free }
@@ -115,14 +118,14 @@ module _ (tells : Bool) (s t : State) (v : Device) (x : Definitions) (space : Di
   none_open = ap (λ (z : State). z.batch) admit ∙ idle.batch
 
   allowed : AreAllowed (page_count v.size) t.overlay
-  allowed = subst (λ (n : ℕ). AreAllowed n t.overlay) (sym (counted v.size t.pages over_admitted.size)) over_admitted.allowed
+  allowed = subst (λ (n : ℕ). AreAllowed n t.overlay) (sym (counted v.size t.pages over_admitted.read.size)) over_admitted.read.allowed
 
   -- the layout that was found is that of what the volume means
   pub means_found : Lawful tells v → (told : IsTrue tells) → MeansCatalogue v.held (catalogue_of (found.layout told).0)
   means_found lawful told =
       let known = found.layout told in
-      means_layout v.size (read_pages s v.held) v.held known.0 idle.over.volume (lawful.size told) ((idle.over.stands told).rs, (idle.over.stands told).stands.records)
-      (λ k. inl (sym (read_closed s v.held idle.batch (idle.over.stands told) k))) (counted v.size s.pages idle.over.size ∙ known.2.size) known.2.bytes known.2.rules
+      means_layout v.size (read_pages s v.held) v.held known.0 idle.over.read.volume (lawful.size told) ((idle.over.read.stands told).rs, (idle.over.read.stands told).stands.records)
+      (λ k. inl (sym (read_closed s v.held idle.batch (idle.over.read.stands told) k))) (counted v.size s.pages idle.over.read.size ∙ known.2.size) known.2.bytes known.2.rules
 
   -- the volume means the same at each moment
   pub settle_moments : Lawful tells v → (w : Device) → (IsTrue tells → LeavesOnly v w (SamePages v t.overlay)) → IsTrue tells → (cat : Catalogue) → MeansCatalogue v.held cat → LeavesOnly v w (StillMeans cat v)
@@ -141,7 +144,7 @@ module _ (tells : Bool) (s t : State) (v : Device) (x : Definitions) (space : Di
     holds : (told : IsTrue tells) → HoldsLayout (read_pages u w.held) (found.layout told).0
     unfolding over_admitted none_open none_left
     holds told =
-        let here : read_pages t v.held ≡ pages v.held = λ i k. read_closed t v.held none_open (over_admitted.stands told) k i in
+        let here : read_pages t v.held ≡ pages v.held = λ i k. read_closed t v.held none_open (over_admitted.read.stands told) k i in
         let before : read_pages t v.held ≡ read_pages s v.held = ap (λ (z : State). read_pages z v.held) admit in
         let alike = read_committed tells told t u v w over_admitted none_left over (subst (λ (p : ℕ → List ℕ). ReadsButFreed v.size t.overlay p w.held) (sym here) (reads told)) in
         let known = found.layout told in

@@ -30,13 +30,13 @@ module _ (tells : Bool) (e : Kept) (v : Device) (l : Layout) (lawful : Lawful te
   -- bytes that read as its pages mean the catalogue of the layout
   pub means_alike : (image : List ℕ) → HoldsLayout (read_pages e.store v.held) l → ReadsAlike v.size (read_pages e.store v.held) image → MeansCatalogue image (catalogue_of l)
   means_alike image holds reads =
-      means_layout v.size (read_pages e.store v.held) image l idle.over.volume reads.size reads.sound reads.alike (counted v.size e.store.pages idle.over.size ∙ kept.size) holds kept.rules
+      means_layout v.size (read_pages e.store v.held) image l idle.over.read.volume reads.size reads.sound reads.alike (counted v.size e.store.pages idle.over.read.size ∙ kept.size) holds kept.rules
 
   pub alike_idle : IsTrue tells → ReadsAlike v.size (read_pages e.store v.held) v.held
   alike_idle told = record {
     size = lawful.size told;
-    sound = ((idle.over.stands told).rs, (idle.over.stands told).stands.records);
-    alike = λ k. inl (sym (read_closed e.store v.held idle.batch (idle.over.stands told) k));
+    sound = ((idle.over.read.stands told).rs, (idle.over.read.stands told).stands.records);
+    alike = λ k. inl (sym (read_closed e.store v.held idle.batch (idle.over.read.stands told) k));
   }
 
   pub means_held : IsTrue tells → HoldsLayout (read_pages e.store v.held) l → MeansCatalogue v.held (catalogue_of l)

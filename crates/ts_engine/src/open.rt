@@ -2,7 +2,7 @@
 ghost use Rattle.std.specs.Prelude.{◌≡◌, IsTrue, IfOk, IfErr, IsErrOf, OnOk};
 ghost use Rattle.ts_disk.specs.Device.{Only, Rose};
 ghost use Rattle.ts_journal.specs.Moment.{OnlyReads};
-ghost use Rattle.ts_store.specs.OpenBatch.{IsIdle, IsOver, read_pages, contents_over};
+ghost use Rattle.ts_store.specs.OpenBatch.{IsIdle, IsReadOver, read_pages, contents_over};
 ghost use Rattle.ts_store.specs.Undisturbed.{Undisturbed};
 ghost use Rattle.ts_container.specs.declared.fault.SurveyFault.TheVariants.{Failed};
 ghost use Rattle.ts_container.specs.Survey.{IsFound, IfRefused, HoldNoLayout};
@@ -77,7 +77,7 @@ fn survey_on<V: Volume>(
     vol: &mut V,
     count: u32,
 ) -> Result<Surveyed, SurveyFault>
-    requires over { IsOver V.tells store.old (V.device vol.old) }
+    requires read { IsReadOver V.tells store.old (V.device vol.old) }
     requires count { count ≡ store.old.pages }
     ensures found { IfOk result (λ s. IsFound V.tells count (contents_over store.old (V.device vol.old)) s.defs.definitions s.space s.free.items) }
     ensures refused { IfErr result (λ e. IfRefused e (IsTrue V.tells → HoldNoLayout count (read_pages store.old (V.device vol.old).held))) }

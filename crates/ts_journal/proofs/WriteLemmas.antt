@@ -1,10 +1,10 @@
 -- A run of writes, one piece behind the other.
-use Rattle.std.proofs.Common.{◌≡◌, ℕ, ◌+◌, ◌≤◌, Bool, IsTrue, Result, Ok, Err, OnOk, OnErr, IsOk, IsErr, List, [], ◌++◌, length, refl, sym, ◌∙◌, subst, arith, length-append}
+use Rattle.std.proofs.Common.{◌≡◌, ℕ, ◌+◌, ◌≤◌, Bool, IsTrue, Result, Ok, Err, OnOk, OnErr, IsOk, IsErr, IsErrAnd, IsErrOf, List, [], ◌++◌, length, refl, ap, sym, ◌∙◌, subst, arith, length-append}
 use Rattle.std.proofs.lemmas.Bool.{false≢true}
-use Rattle.ts_disk.specs.Device.{Device, Lawful, Torn, Follows, WrittenAt, Synced, Rose, overwritten}
+use Rattle.ts_disk.specs.Device.{Device, Lawful, Torn, Follows, LeavesOnly, WrittenAt, Synced, Rose, overwritten}
 use Rattle.ts_disk.proofs.Moments.{started, calls_on, leaves_map, then_on}
 use Rattle.ts_disk.proofs.Ranges.{Torn-within, Follows-within, overwritten-append}
-use Rattle.ts_journal.specs.Moment.{Keeps, TornFrom, WritesWithin, Writes}
+use Rattle.ts_journal.specs.Moment.{Keeps, TornFrom, WritesWithin, Writes, MakesLast}
 use Rattle.ts_journal.proofs.RangeLemmas.{Torn-refl, overwritten-none}
 
 pub keeps_refl : (tells : Bool) (v : Device) → Keeps tells v v
@@ -149,3 +149,15 @@ writes_then tells at place xs ys r v w x lawful room is_place first second =
 pub writes_stopped : {E F : Type 0} (tells : Bool) (at : ℕ) (xs ys : List ℕ) (q : Result Unit E) (r : Result Unit F) (v w : Device) → IsErr q → IsErr r → Writes tells at xs q v w → Writes tells at (xs ++ ys) r v w
 writes_stopped tells at xs ys q r v w failed err first =
     writes_failed tells at (xs ++ ys) r v w err (within_wider tells at (length (xs ++ ys)) at (length xs) v w (omega arith) (omega (arith, length-append xs ys)) first.within) (first.cause failed)
+
+-- an answer that is this error
+pub err_of : {E : Type 0} (r : Result Unit E) (e : E) → IsErrAnd r (λ x. x ≡ e) → IsErrOf r e
+err_of (Ok done) e is = absurd is
+err_of (Err other) e is = ap Err is
+
+-- a call that the disk failed made nothing last
+pub lasts_failed : {E : Type 0} (tells : Bool) (after : List ℕ → Type 0) (moment : List ℕ → List ℕ → Type 0) (failed : Type 0) (r : Result Unit E) (v w : Device) → IsErr r → failed → Rose v.faults w.faults → Keeps tells v w
+    → (IsTrue tells → LeavesOnly v w moment) → MakesLast tells after moment failed r v w
+lasts_failed tells after moment failed (Ok done) v w err is rose keeps moments = absurd (false≢true err)
+lasts_failed tells after moment failed (Err e) v w err is rose keeps moments =
+    record { ok = tt; durable = tt; cause = λ again. rose; no_fault = λ none. absurd (none is); others = keeps; moments = moments }

@@ -95,3 +95,17 @@ put_page e pages number = if e.0 == number then content e.1 else pages number
 abbrev pub put_pages : List Entry → (ℕ → List ℕ) → ℕ → List ℕ
 put_pages [] pages = pages
 put_pages (e ∷ es) pages = put_pages es (put_page e pages)
+
+-- a page after a change, if there is one
+abbrev pub changed : Option Change → List ℕ → List ℕ
+changed None page = page
+changed (Some change) page = content change
+
+-- the first change, or else the other
+abbrev pub change_or : Option Change → Option Change → Option Change
+change_or None other = other
+change_or (Some change) other = Some change
+
+-- pages by their numbers, with these changes over them
+abbrev pub over : List Entry → (ℕ → List ℕ) → ℕ → List ℕ
+over es pages number = changed (change_of number es) (pages number)

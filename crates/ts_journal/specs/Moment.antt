@@ -1,8 +1,8 @@
 -- What the calls of a journal do to a volume, and what a stop within them leaves.
-use Rattle.std.specs.Prelude.{◌≡◌, ◌⊎◌, ℕ, ◌<◌, ◌≤◌, Bool, IsTrue, List, length, Result, Ok, Err, OnOk, IsOk, IsErr}
-use Rattle.ts_disk.specs.Device.{Device, Torn, Follows, LeavesOnly, Rose, overwritten}
-use Rattle.ts_journal.specs.Entry.{Entry, put_pages}
-use Rattle.ts_journal.specs.Journal.{pages, ReadsAs, ReadsButFreed}
+use Rattle.std.specs.Prelude.{◌≡◌, ◌≢◌, ◌⊎◌, ℕ, ◌<◌, ◌≤◌, Bool, IsTrue, List, [], length, Result, Ok, Err, OnOk, IsOk, IsErr}
+use Rattle.ts_disk.specs.Device.{Device, Only, Torn, Follows, LeavesOnly, Rose, overwritten}
+use Rattle.ts_journal.specs.Entry.{Entry, AreAllowed, put_pages}
+use Rattle.ts_journal.specs.Journal.{IsVolumeSize, page_count, pages, IsAtEnd, StandsOver, ReadsAs, ReadsButFreed}
 use Rattle.ts_journal.specs.declared.journal.CommitFault.{CommitFault}
 use Rattle.ts_journal.specs.declared.journal.CommitFault.TheVariants.{Failed, NoRoom}
 
@@ -22,6 +22,31 @@ BeforeOrAfter v es image said =
 -- the same pages, but for the bytes after the heads of the pages that the overlay frees, and nothing said
 abbrev pub SamePages : Device → List Entry → List ℕ → List ℕ → Type 0
 SamePages v overlay image said = ReadsButFreed v.size overlay (pages v.held) image × (said ≡ v.said)
+
+-- The journal of this volume stands here, and this overlay is what its records put over the pages; nothing is pending.
+pub record IsJournalOf (tells : Bool) (position : ℕ) (overlay : List Entry) (v : Device) : Type 0 where
+  pub size : IsVolumeSize v.size
+  pub settled : Only v.held v.images
+  pub stands : IsTrue tells → StandsOver position overlay v.held
+  pub allowed : AreAllowed (page_count v.size) overlay
+
+-- These changes can go behind the records of this volume, the last of which ends here; nothing is pending.
+pub record CanCommit (tells : Bool) (position : ℕ) (es : List Entry) (v : Device) : Type 0 where
+  pub size : IsVolumeSize v.size
+  pub settled : Only v.held v.images
+  pub stands : IsTrue tells → IsAtEnd position v.held
+  pub changes : es ≢ []
+  pub allowed : AreAllowed (page_count v.size) es
+
+-- What each call does that makes pages last: after an Ok the bytes held are such ones, and a stop leaves these alone; a stop
+-- within the call leaves such a moment; and the count of the disk's faults rises exactly where the disk failed.
+pub record MakesLast {E : Type 0} (tells : Bool) (after : List ℕ → Type 0) (moment : List ℕ → List ℕ → Type 0) (failed : Type 0) (result : Result Unit E) (v w : Device) : Type 0 where
+  pub ok : OnOk result (IsTrue tells → after w.held)
+  pub durable : OnOk result (Only w.held w.images)
+  pub cause : failed → Rose v.faults w.faults
+  pub no_fault : ¬ failed → w.faults ≡ v.faults
+  pub others : Keeps tells v w
+  pub moments : IsTrue tells → LeavesOnly v w moment
 
 -- when each answer of a commit comes, where it needs so many bytes and there is this room
 abbrev pub CommitCause : ℕ → ℕ → Result Unit CommitFault → Type 0 → Type 0

@@ -1,6 +1,6 @@
 // What holds of the bytes of every journal, and of the overlay of every list of records.
 ghost use Rattle.std.specs.Prelude.{◌≡◌, ◌≤◌, ◌<◌, ◌^◌, ℕ, List, All, length, Some, None};
-ghost use Rattle.ts_journal.specs.Entry.{Entry as AnEntry, IsRising, change_of};
+ghost use Rattle.ts_journal.specs.Entry.{Entry as AnEntry, IsRising, change_of, put_all, over};
 ghost use Rattle.ts_journal.specs.Record.{AreBytes, IsRecord, first_record};
 ghost use Rattle.ts_journal.specs.Journal.{IsVolumeSize, page_count, region, records, overlay_of, last_change, AreRecords, IsMalformed};
 
@@ -23,8 +23,11 @@ pub fn records_are_read_where_they_stand()
     ensures none { (image : List ℕ) → IsVolumeSize (length image) → AreBytes image → IsMalformed image → records image ≡ None }
 {}
 
-/// What records put over the pages has one entry for each page that they name, which is the last there.
+/// What records put over the pages has one entry for each page that they name, which is the last there; and what a batch puts
+/// over pages is read over what was put there before.
 pub fn an_overlay_has_the_last_change_of_each_page()
     ensures last { (rs : List (List AnEntry)) (number : ℕ) → change_of number (overlay_of rs) ≡ last_change number rs }
     ensures one { (rs : List (List AnEntry)) (top : ℕ) → All (IsRising 0 top) rs → IsRising 0 top (overlay_of rs) }
+    ensures over { (old es : List AnEntry) (pages : ℕ → List ℕ) (number : ℕ) → IsRising 0 (2 ^ 32) es →
+        over (put_all old es) pages number ≡ over es (over old pages) number }
 {}

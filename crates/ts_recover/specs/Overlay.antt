@@ -1,6 +1,7 @@
--- When each answer of a recovery comes.
-use Rattle.std.specs.Prelude.{◌≡◌, ◌⊎◌, ℕ, Bool, IsTrue, Result, Ok, Err, None, List}
+-- When each answer of a recovery comes, and what a settling leaves in memory.
+use Rattle.std.specs.Prelude.{◌≡◌, ◌⊎◌, ℕ, ◌+◌, ◌≤◌, Bool, IsTrue, Result, Ok, Err, None, List, [], length}
 use Rattle.ts_disk.specs.Device.{Device, Rose}
+use Rattle.ts_journal.specs.Entry.{Entries}
 use Rattle.ts_journal.specs.Journal.{IsVolumeSize, records, IsMalformed}
 use Rattle.ts_recover.specs.declared.replay.RecoverFault.{RecoverFault}
 use Rattle.ts_recover.specs.declared.replay.RecoverFault.TheVariants.{Failed, NotAStore, Memory}
@@ -27,3 +28,10 @@ ReadCause (Ok done) v w = Unit {0}
 ReadCause (Err Failed) v w = Rose v.faults w.faults
 ReadCause (Err (NotAStore page)) v w = ⊥
 ReadCause (Err (Memory e)) v w = Unit {0}
+
+-- the next record goes to the front, no page has an overlay, and the memory of the overlay's entries is free for others
+pub record IsEmptied (old new : Entries) (position : ℕ) : Type 0 where
+  pub emptied : position ≡ 0
+  pub overlay : new.entries ≡ []
+  pub spare : old.spare + length old.entries ≤ new.spare
+  pub image_spare : old.image_spare ≤ new.image_spare

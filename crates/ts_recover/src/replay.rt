@@ -1,11 +1,10 @@
 // What an opening reads of the journal, and the settling.
-ghost use Rattle.std.specs.Prelude.{◌≡◌, ◌+◌, ◌*◌, ◌≤◌, ◌<◌, [], length, IsTrue, IsOk, IsErr, IsErrOf, IfOk, OnOk, OnErr};
-ghost use Rattle.ts_disk.specs.Device.{Only, LeavesOnly, Rose};
+ghost use Rattle.std.specs.Prelude.{◌≡◌, ◌*◌, [], IsTrue, IsErr, IsErrOf, IfOk, OnOk, OnErr};
 ghost use Rattle.ts_page.specs.Volume.{page_size};
 ghost use Rattle.ts_journal.specs.Entry.{AreAllowed};
 ghost use Rattle.ts_journal.specs.Journal.{IsVolumeSize, page_count, StandsAt, StandsOver, StaysUnread, ReadsButFreed, pages};
-ghost use Rattle.ts_journal.specs.Moment.{Keeps, OnlyReads, SamePages};
-ghost use Rattle.ts_recover.specs.Overlay.{RecoverCause, PageOneCause};
+ghost use Rattle.ts_journal.specs.Moment.{IsJournalOf, MakesLast, OnlyReads, SamePages};
+ghost use Rattle.ts_recover.specs.Overlay.{IsEmptied, RecoverCause, PageOneCause};
 ghost use Rattle.ts_recover.specs.declared.replay.RecoverFault.TheVariants.{Failed as RecoverFailed, Memory as RecoverMemory};
 
 use crate::read::read_journal;
@@ -87,28 +86,17 @@ pub fn recover<V: Volume>(alloc: Global, vol: &mut V) -> Result<Replayed, Recove
 
 /// Brings the pages of the journal's records to their places, and empties the journal.
 pub fn settle<V: Volume>(replayed: &mut Replayed, vol: &mut V) -> Result<(), Failed>
-    requires size { IsVolumeSize (V.device vol.old).size }
-    requires settled { Only (V.device vol.old).held (V.device vol.old).images }
-    requires stands { IsTrue V.tells → StandsOver replayed.old.journal replayed.old.overlay.entries (V.device vol.old).held }
-    requires allowed { AreAllowed (page_count (V.device vol.old).size) replayed.old.overlay.entries }
+    requires over { IsJournalOf V.tells replayed.old.journal replayed.old.overlay.entries (V.device vol.old) }
 
-    ensures ok { OnOk result (IsTrue V.tells
-        → ReadsButFreed (V.device vol.old).size replayed.old.overlay.entries (pages (V.device vol.old).held) (V.device vol.new).held) }
+    ensures lasts { MakesLast V.tells
+        (ReadsButFreed (V.device vol.old).size replayed.old.overlay.entries (pages (V.device vol.old).held))
+        (SamePages (V.device vol.old) replayed.old.overlay.entries)
+        (IsErr result) result (V.device vol.old) (V.device vol.new) }
     ensures stands { OnOk result (IsTrue V.tells → StandsAt 0 [] (V.device vol.new).held) }
-    ensures emptied { OnOk result (replayed.new.journal ≡ 0) }
-    ensures overlay { OnOk result (replayed.new.overlay.entries ≡ []) }
-    // The memory of the overlay's entries is free for others.
-    ensures spare { OnOk result (replayed.old.overlay.spare + length replayed.old.overlay.entries ≤ replayed.new.overlay.spare) }
-    ensures image_spare { OnOk result (replayed.old.overlay.image_spare ≤ replayed.new.overlay.image_spare) }
-    ensures durable { OnOk result (Only (V.device vol.new).held (V.device vol.new).images) }
+    ensures emptied { OnOk result (IsEmptied replayed.old.overlay replayed.new.overlay replayed.new.journal) }
     ensures err { OnErr result (replayed.new ≡ replayed.old) }
     ensures pages { replayed.new.pages ≡ replayed.old.pages }
-    ensures cause { IsErr result → Rose (V.device vol.old).faults (V.device vol.new).faults }
-    ensures no_fault { IsOk result → (V.device vol.new).faults ≡ (V.device vol.old).faults }
     ensures untouched { replayed.old.journal ≡ 0 → vol.new ≡ vol.old }
-    ensures others { Keeps V.tells (V.device vol.old) (V.device vol.new) }
-    ensures moments { IsTrue V.tells → LeavesOnly (V.device vol.old) (V.device vol.new)
-        (SamePages (V.device vol.old) replayed.old.overlay.entries) }
 {
     replayed.journal.checkpoint(vol, &replayed.overlay)?;
     replayed.overlay.clear();

@@ -3,14 +3,13 @@ use Rattle.std.proofs.Common.{◌≡◌, ℕ, ◌<◌, ◌^◌, ◌⊎◌, inl, 
 use Rattle.std.proofs.lemmas.Bool.{cond-false, ne_eqb, cond-true, cases_eq, eq-eqb}
 use Rattle.ts_page.specs.Pages.{IsOutsideJournal}
 use Rattle.ts_journal.specs.declared.batch.Change.{Change}
-use Rattle.ts_journal.specs.Entry.{Entry, IsAllowed, AreAllowed, IsRising, change_of, put, put_all}
+use Rattle.ts_journal.specs.Entry.{Entry, IsAllowed, AreAllowed, IsRising, change_of, changed, change_or, over, put, put_all}
 use Rattle.ts_journal.specs.Journal.{own_page, pages, StandsOver, ReadsButFreed, SameOrFreed}
-use Rattle.ts_journal.proofs.CallerLemmas.{put_rising, change_of-put}
+use Rattle.ts_journal.proofs.CallerLemmas.{put_rising, change_of-put, over_pages, put_all_none}
 use Rattle.ts_recover.proofs.CallerLemmas.{put_allowed}
 use Rattle.ts_cache.specs.Cache.{Cache, EachPage, page_of, after_get, after_put, after_forget}
 use Rattle.ts_cache.proofs.CallerLemmas.{each_got, each_put, each_forgotten}
-use Rattle.ts_store.specs.OpenBatch.{State, IsSound, AreClean, IsInPlace, AreInPlace, change_or, changed, page_or, in_memory, after_read, over, read_pages}
-use Rattle.ts_store.proofs.ReadLemmas.{over_pages}
+use Rattle.ts_store.specs.OpenBatch.{State, IsSound, AreClean, IsInPlace, AreInPlace, page_or, in_memory, after_read, read_pages}
 
 -- the entries keep the rules with one more, if its page is taken out of the cache
 pub sound_set : (count number : ℕ) (overlay batch new : List Entry) (c d : Cache) (change : Change) → new ≡ put number change batch → d ≡ after_forget number c
@@ -108,17 +107,6 @@ cached_next s t bytes held new overlay batch after same stands reads cached = re
       ∙ over_pages t.journal t.overlay new stands k
       ∙ ap (λ (o : Option Change). changed o (own_page new k)) (after k kept found);
 }
-
--- no change comes of none
-pub put_all_none : (k : ℕ) (old es : List Entry) → change_of k old ≡ None → change_of k es ≡ None → change_of k (put_all old es) ≡ None
-put_all_none k old [] none less = none
-put_all_none k old (e ∷ es) none less = elim (cases_eq e.0 k) [
-  | inl here ↦ let some = sym (cond-true (eqb e.0 k) (Some e.1) (change_of k es) (eq-eqb e.0 k here)) ∙ less in absurd cc
-  | inr there ↦
-      put_all_none k (put e.0 e.1 old) es
-      (change_of-put old e.0 e.1 k ∙ cond-false (eqb e.0 k) (Some e.1) (change_of k old) (ne_eqb e.0 k there) ∙ none)
-      (sym (cond-false (eqb e.0 k) (Some e.1) (change_of k es) (ne_eqb e.0 k there)) ∙ less)
-]
 
 -- a commit leaves no change of a page of the cache
 pub sound_committed : (count next : ℕ) (old mid new batch : List Entry) (c : Cache) → IsSound count old batch c → ((k : ℕ) → change_of k old ≡ None → change_of k mid ≡ None)

@@ -8,61 +8,72 @@ use Rattle.ts_journal.specs.Journal.{IsVolumeSize, page_count, records, pages, S
 use Rattle.ts_journal.specs.Moment.{OnlyReads}
 use Rattle.ts_recover.proofs.CallerLemmas.{still_only}
 use Rattle.ts_cache.proofs.CallerLemmas.{none_has}
-use Rattle.ts_store.specs.declared.store.TheConstants.{CACHE_PAGES}
-use Rattle.ts_store.specs.OpenBatch.{State, IsInPlace, AreInPlace, IsOver, IsIdle, IsFresh, Closes, read_pages, contents_over}
+use Rattle.ts_store.specs.OpenBatch.{State, IsInPlace, AreInPlace, IsReadOver, IsOver, IsIdle, IsFresh, Closes, cache_pages, read_pages, contents_over}
 use Rattle.ts_store.specs.Undisturbed.{Undisturbed}
 pub use Rattle.ts_journal.proofs.CallerLemmas.{keeps_refl, keeps_then}
 pub use Rattle.ts_recover.proofs.CallerLemmas.{reads_none, reads_then}
 pub use Rattle.ts_store.proofs.ReadLemmas.{read_closed, same_but_freed}
 pub use Rattle.ts_store.proofs.CommitLemmas.{counted}
 
--- a store whose journal was just read is over its volume
-pub over_fresh : (tells : Bool) (count position : ℕ) (entries : List Entry) (s : State) (d : Device) → IsFresh count position entries s → d.size ≡ 4096 * count → IsVolumeSize d.size → Only d.held d.images
-    → (IsTrue tells → StandsOver position entries d.held) → AreAllowed count entries → IsOver tells s d
-over_fresh tells count position entries s d fresh size volume settled stands allowed = record {
+-- a store whose journal was just read can be read over its volume
+pub read_fresh : (tells : Bool) (count position : ℕ) (entries : List Entry) (s : State) (d : Device) → IsFresh count position entries s → d.size ≡ 4096 * count → IsVolumeSize d.size
+    → (IsTrue tells → StandsOver position entries d.held) → AreAllowed count entries → IsReadOver tells s d
+read_fresh tells count position entries s d fresh size volume stands allowed = record {
   size = size ∙ ap (λ (n : ℕ). 4096 * n) (sym fresh.pages);
   volume = volume;
-  settled = settled;
   stands = λ told. subst (λ (p : ℕ). StandsOver p s.overlay d.held) (sym fresh.journal) (subst (λ (es : List Entry). StandsOver position es d.held) (sym fresh.overlay) (stands told));
   allowed = subst (λ (n : ℕ). AreAllowed n s.overlay) (sym fresh.pages) (subst (AreAllowed count) (sym fresh.overlay) allowed);
   lawful = record {
     different = λ i j e before within same. none_within j within;
     listed = λ k e within. absurd (none_within k within);
   };
-  cached = λ told. subst (AreInPlace d.held) (sym fresh.cache) (record { each = none_has (IsInPlace d.held) CACHE_PAGES });
+  cached = λ told. subst (AreInPlace d.held) (sym fresh.cache) (record { each = none_has (IsInPlace d.held) cache_pages });
 }
   where
     none_within : (k : ℕ) → k < length s.free → ⊥
     none_within k within = omega (arith, within, ap length fresh.free)
 
--- so is one whose journal was read from it
+-- so can one whose journal was read from it
+pub read_recovered : (tells : Bool) (count position : ℕ) (entries : List Entry) (s : State) (v w : Device) → IsFresh count position entries s → OnlyReads tells v w → v.size ≡ 4096 * count → IsVolumeSize v.size
+    → (IsTrue tells → StandsOver position entries v.held) → AreAllowed (page_count v.size) entries → IsReadOver tells s w
+read_recovered tells count position entries s v w fresh reads size volume stands allowed =
+    read_fresh tells count position entries s w fresh (reads.keeps.size ∙ size) (subst IsVolumeSize (sym reads.keeps.size) volume)
+    (λ told. subst (StandsOver position entries) (sym reads.held) (stands told)) (subst (λ (n : ℕ). AreAllowed n entries) (counted v.size count size) allowed)
+
+-- where nothing is pending there, it is over its volume
 pub over_recovered : (tells : Bool) (count position : ℕ) (entries : List Entry) (s : State) (v w : Device) → IsFresh count position entries s → OnlyReads tells v w → v.size ≡ 4096 * count → IsVolumeSize v.size
     → Only v.held v.images → (IsTrue tells → StandsOver position entries v.held) → AreAllowed (page_count v.size) entries → IsOver tells s w
 over_recovered tells count position entries s v w fresh reads size volume settled stands allowed =
-    over_fresh tells count position entries s w fresh (reads.keeps.size ∙ size) (subst IsVolumeSize (sym reads.keeps.size) volume) (still_only tells v w reads settled)
-    (λ told. subst (StandsOver position entries) (sym reads.held) (stands told)) (subst (λ (n : ℕ). AreAllowed n entries) (counted v.size count size) allowed)
+    record { read = read_recovered tells count position entries s v w fresh reads size volume stands allowed; settled = still_only tells v w reads settled }
 
--- calls on an open batch keep a store over its volume
-pub over_still : (tells : Bool) (s t : State) (v w : Device) → IsOver tells s v → Undisturbed tells s t v w → IsLawful tells (contents_over t w) → IsOver tells t w
-over_still tells s t v w over calls lawful = record {
+-- calls on an open batch leave a store readable over its volume
+pub read_still : (tells : Bool) (s t : State) (v w : Device) → IsReadOver tells s v → Undisturbed tells s t v w → IsLawful tells (contents_over t w) → IsReadOver tells t w
+read_still tells s t v w over calls lawful = record {
   size = calls.reads.keeps.size ∙ over.size ∙ ap (λ (n : ℕ). 4096 * n) (sym calls.pages);
   volume = subst IsVolumeSize (sym calls.reads.keeps.size) over.volume;
-  settled = λ image now. over.settled image (calls.reads.images image now) ∙ sym calls.reads.held;
   stands = λ told. subst (λ (p : ℕ). StandsOver p t.overlay w.held) (sym calls.journal) (subst (λ (es : List Entry). StandsOver s.journal es w.held) (sym calls.overlay) (subst (StandsOver s.journal s.overlay) (sym calls.reads.held) (over.stands told)));
   allowed = subst (λ (n : ℕ). AreAllowed n t.overlay) (sym calls.pages) (subst (AreAllowed s.pages) (sym calls.overlay) over.allowed);
   lawful = lawful;
   cached = λ told. calls.cached told (over.cached told);
 }
 
+-- and over it, if it was
+pub over_still : (tells : Bool) (s t : State) (v w : Device) → IsOver tells s v → Undisturbed tells s t v w → IsLawful tells (contents_over t w) → IsOver tells t w
+over_still tells s t v w over calls lawful =
+    record { read = read_still tells s t v w over.read calls lawful; settled = still_only tells v w calls.reads over.settled }
+
 -- so does the taking of memory
 pub over_prepared : (tells : Bool) (s t : State) (d : Device) → t ≡ record s { spare = t.spare } → IsOver tells s d → IsOver tells t d
 over_prepared tells s t d is over =
     subst (λ (x : State). IsOver tells x d) (sym is)
-    (record { size = over.size; volume = over.volume; settled = over.settled; stands = over.stands; allowed = over.allowed; lawful = over.lawful; cached = over.cached })
+    (record {
+      read = record { size = over.read.size; volume = over.read.volume; stands = over.read.stands; allowed = over.read.allowed; lawful = over.read.lawful; cached = over.read.cached };
+      settled = over.settled;
+    })
 
 -- each volume has an element page
 pub first_element : (tells : Bool) (s : State) (d : Device) → IsOver tells s d → 930 < s.pages
-first_element tells s d over = omega (arith, over.size, over.volume.1, over.volume.3)
+first_element tells s d over = omega (arith, over.read.size, over.read.volume.1, over.read.volume.3)
 
 -- once their batch is dropped, the pages and those that can be taken are as they were
 pub read_dropped : (tells : Bool) (s t : State) (v w : Device) → Undisturbed tells s t v w → s.batch ≡ [] → (k : ℕ) → read_pages (record t { batch = []; free = t.kept_free }) w.held k ≡ read_pages s v.held k
@@ -73,13 +84,13 @@ over_dropped tells s t u v w over calls none kept dropped =
     let back : State = record t { batch = []; free = t.kept_free } in
     subst (λ (x : State). IsOver tells x w) (sym dropped)
     (over_still tells s back v w over (record { pages = calls.pages; journal = calls.journal; overlay = calls.overlay; kept_free = calls.kept_free; reads = calls.reads; cached = calls.cached })
-    (lawful_same tells (contents_over s v) (contents_over back w) over.lawful calls.pages (λ told k. read_dropped tells s t v w calls none k) (calls.kept_free ∙ sym kept)))
+    (lawful_same tells (contents_over s v) (contents_over back w) over.read.lawful calls.pages (λ told k. read_dropped tells s t v w calls none k) (calls.kept_free ∙ sym kept)))
 
 -- after a commit the pages are those that were read in its batch, but for what the emptying of the journal may change
 pub read_committed : (tells : Bool) (told : IsTrue tells) (s t : State) (v w : Device) → IsOver tells s v → t.batch ≡ [] → IsOver tells t w → ReadsButFreed v.size s.overlay (read_pages s v.held) w.held
     → SameButFreed (read_pages s v.held) (read_pages t w.held)
 read_committed tells told s t v w before none over reads =
-    same_trans (read_pages s v.held) (pages w.held) (read_pages t w.held) (same_but_freed s.pages v.size s.overlay (read_pages s v.held) w.held before.allowed reads)
+    same_trans (read_pages s v.held) (pages w.held) (read_pages t w.held) (same_but_freed s.pages v.size s.overlay (read_pages s v.held) w.held before.read.allowed reads)
     (same_from_equal (pages w.held) (read_pages t w.held) (λ k. read_closed t w.held none (over.stands told) k))
 
 -- a store whose journal was just read has no batch open
@@ -100,11 +111,11 @@ idle_dropped tells s t u v w idle calls dropped = record {
 module _ (tells : Bool) (s : State) (v : Device) (over : IsOver tells s v) where
   -- the volume has as many pages as the store
   pub over_counted : page_count v.size ≡ s.pages
-  over_counted = counted v.size s.pages over.size
+  over_counted = counted v.size s.pages over.read.size
 
   -- no record of its journal is malformed
   pub over_sound : IsTrue tells → (rs : List (List Entry)) × (records v.held ≡ Some rs)
-  over_sound told = ((over.stands told).rs, (over.stands told).stands.records)
+  over_sound told = ((over.read.stands told).rs, (over.read.stands told).stands.records)
 
   -- a stop leaves the bytes that are held
   pub over_only : (image : List ℕ) → v.images image → image ≡ v.held
@@ -112,20 +123,22 @@ module _ (tells : Bool) (s : State) (v : Device) (over : IsOver tells s v) where
 
   -- what reads as some pages, but for the heads of the pages that the overlay frees, differs from them behind the heads of free pages alone
   pub over_alike : (wanted : ℕ → List ℕ) (image : List ℕ) → ReadsButFreed v.size s.overlay wanted image → SameButFreed wanted (pages image)
-  over_alike wanted image reads = same_but_freed s.pages v.size s.overlay wanted image over.allowed reads
+  over_alike wanted image reads = same_but_freed s.pages v.size s.overlay wanted image over.read.allowed reads
 
   -- so it is once the volume did something that leaves its bytes, as a say
   pub over_kept : (w : Device) → w.size ≡ v.size → w.held ≡ v.held → ((image : List ℕ) → w.images image → v.images image) → IsOver tells s w
   over_kept w size held within = record {
-    size = size ∙ over.size;
-    volume = subst IsVolumeSize (sym size) over.volume;
+    read = record {
+      size = size ∙ over.read.size;
+      volume = subst IsVolumeSize (sym size) over.read.volume;
+      stands = λ told. subst (StandsOver s.journal s.overlay) (sym held) (over.read.stands told);
+      allowed = over.read.allowed;
+      lawful = lawful_same tells (contents_over s v) (contents_over s w) over.read.lawful refl (λ told k. ap (λ (bytes : List ℕ). read_pages s bytes k) held) refl;
+      cached = λ told. subst (λ (bytes : List ℕ). AreInPlace bytes s.cache) (sym held) (over.read.cached told);
+    };
     settled = λ image now. over.settled image (within image now) ∙ sym held;
-    stands = λ told. subst (StandsOver s.journal s.overlay) (sym held) (over.stands told);
-    allowed = over.allowed;
-    lawful = lawful_same tells (contents_over s v) (contents_over s w) over.lawful refl (λ told k. ap (λ (bytes : List ℕ). read_pages s bytes k) held) refl;
-    cached = λ told. subst (λ (bytes : List ℕ). AreInPlace bytes s.cache) (sym held) (over.cached told);
   }
 
 -- between two batches the pages that are read are those of the volume
 pub idle_reads : (tells : Bool) (s : State) (d : Device) → IsIdle tells s d → IsTrue tells → (k : ℕ) → read_pages s d.held k ≡ pages d.held k
-idle_reads tells s d idle told k = read_closed s d.held idle.batch (idle.over.stands told) k
+idle_reads tells s d idle told k = read_closed s d.held idle.batch (idle.over.read.stands told) k

@@ -1,12 +1,14 @@
 -- A page that is read in memory, or else from the volume.
-use Rattle.std.proofs.Common.{◌≡◌, ℕ, ◌*◌, ◌⊎◌, Bool, false, IsTrue, Result, Ok, IsOk, Option, Some, None, IsSome, IfSome, List, length, take, drop, refl, ap, sym, ◌∙◌, subst, arith}
+use Rattle.std.proofs.Common.{◌≡◌, ℕ, ◌+◌, ◌*◌, ◌≤◌, ◌⊎◌, Bool, false, IsTrue, Result, Ok, Err, OnOk, IsOk, Option, Some, None, IsSome, IfSome, List, length, take, drop, refl, ap, sym, ◌∙◌, subst, arith}
 use Rattle.ts_disk.specs.Device.{Device, ReadAt}
-use Rattle.ts_page.specs.Pages.{IsLawful, Got}
+use Rattle.ts_page.specs.Pages.{IsLawful, IsOutsideJournal, Got}
 use Rattle.ts_page.proofs.PagesLemmas.{lawful_same}
 use Rattle.ts_journal.specs.declared.batch.Change.{Change}
+use Rattle.ts_journal.specs.Entry.{change_of, changed}
+use Rattle.ts_journal.specs.Journal.{own_page}
 use Rattle.ts_journal.specs.Moment.{OnlyReads}
 use Rattle.ts_cache.specs.Cache.{Cache, page_of, after_put}
-use Rattle.ts_store.specs.OpenBatch.{State, IsInPlace, AreInPlace, change_read, page_or, in_memory, after_read, read_pages, contents_over}
+use Rattle.ts_store.specs.OpenBatch.{State, IsInPlace, AreInPlace, change_read, page_or, in_memory, after_read, committed_pages, read_pages, contents_over}
 use Rattle.ts_store.specs.Undisturbed.{Undisturbed}
 use Rattle.ts_store.proofs.ReadLemmas.{read_clean, own_outside}
 use Rattle.ts_store.proofs.CacheLemmas.{each_read, kept_cached, memory_is_read}
@@ -91,3 +93,15 @@ module _ (tells : Bool) (s t : State) (v w : Device) (is : t ≡ record s { cach
 
   pub size_but_cache : w.size ≡ v.size → v.size ≡ 4096 * s.pages → w.size ≡ 4096 * t.pages
   size_but_cache same size = same ∙ size ∙ ap (λ (x : State). 4096 * x.pages) (sym is)
+
+-- a page without a change of the overlay is read in its place
+pub committed_read : {E : Type 0} (tells : Bool) (s : State) (number at : ℕ) (into : List ℕ) (r : Result Unit E) (v w : Device) → at ≡ 4096 * number → length into ≡ 4096 → change_of number s.overlay ≡ None → ReadAt tells at into r v w
+    → OnOk r (IsTrue tells → IsOutsideJournal number → into ≡ committed_pages s v.held number)
+committed_read tells s number at into (Err e) v w place size none read = tt
+committed_read tells s number at into (Ok done) v w place size none read = λ told outside.
+    read_in_place number at into v.held place size (read.read told) outside ∙ sym (ap (λ (o : Option Change). changed o (own_page v.held number)) none)
+
+-- a read is one call
+pub one_call : {E : Type 0} (tells : Bool) (at : ℕ) (into : List ℕ) (r : Result Unit E) (v w : Device) → ReadAt tells at into r v w → OnOk r (IsTrue tells → w.clock ≤ v.clock + 1)
+one_call tells at into (Err e) v w read = tt
+one_call tells at into (Ok done) v w read = λ told. omega (arith, read.call.tick told refl)

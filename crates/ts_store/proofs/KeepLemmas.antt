@@ -8,13 +8,13 @@ use Rattle.ts_page.specs.Pages.{IsLawful, IsElementPage, with_page, Put, Freed}
 use Rattle.ts_page.proofs.PagesLemmas.{few_free, lawful_put, lawful_freed, lawful_taken}
 use Rattle.ts_journal.specs.declared.batch.Change.{Change}
 use Rattle.ts_journal.specs.declared.batch.Change.TheVariants.{Image, Free}
-use Rattle.ts_journal.specs.Entry.{Entry, entry_bytes, entries_bytes, AreAllowed, content, put, put_all}
+use Rattle.ts_journal.specs.Entry.{Entry, entry_bytes, entries_bytes, AreAllowed, content, over, put, put_all}
 use Rattle.ts_journal.specs.Journal.{own_page}
+use Rattle.ts_journal.proofs.CallerLemmas.{over_put}
 use Rattle.ts_recover.proofs.CallerLemmas.{put_allowed, reads_none}
 use Rattle.ts_cache.specs.Cache.{after_forget}
-use Rattle.ts_store.specs.OpenBatch.{State, AreInPlace, over, read_pages, contents_over}
+use Rattle.ts_store.specs.OpenBatch.{State, AreInPlace, read_pages, contents_over}
 use Rattle.ts_store.specs.Undisturbed.{Undisturbed}
-use Rattle.ts_store.proofs.ReadLemmas.{over_put}
 use Rattle.ts_store.proofs.CacheLemmas.{forget_cached}
 
 -- all of a batch put into an overlay

@@ -1,47 +1,14 @@
 -- What is read over a volume: the open batch, else the overlay, else the page in its place.
-use Rattle.std.proofs.Common.{◌≡◌, inl, inr, ⊎_elim, ℕ, ◌+◌, ◌*◌, Bool, true, false, cond, eqb, Option, Some, None, List, [], ◌∷◌, refl, ap, sym, ◌∙◌, subst, arith}
+use Rattle.std.proofs.Common.{◌≡◌, inl, inr, ⊎_elim, ℕ, ◌*◌, eqb, Option, Some, None, List, [], ◌∷◌, refl, ap, sym, ◌∙◌, subst}
 use Rattle.std.proofs.lemmas.Bool.{cond-true, cond-false, cases_eq, eq-eqb, ne_eqb, not-true}
 use Rattle.ts_page.specs.Head.{bytes_at}
-use Rattle.ts_page.specs.Pages.{IsElementPage, SameButFreed, IsOutsideJournal, with_page}
+use Rattle.ts_page.specs.Pages.{IsElementPage, SameButFreed, IsOutsideJournal}
 use Rattle.ts_journal.specs.declared.batch.Change.{Change}
 use Rattle.ts_journal.specs.declared.batch.Change.TheVariants.{Image, Free}
-use Rattle.ts_journal.specs.Entry.{Entry, AreAllowed, IsRising, is_region, change_of, content, put, put_page, put_pages}
+use Rattle.ts_journal.specs.Entry.{Entry, AreAllowed, is_region, change_of, changed, change_or, over}
 use Rattle.ts_journal.specs.Journal.{own_page, pages, StandsOver, ReadsButFreed, SameOrFreed}
-use Rattle.ts_journal.proofs.CallerLemmas.{none_below, no_region, change_of-put, shown, pages_shown}
-use Rattle.ts_store.specs.OpenBatch.{State, changed, change_or, change_read, over, read_pages}
-
--- what is read after one change more
-changed_cond : (b : Bool) (change : Change) (rest : Option Change) (page : List ℕ) → changed (cond b (Some change) rest) page ≡ cond b (content change) (changed rest page)
-changed_cond true change rest page = refl
-changed_cond false change rest page = refl
-
-pub over_put : (es : List Entry) (number : ℕ) (change : Change) (own : ℕ → List ℕ) (k : ℕ) → over (put number change es) own k ≡ with_page number (content change) (over es own) k
-over_put es number change own k =
-    ap (λ (o : Option Change). changed o (own k)) (change_of-put es number change k) ∙ changed_cond (eqb number k) change (change_of k es) (own k)
-
--- rising entries put in order are what is found of each page
-pub put_pages-over : (es : List Entry) (least top : ℕ) (own : ℕ → List ℕ) (k : ℕ) → IsRising least top es → put_pages es own k ≡ over es own k
-put_pages-over [] least top own k rising = refl
-put_pages-over (e ∷ es) least top own k rising =
-    put_pages-over es (e.0 + 1) top (put_page e own) k rising.1 ∙ (elim (cases_eq e.0 k) [
-      | inl here ↦
-          let none : change_of k es ≡ None = none_below es (e.0 + 1) top k rising.1 (omega (arith, here)) in
-          ap (λ (o : Option Change). changed o (put_page e own k)) none ∙ cond-true (eqb e.0 k) (content e.1) (own k) (eq-eqb e.0 k here)
-          ∙ ap (λ (o : Option Change). changed o (own k)) (sym (cond-true (eqb e.0 k) (Some e.1) (change_of k es) (eq-eqb e.0 k here)))
-      | inr there ↦
-          ap (changed (change_of k es)) (cond-false (eqb e.0 k) (content e.1) (own k) (ne_eqb e.0 k there))
-          ∙ ap (λ (o : Option Change). changed o (own k)) (sym (cond-false (eqb e.0 k) (Some e.1) (change_of k es) (ne_eqb e.0 k there)))
-    ])
-
-shown_changed : (o : Option Change) (page : List ℕ) → shown o page ≡ changed o page
-shown_changed None page = refl
-shown_changed (Some change) page = refl
-
--- the overlay over the pages in their places is what the journal makes of them
-pub over_pages : (position : ℕ) (overlay : List Entry) (held : List ℕ) → StandsOver position overlay held → (k : ℕ) → pages held k ≡ over overlay (own_page held) k
-over_pages position overlay held stands k =
-    pages_shown held stands.rs stands.stands.records k ∙ ap (λ (es : List Entry). shown (change_of k es) (own_page held k)) (sym stands.covers)
-    ∙ shown_changed (change_of k overlay) (own_page held k)
+use Rattle.ts_journal.proofs.CallerLemmas.{no_region, over_pages}
+use Rattle.ts_store.specs.OpenBatch.{State, change_read, read_pages}
 
 -- so it is the open batch over the pages of the volume that is read
 pub read_over : (s : State) (held : List ℕ) → StandsOver s.journal s.overlay held → (k : ℕ) → read_pages s held k ≡ over s.batch (pages held) k

@@ -1,5 +1,5 @@
 // The free pages, so that taking and freeing can be undone and need no copy.
-ghost use Rattle.std.specs.Prelude.{◌≡◌, ◌+◌, ◌≤◌, ◌<◌, ◌∷◌, ◌++◌, [], length, take, drop, OnOk, OnErr};
+ghost use Rattle.std.specs.Prelude.{◌≡◌, ◌+◌, ◌≤◌, ◌<◌, ◌∷◌, ◌++◌, [], length, take, drop, reverse, IfOk, OnOk, OnErr};
 
 use std::alloc::{AllocError, Global};
 use std::marker::Model;
@@ -52,6 +52,16 @@ impl FreeList {
         ensures { result ≡ length self.now.free }
     {
         self.low + (self.numbers.len() - self.saved)
+    }
+
+    /// The numbers that can be taken, the next one last, in memory of their own.
+    pub(crate) fn copy(&self, alloc: Global) -> Result<Vec<u32>, AllocError>
+        ensures { IfOk result (λ numbers. reverse numbers.items ≡ self.now.free) }
+    {
+        let mut numbers = Vec::new(alloc);
+        numbers.extend_from_slice(&self.numbers[..self.low])?;
+        numbers.extend_from_slice(&self.numbers[self.saved..])?;
+        Ok(numbers)
     }
 
     pub(crate) fn push(&mut self, no: u32) -> Result<(), AllocError>

@@ -16,7 +16,8 @@ returns-in-Ok g c =
     let w = g.V.Volume.device c.settle.new.vol in
     record {
       opened = settled_opened tells c.args.store c.admit.new.self v c.args.surveyed.defs.definitions c.args.surveyed.space c.args.surveyed.free.items c.requires.idle c.requires.found c.admit.ensures
-          c.settle.new.self w c.args.surveyed.defs c.count.new.self c.count.ensures (g.met.V.Volume.lawful c.args.vol.now) c.places-slots.ensures.slots refl c.in-Ok.ensures.over c.in-Ok.ensures.settled c.in-Ok.ensures.ok c.settle.ensures.others c.settle.ensures.moments (c.in-Ok.ensures.no_fault refl);
+          c.settle.new.self w c.args.surveyed.defs c.count.new.self c.count.ensures (g.met.V.Volume.lawful c.args.vol.now) c.places-slots.ensures.slots refl c.in-Ok.ensures.over c.in-Ok.ensures.settled c.in-Ok.ensures.lasts.ok c.settle.ensures.lasts.others c.settle.ensures.lasts.moments
+          (c.in-Ok.ensures.lasts.no_fault (λ failed. absurd (cc)));
     }
 
 pub returns-in-Err : goal.returns-in-Err
@@ -25,9 +26,9 @@ returns-in-Err g c =
     let v = g.V.Volume.device c.args.vol.now in
     let w = g.V.Volume.device c.settle.new.vol in
     record {
-      opened = unsettled tells v w (c.in-Err.ensures.cause refl) c.settle.ensures.others
+      opened = unsettled tells v w (c.in-Err.ensures.lasts.cause refl) c.settle.ensures.lasts.others
           (settle_moments tells c.args.store c.admit.new.self v c.args.surveyed.defs.definitions c.args.surveyed.space c.args.surveyed.free.items c.requires.idle c.requires.found c.admit.ensures
-          (g.met.V.Volume.lawful c.args.vol.now) w c.settle.ensures.moments)
+          (g.met.V.Volume.lawful c.args.vol.now) w c.settle.ensures.lasts.moments)
           (λ told. (
             catalogue_of (c.requires.found.layout told).0,
             means_found tells c.args.store c.admit.new.self v c.args.surveyed.defs.definitions c.args.surveyed.space c.args.surveyed.free.items c.requires.idle c.requires.found c.admit.ensures (g.met.V.Volume.lawful c.args.vol.now) told,

@@ -9,14 +9,14 @@ returns-in_err-surveyed-clause-fault g c =
     let v = g.V.Volume.device c.args.vol.now in
     let w = g.V.Volume.device c.survey_on.new.vol in
     if_err c.from_residual.result c.in_err-surveyed.field-0.0 (λ fault. ReadFault g.V.Volume.tells fault v w) c.from_residual.ensures.1
-    (survey_fault g.V.Volume.tells c.in_err-surveyed.field-0.0 _ c.args.store.now v w (g.met.V.Volume.lawful c.args.vol.now) c.requires.idle (omega (arith, c.len.ensures, c.requires.idle.over.size))
+    (survey_fault g.V.Volume.tells c.in_err-surveyed.field-0.0 _ c.args.store.now v w (g.met.V.Volume.lawful c.args.vol.now) c.requires.idle (omega (arith, c.len.ensures, c.requires.idle.over.read.size))
     (λ is. c.in_err-surveyed.ensures.cause (ap Err is)) (λ other. c.in_err-surveyed.ensures.no_fault (λ failed. other (cc))) c.in_err-surveyed.ensures.refused)
 
 pub returns-clause-found : goal.returns-clause-found
 returns-clause-found g c =
     found_dropped g.V.Volume.tells _ c.args.store.now c.survey_on.new.store c.discard.new.self (g.V.Volume.device c.args.vol.now) (g.V.Volume.device c.survey_on.new.vol)
     c.in_ok-surveyed.surveyed.defs.definitions c.in_ok-surveyed.surveyed.space c.in_ok-surveyed.surveyed.free.items c.requires.idle c.survey_on.ensures.undisturbed c.discard.ensures c.in_ok-surveyed.ensures.found
-    (omega (arith, c.len.ensures, c.requires.idle.over.size))
+    (omega (arith, c.len.ensures, c.requires.idle.over.read.size))
 
 pub returns-clause-idle : goal.returns-clause-idle
 returns-clause-idle g c =

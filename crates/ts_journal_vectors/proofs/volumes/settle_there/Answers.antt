@@ -4,17 +4,16 @@ use Rattle.ts_journal.specs.Entry.{AreAllowed}
 use Rattle.ts_recover.proofs.CallerLemmas.{still_only}
 use Rattle.ts_journal_vectors.proofs.volumes.settle_there.Goals as goal
 
-pub settle-requires-clause-size : goal.settle-requires-clause-size
-settle-requires-clause-size g c = subst IsVolumeSize (sym c.recover.ensures.others.keeps.size) c.in_ok-replayed.ensures.size
-
-pub settle-requires-clause-settled : goal.settle-requires-clause-settled
-settle-requires-clause-settled g c =
-    still_only g.V.Volume.tells (g.V.Volume.device c.args.vol.now) (g.V.Volume.device c.recover.new.vol) c.recover.ensures.others c.requires.settled
-
-pub settle-requires-clause-stands : goal.settle-requires-clause-stands
-settle-requires-clause-stands g c told =
-    subst (λ (h : List ℕ). StandsOver c.in_ok-replayed.replayed.journal c.in_ok-replayed.replayed.overlay.entries h) (sym c.recover.ensures.others.held) (c.in_ok-replayed.ensures.ok told)
-
-pub settle-requires-clause-allowed : goal.settle-requires-clause-allowed
-settle-requires-clause-allowed g c =
-    subst (λ (n : ℕ). AreAllowed (page_count n) c.in_ok-replayed.replayed.overlay.entries) (sym c.recover.ensures.others.keeps.size) c.in_ok-replayed.ensures.allowed
+pub settle-requires : goal.settle-requires
+settle-requires g c =
+    let found = c.in_ok-replayed.ensures in
+    let reads = c.recover.ensures.others in
+    record {
+      over = record {
+        size = subst IsVolumeSize (sym reads.keeps.size) found.size;
+        settled = still_only g.V.Volume.tells (g.V.Volume.device c.args.vol.now) (g.V.Volume.device c.recover.new.vol) reads c.requires.settled;
+        stands = λ told.
+            subst (λ (h : List ℕ). StandsOver c.in_ok-replayed.replayed.journal c.in_ok-replayed.replayed.overlay.entries h) (sym reads.held) (found.ok told);
+        allowed = subst (λ (n : ℕ). AreAllowed (page_count n) c.in_ok-replayed.replayed.overlay.entries) (sym reads.keeps.size) found.allowed;
+      };
+    }

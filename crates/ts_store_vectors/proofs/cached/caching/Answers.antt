@@ -10,13 +10,15 @@ none_admitted tells s t d free none is idle =
     subst (λ (x : State). IsIdle tells x d) (sym (is ∙ ap (λ (l : List ℕ). record s { free = l; kept_free = l }) none))
     (record {
       over = record {
-        size = over.size;
-        volume = over.volume;
+        read = record {
+          size = over.read.size;
+          volume = over.read.volume;
+          stands = over.read.stands;
+          allowed = over.read.allowed;
+          lawful = record { different = λ i j e before within same. none_within j within; listed = λ k e within. absurd (none_within k within) };
+          cached = over.read.cached;
+        };
         settled = over.settled;
-        stands = over.stands;
-        allowed = over.allowed;
-        lawful = record { different = λ i j e before within same. none_within j within; listed = λ k e within. absurd (none_within k within) };
-        cached = over.cached;
       };
       batch = idle.batch;
       kept_free = refl;

@@ -7,8 +7,9 @@ use Rattle.ts_store_vectors.proofs.stores.committed.Goals as goal
 pub commit-requires-clause-over : goal.commit-requires-clause-over
 commit-requires-clause-over g c = over_prepared g.V.Volume.tells c.args.store.now c.prepare.new.self (g.V.Volume.device c.args.vol.now) c.prepare.ensures.others c.requires.over
 
-pub commit-requires-clause-short : goal.commit-requires-clause-short
-commit-requires-clause-short g c = omega (arith, ap (λ (s : State). length (entries_bytes s.batch)) c.prepare.ensures.others, c.requires.short)
+pub commit-requires-clause-ready : goal.commit-requires-clause-ready
+commit-requires-clause-ready g c =
+    record { prepared = c.in_ok-prepare.ensures.ok; short = omega (arith, ap (λ (s : State). length (entries_bytes s.batch)) c.prepare.ensures.others, c.requires.short) }
 
 pub returns-in-Ok-clause-idle : goal.returns-in-Ok-clause-idle
 returns-in-Ok-clause-idle g c = idle_closed g.V.Volume.tells c.prepare.new.self c.commit.new.self (g.V.Volume.device c.commit.new.vol) c.in-Ok.ensures.closed c.in-Ok.ensures.over
