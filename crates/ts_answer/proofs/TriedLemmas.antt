@@ -14,8 +14,7 @@ use Rattle.ts_row.specs.RowType.{bad_column}
 use Rattle.ts_row.specs.Row.{Row, row_of}
 use Rattle.ts_base.specs.Answer.{Answers}
 use Rattle.ts_offset.specs.Counting.{AnswersList}
-use Rattle.ts_model.specs.declared.format.TheConstants.{OLD_FORMAT}
-use Rattle.ts_model.specs.Catalogue.{Named, Elements}
+use Rattle.ts_model.specs.Catalogue.{Named, Elements, old_format}
 use Rattle.ts_answer.specs.Answer.{Tried, ◌>>=◌, refused_if, known, wanted, unused, within_limit, no_bad_column, beyond_old_format, present, row_at, row_or_mismatch, a_row, within_quota, in_time}
 use Rattle.ts_answer.specs.Tried.{IsTried, IsRefusedAs}
 
@@ -75,14 +74,14 @@ unfolding row_at
 row-missing stamp elements h = ap present h
 
 -- what format 1 hasn't
-pub format-has : (beyond : Bool) (format : ℕ) → (format ≡ OLD_FORMAT → beyond ≡ false) → beyond_old_format beyond format ≡ Ok tt
+pub format-has : (beyond : Bool) (format : ℕ) → (format ≡ old_format → beyond ≡ false) → beyond_old_format beyond format ≡ Ok tt
 unfolding beyond_old_format
-format-has true format has = passed _ refusals.OldFormat (ne_eqb format OLD_FORMAT (λ old. absurd (let no = has old in cc)))
+format-has true format has = passed _ refusals.OldFormat (ne_eqb format old_format (λ old. absurd (let no = has old in cc)))
 format-has false format has = passed _ refusals.OldFormat refl
 
-pub format-hasnt : (format : ℕ) → format ≡ OLD_FORMAT → beyond_old_format true format ≡ Err refusals.OldFormat
+pub format-hasnt : (format : ℕ) → format ≡ old_format → beyond_old_format true format ≡ Err refusals.OldFormat
 unfolding beyond_old_format
-format-hasnt format old = refused _ refusals.OldFormat (eq-eqb format OLD_FORMAT old)
+format-hasnt format old = refused _ refusals.OldFormat (eq-eqb format old_format old)
 
 pub quota-kept : (charge quota : ℕ) → charge ≤ quota → within_quota charge quota ≡ Ok tt
 unfolding within_quota

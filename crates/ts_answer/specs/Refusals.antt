@@ -15,9 +15,8 @@ use Rattle.ts_offset.specs.Grid.{GridPlan, held_start}
 use Rattle.ts_offset.specs.declared.shape.Shape.{Shape}
 use Rattle.ts_offset.specs.declared.shape.Shape.TheVariants as shapes
 use Rattle.ts_model.specs.declared.kind.Kind.{Kind}
-use Rattle.ts_model.specs.declared.format.TheConstants.{OLD_FORMAT}
 use Rattle.ts_model.specs.Definitions.{limit}
-use Rattle.ts_model.specs.Catalogue.{Named, Elements, SeriesKind, Irregular, Regular, Series, Catalogue, pattern_of, calendar_of, shape_of}
+use Rattle.ts_model.specs.Catalogue.{Named, Elements, SeriesKind, Irregular, Regular, Series, Catalogue, pattern_of, calendar_of, shape_of, old_format}
 use Rattle.ts_model.specs.Kinds.{named}
 
 -- a value, or the refusal that came first
@@ -68,7 +67,7 @@ no_bad_column None = Ok tt
 
 -- What format 1 hasn't, long decimals and hidden elements, is refused on a volume of it.
 unfoldable pub beyond_old_format : Bool → ℕ → Tried (Unit {0})
-beyond_old_format beyond format = refused_if (beyond && format == OLD_FORMAT) refusals.OldFormat
+beyond_old_format beyond format = refused_if (beyond && format == old_format) refusals.OldFormat
 
 -- a row, or the number of the column for which there is none
 abbrev pub row_or_mismatch : Result Row ℕ → Tried Row

@@ -12,9 +12,8 @@ use Rattle.ts_row.specs.Element.{Element}
 use Rattle.ts_space.specs.Directory.{places_of}
 use Rattle.ts_irregular.specs.Edit.{element_at, with_element}
 use Rattle.ts_offset.specs.declared.shape.Shape.{Shape}
-use Rattle.ts_model.specs.declared.format.TheConstants.{OLD_FORMAT}
 use Rattle.ts_model.specs.declared.kind.Kind.TheVariants as kinds
-use Rattle.ts_model.specs.Catalogue.{Catalogue, Elements, Series}
+use Rattle.ts_model.specs.Catalogue.{Catalogue, Elements, Series, old_format}
 use Rattle.ts_model.specs.Definitions.{Definitions}
 use Rattle.ts_layout.specs.Meaning.{Layout, elements_at, series_of, catalogue_of}
 use Rattle.ts_answer.specs.declared.effect.Effect.TheVariants.{Pages}
@@ -53,7 +52,7 @@ unfolding outcome carried_out mark_element
 marks true key stamp cat = refl
 marks false key stamp cat = refl
 
-mark_goes : (hidden : Bool) (key : List ℕ) (slot : ℕ) (stamp : ℤ) (l : Layout) (on : SeriesIn l key slot) → l.definitions.format ≢ OLD_FORMAT
+mark_goes : (hidden : Bool) (key : List ℕ) (slot : ℕ) (stamp : ℤ) (l : Layout) (on : SeriesIn l key slot) → l.definitions.format ≢ old_format
     → outcome (Ok (mark_of hidden key stamp)) (catalogue_of l) ≡ mark_rest hidden key stamp (catalogue_of l) (series_of l slot on.s)
 mark_goes hidden key slot stamp l on new =
     marks hidden key stamp (catalogue_of l) ∙ on_ok _ (series_of l slot on.s) _ (wanted-there key (catalogue_of l).series (series_of l slot on.s) on.listed)
@@ -77,9 +76,9 @@ some_of : {A : Type 0} (o : Option A) → IsSome o → (a : A) × (o ≡ Some a)
 some_of (Some a) some = (a, refl)
 some_of None some = absurd (cc)
 
-module _ (tells : Bool) (hidden : Bool) (key : List ℕ) (shape : Shape) (laid : IsLaidOut shape) (slot : ℕ) (stamp : ℤ) (h : Heading) (x : View) (shelf : IsShelf shape slot h key x.definitions) (kept : KeepsRules x) (new : x.definitions.format ≢ OLD_FORMAT)
+module _ (tells : Bool) (hidden : Bool) (key : List ℕ) (shape : Shape) (laid : IsLaidOut shape) (slot : ℕ) (stamp : ℤ) (h : Heading) (x : View) (shelf : IsShelf shape slot h key x.definitions) (kept : KeepsRules x) (new : x.definitions.format ≢ old_format)
     (w : Contents) (count : w.count ≡ x.pages.count) (no_fault : w.faults ≡ x.pages.faults) (bytes : w.change_bytes ≤ x.pages.change_bytes + 4101) where
-  newer : (l : Layout) → Shows tells x l → l.definitions.format ≢ OLD_FORMAT
+  newer : (l : Layout) → Shows tells x l → l.definitions.format ≢ old_format
   newer l shows old = new (ap (λ (d : Definitions). d.format) shows.kept.definitions ∙ old)
 
   -- where a stamp addresses an element, and where it addresses none

@@ -5,8 +5,7 @@ use Rattle.ts_disk.specs.Device.{Device, Lawful}
 use Rattle.ts_page.specs.Pages.{Contents, EqualPages, with_page}
 use Rattle.ts_store.specs.OpenBatch.{read_pages, contents_over}
 use Rattle.ts_store.specs.Undisturbed.{Undisturbed}
-use Rattle.ts_model.specs.declared.format.TheConstants.{FORMAT}
-use Rattle.ts_model.specs.Catalogue.{Catalogue, in_newest_format}
+use Rattle.ts_model.specs.Catalogue.{Catalogue, in_newest_format, newest_format}
 use Rattle.ts_model.specs.Definitions.{Definitions, Tables, with_format}
 use Rattle.ts_space.specs.Directory.{Directory}
 use Rattle.ts_layout.specs.Slot.{header_bytes}
@@ -26,11 +25,11 @@ use Rattle.ts_engine.proofs.StandLemmas.{still_none}
 use Rattle.ts_engine.proofs.MovesLemmas.{Next, moves_ok, moves_fault, moves_still, stands}
 
 -- a catalogue of the newest format
-newest_stays : (cat : Catalogue) → cat.format ≡ FORMAT → in_newest_format cat ≡ cat
+newest_stays : (cat : Catalogue) → cat.format ≡ newest_format → in_newest_format cat ≡ cat
 newest_stays cat newest = λ i. record cat { format = sym newest i }
 
 -- a volume of the newest format stays as it is
-pub migrated_none : (tells : Bool) (e : Kept) (v : Device) → Lawful tells v → IsReady tells e v → e.tables.definitions.format ≡ FORMAT → Migrated tells (Ok tt) e e v v
+pub migrated_none : (tells : Bool) (e : Kept) (v : Device) → Lawful tells v → IsReady tells e v → e.tables.definitions.format ≡ newest_format → Migrated tells (Ok tt) e e v v
 migrated_none tells e v lawful ready newest = record {
   moves = moves_still tells in_newest_format e e v v ready (still_none tells e.store v lawful ready.idle) ready.unspent refl refl refl
       (λ told cat at.
@@ -41,7 +40,7 @@ migrated_none tells e v lawful ready newest = record {
 
 module _ (tells : Bool) (e : Kept) (v : Device) (lawful : Lawful tells v) (ready : IsReady tells e v) where
   abbrev Work : Contents → Contents → Type 0
-  Work a c = HeaderWritten tells FORMAT (e.store.pages - 930) (Ok tt) a c
+  Work a c = HeaderWritten tells newest_format (e.store.pages - 930) (Ok tt) a c
 
   next : (told : IsTrue tells) (read : Contents) → Work (contents_over e.store v) read → Next tells in_newest_format (ready.layout told).0 read
   next told read work =
@@ -49,17 +48,17 @@ module _ (tells : Bool) (e : Kept) (v : Device) (lawful : Lawful tells v) (ready
       let size = (ready.layout told).1.size in
       let number : e.store.pages - 930 ≡ length l.element_pages = omega (arith, size) in
       record {
-        layout = layout_in FORMAT l;
+        layout = layout_in newest_format l;
         size = refl;
         rules = sound_renewed l (ready.layout told).1.rules;
-        holds = λ t. layout_renewed l (read_pages e.store v.held) read.page (subst (λ (n : ℕ). EqualPages (with_page 0 (header_bytes FORMAT n) (read_pages e.store v.held)) read.page) number (work.written t)) (ready.layout told).2;
+        holds = λ t. layout_renewed l (read_pages e.store v.held) read.page (subst (λ (n : ℕ). EqualPages (with_page 0 (header_bytes newest_format n) (read_pages e.store v.held)) read.page) number (work.written t)) (ready.layout told).2;
         comes = λ t. refl;
       }
 
   -- what is in memory is that of the layout in the newest format
-  held_renewed : (l : Layout) → IsKeptOf e l → IsHeldOf (with_format FORMAT e.tables.definitions) e.space e.store.pages e.store.free (layout_in FORMAT l)
+  held_renewed : (l : Layout) → IsKeptOf e l → IsHeldOf (with_format newest_format e.tables.definitions) e.space e.store.pages e.store.free (layout_in newest_format l)
   held_renewed l kept = record {
-    definitions = ap (with_format FORMAT) kept.definitions;
+    definitions = ap (with_format newest_format) kept.definitions;
     size = kept.size;
     places = kept.places;
     free = kept.free;
@@ -68,8 +67,8 @@ module _ (tells : Bool) (e : Kept) (v : Device) (lawful : Lawful tells v) (ready
   }
 
   module _ (g ended : Kept) (x w : Device) (later : Lawful tells w) (put : Result Unit StoreFault) (is : g ≡ record e { store = g.store }) (calls : Undisturbed tells e.store g.store v x)
-      (written : HeaderWritten tells FORMAT (e.store.pages - 930) put (contents_over e.store v) (contents_over g.store x)) where
-    worked : (r : Result Unit StoreFault) (a c : Contents) → HeaderWritten tells FORMAT (e.store.pages - 930) r a c → OnOk r (Work a c)
+      (written : HeaderWritten tells newest_format (e.store.pages - 930) put (contents_over e.store v) (contents_over g.store x)) where
+    worked : (r : Result Unit StoreFault) (a c : Contents) → HeaderWritten tells newest_format (e.store.pages - 930) r a c → OnOk r (Work a c)
     worked (Ok done) a c written = written
     worked (Err fault) a c written = tt
 
@@ -79,25 +78,25 @@ module _ (tells : Bool) (e : Kept) (v : Device) (lawful : Lawful tells v) (ready
         written.cause written.no_fault result (ap (λ (k : Kept). k.spent) is ∙ ready.unspent) finished
 
     -- it is committed, and the format is set in memory
-    pub migrated_ok : (f : Kept) → Finished tells put (Ok tt) g ended x w → f ≡ record ended { tables = record ended.tables { definitions = with_format FORMAT ended.tables.definitions } } → Migrated tells (Ok tt) e f v w
+    pub migrated_ok : (f : Kept) → Finished tells put (Ok tt) g ended x w → f ≡ record ended { tables = record ended.tables { definitions = with_format newest_format ended.tables.definitions } } → Migrated tells (Ok tt) e f v w
     unfolding next
     migrated_ok f finished set =
         let tables : ended.tables ≡ e.tables = finished.tables ∙ ap (λ (k : Kept). k.tables) is in
         let space : ended.space ≡ e.space = finished.space ∙ ap (λ (k : Kept). k.space) is in
         let charges : ended.charges ≡ e.charges = finished.charges ∙ ap (λ (k : Kept). k.charges) is in
-        let g' : Kept = record ended { tables = record ended.tables { definitions = with_format FORMAT ended.tables.definitions } } in
+        let g' : Kept = record ended { tables = record ended.tables { definitions = with_format newest_format ended.tables.definitions } } in
         let now = ended_changed (Ok tt) finished in
         let work = now.done.work in
-        let definitions : g'.tables.definitions ≡ with_format FORMAT e.tables.definitions = ap (λ (t : Tables). with_format FORMAT t.definitions) tables in
+        let definitions : g'.tables.definitions ≡ with_format newest_format e.tables.definitions = ap (λ (t : Tables). with_format newest_format t.definitions) tables in
         let lists = ap (λ (s : Directory). s.lists) space in
         let pages = now.done.pages in
         let free = now.done.free ∙ work.free in
         subst (λ (k : Kept). Migrated tells (Ok tt) e k v w) (sym set)
         (record {
           moves = moves_ok tells in_newest_format Work e g' v w lawful later ready next now
-              (kept_alike (with_format FORMAT e.tables.definitions) g'.tables.definitions e.space g'.space e.store.free g'.store.free e.store.pages g'.store.pages (kept_renewed e.tables.definitions e.space e.store.free e.store.pages ready.kept) definitions lists free pages)
-              (λ told. held_same (with_format FORMAT e.tables.definitions) g'.tables.definitions e.space g'.space e.store.pages g'.store.pages e.store.free g'.store.free (layout_in FORMAT (ready.layout told).0) (held_renewed (ready.layout told).0 (ready.layout told).1) definitions lists pages free)
-              (charges_same e.charges g'.charges (with_format FORMAT e.tables.definitions) g'.tables.definitions e.space g'.space ready.charges charges definitions lists);
+              (kept_alike (with_format newest_format e.tables.definitions) g'.tables.definitions e.space g'.space e.store.free g'.store.free e.store.pages g'.store.pages (kept_renewed e.tables.definitions e.space e.store.free e.store.pages ready.kept) definitions lists free pages)
+              (λ told. held_same (with_format newest_format e.tables.definitions) g'.tables.definitions e.space g'.space e.store.pages g'.store.pages e.store.free g'.store.free (layout_in newest_format (ready.layout told).0) (held_renewed (ready.layout told).0 (ready.layout told).1) definitions lists pages free)
+              (charges_same e.charges g'.charges (with_format newest_format e.tables.definitions) g'.tables.definitions e.space g'.space ready.charges charges definitions lists);
           newest = refl;
         })
 

@@ -1,8 +1,7 @@
 -- What the migration of a volume does.
 use Rattle.std.specs.Prelude.{◌≡◌, Bool, Result, OnOk}
 use Rattle.ts_disk.specs.Device.{Device}
-use Rattle.ts_model.specs.declared.format.TheConstants.{FORMAT}
-use Rattle.ts_model.specs.Catalogue.{in_newest_format}
+use Rattle.ts_model.specs.Catalogue.{in_newest_format, newest_format}
 use Rattle.ts_engine.specs.declared.fault.StepFault.{StepFault}
 use Rattle.ts_engine.specs.Engine.{Kept}
 use Rattle.ts_engine.specs.Moves.{Moves}
@@ -12,4 +11,4 @@ pub record Migrated (tells : Bool) (result : Result Unit StepFault) (e f : Kept)
   -- it goes to the same catalogue in the newest format
   pub moves : Moves tells in_newest_format result e f v w
   -- and is of that format from then on
-  pub newest : OnOk result (f.tables.definitions.format ≡ FORMAT)
+  pub newest : OnOk result (f.tables.definitions.format ≡ newest_format)

@@ -5,7 +5,7 @@ ghost use Rattle.ts_journal.specs.Entry.{entries_bytes};
 ghost use Rattle.ts_store.specs.OpenBatch.{IsIdle, IsOver, contents_over};
 ghost use Rattle.ts_store.specs.Undisturbed.{Undisturbed};
 ghost use Rattle.ts_space.specs.Directory.{used_of};
-ghost use Rattle.ts_model.specs.declared.format.TheConstants.{FORMAT as NEWEST};
+ghost use Rattle.ts_model.specs.Catalogue.{newest_format};
 ghost use Rattle.ts_layout.specs.Placed.{AreKept};
 ghost use Rattle.ts_container.specs.Survey.{HeaderWritten};
 ghost use Rattle.ts_engine.specs.Engine.{IsReady};
@@ -28,7 +28,7 @@ impl Engine {
     pub fn migrate<V: Volume>(&mut self, vol: &mut V) -> Result<(), StepFault>
         requires ready { self.old.spent ≡ None → IsReady V.tells self.old (V.device vol.old) }
         ensures migrated { self.old.spent ≡ None → Migrated V.tells result self.old self.new (V.device vol.old) (V.device vol.new) }
-        ensures idle { self.old.spent ≡ None → self.old.tables.definitions.format ≡ NEWEST → (result ≡ Ok tt) × (self.new ≡ self.old) × (vol.new ≡ vol.old) }
+        ensures idle { self.old.spent ≡ None → self.old.tables.definitions.format ≡ newest_format → (result ≡ Ok tt) × (self.new ≡ self.old) × (vol.new ≡ vol.old) }
         // An engine that the disk failed makes no call any more.
         ensures closed { (faults : ℕ) → self.old.spent ≡ Some faults → (result ≡ Err (Closed faults)) × (self.new ≡ self.old) × (vol.new ≡ vol.old) }
     {
@@ -57,7 +57,7 @@ impl Engine {
     fn put_newest_format<V: Volume>(&mut self, vol: &mut V) -> Result<(), StoreFault>
         requires idle { IsIdle V.tells self.old.store (V.device vol.old) }
         requires kept { AreKept self.old.tables.definitions self.old.space self.old.store.free self.old.store.pages }
-        ensures written { HeaderWritten V.tells NEWEST (self.old.store.pages - first_element_page) result (contents_over self.old.store (V.device vol.old)) (contents_over self.new.store (V.device vol.new)) }
+        ensures written { HeaderWritten V.tells newest_format (self.old.store.pages - first_element_page) result (contents_over self.old.store (V.device vol.old)) (contents_over self.new.store (V.device vol.new)) }
         ensures over { IsOver V.tells self.new.store (V.device vol.new) }
         ensures short { length (entries_bytes self.new.store.batch) ≤ image_entry_size }
         ensures undisturbed { Undisturbed V.tells self.old.store self.new.store (V.device vol.old) (V.device vol.new) }
@@ -77,7 +77,7 @@ fn put_newest_format_over<V: Volume>(
     requires some { first_element_page + 1 ≤ store.old.pages }
     requires most { store.old.pages ≤ first_element_page + most_element_pages }
     requires all { length store.old.free + used_of space.now ≡ store.old.pages - first_element_page }
-    ensures written { HeaderWritten V.tells NEWEST (store.old.pages - first_element_page) result (contents_over store.old (V.device vol.old)) (contents_over store.new (V.device vol.new)) }
+    ensures written { HeaderWritten V.tells newest_format (store.old.pages - first_element_page) result (contents_over store.old (V.device vol.old)) (contents_over store.new (V.device vol.new)) }
     ensures over { IsOver V.tells store.new (V.device vol.new) }
     ensures short { length (entries_bytes store.new.batch) ≤ image_entry_size }
     ensures undisturbed { Undisturbed V.tells store.old store.new (V.device vol.old) (V.device vol.new) }

@@ -8,10 +8,9 @@ use Rattle.std.proofs.lemmas.Bool.{cases_eq}
 use Rattle.ts_row.specs.RowType.{Heading, has_long_decimal}
 use Rattle.ts_row.specs.Row.{Row}
 use Rattle.ts_row.specs.Element.{Element, has_hidden}
-use Rattle.ts_model.specs.declared.format.TheConstants.{OLD_FORMAT}
 use Rattle.ts_model.specs.declared.kind.Kind.TheVariants as kinds
 use Rattle.ts_model.specs.declared.def.Def.{Def}
-use Rattle.ts_model.specs.Catalogue.{Series, Catalogue}
+use Rattle.ts_model.specs.Catalogue.{Series, Catalogue, old_format}
 use Rattle.ts_model.specs.Format.{KeepsFormat}
 use Rattle.ts_model.specs.Definitions.{RowTypeDef}
 use Rattle.ts_layout.specs.Limits.{IsSlotOf}
@@ -61,7 +60,7 @@ none_of slot (e ∷ pages) each =
     none_joined (elements_on slot e) (elements_of slot pages) (none_on slot e (λ sheet is. each 0 sheet is)) (none_of slot pages (λ i sheet is. each (suc i) sheet is))
 
 -- the row types and the elements of a layout in the old format
-row_type_short : (l : Layout) → IsSound l → l.definitions.format ≡ OLD_FORMAT → (name : List ℕ) (h : Heading) → get (catalogue_of l).row_types name ≡ Some h → has_long_decimal h.columns ≡ false
+row_type_short : (l : Layout) → IsSound l → l.definitions.format ≡ old_format → (name : List ℕ) (h : Heading) → get (catalogue_of l).row_types name ≡ Some h → has_long_decimal h.columns ≡ false
 row_type_short l sound old name h is =
     let there = name_listed kinds.RowType l name h sound is in
     let r : RowTypeDef = there.1 in
@@ -69,7 +68,7 @@ row_type_short l sound old name h is =
     let rules = (let P : Option Def → Type 0 = IsSlotOf l.definitions.format kinds.RowType in subst P there.2.def (sound.definitions.limits.each kinds.RowType there.0 within)).1 in
     ap (λ (g : Heading). has_long_decimal g.columns) there.3 ∙ rules.of_format old
 
-element_visible : (l : Layout) → IsSound l → AreFilled l → l.definitions.format ≡ OLD_FORMAT → (key : List ℕ) (s : Series) → get (catalogue_of l).series key ≡ Some s → (stamp : ℤ) (row : Row) → get s.elements stamp ≡ Some row → row.hidden ≡ false
+element_visible : (l : Layout) → IsSound l → AreFilled l → l.definitions.format ≡ old_format → (key : List ℕ) (s : Series) → get (catalogue_of l).series key ≡ Some s → (stamp : ℤ) (row : Row) → get s.elements stamp ≡ Some row → row.hidden ≡ false
 element_visible l sound filled old key s is stamp row has =
     let there = name_listed kinds.Series l key s sound is in
     let es : List Element = elements_of there.0 l.element_pages in

@@ -7,7 +7,7 @@ use Rattle.ts_page.specs.Head.{bytes_at}
 use Rattle.ts_page.specs.Pages.{EqualPages, with_page}
 use Rattle.ts_space.specs.Directory.{Directory}
 use Rattle.ts_offset.specs.declared.shape.Shape.{Shape}
-use Rattle.ts_model.specs.declared.format.TheConstants.{OLD_FORMAT, FORMAT}
+use Rattle.ts_model.specs.Catalogue.{old_format, newest_format}
 use Rattle.ts_model.specs.declared.kind.Kind.{Kind}
 use Rattle.ts_model.specs.declared.kind.Kind.TheVariants as kinds
 use Rattle.ts_model.specs.declared.def.Def.{Def}
@@ -26,16 +26,16 @@ use Rattle.ts_layout.proofs.PageLemmas.{same_cells}
 use Rattle.ts_layout.proofs.WrittenLemmas.{there_now, elsewhere}
 
 -- no other format asks for anything
-pub not_old : FORMAT ≢ OLD_FORMAT
+pub not_old : newest_format ≢ old_format
 not_old same = omega (arith, same)
 
 pub of_format_short : (format : ℕ) (h : Heading) → has_long_decimal h.columns ≡ false → IsOfFormat format h
 of_format_short format h short old = short
 
-pub of_format_new : (format : ℕ) (h : Heading) → format ≢ OLD_FORMAT → IsOfFormat format h
+pub of_format_new : (format : ℕ) (h : Heading) → format ≢ old_format → IsOfFormat format h
 of_format_new format h new old = absurd (new old)
 
-pub elements_of_new : (format : ℕ) (es : List Element) → format ≢ OLD_FORMAT → AreOfFormat format es
+pub elements_of_new : (format : ℕ) (es : List Element) → format ≢ old_format → AreOfFormat format es
 elements_of_new format es new old = absurd (new old)
 
 -- the elements of a page are of the format, and so are those that hide none anew
@@ -68,18 +68,18 @@ there_same : (format : ℕ) (d : Definitions) (targets : List (Kind × ℕ)) →
 there_same format d [] there = tt
 there_same format d (target ∷ rest) there = (subst (λ (o : Option Def). IsSome o) (sym (def_same target.0 target.1 format d)) there.0, there_same format d rest there.1)
 
-def_renewed : (format : ℕ) (def : Def) → IsDef format def → IsDef FORMAT def
-def_renewed format (defs.RowType name h) is = record { name = is.name; stamp = is.stamp; columns = is.columns; rules = is.rules; of_format = of_format_new FORMAT h not_old }
+def_renewed : (format : ℕ) (def : Def) → IsDef format def → IsDef newest_format def
+def_renewed format (defs.RowType name h) is = record { name = is.name; stamp = is.stamp; columns = is.columns; rules = is.rules; of_format = of_format_new newest_format h not_old }
 def_renewed format (defs.Pattern name pattern) is = is
 def_renewed format (defs.Calendar name calendar by) is = is
 def_renewed format (defs.Container name row_type quota) is = is
 def_renewed format (defs.Series key container regular) is = is
 
-slot_renewed : (format : ℕ) (kind : Kind) (o : Option Def) → IsSlotOf format kind o → IsSlotOf FORMAT kind o
+slot_renewed : (format : ℕ) (kind : Kind) (o : Option Def) → IsSlotOf format kind o → IsSlotOf newest_format kind o
 slot_renewed format kind None is = tt
 slot_renewed format kind (Some def) is = (is.0, def_renewed format def is.1)
 
-tables_renewed : (d : Definitions) → IsDefinitions d → IsDefinitions (with_format FORMAT d)
+tables_renewed : (d : Definitions) → IsDefinitions d → IsDefinitions (with_format newest_format d)
 tables_renewed d rules = record {
   format = inr refl;
   row_types = rules.row_types;
@@ -89,9 +89,9 @@ tables_renewed d rules = record {
   series = rules.series;
 }
 
-limits_renewed : (d : Definitions) → KeepLimits d → KeepLimits (with_format FORMAT d)
+limits_renewed : (d : Definitions) → KeepLimits d → KeepLimits (with_format newest_format d)
 limits_renewed d limits = record {
-  each = λ kind slot within. subst (IsSlotOf FORMAT kind) (sym (def_same kind slot FORMAT d)) (slot_renewed d.format kind (def_at kind slot d) (limits.each kind slot within));
+  each = λ kind slot within. subst (IsSlotOf newest_format kind) (sym (def_same kind slot newest_format d)) (slot_renewed d.format kind (def_at kind slot d) (limits.each kind slot within));
 }
 
 -- a page has one sheet, in whichever format
@@ -99,44 +99,44 @@ pub one_held : (d : Definitions) (page : List ℕ) (s t : ℕ) (h g : Heading) (
     → HoldsSheet one s h.columns a page → HoldsSheet other t g.columns b page → (s ≡ t) × (a ≡ b)
 one_held d page s t h g one other a b limits rules there there' lies lies' is is' =
     same_cells s t a b
-    (same_page (with_format FORMAT d) page (Cells s a) (Cells t b) (limits_renewed d limits) (tables_renewed d rules)
-    (record { heading = h; shape = one; columns = there; lies = shape_same FORMAT d s ∙ lies; bytes = is; of_format = elements_of_new FORMAT a.1 not_old })
-    (record { heading = g; shape = other; columns = there'; lies = shape_same FORMAT d t ∙ lies'; bytes = is'; of_format = elements_of_new FORMAT b.1 not_old }))
+    (same_page (with_format newest_format d) page (Cells s a) (Cells t b) (limits_renewed d limits) (tables_renewed d rules)
+    (record { heading = h; shape = one; columns = there; lies = shape_same newest_format d s ∙ lies; bytes = is; of_format = elements_of_new newest_format a.1 not_old })
+    (record { heading = g; shape = other; columns = there'; lies = shape_same newest_format d t ∙ lies'; bytes = is'; of_format = elements_of_new newest_format b.1 not_old }))
 
-pub rules_renewed : (pages : ℕ) (d : Definitions) → AreSound pages d → AreSound pages (with_format FORMAT d)
+pub rules_renewed : (pages : ℕ) (d : Definitions) → AreSound pages d → AreSound pages (with_format newest_format d)
 rules_renewed pages d sound = record {
   tables = tables_renewed d sound.tables;
   limits = limits_renewed d sound.limits;
   references = λ kind slot def within here.
-      there_same FORMAT d (references def) (sound.references kind slot def within (sym (def_same kind slot FORMAT d) ∙ here));
+      there_same newest_format d (references def) (sound.references kind slot def within (sym (def_same kind slot newest_format d) ∙ here));
   follow = sound.follow;
   valid = sound.valid;
   quotas = sound.quotas;
   origins = sound.origins;
 }
 
-pub sound_renewed : (l : Layout) → IsSound l → IsSound (layout_in FORMAT l)
+pub sound_renewed : (l : Layout) → IsSound l → IsSound (layout_in newest_format l)
 sound_renewed l sound = record {
   some = sound.some;
   most = sound.most;
   definitions = rules_renewed (length l.element_pages) l.definitions sound.definitions;
-  sequences = λ slot h shape heading lies. sound.sequences slot h shape heading (sym (shape_same FORMAT l.definitions slot) ∙ lies);
+  sequences = λ slot h shape heading lies. sound.sequences slot h shape heading (sym (shape_same newest_format l.definitions slot) ∙ lies);
   charges = sound.charges;
 }
 
-pub filled_renewed : (l : Layout) → AreFilled l → AreFilled (layout_in FORMAT l)
+pub filled_renewed : (l : Layout) → AreFilled l → AreFilled (layout_in newest_format l)
 filled_renewed l filled i slot sheet is =
     let fill = filled i slot sheet is in
     record {
       heading = fill.heading;
       shape = fill.shape;
       columns = fill.columns;
-      lies = shape_same FORMAT l.definitions slot ∙ fill.lies;
+      lies = shape_same newest_format l.definitions slot ∙ fill.lies;
       fill = fill.fill;
-      of_format = elements_of_new FORMAT sheet.1 not_old;
+      of_format = elements_of_new newest_format sheet.1 not_old;
     }
 
-pub kept_renewed : (d : Definitions) (space : Directory) (free : List ℕ) (count : ℕ) → AreKept d space free count → AreKept (with_format FORMAT d) space free count
+pub kept_renewed : (d : Definitions) (space : Directory) (free : List ℕ) (count : ℕ) → AreKept d space free count → AreKept (with_format newest_format d) space free count
 kept_renewed d space free count kept = record {
   some = kept.some;
   most = kept.most;
@@ -153,7 +153,7 @@ kept_renewed d space free count kept = record {
           heading = one.heading;
           shape = one.shape;
           columns = one.columns;
-          lies = shape_same FORMAT d slot ∙ one.lies;
+          lies = shape_same newest_format d slot ∙ one.lies;
           room = one.room;
         };
     numbers = kept.placed.numbers;
@@ -164,33 +164,33 @@ kept_renewed d space free count kept = record {
 }
 
 -- the bytes: the header alone changes
-holds_renewed : (d : Definitions) (page : List ℕ) (e : ElementPage) → HoldsElements d page e → HoldsElements (with_format FORMAT d) page e
+holds_renewed : (d : Definitions) (page : List ℕ) (e : ElementPage) → HoldsElements d page e → HoldsElements (with_format newest_format d) page e
 holds_renewed d page Free holds = holds
 holds_renewed d page (Cells slot sheet) holds = record {
   heading = holds.heading;
   shape = holds.shape;
   columns = holds.columns;
-  lies = shape_same FORMAT d slot ∙ holds.lies;
+  lies = shape_same newest_format d slot ∙ holds.lies;
   bytes = holds.bytes;
-  of_format = elements_of_new FORMAT sheet.1 not_old;
+  of_format = elements_of_new newest_format sheet.1 not_old;
 }
 
 above_first : (n : ℕ) → 257 ≤ n → n ≢ 0
 above_first n low is = omega (arith, low, is)
 
-pub layout_renewed : (l : Layout) (v w : ℕ → List ℕ) → EqualPages (with_page 0 (header_bytes FORMAT (length l.element_pages)) v) w → HoldsLayout v l → HoldsLayout w (layout_in FORMAT l)
+pub layout_renewed : (l : Layout) (v w : ℕ → List ℕ) → EqualPages (with_page 0 (header_bytes newest_format (length l.element_pages)) v) w → HoldsLayout v l → HoldsLayout w (layout_in newest_format l)
 layout_renewed l v w same holds =
-    let bytes : List ℕ = header_bytes FORMAT (length l.element_pages) in
+    let bytes : List ℕ = header_bytes newest_format (length l.element_pages) in
     let stays : (n : ℕ) → 257 ≤ n → w n ≡ v n = λ n low. elsewhere 0 n bytes v w (above_first n low) same in
     record {
       header = there_now 0 bytes v w same;
       definitions = record {
         slots = λ kind slot within.
             ap (bytes_at (byte_of_slot kind slot) (slot_size kind)) (stays (page_of_slot kind slot) (page_low kind slot)) ∙ holds.definitions.slots kind slot within
-            ∙ ap (slot_bytes kind) (sym (def_same kind slot FORMAT l.definitions));
+            ∙ ap (slot_bytes kind) (sym (def_same kind slot newest_format l.definitions));
         behind = λ n low high. ap (λ (p : List ℕ). drop (bytes_of_slots (slots_in_page n)) p) (stays n low) ∙ holds.definitions.behind n low high;
       };
       elements = λ i within.
-          subst (λ (p : List ℕ). HoldsElements (with_format FORMAT l.definitions) p (element_page i l.element_pages)) (sym (stays (930 + i) (omega arith)))
+          subst (λ (p : List ℕ). HoldsElements (with_format newest_format l.definitions) p (element_page i l.element_pages)) (sym (stays (930 + i) (omega arith)))
           (holds_renewed l.definitions (v (930 + i)) (element_page i l.element_pages) (holds.elements i within));
     }

@@ -16,8 +16,7 @@ use Rattle.ts_space.specs.Directory.{Directory, places_of}
 use Rattle.ts_space.specs.Charge.{irregular_charge}
 use Rattle.ts_cells.specs.Cell.{page_room}
 use Rattle.ts_offset.specs.declared.shape.Shape.{Shape}
-use Rattle.ts_model.specs.declared.format.TheConstants.{OLD_FORMAT}
-use Rattle.ts_model.specs.Catalogue.{Series}
+use Rattle.ts_model.specs.Catalogue.{Series, old_format}
 use Rattle.ts_model.specs.Definitions.{SeriesDef, at_slot, by_name}
 use Rattle.ts_layout.specs.Slot.{header_bytes}
 use Rattle.ts_layout.specs.Limits.{AreOfFormat}
@@ -130,7 +129,7 @@ neither false b is = (refl, is)
 
 formats_apart : (format : ℕ) (es fs : List Element) → AreOfFormat format (es ++ fs) → AreOfFormat format es × AreOfFormat format fs
 formats_apart format es fs both = (λ old. (parts old).0, λ old. (parts old).1) where
-  parts : format ≡ OLD_FORMAT → (has_hidden es ≡ false) × (has_hidden fs ≡ false)
+  parts : format ≡ old_format → (has_hidden es ≡ false) × (has_hidden fs ≡ false)
   parts old = neither (has_hidden es) (has_hidden fs) (sym (list_any-append (λ (e : Element). e.1.hidden) es fs) ∙ both old)
 
 -- the places of sheets, their elements and their pages

@@ -7,7 +7,7 @@ use Rattle.ts_pattern.specs.Runs.{is_pattern}
 use Rattle.ts_row.specs.RowType.{Heading, is_row_type, has_long_decimal}
 use Rattle.ts_row.specs.Element.{Element, has_hidden}
 use Rattle.ts_page.specs.Volume.{most_element_pages}
-use Rattle.ts_model.specs.declared.format.TheConstants.{OLD_FORMAT}
+use Rattle.ts_model.specs.Catalogue.{old_format}
 use Rattle.ts_model.specs.declared.kind.Kind.{Kind}
 use Rattle.ts_model.specs.declared.def.Def.{Def}
 use Rattle.ts_model.specs.declared.def.Def.TheVariants as defs
@@ -15,11 +15,11 @@ use Rattle.ts_model.specs.Definitions.{RowTypeDef, PatternDef, CalendarDef, Cont
 
 -- what a volume of a format asks of a row type: in the old one no decimal has over 18 digits
 abbrev pub IsOfFormat : ℕ → Heading → Type 0
-IsOfFormat format heading = format ≡ OLD_FORMAT → has_long_decimal heading.columns ≡ false
+IsOfFormat format heading = format ≡ old_format → has_long_decimal heading.columns ≡ false
 
 -- what it asks of the elements of a page: in the old one none is hidden
 abbrev pub AreOfFormat : ℕ → List Element → Type 0
-AreOfFormat format es = format ≡ OLD_FORMAT → has_hidden es ≡ false
+AreOfFormat format es = format ≡ old_format → has_hidden es ≡ false
 
 -- names of words, and columns that make a row type of the format
 pub record IsRowTypeDef (format : ℕ) (r : RowTypeDef) : Type 0 where

@@ -204,6 +204,19 @@ fn a_copy_has_the_same_name(rt: HostRuntime) {
     }
 }
 
+// Whether a copy of definitions finds what they had, once they lose one.
+fn are_copied(alloc: Global) -> Result<bool, StoreFault> {
+    let mut defs = defs_of(alloc, Kind::Container, &CONTAINERS)?;
+    let copy = defs.copy()?;
+    defs.set(Kind::Container, 0, None);
+    Ok(are_found(&copy) && !are_found(&defs))
+}
+
+#[test]
+fn a_copy_finds_what_there_was(rt: HostRuntime) {
+    assert!(rt; matches!(are_copied(rt.alloc()), Ok(true)));
+}
+
 // Whether definitions keep their names as they take another format, and that one again.
 fn format_is_set(alloc: Global) -> Result<bool, StoreFault> {
     let mut defs = defs_of(alloc, Kind::Container, &CONTAINERS)?;
@@ -218,3 +231,12 @@ fn format_is_set(alloc: Global) -> Result<bool, StoreFault> {
 fn another_format_leaves_the_definitions(rt: HostRuntime) {
     assert!(rt; matches!(format_is_set(rt.alloc()), Ok(true)));
 }
+
+#[test]
+fn the_types_may_go_to_other_threads() {
+    goes_to_threads::<Def>();
+    goes_to_threads::<Defs>();
+    goes_to_threads::<Kind>();
+}
+
+fn goes_to_threads<T: Send + Sync>() {}

@@ -126,6 +126,19 @@ fn saved_places_are_restored(rt: HostRuntime) {
     assert!(rt; matches!(are_restored(rt.alloc()), Ok(true)));
 }
 
+// Whether a copy has the places that there were, once the directory changes.
+fn are_copied(alloc: Global) -> Result<bool, AllocError> {
+    let mut space = after(alloc, &[Step::Set(1, D), Step::Set(4095, A)])?;
+    let copy = space.copy()?;
+    space.clear(1, 0);
+    Ok(copy.places(1) == [D].as_slice() && copy.places(2).is_empty())
+}
+
+#[test]
+fn a_copy_has_the_places(rt: HostRuntime) {
+    assert!(rt; matches!(are_copied(rt.alloc()), Ok(true)));
+}
+
 // How many elements a series without places has after a change past its end, and whether it has the places that came.
 fn changed(alloc: Global) -> Result<(u64, bool), AllocError> {
     let mut space = Space::new(alloc)?;
@@ -207,3 +220,12 @@ fn an_irregular_series_is_charged_for_its_elements(rt: HostRuntime) {
         assert!(rt; n <= MOST && q > 0 && charge_irregular(n, q) == *wanted);
     }
 }
+
+#[test]
+fn the_types_may_go_to_other_threads() {
+    goes_to_threads::<Moved>();
+    goes_to_threads::<Place>();
+    goes_to_threads::<Space>();
+}
+
+fn goes_to_threads<T: Send + Sync>() {}

@@ -14,7 +14,6 @@ use Rattle.ts_calendar.specs.declared.text.PatternPart.TheVariants.{Named as ByN
 use Rattle.ts_calendar.specs.declared.text.CalendarText.{CalendarText}
 use Rattle.ts_offset.specs.declared.shape.Shape.{Shape}
 use Rattle.ts_offset.specs.declared.shape.Shape.TheVariants as shapes
-use Rattle.ts_model.specs.declared.format.TheConstants.{FORMAT}
 
 -- names and keys in the order of their bytes
 abbrev pub name_cmp : List ℕ → List ℕ → Ordering
@@ -60,13 +59,21 @@ pub record Catalogue : Type 0 where
   pub containers : Named Container
   pub series : Named Series
 
+-- the number of the format of older volumes
+abbrev pub old_format : ℕ
+old_format = 1
+
+-- the number of the newest format
+abbrev pub newest_format : ℕ
+newest_format = 2
+
 -- a store of a format, with so many element pages, that holds nothing
 abbrev pub empty_catalogue : ℕ → ℕ → Catalogue
 empty_catalogue format pages = record { format = format; pages = pages; row_types = empty; patterns = empty; calendars = empty; containers = empty; series = empty }
 
 -- the same catalogue in the newest format
 abbrev pub in_newest_format : Catalogue → Catalogue
-in_newest_format cat = record cat { format = FORMAT }
+in_newest_format cat = record cat { format = newest_format }
 
 -- the pattern that a calendar's text gives: the one of a name, or its own
 abbrev pub pattern_of : Catalogue → PatternPart → Option Plan

@@ -4,8 +4,7 @@ use Rattle.std.specs.FinMap.{from_entries}
 use Rattle.ts_row.specs.RowType.{Heading}
 use Rattle.ts_pattern.specs.Plan.{Plan}
 use Rattle.ts_calendar.specs.Plan.{CalendarPlan}
-use Rattle.ts_model.specs.Catalogue.{Named}
-use Rattle.ts_model.specs.declared.format.TheConstants.{OLD_FORMAT, FORMAT}
+use Rattle.ts_model.specs.Catalogue.{Named, old_format, newest_format}
 use Rattle.ts_model.specs.declared.kind.Kind.{Kind}
 use Rattle.ts_model.specs.declared.kind.Kind.TheVariants as kinds
 use Rattle.ts_model.specs.declared.def.Def.{Def}
@@ -63,7 +62,7 @@ pub record Tables : Type 0 where
 
 -- a format that a volume may have
 abbrev pub IsFormat : ℕ → Type 0
-IsFormat format = (format ≡ OLD_FORMAT) ⊎ (format ≡ FORMAT)
+IsFormat format = (format ≡ old_format) ⊎ (format ≡ newest_format)
 
 -- how many slots there are for row types, for patterns, for calendars, for containers and for series
 abbrev pub row_type_slots : ℕ
@@ -244,7 +243,7 @@ with_room kinds.Series room = record room { series = true }
 -- nothing defined, in the newest format
 abbrev pub no_definitions : Definitions
 no_definitions = record {
-  format = FORMAT;
+  format = newest_format;
   row_types = replicate row_type_slots None;
   patterns = replicate pattern_slots None;
   calendars = replicate calendar_slots None;

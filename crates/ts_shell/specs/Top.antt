@@ -4,8 +4,7 @@ use Rattle.ts_disk.specs.Device.{Device, Within, Only, Rose, FirstSync, LeavesOn
 use Rattle.ts_disk.specs.Input.{Input}
 use Rattle.ts_command.specs.Script.{Request, requests, last_request}
 use Rattle.ts_replies.specs.Acknowledged.{Protocol, AllAnswered}
-use Rattle.ts_model.specs.declared.format.TheConstants.{FORMAT}
-use Rattle.ts_model.specs.Catalogue.{Catalogue, empty_catalogue}
+use Rattle.ts_model.specs.Catalogue.{Catalogue, empty_catalogue, newest_format}
 use Rattle.ts_volume.specs.Volume.{MeansCatalogue}
 use Rattle.ts_engine.specs.Engine.{Kept, IsAt}
 use Rattle.ts_shell.specs.declared.fault.RunFault.{RunFault}
@@ -29,7 +28,7 @@ pub record Untouched (v w : Device) : Type 0 where
 -- What `init` with a number of pages does.
 pub record Made (tells : Bool) (pages status : ℕ) (v w : Device) : Type 0 where
   -- at 0 the only image has that length and means the empty catalogue in the newest format
-  pub done : status ≡ 0 → (w.size ≡ 4096 * (930 + pages)) × Only w.held w.images × (IsTrue tells → MeansCatalogue w.held (empty_catalogue FORMAT pages))
+  pub done : status ≡ 0 → (w.size ≡ 4096 * (930 + pages)) × Only w.held w.images × (IsTrue tells → MeansCatalogue w.held (empty_catalogue newest_format pages))
   -- from the end of its first sync that answers Ok on, the second call that does, each image means the empty catalogue of either
   -- format or none
   pub moments : IsTrue tells → v.syncs < w.syncs → EmptyFrom pages (v.clock + 2) v w

@@ -1,8 +1,7 @@
 // A new store: its header, in the newest format, and zeros behind it.
 ghost use Rattle.std.specs.Prelude.{◌≡◌, ◌+◌, ◌*◌, ◌≤◌, ◌<◌, IsTrue, IsErr, OnOk};
 ghost use Rattle.ts_disk.specs.Device.{Only, Rose};
-ghost use Rattle.ts_model.specs.Catalogue.{empty_catalogue};
-ghost use Rattle.ts_model.specs.declared.format.TheConstants.{FORMAT as NEWEST};
+ghost use Rattle.ts_model.specs.Catalogue.{empty_catalogue, newest_format};
 ghost use Rattle.ts_volume.specs.Volume.{MeansCatalogue};
 ghost use Rattle.ts_shell.specs.Making.{EmptyFrom};
 
@@ -16,7 +15,7 @@ pub(crate) fn make<V: Volume>(vol: &mut V, pages: u32) -> Result<(), Failed>
     requires empty { (V.device vol.old).size ≡ 0 }
     requires some { 1 ≤ pages }
     requires limit { pages ≤ 65536 }
-    ensures means { OnOk result (IsTrue V.tells → MeansCatalogue (V.device vol.new).held (empty_catalogue NEWEST pages)) }
+    ensures means { OnOk result (IsTrue V.tells → MeansCatalogue (V.device vol.new).held (empty_catalogue newest_format pages)) }
     ensures size { OnOk result ((V.device vol.new).size ≡ 4096 * (930 + pages)) }
     ensures durable { OnOk result (Only (V.device vol.new).held (V.device vol.new).images) }
     ensures said { (V.device vol.new).said ≡ (V.device vol.old).said }

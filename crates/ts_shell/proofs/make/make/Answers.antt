@@ -1,6 +1,6 @@
 use Rattle.std.proofs.Common.{◌≡◌, ℕ, ◌+◌, ◌*◌, List, length, replicate, inr, refl, ◌∙◌, ap}
 use Rattle.ts_disk.specs.Device.{overwritten}
-use Rattle.ts_model.specs.declared.format.TheConstants.{FORMAT}
+use Rattle.ts_model.specs.Catalogue.{newest_format}
 use Rattle.ts_shell.proofs.NewLemmas.{new_means}
 use Rattle.ts_shell.proofs.MakingLemmas.{header_length, written_new, zeros_held, written, written_synced, empty_from}
 use Rattle.ts_shell.proofs.make.make.Goals as goal
@@ -18,7 +18,7 @@ returns-clause-means g c = λ told.
     let whole : length header ≡ 4096 = ap length c.write_header.ensures ∙ header_length _ pages in
     let zeros = zeros_held tells told pages size c.requires.some c.requires.limit refl v a b (g.met.V.Volume.lawful c.args.vol.now) (g.met.V.Volume.lawful c.sync.new.self) c.requires.empty c.in_ok-resize.ensures c.in_ok-sync.ensures in
     let held : f.held ≡ overwritten 0 header (replicate size 0) = c.sync-2.ensures.held ∙ c.in_ok-write_at.ensures.written told ∙ ap (overwritten 0 header) (c.sync.ensures.held ∙ zeros) in
-    new_means FORMAT pages f.held (inr refl) c.requires.some c.requires.limit (written_new pages size c.requires.some c.requires.limit refl FORMAT header f.held c.write_header.ensures whole held)
+    new_means newest_format pages f.held (inr refl) c.requires.some c.requires.limit (written_new pages size c.requires.some c.requires.limit refl newest_format header f.held c.write_header.ensures whole held)
 
 pub returns-clause-moments : goal.returns-clause-moments
 returns-clause-moments g c = λ told more.

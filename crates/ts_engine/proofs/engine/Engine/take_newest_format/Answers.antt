@@ -1,5 +1,5 @@
 use Rattle.std.proofs.Common.{ap, ◌∙◌}
-use Rattle.ts_model.specs.declared.format.TheConstants.{FORMAT}
+use Rattle.ts_model.specs.Catalogue.{newest_format}
 use Rattle.ts_model.specs.Definitions.{Tables, with_format}
 use Rattle.ts_engine.specs.contracts.engine.Engine.{the_view}
 use Rattle.ts_engine.specs.Engine.{Kept}
@@ -32,5 +32,5 @@ returns g c =
     record {
       migrated = migrated_ok tells e v (g.met.V.Volume.lawful c.args.vol.now) c.requires.ready put.new.self c.finish.new.self (g.V.Volume.device put.new.vol) w (g.met.V.Volume.lawful c.finish.new.vol)
           put.result put.ensures.others put.ensures.undisturbed put.ensures.written f c.in_ok-finish.ensures.finished
-          (ap (λ (t : Tables). record now { tables = t }) c.set_format.ensures ∙ ap (λ (k : Kept). record k { tables = record k.tables { definitions = with_format FORMAT k.tables.definitions } }) c.self.view_is);
+          (ap (λ (t : Tables). record now { tables = t }) c.set_format.ensures ∙ ap (λ (k : Kept). record k { tables = record k.tables { definitions = with_format newest_format k.tables.definitions } }) c.self.view_is);
     }

@@ -1,5 +1,5 @@
 use Rattle.std.proofs.Common.{◌≡◌, ℕ, None, false, replicate, refl, ap, sym, subst, ◌∙◌, inr}
-use Rattle.ts_model.specs.declared.format.TheConstants.{FORMAT}
+use Rattle.ts_model.specs.Catalogue.{newest_format}
 use Rattle.ts_model.specs.declared.kind.Kind.{Kind}
 use Rattle.ts_model.specs.declared.kind.Kind.TheVariants as kinds
 use Rattle.ts_model.specs.Definitions.{no_tables, limit}
@@ -11,10 +11,10 @@ use Rattle.ts_model.proofs.defs.Defs.new.Goals as goal
 abbrev empty : ℕ → Slots
 empty count = record { count = count; slots = replicate count None; room = false }
 
-empty-tables : tables_of FORMAT (empty 64) (empty 256) (empty 256) (empty 64) (empty 4096) ≡ no_tables
+empty-tables : tables_of newest_format (empty 64) (empty 256) (empty 256) (empty 64) (empty 4096) ≡ no_tables
 empty-tables = λ i. record {
   definitions = record {
-    format = FORMAT;
+    format = newest_format;
     row_types = read-none kinds.RowType 64 i;
     patterns = read-none kinds.Pattern 256 i;
     calendars = read-none kinds.Calendar 256 i;
@@ -39,7 +39,7 @@ invariant_of-result c = record {
 
 pub returns : goal.returns
 returns c =
-    (λ i. tables_of FORMAT
+    (λ i. tables_of newest_format
     ((c.new.ensures ∙ ap empty c.limit.ensures) i)
     ((c.new-2.ensures ∙ ap empty c.limit-2.ensures) i)
     ((c.new-3.ensures ∙ ap empty c.limit-3.ensures) i)
