@@ -24,7 +24,6 @@ use Rattle.ts_answer.specs.declared.effect.Effect.TheVariants.{Places}
 use Rattle.ts_answer.specs.CarriedOut.{definitions_after, lists_after}
 use Rattle.ts_engine.specs.Charged.{CanCount, IsRateOf}
 use Rattle.ts_engine.specs.declared.charge.Rate.{Rate}
-use Rattle.ts_engine.specs.Engine.{Kept}
 use Rattle.ts_engine.specs.Ended.{CanCharge}
 
 -- directories with the same places
@@ -51,15 +50,15 @@ pub can_count : (d : Definitions) (space : Directory) (free : List ℕ) (count :
 can_count d space free count kept = record { limits = kept.sound.limits; rules = kept.sound.tables; countable = quotas_countable d space free count kept }
 
 -- and stays so where nothing that counts changes
-pub can_charge_then : (effect : Effect) (e f : Kept) → CanCharge effect e → f.tables.definitions ≡ e.tables.definitions → f.space.lists ≡ e.space.lists → f.charges ≡ e.charges → CanCharge effect f
-can_charge_then effect e f can definitions lists charges = record {
-  charged = charges_same e.charges f.charges e.tables.definitions f.tables.definitions e.space f.space can.charged charges definitions lists;
+pub can_charge_then : (effect : Effect) (sums sums' : List ℕ) (d d' : Definitions) (space space' : Directory) → CanCharge effect sums d space → d' ≡ d → space'.lists ≡ space.lists → sums' ≡ sums → CanCharge effect sums' d' space'
+can_charge_then effect sums sums' d d' space space' can definitions lists charges = record {
+  charged = charges_same sums sums' d d' space space' can.charged charges definitions lists;
   few = λ slot below. subst (λ (n : ℕ). n ≤ 65536)
-      (sym (ap (λ (d : Definitions). charge_in d f.space slot) definitions
-      ∙ alike_in e.space f.space (λ t. ap (λ (ls : List (List Place)). slice_index_or ls t []) lists) e.tables.definitions slot (heading_in e.tables.definitions slot))) (can.few slot below);
-  before = subst (λ (d : Definitions). CanCount d f.space.lists) (sym definitions) (subst (λ (ls : List (List Place)). CanCount e.tables.definitions ls) (sym lists) can.before);
-  after = subst (λ (d : Definitions). CanCount (definitions_after effect d) (lists_after effect f.space.lists)) (sym definitions)
-      (subst (λ (ls : List (List Place)). CanCount (definitions_after effect e.tables.definitions) (lists_after effect ls)) (sym lists) can.after);
+      (sym (ap (λ (x : Definitions). charge_in x space' slot) definitions
+      ∙ alike_in space space' (λ t. ap (λ (ls : List (List Place)). slice_index_or ls t []) lists) d slot (heading_in d slot))) (can.few slot below);
+  before = subst (λ (x : Definitions). CanCount x space'.lists) (sym definitions) (subst (λ (ls : List (List Place)). CanCount d ls) (sym lists) can.before);
+  after = subst (λ (x : Definitions). CanCount (definitions_after effect x) (lists_after effect space'.lists)) (sym definitions)
+      (subst (λ (ls : List (List Place)). CanCount (definitions_after effect d) (lists_after effect ls)) (sym lists) can.after);
   rising = subst (λ (ls : List (List Place)). (slot : ℕ) → slot < 4096 → IsRising (slice_index_or (lists_after effect ls) slot [])) (sym lists) can.rising;
 }
 
@@ -70,12 +69,14 @@ places_then effect slot moved lists is within size =
     ap (λ (e : Effect). slice_index_or (lists_after e lists) slot []) is ∙ get_or-set_same lists slot (moved_to moved (slice_index_or lists slot [])) [] (omega (arith, within, size))
 
 -- they are still few and rise
-pub rising_then : (effect : Effect) (slot : ℕ) (moved : Moved) (e : Kept) → effect ≡ Places slot moved → slot < 4096 → length e.space.lists ≡ 4096 → CanCharge effect e → IsRising (moved_to moved (places_of slot e.space))
-rising_then effect slot moved e is within size can = subst IsRising (places_then effect slot moved e.space.lists is within size) (can.rising slot within)
+pub rising_then : (effect : Effect) (slot : ℕ) (moved : Moved) (sums : List ℕ) (d : Definitions) (space : Directory) → effect ≡ Places slot moved → slot < 4096 → length space.lists ≡ 4096 → CanCharge effect sums d space
+    → IsRising (moved_to moved (places_of slot space))
+rising_then effect slot moved sums d space is within size can = subst IsRising (places_then effect slot moved space.lists is within size) (can.rising slot within)
 
-pub countable_then : (effect : Effect) (slot : ℕ) (moved : Moved) (e : Kept) → effect ≡ Places slot moved → slot < 4096 → length e.space.lists ≡ 4096 → CanCharge effect e → IsCountable (moved_to moved (places_of slot e.space))
-countable_then effect slot moved e is within size can =
-    subst IsCountable (places_then effect slot moved e.space.lists is within size) (can.after.countable slot within)
+pub countable_then : (effect : Effect) (slot : ℕ) (moved : Moved) (sums : List ℕ) (d : Definitions) (space : Directory) → effect ≡ Places slot moved → slot < 4096 → length space.lists ≡ 4096 → CanCharge effect sums d space
+    → IsCountable (moved_to moved (places_of slot space))
+countable_then effect slot moved sums d space is within size can =
+    subst IsCountable (places_then effect slot moved space.lists is within size) (can.after.countable slot within)
 
 -- what holds of the places of each series holds once one has others of which it holds
 each_after : (P : List Place → Type 0) (lists : List (List Place)) (slot : ℕ) (ps : List Place) → P [] → ((t : ℕ) → t < 4096 → P (slice_index_or lists t [])) → P ps → (t : ℕ) → t < 4096 → P (slice_index_or (set lists slot ps) t [])

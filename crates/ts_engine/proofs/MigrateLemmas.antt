@@ -34,7 +34,7 @@ migrated_none tells e v lawful ready newest = record {
   moves = moves_still tells in_newest_format e e v v ready (still_none tells e.store v lawful ready.idle) ready.unspent refl refl refl
       (λ told cat at.
       let is = stands tells e v lawful ready told cat at in
-      newest_stays cat (ap (λ (c : Catalogue). c.format) is ∙ ap (λ (d : Definitions). d.format) (sym (ready.layout told).1.definitions) ∙ newest));
+      newest_stays cat (ap (λ (c : Catalogue). c.format) is ∙ ap (λ (d : Definitions). d.format) (sym (ready.seen.layout told).1.kept.definitions) ∙ newest));
   newest = newest;
 }
 
@@ -42,16 +42,16 @@ module _ (tells : Bool) (e : Kept) (v : Device) (lawful : Lawful tells v) (ready
   abbrev Work : Contents → Contents → Type 0
   Work a c = HeaderWritten tells newest_format (e.store.pages - 930) (Ok tt) a c
 
-  next : (told : IsTrue tells) (read : Contents) → Work (contents_over e.store v) read → Next tells in_newest_format (ready.layout told).0 read
+  next : (told : IsTrue tells) (read : Contents) → Work (contents_over e.store v) read → Next tells in_newest_format (ready.seen.layout told).0 read
   next told read work =
-      let l = (ready.layout told).0 in
-      let size = (ready.layout told).1.size in
+      let l = (ready.seen.layout told).0 in
+      let size = (ready.seen.layout told).1.kept.size in
       let number : e.store.pages - 930 ≡ length l.element_pages = omega (arith, size) in
       record {
         layout = layout_in newest_format l;
         size = refl;
-        rules = sound_renewed l (ready.layout told).1.rules;
-        holds = λ t. layout_renewed l (read_pages e.store v.held) read.page (subst (λ (n : ℕ). EqualPages (with_page 0 (header_bytes newest_format n) (read_pages e.store v.held)) read.page) number (work.written t)) (ready.layout told).2;
+        rules = sound_renewed l (ready.seen.layout told).1.kept.rules;
+        holds = λ t. layout_renewed l (read_pages e.store v.held) read.page (subst (λ (n : ℕ). EqualPages (with_page 0 (header_bytes newest_format n) (read_pages e.store v.held)) read.page) number (work.written t)) ((ready.seen.layout told).1.holds told);
         comes = λ t. refl;
       }
 
@@ -94,8 +94,8 @@ module _ (tells : Bool) (e : Kept) (v : Device) (lawful : Lawful tells v) (ready
         subst (λ (k : Kept). Migrated tells (Ok tt) e k v w) (sym set)
         (record {
           moves = moves_ok tells in_newest_format Work e g' v w lawful later ready next now
-              (kept_alike (with_format newest_format e.tables.definitions) g'.tables.definitions e.space g'.space e.store.free g'.store.free e.store.pages g'.store.pages (kept_renewed e.tables.definitions e.space e.store.free e.store.pages ready.kept) definitions lists free pages)
-              (λ told. held_same (with_format newest_format e.tables.definitions) g'.tables.definitions e.space g'.space e.store.pages g'.store.pages e.store.free g'.store.free (layout_in newest_format (ready.layout told).0) (held_renewed (ready.layout told).0 (ready.layout told).1) definitions lists pages free)
+              (kept_alike (with_format newest_format e.tables.definitions) g'.tables.definitions e.space g'.space e.store.free g'.store.free e.store.pages g'.store.pages (kept_renewed e.tables.definitions e.space e.store.free e.store.pages ready.seen.kept) definitions lists free pages)
+              (λ told. held_same (with_format newest_format e.tables.definitions) g'.tables.definitions e.space g'.space e.store.pages g'.store.pages e.store.free g'.store.free (layout_in newest_format (ready.seen.layout told).0) (held_renewed (ready.seen.layout told).0 (ready.seen.layout told).1.kept) definitions lists pages free)
               (charges_same e.charges g'.charges (with_format newest_format e.tables.definitions) g'.tables.definitions e.space g'.space ready.charges charges definitions lists);
           newest = refl;
         })

@@ -20,7 +20,7 @@ use Rattle.ts_engine.specs.Moves.{BeforeOrAfter, IsUntouched, Moves}
 use Rattle.ts_engine.specs.Change.{IsStill, ChangeLeaves, Changed}
 use Rattle.ts_engine.proofs.ChargedLemmas.{charges_same}
 use Rattle.ts_volume.proofs.CallerLemmas.{holds_still, means_layout}
-use Rattle.ts_engine.proofs.StandLemmas.{rules_same, layout_same, means_alike, means_held, at_layout}
+use Rattle.ts_engine.proofs.StandLemmas.{seen_same, means_alike, means_held, at_layout}
 
 -- a call that only reads leaves what the volume means
 read_moments : (tells : Bool) (after : Catalogue → Catalogue) (e : Kept) (v w : Device) → IsReady tells e v → OnlyReads tells v w → (cat : Catalogue) → IsAt tells e cat v → LeavesOnly v w (BeforeOrAfter cat (after cat) v)
@@ -37,8 +37,7 @@ module _ (tells : Bool) (after : Catalogue → Catalogue) (e f : Kept) (v w : De
   ready_still : IsReady tells f w
   ready_still = record {
     idle = still.idle;
-    kept = rules_same e f ready.kept definitions lists still.pages still.free;
-    layout = λ told. layout_same e f v w (ready.layout told) definitions lists still.pages still.free still.same;
+    seen = seen_same tells e f v w ready.seen definitions lists still.pages still.free still.same;
     charges = charges_same e.charges f.charges e.tables.definitions f.tables.definitions e.space f.space ready.charges charges definitions lists;
     unspent = unspent;
   }
@@ -88,11 +87,11 @@ pub record Next (tells : Bool) (after : Catalogue → Catalogue) (l : Layout) (r
   pub comes : IsTrue tells → after (catalogue_of l) ≡ catalogue_of layout
 
 -- the catalogue that an engine stands at is that of the layout that its pages hold
-pub stands : (tells : Bool) (e : Kept) (v : Device) → Lawful tells v → (ready : IsReady tells e v) (told : IsTrue tells) (cat : Catalogue) → IsAt tells e cat v → cat ≡ catalogue_of (ready.layout told).0
-stands tells e v lawful ready told cat at = at_layout tells e v (ready.layout told).0 lawful ready.idle (ready.layout told).1 told (ready.layout told).2 cat at.means
+pub stands : (tells : Bool) (e : Kept) (v : Device) → Lawful tells v → (ready : IsReady tells e v) (told : IsTrue tells) (cat : Catalogue) → IsAt tells e cat v → cat ≡ catalogue_of (ready.seen.layout told).0
+stands tells e v lawful ready told cat at = at_layout tells e v (ready.seen.layout told).0 lawful ready.idle (ready.seen.layout told).1.kept told ((ready.seen.layout told).1.holds told) cat at.means
 
 module _ (tells : Bool) (after : Catalogue → Catalogue) (Work : Contents → Contents → Type 0) (e f : Kept) (v w : Device) (lawful : Lawful tells v) (later : Lawful tells w) (ready : IsReady tells e v)
-    (next : (told : IsTrue tells) (read : Contents) → Work (contents_over e.store v) read → Next tells after (ready.layout told).0 read) where
+    (next : (told : IsTrue tells) (read : Contents) → Work (contents_over e.store v) read → Next tells after (ready.seen.layout told).0 read) where
   goes : (told : IsTrue tells) (cat : Catalogue) → IsAt tells e cat v → (read : Contents) (work : Work (contents_over e.store v) read) → after cat ≡ catalogue_of (next told read work).layout
   goes told cat at read work = ap after (stands tells e v lawful ready told cat at) ∙ (next told read work).comes told
 
@@ -100,20 +99,20 @@ module _ (tells : Bool) (after : Catalogue → Catalogue) (Work : Contents → C
   next_moments result spent changed told cat at =
       leaves_map v w (ChangeLeaves Work e.store v) (BeforeOrAfter cat (after cat) v)
       (λ image said now. (
-        ⊎_elim (λ old. inl (subst (MeansCatalogue image) (sym (stands tells e v lawful ready told cat at)) (means_alike tells e v (ready.layout told).0 lawful ready.idle (ready.layout told).1 image (ready.layout told).2 old)))
+        ⊎_elim (λ old. inl (subst (MeansCatalogue image) (sym (stands tells e v lawful ready told cat at)) (means_alike tells e v (ready.seen.layout told).0 lawful ready.idle (ready.seen.layout told).1.kept image ((ready.seen.layout told).1.holds told) old)))
             (λ new.
             let to = next told new.0 new.1 in
             inr (subst (MeansCatalogue image) (sym (goes told cat at new.0 new.1))
-            (means_layout v.size new.0.page image to.layout ready.idle.over.read.volume new.2.size new.2.sound new.2.alike (counted v.size e.store.pages ready.idle.over.read.size ∙ (ready.layout told).1.size ∙ ap (λ (n : ℕ). 930 + n) (sym to.size)) (to.holds told) to.rules))) now.0,
+            (means_layout v.size new.0.page image to.layout ready.idle.over.read.volume new.2.size new.2.sound new.2.alike (counted v.size e.store.pages ready.idle.over.read.size ∙ (ready.seen.layout told).1.kept.size ∙ ap (λ (n : ℕ). 930 + n) (sym to.size)) (to.holds told) to.rules))) now.0,
         now.1,
       ))
       (changed.moments told)
 
   pub moves_ok : (changed : Changed tells Work (Ok tt) e.store f.store f.spent v w) → AreKept f.tables.definitions f.space f.store.free f.store.pages → ((told : IsTrue tells) → IsKeptOf f (next told changed.done.read changed.done.work).layout) → AreCharges f.charges f.tables.definitions f.space → Moves tells after (Ok tt) e f v w
   moves_ok changed rules' kept' charged =
-      let to : (told : IsTrue tells) → Next tells after (ready.layout told).0 changed.done.read = λ told. next told changed.done.read changed.done.work in
+      let to : (told : IsTrue tells) → Next tells after (ready.seen.layout told).0 changed.done.read = λ told. next told changed.done.read changed.done.work in
       let holds' : (told : IsTrue tells) → HoldsLayout (read_pages f.store w.held) (to told).layout = λ told. holds_still changed.done.read.page (read_pages f.store w.held) (to told).layout (changed.done.alike told) ((to told).holds told) in
-      let ready' : IsReady tells f w = record { idle = changed.idle; kept = rules'; layout = λ told. ((to told).layout, kept' told, holds' told); charges = charged; unspent = changed.unspent } in
+      let ready' : IsReady tells f w = record { idle = changed.idle; seen = record { kept = rules'; layout = λ told. ((to told).layout, record { kept = kept' told; holds = λ t. holds' told }) }; charges = charged; unspent = changed.unspent } in
       record {
         ready = ready';
         at = λ told cat at. record {

@@ -178,8 +178,7 @@ module _ (tells : Bool) (s t : State) (v : Device) (x : Definitions) (space : Di
     unfolding none_left holds kept rules
     ready = record {
       idle = record { over = over; batch = none_left; kept_free = settled.kept_free ∙ ap (λ (z : State). z.kept_free) admit ∙ sym (settled.free ∙ ap (λ (z : State). z.free) admit) };
-      kept = rules;
-      layout = λ told. ((found.layout told).0, kept told, holds told);
+      seen = record { kept = rules; layout = λ told. ((found.layout told).0, record { kept = kept told; holds = λ t. holds told }) };
       charges = charged;
       unspent = refl;
     }

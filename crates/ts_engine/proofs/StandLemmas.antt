@@ -9,8 +9,9 @@ use Rattle.ts_layout.specs.Meaning.{Layout, HoldsLayout, catalogue_of}
 use Rattle.ts_layout.specs.Placed.{AreKept}
 use Rattle.ts_layout.proofs.CallerLemmas.{kept_alike}
 use Rattle.ts_answer.proofs.CallerLemmas.{held_same}
+use Rattle.ts_answer.specs.View.{IsSeen}
 use Rattle.ts_volume.specs.Volume.{MeansCatalogue}
-use Rattle.ts_engine.specs.Engine.{Kept, IsKeptOf, HoldsKept}
+use Rattle.ts_engine.specs.Engine.{Kept, IsKeptOf, seen_by}
 use Rattle.ts_engine.specs.Change.{ReadsAlike, IsStill}
 use Rattle.ts_volume.proofs.CallerLemmas.{means_layout, one_catalogue}
 
@@ -22,8 +23,20 @@ kept_same e f l kept definitions lists pages free =
 pub rules_same : (e f : Kept) → AreKept e.tables.definitions e.space e.store.free e.store.pages → f.tables.definitions ≡ e.tables.definitions → f.space.lists ≡ e.space.lists → f.store.pages ≡ e.store.pages → f.store.free ≡ e.store.free → AreKept f.tables.definitions f.space f.store.free f.store.pages
 rules_same e f kept definitions lists pages free = kept_alike e.tables.definitions f.tables.definitions e.space f.space e.store.free f.store.free e.store.pages f.store.pages kept definitions lists free pages
 
-pub layout_same : (e f : Kept) (v w : Device) → HoldsKept e v → f.tables.definitions ≡ e.tables.definitions → f.space.lists ≡ e.space.lists → f.store.pages ≡ e.store.pages → f.store.free ≡ e.store.free → ((number : ℕ) → read_pages f.store w.held number ≡ read_pages e.store v.held number) → HoldsKept f w
-layout_same e f v w known definitions lists pages free same = (known.0, kept_same e f known.0 known.1 definitions lists pages free, subst (λ (p : ℕ → List ℕ). HoldsLayout p known.0) (sym (λ i k. same k i)) known.2)
+-- and so is all that is seen, where the same is read
+pub seen_same : (tells : Bool) (e f : Kept) (v w : Device) → IsSeen tells (seen_by e v) → f.tables.definitions ≡ e.tables.definitions → f.space.lists ≡ e.space.lists → f.store.pages ≡ e.store.pages → f.store.free ≡ e.store.free
+    → ((number : ℕ) → read_pages f.store w.held number ≡ read_pages e.store v.held number) → IsSeen tells (seen_by f w)
+seen_same tells e f v w seen definitions lists pages free same = record {
+  kept = rules_same e f seen.kept definitions lists pages free;
+  layout = λ told.
+      let known = seen.layout told in (
+        known.0,
+        record {
+          kept = kept_same e f known.0 known.1.kept definitions lists pages free;
+          holds = λ t. subst (λ (p : ℕ → List ℕ). HoldsLayout p known.0) (sym (λ i k. same k i)) (known.1.holds t);
+        },
+      );
+}
 
 -- an idle engine that keeps what a layout has
 module _ (tells : Bool) (e : Kept) (v : Device) (l : Layout) (lawful : Lawful tells v) (idle : IsIdle tells e.store v) (kept : IsKeptOf e l) where

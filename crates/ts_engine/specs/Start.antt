@@ -1,6 +1,6 @@
 -- What the opening of a volume does.
 use Rattle.std.specs.Prelude.{◌≡◌, ◌<◌, Bool, IsTrue, Result, IfOk, OnOk, IfErr, List, ℕ}
-use Rattle.ts_disk.specs.Device.{Device, Only, Rose, FirstSync, LeavesOnly, Within}
+use Rattle.ts_disk.specs.Device.{Device, Rose, FirstSync, LeavesOnly, Within}
 use Rattle.ts_journal.specs.Moment.{Keeps, OnlyReads}
 use Rattle.ts_recover.specs.declared.replay.RecoverFault.{RecoverFault}
 use Rattle.ts_recover.specs.declared.replay.RecoverFault.TheVariants as journal
@@ -9,7 +9,7 @@ use Rattle.ts_container.specs.declared.fault.SurveyFault.{SurveyFault}
 use Rattle.ts_container.specs.declared.fault.SurveyFault.TheVariants.{NotAStore, Failed, Memory}
 use Rattle.ts_engine.specs.declared.engine.Engine.{Engine}
 use Rattle.ts_volume.specs.Volume.{MeansCatalogue, MeansNothing}
-use Rattle.ts_engine.specs.Engine.{IsReady, IsAt}
+use Rattle.ts_engine.specs.Engine.{IsReady, IsAt, NothingIsPending}
 
 -- an image that means the catalogue, and nothing said
 abbrev pub StillMeans : Catalogue → Device → List ℕ → List ℕ → Type 0
@@ -64,7 +64,8 @@ pub record Started (tells : Bool) (result : Result Engine SurveyFault) (v w : De
   -- From the end of its first sync on each moment means what the volume meant; before it each is an image of the entry.
   pub moments : IsTrue tells → (cat : Catalogue) → MeansCatalogue v.held cat → FirstSync v w (StillMeans cat v)
   -- where nothing is pending at the entry, each moment means that
-  pub at_rest : IsTrue tells → Only v.held v.images → (cat : Catalogue) → MeansCatalogue v.held cat → LeavesOnly v w (StillMeans cat v)
+  pub at_rest : IsTrue tells → NothingIsPending v → (cat : Catalogue) → MeansCatalogue v.held cat
+      → LeavesOnly v w (StillMeans cat v)
   -- where it means no catalogue, it is left as it was
   pub nothing : IsTrue tells → MeansNothing v.held → LeavesAsItWas v w
   -- only a failed call of the disk raises the count

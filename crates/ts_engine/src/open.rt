@@ -1,11 +1,12 @@
 // The opening of a volume that was synced.
 ghost use Rattle.std.specs.Prelude.{◌≡◌, IsTrue, IfOk, IfErr, IsErrOf, OnOk};
-ghost use Rattle.ts_disk.specs.Device.{Only, Rose};
+ghost use Rattle.ts_disk.specs.Device.{Rose};
 ghost use Rattle.ts_journal.specs.Moment.{OnlyReads};
 ghost use Rattle.ts_store.specs.OpenBatch.{IsIdle, IsReadOver, read_pages, contents_over};
 ghost use Rattle.ts_store.specs.Undisturbed.{Undisturbed};
 ghost use Rattle.ts_container.specs.declared.fault.SurveyFault.TheVariants.{Failed};
 ghost use Rattle.ts_container.specs.Survey.{IsFound, IfRefused, HoldNoLayout};
+ghost use Rattle.ts_engine.specs.Engine.{NothingIsPending};
 ghost use Rattle.ts_engine.specs.Start.{Opened, ReadFault, read_as};
 
 use crate::engine::Engine;
@@ -18,7 +19,7 @@ use ts_store::{On, Store};
 
 /// Reads the journal and all pages, and brings the journal's pages to their places. All memory is taken before the first write.
 pub(crate) fn open<V: Volume>(alloc: Global, vol: &mut V) -> Result<Engine, SurveyFault>
-    requires settled { Only (V.device vol.old).held (V.device vol.old).images }
+    requires settled { NothingIsPending (V.device vol.old) }
     ensures opened { Opened V.tells result (V.device vol.old) (V.device vol.new) }
 {
     let charges = Charges::new(alloc)?;
@@ -29,7 +30,7 @@ pub(crate) fn open<V: Volume>(alloc: Global, vol: &mut V) -> Result<Engine, Surv
 
 // The store of a volume, none of whose pages can be taken yet.
 fn read_journal<V: Volume>(alloc: Global, vol: &mut V) -> Result<Store, SurveyFault>
-    requires settled { Only (V.device vol.old).held (V.device vol.old).images }
+    requires settled { NothingIsPending (V.device vol.old) }
     ensures idle { IfOk result (λ s. IsIdle V.tells s (V.device vol.new)) }
     ensures fault { IfErr result (λ fault. ReadFault V.tells fault (V.device vol.old) (V.device vol.new)) }
     ensures no_fault { OnOk result ((V.device vol.new).faults ≡ (V.device vol.old).faults) }

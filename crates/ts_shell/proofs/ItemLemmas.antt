@@ -41,8 +41,12 @@ module _ (tells : Bool) (e : Kept) (v w : Device) (size : w.size ≡ v.size) (he
       let idle = ready.idle in
       record {
         idle = record { over = over_same idle.over; batch = idle.batch; kept_free = idle.kept_free };
-        kept = ready.kept;
-        layout = λ told. let layout = ready.layout told in (layout.0, layout.1, subst (λ (l : List ℕ). HoldsLayout (read_pages e.store l) layout.0) (sym held) layout.2);
+        seen = record {
+          kept = ready.seen.kept;
+          layout = λ told.
+              let known = ready.seen.layout told in
+              (known.0, record { kept = known.1.kept; holds = λ t. subst (λ (l : List ℕ). HoldsLayout (read_pages e.store l) known.0) (sym held) (known.1.holds t) });
+        };
         charges = ready.charges;
         unspent = ready.unspent;
       }

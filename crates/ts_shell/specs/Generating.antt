@@ -1,7 +1,7 @@
 -- What `gen` does: it carries out the generated commands, and says what the last two come to and how many there were of each kind.
 use Rattle.std.specs.Prelude.{◌≡◌, ◌≢◌, ◌⊎◌, ℕ, ◌+◌, ◌-◌, ◌≤◌, ◌==◌, ◌&&◌, Bool, not, IsTrue, if◌then◌else◌, List, [], ◌∷◌, ◌++◌, length, take, drop, codes, decimal, flat_map, Result, Ok, OnOk, IfErr, nat_eq}
 use Rattle.std.specs.List.{count_by, starts_with}
-use Rattle.ts_disk.specs.Device.{Device, Only, Rose, FirstSync, LeavesOnly, Saying}
+use Rattle.ts_disk.specs.Device.{Device, Rose, FirstSync, LeavesOnly, Saying}
 use Rattle.ts_journal.specs.Moment.{Keeps, OnlyReads}
 use Rattle.ts_command.specs.declared.command.Command.{Command}
 use Rattle.ts_model.specs.Catalogue.{Catalogue}
@@ -10,7 +10,7 @@ use Rattle.ts_answer.specs.Outcomes.{ends_with_ok}
 use Rattle.ts_engine.specs.declared.fault.StepFault.{StepFault}
 use Rattle.ts_engine.specs.declared.fault.StepFault.TheVariants.{Disk, Memory, Closed}
 use Rattle.ts_volume.specs.Volume.{MeansCatalogue}
-use Rattle.ts_engine.specs.Engine.{Kept, IsReady, IsAt}
+use Rattle.ts_engine.specs.Engine.{Kept, IsReady, IsAt, NothingIsPending}
 use Rattle.ts_engine.specs.Step.{Stepped}
 use Rattle.ts_shell.specs.declared.generate.Generator.{Generator}
 use Rattle.ts_shell.specs.Opening.{OpensStore}
@@ -113,7 +113,7 @@ pub record GeneratedOn (state : State) (commands : List Command) (status : ℕ) 
 -- What commands do over an engine.
 pub record OpenedGen (tells : Bool) (commands : List Command) (e : Kept) (status : ℕ) (v w : Device) : Type 0 where
   pub on : IsTrue tells → (state : State) → IsAt tells e (committed state) v → GeneratedOn state commands status v w
-  pub settled : status ≡ 0 → Only w.held w.images
+  pub settled : status ≡ 0 → NothingIsPending w
   pub output : status ≡ 4 → Rose v.say_faults w.say_faults
   pub disk : status ≡ 5 → Rose v.faults w.faults
   pub no_fault : status ≢ 5 → w.faults ≡ v.faults
@@ -132,7 +132,7 @@ pub record GeneratedFrom (commands : List Command) (cat : Catalogue) (status : �
   -- before it, and in the whole call where no sync answered Ok, each is an image of the entry with nothing said.
   pub moments : FirstSync v w (IsWithin (base cat) commands v.said)
   -- where nothing was pending at the entry, each moment of the call means it so
-  pub at_rest : Only v.held v.images → (image said : List ℕ) → w.since v.clock image said
+  pub at_rest : NothingIsPending v → (image said : List ℕ) → w.since v.clock image said
       → IsWithin (base cat) commands v.said image said
   -- unless a call fails all is done, or there is no memory for it
   pub complete : ¬ Rose v.faults w.faults → ¬ Rose v.say_faults w.say_faults → (status ≡ 0) ⊎ (status ≡ 7)
@@ -142,7 +142,7 @@ pub record GenRan (tells : Bool) (count seed status : ℕ) (v w : Device) : Type
   pub store : OpensStore tells status v w
   pub from : IsTrue tells → (cat : Catalogue) → MeansCatalogue v.held cat → GeneratedFrom (generated count seed) cat status v w
   -- at 0 nothing is pending
-  pub settled : status ≡ 0 → Only w.held w.images
+  pub settled : status ≡ 0 → NothingIsPending w
   -- a piece could not be said at 4, and at no other status
   pub output : status ≡ 4 → Rose v.say_faults w.say_faults
   pub no_say_fault : status ≢ 4 → w.say_faults ≡ v.say_faults

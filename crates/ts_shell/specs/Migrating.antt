@@ -1,8 +1,9 @@
 -- What `migrate` does: it brings a store to the newest format, and leaves all else that the store means.
 use Rattle.std.specs.Prelude.{◌≡◌, ◌⊎◌, ℕ, Bool, IsTrue, List}
-use Rattle.ts_disk.specs.Device.{Device, Only, Rose, FirstSync}
+use Rattle.ts_disk.specs.Device.{Device, Rose, FirstSync}
 use Rattle.ts_model.specs.Catalogue.{Catalogue, in_newest_format}
 use Rattle.ts_volume.specs.Volume.{MeansCatalogue}
+use Rattle.ts_engine.specs.Engine.{NothingIsPending}
 use Rattle.ts_engine.specs.Start.{StillMeans}
 use Rattle.ts_shell.specs.Opening.{OpensStore}
 
@@ -20,7 +21,8 @@ pub record MigratedFrom (cat : Catalogue) (status : ℕ) (v w : Device) : Type 0
   -- where no sync answered Ok, each is an image of the entry; nothing is said.
   pub moments : FirstSync v w (InEitherFormat cat v)
   -- where nothing was pending at the entry, each moment of the call means it so
-  pub at_rest : Only v.held v.images → (image said : List ℕ) → w.since v.clock image said → InEitherFormat cat v image said
+  pub at_rest : NothingIsPending v → (image said : List ℕ) → w.since v.clock image said
+      → InEitherFormat cat v image said
   -- unless a call of the volume fails the work is done, or there is no memory for it
   pub complete : ¬ Rose v.faults w.faults → (status ≡ 0) ⊎ (status ≡ 7)
 
@@ -29,7 +31,7 @@ pub record MigrateRan (tells : Bool) (status : ℕ) (v w : Device) : Type 0 wher
   pub store : OpensStore tells status v w
   pub from : IsTrue tells → (cat : Catalogue) → MeansCatalogue v.held cat → MigratedFrom cat status v w
   -- at 0 nothing is pending
-  pub settled : status ≡ 0 → Only w.held w.images
+  pub settled : status ≡ 0 → NothingIsPending w
   -- nothing is said
   pub said : w.said ≡ v.said
   pub say_faults : w.say_faults ≡ v.say_faults

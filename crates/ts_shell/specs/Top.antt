@@ -1,12 +1,12 @@
 -- What the top call does, by its words.
 use Rattle.std.specs.Prelude.{◌≡◌, ◌⊎◌, ℕ, ◌+◌, ◌*◌, ◌<◌, ◌≤◌, Bool, false, IsTrue, if◌then◌else◌, List, [], ◌++◌, length, take, Result, Ok, Err, ◌≢◌}
-use Rattle.ts_disk.specs.Device.{Device, Within, Only, Rose, FirstSync, LeavesOnly}
+use Rattle.ts_disk.specs.Device.{Device, Within, Rose, FirstSync, LeavesOnly}
 use Rattle.ts_disk.specs.Input.{Input}
 use Rattle.ts_command.specs.Script.{Request, requests, last_request}
 use Rattle.ts_replies.specs.Acknowledged.{Protocol, AllAnswered}
 use Rattle.ts_model.specs.Catalogue.{Catalogue, empty_catalogue, newest_format}
 use Rattle.ts_volume.specs.Volume.{MeansCatalogue}
-use Rattle.ts_engine.specs.Engine.{Kept, IsAt}
+use Rattle.ts_engine.specs.Engine.{Kept, IsAt, NothingIsPending}
 use Rattle.ts_shell.specs.declared.fault.RunFault.{RunFault}
 use Rattle.ts_shell.specs.declared.fault.RunFault.TheVariants.{Disk, Output}
 use Rattle.ts_shell.specs.Making.{EmptyFrom}
@@ -28,7 +28,8 @@ pub record Untouched (v w : Device) : Type 0 where
 -- What `init` with a number of pages does.
 pub record Made (tells : Bool) (pages status : ℕ) (v w : Device) : Type 0 where
   -- at 0 the only image has that length and means the empty catalogue in the newest format
-  pub done : status ≡ 0 → (w.size ≡ 4096 * (930 + pages)) × Only w.held w.images × (IsTrue tells → MeansCatalogue w.held (empty_catalogue newest_format pages))
+  pub done : status ≡ 0 → (w.size ≡ 4096 * (930 + pages)) × NothingIsPending w
+      × (IsTrue tells → MeansCatalogue w.held (empty_catalogue newest_format pages))
   -- from the end of its first sync that answers Ok on, the second call that does, each image means the empty catalogue of either
   -- format or none
   pub moments : IsTrue tells → v.syncs < w.syncs → EmptyFrom pages (v.clock + 2) v w
@@ -71,7 +72,7 @@ pub record AllDone {C I : Type 0} (p : Protocol C I) (cat : C) (asked : List I) 
   pub said : w.said ≡ v.said ++ gained
   pub answered : AllAnswered p cat asked gained last
   pub means : p.means w.held last
-  pub only : Only w.held w.images
+  pub only : NothingIsPending w
 
 -- the most bytes of a script
 abbrev pub most_script : ℕ
@@ -151,7 +152,8 @@ pub record RanFrom (cat : Catalogue) (status : ℕ) (v w : Device) (i j : Input)
   -- an image of the entry with nothing said.
   pub moments : FirstSync v w (IsGoodRun script cat (asked_of took.ended took.taken) v.said)
   -- where nothing was pending at the entry, each moment of the call is good
-  pub at_rest : Only v.held v.images → (image said : List ℕ) → w.since v.clock image said → IsGoodRun script cat (asked_of took.ended took.taken) v.said image said
+  pub at_rest : NothingIsPending v → (image said : List ℕ) → w.since v.clock image said
+      → IsGoodRun script cat (asked_of took.ended took.taken) v.said image said
 
 -- What `run` does.
 pub record ScriptRan (tells told : Bool) (status : ℕ) (v w : Device) (i j : Input) : Type 0 where

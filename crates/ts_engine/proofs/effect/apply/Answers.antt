@@ -1,0 +1,27 @@
+use Rattle.std.proofs.Common.{None, sym, subst}
+use Rattle.ts_answer.specs.declared.effect.Effect.{Effect}
+use Rattle.ts_answer.specs.CarriedOut.{CanApply}
+use Rattle.ts_model.specs.Definitions.{Definitions}
+use Rattle.ts_container.specs.KeptCharges.{AreCharges}
+use Rattle.ts_engine.proofs.ChargedLemmas.{rising_then, countable_then}
+use Rattle.ts_engine.proofs.RedefinedLemmas.{charges_stay}
+use Rattle.ts_engine.proofs.effect.apply.Goals as goal
+
+pub change_places-requires-clause-rising : goal.change_places-requires-clause-rising
+change_places-requires-clause-rising c =
+    rising_then c.args.effect c.in-Places.slot c.in-Places.moved c.args.charges.now c.args.defs.now.definitions c.args.space.now c.in-Places.is
+    (subst (λ (e : Effect). CanApply e c.args.defs.now.definitions) c.in-Places.is c.requires.can) c.places-slots.ensures.slots c.requires.charge
+
+pub change_places-requires-clause-countable : goal.change_places-requires-clause-countable
+change_places-requires-clause-countable c =
+    countable_then c.args.effect c.in-Places.slot c.in-Places.moved c.args.charges.now c.args.defs.now.definitions c.args.space.now c.in-Places.is
+    (subst (λ (e : Effect). CanApply e c.args.defs.now.definitions) c.in-Places.is c.requires.can) c.places-slots.ensures.slots c.requires.charge
+
+pub returns-in-Slot-clause-charges : goal.returns-in-Slot-clause-charges
+returns-in-Slot-clause-charges c =
+    c.charge_definition.ensures c.args.defs.now.definitions c.in-Slot.def c.set.ensures.slot c.requires.charge.charged
+
+pub returns-in-Series-clause-charges : goal.returns-in-Series-clause-charges
+returns-in-Series-clause-charges c =
+    subst (λ (d : Definitions). AreCharges c.change_places-in-Series.new.charges d c.change_places-in-Series.new.space) (sym c.set-in-Series.ensures.slot)
+    (charges_stay c.args.defs.now.definitions c.change_places-in-Series.new.space c.in-Series.slot None c.change_places-in-Series.new.charges c.change_places-in-Series.ensures.places c.change_places-in-Series.ensures.charged)
