@@ -20,7 +20,7 @@ abbrev pub by_sign : {M A : Type 0} → Signs M → (M → Phrase A) → Phrase 
 by_sign [] behind other = other
 by_sign (sign ∷ signs) behind other = if_sign sign.0 (behind sign.1) (by_sign signs behind other)
 
--- what was read goes on by at most so many more phrases, each behind a sign and joined to all before it by what that means
+-- what was read goes on by at most so many more phrases, each behind a sign and joined to all that stands before it
 abbrev pub onward_most : {M A : Type 0} → (M → A → A → A) → Signs M → Phrase A → ℕ → A → Phrase A
 onward_most join signs phrase zero before = give before
 onward_most join signs phrase (suc n) before =
