@@ -41,7 +41,7 @@ pub bytes_put : (at : ℕ) (bytes old : List ℕ) → AreBytes bytes → AreByte
 bytes_put at bytes old new there =
     let part = take (length old - at) bytes in
     bytes_append (take at old ++ part) (drop (at + length part) old)
-        (bytes_append (take at old) part (bytes_take at old there) (bytes_take (length old - at) bytes new)) (bytes_drop (at + length part) old there)
+    (bytes_append (take at old) part (bytes_take at old there) (bytes_take (length old - at) bytes new)) (bytes_drop (at + length part) old there)
 
 -- one call more
 pub bytes_after : (call : Call) (bytes : List ℕ) (s : State) → IsOfBytes s → AreBytes bytes → IsOfBytes (after_call call bytes s)

@@ -198,7 +198,7 @@ fn read_more<'a>(
 ) -> Result<&'a [u8], Misfit>
     ensures ok { IfOk result
         (λ rest. ReadsAll (Grammar.further (Grammar.most_exprs - 1)) text.now steps.old.items steps.new.items
-            rest.now) }
+        rest.now) }
     ensures cause { IfErr result (λ misfit. Refuses misfit (Grammar.further (Grammar.most_exprs - 1) text.now)) }
 {
     let mut rest = text;
