@@ -15,53 +15,6 @@ fn joined(alloc: Global, junction: Junction, left: &[u8], right: &[u8]) -> Resul
     printed(alloc, &pattern)
 }
 
-/// Two patterns, and what they make.
-static MEETINGS: [(Junction, &[u8], &[u8], &[u8]); 8] = [
-    (Junction::And, WORKING_DAYS, WORKING_HOURS, WORKING_TIME),
-    (Junction::And, WORKING_HOURS, WORKING_DAYS, WORKING_TIME),
-    (
-        Junction::And,
-        b"{1 off,1 on},week",
-        WORKING_HOURS,
-        b"{176 off,9 on,15 off,9 on,15 off,9 on,15 off,9 on,15 off,9 on,15 off,9 on,15 off,9 on,7 off},hour",
-    ),
-    (
-        Junction::Or,
-        b"{1 on,1 off},year",
-        b"{2 off,1 on},month",
-        b"{12 on,2 off,1 on,2 off,1 on,2 off,1 on,2 off,1 on},month",
-    ),
-    (
-        Junction::Or,
-        b"{1 on,1 off},day",
-        b"{1 on,2 off},day",
-        b"{1 on,1 off,3 on,1 off},day",
-    ),
-    (
-        Junction::And,
-        b"{1 on,1 off},day",
-        b"{1 on,2 off},day",
-        b"{1 on,5 off},day",
-    ),
-    (Junction::And, b"{4 on},day", b"{6 on},day", b"{12 on},day"),
-    (Junction::Or, b"{1 on},day", b"{1 off},day", b"{1 on},day"),
-];
-
-#[test]
-fn patterns_meet_in_the_smaller_unit_and_the_common_length(rt: HostRuntime) {
-    for (junction, left, right, wanted) in &MEETINGS {
-        let found = joined(rt.alloc(), *junction, left, right);
-        assert!(rt; is_answer(&found, Ok(wanted)));
-    }
-}
-
-const WORKING_DAYS: &[u8] = b"{1 off,5 on,1 off},day";
-
-const WORKING_HOURS: &[u8] = b"{8 off,9 on,7 off},hour";
-
-const WORKING_TIME: &[u8] =
-    b"{32 off,9 on,15 off,9 on,15 off,9 on,15 off,9 on,15 off,9 on,31 off},hour";
-
 /// Two patterns, and why they make none.
 static REFUSED: [(Junction, &[u8], &[u8], Refusal); 8] = [
     (
