@@ -18,8 +18,6 @@ const LAST_CALLS: u64 = 9;
 
 const HIDE: &[u8] = b"HideElem('x','2011-01-03 00:00:00');";
 
-const REVEAL: &[u8] = b"RevealElem('x','2011-01-03 00:00:00');";
-
 const READINGS: &[u8] =
     b"ListSeries(c1);TSContainerUsage(c1);GetNelems('x');GetElem('x','2011-01-03 00:00:00');\
     GetLastElem('y');";
@@ -47,53 +45,6 @@ fn old_volume(
     let mut site = old_volume_with_records(rt, alloc, script)?;
     run(rt, alloc, &mut site, b"")?;
     MemorySite::new(bytes_of(alloc, &mut site)?).map_err(Fail::from)
-}
-
-/// What a migrated volume answers: a mark may be set twice, and what is hidden counts but for the readings.
-const HIDDEN_AND_SHOWN: [(&[u8], &[u8]); 11] = [
-    (
-        b"InsElem('x','2011-01-03 00:00:00',1);",
-        b"ok 2011-01-03 00:00:00.00000\n",
-    ),
-    (
-        b"InsElem('x','2011-01-04 00:00:00',2);",
-        b"ok 2011-01-04 00:00:00.00000\n",
-    ),
-    (HIDE, b"ok 2011-01-03 00:00:00.00000\n"),
-    (HIDE, b"ok 2011-01-03 00:00:00.00000\n"),
-    (
-        b"Clip('x','2011-01-01 00:00:00','2011-01-31 00:00:00');",
-        b"2011-01-04 00:00:00.00000 2\nok 1\n",
-    ),
-    (
-        b"GetElem('x','2011-01-03 00:00:00');GetNelems('x');",
-        b"ok 0\nok 2\n",
-    ),
-    (
-        b"InsElem('x','2011-01-03 00:00:00',9);",
-        b"error 23 Duplicate\n",
-    ),
-    (REVEAL, b"ok 2011-01-03 00:00:00.00000\n"),
-    (REVEAL, b"ok 2011-01-03 00:00:00.00000\n"),
-    (
-        b"GetElem('x','2011-01-03 00:00:00');",
-        b"2011-01-03 00:00:00.00000 1\nok 1\n",
-    ),
-    (
-        b"HideElem('x','2011-01-05 00:00:00');",
-        b"error 24 Missing\n",
-    ),
-];
-
-#[test]
-fn elements_are_hidden_once_a_volume_is_migrated(rt: HostRuntime) -> Result<(), Fail> {
-    let alloc = rt.alloc();
-    let mut site = old_volume(&rt, alloc, SERIES)?;
-    assert!(rt; answers(&rt, alloc, &mut site, &[(HIDE, b"error 44 OldFormat\n")])?);
-    assert_eq!(rt; migrate(&rt, alloc, &mut site)?, 0);
-    assert_eq!(rt; site.said(), b"error 44 OldFormat\n".as_slice());
-    assert!(rt; answers(&rt, alloc, &mut site, &HIDDEN_AND_SHOWN)?);
-    Ok(())
 }
 
 // Readings, and a migration of a volume of the newest format, leave each byte.
@@ -173,28 +124,6 @@ fn a_migration_that_the_disk_fails_has_its_status(rt: HostRuntime) -> Result<(),
                 &[(HIDE, b"error 44 OldFormat\n")]
             )?
         );
-    }
-    Ok(())
-}
-
-// A volume in which an element is hidden, by its bytes of the old format, and one of a format that isn't known.
-#[test]
-fn neither_job_takes_what_the_format_has_not(rt: HostRuntime) -> Result<(), Fail> {
-    let alloc = rt.alloc();
-    let mut site = volume(&rt, alloc, "8")?;
-    run(&rt, alloc, &mut site, SERIES)?;
-    run(
-        &rt,
-        alloc,
-        &mut site,
-        b"InsElem('x','2011-01-03 00:00:00',1);",
-    )?;
-    run(&rt, alloc, &mut site, HIDE)?;
-    run(&rt, alloc, &mut site, b"")?;
-    for (format, wanted) in [(1, 6), (3, 6), (0, 6), (2, 0)] {
-        assert!(rt; damage(&mut site, FORMAT_BYTE, &[format]));
-        assert_eq!(rt; run(&rt, alloc, &mut site, b"")?, wanted, "format {format}");
-        assert_eq!(rt; migrate(&rt, alloc, &mut site)?, wanted, "format {format}");
     }
     Ok(())
 }

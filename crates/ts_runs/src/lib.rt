@@ -9,8 +9,6 @@ mod cached;
 #[cfg(test)]
 mod formats;
 #[cfg(test)]
-mod generated;
-#[cfg(test)]
 mod items;
 #[cfg(test)]
 mod journal;
