@@ -1,9 +1,9 @@
 // The lists of a statement: the values of a row, and the value columns of a row type.
-ghost use Rattle.std.specs.Prelude.{◌≡◌, [], ◌∷◌, ◌++◌, OnOk, OnErr, IfOk};
+ghost use Rattle.std.specs.Prelude.{◌≡◌, [], ◌∷◌, ◌++◌, OnOk, OnErr};
 
 use std::alloc::{AllocError, Global};
 use std::marker::Model;
-use ts_row::{Column, Literal, copy_columns};
+use ts_row::{Column, Literal};
 
 /// The values that a statement gives, as it writes them.
 #[derive(Debug, Drop)]
@@ -56,14 +56,6 @@ impl Literals {
         ensures { result.now ≡ self.now }
     {
         self.items.as_slice()
-    }
-
-    pub fn copy(&self) -> Result<Self, AllocError>
-        ensures { IfOk result (λ made. made ≡ self.now) }
-    {
-        Ok(Literals {
-            items: copy_literals(*self.items.allocator(), self.items.as_slice())?,
-        })
     }
 }
 
@@ -119,23 +111,4 @@ impl Columns {
     {
         self.items.as_slice()
     }
-
-    pub fn copy(&self) -> Result<Self, AllocError>
-        ensures { IfOk result (λ made. made ≡ self.now) }
-    {
-        Ok(Columns {
-            items: copy_columns(*self.items.allocator(), self.items.as_slice())?,
-        })
-    }
-}
-
-// The same literals once more.
-fn copy_literals(alloc: Global, literals: &[Literal]) -> Result<Vec<Literal>, AllocError>
-    ensures { IfOk result (λ made. made.items ≡ literals.now) }
-{
-    let mut made = Vec::with_capacity(alloc, literals.len())?;
-    for literal in literals {
-        made.push(literal.copy()?)?;
-    }
-    Ok(made)
 }

@@ -432,27 +432,6 @@ fn each_reading_is_read_with_its_arguments(rt: HostRuntime) {
     }
 }
 
-// Whether a copy of the command that a statement is is this command.
-fn is_copied(alloc: Global, text: &[u8], row: Row) -> bool {
-    match read_command(alloc, &text[..text.len().min(65536)]) {
-        Ok(command) => match command.copy() {
-            Ok(made) => is_row(&made, row),
-            Err(_) => false,
-        },
-        Err(_) => false,
-    }
-}
-
-#[test]
-fn a_copy_is_the_same_command(rt: HostRuntime) {
-    for (text, wanted) in &STATEMENTS {
-        assert!(rt; is_copied(rt.alloc(), text, *wanted));
-    }
-    for (text, wanted) in &READINGS {
-        assert!(rt; is_copied(rt.alloc(), text, *wanted));
-    }
-}
-
 /// Statements, and their values.
 static VALUES: [(&[u8], &[Value]); 8] = [
     (
