@@ -91,7 +91,7 @@ pub read_committed : (tells : Bool) (told : IsTrue tells) (s t : State) (v w : D
     → SameButFreed (read_pages s v.held) (read_pages t w.held)
 read_committed tells told s t v w before none over reads =
     same_trans (read_pages s v.held) (pages w.held) (read_pages t w.held) (same_but_freed s.pages v.size s.overlay (read_pages s v.held) w.held before.read.allowed reads)
-    (same_from_equal (pages w.held) (read_pages t w.held) (λ k. read_closed t w.held none (over.stands told) k))
+    (same_from_equal (pages w.held) (read_pages t w.held) (λ k. read_closed t w.held none (over.read.stands told) k))
 
 -- a store whose journal was just read has no batch open
 pub idle_recovered : (tells : Bool) (count position : ℕ) (entries : List Entry) (s : State) (d : Device) → IsFresh count position entries s → IsOver tells s d → IsIdle tells s d

@@ -8,8 +8,8 @@ pub record FreePages : Type 0 where
   -- those that can be taken once the open batch is dropped
   pub kept : List ℕ
 
--- The numbers stand in one list, of which each part ends where the next begins: what was kept and isn't taken, what was kept
--- and is taken, and what was freed since. The next to be taken stands last.
+-- The numbers stand in one list, of which each part ends where the next begins: what was kept and isn't taken, what was
+-- kept and is taken, and what was freed since. The next to be taken stands last.
 pub record ArePlaced (low saved : ℕ) (numbers : List ℕ) : Type 0 where
   pub in_order : low ≤ saved
   pub within : saved ≤ length numbers

@@ -38,14 +38,17 @@ impl<'a, V: Volume> Pages for On<'a, V> {
     ghost undisturbed = { λ a b. (b.store.ghost_name ≡ a.store.ghost_name) × (b.vol.ghost_name ≡ a.vol.ghost_name)
         × Undisturbed V.tells a.store.now b.store.now (V.device a.vol.now) (V.device b.vol.now) };
 
-    /// Reads a page. One of the open batch, the overlay or the cache is read with no call on the volume; another one is then
-    /// in the cache, but for a scan, or where there is no memory.
+    /// Reads a page. One of the open batch, the overlay or the cache is read with no call on the volume; another one is
+    /// then in the cache, but for a scan, or where there is no memory.
     fn get(&mut self, no: u32, into: &mut Page) -> Result<(), StoreFault>
         requires { no < self.old.store.now.pages }
-        ensures got { Got V.tells no into.new.bytes result (contents_over self.old.store.now (V.device self.old.vol.now))
+        ensures got { Got V.tells no into.new.bytes result
+            (contents_over self.old.store.now (V.device self.old.vol.now))
             (contents_over self.new.store.now (V.device self.new.vol.now)) }
-        ensures undisturbed { (self.new.store.ghost_name ≡ self.old.store.ghost_name) × (self.new.vol.ghost_name ≡ self.old.vol.ghost_name)
-            × Undisturbed V.tells self.old.store.now self.new.store.now (V.device self.old.vol.now) (V.device self.new.vol.now) }
+        ensures undisturbed { (self.new.store.ghost_name ≡ self.old.store.ghost_name)
+            × (self.new.vol.ghost_name ≡ self.old.vol.ghost_name)
+            × Undisturbed V.tells self.old.store.now self.new.store.now
+            (V.device self.old.vol.now) (V.device self.new.vol.now) }
         ensures kept { IsSome (in_memory no self.old.store.now) → self.new.vol.now ≡ self.old.vol.now }
         ensures scan { IsTrue self.old.scan
             → self.new.store.now.cache ≡ after_read (change_read no self.old.store.now) no self.old.store.now.cache }
@@ -86,7 +89,14 @@ impl<'a, V: Volume> Pages for On<'a, V> {
     ghost stays = { λ on. (
       refl,
       refl,
-      record { pages = refl; journal = refl; overlay = refl; kept_free = refl; reads = reads_none V.tells (V.device on.vol.now) (V.lawful on.vol.now); cached = λ told now. now },
+      record {
+        pages = refl;
+        journal = refl;
+        overlay = refl;
+        kept_free = refl;
+        reads = reads_none V.tells (V.device on.vol.now) (V.lawful on.vol.now);
+        cached = λ told now. now;
+      },
     ) };
 
     ghost then = { λ a b c p q. (

@@ -7,11 +7,8 @@ use Rattle.ts_store.specs.contracts.store.Store.{the_view}
 use Rattle.ts_store.proofs.GetLemmas.{committed_read, one_call}
 use Rattle.ts_store.proofs.store.Store.committed.Goals as goal
 
-pub returns-in-Some-Image-clause-others : goal.returns-in-Some-Image-clause-others
-returns-in-Some-Image-clause-others g c = reads_none g.V.Volume.tells (g.V.Volume.device c.args.vol.now) (g.met.V.Volume.lawful c.args.vol.now)
-
-pub returns-in-Some-Free-clause-others : goal.returns-in-Some-Free-clause-others
-returns-in-Some-Free-clause-others g c = reads_none g.V.Volume.tells (g.V.Volume.device c.args.vol.now) (g.met.V.Volume.lawful c.args.vol.now)
+pub returns-in-Some-clause-others : goal.returns-in-Some-clause-others
+returns-in-Some-clause-others g c = reads_none g.V.Volume.tells (g.V.Volume.device c.args.vol.now) (g.met.V.Volume.lawful c.args.vol.now)
 
 pub returns-in-None-clause-others : goal.returns-in-None-clause-others
 returns-in-None-clause-others g c =
