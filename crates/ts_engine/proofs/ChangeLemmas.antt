@@ -7,10 +7,11 @@ use Rattle.ts_disk.specs.Device.{Device, Lawful, Rose, LeavesOnly}
 use Rattle.ts_disk.proofs.Moments.{started, then_on, leaves_map}
 use Rattle.ts_page.specs.Pages.{Contents, SameButFreed}
 use Rattle.ts_page.proofs.PagesLemmas.{lawful_same}
+use Rattle.ts_journal.specs.Entry.{over}
 use Rattle.ts_journal.specs.Journal.{own_page, pages, ReadsButFreed}
 use Rattle.ts_journal.specs.Moment.{Keeps, OnlyReads}
 use Rattle.ts_store.proofs.CallerLemmas.{keeps_refl, keeps_then, reads_then, reads_none, read_closed, same_but_freed, over_still, idle_dropped, read_dropped, read_committed}
-use Rattle.ts_store.specs.OpenBatch.{State, AreInPlace, IsOver, IsIdle, Closes, BeforeOrRead, over, read_pages, contents_over}
+use Rattle.ts_store.specs.OpenBatch.{State, AreInPlace, IsOver, IsIdle, Closes, BeforeOrRead, read_pages, contents_over}
 use Rattle.ts_store.specs.Undisturbed.{Undisturbed}
 use Rattle.ts_engine.specs.declared.fault.StepFault.{StepFault}
 use Rattle.ts_engine.specs.declared.fault.StepFault.TheVariants.{Disk, Memory, Closed}
