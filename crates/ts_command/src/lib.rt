@@ -6,6 +6,7 @@
 //! ts_row, ts_text and ts_base; knows nothing of the store. Read `specs/Grammar.antt`, then `routine.rt`, `group.rt` and `read.rt`.
 #![tactic(auto)]
 
+mod boundary;
 mod command;
 mod group;
 mod laws;
@@ -13,6 +14,7 @@ mod read;
 mod routine;
 mod writing;
 
+pub use boundary::Boundary;
 pub use command::Command;
 pub use laws::{
     a_statement_is_its_tokens, requests_of_a_front_come_first, statements_are_refused_in_place,
