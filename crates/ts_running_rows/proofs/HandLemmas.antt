@@ -1,5 +1,5 @@
 -- What a call answers of the elements that it took.
-use Rattle.std.proofs.Common.{◌≡◌, ℕ, ◌+◌, ◌<◌, ◌≤◌, ◌^◌, Bool, true, false, nat_lt, cond, ℤ, List, [], ◌∷◌, length, map, Option, Some, None, Result, Ok, Err, refl, sym, ap, subst, ◌∙◌, arith}
+use Rattle.std.proofs.Common.{◌≡◌, ℕ, ◌<◌, ◌≤◌, ◌^◌, Bool, true, false, nat_lt, cond, ℤ, List, [], ◌∷◌, length, Option, Some, None, Result, Ok, Err, refl, sym, ap, subst, ◌∙◌, arith}
 use Rattle.std.specs.Prelude.{MatchOption, not}
 use Rattle.std.specs.List.{enumerate_from}
 use Rattle.std.proofs.lemmas.Bool.{lt-ltb, le-ltb}
@@ -10,7 +10,7 @@ use Rattle.ts_base.specs.declared.refusal.Refusal.TheVariants.{TooLarge, Overflo
 use Rattle.ts_row.specs.Element.{Element, seen}
 use Rattle.ts_chain.specs.Range.{is_within, within_range}
 use Rattle.ts_entry.specs.Entry.{elements_of}
-use Rattle.ts_entry.specs.Reading.{most_rows, within_rows}
+use Rattle.ts_entry.specs.Reading.{most_rows}
 use Rattle.ts_clip.specs.Call.{AreElementsTaken}
 use Rattle.ts_aggregate.specs.Call.{AreHanded}
 use Rattle.ts_aggregate.proofs.ToldLemmas.{few_kept}

@@ -1,5 +1,5 @@
 -- The rows that are made one after the other are those of the running values.
-use Rattle.std.proofs.Common.{◌≡◌, ℕ, ◌+◌, ◌-◌, ◌≤◌, Option, List, [], ◌∷◌, ◌++◌, length, length-append, map, take, drop, refl, sym, ap, ◌∙◌, arith, append_assoc, IsTrue}
+use Rattle.std.proofs.Common.{◌≡◌, ℕ, ◌+◌, ◌-◌, Option, List, [], ◌∷◌, ◌++◌, length, length-append, map, take, drop, refl, sym, ap, ◌∙◌, arith, append_assoc, IsTrue}
 use Rattle.std.specs.Prelude.{ℤ}
 use Rattle.std.specs.List.{enumerate_from}
 use Rattle.std.proofs.lemmas.List.{length-map, map-append, drop-map, take_all, take-append-le}
@@ -8,7 +8,7 @@ use Rattle.ts_row.specs.Row.{visible}
 use Rattle.ts_row.specs.Element.{Element}
 use Rattle.ts_expr.specs.declared.function.Function.{Function}
 use Rattle.ts_expr.specs.Fold.{values_of, made}
-use Rattle.ts_running.specs.Window.{Window, window, window_at}
+use Rattle.ts_running.specs.Window.{window, window_at}
 use Rattle.ts_running.specs.Places.{place_of, places, is_running, made_over}
 use Rattle.ts_running.specs.Rows.{value_over, running}
 use Rattle.ts_running.proofs.WindowLaws.{kept_again, nothing_kept}

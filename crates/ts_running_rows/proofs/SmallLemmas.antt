@@ -1,5 +1,5 @@
 -- The values of a row that fits are small.
-use Rattle.std.proofs.Common.{◌≡◌, ℕ, ◌&&◌, Bool, true, nat_le, All, IsTrue, List, ◌∷◌, length}
+use Rattle.std.proofs.Common.{◌≡◌, ℕ, ◌&&◌, true, nat_le, All, IsTrue, List, ◌∷◌, length}
 use Rattle.std.specs.List.{list_all}
 use Rattle.std.proofs.lemmas.Bool.{and_parts}
 use Rattle.ts_row.specs.declared.kind.Column.{Column}

@@ -1,6 +1,5 @@
 -- Elements whose values of expressions are handed on one after the other.
-use Rattle.std.specs.Prelude.{◌≡◌, ℕ, ◌+◌, ◌<◌, ◌≤◌, ◌^◌, Bool, true, false, ℤ, MatchOption, List, [], ◌∷◌, length}
-use Rattle.ts_row.specs.Row.{Values}
+use Rattle.std.specs.Prelude.{◌≡◌, ℕ, ◌+◌, ◌<◌, ◌≤◌, ◌^◌, Bool, true, false, MatchOption, List, [], ◌∷◌, length}
 use Rattle.ts_row.specs.Element.{Element}
 use Rattle.ts_entry.specs.Reading.{most_rows}
 use Rattle.ts_running.specs.Binding.{Sourced}

@@ -1,13 +1,12 @@
 -- The laws of one that makes running values: it takes none, or some and then others. They stand here since the law of a trait
 -- takes its proof from specs/.
-use Rattle.std.proofs.Common.{◌≡◌, ℕ, ◌+◌, ◌<◌, ◌≤◌, ◌^◌, List, [], ◌∷◌, ◌++◌, length, length-append, refl, sym, ap, subst, ◌∙◌, arith}
+use Rattle.std.proofs.Common.{◌≡◌, ℕ, ◌+◌, ◌<◌, ◌^◌, List, [], ◌∷◌, ◌++◌, length, length-append, refl, sym, ap, subst, ◌∙◌}
 use Rattle.std.proofs.Math.Nat.{le_refl, le_trans, add-zero, add_assoc, lt_of_le_of_lt, le-add_right}
 use Rattle.std.proofs.lemmas.List.Elements.{filter_map-append}
 use Rattle.ts_row.specs.Element.{Element}
 use Rattle.ts_entry.specs.Entry.{Entry, element_of, elements_of}
 use Rattle.ts_expr.specs.declared.function.Function.{Function}
 use Rattle.ts_expr.specs.declared.item.BoundItem.{BoundItem}
-use Rattle.ts_entry.specs.Reading.{most_rows}
 use Rattle.ts_running.specs.Window.{Window, after_push}
 use Rattle.ts_running.specs.Places.{place_of}
 use Rattle.ts_running_rows.specs.Run.{pushed, row_of, run, Runner, Runs}
