@@ -10,3 +10,5 @@ mod cached;
 mod caches;
 #[cfg(test)]
 mod stores;
+#[cfg(test)]
+mod transactions;
