@@ -8,12 +8,12 @@ use Rattle.ts_store.proofs.CallerLemmas.{over_prepared, idle_dropped, idle_joine
 use Rattle.ts_store_vectors.specs.Transaction.{IsBetween}
 
 -- calls on a batch, and then its end
-module _ (tells : Bool) (s e : State) (v w : Device) (before : IsBetween tells s v) (calls : Undisturbed tells s e v w) where
-  pub between_dropped : (t : State) → t ≡ record e { batch = []; free = e.kept_free } → IsBetween tells t w
+module _ (tells : Bool) (free : List ℕ) (s e : State) (v w : Device) (before : IsBetween tells free s v) (calls : Undisturbed tells s e v w) where
+  pub between_dropped : (t : State) → t ≡ record e { batch = []; free = e.kept_free } → IsBetween tells free t w
   between_dropped t is = record {
     idle = idle_dropped tells s e t v w before.idle calls is;
     base = base_dropped tells e t w is (base_still tells s e v w before.base calls);
-    free = ap (λ (x : State). x.free) is ∙ calls.kept_free ∙ before.idle.kept_free ∙ before.free;
+    can_take = ap (λ (x : State). x.free) is ∙ calls.kept_free ∙ before.idle.kept_free ∙ before.can_take;
     base_free = ap (λ (x : State). x.base_free) is ∙ calls.base_free ∙ before.base_free;
   }
 
@@ -27,11 +27,11 @@ module _ (tells : Bool) (s e : State) (v w : Device) (before : IsBetween tells s
 
   module _ (p t : State) (room : p ≡ record e { spare = p.spare; join_spare = p.join_spare }) (is : t ≡ record p { transaction = to_commit p; batch = []; kept_free = p.free; join_spare = t.join_spare })
       (same : (held : List ℕ) → (k : ℕ) → read_pages t held k ≡ read_pages p held k) where
-    pub between_kept : IsOver tells e w → e.free ≡ [] → IsBetween tells t w
-    between_kept over none = record {
+    pub between_kept : (left : List ℕ) → IsOver tells e w → e.free ≡ left → IsBetween tells left t w
+    between_kept left over is_left = record {
       idle = idle_joined tells p t w is same (over_prepared tells e p w room over);
       base = base_joined tells p t w is (base_prepared tells e p w room (base_still tells s e v w before.base calls));
-      free = ap (λ (x : State). x.free) is ∙ ap (λ (x : State). x.free) room ∙ none;
+      can_take = ap (λ (x : State). x.free) is ∙ ap (λ (x : State). x.free) room ∙ is_left;
       base_free = ap (λ (x : State). x.base_free) is ∙ ap (λ (x : State). x.base_free) room ∙ calls.base_free ∙ before.base_free;
     }
 
@@ -43,11 +43,11 @@ module _ (tells : Bool) (s e : State) (v w : Device) (before : IsBetween tells s
       ap (λ (x : State). length (entries_bytes x.batch)) room,
     )
 
-pub between_rolled_back : (tells : Bool) (s t : State) (d : Device) → t ≡ record (rolled_back s) { join_spare = t.join_spare } → IsBetween tells s d → IsBetween tells t d
-between_rolled_back tells s t d is before = record {
+pub between_rolled_back : (tells : Bool) (free : List ℕ) (s t : State) (d : Device) → t ≡ record (rolled_back s) { join_spare = t.join_spare } → IsBetween tells free s d → IsBetween tells [] t d
+between_rolled_back tells free s t d is before = record {
   idle = idle_rolled_back tells s t d is before.base;
   base = over_rolled_back tells s (rolled_back t) d (ap rolled_back is) before.base;
-  free = ap (λ (x : State). x.free) is ∙ before.base_free;
+  can_take = ap (λ (x : State). x.free) is ∙ before.base_free;
   base_free = ap (λ (x : State). x.base_free) is ∙ before.base_free;
 }
 
@@ -55,11 +55,11 @@ pub bytes_rolled_back : (s t : State) (d : Device) → t ≡ record (rolled_back
 bytes_rolled_back s t d is = omega (arith, ap (λ (x : State). length (entries_bytes x.transaction)) is, ap (λ (x : State). length (entries_bytes x.batch)) is)
 
 -- a store that was just opened
-pub between_closed : (tells : Bool) (s : State) (d : Device) → IsIdle tells s d → IsClosed s → s.free ≡ [] → IsBetween tells s d
+pub between_closed : (tells : Bool) (s : State) (d : Device) → IsIdle tells s d → IsClosed s → s.free ≡ [] → IsBetween tells [] s d
 between_closed tells s d idle closed none = record {
   idle = idle;
   base = subst (λ (x : State). IsOver tells x d) (sym (rolled_back_closed tells s d idle closed)) idle.over;
-  free = none;
+  can_take = none;
   base_free = closed.base_free ∙ none;
 }
 

@@ -3,7 +3,7 @@ ghost use Rattle.std.specs.Prelude.{◌≡◌, [], IfOk, OnOk};
 ghost use Rattle.ts_disk.specs.Device.{Only};
 ghost use Rattle.ts_store.specs.OpenBatch.{IsIdle, IsClosed};
 
-use crate::stores::{blank, committed, freed_and_taken_on, opened, settled, stored, tried};
+use crate::stores::{blank, committed, freed_on, opened, settled, stored, taken_on, tried};
 use std::alloc::Global;
 use std::test::Fail;
 use ts_base::StoreFault;
@@ -45,7 +45,8 @@ fn freed<V: Volume>(store: &mut Store, vol: &mut V) -> Result<(), StoreFault>
     ensures closed { OnOk result (IsClosed store.new) }
     ensures free { OnOk result (store.new.free ≡ []) }
 {
-    freed_and_taken_on(store, vol)?;
+    freed_on(store, vol)?;
+    taken_on(store, vol);
     committed(store, vol)
 }
 

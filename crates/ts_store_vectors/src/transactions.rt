@@ -1,11 +1,11 @@
 // Batches that are kept in a transaction, its rollback, and its commit.
-ghost use Rattle.std.specs.Prelude.{◌≡◌, ◌+◌, ◌≤◌, OnOk, length};
+ghost use Rattle.std.specs.Prelude.{◌≡◌, ◌+◌, ◌≤◌, ◌∷◌, [], OnOk, length};
 ghost use Rattle.ts_disk.specs.Device.{Only};
-ghost use Rattle.ts_page.specs.Volume.{image_entry_size};
+ghost use Rattle.ts_page.specs.Volume.{image_entry_size, free_entry_size};
 ghost use Rattle.ts_store.specs.OpenBatch.{contents_over};
 ghost use Rattle.ts_store_vectors.specs.Transaction.{IsBetween};
 
-use crate::stores::{blank, committed, edited_on, freed_and_taken_on, opened, stops_leave, tried};
+use crate::stores::{ELEMENT_PAGE, blank, committed, edited_on, freed_on, opened, stops_leave, taken_on, tried};
 use std::alloc::Global;
 use std::test::Fail;
 use ts_base::StoreFault;
@@ -19,7 +19,7 @@ enum Deed {
     Keep(Option<u8>),
     /// The page is put, with this byte, if there is one, read, and that is dropped.
     Drop(Option<u8>),
-    /// The page is freed and taken again, and that is kept.
+    /// The page is freed, and that kept; it is taken, and that dropped; it is taken, and that kept.
     Renew,
     /// The transaction is rolled back.
     Rollback,
@@ -30,8 +30,8 @@ fn kept<V: Volume>(
     vol: &mut V,
     put: Option<u8>,
 ) -> Result<Option<u8>, StoreFault>
-    requires { IsBetween V.tells store.old (V.device vol.old) }
-    ensures between { OnOk result (IsBetween V.tells store.new (V.device vol.new)) }
+    requires { IsBetween V.tells [] store.old (V.device vol.old) }
+    ensures between { OnOk result (IsBetween V.tells [] store.new (V.device vol.new)) }
     ensures bytes { OnOk result ((contents_over store.new (V.device vol.new)).change_bytes
         ≤ (contents_over store.old (V.device vol.old)).change_bytes + image_entry_size) }
 {
@@ -46,8 +46,8 @@ fn dropped<V: Volume>(
     vol: &mut V,
     put: Option<u8>,
 ) -> Result<Option<u8>, StoreFault>
-    requires { IsBetween V.tells store.old (V.device vol.old) }
-    ensures between { OnOk result (IsBetween V.tells store.new (V.device vol.new)) }
+    requires { IsBetween V.tells [] store.old (V.device vol.old) }
+    ensures between { OnOk result (IsBetween V.tells [] store.new (V.device vol.new)) }
     ensures bytes { OnOk result ((contents_over store.new (V.device vol.new)).change_bytes
         ≤ (contents_over store.old (V.device vol.old)).change_bytes) }
 {
@@ -56,21 +56,63 @@ fn dropped<V: Volume>(
     Ok(seen)
 }
 
-fn renewed<V: Volume>(store: &mut Store, vol: &mut V) -> Result<(), StoreFault>
-    requires { IsBetween V.tells store.old (V.device vol.old) }
-    ensures between { OnOk result (IsBetween V.tells store.new (V.device vol.new)) }
+fn freed<V: Volume>(store: &mut Store, vol: &mut V) -> Result<u32, StoreFault>
+    requires { IsBetween V.tells [] store.old (V.device vol.old) }
+    ensures between { OnOk result (IsBetween V.tells (ELEMENT_PAGE ∷ []) store.new (V.device vol.new)) }
     ensures bytes { OnOk result ((contents_over store.new (V.device vol.new)).change_bytes
-        ≤ (contents_over store.old (V.device vol.old)).change_bytes + image_entry_size) }
+        ≤ (contents_over store.old (V.device vol.old)).change_bytes + free_entry_size) }
 {
-    freed_and_taken_on(store, vol)?;
+    let spare = freed_on(store, vol)?;
     store.prepare()?;
     store.keep();
-    Ok(())
+    Ok(spare)
+}
+
+fn taken<V: Volume>(store: &mut Store, vol: &mut V) -> Result<u32, StoreFault>
+    requires { IsBetween V.tells (ELEMENT_PAGE ∷ []) store.old (V.device vol.old) }
+    ensures between { OnOk result (IsBetween V.tells [] store.new (V.device vol.new)) }
+    ensures bytes { OnOk result ((contents_over store.new (V.device vol.new)).change_bytes
+        ≤ (contents_over store.old (V.device vol.old)).change_bytes) }
+{
+    let page = taken_on(store, vol);
+    store.prepare()?;
+    store.keep();
+    Ok(page)
+}
+
+// Takes the page, and drops that.
+fn taken_back<V: Volume>(store: &mut Store, vol: &mut V) -> u32
+    requires { IsBetween V.tells (ELEMENT_PAGE ∷ []) store.old (V.device vol.old) }
+    ensures between { IsBetween V.tells (ELEMENT_PAGE ∷ []) store.new (V.device vol.new) }
+    ensures bytes { (contents_over store.new (V.device vol.new)).change_bytes
+        ≤ (contents_over store.old (V.device vol.old)).change_bytes }
+{
+    let page = taken_on(store, vol);
+    store.discard();
+    page
+}
+
+// What is read of the page in the end, or nothing where another page was taken.
+fn renewed<V: Volume>(store: &mut Store, vol: &mut V) -> Result<Option<u8>, StoreFault>
+    requires { IsBetween V.tells [] store.old (V.device vol.old) }
+    ensures between { OnOk result (IsBetween V.tells [] store.new (V.device vol.new)) }
+    ensures bytes { OnOk result ((contents_over store.new (V.device vol.new)).change_bytes
+        ≤ (contents_over store.old (V.device vol.old)).change_bytes + free_entry_size) }
+{
+    let spare = freed(store, vol)?;
+    let first = taken_back(store, vol);
+    let second = taken(store, vol)?;
+    let seen = dropped(store, vol, None)?;
+    if (spare, first, second) == (1, ELEMENT_PAGE, ELEMENT_PAGE) {
+        Ok(seen)
+    } else {
+        Ok(None)
+    }
 }
 
 fn rolled_back<V: Volume>(store: &mut Store, vol: &mut V) -> Result<Option<u8>, StoreFault>
-    requires { IsBetween V.tells store.old (V.device vol.old) }
-    ensures between { OnOk result (IsBetween V.tells store.new (V.device vol.new)) }
+    requires { IsBetween V.tells [] store.old (V.device vol.old) }
+    ensures between { OnOk result (IsBetween V.tells [] store.new (V.device vol.new)) }
     ensures bytes { OnOk result ((contents_over store.new (V.device vol.new)).change_bytes
         ≤ (contents_over store.old (V.device vol.old)).change_bytes) }
 {
@@ -83,18 +125,15 @@ fn done<V: Volume>(
     vol: &mut V,
     deed: Deed,
 ) -> Result<Option<u8>, StoreFault>
-    requires { IsBetween V.tells store.old (V.device vol.old) }
-    ensures between { OnOk result (IsBetween V.tells store.new (V.device vol.new)) }
+    requires { IsBetween V.tells [] store.old (V.device vol.old) }
+    ensures between { OnOk result (IsBetween V.tells [] store.new (V.device vol.new)) }
     ensures bytes { OnOk result ((contents_over store.new (V.device vol.new)).change_bytes
         ≤ (contents_over store.old (V.device vol.old)).change_bytes + image_entry_size) }
 {
     match deed {
         Deed::Keep(put) => kept(store, vol, put),
         Deed::Drop(put) => dropped(store, vol, put),
-        Deed::Renew => {
-            renewed(store, vol)?;
-            dropped(store, vol, None)
-        }
+        Deed::Renew => renewed(store, vol),
         Deed::Rollback => rolled_back(store, vol),
     }
 }
