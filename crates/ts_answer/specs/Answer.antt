@@ -15,6 +15,7 @@ use Rattle.ts_calendar.specs.declared.text.PatternPart.TheVariants.{Own}
 use Rattle.ts_calendar.specs.Text.{read_calendar, calendar_text}
 use Rattle.ts_offset.specs.Counting.{cal_index, cal_stamp, cal_range}
 use Rattle.ts_offset.specs.Grid.{grid_of}
+use Rattle.ts_expr.specs.declared.function.Function.TheVariants as functions
 use Rattle.ts_command.specs.declared.command.Command.{Command}
 use Rattle.ts_command.specs.declared.command.Command.TheVariants as commands
 use Rattle.ts_command.specs.Script.{Request}
@@ -31,6 +32,7 @@ unfoldable pub use Rattle.ts_answer.specs.Elements.{put_element, put_no_dups, in
 unfoldable pub use Rattle.ts_answer.specs.Elements.{a_reading}
 pub use Rattle.ts_answer.specs.Aggregates.{scales_of, folded_range, columns_in}
 unfoldable pub use Rattle.ts_answer.specs.Aggregates.{aggregate_by, aggregate_range, aggregate_all}
+unfoldable pub use Rattle.ts_answer.specs.RunningValues.{running_values, apply_exprs}
 
 unfoldable pub create_row_type : List ℕ → List ℕ → List Column → Catalogue → Tried Answered
 create_row_type name stamp columns cat = do
@@ -202,16 +204,23 @@ carried_out (commands.Lag key by) cat = lag_series key by cat
 carried_out (commands.AggregateBy text calendar key from to) cat = aggregate_by text calendar key from to cat
 carried_out (commands.AggregateRange text key from to) cat = aggregate_range text key from to cat
 carried_out (commands.AggregateAll text container from to) cat = aggregate_all text container from to cat
+carried_out (commands.TSRunningSum text key span from to) cat = running_values functions.Sum text key (unsigned_abs span) from to cat
+carried_out (commands.TSRunningAvg text key span from to) cat = running_values functions.Avg text key (unsigned_abs span) from to cat
+carried_out (commands.Apply text key from to) cat = apply_exprs text key from to cat
+-- where no transaction is open: one is begun, and none can be ended
+carried_out commands.Begin cat = Ok (ok_line, cat)
+carried_out commands.Commit cat = Err refusals.NotOpen
+carried_out commands.Rollback cat = Err refusals.NotOpen
 
 -- what a request comes to
 unfoldable pub outcome : Request → Catalogue → Tried Answered
 outcome (Ok command) cat = carried_out command cat
 outcome (Err refusal) cat = Err refusal
 
--- the reply, or the line of the refusal and the same catalogue
-abbrev pub settled : Catalogue → Tried Answered → Answered
-settled cat (Ok answered) = answered
-settled cat (Err refusal) = (refusal_line refusal, cat)
+-- the reply and what stands behind it, or the line of the refusal and what stood there before
+abbrev pub settled : {A : Type 0} → A → Tried (List ℕ × A) → List ℕ × A
+settled before (Ok answered) = answered
+settled before (Err refusal) = (refusal_line refusal, before)
 
 -- the answer to a request
 unfoldable pub answer : Catalogue → Request → Answered

@@ -1,5 +1,5 @@
 -- The form of commands: what holds of the names, keys, whole numbers and texts of every command that a statement is read as.
-use Rattle.std.specs.Prelude.{◌<◌, ◌^◌, IsTrue, length, pos, neg_ℤ, ◌≤ℤ◌}
+use Rattle.std.specs.Prelude.{◌<◌, ◌^◌, IsTrue, ⊤, length, pos, neg_ℤ, ◌≤ℤ◌}
 use Rattle.std.specs.List.{AllByRecursion}
 use Rattle.ts_base.specs.Name.{is_name, is_key}
 use Rattle.ts_row.specs.declared.kind.Column.{Column}
@@ -56,3 +56,9 @@ HasForm (commands.AggregateBy text calendar key from to) = (length text < 2 ^ 32
 HasForm (commands.AggregateRange text key from to) = (length text < 2 ^ 32) × IsTrue (is_key key)
 HasForm (commands.AggregateAll text container from to) = (length text < 2 ^ 32) × IsTrue (is_name container)
 HasForm (commands.Lag key by) = IsTrue (is_key key) × (neg_ℤ (pos 2147483647) ≤ℤ by) × (by ≤ℤ pos 2147483647)
+HasForm (commands.TSRunningSum text key span from to) = (length text < 2 ^ 32) × IsTrue (is_key key) × (pos 1 ≤ℤ span) × (span ≤ℤ pos 65536)
+HasForm (commands.TSRunningAvg text key span from to) = (length text < 2 ^ 32) × IsTrue (is_key key) × (pos 1 ≤ℤ span) × (span ≤ℤ pos 65536)
+HasForm (commands.Apply text key from to) = (length text < 2 ^ 32) × IsTrue (is_key key)
+HasForm commands.Begin = ⊤
+HasForm commands.Commit = ⊤
+HasForm commands.Rollback = ⊤

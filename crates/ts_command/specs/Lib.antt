@@ -4,3 +4,4 @@ pub mod Misfit
 pub mod Form
 pub mod Script
 pub mod Writing
+pub mod Boundary

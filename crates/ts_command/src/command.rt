@@ -202,4 +202,27 @@ pub enum Command {
         from: Stamp,
         to: Stamp,
     },
+    TSRunningSum {
+        text: Bytes,
+        key: Key,
+        span: i64,
+        from: Stamp,
+        to: Stamp,
+    },
+    TSRunningAvg {
+        text: Bytes,
+        key: Key,
+        span: i64,
+        from: Stamp,
+        to: Stamp,
+    },
+    Apply {
+        text: Bytes,
+        key: Key,
+        from: Stamp,
+        to: Stamp,
+    },
+    Begin,
+    Commit,
+    Rollback,
 }

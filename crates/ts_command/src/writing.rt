@@ -55,6 +55,12 @@ impl Command {
             Command::AggregateBy { .. } => false,
             Command::AggregateRange { .. } => false,
             Command::AggregateAll { .. } => false,
+            Command::TSRunningSum { .. } => false,
+            Command::TSRunningAvg { .. } => false,
+            Command::Apply { .. } => false,
+            Command::Begin => false,
+            Command::Commit => false,
+            Command::Rollback => false,
         }
     }
 }
