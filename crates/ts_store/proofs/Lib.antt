@@ -1,3 +1,4 @@
+mod CutLemmas
 pub mod ReadLemmas
 mod CacheLemmas
 mod GetLemmas
