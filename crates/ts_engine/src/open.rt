@@ -117,6 +117,7 @@ fn settle<V: Volume>(
             defs,
             space,
             charges,
+            saved: None,
             page: Page::zero(),
             spent: None,
             alloc,
