@@ -1,9 +1,9 @@
 -- What is in the cache: no page that has a change, and each page as it is in its place.
-use Rattle.std.proofs.Common.{◌≡◌, ℕ, ◌<◌, ◌^◌, ◌⊎◌, inl, inr, Result, Ok, Err, OnOk, OnErr, Option, Some, None, IfSome, List, [], ◌∷◌, eqb, refl, ap, sym, ◌∙◌, subst, arith}
-use Rattle.std.proofs.lemmas.Bool.{cond-false, ne_eqb, cond-true, cases_eq, eq-eqb}
+use Rattle.std.proofs.Common.{◌≡◌, ℕ, ◌<◌, ◌^◌, ◌⊎◌, inl, inr, Result, Ok, Err, OnOk, OnErr, Option, Some, None, IfSome, List, [], eqb, refl, ap, sym, ◌∙◌, subst, arith}
+use Rattle.std.proofs.lemmas.Bool.{cond-false, ne_eqb}
 use Rattle.ts_page.specs.Pages.{IsOutsideJournal}
 use Rattle.ts_journal.specs.declared.batch.Change.{Change}
-use Rattle.ts_journal.specs.Entry.{Entry, IsAllowed, AreAllowed, IsRising, change_of, changed, change_or, over, put, put_all}
+use Rattle.ts_journal.specs.Entry.{Entry, IsAllowed, change_of, changed, change_or, over, put, put_all}
 use Rattle.ts_journal.specs.Journal.{own_page, pages, StandsOver, ReadsButFreed, SameOrFreed}
 use Rattle.ts_journal.proofs.CallerLemmas.{put_rising, change_of-put, over_pages, put_all_none}
 use Rattle.ts_recover.proofs.CallerLemmas.{put_allowed}

@@ -1,5 +1,5 @@
 -- What a caller needs between the calls of a store.
-use Rattle.std.proofs.Common.{◌≡◌, ℕ, ◌+◌, ◌*◌, ◌<◌, ◌≤◌, Bool, IsTrue, Some, List, [], length, refl, ap, sym, ◌∙◌, subst, arith}
+use Rattle.std.proofs.Common.{◌≡◌, ℕ, ◌*◌, ◌<◌, ◌≤◌, Bool, IsTrue, Some, List, [], length, refl, ap, sym, ◌∙◌, subst, arith}
 use Rattle.ts_disk.specs.Device.{Device, Only}
 use Rattle.ts_page.specs.Pages.{IsLawful, SameButFreed}
 use Rattle.ts_page.proofs.PagesLemmas.{lawful_same, same_trans, same_from_equal}

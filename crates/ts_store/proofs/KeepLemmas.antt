@@ -1,17 +1,16 @@
 -- What the calls on an open batch keep.
-use Rattle.std.proofs.Common.{◌≡◌, ℕ, ◌+◌, ◌*◌, ◌<◌, ◌≤◌, ◌^◌, Bool, Result, Ok, Err, OnOk, OnErr, List, [], ◌∷◌, ltb, eqb, Contains, length, refl, ap, sym, ◌∙◌, subst, arith, length-append}
+use Rattle.std.proofs.Common.{◌≡◌, ℕ, ◌*◌, ◌<◌, ◌≤◌, ◌^◌, Bool, Result, Ok, Err, OnOk, OnErr, List, ◌∷◌, Contains, length, refl, ap, sym, ◌∙◌, subst, arith, length-append}
 use Rattle.std.specs.Int.{to_be_bytes, w32}
-use Rattle.std.proofs.lemmas.Bool.{cond_both}
 use Rattle.ts_disk.specs.Device.{Device, Lawful}
 use Rattle.ts_page.specs.declared.page.Page.{Page}
 use Rattle.ts_page.specs.Pages.{IsLawful, IsElementPage, with_page, Put, Freed}
 use Rattle.ts_page.proofs.PagesLemmas.{few_free, lawful_put, lawful_freed, lawful_taken}
 use Rattle.ts_journal.specs.declared.batch.Change.{Change}
 use Rattle.ts_journal.specs.declared.batch.Change.TheVariants.{Image, Free}
-use Rattle.ts_journal.specs.Entry.{Entry, entry_bytes, entries_bytes, AreAllowed, content, over, put, put_all}
+use Rattle.ts_journal.specs.Entry.{Entry, entry_bytes, entries_bytes, content, over, put}
 use Rattle.ts_journal.specs.Journal.{own_page}
 use Rattle.ts_journal.proofs.CallerLemmas.{over_put}
-use Rattle.ts_recover.proofs.CallerLemmas.{put_allowed, reads_none}
+use Rattle.ts_recover.proofs.CallerLemmas.{reads_none}
 use Rattle.ts_cache.specs.Cache.{after_forget}
 use Rattle.ts_store.specs.OpenBatch.{State, AreInPlace, read_pages, contents_over}
 use Rattle.ts_store.specs.Undisturbed.{Undisturbed}

@@ -1,4 +1,4 @@
-use Rattle.std.proofs.Common.{◌≡◌, [], length, slice_index_or, sym, ap, ◌∙◌, subst, arith}
+use Rattle.std.proofs.Common.{◌≡◌, [], length, slice_index_or, sym, ap, ◌∙◌, arith}
 use Rattle.ts_journal.specs.Entry.{Entry, put_all}
 use Rattle.ts_store.specs.OpenBatch.{State, to_commit}
 use Rattle.ts_store.specs.contracts.store.Store.{the_view}
