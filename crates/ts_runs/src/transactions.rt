@@ -83,7 +83,8 @@ fn a_transaction_that_is_open_at_the_end_is_given_up(rt: HostRuntime) -> Result<
 }
 
 /// Four elements, two in each series.
-const FOUR: &[u8] = b"Begin;InsElem('x','2011-01-03 00:00:00',1);InsElem('y','2011-01-03 00:00:00',2);\
+const FOUR: &[u8] =
+    b"Begin;InsElem('x','2011-01-03 00:00:00',1);InsElem('y','2011-01-03 00:00:00',2);\
     InsElem('x','2011-01-04 00:00:00',3);InsElem('y','2011-01-04 00:00:00',4);Commit;";
 
 const FOUR_SAID: &[u8] = b"ok\nok 2011-01-03 00:00:00.00000\nok 2011-01-03 00:00:00.00000\n\
