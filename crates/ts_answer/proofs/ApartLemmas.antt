@@ -250,7 +250,7 @@ settled-apart state (Err refusal) differs = refusal-apart refusal
 
 run-apart : (state : State) (request : Request) → IsApart (run_answer state request).0
 unfolding run_answer
-run-apart state request = settled-apart state (run_outcome request state) (run_said Begins ok-begins count-begins request state (outcome-differs request))
+run-apart state request = settled-apart state (run_outcome request state) (run_said Begins ok-begins number-begins request state (outcome-differs request))
 
 pub apart : AreApart run_answer
 apart = record { memory = λ state request x. (run-apart state request).memory x; reply = λ state request. (run-apart state request).reply }

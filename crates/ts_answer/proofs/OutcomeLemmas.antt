@@ -259,7 +259,7 @@ outcome-ends command cat = carried_out-ends command cat
 pub ok_lines_are_answers : OkLinesAreAnswers
 unfolding run_answer
 ok_lines_are_answers state command =
-    settled-ends state (run_outcome (Ok command) state) (run_said EndsOk ok-ends count-ends (Ok command) state (outcome-ends command))
+    settled-ends state (run_outcome (Ok command) state) (run_said EndsOk ok-ends number-ends (Ok command) state (outcome-ends command))
 
 -- the same of all replies, where so many were counted before
 counted : (test : Bool → Bool) (state : State) (commands : List Command) (n : ℕ)

@@ -1,5 +1,5 @@
 -- What commands come to at a state, the state after them, and the replies to them.
-use Rattle.std.proofs.Common.{◌≡◌, ℕ, ◌+◌, suc, ◌≤◌, ◌<◌, nat_le, Bool, true, false, ◌&&◌, cond, Option, Some, None, Ok, Err, List, [], ◌∷◌, ◌++◌, length, refl, ap, ◌∙◌, subst}
+use Rattle.std.proofs.Common.{◌≡◌, ℕ, ◌+◌, suc, ℤ, pos, ◌≤◌, ◌<◌, nat_le, Bool, true, false, ◌&&◌, cond, Option, Some, None, Ok, Err, List, [], ◌∷◌, ◌++◌, length, refl, ap, ◌∙◌, subst}
 use Rattle.std.proofs.lemmas.Bool.{le-leb, lt-leb}
 use Rattle.ts_base.specs.declared.refusal.Refusal.{Refusal}
 use Rattle.ts_base.specs.declared.refusal.Refusal.TheVariants as refusals
@@ -11,7 +11,7 @@ use Rattle.ts_command.specs.Boundary.{boundary_of}
 use Rattle.ts_command.specs.Writing.{is_writing}
 use Rattle.ts_command.specs.Script.{Request}
 use Rattle.ts_model.specs.Catalogue.{Catalogue}
-use Rattle.ts_answer.specs.Reply.{ok_line, count_line, refusal_line}
+use Rattle.ts_answer.specs.Reply.{ok_line, number_line, refusal_line}
 use Rattle.ts_answer.specs.Answer.{Tried, Answered, ◌>>=◌, refused_if, carried_out, outcome, settled, answer}
 use Rattle.ts_answer.specs.State.{State, resting, opened, begun, counted, within_transaction, outside, inside, carried_out_in, run_outcome, run_answer, after, replies}
 
@@ -33,8 +33,8 @@ abbrev pub IsSaidSo : {A : Type 0} → (List ℕ → Type 0) → Tried (List ℕ
 IsSaidSo P (Ok answered) = P answered.0
 IsSaidSo P (Err refusal) = Unit {0}
 
--- what catalogues reply has it, and so have `ok` and counts: then what a state replies has it
-module _ (P : List ℕ → Type 0) (one : P ok_line) (many : (n : ℕ) → P (count_line n)) where
+-- what catalogues reply has it, and so have `ok` and numbers: then what a state replies has it
+module _ (P : List ℕ → Type 0) (one : P ok_line) (many : (n : ℤ) → P (number_line n)) where
   outside_said : (base : Catalogue) (command : Command) (came : Tried Answered) → IsSaidSo P came
       → IsSaidSo {A = State} P (came >>= λ a. Ok (a.0, record { base = a.1; transaction = begun (boundary_of command) a.1 }))
   unfolding ◌>>=◌
@@ -52,7 +52,7 @@ module _ (P : List ℕ → Type 0) (one : P ok_line) (many : (n : ℕ) → P (co
       → IsSaidSo P (inside boundary command base work accepted)
   unfolding inside
   inside_said (Some Opens) command base work accepted said = tt
-  inside_said (Some Commits) command base work accepted said = many accepted
+  inside_said (Some Commits) command base work accepted said = many (pos accepted)
   inside_said (Some RollsBack) command base work accepted said = one
   inside_said None command base work accepted said = plain_said base accepted command (within_transaction command accepted) (outcome (Ok command) work) said
 
@@ -140,7 +140,7 @@ module _ (command : Command) (base work : Catalogue) (accepted : ℕ) where
   unfolding run_outcome inside
   opened_inside opens = λ i. inside (opens i) command base work accepted
 
-  pub committed_inside : boundary_of command ≡ Some Commits → run_outcome (Ok command) (opened base work accepted) ≡ Ok (count_line accepted, resting work)
+  pub committed_inside : boundary_of command ≡ Some Commits → run_outcome (Ok command) (opened base work accepted) ≡ Ok (number_line (pos accepted), resting work)
   unfolding run_outcome inside
   committed_inside commits = λ i. inside (commits i) command base work accepted
 

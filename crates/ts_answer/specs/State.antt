@@ -1,6 +1,6 @@
 -- The state that a run of a script goes through: what answers its requests, and what it leaves on the volume. All that speaks of
 -- runs, moments and steps cites these.
-use Rattle.std.specs.Prelude.{ℕ, ◌+◌, Bool, ◌&&◌, nat_le, List, [], ◌∷◌, if◌then◌else◌, Option, Some, None, Ok, Err}
+use Rattle.std.specs.Prelude.{ℕ, ◌+◌, Bool, ◌&&◌, nat_le, List, [], ◌∷◌, if◌then◌else◌, Option, Some, None, Ok, Err, pos}
 use Rattle.ts_base.specs.declared.refusal.Refusal.TheVariants as refusals
 use Rattle.ts_replies.specs.Acknowledged.{memory_line}
 use Rattle.ts_command.specs.declared.command.Command.{Command}
@@ -10,7 +10,7 @@ use Rattle.ts_command.specs.Boundary.{boundary_of}
 use Rattle.ts_command.specs.Writing.{is_writing}
 use Rattle.ts_command.specs.Script.{Request}
 use Rattle.ts_model.specs.Catalogue.{Catalogue}
-use Rattle.ts_answer.specs.Reply.{ok_line, count_line}
+use Rattle.ts_answer.specs.Reply.{ok_line, number_line}
 use Rattle.ts_answer.specs.Refusals.{Tried, refused_if}
 unfoldable use Rattle.ts_answer.specs.Refusals.{◌>>=◌}
 use Rattle.ts_answer.specs.Answer.{outcome, settled, may_lack_memory}
@@ -73,7 +73,7 @@ outside command base = do
 -- What it comes to where one is open. Only its end moves the base.
 unfoldable pub inside : Option Boundary → Command → Catalogue → Catalogue → ℕ → Tried (List ℕ × State)
 inside (Some Opens) command base work accepted = Err refusals.AlreadyOpen
-inside (Some Commits) command base work accepted = Ok (count_line accepted, resting work)
+inside (Some Commits) command base work accepted = Ok (number_line (pos accepted), resting work)
 inside (Some RollsBack) command base work accepted = Ok (ok_line, resting base)
 inside None command base work accepted = do
   room ← within_transaction command accepted

@@ -1,5 +1,5 @@
 -- Transactions: what moves the base, what is rolled back, what is committed, and how many commands one has.
-use Rattle.std.proofs.Common.{◌≡◌, ◌⊎◌, inl, inr, ℕ, ◌+◌, ◌≤◌, ◌<◌, nat_le, Bool, true, false, ◌&&◌, cond, Option, Some, None, Ok, Err, IfSome, IsSome, List, [], ◌∷◌, ◌++◌, refl, ap, sym, ◌∙◌, subst, arith}
+use Rattle.std.proofs.Common.{◌≡◌, ◌⊎◌, inl, inr, ℕ, pos, ◌+◌, ◌≤◌, ◌<◌, nat_le, Bool, true, false, ◌&&◌, cond, Option, Some, None, Ok, Err, IfSome, IsSome, List, [], ◌∷◌, ◌++◌, refl, ap, sym, ◌∙◌, subst, arith}
 use Rattle.std.proofs.lemmas.Bool.{leb-false}
 use Rattle.ts_base.specs.declared.refusal.Refusal.TheVariants.{TransactionFull}
 use Rattle.ts_command.specs.declared.command.Command.{Command}
@@ -10,7 +10,7 @@ use Rattle.ts_command.specs.Boundary.{boundary_of}
 use Rattle.ts_command.specs.Writing.{is_writing}
 use Rattle.ts_command.specs.Script.{Request}
 use Rattle.ts_model.specs.Catalogue.{Catalogue}
-use Rattle.ts_answer.specs.Reply.{ok_line, count_line, refusal_line}
+use Rattle.ts_answer.specs.Reply.{ok_line, number_line, refusal_line}
 use Rattle.ts_answer.specs.Answer.{Tried, Answered, ◌>>=◌, refused_if, outcome, settled, answer}
 use Rattle.ts_answer.specs.State.{State, Transaction, resting, opened, begun, counted, within_transaction, outside, inside, carried_out_in, run_outcome, run_answer}
 use Rattle.ts_answer.proofs.CallerLemmas.{run_refused, run_came, misread_refused, outside_refused, outside_came, opened_outside, committed_inside, rolled_back_inside, refused_inside, came_inside}
@@ -45,7 +45,7 @@ inside_moves : (base work : Catalogue) (count : ℕ) (command : Command) (bounda
     → ((settled (opened base work count) (inside boundary command base work count)).1.base ≡ base) ⊎ IsCommit (opened base work count) command
 unfolding inside
 inside_moves base work count command (Some Opens) is = inl refl
-inside_moves base work count command (Some Commits) is = inr (record { stepped = (count_line count, resting work); accepted = committed_inside command base work count is; is = inr (refl, is) })
+inside_moves base work count command (Some Commits) is = inr (record { stepped = (number_line (pos count), resting work); accepted = committed_inside command base work count is; is = inr (refl, is) })
 inside_moves base work count command (Some RollsBack) is = inl refl
 inside_moves base work count command None is = inl (plain_moves base work count command (within_transaction command count) (outcome (Ok command) work))
 
@@ -81,7 +81,7 @@ plain_inside base work count command (Err refusal) plain few is =
 
 -- behind these requests and a Commit
 record Same (base cat : Catalogue) (count : ℕ) (requests : List Request) : Type 0 where
-  said : said_to (opened base cat count) (requests ++ Ok commands.Commit ∷ []) ≡ said_to (resting cat) requests ++ count_line (count + accepted_of cat requests) ∷ []
+  said : said_to (opened base cat count) (requests ++ Ok commands.Commit ∷ []) ≡ said_to (resting cat) requests ++ number_line (pos (count + accepted_of cat requests)) ∷ []
   same : behind (opened base cat count) (requests ++ Ok commands.Commit ∷ []) ≡ behind (resting cat) requests
 
 -- one request more, before the others
@@ -97,8 +97,8 @@ one_more base cat count request requests out inn others =
     record {
       said = (λ i. (inn i).0 ∷ said_to (inn i).1 (requests ++ Ok commands.Commit ∷ []))
           ∙ ap (λ (rs : List (List ℕ)). reply ∷ rs) others.said
-          ∙ ap (λ (n : ℕ). reply ∷ (said_to (resting next) requests ++ count_line n ∷ [])) sums
-          ∙ sym (λ i. (out i).0 ∷ (said_to (out i).1 requests ++ count_line (count + (one + accepted_of next requests)) ∷ []));
+          ∙ ap (λ (n : ℕ). reply ∷ (said_to (resting next) requests ++ number_line (pos n) ∷ [])) sums
+          ∙ sym (λ i. (out i).0 ∷ (said_to (out i).1 requests ++ number_line (pos (count + (one + accepted_of next requests))) ∷ []));
       same = (λ i. behind (inn i).1 (requests ++ Ok commands.Commit ∷ [])) ∙ others.same ∙ sym (λ i. behind (out i).1 requests);
     }
 
@@ -135,9 +135,9 @@ misread_inside base cat count refusal =
 all_same : (base cat : Catalogue) (count : ℕ) (requests : List Request) → ArePlain requests → HavePlaces count cat requests → Same base cat count requests
 all_same base cat count [] plain places =
     let none : count + 0 ≡ count = omega arith in
-    let ends = run_came (Ok commands.Commit) (opened base cat count) (count_line count) (resting cat) (committed_inside commands.Commit base cat count refl) in
+    let ends = run_came (Ok commands.Commit) (opened base cat count) (number_line (pos count)) (resting cat) (committed_inside commands.Commit base cat count refl) in
     record {
-      said = (λ i. (ends i).0 ∷ []) ∙ ap (λ (n : ℕ). count_line n ∷ []) (sym none);
+      said = (λ i. (ends i).0 ∷ []) ∙ ap (λ (n : ℕ). number_line (pos n) ∷ []) (sym none);
       same = λ i. (ends i).1;
     }
 all_same base cat count (Err refusal ∷ requests) plain places =
@@ -157,7 +157,7 @@ what_is_committed = record {
       let none : 0 + accepted_of cat requests ≡ accepted_of cat requests = omega arith in
       (λ i. (begins cat i).0 ∷ said_to (begins cat i).1 (requests ++ Ok commands.Commit ∷ []))
       ∙ ap (λ (rs : List (List ℕ)). ok_line ∷ rs) (all_same cat cat 0 requests plain places).said
-      ∙ ap (λ (n : ℕ). ok_line ∷ (said_to (resting cat) requests ++ count_line n ∷ [])) none;
+      ∙ ap (λ (n : ℕ). ok_line ∷ (said_to (resting cat) requests ++ number_line (pos n) ∷ [])) none;
   same = λ cat requests plain places.
       (λ i. behind (begins cat i).1 (requests ++ Ok commands.Commit ∷ [])) ∙ (all_same cat cat 0 requests plain places).same;
 }

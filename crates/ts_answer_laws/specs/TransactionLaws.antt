@@ -1,5 +1,5 @@
 -- What the laws of transactions say, over requests that are answered one behind the other.
-use Rattle.std.specs.Prelude.{◌≡◌, ◌⊎◌, ℕ, ◌+◌, ◌≤◌, ◌<◌, true, if◌then◌else◌, List, [], ◌∷◌, ◌++◌, None, Some, IsSome, IfSome, Ok, Err}
+use Rattle.std.specs.Prelude.{◌≡◌, ◌⊎◌, ℕ, ◌+◌, ◌≤◌, ◌<◌, true, if◌then◌else◌, List, [], ◌∷◌, ◌++◌, None, Some, IsSome, IfSome, Ok, Err, pos}
 use Rattle.ts_command.specs.declared.command.Command.{Command}
 use Rattle.ts_command.specs.declared.command.Command.TheVariants as commands
 use Rattle.ts_command.specs.declared.boundary.Boundary.TheVariants.{Commits}
@@ -7,7 +7,7 @@ use Rattle.ts_command.specs.Boundary.{boundary_of}
 use Rattle.ts_command.specs.Writing.{is_writing}
 use Rattle.ts_command.specs.Script.{Request}
 use Rattle.ts_model.specs.Catalogue.{Catalogue}
-use Rattle.ts_answer.specs.Reply.{ok_line, count_line}
+use Rattle.ts_answer.specs.Reply.{ok_line, number_line}
 use Rattle.ts_answer.specs.Answer.{outcome, answer}
 use Rattle.ts_answer.specs.State.{State, resting, committed, run_outcome, run_answer}
 
@@ -77,7 +77,7 @@ HavePlaces count cat (request ∷ requests) = HasPlace count request × HavePlac
 pub record WhatIsCommittedIsMade : Type 0 where
   pub said : (cat : Catalogue) (requests : List Request) → ArePlain requests → HavePlaces 0 cat requests
       → said_to (resting cat) (within requests commands.Commit)
-      ≡ ok_line ∷ said_to (resting cat) requests ++ count_line (accepted_of cat requests) ∷ []
+      ≡ ok_line ∷ said_to (resting cat) requests ++ number_line (pos (accepted_of cat requests)) ∷ []
   pub same : (cat : Catalogue) (requests : List Request) → ArePlain requests → HavePlaces 0 cat requests
       → behind (resting cat) (within requests commands.Commit) ≡ behind (resting cat) requests
 
