@@ -1,7 +1,7 @@
 -- A list of numbers that is cut off, or closed up.
-use Rattle.std.proofs.Common.{◌≡◌, ℕ, ◌+◌, ◌-◌, ◌≤◌, ◌<◌, List, [], ◌∷◌, ◌++◌, get_or, length, take, drop, reverse, refl, sym, ap, ◌∙◌, subst, arith, append-nil, append_assoc}
-use Rattle.std.proofs.lemmas.List.{take-take, drop-take, take_all, drop_all, take_rest, take_more, get_or-drop, length-drop, reverse-append, take-append-le, drop-append-le, length-take-le, length-append}
-use Rattle.ts_store.specs.FreeList.{FreePages, ArePlaced, free_pages}
+use Rattle.std.proofs.Common.{◌≡◌, ℕ, ◌+◌, ◌-◌, ◌≤◌, ◌<◌, List, [], ◌∷◌, ◌++◌, get_or, length, take, drop, reverse, sym, ap, ◌∙◌, arith, append-nil, append_assoc}
+use Rattle.std.proofs.lemmas.List.{take-take, drop-take, take_all, drop_all, take_rest, take_more, get_or-drop, length-drop, reverse-append, take-append-le, drop-append-le, length-take-le}
+use Rattle.ts_store.specs.FreeList.{ArePlaced}
 
 -- the part behind a mark, of what is cut off behind it
 middle_cut : (b s : ℕ) (ns : List ℕ) → b ≤ s → drop b (take s ns) ≡ take (s - b) (drop b ns)

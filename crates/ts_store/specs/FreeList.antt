@@ -10,9 +10,10 @@ pub record FreePages : Type 0 where
   -- those that can be taken once the transaction is rolled back
   pub base : List ℕ
 
--- The numbers stand in one list, of which each part ends where the next begins, and the next to be taken stands last in each. Of
--- those that a rollback goes back to: what isn't taken, what the open batch took, and what batches before it took. Then of those that
--- these batches freed: what isn't taken, and what the open batch took. At the end what the open batch freed.
+-- The numbers stand in one list, of which each part ends where the next begins; of what isn't taken the next one to be
+-- taken stands last. First those that a rollback goes back to: what isn't taken, what the open batch took, and what
+-- batches of the transaction took before it. Then those that these batches freed: what isn't taken, and what the open
+-- batch took. At the end what the open batch freed.
 pub record ArePlaced (low kept base freed saved : ℕ) (numbers : List ℕ) : Type 0 where
   pub first : low ≤ kept
   pub second : kept ≤ base

@@ -38,8 +38,8 @@ impl<'a, V: Volume> Pages for On<'a, V> {
     ghost undisturbed = { λ a b. (b.store.ghost_name ≡ a.store.ghost_name) × (b.vol.ghost_name ≡ a.vol.ghost_name)
         × Undisturbed V.tells a.store.now b.store.now (V.device a.vol.now) (V.device b.vol.now) };
 
-    /// Reads a page. One of the open batch, the transaction, the overlay or the cache is read with no call on the volume;
-    /// another one is then in the cache, but for a scan, or where there is no memory.
+    /// Reads a page. One of the open batch, the transaction, the overlay or the cache is read with no call on the
+    /// volume; another one is then in the cache, but for a scan, or where there is no memory.
     fn get(&mut self, no: u32, into: &mut Page) -> Result<(), StoreFault>
         requires { no < self.old.store.now.pages }
         ensures got { Got V.tells no into.new.bytes result

@@ -1,4 +1,4 @@
-use Rattle.std.proofs.Common.{◌≡◌, ℕ, List, ◌++◌, ◌-◌, length, arith, take, drop, reverse, sym, subst, ap, ◌∙◌}
+use Rattle.std.proofs.Common.{◌≡◌, ℕ, ◌++◌, ◌-◌, length, arith, take, drop, reverse, ap, ◌∙◌}
 use Rattle.ts_store.specs.FreeList.{FreePages}
 use Rattle.ts_store.proofs.CutLemmas.{kept_now, all_now}
 use Rattle.ts_store.proofs.free_list.FreeList.keep.Goals as goal

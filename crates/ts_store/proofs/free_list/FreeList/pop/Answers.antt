@@ -1,4 +1,4 @@
-use Rattle.std.proofs.Common.{◌≡◌, ℕ, ◌∷◌, ◌++◌, ◌-◌, ◌≤◌, length, take, drop, reverse, arith, sym, ap, ◌∙◌}
+use Rattle.std.proofs.Common.{ℕ, ◌∷◌, ◌++◌, ◌-◌, ◌≤◌, length, take, drop, reverse, arith, sym, ap, ◌∙◌}
 use Rattle.ts_store.specs.FreeList.{FreePages}
 use Rattle.ts_store.proofs.CutLemmas.{taken}
 use Rattle.ts_store.proofs.free_list.FreeList.pop.Goals as goal
