@@ -3,10 +3,9 @@ use Rattle.std.proofs.Common.{◌≡◌, inl, ℕ, ◌+◌, ◌≤◌, ◌*◌, 
 use Rattle.ts_disk.specs.Device.{Device, Lawful}
 use Rattle.ts_page.proofs.PagesLemmas.{lawful_same}
 use Rattle.ts_journal.specs.Entry.{Entry, entries_bytes, over}
-use Rattle.ts_journal.specs.Journal.{own_page, page_count, pages, StandsOver}
-use Rattle.ts_journal.proofs.CallerLemmas.{over_pages}
+use Rattle.ts_journal.specs.Journal.{own_page, page_count, pages}
 use Rattle.ts_journal.specs.Moment.{OnlyReads}
-use Rattle.ts_store.proofs.CallerLemmas.{reads_none, counted, over_still}
+use Rattle.ts_store.proofs.CallerLemmas.{reads_none, counted, over_still, idle_reads}
 use Rattle.ts_store.specs.OpenBatch.{State as Store, AreInPlace, IsIdle, IsClosed, read_pages, contents_over}
 use Rattle.ts_store.specs.OpenBatch.{rolled_back as store_rolled_back}
 use Rattle.ts_store.specs.Undisturbed.{Undisturbed}
@@ -139,17 +138,12 @@ pub one_layout : (tells : Bool) (e : Kept) (v : Device) (seen : IsSeen tells (se
 one_layout tells e v seen told cat means = same_catalogue e.store.pages (read_pages e.store v.held) cat (catalogue_of (seen.layout told).0) means (seen_means tells e v seen told)
 
 -- With no transaction, the pages that are read are those of the volume.
-pub read_closed : (s : Store) (held : List ℕ) → s.batch ≡ [] → s.transaction ≡ [] → StandsOver s.journal s.overlay held → (k : ℕ) → read_pages s held k ≡ pages held k
-read_closed s held none closed stands k =
-    ap (λ (es : List Entry). over es (over s.transaction (over s.overlay (own_page held))) k) none
-    ∙ ap (λ (es : List Entry). over es (over s.overlay (own_page held)) k) closed ∙ sym (over_pages s.journal s.overlay held stands k)
-
 module _ (tells : Bool) (s : Store) (v : Device) (lawful : Lawful tells v) (idle : IsIdle tells s v) (closed : IsClosed s) (told : IsTrue tells) where
   same_count : page_count (length v.held) ≡ s.pages
   same_count = ap page_count (lawful.size told) ∙ counted v.size s.pages idle.over.read.size
 
   same_pages : read_pages s v.held ≡ pages v.held
-  same_pages = λ i k. read_closed s v.held idle.batch closed.transaction (idle.over.read.stands told) k i
+  same_pages = λ i k. idle_reads tells s v idle closed told k i
 
   -- what they mean is what it means
   pub read_means : (cat : Catalogue) → MeansCatalogue v.held cat → Means s.pages (read_pages s v.held) cat
@@ -170,5 +164,5 @@ means_held tells s v cat lawful idle closed told means =
     means_alike tells s v cat idle v.held means (record {
       size = lawful.size told;
       sound = ((idle.over.read.stands told).rs, (idle.over.read.stands told).stands.records);
-      alike = λ k. inl (sym (read_closed s v.held idle.batch closed.transaction (idle.over.read.stands told) k));
+      alike = λ k. inl (sym (idle_reads tells s v idle closed told k));
     })

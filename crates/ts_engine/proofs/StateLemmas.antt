@@ -109,6 +109,13 @@ pub run_by : (state : State) (command : Command) → run_outcome (Ok command) st
 unfolding run_outcome
 run_by state command = refl
 
+-- a command that writes, for which there was place, is within what a transaction may have
+pub placed_few : (command : Command) (n : ℕ) → is_writing command ≡ true → misplaced_in None (is_writing command) (Some n) ≡ None → n + 1 ≤ 32
+placed_few command n writes placed =
+    let free : nat_le 32 n ≡ false = sym (ap (λ (w : Bool). w && nat_le 32 n) writes) ∙ test_none (is_writing command && nat_le 32 n) TransactionFull placed in
+    let below : n < 32 = leb-false 32 n free in
+    omega arith
+
 -- a command that was accepted is one more at most, and there was place for it
 one_more : (command : Command) (n : ℕ) → misplaced_in None (is_writing command) (Some n) ≡ None → n ≤ 32 → counted command n ≤ 32
 one_more command n placed few = by (is_writing command) refl
