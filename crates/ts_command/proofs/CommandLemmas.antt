@@ -1,7 +1,7 @@
 -- The command that a statement is read as has its form.
 use Rattle.std.proofs.Common.{◌≡◌, ℕ, ◌<◌, ◌^◌, List, [], ◌∷◌, length, Ok, codes, true, refl, arith, ℤ, pos, neg_ℤ, int_le}
 use Rattle.ts_row.specs.declared.value.Literal.{Literal}
-use Rattle.ts_text.specs.Phrase.{Phrase, ◌>>=◌, give, a_sign, made, the_end}
+use Rattle.ts_text.specs.Phrase.{Phrase, ◌>>=◌, give, made, the_end}
 use Rattle.ts_text.specs.declared.token.TokenKind.TheVariants.{Word}
 use Rattle.ts_text.proofs.CallerLemmas.{Yields, Goes, Any, chain, given, shrinks_of, of_token, sign_yields, made_yields, bind-ok, pair-parts}
 use Rattle.ts_tokens.specs.Tokens.{front}
