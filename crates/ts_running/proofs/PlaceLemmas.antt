@@ -18,7 +18,7 @@ use Rattle.ts_running.specs.Rows.{value_over}
 use Rattle.ts_running.proofs.WindowLaws.{last_window}
 
 -- the rows of elements
-abbrev rows : List Element → List Row
+abbrev pub rows : List Element → List Row
 rows es = map (λ e. e.1) es
 
 -- a value isn't NULL
