@@ -1,5 +1,6 @@
 -- How a batch ends in a transaction: it is joined, or dropped, after memory was taken.
-use Rattle.std.proofs.Common.{◌≡◌, ℕ, ◌+◌, ◌*◌, ◌≤◌, Bool, Option, Some, None, IfSome, Ok, List, [], length, refl, ap, sym, ◌∙◌, arith}
+use Rattle.std.specs.Prelude.{is_some}
+use Rattle.std.proofs.Common.{◌≡◌, ℕ, ◌+◌, ◌*◌, ◌≤◌, Bool, true, false, Option, Some, None, IfSome, Ok, List, [], length, refl, ap, sym, ◌∙◌, arith}
 use Rattle.ts_command.specs.declared.command.Command.{Command}
 use Rattle.ts_disk.specs.Device.{Device}
 use Rattle.ts_page.specs.Pages.{Contents}
@@ -64,3 +65,11 @@ pub short_one : (tells : Bool) (command : Command) (e g : Kept) (v x : Device) (
 short_one tells command e g v x effect out ready none carried =
     let before = none_open e.store v (ready.closed none) ready.idle.batch in
     omega (arith, before, carried.bytes, commit_bytes g.store x)
+
+-- whether a transaction is open
+pub saved_none : (o : Option Saved) → is_some o ≡ false → o ≡ None
+saved_none None is = refl
+saved_none (Some s) is = absurd (cc)
+
+pub saved_some : (o : Option Saved) → is_some o ≡ true → o ≡ None → ⊥
+saved_some o is none = let not : is_some o ≡ false = ap is_some none in cc
