@@ -7,6 +7,7 @@ pub mod Outcomes
 pub mod Reading
 pub mod Refusals
 pub mod Reply
+pub mod RunningValues
 pub mod Slots
 pub mod State
 pub mod Stop

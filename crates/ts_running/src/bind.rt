@@ -117,8 +117,8 @@ fn bound_step(columns: &[Column], step: &Step<Name>) -> Result<Step<Source>, Tro
     }
 }
 
-// The column of this name, if its values are numbers.
-fn source_named(columns: &[Column], name: &[u8]) -> Result<Source, Trouble>
+/// The column of this name, if its values are numbers.
+pub(crate) fn source_named(columns: &[Column], name: &[u8]) -> Result<Source, Trouble>
     requires { IsTrue (list_all (λ c. is_kind c.kind) columns.now) }
     ensures { Answers (Binding.source_named columns.now name.now) result }
 {

@@ -2,13 +2,15 @@
 //! of a window are those of its values from nothing (`specs/Window`). What a text reads as, or the place at which it is
 //! refused, is `specs/Grammar`; it is read exactly where it is the tokens of expressions with blanks between them
 //! (`specs/Spelling`). Bound to a row type each column has its number and its scale (`specs/Binding`), and the values
-//! are those of `specs/Operands`, part by part (`specs/Parts`). The code keeps an expression as steps over a stack.
+//! are those of `specs/Operands`, part by part (`specs/Parts`). The code keeps an expression as steps over a stack. The
+//! rows that both give for the elements of a series are `specs/Rows`.
 //! Stands on circular_buffer, ts_expr, ts_text, ts_row and ts_base; knows nothing of stamps, pages or scripts. Read
 //! `specs/Grammar.antt`, `specs/Binding.antt`, `specs/Operands.antt`, then `running.rt`, `list.rt`, `bind.rt`,
 //! `value.rt`.
 #![tactic(auto)]
 
 mod bind;
+mod column;
 mod fault;
 mod front;
 mod laws;
@@ -20,8 +22,11 @@ mod step;
 mod value;
 
 pub use bind::{BoundExpr, MOST_PART_SCALE, Source};
+pub use column::{bind_column, read_column};
 pub use fault::ApplyError;
-pub use laws::{a_window_holds_the_last_values, an_empty_window_has_no_sum};
+pub use laws::{
+    a_window_holds_the_last_values, a_window_makes_the_running_value, an_empty_window_has_no_sum,
+};
 pub use list::{
     ExprList, MOST_EXPRS, expression_texts_are_tokens, expressions_are_refused_in_place,
 };

@@ -20,9 +20,9 @@ pub const MOST_DIGITS: usize = 18;
 /// How many factors may stand inside a factor, each inside the one before: it and they are 64.
 pub const MOST_INSIDE: u8 = 63;
 
-// A word of 1 to 32 bytes.
+/// A word of 1 to 32 bytes.
 #[tactic(auto, unfolding(crate::specs::Grammar::name_in))]
-fn name_in(alloc: Global, text: &[u8]) -> Result<(Name, &[u8]), Misfit>
+pub(crate) fn name_in(alloc: Global, text: &[u8]) -> Result<(Name, &[u8]), Misfit>
     ensures ok { IfOk result (λ x. Grammar.name_in text.now ≡ Ok (x.0, x.1.now)) }
     ensures cause { IfErr result (λ misfit. Refuses misfit (Grammar.name_in text.now)) }
     ensures shorter { IfOk result (λ x. length x.1.now ≤ length text.now) }

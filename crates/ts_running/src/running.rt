@@ -1,10 +1,11 @@
 // A running sum.
 ghost use Rattle.std.specs.Prelude.{◌≡◌, [], ◌<◌, ◌≤◌, ◌*◌, ◌^◌, unsigned_abs, IfOk, IfSome};
-ghost use Rattle.ts_running.specs.Window.{window, after_push, sum_of, count_of, number_of, tally_of, IsSmall, IsWindow};
+ghost use Rattle.ts_running.specs.Window.{window, after_push, sum_of, count_of, mean_of, number_of, tally_of, IsSmall, IsWindow};
 
 use circular_buffer::HeapCircularBuffer;
 use std::alloc::{AllocError, Global};
 use std::marker::Model;
+use ts_expr::Sums;
 
 /// The last values, a `None` for a place that has none, with their sum and their number.
 #[derive(Drop)]
@@ -61,6 +62,17 @@ impl Running {
         } else {
             Some(self.total)
         }
+    }
+
+    /// The mean of the values in the window, if it has one, with six more digits after the point than they have; a half is
+    /// rounded away from zero.
+    pub fn mean(&self) -> Option<i128>
+        ensures { result ≡ mean_of self.now.values }
+    {
+        let sum = self.sum()?;
+        let mut sums = Sums::new();
+        sums.add_many(u64::from(self.count), sum);
+        Some(sums.mean())
     }
 
     /// How many places of the window have a value.
