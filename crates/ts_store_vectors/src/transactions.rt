@@ -5,7 +5,9 @@ ghost use Rattle.ts_page.specs.Volume.{image_entry_size, free_entry_size};
 ghost use Rattle.ts_store.specs.OpenBatch.{contents_over};
 ghost use Rattle.ts_store_vectors.specs.Transaction.{IsBetween};
 
-use crate::stores::{ELEMENT_PAGE, blank, committed, edited_on, freed_on, opened, stops_leave, taken_on, tried};
+use crate::stores::{
+    ELEMENT_PAGE, blank, committed, edited_on, freed_on, opened, stops_leave, taken_on, tried,
+};
 use std::alloc::Global;
 use std::test::Fail;
 use ts_base::StoreFault;
@@ -120,11 +122,7 @@ fn rolled_back<V: Volume>(store: &mut Store, vol: &mut V) -> Result<Option<u8>, 
     dropped(store, vol, None)
 }
 
-fn done<V: Volume>(
-    store: &mut Store,
-    vol: &mut V,
-    deed: Deed,
-) -> Result<Option<u8>, StoreFault>
+fn done<V: Volume>(store: &mut Store, vol: &mut V, deed: Deed) -> Result<Option<u8>, StoreFault>
     requires { IsBetween V.tells [] store.old (V.device vol.old) }
     ensures between { OnOk result (IsBetween V.tells [] store.new (V.device vol.new)) }
     ensures bytes { OnOk result ((contents_over store.new (V.device vol.new)).change_bytes
@@ -139,11 +137,7 @@ fn done<V: Volume>(
 }
 
 // Opens the volume, and whether after each deed this is read, and the last of it once all was committed.
-fn deeds_hold<V: Volume>(
-    alloc: Global,
-    vol: &mut V,
-    deeds: &[(Deed, u8)],
-) -> Result<bool, Fail>
+fn deeds_hold<V: Volume>(alloc: Global, vol: &mut V, deeds: &[(Deed, u8)]) -> Result<bool, Fail>
     requires only { Only (V.device vol.old).held (V.device vol.old).images }
     requires few { length deeds.now ≤ 255 }
 {
