@@ -1,5 +1,5 @@
 -- Transactions: what moves the base, what is rolled back, what is committed, and how many commands one has.
-use Rattle.std.proofs.Common.{◌≡◌, ◌⊎◌, inl, inr, ℕ, pos, ◌+◌, ◌≤◌, ◌<◌, nat_le, Bool, true, false, ◌&&◌, cond, Option, Some, None, Ok, Err, IfSome, IsSome, List, [], ◌∷◌, ◌++◌, refl, ap, sym, ◌∙◌, subst, arith}
+use Rattle.std.proofs.Common.{◌≡◌, ◌⊎◌, inl, inr, ℕ, pos, ◌+◌, ◌≤◌, ◌<◌, nat_le, Bool, true, false, ◌&&◌, cond, Option, Some, None, Ok, Err, IfSome, List, [], ◌∷◌, ◌++◌, refl, ap, sym, ◌∙◌, arith}
 use Rattle.std.proofs.lemmas.Bool.{leb-false}
 use Rattle.ts_base.specs.declared.refusal.Refusal.TheVariants.{TransactionFull}
 use Rattle.ts_command.specs.declared.command.Command.{Command}
@@ -14,7 +14,7 @@ use Rattle.ts_answer.specs.Reply.{ok_line, number_line, refusal_line}
 use Rattle.ts_answer.specs.Answer.{Tried, Answered, ◌>>=◌, refused_if, outcome, settled, answer}
 use Rattle.ts_answer.specs.State.{State, Transaction, resting, opened, begun, counted, within_transaction, outside, inside, carried_out_in, run_outcome, run_answer}
 use Rattle.ts_answer.proofs.CallerLemmas.{run_refused, run_came, misread_refused, outside_refused, outside_came, opened_outside, committed_inside, rolled_back_inside, refused_inside, came_inside}
-use Rattle.ts_answer_laws.specs.TransactionLaws.{said_to, behind, IsCommit, AsksForCommit, OnlyCommitsMoveTheBase, ArePlain, WhatIsRolledBackLeavesNothing, counted_at, accepted_of, HavePlaces, WhatIsCommittedIsMade, IsFew, TransactionsAreNeverOverfull}
+use Rattle.ts_answer_laws.specs.TransactionLaws.{said_to, behind, IsCommit, OnlyCommitsMoveTheBase, ArePlain, WhatIsRolledBackLeavesNothing, counted_at, accepted_of, HavePlaces, WhatIsCommittedIsMade, IsFew, TransactionsAreNeverOverfull}
 use Rattle.ts_answer_laws.proofs.ReadingLemmas.{leaves}
 
 -- a command that doesn't write leaves the catalogue

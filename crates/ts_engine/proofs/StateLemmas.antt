@@ -74,6 +74,12 @@ accepted_next command base None (Some t) cat same = absurd (cc)
 accepted_next command base (Some s) None cat same = absurd (cc)
 accepted_next command base (Some s) (Some t) cat same = let is : s.accepted ≡ t.accepted = cc in ap (λ (n : ℕ). Some (counted command n)) is
 
+-- where an engine has a transaction, the state has one
+pub some_of : (p : Option Saved) (o : Option Transaction) → accepted_by p ≡ accepted_of o → (p ≡ None → ⊥) → o ≡ None → ⊥
+some_of None o same one none = one refl
+some_of (Some s) None same one none = cc
+some_of (Some s) (Some t) same one none = cc
+
 -- what is refused before all else
 pub misplaced_refused : (command : Command) (base : Catalogue) (b : Option Boundary) → boundary_of command ≡ b → (o : Option Transaction) (refusal : Refusal) → misplaced_in b (is_writing command) (accepted_of o) ≡ Some refusal
     → carried_out_in command base o ≡ Err refusal

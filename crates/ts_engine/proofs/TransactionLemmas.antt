@@ -1,6 +1,6 @@
 -- The steps that begin and end a transaction, and those that it refuses before all else.
 use Rattle.std.specs.declared.alloc.AllocError.{AllocError}
-use Rattle.std.proofs.Common.{◌≡◌, ◌⊎◌, inl, inr, ⊎_elim, ℕ, ◌+◌, ◌≤◌, pos, Bool, true, IsTrue, Option, Some, None, IsSome, Result, Ok, Err, IsErrAnd, List, [], length, refl, ap, sym, ◌∙◌, subst, arith}
+use Rattle.std.proofs.Common.{◌≡◌, ◌⊎◌, inl, inr, ⊎_elim, ℕ, ◌+◌, ◌≤◌, pos, Bool, true, IsTrue, Option, Some, None, IsSome, IfSome, Result, Ok, Err, OnOk, IfErr, IsErrAnd, List, [], length, refl, ap, sym, ◌∙◌, subst, arith}
 use Rattle.ts_base.specs.declared.fault.StoreFault.{StoreFault}
 use Rattle.ts_base.specs.declared.fault.StoreFault.TheVariants.{Failed as StoreFailed}
 use Rattle.ts_base.specs.declared.refusal.Refusal.{Refusal}
@@ -32,10 +32,12 @@ use Rattle.ts_engine.specs.Engine.{Kept, IsStanding, IsReady, IsAt, back_to}
 use Rattle.ts_engine.specs.Moves.{BeforeOrAfter, Moves}
 use Rattle.ts_engine.specs.Step.{state_after, ChangesNothing, IsCommit, Stepped}
 use Rattle.ts_engine.specs.Change.{reply_of, IsStill, FinishLeaves, Finished, Dropped}
+use Rattle.ts_engine.specs.Ended.{IsWant}
 use Rattle.ts_engine.specs.Transaction.{misplaced_in, accepted_in, Begins, CommitsAll, RollsBackTo}
 use Rattle.ts_engine.proofs.BoundaryLemmas.{begins_anew}
-use Rattle.ts_engine.proofs.ChargedLemmas.{charges_same}
-use Rattle.ts_engine.proofs.StateLemmas.{accepted_of, accepted_by, misplaced_refused, run_answers, run_by}
+use Rattle.ts_engine.specs.Charged.{CanCount}
+use Rattle.ts_engine.proofs.ChargedLemmas.{charges_same, can_count}
+use Rattle.ts_engine.proofs.StateLemmas.{accepted_of, accepted_by, misplaced_refused, run_answers, run_by, some_of}
 use Rattle.ts_engine.proofs.StandLemmas.{kept_same, rules_same, still_none, standing_still, seen_means, means_alike}
 use Rattle.ts_engine.proofs.StepLemmas.{reads_between, never_nothing, stepped_refused, stepped_memory, stepped_disk}
 use Rattle.ts_engine.proofs.MovesLemmas.{read_moments, stands, rests, ready_resting, at_resting, at_meant, moves_memory}
@@ -62,15 +64,9 @@ unfolding inside
 rolls_run command base None is one = absurd (one refl)
 rolls_run command base (Some t) is one = λ i. inside (is i) command base t.work t.accepted
 
--- where an engine has a transaction, the state has one
-some_of : (p : Option Saved) (o : Option Transaction) → accepted_by p ≡ accepted_of o → (p ≡ None → ⊥) → o ≡ None → ⊥
-some_of None o same one none = one refl
-some_of (Some s) None same one none = cc
-some_of (Some s) (Some t) same one none = cc
-
 is_some_of : (o : Option Transaction) → (o ≡ None → ⊥) → IsSome o
 is_some_of None one = absurd (one refl)
-is_some_of (Some t) one = tt
+is_some_of (Some t) one = refl
 
 -- what begins or ends a transaction doesn't only read
 never_reads : (command : Command) (b : Boundary) → boundary_of command ≡ Some b → is_reading command ≡ true → ⊥
@@ -338,3 +334,57 @@ module _ (tells : Bool) (command : Command) (e : Kept) (v : Device) (lawful : La
 pub by_fault : (tells : Bool) (command : Command) (r : Result Unit StepFault) (fault : StepFault) (out : List ℕ) (e f : Kept) (v w : Device) → IsErrAnd r (λ x. x ≡ fault) → Stepped tells command (Err fault) [] e f v w → Stepped tells command r (reply_of r out) e f v w
 by_fault tells command (Ok done) fault out e f v w is stepped = absurd is
 by_fault tells command (Err x) fault out e f v w is stepped = subst (λ (y : StepFault). Stepped tells command (Err y) [] e f v w) (sym is) stepped
+
+-- where a command is in its place, none is open to begin one, and one to end it
+pub opens_none : (w : Bool) (o : Option Saved) → misplaced_in (Some Opens) w (accepted_by o) ≡ None → o ≡ None
+opens_none w None placed = refl
+opens_none w (Some s) placed = absurd (cc)
+
+pub commits_some : (w : Bool) (o : Option Saved) → misplaced_in (Some Commits) w (accepted_by o) ≡ None → o ≡ None → ⊥
+commits_some w None placed none = absurd (cc)
+commits_some w (Some s) placed none = cc
+
+pub rolls_some : (w : Bool) (o : Option Saved) → misplaced_in (Some RollsBack) w (accepted_by o) ≡ None → o ≡ None → ⊥
+rolls_some w None placed none = absurd (cc)
+rolls_some w (Some s) placed none = cc
+
+-- All that each answers.
+module _ (tells : Bool) (command : Command) (e f : Kept) (v : Device) (lawful : Lawful tells v) (ready : IsReady tells e v) (r : Result Unit StepFault) (out : List ℕ) where
+  wants : IfErr r (λ fault. IsWant fault × (f ≡ e)) → (stepped : OnOk r (Stepped tells command (Ok tt) out e f v v)) → Stepped tells command r (reply_of r out) e f v v
+  wants err stepped = by r err stepped
+    where
+      by : (r : Result Unit StepFault) → IfErr r (λ fault. IsWant fault × (f ≡ e)) → OnOk r (Stepped tells command (Ok tt) out e f v v) → Stepped tells command r (reply_of r out) e f v v
+      by (Ok tt) err stepped = stepped
+      by (Err fault) err stepped = subst (λ (x : StepFault). Stepped tells command (Err x) [] e f v v) (sym err.0.1) (wanting_step tells command e v lawful ready f err.1 err.0.0)
+
+  pub begins_step : boundary_of command ≡ Some Opens → e.saved ≡ None → OnOk r (out ≡ ok_line) → OnOk r (Begins e f) → IfErr r (λ fault. IsWant fault × (f ≡ e)) → Stepped tells command r (reply_of r out) e f v v
+  begins_step opens none said begins err = wants err (by r said begins)
+    where
+      by : (r : Result Unit StepFault) → OnOk r (out ≡ ok_line) → OnOk r (Begins e f) → OnOk r (Stepped tells command (Ok tt) out e f v v)
+      by (Ok tt) said begins = subst (λ (l : List ℕ). Stepped tells command (Ok tt) l e f v v) (sym said) (begun_step tells command e v lawful ready opens none f begins)
+      by (Err fault) said begins = tt
+
+  pub rolls_step : boundary_of command ≡ Some RollsBack → (e.saved ≡ None → ⊥) → OnOk r (out ≡ ok_line) → OnOk r (IfSome e.saved (RollsBackTo e f)) → IfErr r (λ fault. IsWant fault × (f ≡ e)) → Stepped tells command r (reply_of r out) e f v v
+  rolls_step ends one said rolls err = wants err (by r said rolls)
+    where
+      there : (o : Option Saved) → e.saved ≡ o → IfSome o (RollsBackTo e f) → Stepped tells command (Ok tt) ok_line e f v v
+      there None is rolls = absurd (one is)
+      there (Some s) is rolls = rolled_step tells command e v lawful ready ends s is f rolls
+
+      by : (r : Result Unit StepFault) → OnOk r (out ≡ ok_line) → OnOk r (IfSome e.saved (RollsBackTo e f)) → OnOk r (Stepped tells command (Ok tt) out e f v v)
+      by (Ok tt) said rolls = subst (λ (l : List ℕ). Stepped tells command (Ok tt) l e f v v) (sym said) (there e.saved refl rolls)
+      by (Err fault) said rolls = tt
+
+  pub commits_step : (w : Device) → Lawful tells w → boundary_of command ≡ Some Commits → (e.saved ≡ None → ⊥) → OnOk r (out ≡ number_line (pos (accepted_in e.saved))) → CommitsAll tells r e f v w → Stepped tells command r (reply_of r out) e f v w
+  commits_step w later ends one said all = by r said all
+    where
+      by : (r : Result Unit StepFault) → OnOk r (out ≡ number_line (pos (accepted_in e.saved))) → CommitsAll tells r e f v w → Stepped tells command r (reply_of r out) e f v w
+      by (Ok tt) said all =
+          subst (λ (l : List ℕ). Stepped tells command (Ok tt) l e f v w) (sym said)
+          (committed_step tells command e v lawful ready ends one f w later all.said all.ended all.finished (all.now ∙ (λ i. record all.ended { saved = all.closed i })))
+      by (Err fault) said all = uncommitted_step tells command e v lawful ready ends one f w later fault all
+
+-- what containers are charged can be counted once it is rolled back
+pub can_roll : (tells : Bool) (e : Kept) (v : Device) (o : Option Saved) → IsStanding tells (back_to e o) v → IfSome o (λ s. CanCount s.defs.definitions s.space.lists)
+can_roll tells e v None standing = tt
+can_roll tells e v (Some s) standing = can_count s.defs.definitions s.space e.store.base_free e.store.pages standing.seen.kept

@@ -1,6 +1,6 @@
 -- What `gen` does: it carries out the generated commands, and says what the last two come to and how many there were of each kind.
-use Rattle.std.specs.Prelude.{◌≡◌, ◌≢◌, ◌⊎◌, ℕ, ◌+◌, ◌-◌, ◌≤◌, ◌==◌, ◌&&◌, Bool, not, IsTrue, if◌then◌else◌, List, [], ◌∷◌, ◌++◌, length, take, drop, codes, decimal, flat_map, Result, Ok, OnOk, IfErr, nat_eq}
-use Rattle.std.specs.List.{count_by, starts_with}
+use Rattle.std.specs.Prelude.{◌≡◌, ◌≢◌, ◌⊎◌, ℕ, ◌+◌, ◌-◌, ◌≤◌, Bool, not, IsTrue, List, [], ◌∷◌, ◌++◌, length, take, drop, codes, decimal, flat_map, Result, Ok, OnOk, IfErr}
+use Rattle.std.specs.List.{count_by}
 use Rattle.ts_disk.specs.Device.{Device, Rose, FirstSync, LeavesOnly, Saying}
 use Rattle.ts_journal.specs.Moment.{Keeps, OnlyReads}
 use Rattle.ts_command.specs.declared.command.Command.{Command}

@@ -9,6 +9,8 @@ use Rattle.ts_engine.specs.Step.{Stepped}
 use Rattle.ts_engine.proofs.ChargedLemmas.{can_charge_then}
 use Rattle.ts_engine.proofs.StepLemmas.{by_memory}
 use Rattle.ts_engine.proofs.JoinLemmas.{can_charge, unchanged_step, changed_step, joined_step, unjoined_step, refused_step, memory_step, failed_step}
+use Rattle.ts_engine.proofs.TransactionLemmas.{by_fault}
+use Rattle.ts_engine.proofs.EndLemmas.{few_then, short_one, saved_none, saved_some}
 use Rattle.ts_engine.proofs.engine.Engine.carry_out_between.Goals as goal
 
 pub returns-then-is_nothing : goal.returns-then-is_nothing
@@ -30,8 +32,8 @@ returns-then-is_nothing g c =
           (sym c.is_nothing.ensures ∙ c.if-is_nothing.true) c.in-Ok.ensures.carried;
     }
 
-pub returns-then-is_none : goal.returns-then-is_none
-returns-then-is_none g c =
+pub returns-else-is_some : goal.returns-else-is_some
+returns-else-is_some g c =
     let tells = g.V.Volume.tells in
     let command = c.args.command.now in
     let e = c.args.self.now in
@@ -44,17 +46,50 @@ returns-then-is_none g c =
     let charges = ap (λ (k : Kept). k.charges) does.others in
     let saved = ap (λ (k : Kept). k.saved) does.others in
     let spent = ap (λ (k : Kept). k.spent) does.others in
-    let none : e.saved ≡ None = ? in
+    let none : e.saved ≡ None = sym saved ∙ saved_none m.saved (sym c.is_some.ensures ∙ c.if-is_some.false) in
     record {
       stepped = changed_step tells command e m v x lawful c.requires.ready does.undisturbed c.requires.between c.requires.room definitions does.lists charges saved spent c.in-Ok.effect c.carry_out_in_batch.new.out c.in-Ok.ensures.carried c.keep.new.self (g.V.Volume.device c.keep.new.vol)
           (g.met.V.Volume.lawful c.keep.new.vol) none (sym c.is_nothing.ensures ∙ c.if-is_nothing.false) c.keep.result c.keep.ensures.commits;
     }
 
 pub returns-in_err-join : goal.returns-in_err-join
-returns-in_err-join g c = ?
+returns-in_err-join g c =
+    let tells = g.V.Volume.tells in
+    let command = c.args.command.now in
+    let e = c.args.self.now in
+    let m = c.carry_out_in_batch.new.self in
+    let v = g.V.Volume.device c.args.vol.now in
+    let x = g.V.Volume.device c.carry_out_in_batch.new.vol in
+    let lawful = g.met.V.Volume.lawful c.args.vol.now in
+    let does = c.carry_out_in_batch.ensures in
+    let definitions = ap (λ (k : Kept). k.tables.definitions) does.others in
+    let charges = ap (λ (k : Kept). k.charges) does.others in
+    let saved = ap (λ (k : Kept). k.saved) does.others in
+    let spent = ap (λ (k : Kept). k.spent) does.others in
+    let fault = c.in_err-join.field-0.0 in
+    record {
+      stepped = by_fault tells command c.from_residual.result fault c.carry_out_in_batch.new.out e c.join.new.self v x c.from_residual.ensures.1
+          (unjoined_step tells command e m v x lawful c.requires.ready does.undisturbed c.requires.between c.requires.room definitions does.lists charges saved spent c.in-Ok.effect c.carry_out_in_batch.new.out c.in-Ok.ensures.carried fault c.join.new.self c.in_err-join.ensures.joins);
+    }
 
-pub returns-in_ok-join : goal.returns-in_ok-join
-returns-in_ok-join g c = ?
+pub returns-then-is_some : goal.returns-then-is_some
+returns-then-is_some g c =
+    let tells = g.V.Volume.tells in
+    let command = c.args.command.now in
+    let e = c.args.self.now in
+    let m = c.carry_out_in_batch.new.self in
+    let v = g.V.Volume.device c.args.vol.now in
+    let x = g.V.Volume.device c.carry_out_in_batch.new.vol in
+    let lawful = g.met.V.Volume.lawful c.args.vol.now in
+    let does = c.carry_out_in_batch.ensures in
+    let definitions = ap (λ (k : Kept). k.tables.definitions) does.others in
+    let charges = ap (λ (k : Kept). k.charges) does.others in
+    let saved = ap (λ (k : Kept). k.saved) does.others in
+    let spent = ap (λ (k : Kept). k.spent) does.others in
+    record {
+      stepped = joined_step tells command e m v x lawful c.requires.ready does.undisturbed c.requires.between c.requires.room definitions does.lists charges saved spent c.in-Ok.effect c.carry_out_in_batch.new.out c.in-Ok.ensures.carried
+          does.over (sym c.is_nothing.ensures ∙ c.if-is_nothing.false) (λ none. saved_some m.saved (sym c.is_some.ensures ∙ c.if-is_some.true) (saved ∙ none)) c.join.new.self c.in_ok-join.ensures.joins c.count-2.new.self c.count-2.ensures;
+    }
 
 pub returns-in_err-say_refusal-in-Err-Refused : goal.returns-in_err-say_refusal-in-Err-Refused
 returns-in_err-say_refusal-in-Err-Refused g c =
@@ -139,6 +174,38 @@ returns-in-Err-Memory g c =
 
 pub keep-requires-clause-charge : goal.keep-requires-clause-charge
 keep-requires-clause-charge g c =
+    let e = c.args.self.now in
+    let m = c.carry_out_in_batch.new.self in
+    let v = g.V.Volume.device c.args.vol.now in
+    let does = c.carry_out_in_batch.ensures in
+    let effect = c.in-Ok.effect in
+    can_charge_then effect e.charges m.charges e.tables.definitions m.tables.definitions e.space m.space
+    (can_charge g.V.Volume.tells c.args.command.now (seen_by e v) e.charges c.requires.ready.seen.kept c.requires.ready.charges effect c.carry_out_in_batch.new.out
+    (contents_over m.store (g.V.Volume.device c.carry_out_in_batch.new.vol)) c.in-Ok.ensures.carried)
+    (ap (λ (k : Kept). k.tables.definitions) does.others) does.lists (ap (λ (k : Kept). k.charges) does.others)
+
+pub keep-requires-clause-short : goal.keep-requires-clause-short
+keep-requires-clause-short g c =
+    let e = c.args.self.now in
+    let m = c.carry_out_in_batch.new.self in
+    let saved = ap (λ (k : Kept). k.saved) c.carry_out_in_batch.ensures.others in
+    short_one g.V.Volume.tells c.args.command.now e m (g.V.Volume.device c.args.vol.now) (g.V.Volume.device c.carry_out_in_batch.new.vol) c.in-Ok.effect c.carry_out_in_batch.new.out c.requires.ready
+    (sym saved ∙ saved_none m.saved (sym c.is_some.ensures ∙ c.if-is_some.false)) c.in-Ok.ensures.carried
+
+pub count-requires : goal.count-requires
+count-requires g c =
+    let e = c.args.self.now in
+    let saved = ap (λ (k : Kept). k.saved) c.discard.ensures ∙ ap (λ (k : Kept). k.saved) c.carry_out_in_batch.ensures.others in
+    few_then e.saved c.discard.new.self.saved _ _ saved c.requires.ready.small
+
+pub count-2-requires : goal.count-2-requires
+count-2-requires g c =
+    let e = c.args.self.now in
+    let saved = c.in_ok-join.ensures.joins.saved ∙ ap (λ (k : Kept). k.saved) c.carry_out_in_batch.ensures.others in
+    few_then e.saved c.join.new.self.saved _ _ saved c.requires.ready.small
+
+pub join-requires-clause-charge : goal.join-requires-clause-charge
+join-requires-clause-charge g c =
     let e = c.args.self.now in
     let m = c.carry_out_in_batch.new.self in
     let v = g.V.Volume.device c.args.vol.now in
