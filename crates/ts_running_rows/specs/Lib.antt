@@ -1,0 +1,5 @@
+pub mod Application
+pub mod ApplicationLaws
+pub mod Call
+pub mod Run
+pub mod RunLaws

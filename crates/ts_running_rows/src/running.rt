@@ -1,0 +1,63 @@
+// The running values of the elements of a series.
+ghost use Rattle.std.specs.Prelude.{◌<◌, ◌^◌, Ok, IfOk};
+ghost use Rattle.ts_space.specs.Place.{count_of};
+ghost use Rattle.ts_space.specs.Directory.{places_of};
+ghost use Rattle.ts_irregular.specs.Call.{Reads};
+ghost use Rattle.ts_clip.specs.Series.{IsLaidOut, ArePlaces, IsTold};
+ghost use Rattle.ts_aggregate.specs.Call.{AreHanded};
+ghost use Rattle.ts_running.specs.Rows.{running};
+ghost use Rattle.ts_running_rows.specs.Call.{rows_within};
+ghost use Rattle.ts_running_rows.specs.Run.{Begins};
+
+use crate::run::{MOST_ROWS, RunningRows};
+use std::alloc::Global;
+use ts_base::{Refusal, Stamp, StoreFault};
+use ts_clip::elements;
+use ts_entry::ElementVisitor;
+use ts_expr::BoundItem;
+use ts_offset::Shape;
+use ts_page::{Page, Pages};
+use ts_row::Shelf;
+use ts_running::Running;
+use ts_space::Space;
+
+/// Hands on a row for each element from one stamp to another, both included, that isn't hidden: at its stamp the sum or the
+/// mean of a column in it and those before it there, as many as an empty window has places. Tells how many rows they are;
+/// TooLarge where they are more than 1000000, and then some of them were handed on. The pages that have such elements are
+/// read, each once; all pages stay; `page` is room to read one.
+pub fn running_rows<P: Pages, V: ElementVisitor>(
+    alloc: Global,
+    pages: &mut P,
+    page: &mut Page,
+    space: &Space,
+    shelf: &Shelf,
+    shape: &Shape<'_>,
+    window: Running,
+    item: BoundItem,
+    from: Stamp,
+    to: Stamp,
+    visitor: &mut V,
+) -> Result<Result<u64, Refusal>, StoreFault>
+    requires slot { shelf.now.series < 4096 }
+    requires laid { IsLaidOut shape.now }
+    requires places { ArePlaces shape.now shelf.now.kind.now.columns (P.contents pages.old) (places_of shelf.now.series space.now) }
+    requires countable { count_of (places_of shelf.now.series space.now) < 2 ^ 32 }
+    requires begins { Begins window item }
+    ensures read { IfOk result (λ done. IsTold P.tells shape.now shelf.now.series shelf.now.kind.now.columns
+        (places_of shelf.now.series space.now) (P.contents pages.old)
+        (λ es. AreHanded (λ rows. V.took visitor.old rows visitor.new)
+        (rows_within (λ some. Ok (running item.function item.column window.size some)) from to es) done)) }
+    ensures call { Reads P.tells result (P.contents pages.old) (P.contents pages.new) }
+    ensures undisturbed { P.undisturbed pages.old pages.new }
+{
+    // There are as many as its places tell.
+    let _places = space.places(shelf.series);
+    let mut window = window;
+    let mut rows = RunningRows::new(alloc, &mut window, item, visitor);
+    elements(pages, page, space, shelf, shape, from, to, &mut rows)?;
+    let count = rows.count;
+    if count > MOST_ROWS {
+        return Ok(Err(Refusal::TooLarge { rows: count }));
+    }
+    Ok(Ok(count))
+}
