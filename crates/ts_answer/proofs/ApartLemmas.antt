@@ -1,5 +1,5 @@
 -- No reply of a routine is taken for the memory line.
-use Rattle.std.proofs.Common.{ℕ, ℤ, Bool, true, false, Ok, Err, List}
+use Rattle.std.proofs.Common.{ℕ, ℤ, true, false, Bool, Ok, Err, List}
 use Rattle.ts_pattern.specs.declared.junction.Junction.{Junction}
 use Rattle.ts_pattern.specs.declared.junction.Junction.TheVariants.{And, Or}
 use Rattle.ts_row.specs.declared.kind.Column.{Column}
@@ -11,13 +11,14 @@ use Rattle.ts_model.specs.declared.kind.Kind.{Kind}
 use Rattle.ts_model.specs.declared.kind.Kind.TheVariants as kinds
 use Rattle.ts_model.specs.Catalogue.{Catalogue}
 use Rattle.ts_command.specs.Script.{Request}
-use Rattle.ts_answer.specs.Answer.{Tried, Answered, ◌>>=◌, settled, outcome, answer, carried_out, create_row_type, drop_definition, create_pattern, turn_pattern, join_patterns, show_pattern, create_calendar, join_calendars, show_calendar, count_starts, find_start, list_starts, create_container, container_usage, create_irregular, create_regular, drop_series, list_series, put_element, put_no_dups, insert_element, update_element, delete_element, delete_range, mark_element, get_element, get_last_element, count_elements, get_first_element, get_nth_element, clip_series, count_clip, clip_counted, join_series, lag_series, aggregate_by, aggregate_range, aggregate_all}
+use Rattle.ts_answer.specs.Answer.{Tried, Answered, ◌>>=◌, settled, outcome, carried_out, create_row_type, drop_definition, create_pattern, turn_pattern, join_patterns, show_pattern, create_calendar, join_calendars, show_calendar, count_starts, find_start, list_starts, create_container, container_usage, create_irregular, create_regular, drop_series, list_series, put_element, put_no_dups, insert_element, update_element, delete_element, delete_range, mark_element, get_element, get_last_element, count_elements, get_first_element, get_nth_element, clip_series, count_clip, clip_counted, join_series, lag_series, aggregate_by, aggregate_range, aggregate_all, running_values, apply_exprs}
+use Rattle.ts_answer.specs.State.{State, run_outcome, run_answer}
+use Rattle.ts_answer.proofs.StateLemmas.{IsSaidSo, run_said}
 use Rattle.ts_answer.proofs.ReplyLemmas.{IsApart, Begins, apart-begins, ok-begins, count-begins, counts-begins, number-begins, stamp-begins, pattern-begins, calendar-begins, stamps-begin, elements-begin, entries-begin, series_text-begins, folded-begin, series_folded-begin, refusal-apart}
 
 -- what is said of a reply begins with another byte than the memory line
 abbrev Differs : Tried Answered → Type 0
-Differs (Ok answered) = Begins answered.0
-Differs (Err refusal) = Unit {0}
+Differs tried = IsSaidSo Begins tried
 
 then : {A : Type 0} (m : Tried A) (f : A → Tried Answered) → ((a : A) → Differs (f a)) → Differs (m >>= f)
 unfolding ◌>>=◌
@@ -176,6 +177,14 @@ aggregate_all-differs : (text container : List ℕ) (from to : ℤ) (cat : Catal
 unfolding aggregate_all
 aggregate_all-differs text container from to cat = then _ _ (λ a. then _ _ (λ c. then _ _ (λ b. series_folded-begin _ _)))
 
+running_values-differs : (function : _) (text key : List ℕ) (n : ℕ) (from to : ℤ) (cat : Catalogue) → Differs (running_values function text key n from to cat)
+unfolding running_values
+running_values-differs function text key n from to cat = then _ _ (λ column. then _ _ (λ series. then _ _ (λ b. then _ _ (λ es. folded-begin _ _))))
+
+apply_exprs-differs : (text key : List ℕ) (from to : ℤ) (cat : Catalogue) → Differs (apply_exprs text key from to cat)
+unfolding apply_exprs
+apply_exprs-differs text key from to cat = then _ _ (λ exprs. then _ _ (λ series. then _ _ (λ b. then _ _ (λ es. then _ _ (λ rows. folded-begin _ rows)))))
+
 carried_out-differs : (command : Command) (cat : Catalogue) → Differs (carried_out command cat)
 unfolding carried_out
 carried_out-differs (commands.CreateRowType name stamp columns) cat = create_row_type-differs name stamp columns cat
@@ -223,19 +232,25 @@ carried_out-differs (commands.Lag key by) cat = lag_series-differs key by cat
 carried_out-differs (commands.AggregateBy text calendar key from to) cat = aggregate_by-differs text calendar key from to cat
 carried_out-differs (commands.AggregateRange text key from to) cat = aggregate_range-differs text key from to cat
 carried_out-differs (commands.AggregateAll text container from to) cat = aggregate_all-differs text container from to cat
+carried_out-differs (commands.TSRunningSum text key span from to) cat = running_values-differs _ text key _ from to cat
+carried_out-differs (commands.TSRunningAvg text key span from to) cat = running_values-differs _ text key _ from to cat
+carried_out-differs (commands.Apply text key from to) cat = apply_exprs-differs text key from to cat
+carried_out-differs commands.Begin cat = ok-begins
+carried_out-differs commands.Commit cat = tt
+carried_out-differs commands.Rollback cat = tt
 
 outcome-differs : (request : Request) (cat : Catalogue) → Differs (outcome request cat)
 unfolding outcome
 outcome-differs (Ok command) cat = carried_out-differs command cat
 outcome-differs (Err refusal) cat = tt
 
-settled-apart : (cat : Catalogue) (t : Tried Answered) → Differs t → IsApart (settled cat t).0
-settled-apart cat (Ok answered) differs = apart-begins answered.0 differs
-settled-apart cat (Err refusal) differs = refusal-apart refusal
+settled-apart : (state : State) (t : Tried (List ℕ × State)) → IsSaidSo Begins t → IsApart (settled state t).0
+settled-apart state (Ok stepped) differs = apart-begins stepped.0 differs
+settled-apart state (Err refusal) differs = refusal-apart refusal
 
-answer-apart : (cat : Catalogue) (request : Request) → IsApart (answer cat request).0
-unfolding answer
-answer-apart cat request = settled-apart cat (outcome request cat) (outcome-differs request cat)
+run-apart : (state : State) (request : Request) → IsApart (run_answer state request).0
+unfolding run_answer
+run-apart state request = settled-apart state (run_outcome request state) (run_said Begins ok-begins number-begins request state (outcome-differs request))
 
-pub apart : AreApart answer
-apart = record { memory = λ cat request x. (answer-apart cat request).memory x; reply = λ cat request. (answer-apart cat request).reply }
+pub apart : AreApart run_answer
+apart = record { memory = λ state request x. (run-apart state request).memory x; reply = λ state request. (run-apart state request).reply }

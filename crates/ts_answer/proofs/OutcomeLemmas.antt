@@ -8,16 +8,16 @@ use Rattle.ts_command.specs.declared.command.Command.TheVariants as commands
 use Rattle.ts_model.specs.declared.kind.Kind.{Kind}
 use Rattle.ts_model.specs.declared.kind.Kind.TheVariants as kinds
 use Rattle.ts_model.specs.Catalogue.{Catalogue}
-use Rattle.ts_answer.specs.Answer.{Tried, Answered, ◌>>=◌, settled, outcome, answer, carried_out, create_row_type, drop_definition, create_pattern, turn_pattern, join_patterns, show_pattern, create_calendar, join_calendars, show_calendar, count_starts, find_start, list_starts, create_container, container_usage, create_irregular, create_regular, drop_series, list_series, put_element, put_no_dups, insert_element, update_element, delete_element, delete_range, mark_element, get_element, get_last_element, count_elements, get_first_element, get_nth_element, clip_series, count_clip, clip_counted, join_series, lag_series, aggregate_by, aggregate_range, aggregate_all}
+use Rattle.ts_answer.specs.Answer.{Tried, Answered, ◌>>=◌, settled, outcome, carried_out, create_row_type, drop_definition, create_pattern, turn_pattern, join_patterns, show_pattern, create_calendar, join_calendars, show_calendar, count_starts, find_start, list_starts, create_container, container_usage, create_irregular, create_regular, drop_series, list_series, put_element, put_no_dups, insert_element, update_element, delete_element, delete_range, mark_element, get_element, get_last_element, count_elements, get_first_element, get_nth_element, clip_series, count_clip, clip_counted, join_series, lag_series, aggregate_by, aggregate_range, aggregate_all, running_values, apply_exprs}
 use Rattle.ts_answer.specs.Reply.{pattern_lines, calendar_lines}
 use Rattle.ts_answer.proofs.LineLemmas.{EndsOk, ok-ends, count-ends, counts-ends, number-ends, stamp-ends, above-ends, stamps-end, elements-end, entries-end, series_text-ends, folded-end, series_folded-end, refusal-not}
-use Rattle.ts_answer.specs.State.{State, run_answer, replies}
+use Rattle.ts_answer.specs.State.{State, run_outcome, run_answer, replies}
 use Rattle.ts_answer.specs.Outcomes.{ends_with_ok, is_answered, are_answered, OkLinesAreAnswers, CountsAreOfOutcomes}
+use Rattle.ts_answer.proofs.StateLemmas.{IsSaidSo, run_said}
 
 -- a reply ends with an `ok` line
 abbrev Ends : Tried Answered → Type 0
-Ends (Ok answered) = EndsOk answered.0
-Ends (Err refusal) = Unit {0}
+Ends tried = IsSaidSo EndsOk tried
 
 then : {A : Type 0} (m : Tried A) (f : A → Tried Answered) → ((a : A) → Ends (f a)) → Ends (m >>= f)
 unfolding ◌>>=◌
@@ -182,6 +182,16 @@ aggregate_all-ends : (text container : List ℕ) (from to : ℤ) (cat : Catalogu
 unfolding aggregate_all
 aggregate_all-ends text container from to cat = then _ _ (λ a. then _ _ (λ c. then _ _ (λ b. series_folded-end _ _)))
 
+running_values-ends : (function : _) (text key : List ℕ) (n : ℕ) (from to : ℤ) (cat : Catalogue) → Ends (running_values function text key n from to cat)
+unfolding running_values
+running_values-ends function text key n from to cat =
+    then _ _ (λ column. then _ _ (λ series. then _ _ (λ b. then _ _ (λ es. folded-end _ _))))
+
+apply_exprs-ends : (text key : List ℕ) (from to : ℤ) (cat : Catalogue) → Ends (apply_exprs text key from to cat)
+unfolding apply_exprs
+apply_exprs-ends text key from to cat =
+    then _ _ (λ exprs. then _ _ (λ series. then _ _ (λ b. then _ _ (λ es. then _ _ (λ rows. folded-end _ rows)))))
+
 carried_out-ends : (command : Command) (cat : Catalogue) → Ends (carried_out command cat)
 unfolding carried_out
 carried_out-ends (commands.CreateRowType name stamp columns) cat = create_row_type-ends name stamp columns cat
@@ -229,20 +239,27 @@ carried_out-ends (commands.Lag key by) cat = lag_series-ends key by cat
 carried_out-ends (commands.AggregateBy text calendar key from to) cat = aggregate_by-ends text calendar key from to cat
 carried_out-ends (commands.AggregateRange text key from to) cat = aggregate_range-ends text key from to cat
 carried_out-ends (commands.AggregateAll text container from to) cat = aggregate_all-ends text container from to cat
+carried_out-ends (commands.TSRunningSum text key span from to) cat = running_values-ends _ text key _ from to cat
+carried_out-ends (commands.TSRunningAvg text key span from to) cat = running_values-ends _ text key _ from to cat
+carried_out-ends (commands.Apply text key from to) cat = apply_exprs-ends text key from to cat
+carried_out-ends commands.Begin cat = ok-ends
+carried_out-ends commands.Commit cat = tt
+carried_out-ends commands.Rollback cat = tt
 
 -- what was tried, and the reply to it
-settled-ends : (cat : Catalogue) (t : Tried Answered) → Ends t
-    → ends_with_ok (settled cat t).0 ≡ elim t [ Ok answered ↦ true | Err refusal ↦ false ]
-settled-ends cat (Ok answered) ends = ends.yes
-settled-ends cat (Err refusal) ends = refusal-not refusal
+settled-ends : (state : State) (t : Tried (List ℕ × State)) → IsSaidSo EndsOk t
+    → ends_with_ok (settled state t).0 ≡ elim t [ Ok stepped ↦ true | Err refusal ↦ false ]
+settled-ends state (Ok stepped) ends = ends.yes
+settled-ends state (Err refusal) ends = refusal-not refusal
 
 outcome-ends : (command : Command) (cat : Catalogue) → Ends (outcome (Ok command) cat)
 unfolding outcome
 outcome-ends command cat = carried_out-ends command cat
 
 pub ok_lines_are_answers : OkLinesAreAnswers
-unfolding answer
-ok_lines_are_answers state command = settled-ends state (outcome (Ok command) state) (outcome-ends command state)
+unfolding run_answer
+ok_lines_are_answers state command =
+    settled-ends state (run_outcome (Ok command) state) (run_said EndsOk ok-ends number-ends (Ok command) state (outcome-ends command))
 
 -- the same of all replies, where so many were counted before
 counted : (test : Bool → Bool) (state : State) (commands : List Command) (n : ℕ)

@@ -2,8 +2,7 @@
 use Rattle.std.specs.Prelude.{◌≡◌, ℕ, ◌==◌, ◌&&◌, Bool, true, false, not, if◌then◌else◌, List, [], ◌∷◌, length, codes, Ok, Err, nat_eq}
 use Rattle.std.specs.List.{count_by, starts_with}
 use Rattle.ts_command.specs.declared.command.Command.{Command}
-use Rattle.ts_answer.specs.Answer.{outcome}
-use Rattle.ts_answer.specs.State.{State, committed, run_answer, replies}
+use Rattle.ts_answer.specs.State.{State, run_outcome, run_answer, replies}
 
 -- the last line of a text, where this line was reached: behind a line feed the next begins, if anything stands there
 abbrev pub last_line_from : List ℕ → List ℕ → List ℕ
@@ -19,7 +18,7 @@ ends_with_ok reply = starts_with nat_eq (last_line reply) (codes "ok")
 
 -- a command comes to an answer, and not to a refusal
 abbrev pub is_answered : State → Command → Bool
-is_answered state command = elim (outcome (Ok command) (committed state)) [ Ok answered ↦ true | Err refusal ↦ false ]
+is_answered state command = elim (run_outcome (Ok command) state) [ Ok answered ↦ true | Err refusal ↦ false ]
 
 -- a reply ends with an `ok` line exactly where its command isn't refused
 abbrev pub OkLinesAreAnswers : Type 0

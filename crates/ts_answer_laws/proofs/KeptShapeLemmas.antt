@@ -7,7 +7,7 @@ use Rattle.ts_model.specs.declared.kind.Kind.{Kind}
 use Rattle.ts_model.specs.declared.kind.Kind.TheVariants as kinds
 use Rattle.ts_model.specs.Catalogue.{Catalogue}
 use Rattle.ts_model.specs.Kinds.{is_used}
-use Rattle.ts_answer.specs.Answer.{Answered, Tried, ◌>>=◌, settled, outcome, answer, carried_out, create_row_type, drop_definition, create_pattern, turn_pattern, join_patterns, show_pattern, create_calendar, join_calendars, show_calendar, count_starts, find_start, list_starts, create_container, container_usage, create_irregular, create_regular, drop_series, list_series, put_element, put_no_dups, insert_element, update_element, delete_element, delete_range, mark_element, get_element, get_last_element, count_elements, get_first_element, get_nth_element, clip_series, count_clip, clip_counted, join_series, lag_series, aggregate_by, aggregate_range, aggregate_all}
+use Rattle.ts_answer.specs.Answer.{Answered, Tried, ◌>>=◌, settled, outcome, answer, carried_out, create_row_type, drop_definition, create_pattern, turn_pattern, join_patterns, show_pattern, create_calendar, join_calendars, show_calendar, count_starts, find_start, list_starts, create_container, container_usage, create_irregular, create_regular, drop_series, list_series, put_element, put_no_dups, insert_element, update_element, delete_element, delete_range, mark_element, get_element, get_last_element, count_elements, get_first_element, get_nth_element, clip_series, count_clip, clip_counted, join_series, lag_series, aggregate_by, aggregate_range, aggregate_all, running_values, apply_exprs}
 use Rattle.ts_answer_laws.specs.SeriesLaws.{SeriesKeepTheirShapes}
 use Rattle.ts_answer_laws.proofs.ShapeLemmas.{Keeps, not_so, shapes_stay, whole, edited, made, dropped}
 
@@ -32,7 +32,7 @@ module _ (cat : Catalogue) where
   idle_goes kind name = tries _ _ (λ there a. tries _ _ (λ done b. dropped cat kind name (not_so (is_used kind name cat) refusals.InUse done b)))
 
   each : (command : Command) → Tries (carried_out command cat)
-  unfolding Tries carried_out create_row_type create_pattern turn_pattern join_patterns show_pattern create_calendar join_calendars show_calendar count_starts find_start list_starts create_container container_usage create_irregular create_regular drop_series list_series put_element put_no_dups insert_element update_element delete_element delete_range mark_element get_element get_last_element count_elements get_first_element get_nth_element clip_series count_clip clip_counted join_series lag_series aggregate_by aggregate_range aggregate_all
+  unfolding Tries carried_out create_row_type create_pattern turn_pattern join_patterns show_pattern create_calendar join_calendars show_calendar count_starts find_start list_starts create_container container_usage create_irregular create_regular drop_series list_series put_element put_no_dups insert_element update_element delete_element delete_range mark_element get_element get_last_element count_elements get_first_element get_nth_element clip_series count_clip clip_counted join_series lag_series aggregate_by aggregate_range aggregate_all running_values apply_exprs
   each (commands.CreateRowType name stamp columns) = tries _ _ (λ good a. tries _ _ (λ has b. tries _ _ (made cat kinds.RowType name _)))
   each (commands.DropRowType name) = idle_goes kinds.RowType name
   each (commands.CreatePattern name text) = tries _ _ (λ pattern a. tries _ _ (made cat kinds.Pattern name _))
@@ -78,6 +78,12 @@ module _ (cat : Catalogue) where
   each (commands.AggregateBy text calendar key from to) = tries _ _ (λ items a. tries _ _ (λ plan b. tries _ _ (λ series c. tries _ _ (λ bound d. tries _ _ (λ rows e. whole cat)))))
   each (commands.AggregateRange text key from to) = tries _ _ (λ items a. tries _ _ (λ series b. tries _ _ (λ bound c. whole cat)))
   each (commands.AggregateAll text container from to) = tries _ _ (λ items a. tries _ _ (λ there b. tries _ _ (λ bound c. whole cat)))
+  each (commands.TSRunningSum text key span from to) = tries _ _ (λ column a. tries _ _ (λ series b. tries _ _ (λ bound c. tries _ _ (λ es d. whole cat))))
+  each (commands.TSRunningAvg text key span from to) = tries _ _ (λ column a. tries _ _ (λ series b. tries _ _ (λ bound c. tries _ _ (λ es d. whole cat))))
+  each (commands.Apply text key from to) = tries _ _ (λ exprs a. tries _ _ (λ series b. tries _ _ (λ bound c. tries _ _ (λ es d. tries _ _ (λ rows e. whole cat)))))
+  each commands.Begin = whole cat
+  each commands.Commit = tt
+  each commands.Rollback = tt
 
 pub shapes_kept : SeriesKeepTheirShapes
 unfolding answer outcome

@@ -19,5 +19,6 @@ mod ReadingLemmas
 mod RowLemmas
 mod SeenLemmas
 mod ShapeLemmas
+mod TransactionLemmas
 mod UsedLemmas
 mod WrittenLemmas

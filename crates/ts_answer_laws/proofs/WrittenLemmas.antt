@@ -10,7 +10,7 @@ use Rattle.ts_model.specs.declared.kind.Kind.TheVariants as kinds
 use Rattle.ts_model.specs.Catalogue.{name_cmp, Named, Catalogue}
 use Rattle.ts_model.proofs.OrderLemmas.{total, ties-same}
 use Rattle.ts_model.specs.Kinds.{In, named}
-use Rattle.ts_answer.specs.Answer.{Answered, Tried, ◌>>=◌, settled, outcome, answer, carried_out, create_row_type, drop_definition, create_pattern, turn_pattern, join_patterns, show_pattern, create_calendar, join_calendars, show_calendar, count_starts, find_start, list_starts, create_container, container_usage, create_irregular, create_regular, drop_series, list_series, put_element, put_no_dups, insert_element, update_element, delete_element, delete_range, mark_element, get_element, get_last_element, count_elements, get_first_element, get_nth_element, clip_series, count_clip, clip_counted, join_series, lag_series, aggregate_by, aggregate_range, aggregate_all}
+use Rattle.ts_answer.specs.Answer.{Answered, Tried, ◌>>=◌, settled, outcome, answer, carried_out, create_row_type, drop_definition, create_pattern, turn_pattern, join_patterns, show_pattern, create_calendar, join_calendars, show_calendar, count_starts, find_start, list_starts, create_container, container_usage, create_irregular, create_regular, drop_series, list_series, put_element, put_no_dups, insert_element, update_element, delete_element, delete_range, mark_element, get_element, get_last_element, count_elements, get_first_element, get_nth_element, clip_series, count_clip, clip_counted, join_series, lag_series, aggregate_by, aggregate_range, aggregate_all, running_values, apply_exprs}
 use Rattle.ts_answer_laws.specs.Objects.{Object, objects, StaysBut}
 
 -- a map with another value under one name, or none
@@ -88,7 +88,7 @@ module _ (cat : Catalogue) where
   settles wrote (Err refusal) stays = stays_whole wrote
 
   each : (command : Command) → Tries (objects command).wrote (carried_out command cat)
-  unfolding Tries carried_out create_row_type drop_definition create_pattern turn_pattern join_patterns show_pattern create_calendar join_calendars show_calendar count_starts find_start list_starts create_container container_usage create_irregular create_regular drop_series list_series put_element put_no_dups insert_element update_element delete_element delete_range mark_element get_element get_last_element count_elements get_first_element get_nth_element clip_series count_clip clip_counted join_series lag_series aggregate_by aggregate_range aggregate_all
+  unfolding Tries carried_out create_row_type drop_definition create_pattern turn_pattern join_patterns show_pattern create_calendar join_calendars show_calendar count_starts find_start list_starts create_container container_usage create_irregular create_regular drop_series list_series put_element put_no_dups insert_element update_element delete_element delete_range mark_element get_element get_last_element count_elements get_first_element get_nth_element clip_series count_clip clip_counted join_series lag_series aggregate_by aggregate_range aggregate_all running_values apply_exprs
   each (commands.CreateRowType name stamp columns) = tries _ _ _ (λ good. tries _ _ _ (λ has. tries _ _ _ (λ new. made kinds.RowType name _)))
   each (commands.DropRowType name) = tries _ _ _ (λ there. tries _ _ _ (λ idle. dropped kinds.RowType name))
   each (commands.CreatePattern name text) = tries _ _ _ (λ pattern. tries _ _ _ (λ new. made kinds.Pattern name _))
@@ -134,6 +134,12 @@ module _ (cat : Catalogue) where
   each (commands.AggregateBy text calendar key from to) = tries _ _ _ (λ items. tries _ _ _ (λ plan. tries _ _ _ (λ series. tries _ _ _ (λ b. tries _ _ _ (λ rows. stays_whole [])))))
   each (commands.AggregateRange text key from to) = tries _ _ _ (λ items. tries _ _ _ (λ series. tries _ _ _ (λ b. stays_whole [])))
   each (commands.AggregateAll text container from to) = tries _ _ _ (λ items. tries _ _ _ (λ there. tries _ _ _ (λ b. stays_whole [])))
+  each (commands.TSRunningSum text key span from to) = tries _ _ _ (λ column. tries _ _ _ (λ series. tries _ _ _ (λ b. tries _ _ _ (λ es. stays_whole []))))
+  each (commands.TSRunningAvg text key span from to) = tries _ _ _ (λ column. tries _ _ _ (λ series. tries _ _ _ (λ b. tries _ _ _ (λ es. stays_whole []))))
+  each (commands.Apply text key from to) = tries _ _ _ (λ exprs. tries _ _ _ (λ series. tries _ _ _ (λ b. tries _ _ _ (λ es. tries _ _ _ (λ rows. stays_whole [])))))
+  each commands.Begin = stays_whole []
+  each commands.Commit = tt
+  each commands.Rollback = tt
 
   pub written_alone : (command : Command) → StaysBut (objects command).wrote cat (answer cat (Ok command)).1
   unfolding answer outcome

@@ -4,3 +4,4 @@ pub mod Laws
 pub mod Objects
 pub mod ReadingLaws
 pub mod SeriesLaws
+pub mod TransactionLaws

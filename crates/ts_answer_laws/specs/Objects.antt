@@ -46,6 +46,10 @@ abbrev pub pattern_named : Result CalendarText Refusal → List Object
 pattern_named (Ok text) = named_part text.part
 pattern_named (Err refusal) = []
 
+-- a command that opens or ends a transaction writes no object of its own
+abbrev nothing : Touched
+nothing = record { wrote = []; named = [] }
+
 abbrev pub objects : Command → Touched
 objects (commands.CreateRowType name stamp columns) = writes kinds.RowType name
 objects (commands.DropRowType name) = writes kinds.RowType name
@@ -92,6 +96,12 @@ objects (commands.Lag key by) = reads kinds.Series key
 objects (commands.AggregateBy text calendar key from to) = record { wrote = []; named = (kinds.Calendar, calendar) ∷ (kinds.Series, key) ∷ [] }
 objects (commands.AggregateRange text key from to) = reads kinds.Series key
 objects (commands.AggregateAll text container from to) = reads kinds.Container container
+objects (commands.TSRunningSum text key span from to) = reads kinds.Series key
+objects (commands.TSRunningAvg text key span from to) = reads kinds.Series key
+objects (commands.Apply text key from to) = reads kinds.Series key
+objects commands.Begin = nothing
+objects commands.Commit = nothing
+objects commands.Rollback = nothing
 
 -- the catalogue after has the same format and as many pages, and the same under the name of each object but these
 pub record StaysBut (wrote : List Object) (cat after : Catalogue) : Type 0 where

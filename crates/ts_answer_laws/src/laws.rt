@@ -1,12 +1,12 @@
 ghost use Rattle.ts_replies.specs.Acknowledged.{AreApart};
-ghost use Rattle.ts_answer.specs.Answer.{answer};
+ghost use Rattle.ts_answer.specs.State.{run_answer};
 ghost use Rattle.ts_answer_laws.specs.Laws.{RefusalsChangeNothing, ReadingsChangeNothing, OthersStay, MadeCalendarsAreValid, UsedPatternsStay, CommandsFitOneRecord, LinesArePrintedSo};
 ghost use Rattle.ts_answer_laws.specs.SeriesLaws.{PutsAdd, PutsStandAtAddresses, DeletionsTakeAway, StampsAddressIntervals, OriginsAreOnStarts, UsedCalendarsStay, SeriesKeepTheirShapes};
 
-/// No reply begins with the memory line, nor the memory line with a reply, and no reply is empty: so what was said
-/// determines the catalogue.
+/// At no state does a reply begin with the memory line, nor the memory line with a reply, and no reply is empty: so what was said
+/// determines the state.
 pub fn replies_and_the_memory_line_are_apart()
-    ensures { AreApart answer }
+    ensures { AreApart run_answer }
 {}
 
 /// A request that is refused is answered by the line of its refusal, and changes nothing.

@@ -16,4 +16,5 @@ pub mod ContentLemmas
 pub mod ElementLemmas
 pub mod VerdictLemmas
 pub mod RoomLemmas
+pub mod ChargedLemmas
 pub mod KeptChargeLemmas

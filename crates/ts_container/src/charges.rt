@@ -3,28 +3,13 @@ ghost use Rattle.std.specs.Prelude.{◌≡◌, ◌≤◌, ◌<◌, ◌^◌, ◌�
 ghost use Rattle.ts_model.specs.Definitions.{container_slots, series_slots, at_slot, IsDefinitions};
 ghost use Rattle.ts_space.specs.Directory.{places_of};
 ghost use Rattle.ts_layout.specs.Meaning.{KeepLimits};
-ghost use Rattle.ts_layout.specs.Charges.{IsCountable, AreCountable, places_charge, charge_listed, container_charge, charge_in, KeepsQuotaAt, KeepQuotas};
+ghost use Rattle.ts_layout.specs.Charges.{IsCountable, AreCountable, places_charge, charge_listed, container_charge, KeepsQuotaAt, KeepQuotas};
 
 use crate::content::row_type_in;
 use ts_base::Stamp;
 use ts_cells::page_room;
 use ts_model::{Def, Defs, Kind};
 use ts_space::{Space, charge_irregular};
-
-/// What all series of the container in a slot are charged together; nothing where there is none.
-pub(crate) fn charge_of_container(defs: &Defs, space: &Space, slot: u8) -> u64
-    requires slot { slot < container_slots }
-    requires limits { KeepLimits defs.now.definitions }
-    requires rules { IsDefinitions defs.now.definitions }
-    requires countable { AreCountable space.now }
-    ensures value { result ≡ charge_in defs.now.definitions space.now slot }
-    ensures bound { result ≤ 2 ^ 45 }
-{
-    match row_type_in(defs, slot) {
-        Some(kind) => charge_of(defs, space, slot, page_room(kind)),
-        None => 0,
-    }
-}
 
 /// Whether no container is charged more than its quota.
 pub(crate) fn keep_quotas(defs: &Defs, space: &Space) -> bool

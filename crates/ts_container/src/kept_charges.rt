@@ -5,13 +5,15 @@ ghost use Rattle.ts_space.specs.Directory.{Directory, places_of};
 ghost use Rattle.ts_cells.specs.Cell.{page_room};
 ghost use Rattle.ts_model.specs.Definitions.{Definitions, SeriesDef, container_slots, series_slots, at_slot, with_format, IsDefinitions};
 ghost use Rattle.ts_layout.specs.Meaning.{KeepLimits, heading_in};
-ghost use Rattle.ts_layout.specs.Charges.{AreCountable, places_charge};
-ghost use Rattle.ts_container.specs.KeptCharges.{AreCharges, IsCharged, with_charge};
+ghost use Rattle.ts_layout.specs.Charges.{IsCountable, AreCountable, places_charge};
+ghost use Rattle.ts_container.specs.KeptCharges.{AreCharges, IsCharged, charged_to, with_charge};
 
-use crate::charges::charge_of_container;
+use crate::charges::charge_of_places;
+use crate::content::row_type_in;
 use std::alloc::{AllocError, Global};
 use std::marker::Model;
-use ts_model::Defs;
+use ts_cells::page_room;
+use ts_model::{Def, Defs, Kind};
 use ts_space::Space;
 
 const SLOTS: usize = 64;
@@ -54,15 +56,17 @@ impl Charges {
         self.sums[slot as usize]
     }
 
-    /// Counts anew what every container is charged, as is needed where a definition comes or goes. It takes no memory.
+    /// Counts anew what every container is charged, as is needed where a definition comes or goes: each series is read
+    /// once. It takes no memory.
     pub fn count(&mut self, defs: &Defs, space: &Space)
         requires limits { KeepLimits defs.now.definitions }
         requires rules { IsDefinitions defs.now.definitions }
         requires countable { AreCountable space.now }
         ensures { AreCharges self.new defs.now.definitions space.now }
     {
-        for slot in 0..64 {
-            self.sums[slot as usize] = charge_of_container(defs, space, slot);
+        self.clear();
+        for slot in defs.in_order(Kind::Series) {
+            self.add(defs, space, *slot);
         }
     }
 
@@ -75,6 +79,42 @@ impl Charges {
     {
         let sum = self.sums[slot as usize];
         self.sums[slot as usize] = sum + new - old;
+    }
+
+    // Nothing is charged to any container any more.
+    fn clear(&mut self)
+        ensures { (container : ℕ) → slice_index self.new container ≡ 0 }
+    {
+        for container in 0..SLOTS {
+            self.sums[container] = 0;
+        }
+    }
+
+    // Adds what the series in a slot is charged to the sum of its container.
+    fn add(&mut self, defs: &Defs, space: &Space, slot: u16)
+        requires slot { slot < series_slots }
+        requires limits { KeepLimits defs.now.definitions }
+        requires countable { IsCountable (places_of slot space.now) }
+        requires room { (container : ℕ) → slice_index self.old container < 2 ^ 63 }
+        ensures added { (container : ℕ) → container < container_slots → slice_index self.new container ≡ slice_index self.old container + charged_to defs.now.definitions space.now container slot }
+        ensures bound { (container : ℕ) → slice_index self.new container ≤ slice_index self.old container + 2 ^ 33 }
+    {
+        let Some(
+            Def::Series {
+                container,
+                regular,
+                ..
+            },
+        ) = defs.get(Kind::Series, slot)
+        else {
+            return;
+        };
+        let Some(kind) = row_type_in(defs, *container) else {
+            return;
+        };
+        let charge = charge_of_places(space, *regular, slot, page_room(kind));
+        let sum = self.sums[*container as usize];
+        self.sums[*container as usize] = sum + charge;
     }
 }
 

@@ -6,12 +6,10 @@ use Rattle.ts_base.specs.declared.fault.StoreFault.TheVariants.{Failed as StoreF
 use Rattle.ts_disk.specs.Device.{Device, Lawful, Rose, LeavesOnly}
 use Rattle.ts_disk.proofs.Moments.{started, then_on, leaves_map}
 use Rattle.ts_page.specs.Pages.{Contents, SameButFreed}
-use Rattle.ts_page.proofs.PagesLemmas.{lawful_same}
-use Rattle.ts_journal.specs.Entry.{over}
-use Rattle.ts_journal.specs.Journal.{own_page, pages, ReadsButFreed}
+use Rattle.ts_journal.specs.Journal.{pages, ReadsButFreed}
 use Rattle.ts_journal.specs.Moment.{Keeps, OnlyReads}
-use Rattle.ts_store.proofs.CallerLemmas.{keeps_refl, keeps_then, reads_then, reads_none, read_closed, same_but_freed, over_still, idle_dropped, read_dropped, read_committed}
-use Rattle.ts_store.specs.OpenBatch.{State, AreInPlace, IsOver, IsIdle, Closes, BeforeOrRead, read_pages, contents_over}
+use Rattle.ts_store.proofs.CallerLemmas.{keeps_refl, keeps_then, reads_then, reads_none, read_closed, same_but_freed, read_committed, closed_committed}
+use Rattle.ts_store.specs.OpenBatch.{State, AreInPlace, IsOver, IsIdle, IsClosed, Closes, BeforeOrRead, read_pages, contents_over}
 use Rattle.ts_store.specs.Undisturbed.{Undisturbed}
 use Rattle.ts_engine.specs.declared.fault.StepFault.{StepFault}
 use Rattle.ts_engine.specs.declared.fault.StepFault.TheVariants.{Disk, Memory, Closed}
@@ -39,20 +37,22 @@ module _ (tells : Bool) (e f : Kept) (v w : Device) (before : IsOver tells e.sto
         now.1,
       )) (moments told)
 
-  pub committed : (tables : f.tables ≡ e.tables) → (space : f.space ≡ e.space) → (charges : f.charges ≡ e.charges) → (spent : f.spent ≡ e.spent) → Closes e.store f.store → IsOver tells f.store w
+  pub committed : (tables : f.tables ≡ e.tables) → (space : f.space ≡ e.space) → (charges : f.charges ≡ e.charges) → (saved : f.saved ≡ e.saved) → (spent : f.spent ≡ e.spent) → Closes e.store f.store → IsOver tells f.store w
       → (IsTrue tells → ReadsButFreed v.size e.store.overlay (read_pages e.store v.held) w.held) → w.faults ≡ v.faults → Finished tells (Ok tt) (Ok tt) e f v w
-  committed tables space charges spent closes over reads no_fault = record {
+  committed tables space charges saved spent closes over reads no_fault = record {
     tables = tables;
     space = space;
     charges = charges;
+    saved = saved;
     done = refl;
     over = over;
     count = closes.pages;
     batch = closes.batch;
     free = closes.free;
     kept_free = closes.kept_free;
+    closed = closed_committed e.store f.store closes;
     spent = spent;
-    alike = λ told. read_committed tells told e.store f.store v w before closes.batch over (reads told);
+    alike = λ told. read_committed tells told e.store f.store v w before closes.transaction closes.batch over (reads told);
     fault = tt;
     tried = inr refl;
     moments = finish_moments;
@@ -60,17 +60,19 @@ module _ (tells : Bool) (e f : Kept) (v w : Device) (before : IsOver tells e.sto
     no_fault = no_fault;
   }
 
-  pub uncommitted : (tables : f.tables ≡ e.tables) → (space : f.space ≡ e.space) → (charges : f.charges ≡ e.charges) → (spent : f.spent ≡ Some w.faults) → Rose v.faults w.faults → Finished tells (Ok tt) (Err Disk) e f v w
-  uncommitted tables space charges spent rose = record {
+  pub uncommitted : (tables : f.tables ≡ e.tables) → (space : f.space ≡ e.space) → (charges : f.charges ≡ e.charges) → (saved : f.saved ≡ e.saved) → (spent : f.spent ≡ Some w.faults) → Rose v.faults w.faults → Finished tells (Ok tt) (Err Disk) e f v w
+  uncommitted tables space charges saved spent rose = record {
     tables = tables;
     space = space;
     charges = charges;
+    saved = saved;
     done = tt;
     over = tt;
     count = tt;
     batch = tt;
     free = tt;
     kept_free = tt;
+    closed = tt;
     spent = tt;
     alike = tt;
     fault = (inl rose, spent, keeps.faults);
@@ -90,18 +92,20 @@ not_failed : (r : Result Unit StoreFault) → IsOk r → r ≡ Err StoreFailed �
 not_failed r ok failed = cc
 
 -- taking memory before changes nothing
-module _ (tells : Bool) (worked : Result Unit StoreFault) (done : IsOk worked) (e g f : Kept) (v w : Device) (is : g ≡ record e { store = record e.store { spare = g.store.spare } }) where
-  same_finish : (result : Result Unit StepFault) → Finished tells (Ok tt) result (record e { store = record e.store { spare = g.store.spare } }) f v w → Finished tells (Ok tt) result e f v w
+module _ (tells : Bool) (worked : Result Unit StoreFault) (done : IsOk worked) (e g f : Kept) (v w : Device) (is : g ≡ record e { store = record e.store { spare = g.store.spare; join_spare = g.store.join_spare } }) where
+  same_finish : (result : Result Unit StepFault) → Finished tells (Ok tt) result (record e { store = record e.store { spare = g.store.spare; join_spare = g.store.join_spare } }) f v w → Finished tells (Ok tt) result e f v w
   same_finish (Ok done) x = record {
     tables = x.tables;
     space = x.space;
     charges = x.charges;
+    saved = x.saved;
     done = x.done;
     over = x.over;
     count = x.count;
     batch = x.batch;
     free = x.free;
     kept_free = x.kept_free;
+    closed = x.closed;
     spent = x.spent;
     alike = x.alike;
     fault = tt;
@@ -114,12 +118,14 @@ module _ (tells : Bool) (worked : Result Unit StoreFault) (done : IsOk worked) (
     tables = x.tables;
     space = x.space;
     charges = x.charges;
+    saved = x.saved;
     done = tt;
     over = tt;
     count = tt;
     batch = tt;
     free = tt;
     kept_free = tt;
+    closed = tt;
     spent = tt;
     alike = tt;
     fault = x.fault;
@@ -132,15 +138,17 @@ module _ (tells : Bool) (worked : Result Unit StoreFault) (done : IsOk worked) (
     tables = x.tables;
     space = x.space;
     charges = x.charges;
+    saved = x.saved;
     done = tt;
     over = tt;
     count = tt;
     batch = tt;
     free = tt;
     kept_free = tt;
+    closed = tt;
     spent = tt;
     alike = tt;
-    fault = (record { pages = x.fault.0.pages; journal = x.fault.0.journal; overlay = x.fault.0.overlay; batch = x.fault.0.batch; free = x.fault.0.free; kept_free = x.fault.0.kept_free; cache = x.fault.0.cache; spent = x.fault.0.spent; reads = x.fault.0.reads; no_fault = x.fault.0.no_fault }, x.fault.1);
+    fault = (record { pages = x.fault.0.pages; journal = x.fault.0.journal; overlay = x.fault.0.overlay; transaction = x.fault.0.transaction; batch = x.fault.0.batch; free = x.fault.0.free; kept_free = x.fault.0.kept_free; base_free = x.fault.0.base_free; cache = x.fault.0.cache; spent = x.fault.0.spent; reads = x.fault.0.reads; no_fault = x.fault.0.no_fault }, x.fault.1);
     tried = x.tried;
     moments = x.moments;
     others = x.others;
@@ -163,18 +171,20 @@ before_finish tells worked s v lawful over told =
     (λ image now. (inl (subst (ReadsAlike v.size (pages v.held)) (sym (over.settled image now)) (alike_held tells told s v lawful over)), refl))
 
 -- a batch that isn't committed, as the disk failed in its work or there was no memory
-module _ (tells : Bool) (worked : Result Unit StoreFault) (e g f : Kept) (v : Device) (lawful : Lawful tells v) (before : IsOver tells e.store v) (is : g ≡ record e { store = record e.store { spare = g.store.spare } }) where
+module _ (tells : Bool) (worked : Result Unit StoreFault) (e g f : Kept) (v : Device) (lawful : Lawful tells v) (before : IsOver tells e.store v) (is : g ≡ record e { store = record e.store { spare = g.store.spare; join_spare = g.store.join_spare } }) where
   pub unworked : worked ≡ Err StoreFailed → f ≡ record g { spent = Some v.faults } → Finished tells worked (Err Disk) e f v v
   unworked failed spent = record {
     tables = ap (λ (x : Kept). x.tables) spent ∙ ap (λ (x : Kept). x.tables) is;
     space = ap (λ (x : Kept). x.space) spent ∙ ap (λ (x : Kept). x.space) is;
     charges = ap (λ (x : Kept). x.charges) spent ∙ ap (λ (x : Kept). x.charges) is;
+    saved = ap (λ (x : Kept). x.saved) spent ∙ ap (λ (x : Kept). x.saved) is;
     done = tt;
     over = tt;
     count = tt;
     batch = tt;
     free = tt;
     kept_free = tt;
+    closed = tt;
     spent = tt;
     alike = tt;
     fault = (inr failed, ap (λ (x : Kept). x.spent) spent, omega arith);
@@ -189,12 +199,14 @@ module _ (tells : Bool) (worked : Result Unit StoreFault) (e g f : Kept) (v : De
     tables = ap (λ (x : Kept). x.tables) drop ∙ ap (λ (x : Kept). x.tables) is;
     space = ap (λ (x : Kept). x.space) drop ∙ ap (λ (x : Kept). x.space) is;
     charges = ap (λ (x : Kept). x.charges) drop ∙ ap (λ (x : Kept). x.charges) is;
+    saved = ap (λ (x : Kept). x.saved) drop ∙ ap (λ (x : Kept). x.saved) is;
     done = tt;
     over = tt;
     count = tt;
     batch = tt;
     free = tt;
     kept_free = tt;
+    closed = tt;
     spent = tt;
     alike = tt;
     fault = (
@@ -202,9 +214,11 @@ module _ (tells : Bool) (worked : Result Unit StoreFault) (e g f : Kept) (v : De
         pages = ap (λ (x : Kept). x.store.pages) drop ∙ ap (λ (x : Kept). x.store.pages) is;
         journal = ap (λ (x : Kept). x.store.journal) drop ∙ ap (λ (x : Kept). x.store.journal) is;
         overlay = ap (λ (x : Kept). x.store.overlay) drop ∙ ap (λ (x : Kept). x.store.overlay) is;
+        transaction = ap (λ (x : Kept). x.store.transaction) drop ∙ ap (λ (x : Kept). x.store.transaction) is;
         batch = ap (λ (x : Kept). x.store.batch) drop;
         free = ap (λ (x : Kept). x.store.free) drop ∙ ap (λ (x : Kept). x.store.kept_free) is;
         kept_free = ap (λ (x : Kept). x.store.kept_free) drop ∙ ap (λ (x : Kept). x.store.kept_free) is;
+        base_free = ap (λ (x : Kept). x.store.base_free) drop ∙ ap (λ (x : Kept). x.store.base_free) is;
         cache = ap (λ (x : Kept). x.store.cache) drop ∙ ap (λ (x : Kept). x.store.cache) is;
         spent = ap (λ (x : Kept). x.spent) drop ∙ ap (λ (x : Kept). x.spent) is;
         reads = reads_none tells v lawful;
@@ -222,12 +236,12 @@ module _ (tells : Bool) (worked : Result Unit StoreFault) (e g f : Kept) (v : De
 rose_before : (a b c : ℕ) → Rose a b → b ≤ c → Rose a c
 rose_before a b c rose le = omega arith
 
--- Work over an idle store, and the end of its batch.
-module _ (tells : Bool) (Work : Contents → Contents → Type 0) (worked : Result Unit StoreFault) (e g f : Kept) (v x w : Device) (lawful : Lawful tells v) (idle : IsIdle tells e.store v)
+-- Work over an idle store with no transaction, and the end of its batch.
+module _ (tells : Bool) (Work : Contents → Contents → Type 0) (worked : Result Unit StoreFault) (e g f : Kept) (v x w : Device) (lawful : Lawful tells v) (idle : IsIdle tells e.store v) (closed : IsClosed e.store)
     (calls : Undisturbed tells e.store g.store v x) (work : OnOk worked (Work (contents_over e.store v) (contents_over g.store x))) (cause : worked ≡ Err StoreFailed → Rose v.faults x.faults) (quiet : (worked ≡ Err StoreFailed → ⊥) → x.faults ≡ v.faults) where
   -- what is read before the work is what the pages are
   before_work : IsTrue tells → read_pages e.store v.held ≡ pages v.held
-  before_work told = λ i k. read_closed e.store v.held idle.batch (idle.over.read.stands told) k i
+  before_work told = λ i k. read_closed e.store v.held closed.transaction idle.batch (idle.over.read.stands told) k i
 
   alike_before : IsTrue tells → ReadsAlike v.size (read_pages e.store v.held) v.held
   unfolding before_work
@@ -261,30 +275,21 @@ module _ (tells : Bool) (Work : Contents → Contents → Type 0) (worked : Resu
 
   -- the batch was dropped
   still : Dropped tells g f x w → (worked ≡ Err StoreFailed → ⊥) → IsStill tells e.store f.store v w
-  still drop other =
-      let back : State = record g.store { batch = []; free = g.store.kept_free } in
-      let idle_back : IsIdle tells back x = idle_dropped tells e.store g.store back v x idle calls refl in
-      let pages_is : (k : ℕ) → read_pages f.store w.held k ≡ read_pages back x.held k = λ k i. over (drop.batch i) (over (drop.overlay i) (own_page (drop.reads.held i))) k in
-      record {
-        idle = record {
-          over = over_still tells back f.store x w idle_back.over (record {
-            pages = drop.pages;
-            journal = drop.journal;
-            overlay = drop.overlay;
-            kept_free = drop.kept_free;
-            reads = drop.reads;
-            cached = λ told now. subst (AreInPlace w.held) (sym drop.cache) (subst (λ (bytes : List ℕ). AreInPlace bytes g.store.cache) (sym drop.reads.held) now);
-          })
-              (lawful_same tells (contents_over back x) (contents_over f.store w) idle_back.over.read.lawful drop.pages (λ told k. pages_is k) drop.free);
-          batch = drop.batch;
-          kept_free = drop.kept_free ∙ sym drop.free;
-        };
-        pages = drop.pages ∙ calls.pages;
-        free = drop.free ∙ calls.kept_free ∙ idle.kept_free;
-        same = λ k. pages_is k ∙ read_dropped tells e.store g.store v x calls idle.batch k;
-        reads = reads_then tells v x w calls.reads drop.reads;
-        no_fault = drop.no_fault ∙ quiet other;
-      }
+  still drop other = record {
+    calls = record {
+      pages = drop.pages ∙ calls.pages;
+      journal = drop.journal ∙ calls.journal;
+      overlay = drop.overlay ∙ calls.overlay;
+      transaction = drop.transaction ∙ calls.transaction;
+      kept_free = drop.kept_free ∙ calls.kept_free;
+      base_free = drop.base_free ∙ calls.base_free;
+      reads = reads_then tells v x w calls.reads drop.reads;
+      cached = λ told now. subst (AreInPlace w.held) (sym drop.cache) (subst (λ (bytes : List ℕ). AreInPlace bytes g.store.cache) (sym drop.reads.held) (calls.cached told now));
+    };
+    batch = drop.batch ∙ sym idle.batch;
+    free = drop.free ∙ calls.kept_free ∙ idle.kept_free;
+    no_fault = drop.no_fault ∙ quiet other;
+  }
 
   -- nothing was written, or the work was done
   reads_or_work : OnlyReads tells x w ⊎ IsOk worked → OnlyReads tells v w ⊎ ((read : Contents) × Work (contents_over e.store v) read)
@@ -294,6 +299,7 @@ module _ (tells : Bool) (Work : Contents → Contents → Type 0) (worked : Resu
   pub changed : (result : Result Unit StepFault) → g.spent ≡ None → Finished tells worked result g f x w → Changed tells Work result e.store f.store f.spent v w
   changed (Ok done) unspent finished = record {
     idle = record { over = finished.over; batch = finished.batch; kept_free = finished.kept_free ∙ sym finished.free };
+    closed = finished.closed;
     done = record {
       read = contents_over g.store x;
       work = on_ok worked (Work (contents_over e.store v) (contents_over g.store x)) finished.done work;
@@ -310,6 +316,7 @@ module _ (tells : Bool) (Work : Contents → Contents → Type 0) (worked : Resu
   }
   changed (Err Disk) unspent finished = record {
     idle = tt;
+    closed = tt;
     done = tt;
     unspent = tt;
     fault = (⊎_elim (λ rose. rose_on v.faults x.faults w.faults calls.reads.keeps.faults rose) (λ failed. rose_before v.faults x.faults w.faults (cause failed) finished.fault.2) finished.fault.0, finished.fault.1);
@@ -320,6 +327,7 @@ module _ (tells : Bool) (Work : Contents → Contents → Type 0) (worked : Resu
   }
   changed (Err (Memory error)) unspent finished = record {
     idle = tt;
+    closed = tt;
     done = tt;
     unspent = tt;
     fault = (still finished.fault.0 finished.fault.1, finished.fault.0.spent ∙ unspent);

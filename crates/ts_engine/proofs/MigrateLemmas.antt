@@ -1,15 +1,16 @@
 -- A volume that is put into the newest format.
-use Rattle.std.proofs.Common.{◌≡◌, ◌-◌, ℕ, Bool, IsTrue, Result, Ok, Err, OnOk, IsErrAnd, length, refl, ap, sym, ◌∙◌, subst, arith}
+use Rattle.std.proofs.Common.{◌≡◌, ◌-◌, ℕ, Bool, IsTrue, None, Result, Ok, Err, OnOk, IsErrAnd, length, refl, ap, sym, ◌∙◌, subst, arith}
 use Rattle.ts_base.specs.declared.fault.StoreFault.{StoreFault}
 use Rattle.ts_disk.specs.Device.{Device, Lawful}
 use Rattle.ts_page.specs.Pages.{Contents, EqualPages, with_page}
 use Rattle.ts_store.specs.OpenBatch.{read_pages, contents_over}
 use Rattle.ts_store.specs.Undisturbed.{Undisturbed}
 use Rattle.ts_model.specs.Catalogue.{Catalogue, in_newest_format, newest_format}
+use Rattle.ts_answer.specs.State.{State, resting, newest}
 use Rattle.ts_model.specs.Definitions.{Definitions, Tables, with_format}
 use Rattle.ts_space.specs.Directory.{Directory}
 use Rattle.ts_layout.specs.Slot.{header_bytes}
-use Rattle.ts_layout.specs.Meaning.{Layout}
+use Rattle.ts_layout.specs.Meaning.{Layout, catalogue_of}
 use Rattle.ts_layout.specs.Changed.{layout_in}
 use Rattle.ts_layout.proofs.CallerLemmas.{layout_renewed, sound_renewed, filled_renewed, kept_renewed, kept_alike}
 use Rattle.ts_container.specs.Survey.{HeaderWritten}
@@ -17,32 +18,35 @@ use Rattle.ts_answer.specs.View.{IsHeldOf}
 use Rattle.ts_answer.proofs.CallerLemmas.{held_same}
 use Rattle.ts_engine.specs.declared.fault.StepFault.{StepFault}
 use Rattle.ts_engine.specs.Engine.{Kept, IsKeptOf, IsReady}
-use Rattle.ts_engine.specs.Migrate.{Migrated}
+use Rattle.ts_engine.specs.Migrate.{Migrated, state_renewed}
 use Rattle.ts_engine.specs.Change.{Finished, Changed}
 use Rattle.ts_engine.proofs.ChangeLemmas.{changed}
 use Rattle.ts_engine.proofs.ChargedLemmas.{charges_same}
-use Rattle.ts_engine.proofs.StandLemmas.{still_none}
-use Rattle.ts_engine.proofs.MovesLemmas.{Next, moves_ok, moves_fault, moves_still, stands}
+use Rattle.ts_engine.proofs.StandLemmas.{same_copies, still_none}
+use Rattle.ts_engine.proofs.MovesLemmas.{Next, Follows, moves_ok, moves_fault, moves_still, stands_resting}
 
 -- a catalogue of the newest format
 newest_stays : (cat : Catalogue) → cat.format ≡ newest_format → in_newest_format cat ≡ cat
 newest_stays cat newest = λ i. record cat { format = sym newest i }
 
 -- a volume of the newest format stays as it is
-pub migrated_none : (tells : Bool) (e : Kept) (v : Device) → Lawful tells v → IsReady tells e v → e.tables.definitions.format ≡ newest_format → Migrated tells (Ok tt) e e v v
-migrated_none tells e v lawful ready newest = record {
-  moves = moves_still tells in_newest_format e e v v ready (still_none tells e.store v lawful ready.idle) ready.unspent refl refl refl
-      (λ told cat at.
-      let is = stands tells e v lawful ready told cat at in
-      newest_stays cat (ap (λ (c : Catalogue). c.format) is ∙ ap (λ (d : Definitions). d.format) (sym (ready.seen.layout told).1.kept.definitions) ∙ newest));
-  newest = newest;
+pub migrated_none : (tells : Bool) (e : Kept) (v : Device) → Lawful tells v → IsReady tells e v → e.saved ≡ None → e.tables.definitions.format ≡ newest_format → Migrated tells (Ok tt) e e v v
+migrated_none tells e v lawful ready none newest_is = record {
+  moves = moves_still tells state_renewed e e v v ready (still_none tells e.store v lawful) ready.unspent refl refl refl e.saved refl (same_copies e.saved) ready.small
+      (λ told state at.
+      let is = stands_resting tells e v ready none told state at in
+      let cat = catalogue_of (ready.seen.layout told).0 in
+      let stays : in_newest_format cat ≡ cat = newest_stays cat (ap (λ (d : Definitions). d.format) (sym (ready.seen.layout told).1.kept.definitions) ∙ newest_is) in
+      let P : State → Type 0 = λ s. Follows e.saved state (resting (in_newest_format s.base)) in
+      subst P (sym is) (subst (λ (c : Catalogue). Follows e.saved state (resting c)) (sym stays) (subst (Follows e.saved state) is (record { base = refl; newest = refl; accepted = at.accepted }))));
+  newest = newest_is;
 }
 
-module _ (tells : Bool) (e : Kept) (v : Device) (lawful : Lawful tells v) (ready : IsReady tells e v) where
+module _ (tells : Bool) (e : Kept) (v : Device) (lawful : Lawful tells v) (ready : IsReady tells e v) (none : e.saved ≡ None) where
   abbrev Work : Contents → Contents → Type 0
   Work a c = HeaderWritten tells newest_format (e.store.pages - 930) (Ok tt) a c
 
-  next : (told : IsTrue tells) (read : Contents) → Work (contents_over e.store v) read → Next tells in_newest_format (ready.seen.layout told).0 read
+  next : (told : IsTrue tells) (read : Contents) → Work (contents_over e.store v) read → Next tells state_renewed (ready.seen.layout told).0 read
   next told read work =
       let l = (ready.seen.layout told).0 in
       let size = (ready.seen.layout told).1.kept.size in
@@ -74,7 +78,7 @@ module _ (tells : Bool) (e : Kept) (v : Device) (lawful : Lawful tells v) (ready
 
     ended_changed : (result : Result Unit StepFault) → Finished tells put result g ended x w → Changed tells Work result e.store ended.store ended.spent v w
     ended_changed result finished =
-        changed tells Work put e g ended v x w lawful ready.idle calls (worked put (contents_over e.store v) (contents_over g.store x) written)
+        changed tells Work put e g ended v x w lawful ready.idle (ready.closed none) calls (worked put (contents_over e.store v) (contents_over g.store x) written)
         written.cause written.no_fault result (ap (λ (k : Kept). k.spent) is ∙ ready.unspent) finished
 
     -- it is committed, and the format is set in memory
@@ -84,6 +88,7 @@ module _ (tells : Bool) (e : Kept) (v : Device) (lawful : Lawful tells v) (ready
         let tables : ended.tables ≡ e.tables = finished.tables ∙ ap (λ (k : Kept). k.tables) is in
         let space : ended.space ≡ e.space = finished.space ∙ ap (λ (k : Kept). k.space) is in
         let charges : ended.charges ≡ e.charges = finished.charges ∙ ap (λ (k : Kept). k.charges) is in
+        let saved : ended.saved ≡ e.saved = finished.saved ∙ ap (λ (k : Kept). k.saved) is in
         let g' : Kept = record ended { tables = record ended.tables { definitions = with_format newest_format ended.tables.definitions } } in
         let now = ended_changed (Ok tt) finished in
         let work = now.done.work in
@@ -93,7 +98,7 @@ module _ (tells : Bool) (e : Kept) (v : Device) (lawful : Lawful tells v) (ready
         let free = now.done.free ∙ work.free in
         subst (λ (k : Kept). Migrated tells (Ok tt) e k v w) (sym set)
         (record {
-          moves = moves_ok tells in_newest_format Work e g' v w lawful later ready next now
+          moves = moves_ok tells state_renewed Work e g' v w lawful later ready none next now (saved ∙ none)
               (kept_alike (with_format newest_format e.tables.definitions) g'.tables.definitions e.space g'.space e.store.free g'.store.free e.store.pages g'.store.pages (kept_renewed e.tables.definitions e.space e.store.free e.store.pages ready.seen.kept) definitions lists free pages)
               (λ told. held_same (with_format newest_format e.tables.definitions) g'.tables.definitions e.space g'.space e.store.pages g'.store.pages e.store.free g'.store.free (layout_in newest_format (ready.seen.layout told).0) (held_renewed (ready.seen.layout told).0 (ready.seen.layout told).1.kept) definitions lists pages free)
               (charges_same e.charges g'.charges (with_format newest_format e.tables.definitions) g'.tables.definitions e.space g'.space ready.charges charges definitions lists);
@@ -105,8 +110,8 @@ module _ (tells : Bool) (e : Kept) (v : Device) (lawful : Lawful tells v) (ready
     migrated_fault fault finished =
         let tables : ended.tables ≡ e.tables = finished.tables ∙ ap (λ (k : Kept). k.tables) is in
         record {
-          moves = moves_fault tells in_newest_format Work e ended v w lawful later ready next fault (ended_changed (Err fault) finished) (ap (λ (t : Tables). t.definitions) tables)
-              (ap (λ (s : Directory). s.lists) (finished.space ∙ ap (λ (k : Kept). k.space) is)) (finished.charges ∙ ap (λ (k : Kept). k.charges) is);
+          moves = moves_fault tells state_renewed Work e ended v w lawful later ready none next fault (ended_changed (Err fault) finished) (ap (λ (t : Tables). t.definitions) tables)
+              (ap (λ (s : Directory). s.lists) (finished.space ∙ ap (λ (k : Kept). k.space) is)) (finished.charges ∙ ap (λ (k : Kept). k.charges) is) (finished.saved ∙ ap (λ (k : Kept). k.saved) is);
           newest = tt;
         }
 

@@ -7,8 +7,8 @@ use Rattle.ts_page.specs.Pages.{Contents, IsLawful}
 use Rattle.ts_journal.specs.Entry.{AreAllowed}
 use Rattle.ts_journal.specs.Journal.{page_count, pages, ReadsButFreed}
 use Rattle.ts_journal.specs.Moment.{Keeps, OnlyReads, SamePages}
-use Rattle.ts_store.proofs.CallerLemmas.{keeps_then, reads_then, read_closed, counted, read_dropped, read_committed}
-use Rattle.ts_store.specs.OpenBatch.{State, IsOver, IsIdle, Settles, read_pages, contents_over}
+use Rattle.ts_store.proofs.CallerLemmas.{keeps_then, reads_then, idle_reads, read_closed, counted, read_dropped, read_committed}
+use Rattle.ts_store.specs.OpenBatch.{State, IsOver, IsIdle, IsClosed, Settles, read_pages, contents_over}
 use Rattle.ts_store.specs.Undisturbed.{Undisturbed}
 use Rattle.ts_model.specs.Catalogue.{Catalogue}
 use Rattle.ts_model.specs.Definitions.{Definitions, Tables}
@@ -29,6 +29,7 @@ use Rattle.ts_engine.specs.Engine.{Kept, IsKeptOf, IsReady}
 use Rattle.ts_engine.specs.Start.{StillMeans, StartFault, ReadFault, Opened}
 use Rattle.ts_volume.proofs.CallerLemmas.{holds_still, means_layout}
 use Rattle.ts_engine.proofs.MeansLemmas.{still_means}
+use Rattle.ts_engine.proofs.MovesLemmas.{ready_resting, at_meant}
 
 -- an answer that is an error by another call
 pub if_err : {T : Type 0} (r : Result T SurveyFault) (fault : SurveyFault) (P : SurveyFault → Type 0) → IsErrAnd r (λ x. x ≡ fault) → P fault → IfErr r P
@@ -40,21 +41,21 @@ opened_err tells (Ok e) fault v w is opened = absurd is
 opened_err tells (Err other) fault v w is opened = subst (λ (x : SurveyFault). Opened tells (Err x) v w) (sym is) opened
 
 -- what is read of an idle store is what the pages are
-pub read_idle : (tells : Bool) (told : IsTrue tells) (s : State) (d : Device) → IsIdle tells s d → read_pages s d.held ≡ pages d.held
-read_idle tells told s d idle = λ i k. read_closed s d.held idle.batch (idle.over.read.stands told) k i
+pub read_idle : (tells : Bool) (told : IsTrue tells) (s : State) (d : Device) → IsIdle tells s d → IsClosed s → read_pages s d.held ≡ pages d.held
+read_idle tells told s d idle closed = λ i k. idle_reads tells s d idle closed told k i
 
 -- pages of which no layout serves are those of no store
-pub survey_fault : (tells : Bool) (fault : SurveyFault) (number : ℕ) (s : State) (v w : Device) → Lawful tells v → IsIdle tells s v → number ≡ s.pages
+pub survey_fault : (tells : Bool) (fault : SurveyFault) (number : ℕ) (s : State) (v w : Device) → Lawful tells v → IsIdle tells s v → IsClosed s → number ≡ s.pages
     → (fault ≡ Failed → Rose v.faults w.faults) → ((fault ≡ Failed → ⊥) → w.faults ≡ v.faults) → IfRefused fault (IsTrue tells → HoldNoLayout number (read_pages s v.held)) → ReadFault tells fault v w
-survey_fault tells Failed number s v w lawful idle same cause quiet refused = cause refl
-survey_fault tells (Memory error) number s v w lawful idle same cause quiet refused = quiet (λ failed. cc)
-survey_fault tells (NotAStore page) number s v w lawful idle same cause quiet refused = (
+survey_fault tells Failed number s v w lawful idle closed same cause quiet refused = cause refl
+survey_fault tells (Memory error) number s v w lawful idle closed same cause quiet refused = quiet (λ failed. cc)
+survey_fault tells (NotAStore page) number s v w lawful idle closed same cause quiet refused = (
   λ told cat means.
       let count : page_count (length v.held) ≡ number = ap page_count (lawful.size told) ∙ counted v.size s.pages idle.over.read.size ∙ sym same in
       let laid = means.pages.1 in
       refused told means.pages.0 (record {
         size = sym count ∙ laid.size;
-        bytes = subst (λ (p : ℕ → List ℕ). HoldsLayout p means.pages.0) (sym (read_idle tells told s v idle)) laid.bytes;
+        bytes = subst (λ (p : ℕ → List ℕ). HoldsLayout p means.pages.0) (sym (read_idle tells told s v idle closed)) laid.bytes;
         rules = laid.rules;
       }),
   quiet (λ failed. cc),
@@ -62,9 +63,9 @@ survey_fault tells (NotAStore page) number s v w lawful idle same cause quiet re
 
 -- the pages that were found free can be taken
 pub admitted : (tells : Bool) (s t : State) (d : Device) (x : Definitions) (space : Directory) (free : List ℕ) → IsIdle tells s d → IsFound tells s.pages (contents_over s d) x space free
-    → t ≡ record s { free = free; kept_free = free } → IsOver tells t d
+    → t ≡ record s { free = free; kept_free = free; base_free = free } → IsOver tells t d
 admitted tells s t d x space free idle found is =
-    let next : State = record s { free = free; kept_free = free } in
+    let next : State = record s { free = free; kept_free = free; base_free = free } in
     let over = idle.over in
     let placed = found.kept.placed in
     let lawful : IsLawful tells (contents_over next d) = record {
@@ -109,13 +110,16 @@ pub counted_found : (tells : Bool) (count : ℕ) (c : Contents) (x : Definitions
 counted_found tells count c x space free found = can_count x space free count found.kept
 
 -- a volume that was surveyed: its pages can be taken, and then its journal is settled
-module _ (tells : Bool) (s t : State) (v : Device) (x : Definitions) (space : Directory) (free : List ℕ) (idle : IsIdle tells s v) (found : IsFound tells s.pages (contents_over s v) x space free)
-    (admit : t ≡ record s { free = free; kept_free = free }) where
+module _ (tells : Bool) (s t : State) (v : Device) (x : Definitions) (space : Directory) (free : List ℕ) (idle : IsIdle tells s v) (rests : IsClosed s) (found : IsFound tells s.pages (contents_over s v) x space free)
+    (admit : t ≡ record s { free = free; kept_free = free; base_free = free }) where
   over_admitted : IsOver tells t v
   over_admitted = admitted tells s t v x space free idle found admit
 
   none_open : t.batch ≡ []
   none_open = ap (λ (z : State). z.batch) admit ∙ idle.batch
+
+  none_kept : t.transaction ≡ []
+  none_kept = ap (λ (z : State). z.transaction) admit ∙ rests.transaction
 
   allowed : AreAllowed (page_count v.size) t.overlay
   allowed = subst (λ (n : ℕ). AreAllowed n t.overlay) (sym (counted v.size t.pages over_admitted.read.size)) over_admitted.read.allowed
@@ -125,7 +129,7 @@ module _ (tells : Bool) (s t : State) (v : Device) (x : Definitions) (space : Di
   means_found lawful told =
       let known = found.layout told in
       means_layout v.size (read_pages s v.held) v.held known.0 idle.over.read.volume (lawful.size told) ((idle.over.read.stands told).rs, (idle.over.read.stands told).stands.records)
-      (λ k. inl (sym (read_closed s v.held idle.batch (idle.over.read.stands told) k))) (counted v.size s.pages idle.over.read.size ∙ known.2.size) known.2.bytes known.2.rules
+      (λ k. inl (sym (idle_reads tells s v idle rests told k))) (counted v.size s.pages idle.over.read.size ∙ known.2.size) known.2.bytes known.2.rules
 
   -- the volume means the same at each moment
   pub settle_moments : Lawful tells v → (w : Device) → (IsTrue tells → LeavesOnly v w (SamePages v t.overlay)) → IsTrue tells → (cat : Catalogue) → MeansCatalogue v.held cat → LeavesOnly v w (StillMeans cat v)
@@ -136,17 +140,23 @@ module _ (tells : Bool) (s t : State) (v : Device) (x : Definitions) (space : Di
   module _ (u : State) (w : Device) (tables : Tables) (charges : List ℕ) (charged : AreCharges charges tables.definitions space) (lawful : Lawful tells v) (slots : length space.lists ≡ 4096) (same : tables.definitions ≡ x) (over : IsOver tells u w) (settled : Settles t u)
       (reads : IsTrue tells → ReadsButFreed v.size t.overlay (pages v.held) w.held) where
     abbrev pub engine : Kept
-    engine = record { store = u; tables = tables; space = space; charges = charges; spent = None }
+    engine = record { store = u; tables = tables; space = space; charges = charges; saved = None; spent = None }
 
     none_left : u.batch ≡ []
     none_left = settled.batch ∙ none_open
 
+    closed_left : IsClosed u
+    closed_left = record {
+      transaction = settled.transaction ∙ none_kept;
+      base_free = settled.base_free ∙ ap (λ (z : State). z.base_free) admit ∙ sym (settled.free ∙ ap (λ (z : State). z.free) admit);
+    }
+
     holds : (told : IsTrue tells) → HoldsLayout (read_pages u w.held) (found.layout told).0
-    unfolding over_admitted none_open none_left
+    unfolding over_admitted none_open none_kept none_left
     holds told =
-        let here : read_pages t v.held ≡ pages v.held = λ i k. read_closed t v.held none_open (over_admitted.read.stands told) k i in
+        let here : read_pages t v.held ≡ pages v.held = λ i k. read_closed t v.held none_kept none_open (over_admitted.read.stands told) k i in
         let before : read_pages t v.held ≡ read_pages s v.held = ap (λ (z : State). read_pages z v.held) admit in
-        let alike = read_committed tells told t u v w over_admitted none_left over (subst (λ (p : ℕ → List ℕ). ReadsButFreed v.size t.overlay p w.held) (sym here) (reads told)) in
+        let alike = read_committed tells told t u v w over_admitted closed_left.transaction none_left over (subst (λ (p : ℕ → List ℕ). ReadsButFreed v.size t.overlay p w.held) (sym here) (reads told)) in
         let known = found.layout told in
         holds_still (read_pages t v.held) (read_pages u w.held) known.0 alike (subst (λ (p : ℕ → List ℕ). HoldsLayout p known.0) (sym before) known.2.bytes)
 
@@ -176,19 +186,20 @@ module _ (tells : Bool) (s t : State) (v : Device) (x : Definitions) (space : Di
 
     pub ready : IsReady tells engine w
     unfolding none_left holds kept rules
-    ready = record {
-      idle = record { over = over; batch = none_left; kept_free = settled.kept_free ∙ ap (λ (z : State). z.kept_free) admit ∙ sym (settled.free ∙ ap (λ (z : State). z.free) admit) };
-      seen = record { kept = rules; layout = λ told. ((found.layout told).0, record { kept = kept told; holds = λ t. holds told }) };
-      charges = charged;
-      unspent = refl;
-    }
+    ready =
+        ready_resting tells engine w refl
+        (record {
+          idle = record { over = over; batch = none_left; kept_free = settled.kept_free ∙ ap (λ (z : State). z.kept_free) admit ∙ sym (settled.free ∙ ap (λ (z : State). z.free) admit) };
+          seen = record { kept = rules; layout = λ told. ((found.layout told).0, record { kept = kept told; holds = λ t. holds told }) };
+        }) closed_left charged refl
 
-    pub settled_opened : Keeps tells v w → (IsTrue tells → LeavesOnly v w (SamePages v t.overlay)) → w.faults ≡ v.faults → Opened tells (Ok engine) v w
+    pub settled_opened : Lawful tells w → Keeps tells v w → (IsTrue tells → LeavesOnly v w (SamePages v t.overlay)) → w.faults ≡ v.faults → Opened tells (Ok engine) v w
     unfolding allowed means_found
-    settled_opened keeps moments no_fault = record {
+    settled_opened later keeps moments no_fault = record {
       ready = ready;
+      rests = refl;
       means = λ told. (catalogue_of (found.layout told).0, means_found lawful told);
-      at = λ told cat means. record { ready = ready; means = still_means v.size v.held t.overlay w.held cat (lawful.size told) allowed (reads told) means };
+      at = λ told cat means. at_meant tells engine w later ready refl told cat (still_means v.size v.held t.overlay w.held cat (lawful.size told) allowed (reads told) means);
       fault = tt;
       others = keeps;
       moments = settle_moments lawful w moments;
@@ -198,7 +209,7 @@ module _ (tells : Bool) (s t : State) (v : Device) (x : Definitions) (space : Di
 
 -- the settling failed
 pub unsettled : (tells : Bool) (v w : Device) → Rose v.faults w.faults → Keeps tells v w → (IsTrue tells → (cat : Catalogue) → MeansCatalogue v.held cat → LeavesOnly v w (StillMeans cat v)) → (IsTrue tells → (cat : Catalogue) × MeansCatalogue v.held cat) → Opened tells (Err Failed) v w
-unsettled tells v w rose keeps moments means = record { ready = tt; means = tt; at = tt; fault = rose; others = keeps; moments = moments; nothing = λ told none. absurd (none (means told).0 (means told).1); no_fault = tt }
+unsettled tells v w rose keeps moments means = record { ready = tt; rests = tt; means = tt; at = tt; fault = rose; others = keeps; moments = moments; nothing = λ told none. absurd (none (means told).0 (means told).1); no_fault = tt }
 
 -- what only reads means the same at each moment
 reads_mean : (tells : Bool) (v w : Device) (cat : Catalogue) → Only v.held v.images → OnlyReads tells v w → MeansCatalogue v.held cat → LeavesOnly v w (StillMeans cat v)
@@ -210,6 +221,7 @@ reads_mean tells v w cat only reads means =
 pub refused : (tells : Bool) (fault : SurveyFault) (v w : Device) → Only v.held v.images → OnlyReads tells v w → ReadFault tells fault v w → Opened tells (Err fault) v w
 refused tells fault v w only reads cause = record {
   ready = tt;
+  rests = tt;
   means = tt;
   at = tt;
   fault = whole fault cause;
@@ -244,6 +256,7 @@ moments_after tells v x w cat only reads means later =
 pub opened_after : (tells : Bool) (result : Result Engine SurveyFault) (v x w : Device) → Only v.held v.images → OnlyReads tells v x → x.faults ≡ v.faults → Opened tells result x w → Opened tells result v w
 opened_after tells (Ok e) v x w only reads quiet opened = record {
   ready = opened.ready;
+  rests = opened.rests;
   means = λ told. let means = opened.means told in (means.0, subst (λ (bytes : List ℕ). MeansCatalogue bytes means.0) reads.held means.1);
   at = λ told cat means. opened.at told cat (subst (λ (bytes : List ℕ). MeansCatalogue bytes cat) (sym reads.held) means);
   fault = tt;
@@ -254,6 +267,7 @@ opened_after tells (Ok e) v x w only reads quiet opened = record {
 }
 opened_after tells (Err fault) v x w only reads quiet opened = record {
   ready = tt;
+  rests = tt;
   means = tt;
   at = tt;
   fault = later fault opened.fault;

@@ -77,6 +77,7 @@ sync_keeps tells (Err e) v x sync = record { size = sync.size; said = sync.call.
 pub unsynced : {E : Type 0} (tells : Bool) (e : E) (v x : Device) → Lawful tells v → Synced tells (Err e) v x → Started tells (Err Failed) v x
 unsynced tells e v x lawful sync = record {
   ready = tt;
+  rests = tt;
   means = tt;
   at = tt;
   fault = sync.call.cause refl;
@@ -117,6 +118,7 @@ module _ {E : Type 0} (tells : Bool) (v x w : Device) (lawful : Lawful tells v) 
   pub synced_started : (result : Result Engine SurveyFault) → Opened tells result x w → Started tells result v w
   synced_started (Ok e) opened = record {
     ready = opened.ready;
+    rests = opened.rests;
     means = λ told. let means = opened.means told in (means.0, same_bytes x.held v.held means.0 sync.held means.1);
     at = λ told cat means. opened.at told cat (same_bytes v.held x.held cat (sym sync.held) means);
     fault = tt;
@@ -129,6 +131,7 @@ module _ {E : Type 0} (tells : Bool) (v x w : Device) (lawful : Lawful tells v) 
   }
   synced_started (Err fault) opened = record {
     ready = tt;
+    rests = tt;
     means = tt;
     at = tt;
     fault = start_fault fault opened.fault;

@@ -26,9 +26,9 @@ StepFaulted tells (Closed faults) e f v w = ⊥
 -- what an engine does that no call of the disk's failed before, where it goes from a state to the one after it
 pub record Moves (tells : Bool) (after : State → State) (result : Result Unit StepFault) (e f : Kept) (v w : Device) : Type 0 where
   pub ready : OnOk result (IsReady tells f w)
-  pub at : OnOk result (IsTrue tells → (state : State) → IsAt tells e (committed state) v → IsAt tells f (committed (after state)) w)
+  pub at : OnOk result (IsTrue tells → (state : State) → IsAt tells e state v → IsAt tells f (after state) w)
   pub fault : IfErr result (λ fault. StepFaulted tells fault e f v w)
-  pub moments : IsTrue tells → (state : State) → IsAt tells e (committed state) v → LeavesOnly v w (BeforeOrAfter state (after state) v)
+  pub moments : IsTrue tells → (state : State) → IsAt tells e state v → LeavesOnly v w (BeforeOrAfter state (after state) v)
   pub others : Keeps tells v w
   -- only a failed call of the disk raises the count
   pub no_fault : OnOk result (w.faults ≡ v.faults)

@@ -1,10 +1,11 @@
 -- What the opening of a volume does.
-use Rattle.std.specs.Prelude.{◌≡◌, ◌<◌, Bool, IsTrue, Result, IfOk, OnOk, IfErr, List, ℕ}
+use Rattle.std.specs.Prelude.{◌≡◌, ◌<◌, Bool, IsTrue, None, Result, IfOk, OnOk, IfErr, List, ℕ}
 use Rattle.ts_disk.specs.Device.{Device, Rose, FirstSync, LeavesOnly, Within}
 use Rattle.ts_journal.specs.Moment.{Keeps, OnlyReads}
 use Rattle.ts_recover.specs.declared.replay.RecoverFault.{RecoverFault}
 use Rattle.ts_recover.specs.declared.replay.RecoverFault.TheVariants as journal
 use Rattle.ts_model.specs.Catalogue.{Catalogue}
+use Rattle.ts_answer.specs.State.{resting}
 use Rattle.ts_container.specs.declared.fault.SurveyFault.{SurveyFault}
 use Rattle.ts_container.specs.declared.fault.SurveyFault.TheVariants.{NotAStore, Failed, Memory}
 use Rattle.ts_engine.specs.declared.engine.Engine.{Engine}
@@ -42,8 +43,9 @@ pub record LeavesAsItWas (v w : Device) : Type 0 where
 -- a volume of which nothing is pending is opened, or not
 pub record Opened (tells : Bool) (result : Result Engine SurveyFault) (v w : Device) : Type 0 where
   pub ready : IfOk result (λ e. IsReady tells e w)
+  pub rests : IfOk result (λ e. e.saved ≡ None)
   pub means : IfOk result (λ e. IsTrue tells → (cat : Catalogue) × MeansCatalogue v.held cat)
-  pub at : IfOk result (λ e. IsTrue tells → (cat : Catalogue) → MeansCatalogue v.held cat → IsAt tells e cat w)
+  pub at : IfOk result (λ e. IsTrue tells → (cat : Catalogue) → MeansCatalogue v.held cat → IsAt tells e (resting cat) w)
   pub fault : IfErr result (λ fault. StartFault tells fault v w)
   pub others : Keeps tells v w
   pub moments : IsTrue tells → (cat : Catalogue) → MeansCatalogue v.held cat → LeavesOnly v w (StillMeans cat v)
@@ -53,10 +55,12 @@ pub record Opened (tells : Bool) (result : Result Engine SurveyFault) (v w : Dev
 -- A volume is opened, or not.
 pub record Started (tells : Bool) (result : Result Engine SurveyFault) (v w : Device) : Type 0 where
   pub ready : IfOk result (λ e. IsReady tells e w)
+  -- no transaction is open
+  pub rests : IfOk result (λ e. e.saved ≡ None)
   -- it means some catalogue
   pub means : IfOk result (λ e. IsTrue tells → (cat : Catalogue) × MeansCatalogue v.held cat)
-  -- and the engine stands at each that it means
-  pub at : IfOk result (λ e. IsTrue tells → (cat : Catalogue) → MeansCatalogue v.held cat → IsAt tells e cat w)
+  -- and the engine stands there, at each that it means, with no transaction
+  pub at : IfOk result (λ e. IsTrue tells → (cat : Catalogue) → MeansCatalogue v.held cat → IsAt tells e (resting cat) w)
   pub fault : IfErr result (λ fault. StartFault tells fault v w)
   pub others : Keeps tells v w
   -- an opened volume was synced

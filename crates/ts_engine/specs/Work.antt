@@ -26,6 +26,8 @@ pub data Work : Type 0 where
   Aggregates : Work
   -- it reads what is in memory
   Memory : Work
+  -- it begins or ends a transaction
+  Boundaries : Work
 
 abbrev pub work_of : Command → Work
 work_of (commands.CreateRowType name stamp columns) = Defines kinds.RowType
@@ -73,6 +75,12 @@ work_of (commands.Lag key by) = Combinations
 work_of (commands.AggregateBy text calendar key from to) = Aggregates
 work_of (commands.AggregateRange text key from to) = Aggregates
 work_of (commands.AggregateAll text container from to) = Aggregates
+work_of (commands.TSRunningSum text key span from to) = Aggregates
+work_of (commands.TSRunningAvg text key span from to) = Aggregates
+work_of (commands.Apply text key from to) = Aggregates
+work_of commands.Begin = Boundaries
+work_of commands.Commit = Boundaries
+work_of commands.Rollback = Boundaries
 
 -- What a command is given: a view of a volume, what containers are charged by it, and no reply yet.
 pub record IsGiven (tells : Bool) (x : View) (charges out : List ℕ) : Type 0 where

@@ -8,6 +8,7 @@ ghost use Rattle.ts_engine.specs.declared.fault.StepFault.TheVariants.{Closed};
 
 use crate::fault::StepFault;
 use crate::open::open;
+use crate::transaction::Saved;
 use std::alloc::Global;
 use std::marker::Model;
 use std::thread::Threads;
@@ -27,6 +28,8 @@ pub struct Engine {
     pub(crate) defs: Defs,
     pub(crate) space: Space,
     pub(crate) charges: Charges,
+    /// Where a transaction is open, what a rollback goes back to.
+    pub(crate) saved: Option<Saved>,
     /// Room to read a page.
     pub(crate) page: Page,
     pub(crate) spent: Option<u64>,
@@ -38,7 +41,7 @@ impl Model for Engine {
 
     ghost Value = { Kept };
 
-    ghost view = { λ e. record { store = e.store; tables = e.defs; space = e.space; charges = e.charges; spent = e.spent } };
+    ghost view = { λ e. record { store = e.store; tables = e.defs; space = e.space; charges = e.charges; saved = e.saved; spent = e.spent } };
 }
 
 impl Engine {

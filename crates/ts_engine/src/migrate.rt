@@ -2,7 +2,7 @@
 ghost use Rattle.std.specs.Prelude.{◌≡◌, ◌+◌, ◌-◌, ◌≤◌, ℕ, None, Some, Ok, Err, length};
 ghost use Rattle.ts_page.specs.Volume.{first_element_page, most_element_pages, image_entry_size};
 ghost use Rattle.ts_journal.specs.Entry.{entries_bytes};
-ghost use Rattle.ts_store.specs.OpenBatch.{IsIdle, IsOver, contents_over};
+ghost use Rattle.ts_store.specs.OpenBatch.{IsIdle, IsOver, IsClosed, to_commit, contents_over};
 ghost use Rattle.ts_store.specs.Undisturbed.{Undisturbed};
 ghost use Rattle.ts_space.specs.Directory.{used_of};
 ghost use Rattle.ts_model.specs.Catalogue.{newest_format};
@@ -23,10 +23,11 @@ use ts_space::Space;
 use ts_store::{On, Store};
 
 impl Engine {
-    /// Puts a volume of the old format into the newest one, by one record. A volume of the newest format stays as it is: no
-    /// call is made on it.
+    /// Puts a volume of the old format into the newest one, by one record, where no transaction is open. A volume of the
+    /// newest format stays as it is: no call is made on it.
     pub fn migrate<V: Volume>(&mut self, vol: &mut V) -> Result<(), StepFault>
         requires ready { self.old.spent ≡ None → IsReady V.tells self.old (V.device vol.old) }
+        requires rests { self.old.saved ≡ None }
         ensures migrated { self.old.spent ≡ None → Migrated V.tells result self.old self.new (V.device vol.old) (V.device vol.new) }
         ensures idle { self.old.spent ≡ None → self.old.tables.definitions.format ≡ newest_format → (result ≡ Ok tt) × (self.new ≡ self.old) × (vol.new ≡ vol.old) }
         // An engine that the disk failed makes no call any more.
@@ -44,6 +45,7 @@ impl Engine {
     // The same of a volume of the old format.
     fn take_newest_format<V: Volume>(&mut self, vol: &mut V) -> Result<(), StepFault>
         requires unspent { self.old.spent ≡ None }
+        requires rests { self.old.saved ≡ None }
         requires ready { IsReady V.tells self.old (V.device vol.old) }
         ensures migrated { Migrated V.tells result self.old self.new (V.device vol.old) (V.device vol.new) }
     {
@@ -56,10 +58,11 @@ impl Engine {
     // Puts the header of that format into the open batch.
     fn put_newest_format<V: Volume>(&mut self, vol: &mut V) -> Result<(), StoreFault>
         requires idle { IsIdle V.tells self.old.store (V.device vol.old) }
+        requires closed { IsClosed self.old.store }
         requires kept { AreKept self.old.tables.definitions self.old.space self.old.store.free self.old.store.pages }
         ensures written { HeaderWritten V.tells newest_format (self.old.store.pages - first_element_page) result (contents_over self.old.store (V.device vol.old)) (contents_over self.new.store (V.device vol.new)) }
         ensures over { IsOver V.tells self.new.store (V.device vol.new) }
-        ensures short { length (entries_bytes self.new.store.batch) ≤ image_entry_size }
+        ensures short { length (entries_bytes (to_commit self.new.store)) ≤ image_entry_size }
         ensures undisturbed { Undisturbed V.tells self.old.store self.new.store (V.device vol.old) (V.device vol.new) }
         ensures others { self.new ≡ record self.old { store = self.new.store } }
     {
@@ -74,12 +77,13 @@ fn put_newest_format_over<V: Volume>(
     space: &Space,
 ) -> Result<(), StoreFault>
     requires idle { IsIdle V.tells store.old (V.device vol.old) }
+    requires closed { IsClosed store.old }
     requires some { first_element_page + 1 ≤ store.old.pages }
     requires most { store.old.pages ≤ first_element_page + most_element_pages }
     requires all { length store.old.free + used_of space.now ≡ store.old.pages - first_element_page }
     ensures written { HeaderWritten V.tells newest_format (store.old.pages - first_element_page) result (contents_over store.old (V.device vol.old)) (contents_over store.new (V.device vol.new)) }
     ensures over { IsOver V.tells store.new (V.device vol.new) }
-    ensures short { length (entries_bytes store.new.batch) ≤ image_entry_size }
+    ensures short { length (entries_bytes (to_commit store.new)) ≤ image_entry_size }
     ensures undisturbed { Undisturbed V.tells store.old store.new (V.device vol.old) (V.device vol.new) }
 {
     let mut on = On {

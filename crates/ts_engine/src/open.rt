@@ -2,7 +2,7 @@
 ghost use Rattle.std.specs.Prelude.{◌≡◌, IsTrue, IfOk, IfErr, IsErrOf, OnOk};
 ghost use Rattle.ts_disk.specs.Device.{Rose};
 ghost use Rattle.ts_journal.specs.Moment.{OnlyReads};
-ghost use Rattle.ts_store.specs.OpenBatch.{IsIdle, IsReadOver, read_pages, contents_over};
+ghost use Rattle.ts_store.specs.OpenBatch.{IsIdle, IsClosed, IsReadOver, read_pages, contents_over};
 ghost use Rattle.ts_store.specs.Undisturbed.{Undisturbed};
 ghost use Rattle.ts_container.specs.declared.fault.SurveyFault.TheVariants.{Failed};
 ghost use Rattle.ts_container.specs.Survey.{IsFound, IfRefused, HoldNoLayout};
@@ -32,6 +32,7 @@ pub(crate) fn open<V: Volume>(alloc: Global, vol: &mut V) -> Result<Engine, Surv
 fn read_journal<V: Volume>(alloc: Global, vol: &mut V) -> Result<Store, SurveyFault>
     requires settled { NothingIsPending (V.device vol.old) }
     ensures idle { IfOk result (λ s. IsIdle V.tells s (V.device vol.new)) }
+    ensures closed { IfOk result IsClosed }
     ensures fault { IfErr result (λ fault. ReadFault V.tells fault (V.device vol.old) (V.device vol.new)) }
     ensures no_fault { OnOk result ((V.device vol.new).faults ≡ (V.device vol.old).faults) }
     ensures others { OnlyReads V.tells (V.device vol.old) (V.device vol.new) }
@@ -59,7 +60,9 @@ fn survey_over<V: Volume>(
     vol: &mut V,
 ) -> Result<Surveyed, SurveyFault>
     requires idle { IsIdle V.tells store.old (V.device vol.old) }
+    requires closed { IsClosed store.old }
     ensures idle { OnOk result (IsIdle V.tells store.new (V.device vol.new)) }
+    ensures closed { OnOk result (IsClosed store.new) }
     ensures found { IfOk result (λ s. IsFound V.tells store.new.pages (contents_over store.new (V.device vol.new)) s.defs.definitions s.space s.free.items) }
     ensures fault { IfErr result (λ fault. ReadFault V.tells fault (V.device vol.old) (V.device vol.new)) }
     ensures no_fault { OnOk result ((V.device vol.new).faults ≡ (V.device vol.old).faults) }
@@ -103,6 +106,7 @@ fn settle<V: Volume>(
     vol: &mut V,
 ) -> Result<Engine, SurveyFault>
     requires idle { IsIdle V.tells store (V.device vol.old) }
+    requires closed { IsClosed store }
     requires found { IsFound V.tells store.pages (contents_over store (V.device vol.old)) surveyed.defs.definitions surveyed.space surveyed.free.items }
     ensures opened { Opened V.tells result (V.device vol.old) (V.device vol.new) }
 {
@@ -117,6 +121,7 @@ fn settle<V: Volume>(
             defs,
             space,
             charges,
+            saved: None,
             page: Page::zero(),
             spent: None,
             alloc,

@@ -18,3 +18,5 @@ mod program;
 mod statuses;
 #[cfg(test)]
 mod stops;
+#[cfg(test)]
+mod transactions;

@@ -6,7 +6,7 @@ use Rattle.ts_disk.proofs.Moments.{first_map}
 use Rattle.ts_command.specs.declared.command.Command.{Command}
 use Rattle.ts_model.specs.Catalogue.{Catalogue}
 use Rattle.ts_container.specs.declared.fault.SurveyFault.{SurveyFault}
-use Rattle.ts_answer.specs.State.{base, replies}
+use Rattle.ts_answer.specs.State.{resting, replies}
 use Rattle.ts_engine.specs.declared.engine.Engine.{Engine}
 use Rattle.ts_volume.specs.Volume.{MeansCatalogue}
 use Rattle.ts_engine.specs.Start.{Started, StillMeans}
@@ -17,7 +17,7 @@ use Rattle.ts_shell.proofs.SayingLemmas.{rose_on}
 use Rattle.ts_shell.proofs.OpeningLemmas.{first_then, unopened_store, unopened_status, is_unopened, opened_store}
 
 -- before the first command the volume means what it meant
-at_first : (commands : List Command) (cat : Catalogue) (before image said : List ℕ) → MeansCatalogue image cat → said ≡ before → IsWithin (base cat) commands before image said
+at_first : (commands : List Command) (cat : Catalogue) (before image said : List ℕ) → MeansCatalogue image cat → said ≡ before → IsWithin (resting cat) commands before image said
 at_first commands cat before image said means same = record {
   count = 0;
   within = omega arith;
@@ -27,13 +27,13 @@ at_first commands cat before image said means same = record {
 }
 
 opening : (tells : Bool) (r : Result Engine SurveyFault) (v y : Device) (commands : List Command) → Started tells r v y → IsTrue tells → (cat : Catalogue) → MeansCatalogue v.held cat
-    → FirstSync v y (IsWithin (base cat) commands v.said)
+    → FirstSync v y (IsWithin (resting cat) commands v.said)
 opening tells r v y commands started told cat means =
-    first_map v y (StillMeans cat v) (IsWithin (base cat) commands v.said) (λ image said now. at_first commands cat v.said image said now.0 now.1) (started.moments told cat means)
+    first_map v y (StillMeans cat v) (IsWithin (resting cat) commands v.said) (λ image said now. at_first commands cat v.said image said now.0 now.1) (started.moments told cat means)
 
 -- where nothing was pending, each moment means it so
-at_rest : (commands : List Command) (cat : Catalogue) (v w : Device) → MeansCatalogue v.held cat → FirstSync v w (IsWithin (base cat) commands v.said)
-    → Only v.held v.images → (image said : List ℕ) → w.since v.clock image said → IsWithin (base cat) commands v.said image said
+at_rest : (commands : List Command) (cat : Catalogue) (v w : Device) → MeansCatalogue v.held cat → FirstSync v w (IsWithin (resting cat) commands v.said)
+    → Only v.held v.images → (image said : List ℕ) → w.since v.clock image said → IsWithin (resting cat) commands v.said image said
 at_rest commands cat v w means moments only image said left = ⊎_elim
     (λ before. at_first commands cat v.said image said (subst (λ (l : List ℕ). MeansCatalogue l cat) (sym (only image before.0)) means) before.1)
     (λ now. now)
@@ -85,10 +85,10 @@ generated_behind tells count seed status engine v y w started ran = record {
   from : IsTrue tells → (cat : Catalogue) → MeansCatalogue v.held cat → GeneratedFrom (generated count seed) cat status v w
   from told cat means =
       let commands = generated count seed in
-      let text = summary (replies (base cat) commands) in
-      let on = ran.on told (base cat) (started.at told cat means) in
-      let good : LeavesOnly y w (IsWithin (base cat) commands v.said) = subst (λ (l : List ℕ). LeavesOnly y w (IsWithin (base cat) commands l)) started.others.said on.moments in
-      let moments = first_then v y w (IsWithin (base cat) commands v.said) (opening tells (Ok engine) v y commands started told cat means) (started.synced told) good (ran.syncs told) in
+      let text = summary (replies (resting cat) commands) in
+      let on = ran.on told (resting cat) (started.at told cat means) in
+      let good : LeavesOnly y w (IsWithin (resting cat) commands v.said) = subst (λ (l : List ℕ). LeavesOnly y w (IsWithin (resting cat) commands l)) started.others.said on.moments in
+      let moments = first_then v y w (IsWithin (resting cat) commands v.said) (opening tells (Ok engine) v y commands started told cat means) (started.synced told) good (ran.syncs told) in
       record {
         says = record {
           part = (on.says.part.0, on.says.part.1 ∙ ap (λ (l : List ℕ). l ++ take on.says.part.0 text) started.others.said);

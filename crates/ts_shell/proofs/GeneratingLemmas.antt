@@ -128,7 +128,7 @@ quiet_front tells n all fault e f v w ran = record {
 
 -- a step behind a run
 module _ (tells : Bool) (xs : List Command) (c : Command) (out : List ℕ) (e f h : Kept) (v x w : Device) (ran : RanQuietly tells xs (Ok (tt {0})) e f v x) where
-  moments_behind : (r : Result Unit StepFault) → Stepped tells c r out f h x w → IsTrue tells → (state : State) → IsAt tells e (committed state) v → LeavesOnly v w (IsAmong state (xs ++ c ∷ []) v.said)
+  moments_behind : (r : Result Unit StepFault) → Stepped tells c r out f h x w → IsTrue tells → (state : State) → IsAt tells e state v → LeavesOnly v w (IsAmong state (xs ++ c ∷ []) v.said)
   moments_behind r stepped told state at =
       then_on v x w (IsAmong state (xs ++ c ∷ []) v.said)
       (leaves_map v x (IsAmong state xs v.said) (IsAmong state (xs ++ c ∷ []) v.said) (λ image said. among_more state xs (c ∷ []) v.said image said) (ran.moments told state at))
@@ -138,7 +138,7 @@ module _ (tells : Bool) (xs : List Command) (c : Command) (out : List ℕ) (e f 
   pub quiet_step : Stepped tells c (Ok (tt {0})) out f h x w → RanQuietly tells (xs ++ c ∷ []) (Ok (tt {0})) e h v w
   quiet_step stepped = record {
     ready = stepped.moves.ready;
-    at = λ told state at. subst (λ (s : State). IsAt tells h (committed s) w) (sym (after_more state xs c)) (stepped.moves.at told (after state xs) (ran.at told state at));
+    at = λ told state at. subst (λ (s : State). IsAt tells h s w) (sym (after_more state xs c)) (stepped.moves.at told (after state xs) (ran.at told state at));
     fault = tt;
     moments = moments_behind (Ok (tt {0})) stepped;
     others = record {
@@ -284,8 +284,8 @@ module _ (tells : Bool) (commands : List Command) (e f : Kept) (v x : Device) wh
   }
 
   module _ (ran : RanQuietly tells commands (Ok (tt {0})) e f v x) (text : List ℕ)
-      (same : IsTrue tells → (state : State) → IsAt tells e (committed state) v → text ≡ summary (replies state commands)) (w : Device) where
-    saying_moments : {E : Type 0} (q : Result Unit E) → Says tells text q x w → IsTrue tells → (state : State) → IsAt tells e (committed state) v → LeavesOnly v w (IsWithin state commands v.said)
+      (same : IsTrue tells → (state : State) → IsAt tells e state v → text ≡ summary (replies state commands)) (w : Device) where
+    saying_moments : {E : Type 0} (q : Result Unit E) → Says tells text q x w → IsTrue tells → (state : State) → IsAt tells e state v → LeavesOnly v w (IsWithin state commands v.said)
     saying_moments q says told state at =
         let behind = ran.at told state at in
         goes_on v x w (IsWithin state commands v.said) _
@@ -301,8 +301,8 @@ module _ (tells : Bool) (commands : List Command) (e f : Kept) (v x : Device) wh
           all = inr refl;
         })
 
-    all_means : {E : Type 0} (q : Result Unit E) → Says tells text q x w → IsTrue tells → (state : State) → IsAt tells e (committed state) v → MeansCatalogue w.held (committed (after state commands))
-    all_means q says told state at = (at_same tells f x w says.size says.held says.faults says.crash (committed (after state commands)) (ran.at told state at)).means
+    all_means : {E : Type 0} (q : Result Unit E) → Says tells text q x w → IsTrue tells → (state : State) → IsAt tells e state v → MeansCatalogue w.held (committed (after state commands))
+    all_means q says told state at = (at_same tells x w says.size says.held says.crash f (after state commands) (ran.at told state at)).means
 
     pub said_all : {E : Type 0} → Says {E = E} tells text (Ok (tt {0})) x w → OpenedGen tells commands e 0 v w
     said_all says = record {

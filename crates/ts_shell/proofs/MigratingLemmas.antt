@@ -3,6 +3,7 @@ use Rattle.std.proofs.Common.{◌≡◌, ◌⊎◌, inl, inr, ⊎_elim, ℕ, ◌
 use Rattle.ts_disk.specs.Device.{Device, Only, Rose, FirstSync, LeavesOnly}
 use Rattle.ts_disk.proofs.Moments.{first_map, leaves_map}
 use Rattle.ts_model.specs.Catalogue.{Catalogue, in_newest_format}
+use Rattle.ts_answer.specs.State.{resting}
 use Rattle.ts_container.specs.declared.fault.SurveyFault.{SurveyFault}
 use Rattle.ts_container.specs.declared.fault.SurveyFault.TheVariants.{NotAStore, Failed, Memory}
 use Rattle.ts_engine.specs.declared.engine.Engine.{Engine}
@@ -12,6 +13,7 @@ use Rattle.ts_volume.specs.Volume.{MeansCatalogue}
 use Rattle.ts_engine.specs.Engine.{Kept}
 use Rattle.ts_engine.specs.Start.{Started, StillMeans}
 use Rattle.ts_engine.specs.Moves.{Moves}
+use Rattle.ts_engine.specs.Migrate.{state_renewed}
 use Rattle.ts_shell.specs.Opening.{status_of_opening}
 use Rattle.ts_shell.specs.Migrating.{InEitherFormat, MigratedFrom, MigrateRan}
 use Rattle.ts_shell.proofs.SayingLemmas.{rose_on}
@@ -88,22 +90,22 @@ module _ (tells : Bool) (engine : Engine) (v y w : Device) (started : Started te
       (leaves_map y w (λ image said. P image × (said ≡ y.said)) Q (λ image said now. (now.0, now.1 ∙ started.others.said)) moments)
       syncs
 
-  module _ (r : Result Unit StepFault) (f : Kept) (moves : Moves tells in_newest_format r engine f y w) where
+  module _ (r : Result Unit StepFault) (f : Kept) (moves : Moves tells state_renewed r engine f y w) where
     either : IsTrue tells → (cat : Catalogue) → MeansCatalogue v.held cat → FirstSync v w (InEitherFormat cat v)
     either t cat means =
-        behind t cat (λ image. MeansCatalogue image cat ⊎ MeansCatalogue image (in_newest_format cat)) means (λ image now. inl now) (moves.moments t cat (started.at t cat means)) (moves.others.syncs t)
+        behind t cat (λ image. MeansCatalogue image cat ⊎ MeansCatalogue image (in_newest_format cat)) means (λ image now. inl now) (moves.moments t (resting cat) (started.at t cat means)) (moves.others.syncs t)
 
-  pub all_migrated : (f : Kept) → Moves tells in_newest_format (Ok tt) engine f y w → MigrateRan tells 0 v w
+  pub all_migrated : (f : Kept) → Moves tells state_renewed (Ok tt) engine f y w → MigrateRan tells 0 v w
   all_migrated f moves = record {
     store = opened_store tells engine 0 v y w started (λ six. omega arith) (λ five. absurd (omega arith)) (λ no. moves.no_fault) moves.others.size moves.others.faults;
-    from = λ t cat means. at_zero cat v w means (either (Ok tt) f moves t cat means) (moves.at t cat (started.at t cat means)).means;
+    from = λ t cat means. at_zero cat v w means (either (Ok tt) f moves t cat means) (moves.at t (resting cat) (started.at t cat means)).means;
     settled = λ zero. moves.ready.idle.over.settled;
     said = moves.others.said ∙ started.others.said;
     say_faults = moves.others.say_faults ∙ started.others.say_faults;
     statuses = inl refl;
   }
 
-  pub disk_failed : (f : Kept) → Moves tells in_newest_format (Err step.Disk) engine f y w → MigrateRan tells 5 v w
+  pub disk_failed : (f : Kept) → Moves tells state_renewed (Err step.Disk) engine f y w → MigrateRan tells 5 v w
   disk_failed f moves = record {
     store = opened_store tells engine 5 v y w started (λ six. omega arith) (λ five. moves.fault.0) (λ no. absurd (no refl)) moves.others.size moves.others.faults;
     from = λ t cat means. at_five cat v w means (either (Err step.Disk) f moves t cat means) (rose_on v.faults y.faults w.faults started.others.faults moves.fault.0);
@@ -113,7 +115,7 @@ module _ (tells : Bool) (engine : Engine) (v y w : Device) (started : Started te
     statuses = inr (inl refl);
   }
 
-  pub wanting : (error : _) (f : Kept) → Moves tells in_newest_format (Err (step.Memory error)) engine f y w → MigrateRan tells 7 v w
+  pub wanting : (error : _) (f : Kept) → Moves tells state_renewed (Err (step.Memory error)) engine f y w → MigrateRan tells 7 v w
   wanting error f moves =
       let reads = moves.fault.0.disk in
       record {

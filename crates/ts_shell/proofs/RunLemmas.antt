@@ -4,7 +4,7 @@ use Rattle.std.proofs.lemmas.List.{append-nil, take_all, take_at}
 use Rattle.ts_disk.specs.Device.{Device, LeavesOnly, Rose}
 use Rattle.ts_disk.specs.Input.{Input}
 use Rattle.ts_command.specs.Script.{Request, requests, last_request}
-use Rattle.ts_model.specs.Catalogue.{Catalogue}
+use Rattle.ts_answer.specs.State.{State}
 use Rattle.ts_engine.specs.Engine.{Kept, IsAt}
 use Rattle.ts_shell.specs.declared.fault.RunFault.{RunFault}
 use Rattle.ts_shell.specs.declared.fault.RunFault.TheVariants.{Disk, Output}
@@ -27,8 +27,8 @@ up_to_limit : (taken piece : List ℕ) → length taken ≡ 268435456 → reques
 up_to_limit taken piece full = ap requests (sym (take_at taken piece 268435456 full))
 
 -- every request is answered
-done : (tells : Bool) (cat : Catalogue) (asked other : List Request) (f : Kept) (v w : Device) → asked ≡ other → Answered (by_engine tells) script cat asked f v w → AllDone script cat other v w
-done tells cat asked other f v w same all = subst (λ (l : List Request). AllDone script cat l v w) same (record {
+done : (tells : Bool) (state : State) (asked other : List Request) (f : Kept) (v w : Device) → asked ≡ other → Answered (by_engine tells) script state asked f v w → AllDone script state other v w
+done tells state asked other f v w same all = subst (λ (l : List Request). AllDone script state l v w) same (record {
   gained = all.gained;
   last = all.last;
   said = all.said;
@@ -38,11 +38,11 @@ done tells cat asked other f v w same all = subst (λ (l : List Request). AllDon
 })
 
 -- what was said and what a stop leaves
-ran_on : (cat : Catalogue) (status : ℕ) (asked : List Request) (v w : Device) (i j : Input) (took : Took most_script IsScriptEnd status i j) → asked ≡ asked_of took.ended took.taken → SaysFairly script cat asked v w → LeavesOnly v w (IsGoodRun script cat asked v.said) → RanOn script most_script IsScriptEnd asked_of cat status v w i j
-ran_on cat status asked v w i j took same fair moments = record {
+ran_on : (state : State) (status : ℕ) (asked : List Request) (v w : Device) (i j : Input) (took : Took most_script IsScriptEnd status i j) → asked ≡ asked_of took.ended took.taken → SaysFairly script state asked v w → LeavesOnly v w (IsGoodRun script state asked v.said) → RanOn script most_script IsScriptEnd asked_of state status v w i j
+ran_on state status asked v w i j took same fair moments = record {
   took = took;
-  fair = subst (λ (l : List Request). SaysFairly script cat l v w) same fair;
-  moments = subst (λ (l : List Request). LeavesOnly v w (IsGoodRun script cat l v.said)) same moments;
+  fair = subst (λ (l : List Request). SaysFairly script state l v w) same fair;
+  moments = subst (λ (l : List Request). LeavesOnly v w (IsGoodRun script state l v.said)) same moments;
 }
 
 abbrev took_part : (status : ℕ) (i j : Input) (taken : List ℕ) → i.left ≡ taken ++ j.left → Took most_script IsScriptEnd status i j
@@ -56,9 +56,9 @@ module _ (tells told : Bool) (e f : Kept) (v w : Device) (i j : Input) (faults :
   -- a pull failed
   pub stopped : (value : Unit {0}) → length taken ≤ 268435456 → (IsTrue told → i.left ≡ taken ++ j.left) → Rose i.pull_faults j.pull_faults → Ran (by_engine tells) script (requests taken) (Ok value) e f v w → OpenedRan tells told e 3 v w i j
   stopped value short cut rose run = record {
-    fair = λ t s cat at. ran_on cat 3 (requests taken) v w i j (took_part 3 i j taken (cut s)) (asked_so_far taken short) (run.fair t cat at) (run.moments t cat at);
+    fair = λ t s state at. ran_on state 3 (requests taken) v w i j (took_part 3 i j taken (cut s)) (asked_so_far taken short) (run.fair t state at) (run.moments t state at);
     all = λ zero. absurd (omega arith);
-    so_far = λ which t s cat at. record { taken = taken; cut = cut s; done = done tells cat (requests taken) (asked_in taken) f v w (in_limit taken short) (run.answered t cat at) };
+    so_far = λ which t s state at. record { taken = taken; cut = cut s; done = done tells state (requests taken) (asked_in taken) f v w (in_limit taken short) (run.answered t state at) };
     pull = λ three. rose;
     output = λ four. absurd (omega arith);
     disk = λ five. absurd (omega arith);
@@ -83,9 +83,9 @@ module _ (tells told : Bool) (e f : Kept) (v w : Device) (i j : Input) (faults :
   overlong value piece full some cut same_pulls run =
       let whole : List ℕ = taken ++ piece in
       let same : requests taken ≡ asked_in whole = up_to_limit taken piece full in record {
-        fair = λ t s cat at. ran_on cat 8 (requests taken) v w i j (took_part 8 i j whole (cut s)) (same ∙ sym (append-nil (asked_in whole))) (run.fair t cat at) (run.moments t cat at);
+        fair = λ t s state at. ran_on state 8 (requests taken) v w i j (took_part 8 i j whole (cut s)) (same ∙ sym (append-nil (asked_in whole))) (run.fair t state at) (run.moments t state at);
         all = λ zero. absurd (omega arith);
-        so_far = λ which t s cat at. record { taken = whole; cut = cut s; done = done tells cat (requests taken) (asked_in whole) f v w same (run.answered t cat at) };
+        so_far = λ which t s state at. record { taken = whole; cut = cut s; done = done tells state (requests taken) (asked_in whole) f v w same (run.answered t state at) };
         pull = λ three. absurd (omega arith);
         output = λ four. absurd (omega arith);
         disk = λ five. absurd (omega arith);
@@ -109,7 +109,7 @@ module _ (tells told : Bool) (e f : Kept) (v w : Device) (i j : Input) (faults :
   module _ (short : length taken ≤ 268435456) (cut : IsTrue told → i.left ≡ taken ++ j.left) (same_pulls : j.pull_faults ≡ i.pull_faults) where
     pub failed : (fault : RunFault) → Ran {T = Unit {0}} (by_engine tells) script (requests taken) (Err fault) e f v w → OpenedRan tells told e (status_of fault) v w i j
     failed Disk run = record {
-      fair = λ t s cat at. ran_on cat 5 (requests taken) v w i j (took_part 5 i j taken (cut s)) (asked_so_far taken short) (run.fair t cat at) (run.moments t cat at);
+      fair = λ t s state at. ran_on state 5 (requests taken) v w i j (took_part 5 i j taken (cut s)) (asked_so_far taken short) (run.fair t state at) (run.moments t state at);
       all = λ zero. absurd (omega arith);
       so_far = λ which. absurd (⊎_elim (λ (is : 5 ≡ 3). omega arith) (λ (is : 5 ≡ 8). omega arith) which);
       pull = λ three. absurd (omega arith);
@@ -131,7 +131,7 @@ module _ (tells told : Bool) (e f : Kept) (v w : Device) (i j : Input) (faults :
       once = once;
     }
     failed Output run = record {
-      fair = λ t s cat at. ran_on cat 4 (requests taken) v w i j (took_part 4 i j taken (cut s)) (asked_so_far taken short) (run.fair t cat at) (run.moments t cat at);
+      fair = λ t s state at. ran_on state 4 (requests taken) v w i j (took_part 4 i j taken (cut s)) (asked_so_far taken short) (run.fair t state at) (run.moments t state at);
       all = λ zero. absurd (omega arith);
       so_far = λ which. absurd (⊎_elim (λ (is : 4 ≡ 3). omega arith) (λ (is : 4 ≡ 8). omega arith) which);
       pull = λ three. absurd (omega arith);
@@ -161,15 +161,15 @@ module _ (tells told : Bool) (e f : Kept) (v w : Device) (i j : Input) (faults :
       whole : IsTrue told → i.left ≡ taken
       whole s = cut s ∙ ap (λ (l : List ℕ). taken ++ l) (none s) ∙ append-nil taken
 
-      ended_fair : (status : ℕ) → (status ≡ 0) ⊎ (status ≡ 4) → (r : Result Unit RunFault) → Ran (by_engine tells) script (requests taken ++ last_request taken) r e f v w → IsTrue tells → IsTrue told → (cat : Catalogue) → IsAt tells e cat v → RanOn script most_script IsScriptEnd asked_of cat status v w i j
-      ended_fair status last r run t s cat at = ran_on cat status (requests taken ++ last_request taken) v w i j (took_all status last s) (asked_to_end taken short) (run.fair t cat at) (run.moments t cat at)
+      ended_fair : (status : ℕ) → (status ≡ 0) ⊎ (status ≡ 4) → (r : Result Unit RunFault) → Ran (by_engine tells) script (requests taken ++ last_request taken) r e f v w → IsTrue tells → IsTrue told → (state : State) → IsAt tells e state v → RanOn script most_script IsScriptEnd asked_of state status v w i j
+      ended_fair status last r run t s state at = ran_on state status (requests taken ++ last_request taken) v w i j (took_all status last s) (asked_to_end taken short) (run.fair t state at) (run.moments t state at)
 
       pub ended : (r : Result Unit RunFault) → (IsErr r → r ≡ Err Output) → Ran (by_engine tells) script (requests taken ++ last_request taken) r e f v w → OpenedRan tells told e (status_of_end r) v w i j
       ended (Ok value) output run = record {
         fair = ended_fair 0 (inl refl) (Ok value) run;
-        all = λ zero t s cat at. record {
+        all = λ zero t s state at. record {
           ended = none s;
-          done = done tells cat (requests taken ++ last_request taken) (requests i.left ++ last_request i.left) f v w (ap (λ (l : List ℕ). requests l ++ last_request l) (sym (whole s))) (run.answered t cat at);
+          done = done tells state (requests taken ++ last_request taken) (requests i.left ++ last_request i.left) f v w (ap (λ (l : List ℕ). requests l ++ last_request l) (sym (whole s))) (run.answered t state at);
         };
         so_far = λ which. absurd (⊎_elim (λ (is : 0 ≡ 3). omega arith) (λ (is : 0 ≡ 8). omega arith) which);
         pull = λ three. absurd (omega arith);

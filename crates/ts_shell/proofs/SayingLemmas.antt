@@ -1,5 +1,5 @@
 -- One item, whatever carries it out: what is said, and what a stop within it leaves.
-use Rattle.std.proofs.Common.{◌≡◌, ◌⊎◌, inl, ℕ, ◌≤◌, Bool, false, IsTrue, List, [], ◌∷◌, ◌++◌, take, drop, Result, Ok, Err, IsErr, refl, sym, ◌∙◌, ap, subst, arith, take-append-drop}
+use Rattle.std.proofs.Common.{◌≡◌, ◌⊎◌, inl, ℕ, ◌≤◌, false, IsTrue, List, [], ◌∷◌, ◌++◌, take, drop, Result, Ok, Err, IsErr, refl, sym, ◌∙◌, ap, arith, take-append-drop}
 use Rattle.std.proofs.lemmas.List.{append-nil}
 use Rattle.ts_disk.specs.Device.{Device, Lawful, Within, LeavesOnly, Says, Rose}
 use Rattle.ts_disk.proofs.Moments.{started, goes_on, leaves_map}

@@ -2,7 +2,7 @@
 use Rattle.std.proofs.Common.{◌≡◌, inl, inr, ℕ, ◌≤◌, Bool, IsTrue, List, ◌++◌, length, codes, Ok, Err, refl, arith}
 use Rattle.std.specs.Fmt.{decimal}
 use Rattle.ts_disk.specs.Device.{Device, Says}
-use Rattle.ts_answer.specs.State.{State, committed, replies}
+use Rattle.ts_answer.specs.State.{State, replies}
 use Rattle.ts_answer.proofs.CallerLemmas.{length-replies}
 use Rattle.ts_engine.specs.declared.fault.StepFault.TheVariants as faults
 use Rattle.ts_engine.specs.Engine.{Kept, IsAt}
@@ -39,7 +39,7 @@ module _ (tells : Bool) (count seed : ℕ) (e : Kept) (v x : Device) where
     module _ (text : List ℕ)
         (is : text ≡ hand.before ++ hand.reply ++ codes "done " ++ decimal hand.answered ++ codes " " ++ decimal hand.refused ++ codes "\n")
         (w : Device) where
-      is_summary : IsTrue tells → (state : State) → IsAt tells e (committed state) v → text ≡ summary (replies state (generated count seed))
+      is_summary : IsTrue tells → (state : State) → IsAt tells e state v → text ≡ summary (replies state (generated count seed))
       is_summary told state at =
           summed_up (replies state (generated count seed)) hand.before hand.reply text hand.answered hand.refused
           (two_replies state count seed) (behind.tally told state at) is

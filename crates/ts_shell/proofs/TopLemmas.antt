@@ -7,6 +7,7 @@ use Rattle.ts_disk.proofs.Moments.{first_map}
 use Rattle.ts_command.specs.Script.{Request}
 use Rattle.ts_replies.proofs.Steps.{none_good}
 use Rattle.ts_model.specs.Catalogue.{Catalogue}
+use Rattle.ts_answer.specs.State.{resting}
 use Rattle.ts_container.specs.declared.fault.SurveyFault.{SurveyFault}
 use Rattle.ts_engine.specs.declared.engine.Engine.{Engine}
 use Rattle.ts_volume.specs.Volume.{MeansCatalogue}
@@ -23,11 +24,11 @@ pub untouched_now : (v : Device) → Untouched v v
 untouched_now v = record { size = refl; held = refl; no_more = λ image now. now; no_fewer = λ image now. now; clock = refl; syncs = refl; faults = refl; said = refl; say_faults = refl }
 
 -- nothing said is fair, and good where the image means the catalogue
-pub silent : (cat : Catalogue) (asked : List Request) (v w : Device) → w.said ≡ v.said → SaysFairly script cat asked v w
-silent cat asked v w same = ([], same ∙ sym (append-nil v.said), (none_good script apart (λ c. Unit {0}) cat asked tt).fair)
+pub silent : (cat : Catalogue) (asked : List Request) (v w : Device) → w.said ≡ v.said → SaysFairly script (resting cat) asked v w
+silent cat asked v w same = ([], same ∙ sym (append-nil v.said), (none_good script apart (λ state. Unit {0}) (resting cat) asked tt).fair)
 
-pub good_first : (cat : Catalogue) (asked : List Request) (before image said : List ℕ) → MeansCatalogue image cat → said ≡ before → IsGoodRun script cat asked before image said
-good_first cat asked before image said means same = ([], same ∙ sym (append-nil before), none_good script apart (MeansCatalogue image) cat asked means)
+pub good_first : (cat : Catalogue) (asked : List Request) (before image said : List ℕ) → MeansCatalogue image cat → said ≡ before → IsGoodRun script (resting cat) asked before image said
+good_first cat asked before image said means same = ([], same ∙ sym (append-nil before), none_good script apart (script.means image) (resting cat) asked means)
 
 -- nothing was taken of the source
 abbrev nothing_taken : (status : ℕ) (i : Input) → Took most_script IsScriptEnd status i i
@@ -37,7 +38,7 @@ taken_enough : (i : Input) → TookEnough most_script i i
 taken_enough i = record { taken = []; cut = refl; short = omega arith }
 
 -- what was said and what a stop leaves; where nothing was pending, each moment is good
-pub ran_from : (cat : Catalogue) (status : ℕ) (v w : Device) (i j : Input) → MeansCatalogue v.held cat → (took : Took most_script IsScriptEnd status i j) → SaysFairly script cat (asked_of took.ended took.taken) v w → FirstSync v w (IsGoodRun script cat (asked_of took.ended took.taken) v.said) → RanFrom cat status v w i j
+pub ran_from : (cat : Catalogue) (status : ℕ) (v w : Device) (i j : Input) → MeansCatalogue v.held cat → (took : Took most_script IsScriptEnd status i j) → SaysFairly script (resting cat) (asked_of took.ended took.taken) v w → FirstSync v w (IsGoodRun script (resting cat) (asked_of took.ended took.taken) v.said) → RanFrom cat status v w i j
 ran_from cat status v w i j means took fair moments = record {
   took = took;
   fair = fair;
@@ -50,7 +51,7 @@ ran_from cat status v w i j means took fair moments = record {
 
 -- The run ends before the script is pulled, with nothing said.
 unpulled : (tells told : Bool) (status : ℕ) (v w : Device) (i : Input) → OpensStore tells status v w → (status ≡ 5) ⊎ ((status ≡ 6) ⊎ (status ≡ 7)) → w.said ≡ v.said → w.say_faults ≡ v.say_faults
-    → (IsTrue tells → (cat : Catalogue) → MeansCatalogue v.held cat → (asked : List Request) → FirstSync v w (IsGoodRun script cat asked v.said))
+    → (IsTrue tells → (cat : Catalogue) → MeansCatalogue v.held cat → (asked : List Request) → FirstSync v w (IsGoodRun script (resting cat) asked v.said))
     → (status ≡ 7 → (w.held ≡ v.held) × Within v.images w.images) → ScriptRan tells told status v w i i
 unpulled tells told status v w i store which said say_faults first unwritten = record {
   store = store;
@@ -82,12 +83,12 @@ unpulled tells told status v w i store which said say_faults first unwritten = r
 -- want of memory for the buffers: nothing is done
 pub unbuffered : (tells told : Bool) (v : Device) (i : Input) → Lawful tells v → ScriptRan tells told 7 v v i i
 unbuffered tells told v i lawful =
-    unpulled tells told 7 v v i (unopened_now tells v lawful) (inr (inr refl)) refl refl (λ t cat means asked. first_now tells v (IsGoodRun script cat asked v.said) lawful) (λ seven. (refl, λ image now. now))
+    unpulled tells told 7 v v i (unopened_now tells v lawful) (inr (inr refl)) refl refl (λ t cat means asked. first_now tells v (IsGoodRun script (resting cat) asked v.said) lawful) (λ seven. (refl, λ image now. now))
 
 -- the opening, from its first sync on
-opening : (tells : Bool) (r : Result Engine SurveyFault) (v y : Device) → Started tells r v y → IsTrue tells → (cat : Catalogue) → MeansCatalogue v.held cat → (asked : List Request) → FirstSync v y (IsGoodRun script cat asked v.said)
+opening : (tells : Bool) (r : Result Engine SurveyFault) (v y : Device) → Started tells r v y → IsTrue tells → (cat : Catalogue) → MeansCatalogue v.held cat → (asked : List Request) → FirstSync v y (IsGoodRun script (resting cat) asked v.said)
 opening tells r v y started told cat means asked =
-    first_map v y (StillMeans cat v) (IsGoodRun script cat asked v.said) (λ image said now. good_first cat asked v.said image said now.0 now.1) (started.moments told cat means)
+    first_map v y (StillMeans cat v) (IsGoodRun script (resting cat) asked v.said) (λ image said now. good_first cat asked v.said image said now.0 now.1) (started.moments told cat means)
 
 -- the volume was not opened
 pub unopened : (tells told : Bool) (fault : SurveyFault) (v y : Device) (i : Input) → Started tells (Err fault) v y → ScriptRan tells told (status_of_opening fault) v y i i
@@ -101,14 +102,14 @@ module _ (tells told : Bool) (engine : Engine) (v y w : Device) (i j : Input) (s
 
   fair_from : IsTrue tells → IsTrue told → (cat : Catalogue) → MeansCatalogue v.held cat → RanFrom cat status v w i j
   fair_from t s cat means =
-      let part = ran.fair t s cat (started.at t cat means) in
+      let part = ran.fair t s (resting cat) (started.at t cat means) in
       let asked = asked_of part.took.ended part.took.taken in
-      let good : LeavesOnly y w (IsGoodRun script cat asked v.said) = subst (λ (l : List ℕ). LeavesOnly y w (IsGoodRun script cat asked l)) said_first part.moments in
+      let good : LeavesOnly y w (IsGoodRun script (resting cat) asked v.said) = subst (λ (l : List ℕ). LeavesOnly y w (IsGoodRun script (resting cat) asked l)) said_first part.moments in
       ran_from cat status v w i j means part.took
       (part.fair.0, part.fair.1 ∙ ap (λ (l : List ℕ). l ++ part.fair.0) said_first, part.fair.2)
-      (first_then v y w (IsGoodRun script cat asked v.said) (opening tells (Ok engine) v y started t cat means asked) (started.synced t) good (ran.syncs t))
+      (first_then v y w (IsGoodRun script (resting cat) asked v.said) (opening tells (Ok engine) v y started t cat means asked) (started.synced t) good (ran.syncs t))
 
-  done_from : (cat : Catalogue) (asked : List Request) → AllDone script cat asked y w → AllDone script cat asked v w
+  done_from : (cat : Catalogue) (asked : List Request) → AllDone script (resting cat) asked y w → AllDone script (resting cat) asked v w
   done_from cat asked done = record {
     gained = done.gained;
     last = done.last;
@@ -122,8 +123,8 @@ module _ (tells told : Bool) (engine : Engine) (v y w : Device) (i j : Input) (s
   opened = record {
     store = opened_store tells engine status v y w started (λ six. neither (inl six)) ran.disk ran.no_fault ran.size ran.faults;
     fair = fair_from;
-    all = λ zero t s cat means. let done = ran.all zero t s cat (started.at t cat means) in record { ended = done.ended; done = done_from cat _ done.done };
-    so_far = λ which t s cat means. let done = ran.so_far which t s cat (started.at t cat means) in record { taken = done.taken; cut = done.cut; done = done_from cat _ done.done };
+    all = λ zero t s cat means. let done = ran.all zero t s (resting cat) (started.at t cat means) in record { ended = done.ended; done = done_from cat _ done.done };
+    so_far = λ which t s cat means. let done = ran.so_far which t s (resting cat) (started.at t cat means) in record { taken = done.taken; cut = done.cut; done = done_from cat _ done.done };
     pull = ran.pull;
     output = λ four. rose_on v.say_faults y.say_faults w.say_faults (omega (arith, started.others.say_faults)) (ran.output four);
     too_long = ran.too_long;

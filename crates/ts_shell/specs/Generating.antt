@@ -1,11 +1,11 @@
 -- What `gen` does: it carries out the generated commands, and says what the last two come to and how many there were of each kind.
-use Rattle.std.specs.Prelude.{◌≡◌, ◌≢◌, ◌⊎◌, ℕ, ◌+◌, ◌-◌, ◌≤◌, ◌==◌, ◌&&◌, Bool, not, IsTrue, if◌then◌else◌, List, [], ◌∷◌, ◌++◌, length, take, drop, codes, decimal, flat_map, Result, Ok, OnOk, IfErr, nat_eq}
-use Rattle.std.specs.List.{count_by, starts_with}
+use Rattle.std.specs.Prelude.{◌≡◌, ◌≢◌, ◌⊎◌, ℕ, ◌+◌, ◌-◌, ◌≤◌, Bool, not, IsTrue, List, [], ◌∷◌, ◌++◌, length, take, drop, codes, decimal, flat_map, Result, Ok, OnOk, IfErr}
+use Rattle.std.specs.List.{count_by}
 use Rattle.ts_disk.specs.Device.{Device, Rose, FirstSync, LeavesOnly, Saying}
 use Rattle.ts_journal.specs.Moment.{Keeps, OnlyReads}
 use Rattle.ts_command.specs.declared.command.Command.{Command}
 use Rattle.ts_model.specs.Catalogue.{Catalogue}
-use Rattle.ts_answer.specs.State.{State, base, committed, after, replies}
+use Rattle.ts_answer.specs.State.{State, resting, committed, after, replies}
 use Rattle.ts_answer.specs.Outcomes.{ends_with_ok}
 use Rattle.ts_engine.specs.declared.fault.StepFault.{StepFault}
 use Rattle.ts_engine.specs.declared.fault.StepFault.TheVariants.{Disk, Memory, Closed}
@@ -52,10 +52,10 @@ QuietFault (Closed faults) v w = ⊥
 -- what carrying out commands in their order does, with nothing said, and with an engine that is `e` before and `f` behind
 pub record RanQuietly (tells : Bool) (commands : List Command) (result : Result Unit StepFault) (e f : Kept) (v w : Device) : Type 0 where
   pub ready : OnOk result (IsReady tells f w)
-  pub at : OnOk result (IsTrue tells → (state : State) → IsAt tells e (committed state) v
-      → IsAt tells f (committed (after state commands)) w)
+  pub at : OnOk result (IsTrue tells → (state : State) → IsAt tells e state v
+      → IsAt tells f (after state commands) w)
   pub fault : IfErr result (λ fault. QuietFault fault v w)
-  pub moments : IsTrue tells → (state : State) → IsAt tells e (committed state) v → LeavesOnly v w (IsAmong state commands v.said)
+  pub moments : IsTrue tells → (state : State) → IsAt tells e state v → LeavesOnly v w (IsAmong state commands v.said)
   pub others : Keeps tells v w
   pub no_fault : OnOk result (w.faults ≡ v.faults)
 
@@ -63,7 +63,7 @@ pub record RanQuietly (tells : Bool) (commands : List Command) (result : Result 
 -- their replies.
 pub record IsBehind (tells : Bool) (commands : List Command) (e : Kept) (v : Device) (hand : Generator) (w : Device) : Type 0 where
   pub ran : RanQuietly tells commands (Ok (tt {0})) e hand.engine v w
-  pub tally : IsTrue tells → (state : State) → IsAt tells e (committed state) v
+  pub tally : IsTrue tells → (state : State) → IsAt tells e state v
       → IsTally (replies state commands) hand.before hand.reply hand.answered hand.refused
   pub total : hand.answered + hand.refused ≡ length commands
 
@@ -112,7 +112,7 @@ pub record GeneratedOn (state : State) (commands : List Command) (status : ℕ) 
 
 -- What commands do over an engine.
 pub record OpenedGen (tells : Bool) (commands : List Command) (e : Kept) (status : ℕ) (v w : Device) : Type 0 where
-  pub on : IsTrue tells → (state : State) → IsAt tells e (committed state) v → GeneratedOn state commands status v w
+  pub on : IsTrue tells → (state : State) → IsAt tells e state v → GeneratedOn state commands status v w
   pub settled : status ≡ 0 → NothingIsPending w
   pub output : status ≡ 4 → Rose v.say_faults w.say_faults
   pub disk : status ≡ 5 → Rose v.faults w.faults
@@ -127,13 +127,13 @@ pub record OpenedGen (tells : Bool) (commands : List Command) (e : Kept) (status
 
 -- What `gen` does with these commands over a volume that means this catalogue at the entry.
 pub record GeneratedFrom (commands : List Command) (cat : Catalogue) (status : ℕ) (v w : Device) : Type 0 where
-  pub says : SaysSummary (base cat) commands status v w
+  pub says : SaysSummary (resting cat) commands status v w
   -- From the end of the first sync on each moment means the catalogue after the first commands, and after all once a byte was said;
   -- before it, and in the whole call where no sync answered Ok, each is an image of the entry with nothing said.
-  pub moments : FirstSync v w (IsWithin (base cat) commands v.said)
+  pub moments : FirstSync v w (IsWithin (resting cat) commands v.said)
   -- where nothing was pending at the entry, each moment of the call means it so
   pub at_rest : NothingIsPending v → (image said : List ℕ) → w.since v.clock image said
-      → IsWithin (base cat) commands v.said image said
+      → IsWithin (resting cat) commands v.said image said
   -- unless a call fails all is done, or there is no memory for it
   pub complete : ¬ Rose v.faults w.faults → ¬ Rose v.say_faults w.say_faults → (status ≡ 0) ⊎ (status ≡ 7)
 

@@ -20,7 +20,7 @@ requests_from place bytes = map request_of (items_from place bytes)
 abbrev pub requests_at_end : Option (List ℕ) → List Request
 requests_at_end place = if is_unended_at place then Err refusals.Unended ∷ [] else []
 
--- how the requests of a script are answered
+-- How the requests of a script are answered from one state to the next. An image means the catalogue that is committed there.
 abbrev pub script : Protocol State Request
 script = record { answer = run_answer; stand_in = stand_in; means = λ image state. MeansCatalogue image (committed state) }
 
@@ -28,8 +28,8 @@ script = record { answer = run_answer; stand_in = stand_in; means = λ image sta
 abbrev pub SaysFairly : {C I : Type 0} → Protocol C I → C → List I → Device → Device → Type 0
 SaysFairly p cat asked v w = (gained : List ℕ) × (w.said ≡ v.said ++ gained) × IsFair p cat asked gained
 
--- An image and the bytes said by then: these are replies from `before` on, and the image means the catalogue after exactly the
--- acknowledged items, or these and the next.
+-- An image and the bytes said by then: these are replies from `before` on, and the image means what is committed after exactly
+-- the acknowledged items, or after these and the next.
 abbrev pub IsGoodRun : {C I : Type 0} → Protocol C I → C → List I → List ℕ → List ℕ → List ℕ → Type 0
 IsGoodRun p cat asked before image said = IsGoodMoment p cat asked before image said
 
@@ -41,10 +41,10 @@ pub record Carrier (E C : Type 0) : Type 1 where
   pub ready : E → Device → Type 0
   pub stands : E → C → Device → Type 0
 
--- an engine stands at the catalogue that its volume means
+-- an engine stands at a state, whose base its volume means
 abbrev pub by_engine : Bool → Carrier Kept State
 by_engine tells =
-    record { tells = tells; ready = IsReady tells; stands = λ e state d. IsAt tells e (committed state) d }
+    record { tells = tells; ready = IsReady tells; stands = λ e state d. IsAt tells e state d }
 
 -- every item has its whole reply, and what carries them out stands at the state after them
 pub record Answered {E C I : Type 0} (c : Carrier E C) (p : Protocol C I)

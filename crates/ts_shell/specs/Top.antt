@@ -5,6 +5,7 @@ use Rattle.ts_disk.specs.Input.{Input}
 use Rattle.ts_command.specs.Script.{Request, requests, last_request}
 use Rattle.ts_replies.specs.Acknowledged.{Protocol, AllAnswered}
 use Rattle.ts_model.specs.Catalogue.{Catalogue, empty_catalogue, newest_format}
+use Rattle.ts_answer.specs.State.{State, resting}
 use Rattle.ts_volume.specs.Volume.{MeansCatalogue}
 use Rattle.ts_engine.specs.Engine.{Kept, IsAt, NothingIsPending}
 use Rattle.ts_shell.specs.declared.fault.RunFault.{RunFault}
@@ -65,7 +66,7 @@ asked_in taken = requests (take 268435456 taken)
 abbrev pub asked_of : Bool → List ℕ → List Request
 asked_of ended taken = asked_in taken ++ (if ended then last_request taken else [])
 
--- every item has its whole reply, and the volume, with nothing pending, means the catalogue after them
+-- every item has its whole reply, and the volume, with nothing pending, means what is committed after them
 pub record AllDone {C I : Type 0} (p : Protocol C I) (cat : C) (asked : List I) (v w : Device) : Type 0 where
   pub gained : List ℕ
   pub last : C
@@ -90,16 +91,17 @@ pub record Took (limit : ℕ) (IsEnd : ℕ → Type 0) (status : ℕ) (i j : Inp
   pub cut : i.left ≡ taken ++ j.left
   pub end : IsTrue ended → (j.left ≡ []) × (length taken ≤ limit) × IsEnd status
 
--- everything was taken up to the end of the source, and every request of the script is answered
-pub record DoneToEnd (cat : Catalogue) (v w : Device) (i j : Input) : Type 0 where
+-- Everything was taken up to the end of the source, and every request of the script is answered. A transaction that is open
+-- behind them is given up.
+pub record DoneToEnd (state : State) (v w : Device) (i j : Input) : Type 0 where
   pub ended : j.left ≡ []
-  pub done : AllDone script cat (requests i.left ++ last_request i.left) v w
+  pub done : AllDone script state (requests i.left ++ last_request i.left) v w
 
 -- every request is answered of those items that end within the bytes taken, up to the limit
-pub record DoneSoFar (cat : Catalogue) (v w : Device) (i j : Input) : Type 0 where
+pub record DoneSoFar (state : State) (v w : Device) (i j : Input) : Type 0 where
   pub taken : List ℕ
   pub cut : i.left ≡ taken ++ j.left
-  pub done : AllDone script cat (asked_in taken) v w
+  pub done : AllDone script state (asked_in taken) v w
 
 -- the bytes that were taken are more than the limit
 pub record TookTooMuch (limit : ℕ) (i j : Input) : Type 0 where
@@ -113,19 +115,19 @@ pub record TookEnough (limit : ℕ) (i j : Input) : Type 0 where
   pub cut : i.left ≡ taken ++ j.left
   pub short : length taken ≤ limit
 
--- What was said over an engine that stood at this catalogue, and what a stop left. `asked` tells the items of what was taken.
+-- What was said over an engine that stood at this state, and what a stop left. `asked` tells the items of what was taken.
 pub record RanOn {C I : Type 0} (p : Protocol C I) (limit : ℕ) (IsEnd : ℕ → Type 0) (asked : Bool → List ℕ → List I)
-    (cat : C) (status : ℕ) (v w : Device) (i j : Input) : Type 0 where
+    (state : C) (status : ℕ) (v w : Device) (i j : Input) : Type 0 where
   pub took : Took limit IsEnd status i j
-  pub fair : SaysFairly p cat (asked took.ended took.taken) v w
-  pub moments : LeavesOnly v w (IsGoodRun p cat (asked took.ended took.taken) v.said)
+  pub fair : SaysFairly p state (asked took.ended took.taken) v w
+  pub moments : LeavesOnly v w (IsGoodRun p state (asked took.ended took.taken) v.said)
 
 -- What a script does over an engine.
 pub record OpenedRan (tells told : Bool) (e : Kept) (status : ℕ) (v w : Device) (i j : Input) : Type 0 where
-  pub fair : IsTrue tells → IsTrue told → (cat : Catalogue) → IsAt tells e cat v
-      → RanOn script most_script IsScriptEnd asked_of cat status v w i j
-  pub all : status ≡ 0 → IsTrue tells → IsTrue told → (cat : Catalogue) → IsAt tells e cat v → DoneToEnd cat v w i j
-  pub so_far : (status ≡ 3) ⊎ (status ≡ 8) → IsTrue tells → IsTrue told → (cat : Catalogue) → IsAt tells e cat v → DoneSoFar cat v w i j
+  pub fair : IsTrue tells → IsTrue told → (state : State) → IsAt tells e state v
+      → RanOn script most_script IsScriptEnd asked_of state status v w i j
+  pub all : status ≡ 0 → IsTrue tells → IsTrue told → (state : State) → IsAt tells e state v → DoneToEnd state v w i j
+  pub so_far : (status ≡ 3) ⊎ (status ≡ 8) → IsTrue tells → IsTrue told → (state : State) → IsAt tells e state v → DoneSoFar state v w i j
   pub pull : status ≡ 3 → Rose i.pull_faults j.pull_faults
   pub output : status ≡ 4 → Rose v.say_faults w.say_faults
   pub disk : status ≡ 5 → Rose v.faults w.faults
@@ -144,16 +146,17 @@ pub record OpenedRan (tells told : Bool) (e : Kept) (status : ℕ) (v w : Device
   pub pulls_most : j.pulls ≤ i.pulls + 268435457
   pub once : i.ended ≡ false → j.past_end ≡ i.past_end
 
--- What was said and what a stop leaves, over a volume that means this catalogue at the entry.
+-- What was said and what a stop leaves, over a volume that means this catalogue at the entry: with no transaction, the run is
+-- there.
 pub record RanFrom (cat : Catalogue) (status : ℕ) (v w : Device) (i j : Input) : Type 0 where
   pub took : Took most_script IsScriptEnd status i j
-  pub fair : SaysFairly script cat (asked_of took.ended took.taken) v w
+  pub fair : SaysFairly script (resting cat) (asked_of took.ended took.taken) v w
   -- From the end of the first sync on each moment is good; before it, and in the whole call where no sync answered Ok, each is
   -- an image of the entry with nothing said.
-  pub moments : FirstSync v w (IsGoodRun script cat (asked_of took.ended took.taken) v.said)
+  pub moments : FirstSync v w (IsGoodRun script (resting cat) (asked_of took.ended took.taken) v.said)
   -- where nothing was pending at the entry, each moment of the call is good
   pub at_rest : NothingIsPending v → (image said : List ℕ) → w.since v.clock image said
-      → IsGoodRun script cat (asked_of took.ended took.taken) v.said image said
+      → IsGoodRun script (resting cat) (asked_of took.ended took.taken) v.said image said
 
 -- What `run` does.
 pub record ScriptRan (tells told : Bool) (status : ℕ) (v w : Device) (i j : Input) : Type 0 where
@@ -161,9 +164,9 @@ pub record ScriptRan (tells told : Bool) (status : ℕ) (v w : Device) (i j : In
   -- what was said is replies to the script taken, and what a stop leaves agrees with them
   pub fair : IsTrue tells → IsTrue told → (cat : Catalogue) → MeansCatalogue v.held cat → RanFrom cat status v w i j
   -- at 0 the script is read to its end and every request has its reply
-  pub all : status ≡ 0 → IsTrue tells → IsTrue told → (cat : Catalogue) → MeansCatalogue v.held cat → DoneToEnd cat v w i j
+  pub all : status ≡ 0 → IsTrue tells → IsTrue told → (cat : Catalogue) → MeansCatalogue v.held cat → DoneToEnd (resting cat) v w i j
   -- at 3 and 8 every item has its reply that ends within the bytes taken, up to the limit
-  pub so_far : (status ≡ 3) ⊎ (status ≡ 8) → IsTrue tells → IsTrue told → (cat : Catalogue) → MeansCatalogue v.held cat → DoneSoFar cat v w i j
+  pub so_far : (status ≡ 3) ⊎ (status ≡ 8) → IsTrue tells → IsTrue told → (cat : Catalogue) → MeansCatalogue v.held cat → DoneSoFar (resting cat) v w i j
   pub pull : status ≡ 3 → Rose i.pull_faults j.pull_faults
   pub output : status ≡ 4 → Rose v.say_faults w.say_faults
   -- 8 comes exactly where a pull gave bytes past the first 268435456

@@ -1,18 +1,20 @@
 -- What a caller needs between the calls of a store.
-use Rattle.std.proofs.Common.{◌≡◌, ℕ, ◌*◌, ◌<◌, Bool, IsTrue, Some, List, [], length, refl, ap, sym, ◌∙◌, subst, arith}
+use Rattle.std.proofs.Common.{◌≡◌, ℕ, ◌*◌, ◌<◌, ◌≤◌, Bool, IsTrue, Some, List, [], length, refl, ap, sym, ◌∙◌, subst, arith}
 use Rattle.ts_disk.specs.Device.{Device, Only}
 use Rattle.ts_page.specs.Pages.{IsLawful, SameButFreed}
 use Rattle.ts_page.proofs.PagesLemmas.{lawful_same, same_trans, same_from_equal}
-use Rattle.ts_journal.specs.Entry.{Entry, AreAllowed}
-use Rattle.ts_journal.specs.Journal.{IsVolumeSize, page_count, records, pages, StandsOver, ReadsButFreed}
+use Rattle.ts_journal.specs.Entry.{Entry, AreAllowed, entries_bytes, over, put_all}
+use Rattle.ts_journal.specs.Journal.{IsVolumeSize, page_count, own_page, records, pages, StandsOver, ReadsButFreed}
 use Rattle.ts_journal.specs.Moment.{OnlyReads}
 use Rattle.ts_recover.proofs.CallerLemmas.{still_only}
 use Rattle.ts_cache.proofs.CallerLemmas.{none_has}
-use Rattle.ts_store.specs.OpenBatch.{State, IsInPlace, AreInPlace, IsReadOver, IsOver, IsIdle, IsFresh, Closes, cache_pages, read_pages, contents_over}
+use Rattle.ts_store.specs.OpenBatch.{State, IsInPlace, AreInPlace, IsReadOver, IsOver, IsIdle, IsClosed, IsFresh, Closes, cache_pages, to_commit, committed_pages, read_pages, rolled_back, contents_over}
 use Rattle.ts_store.specs.Undisturbed.{Undisturbed}
 pub use Rattle.ts_journal.proofs.CallerLemmas.{keeps_refl, keeps_then}
 pub use Rattle.ts_recover.proofs.CallerLemmas.{reads_none, reads_then}
 pub use Rattle.ts_store.proofs.ReadLemmas.{read_closed, same_but_freed}
+use Rattle.ts_store.proofs.CommitLemmas.{over_same}
+pub use Rattle.ts_store.proofs.JoinLemmas.{joined_bytes, joined_alone, none_joined}
 pub use Rattle.ts_store.proofs.CommitLemmas.{counted}
 
 -- a store whose journal was just read can be read over its volume
@@ -63,7 +65,7 @@ over_still tells s t v w over calls lawful =
     record { read = read_still tells s t v w over.read calls lawful; settled = still_only tells v w calls.reads over.settled }
 
 -- so does the taking of memory
-pub over_prepared : (tells : Bool) (s t : State) (d : Device) → t ≡ record s { spare = t.spare } → IsOver tells s d → IsOver tells t d
+pub over_prepared : (tells : Bool) (s t : State) (d : Device) → t ≡ record s { spare = t.spare; join_spare = t.join_spare } → IsOver tells s d → IsOver tells t d
 over_prepared tells s t d is over =
     subst (λ (x : State). IsOver tells x d) (sym is)
     (record {
@@ -77,21 +79,21 @@ first_element tells s d over = omega (arith, over.read.size, over.read.volume.1,
 
 -- once their batch is dropped, the pages and those that can be taken are as they were
 pub read_dropped : (tells : Bool) (s t : State) (v w : Device) → Undisturbed tells s t v w → s.batch ≡ [] → (k : ℕ) → read_pages (record t { batch = []; free = t.kept_free }) w.held k ≡ read_pages s v.held k
-read_dropped tells s t v w calls none k = λ i. read_pages (record s { batch = sym none i; overlay = calls.overlay i }) (calls.reads.held i) k
+read_dropped tells s t v w calls none k = λ i. read_pages (record s { batch = sym none i; transaction = calls.transaction i; overlay = calls.overlay i }) (calls.reads.held i) k
 
 pub over_dropped : (tells : Bool) (s t u : State) (v w : Device) → IsOver tells s v → Undisturbed tells s t v w → s.batch ≡ [] → s.free ≡ s.kept_free → u ≡ record t { batch = []; free = t.kept_free } → IsOver tells u w
 over_dropped tells s t u v w over calls none kept dropped =
     let back : State = record t { batch = []; free = t.kept_free } in
     subst (λ (x : State). IsOver tells x w) (sym dropped)
-    (over_still tells s back v w over (record { pages = calls.pages; journal = calls.journal; overlay = calls.overlay; kept_free = calls.kept_free; reads = calls.reads; cached = calls.cached })
+    (over_still tells s back v w over (record { pages = calls.pages; journal = calls.journal; overlay = calls.overlay; transaction = calls.transaction; kept_free = calls.kept_free; base_free = calls.base_free; reads = calls.reads; cached = calls.cached })
     (lawful_same tells (contents_over s v) (contents_over back w) over.read.lawful calls.pages (λ told k. read_dropped tells s t v w calls none k) (calls.kept_free ∙ sym kept)))
 
 -- after a commit the pages are those that were read in its batch, but for what the emptying of the journal may change
-pub read_committed : (tells : Bool) (told : IsTrue tells) (s t : State) (v w : Device) → IsOver tells s v → t.batch ≡ [] → IsOver tells t w → ReadsButFreed v.size s.overlay (read_pages s v.held) w.held
+pub read_committed : (tells : Bool) (told : IsTrue tells) (s t : State) (v w : Device) → IsOver tells s v → t.transaction ≡ [] → t.batch ≡ [] → IsOver tells t w → ReadsButFreed v.size s.overlay (read_pages s v.held) w.held
     → SameButFreed (read_pages s v.held) (read_pages t w.held)
-read_committed tells told s t v w before none over reads =
+read_committed tells told s t v w before closed none over reads =
     same_trans (read_pages s v.held) (pages w.held) (read_pages t w.held) (same_but_freed s.pages v.size s.overlay (read_pages s v.held) w.held before.read.allowed reads)
-    (same_from_equal (pages w.held) (read_pages t w.held) (λ k. read_closed t w.held none (over.read.stands told) k))
+    (same_from_equal (pages w.held) (read_pages t w.held) (λ k. read_closed t w.held closed none (over.read.stands told) k))
 
 -- a store whose journal was just read has no batch open
 pub idle_recovered : (tells : Bool) (count position : ℕ) (entries : List Entry) (s : State) (d : Device) → IsFresh count position entries s → IsOver tells s d → IsIdle tells s d
@@ -139,6 +141,89 @@ module _ (tells : Bool) (s : State) (v : Device) (over : IsOver tells s v) where
     settled = λ image now. over.settled image (within image now) ∙ sym held;
   }
 
--- between two batches the pages that are read are those of the volume
-pub idle_reads : (tells : Bool) (s : State) (d : Device) → IsIdle tells s d → IsTrue tells → (k : ℕ) → read_pages s d.held k ≡ pages d.held k
-idle_reads tells s d idle told k = read_closed s d.held idle.batch (idle.over.read.stands told) k
+-- between two batches, where no transaction is open, the pages that are read are those of the volume
+pub idle_reads : (tells : Bool) (s : State) (d : Device) → IsIdle tells s d → IsClosed s → IsTrue tells → (k : ℕ) → read_pages s d.held k ≡ pages d.held k
+idle_reads tells s d idle closed told k = read_closed s d.held closed.transaction idle.batch (idle.over.read.stands told) k
+
+-- no transaction is open where a journal was just read, nor after a commit
+pub closed_recovered : (count position : ℕ) (entries : List Entry) (s : State) → IsFresh count position entries s → IsClosed s
+closed_recovered count position entries s fresh = record { transaction = fresh.transaction; base_free = fresh.base_free ∙ sym fresh.free }
+
+pub closed_committed : (s t : State) → Closes s t → IsClosed t
+closed_committed s t closes = record { transaction = closes.transaction; base_free = closes.base_free ∙ sym closes.free }
+
+-- nor after calls on a batch that was dropped, where none was before
+pub closed_dropped : (tells : Bool) (s t u : State) (v w : Device) → IsClosed s → s.kept_free ≡ s.free → Undisturbed tells s t v w → u ≡ record t { batch = []; free = t.kept_free } → IsClosed u
+closed_dropped tells s t u v w closed kept calls dropped = record {
+  transaction = ap (λ (x : State). x.transaction) dropped ∙ calls.transaction ∙ closed.transaction;
+  base_free = ap (λ (x : State). x.base_free) dropped ∙ calls.base_free ∙ closed.base_free ∙ sym kept ∙ sym calls.kept_free ∙ sym (ap (λ (x : State). x.free) dropped);
+}
+
+-- with no batch and no transaction nothing is to be committed
+pub none_to_commit : (s : State) → s.transaction ≡ [] → s.batch ≡ [] → to_commit s ≡ []
+none_to_commit s closed none = λ i. put_all (closed i) (none i)
+
+-- what is to be committed takes at most the bytes that a keeper of pages counts
+pub commit_bytes : (s : State) (d : Device) → length (entries_bytes (to_commit s)) ≤ (contents_over s d).change_bytes
+commit_bytes s d = joined_bytes s.transaction s.batch
+
+-- Where no transaction is open, the batch alone is over the pages that were committed.
+pub read_alone : (s : State) (held : List ℕ) → s.transaction ≡ [] → (k : ℕ) → read_pages s held k ≡ over s.batch (committed_pages s held) k
+read_alone s held closed k = λ i. over s.batch (over (closed i) (committed_pages s held)) k
+
+-- A keep leaves the pages that are read, and counts no more bytes of changes.
+module _ (tells : Bool) (s t : State) (d : Device) (is : t ≡ record s { transaction = to_commit s; batch = []; kept_free = s.free; join_spare = t.join_spare })
+    (same : (held : List ℕ) → (k : ℕ) → read_pages t held k ≡ read_pages s held k) where
+  pub over_joined : IsOver tells s d → IsOver tells t d
+  over_joined over = over_same tells s t d over (ap (λ (x : State). x.pages) is) (ap (λ (x : State). x.journal) is) (ap (λ (x : State). x.overlay) is) (ap (λ (x : State). x.cache) is) (ap (λ (x : State). x.free) is) (same d.held)
+
+  pub idle_joined : IsOver tells s d → IsIdle tells t d
+  idle_joined over = record {
+    over = over_joined over;
+    batch = ap (λ (x : State). x.batch) is;
+    kept_free = ap (λ (x : State). x.kept_free) is ∙ sym (ap (λ (x : State). x.free) is);
+  }
+
+  pub joined_counts : (contents_over t d).change_bytes ≤ (contents_over s d).change_bytes
+  joined_counts = omega (arith, joined_bytes s.transaction s.batch, ap (λ (x : State). length (entries_bytes x.transaction)) is, ap (λ (x : State). length (entries_bytes x.batch)) is)
+
+-- What a rollback goes back to stays over its volume: while calls are made on a batch, memory is taken for its end, and it is dropped
+-- or kept.
+pub base_still : (tells : Bool) (s t : State) (v w : Device) → IsOver tells (rolled_back s) v → Undisturbed tells s t v w → IsOver tells (rolled_back t) w
+base_still tells s t v w base calls =
+    over_still tells (rolled_back s) (rolled_back t) v w base
+    (record { pages = calls.pages; journal = calls.journal; overlay = calls.overlay; transaction = refl; kept_free = calls.base_free; base_free = calls.base_free; reads = calls.reads; cached = calls.cached })
+    (lawful_same tells (contents_over (rolled_back s) v) (contents_over (rolled_back t) w) base.read.lawful calls.pages (λ told k i. over (calls.overlay i) (own_page (calls.reads.held i)) k) calls.base_free)
+
+pub base_prepared : (tells : Bool) (s t : State) (d : Device) → t ≡ record s { spare = t.spare; join_spare = t.join_spare } → IsOver tells (rolled_back s) d → IsOver tells (rolled_back t) d
+base_prepared tells s t d is base = over_prepared tells (rolled_back s) (rolled_back t) d (ap rolled_back is) base
+
+pub base_dropped : (tells : Bool) (t u : State) (d : Device) → u ≡ record t { batch = []; free = t.kept_free } → IsOver tells (rolled_back t) d → IsOver tells (rolled_back u) d
+base_dropped tells t u d is base = subst (λ (x : State). IsOver tells x d) (sym (ap rolled_back is)) base
+
+pub base_joined : (tells : Bool) (s t : State) (d : Device) → t ≡ record s { transaction = to_commit s; batch = []; kept_free = s.free; join_spare = t.join_spare } → IsOver tells (rolled_back s) d → IsOver tells (rolled_back t) d
+base_joined tells s t d is base =
+    over_same tells (rolled_back s) (rolled_back t) d base (ap (λ (x : State). x.pages) is) (ap (λ (x : State). x.journal) is) (ap (λ (x : State). x.overlay) is) (ap (λ (x : State). x.cache) is) (ap (λ (x : State). x.base_free) is)
+    (λ k. ap (λ (x : State). committed_pages x d.held k) is)
+
+-- where none is open, it is the store itself
+pub rolled_back_closed : (tells : Bool) (s : State) (d : Device) → IsIdle tells s d → IsClosed s → rolled_back s ≡ s
+rolled_back_closed tells s d idle closed =
+    λ i. record s { transaction = sym closed.transaction i; batch = sym idle.batch i; free = closed.base_free i; kept_free = (closed.base_free ∙ sym idle.kept_free) i }
+
+-- its pages are those that were committed
+pub read_rolled_back : (s : State) (held : List ℕ) (k : ℕ) → read_pages (rolled_back s) held k ≡ committed_pages s held k
+read_rolled_back s held k = refl
+
+-- once it was rolled back, the store is over its volume, no batch and no transaction is open
+module _ (tells : Bool) (s t : State) (d : Device) (is : t ≡ record (rolled_back s) { join_spare = t.join_spare }) where
+  pub over_rolled_back : IsOver tells (rolled_back s) d → IsOver tells t d
+  over_rolled_back over = over_same tells (rolled_back s) t d over (ap (λ (x : State). x.pages) is) (ap (λ (x : State). x.journal) is) (ap (λ (x : State). x.overlay) is) (ap (λ (x : State). x.cache) is) (ap (λ (x : State). x.free) is)
+      (λ k. ap (λ (x : State). read_pages x d.held k) is)
+
+  pub idle_rolled_back : IsOver tells (rolled_back s) d → IsIdle tells t d
+  idle_rolled_back over =
+      record { over = over_rolled_back over; batch = ap (λ (x : State). x.batch) is; kept_free = ap (λ (x : State). x.kept_free) is ∙ sym (ap (λ (x : State). x.free) is) }
+
+  pub closed_rolled_back : IsClosed t
+  closed_rolled_back = record { transaction = ap (λ (x : State). x.transaction) is; base_free = ap (λ (x : State). x.base_free) is ∙ sym (ap (λ (x : State). x.free) is) }

@@ -66,7 +66,9 @@ undisturbed_but_cache tells s t v w is reads cached = record {
   pages = ap (λ (x : State). x.pages) is;
   journal = ap (λ (x : State). x.journal) is;
   overlay = ap (λ (x : State). x.overlay) is;
+  transaction = ap (λ (x : State). x.transaction) is;
   kept_free = ap (λ (x : State). x.kept_free) is;
+  base_free = ap (λ (x : State). x.base_free) is;
   reads = reads;
   cached = cached;
 }

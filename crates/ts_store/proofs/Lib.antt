@@ -1,3 +1,5 @@
+mod CutLemmas
+pub mod JoinLemmas
 pub mod ReadLemmas
 mod CacheLemmas
 mod GetLemmas

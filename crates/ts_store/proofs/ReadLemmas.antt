@@ -1,23 +1,29 @@
--- What is read over a volume: the open batch, else the overlay, else the page in its place.
-use Rattle.std.proofs.Common.{◌≡◌, inl, inr, ⊎_elim, ℕ, ◌*◌, eqb, Option, Some, None, List, [], ◌∷◌, refl, ap, sym, ◌∙◌, subst}
+-- What is read over a volume: the open batch, else the transaction, else the overlay, else the page in its place.
+use Rattle.std.proofs.Common.{◌≡◌, inl, inr, ⊎_elim, ℕ, ◌*◌, ◌^◌, eqb, Option, Some, None, List, [], ◌∷◌, refl, ap, sym, ◌∙◌, subst}
 use Rattle.std.proofs.lemmas.Bool.{cond-true, cond-false, cases_eq, eq-eqb, ne_eqb, not-true}
 use Rattle.ts_page.specs.Head.{bytes_at}
 use Rattle.ts_page.specs.Pages.{IsElementPage, SameButFreed, IsOutsideJournal}
 use Rattle.ts_journal.specs.declared.batch.Change.{Change}
 use Rattle.ts_journal.specs.declared.batch.Change.TheVariants.{Image, Free}
-use Rattle.ts_journal.specs.Entry.{Entry, AreAllowed, is_region, change_of, changed, change_or, over}
+use Rattle.ts_journal.specs.Entry.{Entry, AreAllowed, IsRising, is_region, change_of, changed, change_or, over}
 use Rattle.ts_journal.specs.Journal.{own_page, pages, StandsOver, ReadsButFreed, SameOrFreed}
 use Rattle.ts_journal.proofs.CallerLemmas.{no_region, over_pages}
-use Rattle.ts_store.specs.OpenBatch.{State, change_read, read_pages}
+use Rattle.ts_journal.proofs.OverLemmas.{over_all}
+use Rattle.ts_store.specs.OpenBatch.{State, to_commit, change_read, read_pages}
 
--- so it is the open batch over the pages of the volume that is read
-pub read_over : (s : State) (held : List ℕ) → StandsOver s.journal s.overlay held → (k : ℕ) → read_pages s held k ≡ over s.batch (pages held) k
-read_over s held stands k = ap (changed (change_of k s.batch)) (sym (over_pages s.journal s.overlay held stands k))
+-- so it is the open batch and the transaction over the pages of the volume that is read
+pub read_over : (s : State) (held : List ℕ) → StandsOver s.journal s.overlay held → (k : ℕ) → read_pages s held k ≡ over s.batch (over s.transaction (pages held)) k
+read_over s held stands k =
+    ap (λ (page : List ℕ). changed (change_of k s.batch) (changed (change_of k s.transaction) page)) (sym (over_pages s.journal s.overlay held stands k))
 
--- with no batch, just these
-pub read_closed : (s : State) (held : List ℕ) → s.batch ≡ [] → StandsOver s.journal s.overlay held → (k : ℕ) → read_pages s held k ≡ pages held k
-read_closed s held none stands k =
-    read_over s held stands k ∙ ap (λ (es : List Entry). over es (pages held) k) none
+-- with no change of these, just the pages of the volume
+pub read_closed : (s : State) (held : List ℕ) → s.transaction ≡ [] → s.batch ≡ [] → StandsOver s.journal s.overlay held → (k : ℕ) → read_pages s held k ≡ pages held k
+read_closed s held closed none stands k =
+    read_over s held stands k ∙ (λ i. over (none i) (over (closed i) (pages held)) k)
+
+-- what is to be committed is what is read over other pages
+pub read_joined : (s : State) (own : ℕ → List ℕ) (k : ℕ) → IsRising 0 (2 ^ 32) s.batch → over (to_commit s) own k ≡ over s.batch (over s.transaction own) k
+read_joined s own k rising = over_all s.transaction s.batch 0 (2 ^ 32) own k rising
 
 -- outside the journal a page in its place has its bytes there
 pub own_outside : (held : List ℕ) (k : ℕ) → IsOutsideJournal k → own_page held k ≡ bytes_at (4096 * k) 4096 held
@@ -25,12 +31,13 @@ own_outside held k outside = cond-false (is_region k) [] (bytes_at (4096 * k) 40
 
 -- a page without a change is read in its place
 pub read_clean : (s : State) (held : List ℕ) (k : ℕ) → change_read k s ≡ None → IsOutsideJournal k → read_pages s held k ≡ bytes_at (4096 * k) 4096 held
-read_clean s held k none outside = here (change_of k s.batch) (change_of k s.overlay) none
+read_clean s held k none outside = here (change_of k s.batch) (change_of k s.transaction) (change_of k s.overlay) none
   where
-    here : (b o : Option Change) → change_or b o ≡ None → changed b (changed o (own_page held k)) ≡ bytes_at (4096 * k) 4096 held
-    here (Some c) o is = absurd (cc)
-    here None (Some c) is = absurd (cc)
-    here None None is = own_outside held k outside
+    here : (b t o : Option Change) → change_or b (change_or t o) ≡ None → changed b (changed t (changed o (own_page held k))) ≡ bytes_at (4096 * k) 4096 held
+    here (Some c) t o is = absurd (cc)
+    here None (Some c) o is = absurd (cc)
+    here None None (Some c) is = absurd (cc)
+    here None None None is = own_outside held k outside
 
 -- only an element page is freed
 pub freed_element : (count : ℕ) (es : List Entry) (k : ℕ) → AreAllowed count es → change_of k es ≡ Some Free → IsElementPage k

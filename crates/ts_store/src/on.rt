@@ -38,8 +38,8 @@ impl<'a, V: Volume> Pages for On<'a, V> {
     ghost undisturbed = { λ a b. (b.store.ghost_name ≡ a.store.ghost_name) × (b.vol.ghost_name ≡ a.vol.ghost_name)
         × Undisturbed V.tells a.store.now b.store.now (V.device a.vol.now) (V.device b.vol.now) };
 
-    /// Reads a page. One of the open batch, the overlay or the cache is read with no call on the volume; another one is
-    /// then in the cache, but for a scan, or where there is no memory.
+    /// Reads a page. One of the open batch, the transaction, the overlay or the cache is read with no call on the
+    /// volume; another one is then in the cache, but for a scan, or where there is no memory.
     fn get(&mut self, no: u32, into: &mut Page) -> Result<(), StoreFault>
         requires { no < self.old.store.now.pages }
         ensures got { Got V.tells no into.new.bytes result
@@ -93,7 +93,9 @@ impl<'a, V: Volume> Pages for On<'a, V> {
         pages = refl;
         journal = refl;
         overlay = refl;
+        transaction = refl;
         kept_free = refl;
+        base_free = refl;
         reads = reads_none V.tells (V.device on.vol.now) (V.lawful on.vol.now);
         cached = λ told now. now;
       },
@@ -106,7 +108,9 @@ impl<'a, V: Volume> Pages for On<'a, V> {
         pages = q.2.pages ∙ p.2.pages;
         journal = q.2.journal ∙ p.2.journal;
         overlay = q.2.overlay ∙ p.2.overlay;
+        transaction = q.2.transaction ∙ p.2.transaction;
         kept_free = q.2.kept_free ∙ p.2.kept_free;
+        base_free = q.2.base_free ∙ p.2.base_free;
         reads = reads_then V.tells (V.device a.vol.now) (V.device b.vol.now) (V.device c.vol.now) p.2.reads q.2.reads;
         cached = λ told now. q.2.cached told (p.2.cached told now);
       },

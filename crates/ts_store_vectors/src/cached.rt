@@ -1,9 +1,9 @@
 // Which reads of a store make a call on the volume, and that none is of a page that has changed since.
 ghost use Rattle.std.specs.Prelude.{◌≡◌, [], IfOk, OnOk};
 ghost use Rattle.ts_disk.specs.Device.{Only};
-ghost use Rattle.ts_store.specs.OpenBatch.{IsIdle};
+ghost use Rattle.ts_store.specs.OpenBatch.{IsIdle, IsClosed};
 
-use crate::stores::{blank, committed, freed_and_taken_on, opened, settled, stored, tried};
+use crate::stores::{blank, committed, freed_on, opened, settled, stored, taken_on, tried};
 use std::alloc::Global;
 use std::test::Fail;
 use ts_base::StoreFault;
@@ -29,6 +29,7 @@ enum Deed {
 fn caching<V: Volume>(alloc: Global, vol: &mut V) -> Result<Store, RecoverFault>
     requires { Only (V.device vol.old).held (V.device vol.old).images }
     ensures idle { IfOk result (λ s. IsIdle V.tells s (V.device vol.new)) }
+    ensures closed { IfOk result (λ s. IsClosed s) }
     ensures free { IfOk result (λ s. s.free ≡ []) }
 {
     let mut store = opened(alloc, vol)?;
@@ -38,18 +39,23 @@ fn caching<V: Volume>(alloc: Global, vol: &mut V) -> Result<Store, RecoverFault>
 
 fn freed<V: Volume>(store: &mut Store, vol: &mut V) -> Result<(), StoreFault>
     requires idle { IsIdle V.tells store.old (V.device vol.old) }
+    requires closed { IsClosed store.old }
     requires free { store.old.free ≡ [] }
     ensures idle { OnOk result (IsIdle V.tells store.new (V.device vol.new)) }
+    ensures closed { OnOk result (IsClosed store.new) }
     ensures free { OnOk result (store.new.free ≡ []) }
 {
-    freed_and_taken_on(store, vol)?;
+    freed_on(store, vol)?;
+    taken_on(store, vol);
     committed(store, vol)
 }
 
 fn done<V: Volume>(store: &mut Store, vol: &mut V, deed: Deed) -> Result<(), StoreFault>
     requires idle { IsIdle V.tells store.old (V.device vol.old) }
+    requires closed { IsClosed store.old }
     requires free { store.old.free ≡ [] }
     ensures idle { OnOk result (IsIdle V.tells store.new (V.device vol.new)) }
+    ensures closed { OnOk result (IsClosed store.new) }
     ensures free { OnOk result (store.new.free ≡ []) }
 {
     match deed {

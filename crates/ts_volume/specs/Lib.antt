@@ -1,2 +1,4 @@
 pub mod Laws
 pub mod Volume
+pub mod FirstBad
+pub mod FirstBadLaws

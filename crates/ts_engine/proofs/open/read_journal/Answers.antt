@@ -1,5 +1,5 @@
 use Rattle.std.proofs.Common.{sym, ◌∙◌}
-use Rattle.ts_store.proofs.CallerLemmas.{over_recovered}
+use Rattle.ts_store.proofs.CallerLemmas.{over_recovered, closed_recovered}
 use Rattle.ts_engine.proofs.open.read_journal.Goals as goal
 
 pub returns-in_ok-new-in-Ok-clause-idle : goal.returns-in_ok-new-in-Ok-clause-idle
@@ -13,3 +13,7 @@ returns-in_ok-new-in-Ok-clause-idle g c =
       batch = fresh.batch;
       kept_free = fresh.kept_free ∙ sym fresh.free;
     }
+
+pub returns-in_ok-new-in-Ok-clause-closed : goal.returns-in_ok-new-in-Ok-clause-closed
+returns-in_ok-new-in-Ok-clause-closed g c =
+    closed_recovered c.in-Ok.replayed.pages c.in-Ok.replayed.journal c.in-Ok.replayed.overlay.entries c.in_ok-new-in-Ok.field-0 c.in_ok-new-in-Ok.ensures

@@ -1,5 +1,5 @@
 use Rattle.std.proofs.Common.{ap, arith, Err}
-use Rattle.ts_store.proofs.CallerLemmas.{idle_dropped}
+use Rattle.ts_store.proofs.CallerLemmas.{idle_dropped, closed_dropped}
 use Rattle.ts_engine.proofs.OpenLemmas.{survey_fault, found_dropped, if_err}
 use Rattle.ts_engine.specs.Start.{ReadFault}
 use Rattle.ts_engine.proofs.open.survey_over.Goals as goal
@@ -9,7 +9,7 @@ returns-in_err-surveyed-clause-fault g c =
     let v = g.V.Volume.device c.args.vol.now in
     let w = g.V.Volume.device c.survey_on.new.vol in
     if_err c.from_residual.result c.in_err-surveyed.field-0.0 (λ fault. ReadFault g.V.Volume.tells fault v w) c.from_residual.ensures.1
-    (survey_fault g.V.Volume.tells c.in_err-surveyed.field-0.0 _ c.args.store.now v w (g.met.V.Volume.lawful c.args.vol.now) c.requires.idle (omega (arith, c.len.ensures, c.requires.idle.over.read.size))
+    (survey_fault g.V.Volume.tells c.in_err-surveyed.field-0.0 _ c.args.store.now v w (g.met.V.Volume.lawful c.args.vol.now) c.requires.idle c.requires.closed (omega (arith, c.len.ensures, c.requires.idle.over.read.size))
     (λ is. c.in_err-surveyed.ensures.cause (ap Err is)) (λ other. c.in_err-surveyed.ensures.no_fault (λ failed. other (cc))) c.in_err-surveyed.ensures.refused)
 
 pub returns-clause-found : goal.returns-clause-found
@@ -21,3 +21,7 @@ returns-clause-found g c =
 pub returns-clause-idle : goal.returns-clause-idle
 returns-clause-idle g c =
     idle_dropped g.V.Volume.tells c.args.store.now c.survey_on.new.store c.discard.new.self (g.V.Volume.device c.args.vol.now) (g.V.Volume.device c.survey_on.new.vol) c.requires.idle c.survey_on.ensures.undisturbed c.discard.ensures
+
+pub returns-clause-closed : goal.returns-clause-closed
+returns-clause-closed g c =
+    closed_dropped g.V.Volume.tells c.args.store.now c.survey_on.new.store c.discard.new.self (g.V.Volume.device c.args.vol.now) (g.V.Volume.device c.survey_on.new.vol) c.requires.closed c.requires.idle.kept_free c.survey_on.ensures.undisturbed c.discard.ensures

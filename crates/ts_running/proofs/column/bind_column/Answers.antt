@@ -1,7 +1,7 @@
 use Rattle.std.proofs.Common.{List, sym, ap, ◌∙◌, arith}
 use Rattle.ts_row.specs.declared.kind.Column.{Column}
 use Rattle.ts_running.specs.Binding.{source_named}
-use Rattle.ts_running.proofs.SourceLemmas.{ small_scale, other_sourced}
+use Rattle.ts_running.proofs.SourceLemmas.{small_scale, other_sourced}
 use Rattle.ts_running.proofs.column.bind_column.Goals as goal
 
 pub overflow_add-scale : goal.overflow_add-scale

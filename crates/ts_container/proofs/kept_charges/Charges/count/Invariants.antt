@@ -1,6 +1,11 @@
-use Rattle.std.proofs.Common.{◌≡◌, ℕ, ◌<◌, length, get_or}
-use Rattle.ts_layout.specs.Charges.{charge_in}
+-- The sums are those of the series so far.
+use Rattle.std.proofs.Common.{◌≡◌, ℕ, ◌*◌, ◌^◌, ◌<◌, ◌≤◌, get_or, take}
+use Rattle.std.specs.List.{sum_by}
+use Rattle.ts_container.specs.KeptCharges.{charged_to}
 use Rattle.ts_container.proofs.kept_charges.Charges.count.Given as goal
 
 abbrev pub invariant-loop-slot : goal.invariant-loop-slot
-invariant-loop-slot l = (length l.self-inside.sums.items ≡ 64) × ((k : ℕ) → k < l.slot → get_or l.self-inside.sums.items k 0 ≡ charge_in l.defs.definitions l.space k)
+invariant-loop-slot l = record {
+  sums : (k : ℕ) → k < 64 → get_or l.self k 0 ≡ sum_by (charged_to l.defs.definitions l.space k) (take l.slot-index l.slot-items);
+  small : (k : ℕ) → get_or l.self k 0 ≤ l.slot-index * 2 ^ 33;
+}

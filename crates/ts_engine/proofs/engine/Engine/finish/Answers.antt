@@ -1,5 +1,6 @@
 use Rattle.std.proofs.Common.{Err, length, ap, ◌∙◌, arith}
 use Rattle.ts_journal.specs.Entry.{entries_bytes}
+use Rattle.ts_store.specs.OpenBatch.{to_commit}
 use Rattle.ts_store.proofs.CallerLemmas.{over_prepared}
 use Rattle.ts_engine.specs.Engine.{Kept}
 use Rattle.ts_engine.proofs.ChangeLemmas.{finished_prepared, unworked, dropped}
@@ -10,7 +11,7 @@ commit-requires-clause-over g c =
     over_prepared g.V.Volume.tells c.args.self.now.store c.prepare.new.self.store (g.V.Volume.device c.args.vol.now) (ap (λ (e : Kept). e.store) c.prepare.ensures.others) c.requires.over
 
 pub commit-requires-clause-short : goal.commit-requires-clause-short
-commit-requires-clause-short g c = omega (arith, ap (λ (e : Kept). length (entries_bytes e.store.batch)) c.prepare.ensures.others, c.requires.short)
+commit-requires-clause-short g c = omega (arith, ap (λ (e : Kept). length (entries_bytes (to_commit e.store))) c.prepare.ensures.others, c.requires.short)
 
 pub returns-in-Ok : goal.returns-in-Ok
 returns-in-Ok g c =

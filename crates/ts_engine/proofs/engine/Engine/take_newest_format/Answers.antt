@@ -16,7 +16,7 @@ returns-in_err-finish g c =
     let fault = c.in_err-finish.field-0.0 in
     record {
       migrated = by_fault tells c.from_residual.result fault e c.finish.new.self v w c.from_residual.ensures.1
-          (migrated_fault tells e v (g.met.V.Volume.lawful c.args.vol.now) c.requires.ready put.new.self c.finish.new.self (g.V.Volume.device put.new.vol) w (g.met.V.Volume.lawful c.finish.new.vol)
+          (migrated_fault tells e v (g.met.V.Volume.lawful c.args.vol.now) c.requires.ready c.requires.rests put.new.self c.finish.new.self (g.V.Volume.device put.new.vol) w (g.met.V.Volume.lawful c.finish.new.vol)
           put.result put.ensures.others put.ensures.undisturbed put.ensures.written fault c.in_err-finish.ensures.finished);
     }
 
@@ -30,7 +30,7 @@ returns g c =
     let now : Kept = the_view c.self.inside in
     let f : Kept = record now { tables = c.set_format.new.self } in
     record {
-      migrated = migrated_ok tells e v (g.met.V.Volume.lawful c.args.vol.now) c.requires.ready put.new.self c.finish.new.self (g.V.Volume.device put.new.vol) w (g.met.V.Volume.lawful c.finish.new.vol)
+      migrated = migrated_ok tells e v (g.met.V.Volume.lawful c.args.vol.now) c.requires.ready c.requires.rests put.new.self c.finish.new.self (g.V.Volume.device put.new.vol) w (g.met.V.Volume.lawful c.finish.new.vol)
           put.result put.ensures.others put.ensures.undisturbed put.ensures.written f c.in_ok-finish.ensures.finished
           (ap (λ (t : Tables). record now { tables = t }) c.set_format.ensures ∙ ap (λ (k : Kept). record k { tables = record k.tables { definitions = with_format newest_format k.tables.definitions } }) c.self.view_is);
     }

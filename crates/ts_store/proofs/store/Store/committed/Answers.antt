@@ -1,4 +1,4 @@
-use Rattle.std.proofs.Common.{◌≡◌, IsTrue, OnOk, sym, ap, ◌∙◌, subst, arith}
+use Rattle.std.proofs.Common.{◌≡◌, IsTrue, OnOk, sym, subst, arith}
 use Rattle.ts_page.specs.Pages.{IsOutsideJournal}
 use Rattle.ts_recover.proofs.CallerLemmas.{reads_none}
 use Rattle.ts_recover.proofs.ReadLemmas.{reads_one}

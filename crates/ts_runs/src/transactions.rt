@@ -1,0 +1,146 @@
+// Transactions: what is said in them, what is left of one that the script's end cuts off, and what a stop within each call that
+// isn't a read leaves.
+ghost use Rattle.std.specs.Prelude.{◌<◌};
+ghost use Rattle.ts_disk.specs.Memory.{site_calls};
+
+use crate::program::{PICKS, answers, bytes_after, reads, run, volume};
+use std::alloc::Global;
+use std::test::Fail;
+use std::thread::Threads;
+use ts_disk::MemorySite;
+
+/// Makes two series.
+const SERIES: &[u8] = b"CreateRowType(rd, t datetime, v integer);TSContainerCreate(c1, rd, 8);\
+    TSCreateIrr('x', c1);TSCreateIrr('y', c1);";
+
+const INSERTION: &[u8] = b"InsElem('x','2011-01-03 00:00:00',1);";
+
+const INSERTED: &[u8] = b"ok 2011-01-03 00:00:00.00000\n";
+
+const COUNT: &[u8] = b"GetNelems('x');";
+
+// A volume with both series.
+fn with_series(rt: &(impl Threads + Sync), alloc: Global) -> Result<MemorySite, Fail> {
+    let mut site = volume(rt, alloc, "8")?;
+    run(rt, alloc, &mut site, SERIES)?;
+    Ok(site)
+}
+
+#[test]
+fn a_rollback_takes_back_what_a_commit_keeps(rt: HostRuntime) -> Result<(), Fail> {
+    let alloc = rt.alloc();
+    let mut site = with_series(&rt, alloc)?;
+    let talk: [(&[u8], &[u8]); 11] = [
+        (b"Begin;", b"ok\n"),
+        (INSERTION, INSERTED),
+        (COUNT, b"ok 1\n"),
+        (b"Rollback;", b"ok\n"),
+        (COUNT, b"ok 0\n"),
+        (b"Begin;", b"ok\n"),
+        (INSERTION, INSERTED),
+        (b"Begin;", b"error 51 AlreadyOpen\n"),
+        (b"Commit;", b"ok 1\n"),
+        (b"Commit;", b"error 50 NotOpen\n"),
+        (COUNT, b"ok 1\n"),
+    ];
+    assert!(rt; answers(&rt, alloc, &mut site, &talk)?);
+    Ok(())
+}
+
+// Commands that change nothing count too; readings don't, and are answered in a full transaction.
+#[test]
+fn a_transaction_takes_32_commands_that_write(rt: HostRuntime) -> Result<(), Fail> {
+    let alloc = rt.alloc();
+    let mut site = with_series(&rt, alloc)?;
+    let mut script = Vec::from_slice(alloc, b"Begin;")?;
+    let mut said = Vec::from_slice(alloc, b"ok\n")?;
+    for _ in 0..32 {
+        script.extend_from_slice(b"DelElem('x','2011-01-03 00:00:00');")?;
+        said.extend_from_slice(b"ok 0\n")?;
+    }
+    let talk: [(&[u8], &[u8]); 4] = [
+        (script.as_slice(), said.as_slice()),
+        (
+            b"DelElem('x','2011-01-03 00:00:00');",
+            b"error 52 TransactionFull\n",
+        ),
+        (COUNT, b"ok 0\n"),
+        (b"Commit;", b"ok 32\n"),
+    ];
+    assert!(rt; answers(&rt, alloc, &mut site, &talk)?);
+    Ok(())
+}
+
+#[test]
+fn a_transaction_that_is_open_at_the_end_is_given_up(rt: HostRuntime) -> Result<(), Fail> {
+    let alloc = rt.alloc();
+    let mut site = with_series(&rt, alloc)?;
+    let begun: [(&[u8], &[u8]); 2] = [(b"Begin;", b"ok\n"), (INSERTION, INSERTED)];
+    assert!(rt; answers(&rt, alloc, &mut site, &begun)?);
+    let after: [(&[u8], &[u8]); 2] = [(COUNT, b"ok 0\n"), (b"Rollback;", b"error 50 NotOpen\n")];
+    assert!(rt; answers(&rt, alloc, &mut site, &after)?);
+    Ok(())
+}
+
+/// Four elements, two in each series.
+const FOUR: &[u8] =
+    b"Begin;InsElem('x','2011-01-03 00:00:00',1);InsElem('y','2011-01-03 00:00:00',2);\
+    InsElem('x','2011-01-04 00:00:00',3);InsElem('y','2011-01-04 00:00:00',4);Commit;";
+
+const FOUR_SAID: &[u8] = b"ok\nok 2011-01-03 00:00:00.00000\nok 2011-01-03 00:00:00.00000\n\
+    ok 2011-01-04 00:00:00.00000\nok 2011-01-04 00:00:00.00000\nok 4\n";
+
+// Whether a volume holds all four elements or, where they need not be there, none.
+fn holds_all_or_none(
+    rt: &(impl Threads + Sync),
+    alloc: Global,
+    bytes: Vec<u8>,
+    all: bool,
+) -> Result<bool, Fail> {
+    let mut site = MemorySite::new(bytes)?;
+    let status = run(rt, alloc, &mut site, b"GetNelems('x');GetNelems('y');")?;
+    let holds = site.said() == b"ok 2\nok 2\n".as_slice();
+    let lacks = site.said() == b"ok 0\nok 0\n".as_slice();
+    Ok(status == 0 && (holds || lacks && !all))
+}
+
+// The same of each image of a stop in the last call of a run.
+fn leaves_all_or_none(
+    rt: &(impl Threads + Sync),
+    alloc: Global,
+    site: &MemorySite,
+    call: u64,
+    all: bool,
+) -> Result<bool, Fail>
+    requires { call < site_calls site.now }
+{
+    for pick in &PICKS {
+        if !holds_all_or_none(rt, alloc, site.image(call, *pick)?, all)? {
+            return Ok(false);
+        }
+    }
+    Ok(true)
+}
+
+// Runs of a transaction, each stopped at the call of one number. The calls from 1 on, so many, only read.
+#[test]
+fn a_stop_leaves_a_transaction_whole_or_not_at_all(rt: HostRuntime) -> Result<(), Fail> {
+    let alloc = rt.alloc();
+    let bytes = bytes_after(&rt, alloc, SERIES)?;
+    let reads = reads(&rt, alloc, "8")?;
+    for call in 0..reads.saturating_add(100) {
+        if 1 <= call && call <= reads {
+            continue;
+        }
+        let mut site = MemorySite::new(Vec::from_slice(alloc, &bytes)?)?;
+        site.fuse(call);
+        run(&rt, alloc, &mut site, FOUR)?;
+        let is_said = site.said() == FOUR_SAID;
+        if site.calls() <= call {
+            assert!(rt; call > reads.saturating_add(2) && is_said);
+            return Ok(());
+        }
+        assert!(rt; leaves_all_or_none(&rt, alloc, &site, call, is_said)?);
+    }
+    Err(Fail::from("the run has no end"))
+}

@@ -1,9 +1,0 @@
-use Rattle.std.proofs.Common.{length, ap, arith}
-use Rattle.ts_store.proofs.CallerLemmas.{first_element}
-use Rattle.ts_store_vectors.proofs.stores.freed_and_taken_on.Goals as goal
-
-pub freed_and_taken-requires-clause-within : goal.freed_and_taken-requires-clause-within
-freed_and_taken-requires-clause-within g c = first_element g.V.Volume.tells c.args.store.now (g.V.Volume.device c.args.vol.now) c.requires.over
-
-pub freed_and_taken-requires-clause-used : goal.freed_and_taken-requires-clause-used
-freed_and_taken-requires-clause-used g c found = absurd (omega (arith, found.1, ap length c.requires.free))

@@ -1,0 +1,16 @@
+use Rattle.std.proofs.Common.{[], arith}
+use Rattle.ts_store_vectors.proofs.TransactionLemmas.{between_kept, bytes_kept}
+use Rattle.ts_store_vectors.proofs.transactions.kept.Goals as goal
+
+pub returns-clause-between : goal.returns-clause-between
+returns-clause-between g c =
+    between_kept g.V.Volume.tells [] c.args.store.now c.edited_on.new.store (g.V.Volume.device c.args.vol.now) (g.V.Volume.device c.edited_on.new.vol) c.requires c.edited_on.ensures.undisturbed
+    c.prepare.new.self c.keep.new.self c.prepare.ensures.others c.keep.ensures.kept c.keep.ensures.read [] c.edited_on.ensures.over c.edited_on.ensures.free
+
+pub returns-clause-bytes : goal.returns-clause-bytes
+returns-clause-bytes g c = omega (
+  arith,
+  c.edited_on.ensures.bytes,
+  bytes_kept g.V.Volume.tells [] c.args.store.now c.edited_on.new.store (g.V.Volume.device c.args.vol.now) (g.V.Volume.device c.edited_on.new.vol) c.requires c.edited_on.ensures.undisturbed
+      c.prepare.new.self c.keep.new.self c.prepare.ensures.others c.keep.ensures.kept c.keep.ensures.read,
+)

@@ -1,0 +1,182 @@
+// Batches that are kept in a transaction, its rollback, and its commit.
+ghost use Rattle.std.specs.Prelude.{◌≡◌, ◌+◌, ◌≤◌, ◌∷◌, [], OnOk, length};
+ghost use Rattle.ts_disk.specs.Device.{Only};
+ghost use Rattle.ts_page.specs.Volume.{image_entry_size, free_entry_size};
+ghost use Rattle.ts_store.specs.OpenBatch.{contents_over};
+ghost use Rattle.ts_store_vectors.specs.Transaction.{IsBetween};
+
+use crate::stores::{
+    ELEMENT_PAGE, blank, committed, edited_on, freed_on, opened, stops_leave, taken_on, tried,
+};
+use std::alloc::Global;
+use std::test::Fail;
+use ts_base::StoreFault;
+use ts_disk::{MemorySite, Pick, Volume};
+use ts_store::Store;
+
+/// What is done in a transaction. Then the element page is read.
+#[derive(Clone, Copy)]
+enum Deed {
+    /// The page is put, with this byte, and that is kept.
+    Keep(Option<u8>),
+    /// The page is put, with this byte, if there is one, read, and that is dropped.
+    Drop(Option<u8>),
+    /// The page is freed, and that kept; it is taken, and that dropped; it is taken, and that kept.
+    Renew,
+    /// The transaction is rolled back.
+    Rollback,
+}
+
+fn kept<V: Volume>(
+    store: &mut Store,
+    vol: &mut V,
+    put: Option<u8>,
+) -> Result<Option<u8>, StoreFault>
+    requires { IsBetween V.tells [] store.old (V.device vol.old) }
+    ensures between { OnOk result (IsBetween V.tells [] store.new (V.device vol.new)) }
+    ensures bytes { OnOk result ((contents_over store.new (V.device vol.new)).change_bytes
+        ≤ (contents_over store.old (V.device vol.old)).change_bytes + image_entry_size) }
+{
+    let seen = edited_on(store, vol, put)?;
+    store.prepare()?;
+    store.keep();
+    Ok(seen)
+}
+
+fn dropped<V: Volume>(
+    store: &mut Store,
+    vol: &mut V,
+    put: Option<u8>,
+) -> Result<Option<u8>, StoreFault>
+    requires { IsBetween V.tells [] store.old (V.device vol.old) }
+    ensures between { OnOk result (IsBetween V.tells [] store.new (V.device vol.new)) }
+    ensures bytes { OnOk result ((contents_over store.new (V.device vol.new)).change_bytes
+        ≤ (contents_over store.old (V.device vol.old)).change_bytes) }
+{
+    let seen = edited_on(store, vol, put)?;
+    store.discard();
+    Ok(seen)
+}
+
+fn freed<V: Volume>(store: &mut Store, vol: &mut V) -> Result<u32, StoreFault>
+    requires { IsBetween V.tells [] store.old (V.device vol.old) }
+    ensures between { OnOk result (IsBetween V.tells (ELEMENT_PAGE ∷ []) store.new (V.device vol.new)) }
+    ensures bytes { OnOk result ((contents_over store.new (V.device vol.new)).change_bytes
+        ≤ (contents_over store.old (V.device vol.old)).change_bytes + free_entry_size) }
+{
+    let spare = freed_on(store, vol)?;
+    store.prepare()?;
+    store.keep();
+    Ok(spare)
+}
+
+fn taken<V: Volume>(store: &mut Store, vol: &mut V) -> Result<u32, StoreFault>
+    requires { IsBetween V.tells (ELEMENT_PAGE ∷ []) store.old (V.device vol.old) }
+    ensures between { OnOk result (IsBetween V.tells [] store.new (V.device vol.new)) }
+    ensures bytes { OnOk result ((contents_over store.new (V.device vol.new)).change_bytes
+        ≤ (contents_over store.old (V.device vol.old)).change_bytes) }
+{
+    let page = taken_on(store, vol);
+    store.prepare()?;
+    store.keep();
+    Ok(page)
+}
+
+// Takes the page, and drops that.
+fn taken_back<V: Volume>(store: &mut Store, vol: &mut V) -> u32
+    requires { IsBetween V.tells (ELEMENT_PAGE ∷ []) store.old (V.device vol.old) }
+    ensures between { IsBetween V.tells (ELEMENT_PAGE ∷ []) store.new (V.device vol.new) }
+    ensures bytes { (contents_over store.new (V.device vol.new)).change_bytes
+        ≤ (contents_over store.old (V.device vol.old)).change_bytes }
+{
+    let page = taken_on(store, vol);
+    store.discard();
+    page
+}
+
+// What is read of the page in the end, or nothing where another page was taken.
+fn renewed<V: Volume>(store: &mut Store, vol: &mut V) -> Result<Option<u8>, StoreFault>
+    requires { IsBetween V.tells [] store.old (V.device vol.old) }
+    ensures between { OnOk result (IsBetween V.tells [] store.new (V.device vol.new)) }
+    ensures bytes { OnOk result ((contents_over store.new (V.device vol.new)).change_bytes
+        ≤ (contents_over store.old (V.device vol.old)).change_bytes + free_entry_size) }
+{
+    let spare = freed(store, vol)?;
+    let first = taken_back(store, vol);
+    let second = taken(store, vol)?;
+    let seen = dropped(store, vol, None)?;
+    if (spare, first, second) == (1, ELEMENT_PAGE, ELEMENT_PAGE) {
+        Ok(seen)
+    } else {
+        Ok(None)
+    }
+}
+
+fn rolled_back<V: Volume>(store: &mut Store, vol: &mut V) -> Result<Option<u8>, StoreFault>
+    requires { IsBetween V.tells [] store.old (V.device vol.old) }
+    ensures between { OnOk result (IsBetween V.tells [] store.new (V.device vol.new)) }
+    ensures bytes { OnOk result ((contents_over store.new (V.device vol.new)).change_bytes
+        ≤ (contents_over store.old (V.device vol.old)).change_bytes) }
+{
+    store.rollback();
+    dropped(store, vol, None)
+}
+
+fn done<V: Volume>(store: &mut Store, vol: &mut V, deed: Deed) -> Result<Option<u8>, StoreFault>
+    requires { IsBetween V.tells [] store.old (V.device vol.old) }
+    ensures between { OnOk result (IsBetween V.tells [] store.new (V.device vol.new)) }
+    ensures bytes { OnOk result ((contents_over store.new (V.device vol.new)).change_bytes
+        ≤ (contents_over store.old (V.device vol.old)).change_bytes + image_entry_size) }
+{
+    match deed {
+        Deed::Keep(put) => kept(store, vol, put),
+        Deed::Drop(put) => dropped(store, vol, put),
+        Deed::Renew => renewed(store, vol),
+        Deed::Rollback => rolled_back(store, vol),
+    }
+}
+
+// Opens the volume, and whether after each deed this is read, and the last of it once all was committed.
+fn deeds_hold<V: Volume>(alloc: Global, vol: &mut V, deeds: &[(Deed, u8)]) -> Result<bool, Fail>
+    requires only { Only (V.device vol.old).held (V.device vol.old).images }
+    requires few { length deeds.now ≤ 255 }
+{
+    let mut store = opened(alloc, vol)?;
+    let mut last = None;
+    for (deed, wanted) in deeds {
+        last = Some(*wanted);
+        if done(&mut store, vol, *deed)? != last {
+            return Ok(false);
+        }
+    }
+    committed(&mut store, vol)?;
+    Ok(tried(&mut store, vol, None)? == last)
+}
+
+#[test]
+fn a_transaction_is_rolled_back_or_committed_whole(rt: HostRuntime) -> Result<(), Fail> {
+    let deeds = [
+        // The page is read from the volume, and then in the cache.
+        (Deed::Drop(None), 0),
+        (Deed::Keep(Some(1)), 1),
+        // A drop goes back to what was kept.
+        (Deed::Drop(Some(2)), 2),
+        (Deed::Drop(None), 1),
+        (Deed::Renew, 0),
+        (Deed::Keep(Some(3)), 3),
+        (Deed::Drop(None), 3),
+        // The page is read from the volume again, and then in the cache.
+        (Deed::Rollback, 0),
+        (Deed::Drop(None), 0),
+        (Deed::Keep(Some(4)), 4),
+        (Deed::Drop(Some(5)), 5),
+        (Deed::Keep(Some(6)), 6),
+    ];
+    let mut site = MemorySite::new(blank(rt.alloc())?)?;
+    assert!(rt; deeds_hold(rt.alloc(), &mut site, &deeds)?);
+    // The opening's one read, two of the page, and the four of one commit.
+    assert_eq!(rt; site.calls(), 7);
+    let stops = [(3, Pick::Half, 0), (5, Pick::Half, 0), (5, Pick::New, 6)];
+    assert!(rt; stops_leave(rt.alloc(), &site, &stops)?);
+    Ok(())
+}
