@@ -1,6 +1,6 @@
 -- The state that a run of a script goes through: what answers its requests, and what it leaves on the volume. All that speaks of
 -- runs, moments and steps cites these.
-use Rattle.std.specs.Prelude.{ℕ, ◌+◌, ◌&&◌, nat_le, List, [], ◌∷◌, if◌then◌else◌, Option, Some, None, Ok, Err, pos}
+use Rattle.std.specs.Prelude.{ℕ, ◌+◌, Bool, ◌&&◌, nat_le, List, [], ◌∷◌, if◌then◌else◌, Option, Some, None, Ok, Err, pos}
 use Rattle.ts_base.specs.declared.refusal.Refusal.TheVariants as refusals
 use Rattle.ts_replies.specs.Acknowledged.{memory_line}
 use Rattle.ts_command.specs.declared.command.Command.{Command}
