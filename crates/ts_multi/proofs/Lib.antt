@@ -1,0 +1,3 @@
+pub mod ObjectLemmas
+pub mod PickLemmas
+pub mod SectionLemmas
