@@ -1,10 +1,10 @@
 -- The first line of a text, and its first section.
-use Rattle.std.proofs.Common.{◌≡◌, ℕ, suc, ◌+◌, ◌<◌, ◌≤◌, Bool, true, false, not, cond, nat_le, List, [], ◌∷◌, ◌++◌, length, take, drop, Option, Some, None, refl, sym, ◌∙◌, ap, arith, append_assoc, length-append, inl, inr}
+use Rattle.std.proofs.Common.{◌≡◌, ℕ, suc, ◌+◌, ◌<◌, ◌≤◌, Bool, true, false, not, cond, nat_le, List, [], ◌∷◌, ◌++◌, length, map, take, drop, Option, Some, None, refl, sym, ◌∙◌, ap, arith, append_assoc, length-append, inl, inr}
 use Rattle.std.proofs.Math.Seq.{take-add}
 use Rattle.std.proofs.lemmas.Bool.{cases_Bool}
 use Rattle.std.proofs.lemmas.Bool.Decides.{nat_tests}
 use Rattle.std.proofs.lemmas.List.{append-nil, drop-drop, take_all, drop_all, length-drop}
-use Rattle.std.specs.List.{position_or_len}
+use Rattle.std.specs.List.{position_or_len, concat, slice_split, onto_first}
 use Rattle.ts_multi.specs.Sections.{onto, is_line_feed, lines, first_line, is_mark, sections_of, sections, few_sections}
 
 -- fronts before the first of some texts
@@ -107,3 +107,30 @@ pub too_many : (bytes text : List ℕ) (found : List (List ℕ)) → sections by
 too_many bytes text found all count =
     let more : nat_le (length (found ++ sections text)) 16 ≡ false = let size = length-append found (sections text) in let some = some_section (lines text) in grind (arith, nat_tests) in
     rw (all, more) refl
+
+-- the lines are the text
+concat-onto : (b : ℕ) (ls : List (List ℕ)) → concat (onto (b ∷ []) ls) ≡ b ∷ concat ls
+concat-onto b [] = refl
+concat-onto b (line ∷ ls) = refl
+
+pub concat-lines : (text : List ℕ) → concat (lines text) ≡ text
+concat-lines [] = refl
+concat-lines (b ∷ bytes) = elim (cases_Bool (is_line_feed b)) [
+  | inl t ↦ rw t (ap (λ (l : List ℕ). b ∷ l) (concat-lines bytes))
+  | inr f ↦ rw f (concat-onto b (lines bytes) ∙ ap (λ (l : List ℕ). b ∷ l) (concat-lines bytes))
+]
+
+-- the sections are what the marked lines part
+onto-parts : (line : List ℕ) (parts : List (List (List ℕ))) → onto line (map concat parts) ≡ map concat (onto_first line parts)
+onto-parts line [] = ap (λ (l : List ℕ). l ∷ []) (sym (append-nil line))
+onto-parts line (part ∷ parts) = refl
+
+sections_of-split : (ls : List (List ℕ)) → sections_of ls ≡ map concat (slice_split is_mark ls)
+sections_of-split [] = refl
+sections_of-split (line ∷ ls) = elim (cases_Bool (is_mark line)) [
+  | inl t ↦ rw t (ap (λ (s : List (List ℕ)). [] ∷ s) (sections_of-split ls))
+  | inr f ↦ rw f (ap (onto line) (sections_of-split ls) ∙ onto-parts line (slice_split is_mark ls))
+]
+
+pub sections-split : (bytes : List ℕ) → sections bytes ≡ map concat (slice_split is_mark (lines bytes))
+sections-split bytes = sections_of-split (lines bytes)

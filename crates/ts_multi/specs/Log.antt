@@ -1,5 +1,5 @@
 -- The commits of a run of sessions, and the transactions that are open: which commit stands in whose way.
-use Rattle.std.specs.Prelude.{ℕ, ◌+◌, Bool, true, false, Option, Some, None, option_map, List, [], ◌∷◌, ◌++◌, length, drop, position, slice_set, slice_index_or, replicate}
+use Rattle.std.specs.Prelude.{◌≡◌, ℕ, ◌+◌, ◌-◌, ◌<◌, ◌≤◌, Bool, true, false, Option, Some, None, option_map, List, [], ◌∷◌, ◌++◌, length, drop, position, slice_set, slice_index_or, replicate}
 use Rattle.ts_multi.specs.declared.object.Object.{Object}
 use Rattle.ts_multi.specs.declared.object.Touched.{Touched}
 use Rattle.ts_multi.specs.Objects.{written, meets}
@@ -18,6 +18,17 @@ pub record Log : Type 0 where
 -- the number of the first commit behind so many that wrote an object which one of these commands wrote or named; commits are counted from 1
 abbrev pub conflict_after : ℕ → List Touched → List (List Object) → Option ℕ
 conflict_after begun noted commits = option_map (λ place. begun + 1 + place) (position (λ wrote. meets wrote noted) (drop begun commits))
+
+-- what a commit of this number wrote
+abbrev pub commit_at : ℕ → List (List Object) → List Object
+commit_at number commits = slice_index_or commits (number - 1) []
+
+-- a commit behind so many wrote an object which one of these commands wrote or named, and it is the first that did
+pub record IsFirstConflict (begun : ℕ) (noted : List Touched) (commits : List (List Object)) (number : ℕ) : Type 0 where
+  pub later : begun < number
+  pub within : number ≤ length commits
+  pub meets : meets (commit_at number commits) noted ≡ true
+  pub first : (earlier : ℕ) → begun < earlier → earlier < number → meets (commit_at earlier commits) noted ≡ false
 
 -- a transaction is in conflict with the first commit behind its Begin that wrote what it writes or names
 abbrev pub conflict_of : Option Pending → List (List Object) → Option ℕ

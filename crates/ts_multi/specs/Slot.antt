@@ -18,5 +18,5 @@ pending_of (Some begun) noted = Some (record { begun = begun; noted = noted })
 -- the number of a commit fits, and where there is said to be room there is
 pub record IsKept (commits : List (List Object)) (slots : List Standing) (room : Bool) (capacity : ℕ) : Type 0 where
   pub few : length commits ≤ 4294967295
-  pub commits : room ≡ true → length commits < capacity
-  pub slots : room ≡ true → AllPass (λ s. s.room) slots
+  pub next : room ≡ true → length commits < capacity
+  pub each : room ≡ true → AllPass (λ s. s.room) slots

@@ -1,6 +1,7 @@
 // The place of a session's transaction.
-ghost use Rattle.std.specs.Prelude.{◌≡◌, ◌≤◌, [], Some, None, is_some, IsSome, IfSome, IsOk, OnOk, OnErr, true, length};
-ghost use Rattle.ts_multi.specs.Log.{with_noted, conflict_of};
+ghost use Rattle.std.specs.Prelude.{◌≡◌, ◌≤◌, [], Some, None, is_some, IsSome, IfSome, OnOk, true, length, drop, position, ◌+◌, ◌<◌};
+ghost use Rattle.ts_multi.specs.Log.{with_noted, conflict_of, conflict_after};
+ghost use Rattle.ts_multi.specs.Objects.{meets};
 
 use crate::commit::Commit;
 use crate::object::Touched;
@@ -46,7 +47,8 @@ impl Slot {
 
     /// Opens a transaction behind so many commits.
     pub(crate) fn begin(&mut self, commits: usize)
-        ensures { self.new ≡ record self.old { pending = Some (record { begun = commits; noted = [] }) } }
+        ensures pending { self.new.pending ≡ Some (record { begun = commits; noted = [] }) }
+        ensures room { self.old.room ≡ true → self.new.room ≡ true }
     {
         self.noted.clear();
         self.begun = Some(commits);
@@ -93,10 +95,28 @@ impl Slot {
         ensures { result ≡ conflict_of self.now.pending commits.now }
     {
         let begun = self.begun?;
-        let place = commits
-            .iter()
-            .skip(begun)
-            .position(|commit| commit.meets(self.noted.as_slice()))?;
-        Some((begun + 1 + place) as u32)
+        conflict_after(commits, begun, self.noted.as_slice())
     }
+}
+
+// The number of the first commit behind so many that wrote an object which one of these commands wrote or named.
+fn conflict_after(commits: &[Commit], begun: usize, noted: &[Touched]) -> Option<u32>
+    requires { length commits.now ≤ 4294967295 }
+    ensures { result ≡ conflict_after begun noted.now commits.now }
+{
+    match first_meeting(commits, begun, noted) {
+        Some(place) => Some((begun + 1 + place) as u32),
+        None => None,
+    }
+}
+
+// Its place behind these.
+fn first_meeting(commits: &[Commit], begun: usize, noted: &[Touched]) -> Option<usize>
+    ensures value { result ≡ position (λ wrote. meets wrote noted.now) (drop begun commits.now) }
+    ensures within { IfSome result (λ place. begun + place < length commits.now) }
+{
+    commits
+        .iter()
+        .skip(begun)
+        .position(|commit| commit.meets(noted))
 }
