@@ -35,7 +35,7 @@ first_conflict begun noted commits number e =
     record {
       later = omega (arith, at.number_is);
       within = omega (arith, at.number_is, facts.0, length-drop begun commits);
-      meets = ap test (commit_behind begun at.place number commits at.number_is) ∙ facts.1;
+      met = ap test (commit_behind begun at.place number commits at.number_is) ∙ facts.1;
       first = λ earlier after before.
         let back : earlier ≡ begun + 1 + (earlier - (begun + 1)) = omega arith in
         ap test (commit_behind begun (earlier - (begun + 1)) earlier commits back) ∙ facts.2 (earlier - (begun + 1)) (omega (arith, at.number_is));

@@ -78,7 +78,7 @@ turn_cases pick left = elim (chosen_is pick (waiting 0 (map length left))) [
       let at = waits 0 (map length left) falls.at falls.within in
       let place : get_or (waiting 0 (map length left)) falls.at 0 ≡ at.place = omega (arith, at.is) in
       let choice : next_session pick (map length left) ≡ Some at.place = falls.is ∙ ap (λ (n : ℕ). Some n) place in
-      let within : at.place < length left = omega (arith, at.within, length-map length left) in
+      let within : at.place < length left = omega (arith, at.within, length-map left length) in
       let some : 0 < length (get_or left at.place []) = omega (arith, at.some, length-get_or left at.place) in
       inr (rw choice (goes_on left at.place (get_or left at.place []) within refl some))
 ]
@@ -99,14 +99,15 @@ none_left (items ∷ rest) (suc k) none = none_left rest k (omega arith)
 item_goes : {A : Type 0} (left : List (List A)) (number k : ℕ) (item : A) (items tail : List A) → number < length left → get_or left number [] ≡ item ∷ items → tail ≡ get_or (slice_set left number items) k []
     → cond ((number + 1) == (k + 1)) (item ∷ tail) tail ≡ get_or left k []
 item_goes {A} left number k item items tail within is rest = elim (eqb_tells (number + 1) (k + 1)) [
-  | inl (same, equal) ↦
+  | inl same ↦
+      let equal = same.1 in
       let one : number ≡ k = omega (arith, equal) in
       let here : get_or (slice_set left number items) k [] ≡ items = rw (← one) (get_or-set_same left number items [] within) in
-      let same_test = same in
+      let same_test = same.0 in
       rw same_test (ap (λ (l : List A). item ∷ l) (rest ∙ here) ∙ sym is ∙ ap (λ (n : ℕ). get_or left n []) one)
-  | inr (other, apart) ↦
-      let away : k ≢ number = λ e. apart (ap (λ (n : ℕ). n + 1) (sym e)) in
-      let other_test = other in
+  | inr other ↦
+      let away : k ≢ number = λ e. other.1 (ap (λ (n : ℕ). n + 1) (sym e)) in
+      let other_test = other.0 in
       rw other_test (rest ∙ get_or-set_other left number k items [] away)
 ]
 

@@ -39,7 +39,7 @@ pending-at (x ∷ xs) (suc i) d less = pending-at xs i d (omega arith)
 
 -- what its commands wrote
 pub wrote-is : (pending : Option Pending) (noted : List Touched) → IsSome pending → IfSome pending (λ p. noted ≡ p.noted) → written noted ≡ wrote_of pending
-wrote-is None noted some is = absurd (omega arith)
+wrote-is None noted some is = absurd (cc)
 wrote-is (Some p) noted some is = ap written is
 
 -- a place that gets room

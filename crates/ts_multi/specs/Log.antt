@@ -27,7 +27,7 @@ commit_at number commits = slice_index_or commits (number - 1) []
 pub record IsFirstConflict (begun : ℕ) (noted : List Touched) (commits : List (List Object)) (number : ℕ) : Type 0 where
   pub later : begun < number
   pub within : number ≤ length commits
-  pub meets : meets (commit_at number commits) noted ≡ true
+  pub met : meets (commit_at number commits) noted ≡ true
   pub first : (earlier : ℕ) → begun < earlier → earlier < number → meets (commit_at earlier commits) noted ≡ false
 
 -- a transaction is in conflict with the first commit behind its Begin that wrote what it writes or names

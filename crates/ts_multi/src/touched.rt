@@ -73,7 +73,13 @@ fn written(alloc: Global, command: &Command) -> Result<ObjectList, AllocError>
         | Command::Lag { .. }
         | Command::AggregateBy { .. }
         | Command::AggregateRange { .. }
-        | Command::AggregateAll { .. } => Ok(ObjectList::new(alloc)),
+        | Command::AggregateAll { .. }
+        | Command::TSRunningSum { .. }
+        | Command::TSRunningAvg { .. }
+        | Command::Apply { .. }
+        | Command::Begin
+        | Command::Commit
+        | Command::Rollback => Ok(ObjectList::new(alloc)),
     }
 }
 
@@ -126,7 +132,10 @@ fn named(alloc: Global, command: &Command) -> Result<ObjectList, AllocError>
         | Command::ClipCount { key, .. }
         | Command::ClipGetCount { key, .. }
         | Command::Lag { key, .. }
-        | Command::AggregateRange { key, .. } => one(alloc, Kind::Series, key.as_slice()),
+        | Command::AggregateRange { key, .. }
+        | Command::TSRunningSum { key, .. }
+        | Command::TSRunningAvg { key, .. }
+        | Command::Apply { key, .. } => one(alloc, Kind::Series, key.as_slice()),
         Command::CreateRowType { .. }
         | Command::DropRowType { .. }
         | Command::CreatePattern { .. }
@@ -141,7 +150,10 @@ fn named(alloc: Global, command: &Command) -> Result<ObjectList, AllocError>
         | Command::DelElem { .. }
         | Command::DelClip { .. }
         | Command::HideElem { .. }
-        | Command::RevealElem { .. } => Ok(ObjectList::new(alloc)),
+        | Command::RevealElem { .. }
+        | Command::Begin
+        | Command::Commit
+        | Command::Rollback => Ok(ObjectList::new(alloc)),
     }
 }
 
