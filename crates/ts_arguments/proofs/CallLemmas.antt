@@ -7,7 +7,7 @@ use Rattle.ts_text.proofs.CallerLemmas.{IsSign, Yields, chain, given, Any, sign_
 use Rattle.ts_tokens.specs.Tokens.{front}
 use Rattle.ts_tokens.proofs.CallerLemmas.{front_laws, close_sign, comma_sign}
 use Rattle.ts_arguments.specs.Arguments.{a_literal, a_column, a_name, a_key, a_stamp, a_text, a_joined, a_whole, a_stamp_column}
-use Rattle.ts_arguments.specs.Calls.{before, two, name_before, key_before, text_before, stamp_before, whole_before, two_names, three_names, joined_names, name_and_text, name_and_whole, two_names_and_whole, key_and_name, key_and_whole, key_and_stamp, two_stamps, name_range, key_range, two_keys_range, name_key_range, text_key_range, text_name_range, text_name_key_range, stamp_and_name, name_stamp_and_name, key_name_stamp_and_name, stamp_and_whole, name_stamp_and_whole, key_stamp_and_whole, stamp_and_values, key_stamp_and_values, some_columns, stamp_and_columns, name_and_columns}
+use Rattle.ts_arguments.specs.Calls.{before, two, name_before, key_before, text_before, stamp_before, whole_before, two_names, three_names, joined_names, name_and_text, name_and_whole, two_names_and_whole, key_and_name, key_and_whole, key_and_stamp, two_stamps, name_range, key_range, two_keys_range, name_key_range, text_key_range, text_name_range, text_name_key_range, whole_range, key_whole_range, text_key_whole_range, stamp_and_name, name_stamp_and_name, key_name_stamp_and_name, stamp_and_whole, name_stamp_and_whole, key_stamp_and_whole, stamp_and_values, key_stamp_and_values, some_columns, stamp_and_columns, name_and_columns}
 use Rattle.ts_arguments.proofs.FormLemmas.{IsName, IsKey, IsWithin, HasName, name_yields, key_yields, stamp_yields, literal_yields, text_yields, joined_yields, whole_yields, column_yields, stamp_column_yields}
 
 -- a phrase, and a sign behind it
@@ -73,13 +73,16 @@ unfolding key_and_stamp
 key_and_stamp_yields = both IsKey Any (key_before 44) (stamp_before 41) (key_before_yields 44 comma_sign) (stamp_before_yields 41 close_sign)
 
 -- so with whole numbers, where 1 is one
-whole_before_yields : (least most : ℤ) → int_le least (pos 1) ≡ true → int_le (pos 1) most ≡ true → Yields front (IsWithin least most) (whole_before 41 least most)
+whole_before_yields : (sign : ℕ) → IsSign front sign → (least most : ℤ) → int_le least (pos 1) ≡ true → int_le (pos 1) most ≡ true → Yields front (IsWithin least most) (whole_before sign least most)
 unfolding whole_before
-whole_before_yields least most below above = signed (IsWithin least most) 41 close_sign (a_whole least most) (whole_yields least most below above)
+whole_before_yields sign is least most below above = signed (IsWithin least most) sign is (a_whole least most) (whole_yields least most below above)
+
+whole_closed_yields : (least most : ℤ) → int_le least (pos 1) ≡ true → int_le (pos 1) most ≡ true → Yields front (IsWithin least most) (whole_before 41 least most)
+whole_closed_yields = whole_before_yields 41 close_sign
 
 name_and_whole_yields : (least most : ℤ) → int_le least (pos 1) ≡ true → int_le (pos 1) most ≡ true → Yields front (Both IsName (IsWithin least most)) (name_and_whole least most)
 unfolding name_and_whole
-name_and_whole_yields least most below above = both IsName (IsWithin least most) (name_before 44) (whole_before 41 least most) (name_before_yields 44 comma_sign) (whole_before_yields least most below above)
+name_and_whole_yields least most below above = both IsName (IsWithin least most) (name_before 44) (whole_before 41 least most) (name_before_yields 44 comma_sign) (whole_closed_yields least most below above)
 
 pub two_names_and_whole_yields : (least most : ℤ) → int_le least (pos 1) ≡ true → int_le (pos 1) most ≡ true → Yields front (Both IsName (Both IsName (IsWithin least most))) (two_names_and_whole least most)
 unfolding two_names_and_whole
@@ -87,11 +90,11 @@ two_names_and_whole_yields least most below above = both IsName (Both IsName (Is
 
 pub key_and_whole_yields : (least most : ℤ) → int_le least (pos 1) ≡ true → int_le (pos 1) most ≡ true → Yields front (Both IsKey (IsWithin least most)) (key_and_whole least most)
 unfolding key_and_whole
-key_and_whole_yields least most below above = both IsKey (IsWithin least most) (key_before 44) (whole_before 41 least most) (key_before_yields 44 comma_sign) (whole_before_yields least most below above)
+key_and_whole_yields least most below above = both IsKey (IsWithin least most) (key_before 44) (whole_before 41 least most) (key_before_yields 44 comma_sign) (whole_closed_yields least most below above)
 
 stamp_and_whole_yields : (least most : ℤ) → int_le least (pos 1) ≡ true → int_le (pos 1) most ≡ true → Yields front (Both Any (IsWithin least most)) (stamp_and_whole least most)
 unfolding stamp_and_whole
-stamp_and_whole_yields least most below above = both Any (IsWithin least most) (stamp_before 44) (whole_before 41 least most) (stamp_before_yields 44 comma_sign) (whole_before_yields least most below above)
+stamp_and_whole_yields least most below above = both Any (IsWithin least most) (stamp_before 44) (whole_before 41 least most) (stamp_before_yields 44 comma_sign) (whole_closed_yields least most below above)
 
 pub name_stamp_and_whole_yields : (least most : ℤ) → int_le least (pos 1) ≡ true → int_le (pos 1) most ≡ true → Yields front (Both IsName (Both Any (IsWithin least most))) (name_stamp_and_whole least most)
 unfolding name_stamp_and_whole
@@ -146,6 +149,24 @@ text_name_range_yields = with_text_yields IsNameRange name_range name_range_yiel
 pub text_name_key_range_yields : Yields front (Both Any IsNameAndKey) text_name_key_range
 unfolding text_name_key_range
 text_name_key_range_yields = with_text_yields IsNameAndKey name_key_range name_key_range_yields
+
+-- a text, a key, a whole number and two stamps
+abbrev pub IsKeyAndWhole : ℤ → ℤ → List ℕ × (ℤ × (ℤ × ℤ)) → Type 0
+IsKeyAndWhole least most p = Both IsKey (Both (IsWithin least most) (Both Any Any)) p
+
+whole_range_yields : (least most : ℤ) → int_le least (pos 1) ≡ true → int_le (pos 1) most ≡ true → Yields front (Both (IsWithin least most) (Both Any Any)) (whole_range least most)
+unfolding whole_range
+whole_range_yields least most below above =
+    both (IsWithin least most) (Both Any Any) (whole_before 44 least most) two_stamps (whole_before_yields 44 comma_sign least most below above) two_stamps_yields
+
+pub key_whole_range_yields : (least most : ℤ) → int_le least (pos 1) ≡ true → int_le (pos 1) most ≡ true → Yields front (IsKeyAndWhole least most) (key_whole_range least most)
+unfolding key_whole_range
+key_whole_range_yields least most below above =
+    both IsKey (Both (IsWithin least most) (Both Any Any)) (key_before 44) (whole_range least most) (key_before_yields 44 comma_sign) (whole_range_yields least most below above)
+
+pub text_key_whole_range_yields : (least most : ℤ) → int_le least (pos 1) ≡ true → int_le (pos 1) most ≡ true → Yields front (Both Any (IsKeyAndWhole least most)) (text_key_whole_range least most)
+unfolding text_key_whole_range
+text_key_whole_range_yields least most below above = with_text_yields (IsKeyAndWhole least most) (key_whole_range least most) (key_whole_range_yields least most below above)
 
 -- a key, a name, a stamp and a name
 stamp_and_name_yields : Yields front (Both Any IsName) stamp_and_name

@@ -108,6 +108,18 @@ text_name_range = two (text_before 44) name_range
 unfoldable pub text_name_key_range : Phrase (List ℕ × (List ℕ × (List ℕ × (ℤ × ℤ))))
 text_name_key_range = two (text_before 44) name_key_range
 
+-- a whole number between the two and two stamps
+unfoldable pub whole_range : ℤ → ℤ → Phrase (ℤ × (ℤ × ℤ))
+whole_range least most = two (whole_before 44 least most) two_stamps
+
+-- a key, a whole number between the two and two stamps
+unfoldable pub key_whole_range : ℤ → ℤ → Phrase (List ℕ × (ℤ × (ℤ × ℤ)))
+key_whole_range least most = two (key_before 44) (whole_range least most)
+
+-- a text, a key, a whole number between the two and two stamps
+unfoldable pub text_key_whole_range : ℤ → ℤ → Phrase (List ℕ × (List ℕ × (ℤ × (ℤ × ℤ))))
+text_key_whole_range least most = two (text_before 44) (key_whole_range least most)
+
 -- a stamp and a name
 unfoldable pub stamp_and_name : Phrase (ℤ × List ℕ)
 stamp_and_name = two (stamp_before 44) (name_before 41)

@@ -68,9 +68,14 @@ pub(crate) fn read_stamp_before(
     }
 }
 
-// A whole number between the two, and this sign behind it.
+/// A whole number between the two, and this sign behind it.
 #[tactic(auto, unfolding(crate::specs::Calls::whole_before))]
-fn read_whole_before(bytes: &[u8], sign: u8, least: i64, most: i64) -> Result<(i64, &[u8]), Misfit>
+pub(crate) fn read_whole_before(
+    bytes: &[u8],
+    sign: u8,
+    least: i64,
+    most: i64,
+) -> Result<(i64, &[u8]), Misfit>
     ensures ok { IfOk result (λ found. whole_before sign least most bytes.now ≡ Ok (found.0, found.1.now)) }
     ensures cause { IfErr result (λ misfit. RefusesExactly misfit (whole_before sign least most bytes.now)) }
 {

@@ -23,7 +23,7 @@ pub use call::{
 pub use laws::printed_values_are_read_again;
 pub use list::{Columns, Literals};
 pub use range::{
-    read_key_range, read_name_range, read_text_key_range, read_text_name_key_range,
-    read_text_name_range, read_two_keys_range,
+    read_key_range, read_name_range, read_text_key_range, read_text_key_whole_range,
+    read_text_name_key_range, read_text_name_range, read_two_keys_range,
 };
 pub use word::{Joined, are_same};

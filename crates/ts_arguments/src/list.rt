@@ -1,9 +1,9 @@
 // The lists of a statement: the values of a row, and the value columns of a row type.
-ghost use Rattle.std.specs.Prelude.{◌≡◌, [], ◌∷◌, ◌++◌, OnOk, OnErr};
+ghost use Rattle.std.specs.Prelude.{◌≡◌, [], ◌∷◌, ◌++◌, IfOk, OnOk, OnErr};
 
 use std::alloc::{AllocError, Global};
 use std::marker::Model;
-use ts_row::{Column, Literal};
+use ts_row::{Column, Literal, copy_columns};
 
 /// The values that a statement gives, as it writes them.
 #[derive(Debug, Drop)]
@@ -57,6 +57,25 @@ impl Literals {
     {
         self.items.as_slice()
     }
+
+    pub fn copy(&self) -> Result<Self, AllocError>
+        ensures { IfOk result (λ made. made ≡ self.now) }
+    {
+        Ok(Literals {
+            items: copy_literals(*self.items.allocator(), self.items.as_slice())?,
+        })
+    }
+}
+
+// The same values once more.
+fn copy_literals(alloc: Global, literals: &[Literal]) -> Result<Vec<Literal>, AllocError>
+    ensures { IfOk result (λ made. made.items ≡ literals.now) }
+{
+    let mut made = Vec::with_capacity(alloc, literals.len())?;
+    for literal in literals {
+        made.push(literal.copy()?)?;
+    }
+    Ok(made)
 }
 
 /// The value columns that a statement lists.
@@ -110,5 +129,13 @@ impl Columns {
         ensures { result.now ≡ self.now }
     {
         self.items.as_slice()
+    }
+
+    pub fn copy(&self) -> Result<Self, AllocError>
+        ensures { IfOk result (λ made. made ≡ self.now) }
+    {
+        Ok(Columns {
+            items: copy_columns(*self.items.allocator(), self.items.as_slice())?,
+        })
     }
 }

@@ -1,9 +1,11 @@
 // Calls that end with a range: two stamps behind what else stands there.
 ghost use Rattle.std.specs.Prelude.{◌≡◌, Ok, IfOk, IfErr};
 ghost use Rattle.ts_text.specs.Misfit.{Refuses};
-ghost use Rattle.ts_arguments.specs.Calls.{two_stamps, name_range, key_range, two_keys_range, name_key_range, text_key_range, text_name_range, text_name_key_range};
+ghost use Rattle.ts_arguments.specs.Calls.{two_stamps, name_range, key_range, two_keys_range, name_key_range, text_key_range, text_name_range, text_name_key_range, whole_range, key_whole_range, text_key_whole_range};
 
-use crate::call::{read_key_before, read_name_before, read_stamp_before, read_text_before};
+use crate::call::{
+    read_key_before, read_name_before, read_stamp_before, read_text_before, read_whole_before,
+};
 use std::alloc::Global;
 use ts_base::{Bytes, Key, Name, Stamp};
 use ts_text::Misfit;
@@ -128,6 +130,60 @@ pub fn read_text_name_key_range(
     let (text, rest) = read_text_before(alloc, bytes, b',')?;
     match read_name_key_range(alloc, rest) {
         Ok((name, rest)) => Ok(((text, name), rest)),
+        Err(misfit) => Err(misfit),
+    }
+}
+
+// A whole number between the two and two stamps.
+#[tactic(auto, unfolding(crate::specs::Calls::whole_range))]
+fn read_whole_range(
+    alloc: Global,
+    bytes: &[u8],
+    least: i64,
+    most: i64,
+) -> Result<((i64, (Stamp, Stamp)), &[u8]), Misfit>
+    ensures ok { IfOk result (λ found. whole_range least most bytes.now ≡ Ok (found.0, found.1.now)) }
+    ensures cause { IfErr result (λ misfit. Refuses misfit (whole_range least most bytes.now)) }
+{
+    let (whole, rest) = read_whole_before(bytes, b',', least, most)?;
+    match read_two_stamps(alloc, rest) {
+        Ok((range, rest)) => Ok(((whole, range), rest)),
+        Err(misfit) => Err(misfit),
+    }
+}
+
+// A key, a whole number between the two and two stamps.
+#[tactic(auto, unfolding(crate::specs::Calls::key_whole_range))]
+fn read_key_whole_range(
+    alloc: Global,
+    bytes: &[u8],
+    least: i64,
+    most: i64,
+) -> Result<((Key, (i64, (Stamp, Stamp))), &[u8]), Misfit>
+    ensures ok { IfOk result (λ found. key_whole_range least most bytes.now ≡ Ok (found.0, found.1.now)) }
+    ensures cause { IfErr result (λ misfit. Refuses misfit (key_whole_range least most bytes.now)) }
+{
+    let (key, rest) = read_key_before(alloc, bytes, b',')?;
+    match read_whole_range(alloc, rest, least, most) {
+        Ok((whole, rest)) => Ok(((key, whole), rest)),
+        Err(misfit) => Err(misfit),
+    }
+}
+
+/// A text, a key, a whole number between the two and two stamps.
+#[tactic(auto, unfolding(crate::specs::Calls::text_key_whole_range))]
+pub fn read_text_key_whole_range(
+    alloc: Global,
+    bytes: &[u8],
+    least: i64,
+    most: i64,
+) -> Result<((Bytes, (Key, (i64, (Stamp, Stamp)))), &[u8]), Misfit>
+    ensures ok { IfOk result (λ found. text_key_whole_range least most bytes.now ≡ Ok (found.0, found.1.now)) }
+    ensures cause { IfErr result (λ misfit. Refuses misfit (text_key_whole_range least most bytes.now)) }
+{
+    let (text, rest) = read_text_before(alloc, bytes, b',')?;
+    match read_key_whole_range(alloc, rest, least, most) {
+        Ok((key, rest)) => Ok(((text, key), rest)),
         Err(misfit) => Err(misfit),
     }
 }

@@ -1,16 +1,16 @@
 -- The command that a statement is read as has its form.
 use Rattle.std.proofs.Common.{◌≡◌, ℕ, ◌<◌, ◌^◌, List, [], ◌∷◌, length, Ok, codes, true, refl, arith, ℤ, pos, neg_ℤ, int_le}
 use Rattle.ts_row.specs.declared.value.Literal.{Literal}
-use Rattle.ts_text.specs.Phrase.{Phrase, ◌>>=◌, give, a_sign, behind, made, the_end}
+use Rattle.ts_text.specs.Phrase.{Phrase, ◌>>=◌, give, made, the_end}
 use Rattle.ts_text.specs.declared.token.TokenKind.TheVariants.{Word}
-use Rattle.ts_text.proofs.CallerLemmas.{Yields, Goes, Any, chain, shrinks_of, of_token, sign_shrinks, behind_yields, made_yields, bind-ok, pair-parts}
+use Rattle.ts_text.proofs.CallerLemmas.{Yields, Goes, Any, chain, given, shrinks_of, of_token, sign_yields, made_yields, bind-ok, pair-parts}
 use Rattle.ts_tokens.specs.Tokens.{front}
 use Rattle.ts_arguments.specs.declared.word.Joined.{Joined}
 use Rattle.ts_arguments.specs.declared.word.Joined.TheVariants.{Patterns, Calendars}
-use Rattle.ts_arguments.specs.Calls.{before, two, name_before, key_before, text_before, two_names, joined_names, name_and_text, two_names_and_whole, key_and_name, key_and_whole, key_and_stamp, name_range, key_range, two_keys_range, name_key_range, text_key_range, text_name_range, text_name_key_range, key_name_stamp_and_name, name_stamp_and_whole, key_stamp_and_whole, key_stamp_and_values, name_and_columns}
+use Rattle.ts_arguments.specs.Calls.{before, two, name_before, key_before, text_before, two_names, joined_names, name_and_text, two_names_and_whole, key_and_name, key_and_whole, key_and_stamp, name_range, key_range, two_keys_range, name_key_range, text_key_range, text_name_range, text_name_key_range, key_whole_range, text_key_whole_range, key_name_stamp_and_name, name_stamp_and_whole, key_stamp_and_whole, key_stamp_and_values, name_and_columns}
 use Rattle.ts_command.specs.Form.{HasForm}
 use Rattle.ts_command.specs.Routines.{routine_of, least_number, most_number}
-use Rattle.ts_command.specs.Grammar.{a_routine, routine_in, of_name, of_key, of_stamp, of_row, of_text, of_join, of_range, of_clip, of_number, of_keys, arguments, a_call, a_command}
+use Rattle.ts_command.specs.Grammar.{a_routine, routine_in, of_name, of_key, of_stamp, of_row, of_text, of_join, of_range, of_clip, of_number, of_keys, of_series, of_running, of_lone, opening, arguments, a_call, a_command}
 use Rattle.ts_command.specs.declared.routine.Routine.{Routine}
 use Rattle.ts_command.specs.declared.routine.Routine.TheVariants as calls
 use Rattle.ts_command.specs.declared.routine.NameRoutine.{NameRoutine}
@@ -33,9 +33,15 @@ use Rattle.ts_command.specs.declared.routine.NumberRoutine.{NumberRoutine}
 use Rattle.ts_command.specs.declared.routine.NumberRoutine.TheVariants as by_number
 use Rattle.ts_command.specs.declared.routine.PairRoutine.{PairRoutine}
 use Rattle.ts_command.specs.declared.routine.PairRoutine.TheVariants as of_pair
+use Rattle.ts_command.specs.declared.routine.SeriesRoutine.{SeriesRoutine}
+use Rattle.ts_command.specs.declared.routine.SeriesRoutine.TheVariants as in_series
+use Rattle.ts_command.specs.declared.routine.RunningRoutine.{RunningRoutine}
+use Rattle.ts_command.specs.declared.routine.RunningRoutine.TheVariants as running
+use Rattle.ts_command.specs.declared.routine.LoneRoutine.{LoneRoutine}
+use Rattle.ts_command.specs.declared.routine.LoneRoutine.TheVariants as alone
 use Rattle.ts_command.specs.declared.command.Command.{Command}
 use Rattle.ts_tokens.proofs.CallerLemmas.{front_laws, open_sign, close_sign}
-use Rattle.ts_arguments.proofs.CallerLemmas.{IsName, IsKey, IsWithin, AreNames, IsKeyRange, IsNameRange, IsNameAndKey, key_range_yields, name_range_yields, name_key_range_yields, with_text_yields, name_before_yields, two_names_yields, name_and_text_yields, joined_names_yields, name_stamp_and_whole_yields, key_before_yields, key_and_name_yields, key_name_stamp_and_name_yields, key_and_stamp_yields, two_names_and_whole_yields, key_stamp_and_values_yields, name_and_columns_yields, key_stamp_and_whole_yields, key_and_whole_yields, two_keys_range_yields, text_key_range_yields, text_name_range_yields, text_name_key_range_yields, name_text-le, first_text-le}
+use Rattle.ts_arguments.proofs.CallerLemmas.{IsName, IsKey, IsWithin, AreNames, IsKeyRange, IsNameRange, IsNameAndKey, IsKeyAndWhole, key_range_yields, name_range_yields, name_key_range_yields, with_text_yields, name_before_yields, two_names_yields, name_and_text_yields, joined_names_yields, name_stamp_and_whole_yields, key_before_yields, key_and_name_yields, key_name_stamp_and_name_yields, key_and_stamp_yields, two_names_and_whole_yields, key_stamp_and_values_yields, name_and_columns_yields, key_stamp_and_whole_yields, key_and_whole_yields, two_keys_range_yields, text_key_range_yields, text_name_range_yields, text_name_key_range_yields, key_whole_range_yields, text_key_whole_range_yields, name_text-le, first_text-le}
 
 -- the commands of each group have their form
 of_name-form : (routine : NameRoutine) (name : List ℕ) → IsName name → HasForm (of_name routine name)
@@ -93,6 +99,19 @@ of_keys-form : (routine : PairRoutine) (first second : List ℕ) (from to : ℤ)
 of_keys-form of_pair.Union first second from to one other = (one, other)
 of_keys-form of_pair.Intersect first second from to one other = (one, other)
 
+of_series-form : (routine : SeriesRoutine) (text key : List ℕ) (from to : ℤ) → length text < 2 ^ 32 → IsKey key → HasForm (of_series routine text key from to)
+of_series-form in_series.AggregateRange text key from to few form = (few, form)
+of_series-form in_series.Apply text key from to few form = (few, form)
+
+of_running-form : (routine : RunningRoutine) (text key : List ℕ) (span from to : ℤ) → length text < 2 ^ 32 → IsKey key → IsWithin (pos 1) (pos 65536) span → HasForm (of_running routine text key span from to)
+of_running-form running.TSRunningSum text key span from to few form within = (few, form, within.0, within.1)
+of_running-form running.TSRunningAvg text key span from to few form within = (few, form, within.0, within.1)
+
+of_lone-form : (routine : LoneRoutine) → HasForm (of_lone routine)
+of_lone-form alone.Begin = tt
+of_lone-form alone.Commit = tt
+of_lone-form alone.Rollback = tt
+
 -- 1 lies in the range of each routine that takes a number
 number_below : (routine : NumberRoutine) → int_le (least_number routine) (pos 1) ≡ true
 number_below by_number.GetNthElem = refl
@@ -106,8 +125,9 @@ number_above by_number.Lag = refl
 abbrev FormOf : Routine → Command → Type 0
 FormOf (calls.WithText routine) command = Any command
 FormOf calls.AggregateBy command = Any command
-FormOf calls.AggregateRange command = Any command
 FormOf calls.AggregateAll command = Any command
+FormOf (calls.OfSeries routine) command = Any command
+FormOf (calls.Running routine) command = Any command
 FormOf routine command = HasForm command
 
 -- and they tell it
@@ -121,7 +141,6 @@ arguments_yield calls.NotOp = made_yields front front_laws _ HasForm two_names _
 arguments_yield calls.CalStamp = made_yields front front_laws _ HasForm (name_stamp_and_whole (pos 1) (pos 4294967295)) _ (name_stamp_and_whole_yields (pos 1) (pos 4294967295) refl refl) (λ a form. (form.0, form.1.1.0, form.1.1.1))
 arguments_yield calls.ClipCount = made_yields front front_laws _ HasForm (key_stamp_and_whole (neg_ℤ (pos 1000000)) (pos 1000000)) _ (key_stamp_and_whole_yields (neg_ℤ (pos 1000000)) (pos 1000000) refl refl) (λ a form. (form.0, form.1.1.0, form.1.1.1))
 arguments_yield calls.AggregateBy = made_yields front front_laws _ Any text_name_key_range _ text_name_key_range_yields (λ a form. tt)
-arguments_yield calls.AggregateRange = made_yields front front_laws _ Any text_key_range _ text_key_range_yields (λ a form. tt)
 arguments_yield calls.AggregateAll = made_yields front front_laws _ Any text_name_range _ text_name_range_yields (λ a form. tt)
 arguments_yield (calls.ByName routine) = made_yields front front_laws _ HasForm (name_before 41) _ (name_before_yields 41 close_sign) (of_name-form routine)
 arguments_yield (calls.ByKey routine) = made_yields front front_laws _ HasForm (key_before 41) _ (key_before_yields 41 close_sign) (of_key-form routine)
@@ -133,6 +152,15 @@ arguments_yield (calls.InRange routine) = made_yields front front_laws _ HasForm
 arguments_yield (calls.Clipping routine) = made_yields front front_laws _ HasForm key_range _ key_range_yields (λ a form. of_clip-form routine a.0 a.1.0 a.1.1 form.0)
 arguments_yield (calls.ByNumber routine) = made_yields front front_laws _ HasForm (key_and_whole (least_number routine) (most_number routine)) _ (key_and_whole_yields (least_number routine) (most_number routine) (number_below routine) (number_above routine)) (λ a form. of_number-form routine a.0 a.1 form.0 form.1)
 arguments_yield (calls.OfPair routine) = made_yields front front_laws _ HasForm two_keys_range _ two_keys_range_yields (λ a form. of_keys-form routine a.0 a.1.0 a.1.1.0 a.1.1.1 form.0 form.1.0)
+arguments_yield (calls.OfSeries routine) = made_yields front front_laws _ Any text_key_range _ text_key_range_yields (λ a form. tt)
+arguments_yield (calls.Running routine) = made_yields front front_laws _ Any (text_key_whole_range (pos 1) (pos 65536)) _ (text_key_whole_range_yields (pos 1) (pos 65536) refl refl) (λ a form. tt)
+arguments_yield (calls.Alone routine) = given front HasForm (of_lone routine) (of_lone-form routine)
+
+-- the bracket that opens them, if one does
+opening_yields : (routine : Routine) → Yields front Any (opening routine)
+unfolding opening
+opening_yields (calls.Alone routine) = given front Any tt tt
+opening_yields routine = sign_yields front front_laws 40 open_sign
 
 -- a phrase, with nothing told of what it gives
 goes_on : {A : Type 0} (P : A → Type 0) (phrase : Phrase A) (before : List ℕ) → Goes P phrase before → Goes Any phrase before
@@ -157,8 +185,9 @@ routine_yields = of_token front front_laws Any routine_in (record { first = 71; 
 pub call_yields : Yields front Any a_call
 unfolding a_call
 call_yields =
-    chain front front_laws Any Any a_routine (λ routine. behind 40 (arguments routine)) routine_yields
-    (λ routine any. behind_yields front front_laws Any 40 open_sign (arguments routine) (loosely (FormOf routine) (arguments routine) (arguments_yield routine)))
+    chain front front_laws Any Any a_routine (λ routine. opening routine >>= (λ opened. arguments routine)) routine_yields
+    (λ routine any. chain front front_laws Any Any (opening routine) (λ opened. arguments routine) (opening_yields routine)
+    (λ opened any. loosely (FormOf routine) (arguments routine) (arguments_yield routine)))
 
 -- the command of a name and a text
 text-form : (routine : TextRoutine) (bytes : List ℕ) (found : Command × List ℕ) → length bytes < 2 ^ 32 → arguments (calls.WithText routine) bytes ≡ Ok found → HasForm found.0
@@ -179,20 +208,30 @@ first_text-form P other make one forms bytes found few is =
 
 -- each routine's command, in so few bytes
 arguments-form : (routine : Routine) (bytes : List ℕ) (found : Command × List ℕ) → length bytes < 2 ^ 32 → arguments routine bytes ≡ Ok found → HasForm found.0
-unfolding arguments text_name_key_range text_key_range text_name_range
+unfolding arguments text_name_key_range text_key_range text_name_range text_key_whole_range
 arguments-form (calls.WithText routine) bytes found few is = text-form routine bytes found few is
 arguments-form calls.AggregateBy bytes found few is = first_text-form IsNameAndKey name_key_range _ name_key_range_yields (λ a short form. (short, form.0, form.1.0)) bytes found few is
-arguments-form calls.AggregateRange bytes found few is = first_text-form IsKeyRange key_range _ key_range_yields (λ a short form. (short, form.0)) bytes found few is
 arguments-form calls.AggregateAll bytes found few is = first_text-form IsNameRange name_range _ name_range_yields (λ a short form. (short, form.0)) bytes found few is
+arguments-form (calls.OfSeries routine) bytes found few is =
+    first_text-form IsKeyRange key_range _ key_range_yields (λ a short form. of_series-form routine a.0 a.1.0 a.1.1.0 a.1.1.1 short form.0) bytes found few is
+arguments-form (calls.Running routine) bytes found few is =
+    first_text-form (IsKeyAndWhole (pos 1) (pos 65536)) (key_whole_range (pos 1) (pos 65536)) _ (key_whole_range_yields (pos 1) (pos 65536) refl refl)
+    (λ a short form. of_running-form routine a.0 a.1.0 a.1.1.0 a.1.1.1.0 a.1.1.1.1 short form.0 form.1.0) bytes found few is
 arguments-form routine bytes found few is = ((arguments_yield routine).ok bytes found is).0
 
 call-form : (bytes : List ℕ) (found : Command × List ℕ) → length bytes < 2 ^ 32 → a_call bytes ≡ Ok found → HasForm found.0
 unfolding a_call
 call-form bytes found few is =
-    let routine = bind-ok (a_routine bytes) (λ r. behind 40 (arguments r)) found is in
-    let bracket = bind-ok (a_sign 40 routine.0.1) (λ sign. arguments routine.0.0) found routine.2 in
-    let short : length bracket.0.1 < 2 ^ 32 = omega (arith, few, sign_shrinks 40 routine.0.1 bracket.0 bracket.1, shrinks_of front Any a_routine routine_yields bytes routine.0 routine.1) in
-    arguments-form routine.0.0 bracket.0.1 found short bracket.2
+    let routine = bind-ok (a_routine bytes) (λ r. opening r >>= (λ opened. arguments r)) found is in
+    let opened = bind-ok (opening routine.0.0 routine.0.1) (λ opened. arguments routine.0.0) found routine.2 in
+    let short : length opened.0.1 < 2 ^ 32 =
+    omega (
+      arith,
+      few,
+      shrinks_of front Any (opening routine.0.0) (opening_yields routine.0.0) routine.0.1 opened.0 opened.1,
+      shrinks_of front Any a_routine routine_yields bytes routine.0 routine.1,
+    ) in
+    arguments-form routine.0.0 opened.0.1 found short opened.2
 
 -- a statement
 pub command-form : (text : List ℕ) (found : Command × List ℕ) → length text < 2 ^ 32 → a_command text ≡ Ok found → HasForm found.0

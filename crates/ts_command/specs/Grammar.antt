@@ -1,13 +1,13 @@
 -- The grammar of statements.
 use Rattle.std.specs.Prelude.{ℕ, List, [], ◌∷◌, length, Option, None, Result, ℤ, pos, neg_ℤ}
 use Rattle.ts_row.specs.declared.value.Literal.{Literal}
-use Rattle.ts_text.specs.Phrase.{Phrase, ◌>>=◌, token, behind, made, ended, outcome}
+use Rattle.ts_text.specs.Phrase.{Phrase, ◌>>=◌, give, token, a_sign, made, ended, outcome}
 use Rattle.ts_text.specs.declared.token.TokenKind.{TokenKind}
 use Rattle.ts_text.specs.declared.token.TokenKind.TheVariants.{Word}
 use Rattle.ts_tokens.specs.Tokens.{front}
 use Rattle.ts_arguments.specs.declared.word.Joined.{Joined}
 use Rattle.ts_arguments.specs.declared.word.Joined.TheVariants.{Patterns, Calendars}
-use Rattle.ts_arguments.specs.Calls.{name_before, key_before, two_names, joined_names, name_and_text, two_names_and_whole, key_and_name, key_and_whole, key_and_stamp, name_range, key_range, two_keys_range, text_key_range, text_name_range, text_name_key_range, key_name_stamp_and_name, name_stamp_and_whole, key_stamp_and_whole, key_stamp_and_values, name_and_columns}
+use Rattle.ts_arguments.specs.Calls.{name_before, key_before, two_names, joined_names, name_and_text, two_names_and_whole, key_and_name, key_and_whole, key_and_stamp, name_range, key_range, two_keys_range, text_key_range, text_name_range, text_name_key_range, text_key_whole_range, key_name_stamp_and_name, name_stamp_and_whole, key_stamp_and_whole, key_stamp_and_values, name_and_columns}
 use Rattle.ts_command.specs.declared.routine.Routine.{Routine}
 use Rattle.ts_command.specs.declared.routine.Routine.TheVariants as calls
 use Rattle.ts_command.specs.declared.routine.NameRoutine.{NameRoutine}
@@ -30,6 +30,12 @@ use Rattle.ts_command.specs.declared.routine.NumberRoutine.{NumberRoutine}
 use Rattle.ts_command.specs.declared.routine.NumberRoutine.TheVariants as by_number
 use Rattle.ts_command.specs.declared.routine.PairRoutine.{PairRoutine}
 use Rattle.ts_command.specs.declared.routine.PairRoutine.TheVariants as of_pair
+use Rattle.ts_command.specs.declared.routine.SeriesRoutine.{SeriesRoutine}
+use Rattle.ts_command.specs.declared.routine.SeriesRoutine.TheVariants as in_series
+use Rattle.ts_command.specs.declared.routine.RunningRoutine.{RunningRoutine}
+use Rattle.ts_command.specs.declared.routine.RunningRoutine.TheVariants as running
+use Rattle.ts_command.specs.declared.routine.LoneRoutine.{LoneRoutine}
+use Rattle.ts_command.specs.declared.routine.LoneRoutine.TheVariants as alone
 use Rattle.ts_command.specs.Routines.{routine_of, least_number, most_number}
 use Rattle.ts_command.specs.declared.command.Command.{Command}
 use Rattle.ts_command.specs.declared.command.Command.TheVariants as commands
@@ -99,7 +105,27 @@ abbrev pub of_keys : PairRoutine → List ℕ → List ℕ → ℤ → ℤ → C
 of_keys of_pair.Union first second from to = commands.Union first second from to
 of_keys of_pair.Intersect first second from to = commands.Intersect first second from to
 
--- what each routine is called with, up to the bracket that closes the call, as its command
+abbrev pub of_series : SeriesRoutine → List ℕ → List ℕ → ℤ → ℤ → Command
+of_series in_series.AggregateRange text key from to = commands.AggregateRange text key from to
+of_series in_series.Apply text key from to = commands.Apply text key from to
+
+abbrev pub of_running : RunningRoutine → List ℕ → List ℕ → ℤ → ℤ → ℤ → Command
+of_running running.TSRunningSum text key span from to = commands.TSRunningSum text key span from to
+of_running running.TSRunningAvg text key span from to = commands.TSRunningAvg text key span from to
+
+-- the commands of routines that stand alone
+abbrev pub of_lone : LoneRoutine → Command
+of_lone alone.Begin = commands.Begin
+of_lone alone.Commit = commands.Commit
+of_lone alone.Rollback = commands.Rollback
+
+-- the bracket that opens what a routine is called with, but where it stands alone
+unfoldable pub opening : Routine → Phrase (Unit {0})
+opening (calls.Alone routine) = give tt
+opening routine = a_sign 40
+
+-- what each routine is called with, up to the bracket that closes the call, as its command; one that stands alone is
+-- called with nothing
 unfoldable pub arguments : Routine → Phrase Command
 arguments calls.CreateRowType = made name_and_columns (λ a. commands.CreateRowType a.0 a.1.0 a.1.1)
 arguments calls.TSContainerCreate = made (two_names_and_whole (pos 1) (pos 65536)) (λ a. commands.TSContainerCreate a.0 a.1.0 a.1.1)
@@ -109,7 +135,6 @@ arguments calls.NotOp = made two_names (λ a. commands.NotOp a.0 a.1)
 arguments calls.CalStamp = made (name_stamp_and_whole (pos 1) (pos 4294967295)) (λ a. commands.CalStamp a.0 a.1.0 a.1.1)
 arguments calls.ClipCount = made (key_stamp_and_whole (neg_ℤ (pos 1000000)) (pos 1000000)) (λ a. commands.ClipCount a.0 a.1.0 a.1.1)
 arguments calls.AggregateBy = made text_name_key_range (λ a. commands.AggregateBy a.0 a.1.0 a.1.1.0 a.1.1.1.0 a.1.1.1.1)
-arguments calls.AggregateRange = made text_key_range (λ a. commands.AggregateRange a.0 a.1.0 a.1.1.0 a.1.1.1)
 arguments calls.AggregateAll = made text_name_range (λ a. commands.AggregateAll a.0 a.1.0 a.1.1.0 a.1.1.1)
 arguments (calls.ByName routine) = made (name_before 41) (of_name routine)
 arguments (calls.ByKey routine) = made (key_before 41) (of_key routine)
@@ -121,16 +146,21 @@ arguments (calls.InRange routine) = made name_range (λ a. of_range routine a.0 
 arguments (calls.Clipping routine) = made key_range (λ a. of_clip routine a.0 a.1.0 a.1.1)
 arguments (calls.ByNumber routine) = made (key_and_whole (least_number routine) (most_number routine)) (λ a. of_number routine a.0 a.1)
 arguments (calls.OfPair routine) = made two_keys_range (λ a. of_keys routine a.0 a.1.0 a.1.1.0 a.1.1.1)
+arguments (calls.OfSeries routine) = made text_key_range (λ a. of_series routine a.0 a.1.0 a.1.1.0 a.1.1.1)
+arguments (calls.Running routine) =
+    made (text_key_whole_range (pos 1) (pos 65536)) (λ a. of_running routine a.0 a.1.0 a.1.1.0 a.1.1.1.0 a.1.1.1.1)
+arguments (calls.Alone routine) = give (of_lone routine)
 
 -- so up to the end of the statement
 unfoldable pub arguments_to_end : Routine → Phrase Command
 arguments_to_end routine = ended (59 ∷ []) (arguments routine)
 
--- a routine, and in brackets what it is called with
+-- a routine, and in brackets what it is called with; or one that stands alone
 unfoldable pub a_call : Phrase Command
 a_call = do
   routine ← a_routine
-  behind 40 (arguments routine)
+  opened ← opening routine
+  arguments routine
 
 -- a statement: a call and the `;` that ends it
 unfoldable pub a_command : Phrase Command

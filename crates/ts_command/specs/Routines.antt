@@ -23,6 +23,12 @@ use Rattle.ts_command.specs.declared.routine.NumberRoutine.{NumberRoutine}
 use Rattle.ts_command.specs.declared.routine.NumberRoutine.TheVariants as by_number
 use Rattle.ts_command.specs.declared.routine.PairRoutine.{PairRoutine}
 use Rattle.ts_command.specs.declared.routine.PairRoutine.TheVariants as of_pair
+use Rattle.ts_command.specs.declared.routine.SeriesRoutine.{SeriesRoutine}
+use Rattle.ts_command.specs.declared.routine.SeriesRoutine.TheVariants as in_series
+use Rattle.ts_command.specs.declared.routine.RunningRoutine.{RunningRoutine}
+use Rattle.ts_command.specs.declared.routine.RunningRoutine.TheVariants as running
+use Rattle.ts_command.specs.declared.routine.LoneRoutine.{LoneRoutine}
+use Rattle.ts_command.specs.declared.routine.LoneRoutine.TheVariants as alone
 
 -- the names of the routines that are called with a name
 abbrev pub name_spelling : NameRoutine → List ℕ
@@ -96,6 +102,22 @@ abbrev pub pair_spelling : PairRoutine → List ℕ
 pair_spelling of_pair.Union = codes "Union"
 pair_spelling of_pair.Intersect = codes "Intersect"
 
+-- with a text, a key and two stamps
+abbrev pub series_spelling : SeriesRoutine → List ℕ
+series_spelling in_series.AggregateRange = codes "AggregateRange"
+series_spelling in_series.Apply = codes "Apply"
+
+-- with a text, a key, a whole number and two stamps
+abbrev pub running_spelling : RunningRoutine → List ℕ
+running_spelling running.TSRunningSum = codes "TSRunningSum"
+running_spelling running.TSRunningAvg = codes "TSRunningAvg"
+
+-- with nothing, not even brackets
+abbrev pub lone_spelling : LoneRoutine → List ℕ
+lone_spelling alone.Begin = codes "Begin"
+lone_spelling alone.Commit = codes "Commit"
+lone_spelling alone.Rollback = codes "Rollback"
+
 -- the name of each routine
 abbrev pub spelling : Routine → List ℕ
 spelling calls.CreateRowType = codes "CreateRowType"
@@ -106,7 +128,6 @@ spelling calls.NotOp = codes "NotOp"
 spelling calls.CalStamp = codes "CalStamp"
 spelling calls.ClipCount = codes "ClipCount"
 spelling calls.AggregateBy = codes "AggregateBy"
-spelling calls.AggregateRange = codes "AggregateRange"
 spelling calls.AggregateAll = codes "AggregateAll"
 spelling (calls.ByName routine) = name_spelling routine
 spelling (calls.ByKey routine) = key_spelling routine
@@ -118,6 +139,9 @@ spelling (calls.InRange routine) = range_spelling routine
 spelling (calls.Clipping routine) = clip_spelling routine
 spelling (calls.ByNumber routine) = number_spelling routine
 spelling (calls.OfPair routine) = pair_spelling routine
+spelling (calls.OfSeries routine) = series_spelling routine
+spelling (calls.Running routine) = running_spelling routine
+spelling (calls.Alone routine) = lone_spelling routine
 
 -- all of them
 abbrev pub routines : List Routine
@@ -139,8 +163,11 @@ routines =
     calls.OfPair of_pair.Union ∷
     calls.OfPair of_pair.Intersect ∷
     calls.AggregateBy ∷
-    calls.AggregateRange ∷
+    calls.OfSeries in_series.AggregateRange ∷
     calls.AggregateAll ∷
+    calls.Running running.TSRunningSum ∷
+    calls.Running running.TSRunningAvg ∷
+    calls.OfSeries in_series.Apply ∷
     calls.ByKey by_key.GetFirstElem ∷
     calls.ByKey by_key.GetLastElem ∷
     calls.ByKey by_key.GetNelems ∷
@@ -165,6 +192,9 @@ routines =
     calls.ByName by_name.DropPattern ∷
     calls.ByName by_name.ShowCalendar ∷
     calls.ByName by_name.DropCalendar ∷
+    calls.Alone alone.Begin ∷
+    calls.Alone alone.Commit ∷
+    calls.Alone alone.Rollback ∷
     []
 
 -- the routine of this name, if there is one

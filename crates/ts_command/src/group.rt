@@ -2,19 +2,18 @@
 // the command.
 ghost use Rattle.std.specs.Prelude.{◌≡◌, [], Ok, IfOk, IfErr};
 ghost use Rattle.ts_text.specs.Misfit.{Refuses};
-ghost use Rattle.ts_command.specs.Grammar.{arguments_to_end, of_name, of_key, of_stamp, of_row, of_text, of_join, of_range, of_clip, of_number, of_keys};
+ghost use Rattle.ts_command.specs.Grammar.{arguments_to_end, of_name, of_key, of_stamp, of_row, of_text, of_join, of_number, of_lone};
 ghost use Rattle.ts_command.specs.declared.routine.Routine.{Routine};
 
 use crate::Command;
 use crate::routine::{
-    ClipRoutine, JoinRoutine, KeyRoutine, NameRoutine, NumberRoutine, PairRoutine, RangeRoutine,
-    RowRoutine, StampRoutine, TextRoutine,
+    JoinRoutine, KeyRoutine, LoneRoutine, NameRoutine, NumberRoutine, RowRoutine, StampRoutine,
+    TextRoutine,
 };
 use std::alloc::Global;
 use ts_arguments::{
     Joined, Literals, read_joined_names, read_key_and_stamp, read_key_and_whole, read_key_before,
-    read_key_range, read_key_stamp_and_values, read_name_and_text, read_name_before,
-    read_name_range, read_two_keys_range,
+    read_key_stamp_and_values, read_name_and_text, read_name_before,
 };
 use ts_base::{Bytes, Key, Name, Stamp};
 use ts_text::{Misfit, read_end};
@@ -34,7 +33,8 @@ pub(crate) fn read_of_name(
     Ok(of_name(routine, name))
 }
 
-fn of_name(routine: NameRoutine, name: Name) -> Command
+/// The routine's command.
+pub(crate) fn of_name(routine: NameRoutine, name: Name) -> Command
     ensures { result ≡ of_name routine name }
 {
     match routine {
@@ -64,7 +64,8 @@ pub(crate) fn read_of_key(
     Ok(of_key(routine, key))
 }
 
-fn of_key(routine: KeyRoutine, key: Key) -> Command
+/// The routine's command.
+pub(crate) fn of_key(routine: KeyRoutine, key: Key) -> Command
     ensures { result ≡ of_key routine key }
 {
     match routine {
@@ -94,7 +95,8 @@ pub(crate) fn read_of_stamp(
     }
 }
 
-fn of_stamp(routine: StampRoutine, key: Key, stamp: Stamp) -> Command
+/// The routine's command.
+pub(crate) fn of_stamp(routine: StampRoutine, key: Key, stamp: Stamp) -> Command
     ensures { result ≡ of_stamp routine key stamp }
 {
     match routine {
@@ -124,7 +126,8 @@ pub(crate) fn read_of_row(
     }
 }
 
-fn of_row(routine: RowRoutine, key: Key, stamp: Stamp, values: Literals) -> Command
+/// The routine's command.
+pub(crate) fn of_row(routine: RowRoutine, key: Key, stamp: Stamp, values: Literals) -> Command
     ensures { result ≡ of_row routine key stamp values }
 {
     match routine {
@@ -150,7 +153,8 @@ pub(crate) fn read_of_text(
     Ok(of_text(routine, name, text))
 }
 
-fn of_text(routine: TextRoutine, name: Name, text: Bytes) -> Command
+/// The routine's command.
+pub(crate) fn of_text(routine: TextRoutine, name: Name, text: Bytes) -> Command
     ensures { result ≡ of_text routine name text }
 {
     match routine {
@@ -174,7 +178,8 @@ pub(crate) fn read_joining(
     Ok(of_join(routine, joined, names))
 }
 
-fn of_join(routine: JoinRoutine, joined: Joined, names: (Name, (Name, Name))) -> Command
+/// The routine's command.
+pub(crate) fn of_join(routine: JoinRoutine, joined: Joined, names: (Name, (Name, Name))) -> Command
     ensures { result ≡ of_join routine joined names }
 {
     let (name, (first, second)) = names;
@@ -202,63 +207,6 @@ fn of_join(routine: JoinRoutine, joined: Joined, names: (Name, (Name, Name))) ->
     }
 }
 
-/// The name and the two stamps.
-#[tactic(auto, unfolding(crate::specs::Grammar::arguments, crate::specs::Grammar::arguments_to_end))]
-pub(crate) fn read_of_range(
-    alloc: Global,
-    routine: RangeRoutine,
-    bytes: &[u8],
-) -> Result<Command, Misfit>
-    ensures ok { IfOk result (λ command. arguments_to_end (Routine.InRange routine) bytes.now ≡ Ok (command, [])) }
-    ensures cause { IfErr result (λ misfit. Refuses misfit (arguments_to_end (Routine.InRange routine) bytes.now)) }
-{
-    match read_name_range(alloc, bytes) {
-        Ok(((calendar, (from, to)), rest)) => {
-            read_end(rest, b";")?;
-            Ok(of_range(routine, calendar, from, to))
-        }
-        Err(misfit) => Err(misfit),
-    }
-}
-
-fn of_range(routine: RangeRoutine, calendar: Name, from: Stamp, to: Stamp) -> Command
-    ensures { result ≡ of_range routine calendar from to }
-{
-    match routine {
-        RangeRoutine::CalIndex => Command::CalIndex { calendar, from, to },
-        RangeRoutine::CalRange => Command::CalRange { calendar, from, to },
-    }
-}
-
-/// The key and the two stamps.
-#[tactic(auto, unfolding(crate::specs::Grammar::arguments, crate::specs::Grammar::arguments_to_end))]
-pub(crate) fn read_of_clip(
-    alloc: Global,
-    routine: ClipRoutine,
-    bytes: &[u8],
-) -> Result<Command, Misfit>
-    ensures ok { IfOk result (λ command. arguments_to_end (Routine.Clipping routine) bytes.now ≡ Ok (command, [])) }
-    ensures cause { IfErr result (λ misfit. Refuses misfit (arguments_to_end (Routine.Clipping routine) bytes.now)) }
-{
-    match read_key_range(alloc, bytes) {
-        Ok(((key, (from, to)), rest)) => {
-            read_end(rest, b";")?;
-            Ok(of_clip(routine, key, from, to))
-        }
-        Err(misfit) => Err(misfit),
-    }
-}
-
-fn of_clip(routine: ClipRoutine, key: Key, from: Stamp, to: Stamp) -> Command
-    ensures { result ≡ of_clip routine key from to }
-{
-    match routine {
-        ClipRoutine::Clip => Command::Clip { key, from, to },
-        ClipRoutine::ClipGetCount => Command::ClipGetCount { key, from, to },
-        ClipRoutine::DelClip => Command::DelClip { key, from, to },
-    }
-}
-
 /// The key and the number, in the routine's range.
 #[tactic(auto, unfolding(crate::specs::Grammar::arguments, crate::specs::Grammar::arguments_to_end))]
 pub(crate) fn read_of_number(
@@ -274,7 +222,8 @@ pub(crate) fn read_of_number(
     Ok(of_number(routine, key, number))
 }
 
-fn of_number(routine: NumberRoutine, key: Key, number: i64) -> Command
+/// The routine's command.
+pub(crate) fn of_number(routine: NumberRoutine, key: Key, number: i64) -> Command
     ensures { result ≡ of_number routine key number }
 {
     match routine {
@@ -283,40 +232,22 @@ fn of_number(routine: NumberRoutine, key: Key, number: i64) -> Command
     }
 }
 
-/// The two keys and the two stamps.
+/// Nothing.
 #[tactic(auto, unfolding(crate::specs::Grammar::arguments, crate::specs::Grammar::arguments_to_end))]
-pub(crate) fn read_of_pair(
-    alloc: Global,
-    routine: PairRoutine,
-    bytes: &[u8],
-) -> Result<Command, Misfit>
-    ensures ok { IfOk result (λ command. arguments_to_end (Routine.OfPair routine) bytes.now ≡ Ok (command, [])) }
-    ensures cause { IfErr result (λ misfit. Refuses misfit (arguments_to_end (Routine.OfPair routine) bytes.now)) }
+pub(crate) fn read_alone(routine: LoneRoutine, bytes: &[u8]) -> Result<Command, Misfit>
+    ensures ok { IfOk result (λ command. arguments_to_end (Routine.Alone routine) bytes.now ≡ Ok (command, [])) }
+    ensures cause { IfErr result (λ misfit. Refuses misfit (arguments_to_end (Routine.Alone routine) bytes.now)) }
 {
-    match read_two_keys_range(alloc, bytes) {
-        Ok(((first, (second, (from, to))), rest)) => {
-            read_end(rest, b";")?;
-            Ok(of_keys(routine, first, second, from, to))
-        }
-        Err(misfit) => Err(misfit),
-    }
+    read_end(bytes, b";")?;
+    Ok(of_lone(routine))
 }
 
-fn of_keys(routine: PairRoutine, first: Key, second: Key, from: Stamp, to: Stamp) -> Command
-    ensures { result ≡ of_keys routine first second from to }
+fn of_lone(routine: LoneRoutine) -> Command
+    ensures { result ≡ of_lone routine }
 {
     match routine {
-        PairRoutine::Union => Command::Union {
-            first,
-            second,
-            from,
-            to,
-        },
-        PairRoutine::Intersect => Command::Intersect {
-            first,
-            second,
-            from,
-            to,
-        },
+        LoneRoutine::Begin => Command::Begin,
+        LoneRoutine::Commit => Command::Commit,
+        LoneRoutine::Rollback => Command::Rollback,
     }
 }

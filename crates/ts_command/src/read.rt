@@ -1,21 +1,24 @@
 // Statements, each read as the command that it is.
 ghost use Rattle.std.specs.Prelude.{◌≡◌, ◌^◌, ◌<◌, [], ◌∷◌, Ok, IfOk, IfErr, length};
 ghost use Rattle.ts_command.specs.Form.{HasForm};
-ghost use Rattle.ts_text.specs.Misfit.{Refuses};
-ghost use Rattle.ts_command.specs.Grammar.{a_command, arguments_to_end, command_of};
+ghost use Rattle.ts_text.specs.Misfit.{Refuses, RefusesExactly};
+ghost use Rattle.ts_command.specs.Grammar.{a_command, opening, arguments_to_end, command_of};
 ghost use Rattle.ts_command.specs.Misfit.{IsCause};
 
 use crate::Command;
 use crate::group::{
-    read_joining, read_of_clip, read_of_key, read_of_name, read_of_number, read_of_pair,
-    read_of_range, read_of_row, read_of_stamp, read_of_text,
+    read_alone, read_joining, read_of_key, read_of_name, read_of_number, read_of_row,
+    read_of_stamp, read_of_text,
+};
+use crate::range::{
+    read_aggregate_all, read_aggregate_by, read_of_clip, read_of_pair, read_of_range,
+    read_of_running, read_of_series,
 };
 use crate::routine::{Routine, read_routine};
 use std::alloc::Global;
 use ts_arguments::{
     read_key_and_name, read_key_name_stamp_and_name, read_key_stamp_and_whole,
-    read_name_and_columns, read_name_stamp_and_whole, read_text_key_range,
-    read_text_name_key_range, read_text_name_range, read_two_names, read_two_names_and_whole,
+    read_name_and_columns, read_name_stamp_and_whole, read_two_names, read_two_names_and_whole,
 };
 use ts_base::{Refusal, Trouble};
 use ts_text::{Misfit, read_end, read_sign};
@@ -34,7 +37,6 @@ fn read_arguments(alloc: Global, routine: Routine, bytes: &[u8]) -> Result<Comma
         Routine::CalStamp => read_calendar_stamp(alloc, bytes),
         Routine::ClipCount => read_clip_count(alloc, bytes),
         Routine::AggregateBy => read_aggregate_by(alloc, bytes),
-        Routine::AggregateRange => read_aggregate_range(alloc, bytes),
         Routine::AggregateAll => read_aggregate_all(alloc, bytes),
         Routine::ByName(routine) => read_of_name(alloc, routine, bytes),
         Routine::ByKey(routine) => read_of_key(alloc, routine, bytes),
@@ -46,6 +48,9 @@ fn read_arguments(alloc: Global, routine: Routine, bytes: &[u8]) -> Result<Comma
         Routine::Clipping(routine) => read_of_clip(alloc, routine, bytes),
         Routine::ByNumber(routine) => read_of_number(alloc, routine, bytes),
         Routine::OfPair(routine) => read_of_pair(alloc, routine, bytes),
+        Routine::OfSeries(routine) => read_of_series(alloc, routine, bytes),
+        Routine::Running(routine) => read_of_running(alloc, routine, bytes),
+        Routine::Alone(routine) => read_alone(routine, bytes),
     }
 }
 
@@ -155,64 +160,15 @@ fn read_clip_count(alloc: Global, bytes: &[u8]) -> Result<Command, Misfit>
     }
 }
 
-// Folds of what the on intervals of a calendar hold: the list, the calendar's name, the series' key, and the range.
-#[tactic(auto, unfolding(crate::specs::Grammar::arguments, crate::specs::Grammar::arguments_to_end))]
-fn read_aggregate_by(alloc: Global, bytes: &[u8]) -> Result<Command, Misfit>
-    ensures ok { IfOk result (λ command. arguments_to_end Routine.AggregateBy bytes.now ≡ Ok (command, [])) }
-    ensures cause { IfErr result (λ misfit. Refuses misfit (arguments_to_end Routine.AggregateBy bytes.now)) }
+// What stands behind the bracket that opens the arguments; a routine that stands alone has none.
+#[tactic(auto, unfolding(crate::specs::Grammar::opening))]
+fn read_opening(routine: Routine, bytes: &[u8]) -> Result<&[u8], Misfit>
+    ensures ok { IfOk result (λ rest. opening routine bytes.now ≡ Ok (tt, rest.now)) }
+    ensures cause { IfErr result (λ misfit. RefusesExactly misfit (opening routine bytes.now)) }
 {
-    match read_text_name_key_range(alloc, bytes) {
-        Ok(((text, (calendar, (key, (from, to)))), rest)) => {
-            read_end(rest, b";")?;
-            Ok(Command::AggregateBy {
-                text,
-                calendar,
-                key,
-                from,
-                to,
-            })
-        }
-        Err(misfit) => Err(misfit),
-    }
-}
-
-// A fold of a range of a series: the list, the series' key, and the range.
-#[tactic(auto, unfolding(crate::specs::Grammar::arguments, crate::specs::Grammar::arguments_to_end))]
-fn read_aggregate_range(alloc: Global, bytes: &[u8]) -> Result<Command, Misfit>
-    ensures ok { IfOk result (λ command. arguments_to_end Routine.AggregateRange bytes.now ≡ Ok (command, [])) }
-    ensures cause { IfErr result (λ misfit. Refuses misfit (arguments_to_end Routine.AggregateRange bytes.now)) }
-{
-    match read_text_key_range(alloc, bytes) {
-        Ok(((text, (key, (from, to))), rest)) => {
-            read_end(rest, b";")?;
-            Ok(Command::AggregateRange {
-                text,
-                key,
-                from,
-                to,
-            })
-        }
-        Err(misfit) => Err(misfit),
-    }
-}
-
-// A fold of a range of each series of a container: the list, the container's name, and the range.
-#[tactic(auto, unfolding(crate::specs::Grammar::arguments, crate::specs::Grammar::arguments_to_end))]
-fn read_aggregate_all(alloc: Global, bytes: &[u8]) -> Result<Command, Misfit>
-    ensures ok { IfOk result (λ command. arguments_to_end Routine.AggregateAll bytes.now ≡ Ok (command, [])) }
-    ensures cause { IfErr result (λ misfit. Refuses misfit (arguments_to_end Routine.AggregateAll bytes.now)) }
-{
-    match read_text_name_range(alloc, bytes) {
-        Ok(((text, (container, (from, to))), rest)) => {
-            read_end(rest, b";")?;
-            Ok(Command::AggregateAll {
-                text,
-                container,
-                from,
-                to,
-            })
-        }
-        Err(misfit) => Err(misfit),
+    match routine {
+        Routine::Alone(_) => Ok(bytes),
+        _ => read_sign(bytes, b'('),
     }
 }
 
@@ -223,7 +179,7 @@ fn read_statement(alloc: Global, text: &[u8]) -> Result<Command, Misfit>
     ensures cause { IfErr result (λ misfit. Refuses misfit (a_command text.now)) }
 {
     let (routine, rest) = read_routine(text)?;
-    read_arguments(alloc, routine, read_sign(rest, b'(')?)
+    read_arguments(alloc, routine, read_opening(routine, rest)?)
 }
 
 /// The command that a statement is, or the place in it that is refused.

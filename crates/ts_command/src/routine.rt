@@ -1,7 +1,7 @@
 // The routines that a statement may call, by their names.
 ghost use Rattle.std.specs.Prelude.{◌≡◌, Ok, IfOk, IfErr};
 ghost use Rattle.ts_text.specs.Misfit.{RefusesExactly};
-ghost use Rattle.ts_command.specs.Routines.{spelling, name_spelling, key_spelling, stamp_spelling, row_spelling, text_spelling, join_spelling, range_spelling, clip_spelling, number_spelling, pair_spelling, least_number, most_number, routine_of};
+ghost use Rattle.ts_command.specs.Routines.{least_number, most_number, routine_of};
 ghost use Rattle.ts_command.specs.Grammar.{a_routine};
 
 use ts_arguments::are_same;
@@ -19,7 +19,6 @@ pub(crate) enum Routine {
     CalStamp,
     ClipCount,
     AggregateBy,
-    AggregateRange,
     AggregateAll,
     ByName(NameRoutine),
     ByKey(KeyRoutine),
@@ -31,6 +30,9 @@ pub(crate) enum Routine {
     Clipping(ClipRoutine),
     ByNumber(NumberRoutine),
     OfPair(PairRoutine),
+    OfSeries(SeriesRoutine),
+    Running(RunningRoutine),
+    Alone(LoneRoutine),
 }
 
 /// Those that are called with a name.
@@ -116,7 +118,29 @@ pub(crate) enum PairRoutine {
     Intersect,
 }
 
-const ROUTINES: [Routine; 43] = [
+/// Those that are called with a text, a key and two stamps.
+#[derive(Clone, Copy)]
+pub(crate) enum SeriesRoutine {
+    AggregateRange,
+    Apply,
+}
+
+/// Those that are called with a text, a key, a whole number and two stamps.
+#[derive(Clone, Copy)]
+pub(crate) enum RunningRoutine {
+    TSRunningSum,
+    TSRunningAvg,
+}
+
+/// Those that are called with nothing, not even brackets.
+#[derive(Clone, Copy)]
+pub(crate) enum LoneRoutine {
+    Begin,
+    Commit,
+    Rollback,
+}
+
+const ROUTINES: [Routine; 49] = [
     Routine::WithRow(RowRoutine::PutElem),
     Routine::WithRow(RowRoutine::InsElem),
     Routine::WithRow(RowRoutine::UpdElem),
@@ -134,8 +158,11 @@ const ROUTINES: [Routine; 43] = [
     Routine::OfPair(PairRoutine::Union),
     Routine::OfPair(PairRoutine::Intersect),
     Routine::AggregateBy,
-    Routine::AggregateRange,
+    Routine::OfSeries(SeriesRoutine::AggregateRange),
     Routine::AggregateAll,
+    Routine::Running(RunningRoutine::TSRunningSum),
+    Routine::Running(RunningRoutine::TSRunningAvg),
+    Routine::OfSeries(SeriesRoutine::Apply),
     Routine::ByKey(KeyRoutine::GetFirstElem),
     Routine::ByKey(KeyRoutine::GetLastElem),
     Routine::ByKey(KeyRoutine::GetNelems),
@@ -160,148 +187,12 @@ const ROUTINES: [Routine; 43] = [
     Routine::ByName(NameRoutine::DropPattern),
     Routine::ByName(NameRoutine::ShowCalendar),
     Routine::ByName(NameRoutine::DropCalendar),
+    Routine::Alone(LoneRoutine::Begin),
+    Routine::Alone(LoneRoutine::Commit),
+    Routine::Alone(LoneRoutine::Rollback),
 ];
 
-impl Routine {
-    fn spelling(self) -> &'static [u8]
-        ensures { result.now ≡ spelling self }
-    {
-        match self {
-            Routine::CreateRowType => b"CreateRowType",
-            Routine::TSContainerCreate => b"TSContainerCreate",
-            Routine::TSCreate => b"TSCreate",
-            Routine::TSCreateIrr => b"TSCreateIrr",
-            Routine::NotOp => b"NotOp",
-            Routine::CalStamp => b"CalStamp",
-            Routine::ClipCount => b"ClipCount",
-            Routine::AggregateBy => b"AggregateBy",
-            Routine::AggregateRange => b"AggregateRange",
-            Routine::AggregateAll => b"AggregateAll",
-            Routine::ByName(routine) => routine.spelling(),
-            Routine::ByKey(routine) => routine.spelling(),
-            Routine::AtStamp(routine) => routine.spelling(),
-            Routine::WithRow(routine) => routine.spelling(),
-            Routine::WithText(routine) => routine.spelling(),
-            Routine::Joining(routine) => routine.spelling(),
-            Routine::InRange(routine) => routine.spelling(),
-            Routine::Clipping(routine) => routine.spelling(),
-            Routine::ByNumber(routine) => routine.spelling(),
-            Routine::OfPair(routine) => routine.spelling(),
-        }
-    }
-}
-
-impl NameRoutine {
-    fn spelling(self) -> &'static [u8]
-        ensures { result.now ≡ name_spelling self }
-    {
-        match self {
-            NameRoutine::DropRowType => b"DropRowType",
-            NameRoutine::ShowPattern => b"ShowPattern",
-            NameRoutine::DropPattern => b"DropPattern",
-            NameRoutine::ShowCalendar => b"ShowCalendar",
-            NameRoutine::DropCalendar => b"DropCalendar",
-            NameRoutine::TSContainerDestroy => b"TSContainerDestroy",
-            NameRoutine::TSContainerUsage => b"TSContainerUsage",
-            NameRoutine::ListSeries => b"ListSeries",
-        }
-    }
-}
-
-impl KeyRoutine {
-    fn spelling(self) -> &'static [u8]
-        ensures { result.now ≡ key_spelling self }
-    {
-        match self {
-            KeyRoutine::DropSeries => b"DropSeries",
-            KeyRoutine::GetFirstElem => b"GetFirstElem",
-            KeyRoutine::GetLastElem => b"GetLastElem",
-            KeyRoutine::GetNelems => b"GetNelems",
-        }
-    }
-}
-
-impl StampRoutine {
-    fn spelling(self) -> &'static [u8]
-        ensures { result.now ≡ stamp_spelling self }
-    {
-        match self {
-            StampRoutine::DelElem => b"DelElem",
-            StampRoutine::HideElem => b"HideElem",
-            StampRoutine::RevealElem => b"RevealElem",
-            StampRoutine::GetElem => b"GetElem",
-        }
-    }
-}
-
-impl RowRoutine {
-    fn spelling(self) -> &'static [u8]
-        ensures { result.now ≡ row_spelling self }
-    {
-        match self {
-            RowRoutine::PutElem => b"PutElem",
-            RowRoutine::PutElemNoDups => b"PutElemNoDups",
-            RowRoutine::InsElem => b"InsElem",
-            RowRoutine::UpdElem => b"UpdElem",
-        }
-    }
-}
-
-impl TextRoutine {
-    fn spelling(self) -> &'static [u8]
-        ensures { result.now ≡ text_spelling self }
-    {
-        match self {
-            TextRoutine::CreatePattern => b"CreatePattern",
-            TextRoutine::CreateCalendar => b"CreateCalendar",
-        }
-    }
-}
-
-impl JoinRoutine {
-    fn spelling(self) -> &'static [u8]
-        ensures { result.now ≡ join_spelling self }
-    {
-        match self {
-            JoinRoutine::AndOp => b"AndOp",
-            JoinRoutine::OrOp => b"OrOp",
-        }
-    }
-}
-
-impl RangeRoutine {
-    fn spelling(self) -> &'static [u8]
-        ensures { result.now ≡ range_spelling self }
-    {
-        match self {
-            RangeRoutine::CalIndex => b"CalIndex",
-            RangeRoutine::CalRange => b"CalRange",
-        }
-    }
-}
-
-impl ClipRoutine {
-    fn spelling(self) -> &'static [u8]
-        ensures { result.now ≡ clip_spelling self }
-    {
-        match self {
-            ClipRoutine::Clip => b"Clip",
-            ClipRoutine::ClipGetCount => b"ClipGetCount",
-            ClipRoutine::DelClip => b"DelClip",
-        }
-    }
-}
-
 impl NumberRoutine {
-    fn spelling(self) -> &'static [u8]
-        ensures { result.now ≡ number_spelling self }
-    {
-        match self {
-            NumberRoutine::GetNthElem => b"GetNthElem",
-            NumberRoutine::Lag => b"Lag",
-        }
-    }
-
     /// The least number that it is called with.
     pub(crate) fn least(self) -> i64
         ensures { result ≡ least_number self }
@@ -319,17 +210,6 @@ impl NumberRoutine {
         match self {
             NumberRoutine::GetNthElem => 4294967295,
             NumberRoutine::Lag => 2147483647,
-        }
-    }
-}
-
-impl PairRoutine {
-    fn spelling(self) -> &'static [u8]
-        ensures { result.now ≡ pair_spelling self }
-    {
-        match self {
-            PairRoutine::Union => b"Union",
-            PairRoutine::Intersect => b"Intersect",
         }
     }
 }

@@ -35,6 +35,9 @@ fn shown(here: &[u8]) -> &[u8] {
 
 // What could stand there.
 fn advice(before: &[u8], here: &[u8]) -> &'static str {
+    if stands_alone(before) {
+        return "Begin, Commit and Rollback stand alone, and a `;` ends them";
+    }
     match front(here) {
         Some((TokenKind::Word, size)) => advice_on_word(before, &here[..size]),
         Some((TokenKind::Text, _)) => advice_on_text(here),
@@ -46,6 +49,11 @@ fn advice(before: &[u8], here: &[u8]) -> &'static str {
         }
         None => advice_on_byte(here),
     }
+}
+
+// Whether the statement begins with a routine that takes no brackets.
+fn stands_alone(before: &[u8]) -> bool {
+    before.starts_with(b"Begin") || before.starts_with(b"Commit") || before.starts_with(b"Rollback")
 }
 
 fn advice_on_word(before: &[u8], word: &[u8]) -> &'static str {

@@ -4,14 +4,15 @@ use ts_command::{Columns, Command, Literals, read_command};
 use ts_row::{Column, ColumnKind, Literal};
 
 // A command as a row of a table has it: its routine, its name or key, a second one or its calendar if it has one, and the rest.
-type Row = (&'static str, &'static [u8], &'static [u8], Rest);
+pub(crate) type Row = (&'static str, &'static [u8], &'static [u8], Rest);
 
 #[derive(Clone, Copy, Debug)]
-enum Rest {
+pub(crate) enum Rest {
     Nothing,
     Stamp(i64),
     Stamps(i64, i64),
     List(&'static [u8], i64, i64),
+    Span(&'static [u8], i64, (i64, i64)),
     StampAndName(i64, &'static [u8]),
     StampAndCount(i64, i64),
     Place(i64),
@@ -21,13 +22,13 @@ enum Rest {
 }
 
 #[derive(Clone, Copy, Debug)]
-enum Value {
+pub(crate) enum Value {
     Null,
     Number(i128, u8),
     Text(&'static [u8]),
 }
 
-fn is_row(command: &Command, row: Row) -> bool {
+pub(crate) fn is_row(command: &Command, row: Row) -> bool {
     let (routine, first, second, rest) = row;
     routine_of(command) == routine
         && first_of(command) == first
@@ -68,6 +69,12 @@ fn routine_of(command: &Command) -> &'static str {
         Command::AggregateBy { .. } => "AggregateBy",
         Command::AggregateRange { .. } => "AggregateRange",
         Command::AggregateAll { .. } => "AggregateAll",
+        Command::TSRunningSum { .. } => "TSRunningSum",
+        Command::TSRunningAvg { .. } => "TSRunningAvg",
+        Command::Apply { .. } => "Apply",
+        Command::Begin => "Begin",
+        Command::Commit => "Commit",
+        Command::Rollback => "Rollback",
         _ => "",
     }
 }
@@ -105,6 +112,9 @@ fn first_of(command: &Command) -> &[u8] {
         Command::AggregateBy { key, .. } => key.as_slice(),
         Command::AggregateRange { key, .. } => key.as_slice(),
         Command::AggregateAll { container, .. } => container.as_slice(),
+        Command::TSRunningSum { key, .. } => key.as_slice(),
+        Command::TSRunningAvg { key, .. } => key.as_slice(),
+        Command::Apply { key, .. } => key.as_slice(),
         _ => b"",
     }
 }
@@ -131,6 +141,9 @@ fn is_rest(command: &Command, rest: Rest) -> bool {
         (_, Rest::Stamps(first, last)) => has_range(command, first, last),
         (_, Rest::List(text, first, last)) => {
             text_of(command) == text && has_range(command, first, last)
+        }
+        (_, Rest::Span(text, span, (first, last))) => {
+            text_of(command) == text && span_of(command) == span && has_range(command, first, last)
         }
         (_, Rest::Place(wanted)) => has_place(command, wanted),
         (Command::ClipCount { stamp, count, .. }, Rest::StampAndCount(units, wanted)) => {
@@ -163,18 +176,32 @@ fn has_range(command: &Command, first: i64, last: i64) -> bool {
         | Command::Intersect { from, to, .. }
         | Command::AggregateBy { from, to, .. }
         | Command::AggregateRange { from, to, .. }
-        | Command::AggregateAll { from, to, .. } => from.units() == first && to.units() == last,
+        | Command::AggregateAll { from, to, .. }
+        | Command::TSRunningSum { from, to, .. }
+        | Command::TSRunningAvg { from, to, .. }
+        | Command::Apply { from, to, .. } => from.units() == first && to.units() == last,
         _ => false,
     }
 }
 
-// The aggregate list that a command has.
+// The list of aggregates or expressions that a command has.
 fn text_of(command: &Command) -> &[u8] {
     match command {
         Command::AggregateBy { text, .. } => text.as_slice(),
         Command::AggregateRange { text, .. } => text.as_slice(),
         Command::AggregateAll { text, .. } => text.as_slice(),
+        Command::TSRunningSum { text, .. } => text.as_slice(),
+        Command::TSRunningAvg { text, .. } => text.as_slice(),
+        Command::Apply { text, .. } => text.as_slice(),
         _ => b"",
+    }
+}
+
+// Over how many elements a command folds.
+fn span_of(command: &Command) -> i64 {
+    match command {
+        Command::TSRunningSum { span, .. } | Command::TSRunningAvg { span, .. } => *span,
+        _ => 0,
     }
 }
 
@@ -222,7 +249,7 @@ fn is_column(found: &Column, wanted: (&[u8], ColumnKind)) -> bool {
 }
 
 // Whether a statement is read as this command.
-fn is_read(alloc: Global, text: &[u8], row: Row) -> bool {
+pub(crate) fn is_read(alloc: Global, text: &[u8], row: Row) -> bool {
     match read_command(alloc, &text[..text.len().min(65536)]) {
         Ok(command) => is_row(&command, row),
         Err(_) => false,
@@ -230,7 +257,7 @@ fn is_read(alloc: Global, text: &[u8], row: Row) -> bool {
 }
 
 /// Statements, and the commands that they are.
-static STATEMENTS: [(&[u8], Row); 24] = [
+pub(crate) static STATEMENTS: [(&[u8], Row); 24] = [
     (
         b"CreateRowType(rd, t datetime, v integer);",
         (
@@ -359,78 +386,6 @@ const SEVERAL: [Value; 6] = [
     Value::Text(b""),
     Value::Text(b"a'"),
 ];
-
-/// Readings, combinations and aggregates, and the commands that they are.
-static READINGS: [(&[u8], Row); 16] = [
-    (
-        b"GetFirstElem('x');",
-        ("GetFirstElem", b"x", b"", Rest::Nothing),
-    ),
-    (
-        b"GetNthElem('it''s', 0);",
-        ("GetNthElem", b"it's", b"", Rest::Place(0)),
-    ),
-    (
-        b"GetNthElem('x',4294967295);",
-        ("GetNthElem", b"x", b"", Rest::Place(4294967295)),
-    ),
-    (
-        b"Clip('x','1970-01-01 00:00:00','1969-12-31 23:59:59.99999');",
-        ("Clip", b"x", b"", Rest::Stamps(0, -1)),
-    ),
-    (
-        b"ClipGetCount('x' , '1970-01-01 00:00:00.00001','1970-01-01 00:00:00');",
-        ("ClipGetCount", b"x", b"", Rest::Stamps(1, 0)),
-    ),
-    (
-        b"ClipCount('x','1970-01-01 00:00:00.00001',-1000000);",
-        ("ClipCount", b"x", b"", Rest::StampAndCount(1, -1000000)),
-    ),
-    (
-        b"ClipCount('x','1970-01-01 00:00:00',1000000);",
-        ("ClipCount", b"x", b"", Rest::StampAndCount(0, 1000000)),
-    ),
-    (
-        b"ClipCount('x','1970-01-01 00:00:00',-0);",
-        ("ClipCount", b"x", b"", Rest::StampAndCount(0, 0)),
-    ),
-    (
-        b"Union('x','y','1970-01-01 00:00:00.00001','1970-01-01 00:00:00');",
-        ("Union", b"x", b"y", Rest::Stamps(1, 0)),
-    ),
-    (
-        b"Intersect('y', 'x', '1970-01-01 00:00:00', '1970-01-01 00:00:00.00001');",
-        ("Intersect", b"y", b"x", Rest::Stamps(0, 1)),
-    ),
-    (
-        b"Lag('x',-2147483647);",
-        ("Lag", b"x", b"", Rest::Place(-2147483647)),
-    ),
-    (
-        b"Lag('x',2147483647);",
-        ("Lag", b"x", b"", Rest::Place(2147483647)),
-    ),
-    (b"Lag('x',007);", ("Lag", b"x", b"", Rest::Place(7))),
-    (
-        b"AggregateBy('sum($v)', c, 'x', '1970-01-01 00:00:00', '1970-01-01 00:00:00.00001');",
-        ("AggregateBy", b"x", b"c", Rest::List(b"sum($v)", 0, 1)),
-    ),
-    (
-        b"AggregateRange('', 'it''s', '1970-01-01 00:00:00.00001', '1970-01-01 00:00:00');",
-        ("AggregateRange", b"it's", b"", Rest::List(b"", 1, 0)),
-    ),
-    (
-        b"AggregateAll('it''s',c1,'1970-01-01 00:00:00','1969-12-31 23:59:59.99999');",
-        ("AggregateAll", b"c1", b"", Rest::List(b"it's", 0, -1)),
-    ),
-];
-
-#[test]
-fn each_reading_is_read_with_its_arguments(rt: HostRuntime) {
-    for (text, wanted) in &READINGS {
-        assert!(rt; is_read(rt.alloc(), text, *wanted));
-    }
-}
 
 /// Statements, and their values.
 static VALUES: [(&[u8], &[Value]); 8] = [

@@ -6,6 +6,8 @@
 #[cfg(test)]
 mod commands;
 #[cfg(test)]
+mod copies;
+#[cfg(test)]
 mod definitions;
 #[cfg(test)]
 mod joins;
@@ -13,5 +15,9 @@ mod joins;
 mod patterns;
 #[cfg(test)]
 mod places;
+#[cfg(test)]
+mod readings;
+#[cfg(test)]
+mod transactions;
 #[cfg(test)]
 mod values;

@@ -1,0 +1,6 @@
+-- The values so far are copied.
+use Rattle.std.proofs.Common.{◌≡◌, take}
+use Rattle.ts_arguments.proofs.list.copy_literals.Given as goal
+
+abbrev pub invariant-loop-literal : goal.invariant-loop-literal
+invariant-loop-literal l = l.made.items ≡ take l.literal-index l.literals
