@@ -37,8 +37,8 @@ first_conflict begun noted commits number e =
       within = omega (arith, at.number_is, facts.0, length-drop begun commits);
       met = ap test (commit_behind begun at.place number commits at.number_is) ∙ facts.1;
       first = λ earlier after before.
-        let back : earlier ≡ begun + 1 + (earlier - (begun + 1)) = omega arith in
-        ap test (commit_behind begun (earlier - (begun + 1)) earlier commits back) ∙ facts.2 (earlier - (begun + 1)) (omega (arith, at.number_is));
+          let back : earlier ≡ begun + 1 + (earlier - (begun + 1)) = omega arith in
+          ap test (commit_behind begun (earlier - (begun + 1)) earlier commits back) ∙ facts.2 (earlier - (begun + 1)) (omega (arith, at.number_is));
     }
 
 no_place : (test : List Object → Bool) (xs : List (List Object)) → option_map (λ (place : ℕ). place) (position test xs) ≡ None → length xs ≤ position_or_len test xs

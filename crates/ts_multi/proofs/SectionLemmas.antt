@@ -57,8 +57,8 @@ lines-first (b ∷ []) some = elim (cases_Bool (is_line_feed b)) [
 lines-first (b ∷ c ∷ bytes) some =
     let inner = lines-first (c ∷ bytes) (omega arith) in
     elim (cases_Bool (is_line_feed b)) [
-    | inl t ↦ let once = first_line-once b (c ∷ bytes) t in rw (once, t) refl
-    | inr f ↦ let more = first_line-more b (c ∷ bytes) f in rw (more, f) (ap (onto (b ∷ [])) inner)
+      | inl t ↦ let once = first_line-once b (c ∷ bytes) t in rw (once, t) refl
+      | inr f ↦ let more = first_line-more b (c ∷ bytes) f in rw (more, f) (ap (onto (b ∷ [])) inner)
     ]
 
 -- a line that is no mark goes to the section

@@ -54,6 +54,14 @@ impl ObjectList {
         ObjectList { items }
     }
 
+    /// Gives the list back.
+    pub fn into_vec(self) -> Vec<Object>
+        ensures { result.items ≡ self }
+    {
+        let ObjectList { items } = self;
+        items
+    }
+
     pub fn as_slice(&self) -> &[Object]
         ensures { result.now ≡ self.now }
     {

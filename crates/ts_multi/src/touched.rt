@@ -93,11 +93,24 @@ fn named(alloc: Global, command: &Command) -> Result<ObjectList, AllocError>
             one(alloc, Kind::Pattern, pattern.as_slice())
         }
         Command::AndPatterns { first, second, .. } | Command::OrPatterns { first, second, .. } => {
-            two(alloc, Kind::Pattern, first.as_slice(), Kind::Pattern, second.as_slice())
+            two(
+                alloc,
+                Kind::Pattern,
+                first.as_slice(),
+                Kind::Pattern,
+                second.as_slice(),
+            )
         }
-        Command::AndCalendars { first, second, .. } | Command::OrCalendars { first, second, .. } => {
-            two(alloc, Kind::Calendar, first.as_slice(), Kind::Calendar, second.as_slice())
-        }
+        Command::AndCalendars { first, second, .. } | Command::OrCalendars { first, second, .. } =>
+            {
+                two(
+                    alloc,
+                    Kind::Calendar,
+                    first.as_slice(),
+                    Kind::Calendar,
+                    second.as_slice(),
+                )
+            }
         Command::CreateCalendar { text, .. } => pattern_named(alloc, text.as_slice()),
         Command::ShowCalendar { name: calendar }
         | Command::CalIndex { calendar, .. }
@@ -110,7 +123,13 @@ fn named(alloc: Global, command: &Command) -> Result<ObjectList, AllocError>
             calendar,
             container,
             ..
-        } => two(alloc, Kind::Calendar, calendar.as_slice(), Kind::Container, container.as_slice()),
+        } => two(
+            alloc,
+            Kind::Calendar,
+            calendar.as_slice(),
+            Kind::Container,
+            container.as_slice(),
+        ),
         Command::TSCreateIrr { container, .. }
         | Command::TSContainerUsage { name: container }
         | Command::ListSeries { container }
@@ -118,10 +137,22 @@ fn named(alloc: Global, command: &Command) -> Result<ObjectList, AllocError>
             one(alloc, Kind::Container, container.as_slice())
         }
         Command::AggregateBy { calendar, key, .. } => {
-            two(alloc, Kind::Calendar, calendar.as_slice(), Kind::Series, key.as_slice())
+            two(
+                alloc,
+                Kind::Calendar,
+                calendar.as_slice(),
+                Kind::Series,
+                key.as_slice(),
+            )
         }
         Command::Union { first, second, .. } | Command::Intersect { first, second, .. } => {
-            two(alloc, Kind::Series, first.as_slice(), Kind::Series, second.as_slice())
+            two(
+                alloc,
+                Kind::Series,
+                first.as_slice(),
+                Kind::Series,
+                second.as_slice(),
+            )
         }
         Command::GetElem { key, .. }
         | Command::GetLastElem { key }
@@ -182,7 +213,13 @@ fn one(alloc: Global, kind: Kind, name: &[u8]) -> Result<ObjectList, AllocError>
 }
 
 // Two objects.
-fn two(alloc: Global, kind: Kind, name: &[u8], other_kind: Kind, other: &[u8]) -> Result<ObjectList, AllocError>
+fn two(
+    alloc: Global,
+    kind: Kind,
+    name: &[u8],
+    other_kind: Kind,
+    other: &[u8],
+) -> Result<ObjectList, AllocError>
     ensures { IfOk result (λ l. l ≡ two kind name.now other_kind other.now) }
 {
     let mut list = one(alloc, kind, name)?;

@@ -20,7 +20,7 @@ pub returns-then-is_mark : goal.returns-then-is_mark
 returns-then-is_mark c =
     let line = rw (take_rest c.args.text.now c.loop-len.len) at c.first_line-line.ensures.line in
     rw (take_rest c.args.text.now (c.loop-len.len + length c.first_line-line.result.now))
-      (section_ends c.args.text.now c.loop-len.len (c.loop-len.len + length c.first_line-line.result.now) c.first_line-line.result.now (omega arith) line refl (sym c.is_mark.ensures ∙ c.if-is_mark.true) c.loop-len.invariant.sections)
+    (section_ends c.args.text.now c.loop-len.len (c.loop-len.len + length c.first_line-line.result.now) c.first_line-line.result.now (omega arith) line refl (sym c.is_mark.ensures ∙ c.if-is_mark.true) c.loop-len.invariant.sections)
 
 pub returns : goal.returns
 returns c = section_is_last c.args.text.now c.loop-len.len (omega arith) c.loop-len.invariant.sections

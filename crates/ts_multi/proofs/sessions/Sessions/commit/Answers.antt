@@ -12,7 +12,7 @@ returns c =
     let slots = c.self.inside.slots.items in
     let size : length c.args.self.now.sessions ≡ length slots = ap (λ (l : Log). length l.sessions) (sym c.self.view_is) ∙ length-map slots (λ (s : Standing). s.pending) in
     let here : c.index_mut.result.now.pending ≡ get_or (map (λ (s : Standing). s.pending) slots) c.args.session None =
-      ap (λ (s : Standing). s.pending) c.index_mut.ensures.value ∙ pending-at slots c.args.session c.index_mut.result.now (omega (arith, size, c.requires.session)) in
+    ap (λ (s : Standing). s.pending) c.index_mut.ensures.value ∙ pending-at slots c.args.session c.index_mut.result.now (omega (arith, size, c.requires.session)) in
     let at : pending_at c.args.session c.args.self.now ≡ c.index_mut.result.now.pending = ap (pending_at c.args.session) (sym c.self.view_is) ∙ sym here in
     let IsOpen : Option Pending → Type 0 = λ o. IsSome o in
     let some = subst IsOpen at c.requires.open in
