@@ -111,45 +111,56 @@ item_goes {A} left number k item items tail within is rest = elim (eqb_tells (nu
       rw other_test (rest ∙ get_or-set_other left number k items [] away)
 ]
 
+-- a turn, and what follows it
+order-none : {A : Type 0} (pick : ℕ) (left : List (List A)) (picks : List ℕ) → turn pick left ≡ None → order left (pick ∷ picks) ≡ []
+order-none {A} pick left picks none =
+    let step : Option ((ℕ × A) × List (List A)) → List (ℕ × A) = λ o. elim o [ None ↦ [] | Some now ↦ now.0 ∷ order now.1 picks ] in
+    ap step none
+
+order-some : {A : Type 0} (pick : ℕ) (left : List (List A)) (picks : List ℕ) (now : (ℕ × A) × List (List A)) → turn pick left ≡ Some now → order left (pick ∷ picks) ≡ now.0 ∷ order now.1 picks
+order-some {A} pick left picks now some =
+    let step : Option ((ℕ × A) × List (List A)) → List (ℕ × A) = λ o. elim o [ None ↦ [] | Some now ↦ now.0 ∷ order now.1 picks ] in
+    ap step some
+
 -- each session's items come in their order, and all of them
 pub shuffled : {A : Type 0} (left : List (List A)) (picks : List ℕ) → total left ≤ length picks → (k : ℕ) → items_of (k + 1) (order left picks) ≡ get_or left k []
 shuffled left [] enough k = sym (none_left left k (omega arith))
 shuffled left (pick ∷ picks) enough k = elim (turn_cases pick left) [
-  | inl none ↦ let ends = none.0 in rw ends (sym (none_left left k none.1))
+  | inl none ↦ ap (items_of (k + 1)) (order-none pick left picks none.0) ∙ sym (none_left left k none.1)
   | inr goes ↦
-      let now = goes.now in
       let fewer = one_fewer left goes.number goes.item goes.items goes.within goes.is in
-      let inner = shuffled (slice_set left goes.number goes.items) picks (omega arith) k in
-      rw now (item_goes left goes.number k goes.item goes.items _ goes.within goes.is inner)
+      let inner = shuffled (slice_set left goes.number goes.items) picks (omega (arith, fewer)) k in
+      ap (items_of (k + 1)) (order-some pick left picks ((goes.number + 1, goes.item), slice_set left goes.number goes.items) goes.now)
+      ∙ item_goes left goes.number k goes.item goes.items _ goes.within goes.is inner
 ]
 
 -- and there are no others
 pub order-length : {A : Type 0} (left : List (List A)) (picks : List ℕ) → total left ≤ length picks → length (order left picks) ≡ total left
 order-length left [] enough = omega arith
-order-length left (pick ∷ picks) enough = elim (turn_cases pick left) [
-  | inl none ↦ let ends = none.0 in rw ends (sym none.1)
+order-length {A} left (pick ∷ picks) enough = elim (turn_cases pick left) [
+  | inl none ↦ ap (λ (l : List (ℕ × A)). length l) (order-none pick left picks none.0) ∙ sym none.1
   | inr goes ↦
-      let now = goes.now in
       let fewer = one_fewer left goes.number goes.item goes.items goes.within goes.is in
-      let inner = order-length (slice_set left goes.number goes.items) picks (omega arith) in
-      rw now (omega (arith, inner, fewer))
+      let inner = order-length (slice_set left goes.number goes.items) picks (omega (arith, fewer)) in
+      let step = order-some pick left picks ((goes.number + 1, goes.item), slice_set left goes.number goes.items) goes.now in
+      ap (λ (l : List (ℕ × A)). length l) step ∙ omega (arith, inner, fewer)
 ]
 
 nothing_left : {A : Type 0} (left : List (List A)) (picks : List ℕ) → total left ≡ 0 → order left picks ≡ []
 nothing_left left [] none = refl
 nothing_left left (pick ∷ picks) none = elim (turn_cases pick left) [
-  | inl ends ↦ let none_is = ends.0 in rw none_is refl
+  | inl ends ↦ order-none pick left picks ends.0
   | inr goes ↦ absurd (omega (arith, one_fewer left goes.number goes.item goes.items goes.within goes.is))
 ]
 
 -- picks behind the last item play no part
 pub order-append : {A : Type 0} (left : List (List A)) (picks more : List ℕ) → total left ≤ length picks → order left (picks ++ more) ≡ order left picks
-order-append {A} left [] more enough = nothing_left left more (omega arith)
+order-append left [] more enough = nothing_left left more (omega arith)
 order-append {A} left (pick ∷ picks) more enough = elim (turn_cases pick left) [
-  | inl none ↦ let ends = none.0 in rw ends refl
+  | inl none ↦ order-none pick left (picks ++ more) none.0 ∙ sym (order-none pick left picks none.0)
   | inr goes ↦
-      let now = goes.now in
+      let now : (ℕ × A) × List (List A) = ((goes.number + 1, goes.item), slice_set left goes.number goes.items) in
       let fewer = one_fewer left goes.number goes.item goes.items goes.within goes.is in
-      let inner = order-append (slice_set left goes.number goes.items) picks more (omega arith) in
-      rw now (ap (λ (l : List (ℕ × A)). (goes.number + 1, goes.item) ∷ l) inner)
+      let inner = order-append (slice_set left goes.number goes.items) picks more (omega (arith, fewer)) in
+      order-some pick left (picks ++ more) now goes.now ∙ ap (λ (l : List (ℕ × A)). (goes.number + 1, goes.item) ∷ l) inner ∙ sym (order-some pick left picks now goes.now)
 ]
