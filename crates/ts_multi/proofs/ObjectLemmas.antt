@@ -1,7 +1,7 @@
 -- What the commands of a transaction wrote, one behind the other.
-use Rattle.std.proofs.Common.{◌≡◌, Bool, ◌||◌, List, [], ◌∷◌, ◌++◌, refl, ◌∙◌, ap}
+use Rattle.std.proofs.Common.{◌≡◌, Bool, ◌||◌, List, [], ◌∷◌, refl, ◌∙◌, ap}
 use Rattle.std.proofs.lemmas.List.Folds.{list_any-append}
-use Rattle.std.specs.List.{list_any, flat_map}
+use Rattle.std.specs.List.{list_any}
 use Rattle.ts_multi.specs.declared.object.Touched.{Touched}
 use Rattle.ts_multi.specs.Objects.{written, meets, is_touched}
 

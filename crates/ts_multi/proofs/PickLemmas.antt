@@ -1,5 +1,5 @@
 -- One pick more.
-use Rattle.std.proofs.Common.{◌≡◌, ℕ, suc, ◌+◌, ◌*◌, ◌/◌, ◌%◌, [], ◌∷◌, ◌++◌, refl, add-one}
+use Rattle.std.proofs.Common.{◌≡◌, ℕ, ◌+◌, ◌*◌, ◌/◌, ◌%◌, [], ◌∷◌, ◌++◌, refl, add-one}
 use Rattle.ts_multi.specs.Picks.{drawn, picks_of}
 
 pub drawn-more : (seed i : ℕ) → drawn seed (i + 1) ≡ (1_103_515_245 * drawn seed i + 12_345) % 2_147_483_648

@@ -1,4 +1,4 @@
-use Rattle.std.proofs.Common.{arith, rules}
+use Rattle.std.proofs.Common.{arith}
 use Rattle.std.proofs.lemmas.Grind.{common_steps}
 use Rattle.ts_multi.proofs.PickLemmas.{drawn-more, picks_of-more, picks_of-none}
 use Rattle.ts_multi.proofs.picks.picks_of.Goals as goal

@@ -1,4 +1,4 @@
-use Rattle.std.proofs.Common.{◌≡◌, ◌≤◌, ◌+◌, length, arith, refl, sym, ◌∙◌, take, drop}
+use Rattle.std.proofs.Common.{◌+◌, length, arith, refl, sym, ◌∙◌}
 use Rattle.std.proofs.lemmas.Grind.{common_steps}
 use Rattle.std.proofs.lemmas.List.{take_rest}
 use Rattle.ts_multi.proofs.SectionLemmas.{onto-sections, section_goes_on, section_ends, section_is_last}

@@ -1,4 +1,4 @@
-use Rattle.std.proofs.Common.{◌≡◌, ℕ, length, map, get_or, Option, None, false, sym, ap, ◌∙◌, arith}
+use Rattle.std.proofs.Common.{◌≡◌, length, map, get_or, Option, None, false, sym, ap, ◌∙◌, arith}
 use Rattle.std.proofs.lemmas.List.{length-map}
 use Rattle.ts_multi.specs.Slot.{Standing}
 use Rattle.ts_multi.specs.Log.{Log, Pending, with_noted, after_note}
