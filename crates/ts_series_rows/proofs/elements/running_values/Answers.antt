@@ -92,7 +92,7 @@ returns-in-Err-clause-read g c =
     let read = column_read c.as_slice.result.now c.args.text.now column c.as_slice.ensures c.in_ok-column.ensures in
     trouble_out tells (running_of c.args.function c.args.text.now c.args.key.now c.args.span c.args.from c.args.to) _ x _ _ c.in_ok-done.done (Refused c.in-Err.refusal) refl c.in_ok-done.ensures.call (λ told l shows.
     running_is c.args.function c.requires.running c.args.text.now c.args.key.now c.args.span c.args.from c.args.to (catalogue_of l)
-    ∙ ap (λ (n : ℕ). running_values c.args.function c.args.text.now c.args.key.now n c.args.from c.args.to (catalogue_of l)) (sym (ap (λ (w : Window). w.size) c.in_ok-window.ensures.ok ∙ c.unsigned_abs-places.ensures.value ∙ ap unsigned_abs (to_z-of_z w64 c.args.span c.ranges.span.sfits)))
+    ∙ ap (λ (n : ℕ). running_values c.args.function c.args.text.now c.args.key.now n c.args.from c.args.to (catalogue_of l)) (sym (ap (λ (w : Window). w.size) c.in_ok-window.ensures.ok ∙ c.unsigned_abs-places.ensures.value ∙ ap unsigned_abs (to_z-of_z w64 c.args.span c.ranges.span)))
     ∙ run_refused tells x l c.in_ok-shelf.shape c.in_ok-shelf.ensures.laid shelf.series shelf.kind.now c.args.key.now told shows c.in_ok-shelf.ensures.found _ c.args.function c.args.text.now column read c.in_ok-item.item
     (ap (λ name. bound shelf.kind.now.columns (item c.args.function name)) (sym c.as_slice-2.ensures.value) ∙ c.in_ok-item.ensures.value) c.in_ok-window.window.size c.args.from c.args.to c.in-Err.refusal (rw c.in-Err.is at c.in_ok-done.ensures.read))
 
@@ -106,7 +106,7 @@ returns-clause-read g c =
     let read = column_read c.as_slice.result.now c.args.text.now column c.as_slice.ensures c.in_ok-column.ensures in
     said_out tells (running_of c.args.function c.args.text.now c.args.key.now c.args.span c.args.from c.args.to) c.say_count.new.out x _ c.in_ok-done.done c.in_ok-done.ensures.call (λ told l shows.
     running_is c.args.function c.requires.running c.args.text.now c.args.key.now c.args.span c.args.from c.args.to (catalogue_of l)
-    ∙ ap (λ (n : ℕ). running_values c.args.function c.args.text.now c.args.key.now n c.args.from c.args.to (catalogue_of l)) (sym (ap (λ (w : Window). w.size) c.in_ok-window.ensures.ok ∙ c.unsigned_abs-places.ensures.value ∙ ap unsigned_abs (to_z-of_z w64 c.args.span c.ranges.span.sfits)))
+    ∙ ap (λ (n : ℕ). running_values c.args.function c.args.text.now c.args.key.now n c.args.from c.args.to (catalogue_of l)) (sym (ap (λ (w : Window). w.size) c.in_ok-window.ensures.ok ∙ c.unsigned_abs-places.ensures.value ∙ ap unsigned_abs (to_z-of_z w64 c.args.span c.ranges.span)))
     ∙ run_said tells x l c.in_ok-shelf.shape c.in_ok-shelf.ensures.laid shelf.series shelf.kind.now c.args.key.now told shows c.in_ok-shelf.ensures.found _ c.args.function c.args.text.now column read b
     (ap (λ name. bound shelf.kind.now.columns (item c.args.function name)) (sym c.as_slice-2.ensures.value) ∙ c.in_ok-item.ensures.value)
     c.in_ok-window.window.size c.args.from c.args.to c.in-Ok.count c.say_count.new.out (rw c.in-Ok.is at c.in_ok-done.ensures.read)
