@@ -1,5 +1,5 @@
 -- What comes of the elements of a series that is seen, test after test, a row for each: running values, or those of expressions.
-use Rattle.std.proofs.Common.{◌≡◌, ℕ, ◌<◌, ℤ, Bool, true, false, IsTrue, Result, Ok, Err, Option, Some, None, List, [], ◌∷◌, length, refl, ap, sym, subst, ◌∙◌}
+use Rattle.std.proofs.Common.{◌≡◌, ℕ, ℤ, Bool, true, false, IsTrue, Result, Ok, Err, Option, Some, None, List, [], ◌∷◌, length, refl, ap, sym, subst, ◌∙◌}
 use Rattle.std.specs.FinMap.{entries}
 use Rattle.std.specs.Prelude.{unsigned_abs, unwrap_or, if◌then◌else◌}
 use Rattle.ts_base.specs.declared.refusal.Refusal.{Refusal}
@@ -10,7 +10,7 @@ use Rattle.ts_command.specs.declared.command.Command.TheVariants.{Apply}
 use Rattle.ts_row.specs.declared.kind.ColumnKind.{ColumnKind}
 use Rattle.ts_row.specs.declared.kind.Column.{Column}
 use Rattle.ts_row.specs.RowType.{Heading}
-use Rattle.ts_row.specs.Element.{Element, seen}
+use Rattle.ts_row.specs.Element.{Element}
 use Rattle.ts_space.specs.Directory.{places_of}
 use Rattle.ts_chain.specs.Range.{within_range}
 use Rattle.ts_offset.specs.declared.shape.Shape.{Shape}
@@ -32,14 +32,14 @@ use Rattle.ts_running.specs.Window.{Window, window}
 use Rattle.ts_running_rows.specs.Call.{rows_by, rows_within}
 use Rattle.ts_running_rows.specs.Run.{Begins}
 use Rattle.ts_model.specs.Catalogue.{Series, Catalogue, columns_of}
-use Rattle.ts_layout.specs.Meaning.{Layout, elements_at, heading_at, shape_at, catalogue_of}
+use Rattle.ts_layout.specs.Meaning.{Layout, elements_at, catalogue_of}
 use Rattle.ts_answer.specs.Answer.{Tried, Answered, ◌>>=◌, wanted, outcome, carried_out, running_values, apply_exprs, seen_elements}
 use Rattle.ts_answer.specs.Reply.{folded_text}
 use Rattle.ts_answer.specs.Tried.{IsRefusedAs}
 use Rattle.ts_answer.specs.View.{View, Shows}
-use Rattle.ts_answer.proofs.CallerLemmas.{on_ok, on_err, refused_as}
+use Rattle.ts_answer.proofs.CallerLemmas.{on_ok, refused_as}
 use Rattle.ts_shelf.specs.Shelf.{IsShelf}
-use Rattle.ts_shelf.proofs.SeenLemmas.{HasSeen, elements_seen, entries_in, shelf_seen}
+use Rattle.ts_shelf.proofs.SeenLemmas.{elements_seen, entries_in, shelf_seen}
 use Rattle.ts_shelf.proofs.FoldLemmas.{not_answered}
 use Rattle.ts_series_rows.specs.Running.{running_of}
 use Rattle.ts_series_rows.proofs.AggregateLemmas.{handed_all, handed_none}
@@ -226,16 +226,30 @@ module _ (tells : Bool) (x : View) (l : Layout) (shape : Shape) (laid : IsLaidOu
       (ap (λ (cs : List Column). bound cs (item function column)) tried.2.columns ∙ is)
       ∙ ap (λ (s : Series). SaidBy make (within_rows (within_range from to (seen_elements s.elements))) says) tried.2.stands.is.2
 
-  pub run_refused : (refusal : Refusal) → Handed tells x l shape laid slot h key told shows found took make from to (Err refusal) →
+  -- the rows of a function
+  abbrev made_by : Function → List Element → Tried (List Element)
+  made_by f es = Ok (running f b.column n es)
+
+  -- what is handed on by the item's function is so by the function that it was bound for
+  handed_by : (done : Result ℕ Refusal) →
+      Handed tells x l shape laid slot h key told shows found took (made_by b.function) from to done →
+      Handed tells x l shape laid slot h key told shows found took make from to done
+  handed_by done = subst (λ (f : Function). Handed tells x l shape laid slot h key told shows found took (made_by f) from to done)
+      (found_function function (column_from 0 column h.columns) b is)
+
+  pub run_refused : (refusal : Refusal) →
+      Handed tells x l shape laid slot h key told shows found took (made_by b.function) from to (Err refusal) →
       running_values function text key n from to (catalogue_of l) ≡ Err refusal
   run_refused refusal handed =
-      run_outcome ∙ rows_refused tells x l shape laid slot h key told shows found took make from to says refusal handed
+      run_outcome
+      ∙ rows_refused tells x l shape laid slot h key told shows found took make from to says refusal (handed_by (Err refusal) handed)
 
-  pub run_said : (count : ℕ) (out : List ℕ) → Handed tells x l shape laid slot h key told shows found took make from to (Ok count) →
+  pub run_said : (count : ℕ) (out : List ℕ) →
+      Handed tells x l shape laid slot h key told shows found took (made_by b.function) from to (Ok count) →
       ((rows : List Element) → took rows → count ≡ length rows → out ≡ folded_text (b.scale ∷ []) rows) →
       running_values function text key n from to (catalogue_of l) ≡ Ok (out, catalogue_of l)
   run_said count out handed is_said =
-      let all = rows_all tells x l shape laid slot h key told shows found took make from to says count handed in
+      let all = rows_all tells x l shape laid slot h key told shows found took make from to says count (handed_by (Ok count) handed) in
       run_outcome ∙ all.3 ∙ ap (λ (t : List ℕ). let a : Tried Answered = Ok (t, catalogue_of l) in a) (sym (is_said all.0 all.1 all.2))
 
 -- expressions over the elements of a series that is seen

@@ -1,10 +1,8 @@
-use Rattle.std.proofs.Common.{[], ◌∷◌, List, ℕ, Ok, Result, sym, ap, refl, subst, ◌∙◌}
+use Rattle.std.proofs.Common.{[], ◌∷◌, ℕ, sym, ap, refl, subst, ◌∙◌}
 use Rattle.std.specs.Int.{w64}
 use Rattle.std.specs.Prelude.{unsigned_abs}
 use Rattle.std.proofs.lemmas.Int.{to_z-of_z}
-use Rattle.ts_base.specs.declared.refusal.Refusal.{Refusal}
 use Rattle.ts_base.specs.declared.fault.Trouble.TheVariants.{Refused, Memory}
-use Rattle.ts_row.specs.declared.kind.Column.{Column}
 use Rattle.ts_expr.specs.Grammar.{item}
 use Rattle.ts_expr.specs.Binding.{bound}
 use Rattle.ts_running.specs.Window.{Window}
