@@ -1,4 +1,5 @@
-use Rattle.std.proofs.Common.{ap, ◌∙◌}
+use Rattle.std.proofs.Common.{ap, ◌∙◌, arith}
+use Rattle.ts_store.proofs.CallerLemmas.{commit_bytes}
 use Rattle.ts_model.specs.Catalogue.{newest_format}
 use Rattle.ts_model.specs.Definitions.{Tables, with_format}
 use Rattle.ts_engine.specs.contracts.engine.Engine.{the_view}
@@ -34,3 +35,8 @@ returns g c =
           put.result put.ensures.others put.ensures.undisturbed put.ensures.written f c.in_ok-finish.ensures.finished
           (ap (λ (t : Tables). record now { tables = t }) c.set_format.ensures ∙ ap (λ (k : Kept). record k { tables = record k.tables { definitions = with_format newest_format k.tables.definitions } }) c.self.view_is);
     }
+
+pub finish-requires-clause-short : goal.finish-requires-clause-short
+finish-requires-clause-short g c =
+    let put = c.put_newest_format-put in
+    omega (arith, put.ensures.short, commit_bytes put.new.self.store (g.V.Volume.device put.new.vol))
