@@ -8,7 +8,7 @@ use Rattle.ts_engine.proofs.EndLemmas.{joined_then, dropped_then}
 use Rattle.ts_engine.proofs.engine.Engine.join.Goals as goal
 
 pub keep-requires : goal.keep-requires
-keep-requires c = subst (λ (k : Kept). CanJoin k.store) (sym c.self.view_is) c.in-Ok.ensures.join
+keep-requires c = record { prepared = subst (λ (k : Kept). CanJoin k.store) (sym c.self.view_is) c.in-Ok.ensures.join }
 
 pub apply-requires-clause-charge : goal.apply-requires-clause-charge
 apply-requires-clause-charge c =

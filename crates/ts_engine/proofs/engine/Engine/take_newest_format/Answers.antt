@@ -4,6 +4,7 @@ use Rattle.ts_model.specs.Catalogue.{newest_format}
 use Rattle.ts_model.specs.Definitions.{Tables, with_format}
 use Rattle.ts_engine.specs.contracts.engine.Engine.{the_view}
 use Rattle.ts_engine.specs.Engine.{Kept}
+use Rattle.ts_engine.proofs.EndLemmas.{none_open}
 use Rattle.ts_engine.proofs.MigrateLemmas.{migrated_ok, migrated_fault, by_fault}
 use Rattle.ts_engine.proofs.engine.Engine.take_newest_format.Goals as goal
 
@@ -39,4 +40,5 @@ returns g c =
 pub finish-requires-clause-short : goal.finish-requires-clause-short
 finish-requires-clause-short g c =
     let put = c.put_newest_format-put in
-    omega (arith, put.ensures.short, commit_bytes put.new.self.store (g.V.Volume.device put.new.vol))
+    let none = none_open c.args.self.now.store (g.V.Volume.device c.args.vol.now) (c.requires.ready.closed c.requires.rests) c.requires.ready.idle.batch in
+    omega (arith, none, put.ensures.short, commit_bytes put.new.self.store (g.V.Volume.device put.new.vol))
