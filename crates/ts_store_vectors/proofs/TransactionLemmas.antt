@@ -1,5 +1,5 @@
 -- What a drop, a keep and a rollback leave of a store between two batches of a transaction.
-use Rattle.std.proofs.Common.{◌≡◌, ℕ, ◌+◌, ◌≤◌, Bool, List, [], length, refl, sym, ap, ◌∙◌, subst, arith}
+use Rattle.std.proofs.Common.{◌≡◌, ℕ, ◌≤◌, Bool, List, [], length, sym, ap, ◌∙◌, subst, arith}
 use Rattle.ts_disk.specs.Device.{Device}
 use Rattle.ts_journal.specs.Entry.{Entry, entries_bytes}
 use Rattle.ts_store.specs.OpenBatch.{State, IsOver, IsIdle, IsClosed, to_commit, read_pages, rolled_back, contents_over}

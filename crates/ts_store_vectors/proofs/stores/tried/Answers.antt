@@ -1,4 +1,3 @@
-use Rattle.std.proofs.Common.{sym, ◌∙◌}
 use Rattle.ts_store.proofs.CallerLemmas.{idle_dropped, closed_dropped}
 use Rattle.ts_store_vectors.proofs.stores.tried.Goals as goal
 

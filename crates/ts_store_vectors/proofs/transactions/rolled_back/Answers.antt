@@ -1,5 +1,5 @@
 use Rattle.std.proofs.Common.{[]}
-use Rattle.ts_store_vectors.proofs.TransactionLemmas.{between_rolled_back, bytes_rolled_back}
+use Rattle.ts_store_vectors.proofs.TransactionLemmas.{between_rolled_back}
 use Rattle.ts_store_vectors.proofs.transactions.rolled_back.Goals as goal
 
 pub dropped-requires : goal.dropped-requires
