@@ -1,0 +1,3 @@
+pub mod KeepLemmas
+pub mod ReadLemmas
+pub mod TurnLemmas
