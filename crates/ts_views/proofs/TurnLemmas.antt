@@ -13,7 +13,7 @@ abbrev pub Relation : Type 1
 Relation = View → View → Type 0
 
 -- a weaker relation
-turns_weaker : (R S : Relation) → ((v w : View) → R v w → S v w) → (old new : Option View) → Turns R old new → Turns S old new
+pub turns_weaker : (R S : Relation) → ((v w : View) → R v w → S v w) → (old new : Option View) → Turns R old new → Turns S old new
 turns_weaker R S weaker None None turns = tt
 turns_weaker R S weaker None (Some w) turns = turns
 turns_weaker R S weaker (Some v) None turns = turns

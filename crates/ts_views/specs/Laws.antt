@@ -1,10 +1,12 @@
 -- What keeping an image, and a commit, do to what a view reads.
-use Rattle.std.specs.Prelude.{◌≡◌, ◌⊎◌, ℕ, List, [], ◌∷◌}
-use Rattle.std.specs.Option.{is_some, IsSome}
+use Rattle.std.specs.Prelude.{◌≡◌, ◌⊎◌, ℕ, Option, List, [], ◌∷◌}
+use Rattle.std.specs.Option.{IsSome}
 use Rattle.ts_page.specs.declared.page.Page.{Page}
 use Rattle.ts_page.specs.Pages.{EqualPages, SameButFreed}
 use Rattle.ts_journal.specs.Entry.{Entry, change_of, over}
+use Rattle.ts_views.specs.declared.view.View.{View}
 use Rattle.ts_views.specs.Pages.{view_pages, keep_image}
+use Rattle.ts_views.specs.View.{pages_of, HasImage, KeepsImage, MayKeepImage, OfEachOpen, EachTurns}
 
 -- a view has an old image of each page that the batch names
 abbrev pub Covers : List Entry → List Entry → Type 0
@@ -52,3 +54,25 @@ KeptCommitLeavesView =
     → AreOf before images → ((number : ℕ) → IsSome (change_of number batch) → HasNumber number images)
     → SameButFreed (over batch before) after
     → SameButFreed (view_pages old own before) (view_pages (keep_images images old) own after)
+
+-- To keep the image of a newest page leaves what each open view reads, also where the memory ran out.
+abbrev pub KeepLeavesViews : Type 0
+KeepLeavesViews =
+    (old new : List (Option View)) (newest : ℕ → List ℕ) (number : ℕ) (page : Page)
+    → page.bytes ≡ newest number → EachTurns (MayKeepImage number page) old new
+    → EachTurns (λ v w. EqualPages (pages_of v newest) (pages_of w newest)) old new
+
+-- Where it didn't, each open view then has an image of that page. Of what other pages each had one, it has one.
+abbrev pub KeepCoversViews : Type 0
+KeepCoversViews =
+    (old new : List (Option View)) (number : ℕ) (page : Page) → EachTurns (KeepsImage number page) old new
+    → OfEachOpen (HasImage number) new
+    × ((other : ℕ) → OfEachOpen (HasImage other) old → OfEachOpen (HasImage other) new)
+
+-- A commit of a batch leaves what each open view reads, where each has an old image of each page of the batch.
+abbrev pub CommitLeavesViews : Type 0
+CommitLeavesViews =
+    (views : List (Option View)) (batch : List Entry) (before after : ℕ → List ℕ)
+    → ((number : ℕ) → IsSome (change_of number batch) → OfEachOpen (HasImage number) views)
+    → SameButFreed (over batch before) after
+    → OfEachOpen (λ v. SameButFreed (pages_of v before) (pages_of v after)) views

@@ -4,11 +4,15 @@ use Rattle.std.specs.Option.{is_none, IsSome}
 use Rattle.ts_page.specs.declared.page.Page.{Page}
 use Rattle.ts_journal.specs.Entry.{change_of}
 use Rattle.ts_views.specs.declared.view.View.{View}
-use Rattle.ts_views.specs.Pages.{keep_image}
+use Rattle.ts_views.specs.Pages.{view_pages, keep_image}
 
 -- the view of a session, if it is open
 abbrev pub view_of : ℕ → List (Option View) → Option View
 view_of who views = slice_index_or views who None
+
+-- what it reads over the newest pages
+abbrev pub pages_of : View → (ℕ → List ℕ) → ℕ → List ℕ
+pages_of v = view_pages v.old.entries v.own.entries
 
 -- nothing of a view changes but its old images
 pub record SameBesideOld (v w : View) : Type 0 where

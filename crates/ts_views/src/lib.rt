@@ -12,7 +12,7 @@ mod view;
 mod view_pages;
 mod views;
 
-pub use laws::a_commit_leaves_each_view;
+pub use laws::{a_commit_leaves_a_view, a_commit_leaves_the_open_views};
 pub use view::View;
 pub use view_pages::ViewPages;
 pub use views::Views;

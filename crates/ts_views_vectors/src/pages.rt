@@ -7,7 +7,7 @@ use std::test::Fail;
 use ts_base::StoreFault;
 use ts_journal::{Batch, Change};
 use ts_page::{MemoryPages, Page, Pages};
-use ts_views::{ViewPages, a_commit_leaves_each_view};
+use ts_views::{ViewPages, a_commit_leaves_a_view, a_commit_leaves_the_open_views};
 
 // A page of this byte alone.
 pub(crate) fn page_of(byte: u8) -> Page {
@@ -74,6 +74,7 @@ fn its_own_changes_hide_old_images_and_these_the_newest_pages(rt: HostRuntime) -
 }
 
 #[test]
-fn the_law_is_called() {
-    a_commit_leaves_each_view();
+fn the_laws_are_called() {
+    a_commit_leaves_a_view();
+    a_commit_leaves_the_open_views();
 }

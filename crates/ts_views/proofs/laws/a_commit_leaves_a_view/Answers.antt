@@ -1,5 +1,5 @@
 use Rattle.ts_views.proofs.KeepLemmas.{keep_leaves, keep_covers, commit_leaves, kept_commit_leaves}
-use Rattle.ts_views.proofs.laws.a_commit_leaves_each_view.Goals as goal
+use Rattle.ts_views.proofs.laws.a_commit_leaves_a_view.Goals as goal
 
 pub returns-clause-kept : goal.returns-clause-kept
 returns-clause-kept c = keep_leaves
