@@ -1,5 +1,5 @@
 -- What keeping an image, and a commit, do to what a view reads.
-use Rattle.std.proofs.Common.{◌≡◌, ◌⊎◌, inl, inr, ⊎_elim, ℕ, Bool, true, false, cond, eqb, Option, Some, None, is_some, IsSome, List, [], ◌∷◌, refl, ap, sym, ◌∙◌, subst}
+use Rattle.std.proofs.Common.{◌≡◌, ◌⊎◌, inl, inr, ℕ, Bool, true, false, cond, eqb, Option, Some, None, is_some, IsSome, List, [], ◌∷◌, refl, ap, sym, ◌∙◌, subst}
 use Rattle.std.proofs.lemmas.Bool.{cond-true, cond-false, cases_eq, eq-eqb, ne_eqb}
 use Rattle.ts_page.specs.declared.page.Page.{Page}
 use Rattle.ts_page.specs.Pages.{IsElementPage, HasFreeHead, EqualPages, SameButFreed, with_page}
@@ -49,13 +49,15 @@ pub keep_covers : KeepCovers
 keep_covers old number page = elim (none_or_some (change_of number old)) [
   | inl none ↦
       let found : (k : ℕ) → change_of k (keep_image number page old) ≡ cond (eqb number k) (Some (Image page)) (change_of k old) =
-          λ k. ap (change_of k) (kept_new old number page none) ∙ change_of-put old number (Image page) k in
-      (ap is_some (found number ∙ cond-true (eqb number number) (Some (Image page)) (change_of number old) (eq-eqb number number refl)),
-      λ k there. subst IsSome (sym (found k)) (some_cond (eqb number k) (Image page) (change_of k old) there))
+      λ k. ap (change_of k) (kept_new old number page none) ∙ change_of-put old number (Image page) k in (
+        ap is_some (found number ∙ cond-true (eqb number number) (Some (Image page)) (change_of number old) (eq-eqb number number refl)),
+        λ k there. subst IsSome (sym (found k)) (some_cond (eqb number k) (Image page) (change_of k old) there),
+      )
   | inr some ↦
-      let same = kept_same old number page some.0 some.1 in
-      (ap (λ (es : List Entry). is_some (change_of number es)) same ∙ ap is_some some.1,
-      λ k there. ap (λ (es : List Entry). is_some (change_of k es)) same ∙ there)
+      let same = kept_same old number page some.0 some.1 in (
+        ap (λ (es : List Entry). is_some (change_of number es)) same ∙ ap is_some some.1,
+        λ k there. ap (λ (es : List Entry). is_some (change_of k es)) same ∙ there,
+      )
 ]
 
 -- the two pages are equal, or both have the head of a free one

@@ -5,7 +5,7 @@ use Rattle.ts_page.specs.Pages.{EqualPages, SameButFreed}
 use Rattle.ts_journal.specs.Entry.{Entry, change_of, over}
 use Rattle.ts_views.specs.declared.view.View.{View}
 use Rattle.ts_views.specs.Pages.{view_pages, keep_image}
-use Rattle.ts_views.specs.View.{view_of, pages_of, HasImage, KeepsImage, MayKeepImage, OfEachOpen, Turns, EachTurns}
+use Rattle.ts_views.specs.View.{view_of, pages_of, HasImage, KeepsImage, MayKeepImage, Turns, EachTurns}
 use Rattle.ts_views.specs.Laws.{KeepLeavesViews, KeepCoversViews, CommitLeavesViews}
 use Rattle.ts_views.proofs.KeepLemmas.{keep_leaves, keep_covers, commit_leaves}
 use Rattle.ts_views.proofs.TurnLemmas.{Relation, turns_weaker}
@@ -40,11 +40,12 @@ any_view None = tt
 any_view (Some v) = tt
 
 pub keep_covers_views : KeepCoversViews
-keep_covers_views old new number page turns =
-    (λ who. turned (KeepsImage number page) (λ v. Unit {0}) (HasImage number) (λ v w keeps had. has_now number page number v w keeps (keep_covers v.old.entries number page).0)
-    (view_of who old) (view_of who new) (turns.each who) (any_view (view_of who old)),
-    λ other had who. turned (KeepsImage number page) (HasImage other) (HasImage other) (λ v w keeps some. has_now number page other v w keeps ((keep_covers v.old.entries number page).1 other some))
-    (view_of who old) (view_of who new) (turns.each who) (had who))
+keep_covers_views old new number page turns = (
+  λ who. turned (KeepsImage number page) (λ v. Unit {0}) (HasImage number) (λ v w keeps had. has_now number page number v w keeps (keep_covers v.old.entries number page).0)
+      (view_of who old) (view_of who new) (turns.each who) (any_view (view_of who old)),
+  λ other had who. turned (KeepsImage number page) (HasImage other) (HasImage other) (λ v w keeps some. has_now number page other v w keeps ((keep_covers v.old.entries number page).1 other some))
+      (view_of who old) (view_of who new) (turns.each who) (had who),
+)
 
 one_stays : (batch : List Entry) (before after : ℕ → List ℕ) → SameButFreed (over batch before) after → (o : Option View)
     → ((number : ℕ) → IsSome (change_of number batch) → IfSome o (HasImage number)) → IfSome o (λ v. SameButFreed (pages_of v before) (pages_of v after))

@@ -7,13 +7,11 @@ pub fn a_commit_leaves_a_view()
     ensures covers { KeepCovers }
     ensures commit { CommitLeavesView }
     ensures both { KeptCommitLeavesView }
-{
-}
+{}
 
 /// The same of all views that are open.
 pub fn a_commit_leaves_the_open_views()
     ensures kept { KeepLeavesViews }
     ensures covers { KeepCoversViews }
     ensures commit { CommitLeavesViews }
-{
-}
+{}

@@ -62,14 +62,30 @@ fn its_own_changes_hide_old_images_and_these_the_newest_pages(rt: HostRuntime) -
     assert!(rt; first_byte(&mut pages, 929)? == 0);
     assert!(rt; first_byte(&mut pages, 930)? == 1);
     assert!(rt; first_byte(&mut pages, 931)? == 3);
+    Ok(())
+}
+
+#[test]
+fn a_command_changes_the_view_alone(rt: HostRuntime) -> Result<(), Fail> {
+    let alloc = rt.alloc();
+    let mut newest = zeros(alloc)?;
+    let old = Batch::new(alloc);
+    let own = changes_of(alloc, &[(931, 3)])?;
+    let mut changes = Batch::new(alloc);
+    let mut free = Vec::new(alloc);
+    let mut pages = ViewPages {
+        newest: &mut newest,
+        old: &old,
+        own: &own,
+        changes: &mut changes,
+        free: &mut free,
+    };
     pages.put(932, &page_of(4))?;
     pages.free(931)?;
     assert!(rt; first_byte(&mut pages, 932)? == 4);
     assert!(rt; first_byte(&mut pages, 931)? == 0);
-    assert!(rt; pages.spare() == 1 && pages.take() == 931 && pages.spare() == 0);
-    // The newest pages are as they were.
-    assert!(rt; first_byte(&mut newest, 932)? == 0);
-    assert!(rt; changes.len() == 2 && old.len() == 2 && own.len() == 1);
+    assert!(rt; pages.spare() == 1 && pages.take() == 931);
+    assert!(rt; changes.len() == 2 && own.len() == 1 && free.is_empty());
     Ok(())
 }
 

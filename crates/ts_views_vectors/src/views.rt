@@ -28,18 +28,32 @@ fn old_byte(view: Option<&mut View>) -> Option<u8> {
     }
 }
 
+// What a view with these old images has of page 930 once that was kept as sevens.
+fn kept(alloc: Global, old: &[(u32, u8)]) -> Result<Option<u8>, AllocError> {
+    let mut views = Views::new(alloc, 1)?;
+    views.open(0, view_with(alloc, old)?);
+    views.keep(930, &page_of(7))?;
+    Ok(old_byte(views.view(0)))
+}
+
 #[test]
 fn a_page_is_kept_where_a_view_lacks_it(rt: HostRuntime) -> Result<(), Fail> {
     let alloc = rt.alloc();
-    let mut views = Views::new(alloc, 4)?;
-    views.open(3, view_with(alloc, &[])?);
-    views.close(3);
-    views.open(0, view_with(alloc, &[(931, 9)])?);
-    views.open(2, view_with(alloc, &[(930, 5)])?);
+    assert_eq!(rt; kept(alloc, &[])?, Some(7));
+    assert_eq!(rt; kept(alloc, &[(931, 9)])?, Some(7));
+    assert_eq!(rt; kept(alloc, &[(930, 5)])?, Some(5));
+    Ok(())
+}
+
+#[test]
+fn a_closed_view_keeps_nothing(rt: HostRuntime) -> Result<(), Fail> {
+    let alloc = rt.alloc();
+    let mut views = Views::new(alloc, 2)?;
+    views.open(1, view_with(alloc, &[])?);
+    assert!(rt; views.lacks(930));
+    views.close(1);
+    assert!(rt; !views.lacks(930));
     views.keep(930, &page_of(7))?;
-    assert_eq!(rt; old_byte(views.view(0)), Some(7));
-    assert_eq!(rt; old_byte(views.view(1)), None);
-    assert_eq!(rt; old_byte(views.view(2)), Some(5));
-    assert!(rt; views.view(3).is_none());
+    assert!(rt; views.view(1).is_none());
     Ok(())
 }
