@@ -49,7 +49,7 @@ short_of None base now small none zero few = omega (arith, none refl)
 short_of (Some s) base now small none zero few = omega (arith, small.few, small.grown, zero, few)
 
 -- with no batch and no transaction no change is open
-none_open : (s : State) (d : Device) → IsClosed s → s.batch ≡ [] → (contents_over s d).change_bytes ≡ 0
+pub none_open : (s : State) (d : Device) → IsClosed s → s.batch ≡ [] → (contents_over s d).change_bytes ≡ 0
 none_open s d closed none = omega (arith, ap (λ (es : List Entry). length (entries_bytes es)) closed.transaction, ap (λ (es : List Entry). length (entries_bytes es)) none)
 
 -- the changes of a transaction have room in one record

@@ -67,8 +67,14 @@ module _ (tells : Bool) (s t : Store) (v w : Device) (still : IsStill tells s t 
   pub still_small : (accepted : ℕ) → IsSmall accepted (contents_over (store_rolled_back s) v) (contents_over s v) → IsSmall accepted (contents_over (store_rolled_back t) w) (contents_over t w)
   still_small accepted small = record {
     few = small.few;
-    grown = omega (arith, small.grown, ap (λ (es : List Entry). length (entries_bytes es)) still.calls.transaction, ap (λ (es : List Entry). length (entries_bytes es)) still.batch,
-      ap (λ (ns : List ℕ). length ns) still.free, ap (λ (ns : List ℕ). length ns) still.calls.base_free);
+    grown = omega (
+      arith,
+      small.grown,
+      ap (λ (es : List Entry). length (entries_bytes es)) still.calls.transaction,
+      ap (λ (es : List Entry). length (entries_bytes es)) still.batch,
+      ap (λ (ns : List ℕ). length ns) still.free,
+      ap (λ (ns : List ℕ). length ns) still.calls.base_free,
+    );
   }
 
 -- nothing is done

@@ -11,9 +11,9 @@ use Rattle.ts_command.specs.Boundary.{boundary_of}
 use Rattle.ts_command.specs.Writing.{is_writing}
 use Rattle.ts_page.specs.Pages.{Contents}
 use Rattle.ts_model.specs.Catalogue.{Catalogue}
-use Rattle.ts_answer.specs.Answer.{Answered, outcome, ◌>>=◌, refused_if}
+use Rattle.ts_answer.specs.Answer.{Answered, outcome, settled, ◌>>=◌, refused_if}
 use Rattle.ts_answer.specs.Reply.{refusal_line}
-use Rattle.ts_answer.specs.State.{State, Transaction, resting, opened, newest_of, counted, within_transaction, begun, outside, inside, carried_out_in, run_outcome, run_answer, settled}
+use Rattle.ts_answer.specs.State.{State, Transaction, resting, opened, newest_of, counted, within_transaction, begun, outside, inside, carried_out_in, run_outcome, run_answer}
 use Rattle.ts_engine.specs.declared.transaction.Saved.{Saved}
 use Rattle.ts_engine.specs.Engine.{IsSmall}
 use Rattle.ts_engine.specs.Transaction.{misplaced_in, counted_in}

@@ -1,8 +1,7 @@
 // A volume of the old format is put into the newest one.
 ghost use Rattle.std.specs.Prelude.{◌≡◌, ◌+◌, ◌-◌, ◌≤◌, ℕ, None, Some, Ok, Err, length};
 ghost use Rattle.ts_page.specs.Volume.{first_element_page, most_element_pages, image_entry_size};
-ghost use Rattle.ts_journal.specs.Entry.{entries_bytes};
-ghost use Rattle.ts_store.specs.OpenBatch.{IsIdle, IsOver, IsClosed, to_commit, contents_over};
+ghost use Rattle.ts_store.specs.OpenBatch.{IsIdle, IsOver, contents_over};
 ghost use Rattle.ts_store.specs.Undisturbed.{Undisturbed};
 ghost use Rattle.ts_space.specs.Directory.{used_of};
 ghost use Rattle.ts_model.specs.Catalogue.{newest_format};
@@ -58,11 +57,10 @@ impl Engine {
     // Puts the header of that format into the open batch.
     fn put_newest_format<V: Volume>(&mut self, vol: &mut V) -> Result<(), StoreFault>
         requires idle { IsIdle V.tells self.old.store (V.device vol.old) }
-        requires closed { IsClosed self.old.store }
         requires kept { AreKept self.old.tables.definitions self.old.space self.old.store.free self.old.store.pages }
         ensures written { HeaderWritten V.tells newest_format (self.old.store.pages - first_element_page) result (contents_over self.old.store (V.device vol.old)) (contents_over self.new.store (V.device vol.new)) }
         ensures over { IsOver V.tells self.new.store (V.device vol.new) }
-        ensures short { length (entries_bytes (to_commit self.new.store)) ≤ image_entry_size }
+        ensures short { (contents_over self.new.store (V.device vol.new)).change_bytes ≤ (contents_over self.old.store (V.device vol.old)).change_bytes + image_entry_size }
         ensures undisturbed { Undisturbed V.tells self.old.store self.new.store (V.device vol.old) (V.device vol.new) }
         ensures others { self.new ≡ record self.old { store = self.new.store } }
     {
@@ -77,13 +75,12 @@ fn put_newest_format_over<V: Volume>(
     space: &Space,
 ) -> Result<(), StoreFault>
     requires idle { IsIdle V.tells store.old (V.device vol.old) }
-    requires closed { IsClosed store.old }
     requires some { first_element_page + 1 ≤ store.old.pages }
     requires most { store.old.pages ≤ first_element_page + most_element_pages }
     requires all { length store.old.free + used_of space.now ≡ store.old.pages - first_element_page }
     ensures written { HeaderWritten V.tells newest_format (store.old.pages - first_element_page) result (contents_over store.old (V.device vol.old)) (contents_over store.new (V.device vol.new)) }
     ensures over { IsOver V.tells store.new (V.device vol.new) }
-    ensures short { length (entries_bytes (to_commit store.new)) ≤ image_entry_size }
+    ensures short { (contents_over store.new (V.device vol.new)).change_bytes ≤ (contents_over store.old (V.device vol.old)).change_bytes + image_entry_size }
     ensures undisturbed { Undisturbed V.tells store.old store.new (V.device vol.old) (V.device vol.new) }
 {
     let mut on = On {

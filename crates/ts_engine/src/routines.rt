@@ -30,7 +30,10 @@ use ts_model::{Def, Defs, Kind};
 use ts_page::{Page, Pages};
 use ts_pattern::Junction;
 use ts_series::EditKind;
-use ts_series_rows::{Choice, aggregate_by, aggregate_range, count_clip, read_entries};
+use ts_series_rows::{
+    Choice, aggregate_by, aggregate_range, apply_list, count_clip, read_entries, running_avg,
+    running_sum,
+};
 use ts_space::Space;
 use ts_tell::{
     cal_index, cal_range, cal_stamp, container_usage, count_elements, list_series, show_calendar,
@@ -189,7 +192,8 @@ pub(crate) fn combine<P: Pages>(
     Some(came)
 }
 
-/// Answers a command that folds the elements of series by an aggregate list; none for another one. `page` is room to read one.
+/// Answers a command that folds the elements of series by an aggregate list, or makes a row of each; none for another one. `page` is room
+/// to read one.
 pub(crate) fn aggregate<P: Pages>(
     rt: &(impl Threads + Sync),
     alloc: Global,
@@ -232,6 +236,30 @@ pub(crate) fn aggregate<P: Pages>(
         } => aggregate_all(
             rt, alloc, pages, page, defs, space, text, container, *from, *to, out,
         ),
+        Command::TSRunningSum {
+            text,
+            key,
+            span,
+            from,
+            to,
+        } => running_sum(
+            alloc, pages, page, defs, space, text, key, *span, *from, *to, out,
+        ),
+        Command::TSRunningAvg {
+            text,
+            key,
+            span,
+            from,
+            to,
+        } => running_avg(
+            alloc, pages, page, defs, space, text, key, *span, *from, *to, out,
+        ),
+        Command::Apply {
+            text,
+            key,
+            from,
+            to,
+        } => apply_list(alloc, pages, page, defs, space, text, key, *from, *to, out),
         _ => return None,
     };
     Some(came)

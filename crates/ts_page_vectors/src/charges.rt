@@ -2,12 +2,16 @@
 ghost use Rattle.std.specs.Prelude.{◌≡◌, ◌∷◌, [], pos, IfOk};
 ghost use Rattle.ts_space.specs.Directory.{places_of};
 ghost use Rattle.ts_layout.specs.Charges.{IsCountable};
+ghost use Rattle.ts_layout.specs.Meaning.{AreSound};
+ghost use Rattle.ts_layout.specs.Placed.{AreKept};
 
+use crate::grids::DAYS;
 use crate::made::{START, def, stamp};
+use crate::volume::surveyed;
 use std::alloc::{AllocError, Global};
 use ts_base::{Stamp, StoreFault};
 use ts_container::{
-    Charges, a_charge_changes_with_a_series, charge_of_places,
+    Charges, Surveyed, a_charge_changes_with_a_series, charge_of_places,
     charges_are_the_same_in_every_format, is_of_format,
 };
 use ts_model::{Def, FORMAT, Kind, OLD_FORMAT};
@@ -25,6 +29,31 @@ fn a_charge_is_changed(rt: HostRuntime) {
     assert!(rt; matches!(changed_charges(rt.alloc()), Ok((5, 0))));
     a_charge_changes_with_a_series();
     charges_are_the_same_in_every_format();
+}
+
+// The charges of the containers in slots 3 and 4, counted where the second was charged something before.
+fn counted(alloc: Global, found: &Surveyed) -> Result<(u64, u64), AllocError>
+    requires sound { AreSound 3 found.now.defs.definitions }
+    requires kept { AreKept found.now.defs.definitions found.now.space found.now.free.items 933 }
+{
+    let mut charges = Charges::new(alloc)?;
+    charges.change(4, 0, 5);
+    charges.count(&found.defs, &found.space);
+    Ok((charges.of(3), charges.of(4)))
+}
+
+// The same of a volume where an irregular series with one element and a regular one with one page stand in slot 3, and
+// slot 4 is empty.
+fn counted_of_two(alloc: Global) -> Option<(u64, u64)> {
+    match surveyed(alloc, &DAYS, &[]) {
+        Ok(found) => counted(alloc, &found).ok(),
+        Err(_) => None,
+    }
+}
+
+#[test]
+fn a_container_is_charged_for_all_its_series(rt: HostRuntime) {
+    assert!(rt; matches!(counted_of_two(rt.alloc()), Some((2, 0))));
 }
 
 // A directory where a series has these places, which have six elements.

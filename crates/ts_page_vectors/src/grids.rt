@@ -23,7 +23,7 @@ const REST: Patch = (834, 348, b"\x03\x05\x00\x00\x75\xb0\x95\x53\xf0\x00");
 
 /// That series, the calendar, of each day from 2011-01-03 on, and a page of 677 cells from offset 677 on, with the integer 7 in its first cell and NULL
 /// in its last.
-const DAYS: [Patch; 8] = [
+pub(crate) const DAYS: [Patch; 8] = [
     KEY,
     REST,
     (582, 0, b"\x01\x01d"),

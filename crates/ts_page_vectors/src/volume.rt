@@ -2,6 +2,7 @@
 ghost use Rattle.std.specs.Prelude.{◌≡◌, [], IfOk};
 ghost use Rattle.ts_page.specs.Memory.{memory_contents};
 ghost use Rattle.ts_layout.specs.Meaning.{AreSound};
+ghost use Rattle.ts_layout.specs.Placed.{AreKept};
 
 use std::alloc::{AllocError, Global};
 use ts_base::StoreFault;
@@ -89,7 +90,8 @@ pub(crate) fn volume(
 // What the survey of a volume finds.
 fn survey_of(alloc: Global, made: Result<MemoryPages, StoreFault>) -> Result<Surveyed, SurveyFault>
     requires { IfOk made (λ pages. (memory_contents pages).count ≡ 933) }
-    ensures { IfOk result (λ found. AreSound 3 found.defs.definitions) }
+    ensures sound { IfOk result (λ found. AreSound 3 found.defs.definitions) }
+    ensures kept { IfOk result (λ found. AreKept found.defs.definitions found.space found.free.items 933) }
 {
     match made {
         Ok(pages) => {
@@ -106,7 +108,8 @@ pub(crate) fn surveyed(
     base: &[Patch],
     patches: &[Patch],
 ) -> Result<Surveyed, SurveyFault>
-    ensures { IfOk result (λ found. AreSound 3 found.defs.definitions) }
+    ensures sound { IfOk result (λ found. AreSound 3 found.defs.definitions) }
+    ensures kept { IfOk result (λ found. AreKept found.defs.definitions found.space found.free.items 933) }
 {
     survey_of(alloc, volume(alloc, base, patches))
 }

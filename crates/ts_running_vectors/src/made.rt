@@ -77,7 +77,7 @@ fn name(alloc: Global, text: &[u8]) -> Result<Name, Trouble> {
 }
 
 // The row type of these columns and of a stamp called `time`.
-fn row_type(alloc: Global) -> Result<RowType, Trouble> {
+pub(crate) fn row_type(alloc: Global) -> Result<RowType, Trouble> {
     let mut made = Vec::new(alloc);
     for (text, kind) in &COLUMNS {
         let name = name(alloc, text)?;

@@ -1,10 +1,13 @@
-// Sums of the last values.
+// Sums and means of the last values.
 ghost use Rattle.std.specs.Prelude.{◌≤◌, IfSome};
 ghost use Rattle.ts_running.specs.Window.{IsSmall};
 
 use std::alloc::{AllocError, Global};
 use std::test::Fail;
-use ts_running::{Running, a_window_holds_the_last_values, an_empty_window_has_no_sum};
+use ts_running::{
+    Running, a_window_holds_the_last_values, a_window_makes_the_running_value,
+    an_empty_window_has_no_sum,
+};
 
 /// A value that is pushed, and the sum and the number after it.
 type Push = (Option<i64>, Option<i128>, u32);
@@ -77,6 +80,37 @@ fn the_greatest_values_are_added(rt: HostRuntime) -> Result<(), Fail> {
     Ok(())
 }
 
+#[test]
+fn a_mean_is_that_of_the_last_two_places(rt: HostRuntime) -> Result<(), Fail> {
+    let mut running = Running::new(rt.alloc(), 2)?;
+    assert_eq!(rt; running.mean(), None);
+    running.push(Some(1));
+    assert_eq!(rt; running.mean(), Some(1_000_000));
+    running.push(Some(2));
+    assert_eq!(rt; running.mean(), Some(1_500_000));
+    running.push(Some(3));
+    assert_eq!(rt; running.mean(), Some(2_500_000));
+    running.push(None);
+    assert_eq!(rt; running.mean(), Some(3_000_000));
+    running.push(None);
+    assert_eq!(rt; running.mean(), None);
+    Ok(())
+}
+
+// 1 / 128 is 0.0078125.
+#[test]
+fn half_a_digit_of_a_mean_is_rounded_away_from_zero(rt: HostRuntime) -> Result<(), Fail> {
+    let mut running = Running::new(rt.alloc(), 128)?;
+    for _ in 0..127 {
+        running.push(Some(0));
+    }
+    running.push(Some(1));
+    assert_eq!(rt; running.mean(), Some(7_813));
+    running.push(Some(-2));
+    assert_eq!(rt; running.mean(), Some(-7_813));
+    Ok(())
+}
+
 // A window that is folded anew at each push doesn't end within a test's time.
 #[test]
 fn ten_million_values_pass_through_a_wide_window(rt: HostRuntime) -> Result<(), Fail> {
@@ -93,5 +127,6 @@ fn ten_million_values_pass_through_a_wide_window(rt: HostRuntime) -> Result<(), 
 #[test]
 fn the_laws_are_called(_rt: HostRuntime) {
     a_window_holds_the_last_values();
+    a_window_makes_the_running_value();
     an_empty_window_has_no_sum();
 }

@@ -149,10 +149,10 @@ module _ (tells : Bool) (x : View) (l : Layout) (shape : Shape) (laid : IsLaidOu
         by_outcome ∙ on_ok _ all.0 _ all.1 ∙ ap (λ (t : List ℕ). let a : Answered = (t, catalogue_of l) in Ok a) (sym (says all.0 all.2 all.3))
 
 -- Lines of rows behind nothing, and their number: what is said once the lines are no longer borrowed.
-pub rows_said : {Name : Type 0} (scales : List ℕ) (b : Binding) (rows : List Element) (empty begun ended given after : List ℕ) (given_scales : List ℕ) (count : ℕ) (name first last : Name) → empty ≡ [] → begun ≡ empty → first ≡ name
-    → given_scales ≡ scales → scales ≡ scales_of b → (last ≡ first) × (ended ≡ begun ++ flat_map (folded_line given_scales) rows) → count ≡ length rows → after ≡ given ++ count_line count → (name ≡ last → given ≡ ended)
-    → after ≡ folded_text (scales_of b) rows
+pub rows_said : {Name : Type 0} (scales ours : List ℕ) (rows : List Element) (empty begun ended given after : List ℕ) (given_scales : List ℕ) (count : ℕ) (name first last : Name) → empty ≡ [] → begun ≡ empty → first ≡ name
+    → given_scales ≡ scales → scales ≡ ours → (last ≡ first) × (ended ≡ begun ++ flat_map (folded_line given_scales) rows) → count ≡ length rows → after ≡ given ++ count_line count → (name ≡ last → given ≡ ended)
+    → after ≡ folded_text ours rows
 unfolding folded_text
-rows_said scales b rows empty begun ended given after given_scales count name first last none begins same scaled are took number counted back =
+rows_said scales ours rows empty begun ended given after given_scales count name first last none begins same scaled are took number counted back =
     let lines = back (sym (took.0 ∙ same)) ∙ took.1 ∙ (λ i. (begins ∙ none) i ++ flat_map (folded_line ((scaled ∙ are) i)) rows) in
     counted ∙ (λ i. lines i ++ count_line (number i))

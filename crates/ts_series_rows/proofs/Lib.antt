@@ -1,2 +1,3 @@
 pub mod AggregateLemmas
+pub mod ElementLemmas
 pub mod EntryLemmas

@@ -2,6 +2,7 @@ use Rattle.std.proofs.Common.{Ok, sym, ap, refl, ◌∙◌}
 use Rattle.ts_base.specs.declared.fault.Trouble.TheVariants.{Refused, Memory}
 use Rattle.ts_command.specs.declared.command.Command.TheVariants.{AggregateBy}
 use Rattle.ts_layout.specs.Meaning.{catalogue_of}
+use Rattle.ts_answer.specs.Answer.{scales_of}
 use Rattle.ts_answer.specs.View.{view}
 use Rattle.ts_answer.proofs.CallerLemmas.{defined_by, read_stopped_first, tried_stopped}
 use Rattle.ts_shelf.proofs.MemoryLemmas.{few_elements}
@@ -103,5 +104,5 @@ returns-clause-read g c =
     by_said tells x l c.in_ok-shelf.shape c.in_ok-shelf.ensures.laid shelf.series shelf.kind.now c.args.key.now told shows c.in_ok-shelf.ensures.found c.args.text.now items read b c.in_ok-bound.ensures.value c.in_ok-bound.ensures.columns
     c.in_ok-folding.folding (c.in_ok-folding.ensures.binding, c.in_ok-folding.ensures.none) c.args.from c.args.to c.args.calendar.now c.in_ok-plan.plan.now (plan.1 ∙ ap Ok (sym plan.2)) _ c.in-Ok.count c.say_count.new.out (rw c.in-Ok.is at c.in_ok-done.ensures.read)
     (λ rows taken number.
-    rows_said c.scales.result.now b rows c.args.out.now c.behind-lines.result.out.now c.aggregate_by.new.visitor.out.now _ c.say_count.new.out c.behind-lines.result.scales.now c.in-Ok.count _ _ _ c.requires.empty c.behind-lines.ensures.none c.behind-lines.ensures.same
+    rows_said c.scales.result.now (scales_of b) rows c.args.out.now c.behind-lines.result.out.now c.aggregate_by.new.visitor.out.now _ c.say_count.new.out c.behind-lines.result.scales.now c.in-Ok.count _ _ _ c.requires.empty c.behind-lines.ensures.none c.behind-lines.ensures.same
     c.behind-lines.ensures.scales c.scales.ensures.value (taken.0, taken.2) number c.in_ok-say_count-in-Ok.ensures assumption))

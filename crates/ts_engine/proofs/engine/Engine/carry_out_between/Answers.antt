@@ -46,14 +46,15 @@ returns-else-is_some g c =
     let charges = ap (λ (k : Kept). k.charges) does.others in
     let saved = ap (λ (k : Kept). k.saved) does.others in
     let spent = ap (λ (k : Kept). k.spent) does.others in
-    let none : e.saved ≡ None = sym saved ∙ saved_none m.saved (sym c.is_some.ensures ∙ c.if-is_some.false) in
+    let here = ap (λ (k : Kept). k.saved) c.self.view_is in
+    let none : e.saved ≡ None = sym saved ∙ sym here ∙ saved_none c.self.inside.saved (sym c.is_some.ensures ∙ c.if-is_some.false) in
     record {
       stepped = changed_step tells command e m v x lawful c.requires.ready does.undisturbed c.requires.between c.requires.room definitions does.lists charges saved spent c.in-Ok.effect c.carry_out_in_batch.new.out c.in-Ok.ensures.carried c.keep.new.self (g.V.Volume.device c.keep.new.vol)
           (g.met.V.Volume.lawful c.keep.new.vol) none (sym c.is_nothing.ensures ∙ c.if-is_nothing.false) c.keep.result c.keep.ensures.commits;
     }
 
-pub returns-in_err-join : goal.returns-in_err-join
-returns-in_err-join g c =
+pub returns-in_err-join-in-Ok : goal.returns-in_err-join-in-Ok
+returns-in_err-join-in-Ok g c =
     let tells = g.V.Volume.tells in
     let command = c.args.command.now in
     let e = c.args.self.now in
@@ -66,10 +67,10 @@ returns-in_err-join g c =
     let charges = ap (λ (k : Kept). k.charges) does.others in
     let saved = ap (λ (k : Kept). k.saved) does.others in
     let spent = ap (λ (k : Kept). k.spent) does.others in
-    let fault = c.in_err-join.field-0.0 in
+    let fault = c.in_err-join-in-Ok.field-0.0 in
     record {
       stepped = by_fault tells command c.from_residual.result fault c.carry_out_in_batch.new.out e c.join.new.self v x c.from_residual.ensures.1
-          (unjoined_step tells command e m v x lawful c.requires.ready does.undisturbed c.requires.between c.requires.room definitions does.lists charges saved spent c.in-Ok.effect c.carry_out_in_batch.new.out c.in-Ok.ensures.carried fault c.join.new.self c.in_err-join.ensures.joins);
+          (unjoined_step tells command e m v x lawful c.requires.ready does.undisturbed c.requires.between c.requires.room definitions does.lists charges saved spent c.in-Ok.effect c.carry_out_in_batch.new.out c.in-Ok.ensures.carried fault c.join.new.self c.in_err-join-in-Ok.ensures.joins);
     }
 
 pub returns-then-is_some : goal.returns-then-is_some
@@ -88,7 +89,7 @@ returns-then-is_some g c =
     let spent = ap (λ (k : Kept). k.spent) does.others in
     record {
       stepped = joined_step tells command e m v x lawful c.requires.ready does.undisturbed c.requires.between c.requires.room definitions does.lists charges saved spent c.in-Ok.effect c.carry_out_in_batch.new.out c.in-Ok.ensures.carried
-          does.over (sym c.is_nothing.ensures ∙ c.if-is_nothing.false) (λ none. saved_some m.saved (sym c.is_some.ensures ∙ c.if-is_some.true) (saved ∙ none)) c.join.new.self c.in_ok-join.ensures.joins c.count-2.new.self c.count-2.ensures;
+          does.over (sym c.is_nothing.ensures ∙ c.if-is_nothing.false) (λ none. saved_some c.self.inside.saved (sym c.is_some.ensures ∙ c.if-is_some.true) (ap (λ (k : Kept). k.saved) c.self.view_is ∙ saved ∙ none)) c.join.new.self c.in_ok-join-in-Ok.ensures.joins c.count-then-is_some.new.self c.count-then-is_some.ensures;
     }
 
 pub returns-in_err-say_refusal-in-Err-Refused : goal.returns-in_err-say_refusal-in-Err-Refused
@@ -108,7 +109,7 @@ returns-in_err-say_refusal-in-Err-Refused g c =
     let error = c.in_err-say_refusal-in-Err-Refused.field-0.0 in
     let stopped = subst (λ (s : Stop). IsStopped tells command s (view e.tables.definitions e.space (contents_over e.store v)) (contents_over m.store x)) c.in-Err-Refused.field-0-is c.in-Err-Refused.ensures.carried.stopped in
     record {
-      stepped = by_memory tells command c.from_residual.result c.say_refusal.new.out e c.discard-in-Err-Refused.new.self v x error c.from_residual.ensures.1
+      stepped = by_memory tells command c.from_residual-in_err-say_refusal-in-Err-Refused.result c.say_refusal.new.out e c.discard-in-Err-Refused.new.self v x error c.from_residual-in_err-say_refusal-in-Err-Refused.ensures.1
           (memory_step tells command e m v x lawful c.requires.ready does.undisturbed c.requires.between c.requires.room definitions does.lists charges saved spent c.discard-in-Err-Refused.new.self c.discard-in-Err-Refused.ensures stopped.2 error);
     }
 
@@ -190,19 +191,19 @@ keep-requires-clause-short g c =
     let m = c.carry_out_in_batch.new.self in
     let saved = ap (λ (k : Kept). k.saved) c.carry_out_in_batch.ensures.others in
     short_one g.V.Volume.tells c.args.command.now e m (g.V.Volume.device c.args.vol.now) (g.V.Volume.device c.carry_out_in_batch.new.vol) c.in-Ok.effect c.carry_out_in_batch.new.out c.requires.ready
-    (sym saved ∙ saved_none m.saved (sym c.is_some.ensures ∙ c.if-is_some.false)) c.in-Ok.ensures.carried
+    (sym saved ∙ sym (ap (λ (k : Kept). k.saved) c.self.view_is) ∙ saved_none c.self.inside.saved (sym c.is_some.ensures ∙ c.if-is_some.false)) c.in-Ok.ensures.carried
 
 pub count-requires : goal.count-requires
 count-requires g c =
     let e = c.args.self.now in
     let saved = ap (λ (k : Kept). k.saved) c.discard.ensures ∙ ap (λ (k : Kept). k.saved) c.carry_out_in_batch.ensures.others in
-    few_then e.saved c.discard.new.self.saved _ _ saved c.requires.ready.small
+    record { few = few_then e.saved c.discard.new.self.saved _ _ saved c.requires.ready.small }
 
-pub count-2-requires : goal.count-2-requires
-count-2-requires g c =
+pub count-requires-then-is_some : goal.count-requires-then-is_some
+count-requires-then-is_some g c =
     let e = c.args.self.now in
-    let saved = c.in_ok-join.ensures.joins.saved ∙ ap (λ (k : Kept). k.saved) c.carry_out_in_batch.ensures.others in
-    few_then e.saved c.join.new.self.saved _ _ saved c.requires.ready.small
+    let saved = c.in_ok-join-in-Ok.ensures.joins.saved ∙ ap (λ (k : Kept). k.saved) c.carry_out_in_batch.ensures.others in
+    record { few = few_then e.saved c.join.new.self.saved _ _ saved c.requires.ready.small }
 
 pub join-requires-clause-charge : goal.join-requires-clause-charge
 join-requires-clause-charge g c =

@@ -8,7 +8,7 @@ use Rattle.ts_engine.proofs.EndLemmas.{joined_then, dropped_then}
 use Rattle.ts_engine.proofs.engine.Engine.join.Goals as goal
 
 pub keep-requires : goal.keep-requires
-keep-requires c = subst (λ (k : Kept). CanJoin k.store) (sym c.self.view_is) c.in-Ok.ensures.join
+keep-requires c = record { prepared = subst (λ (k : Kept). CanJoin k.store) (sym c.self.view_is) c.in-Ok.ensures.join }
 
 pub apply-requires-clause-charge : goal.apply-requires-clause-charge
 apply-requires-clause-charge c =
@@ -22,8 +22,8 @@ apply-requires-clause-charge c =
     let charges = ap (λ (k : Kept). k.charges) view_is ∙ ap (λ (k : Kept). k.charges) room.others in
     can_charge_then effect old.charges now.charges old.tables.definitions now.defs.definitions old.space now.space c.requires.charge definitions lists charges
 
-pub returns : goal.returns
-returns c =
+pub returns-in-Ok : goal.returns-in-Ok
+returns-in-Ok c =
     let effect = c.args.effect in
     let room = c.make_room_to_join.ensures in
     let view_is = c.self.view_is in

@@ -1,8 +1,10 @@
-use Rattle.std.proofs.Common.{ap, ◌∙◌}
+use Rattle.std.proofs.Common.{ap, ◌∙◌, arith}
+use Rattle.ts_store.proofs.CallerLemmas.{commit_bytes}
 use Rattle.ts_model.specs.Catalogue.{newest_format}
 use Rattle.ts_model.specs.Definitions.{Tables, with_format}
 use Rattle.ts_engine.specs.contracts.engine.Engine.{the_view}
 use Rattle.ts_engine.specs.Engine.{Kept}
+use Rattle.ts_engine.proofs.EndLemmas.{none_open}
 use Rattle.ts_engine.proofs.MigrateLemmas.{migrated_ok, migrated_fault, by_fault}
 use Rattle.ts_engine.proofs.engine.Engine.take_newest_format.Goals as goal
 
@@ -34,3 +36,9 @@ returns g c =
           put.result put.ensures.others put.ensures.undisturbed put.ensures.written f c.in_ok-finish.ensures.finished
           (ap (λ (t : Tables). record now { tables = t }) c.set_format.ensures ∙ ap (λ (k : Kept). record k { tables = record k.tables { definitions = with_format newest_format k.tables.definitions } }) c.self.view_is);
     }
+
+pub finish-requires-clause-short : goal.finish-requires-clause-short
+finish-requires-clause-short g c =
+    let put = c.put_newest_format-put in
+    let none = none_open c.args.self.now.store (g.V.Volume.device c.args.vol.now) (c.requires.ready.closed c.requires.rests) c.requires.ready.idle.batch in
+    omega (arith, none, put.ensures.short, commit_bytes put.new.self.store (g.V.Volume.device put.new.vol))
