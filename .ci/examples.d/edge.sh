@@ -122,8 +122,8 @@ types 'ts a.v' 2 "a.v: these words name no job; $usage"
 types 'ts a.v bogus' 2 "a.v: these words name no job; $usage"
 
 # A limit on file sizes is a failed file, and a run that writes nothing goes on.
-failed_file="the file failed; each statement whose reply was said is stored, and the next one may be: check the disk and the limit on file"
-failed_file="$failed_file sizes, look with GetElem how far the volume is before a PutElem is said again, then run the rest"
+failed_file="the file failed; each statement whose reply was said is stored, a transaction's with its Commit, and the next one"
+failed_file="$failed_file may be: check the disk and the limit on file sizes, look with GetElem how far the volume is before a PutElem is said again, then run the rest"
 types 'ulimit -f 100; ts u.v init 8' 5 \
   "u.v: the file failed, so it may be no store; check the disk and the limit on file sizes, remove it, and run init again"
 [ -s u.v ] && { failed=$((failed + 1)); echo "FAILED: a file beyond the limit"; }
@@ -174,8 +174,8 @@ same "a check with an output that doesn't block: what is told" said slow.lines
 holds "a check of many statements: each is told" [ "$(wc -l < slow.lines)" -eq 10000 ]
 
 # Full standard output: the line says to look before a statement is said again that would be put twice.
-failed_output="standard output failed; each statement whose reply was said is stored, and the next one may be:"
-failed_output="$failed_output look with GetElem how far the volume is before a PutElem is said again, then run the rest"
+failed_output="standard output failed; each statement whose reply was said is stored, a transaction's with its Commit, and"
+failed_output="$failed_output the next one may be: look with GetElem how far the volume is before a PutElem is said again, then run the rest"
 if [ -w /dev/full ]; then
   types 'ts a.v run < count.script > /dev/full' 4 "a.v: $failed_output"
   cp a.v full.v

@@ -24,6 +24,11 @@ goes_on "the second run" "InsElem('x','2011-01-05 00:00:00',2);InsElem('x','2011
 goes_on "the third run" "GetElem('x','2011-01-05 00:00:00');InsElem('x','2011-01-05 00:00:00',3);
   ListSeries(c1);TSContainerUsage(c1);" \
   "2011-01-05 00:00:00.00000 2\nok 1\nerror 23 Duplicate\n'x' irregular 2\n'y' irregular 0\nok 2\nok 1 8\n"
+goes_on "a script that ends in a transaction" "Begin;InsElem('x','2011-01-06 00:00:00',4);
+  DelElem('x','2011-01-05 00:00:00');GetNelems('x');GetLastElem('x');" \
+  'ok\nok 2011-01-06 00:00:00.00000\nok 1\nok 2\n2011-01-06 00:00:00.00000 4\nok 1\n'
+goes_on "the run behind it" "GetNelems('x');GetLastElem('x');Commit;" \
+  'ok 2\n2011-01-05 00:00:00.00000 2\nok 1\nerror 50 NotOpen\n'
 
 # 256 patterns and calendars at most. What ShowPattern and ShowCalendar print of 512 runs is read again.
 runs=$(seq -s, 512 | sed 's/[0-9]*[13579]\b/& on/g; s/[0-9]*[02468]\b/& off/g')
