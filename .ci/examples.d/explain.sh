@@ -31,10 +31,12 @@ for script in "$examples"/*.script; do
   fi
 done
 # It knows every routine that the program has.
-grep -ohE 'b"[A-Z][A-Za-z]+"' "$top/crates/ts_command/src/routine.rt" | sed 's/b"\(.*\)"/\1;/' > routines.script
+grep -ohE 'b"[A-Z][A-Za-z]+"' "$top/crates/ts_command/src/spelling.rt" |
+  sed -E 's/b"(.*)"/\1;/; s/^(Begin|Commit|Rollback);/\1();/' > routines.script
 sed 's/.*/error 1 Syntax/' routines.script > routines.replies
 tells "every routine" 1 nothing "$examples/explain" routines.script routines.replies
-holds "every routine: there are some" [ "$(grep -c 'Syntax: behind [A-Za-z]* stands a bracket' said)" -ge 43 ]
+holds "every routine: there are some" [ "$(grep -c 'Syntax: behind [A-Za-z]* stands a bracket' said)" -ge 46 ]
+holds "every routine: three stand alone" [ "$(grep -c 'Syntax: [A-Za-z]* has no brackets' said)" -eq 3 ]
 holds "every routine is known" [ "$(grep -c 'there is no routine' said)" -eq 0 ]
 one='1 reply, 1 told above\n'
 clip="Clip('a','2011-01-03 00:00:00','2011-01-03 00:00:00')"
