@@ -123,7 +123,7 @@ types 'ts a.v bogus' 2 "a.v: these words name no job; $usage"
 
 # A limit on file sizes is a failed file, and a run that writes nothing goes on.
 failed_file="the file failed; each statement whose reply was said is stored, a transaction's with its Commit, and the next one"
-failed_file="$failed_file may be: check the disk and the limit on file sizes, look with GetElem how far the volume is before a PutElem is said again, then run the rest"
+failed_file="$failed_file may be: check the disk and the limit on file sizes, look with GetElem how far the volume is before a PutElem is said again, then run the rest, from the Begin of an open transaction on"
 types 'ulimit -f 100; ts u.v init 8' 5 \
   "u.v: the file failed, so it may be no store; check the disk and the limit on file sizes, remove it, and run init again"
 [ -s u.v ] && { failed=$((failed + 1)); echo "FAILED: a file beyond the limit"; }
@@ -175,7 +175,7 @@ holds "a check of many statements: each is told" [ "$(wc -l < slow.lines)" -eq 1
 
 # Full standard output: the line says to look before a statement is said again that would be put twice.
 failed_output="standard output failed; each statement whose reply was said is stored, a transaction's with its Commit, and"
-failed_output="$failed_output the next one may be: look with GetElem how far the volume is before a PutElem is said again, then run the rest"
+failed_output="$failed_output the next one may be: look with GetElem how far the volume is before a PutElem is said again, then run the rest, from the Begin of an open transaction on"
 if [ -w /dev/full ]; then
   types 'ts a.v run < count.script > /dev/full' 4 "a.v: $failed_output"
   cp a.v full.v

@@ -95,23 +95,23 @@ pub(crate) fn complain(rt: &HostRuntime, path: &str, what: impl Display + Drop) 
 fn advice(status: u8) -> &'static str {
     match status {
         3 =>
-            "standard input failed; each statement whose reply was said is stored, a transaction's with its Commit, and \
-             no other: run the rest",
+            "standard input failed; each statement whose reply was said is stored, a transaction's with its Commit, \
+             and no other: run the rest, from the Begin of an open transaction on",
         4 =>
-            "standard output failed; each statement whose reply was said is stored, a transaction's with its Commit, and \
-             the next one may be: look with GetElem how far the volume is before a PutElem is said again, then run the \
-             rest",
+            "standard output failed; each statement whose reply was said is stored, a transaction's with its Commit, \
+             and the next one may be: look with GetElem how far the volume is before a PutElem is said again, then \
+             run the rest, from the Begin of an open transaction on",
         5 =>
             "the file failed; each statement whose reply was said is stored, a transaction's with its Commit, and the \
-             next one may be: check the disk and the limit on file sizes, look with GetElem how far the volume is before \
-             a PutElem is said again, then run the rest",
+             next one may be: check the disk and the limit on file sizes, look with GetElem how far the volume is \
+             before a PutElem is said again, then run the rest, from the Begin of an open transaction on",
         6 =>
             "this is no store, or its pages are damaged; nothing was changed: take another file, or a copy of this one",
         7 =>
             "there is no memory for a run; nothing was changed: free some, then run the script again",
         8 =>
             "the script has more than 268435456 bytes; what ends within these was carried out, but for a transaction \
-             that is open there: run the rest",
+             that is open there: run the rest, from its Begin on",
         10 => "the file isn't empty; nothing was changed: choose another path for a new store",
         _ => "the run ended",
     }
