@@ -15,13 +15,8 @@ struct place {
 // Pages of 145 and 146 elements in turn: two neighbours hold one more than a page has room for.
 static int fill(int volume) {
   if (ftruncate(volume, (off_t)(FIRST + PAGES) * PAGE)) return 1;
-  memcpy(page, "TSVOLUME\2", 9);
-  put(page + 9, 4, PAGES);
-  if (!write_page(volume, 0)) return 1;
-  page[0] = 1; name(page + 1, "reading"); name(page + 34, "t"); page[67] = 1; page[68] = 2; name(page + 71, "wh");
-  if (!write_page(volume, 257)) return 1;
-  page[0] = 1; name(page + 1, "meters"); put(page + 35, 4, QUOTA);
-  if (!write_page(volume, 833)) return 1;
+  if (!write_head(volume, PAGES)) return 1;
+  if (!write_container(volume, QUOTA)) return 1;
   page[0] = 2; name(page + 1, "meter");
   if (!write_page(volume, 834)) return 1;
   int64_t stamp = begin;

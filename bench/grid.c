@@ -11,17 +11,12 @@ struct place {
 };
 
 static int fill_definitions(int volume) {
-  memcpy(page, "TSVOLUME\2", 9);
-  put(page + 9, 4, PAGES);
-  if (!write_page(volume, 0)) return 1;
-  page[0] = 1; name(page + 1, "reading"); name(page + 34, "t"); page[67] = 1; page[68] = 2; name(page + 71, "wh");
-  if (!write_page(volume, 257)) return 1;
+  if (!write_head(volume, PAGES)) return 1;
   // {1 on,14 off},minute
   page[0] = 1; name(page + 1, "quarters"); put(page + 34, 8, begin); put(page + 42, 8, begin); page[50] = 1; page[52] = 1; put(page + 53, 2, 2);
   put(page + 55, 4, 0x80000001); put(page + 59, 4, 14);
   if (!write_page(volume, 577)) return 1;
-  page[0] = 1; name(page + 1, "meters"); put(page + 35, 4, PAGES);
-  if (!write_page(volume, 833)) return 1;
+  if (!write_container(volume, PAGES)) return 1;
   for (uint32_t first = 0; first < METERS; first += IN_PAGE) {
     for (uint32_t i = 0; i < IN_PAGE && first + i < METERS; i++) {
       unsigned char *slot = page + SERIES * i;

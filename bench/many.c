@@ -8,13 +8,8 @@ enum { CELL = 14, ROOM = 290, PAGES = 65536, USED = 65000, SERIES = 4096, SLOT =
 static const int64_t minute = 6000000;
 
 static int fill_definitions(int volume) {
-  memcpy(page, "TSVOLUME\2", 9);
-  put(page + 9, 4, PAGES);
-  if (!write_page(volume, 0)) return 1;
-  page[0] = 1; name(page + 1, "reading"); name(page + 34, "t"); page[67] = 1; page[68] = 2; name(page + 71, "wh");
-  if (!write_page(volume, 257)) return 1;
-  page[0] = 1; name(page + 1, "meters"); put(page + 35, 4, PAGES);
-  if (!write_page(volume, 833)) return 1;
+  if (!write_head(volume, PAGES)) return 1;
+  if (!write_container(volume, PAGES)) return 1;
   for (uint32_t first = 0; first < SERIES; first += IN_PAGE) {
     for (uint32_t i = 0; i < IN_PAGE && first + i < SERIES; i++) {
       unsigned char *slot = page + SLOT * i;

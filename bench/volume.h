@@ -33,3 +33,18 @@ static inline int write_page(int volume, off_t number) {
   memset(page, 0, PAGE);
   return wrote;
 }
+
+// The header of a volume of so many element pages, and in the first slot the row type of one integer.
+static inline int write_head(int volume, uint32_t pages) {
+  memcpy(page, "TSVOLUME\2", 9);
+  put(page + 9, 4, pages);
+  if (!write_page(volume, 0)) return 0;
+  page[0] = 1; name(page + 1, "reading"); name(page + 34, "t"); page[67] = 1; page[68] = 2; name(page + 71, "wh");
+  return write_page(volume, 257);
+}
+
+// In the first slot a container of that row type, with this quota.
+static inline int write_container(int volume, uint32_t quota) {
+  page[0] = 1; name(page + 1, "meters"); put(page + 35, 4, quota);
+  return write_page(volume, 833);
+}
