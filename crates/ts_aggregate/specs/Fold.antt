@@ -26,13 +26,15 @@ HasTaken f rows = f.tallies ≡ after f.binding.items rows
 abbrev pub most_folded : ℕ
 most_folded = 2 ^ 32
 
--- From one state to another rows were taken: behind whatever it had taken before, as long as they are few enough and have its columns.
+-- From one state to another rows were taken: behind whatever it had taken before, as long as they are few enough and
+-- have its columns.
 pub record Takes (columns : List Column) (v : Fold) (rows : List Row) (w : Fold) : Type 0 where
   pub same : w.binding ≡ v.binding
   pub taken : columns ≡ v.binding.columns → (before : List Row) → length before + length rows ≤ most_folded
       → HasTaken v before → HasTaken w (before ++ rows)
 
--- From one state to another rows were taken and folded: to this row, where none had been taken before and they have its columns.
+-- From one state to another rows were taken and folded: to this row, where none had been taken before and they have its
+-- columns.
 pub record Folds (columns : List Column) (v : Fold) (rows : List Row) (row : Row) (w : Fold) : Type 0 where
   pub same : w.binding ≡ v.binding
   pub none : HasTaken w []

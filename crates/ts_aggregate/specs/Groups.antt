@@ -1,6 +1,7 @@
--- Elements in the order of their stamps, grouped by the on intervals of a calendar that hold them: one group is open, those before it are
--- closed.
-use Rattle.std.specs.Prelude.{◌≡◌, ℕ, ◌+◌, ◌<◌, ◌≤◌, ◌^◌, ℤ, ◌<ℤ◌, ◌≤ℤ◌, int_lt, Bool, true, not, ◌&&◌, if◌then◌else◌, Option, Some, None, List, [], ◌∷◌, ◌++◌, length, map, filter}
+-- Elements in the order of their stamps, grouped by the on intervals of a calendar that hold them: one group is open,
+-- those before it are closed.
+use Rattle.std.specs.Prelude.{◌≡◌, ℕ, ◌+◌, ◌<◌, ◌≤◌, ◌^◌, ℤ, ◌<ℤ◌, ◌≤ℤ◌, int_lt, Bool, true, not, ◌&&◌, if◌then◌else◌}
+use Rattle.std.specs.Prelude.{Option, Some, None, List, [], ◌∷◌, ◌++◌, length, map, filter}
 use Rattle.ts_base.specs.Moment.{IsStamp}
 use Rattle.ts_row.specs.Row.{Row}
 use Rattle.ts_row.specs.Element.{Element}
@@ -17,7 +18,8 @@ use Rattle.ts_expr.specs.Fold.{folded_row}
 use Rattle.ts_aggregate.specs.declared.span.Span.{Span}
 use Rattle.ts_aggregate.specs.Fold.{Fold, HasTaken, Takes}
 
--- what contracts see of the wanted intervals: a calendar, and from which start to which one they are asked for, both included
+-- what contracts see of the wanted intervals: a calendar, and from which start to which one they are asked for, both
+-- included
 pub record WantedPlan : Type 0 where
   pub calendar : CalendarPlan
   pub from : ℤ
@@ -39,7 +41,8 @@ group_start wanted t = asked_start wanted (held_start wanted.calendar t)
 -- an on interval that holds a stamp before an end starts before one that holds a stamp behind it
 abbrev pub IsBound : CalendarPlan → Option ℤ → Type 0
 IsBound calendar end =
-    (t u s v : ℤ) → IsBefore t end → (IsBefore u end → ⊥) → held_start calendar t ≡ Some s → held_start calendar u ≡ Some v → s <ℤ v
+    (t u s v : ℤ) → IsBefore t end → (IsBefore u end → ⊥) → held_start calendar t ≡ Some s → held_start calendar u
+    ≡ Some v → s <ℤ v
 
 -- the stamps from one on up to an end belong to one group, or to none
 pub record IsSpan (wanted : WantedPlan) (at : ℤ) (span : Span) : Type 0 where
@@ -53,7 +56,8 @@ abbrev pub AreWithin : Option ℤ → List Element → Type 0
 AreWithin None es = Unit {0}
 AreWithin (Some end) es = AreEarlier end es
 
--- of the elements that were given, none stands behind a span; what comes behind them, up to its end, belongs to its group
+-- of the elements that were given, none stands behind a span; what comes behind them, up to its end, belongs to its
+-- group
 pub record IsGoingOn (wanted : WantedPlan) (span : Span) (given : List Element) : Type 0 where
   pub laid : IsLaid wanted.calendar
   pub within : AreWithin span.end given
@@ -115,7 +119,8 @@ pub record AreGiven (es : List Element) : Type 0 where
   pub ordered : AreOrdered es
   pub few : length es < 2 ^ 32
 
--- one that groups elements: what is asked for, the span of the last one, the fold of its group, and how many groups are closed
+-- one that groups elements: what is asked for, the span of the last one, the fold of its group, and how many groups are
+-- closed
 pub record Grouping : Type 0 where
   pub wanted : WantedPlan
   pub span : Span
@@ -154,8 +159,10 @@ pub record Rests (v : Grouping) (given : List Element) : Type 0 where
   pub number : v.count ≡ length (closed v.wanted None given)
   pub few : v.count ≤ length given
 
--- between two such states the rows of these groups were handed on, behind those of others, unless they are too many by now
-pub record AreMade {V : Type 0} (took : V → List Element → V → Type 0) (items : List BoundItem) (before after : List Group)
+-- between two such states the rows of these groups were handed on, behind those of others, unless they are too many by
+-- now
+pub record AreMade {V : Type 0} (took : V → List Element → V → Type 0) (items : List BoundItem)
+    (before after : List Group)
     (count : ℕ) (x y : V) : Type 0 where
   pub rows : List Element
   pub behind : made_of items after ≡ made_of items before ++ rows
@@ -168,20 +175,27 @@ pub record GoesOn (v w : Grouping) : Type 0 where
   pub more : v.count ≤ w.count
 
 -- From one state to another these elements were taken.
-pub record AreGrouped {V : Type 0} (took : V → List Element → V → Type 0) (columns : List Column) (v : Grouping) (x : V) (es : List Element)
+pub record AreGrouped {V : Type 0} (took : V → List Element → V → Type 0) (columns : List Column) (v : Grouping) (x : V)
+    (es : List Element)
     (w : Grouping) (y : V) : Type 0 where
   pub same : GoesOn v w
-  pub taken : columns ≡ v.fold.binding.columns → (given : List Element) → AreGiven (given ++ es) → Stands v given → Stands w (given ++ es)
-      × AreMade took v.fold.binding.items (closed v.wanted v.span.start given) (closed v.wanted w.span.start (given ++ es)) w.count x y
+  pub taken : columns ≡ v.fold.binding.columns → (given : List Element) → AreGiven (given ++ es) → Stands v given
+      → Stands w (given ++ es)
+      × AreMade took v.fold.binding.items (closed v.wanted v.span.start given)
+      (closed v.wanted w.span.start (given ++ es)) w.count x y
 
 -- From one state to another the open group was closed.
-pub record IsClosed {V : Type 0} (took : V → List Element → V → Type 0) (v : Grouping) (x : V) (w : Grouping) (y : V) : Type 0 where
+pub record IsClosed {V : Type 0} (took : V → List Element → V → Type 0) (v : Grouping) (x : V) (w : Grouping)
+    (y : V) : Type 0 where
   pub same : GoesOn v w
   pub taken : (given : List Element) → AreGiven given → Stands v given
-      → Rests w given × AreMade took v.fold.binding.items (closed v.wanted v.span.start given) (closed v.wanted None given) w.count x y
+      → Rests w given × AreMade took v.fold.binding.items (closed v.wanted v.span.start given)
+      (closed v.wanted None given) w.count x y
 
 -- From one state to another an element at a stamp became awaited.
-pub record IsReady {V : Type 0} (took : V → List Element → V → Type 0) (v : Grouping) (x : V) (at : ℤ) (w : Grouping) (y : V) : Type 0 where
+pub record IsReady {V : Type 0} (took : V → List Element → V → Type 0) (v : Grouping) (x : V) (at : ℤ) (w : Grouping)
+    (y : V) : Type 0 where
   pub same : GoesOn v w
   pub taken : (given : List Element) → AreGiven given → AreEarlier at given → Stands v given → Waits w at given
-      × AreMade took v.fold.binding.items (closed v.wanted v.span.start given) (closed v.wanted w.span.start given) w.count x y
+      × AreMade took v.fold.binding.items (closed v.wanted v.span.start given)
+      (closed v.wanted w.span.start given) w.count x y

@@ -14,8 +14,8 @@ use Rattle.ts_aggregate.specs.declared.series_pages.Stack.{Stack}
 abbrev pub pages_of : List Page → Stack → List Page
 pages_of read stack = take (length stack.places.now) (drop stack.first read)
 
--- A list makes this row of the elements from one stamp to another that a stack's pages have and its places tell of, where they have the
--- list's columns and are few enough for their sums. Of pages that have none such it says nothing.
+-- A list makes this row of the elements from one stamp to another that a stack's pages have and its places tell of,
+-- where they have the list's columns and are few enough for their sums. Of pages that have none such it says nothing.
 abbrev pub IsFoldOf : Binding → ℤ → ℤ → List Page → Stack → Row → Type 0
 IsFoldOf b from to read stack row =
     IsLaidOut stack.shape → count_of stack.places.now < 2 ^ 32 → stack.shelf.kind.now.columns ≡ b.columns

@@ -17,12 +17,14 @@ none_taken columns v = record {
 }
 
 -- rows, and then others
-pub both_taken : (columns : List Column) (a b c : Fold) (rs others : List Row) → Takes columns a rs b → Takes columns b others c
+pub both_taken : (columns : List Column) (a b c : Fold) (rs others : List Row) → Takes columns a rs b
+    → Takes columns b others c
     → Takes columns a (rs ++ others) c
 both_taken columns a b c rs others p q = record {
   same = q.same ∙ p.same;
   taken = λ is before few was.
-      q.taken (is ∙ ap (λ (x : Binding). x.columns) (sym p.same)) (before ++ rs) (few_behind before rs others most_folded few)
+      q.taken (is ∙ ap (λ (x : Binding). x.columns) (sym p.same)) (before ++ rs)
+      (few_behind before rs others most_folded few)
       (p.taken is before (few_first before rs others most_folded few) was)
       ∙ ap (after c.binding.items) (append_assoc before rs others);
 }

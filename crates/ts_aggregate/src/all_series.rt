@@ -14,9 +14,10 @@ use ts_page::Page;
 use ts_parallel::{Gate, map_in_order};
 use ts_row::Row;
 
-/// What a list makes of the elements of each stack from one stamp to another, both included, those that aren't hidden: a row for each, in
-/// the order of the stacks, by as many workers as serve. The pages of all stacks were read into one list. A worker passes the gate before each stack; the rows are the same for every gate.
-/// The memory is for the answers and for what is known of the items of each stack while it is folded.
+/// What a list makes of the elements of each stack from one stamp to another, both included, those that aren't hidden:
+/// a row for each, in the order of the stacks, by as many workers as serve. The pages of all stacks were read into one
+/// list. A worker passes the gate before each stack; the rows are the same for every gate. The memory is for the
+/// answers and for what is known of the items of each stack while it is folded.
 pub fn aggregate_all<G: Gate + Sync>(
     rt: &(impl Threads + Sync),
     alloc: Global,

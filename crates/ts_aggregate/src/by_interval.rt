@@ -19,8 +19,9 @@ use ts_row::{Row, RowType};
 /// The most rows of a reply.
 pub(crate) const MOST_ROWS: u64 = 1_000_000;
 
-/// Groups elements, which come in the order of their stamps, by the on intervals of a calendar, and hands on what a fold makes of each
-/// group, once an element comes that lies behind it. Rows beyond the most of a reply are counted alone.
+/// Groups elements, which come in the order of their stamps, by the on intervals of a calendar, and hands on what a
+/// fold makes of each group, once an element comes that lies behind it. Rows beyond the most of a reply are counted
+/// alone.
 #[derive(Drop)]
 pub(crate) struct ByInterval<'a, 'b, V> {
     wanted: &'a WantedIntervals<'a>,
@@ -46,7 +47,8 @@ impl<'a, 'b, V: ElementVisitor> ByInterval<'a, 'b, V> {
         ensures wanted { result.wanted.now ≡ wanted.now }
         ensures fold { result.folding.now ≡ folding.old }
         ensures start { result.span.start ≡ None }
-        ensures stands { HasTaken folding.old [] → Stands (grouping result.wanted.now result.span result.folding.now result.count) [] }
+        ensures stands { HasTaken folding.old []
+            → Stands (grouping result.wanted.now result.span result.folding.now result.count) [] }
     {
         let span = wanted.first_span();
         ByInterval {
@@ -93,7 +95,8 @@ impl<'a, 'b, V: ElementVisitor> ByInterval<'a, 'b, V> {
         ensures fold { self.new.folding.now ≡ self.old.folding.now }
         ensures count { self.new.count ≡ min (self.old.count + 1) (2 ^ 64 - 1) }
         ensures more { self.old.count ≤ self.new.count }
-        ensures taken { OnOk result (self.new.count ≤ most_rows → V.took self.old.out.now ((start, row.now) ∷ []) self.new.out.now) }
+        ensures taken { OnOk result (self.new.count ≤ most_rows
+            → V.took self.old.out.now ((start, row.now) ∷ []) self.new.out.now) }
     {
         self.count = self.count.saturating_add(1);
         if self.count > MOST_ROWS {
@@ -156,7 +159,8 @@ impl<'a, 'b, V: ElementVisitor> EntryVisitor for ByInterval<'a, 'b, V> {
         Ok(())
     }
 
-    ghost none = { λ columns v. (refl, grouped_none V.took V.none columns (grouping v.wanted.now v.span v.folding.now v.count) v.out.now) };
+    ghost none = { λ columns v.
+        (refl, grouped_none V.took V.none columns (grouping v.wanted.now v.span v.folding.now v.count) v.out.now) };
 
     ghost then = { λ columns a b c es fs p q. (
       q.0 ∙ p.0,

@@ -1,5 +1,5 @@
-// Cells that stand one behind the other, and the values of a column in them: NULLs, those of hidden elements and cells without
-// one are passed over.
+// Cells that stand one behind the other, and the values of a column in them: NULLs, those of hidden elements and cells
+// without one are passed over.
 ghost use Rattle.std.specs.Prelude.{◌≡◌, ◌+◌, ◌<◌, [], MatchOption, length};
 ghost use Rattle.ts_aggregate.specs.Column;
 ghost use Rattle.ts_aggregate.specs.Column.{found, AreWhole, IsNext, IsLast};

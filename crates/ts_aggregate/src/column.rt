@@ -49,7 +49,8 @@ fn add_sums(tally: &mut Tally, cells: Cells<'_>, kind: ColumnKind)
     requires whole { AreWhole cells }
     requires width { cells.position.width + 1 ≡ column_width kind }
     ensures few { count_of tally.new ≤ 2 ^ 32 }
-    ensures value { IsTrue (list_all is_small (read_numbers kind cells.entry)) → count_of tally.old + length (found cells.entry) ≤ 2 ^ 32
+    ensures value { IsTrue (list_all is_small (read_numbers kind cells.entry))
+        → count_of tally.old + length (found cells.entry) ≤ 2 ^ 32
         → tally.new ≡ with_sums tally.old (length (found cells.entry)) (total (read_values kind cells.entry)) }
 {
     let (count, sum) = sum_values(cells, kind);
@@ -130,7 +131,8 @@ fn best_text_value(
     most: bool,
 ) -> Result<Value, AllocError>
     requires { AreWhole cells }
-    ensures { IfOk result (λ best. best ≡ fold (Column.better most) kept.now (map (λ t. Text t) (read_texts cells.entry))) }
+    ensures { IfOk result (λ best. best
+        ≡ fold (Column.better most) kept.now (map (λ t. Text t) (read_texts cells.entry))) }
 {
     let start = match kept {
         Value::Null => None,

@@ -22,10 +22,10 @@ use ts_page::{Page, Pages};
 use ts_row::Shelf;
 use ts_space::Space;
 
-/// Hands on a row for each on interval of a calendar that starts from one stamp to another, both included, and holds an element that isn't
-/// hidden: what a list makes of those that it holds, at its start. Tells how many rows they are; TooLarge where they are more than 1000000,
-/// and then some of them were handed on. The fold is one that has taken nothing. The pages that have such elements are read, each once;
-/// all pages stay; `page` is room to read one.
+/// Hands on a row for each on interval of a calendar that starts from one stamp to another, both included, and holds an
+/// element that isn't hidden: what a list makes of those that it holds, at its start. Tells how many rows they are;
+/// TooLarge where they are more than 1000000, and then some of them were handed on. The fold is one that has taken
+/// nothing. The pages that have such elements are read, each once; all pages stay; `page` is room to read one.
 pub fn aggregate_by<P: Pages, V: ElementVisitor>(
     pages: &mut P,
     page: &mut Page,
@@ -40,7 +40,8 @@ pub fn aggregate_by<P: Pages, V: ElementVisitor>(
 ) -> Result<Result<u64, Refusal>, StoreFault>
     requires slot { shelf.now.series < 4096 }
     requires laid { IsLaidOut shape.now }
-    requires places { ArePlaces shape.now shelf.now.kind.now.columns (P.contents pages.old) (places_of shelf.now.series space.now) }
+    requires places { ArePlaces shape.now shelf.now.kind.now.columns (P.contents pages.old)
+        (places_of shelf.now.series space.now) }
     requires countable { count_of (places_of shelf.now.series space.now) < 2 ^ 32 }
     ensures read { IfOk result (λ done. IsTold P.tells shape.now shelf.now.series shelf.now.kind.now.columns
         (places_of shelf.now.series space.now) (P.contents pages.old)

@@ -1,5 +1,6 @@
 // The values of a column counted, its numbers summed up, and the least or the greatest of them.
-ghost use Rattle.std.specs.Prelude.{◌≡◌, ◌&&◌, nat_lt, ◌+◌, ◌*◌, ◌^◌, ◌≤◌, ◌<◌, ℤ, pos, ◌+ℤ◌, unsigned_abs, IsTrue, fold, map, length};
+ghost use Rattle.std.specs.Prelude.{◌≡◌, ◌&&◌, nat_lt, ◌+◌, ◌*◌, ◌^◌, ◌≤◌, ◌<◌, ℤ, pos, ◌+ℤ◌, unsigned_abs, IsTrue};
+ghost use Rattle.std.specs.Prelude.{fold, map, length};
 ghost use Rattle.std.specs.List.{list_all};
 ghost use Rattle.std.specs.Int.{cast_signed, from_be_bytes, w64};
 ghost use Rattle.ts_row.specs.declared.value.Value.TheVariants.{Number};
@@ -7,7 +8,8 @@ ghost use Rattle.ts_row.specs.RowType.{column_width};
 ghost use Rattle.ts_row.specs.Decoding.{number_in};
 ghost use Rattle.ts_expr.specs.Fold.{total};
 ghost use Rattle.ts_aggregate.specs.Column;
-ghost use Rattle.ts_aggregate.specs.Column.{found, AreWhole, read_values, read_numbers, long_number, is_small, number_if_any};
+ghost use Rattle.ts_aggregate.specs.Column.{found, AreWhole, read_values, read_numbers, long_number, is_small};
+ghost use Rattle.ts_aggregate.specs.Column.{number_if_any};
 
 use crate::cells::Cells;
 use ts_row::{ColumnKind, SHORT_DIGITS};
@@ -32,7 +34,8 @@ pub(crate) fn count_values(cells: Cells<'_>) -> u64
     count
 }
 
-/// How many values there are, and the sum of their numbers; those that a column can't hold may be left out, and those past 2^32.
+/// How many values there are, and the sum of their numbers; those that a column can't hold may be left out, and those
+/// past 2^32.
 pub(crate) fn sum_values(cells: Cells<'_>, kind: ColumnKind) -> (u64, i128)
     requires whole { AreWhole cells }
     requires width { cells.position.width + 1 ≡ column_width kind }
@@ -72,8 +75,10 @@ fn sum_long(cells: Cells<'_>) -> (u64, i128)
     requires whole { AreWhole cells }
     requires width { cells.position.width ≡ 16 }
     ensures digits { unsigned_abs result.1 ≤ result.0 * 10 ^ 28 }
-    ensures value { IsTrue (list_all is_small (map long_number (found cells.entry))) → length (found cells.entry) ≤ 2 ^ 32
-        → (result.0 ≡ length (found cells.entry)) × (result.1 ≡ fold ◌+ℤ◌ (pos 0) (map long_number (found cells.entry))) }
+    ensures value { IsTrue (list_all is_small (map long_number (found cells.entry)))
+        → length (found cells.entry) ≤ 2 ^ 32
+        → (result.0 ≡ length (found cells.entry))
+        × (result.1 ≡ fold ◌+ℤ◌ (pos 0) (map long_number (found cells.entry))) }
 {
     let mut rest = cells;
     let mut count = 0;
@@ -105,7 +110,8 @@ pub(crate) fn best_number(
 ) -> Option<i128>
     requires whole { AreWhole cells }
     requires width { cells.position.width + 1 ≡ column_width kind }
-    ensures { number_if_any result ≡ fold (Column.better most) (number_if_any start) (map (λ z. Number z) (read_numbers kind cells.entry)) }
+    ensures { number_if_any result ≡ fold (Column.better most) (number_if_any start)
+        (map (λ z. Number z) (read_numbers kind cells.entry)) }
 {
     let mut rest = cells;
     let mut best = start;

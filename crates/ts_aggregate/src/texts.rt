@@ -14,7 +14,8 @@ pub(crate) fn best_text<'a>(
     most: bool,
 ) -> Option<&'a [u8]>
     requires { AreWhole cells }
-    ensures { text_if_any result ≡ fold (Column.better most) (text_if_any start.entry) (map (λ t. Text t) (read_texts cells.entry)) }
+    ensures { text_if_any result ≡ fold (Column.better most) (text_if_any start.entry)
+        (map (λ t. Text t) (read_texts cells.entry)) }
 {
     let mut rest = cells;
     let mut best = start;

@@ -51,4 +51,8 @@ aggregate_all text container from to cat = do
   items ← read_list text
   there ← wanted container cat.containers
   b ← binding (columns_in cat there) items
-  Ok (series_folded_text (scales_of b) (map (λ s. (s.0, folded_range b from to s.1.elements)) (series_in container cat)), cat)
+  Ok (
+    series_folded_text (scales_of b) (map (λ s. (s.0, folded_range b from to s.1.elements))
+        (series_in container cat)),
+    cat,
+  )

@@ -1,5 +1,5 @@
--- What a catalogue answers to a request of a script: a reply, and the catalogue after it. Each routine tries its refusals in
--- order; the first that holds is said, and the catalogue stays.
+-- What a catalogue answers to a request of a script: a reply, and the catalogue after it. Each routine tries its
+-- refusals in order; the first that holds is said, and the catalogue stays.
 use Rattle.std.specs.Prelude.{ℕ, ◌+◌, Bool, true, false, ℤ, pos, unsigned_abs, List, map, Ok, Err}
 use Rattle.std.specs.FinMap.{empty, len}
 use Rattle.ts_base.specs.declared.refusal.Refusal.TheVariants as refusals
@@ -24,11 +24,20 @@ use Rattle.ts_model.specs.declared.kind.Kind.TheVariants as kinds
 use Rattle.ts_model.specs.Catalogue.{Irregular, Regular, is_regular, Catalogue, with_plan, series_in, quotas}
 use Rattle.ts_model.specs.Charge.{container_charge}
 use Rattle.ts_model.specs.Kinds.{named, with_named, without, is_used}
-use Rattle.ts_answer.specs.Reply.{ok_line, counts_line, number_line, stamp_line, refusal_line, pattern_lines, calendar_lines, series_text, stamps_text}
-pub use Rattle.ts_answer.specs.Refusals.{Tried, Answered, known, no_bad_column, row_or_mismatch, present, on_grid, addressed, reached, given, in_time, placed}
-unfoldable pub use Rattle.ts_answer.specs.Refusals.{◌>>=◌, refused_if, wanted, unused, within_limit, a_new_name, beyond_old_format, a_row, row_at, a_place, an_address, within_quota, within_pages, a_calendar}
-pub use Rattle.ts_answer.specs.Elements.{with_elements, with_element, seen_elements, last_element, element_at, count_if_any, count_at, without_one}
-unfoldable pub use Rattle.ts_answer.specs.Elements.{put_element, put_no_dups, insert_element, update_element, delete_element, delete_range, mark_element, get_element, get_last_element, count_elements, get_first_element, get_nth_element, clip_series, count_clip, clip_counted, join_series, lag_series}
+use Rattle.ts_answer.specs.Reply.{ok_line, counts_line, number_line, stamp_line, refusal_line, pattern_lines}
+use Rattle.ts_answer.specs.Reply.{calendar_lines, series_text, stamps_text}
+pub use Rattle.ts_answer.specs.Refusals.{Tried, Answered, known, no_bad_column, row_or_mismatch, present, on_grid}
+pub use Rattle.ts_answer.specs.Refusals.{addressed, reached, given, in_time, placed}
+unfoldable pub use Rattle.ts_answer.specs.Refusals.{◌>>=◌, refused_if, wanted, unused, within_limit, a_new_name}
+unfoldable pub use Rattle.ts_answer.specs.Refusals.{beyond_old_format, a_row, row_at, a_place, an_address, within_quota}
+unfoldable pub use Rattle.ts_answer.specs.Refusals.{within_pages, a_calendar}
+pub use Rattle.ts_answer.specs.Elements.{with_elements, with_element, seen_elements, last_element, element_at}
+pub use Rattle.ts_answer.specs.Elements.{count_if_any, count_at, without_one}
+unfoldable pub use Rattle.ts_answer.specs.Elements.{put_element, put_no_dups, insert_element, update_element}
+unfoldable pub use Rattle.ts_answer.specs.Elements.{delete_element, delete_range, mark_element, get_element}
+unfoldable pub use Rattle.ts_answer.specs.Elements.{get_last_element, count_elements, get_first_element}
+unfoldable pub use Rattle.ts_answer.specs.Elements.{get_nth_element, clip_series, count_clip, clip_counted, join_series}
+unfoldable pub use Rattle.ts_answer.specs.Elements.{lag_series}
 unfoldable pub use Rattle.ts_answer.specs.Elements.{a_reading}
 pub use Rattle.ts_answer.specs.Aggregates.{scales_of, folded_range, columns_in}
 unfoldable pub use Rattle.ts_answer.specs.Aggregates.{aggregate_by, aggregate_range, aggregate_all}
@@ -144,7 +153,12 @@ create_regular key calendar origin container cat = do
   grid ← grid_of plan origin
   Ok (
     stamp_line grid.origin,
-    with_named kinds.Series key (record { container = container; kind = Regular calendar grid.origin; elements = empty }) cat,
+    with_named kinds.Series key (record {
+      container = container;
+      kind = Regular calendar grid.origin;
+      elements =
+          empty;
+    }) cat,
   )
 
 unfoldable pub drop_series : List ℕ → Catalogue → Tried Answered
@@ -175,7 +189,8 @@ carried_out (commands.DropCalendar name) cat = drop_definition kinds.Calendar na
 carried_out (commands.CalIndex calendar from to) cat = count_starts calendar from to cat
 carried_out (commands.CalStamp calendar after count) cat = find_start calendar after (unsigned_abs count) cat
 carried_out (commands.CalRange calendar from to) cat = list_starts calendar from to cat
-carried_out (commands.TSContainerCreate name row_type quota) cat = create_container name row_type (unsigned_abs quota) cat
+carried_out (commands.TSContainerCreate name row_type quota) cat =
+    create_container name row_type (unsigned_abs quota) cat
 carried_out (commands.TSContainerDestroy name) cat = drop_definition kinds.Container name cat
 carried_out (commands.TSContainerUsage name) cat = container_usage name cat
 carried_out (commands.TSCreate key calendar origin container) cat = create_regular key calendar origin container cat
@@ -204,8 +219,10 @@ carried_out (commands.Lag key by) cat = lag_series key by cat
 carried_out (commands.AggregateBy text calendar key from to) cat = aggregate_by text calendar key from to cat
 carried_out (commands.AggregateRange text key from to) cat = aggregate_range text key from to cat
 carried_out (commands.AggregateAll text container from to) cat = aggregate_all text container from to cat
-carried_out (commands.TSRunningSum text key span from to) cat = running_values functions.Sum text key (unsigned_abs span) from to cat
-carried_out (commands.TSRunningAvg text key span from to) cat = running_values functions.Avg text key (unsigned_abs span) from to cat
+carried_out (commands.TSRunningSum text key span from to) cat =
+    running_values functions.Sum text key (unsigned_abs span) from to cat
+carried_out (commands.TSRunningAvg text key span from to) cat =
+    running_values functions.Avg text key (unsigned_abs span) from to cat
 carried_out (commands.Apply text key from to) cat = apply_exprs text key from to cat
 -- where no transaction is open: one is begun, and none can be ended
 carried_out commands.Begin cat = Ok (ok_line, cat)
@@ -226,8 +243,8 @@ settled before (Err refusal) = (refusal_line refusal, before)
 unfoldable pub answer : Catalogue → Request → Answered
 answer cat request = settled cat (outcome request cat)
 
--- whether the line that there is no memory may stand in the place of the reply: not in that of a statement that is too long or
--- cut off, which takes none
+-- whether the line that there is no memory may stand in the place of the reply: not in that of a statement that is too
+-- long or cut off, which takes none
 abbrev pub may_lack_memory : Request → Bool
 may_lack_memory (Ok command) = true
 may_lack_memory (Err refusals.TooLong) = false

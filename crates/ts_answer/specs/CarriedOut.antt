@@ -1,5 +1,6 @@
 -- What it is to carry out a command on pages. Nothing here speaks of a device, a journal or a commit.
-use Rattle.std.specs.Prelude.{◌≡◌, ℕ, ◌<◌, ◌≤◌, ◌+◌, ◌*◌, Bool, true, false, IsTrue, None, Result, Ok, Err, IfOk, OnOk, IfErr, List, [], length, slice_set, slice_index_or}
+use Rattle.std.specs.Prelude.{◌≡◌, ℕ, ◌<◌, ◌≤◌, ◌+◌, ◌*◌, Bool, true, false, IsTrue, None, Result, Ok, Err, IfOk, OnOk}
+use Rattle.std.specs.Prelude.{IfErr, List, [], length, slice_set, slice_index_or}
 use Rattle.ts_disk.specs.Device.{Rose}
 use Rattle.ts_command.specs.declared.command.Command.{Command}
 use Rattle.ts_page.specs.Pages.{Contents, EqualPages}
@@ -71,7 +72,8 @@ pub record Stays (tells : Bool) (v w : Contents) : Type 0 where
   pub pages : IsTrue tells → EqualPages v.page w.page
 
 -- A layout was seen, and by the catalogue of the one that is seen with the effect this is the answer.
-pub record Comes (tells : Bool) (command : Command) (effect : Effect) (out : List ℕ) (x : View) (c : Contents) (l : Layout) : Type 0 where
+pub record Comes (tells : Bool) (command : Command) (effect : Effect) (out : List ℕ) (x : View) (c : Contents)
+    (l : Layout) : Type 0 where
   pub layout : Layout
   pub shows : Shows tells (view_after effect x c) layout
   pub comes : IsTrue tells → outcome (Ok command) (catalogue_of l) ≡ Ok (out, catalogue_of layout)
@@ -80,7 +82,8 @@ pub record Comes (tells : Bool) (command : Command) (effect : Effect) (out : Lis
 abbrev pub most_bytes : ℕ
 most_bytes = 344084
 
--- so much at most a command adds to the bytes of a record and five for each page in use: four pages, and the numbers of four
+-- so much at most a command adds to the bytes of a record and five for each page in use: four pages, and the numbers of
+-- four
 abbrev pub most_growth : ℕ
 most_growth = 16424
 
@@ -96,13 +99,15 @@ IsStopped tells command (Refused refusal) x c =
 IsStopped tells command Failed x c = Rose x.pages.faults c.faults
 IsStopped tells command (Memory error) x c = c.faults ≡ x.pages.faults
 
--- A command was carried out on pages, with this reply, or not. What was in memory stays, but for room: its effect isn't applied.
--- Only pages with an effect are to be kept: after all else the caller drops what was changed.
-pub record CarriedOut (tells : Bool) (command : Command) (result : Result Effect Stop) (out : List ℕ) (x : View) (c : Contents) : Type 0 where
+-- A command was carried out on pages, with this reply, or not. What was in memory stays, but for room: its effect isn't
+-- applied. Only pages with an effect are to be kept: after all else the caller drops what was changed.
+pub record CarriedOut (tells : Bool) (command : Command) (result : Result Effect Stop) (out : List ℕ) (x : View)
+    (c : Contents) : Type 0 where
   -- on every keeper of pages, what is in memory keeps its rules with the effect
   pub keeps : IfOk result (λ effect. KeepsRules x → KeepsRules (view_after effect x c))
   -- where the pages are told, from each layout that is seen one comes that is seen with the effect
-  pub done : IfOk result (λ effect. IsTrue tells → (l : Layout) → Shows tells x l → Comes tells command effect out x c l)
+  pub done : IfOk result (λ effect. IsTrue tells → (l : Layout) → Shows tells x l
+      → Comes tells command effect out x c l)
   pub applies : IfOk result (λ effect. CanApply effect x.definitions)
   -- a reading has no effect, and what has none leaves the pages
   pub reads : IfOk result (λ effect. is_writing command ≡ false → is_nothing effect ≡ true)
@@ -115,8 +120,10 @@ pub record CarriedOut (tells : Bool) (command : Command) (result : Result Effect
   pub no_fault : IfOk result (λ effect. c.faults ≡ x.pages.faults)
 
 -- A command that only reads was answered so, or not.
-pub record ReadOut (tells : Bool) (command : Command) (result : Result Unit Stop) (out : List ℕ) (x : View) (c : Contents) : Type 0 where
-  pub said : OnOk result (IsTrue tells → (l : Layout) → Shows tells x l → outcome (Ok command) (catalogue_of l) ≡ Ok (out, catalogue_of l))
+pub record ReadOut (tells : Bool) (command : Command) (result : Result Unit Stop) (out : List ℕ) (x : View)
+    (c : Contents) : Type 0 where
+  pub said : OnOk result (IsTrue tells → (l : Layout) → Shows tells x l → outcome (Ok command) (catalogue_of l)
+      ≡ Ok (out, catalogue_of l))
   pub stopped : IfErr result (λ stop. IsStopped tells command stop x c)
   pub stays : Stays tells x.pages c
   pub count : c.count ≡ x.pages.count

@@ -31,14 +31,17 @@ pub record DefinesAs (kind : Kind) (slot : ℕ) (def : Option Def) (l : Layout) 
   pub rules : IsSound (layout_with kind slot def l)
   pub headings : KeepsElements (with_slot kind slot def l.definitions) l
   -- what is kept in memory with these definitions keeps its rules
-  pub kept : (space : Directory) (free : List ℕ) (count : ℕ) → count ≡ first_element_page + length l.element_pages → AreKept l.definitions space free count
+  pub kept : (space : Directory) (free : List ℕ) (count : ℕ) → count ≡ first_element_page + length l.element_pages
+      → AreKept l.definitions space free count
       → AreKept (with_slot kind slot def l.definitions) space free count
   pub comes : answered ≡ (made_line def, catalogue_of (layout_with kind slot def l))
 
 -- what is decided is what the catalogue of each layout with these definitions answers
 abbrev pub IsDecision : Kind → Command → Result (ℕ × Option Def) Trouble → Definitions → ℕ → Type 0
 IsDecision kind command decided d count =
-    (l : Layout) → IsDefinedBy d count l → IsTried decided (outcome (Ok command) (catalogue_of l)) (λ change answered. DefinesAs kind change.0 change.1 l answered)
+    (l : Layout) → IsDefinedBy d count l
+    → IsTried decided (outcome (Ok command) (catalogue_of l))
+    (λ change answered. DefinesAs kind change.0 change.1 l answered)
 
 -- this can go into the slot
 pub record FitsSlot (kind : Kind) (slot : ℕ) (def : Option Def) (d : Definitions) : Type 0 where

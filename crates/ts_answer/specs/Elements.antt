@@ -1,5 +1,6 @@
 -- What routines over the elements of a series answer: each tries its refusals in order.
-use Rattle.std.specs.Prelude.{ℕ, ◌-◌, Bool, true, [], ◌++◌, ℤ, List, length, map, slice_get, Option, Some, None, option_to_list, Ok, is_some}
+use Rattle.std.specs.Prelude.{ℕ, ◌-◌, Bool, true, [], ◌++◌, ℤ, List, length, map, slice_get, Option, Some, None}
+use Rattle.std.specs.Prelude.{option_to_list, Ok, is_some}
 use Rattle.std.specs.FinMap.{entries, from_entries, get, insert, remove, len}
 use Rattle.ts_base.specs.declared.refusal.Refusal.TheVariants as refusals
 use Rattle.ts_row.specs.declared.value.Literal.{Literal}
@@ -17,7 +18,8 @@ use Rattle.ts_entry.specs.Reading.{reading, clipped, counted, entry_number, with
 use Rattle.ts_combine.specs.Combine.{Side, joined}
 use Rattle.ts_combine.specs.Lag.{lagged}
 use Rattle.ts_answer.specs.Reply.{count_line, stamp_line, elements_text, entries_text}
-use Rattle.ts_answer.specs.Refusals.{Tried, ◌>>=◌, Answered, reached, refused_if, wanted, known, beyond_old_format, a_row, row_at, a_place, an_address, within_quota}
+use Rattle.ts_answer.specs.Refusals.{Tried, ◌>>=◌, Answered, reached, refused_if, wanted, known, beyond_old_format}
+use Rattle.ts_answer.specs.Refusals.{a_row, row_at, a_place, an_address, within_quota}
 
 -- the catalogue with these elements of a series
 abbrev pub with_elements : List ℕ → Series → Elements → Catalogue → Catalogue
@@ -178,7 +180,12 @@ clip_counted key stamp n cat = do
 
 -- a series as it is combined with another
 abbrev pub a_side : Series → Shape → Catalogue → Side
-a_side series shape cat = record { shape = shape; columns = length (columns_of cat series); elements = seen_elements series.elements }
+a_side series shape cat = record {
+  shape = shape;
+  columns = length (columns_of cat series);
+  elements =
+      seen_elements series.elements;
+}
 
 -- two series as one, with the columns of both
 unfoldable pub join_series : Junction → List ℕ → List ℕ → ℤ → ℤ → Catalogue → Tried Answered

@@ -1,5 +1,6 @@
 -- How the last line of a reply tells whether its command was refused.
-use Rattle.std.specs.Prelude.{◌≡◌, ℕ, ◌==◌, ◌&&◌, Bool, true, false, not, if◌then◌else◌, List, [], ◌∷◌, length, codes, Ok, Err, nat_eq}
+use Rattle.std.specs.Prelude.{◌≡◌, ℕ, ◌==◌, ◌&&◌, Bool, true, false, not, if◌then◌else◌, List, [], ◌∷◌, length, codes}
+use Rattle.std.specs.Prelude.{Ok, Err, nat_eq}
 use Rattle.std.specs.List.{count_by, starts_with}
 use Rattle.ts_command.specs.declared.command.Command.{Command}
 use Rattle.ts_answer.specs.State.{State, run_outcome, run_answer, replies}
@@ -22,12 +23,14 @@ is_answered state command = elim (run_outcome (Ok command) state) [ Ok answered 
 
 -- a reply ends with an `ok` line exactly where its command isn't refused
 abbrev pub OkLinesAreAnswers : Type 0
-OkLinesAreAnswers = (state : State) (command : Command) → ends_with_ok (run_answer state (Ok command)).0 ≡ is_answered state command
+OkLinesAreAnswers = (state : State) (command : Command) → ends_with_ok (run_answer state (Ok command)).0
+    ≡ is_answered state command
 
 -- which of commands, carried out one behind the other, come to an answer
 abbrev pub are_answered : State → List Command → List Bool
 are_answered state [] = []
-are_answered state (command ∷ commands) = is_answered state command ∷ are_answered (run_answer state (Ok command)).1 commands
+are_answered state (command ∷ commands) = is_answered state command
+    ∷ are_answered (run_answer state (Ok command)).1 commands
 
 -- so many replies end with an `ok` line as commands are answered, and so many don't as are refused
 pub record CountsAreOfOutcomes : Type 0 where

@@ -21,4 +21,5 @@ SaysOnly out l done answered = answered ≡ (out, catalogue_of l)
 -- it is what each layout answers that has what is in memory, whatever pages there are
 abbrev pub IsSaid : Command → Result Unit Trouble → List ℕ → Definitions → Directory → Type 0
 IsSaid command result out d space =
-    (count : ℕ) (free : List ℕ) (l : Layout) → IsHeldOf d space count free l → IsTried result (outcome (Ok command) (catalogue_of l)) (SaysOnly out l)
+    (count : ℕ) (free : List ℕ) (l : Layout) → IsHeldOf d space count free l
+    → IsTried result (outcome (Ok command) (catalogue_of l)) (SaysOnly out l)

@@ -1,5 +1,7 @@
--- What is tried in a catalogue, one test after another: each comes to a value, or to its refusal, and the first refusal stands.
-use Rattle.std.specs.Prelude.{ℕ, ◌==◌, ◌&&◌, Bool, nat_lt, nat_le, if◌then◌else◌, int_lt, ℤ, List, Option, Some, None, Result, Ok, Err, is_some}
+-- What is tried in a catalogue, one test after another: each comes to a value, or to its refusal, and the first refusal
+-- stands.
+use Rattle.std.specs.Prelude.{ℕ, ◌==◌, ◌&&◌, Bool, nat_lt, nat_le, if◌then◌else◌, int_lt, ℤ, List, Option, Some, None}
+use Rattle.std.specs.Prelude.{Result, Ok, Err, is_some}
 use Rattle.std.specs.FinMap.{entries, get, len}
 use Rattle.ts_base.specs.declared.refusal.Refusal.{Refusal}
 use Rattle.ts_base.specs.declared.refusal.Refusal.TheVariants as refusals
@@ -16,7 +18,8 @@ use Rattle.ts_offset.specs.declared.shape.Shape.{Shape}
 use Rattle.ts_offset.specs.declared.shape.Shape.TheVariants as shapes
 use Rattle.ts_model.specs.declared.kind.Kind.{Kind}
 use Rattle.ts_model.specs.Definitions.{limit}
-use Rattle.ts_model.specs.Catalogue.{Named, Elements, SeriesKind, Irregular, Regular, Series, Catalogue, pattern_of, calendar_of, shape_of, old_format}
+use Rattle.ts_model.specs.Catalogue.{Named, Elements, SeriesKind, Irregular, Regular, Series, Catalogue, pattern_of}
+use Rattle.ts_model.specs.Catalogue.{calendar_of, shape_of, old_format}
 use Rattle.ts_model.specs.Kinds.{named}
 
 -- a value, or the refusal that came first
@@ -87,8 +90,8 @@ present None = Err refusals.Missing
 unfoldable pub row_at : ℤ → Elements → Tried Row
 row_at stamp elements = present (get elements stamp)
 
--- The stamp at which an element is put. In an irregular series it is the given one where no element stands at it, hidden or not, else
--- the one behind the last element of its second; in a regular one it is the given one.
+-- The stamp at which an element is put. In an irregular series it is the given one where no element stands at it,
+-- hidden or not, else the one behind the last element of its second; in a regular one it is the given one.
 unfoldable pub a_place : SeriesKind → ℤ → Elements → Tried ℤ
 a_place Irregular stamp elements = placed (place_for stamp (entries elements))
 a_place (Regular calendar origin) stamp elements = Ok stamp
@@ -98,7 +101,8 @@ abbrev pub on_grid : GridPlan → Option ℤ → Tried ℤ
 on_grid grid None = Err refusals.OffStamp
 on_grid grid (Some start) = if int_lt start grid.origin then Err refusals.BeforeOrigin else Ok start
 
--- where the element stands that a stamp addresses: at that stamp, or on a grid at the start of the on interval that holds it
+-- where the element stands that a stamp addresses: at that stamp, or on a grid at the start of the on interval that
+-- holds it
 abbrev pub addressed : Shape → ℤ → Tried ℤ
 addressed shapes.Irregular stamp = Ok stamp
 addressed (shapes.Regular grid) stamp = on_grid grid (held_start grid.calendar stamp)

@@ -1,5 +1,6 @@
 -- The texts of replies: lines, each ended by a line feed, of which the last begins with `ok` or `error`.
-use Rattle.std.specs.Prelude.{ℕ, ℤ, Bool, true, false, Option, Some, None, List, [], ◌∷◌, ◌++◌, length, codes, decimal, flat_map}
+use Rattle.std.specs.Prelude.{ℕ, ℤ, Bool, true, false, Option, Some, None, List, [], ◌∷◌, ◌++◌, length, codes, decimal}
+use Rattle.std.specs.Prelude.{flat_map}
 use Rattle.std.specs.List.{join_with_byte}
 use Rattle.ts_pattern.specs.Plan.{Plan}
 use Rattle.ts_pattern.specs.Grammar.{printed_plan}
@@ -32,7 +33,8 @@ stamp_line stamp = codes "ok " ++ stamp_text stamp ++ codes "\n"
 
 -- `error`, the number of a refusal and its name
 unfoldable pub refusal_line : Refusal → List ℕ
-refusal_line refusal = codes "error " ++ decimal (refusal_code refusal) ++ codes " " ++ refusal_name refusal ++ codes "\n"
+refusal_line refusal = codes "error " ++ decimal (refusal_code refusal) ++ codes " " ++ refusal_name refusal
+    ++ codes "\n"
 
 -- an element: its stamp and its values
 unfoldable pub element_line : List Column → Element → List ℕ
@@ -77,7 +79,8 @@ shape_word false = codes "irregular"
 
 -- a series in a list: its key in quotes, a quote in it twice, whether it is regular, and how many elements it has
 unfoldable pub series_line : List ℕ × Bool × ℕ → List ℕ
-series_line s = codes "'" ++ flat_map quoted s.0 ++ codes "' " ++ shape_word s.1 ++ codes " " ++ decimal s.2 ++ codes "\n"
+series_line s = codes "'" ++ flat_map quoted s.0 ++ codes "' " ++ shape_word s.1 ++ codes " " ++ decimal s.2
+    ++ codes "\n"
 
 -- series with the numbers of their elements, one a line, and how many they are
 unfoldable pub series_text : List (List ℕ × Bool × ℕ) → List ℕ
@@ -102,7 +105,8 @@ folded_text scales es = flat_map (folded_line scales) es ++ count_line (length e
 
 -- what a list makes of a series: its key in quotes, a quote in it twice, and its values
 unfoldable pub series_folded_line : List ℕ → List ℕ × Row → List ℕ
-series_folded_line scales s = codes "'" ++ flat_map quoted s.0 ++ codes "' " ++ scaled_text scales s.1.values ++ codes "\n"
+series_folded_line scales s = codes "'" ++ flat_map quoted s.0 ++ codes "' " ++ scaled_text scales s.1.values
+    ++ codes "\n"
 
 -- series so, one a line, and how many they are
 unfoldable pub series_folded_text : List ℕ → List (List ℕ × Row) → List ℕ

@@ -1,5 +1,5 @@
--- What routines that go over the elements of a series answer, a row for each: running values of a column, and expressions. Each
--- tries its refusals in order.
+-- What routines that go over the elements of a series answer, a row for each: running values of a column, and
+-- expressions. Each tries its refusals in order.
 use Rattle.std.specs.Prelude.{ℕ, ℤ, List, [], ◌∷◌, Ok}
 use Rattle.ts_chain.specs.Range.{within_range}
 use Rattle.ts_entry.specs.Reading.{within_rows}
@@ -16,7 +16,8 @@ use Rattle.ts_answer.specs.Refusals.{Tried, Answered, wanted}
 unfoldable use Rattle.ts_answer.specs.Refusals.{◌>>=◌}
 use Rattle.ts_answer.specs.Elements.{seen_elements}
 
--- for each element from one stamp to another what a function makes of a column's values in it and the n - 1 before it there
+-- for each element from one stamp to another what a function makes of a column's values in it and the n - 1 before it
+-- there
 unfoldable pub running_values : Function → List ℕ → List ℕ → ℕ → ℤ → ℤ → Catalogue → Tried Answered
 running_values function text key n from to cat = do
   column ← read_column text

@@ -4,7 +4,8 @@ use Rattle.std.specs.FinMap.{get}
 use Rattle.ts_calendar.specs.Plan.{CalendarPlan}
 use Rattle.ts_model.specs.declared.kind.Kind.{Kind}
 use Rattle.ts_model.specs.declared.kind.Kind.TheVariants as kinds
-use Rattle.ts_model.specs.Definitions.{Definitions, CalendarDef, KindDef, table_of, limit, slots, slot_of, vacant_slot, at_slot}
+use Rattle.ts_model.specs.Definitions.{Definitions, CalendarDef, KindDef, table_of, limit, slots, slot_of, vacant_slot}
+use Rattle.ts_model.specs.Definitions.{at_slot}
 use Rattle.ts_layout.specs.Meaning.{Layout, value_of, catalogue_of}
 use Rattle.ts_model.specs.Kinds.{In, named}
 
@@ -21,7 +22,8 @@ pub record IsSlotNamed (kind : Kind) (slot : ℕ) (name : List ℕ) (d : Definit
 
 -- what the definition in a slot is in the catalogue
 abbrev pub IsValue : (kind : Kind) → Layout → ℕ → In kind → Type 0
-IsValue kind l slot value = (a : KindDef kind) × (at_slot slot (table_of kind l.definitions) ≡ Some a) × (value ≡ value_of kind l slot a)
+IsValue kind l slot value = (a : KindDef kind) × (at_slot slot (table_of kind l.definitions) ≡ Some a)
+    × (value ≡ value_of kind l slot a)
 
 -- a name stands in a slot, and for this in the catalogue
 pub record Stands (kind : Kind) (name : List ℕ) (l : Layout) (slot : ℕ) (value : In kind) : Type 0 where

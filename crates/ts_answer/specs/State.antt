@@ -1,6 +1,7 @@
--- The state that a run of a script goes through: what answers its requests, and what it leaves on the volume. All that speaks of
--- runs, moments and steps cites these.
-use Rattle.std.specs.Prelude.{ℕ, ◌+◌, Bool, ◌&&◌, nat_le, List, [], ◌∷◌, if◌then◌else◌, Option, Some, None, Ok, Err, pos}
+-- The state that a run of a script goes through: what answers its requests, and what it leaves on the volume. All that
+-- speaks of runs, moments and steps cites these.
+use Rattle.std.specs.Prelude.{ℕ, ◌+◌, Bool, ◌&&◌, nat_le, List, [], ◌∷◌, if◌then◌else◌, Option, Some, None, Ok, Err}
+use Rattle.std.specs.Prelude.{pos}
 use Rattle.ts_base.specs.declared.refusal.Refusal.TheVariants as refusals
 use Rattle.ts_replies.specs.Acknowledged.{memory_line}
 use Rattle.ts_command.specs.declared.command.Command.{Command}
@@ -20,7 +21,8 @@ pub record Transaction : Type 0 where
   pub work : Catalogue
   pub accepted : ℕ
 
--- What a run is at between two requests: the catalogue that its volume means, and the transaction that is open, if one is.
+-- What a run is at between two requests: the catalogue that its volume means, and the transaction that is open, if one
+-- is.
 pub record State : Type 0 where
   pub base : Catalogue
   pub transaction : Option Transaction
@@ -55,7 +57,8 @@ counted command accepted = accepted + (if is_writing command then 1 else 0)
 
 -- a transaction that has all that it may have takes no more commands that write
 unfoldable pub within_transaction : Command → ℕ → Tried (Unit {0})
-within_transaction command accepted = refused_if (is_writing command && nat_le most_accepted accepted) refusals.TransactionFull
+within_transaction command accepted =
+    refused_if (is_writing command && nat_le most_accepted accepted) refusals.TransactionFull
 
 -- the transaction that a command opens at a catalogue
 abbrev pub begun : Option Boundary → Catalogue → Option Transaction
@@ -64,7 +67,8 @@ begun (Some Commits) cat = None
 begun (Some RollsBack) cat = None
 begun None cat = None
 
--- what a command comes to where no transaction is open: its answer is that of the catalogue, and so is the catalogue after it
+-- what a command comes to where no transaction is open: its answer is that of the catalogue, and so is the catalogue
+-- after it
 unfoldable pub outside : Command → Catalogue → Tried (List ℕ × State)
 outside command base = do
   answered ← outcome (Ok command) base
@@ -83,7 +87,8 @@ inside None command base work accepted = do
 -- what a command comes to at a base, and with the transaction that is open
 abbrev pub carried_out_in : Command → Catalogue → Option Transaction → Tried (List ℕ × State)
 carried_out_in command base None = outside command base
-carried_out_in command base (Some transaction) = inside (boundary_of command) command base transaction.work transaction.accepted
+carried_out_in command base (Some transaction) =
+    inside (boundary_of command) command base transaction.work transaction.accepted
 
 -- what a request comes to
 unfoldable pub run_outcome : Request → State → Tried (List ℕ × State)

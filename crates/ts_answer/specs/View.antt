@@ -40,7 +40,8 @@ ShowsSome tells x = (l : Layout) × Shows tells x l
 abbrev pub KeepsRules : View → Type 0
 KeepsRules x = AreKept x.definitions x.space x.pages.free x.pages.count
 
--- What is seen of a volume: on every keeper of pages, that what is in memory keeps its rules; and where the pages are told, a layout.
+-- What is seen of a volume: on every keeper of pages, that what is in memory keeps its rules; and where the pages are
+-- told, a layout.
 pub record IsSeen (tells : Bool) (x : View) : Type 0 where
   pub kept : KeepsRules x
   pub layout : IsTrue tells → ShowsSome tells x

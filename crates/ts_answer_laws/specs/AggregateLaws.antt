@@ -1,5 +1,5 @@
--- What the laws of answers say of aggregates: of a series from one stamp to another, of each series of a container, and of each on
--- interval of a calendar.
+-- What the laws of answers say of aggregates: of a series from one stamp to another, of each series of a container, and
+-- of each on interval of a calendar.
 use Rattle.std.specs.Prelude.{◌≡◌, ℕ, ℤ, pos, ◌≤ℤ◌, ◌<ℤ◌, false, Some, Ok, List, [], ◌∷◌, map, AllPairs, Contains, ◌↔◌}
 use Rattle.std.specs.FinMap.{get}
 use Rattle.std.specs.declared.cmp.Ordering.TheVariants.{Less}
@@ -67,9 +67,12 @@ SeeSame from to a b = (stamp : ℤ) (row : Row) → IsFromTo from to stamp → I
 -- whatever else a series has, hidden or at other stamps, AggregateRange says the same
 abbrev pub OthersPlayNoPart : Type 0
 OthersPlayNoPart =
-    (cat : Catalogue) (answered : Answered) (text key : List ℕ) (from to : ℤ) (s : Series) (elements : Elements) → get cat.series key ≡ Some s
-    → SeeSame from to s (record s { elements = elements }) → outcome (Ok (commands.AggregateRange text key from to)) cat ≡ Ok answered
-    → outcome (Ok (commands.AggregateRange text key from to)) (with_elements key s elements cat) ≡ Ok (answered.0, with_elements key s elements cat)
+    (cat : Catalogue) (answered : Answered) (text key : List ℕ) (from to : ℤ) (s : Series) (elements : Elements)
+    → get cat.series key ≡ Some s
+    → SeeSame from to s (record s { elements = elements }) → outcome (Ok (commands.AggregateRange text key from to)) cat
+    ≡ Ok answered
+    → outcome (Ok (commands.AggregateRange text key from to)) (with_elements key s elements cat)
+    ≡ Ok (answered.0, with_elements key s elements cat)
 
 -- a series stands in a container
 pub record StandsIn (cat : Catalogue) (container key : List ℕ) : Type 0 where
@@ -77,8 +80,8 @@ pub record StandsIn (cat : Catalogue) (container key : List ℕ) : Type 0 where
   pub there : get cat.series key ≡ Some series
   pub inside : series.container ≡ container
 
--- A reply lists the series of a container, and no other, in the order of their keys, each with the values that AggregateRange says of it for
--- the same list and stamps.
+-- A reply lists the series of a container, and no other, in the order of their keys, each with the values that
+-- AggregateRange says of it for the same list and stamps.
 pub record ListsContainer (text container : List ℕ) (from to : ℤ) (cat : Catalogue) (answered : Answered) : Type 0 where
   pub scales : List ℕ
   pub rows : List (List ℕ × Row)
@@ -93,7 +96,8 @@ pub record ListsContainer (text container : List ℕ) (from to : ℤ) (cat : Cat
 abbrev pub ContainersAreListed : Type 0
 ContainersAreListed =
     (cat : Catalogue) (answered : Answered) (text container : List ℕ) (from to : ℤ)
-    → outcome (Ok (commands.AggregateAll text container from to)) cat ≡ Ok answered → ListsContainer text container from to cat answered
+    → outcome (Ok (commands.AggregateAll text container from to)) cat ≡ Ok answered
+    → ListsContainer text container from to cat answered
 
 -- an on interval that starts there holds an element that is seen
 pub record HoldsSeen (plan : CalendarPlan) (s : Series) (start : ℤ) : Type 0 where
@@ -107,22 +111,29 @@ abbrev pub IsLastOf : CalendarPlan → ℤ → ℤ → Type 0
 IsLastOf plan start last = (stamp : ℤ) → IsStamp stamp → IsHeldFrom plan stamp start ↔ IsFromTo start last stamp
 
 -- AggregateRange says this row from the start of an interval to its last stamp
-pub record SaysAsRange (text key : List ℕ) (plan : CalendarPlan) (scales : List ℕ) (start : ℤ) (row : Row) (cat : Catalogue) : Type 0 where
+pub record SaysAsRange (text key : List ℕ) (plan : CalendarPlan) (scales : List ℕ) (start : ℤ) (row : Row)
+    (cat : Catalogue) : Type 0 where
   pub last : ℤ
   pub is : IsLastOf plan start last
-  pub says : outcome (Ok (commands.AggregateRange text key start last)) cat ≡ Ok (folded_text scales ((start, row) ∷ []), cat)
+  pub says : outcome (Ok (commands.AggregateRange text key start last)) cat
+      ≡ Ok (folded_text scales ((start, row) ∷ []), cat)
 
--- A reply has a row for each on interval that starts from one stamp to another and holds an element that is seen, and no other, their
--- starts strictly rising. A row has the values that AggregateRange says from the interval's start to its last stamp.
-pub record ListsIntervals (text key : List ℕ) (plan : CalendarPlan) (from to : ℤ) (s : Series) (cat : Catalogue) (answered : Answered) : Type 0 where
+-- A reply has a row for each on interval that starts from one stamp to another and holds an element that is seen, and
+-- no other, their starts strictly rising. A row has the values that AggregateRange says from the interval's start to
+-- its last stamp.
+pub record ListsIntervals (text key : List ℕ) (plan : CalendarPlan) (from to : ℤ) (s : Series) (cat : Catalogue)
+    (answered : Answered) : Type 0 where
   pub b : Binding
   pub bound : IsBound text (columns_of cat s) b
   pub rows : List Element
   pub rising : AllPairs (λ a c. a.0 <ℤ c.0) rows
-  pub starts : (start : ℤ) (row : Row) → Contains rows (start, row) → IsOnStart plan start × IsFromTo from to start × HoldsSeen plan s start
+  pub starts : (start : ℤ) (row : Row) → Contains rows (start, row) → IsOnStart plan start × IsFromTo from to start
+      × HoldsSeen plan s start
   pub folded : (start : ℤ) (row : Row) → Contains rows (start, row) → AreFolded (λ stamp. IsHeldFrom plan stamp start) b.items s row.values
-  pub ranges : (start : ℤ) (row : Row) → Contains rows (start, row) → SaysAsRange text key plan (scales_of b) start row cat
-  pub each : (start : ℤ) → IsOnStart plan start → IsFromTo from to start → HoldsSeen plan s start → (row : Row) × Contains rows (start, row)
+  pub ranges : (start : ℤ) (row : Row) → Contains rows (start, row)
+      → SaysAsRange text key plan (scales_of b) start row cat
+  pub each : (start : ℤ) → IsOnStart plan start → IsFromTo from to start → HoldsSeen plan s start → (row : Row)
+      × Contains rows (start, row)
   pub lines : answered ≡ (folded_text (scales_of b) rows, cat)
 
 -- the elements that are seen stand at stamps
@@ -132,23 +143,28 @@ HasStamps s = (stamp : ℤ) (row : Row) → IsSeenAt s stamp row → IsStamp sta
 -- AggregateBy lists them
 abbrev pub IntervalsAreListed : Type 0
 IntervalsAreListed =
-    (cat : Catalogue) (answered : Answered) (text calendar key : List ℕ) (from to : ℤ) (s : Series) (plan : CalendarPlan)
+    (cat : Catalogue) (answered : Answered) (text calendar key : List ℕ) (from to : ℤ) (s : Series)
+    (plan : CalendarPlan)
     → get cat.series key ≡ Some s → HasStamps s → a_calendar calendar cat ≡ Ok plan → IsLaid plan
-    → outcome (Ok (commands.AggregateBy text calendar key from to)) cat ≡ Ok answered → ListsIntervals text key plan from to s cat answered
+    → outcome (Ok (commands.AggregateBy text calendar key from to)) cat ≡ Ok answered
+    → ListsIntervals text key plan from to s cat answered
 
 -- each element of a series that is seen from one stamp to another has a value in a column
 abbrev pub HaveValues : ℕ → ℤ → ℤ → Series → Type 0
-HaveValues column from to s = (stamp : ℤ) (row : Row) → IsFromTo from to stamp → IsSeenAt s stamp row → is_null (value_at column row.values) ≡ false
+HaveValues column from to s = (stamp : ℤ) (row : Row) → IsFromTo from to stamp → IsSeenAt s stamp row
+    → is_null (value_at column row.values) ≡ false
 
 -- a number is what ClipGetCount says, and the one value that AggregateRange says
 pub record AreAsMany (text key : List ℕ) (from to : ℤ) (scales : List ℕ) (cat : Catalogue) : Type 0 where
   pub count : ℕ
   pub listed : outcome (Ok (commands.ClipGetCount key from to)) cat ≡ Ok (count_line count, cat)
-  pub counted : outcome (Ok (commands.AggregateRange text key from to)) cat ≡ Ok (folded_text scales ((from, visible (Number (pos count) ∷ [])) ∷ []), cat)
+  pub counted : outcome (Ok (commands.AggregateRange text key from to)) cat
+      ≡ Ok (folded_text scales ((from, visible (Number (pos count) ∷ [])) ∷ []), cat)
 
 -- so is the count of a column of an irregular series whose elements have values there
 abbrev pub CountsAreOfElements : Type 0
 CountsAreOfElements =
-    (cat : Catalogue) (text key : List ℕ) (from to : ℤ) (s : Series) (b : Binding) (item : BoundItem) → get cat.series key ≡ Some s → s.kind ≡ Irregular
+    (cat : Catalogue) (text key : List ℕ) (from to : ℤ) (s : Series) (b : Binding) (item : BoundItem)
+    → get cat.series key ≡ Some s → s.kind ≡ Irregular
     → IsBound text (columns_of cat s) b → b.items ≡ item ∷ [] → item.function ≡ Count → HaveValues item.column from to s
     → AreAsMany text key from to (scales_of b) cat

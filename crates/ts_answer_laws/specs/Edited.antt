@@ -21,7 +21,8 @@ pub record Puts (at : ℤ) (key : List ℕ) (s : Series) (cat : Catalogue) (answ
   pub comes : answered.1 ≡ with_element key s at row cat
 
 -- The elements of a series whose stamps pass a test go, hidden or not, and are counted; all others stay.
-pub record TakesAway (goes : ℤ → Bool) (key : List ℕ) (s : Series) (cat : Catalogue) (answered : Answered) : Type 0 where
+pub record TakesAway (goes : ℤ → Bool) (key : List ℕ) (s : Series) (cat : Catalogue)
+    (answered : Answered) : Type 0 where
   pub elements : Elements
   pub gone : ℕ
   pub left : (stamp : ℤ) → get elements stamp ≡ (if goes stamp then None else get s.elements stamp)

@@ -1,5 +1,6 @@
 -- What the laws of answers say.
-use Rattle.std.specs.Prelude.{◌≡◌, ◌↔◌, ◌+◌, ◌≤◌, [], ◌∷◌, Err, List, ℕ, neg_ℤ, pos, Ok, Some, false, true, length, codes}
+use Rattle.std.specs.Prelude.{◌≡◌, ◌↔◌, ◌+◌, ◌≤◌, [], ◌∷◌, Err, List, ℕ, neg_ℤ, pos, Ok, Some, false, true, length}
+use Rattle.std.specs.Prelude.{codes}
 use Rattle.std.specs.FinMap.{get}
 use Rattle.ts_base.specs.declared.refusal.Refusal.{Refusal}
 use Rattle.ts_base.specs.declared.refusal.Refusal.TheVariants as refusals
@@ -20,7 +21,8 @@ use Rattle.ts_model.specs.Catalogue.{Catalogue, calendar_of}
 use Rattle.ts_answer.specs.Answer.{Answered, answer, outcome, a_calendar}
 use Rattle.ts_answer.specs.CarriedOut.{Grows}
 use Rattle.ts_command.specs.Writing.{is_writing}
-use Rattle.ts_answer.specs.Reply.{refusal_line, count_line, counts_line, number_line, pattern_lines, calendar_lines, stamps_text, series_text}
+use Rattle.ts_answer.specs.Reply.{refusal_line, count_line, counts_line, number_line, pattern_lines, calendar_lines}
+use Rattle.ts_answer.specs.Reply.{stamps_text, series_text}
 use Rattle.ts_answer_laws.specs.Objects.{objects, StaysBut}
 
 -- a request that is refused is answered by the line of its refusal, and changes nothing
@@ -31,7 +33,8 @@ RefusalsChangeNothing =
 
 -- a command that only reads changes nothing, whatever it is answered
 abbrev pub ReadingsChangeNothing : Type 0
-ReadingsChangeNothing = (cat : Catalogue) (command : Command) → is_writing command ≡ false → (answer cat (Ok command)).1 ≡ cat
+ReadingsChangeNothing = (cat : Catalogue) (command : Command) → is_writing command ≡ false → (answer cat (Ok command)).1
+    ≡ cat
 
 -- what a command doesn't write stands in the catalogue as before
 abbrev pub OthersStay : Type 0
@@ -45,13 +48,16 @@ pub record HasValidCalendar (name : List ℕ) (cat : Catalogue) : Type 0 where
   pub stands : calendar_of cat text ≡ Some plan
   pub valid : IsValid plan
 
--- what CreateCalendar makes is such a calendar, and so is what AndOp and OrOp make of calendars that are laid out on stamps
+-- what CreateCalendar makes is such a calendar, and so is what AndOp and OrOp make of calendars that are laid out on
+-- stamps
 pub record MadeCalendarsAreValid : Type 0 where
   pub created : (cat : Catalogue) (answered : Answered) (name text : List ℕ)
       → outcome (Ok (commands.CreateCalendar name text)) cat ≡ Ok answered → HasValidCalendar name answered.1
-  pub both : (cat : Catalogue) (answered : Answered) (name first second : List ℕ) (a : CalendarPlan) → a_calendar first cat ≡ Ok a → IsLaid a
+  pub both : (cat : Catalogue) (answered : Answered) (name first second : List ℕ) (a : CalendarPlan)
+      → a_calendar first cat ≡ Ok a → IsLaid a
       → outcome (Ok (commands.AndCalendars name first second)) cat ≡ Ok answered → HasValidCalendar name answered.1
-  pub either : (cat : Catalogue) (answered : Answered) (name first second : List ℕ) (a : CalendarPlan) → a_calendar first cat ≡ Ok a → IsLaid a
+  pub either : (cat : Catalogue) (answered : Answered) (name first second : List ℕ) (a : CalendarPlan)
+      → a_calendar first cat ≡ Ok a → IsLaid a
       → outcome (Ok (commands.OrCalendars name first second)) cat ≡ Ok answered → HasValidCalendar name answered.1
 
 -- a calendar was made by the pattern's name
@@ -82,8 +88,10 @@ pub record LinesArePrintedSo : Type 0 where
   pub usage : counts_line 1 1 ≡ codes "ok 1 1\n"
   pub before : number_line (neg_ℤ (pos 5)) ≡ codes "ok -5\n"
   pub after : number_line (pos 5) ≡ codes "ok 5\n"
-  pub pattern : pattern_lines (record { unit = Day; runs = run false 1 ∷ run true 5 ∷ run false 1 ∷ [] }) ≡ codes "{1 off,5 on,1 off},day\nok\n"
-  pub calendar : calendar_lines (calendar_text (pos 129_392_640_000_000) (pos 129_392_640_000_000) (ByName (codes "ww")))
+  pub pattern : pattern_lines (record { unit = Day; runs = run false 1 ∷ run true 5 ∷ run false 1 ∷ [] })
+      ≡ codes "{1 off,5 on,1 off},day\nok\n"
+  pub calendar : calendar_lines (calendar_text (pos 129_392_640_000_000) (pos 129_392_640_000_000)
+      (ByName (codes "ww")))
       ≡ codes "startdate(2011-01-02 00:00:00.00000), pattstart(2011-01-02 00:00:00.00000), pattname(ww)\nok\n"
   pub stamps : stamps_text (pos 129_392_640_000_000 ∷ []) ≡ codes "2011-01-02 00:00:00.00000\nok 1\n"
   pub series : series_text ((codes "it's", false, 10) ∷ []) ≡ codes "'it''s' irregular 10\nok 1\n"

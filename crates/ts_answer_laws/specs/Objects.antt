@@ -17,8 +17,8 @@ use Rattle.ts_model.specs.Kinds.{named}
 abbrev pub Object : Type 0
 Object = Kind × List ℕ
 
--- the objects that a command writes (makes, drops or edits), and the others that it names; a law speaks of the first alone, since nothing rests on
--- what is named yet
+-- the objects that a command writes (makes, drops or edits), and the others that it names; a law speaks of the first
+-- alone, since nothing rests on what is named yet
 pub record Touched : Type 0 where
   pub wrote : List Object
   pub named : List Object
@@ -55,10 +55,14 @@ objects (commands.CreateRowType name stamp columns) = writes kinds.RowType name
 objects (commands.DropRowType name) = writes kinds.RowType name
 objects (commands.CreatePattern name text) = writes kinds.Pattern name
 objects (commands.NotOp name pattern) = makes kinds.Pattern name ((kinds.Pattern, pattern) ∷ [])
-objects (commands.AndPatterns name first second) = makes kinds.Pattern name ((kinds.Pattern, first) ∷ (kinds.Pattern, second) ∷ [])
-objects (commands.OrPatterns name first second) = makes kinds.Pattern name ((kinds.Pattern, first) ∷ (kinds.Pattern, second) ∷ [])
-objects (commands.AndCalendars name first second) = makes kinds.Calendar name ((kinds.Calendar, first) ∷ (kinds.Calendar, second) ∷ [])
-objects (commands.OrCalendars name first second) = makes kinds.Calendar name ((kinds.Calendar, first) ∷ (kinds.Calendar, second) ∷ [])
+objects (commands.AndPatterns name first second) =
+    makes kinds.Pattern name ((kinds.Pattern, first) ∷ (kinds.Pattern, second) ∷ [])
+objects (commands.OrPatterns name first second) =
+    makes kinds.Pattern name ((kinds.Pattern, first) ∷ (kinds.Pattern, second) ∷ [])
+objects (commands.AndCalendars name first second) = makes kinds.Calendar name ((kinds.Calendar, first)
+    ∷ (kinds.Calendar, second) ∷ [])
+objects (commands.OrCalendars name first second) = makes kinds.Calendar name ((kinds.Calendar, first)
+    ∷ (kinds.Calendar, second) ∷ [])
 objects (commands.ShowPattern name) = reads kinds.Pattern name
 objects (commands.DropPattern name) = writes kinds.Pattern name
 objects (commands.CreateCalendar name text) = makes kinds.Calendar name (pattern_named (read_calendar text))
@@ -70,7 +74,8 @@ objects (commands.CalRange calendar from to) = reads kinds.Calendar calendar
 objects (commands.TSContainerCreate name row_type quota) = makes kinds.Container name ((kinds.RowType, row_type) ∷ [])
 objects (commands.TSContainerDestroy name) = writes kinds.Container name
 objects (commands.TSContainerUsage name) = reads kinds.Container name
-objects (commands.TSCreate key calendar origin container) = makes kinds.Series key ((kinds.Calendar, calendar) ∷ (kinds.Container, container) ∷ [])
+objects (commands.TSCreate key calendar origin container) = makes kinds.Series key ((kinds.Calendar, calendar)
+    ∷ (kinds.Container, container) ∷ [])
 objects (commands.TSCreateIrr key container) = makes kinds.Series key ((kinds.Container, container) ∷ [])
 objects (commands.DropSeries key) = writes kinds.Series key
 objects (commands.ListSeries container) = reads kinds.Container container
@@ -93,7 +98,11 @@ objects (commands.ClipGetCount key from to) = reads kinds.Series key
 objects (commands.Union first second from to) = reads_both kinds.Series first second
 objects (commands.Intersect first second from to) = reads_both kinds.Series first second
 objects (commands.Lag key by) = reads kinds.Series key
-objects (commands.AggregateBy text calendar key from to) = record { wrote = []; named = (kinds.Calendar, calendar) ∷ (kinds.Series, key) ∷ [] }
+objects (commands.AggregateBy text calendar key from to) = record {
+  wrote = [];
+  named = (kinds.Calendar, calendar)
+      ∷ (kinds.Series, key) ∷ [];
+}
 objects (commands.AggregateRange text key from to) = reads kinds.Series key
 objects (commands.AggregateAll text container from to) = reads kinds.Container container
 objects (commands.TSRunningSum text key span from to) = reads kinds.Series key
@@ -107,4 +116,5 @@ objects commands.Rollback = nothing
 pub record StaysBut (wrote : List Object) (cat after : Catalogue) : Type 0 where
   pub format : after.format ≡ cat.format
   pub pages : after.pages ≡ cat.pages
-  pub others : (object : Object) → ¬ Contains wrote object → get (named object.0 after) object.1 ≡ get (named object.0 cat) object.1
+  pub others : (object : Object) → ¬ Contains wrote object → get (named object.0 after) object.1
+      ≡ get (named object.0 cat) object.1

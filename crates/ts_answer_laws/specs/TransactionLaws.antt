@@ -1,5 +1,6 @@
 -- What the laws of transactions say, over requests that are answered one behind the other.
-use Rattle.std.specs.Prelude.{◌≡◌, ◌⊎◌, ℕ, ◌+◌, ◌≤◌, ◌<◌, true, if◌then◌else◌, List, [], ◌∷◌, ◌++◌, None, Some, IsSome, IfSome, Ok, Err, pos}
+use Rattle.std.specs.Prelude.{◌≡◌, ◌⊎◌, ℕ, ◌+◌, ◌≤◌, ◌<◌, true, if◌then◌else◌, List, [], ◌∷◌, ◌++◌, None, Some, IsSome}
+use Rattle.std.specs.Prelude.{IfSome, Ok, Err, pos}
 use Rattle.ts_command.specs.declared.command.Command.{Command}
 use Rattle.ts_command.specs.declared.command.Command.TheVariants as commands
 use Rattle.ts_command.specs.declared.boundary.Boundary.TheVariants.{Commits}
@@ -33,7 +34,8 @@ AsksForCommit state (Err refusal) = ⊥
 -- what the volume means stays at every request that is no commit
 abbrev pub OnlyCommitsMoveTheBase : Type 0
 OnlyCommitsMoveTheBase =
-    (state : State) (request : Request) → (committed (run_answer state request).1 ≡ committed state) ⊎ AsksForCommit state request
+    (state : State) (request : Request) → (committed (run_answer state request).1 ≡ committed state)
+    ⊎ AsksForCommit state request
 
 -- a request that opens no transaction and ends none
 abbrev pub IsPlain : Request → Type 0
@@ -55,7 +57,8 @@ WhatIsRolledBackLeavesNothing =
 
 -- one where the catalogue accepts a command that writes
 abbrev pub counted_at : Catalogue → Request → ℕ
-counted_at cat (Ok command) = elim (outcome (Ok command) cat) [ Ok answered ↦ (if is_writing command then 1 else 0) | Err refusal ↦ 0 ]
+counted_at cat (Ok command) =
+    elim (outcome (Ok command) cat) [ Ok answered ↦ (if is_writing command then 1 else 0) | Err refusal ↦ 0 ]
 counted_at cat (Err refusal) = 0
 
 -- how many of such requests are, one behind the other
@@ -70,10 +73,11 @@ HasPlace count (Err refusal) = Unit {0}
 
 abbrev pub HavePlaces : ℕ → Catalogue → List Request → Type 0
 HavePlaces count cat [] = Unit {0}
-HavePlaces count cat (request ∷ requests) = HasPlace count request × HavePlaces (count + counted_at cat request) (answer cat request).1 requests
+HavePlaces count cat (request ∷ requests) = HasPlace count request
+    × HavePlaces (count + counted_at cat request) (answer cat request).1 requests
 
--- Between Begin and Commit each such request has the reply that it has without these, Commit says how many were accepted that
--- write, and the state behind is the same.
+-- Between Begin and Commit each such request has the reply that it has without these, Commit says how many were
+-- accepted that write, and the state behind is the same.
 pub record WhatIsCommittedIsMade : Type 0 where
   pub said : (cat : Catalogue) (requests : List Request) → ArePlain requests → HavePlaces 0 cat requests
       → said_to (resting cat) (within requests commands.Commit)

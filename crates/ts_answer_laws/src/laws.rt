@@ -1,10 +1,14 @@
 ghost use Rattle.ts_replies.specs.Acknowledged.{AreApart};
 ghost use Rattle.ts_answer.specs.State.{run_answer};
-ghost use Rattle.ts_answer_laws.specs.Laws.{RefusalsChangeNothing, ReadingsChangeNothing, OthersStay, MadeCalendarsAreValid, UsedPatternsStay, CommandsFitOneRecord, LinesArePrintedSo};
-ghost use Rattle.ts_answer_laws.specs.SeriesLaws.{PutsAdd, PutsStandAtAddresses, DeletionsTakeAway, StampsAddressIntervals, OriginsAreOnStarts, UsedCalendarsStay, SeriesKeepTheirShapes};
+ghost use Rattle.ts_answer_laws.specs.Laws.{RefusalsChangeNothing, ReadingsChangeNothing, OthersStay};
+ghost use Rattle.ts_answer_laws.specs.Laws.{MadeCalendarsAreValid, UsedPatternsStay, CommandsFitOneRecord};
+ghost use Rattle.ts_answer_laws.specs.Laws.{LinesArePrintedSo};
+ghost use Rattle.ts_answer_laws.specs.SeriesLaws.{PutsAdd, PutsStandAtAddresses, DeletionsTakeAway};
+ghost use Rattle.ts_answer_laws.specs.SeriesLaws.{StampsAddressIntervals, OriginsAreOnStarts, UsedCalendarsStay};
+ghost use Rattle.ts_answer_laws.specs.SeriesLaws.{SeriesKeepTheirShapes};
 
-/// At no state does a reply begin with the memory line, nor the memory line with a reply, and no reply is empty: so what was said
-/// determines the state.
+/// At no state does a reply begin with the memory line, nor the memory line with a reply, and no reply is empty: so
+/// what was said determines the state.
 pub fn replies_and_the_memory_line_are_apart()
     ensures { AreApart run_answer }
 {}
@@ -24,14 +28,14 @@ pub fn what_is_not_written_stays()
     ensures { OthersStay }
 {}
 
-/// An element that is put into an irregular series comes to those that are there, hidden ones too, at a stamp at which none stood: none
-/// is replaced.
+/// An element that is put into an irregular series comes to those that are there, hidden ones too, at a stamp at which
+/// none stood: none is replaced.
 pub fn a_put_replaces_no_element()
     ensures { PutsAdd }
 {}
 
-/// An element that is put into a regular series stands at the start of the on interval that holds its stamp, in place of one
-/// that stood there.
+/// An element that is put into a regular series stands at the start of the on interval that holds its stamp, in place
+/// of one that stood there.
 pub fn a_put_on_a_grid_stands_at_its_address()
     ensures { PutsStandAtAddresses }
 {}
@@ -56,14 +60,14 @@ pub fn a_calendar_in_use_stays()
     ensures { UsedCalendarsStay }
 {}
 
-/// In a regular series a stamp addresses the start of the on interval that holds it, and none exactly where no on interval
-/// does or one that starts before the origin.
+/// In a regular series a stamp addresses the start of the on interval that holds it, and none exactly where no on
+/// interval does or one that starts before the origin.
 pub fn a_stamp_addresses_its_interval()
     ensures { StampsAddressIntervals }
 {}
 
-/// The origin of a regular series is an on start: that of the on interval that holds the given stamp, else the next one. It is
-/// what is said.
+/// The origin of a regular series is an on start: that of the on interval that holds the given stamp, else the next
+/// one. It is what is said.
 pub fn an_origin_is_an_on_start()
     ensures { OriginsAreOnStarts }
 {}

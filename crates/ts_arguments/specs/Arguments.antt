@@ -79,7 +79,8 @@ a_whole least most = token front (whole_in least most)
 
 -- a number of 1 to 3 digits, without sign and point
 abbrev pub small_in : TokenKind → List ℕ → Option ℕ
-small_in Number number = if nat_le (length number) 3 && list_all is_ascii_digit number then Some (magnitude_of number) else None
+small_in Number number = if nat_le (length number) 3 && list_all is_ascii_digit number then Some (magnitude_of number)
+    else None
 small_in kind token = None
 
 -- a small number, as a type has

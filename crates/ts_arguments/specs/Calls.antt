@@ -4,7 +4,8 @@ use Rattle.ts_row.specs.declared.kind.Column.{Column}
 use Rattle.ts_row.specs.declared.value.Literal.{Literal}
 use Rattle.ts_text.specs.Phrase.{Phrase, ◌>>=◌, give, a_sign, closed}
 use Rattle.ts_arguments.specs.declared.word.Joined.{Joined}
-use Rattle.ts_arguments.specs.Arguments.{a_name, a_key, a_stamp, a_text, a_literal, a_whole, a_stamp_column, a_column, a_joined}
+use Rattle.ts_arguments.specs.Arguments.{a_name, a_key, a_stamp, a_text, a_literal, a_whole, a_stamp_column, a_column}
+use Rattle.ts_arguments.specs.Arguments.{a_joined}
 
 -- a phrase, and this sign behind it
 abbrev pub before : {A : Type 0} → ℕ → Phrase A → Phrase A

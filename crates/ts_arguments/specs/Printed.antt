@@ -20,11 +20,16 @@ ends_value (b ∷ bytes) = is_blank b || b == 44 || b == 41
 -- where such a byte stands behind it, a value is one literal, which fits the column and gives the value back
 abbrev pub ValuesAreReadAgain : Type 0
 ValuesAreReadAgain =
-    (kind : ColumnKind) (value : Value) (rest : List ℕ) → IsTrue (is_kind kind) → IsTrue (holds kind value) → IsTrue (ends_value rest)
-    → (literal : Literal) × (a_literal (value_text (scale_of kind) value ++ rest) ≡ Ok (literal, rest)) × (value_if_any kind literal ≡ Some value)
+    (kind : ColumnKind) (value : Value) (rest : List ℕ) → IsTrue (is_kind kind) → IsTrue (holds kind value)
+    → IsTrue (ends_value rest)
+    → (literal : Literal) × (a_literal (value_text (scale_of kind) value ++ rest) ≡ Ok (literal, rest))
+    × (value_if_any kind literal ≡ Some value)
 
 -- behind a comma and in front of a closing bracket a row is as many literals, which give the visible row back
 abbrev pub RowsAreReadAgain : Type 0
 RowsAreReadAgain =
-    (columns : List Column) (row : Row) (rest : List ℕ) → 1 ≤ length columns → IsTrue (list_all (λ c. is_kind c.kind) columns) → IsTrue (fits columns row)
-    → (literals : List Literal) × (repeated a_literal (44 ∷ (row_text columns row ++ 41 ∷ rest)) ≡ Ok (literals, 41 ∷ rest)) × (row_of columns literals ≡ Ok (marked false row))
+    (columns : List Column) (row : Row) (rest : List ℕ) → 1 ≤ length columns
+    → IsTrue (list_all (λ c. is_kind c.kind) columns) → IsTrue (fits columns row)
+    → (literals : List Literal)
+    × (repeated a_literal (44 ∷ (row_text columns row ++ 41 ∷ rest)) ≡ Ok (literals, 41 ∷ rest))
+    × (row_of columns literals ≡ Ok (marked false row))

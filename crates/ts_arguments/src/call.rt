@@ -3,7 +3,13 @@ ghost use Rattle.std.specs.Prelude.{◌≡◌, Ok, IfOk, IfErr};
 ghost use Rattle.ts_text.specs.Misfit.{Refuses, RefusesExactly};
 ghost use Rattle.ts_text.specs.Phrase.{repeated, onto};
 ghost use Rattle.ts_arguments.specs.Arguments.{a_literal};
-ghost use Rattle.ts_arguments.specs.Calls.{name_before, key_before, text_before, stamp_before, whole_before, two_names, three_names, joined_names, name_and_text, name_and_whole, two_names_and_whole, key_and_name, key_and_whole, key_and_stamp, stamp_and_name, name_stamp_and_name, key_name_stamp_and_name, stamp_and_whole, name_stamp_and_whole, key_stamp_and_whole, stamp_and_values, key_stamp_and_values, some_columns, stamp_and_columns, name_and_columns};
+ghost use Rattle.ts_arguments.specs.Calls.{name_before, key_before, text_before, stamp_before, whole_before, two_names};
+ghost use Rattle.ts_arguments.specs.Calls.{three_names, joined_names, name_and_text, name_and_whole};
+ghost use Rattle.ts_arguments.specs.Calls.{two_names_and_whole, key_and_name, key_and_whole, key_and_stamp};
+ghost use Rattle.ts_arguments.specs.Calls.{stamp_and_name, name_stamp_and_name, key_name_stamp_and_name};
+ghost use Rattle.ts_arguments.specs.Calls.{stamp_and_whole, name_stamp_and_whole, key_stamp_and_whole};
+ghost use Rattle.ts_arguments.specs.Calls.{stamp_and_values, key_stamp_and_values, some_columns, stamp_and_columns};
+ghost use Rattle.ts_arguments.specs.Calls.{name_and_columns};
 
 use crate::column::{read_column, read_columns, read_stamp_column};
 use crate::list::{Columns, Literals};

@@ -1,6 +1,7 @@
 // The phrases of one token. Each is read from a place on, and gives what it says and the bytes behind it.
 ghost use Rattle.std.specs.Prelude.{◌≡◌, ◌<◌, ◌≤◌, [], Ok, Err, IfOk, IfErr, IfSome, IfNone, length};
-ghost use Rattle.ts_arguments.specs.Arguments.{a_name, a_key, a_stamp, a_text, a_literal, a_whole, a_small, a_word, a_type, a_joined, small_in, whole_in};
+ghost use Rattle.ts_arguments.specs.Arguments.{a_name, a_key, a_stamp, a_text, a_literal, a_whole, a_small, a_word};
+ghost use Rattle.ts_arguments.specs.Arguments.{a_type, a_joined, small_in, whole_in};
 ghost use Rattle.ts_tokens.specs.Number.{units_of, scale_of};
 ghost use Rattle.ts_text.specs.Digits.{digit_count};
 ghost use Rattle.ts_text.specs.Misfit.{Refuses, RefusesExactly};

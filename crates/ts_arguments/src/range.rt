@@ -1,7 +1,9 @@
 // Calls that end with a range: two stamps behind what else stands there.
 ghost use Rattle.std.specs.Prelude.{◌≡◌, Ok, IfOk, IfErr};
 ghost use Rattle.ts_text.specs.Misfit.{Refuses};
-ghost use Rattle.ts_arguments.specs.Calls.{two_stamps, name_range, key_range, two_keys_range, name_key_range, text_key_range, text_name_range, text_name_key_range, whole_range, key_whole_range, text_key_whole_range};
+ghost use Rattle.ts_arguments.specs.Calls.{two_stamps, name_range, key_range, two_keys_range, name_key_range};
+ghost use Rattle.ts_arguments.specs.Calls.{text_key_range, text_name_range, text_name_key_range, whole_range};
+ghost use Rattle.ts_arguments.specs.Calls.{key_whole_range, text_key_whole_range};
 
 use crate::call::{
     read_key_before, read_name_before, read_stamp_before, read_text_before, read_whole_before,

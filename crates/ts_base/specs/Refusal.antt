@@ -1,7 +1,14 @@
 -- Why a command is refused.
 use Rattle.std.specs.Prelude.{ℕ, List, codes}
 use Rattle.ts_base.specs.declared.refusal.Refusal.{Refusal}
-use Rattle.ts_base.specs.declared.refusal.Refusal.TheVariants.{Syntax, TooLong, Unended, UnknownName, NameTaken, BadRowType, BadPattern, BadCalendar, AllOff, UnitMismatch, PatternTooLong, NotAligned, OffStamp, BeforeOrigin, PastEnd, Duplicate, Missing, SecondFull, RowMismatch, ContainerFull, VolumeFull, InUse, TooMany, TooLarge, NotRegular, BadExpression, UnknownColumn, Overflow, OldFormat, WindowGone, NotOpen, AlreadyOpen, TransactionFull, Conflict}
+use Rattle.ts_base.specs.declared.refusal.Refusal.TheVariants.{Syntax, TooLong, Unended, UnknownName, NameTaken}
+use Rattle.ts_base.specs.declared.refusal.Refusal.TheVariants.{BadRowType, BadPattern, BadCalendar, AllOff}
+use Rattle.ts_base.specs.declared.refusal.Refusal.TheVariants.{UnitMismatch, PatternTooLong, NotAligned, OffStamp}
+use Rattle.ts_base.specs.declared.refusal.Refusal.TheVariants.{BeforeOrigin, PastEnd, Duplicate, Missing, SecondFull}
+use Rattle.ts_base.specs.declared.refusal.Refusal.TheVariants.{RowMismatch, ContainerFull, VolumeFull, InUse, TooMany}
+use Rattle.ts_base.specs.declared.refusal.Refusal.TheVariants.{TooLarge, NotRegular, BadExpression, UnknownColumn}
+use Rattle.ts_base.specs.declared.refusal.Refusal.TheVariants.{Overflow, OldFormat, WindowGone, NotOpen, AlreadyOpen}
+use Rattle.ts_base.specs.declared.refusal.Refusal.TheVariants.{TransactionFull, Conflict}
 
 -- the number in the line `error NN Name`
 abbrev pub refusal_code : Refusal → ℕ

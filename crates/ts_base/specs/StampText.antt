@@ -1,5 +1,6 @@
 -- The text of a stamp, `YYYY-MM-DD HH:MM:SS.FFFFF`.
-use Rattle.std.specs.Prelude.{ℕ, ◌+◌, ◌-◌, ◌*◌, ◌/◌, ◌%◌, ◌^◌, Bool, ◌&&◌, ◌||◌, ◌==◌, nat_le, if◌then◌else◌, ℤ, Option, None, List, [], ◌∷◌, ◌++◌, length, slice_index, slice_range, drop}
+use Rattle.std.specs.Prelude.{ℕ, ◌+◌, ◌-◌, ◌*◌, ◌/◌, ◌%◌, ◌^◌, Bool, ◌&&◌, ◌||◌, ◌==◌, nat_le, if◌then◌else◌, ℤ, Option}
+use Rattle.std.specs.Prelude.{None, List, [], ◌∷◌, ◌++◌, length, slice_index, slice_range, drop}
 use Rattle.std.specs.List.{list_all, fold}
 use Rattle.std.specs.Char.{is_ascii_digit}
 use Rattle.ts_base.specs.Moment.{Moment, stamp_at, Civil, civil_of, day_of, clock_of}

@@ -1,6 +1,7 @@
 ghost use Rattle.std.specs.Prelude.{◌≡◌, IfOk, IsTrue};
 ghost use Rattle.std.specs.List.{list_all};
-ghost use Rattle.ts_base.specs.Name.{begins_word, continues_word, is_word, is_name, is_blank, is_text_byte, is_text, is_key, name_if_any, key_if_any};
+ghost use Rattle.ts_base.specs.Name.{begins_word, continues_word, is_word, is_name, is_blank, is_text_byte, is_text};
+ghost use Rattle.ts_base.specs.Name.{is_key, name_if_any, key_if_any};
 
 use crate::Bytes;
 use std::alloc::{AllocError, Global};

@@ -1,6 +1,8 @@
-ghost use Rattle.std.specs.Prelude.{◌≡◌, ◌+◌, ◌-◌, ◌*◌, ◌/◌, ◌%◌, ◌^◌, ◌<◌, ◌≤◌, ◌↔◌, pos, ◌+ℤ◌, ◌*ℤ◌, ◌<ℤ◌, length, drop, IsTrue, IsSome, IfSome, Some, negsuc};
+ghost use Rattle.std.specs.Prelude.{◌≡◌, ◌+◌, ◌-◌, ◌*◌, ◌/◌, ◌%◌, ◌^◌, ◌<◌, ◌≤◌, ◌↔◌, pos, ◌+ℤ◌, ◌*ℤ◌, ◌<ℤ◌, length};
+ghost use Rattle.std.specs.Prelude.{drop, IsTrue, IsSome, IfSome, Some, negsuc};
 ghost use Rattle.ts_base.specs.Moment.{IsStamp, stamp_if_any, Moment, stamp_at, day_of, clock_of, civil_of};
-ghost use Rattle.ts_base.specs.StampText.{read_stamp, stamp_text, all_digits, number_of, has_stamp_form, has_stamp_length, has_stamp_signs, has_stamp_digits, digit, text_of};
+ghost use Rattle.ts_base.specs.StampText.{read_stamp, stamp_text, all_digits, number_of, has_stamp_form};
+ghost use Rattle.ts_base.specs.StampText.{has_stamp_length, has_stamp_signs, has_stamp_digits, digit, text_of};
 ghost use Rattle.ts_base.specs.Months.{day_of_month};
 ghost use Rattle.jiff_core.specs.Calendar.{IsBetween, IsEpochDay, IsCivilDate, days_from_civil};
 
@@ -130,7 +132,17 @@ fn at(
     fraction: u32,
 ) -> Option<Stamp>
     requires small { (year < 10_000) × (month < 100) × (day < 100) × (fraction < 100_000) }
-    ensures { result ≡ stamp_at (record { year = year; month = month; day = day; hour = hour; minute = minute; second = second; fraction = fraction }) }
+    ensures { result
+        ≡ stamp_at (record {
+          year = year;
+          month = month;
+          day = day;
+          hour = hour;
+          minute = minute;
+          second =
+              second;
+          fraction = fraction;
+        }) }
 {
     if year < 1 || hour > 23 || minute > 59 || second > 59 {
         return None;

@@ -21,7 +21,8 @@ pub fn a_put_drops_the_last_of_a_full_cache()
         put_in_front capacity number bytes (front ++ last ∷ []) ≡ (number, bytes) ∷ front }
 {}
 
-/// A page that is asked for, and each other, is found as before; a page that was forgotten isn't found, and each other is as before.
+/// A page that is asked for, and each other, is found as before; a page that was forgotten isn't found, and each other
+/// is as before.
 pub fn a_page_is_found_until_it_is_forgotten()
     ensures got { (number other : ℕ) (pages : List (ℕ × List ℕ)) →
         page_of other (brought_forward number pages) ≡ page_of other pages }

@@ -3,8 +3,8 @@ use Rattle.std.specs.Prelude.{◌≡◌, ◌+◌, ◌-◌, ◌*◌, ℤ, pos, ne
 use Rattle.ts_base.specs.Moment.{IsStamp, civil_of, day_of, clock_of}
 use Rattle.ts_base.specs.Months.{month_of, day_of_month}
 
--- the number of a stamp's month, and the units from the month's first moment to the stamp, less those from 1 March of the
--- year 0 to 1970
+-- the number of a stamp's month, and the units from the month's first moment to the stamp, less those from 1 March of
+-- the year 0 to 1970
 pub record IsInMonth (t month within : ℤ) : Type 0 where
   pub stamp : IsStamp t
   pub number : month ≡ month_of (civil_of (day_of t))

@@ -23,7 +23,8 @@ pub record IsBehindStart (before : List ℕ) : Type 0 where
   pub start_text : List ℕ
   pub start : ℤ
   pub start_is : read_stamp start_text ≡ Some start
-  pub parted : IsParted (codes "startdate" ∷ codes "(" ∷ start_text ∷ codes ")" ∷ codes "," ∷ codes "pattstart" ∷ codes "(" ∷ []) before
+  pub parted : IsParted (codes "startdate" ∷ codes "(" ∷ start_text ∷ codes ")" ∷ codes "," ∷ codes "pattstart"
+      ∷ codes "(" ∷ []) before
 
 -- the bytes end behind `startdate (` or behind `pattstart (`, where a stamp stands
 abbrev pub IsBeforeStamp : List ℕ → Type 0

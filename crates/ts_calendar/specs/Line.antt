@@ -1,5 +1,6 @@
 -- The starts of intervals on a line that goes on beyond the stamps on both sides.
-use Rattle.std.specs.Prelude.{ℕ, ◌*◌, ◌+◌, Bool, false, Option, Some, None, if◌then◌else◌, int_lt, not, ℤ, pos, ◌+ℤ◌, ◌-ℤ◌, ◌*ℤ◌, ◌≤ℤ◌, ◌<ℤ◌, unsigned_abs}
+use Rattle.std.specs.Prelude.{ℕ, ◌*◌, ◌+◌, Bool, false, Option, Some, None, if◌then◌else◌, int_lt, not, ℤ, pos, ◌+ℤ◌}
+use Rattle.std.specs.Prelude.{◌-ℤ◌, ◌*ℤ◌, ◌≤ℤ◌, ◌<ℤ◌, unsigned_abs}
 use Rattle.std.specs.Int.{int_div_euclid, int_rem_euclid}
 use Rattle.jiff_core.specs.Calendar.{days_from_civil}
 use Rattle.ts_base.specs.declared.unit.Unit as unit
@@ -19,7 +20,8 @@ month_line day clock n =
 unfoldable pub line_at : unit.Unit → ℤ → ℤ → ℤ
 line_at u first k =
     if is_monthly u
-    then month_line (civil_of (day_of first)).day (clock_of first) (month_of (civil_of (day_of first)) +ℤ k *ℤ pos (size u))
+    then month_line (civil_of (day_of first)).day (clock_of first)
+    (month_of (civil_of (day_of first)) +ℤ k *ℤ pos (size u))
     else first +ℤ k *ℤ pos (size u * 100_000)
 
 -- interval k begins at or before the stamp, and the next one after it

@@ -1,6 +1,7 @@
 -- The text of a calendar, as in `startdate(S), pattstart(S), pattname(N)`: its grammar, what it reads as, and how it
 -- is printed.
-use Rattle.std.specs.Prelude.{ℕ, ◌==◌, not, Bool, true, false, if◌then◌else◌, ℤ, List, [], ◌∷◌, ◌++◌, length, take, drop, reverse, Option, Some, None, Result, Ok, Err, IsTrue, codes}
+use Rattle.std.specs.Prelude.{ℕ, ◌==◌, not, Bool, true, false, if◌then◌else◌, ℤ, List, [], ◌∷◌, ◌++◌, length, take}
+use Rattle.std.specs.Prelude.{drop, reverse, Option, Some, None, Result, Ok, Err, IsTrue, codes}
 use Rattle.std.specs.Str.{bytes_eq}
 use Rattle.std.specs.List.{prefix_len}
 use Rattle.ts_base.specs.Name.{is_name}
@@ -12,7 +13,8 @@ use Rattle.ts_pattern.specs.Plan.{Plan}
 use Rattle.ts_pattern.specs.Runs.{is_pattern}
 use Rattle.ts_pattern.specs.Grammar.{pattern_in, plan_of_written, printed_plan}
 use Rattle.ts_text.specs.Blanks.{unblanked}
-use Rattle.ts_text.specs.Phrase.{Read, Phrase, ◌>>=◌, give, token, name_as, a_sign, behind, in_brackets, made, ended, outcome}
+use Rattle.ts_text.specs.Phrase.{Read, Phrase, ◌>>=◌, give, token, name_as, a_sign, behind, in_brackets, made, ended}
+use Rattle.ts_text.specs.Phrase.{outcome}
 use Rattle.ts_text.specs.Plain.{plain_front, a_word}
 use Rattle.ts_text.specs.declared.token.TokenKind.{TokenKind}
 use Rattle.ts_text.specs.declared.token.TokenKind.TheVariants.{Word}
@@ -65,7 +67,8 @@ pattern_part_in = made (in_brackets pattern_in) Own
 
 -- whether a name follows, or a pattern
 abbrev pub part_as : TokenKind → List ℕ → Option Bool
-part_as Word word = if bytes_eq word (codes "pattname") then Some true else (if bytes_eq word (codes "pattern") then Some false else None)
+part_as Word word = if bytes_eq word (codes "pattname") then Some true
+    else (if bytes_eq word (codes "pattern") then Some false else None)
 part_as kind token = None
 
 -- the word before a name or a pattern

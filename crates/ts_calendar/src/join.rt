@@ -23,7 +23,8 @@ use ts_pattern::{Junction, smaller_unit};
 
 impl Calendar {
     /// The grid that the intervals of both calendars lie on, in the smaller unit. UnitMismatch where neither unit is
-    /// made of the other, NotAligned where no whole number of the smaller one leads from pattern start to pattern start.
+    /// made of the other, NotAligned where no whole number of the smaller one leads from pattern start to pattern
+    /// start.
     pub fn common_grid(&self, other: &Calendar) -> Result<CommonGrid, Refusal>
         ensures value { result ≡ common_grid self.now other.now }
         ensures near { IfOk result (λ g. IsNear g.steps) }
@@ -115,13 +116,20 @@ impl Calendar {
         other_shift: i64,
     ) -> Result<Calendar, Trouble>
         requires stamp { IsStamp patt_start }
-        requires early { (u : unit.Unit) → smaller_unit self.now.pattern.unit other.now.pattern.unit ≡ Some u → IsEarly u patt_start }
-        requires valid { (p : Plan) → joined_plan junction self.now.pattern shift other.now.pattern other_shift ≡ Ok p → has_on p.runs ≡ true → IsValid (record { start = start; patt_start = patt_start; pattern = p }) }
-        ensures answer { Answers (with_pattern start patt_start (joined_plan junction self.now.pattern shift other.now.pattern other_shift)) result }
+        requires early { (u : unit.Unit) → smaller_unit self.now.pattern.unit other.now.pattern.unit ≡ Some u
+            → IsEarly u patt_start }
+        requires valid { (p : Plan) → joined_plan junction self.now.pattern shift other.now.pattern other_shift ≡ Ok p
+            → has_on p.runs ≡ true → IsValid (record { start = start; patt_start = patt_start; pattern = p }) }
+        ensures answer { Answers
+            (with_pattern start patt_start
+            (joined_plan junction self.now.pattern shift other.now.pattern other_shift)) result }
         ensures parts { IfOk result (λ c. (c.start ≡ start) × (c.patt_start ≡ patt_start)) }
-        ensures unit { IfOk result (λ c. smaller_unit self.now.pattern.unit other.now.pattern.unit ≡ Some c.pattern.unit) }
-        ensures flags { IfOk result (λ c. (k : ℤ) → flag c.pattern.runs k ≡ joined_flag junction c.pattern.unit self.now.pattern shift other.now.pattern other_shift k) }
-        ensures length { IfOk result (λ c. total c.pattern.runs ≡ joined_length c.pattern.unit self.now.pattern other.now.pattern) }
+        ensures unit { IfOk result (λ c. smaller_unit self.now.pattern.unit other.now.pattern.unit
+            ≡ Some c.pattern.unit) }
+        ensures flags { IfOk result (λ c. (k : ℤ) → flag c.pattern.runs k
+            ≡ joined_flag junction c.pattern.unit self.now.pattern shift other.now.pattern other_shift k) }
+        ensures length { IfOk result (λ c. total c.pattern.runs
+            ≡ joined_length c.pattern.unit self.now.pattern other.now.pattern) }
     {
         match self
             .pattern()

@@ -1,5 +1,6 @@
 // Intervals of one unit, counted from a stamp on.
-ghost use Rattle.std.specs.Prelude.{◌≡◌, ◌+◌, ◌*◌, ◌≤◌, ◌<◌, pos, negsuc, ℤ, ◌+ℤ◌, ◌*ℤ◌, ◌≤ℤ◌, IsTrue, IsSome, IfSome, IfNone, Some};
+ghost use Rattle.std.specs.Prelude.{◌≡◌, ◌+◌, ◌*◌, ◌≤◌, ◌<◌, pos, negsuc, ℤ, ◌+ℤ◌, ◌*ℤ◌, ◌≤ℤ◌, IsTrue, IsSome, IfSome};
+ghost use Rattle.std.specs.Prelude.{IfNone, Some};
 ghost use Rattle.std.specs.Int.{int_div_euclid};
 ghost use Rattle.ts_pattern.specs.Units.{size, is_monthly};
 ghost use Rattle.ts_calendar.specs.Calendar.{steps_between, first_step, starts_at};

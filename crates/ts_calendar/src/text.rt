@@ -125,10 +125,10 @@ pub fn printed_calendars_are_read()
     ensures { (c : CalendarText) → IsSound c → read_calendar (printed_calendar c) ≡ Ok c }
 {}
 
-/// Where a text is refused as a calendar, what stands before the place goes on to a calendar's text; with the token that
-/// stands at the place none does: whatever comes behind it that leaves it this token, the text is refused at this place. In
-/// the brackets of a date the bytes up to the next closing bracket count as one token. Nothing is said of bytes that begin
-/// no token.
+/// Where a text is refused as a calendar, what stands before the place goes on to a calendar's text; with the token
+/// that stands at the place none does: whatever comes behind it that leaves it this token, the text is refused at this
+/// place. In the brackets of a date the bytes up to the next closing bracket count as one token. Nothing is said of
+/// bytes that begin no token.
 pub fn calendars_are_refused_in_place()
     ensures { RefusesInPlace calendar_fronts written_calendar }
 {}

@@ -1,6 +1,6 @@
-//! Calendars, their texts, and the offsets on them, worked out by hand, and a plain walk with which the calls that count are
-//! compared. There are only tests: they stand apart, since a crate that has tests of its own is proved twice. Stands on
-//! ts_calendar and ts_offset, which it tests. Read `laid.rt`, then the others in any order.
+//! Calendars, their texts, and the offsets on them, worked out by hand, and a plain walk with which the calls that
+//! count are compared. There are only tests: they stand apart, since a crate that has tests of its own is proved twice.
+//! Stands on ts_calendar and ts_offset, which it tests. Read `laid.rt`, then the others in any order.
 #![tactic(auto)]
 
 #[cfg(test)]

@@ -1,5 +1,6 @@
 -- An irregular page: the elements of a series in the order of their stamps, or a part of them.
-use Rattle.std.specs.Prelude.{◌≡◌, ℕ, ◌-◌, ◌*◌, ◌<◌, ◌≤◌, ◌^◌, ℤ, ◌<ℤ◌, Option, Some, None, List, [], ◌∷◌, ◌++◌, length, replicate}
+use Rattle.std.specs.Prelude.{◌≡◌, ℕ, ◌-◌, ◌*◌, ◌<◌, ◌≤◌, ◌^◌, ℤ, ◌<ℤ◌, Option, Some, None, List, [], ◌∷◌, ◌++◌, length}
+use Rattle.std.specs.Prelude.{replicate}
 use Rattle.std.specs.List.{flat_map}
 use Rattle.ts_page.specs.Head.{head_bytes}
 use Rattle.ts_page.specs.declared.page.Head.TheVariants.{Free, Regular, Irregular}

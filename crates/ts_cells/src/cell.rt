@@ -33,8 +33,10 @@ pub fn page_room(kind: &RowType) -> usize
 /// The stamp of a cell, where its bytes are those of an element.
 pub fn stamp_of_cell(kind: &RowType, cell: &[u8]) -> Option<Stamp>
     requires { length cell.now ≡ cell_size kind.now.columns }
-    ensures found { IfSome result (λ stamp. (row : TheRow) × IsElement kind.now.columns (stamp, row) × (cell.now ≡ cell_bytes kind.now.columns (stamp, row))) }
-    ensures none { IfNone result ((e : Element) → IsElement kind.now.columns e → cell.now ≢ cell_bytes kind.now.columns e) }
+    ensures found { IfSome result (λ stamp. (row : TheRow) × IsElement kind.now.columns (stamp, row)
+        × (cell.now ≡ cell_bytes kind.now.columns (stamp, row))) }
+    ensures none { IfNone result ((e : Element) → IsElement kind.now.columns e
+        → cell.now ≢ cell_bytes kind.now.columns e) }
 {
     if cell[0] != 1 || !kind.is_row(&cell[FRONT..]) {
         return None;

@@ -2,7 +2,8 @@
 ghost use Rattle.std.specs.Prelude.{◌≡◌, ◌↔◌, ◌*◌, ◌≤◌, IsTrue, IfSome, IfNone, Some, List, ℕ, length};
 ghost use Rattle.ts_page.specs.Head.{head_of};
 ghost use Rattle.ts_cells.specs.Cell.{Element, cell_size, page_room};
-ghost use Rattle.ts_cells.specs.IrregularPage.{IsIrregularPage, AreInOrder, HasExtent, cells_bytes, behind_head, irregular_count};
+ghost use Rattle.ts_cells.specs.IrregularPage.{IsIrregularPage, AreInOrder, HasExtent, cells_bytes, behind_head};
+ghost use Rattle.ts_cells.specs.IrregularPage.{irregular_count};
 
 use crate::cell::{cell_size, is_hidden_cell, page_room, stamp_of_cell};
 use ts_base::Stamp;
@@ -24,7 +25,8 @@ pub struct Extent {
 pub fn extent_of(kind: &RowType, page: &Page) -> Option<Extent>
     ensures found { IfSome result (λ extent. (slot : ℕ) × (es : List Element)
         × IsIrregularPage slot kind.now.columns es page.now.bytes × HasExtent es extent) }
-    ensures none { IfNone result ((slot : ℕ) (es : List Element) → IsIrregularPage slot kind.now.columns es page.now.bytes → ⊥) }
+    ensures none { IfNone result ((slot : ℕ) (es : List Element)
+        → IsIrregularPage slot kind.now.columns es page.now.bytes → ⊥) }
 {
     let Some(count) = count_of(page) else {
         return None;
@@ -38,7 +40,8 @@ fn extent_told(kind: &RowType, count: u16, page: &[u8]) -> Option<Extent>
     requires told { irregular_count (head_of page.now) ≡ Some count }
     ensures found { IfSome result (λ extent. (slot : ℕ) × (es : List Element)
         × IsIrregularPage slot kind.now.columns es page.now × HasExtent es extent) }
-    ensures none { IfNone result ((slot : ℕ) (es : List Element) → IsIrregularPage slot kind.now.columns es page.now → ⊥) }
+    ensures none { IfNone result ((slot : ℕ) (es : List Element) → IsIrregularPage slot kind.now.columns es page.now
+        → ⊥) }
 {
     if !has_room(count, page_room(kind)) {
         return None;

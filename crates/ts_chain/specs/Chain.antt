@@ -46,7 +46,8 @@ pub record IsChain (columns : List Column) (chain : List (List Element)) : Type 
   pub pages : ArePages columns chain
   pub dense : IsDense (page_room columns) chain
 
--- The page between these is the one that a stamp belongs to: all elements before it are earlier, and all behind it later.
+-- The page between these is the one that a stamp belongs to: all elements before it are earlier, and all behind it
+-- later.
 pub record IsAround (stamp : ℤ) (front back : List (List Element)) : Type 0 where
   pub earlier : AreEarlier stamp (all_in front)
   pub later : AreLater stamp (all_in back)

@@ -1,5 +1,6 @@
 -- The halves of a full page that got one more element, and the neighbours among which they stand.
-use Rattle.std.specs.Prelude.{◌≡◌, ◌≢◌, ℕ, ◌+◌, ◌*◌, ◌<◌, ◌≤◌, ℤ, Bool, Option, None, Some, IfSome, List, [], ◌∷◌, ◌++◌, length, option_to_list}
+use Rattle.std.specs.Prelude.{◌≡◌, ◌≢◌, ℕ, ◌+◌, ◌*◌, ◌<◌, ◌≤◌, ℤ, Bool, Option, None, Some, IfSome, List, [], ◌∷◌, ◌++◌}
+use Rattle.std.specs.Prelude.{length, option_to_list}
 use Rattle.std.specs.Int.{int_min}
 use Rattle.ts_space.specs.declared.place.Place.{Place}
 use Rattle.ts_page.specs.Pages.{Contents}
@@ -34,14 +35,16 @@ abbrev pub IsJoinedBehind : ℕ → ℕ → List Place → Option Place → Type
 IsJoinedBehind q n back (Some b) = HasBehind back b q n
 IsJoinedBehind q n back None = ¬ FitsFirst q n back
 
--- The halves of the page of a place: the first stays on it, and begins where it did or at the stamp that was put before all; the second
--- has the others, and begins where these bytes say.
-pub record AreHalved (slot : ℕ) (columns : List Column) (stamp : ℤ) (front : List Place) (place : Place) (back : List Place) (others : List ℕ) (h : Halves) : Type 0 where
+-- The halves of the page of a place: the first stays on it, and begins where it did or at the stamp that was put before
+-- all; the second has the others, and begins where these bytes say.
+pub record AreHalved (slot : ℕ) (columns : List Column) (stamp : ℤ) (front : List Place) (place : Place)
+    (back : List Place) (others : List ℕ) (h : Halves) : Type 0 where
   pub page : h.first.page ≡ place.page
   pub first_count : h.first.count ≡ half_of columns
   pub both_count : h.second.count + h.first.count ≡ page_room columns + 1
   pub first_at : h.first.at ≡ int_min place.at stamp
-  pub second_at : (es : List Element) → AreElements columns es → length es ≡ h.second.count → others ≡ irregular_page slot columns es → first_stamp es ≡ Some h.second.at
+  pub second_at : (es : List Element) → AreElements columns es → length es ≡ h.second.count
+      → others ≡ irregular_page slot columns es → first_stamp es ≡ Some h.second.at
   pub before : IsJoinedBefore (page_room columns) h.first.count front h.before
   pub behind : IsJoinedBehind (page_room columns) h.second.count back h.behind
 
@@ -65,9 +68,12 @@ pub record CanSpread (columns : List Column) (v : Contents) (h : Halves) : Type 
   pub apart : IfSome h.before (λ b. IfSome h.behind (λ c. b.page ≢ c.page))
   pub spare : IsAlone h → 0 < length v.free
 
--- They were put: two places come, of which the second begins where the second half does. A page that was freed pays what it cost.
-pub record IsSpread (tells : Bool) (slot : ℕ) (columns : List Column) (h : Halves) (page others : List ℕ) (come : Place × Place) (v w : Contents) : Type 0 where
+-- They were put: two places come, of which the second begins where the second half does. A page that was freed pays
+-- what it cost.
+pub record IsSpread (tells : Bool) (slot : ℕ) (columns : List Column) (h : Halves) (page others : List ℕ) (come : Place
+    × Place) (v w : Contents) : Type 0 where
   pub first_at : come.0.at ≡ begin_of (option_to_list h.before) h.first
   pub second_at : come.1.at ≡ h.second.at
-  pub spread : AreSpread tells slot columns (option_to_list h.before) h.first h.second (option_to_list h.behind) page others come v w
+  pub spread : AreSpread tells slot columns (option_to_list h.before) h.first h.second
+      (option_to_list h.behind) page others come v w
   pub grows : w.change_bytes + 5 * length v.free ≤ v.change_bytes + 5 * length w.free + 8207

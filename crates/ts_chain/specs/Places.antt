@@ -1,5 +1,6 @@
 -- The places of a series beside its chain.
-use Rattle.std.specs.Prelude.{◌≡◌, ◌≢◌, ◌⊎◌, ℕ, ◌<◌, ◌≤◌, ℤ, ◌≤ℤ◌, All, AllPairs, Contains, List, [], ◌∷◌, ◌++◌, length, ◌+◌, IsPermutation}
+use Rattle.std.specs.Prelude.{◌≡◌, ◌≢◌, ◌⊎◌, ℕ, ◌<◌, ◌≤◌, ℤ, ◌≤ℤ◌, All, AllPairs, Contains, List, [], ◌∷◌, ◌++◌, length}
+use Rattle.std.specs.Prelude.{◌+◌, IsPermutation}
 use Rattle.ts_space.specs.declared.place.Place.{Place}
 use Rattle.ts_space.specs.Place.{AreAbove, IsRising, pages_of}
 use Rattle.ts_page.specs.Pages.{Contents, IsElementPage}
@@ -13,7 +14,8 @@ abbrev pub AreChained : ℕ → List Column → (ℕ → List ℕ) → List Plac
 AreChained slot columns pages [] [] = Unit {0}
 AreChained slot columns pages [] (es ∷ chain) = ⊥
 AreChained slot columns pages (place ∷ places) [] = ⊥
-AreChained slot columns pages (place ∷ places) (es ∷ chain) = IsOn slot columns (pages place.page) place es × AreChained slot columns pages places chain
+AreChained slot columns pages (place ∷ places) (es ∷ chain) = IsOn slot columns (pages place.page) place es
+    × AreChained slot columns pages places chain
 
 -- a place's page can be read: it is an element page
 pub record CanBeRead (c : Contents) (place : Place) : Type 0 where
@@ -26,8 +28,8 @@ pub record CanBeFreed (c : Contents) (number : ℕ) : Type 0 where
   pub below : number < c.count
   pub used : ¬ Contains c.free number
 
--- each place is that of an element page which `take` can't give, with some elements and no more than there is room for; and no page
--- has two
+-- each place is that of an element page which `take` can't give, with some elements and no more than there is room for;
+-- and no page has two
 pub record ArePlaces (columns : List Column) (c : Contents) (places : List Place) : Type 0 where
   pub each : All (IsPlace columns c) places
   pub different : AllPairs (λ a b. a ≢ b) (pages_of places)
@@ -57,8 +59,8 @@ pub record IsCounted (columns : List Column) (place : Place) : Type 0 where
   pub some : 1 ≤ place.count
   pub room : place.count ≤ page_room columns
 
--- On every volume: the pages of the places and those that `take` can give are together the same ones before and after, the places
--- rise, and each has some elements and no more than there is room for.
+-- On every volume: the pages of the places and those that `take` can give are together the same ones before and after,
+-- the places rise, and each has some elements and no more than there is room for.
 pub record AreMoved (columns : List Column) (old new : List Place) (v w : Contents) : Type 0 where
   pub pages : IsPermutation (v.free ++ pages_of old) (w.free ++ pages_of new)
   pub rising : IsRising new
@@ -75,8 +77,8 @@ abbrev pub FitsFirst : ℕ → ℕ → List Place → Type 0
 FitsFirst q n [] = ⊥
 FitsFirst q n (p ∷ places) = n + p.count ≤ q
 
--- Where a page begins that lost an element: not before it did, and below the places behind it; where the stamp that was read there is so,
--- it is that.
+-- Where a page begins that lost an element: not before it did, and below the places behind it; where the stamp that was
+-- read there is so, it is that.
 pub record IsBeginning (at begins : ℤ) (place : Place) (back : List Place) : Type 0 where
   pub low : place.at ≤ℤ begins
   pub above : AreAbove begins back

@@ -1,5 +1,6 @@
 -- Where an element is put at a stamp that may be taken.
-use Rattle.std.specs.Prelude.{ℕ, ℤ, pos, ◌+ℤ◌, ◌*ℤ◌, int_lt, if◌then◌else◌, Option, Some, None, is_some, Result, Ok, Err, List, filter}
+use Rattle.std.specs.Prelude.{ℕ, ℤ, pos, ◌+ℤ◌, ◌*ℤ◌, int_lt, if◌then◌else◌, Option, Some, None, is_some, Result, Ok}
+use Rattle.std.specs.Prelude.{Err, List, filter}
 use Rattle.std.specs.Int.{int_div_euclid}
 use Rattle.std.specs.Option.{option_map, option_and_then}
 use Rattle.ts_base.specs.declared.refusal.Refusal.{Refusal}
@@ -27,10 +28,12 @@ last_before end es = option_map (λ e. e.0) (last_of (earlier end es))
 abbrev pub unit_after : ℤ → ℤ → Option ℤ
 unit_after end stamp = if int_lt (stamp +ℤ pos 1) end then Some (stamp +ℤ pos 1) else None
 
--- The stamp itself where no element stands at it; else the one behind the last element of its second, if one is left there.
+-- The stamp itself where no element stands at it; else the one behind the last element of its second, if one is left
+-- there.
 abbrev pub place_for : ℤ → List Element → Option ℤ
 place_for stamp es =
-    if is_some (element_at stamp es) then option_and_then (unit_after (next_second stamp)) (last_before (next_second stamp) es)
+    if is_some (element_at stamp es) then option_and_then (unit_after (next_second stamp))
+    (last_before (next_second stamp) es)
     else Some stamp
 
 -- the place that an element gets, if there is one; else its second is full

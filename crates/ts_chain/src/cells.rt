@@ -12,7 +12,8 @@ pub(crate) fn keep_first(kind: &RowType, behind: &mut [u8], count: usize, keep: 
     requires size { length behind.old ≡ 4064 }
     requires room { count ≤ page_room kind.now.columns }
     requires keep { keep ≤ count }
-    ensures { (es : List Element) → AreElements kind.now.columns es → length es ≡ count → behind.old ≡ behind_head kind.now.columns es
+    ensures { (es : List Element) → AreElements kind.now.columns es → length es ≡ count
+        → behind.old ≡ behind_head kind.now.columns es
         → behind.new ≡ behind_head kind.now.columns (take keep es) }
 {
     let size = cell_size(kind);
@@ -24,7 +25,8 @@ pub(crate) fn keep_others(kind: &RowType, behind: &mut [u8], count: usize, first
     requires size { length behind.old ≡ 4064 }
     requires room { count ≤ page_room kind.now.columns }
     requires first { first ≤ count }
-    ensures { (es : List Element) → AreElements kind.now.columns es → length es ≡ count → behind.old ≡ behind_head kind.now.columns es
+    ensures { (es : List Element) → AreElements kind.now.columns es → length es ≡ count
+        → behind.old ≡ behind_head kind.now.columns es
         → behind.new ≡ behind_head kind.now.columns (drop first es) }
 {
     let size = cell_size(kind);
@@ -44,7 +46,8 @@ pub(crate) fn append_cells(
     requires size { length behind.old ≡ 4064 }
     requires others { length others.now ≡ 4064 }
     requires room { count + more ≤ page_room kind.now.columns }
-    ensures { (es fs : List Element) → AreElements kind.now.columns es → AreElements kind.now.columns fs → length es ≡ count → length fs ≡ more
+    ensures { (es fs : List Element) → AreElements kind.now.columns es → AreElements kind.now.columns fs
+        → length es ≡ count → length fs ≡ more
         → behind.old ≡ behind_head kind.now.columns es → others.now ≡ behind_head kind.now.columns fs
         → behind.new ≡ behind_head kind.now.columns (es ++ fs) }
 {

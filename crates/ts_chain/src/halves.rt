@@ -34,7 +34,8 @@ pub(crate) fn halves_of(
 ) -> Halves
     requires index { index < length places.now }
     requires some { 1 ≤ page_room shelf.now.kind.now.columns }
-    ensures { (front : List ThePlace) (place : ThePlace) (back : List ThePlace) → places.now ≡ front ++ place ∷ back → length front ≡ index
+    ensures { (front : List ThePlace) (place : ThePlace) (back : List ThePlace) → places.now ≡ front ++ place ∷ back
+        → length front ≡ index
         → AreHalved shelf.now.series shelf.now.kind.now.columns stamp front place back others.now.bytes result }
 {
     let place = &places[index];
@@ -49,7 +50,8 @@ pub(crate) fn halves_of(
     }
 }
 
-// The place of the first half, on the page that was full: it begins where that did, or at the stamp that was put before all.
+// The place of the first half, on the page that was full: it begins where that did, or at the stamp that was put before
+// all.
 fn first_half(shelf: &Shelf, place: &Place, stamp: Stamp) -> Place
     ensures page { result.page ≡ place.now.page }
     ensures count { result.count ≡ half_of shelf.now.kind.now.columns }
@@ -67,7 +69,8 @@ fn before_within(places: &[Place], index: usize, count: usize, room: usize) -> O
     requires index { index < length places.now }
     requires few { count ≤ room }
     requires room { room ≤ 451 }
-    ensures { (front back : List ThePlace) → places.now ≡ front ++ back → length front ≡ index → IsJoinedBefore room count front result }
+    ensures { (front back : List ThePlace) → places.now ≡ front ++ back → length front ≡ index
+        → IsJoinedBefore room count front result }
 {
     if fits_before(places, index, count, room) {
         Some(places[index - 1])
@@ -81,7 +84,8 @@ fn behind_within(places: &[Place], index: usize, count: usize, room: usize) -> O
     requires index { index < length places.now }
     requires few { count ≤ room }
     requires room { room ≤ 451 }
-    ensures { (front : List ThePlace) (place : ThePlace) (back : List ThePlace) → places.now ≡ front ++ place ∷ back → length front ≡ index → IsJoinedBehind room count back result }
+    ensures { (front : List ThePlace) (place : ThePlace) (back : List ThePlace) → places.now ≡ front ++ place ∷ back
+        → length front ≡ index → IsJoinedBehind room count back result }
 {
     if fits_behind(places, index, count, room) {
         Some(places[index + 1])
@@ -95,8 +99,10 @@ pub(crate) fn stands_between(places: &[Place], index: usize, first: &Place, seco
     requires index { index < length places.now }
     requires rising { IsRising places.now }
     ensures low { IsTrue result → first.now.at <ℤ second.now.at }
-    ensures yes { IsTrue result → (front : List ThePlace) (place : ThePlace) (back : List ThePlace) → places.now ≡ front ++ place ∷ back → length front ≡ index → AreAbove second.now.at back }
-    ensures no { (front : List ThePlace) (place : ThePlace) (back : List ThePlace) → places.now ≡ front ++ place ∷ back → length front ≡ index
+    ensures yes { IsTrue result → (front : List ThePlace) (place : ThePlace) (back : List ThePlace) → places.now ≡ front
+        ++ place ∷ back → length front ≡ index → AreAbove second.now.at back }
+    ensures no { (front : List ThePlace) (place : ThePlace) (back : List ThePlace) → places.now ≡ front ++ place ∷ back
+        → length front ≡ index
         → first.now.at <ℤ second.now.at → AreAbove second.now.at back → IsTrue result }
 {
     if !begins_below(first, second) {

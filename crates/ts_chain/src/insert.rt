@@ -20,11 +20,12 @@ use ts_page::{HEAD, Page, Pages};
 use ts_row::{Row, Shelf};
 use ts_space::{Come, Moved, Place, Space};
 
-/// Puts a row at a stamp at which no element of a series stands, hidden or not, and tells which places go and come; where one stands there it
-/// gives none, and all pages are as before. One page is read: that of the place which holds the stamp, or the first where all begin later; its
-/// head is compared with its place, and one that disagrees is taken as a page without elements. A full page is parted in two halves, each of
-/// which goes together with its neighbour, which is read then, where they fit one page; so at most four pages are written, taken or freed. A
-/// series without places takes a page. After an error pages may have changed in part. `page` is room to read one.
+/// Puts a row at a stamp at which no element of a series stands, hidden or not, and tells which places go and come;
+/// where one stands there it gives none, and all pages are as before. One page is read: that of the place which holds
+/// the stamp, or the first where all begin later; its head is compared with its place, and one that disagrees is taken
+/// as a page without elements. A full page is parted in two halves, each of which goes together with its neighbour,
+/// which is read then, where they fit one page; so at most four pages are written, taken or freed. A series without
+/// places takes a page. After an error pages may have changed in part. `page` is room to read one.
 pub fn chain_insert<P: Pages>(
     pages: &mut P,
     page: &mut Page,
@@ -34,11 +35,14 @@ pub fn chain_insert<P: Pages>(
     row: &Row,
 ) -> Result<Option<Moved>, StoreFault>
     requires slot { shelf.now.series < 4096 }
-    requires places { ArePlaces shelf.now.kind.now.columns (P.contents pages.old) (places_of shelf.now.series space.now) }
+    requires places { ArePlaces shelf.now.kind.now.columns (P.contents pages.old)
+        (places_of shelf.now.series space.now) }
     requires fits { IsTrue (fits shelf.now.kind.now.columns row.now) }
-    requires room { irregular_charge (page_room shelf.now.kind.now.columns) (count_of (places_of shelf.now.series space.now) + 1)
+    requires room { irregular_charge (page_room shelf.now.kind.now.columns)
+        (count_of (places_of shelf.now.series space.now) + 1)
         ≤ length (P.contents pages.old).free + length (places_of shelf.now.series space.now) }
-    ensures ok { IfOk result (IsInserted P.tells shelf.now.series shelf.now.kind.now.columns stamp row.now (places_of shelf.now.series space.now)
+    ensures ok { IfOk result (IsInserted P.tells shelf.now.series shelf.now.kind.now.columns stamp row.now
+        (places_of shelf.now.series space.now)
         (P.contents pages.old) (P.contents pages.new)) }
     ensures call { Answered result (P.contents pages.old) (P.contents pages.new) }
     ensures grows { IfOk result (λ moved. (P.contents pages.new).change_bytes + 5 * length (P.contents pages.old).free
@@ -85,9 +89,13 @@ fn insert_read<P: Pages>(
     requires rising { IsRising places.now }
     requires places { ArePlaces shelf.now.kind.now.columns (P.contents pages.old) places.now }
     requires fits { IsTrue (fits shelf.now.kind.now.columns row.now) }
-    requires room { irregular_charge (page_room shelf.now.kind.now.columns) (count_of places.now + 1) ≤ length (P.contents pages.old).free + length places.now }
-    requires read { (t : IsTarget target.stamp places.now target.index) → IsTrue P.tells → page.old.bytes ≡ (P.contents pages.old).page t.place.page }
-    ensures ok { IfOk result (IsInserted P.tells shelf.now.series shelf.now.kind.now.columns target.stamp row.now places.now (P.contents pages.old) (P.contents pages.new)) }
+    requires room { irregular_charge (page_room shelf.now.kind.now.columns) (count_of places.now + 1) ≤ length
+        (P.contents pages.old).free + length places.now }
+    requires read { (t : IsTarget target.stamp places.now target.index) → IsTrue P.tells
+        → page.old.bytes ≡ (P.contents pages.old).page t.place.page }
+    ensures ok { IfOk result
+        (IsInserted P.tells shelf.now.series shelf.now.kind.now.columns target.stamp row.now places.now
+        (P.contents pages.old) (P.contents pages.new)) }
     ensures call { Answered result (P.contents pages.old) (P.contents pages.new) }
     ensures grows { IfOk result (λ moved. (P.contents pages.new).change_bytes + 5 * length (P.contents pages.old).free
         ≤ (P.contents pages.old).change_bytes + 5 * length (P.contents pages.new).free + 8207) }
@@ -117,7 +125,8 @@ fn insert_read<P: Pages>(
     Ok(Some(moved))
 }
 
-// The place of a page that had so many elements and has one more: it begins where it did, or at the stamp that was put before all.
+// The place of a page that had so many elements and has one more: it begins where it did, or at the stamp that was put
+// before all.
 fn grown(place: &Place, stamp: Stamp, count: usize) -> Place
     requires { count < 65535 }
     ensures page { result.page ≡ place.now.page }

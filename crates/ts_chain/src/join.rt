@@ -22,8 +22,10 @@ pub(crate) fn fits_before(places: &[Place], index: usize, count: usize, room: us
     requires few { count ≤ room }
     requires room { room ≤ 451 }
     ensures low { IsTrue result → 1 ≤ index }
-    ensures yes { IsTrue result → (front back : List ThePlace) → places.now ≡ front ++ back → length front ≡ index → FitsLast room count front }
-    ensures no { (front back : List ThePlace) → places.now ≡ front ++ back → length front ≡ index → FitsLast room count front → IsTrue result }
+    ensures yes { IsTrue result → (front back : List ThePlace) → places.now ≡ front ++ back → length front ≡ index
+        → FitsLast room count front }
+    ensures no { (front back : List ThePlace) → places.now ≡ front ++ back → length front ≡ index
+        → FitsLast room count front → IsTrue result }
 {
     if index == 0 {
         return false;
@@ -37,8 +39,10 @@ pub(crate) fn fits_behind(places: &[Place], index: usize, count: usize, room: us
     requires few { count ≤ room }
     requires room { room ≤ 451 }
     ensures high { IsTrue result → index + 1 < length places.now }
-    ensures yes { IsTrue result → (front : List ThePlace) (place : ThePlace) (back : List ThePlace) → places.now ≡ front ++ place ∷ back → length front ≡ index → FitsFirst room count back }
-    ensures no { (front : List ThePlace) (place : ThePlace) (back : List ThePlace) → places.now ≡ front ++ place ∷ back → length front ≡ index → FitsFirst room count back → IsTrue result }
+    ensures yes { IsTrue result → (front : List ThePlace) (place : ThePlace) (back : List ThePlace) → places.now ≡ front
+        ++ place ∷ back → length front ≡ index → FitsFirst room count back }
+    ensures no { (front : List ThePlace) (place : ThePlace) (back : List ThePlace) → places.now ≡ front ++ place ∷ back
+        → length front ≡ index → FitsFirst room count back → IsTrue result }
 {
     if index + 1 >= places.len() {
         return false;
@@ -46,8 +50,8 @@ pub(crate) fn fits_behind(places: &[Place], index: usize, count: usize, room: us
     count + places[index + 1].count as usize <= room
 }
 
-/// Puts the elements of the page before in front of those of a page, and gives how many it has then. That page is read alone; one that
-/// disagrees with its place is taken as a page without elements.
+/// Puts the elements of the page before in front of those of a page, and gives how many it has then. That page is read
+/// alone; one that disagrees with its place is taken as a page without elements.
 pub fn join_before<P: Pages>(
     pages: &mut P,
     page: &mut Page,
@@ -59,8 +63,10 @@ pub fn join_before<P: Pages>(
     requires room { before.now.count + count ≤ page_room shelf.now.kind.now.columns }
     ensures joined { IfOk result (λ all. IsTrue P.tells → (es fs : List Element)
         → IsOn shelf.now.series shelf.now.kind.now.columns ((P.contents pages.old).page before.now.page) before.now es
-        → AreElements shelf.now.kind.now.columns fs → length fs ≡ count → drop 32 page.old.bytes ≡ behind_head shelf.now.kind.now.columns fs
-        → (all ≡ before.now.count + count) × (page.new.bytes ≡ irregular_page shelf.now.series shelf.now.kind.now.columns (es ++ fs))) }
+        → AreElements shelf.now.kind.now.columns fs → length fs ≡ count → drop 32 page.old.bytes
+        ≡ behind_head shelf.now.kind.now.columns fs
+        → (all ≡ before.now.count + count)
+        × (page.new.bytes ≡ irregular_page shelf.now.series shelf.now.kind.now.columns (es ++ fs))) }
     ensures least { IfOk result (λ all. count ≤ all) }
     ensures most { IfOk result (λ all. all ≤ before.now.count + count) }
     ensures call { Reads P.tells result (P.contents pages.old) (P.contents pages.new) }
@@ -86,8 +92,10 @@ pub fn join_behind<P: Pages>(
     requires room { count + behind.now.count ≤ page_room shelf.now.kind.now.columns }
     ensures joined { IfOk result (λ all. IsTrue P.tells → (fs es : List Element)
         → IsOn shelf.now.series shelf.now.kind.now.columns ((P.contents pages.old).page behind.now.page) behind.now es
-        → AreElements shelf.now.kind.now.columns fs → length fs ≡ count → drop 32 page.old.bytes ≡ behind_head shelf.now.kind.now.columns fs
-        → (all ≡ count + behind.now.count) × (page.new.bytes ≡ irregular_page shelf.now.series shelf.now.kind.now.columns (fs ++ es))) }
+        → AreElements shelf.now.kind.now.columns fs → length fs ≡ count → drop 32 page.old.bytes
+        ≡ behind_head shelf.now.kind.now.columns fs
+        → (all ≡ count + behind.now.count)
+        × (page.new.bytes ≡ irregular_page shelf.now.series shelf.now.kind.now.columns (fs ++ es))) }
     ensures least { IfOk result (λ all. count ≤ all) }
     ensures most { IfOk result (λ all. all ≤ count + behind.now.count) }
     ensures call { Reads P.tells result (P.contents pages.old) (P.contents pages.new) }
@@ -115,7 +123,8 @@ pub(crate) fn put_two<P: Pages>(
     requires first_used { ¬ Contains (P.contents pages.old).free first }
     requires second_used { ¬ Contains (P.contents pages.old).free second }
     ensures put { OnOk result (IsTrue P.tells →
-        EqualPages (with_page second others.now.bytes (with_page first page.now.bytes (P.contents pages.old).page)) (P.contents pages.new).page) }
+        EqualPages (with_page second others.now.bytes (with_page first page.now.bytes (P.contents pages.old).page))
+        (P.contents pages.new).page) }
     ensures free { (P.contents pages.new).free ≡ (P.contents pages.old).free }
     ensures call { Answered result (P.contents pages.old) (P.contents pages.new) }
     ensures change { (P.contents pages.new).change_bytes ≤ (P.contents pages.old).change_bytes + 8202 }

@@ -12,9 +12,9 @@ use ts_page::{HEAD, Page, Pages};
 use ts_row::{Row, Shelf};
 use ts_space::{Place, Space};
 
-/// The last element of a series, of those that aren't hidden. The pages are read from the last one backwards, each once, up to the first
-/// that has such an element. The head of each is compared with its place; one that disagrees is taken as a page without elements. All pages
-/// stay; `page` is room to read one.
+/// The last element of a series, of those that aren't hidden. The pages are read from the last one backwards, each
+/// once, up to the first that has such an element. The head of each is compared with its place; one that disagrees is
+/// taken as a page without elements. All pages stay; `page` is room to read one.
 pub fn chain_last<P: Pages>(
     pages: &mut P,
     page: &mut Page,
@@ -23,7 +23,8 @@ pub fn chain_last<P: Pages>(
 ) -> Result<Option<(Stamp, Row)>, StoreFault>
     requires slot { shelf.now.series < 4096 }
     requires readable { All (CanBeRead (P.contents pages.old)) (places_of shelf.now.series space.now) }
-    ensures last { IfOk result (IsLastIn P.tells shelf.now.series shelf.now.kind.now.columns (places_of shelf.now.series space.now)
+    ensures last { IfOk result (IsLastIn P.tells shelf.now.series shelf.now.kind.now.columns
+        (places_of shelf.now.series space.now)
         (P.contents pages.old)) }
     ensures fits { IfOk result (λ last. IfSome last (λ e. IsTrue (fits shelf.now.kind.now.columns e.1))) }
     ensures call { Reads P.tells result (P.contents pages.old) (P.contents pages.new) }
@@ -49,7 +50,8 @@ fn last_on<P: Pages>(
     place: &Place,
 ) -> Result<Option<(Stamp, Row)>, StoreFault>
     requires readable { CanBeRead (P.contents pages.old) place.now }
-    ensures last { IfOk result (IsLast P.tells shelf.now.series shelf.now.kind.now.columns (place.now ∷ []) (P.contents pages.old)) }
+    ensures last { IfOk result (IsLast P.tells shelf.now.series shelf.now.kind.now.columns (place.now ∷ [])
+        (P.contents pages.old)) }
     ensures fits { IfOk result (λ last. IfSome last (λ e. IsTrue (fits shelf.now.kind.now.columns e.1))) }
     ensures call { Reads P.tells result (P.contents pages.old) (P.contents pages.new) }
     ensures undisturbed { P.undisturbed pages.old pages.new }

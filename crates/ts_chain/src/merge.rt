@@ -30,7 +30,8 @@ pub(crate) fn put_and_free<P: Pages>(
     requires used { ¬ Contains (P.contents pages.old).free number }
     requires freed_used { ¬ Contains (P.contents pages.old).free freed }
     ensures put { OnOk result (IsTrue P.tells →
-        EqualPages (with_page freed zero_page (with_page number page.now.bytes (P.contents pages.old).page)) (P.contents pages.new).page) }
+        EqualPages (with_page freed zero_page (with_page number page.now.bytes (P.contents pages.old).page))
+        (P.contents pages.new).page) }
     ensures free { OnOk result ((P.contents pages.new).free ≡ freed ∷ (P.contents pages.old).free) }
     ensures call { Answered result (P.contents pages.old) (P.contents pages.new) }
     ensures change { (P.contents pages.new).change_bytes ≤ (P.contents pages.old).change_bytes + 4106 }
@@ -60,8 +61,10 @@ pub(crate) fn merge_before<P: Pages>(
     ensures free { OnOk result ((P.contents pages.new).free ≡ place.now.page ∷ (P.contents pages.old).free) }
     ensures joined { IfOk result (λ one. IsTrue P.tells → (es fs : List Element)
         → IsOn shelf.now.series shelf.now.kind.now.columns ((P.contents pages.old).page before.now.page) before.now es
-        → AreElements shelf.now.kind.now.columns fs → length fs ≡ count → drop 32 page.old.bytes ≡ behind_head shelf.now.kind.now.columns fs
-        → AreOnOne shelf.now.series shelf.now.kind.now.columns (es ++ fs) one place.now.page (P.contents pages.old) (P.contents pages.new)) }
+        → AreElements shelf.now.kind.now.columns fs → length fs ≡ count → drop 32 page.old.bytes
+        ≡ behind_head shelf.now.kind.now.columns fs
+        → AreOnOne shelf.now.series shelf.now.kind.now.columns (es ++ fs) one place.now.page (P.contents pages.old)
+        (P.contents pages.new)) }
     ensures call { Answered result (P.contents pages.old) (P.contents pages.new) }
     ensures change { (P.contents pages.new).change_bytes ≤ (P.contents pages.old).change_bytes + 4106 }
     ensures undisturbed { P.undisturbed pages.old pages.new }
@@ -77,7 +80,8 @@ pub(crate) fn merge_before<P: Pages>(
     })
 }
 
-/// The elements of the page behind go after those that are left of a page, now of that place, and the page behind is freed.
+/// The elements of the page behind go after those that are left of a page, now of that place, and the page behind is
+/// freed.
 pub(crate) fn merge_behind<P: Pages>(
     pages: &mut P,
     page: &mut Page,
@@ -99,8 +103,10 @@ pub(crate) fn merge_behind<P: Pages>(
     ensures free { OnOk result ((P.contents pages.new).free ≡ behind.now.page ∷ (P.contents pages.old).free) }
     ensures joined { IfOk result (λ one. IsTrue P.tells → (fs es : List Element)
         → IsOn shelf.now.series shelf.now.kind.now.columns ((P.contents pages.old).page behind.now.page) behind.now es
-        → AreElements shelf.now.kind.now.columns fs → length fs ≡ count → drop 32 page.old.bytes ≡ behind_head shelf.now.kind.now.columns fs
-        → AreOnOne shelf.now.series shelf.now.kind.now.columns (fs ++ es) one behind.now.page (P.contents pages.old) (P.contents pages.new)) }
+        → AreElements shelf.now.kind.now.columns fs → length fs ≡ count → drop 32 page.old.bytes
+        ≡ behind_head shelf.now.kind.now.columns fs
+        → AreOnOne shelf.now.series shelf.now.kind.now.columns (fs ++ es) one behind.now.page (P.contents pages.old)
+        (P.contents pages.new)) }
     ensures call { Answered result (P.contents pages.old) (P.contents pages.new) }
     ensures change { (P.contents pages.new).change_bytes ≤ (P.contents pages.old).change_bytes + 4106 }
     ensures undisturbed { P.undisturbed pages.old pages.new }

@@ -13,7 +13,8 @@ use ts_irregular::insert_into;
 use ts_page::{HEAD, Head, Page};
 use ts_row::{Row, Shelf};
 
-/// Parts the elements of a full page and one more, before that of an index, in two: half of them stay, the others stand on another page.
+/// Parts the elements of a full page and one more, before that of an index, in two: half of them stay, the others stand
+/// on another page.
 pub(crate) fn halve(
     shelf: &Shelf,
     page: &mut Page,
@@ -25,11 +26,15 @@ pub(crate) fn halve(
     requires room { 1 ≤ page_room shelf.now.kind.now.columns }
     requires index { index ≤ page_room shelf.now.kind.now.columns }
     requires fits { IsTrue (fits shelf.now.kind.now.columns row.now) }
-    ensures half { (es : List Element) → AreInOrder shelf.now.kind.now.columns es → length es ≡ page_room shelf.now.kind.now.columns → search_of stamp es ≡ Err index
-        → drop 32 page.old.bytes ≡ behind_head shelf.now.kind.now.columns es → page.new.bytes ≡ irregular_page shelf.now.series shelf.now.kind.now.columns
+    ensures half { (es : List Element) → AreInOrder shelf.now.kind.now.columns es
+        → length es ≡ page_room shelf.now.kind.now.columns → search_of stamp es ≡ Err index
+        → drop 32 page.old.bytes ≡ behind_head shelf.now.kind.now.columns es
+        → page.new.bytes ≡ irregular_page shelf.now.series shelf.now.kind.now.columns
         (take ((page_room shelf.now.kind.now.columns + 1) / 2) (with_element stamp row.now es)) }
-    ensures others { (es : List Element) → AreInOrder shelf.now.kind.now.columns es → length es ≡ page_room shelf.now.kind.now.columns → search_of stamp es ≡ Err index
-        → drop 32 page.old.bytes ≡ behind_head shelf.now.kind.now.columns es → others.new.bytes ≡ irregular_page shelf.now.series shelf.now.kind.now.columns
+    ensures others { (es : List Element) → AreInOrder shelf.now.kind.now.columns es
+        → length es ≡ page_room shelf.now.kind.now.columns → search_of stamp es ≡ Err index
+        → drop 32 page.old.bytes ≡ behind_head shelf.now.kind.now.columns es
+        → others.new.bytes ≡ irregular_page shelf.now.series shelf.now.kind.now.columns
         (drop ((page_room shelf.now.kind.now.columns + 1) / 2) (with_element stamp row.now es)) }
 {
     let room = page_room(shelf.kind);
@@ -73,8 +78,10 @@ pub fn others_of(shelf: &Shelf, page: &mut Page, count: usize, first: usize)
 /// Puts the elements of another page behind those of a page.
 pub fn append_page(shelf: &Shelf, page: &mut Page, count: usize, others: &Page, more: usize)
     requires room { count + more ≤ page_room shelf.now.kind.now.columns }
-    ensures { (es fs : List Element) → AreElements shelf.now.kind.now.columns es → AreElements shelf.now.kind.now.columns fs → length es ≡ count → length fs ≡ more
-        → drop 32 page.old.bytes ≡ behind_head shelf.now.kind.now.columns es → drop 32 others.now.bytes ≡ behind_head shelf.now.kind.now.columns fs
+    ensures { (es fs : List Element) → AreElements shelf.now.kind.now.columns es
+        → AreElements shelf.now.kind.now.columns fs → length es ≡ count → length fs ≡ more
+        → drop 32 page.old.bytes ≡ behind_head shelf.now.kind.now.columns es → drop 32 others.now.bytes
+        ≡ behind_head shelf.now.kind.now.columns fs
         → page.new.bytes ≡ irregular_page shelf.now.series shelf.now.kind.now.columns (es ++ fs) }
 {
     append_cells(
@@ -90,7 +97,8 @@ pub fn append_page(shelf: &Shelf, page: &mut Page, count: usize, others: &Page, 
 // Writes the head of a page with so many elements.
 fn set_count(shelf: &Shelf, page: &mut Page, count: usize)
     requires { count ≤ page_room shelf.now.kind.now.columns }
-    ensures { (es : List Element) → length es ≡ count → drop 32 page.old.bytes ≡ behind_head shelf.now.kind.now.columns es
+    ensures { (es : List Element) → length es ≡ count → drop 32 page.old.bytes
+        ≡ behind_head shelf.now.kind.now.columns es
         → page.new.bytes ≡ irregular_page shelf.now.series shelf.now.kind.now.columns es }
 {
     // No page has room for more than 451.

@@ -23,10 +23,10 @@ use ts_space::{Place, Space};
 /// The units of a second.
 const SECOND: i64 = 100_000;
 
-/// Where an element is put at a stamp: there, where none stands, hidden or not; else one unit behind the last one of that second; none where that
-/// would be the next second. At most two pages are read: that of the place which holds the stamp and, where one stands there, that which holds
-/// the last unit of its second. The head of each is compared with its place; one that disagrees is taken as a page without elements. All pages
-/// stay; `page` is room to read one.
+/// Where an element is put at a stamp: there, where none stands, hidden or not; else one unit behind the last one of
+/// that second; none where that would be the next second. At most two pages are read: that of the place which holds the
+/// stamp and, where one stands there, that which holds the last unit of its second. The head of each is compared with
+/// its place; one that disagrees is taken as a page without elements. All pages stay; `page` is room to read one.
 pub fn chain_place<P: Pages>(
     pages: &mut P,
     page: &mut Page,
@@ -36,7 +36,8 @@ pub fn chain_place<P: Pages>(
 ) -> Result<Option<Stamp>, StoreFault>
     requires slot { shelf.now.series < 4096 }
     requires readable { All (CanBeRead (P.contents pages.old)) (places_of shelf.now.series space.now) }
-    ensures place { IfOk result (IsPlaceIn P.tells shelf.now.series shelf.now.kind.now.columns stamp (places_of shelf.now.series space.now)
+    ensures place { IfOk result (IsPlaceIn P.tells shelf.now.series shelf.now.kind.now.columns stamp
+        (places_of shelf.now.series space.now)
         (P.contents pages.old)) }
     ensures call { Reads P.tells result (P.contents pages.old) (P.contents pages.new) }
     ensures undisturbed { P.undisturbed pages.old pages.new }
@@ -81,13 +82,14 @@ fn count_on<P: Pages>(
     Ok(count_told(shelf, place, page))
 }
 
-// One unit behind the last of the elements that are no later than the last unit of a second, if there is one; none where that is the next
-// second.
+// One unit behind the last of the elements that are no later than the last unit of a second, if there is one; none
+// where that is the next second.
 fn behind_last(kind: &RowType, behind: &[u8], count: usize, end: Stamp) -> Option<Stamp>
     requires size { length behind.now ≡ 4064 }
     requires room { count ≤ page_room kind.now.columns }
     requires last { IsStamp end }
-    ensures { (es : List Element) → AreInOrder kind.now.columns es → length es ≡ count → behind.now ≡ behind_head kind.now.columns es
+    ensures { (es : List Element) → AreInOrder kind.now.columns es → length es ≡ count
+        → behind.now ≡ behind_head kind.now.columns es
         → result ≡ option_and_then (unit_after (end +ℤ pos 1)) (last_before (end +ℤ pos 1) es) }
 {
     let Err(rank) = search(kind, behind, count, end) else {

@@ -20,10 +20,11 @@ use ts_page::{Page, Pages};
 use ts_row::Shelf;
 use ts_space::{Come, Moved, Place, Space};
 
-/// Takes the element at a stamp away, and tells which places go and come; where none stands there all pages are as before. The page that
-/// holds the stamp is read, its head compared with its place; one that disagrees is taken as a page without elements. A page that loses its
-/// last element is freed; one that fits a page with the one before it, or else with the one behind it, becomes one with that. After an error
-/// pages may have changed in part. `page` is room to read one.
+/// Takes the element at a stamp away, and tells which places go and come; where none stands there all pages are as
+/// before. The page that holds the stamp is read, its head compared with its place; one that disagrees is taken as a
+/// page without elements. A page that loses its last element is freed; one that fits a page with the one before it, or
+/// else with the one behind it, becomes one with that. After an error pages may have changed in part. `page` is room to
+/// read one.
 pub fn chain_remove<P: Pages>(
     pages: &mut P,
     page: &mut Page,
@@ -32,8 +33,10 @@ pub fn chain_remove<P: Pages>(
     stamp: Stamp,
 ) -> Result<Option<Moved>, StoreFault>
     requires slot { shelf.now.series < 4096 }
-    requires places { ArePlaces shelf.now.kind.now.columns (P.contents pages.old) (places_of shelf.now.series space.now) }
-    ensures ok { IfOk result (IsRemoved P.tells shelf.now.series shelf.now.kind.now.columns stamp (places_of shelf.now.series space.now)
+    requires places { ArePlaces shelf.now.kind.now.columns (P.contents pages.old)
+        (places_of shelf.now.series space.now) }
+    ensures ok { IfOk result (IsRemoved P.tells shelf.now.series shelf.now.kind.now.columns stamp
+        (places_of shelf.now.series space.now)
         (P.contents pages.old) (P.contents pages.new)) }
     ensures call { Answered result (P.contents pages.old) (P.contents pages.new) }
     ensures change { (P.contents pages.new).change_bytes ≤ (P.contents pages.old).change_bytes + 4106 }
@@ -59,8 +62,10 @@ fn remove_read<P: Pages>(
     requires holder { IsHolder stamp places.now index }
     requires rising { IsRising places.now }
     requires places { ArePlaces shelf.now.kind.now.columns (P.contents pages.old) places.now }
-    requires read { (h : IsHolder stamp places.now index) → IsTrue P.tells → page.old.bytes ≡ (P.contents pages.old).page h.place.page }
-    ensures ok { IfOk result (IsRemoved P.tells shelf.now.series shelf.now.kind.now.columns stamp places.now (P.contents pages.old) (P.contents pages.new)) }
+    requires read { (h : IsHolder stamp places.now index) → IsTrue P.tells
+        → page.old.bytes ≡ (P.contents pages.old).page h.place.page }
+    ensures ok { IfOk result (IsRemoved P.tells shelf.now.series shelf.now.kind.now.columns stamp places.now
+        (P.contents pages.old) (P.contents pages.new)) }
     ensures call { Answered result (P.contents pages.old) (P.contents pages.new) }
     ensures change { (P.contents pages.new).change_bytes ≤ (P.contents pages.old).change_bytes + 4106 }
     ensures undisturbed { P.undisturbed pages.old pages.new }
@@ -94,11 +99,14 @@ fn keep_rest<P: Pages>(
     requires holder { IsHolder stamp places.now index }
     requires rising { IsRising places.now }
     requires places { ArePlaces shelf.now.kind.now.columns (P.contents pages.old) places.now }
-    requires rest { (h : IsHolder stamp places.now index) → IsRestOf P.tells shelf.now.series shelf.now.kind.now.columns stamp h.place count page.old.bytes (P.contents pages.old) }
+    requires rest { (h : IsHolder stamp places.now index)
+        → IsRestOf P.tells shelf.now.series shelf.now.kind.now.columns stamp h.place count page.old.bytes
+        (P.contents pages.old) }
     requires some { 1 ≤ count }
     requires few { (h : IsHolder stamp places.now index) → count ≤ h.place.count }
     requires room { count ≤ page_room shelf.now.kind.now.columns }
-    ensures ok { IfOk result (λ moved. IsTakenAway P.tells shelf.now.series shelf.now.kind.now.columns stamp places.now (moved_to moved places.now)
+    ensures ok { IfOk result (λ moved. IsTakenAway P.tells shelf.now.series shelf.now.kind.now.columns stamp places.now
+        (moved_to moved places.now)
         (P.contents pages.old) (P.contents pages.new)) }
     ensures call { Answered result (P.contents pages.old) (P.contents pages.new) }
     ensures change { (P.contents pages.new).change_bytes ≤ (P.contents pages.old).change_bytes + 4106 }
@@ -140,7 +148,8 @@ fn left_of(places: &[Place], index: usize, read: &Place) -> Place
     requires rising { IsRising places.now }
     ensures page { result.page ≡ read.now.page }
     ensures count { result.count ≡ read.now.count }
-    ensures begins { (front : List ThePlace) (place : ThePlace) (back : List ThePlace) → places.now ≡ front ++ place ∷ back → length front ≡ index → IsBeginning read.now.at result.at place back }
+    ensures begins { (front : List ThePlace) (place : ThePlace) (back : List ThePlace) → places.now ≡ front ++ place
+        ∷ back → length front ≡ index → IsBeginning read.now.at result.at place back }
 {
     if index + 1 < places.len() {
         return left_below(&places[index], &places[index + 1], read);

@@ -1,5 +1,6 @@
 // A full page is parted in two, each of which goes together with its neighbour where they fit one page.
-ghost use Rattle.std.specs.Prelude.{◌≡◌, ◌+◌, ◌*◌, ◌<◌, ◌≤◌, IsTrue, IfOk, None, List, [], ◌∷◌, ◌++◌, length, option_to_list};
+ghost use Rattle.std.specs.Prelude.{◌≡◌, ◌+◌, ◌*◌, ◌<◌, ◌≤◌, IsTrue, IfOk, None, List, [], ◌∷◌, ◌++◌, length};
+ghost use Rattle.std.specs.Prelude.{option_to_list};
 ghost use Rattle.ts_space.specs.declared.place.Place.{Place as ThePlace};
 ghost use Rattle.ts_space.specs.Place.{IsRising, count_of};
 ghost use Rattle.ts_space.specs.Charge.{irregular_charge};
@@ -26,7 +27,8 @@ pub(crate) struct Target {
     pub index: usize,
 }
 
-/// Keeps the halves of a full page, each on a page of its own or with the elements of its neighbour, and tells which places go and come.
+/// Keeps the halves of a full page, each on a page of its own or with the elements of its neighbour, and tells which
+/// places go and come.
 pub(crate) fn keep_halves<P: Pages>(
     pages: &mut P,
     page: &mut Page,
@@ -38,11 +40,14 @@ pub(crate) fn keep_halves<P: Pages>(
     requires target { IsTarget target.stamp places.now target.index }
     requires rising { IsRising places.now }
     requires places { ArePlaces shelf.now.kind.now.columns (P.contents pages.old) places.now }
-    requires full { (t : IsTarget target.stamp places.now target.index) → t.place.count ≡ page_room shelf.now.kind.now.columns }
-    requires room { irregular_charge (page_room shelf.now.kind.now.columns) (count_of places.now + 1) ≤ length (P.contents pages.old).free + length places.now }
+    requires full { (t : IsTarget target.stamp places.now target.index)
+        → t.place.count ≡ page_room shelf.now.kind.now.columns }
+    requires room { irregular_charge (page_room shelf.now.kind.now.columns) (count_of places.now + 1) ≤ length
+        (P.contents pages.old).free + length places.now }
     ensures ok { (row : Row) → IsElement shelf.now.kind.now.columns (target.stamp, row)
         → ((t : IsTarget target.stamp places.now target.index) → ArePartedOf P.tells shelf.now.series shelf.now.kind.now.columns target.stamp row t.place page.old.bytes others.old.bytes (P.contents pages.old))
-        → IfOk result (λ moved. IsPutNew P.tells shelf.now.series shelf.now.kind.now.columns target.stamp row places.now (moved_to moved places.now)
+        → IfOk result (λ moved. IsPutNew P.tells shelf.now.series shelf.now.kind.now.columns target.stamp row places.now
+        (moved_to moved places.now)
         (P.contents pages.old) (P.contents pages.new)) }
     ensures call { Answered result (P.contents pages.old) (P.contents pages.new) }
     ensures grows { IfOk result (λ moved. (P.contents pages.new).change_bytes + 5 * length (P.contents pages.old).free

@@ -1,4 +1,5 @@
-// The halves of a full page are put on pages, each alone or with the elements of the neighbour that it goes together with.
+// The halves of a full page are put on pages, each alone or with the elements of the neighbour that it goes together
+// with.
 ghost use Rattle.std.specs.Prelude.{◌≡◌, ◌+◌, ◌≤◌, IfOk, None, Some};
 ghost use Rattle.ts_page.specs.Pages.{Answered};
 ghost use Rattle.ts_chain.specs.Halves.{CanSpread, IsSpread};
@@ -11,8 +12,8 @@ use ts_page::{Page, Pages};
 use ts_row::Shelf;
 use ts_space::Place;
 
-/// Puts both halves, of which `page` has the first and `others` the second, and gives the places of the two pages. Where both go together
-/// with a neighbour the page is freed; where none does a page is taken.
+/// Puts both halves, of which `page` has the first and `others` the second, and gives the places of the two pages.
+/// Where both go together with a neighbour the page is freed; where none does a page is taken.
 pub(crate) fn spread<P: Pages>(
     pages: &mut P,
     page: &mut Page,
@@ -21,7 +22,9 @@ pub(crate) fn spread<P: Pages>(
     halves: &Halves,
 ) -> Result<(Place, Place), StoreFault>
     requires fits { CanSpread shelf.now.kind.now.columns (P.contents pages.old) halves.now }
-    ensures spread { IfOk result (λ come. IsSpread P.tells shelf.now.series shelf.now.kind.now.columns halves.now page.old.bytes others.old.bytes come
+    ensures spread { IfOk result
+        (λ come.
+        IsSpread P.tells shelf.now.series shelf.now.kind.now.columns halves.now page.old.bytes others.old.bytes come
         (P.contents pages.old) (P.contents pages.new)) }
     ensures call { Answered result (P.contents pages.old) (P.contents pages.new) }
     ensures change { (P.contents pages.new).change_bytes ≤ (P.contents pages.old).change_bytes + 8207 }
@@ -48,7 +51,9 @@ fn spread_apart<P: Pages>(
     requires fits { CanSpread shelf.now.kind.now.columns (P.contents pages.old) halves.now }
     requires before { halves.now.before ≡ None }
     requires behind { halves.now.behind ≡ None }
-    ensures spread { IfOk result (λ come. IsSpread P.tells shelf.now.series shelf.now.kind.now.columns halves.now page.now.bytes others.now.bytes come
+    ensures spread { IfOk result
+        (λ come.
+        IsSpread P.tells shelf.now.series shelf.now.kind.now.columns halves.now page.now.bytes others.now.bytes come
         (P.contents pages.old) (P.contents pages.new)) }
     ensures call { Answered result (P.contents pages.old) (P.contents pages.new) }
     ensures change { (P.contents pages.new).change_bytes ≤ (P.contents pages.old).change_bytes + 8207 }
@@ -80,7 +85,9 @@ fn spread_before<P: Pages>(
     requires fits { CanSpread shelf.now.kind.now.columns (P.contents pages.old) halves.now }
     requires before { halves.now.before ≡ Some before }
     requires behind { halves.now.behind ≡ None }
-    ensures spread { IfOk result (λ come. IsSpread P.tells shelf.now.series shelf.now.kind.now.columns halves.now page.old.bytes others.now.bytes come
+    ensures spread { IfOk result
+        (λ come.
+        IsSpread P.tells shelf.now.series shelf.now.kind.now.columns halves.now page.old.bytes others.now.bytes come
         (P.contents pages.old) (P.contents pages.new)) }
     ensures call { Answered result (P.contents pages.old) (P.contents pages.new) }
     ensures change { (P.contents pages.new).change_bytes ≤ (P.contents pages.old).change_bytes + 8207 }
@@ -117,7 +124,9 @@ fn spread_behind<P: Pages>(
     requires fits { CanSpread shelf.now.kind.now.columns (P.contents pages.old) halves.now }
     requires before { halves.now.before ≡ None }
     requires behind { halves.now.behind ≡ Some behind }
-    ensures spread { IfOk result (λ come. IsSpread P.tells shelf.now.series shelf.now.kind.now.columns halves.now page.now.bytes others.old.bytes come
+    ensures spread { IfOk result
+        (λ come.
+        IsSpread P.tells shelf.now.series shelf.now.kind.now.columns halves.now page.now.bytes others.old.bytes come
         (P.contents pages.old) (P.contents pages.new)) }
     ensures call { Answered result (P.contents pages.old) (P.contents pages.new) }
     ensures change { (P.contents pages.new).change_bytes ≤ (P.contents pages.old).change_bytes + 8207 }
@@ -149,7 +158,9 @@ fn spread_both<P: Pages>(
     requires fits { CanSpread shelf.now.kind.now.columns (P.contents pages.old) halves.now }
     requires before { halves.now.before ≡ Some near.0 }
     requires behind { halves.now.behind ≡ Some near.1 }
-    ensures spread { IfOk result (λ come. IsSpread P.tells shelf.now.series shelf.now.kind.now.columns halves.now page.old.bytes others.old.bytes come
+    ensures spread { IfOk result
+        (λ come.
+        IsSpread P.tells shelf.now.series shelf.now.kind.now.columns halves.now page.old.bytes others.old.bytes come
         (P.contents pages.old) (P.contents pages.new)) }
     ensures call { Answered result (P.contents pages.old) (P.contents pages.new) }
     ensures change { (P.contents pages.new).change_bytes ≤ (P.contents pages.old).change_bytes + 8207 }

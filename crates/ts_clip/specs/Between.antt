@@ -6,8 +6,9 @@ use Rattle.ts_row.specs.declared.kind.Column.{Column}
 use Rattle.ts_regular.specs.Cell.{base_of}
 use Rattle.ts_regular.specs.Cut.{AreNotBelow}
 
--- of some places those whose pages may have a cell for an offset from one up to, not including, another: they begin from the page of the
--- first such offset on, and below the end; all earlier ones begin below that page, and all later ones not below the end
+-- of some places those whose pages may have a cell for an offset from one up to, not including, another: they begin
+-- from the page of the first such offset on, and below the end; all earlier ones begin below that page, and all later
+-- ones not below the end
 pub record AreBetween (columns : List Column) (lower upper : ℕ) (places among : List Place) : Type 0 where
   pub front : List Place
   pub back : List Place

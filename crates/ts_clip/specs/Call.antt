@@ -12,7 +12,8 @@ IsRead took (Ok entries) (Err refusal) = ⊥
 IsRead took (Err why) (Ok count) = ⊥
 IsRead took (Err why) (Err refusal) = (refusal ≡ why) × took []
 
--- of some elements those from one stamp to another were taken that aren't hidden, perhaps with entries between them that have none
+-- of some elements those from one stamp to another were taken that aren't hidden, perhaps with entries between them
+-- that have none
 pub record AreElementsTaken (took : List Entry → Type 0) (from to : ℤ) (es : List Element) : Type 0 where
   pub entries : List Entry
   pub taken : took entries

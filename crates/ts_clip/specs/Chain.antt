@@ -1,6 +1,7 @@
--- What is read of the pages of an irregular series: of its elements those of a range that aren't hidden, some of them passed over and some
--- taken.
-use Rattle.std.specs.Prelude.{◌≡◌, ℕ, ◌+◌, ◌-◌, ◌≤◌, ℤ, pos, neg_ℤ, Bool, IsTrue, List, [], ◌∷◌, ◌++◌, length, map, take, drop}
+-- What is read of the pages of an irregular series: of its elements those of a range that aren't hidden, some of them
+-- passed over and some taken.
+use Rattle.std.specs.Prelude.{◌≡◌, ℕ, ◌+◌, ◌-◌, ◌≤◌, ℤ, pos, neg_ℤ, Bool, IsTrue, List, [], ◌∷◌, ◌++◌, length, map}
+use Rattle.std.specs.Prelude.{take, drop}
 use Rattle.ts_space.specs.declared.place.Place.{Place}
 use Rattle.ts_space.specs.Directory.{Directory, places_of}
 use Rattle.ts_page.specs.Pages.{Contents}
@@ -21,7 +22,8 @@ use Rattle.ts_clip.specs.declared.chain_cells.Wanted.{Wanted}
 abbrev pub wanted_of : Wanted → List Element → List Entry
 wanted_of want es = map filled (take want.most (drop want.skip es))
 
--- These elements were passed: the entries of those that were wanted were taken, and of the elements behind them so many are wanted still.
+-- These elements were passed: the entries of those that were wanted were taken, and of the elements behind them so many
+-- are wanted still.
 pub record ArePassed (took : List Entry → Type 0) (before after : Wanted) (es : List Element) : Type 0 where
   pub entries : List Entry
   pub taken : took entries
@@ -40,12 +42,14 @@ HoldsOfMore columns least behind P =
 
 -- where the pages are told, this holds of the elements of the series
 abbrev pub HoldsOfChain : Bool → Shelf → Directory → Contents → (List Element → Type 0) → Type 0
-HoldsOfChain tells shelf space v P = IsTold tells Irregular shelf.series shelf.kind.now.columns (places_of shelf.series space) v P
+HoldsOfChain tells shelf space v P = IsTold tells Irregular shelf.series shelf.kind.now.columns
+    (places_of shelf.series space) v P
 
 -- where they are told, this holds of the pages that places tell of, each the list of its elements
 abbrev pub HoldsOfPages : Bool → Shelf → List Place → Contents → (List (List Element) → Type 0) → Type 0
 HoldsOfPages tells shelf places v P =
-    IsTrue tells → (chain : List (List Element)) → AreChained shelf.series shelf.kind.now.columns v.page places chain → P chain
+    IsTrue tells → (chain : List (List Element)) → AreChained shelf.series shelf.kind.now.columns v.page places chain
+    → P chain
 
 -- where they are told, this holds of the elements of the page that a place tells of
 abbrev pub HoldsOfPage : Bool → Shelf → Place → Contents → (List Element → Type 0) → Type 0
@@ -54,8 +58,10 @@ HoldsOfPage tells shelf place v P = one_page.IsTold tells shelf.series shelf.kin
 -- all elements from one stamp to another stand on the pages of these places from one index on and before another
 abbrev pub HaveRange : ℤ → ℤ → List Place → ℕ → ℕ → Type 0
 HaveRange from to places first stop =
-    (slot : ℕ) (columns : List Column) (pages : ℕ → List ℕ) (chain : List (List Element)) → AreChained slot columns pages places chain
-    → ArePages columns chain → within_range from to (all_in chain) ≡ within_range from to (all_in (take (stop - first) (drop first chain)))
+    (slot : ℕ) (columns : List Column) (pages : ℕ → List ℕ) (chain : List (List Element))
+    → AreChained slot columns pages places chain
+    → ArePages columns chain → within_range from to (all_in chain)
+    ≡ within_range from to (all_in (take (stop - first) (drop first chain)))
 
 -- the least of all stamps, and the greatest
 abbrev pub first_moment : ℤ

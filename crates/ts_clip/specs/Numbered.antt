@@ -1,5 +1,6 @@
 -- Entries and cells by their numbers.
-use Rattle.std.specs.Prelude.{◌≡◌, ℕ, ◌+◌, ◌<◌, ℤ, false, IsTrue, Option, Some, None, option_and_then, List, [], ◌∷◌, length}
+use Rattle.std.specs.Prelude.{◌≡◌, ℕ, ◌+◌, ◌<◌, ℤ, false, IsTrue, Option, Some, None, option_and_then, List, [], ◌∷◌}
+use Rattle.std.specs.Prelude.{length}
 use Rattle.ts_row.specs.Row.{Row}
 use Rattle.ts_irregular.specs.Edit.{row_if_seen}
 use Rattle.ts_regular.specs.Cell.{Cell}

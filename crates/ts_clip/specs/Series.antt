@@ -1,4 +1,5 @@
--- The pages of a series as elements at stamps, whatever its shape: at any stamps, or on a grid at the on starts of their offsets.
+-- The pages of a series as elements at stamps, whatever its shape: at any stamps, or on a grid at the on starts of
+-- their offsets.
 use Rattle.std.specs.Prelude.{◌≡◌, ℕ, ◌≤◌, ℤ, Bool, IsTrue, All, Contains, List}
 use Rattle.std.specs.List.{AllZip}
 use Rattle.ts_page.specs.declared.page.Page.{Page}
@@ -30,7 +31,8 @@ ArePlaces Irregular columns c places = chain.ArePlaces columns c places
 ArePlaces (Regular grid) columns c places = regular.ArePlaces columns c places
 
 -- pages have a chain of these elements, of which places tell
-pub record HaveChain (slot : ℕ) (columns : List Column) (pages : ℕ → List ℕ) (places : List Place) (es : List Element) : Type 0 where
+pub record HaveChain (slot : ℕ) (columns : List Column) (pages : ℕ → List ℕ) (places : List Place)
+    (es : List Element) : Type 0 where
   pub chain : List (List Element)
   pub is : IsChain columns chain
   pub on : AreChained slot columns pages places chain
@@ -49,8 +51,8 @@ abbrev pub HaveElements : Shape → ℕ → List Column → (ℕ → List ℕ) �
 HaveElements Irregular slot columns pages places es = HaveChain slot columns pages places es
 HaveElements (Regular grid) slot columns pages places es = HaveCells grid slot columns pages places es
 
--- Where the pages are told, this holds of the elements that they have and their places tell of. Of pages that have none such it says
--- nothing.
+-- Where the pages are told, this holds of the elements that they have and their places tell of. Of pages that have none
+-- such it says nothing.
 abbrev pub IsTold : Bool → Shape → ℕ → List Column → List Place → Contents → (List Element → Type 0) → Type 0
 IsTold tells shape slot columns places v P =
     IsTrue tells → (es : List Element) → HaveElements shape slot columns v.page places es → P es
@@ -60,7 +62,8 @@ abbrev pub HaveOnPlaces : Shape → ℕ → List Column → (ℕ → List ℕ) �
 HaveOnPlaces Irregular slot columns pages places es =
     (chain : List (List Element)) × AreChained slot columns pages places chain × (all_in chain ≡ es)
 HaveOnPlaces (Regular grid) slot columns pages places es =
-    (cells : List OffsetPage) × AreOn slot columns pages places cells × HaveStarts grid (all_at cells) × (stamped grid (all_at cells) ≡ es)
+    (cells : List OffsetPage) × AreOn slot columns pages places cells × HaveStarts grid (all_at cells)
+    × (stamped grid (all_at cells) ≡ es)
 
 -- Where the pages are told, this holds of the elements that they have where these places tell of them.
 abbrev pub IsToldOnPlaces : Bool → Shape → ℕ → List Column → List Place → Contents → (List Element → Type 0) → Type 0
@@ -72,7 +75,8 @@ pub record HoldRange (shape : Shape) (columns : List Column) (from to : ℤ) (pl
   pub among : All (λ place. Contains places place) some
   pub few : count_of some ≤ count_of places
   pub all : (slot : ℕ) (pages : ℕ → List ℕ) (es : List Element) → HaveElements shape slot columns pages places es
-      → (own : List Element) × HaveOnPlaces shape slot columns pages some own × (within_range from to own ≡ within_range from to es)
+      → (own : List Element) × HaveOnPlaces shape slot columns pages some own
+      × (within_range from to own ≡ within_range from to es)
 
 -- these are the pages of places, each at the index of its place
 abbrev pub ArePagesOf : (ℕ → List ℕ) → List Place → List Page → Type 0

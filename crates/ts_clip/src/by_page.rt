@@ -15,9 +15,10 @@ use ts_page::{Page, Pages};
 use ts_row::Shelf;
 use ts_space::Space;
 
-/// Hands the rows of the elements from one stamp to another, both included, to a visitor, hidden ones too: those of a page at a time, so
-/// that nothing is done for each. The pages of the range are read, each once; its head is compared with its place, and one that disagrees
-/// is taken as a page without elements. All pages stay; `page` is room to read one.
+/// Hands the rows of the elements from one stamp to another, both included, to a visitor, hidden ones too: those of a
+/// page at a time, so that nothing is done for each. The pages of the range are read, each once; its head is compared
+/// with its place, and one that disagrees is taken as a page without elements. All pages stay; `page` is room to read
+/// one.
 pub fn rows<P: Pages, V: RowVisitor>(
     pages: &mut P,
     page: &mut Page,
@@ -30,7 +31,8 @@ pub fn rows<P: Pages, V: RowVisitor>(
 ) -> Result<(), StoreFault>
     requires slot { shelf.now.series < 4096 }
     requires laid { IsLaidOut shape.now }
-    requires places { ArePlaces shape.now shelf.now.kind.now.columns (P.contents pages.old) (places_of shelf.now.series space.now) }
+    requires places { ArePlaces shape.now shelf.now.kind.now.columns (P.contents pages.old)
+        (places_of shelf.now.series space.now) }
     ensures read { IfOk result (λ done. IsTold P.tells shape.now shelf.now.series shelf.now.kind.now.columns
         (places_of shelf.now.series space.now) (P.contents pages.old)
         (λ es. V.took shelf.now.kind.now.columns visitor.old (map (λ e. e.1) (within_range from to es)) visitor.new)) }

@@ -20,8 +20,8 @@ use ts_page::{Page, Pages};
 use ts_row::Shelf;
 use ts_space::Space;
 
-/// `clip`. Where the places of the range tell of no more elements than a reply may have, its pages are read once; else they are counted
-/// first.
+/// `clip`. Where the places of the range tell of no more elements than a reply may have, its pages are read once; else
+/// they are counted first.
 pub(crate) fn chain_clip<P: Pages, V: EntryVisitor>(
     pages: &mut P,
     page: &mut Page,
@@ -32,7 +32,8 @@ pub(crate) fn chain_clip<P: Pages, V: EntryVisitor>(
     visitor: &mut V,
 ) -> Result<Result<u64, Refusal>, StoreFault>
     requires slot { shelf.now.series < 4096 }
-    requires places { ArePlaces shelf.now.kind.now.columns (P.contents pages.old) (places_of shelf.now.series space.now) }
+    requires places { ArePlaces shelf.now.kind.now.columns (P.contents pages.old)
+        (places_of shelf.now.series space.now) }
     ensures read { IfOk result (λ done. HoldsOfChain P.tells shelf.now space.now (P.contents pages.old)
         (λ es. IsRead (λ entries. V.took shelf.now.kind.now.columns visitor.old entries visitor.new)
         (within_rows (clipped from to (reading Irregular es))) done)) }
@@ -56,7 +57,8 @@ pub(crate) fn chain_clip_len<P: Pages>(
     to: Stamp,
 ) -> Result<u64, StoreFault>
     requires slot { shelf.now.series < 4096 }
-    requires places { ArePlaces shelf.now.kind.now.columns (P.contents pages.old) (places_of shelf.now.series space.now) }
+    requires places { ArePlaces shelf.now.kind.now.columns (P.contents pages.old)
+        (places_of shelf.now.series space.now) }
     ensures read { IfOk result (λ count. HoldsOfChain P.tells shelf.now space.now (P.contents pages.old)
         (λ es. count ≡ length (clipped from to (reading Irregular es)))) }
     ensures call { Reads P.tells result (P.contents pages.old) (P.contents pages.new) }
@@ -67,8 +69,8 @@ pub(crate) fn chain_clip_len<P: Pages>(
     count_pages(pages, page, shelf, &places[first..stop], from, to)
 }
 
-/// `clip_count`. Where n is negative, the pages from that of the stamp backwards are counted until they have as many elements, and then
-/// those pages are read again, from the first of them on.
+/// `clip_count`. Where n is negative, the pages from that of the stamp backwards are counted until they have as many
+/// elements, and then those pages are read again, from the first of them on.
 pub(crate) fn chain_clip_count<P: Pages, V: EntryVisitor>(
     pages: &mut P,
     page: &mut Page,
@@ -79,7 +81,8 @@ pub(crate) fn chain_clip_count<P: Pages, V: EntryVisitor>(
     visitor: &mut V,
 ) -> Result<u64, StoreFault>
     requires slot { shelf.now.series < 4096 }
-    requires places { ArePlaces shelf.now.kind.now.columns (P.contents pages.old) (places_of shelf.now.series space.now) }
+    requires places { ArePlaces shelf.now.kind.now.columns (P.contents pages.old)
+        (places_of shelf.now.series space.now) }
     ensures read { IfOk result (λ count. HoldsOfChain P.tells shelf.now space.now (P.contents pages.old)
         (λ es. AreTaken (λ entries. V.took shelf.now.kind.now.columns visitor.old entries visitor.new)
         (counted stamp n (reading Irregular es)) count)) }
@@ -105,7 +108,8 @@ pub(crate) fn chain_nth<P: Pages, V: EntryVisitor>(
     visitor: &mut V,
 ) -> Result<u64, StoreFault>
     requires slot { shelf.now.series < 4096 }
-    requires places { ArePlaces shelf.now.kind.now.columns (P.contents pages.old) (places_of shelf.now.series space.now) }
+    requires places { ArePlaces shelf.now.kind.now.columns (P.contents pages.old)
+        (places_of shelf.now.series space.now) }
     ensures read { IfOk result (λ count. HoldsOfChain P.tells shelf.now space.now (P.contents pages.old)
         (λ es. AreTaken (λ entries. V.took shelf.now.kind.now.columns visitor.old entries visitor.new)
         (entry_number n (reading Irregular es)) count)) }
@@ -131,9 +135,11 @@ pub(crate) fn chain_elements<P: Pages, V: EntryVisitor>(
     visitor: &mut V,
 ) -> Result<(), StoreFault>
     requires slot { shelf.now.series < 4096 }
-    requires places { ArePlaces shelf.now.kind.now.columns (P.contents pages.old) (places_of shelf.now.series space.now) }
+    requires places { ArePlaces shelf.now.kind.now.columns (P.contents pages.old)
+        (places_of shelf.now.series space.now) }
     ensures read { IfOk result (λ done. HoldsOfChain P.tells shelf.now space.now (P.contents pages.old)
-        (λ es. AreElementsTaken (λ entries. V.took shelf.now.kind.now.columns visitor.old entries visitor.new) from to es)) }
+        (λ es. AreElementsTaken
+        (λ entries. V.took shelf.now.kind.now.columns visitor.old entries visitor.new) from to es)) }
     ensures call { Reads P.tells result (P.contents pages.old) (P.contents pages.new) }
     ensures undisturbed { P.undisturbed pages.old pages.new }
 {

@@ -1,5 +1,7 @@
-// The cells of one page of an irregular series: those of a range are handed on or counted, and the first that isn't hidden is found.
-ghost use Rattle.std.specs.Prelude.{◌≡◌, ◌-◌, ◌<◌, ◌≤◌, IsTrue, IfOk, IfSome, Some, List, [], ◌∷◌, length, take, drop, slice_get};
+// The cells of one page of an irregular series: those of a range are handed on or counted, and the first that isn't
+// hidden is found.
+ghost use Rattle.std.specs.Prelude.{◌≡◌, ◌-◌, ◌<◌, ◌≤◌, IsTrue, IfOk, IfSome, Some, List, [], ◌∷◌, length, take, drop};
+ghost use Rattle.std.specs.Prelude.{slice_get};
 ghost use Rattle.ts_row.specs.Row.{fits};
 ghost use Rattle.ts_row.specs.Element.{Element, seen};
 ghost use Rattle.ts_cells.specs.Cell.{IsElement, cell_bytes, cell_size, page_room};
@@ -72,7 +74,8 @@ fn up_to(kind: &RowType, behind: &[u8], count: usize, to: Stamp) -> usize
     }
 }
 
-/// Hands the cells from one index on and before another to a visitor, as far as they are wanted, and tells what is wanted still.
+/// Hands the cells from one index on and before another to a visitor, as far as they are wanted, and tells what is
+/// wanted still.
 pub(crate) fn visit_cells<V: EntryVisitor>(
     kind: &RowType,
     behind: &[u8],
@@ -120,7 +123,8 @@ fn visit_cell<V: EntryVisitor>(
 ) -> Result<Wanted, AllocError>
     requires size { length cell.now ≡ cell_size kind.now.columns }
     requires some { 0 < want.most }
-    ensures passed { IfOk result (λ after. (e : Element) → IsElement kind.now.columns e → cell.now ≡ cell_bytes kind.now.columns e
+    ensures passed { IfOk result (λ after. (e : Element) → IsElement kind.now.columns e
+        → cell.now ≡ cell_bytes kind.now.columns e
         → ArePassed (λ entries. V.took kind.now.columns visitor.old entries visitor.new) want after (seen (e ∷ []))) }
     ensures fewer { IfOk result (λ after. after.most ≤ want.most) }
 {
@@ -146,7 +150,8 @@ fn visit_cell<V: EntryVisitor>(
 // The stamp of a cell, where its bytes are those of one.
 fn stamp_in(kind: &RowType, cell: &[u8]) -> Option<Stamp>
     requires { length cell.now ≡ cell_size kind.now.columns }
-    ensures { (e : Element) → IsElement kind.now.columns e → cell.now ≡ cell_bytes kind.now.columns e → result ≡ Some e.0 }
+    ensures { (e : Element) → IsElement kind.now.columns e → cell.now ≡ cell_bytes kind.now.columns e
+        → result ≡ Some e.0 }
 {
     Stamp::of(units_at(cell, cell_size(kind), 0))
 }
@@ -192,7 +197,8 @@ pub(crate) fn first_among(
 // The element of a cell.
 fn element_in(kind: &RowType, cell: &[u8]) -> Result<Option<(Stamp, Row)>, AllocError>
     requires { length cell.now ≡ cell_size kind.now.columns }
-    ensures found { IfOk result (λ found. (e : Element) → IsElement kind.now.columns e → cell.now ≡ cell_bytes kind.now.columns e
+    ensures found { IfOk result (λ found. (e : Element) → IsElement kind.now.columns e
+        → cell.now ≡ cell_bytes kind.now.columns e
         → found ≡ Some e) }
     ensures fits { IfOk result (λ found. IfSome found (λ e. IsTrue (fits kind.now.columns e.1))) }
 {

@@ -22,7 +22,8 @@ pub(crate) fn chain_first<P: Pages>(
     shelf: &Shelf,
 ) -> Result<Option<(Stamp, Row)>, StoreFault>
     requires slot { shelf.now.series < 4096 }
-    requires places { ArePlaces shelf.now.kind.now.columns (P.contents pages.old) (places_of shelf.now.series space.now) }
+    requires places { ArePlaces shelf.now.kind.now.columns (P.contents pages.old)
+        (places_of shelf.now.series space.now) }
     ensures first { IfOk result (λ first. HoldsOfChain P.tells shelf.now space.now (P.contents pages.old)
         (λ es. first ≡ first_seen es)) }
     ensures fits { IfOk result (λ first. IfSome first (λ e. IsTrue (fits shelf.now.kind.now.columns e.1))) }

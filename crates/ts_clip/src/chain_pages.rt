@@ -15,9 +15,9 @@ use ts_page::{HEAD, Page, Pages};
 use ts_row::Shelf;
 use ts_space::Place;
 
-/// Hands the elements of a range that aren't hidden to a visitor, as far as they are wanted, and tells what is wanted still. The pages are
-/// read from the first one on, until none is wanted. The head of each is compared with its place; one that disagrees is taken as a page
-/// without elements.
+/// Hands the elements of a range that aren't hidden to a visitor, as far as they are wanted, and tells what is wanted
+/// still. The pages are read from the first one on, until none is wanted. The head of each is compared with its place;
+/// one that disagrees is taken as a page without elements.
 pub(crate) fn visit_pages<P: Pages, V: EntryVisitor>(
     pages: &mut P,
     page: &mut Page,
@@ -94,8 +94,8 @@ pub(crate) fn count_pages<P: Pages>(
     Ok(count)
 }
 
-/// The index of a page, and how many elements of a range aren't hidden on the pages from it on: so many at least, or else it is that of the
-/// first page. The pages are read from the last one backwards.
+/// The index of a page, and how many elements of a range aren't hidden on the pages from it on: so many at least, or
+/// else it is that of the first page. The pages are read from the last one backwards.
 pub(crate) fn count_back<P: Pages>(
     pages: &mut P,
     page: &mut Page,

@@ -9,7 +9,8 @@ use ts_base::Stamp;
 use ts_chain::holder;
 use ts_space::Place;
 
-/// The places of the pages on which the elements from one stamp to another stand: those from one index on and before another.
+/// The places of the pages on which the elements from one stamp to another stand: those from one index on and before
+/// another.
 pub(crate) fn places_between(places: &[Place], from: Stamp, to: Stamp) -> (usize, usize)
     requires { IsRising places.now }
     ensures order { result.0 ≤ result.1 }

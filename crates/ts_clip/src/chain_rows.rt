@@ -31,7 +31,8 @@ pub(crate) fn chain_rows<P: Pages, V: RowVisitor>(
     visitor: &mut V,
 ) -> Result<(), StoreFault>
     requires readable { All (CanBeRead (P.contents pages.old)) places.now }
-    ensures read { IfOk result (λ done. IsToldOnPlaces P.tells Irregular shelf.now.series shelf.now.kind.now.columns places.now
+    ensures read { IfOk result
+        (λ done. IsToldOnPlaces P.tells Irregular shelf.now.series shelf.now.kind.now.columns places.now
         (P.contents pages.old)
         (λ es. V.took shelf.now.kind.now.columns visitor.old (map (λ e. e.1) (within_range from to es)) visitor.new)) }
     ensures call { Reads P.tells result (P.contents pages.old) (P.contents pages.new) }
@@ -92,7 +93,8 @@ fn rows_of_page<V: RowVisitor>(
     to: Stamp,
     visitor: &mut V,
 ) -> Result<(), AllocError>
-    ensures took { OnOk result ((es : List Element) → IsOn shelf.now.series shelf.now.kind.now.columns page.now.bytes place.now es
+    ensures took { OnOk result ((es : List Element)
+        → IsOn shelf.now.series shelf.now.kind.now.columns page.now.bytes place.now es
         → V.took shelf.now.kind.now.columns visitor.old (map (λ e. e.1) (within_range from to es)) visitor.new) }
 {
     let count = count_told(shelf, place, page);
@@ -112,7 +114,8 @@ fn rows_between<V: RowVisitor>(
     requires size { length behind.now ≡ 4064 }
     requires room { last ≤ page_room kind.now.columns }
     ensures { OnOk result (HoldsOfMore kind.now.columns last behind.now
-        (λ es. V.took kind.now.columns visitor.old (map (λ e. e.1) (take (last - first) (drop first es))) visitor.new)) }
+        (λ es. V.took kind.now.columns visitor.old
+        (map (λ e. e.1) (take (last - first) (drop first es))) visitor.new)) }
 {
     if last <= first {
         return Ok(());

@@ -29,8 +29,10 @@ pub(crate) fn rows_over<P: Pages>(
     to: Stamp,
 ) -> Result<Option<u64>, StoreFault>
     requires slot { shelf.now.series < 4096 }
-    requires places { ArePlaces shelf.now.kind.now.columns (P.contents pages.old) (places_of shelf.now.series space.now) }
-    ensures many { IfOk result (λ over. IfSome over (λ rows. HoldsOfChain P.tells shelf.now space.now (P.contents pages.old)
+    requires places { ArePlaces shelf.now.kind.now.columns (P.contents pages.old)
+        (places_of shelf.now.series space.now) }
+    ensures many { IfOk result
+        (λ over. IfSome over (λ rows. HoldsOfChain P.tells shelf.now space.now (P.contents pages.old)
         (λ es. (rows ≡ length (within_range from to (seen es))) × (most_rows < rows)))) }
     ensures few { IfOk result (λ over. over ≡ None → HoldsOfChain P.tells shelf.now space.now (P.contents pages.old)
         (λ es. length (within_range from to (seen es)) ≤ most_rows)) }
@@ -60,7 +62,8 @@ pub(crate) fn visit_last<P: Pages, V: EntryVisitor>(
     visitor: &mut V,
 ) -> Result<u64, StoreFault>
     requires slot { shelf.now.series < 4096 }
-    requires places { ArePlaces shelf.now.kind.now.columns (P.contents pages.old) (places_of shelf.now.series space.now) }
+    requires places { ArePlaces shelf.now.kind.now.columns (P.contents pages.old)
+        (places_of shelf.now.series space.now) }
     requires most { most ≤ 2 ^ 63 }
     ensures taken { IfOk result (λ count. HoldsOfChain P.tells shelf.now space.now (P.contents pages.old)
         (λ es. AreTaken (λ entries. V.took shelf.now.kind.now.columns visitor.old entries visitor.new)
@@ -91,7 +94,8 @@ pub(crate) fn visit_range<P: Pages, V: EntryVisitor>(
     visitor: &mut V,
 ) -> Result<u64, StoreFault>
     requires slot { shelf.now.series < 4096 }
-    requires places { ArePlaces shelf.now.kind.now.columns (P.contents pages.old) (places_of shelf.now.series space.now) }
+    requires places { ArePlaces shelf.now.kind.now.columns (P.contents pages.old)
+        (places_of shelf.now.series space.now) }
     ensures taken { IfOk result (λ count. HoldsOfChain P.tells shelf.now space.now (P.contents pages.old)
         (λ es. AreTaken (λ entries. V.took shelf.now.kind.now.columns visitor.old entries visitor.new)
         (map filled (take most (within_range from to (seen es)))) count)) }

@@ -16,8 +16,8 @@ use ts_page::{Page, Pages};
 use ts_row::{Row, Shelf};
 use ts_space::Space;
 
-/// The first element that isn't hidden, with its stamp. The pages are read from the first one on, up to the first that has such an element.
-/// All pages stay; `page` is room to read one.
+/// The first element that isn't hidden, with its stamp. The pages are read from the first one on, up to the first that
+/// has such an element. All pages stay; `page` is room to read one.
 pub fn first_elem<P: Pages>(
     pages: &mut P,
     page: &mut Page,
@@ -27,7 +27,8 @@ pub fn first_elem<P: Pages>(
 ) -> Result<Option<(Stamp, Row)>, StoreFault>
     requires slot { shelf.now.series < 4096 }
     requires laid { IsLaidOut shape.now }
-    requires places { ArePlaces shape.now shelf.now.kind.now.columns (P.contents pages.old) (places_of shelf.now.series space.now) }
+    requires places { ArePlaces shape.now shelf.now.kind.now.columns (P.contents pages.old)
+        (places_of shelf.now.series space.now) }
     ensures first { IfOk result (λ first. IsTold P.tells shape.now shelf.now.series shelf.now.kind.now.columns
         (places_of shelf.now.series space.now) (P.contents pages.old) (λ es. first ≡ first_seen es)) }
     ensures fits { IfOk result (λ first. IfSome first (λ e. IsTrue (fits shelf.now.kind.now.columns e.1))) }
@@ -40,8 +41,8 @@ pub fn first_elem<P: Pages>(
     }
 }
 
-/// The last element that isn't hidden, with its stamp. The pages are read from the last one backwards, up to the first that has such an
-/// element. All pages stay; `page` is room to read one.
+/// The last element that isn't hidden, with its stamp. The pages are read from the last one backwards, up to the first
+/// that has such an element. All pages stay; `page` is room to read one.
 pub fn last_elem<P: Pages>(
     pages: &mut P,
     page: &mut Page,
@@ -51,7 +52,8 @@ pub fn last_elem<P: Pages>(
 ) -> Result<Option<(Stamp, Row)>, StoreFault>
     requires slot { shelf.now.series < 4096 }
     requires laid { IsLaidOut shape.now }
-    requires places { ArePlaces shape.now shelf.now.kind.now.columns (P.contents pages.old) (places_of shelf.now.series space.now) }
+    requires places { ArePlaces shape.now shelf.now.kind.now.columns (P.contents pages.old)
+        (places_of shelf.now.series space.now) }
     ensures last { IfOk result (λ last. IsTold P.tells shape.now shelf.now.series shelf.now.kind.now.columns
         (places_of shelf.now.series space.now) (P.contents pages.old) (λ es. last ≡ last_seen es)) }
     ensures fits { IfOk result (λ last. IfSome last (λ e. IsTrue (fits shelf.now.kind.now.columns e.1))) }

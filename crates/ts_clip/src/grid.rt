@@ -1,4 +1,5 @@
-// The entries of a regular series from one stamp to another, so many from a stamp on or up to it, and the one of a number.
+// The entries of a regular series from one stamp to another, so many from a stamp on or up to it, and the one of a
+// number.
 ghost use Rattle.std.specs.Prelude.{◌≡◌, ◌<◌, ◌≤◌, ◌^◌, All, IfOk, length};
 ghost use Rattle.ts_space.specs.Directory.{places_of};
 ghost use Rattle.ts_calendar.specs.Intervals.{IsLaid};
@@ -21,9 +22,9 @@ use ts_page::{Page, Pages};
 use ts_row::Shelf;
 use ts_space::Space;
 
-/// Hands the entries from one stamp to another, both included, to a visitor, and tells how many they are; TooLarge where they are more than
-/// 1000000, and then none is handed on. Read are the pages from the last one backwards, up to the first that has an element that isn't
-/// hidden, and those of the range. All pages stay; `page` is room to read one.
+/// Hands the entries from one stamp to another, both included, to a visitor, and tells how many they are; TooLarge
+/// where they are more than 1000000, and then none is handed on. Read are the pages from the last one backwards, up to
+/// the first that has an element that isn't hidden, and those of the range. All pages stay; `page` is room to read one.
 pub(crate) fn grid_clip<P: Pages, V: EntryVisitor>(
     pages: &mut P,
     page: &mut Page,
@@ -36,7 +37,8 @@ pub(crate) fn grid_clip<P: Pages, V: EntryVisitor>(
 ) -> Result<Result<u64, Refusal>, StoreFault>
     requires slot { shelf.now.series < 4096 }
     requires laid { IsLaid grid.now.calendar }
-    requires places { ArePlaces shelf.now.kind.now.columns (P.contents pages.old) (places_of shelf.now.series space.now) }
+    requires places { ArePlaces shelf.now.kind.now.columns (P.contents pages.old)
+        (places_of shelf.now.series space.now) }
     ensures read { IfOk result (λ done. HoldsOfGrid P.tells grid.now shelf.now space.now (P.contents pages.old)
         (λ es. IsRead
         (λ entries. V.took shelf.now.kind.now.columns visitor.old entries visitor.new)
@@ -66,7 +68,8 @@ pub(crate) fn grid_clip_len<P: Pages>(
 ) -> Result<u64, StoreFault>
     requires slot { shelf.now.series < 4096 }
     requires laid { IsLaid grid.now.calendar }
-    requires places { ArePlaces shelf.now.kind.now.columns (P.contents pages.old) (places_of shelf.now.series space.now) }
+    requires places { ArePlaces shelf.now.kind.now.columns (P.contents pages.old)
+        (places_of shelf.now.series space.now) }
     ensures read { IfOk result (λ count. HoldsOfGrid P.tells grid.now shelf.now space.now (P.contents pages.old)
         (λ es. count ≡ length (clipped from to (reading (Regular grid.now) es)))) }
     ensures call { Reads P.tells result (P.contents pages.old) (P.contents pages.new) }
@@ -77,8 +80,8 @@ pub(crate) fn grid_clip_len<P: Pages>(
     Ok(offsets.upper - offsets.lower)
 }
 
-/// Hands the first n entries from a stamp on to a visitor, or, where n is negative, the last -n up to it, in rising order; tells how many
-/// they are, which are fewer where there are fewer.
+/// Hands the first n entries from a stamp on to a visitor, or, where n is negative, the last -n up to it, in rising
+/// order; tells how many they are, which are fewer where there are fewer.
 pub(crate) fn grid_clip_count<P: Pages, V: EntryVisitor>(
     pages: &mut P,
     page: &mut Page,
@@ -91,7 +94,8 @@ pub(crate) fn grid_clip_count<P: Pages, V: EntryVisitor>(
 ) -> Result<u64, StoreFault>
     requires slot { shelf.now.series < 4096 }
     requires laid { IsLaid grid.now.calendar }
-    requires places { ArePlaces shelf.now.kind.now.columns (P.contents pages.old) (places_of shelf.now.series space.now) }
+    requires places { ArePlaces shelf.now.kind.now.columns (P.contents pages.old)
+        (places_of shelf.now.series space.now) }
     ensures read { IfOk result (λ count. HoldsOfGrid P.tells grid.now shelf.now space.now (P.contents pages.old)
         (λ es. AreTaken
         (λ entries. V.took shelf.now.kind.now.columns visitor.old entries visitor.new)
@@ -104,7 +108,8 @@ pub(crate) fn grid_clip_count<P: Pages, V: EntryVisitor>(
     visit_range(pages, page, space, shelf, grid, offsets, visitor)
 }
 
-/// Hands the entry of a number, counted from 0, to a visitor, and tells how many that are: one, or none where there are fewer.
+/// Hands the entry of a number, counted from 0, to a visitor, and tells how many that are: one, or none where there are
+/// fewer.
 pub(crate) fn grid_nth<P: Pages, V: EntryVisitor>(
     pages: &mut P,
     page: &mut Page,
@@ -116,7 +121,8 @@ pub(crate) fn grid_nth<P: Pages, V: EntryVisitor>(
 ) -> Result<u64, StoreFault>
     requires slot { shelf.now.series < 4096 }
     requires laid { IsLaid grid.now.calendar }
-    requires places { ArePlaces shelf.now.kind.now.columns (P.contents pages.old) (places_of shelf.now.series space.now) }
+    requires places { ArePlaces shelf.now.kind.now.columns (P.contents pages.old)
+        (places_of shelf.now.series space.now) }
     ensures read { IfOk result (λ count. HoldsOfGrid P.tells grid.now shelf.now space.now (P.contents pages.old)
         (λ es. AreTaken
         (λ entries. V.took shelf.now.kind.now.columns visitor.old entries visitor.new)

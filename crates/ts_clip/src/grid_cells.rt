@@ -19,7 +19,8 @@ pub(crate) fn cell_size(kind: &RowType) -> usize
     kind.width() + 1
 }
 
-/// Hands on the cells of a page from one number up to, not including, another, each at the next of the starts that are left.
+/// Hands on the cells of a page from one number up to, not including, another, each at the next of the starts that are
+/// left.
 pub(crate) fn visit_cells<V: EntryVisitor>(
     kind: &RowType,
     behind: &[u8],
@@ -52,7 +53,8 @@ pub(crate) fn cell_of<'a>(kind: &RowType, behind: &'a [u8], size: usize, index: 
     requires size { size ≡ cell_size kind.now.columns }
     requires index { index < regular_room kind.now.columns }
     ensures bytes { (cells : List Cell) → AreCells kind.now.columns cells → index < length cells
-        → behind.now ≡ behind_head kind.now.columns cells → result.now ≡ cell_bytes kind.now.columns (cell_at cells index) }
+        → behind.now ≡ behind_head kind.now.columns cells
+        → result.now ≡ cell_bytes kind.now.columns (cell_at cells index) }
     ensures size { length result.now ≡ cell_size kind.now.columns }
 {
     let at = size * index;
@@ -92,7 +94,8 @@ pub(crate) fn visit_blanks<V: EntryVisitor>(
     count: u64,
     visitor: &mut V,
 ) -> Result<(), AllocError>
-    ensures took { OnOk result (V.took kind.now.columns visitor.old (map (λ start. (start, None)) (take count starts.old)) visitor.new) }
+    ensures took { OnOk result
+        (V.took kind.now.columns visitor.old (map (λ start. (start, None)) (take count starts.old)) visitor.new) }
     ensures left { OnOk result (starts.new ≡ drop count starts.old) }
 {
     for _index in 0..count {

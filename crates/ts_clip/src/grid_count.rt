@@ -16,8 +16,8 @@ use ts_regular::regular_last;
 use ts_row::{Row, Shelf};
 use ts_space::Space;
 
-/// How many entries a series has: one more than the offset of its last element that isn't hidden, or none. An offset without an on start is
-/// a damaged page's.
+/// How many entries a series has: one more than the offset of its last element that isn't hidden, or none. An offset
+/// without an on start is a damaged page's.
 pub(crate) fn entry_count<P: Pages>(
     pages: &mut P,
     page: &mut Page,

@@ -18,8 +18,8 @@ use ts_regular::regular_last;
 use ts_row::{Row, Shelf};
 use ts_space::Space;
 
-/// The first element that isn't hidden, with its stamp. The pages are read from the first one on, each once, up to the first that has such
-/// an element. All pages stay; `page` is room to read one.
+/// The first element that isn't hidden, with its stamp. The pages are read from the first one on, each once, up to the
+/// first that has such an element. All pages stay; `page` is room to read one.
 pub(crate) fn grid_first<P: Pages>(
     pages: &mut P,
     page: &mut Page,
@@ -29,7 +29,8 @@ pub(crate) fn grid_first<P: Pages>(
 ) -> Result<Option<(Stamp, Row)>, StoreFault>
     requires slot { shelf.now.series < 4096 }
     requires laid { IsLaid grid.now.calendar }
-    requires places { ArePlaces shelf.now.kind.now.columns (P.contents pages.old) (places_of shelf.now.series space.now) }
+    requires places { ArePlaces shelf.now.kind.now.columns (P.contents pages.old)
+        (places_of shelf.now.series space.now) }
     ensures first { IfOk result (λ first. HoldsOfGrid P.tells grid.now shelf.now space.now (P.contents pages.old)
         (λ es. first ≡ first_seen es)) }
     ensures fits { IfOk result (λ first. IfSome first (λ e. IsTrue (fits shelf.now.kind.now.columns e.1))) }
@@ -40,8 +41,8 @@ pub(crate) fn grid_first<P: Pages>(
     Ok(on_start(grid, first))
 }
 
-/// The last element that isn't hidden, with its stamp. The pages are read from the last one backwards, up to the first that has such an
-/// element. All pages stay; `page` is room to read one.
+/// The last element that isn't hidden, with its stamp. The pages are read from the last one backwards, up to the first
+/// that has such an element. All pages stay; `page` is room to read one.
 pub(crate) fn grid_last<P: Pages>(
     pages: &mut P,
     page: &mut Page,
@@ -51,7 +52,8 @@ pub(crate) fn grid_last<P: Pages>(
 ) -> Result<Option<(Stamp, Row)>, StoreFault>
     requires slot { shelf.now.series < 4096 }
     requires laid { IsLaid grid.now.calendar }
-    requires places { ArePlaces shelf.now.kind.now.columns (P.contents pages.old) (places_of shelf.now.series space.now) }
+    requires places { ArePlaces shelf.now.kind.now.columns (P.contents pages.old)
+        (places_of shelf.now.series space.now) }
     ensures last { IfOk result (λ last. HoldsOfGrid P.tells grid.now shelf.now space.now (P.contents pages.old)
         (λ es. last ≡ last_seen es)) }
     ensures fits { IfOk result (λ last. IfSome last (λ e. IsTrue (fits shelf.now.kind.now.columns e.1))) }
@@ -81,7 +83,8 @@ fn regular_first<P: Pages>(
 ) -> Result<Option<(u64, Row)>, StoreFault>
     requires slot { shelf.now.series < 4096 }
     requires readable { All (CanBeRead (P.contents pages.old)) (places_of shelf.now.series space.now) }
-    ensures first { IfOk result (λ first. HoldsOfCellPages P.tells shelf.now (places_of shelf.now.series space.now) (P.contents pages.old)
+    ensures first { IfOk result (λ first. HoldsOfCellPages P.tells shelf.now (places_of shelf.now.series space.now)
+        (P.contents pages.old)
         (λ ps. first ≡ first_of (all_in ps))) }
     ensures fits { IfOk result (λ first. IfSome first (λ e. IsTrue (fits shelf.now.kind.now.columns e.1))) }
     ensures call { Reads P.tells result (P.contents pages.old) (P.contents pages.new) }

@@ -43,7 +43,8 @@ pub(crate) fn first_on<P: Pages>(
 fn first_among(kind: &RowType, behind: &[u8], base: u64) -> Result<Option<(u64, Row)>, AllocError>
     requires size { length behind.now ≡ 4064 }
     requires limit { base < 2 ^ 63 }
-    ensures first { IfOk result (λ first. HoldsOfCells kind.now.columns behind.now (λ cells. first ≡ first_of (elements_from base cells))) }
+    ensures first { IfOk result (λ first. HoldsOfCells kind.now.columns behind.now (λ cells. first
+        ≡ first_of (elements_from base cells))) }
     ensures fits { IfOk result (λ first. IfSome first (λ e. IsTrue (fits kind.now.columns e.1))) }
 {
     let Some(index) = first_cell(kind, behind) else {
@@ -84,7 +85,8 @@ fn row_at(kind: &RowType, behind: &[u8], index: usize) -> Result<Option<Row>, Al
 // The row of a cell by its bytes.
 fn row_in(kind: &RowType, cell: &[u8]) -> Result<Option<Row>, AllocError>
     requires { length cell.now ≡ cell_size kind.now.columns }
-    ensures found { IfOk result (λ found. (c : Cell) → FitsCell kind.now.columns c → cell.now ≡ cell_bytes kind.now.columns c → found ≡ c) }
+    ensures found { IfOk result (λ found. (c : Cell) → FitsCell kind.now.columns c
+        → cell.now ≡ cell_bytes kind.now.columns c → found ≡ c) }
     ensures fits { IfOk result (λ found. IfSome found (λ row. IsTrue (fits kind.now.columns row))) }
 {
     if cell[0] != 1 {

@@ -14,7 +14,8 @@ use ts_regular::base_of;
 use ts_row::{RowType, Shelf};
 use ts_space::{Place, search};
 
-/// Reads the page of a place, and gives the offset of its first cell; none where the page's head disagrees with the place.
+/// Reads the page of a place, and gives the offset of its first cell; none where the page's head disagrees with the
+/// place.
 pub(crate) fn read_base<P: Pages>(
     pages: &mut P,
     page: &mut Page,
@@ -32,9 +33,11 @@ pub(crate) fn read_base<P: Pages>(
     Ok(base_on(shelf, place, page))
 }
 
-/// The offset of the first cell of the page of a place, once it was read; none where the page's head disagrees with the place.
+/// The offset of the first cell of the page of a place, once it was read; none where the page's head disagrees with the
+/// place.
 pub(crate) fn base_on(shelf: &Shelf, place: &Place, page: &Page) -> Option<u64>
-    ensures base { (p : OffsetPage) → IsOn shelf.now.series shelf.now.kind.now.columns page.now.bytes place.now p → result ≡ Some p.0 }
+    ensures base { (p : OffsetPage) → IsOn shelf.now.series shelf.now.kind.now.columns page.now.bytes place.now p
+        → result ≡ Some p.0 }
     ensures limit { IfSome result (λ n. n < 2 ^ 63) }
 {
     let base = base_in(place)?;
@@ -71,7 +74,8 @@ fn agrees(shelf: &Shelf, place: &Place, base: u64, page: &Page) -> bool
     }
 }
 
-/// The places whose pages have cells for offsets from one up to, not including, another; none has another page with such cells.
+/// The places whose pages have cells for offsets from one up to, not including, another; none has another page with
+/// such cells.
 pub(crate) fn places_between<'a>(
     kind: &RowType,
     places: &'a [Place],

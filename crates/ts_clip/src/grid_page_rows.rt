@@ -22,7 +22,8 @@ use ts_space::Place;
 // What a cell has before its row: a byte that tells whether an element stands there.
 const FRONT: usize = 1;
 
-/// Hands on the rows of some offsets on the page of a place, hidden ones too. The page stays; `page` is room to read it.
+/// Hands on the rows of some offsets on the page of a place, hidden ones too. The page stays; `page` is room to read
+/// it.
 pub(crate) fn rows_on_page<P: Pages, V: RowVisitor>(
     pages: &mut P,
     page: &mut Page,
@@ -53,7 +54,8 @@ pub(crate) fn rows_of_page<V: RowVisitor>(
     visitor: &mut V,
 ) -> Result<(), AllocError>
     requires limit { offsets.upper < 2 ^ 63 }
-    ensures took { OnOk result ((p : OffsetPage) → IsOn shelf.now.series shelf.now.kind.now.columns page.now.bytes place.now p
+    ensures took { OnOk result ((p : OffsetPage)
+        → IsOn shelf.now.series shelf.now.kind.now.columns page.now.bytes place.now p
         → V.took shelf.now.kind.now.columns visitor.old
         (rows_within offsets.lower offsets.upper (elements_from p.0 p.1)) visitor.new) }
 {

@@ -18,8 +18,8 @@ use ts_regular::regular_room;
 use ts_row::Shelf;
 use ts_space::Place;
 
-/// Hands on the entries of the offsets from one on as far as the page of a place has cells for them, but none of `upper` or behind it;
-/// gives the offset behind them.
+/// Hands on the entries of the offsets from one on as far as the page of a place has cells for them, but none of
+/// `upper` or behind it; gives the offset behind them.
 pub(crate) fn visit_page<P: Pages, V: EntryVisitor>(
     pages: &mut P,
     page: &mut Page,
@@ -62,7 +62,8 @@ pub(crate) fn visit_page<P: Pages, V: EntryVisitor>(
     Ok(stop)
 }
 
-/// Hands on the elements of some offsets on the page of a place that aren't hidden, with entries without one between them.
+/// Hands on the elements of some offsets on the page of a place that aren't hidden, with entries without one between
+/// them.
 pub(crate) fn elements_on_page<P: Pages, V: EntryVisitor>(
     pages: &mut P,
     page: &mut Page,

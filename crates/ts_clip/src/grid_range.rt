@@ -18,8 +18,9 @@ use ts_page::{Page, Pages};
 use ts_row::Shelf;
 use ts_space::{Place, Space};
 
-/// Hands the elements from one stamp to another, both included, to a visitor, those that aren't hidden, with entries without one between
-/// them on the pages that have some; no others are read. All pages stay; `page` is room to read one.
+/// Hands the elements from one stamp to another, both included, to a visitor, those that aren't hidden, with entries
+/// without one between them on the pages that have some; no others are read. All pages stay; `page` is room to read
+/// one.
 pub(crate) fn grid_elements<P: Pages, V: EntryVisitor>(
     pages: &mut P,
     page: &mut Page,
@@ -32,7 +33,8 @@ pub(crate) fn grid_elements<P: Pages, V: EntryVisitor>(
 ) -> Result<(), StoreFault>
     requires slot { shelf.now.series < 4096 }
     requires laid { IsLaid grid.now.calendar }
-    requires places { ArePlaces shelf.now.kind.now.columns (P.contents pages.old) (places_of shelf.now.series space.now) }
+    requires places { ArePlaces shelf.now.kind.now.columns (P.contents pages.old)
+        (places_of shelf.now.series space.now) }
     ensures read { IfOk result (λ done. HoldsOfGrid P.tells grid.now shelf.now space.now (P.contents pages.old)
         (λ es. AreElementsTaken
         (λ entries. V.took shelf.now.kind.now.columns visitor.old entries visitor.new) from to es)) }

@@ -32,7 +32,8 @@ pub(crate) fn grid_rows<P: Pages, V: RowVisitor>(
 ) -> Result<(), StoreFault>
     requires laid { IsLaid grid.now.calendar }
     requires readable { All (CanBeRead (P.contents pages.old)) places.now }
-    ensures read { IfOk result (λ done. IsToldOnPlaces P.tells (Regular grid.now) shelf.now.series shelf.now.kind.now.columns places.now
+    ensures read { IfOk result
+        (λ done. IsToldOnPlaces P.tells (Regular grid.now) shelf.now.series shelf.now.kind.now.columns places.now
         (P.contents pages.old)
         (λ es. V.took shelf.now.kind.now.columns visitor.old (map (λ e. e.1) (within_range from to es)) visitor.new)) }
     ensures call { Reads P.tells result (P.contents pages.old) (P.contents pages.new) }
@@ -75,7 +76,8 @@ pub(crate) fn grid_rows_of_pages<V: RowVisitor>(
     to: Stamp,
     visitor: &mut V,
 ) -> Result<(), AllocError>
-    ensures took { OnOk result (IsLaid grid.now.calendar → (pages : ℕ → List ℕ) (es : List Element) → ArePagesOf pages places.now read.now
+    ensures took { OnOk result (IsLaid grid.now.calendar → (pages : ℕ → List ℕ) (es : List Element)
+        → ArePagesOf pages places.now read.now
         → HaveOnPlaces (Regular grid.now) shelf.now.series shelf.now.kind.now.columns pages places.now es
         → V.took shelf.now.kind.now.columns visitor.old (map (λ e. e.1) (within_range from to es)) visitor.new) }
 {
@@ -94,7 +96,8 @@ fn rows_in_memory<V: RowVisitor>(
     requires limit { offsets.upper < 2 ^ 63 }
     ensures took { OnOk result ((pages : ℕ → List ℕ) (ps : List OffsetPage) → ArePagesOf pages places.now read.now
         → AreOn shelf.now.series shelf.now.kind.now.columns pages places.now ps
-        → V.took shelf.now.kind.now.columns visitor.old (rows_within offsets.lower offsets.upper (all_in ps)) visitor.new) }
+        → V.took shelf.now.kind.now.columns visitor.old
+        (rows_within offsets.lower offsets.upper (all_in ps)) visitor.new) }
 {
     for (place, page) in places.iter().zip(read) {
         rows_of_page(page, shelf, place, offsets, visitor)?;

@@ -18,9 +18,9 @@ use ts_page::{Page, Pages};
 use ts_row::Shelf;
 use ts_space::{Place, Space};
 
-/// Hands on the entries of the offsets from one up to, not including, another: each on start with its element, or without one where none is
-/// seen. The pages that have cells for them are read, each once, and its head compared with its place; one that disagrees is taken as a
-/// page without elements. All pages stay; `page` is room to read one.
+/// Hands on the entries of the offsets from one up to, not including, another: each on start with its element, or
+/// without one where none is seen. The pages that have cells for them are read, each once, and its head compared with
+/// its place; one that disagrees is taken as a page without elements. All pages stay; `page` is room to read one.
 pub(crate) fn visit_offsets<P: Pages, V: EntryVisitor>(
     pages: &mut P,
     page: &mut Page,
@@ -58,7 +58,8 @@ pub(crate) fn visit_offsets<P: Pages, V: EntryVisitor>(
     Ok(())
 }
 
-// The same of the pages of some places, one after the other; no offset from the one that it gives up to `upper` has an element on them.
+// The same of the pages of some places, one after the other; no offset from the one that it gives up to `upper` has an
+// element on them.
 fn visit_places<P: Pages, V: EntryVisitor>(
     pages: &mut P,
     page: &mut Page,

@@ -20,8 +20,8 @@ use ts_page::Page;
 use ts_row::{RowType, Shelf};
 use ts_space::Place;
 
-/// The places of the pages of a series on which its elements from one stamp to another stand, both included: found by a search, no page is
-/// read.
+/// The places of the pages of a series on which its elements from one stamp to another stand, both included: found by a
+/// search, no page is read.
 pub fn places_of_range<'a>(
     kind: &RowType,
     shape: &Shape<'_>,
@@ -67,8 +67,9 @@ fn grid_places<'a>(
     grid_page::places_between(kind, places, offsets.lower, offsets.upper)
 }
 
-/// Hands the rows of the elements from one stamp to another, both included, to a visitor, hidden ones too, as `rows` does: those on pages
-/// that are in memory, each at the index of its place. A page whose head disagrees with its place is taken as one without elements.
+/// Hands the rows of the elements from one stamp to another, both included, to a visitor, hidden ones too, as `rows`
+/// does: those on pages that are in memory, each at the index of its place. A page whose head disagrees with its place
+/// is taken as one without elements.
 pub fn rows_of_pages<V: RowVisitor>(
     read: &[Page],
     places: &[Place],
@@ -78,7 +79,8 @@ pub fn rows_of_pages<V: RowVisitor>(
     to: Stamp,
     visitor: &mut V,
 ) -> Result<(), AllocError>
-    ensures took { OnOk result (IsLaidOut shape.now → (pages : ℕ → List ℕ) (es : List Element) → ArePagesOf pages places.now read.now
+    ensures took { OnOk result (IsLaidOut shape.now → (pages : ℕ → List ℕ) (es : List Element)
+        → ArePagesOf pages places.now read.now
         → HaveOnPlaces shape.now shelf.now.series shelf.now.kind.now.columns pages places.now es
         → V.took shelf.now.kind.now.columns visitor.old (map (λ e. e.1) (within_range from to es)) visitor.new) }
 {

@@ -1,10 +1,12 @@
-//! What is read of the elements of a series on its pages: the entries from one stamp to another, so many from a stamp on or up to it, the
-//! one of a number, the first and the last element. One pass over the pages of the range hands each entry to a visitor of ts_entry, an
-//! element in the bytes of its page; hidden elements are passed over. `rows` hands on the rows of a range, hidden ones too, those of a page
-//! in one call; `places_of_range` tells which pages those are, and `rows_of_pages` hands on the rows of such pages that were read before.
-//! The head of each page is compared with its place; one that disagrees is taken as one without elements. The entries are those of
-//! `specs/Reading` of ts_entry. Stands on ts_chain and ts_regular for pages, on ts_offset for the on starts of a grid; knows nothing of
-//! definitions, replies or journals. Read `specs/Series.antt`, `specs/Call.antt`, then `reading.rt`, `by_page.rt`, `in_memory.rt`.
+//! What is read of the elements of a series on its pages: the entries from one stamp to another, so many from a stamp
+//! on or up to it, the one of a number, the first and the last element. One pass over the pages of the range hands each
+//! entry to a visitor of ts_entry, an element in the bytes of its page; hidden elements are passed over. `rows` hands
+//! on the rows of a range, hidden ones too, those of a page in one call; `places_of_range` tells which pages those are,
+//! and `rows_of_pages` hands on the rows of such pages that were read before. The head of each page is compared with
+//! its place; one that disagrees is taken as one without elements. The entries are those of `specs/Reading` of
+//! ts_entry. Stands on ts_chain and ts_regular for pages, on ts_offset for the on starts of a grid; knows nothing of
+//! definitions, replies or journals. Read `specs/Series.antt`, `specs/Call.antt`, then `reading.rt`, `by_page.rt`,
+//! `in_memory.rt`.
 #![tactic(auto)]
 
 mod bounds;

@@ -17,10 +17,11 @@ use ts_page::{Page, Pages};
 use ts_row::Shelf;
 use ts_space::Space;
 
-/// Hands the entries from one stamp to another, both included, to a visitor, and tells how many they are; TooLarge where they are more than
-/// 1000000, and then none is handed on. Of an irregular series the pages of the range are read, twice where they may have more elements
-/// than that; of a regular one those of the range, and before them the pages from the last one backwards, up to the first that has an
-/// element which isn't hidden. All pages stay; `page` is room to read one.
+/// Hands the entries from one stamp to another, both included, to a visitor, and tells how many they are; TooLarge
+/// where they are more than 1000000, and then none is handed on. Of an irregular series the pages of the range are
+/// read, twice where they may have more elements than that; of a regular one those of the range, and before them the
+/// pages from the last one backwards, up to the first that has an element which isn't hidden. All pages stay; `page` is
+/// room to read one.
 pub fn clip<P: Pages, V: EntryVisitor>(
     pages: &mut P,
     page: &mut Page,
@@ -33,7 +34,8 @@ pub fn clip<P: Pages, V: EntryVisitor>(
 ) -> Result<Result<u64, Refusal>, StoreFault>
     requires slot { shelf.now.series < 4096 }
     requires laid { IsLaidOut shape.now }
-    requires places { ArePlaces shape.now shelf.now.kind.now.columns (P.contents pages.old) (places_of shelf.now.series space.now) }
+    requires places { ArePlaces shape.now shelf.now.kind.now.columns (P.contents pages.old)
+        (places_of shelf.now.series space.now) }
     ensures read { IfOk result (λ done. IsTold P.tells shape.now shelf.now.series shelf.now.kind.now.columns
         (places_of shelf.now.series space.now) (P.contents pages.old)
         (λ es. IsRead (λ entries. V.took shelf.now.kind.now.columns visitor.old entries visitor.new)
@@ -47,8 +49,8 @@ pub fn clip<P: Pages, V: EntryVisitor>(
     }
 }
 
-/// How many entries stand from one stamp to another, both included. Of a regular series the pages are read from the last one backwards, up
-/// to the first that has an element that isn't hidden; of an irregular one those of the range.
+/// How many entries stand from one stamp to another, both included. Of a regular series the pages are read from the
+/// last one backwards, up to the first that has an element that isn't hidden; of an irregular one those of the range.
 pub fn clip_len<P: Pages>(
     pages: &mut P,
     page: &mut Page,
@@ -60,7 +62,8 @@ pub fn clip_len<P: Pages>(
 ) -> Result<u64, StoreFault>
     requires slot { shelf.now.series < 4096 }
     requires laid { IsLaidOut shape.now }
-    requires places { ArePlaces shape.now shelf.now.kind.now.columns (P.contents pages.old) (places_of shelf.now.series space.now) }
+    requires places { ArePlaces shape.now shelf.now.kind.now.columns (P.contents pages.old)
+        (places_of shelf.now.series space.now) }
     ensures read { IfOk result (λ count. IsTold P.tells shape.now shelf.now.series shelf.now.kind.now.columns
         (places_of shelf.now.series space.now) (P.contents pages.old)
         (λ es. count ≡ length (clipped from to (reading shape.now es)))) }
@@ -73,8 +76,8 @@ pub fn clip_len<P: Pages>(
     }
 }
 
-/// Hands the first n entries from a stamp on to a visitor, or, where n is negative, the last -n up to it, in rising order; tells how many
-/// they are, which are fewer where there are fewer.
+/// Hands the first n entries from a stamp on to a visitor, or, where n is negative, the last -n up to it, in rising
+/// order; tells how many they are, which are fewer where there are fewer.
 pub fn clip_count<P: Pages, V: EntryVisitor>(
     pages: &mut P,
     page: &mut Page,
@@ -87,7 +90,8 @@ pub fn clip_count<P: Pages, V: EntryVisitor>(
 ) -> Result<u64, StoreFault>
     requires slot { shelf.now.series < 4096 }
     requires laid { IsLaidOut shape.now }
-    requires places { ArePlaces shape.now shelf.now.kind.now.columns (P.contents pages.old) (places_of shelf.now.series space.now) }
+    requires places { ArePlaces shape.now shelf.now.kind.now.columns (P.contents pages.old)
+        (places_of shelf.now.series space.now) }
     ensures read { IfOk result (λ count. IsTold P.tells shape.now shelf.now.series shelf.now.kind.now.columns
         (places_of shelf.now.series space.now) (P.contents pages.old)
         (λ es. AreTaken (λ entries. V.took shelf.now.kind.now.columns visitor.old entries visitor.new)
@@ -101,9 +105,9 @@ pub fn clip_count<P: Pages, V: EntryVisitor>(
     }
 }
 
-/// Hands the entry of a number, counted from 0, to a visitor, and tells how many that are: one, or none where there are fewer. Of a regular
-/// series its page is read, and before it the pages from the last one backwards, up to the first that has an element which isn't hidden; of
-/// an irregular one all pages up to its own.
+/// Hands the entry of a number, counted from 0, to a visitor, and tells how many that are: one, or none where there are
+/// fewer. Of a regular series its page is read, and before it the pages from the last one backwards, up to the first
+/// that has an element which isn't hidden; of an irregular one all pages up to its own.
 pub fn nth<P: Pages, V: EntryVisitor>(
     pages: &mut P,
     page: &mut Page,
@@ -115,7 +119,8 @@ pub fn nth<P: Pages, V: EntryVisitor>(
 ) -> Result<u64, StoreFault>
     requires slot { shelf.now.series < 4096 }
     requires laid { IsLaidOut shape.now }
-    requires places { ArePlaces shape.now shelf.now.kind.now.columns (P.contents pages.old) (places_of shelf.now.series space.now) }
+    requires places { ArePlaces shape.now shelf.now.kind.now.columns (P.contents pages.old)
+        (places_of shelf.now.series space.now) }
     ensures read { IfOk result (λ count. IsTold P.tells shape.now shelf.now.series shelf.now.kind.now.columns
         (places_of shelf.now.series space.now) (P.contents pages.old)
         (λ es. AreTaken (λ entries. V.took shelf.now.kind.now.columns visitor.old entries visitor.new)
@@ -129,8 +134,8 @@ pub fn nth<P: Pages, V: EntryVisitor>(
     }
 }
 
-/// Hands the elements from one stamp to another, both included, to a visitor, those that aren't hidden; of a regular series perhaps with
-/// entries without one between them, of the pages alone that have elements.
+/// Hands the elements from one stamp to another, both included, to a visitor, those that aren't hidden; of a regular
+/// series perhaps with entries without one between them, of the pages alone that have elements.
 pub fn elements<P: Pages, V: EntryVisitor>(
     pages: &mut P,
     page: &mut Page,
@@ -143,10 +148,12 @@ pub fn elements<P: Pages, V: EntryVisitor>(
 ) -> Result<(), StoreFault>
     requires slot { shelf.now.series < 4096 }
     requires laid { IsLaidOut shape.now }
-    requires places { ArePlaces shape.now shelf.now.kind.now.columns (P.contents pages.old) (places_of shelf.now.series space.now) }
+    requires places { ArePlaces shape.now shelf.now.kind.now.columns (P.contents pages.old)
+        (places_of shelf.now.series space.now) }
     ensures read { IfOk result (λ done. IsTold P.tells shape.now shelf.now.series shelf.now.kind.now.columns
         (places_of shelf.now.series space.now) (P.contents pages.old)
-        (λ es. AreElementsTaken (λ entries. V.took shelf.now.kind.now.columns visitor.old entries visitor.new) from to es)) }
+        (λ es. AreElementsTaken
+        (λ entries. V.took shelf.now.kind.now.columns visitor.old entries visitor.new) from to es)) }
     ensures call { Reads P.tells result (P.contents pages.old) (P.contents pages.new) }
     ensures undisturbed { P.undisturbed pages.old pages.new }
 {

@@ -1,5 +1,6 @@
 -- Two series as one: rows with the columns of both, at the stamps where one or both have an element.
-use Rattle.std.specs.Prelude.{ℕ, ℤ, Bool, true, ◌&&◌, ◌||◌, not, int_lt, if◌then◌else◌, Option, Some, None, is_some, option_and_then, Result, Ok, Err, List, [], ◌∷◌, ◌++◌, map, filter, filter_map, replicate}
+use Rattle.std.specs.Prelude.{ℕ, ℤ, Bool, true, ◌&&◌, ◌||◌, not, int_lt, if◌then◌else◌, Option, Some, None, is_some}
+use Rattle.std.specs.Prelude.{option_and_then, Result, Ok, Err, List, [], ◌∷◌, ◌++◌, map, filter, filter_map, replicate}
 use Rattle.std.specs.FinMap.{FinMap, entries, from_entries}
 use Rattle.std.specs.Ordering.{int_cmp}
 use Rattle.std.specs.Int.{int_max}
@@ -66,17 +67,19 @@ is_kept Or a b = is_some a || is_some b
 -- the rows that two series have at a stamp as one element, where it is kept
 abbrev pub joined_at : Junction → Side → Side → ℤ → Option Row → Option Row → Option Element
 joined_at junction a b stamp x y =
-    if is_kept junction x y then Some (stamp, visible (values_or_nulls a.columns x ++ values_or_nulls b.columns y)) else None
+    if is_kept junction x y then Some (stamp, visible (values_or_nulls a.columns x ++ values_or_nulls b.columns y))
+    else None
 
--- what two series on grids have at the starts of the grid that they have in common: at each a series has the element whose interval
--- holds it
+-- what two series on grids have at the starts of the grid that they have in common: at each a series has the element
+-- whose interval holds it
 abbrev pub rows_on : Junction → Side → GridPlan → Side → GridPlan → ℤ → ℤ → CommonGrid → List Element
 rows_on junction a g b h from to grid =
     filter_map (λ s. joined_at junction a b s (row_around g a.elements s) (row_around h b.elements s))
     (starts_between (every_start g.calendar h.calendar grid) from to)
 
 -- the same, where there is such a grid and the rows aren't too many
-abbrev pub joined_on : Junction → Side → GridPlan → Side → GridPlan → ℤ → ℤ → Result CommonGrid Refusal → Result (List Element) Refusal
+abbrev pub joined_on : Junction → Side → GridPlan → Side → GridPlan → ℤ → ℤ → Result CommonGrid Refusal
+    → Result (List Element) Refusal
 joined_on junction a g b h from to (Err why) = Err why
 joined_on junction a g b h from to (Ok grid) = within_rows (rows_on junction a g b h from to grid)
 
@@ -90,10 +93,11 @@ rows_there junction a b from to =
 abbrev pub joined_there : Junction → Side → Side → ℤ → ℤ → Result (List Element) Refusal
 joined_there junction a b from to = within_rows (rows_there junction a b from to)
 
--- two series as one from a stamp to another: where both are on grids at the starts of the grid that they have in common, else at the
--- stamps of their elements
+-- two series as one from a stamp to another: where both are on grids at the starts of the grid that they have in
+-- common, else at the stamps of their elements
 abbrev pub joined_of : Junction → Side → Side → Shape → Shape → ℤ → ℤ → Result (List Element) Refusal
-joined_of junction a b (Regular g) (Regular h) from to = joined_on junction a g b h from to (common_grid g.calendar h.calendar)
+joined_of junction a b (Regular g) (Regular h) from to =
+    joined_on junction a g b h from to (common_grid g.calendar h.calendar)
 joined_of junction a b (Regular g) Irregular from to = joined_there junction a b from to
 joined_of junction a b Irregular (Regular h) from to = joined_there junction a b from to
 joined_of junction a b Irregular Irregular from to = joined_there junction a b from to

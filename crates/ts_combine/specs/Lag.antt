@@ -1,5 +1,6 @@
 -- A series on a grid against itself so many on starts earlier.
-use Rattle.std.specs.Prelude.{ℕ, ℤ, pos, ◌-ℤ◌, int_lt, unsigned_abs, if◌then◌else◌, Option, Some, None, option_map, option_and_then, Result, Err, List, filter_map}
+use Rattle.std.specs.Prelude.{ℕ, ℤ, pos, ◌-ℤ◌, int_lt, unsigned_abs, if◌then◌else◌, Option, Some, None, option_map}
+use Rattle.std.specs.Prelude.{option_and_then, Result, Err, List, filter_map}
 use Rattle.ts_base.specs.declared.refusal.Refusal.{Refusal}
 use Rattle.ts_base.specs.declared.refusal.Refusal.TheVariants.{NotRegular}
 use Rattle.ts_offset.specs.Grid.{GridPlan, starts_before, stamp_of}
@@ -19,7 +20,8 @@ start_before grid by start = option_and_then (stamp_of grid) (from_origin (pos (
 
 -- the element that stands so many on starts before one, at that one
 abbrev pub lagged_at : GridPlan → ℤ → List Element → ℤ → Option Element
-lagged_at grid by es start = option_map (λ row. (start, row)) (option_and_then (λ s. element_at s es) (start_before grid by start))
+lagged_at grid by es start =
+    option_map (λ row. (start, row)) (option_and_then (λ s. element_at s es) (start_before grid by start))
 
 -- at each on start from the origin to the last element, the one that stands so many on starts before it
 abbrev pub lagged : Shape → ℤ → List Element → Result (List Element) Refusal

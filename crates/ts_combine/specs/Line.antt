@@ -17,8 +17,8 @@ starts_up_to line low high = starts_of_next line low (gap low high)
 abbrev pub AllExist : CalendarPlan → ℤ → ℤ → Type 0
 AllExist line low high = (k : ℤ) → low ≤ℤ k → k <ℤ high → IsSome (start_at line k)
 
--- of the starts of a line before number `limit`, those from number `low` up to, not including, `high` are held by the on interval of a
--- calendar that starts at a stamp, and no others; those before come before the stamp
+-- of the starts of a line before number `limit`, those from number `low` up to, not including, `high` are held by the
+-- on interval of a calendar that starts at a stamp, and no others; those before come before the stamp
 pub record AreHeldFrom (c line : CalendarPlan) (limit stamp low high : ℤ) : Type 0 where
   pub held : (k s : ℤ) → k <ℤ limit → low ≤ℤ k → k <ℤ high → start_at line k ≡ Some s → held_start c s ≡ Some stamp
   pub only : (k s : ℤ) → k <ℤ limit → start_at line k ≡ Some s → held_start c s ≡ Some stamp → (low ≤ℤ k) × (k <ℤ high)

@@ -11,7 +11,8 @@ abbrev pub IsBeforeAny : ℤ → Option ℤ → Type 0
 IsBeforeAny stamp None = Unit {0}
 IsBeforeAny stamp (Some other) = stamp <ℤ other
 
--- element number k stands at a stamp, and is taken by its index; or none is taken, since that one is later or there is none
+-- element number k stands at a stamp, and is taken by its index; or none is taken, since that one is later or there is
+-- none
 abbrev pub IsTaken : Option ℤ → ℕ → ℤ → Option ℕ → Type 0
 IsTaken at k stamp None = IsBeforeAny stamp at
 IsTaken at k stamp (Some n) = (n ≡ k) × (at ≡ Some stamp)

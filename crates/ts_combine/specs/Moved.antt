@@ -1,5 +1,6 @@
 -- Elements of a series on a grid, each at the on start so many behind its own.
-use Rattle.std.specs.Prelude.{◌≡◌, ℕ, ◌<◌, nat_le, if◌then◌else◌, ℤ, pos, ◌+ℤ◌, Option, Some, None, option_map, option_and_then, unwrap_or, List, [], All, length, map}
+use Rattle.std.specs.Prelude.{◌≡◌, ℕ, ◌<◌, nat_le, if◌then◌else◌, ℤ, pos, ◌+ℤ◌, Option, Some, None, option_map}
+use Rattle.std.specs.Prelude.{option_and_then, unwrap_or, List, [], All, length, map}
 use Rattle.ts_row.specs.declared.row.Elem.{Elem}
 use Rattle.ts_row.specs.Row.{visible}
 use Rattle.ts_row.specs.Element.{Element}

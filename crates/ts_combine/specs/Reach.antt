@@ -1,5 +1,6 @@
 -- The starts of a line that an element holds, and the row that a series has there.
-use Rattle.std.specs.Prelude.{◌≡◌, ℕ, ◌+◌, ◌<◌, ◌≤◌, ◌⊎◌, ◌&&◌, not, int_lt, if◌then◌else◌, ℤ, ◌<ℤ◌, ◌≤ℤ◌, Option, Some, None, option_and_then, List, length, map, filter_map, slice_get}
+use Rattle.std.specs.Prelude.{◌≡◌, ℕ, ◌+◌, ◌<◌, ◌≤◌, ◌⊎◌, ◌&&◌, not, int_lt, if◌then◌else◌, ℤ, ◌<ℤ◌, ◌≤ℤ◌, Option, Some}
+use Rattle.std.specs.Prelude.{None, option_and_then, List, length, map, filter_map, slice_get}
 use Rattle.std.specs.Borrow.{Bor}
 use Rattle.ts_row.specs.declared.row.Elem.{Elem}
 use Rattle.ts_row.specs.Row.{Row}
@@ -34,12 +35,15 @@ row_held c es stamp = option_and_then (λ start. element_at start es) (held_star
 
 -- the rows that two series have at some stamps
 abbrev pub rows_held : Junction → Side → CalendarPlan → Side → CalendarPlan → List ℤ → List Element
-rows_held junction a c b d stamps = filter_map (λ s. joined_at junction a b s (row_held c a.elements s) (row_held d b.elements s)) stamps
+rows_held junction a c b d stamps =
+    filter_map (λ s. joined_at junction a b s (row_held c a.elements s) (row_held d b.elements s)) stamps
 
--- one of these elements or the end behind them, and the starts of a line before number `limit` that it holds; none behind the last
+-- one of these elements or the end behind them, and the starts of a line before number `limit` that it holds; none
+-- behind the last
 pub record IsReach (c line : CalendarPlan) (limit : ℤ) (elems : List Elem) (r : Reach) : Type 0 where
   pub within : r.index ≤ length elems
-  pub here : (e : Elem) → slice_get elems r.index ≡ Some e → IsOnStart c e.stamp → AreHeldFrom c line limit e.stamp r.low r.high
+  pub here : (e : Elem) → slice_get elems r.index ≡ Some e → IsOnStart c e.stamp
+      → AreHeldFrom c line limit e.stamp r.low r.high
   pub over : length elems ≤ r.index → (r.low ≡ limit) × (r.high ≡ limit)
 
 -- a reach that is over at a number, and the next one; or the same one, which isn't over or is the last

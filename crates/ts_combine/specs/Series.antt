@@ -57,7 +57,8 @@ IsLaidOut (Regular grid) = IsLaid grid.calendar
 -- a stamp isn't later than the start of the interval that holds another one, unless that starts before the origin
 abbrev pub IsBeforeHeld : Shape → ℤ → ℤ → Type 0
 IsBeforeHeld Irregular from low = Unit {0}
-IsBeforeHeld (Regular grid) from low = (start : ℤ) → held_start grid.calendar from ≡ Some start → grid.origin ≤ℤ start → low ≤ℤ start
+IsBeforeHeld (Regular grid) from low = (start : ℤ) → held_start grid.calendar from ≡ Some start → grid.origin ≤ℤ start
+    → low ≤ℤ start
 
 -- of a series that is combined from a stamp on, the elements from a stamp `low` on are enough
 pub record IsEnough (shape : Shape) (from low : ℤ) : Type 0 where

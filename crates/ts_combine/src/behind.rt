@@ -14,11 +14,13 @@ use ts_base::{Refusal, Stamp, Trouble};
 use ts_offset::{Grid, Shape};
 use ts_row::Elem;
 
-/// At each on start from the origin to the last element of a series on a grid, the element that stands so many on starts before it, if one
-/// does; a negative number leads to later elements. NotRegular where the series isn't on a grid, TooLarge where these are more than 1000000.
+/// At each on start from the origin to the last element of a series on a grid, the element that stands so many on
+/// starts before it, if one does; a negative number leads to later elements. NotRegular where the series isn't on a
+/// grid, TooLarge where these are more than 1000000.
 pub fn lag(alloc: Global, side: &Side, by: i64) -> Result<Vec<Lagged>, Trouble>
     requires laid { IsLaidOut side.now.shape.now }
-    ensures rows { let a = side_of side.now in IsSeries a → AnswersRows (lagged_row a.elements) (lagged a.shape by a.elements) result }
+    ensures rows { let a = side_of side.now in IsSeries a
+        → AnswersRows (lagged_row a.elements) (lagged a.shape by a.elements) result }
     ensures within { IfOk result (λ rows. All (λ l. l.index < length side.now.elems.now) rows.items) }
     ensures cause { IsRefusedFor (λ why. IsNotOnGrid side.now.shape.now why ⊎ IsTooLarge why) result }
 {
@@ -35,7 +37,8 @@ fn lagged(
     elems: &[Elem],
     by: i64,
 ) -> Result<Rows<Lagged>, AllocError>
-    ensures { IfOk result (let es = elements_in elems.now in GathersLagged elems.now (filter_map (moved grid.now by (last_offset grid.now es)) es)) }
+    ensures { IfOk result (let es = elements_in elems.now in GathersLagged elems.now
+        (filter_map (moved grid.now by (last_offset grid.now es)) es)) }
 {
     let last = last_offset(grid, elems);
     let mut rows = Rows::new(alloc);

@@ -18,10 +18,10 @@ use ts_calendar::Calendar;
 use ts_offset::Shape;
 use ts_pattern::Junction;
 
-/// The rows of two series at the stamps from one to another, both included, at which one has an element or both have. Where both lie on
-/// grids, these are the starts of the grid that the two have in common, and each series has the element whose interval holds such a start.
-/// UnitMismatch where neither unit is made of the other, NotAligned where the grids don't meet, TooLarge where the rows are more than
-/// 1000000.
+/// The rows of two series at the stamps from one to another, both included, at which one has an element or both have.
+/// Where both lie on grids, these are the starts of the grid that the two have in common, and each series has the
+/// element whose interval holds such a start. UnitMismatch where neither unit is made of the other, NotAligned where
+/// the grids don't meet, TooLarge where the rows are more than 1000000.
 pub fn union(
     alloc: Global,
     first: &Side,
@@ -33,8 +33,10 @@ pub fn union(
     requires second { HasCalendar second.now }
     ensures rows { let a = side_of first.now in let b = side_of second.now in IsSeries a → IsSeries b
         → AnswersRows (joined_row a b) (joined Or a b from to) result }
-    ensures within { IfOk result (λ rows. All (HasElements (length first.now.elems.now) (length second.now.elems.now)) rows.items) }
-    ensures cause { IsRefusedFor (λ why. HaveNoGrid first.now.shape.now second.now.shape.now why ⊎ IsTooLarge why) result }
+    ensures within { IfOk result
+        (λ rows. All (HasElements (length first.now.elems.now) (length second.now.elems.now)) rows.items) }
+    ensures cause { IsRefusedFor (λ why. HaveNoGrid first.now.shape.now second.now.shape.now why
+        ⊎ IsTooLarge why) result }
 {
     joined(alloc, Junction::Or, first, second, from, to)
 }
@@ -51,8 +53,10 @@ pub fn intersect(
     requires second { HasCalendar second.now }
     ensures rows { let a = side_of first.now in let b = side_of second.now in IsSeries a → IsSeries b
         → AnswersRows (joined_row a b) (joined And a b from to) result }
-    ensures within { IfOk result (λ rows. All (HasElements (length first.now.elems.now) (length second.now.elems.now)) rows.items) }
-    ensures cause { IsRefusedFor (λ why. HaveNoGrid first.now.shape.now second.now.shape.now why ⊎ IsTooLarge why) result }
+    ensures within { IfOk result
+        (λ rows. All (HasElements (length first.now.elems.now) (length second.now.elems.now)) rows.items) }
+    ensures cause { IsRefusedFor (λ why. HaveNoGrid first.now.shape.now second.now.shape.now why
+        ⊎ IsTooLarge why) result }
 {
     joined(alloc, Junction::And, first, second, from, to)
 }
@@ -69,8 +73,10 @@ fn joined(
     requires second { HasCalendar second.now }
     ensures rows { let a = side_of first.now in let b = side_of second.now in IsSeries a → IsSeries b
         → AnswersRows (joined_row a b) (joined junction a b from to) result }
-    ensures within { IfOk result (λ rows. All (HasElements (length first.now.elems.now) (length second.now.elems.now)) rows.items) }
-    ensures cause { IsRefusedFor (λ why. HaveNoGrid first.now.shape.now second.now.shape.now why ⊎ IsTooLarge why) result }
+    ensures within { IfOk result
+        (λ rows. All (HasElements (length first.now.elems.now) (length second.now.elems.now)) rows.items) }
+    ensures cause { IsRefusedFor (λ why. HaveNoGrid first.now.shape.now second.now.shape.now why
+        ⊎ IsTooLarge why) result }
 {
     match (grid_calendar(first), grid_calendar(second)) {
         (Some(calendar), Some(other)) => {
@@ -106,8 +112,10 @@ fn joined_on(
     requires second { IsOnCalendar second.now.shape.now other.now }
     ensures rows { let a = side_of first.now in let b = side_of second.now in IsSeries a → IsSeries b
         → AnswersRows (joined_row a b) (joined junction a b from to) result }
-    ensures within { IfOk result (λ rows. All (HasElements (length first.now.elems.now) (length second.now.elems.now)) rows.items) }
-    ensures cause { IsRefusedFor (λ why. HaveNoGrid first.now.shape.now second.now.shape.now why ⊎ IsTooLarge why) result }
+    ensures within { IfOk result
+        (λ rows. All (HasElements (length first.now.elems.now) (length second.now.elems.now)) rows.items) }
+    ensures cause { IsRefusedFor (λ why. HaveNoGrid first.now.shape.now second.now.shape.now why
+        ⊎ IsTooLarge why) result }
 {
     match calendar.common_grid(other) {
         Ok(grid) => {

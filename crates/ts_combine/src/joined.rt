@@ -1,7 +1,7 @@
 use ts_base::Stamp;
 
-/// A row of two series as one: its stamp, and by their indices the elements whose rows stand in it. Where a series has none its columns
-/// are NULL.
+/// A row of two series as one: its stamp, and by their indices the elements whose rows stand in it. Where a series has
+/// none its columns are NULL.
 #[derive(Clone, Copy, Debug)]
 pub struct Joined {
     pub stamp: Stamp,

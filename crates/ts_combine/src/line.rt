@@ -49,8 +49,8 @@ fn starts_at(calendar: &Calendar, k: i64, stamp: Stamp) -> bool
     }
 }
 
-/// The intervals of a line, before number `limit`, whose starts the interval of a calendar holds that starts at a stamp: the first one, and
-/// the one behind the last.
+/// The intervals of a line, before number `limit`, whose starts the interval of a calendar holds that starts at a
+/// stamp: the first one, and the one behind the last.
 pub(crate) fn held_from(
     calendar: &Calendar,
     line: &Calendar,
@@ -76,8 +76,8 @@ pub(crate) struct Line<'a> {
     ghost exist: { AllExist calendar.now low limit },
 }
 
-/// Those whose starts are the ones of the grid that two calendars have in common, from one stamp to another, but for those before the
-/// later calendar's start.
+/// Those whose starts are the ones of the grid that two calendars have in common, from one stamp to another, but for
+/// those before the later calendar's start.
 pub(crate) fn common_line<'a>(
     first: &'a Calendar,
     second: &'a Calendar,
@@ -87,7 +87,8 @@ pub(crate) fn common_line<'a>(
 ) -> Line<'a>
     requires grid { common_grid first.now second.now ≡ Ok grid }
     requires early { IsEarly grid.unit first.now.patt_start }
-    ensures { starts_up_to result.calendar.now result.low result.limit ≡ starts_between (every_start first.now second.now grid) from to }
+    ensures { starts_up_to result.calendar.now result.low result.limit
+        ≡ starts_between (every_start first.now second.now grid) from to }
 {
     let calendar = finer(first, second, grid.unit);
     let start = later(from, later(start_of(first), second.start()));
@@ -110,7 +111,8 @@ fn start_of(calendar: &Calendar) -> Stamp
 // That of two calendars which has the smaller unit.
 fn finer<'a>(first: &'a Calendar, second: &'a Calendar, unit: Unit) -> &'a Calendar
     requires { smaller_unit first.now.pattern.unit second.now.pattern.unit ≡ Some unit }
-    ensures { ((result.now ≡ second.now) × (second.now.pattern.unit ≡ unit)) ⊎ ((result.now ≡ first.now) × (first.now.pattern.unit ≡ unit)) }
+    ensures { ((result.now ≡ second.now) × (second.now.pattern.unit ≡ unit))
+        ⊎ ((result.now ≡ first.now) × (first.now.pattern.unit ≡ unit)) }
 {
     if is_same(second.pattern().unit(), unit) {
         second

@@ -22,7 +22,8 @@ pub(crate) fn merged(
     from: Stamp,
     to: Stamp,
 ) -> Result<Rows<Joined>, AllocError>
-    ensures { IfOk result (GathersJoined first.now second.now (rows_there junction (side_of first.now) (side_of second.now) from to)) }
+    ensures { IfOk result
+        (GathersJoined first.now second.now (rows_there junction (side_of first.now) (side_of second.now) from to)) }
 {
     let mut rows = Rows::new(alloc);
     let mut i = 0;

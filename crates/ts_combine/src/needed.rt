@@ -9,8 +9,8 @@ ghost use Rattle.ts_combine.specs.Series.{IsLaidOut, IsSeries, IsEnough, side_wi
 use ts_base::Stamp;
 use ts_offset::{Grid, Shape};
 
-/// A stamp from which on the elements of a series are enough where it is combined from a stamp on: on a grid the start of the interval that
-/// holds this one, else this one itself.
+/// A stamp from which on the elements of a series are enough where it is combined from a stamp on: on a grid the start
+/// of the interval that holds this one, else this one itself.
 pub fn first_needed(shape: &Shape<'_>, from: Stamp) -> Stamp
     ensures { IsEnough shape.now from result }
 {
@@ -33,9 +33,11 @@ fn held_or_own(grid: &Grid<'_>, stamp: Stamp) -> Stamp
     }
 }
 
-/// Two series from one stamp to another are joined as their elements that are enough are, up to the last stamp; and these are series too.
+/// Two series from one stamp to another are joined as their elements that are enough are, up to the last stamp; and
+/// these are series too.
 pub fn elements_outside_play_no_part()
-    ensures joined { (junction : TheJunction) (a b : TheSide) (from to low other : ℤ) → IsStamp from → IsLaidOut a.shape → IsLaidOut b.shape
+    ensures joined { (junction : TheJunction) (a b : TheSide) (from to low other : ℤ) → IsStamp from → IsLaidOut a.shape
+        → IsLaidOut b.shape
         → IsSeries a → IsSeries b → IsEnough a.shape from low → IsEnough b.shape from other
         → joined junction (side_within low to a) (side_within other to b) from to ≡ joined junction a b from to }
     ensures series { (s : TheSide) (low to : ℤ) → IsSeries s → IsSeries (side_within low to s) }

@@ -6,8 +6,8 @@ use crate::line::{Line, held_from};
 use ts_calendar::Calendar;
 use ts_row::Elem;
 
-/// An element by its index, and the intervals of a line whose starts it holds: from number `low` up to, not including, `high`. Behind the
-/// last element it begins and ends at the line's limit.
+/// An element by its index, and the intervals of a line whose starts it holds: from number `low` up to, not including,
+/// `high`. Behind the last element it begins and ends at the line's limit.
 #[derive(Clone, Copy)]
 pub(crate) struct Reach {
     pub index: usize,

@@ -1,5 +1,6 @@
 // Rows of an answer, which may have 1000000 of them.
-ghost use Rattle.std.specs.Prelude.{◌≡◌, ◌+◌, ◌<◌, ◌≤◌, ◌^◌, [], ◌∷◌, ◌++◌, List, length, OnOk, IsTrue, ◌↔◌, if◌then◌else◌};
+ghost use Rattle.std.specs.Prelude.{◌≡◌, ◌+◌, ◌<◌, ◌≤◌, ◌^◌, [], ◌∷◌, ◌++◌, List, length, OnOk, IsTrue, ◌↔◌};
+ghost use Rattle.std.specs.Prelude.{if◌then◌else◌};
 ghost use Rattle.ts_entry.specs.Reading.{most_rows, within_rows};
 ghost use Rattle.ts_combine.specs.Rows.{Gathers, AnswersList, IsTooLarge, IsRefusedFor};
 
@@ -65,7 +66,8 @@ impl<T: Copy + Drop> Rows<T> {
     pub fn skip(&mut self, more: u64)
         requires fits { self.old.count + more < 2 ^ 64 }
         requires many { most_rows < self.old.count + more }
-        ensures gathers { (all rows : List T) → length rows ≡ more → Gathers self.old all → Gathers self.new (all ++ rows) }
+        ensures gathers { (all rows : List T) → length rows ≡ more → Gathers self.old all
+            → Gathers self.new (all ++ rows) }
         ensures count { self.new.count ≡ self.old.count + more }
     {
         self.count += more;

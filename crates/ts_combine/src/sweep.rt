@@ -1,5 +1,6 @@
 // Two series at the starts of the grid that they have in common.
-ghost use Rattle.std.specs.Prelude.{◌≡◌, ◌+◌, ◌<◌, ◌≤◌, ◌^◌, [], ◌++◌, if◌then◌else◌, pos, ◌+ℤ◌, ◌≤ℤ◌, ◌<ℤ◌, ◌⊎◌, List, length, OnOk, IfOk};
+ghost use Rattle.std.specs.Prelude.{◌≡◌, ◌+◌, ◌<◌, ◌≤◌, ◌^◌, [], ◌++◌, if◌then◌else◌, pos, ◌+ℤ◌, ◌≤ℤ◌, ◌<ℤ◌, ◌⊎◌, List};
+ghost use Rattle.std.specs.Prelude.{length, OnOk, IfOk};
 ghost use Rattle.ts_calendar.specs.First.{IsNear};
 ghost use Rattle.ts_entry.specs.Reading.{most_rows};
 ghost use Rattle.ts_offset.specs.Walk.{gap};
@@ -20,7 +21,8 @@ use std::alloc::{AllocError, Global};
 use ts_calendar::Calendar;
 use ts_pattern::Junction;
 
-/// The rows that two series on calendars have at the starts of a line. Stretches of it in which neither row changes are taken at once.
+/// The rows that two series on calendars have at the starts of a line. Stretches of it in which neither row changes are
+/// taken at once.
 pub(crate) fn swept(
     alloc: Global,
     junction: Junction,
@@ -32,7 +34,9 @@ pub(crate) fn swept(
 ) -> Result<Rows<Joined>, AllocError>
     requires first { IsOnCalendar first.now.shape.now calendar.now }
     requires second { IsOnCalendar second.now.shape.now other.now }
-    ensures { IfOk result (GathersJoined first.now second.now (rows_held junction (side_of first.now) calendar.now (side_of second.now) other.now
+    ensures { IfOk result
+        (GathersJoined first.now second.now (rows_held junction (side_of first.now) calendar.now
+        (side_of second.now) other.now
         (starts_up_to line.now.calendar.now line.now.low line.now.limit))) }
 {
     let limit = line.limit;
@@ -88,7 +92,8 @@ fn add(
     requires high { to ≤ℤ line.now.limit }
     requires fits { rows.old.count + gap from to < 2 ^ 63 }
     ensures gathers { OnOk result ((all : List Joined) → Gathers rows.old all → Gathers rows.new
-        (all ++ (if is_kept junction first second then rows_with first second (starts_up_to line.now.calendar.now from to) else []))) }
+        (all ++ (if is_kept junction first second
+        then rows_with first second (starts_up_to line.now.calendar.now from to) else []))) }
     ensures count { OnOk result (rows.new.count ≤ rows.old.count + gap from to) }
 {
     if !is_kept(junction, first, second) {

@@ -21,7 +21,8 @@ folded_at b from to l container slot = folded_if b from to l container slot (at_
 
 -- of all series of the container in a slot, in the order of their keys
 abbrev pub folded_in : Binding → ℤ → ℤ → Layout → ℕ → List (List ℕ × Row)
-folded_in b from to l container = flat_map (folded_at b from to l container) (values (slots_by_name (slots kinds.Series l.definitions)))
+folded_in b from to l container = flat_map (folded_at b from to l container)
+    (values (slots_by_name (slots kinds.Series l.definitions)))
 
 -- so many series are said in lines, behind what was said before
 pub record AreSaid (b : Binding) (rows : List (List ℕ × Row)) (out said : List ℕ) (count : ℕ) : Type 0 where

@@ -35,7 +35,8 @@ pub record IsThere (shape : Shape) (slot : ℕ) (d : Definitions) : Type 0 where
   pub lies : shape_at d slot ≡ Some shape
 
 -- and its pages can be read
-pub record IsReadable (shape : Shape) (slot : ℕ) (columns : List Column) (d : Definitions) (places : List Place) (c : Contents)
+pub record IsReadable (shape : Shape) (slot : ℕ) (columns : List Column) (d : Definitions) (places : List Place)
+    (c : Contents)
     : Type 0 where
   pub there : IsThere shape slot d
   pub laid : IsLaidOut shape

@@ -1,5 +1,6 @@
 -- The pages of the series of a container in memory: those that a range touches.
-use Rattle.std.specs.Prelude.{◌≡◌, ℕ, ◌+◌, ◌<◌, ◌≤◌, ◌==◌, ℤ, Bool, false, IsTrue, Option, Some, None, IsSome, List, [], ◌++◌, length, take, map}
+use Rattle.std.specs.Prelude.{◌≡◌, ℕ, ◌+◌, ◌<◌, ◌≤◌, ◌==◌, ℤ, Bool, false, IsTrue, Option, Some, None, IsSome, List, []}
+use Rattle.std.specs.Prelude.{◌++◌, length, take, map}
 use Rattle.std.specs.List.{filter, AllZip}
 use Rattle.std.specs.Option.{option_map}
 use Rattle.ts_row.specs.Row.{Row}
@@ -32,9 +33,10 @@ pub record AreRead (tells : Bool) (pages : ℕ → List ℕ) (places : List Plac
   pub all : length more ≡ length places
   pub read : IsTrue tells → ArePagesOf pages places more
 
--- A stack is that of the series in a slot: its columns, its shape, the places of the pages that a range touches, as many pages of a list as
--- there are places, and where the pages are told, the pages of these places.
-pub record IsStackOf (tells : Bool) (x : View) (from to : ℤ) (read : List Page) (slot : ℕ) (stack : Stack) : Type 0 where
+-- A stack is that of the series in a slot: its columns, its shape, the places of the pages that a range touches, as
+-- many pages of a list as there are places, and where the pages are told, the pages of these places.
+pub record IsStackOf (tells : Bool) (x : View) (from to : ℤ) (read : List Page) (slot : ℕ)
+    (stack : Stack) : Type 0 where
   pub series : stack.shelf.series ≡ slot
   pub columns : heading_at x.definitions slot ≡ Some stack.shelf.kind.now
   pub lies : shape_at x.definitions slot ≡ Some stack.shape
@@ -53,8 +55,10 @@ pub record IsEmpty (gathered : Gathered) : Type 0 where
   pub stacks : gathered.stacks.items ≡ []
   pub passed : gathered.passed ≡ 0
 
--- the series of the range's container in the first of some slots have their stacks, whose pages are among those that are gathered
-pub record IsGathered (tells : Bool) (pages : Contents) (range : ContainerRange) (slots : List ℕ) (gathered : Gathered) : Type 0 where
+-- the series of the range's container in the first of some slots have their stacks, whose pages are among those that
+-- are gathered
+pub record IsGathered (tells : Bool) (pages : Contents) (range : ContainerRange) (slots : List ℕ)
+    (gathered : Gathered) : Type 0 where
   pub passed : gathered.passed ≤ length slots
   pub stacks : AllZip (IsStackOf tells (seen_by range pages) range.from range.to gathered.pages)
       (inside range.defs.now.definitions range.container (take gathered.passed slots)) gathered.stacks.items
@@ -65,6 +69,8 @@ pub record HasSeries (d : Definitions) (stack : Stack) : Type 0 where
   pub some : IsSome (at_slot stack.shelf.series d.series)
 
 -- the lines that are said of some stacks with a row for each: the key of the stack's series, and its row
-pub record AreLinesOf (d : Definitions) (stacks : List Stack) (rows : List Row) (lines : List (List ℕ × Row)) : Type 0 where
-  pub keyed : AllZip (λ stack line. option_map (λ s. s.key) (at_slot stack.shelf.series d.series) ≡ Some line.0) stacks lines
+pub record AreLinesOf (d : Definitions) (stacks : List Stack) (rows : List Row)
+    (lines : List (List ℕ × Row)) : Type 0 where
+  pub keyed : AllZip (λ stack line. option_map (λ s. s.key) (at_slot stack.shelf.series d.series)
+      ≡ Some line.0) stacks lines
   pub folded : map (λ line. line.1) lines ≡ rows

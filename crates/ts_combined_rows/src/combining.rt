@@ -27,9 +27,10 @@ use ts_row::Shelf;
 use ts_shelf::shelf_of;
 use ts_space::Space;
 
-/// Says two series as one, from one stamp to another, both included: rows with the columns of both. Keys that no series has are refused
-/// first; UnitMismatch and NotAligned where both are regular and have no grid in common, TooLarge where the rows are more than 1000000.
-/// `page` is room to read one; the memory is for the elements that are needed and for the rows.
+/// Says two series as one, from one stamp to another, both included: rows with the columns of both. Keys that no series
+/// has are refused first; UnitMismatch and NotAligned where both are regular and have no grid in common, TooLarge where
+/// the rows are more than 1000000. `page` is room to read one; the memory is for the elements that are needed and for
+/// the rows.
 pub fn join<P: Pages>(
     alloc: Global,
     pages: &mut P,
@@ -75,9 +76,11 @@ fn join_on<P: Pages>(
     requires second { IsReadable second.now.1 second.now.0.series second.now.0.kind.now.columns defs.now.definitions
         (places_of second.now.0.series space.now) (P.contents pages.old) }
     requires empty { out.old ≡ [] }
-    ensures read { (key key' : List ℕ) → IsShelf first.now.1 first.now.0.series first.now.0.kind.now key defs.now.definitions
+    ensures read { (key key' : List ℕ)
+        → IsShelf first.now.1 first.now.0.series first.now.0.kind.now key defs.now.definitions
         → IsShelf second.now.1 second.now.0.series second.now.0.kind.now key' defs.now.definitions
-        → ReadOut P.tells (join_of junction key key' from to) result out.new (view defs.now.definitions space.now (P.contents pages.old))
+        → ReadOut P.tells (join_of junction key key' from to) result out.new
+        (view defs.now.definitions space.now (P.contents pages.old))
         (P.contents pages.new) }
     ensures undisturbed { P.undisturbed pages.old pages.new }
 {
@@ -115,7 +118,8 @@ fn say_series_joined(
         → AreOfSeries second.now.1 second.now.0.kind.now.columns others.now
         → IsTried result (joined junction (side_with first.now.1 first.now.0.kind.now.columns ones.now)
         (side_with second.now.1 second.now.0.kind.now.columns others.now) from to)
-        (λ said rows. out.new ≡ out.old ++ elements_text (first.now.0.kind.now.columns ++ second.now.0.kind.now.columns) rows) }
+        (λ said rows. out.new ≡ out.old
+        ++ elements_text (first.now.0.kind.now.columns ++ second.now.0.kind.now.columns) rows) }
 {
     let one = side_of(defs, &first.0, &first.1, ones);
     let other = side_of(defs, &second.0, &second.1, others);
@@ -124,9 +128,10 @@ fn say_series_joined(
     Ok(())
 }
 
-/// Says the elements of a regular series, each at the on start so many behind its own, up to the last element; a negative number leads to
-/// earlier on starts. A key that no series has is refused, then an irregular series as NotRegular, whose pages aren't read; TooLarge where
-/// the rows are more than 1000000. `page` is room to read one; the memory is for the elements and for the rows.
+/// Says the elements of a regular series, each at the on start so many behind its own, up to the last element; a
+/// negative number leads to earlier on starts. A key that no series has is refused, then an irregular series as
+/// NotRegular, whose pages aren't read; TooLarge where the rows are more than 1000000. `page` is room to read one; the
+/// memory is for the elements and for the rows.
 pub fn lag<P: Pages>(
     alloc: Global,
     pages: &mut P,
@@ -139,7 +144,8 @@ pub fn lag<P: Pages>(
 ) -> Result<(), Stop>
     requires seen { IsSeen P.tells (view defs.now.definitions space.now (P.contents pages.old)) }
     requires empty { out.old ≡ [] }
-    ensures read { ReadOut P.tells (Lag key.now by) result out.new (view defs.now.definitions space.now (P.contents pages.old))
+    ensures read { ReadOut P.tells (Lag key.now by) result out.new
+        (view defs.now.definitions space.now (P.contents pages.old))
         (P.contents pages.new) }
     ensures undisturbed { P.undisturbed pages.old pages.new }
 {
@@ -188,7 +194,8 @@ fn say_series_lagged(
 ) -> Result<(), Trouble>
     requires there { IsThere found.now.1 found.now.0.series defs.now.definitions }
     requires laid { IsLaidOut found.now.1 }
-    ensures { AreOfSeries found.now.1 found.now.0.kind.now.columns kept.now → IsTried result (lagged found.now.1 by kept.now)
+    ensures { AreOfSeries found.now.1 found.now.0.kind.now.columns kept.now
+        → IsTried result (lagged found.now.1 by kept.now)
         (λ said rows. out.new ≡ out.old ++ elements_text found.now.0.kind.now.columns rows) }
 {
     let side = side_of(defs, &found.0, &found.1, kept);

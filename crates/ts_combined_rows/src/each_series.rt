@@ -1,5 +1,6 @@
 // The routine that folds the elements of each series of a container by an aggregate list.
-ghost use Rattle.std.specs.Prelude.{◌≡◌, ◌<◌, ◌≤◌, ◌^◌, ℕ, [], All, IfOk, IsSome, IsTrue, List, Some, length, option_map};
+ghost use Rattle.std.specs.Prelude.{◌≡◌, ◌<◌, ◌≤◌, ◌^◌, ℕ, [], All, IfOk, IsSome, IsTrue, List, Some, length};
+ghost use Rattle.std.specs.Prelude.{option_map};
 ghost use Rattle.std.specs.List.{AllZip};
 ghost use Rattle.ts_row.specs.Row.{Row as RowValue};
 ghost use Rattle.ts_command.specs.declared.command.Command.TheVariants.{AggregateAll};
@@ -31,12 +32,13 @@ use ts_say::{say_count, say_series_folded};
 use ts_shelf::shelf_at;
 use ts_space::Space;
 
-/// Says what an aggregate list makes of the elements of each series of a container from one stamp to another, both included: a row for
-/// each series, in the order of their keys, and how many they are. A text that is no list is refused first, then a container that isn't
-/// there, then a list that its columns don't bear. The pages that the range touches are read into two lists in turn, 16 MiB of them at
-/// most, whose memory is kept: while one is read, as many workers as serve fold the other. A series that alone has more pages than a list
-/// holds is folded a page at a time. `page` is room to read one; the memory is for these pages, for the aggregate list, for what is known
-/// of the items while they are folded, and for the rows.
+/// Says what an aggregate list makes of the elements of each series of a container from one stamp to another, both
+/// included: a row for each series, in the order of their keys, and how many they are. A text that is no list is
+/// refused first, then a container that isn't there, then a list that its columns don't bear. The pages that the range
+/// touches are read into two lists in turn, 16 MiB of them at most, whose memory is kept: while one is read, as many
+/// workers as serve fold the other. A series that alone has more pages than a list holds is folded a page at a time.
+/// `page` is room to read one; the memory is for these pages, for the aggregate list, for what is known of the items
+/// while they are folded, and for the rows.
 pub fn aggregate_all<P: Pages>(
     rt: &(impl Threads + Sync),
     alloc: Global,
@@ -75,8 +77,8 @@ pub fn aggregate_all<P: Pages>(
     Ok(())
 }
 
-// Says what a list makes of each series of a range's container, and gives their number. What is gathered is of the slots that come next;
-// where none of them is passed, the first has a series with more pages than a list holds.
+// Says what a list makes of each series of a range's container, and gives their number. What is gathered is of the
+// slots that come next; where none of them is passed, the first has a series with more pages than a list holds.
 fn say_all<P: Pages>(
     rt: &(impl Threads + Sync),
     alloc: Global,
@@ -87,9 +89,12 @@ fn say_all<P: Pages>(
     out: &mut Reply,
 ) -> Result<u64, StoreFault>
     requires seen { IsSeen P.tells (seen_by range.now (P.contents pages.old)) }
-    requires columns { option_map (λ h. h.columns) (heading_in range.now.defs.now.definitions range.now.container) ≡ Some bound.now.columns }
-    ensures said { IfOk result (λ count. IsTrue P.tells → (l : Layout) → Shows P.tells (seen_by range.now (P.contents pages.old)) l
-        → AreSaid bound.now (folded_in bound.now range.now.from range.now.to l range.now.container) out.old out.new count) }
+    requires columns { option_map (λ h. h.columns) (heading_in range.now.defs.now.definitions range.now.container)
+        ≡ Some bound.now.columns }
+    ensures said { IfOk result (λ count. IsTrue P.tells → (l : Layout)
+        → Shows P.tells (seen_by range.now (P.contents pages.old)) l
+        → AreSaid bound.now
+        (folded_in bound.now range.now.from range.now.to l range.now.container) out.old out.new count) }
     ensures call { Reads P.tells result (P.contents pages.old) (P.contents pages.new) }
     ensures undisturbed { P.undisturbed pages.old pages.new }
 {
@@ -115,8 +120,8 @@ fn say_all<P: Pages>(
     Ok(count)
 }
 
-// What a list makes of what is gathered, by several workers: a row for each stack. Meanwhile this thread gathers the series in other slots
-// into `next`, of which after an error nothing is said.
+// What a list makes of what is gathered, by several workers: a row for each stack. Meanwhile this thread gathers the
+// series in other slots into `next`, of which after an error nothing is said.
 fn fold_and_gather<'a, P: Pages>(
     rt: &(impl Threads + Sync),
     alloc: Global,
@@ -129,7 +134,9 @@ fn fold_and_gather<'a, P: Pages>(
 ) -> Result<Vec<Row>, StoreFault>
     requires seen { IsSeen P.tells (seen_by range.now (P.contents pages.old)) }
     requires slots { All (λ slot. slot < series_slots) slots.now }
-    ensures folded { IfOk result (λ rows. AllZip (IsFoldOf bound.now range.now.from range.now.to current.now.pages) current.now.stacks.items rows.items) }
+    ensures folded { IfOk result
+        (λ rows.
+        AllZip (IsFoldOf bound.now range.now.from range.now.to current.now.pages) current.now.stacks.items rows.items) }
     ensures gathered { IfOk result (λ _. IsGathered P.tells (P.contents pages.old) range.now slots.now next.new) }
     ensures call { Reads P.tells result (P.contents pages.old) (P.contents pages.new) }
     ensures undisturbed { P.undisturbed pages.old pages.new }
@@ -214,11 +221,14 @@ fn say_if_inside<P: Pages>(
 ) -> Result<u64, StoreFault>
     requires seen { IsSeen P.tells (seen_by range.now (P.contents pages.old)) }
     requires slot { slot < series_slots }
-    requires columns { option_map (λ h. h.columns) (heading_in range.now.defs.now.definitions range.now.container) ≡ Some bound.now.columns }
+    requires columns { option_map (λ h. h.columns) (heading_in range.now.defs.now.definitions range.now.container)
+        ≡ Some bound.now.columns }
     ensures one { IfOk result (λ count. count ≤ 1) }
-    ensures said { IfOk result (λ count. IsTrue P.tells → (l : Layout) → Shows P.tells (seen_by range.now (P.contents pages.old)) l
+    ensures said { IfOk result (λ count. IsTrue P.tells → (l : Layout)
+        → Shows P.tells (seen_by range.now (P.contents pages.old)) l
         → IsFresh bound.now folding.old → IsFresh bound.now folding.new
-        × AreSaid bound.now (folded_at bound.now range.now.from range.now.to l range.now.container slot) out.old out.new count) }
+        × AreSaid bound.now
+        (folded_at bound.now range.now.from range.now.to l range.now.container slot) out.old out.new count) }
     ensures call { Reads P.tells result (P.contents pages.old) (P.contents pages.new) }
     ensures undisturbed { P.undisturbed pages.old pages.new }
 {

@@ -30,7 +30,8 @@ pub(crate) struct ContainerRange<'a> {
     pub(crate) to: Stamp,
 }
 
-/// The series of a container among the first of some slots: the pages of each that a range touches, in one list, and its stack.
+/// The series of a container among the first of some slots: the pages of each that a range touches, in one list, and
+/// its stack.
 #[derive(Drop)]
 pub(crate) struct Gathered<'a> {
     pub(crate) pages: PageList,
@@ -61,9 +62,9 @@ impl<'a> Gathered<'a> {
     }
 }
 
-/// Gathers the series of a container in the first of some slots, in place of what was gathered, as long as the list has room for the pages
-/// of the next. No slot is passed where the first series alone has more pages than a list holds. All pages of the volume stay. After an
-/// error nothing is said of what is gathered.
+/// Gathers the series of a container in the first of some slots, in place of what was gathered, as long as the list has
+/// room for the pages of the next. No slot is passed where the first series alone has more pages than a list holds. All
+/// pages of the volume stay. After an error nothing is said of what is gathered.
 pub(crate) fn gather<'a, P: Pages>(
     pages: &mut P,
     range: &ContainerRange<'a>,
@@ -102,7 +103,8 @@ pub(crate) fn stands_in(range: &ContainerRange<'_>, slot: u16) -> bool
     }
 }
 
-// The stack of the series in a slot, its pages read behind those that are held; none, where the list has no room for them.
+// The stack of the series in a slot, its pages read behind those that are held; none, where the list has no room for
+// them.
 fn stack_at<'a, P: Pages>(
     pages: &mut P,
     range: &ContainerRange<'a>,
@@ -111,7 +113,10 @@ fn stack_at<'a, P: Pages>(
 ) -> Result<Option<Stack<'a>>, StoreFault>
     requires seen { IsSeen P.tells (seen_by range.now (P.contents pages.old)) }
     requires named { (key : List ℕ) × IsSlotNamed Series slot key range.now.defs.now.definitions }
-    ensures stack { IfOk result (λ found. IfSome found (IsStackOf P.tells (seen_by range.now (P.contents pages.old)) range.now.from range.now.to held.new slot)) }
+    ensures stack { IfOk result
+        (λ found.
+        IfSome found
+        (IsStackOf P.tells (seen_by range.now (P.contents pages.old)) range.now.from range.now.to held.new slot)) }
     ensures behind { IfOk result (λ _. (more : List Page) × (held.new ≡ held.old ++ more)) }
     ensures call { Reads P.tells result (P.contents pages.old) (P.contents pages.new) }
     ensures undisturbed { P.undisturbed pages.old pages.new }

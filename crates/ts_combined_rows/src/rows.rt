@@ -76,7 +76,8 @@ pub(crate) fn say_moved(
     rows: &[Lagged],
 ) -> Result<(), AllocError>
     requires { All (λ l. l.index < length elems.now) rows.now }
-    ensures { OnOk result (out.new ≡ out.old ++ elements_text kind.now.columns (map (lagged_row (elements_in elems.now)) rows.now)) }
+    ensures { OnOk result (out.new ≡ out.old
+        ++ elements_text kind.now.columns (map (lagged_row (elements_in elems.now)) rows.now)) }
 {
     let mut day = DayText::first();
     for row in rows {

@@ -26,8 +26,8 @@ use ts_space::Space;
 /// The number of the greatest stamp.
 const GREATEST: i64 = 25_340_230_079_999_999;
 
-/// The elements from one stamp to another, both included, that aren't hidden. All pages stay; `page` is room to read one; the memory is for
-/// the elements.
+/// The elements from one stamp to another, both included, that aren't hidden. All pages stay; `page` is room to read
+/// one; the memory is for the elements.
 pub(crate) fn elements_in<P: Pages>(
     alloc: Global,
     pages: &mut P,
@@ -40,7 +40,8 @@ pub(crate) fn elements_in<P: Pages>(
 ) -> Result<KeptElements, StoreFault>
     requires slot { shelf.now.series < series_slots }
     requires laid { IsLaidOut shape.now }
-    requires places { ArePlaces shape.now shelf.now.kind.now.columns (P.contents pages.old) (places_of shelf.now.series space.now) }
+    requires places { ArePlaces shape.now shelf.now.kind.now.columns (P.contents pages.old)
+        (places_of shelf.now.series space.now) }
     ensures kept { IfOk result (λ kept. IsTold P.tells shape.now shelf.now.series shelf.now.kind.now.columns
         (places_of shelf.now.series space.now) (P.contents pages.old) (λ es. kept ≡ within_range from to (seen es))) }
     ensures call { Reads P.tells result (P.contents pages.old) (P.contents pages.new) }

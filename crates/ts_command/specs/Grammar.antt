@@ -7,7 +7,11 @@ use Rattle.ts_text.specs.declared.token.TokenKind.TheVariants.{Word}
 use Rattle.ts_tokens.specs.Tokens.{front}
 use Rattle.ts_arguments.specs.declared.word.Joined.{Joined}
 use Rattle.ts_arguments.specs.declared.word.Joined.TheVariants.{Patterns, Calendars}
-use Rattle.ts_arguments.specs.Calls.{name_before, key_before, two_names, joined_names, name_and_text, two_names_and_whole, key_and_name, key_and_whole, key_and_stamp, name_range, key_range, two_keys_range, text_key_range, text_name_range, text_name_key_range, text_key_whole_range, key_name_stamp_and_name, name_stamp_and_whole, key_stamp_and_whole, key_stamp_and_values, name_and_columns}
+use Rattle.ts_arguments.specs.Calls.{name_before, key_before, two_names, joined_names, name_and_text}
+use Rattle.ts_arguments.specs.Calls.{two_names_and_whole, key_and_name, key_and_whole, key_and_stamp, name_range}
+use Rattle.ts_arguments.specs.Calls.{key_range, two_keys_range, text_key_range, text_name_range, text_name_key_range}
+use Rattle.ts_arguments.specs.Calls.{text_key_whole_range, key_name_stamp_and_name, name_stamp_and_whole}
+use Rattle.ts_arguments.specs.Calls.{key_stamp_and_whole, key_stamp_and_values, name_and_columns}
 use Rattle.ts_command.specs.declared.routine.Routine.{Routine}
 use Rattle.ts_command.specs.declared.routine.Routine.TheVariants as calls
 use Rattle.ts_command.specs.declared.routine.NameRoutine.{NameRoutine}
@@ -128,12 +132,14 @@ opening routine = a_sign 40
 -- called with nothing
 unfoldable pub arguments : Routine → Phrase Command
 arguments calls.CreateRowType = made name_and_columns (λ a. commands.CreateRowType a.0 a.1.0 a.1.1)
-arguments calls.TSContainerCreate = made (two_names_and_whole (pos 1) (pos 65536)) (λ a. commands.TSContainerCreate a.0 a.1.0 a.1.1)
+arguments calls.TSContainerCreate = made (two_names_and_whole (pos 1) (pos 65536))
+    (λ a. commands.TSContainerCreate a.0 a.1.0 a.1.1)
 arguments calls.TSCreate = made key_name_stamp_and_name (λ a. commands.TSCreate a.0 a.1.0 a.1.1.0 a.1.1.1)
 arguments calls.TSCreateIrr = made key_and_name (λ a. commands.TSCreateIrr a.0 a.1)
 arguments calls.NotOp = made two_names (λ a. commands.NotOp a.0 a.1)
 arguments calls.CalStamp = made (name_stamp_and_whole (pos 1) (pos 4294967295)) (λ a. commands.CalStamp a.0 a.1.0 a.1.1)
-arguments calls.ClipCount = made (key_stamp_and_whole (neg_ℤ (pos 1000000)) (pos 1000000)) (λ a. commands.ClipCount a.0 a.1.0 a.1.1)
+arguments calls.ClipCount = made (key_stamp_and_whole (neg_ℤ (pos 1000000)) (pos 1000000))
+    (λ a. commands.ClipCount a.0 a.1.0 a.1.1)
 arguments calls.AggregateBy = made text_name_key_range (λ a. commands.AggregateBy a.0 a.1.0 a.1.1.0 a.1.1.1.0 a.1.1.1.1)
 arguments calls.AggregateAll = made text_name_range (λ a. commands.AggregateAll a.0 a.1.0 a.1.1.0 a.1.1.1)
 arguments (calls.ByName routine) = made (name_before 41) (of_name routine)
@@ -144,7 +150,8 @@ arguments (calls.WithText routine) = made name_and_text (λ a. of_text routine a
 arguments (calls.Joining routine) = made joined_names (λ a. of_join routine a.0 a.1)
 arguments (calls.InRange routine) = made name_range (λ a. of_range routine a.0 a.1.0 a.1.1)
 arguments (calls.Clipping routine) = made key_range (λ a. of_clip routine a.0 a.1.0 a.1.1)
-arguments (calls.ByNumber routine) = made (key_and_whole (least_number routine) (most_number routine)) (λ a. of_number routine a.0 a.1)
+arguments (calls.ByNumber routine) = made (key_and_whole (least_number routine) (most_number routine))
+    (λ a. of_number routine a.0 a.1)
 arguments (calls.OfPair routine) = made two_keys_range (λ a. of_keys routine a.0 a.1.0 a.1.1.0 a.1.1.1)
 arguments (calls.OfSeries routine) = made text_key_range (λ a. of_series routine a.0 a.1.0 a.1.1.0 a.1.1.1)
 arguments (calls.Running routine) =

@@ -1,8 +1,9 @@
-// Routines that are called with the same arguments: these are read, to the end of the statement, and the routine chooses
-// the command.
+// Routines that are called with the same arguments: these are read, to the end of the statement, and the routine
+// chooses the command.
 ghost use Rattle.std.specs.Prelude.{◌≡◌, [], Ok, IfOk, IfErr};
 ghost use Rattle.ts_text.specs.Misfit.{Refuses};
-ghost use Rattle.ts_command.specs.Grammar.{arguments_to_end, of_name, of_key, of_stamp, of_row, of_text, of_join, of_number, of_lone};
+ghost use Rattle.ts_command.specs.Grammar.{arguments_to_end, of_name, of_key, of_stamp, of_row, of_text, of_join};
+ghost use Rattle.ts_command.specs.Grammar.{of_number, of_lone};
 ghost use Rattle.ts_command.specs.declared.routine.Routine.{Routine};
 
 use crate::Command;

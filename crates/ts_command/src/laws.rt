@@ -23,5 +23,6 @@ pub fn statements_are_refused_in_place()
 /// What the front of a script asks for comes first in what the script asks for.
 pub fn requests_of_a_front_come_first()
     ensures { (front_of rest : List ℕ) →
-        requests (front_of ++ rest) ≡ requests front_of ++ map request_of (items_from (place_from (Some []) front_of) rest) }
+        requests (front_of ++ rest) ≡ requests front_of
+        ++ map request_of (items_from (place_from (Some []) front_of) rest) }
 {}

@@ -1,6 +1,9 @@
 // The names of the routines.
 ghost use Rattle.std.specs.Prelude.{◌≡◌};
-ghost use Rattle.ts_command.specs.Routines.{spelling, name_spelling, key_spelling, stamp_spelling, row_spelling, text_spelling, join_spelling, range_spelling, clip_spelling, number_spelling, pair_spelling, series_spelling, running_spelling, lone_spelling};
+ghost use Rattle.ts_command.specs.Routines.{spelling, name_spelling, key_spelling, stamp_spelling, row_spelling};
+ghost use Rattle.ts_command.specs.Routines.{text_spelling, join_spelling, range_spelling, clip_spelling};
+ghost use Rattle.ts_command.specs.Routines.{number_spelling, pair_spelling, series_spelling, running_spelling};
+ghost use Rattle.ts_command.specs.Routines.{lone_spelling};
 
 use crate::routine::{
     ClipRoutine, JoinRoutine, KeyRoutine, LoneRoutine, NameRoutine, NumberRoutine, PairRoutine,

@@ -1,5 +1,6 @@
 -- The element pages as they are read.
-use Rattle.std.specs.Prelude.{◌≡◌, ℕ, ◌+◌, ◌<◌, Bool, IsTrue, Option, Some, None, Result, IfOk, IfErr, List, [], ◌∷◌, length}
+use Rattle.std.specs.Prelude.{◌≡◌, ℕ, ◌+◌, ◌<◌, Bool, IsTrue, Option, Some, None, Result, IfOk, IfErr, List, [], ◌∷◌}
+use Rattle.std.specs.Prelude.{length}
 use Rattle.ts_page.specs.declared.page.Head.{Head}
 use Rattle.ts_page.specs.declared.page.Head.TheVariants as heads
 use Rattle.ts_page.specs.Volume.{first_element_page}
@@ -46,14 +47,16 @@ abbrev pub HoldNoElements : ℕ → Definitions → (ℕ → List ℕ) → Type 
 HoldNoElements count d pages = (es : List ElementPage) → length es ≡ count → HoldAll d pages es → ⊥
 
 -- all element pages were read, so many
-pub record AllRead (tells : Bool) (count : ℕ) (d : Definitions) (v : Contents) (spans : List Span) (free : List ℕ) : Type 0 where
+pub record AllRead (tells : Bool) (count : ℕ) (d : Definitions) (v : Contents) (spans : List Span)
+    (free : List ℕ) : Type 0 where
   pub elements : List ElementPage
   pub size : length elements ≡ count
   pub listed : Listed d spans free elements
   pub seen : (j : ℕ) → j < count → IsReadAs tells v d (first_element_page + j) (element_page j elements)
 
 -- the call that reads them
-pub record ElementsRead (tells : Bool) (count : ℕ) (d : Definitions) (result : Result Elements SurveyFault) (v w : Contents) : Type 0 where
+pub record ElementsRead (tells : Bool) (count : ℕ) (d : Definitions) (result : Result Elements SurveyFault)
+    (v w : Contents) : Type 0 where
   pub call : Reads tells result v w
   pub read : IfOk result (λ x. AllRead tells count d v x.spans.items x.free.items)
   pub refused : IfErr result (λ e. IfRefused e (IsTrue tells → HoldNoElements count d v.page))

@@ -23,7 +23,9 @@ IsCharged sums d space = AreCharges sums d space × AreFew d space
 abbrev pub with_charge : ℕ → ℕ → ℕ → List ℕ → List ℕ
 with_charge slot old new sums = slice_set sums slot (slice_index sums slot + new - old)
 
--- what the series in a slot is charged to the container in another; nothing where one of them isn't there, or it is another's
+-- what the series in a slot is charged to the container in another; nothing where one of them isn't there, or it is
+-- another's
 abbrev pub charged_to : Definitions → Directory → ℕ → ℕ → ℕ
 charged_to d space container slot =
-    unwrap_or (option_map (λ h. charge_listed space container (page_room h.columns) slot (at_slot slot d.series)) (heading_in d container)) 0
+    unwrap_or (option_map (λ h. charge_listed space container (page_room h.columns) slot (at_slot slot d.series))
+    (heading_in d container)) 0

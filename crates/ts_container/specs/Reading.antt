@@ -1,5 +1,6 @@
 -- What is found in slots and on the pages where they stand.
-use Rattle.std.specs.Prelude.{◌≡◌, ℕ, ◌+◌, ◌-◌, ◌<◌, ◌≤◌, ◌⊎◌, Option, Some, None, IfSome, IsSome, IsSomeAnd, unwrap_or, min, Result, Ok, Err, List, length, drop, replicate}
+use Rattle.std.specs.Prelude.{◌≡◌, ℕ, ◌+◌, ◌-◌, ◌<◌, ◌≤◌, ◌⊎◌, Option, Some, None, IfSome, IsSome, IsSomeAnd, unwrap_or}
+use Rattle.std.specs.Prelude.{min, Result, Ok, Err, List, length, drop, replicate}
 use Rattle.std.specs.Option.{option_or}
 use Rattle.ts_page.specs.Volume.{page_size}
 use Rattle.ts_model.specs.declared.kind.Kind.{Kind}
@@ -14,7 +15,8 @@ use Rattle.ts_container.specs.declared.found.Flaws.{Flaws}
 use Rattle.ts_slots.specs.declared.slot.Written.{Written}
 use Rattle.ts_layout.specs.Slot.{slot_bytes, slots_in_page, bytes_of_slots}
 use Rattle.ts_layout.specs.Limits.{IsDef, IsSlotOf}
-use Rattle.ts_layout.specs.Meaning.{def_at, bytes_of_slot, HoldsDefinitions, KeepLimits, AreFollowing, AreValid, AreSound}
+use Rattle.ts_layout.specs.Meaning.{def_at, bytes_of_slot, HoldsDefinitions, KeepLimits, AreFollowing, AreValid}
+use Rattle.ts_layout.specs.Meaning.{AreSound}
 use Rattle.ts_layout.specs.Changed.{KeepsCalendarRules}
 use Rattle.ts_calendar.specs.Plan.{CalendarPlan}
 use Rattle.ts_calendar.specs.Calendar.{IsValid}
@@ -23,7 +25,8 @@ use Rattle.ts_slots.specs.Written.{written_of}
 
 -- pages that hold no definitions of a format that keep their rules, in a volume of any size
 abbrev pub HoldNone : ℕ → (ℕ → List ℕ) → Type 0
-HoldNone format pages = (count : ℕ) (d : Definitions) → d.format ≡ format → HoldsDefinitions pages d → AreSound count d → ⊥
+HoldNone format pages = (count : ℕ) (d : Definitions) → d.format ≡ format → HoldsDefinitions pages d → AreSound count d
+    → ⊥
 
 -- definitions of a format that were read as far as some rank: the slots from there on are empty
 pub record AreReadTo (format : ℕ) (reached : ℕ) (d : Definitions) : Type 0 where
@@ -37,7 +40,8 @@ pub record AreReadTo (format : ℕ) (reached : ℕ) (d : Definitions) : Type 0 w
 -- the slots of lower rank hold these definitions
 abbrev pub HoldBelow : ℕ → (ℕ → List ℕ) → Definitions → Type 0
 HoldBelow reached pages d =
-    (kind : Kind) (slot : ℕ) → slot < limit kind → rank kind slot < reached → bytes_of_slot kind slot pages ≡ slot_bytes kind (def_at kind slot d)
+    (kind : Kind) (slot : ℕ) → slot < limit kind → rank kind slot < reached → bytes_of_slot kind slot pages
+    ≡ slot_bytes kind (def_at kind slot d)
 
 -- the definitions with one more, or the same
 abbrev pub filled : Kind → ℕ → Option Def → Definitions → Definitions
@@ -71,7 +75,8 @@ lower_page None page = page
 lower_page (Some first) None = Some first
 lower_page (Some first) (Some second) = Some (min first second)
 
--- the page to tell, where one may have a definition that refers to an empty slot: names and references come before the rules of calendars
+-- the page to tell, where one may have a definition that refers to an empty slot: names and references come before the
+-- rules of calendars
 abbrev pub page_told : Flaws → Option ℕ → Option ℕ
 page_told flaws dangling = option_or (lower_page flaws.unresolved dangling) flaws.invalid
 
@@ -116,29 +121,37 @@ abbrev pub Makes : List ℕ → CalendarPlan → Option ℕ → Result Def Flaw 
 Makes name c by (Ok def) = (def ≡ defs.Calendar name c by) × ((format : ℕ) → IsDef format def) × IsValid c
 Makes name c by (Err flaw) = (flaw ≡ Invalid) × (IsValid c → ⊥)
 
--- what is written in a slot is put there among the definitions before it, or each definition that is written so has the flaw
+-- what is written in a slot is put there among the definitions before it, or each definition that is written so has the
+-- flaw
 abbrev pub Admitted : Kind → ℕ → Written → Definitions → Definitions → Found → Type 0
-Admitted kind slot w old new found.Good = (def : Def) × (Completes old w (Ok def) × (new ≡ with_slot kind slot (Some def) old))
-Admitted kind slot w old new (found.Flawed flaw) = ((def : Def) → written_of def ≡ w → HasFlaw flaw def old) × (new ≡ old)
+Admitted kind slot w old new found.Good = (def : Def)
+    × (Completes old w (Ok def) × (new ≡ with_slot kind slot (Some def) old))
+Admitted kind slot w old new (found.Flawed flaw) = ((def : Def) → written_of def ≡ w → HasFlaw flaw def old)
+    × (new ≡ old)
 Admitted kind slot w old new found.Bad = ⊥
 
 -- the bytes of a slot of the kind, in a volume of a format, read into a slot
 abbrev pub SlotRead : ℕ → Kind → ℕ → List ℕ → Definitions → Definitions → Found → Type 0
 SlotRead format kind slot bytes old new found.Good =
-    (o : Option Def) × IsSlotOf format kind o × (bytes ≡ slot_bytes kind o) × IfSome o (λ def. KeepsCalendarRules def old) × (new ≡ filled kind slot o old)
+    (o : Option Def) × IsSlotOf format kind o × (bytes ≡ slot_bytes kind o)
+    × IfSome o (λ def. KeepsCalendarRules def old) × (new ≡ filled kind slot o old)
 SlotRead format kind slot bytes old new (found.Flawed flaw) =
-    ((o : Option Def) → IsSlotOf format kind o → bytes ≡ slot_bytes kind o → IsSomeAnd o (λ def. HasFlaw flaw def old)) × (new ≡ old)
-SlotRead format kind slot bytes old new found.Bad = ((o : Option Def) → IsSlotOf format kind o → bytes ≡ slot_bytes kind o → ⊥) × (new ≡ old)
+    ((o : Option Def) → IsSlotOf format kind o → bytes ≡ slot_bytes kind o → IsSomeAnd o (λ def. HasFlaw flaw def old))
+    × (new ≡ old)
+SlotRead format kind slot bytes old new found.Bad = ((o : Option Def) → IsSlotOf format kind o
+    → bytes ≡ slot_bytes kind o → ⊥) × (new ≡ old)
 
 -- zeros behind the slots of a page
 abbrev pub HasZerosBehind : ℕ → List ℕ → Type 0
-HasZerosBehind number page = drop (bytes_of_slots (slots_in_page number)) page ≡ replicate (page_size - bytes_of_slots (slots_in_page number)) 0
+HasZerosBehind number page = drop (bytes_of_slots (slots_in_page number)) page
+    ≡ replicate (page_size - bytes_of_slots (slots_in_page number)) 0
 
 -- a definition page of a volume of a format is read into the definitions that were read of the pages before it
 abbrev pub PageRead : ℕ → ℕ → List ℕ → Definitions → Definitions → Found → Type 0
 PageRead format number page old new found.Good =
     HasZerosBehind number page × AreReadTo format (rank_of_page (number + 1)) new
-    × ((pages : ℕ → List ℕ) → pages number ≡ page → HoldBelow (rank_of_page number) pages old → HoldBelow (rank_of_page (number + 1)) pages new)
+    × ((pages : ℕ → List ℕ) → pages number ≡ page → HoldBelow (rank_of_page number) pages old
+    → HoldBelow (rank_of_page (number + 1)) pages new)
 PageRead format number page old new (found.Flawed flaw) =
     AreReadTo format (rank_of_page (number + 1)) new
     × ((pages : ℕ → List ℕ) → pages number ≡ page → HoldBelow (rank_of_page number) pages old → HoldNone format pages)

@@ -1,5 +1,7 @@
--- The pages of series as they are found: their spans, in the order of the series and of where they begin, and the rules that they keep.
-use Rattle.std.specs.Prelude.{◌≡◌, ℕ, suc, ◌+◌, ◌<◌, ◌≤◌, ◌==◌, ℤ, ◌<ℤ◌, ◌≤ℤ◌, Option, Some, None, unwrap_or, List, [], ◌∷◌, ◌++◌, length, map, filter}
+-- The pages of series as they are found: their spans, in the order of the series and of where they begin, and the rules
+-- that they keep.
+use Rattle.std.specs.Prelude.{◌≡◌, ℕ, suc, ◌+◌, ◌<◌, ◌≤◌, ◌==◌, ℤ, ◌<ℤ◌, ◌≤ℤ◌, Option, Some, None, unwrap_or, List, []}
+use Rattle.std.specs.Prelude.{◌∷◌, ◌++◌, length, map, filter}
 use Rattle.std.specs.List.{AllAdjacentBelow}
 use Rattle.ts_row.specs.declared.kind.Column.{Column}
 use Rattle.ts_row.specs.RowType.{Heading}
@@ -15,25 +17,35 @@ use Rattle.ts_layout.specs.Limits.{AreOfFormat}
 use Rattle.ts_layout.specs.Sheets.{Sheet, HoldsSheet}
 use Rattle.ts_layout.specs.Meaning.{ElementPage, Free, Cells, heading_at, shape_at}
 
--- Where a page ends: one of an irregular series at its last stamp. Of a page on a grid it is where it begins, since two pages of a series
--- there overlap exactly where they begin at one offset.
+-- Where a page ends: one of an irregular series at its last stamp. Of a page on a grid it is where it begins, since two
+-- pages of a series there overlap exactly where they begin at one offset.
 abbrev pub end_of : Shape → Sheet → ℤ
 end_of Irregular sheet = unwrap_or (last_stamp sheet.1) sheet.0
 end_of (Regular grid) sheet = sheet.0
 
 -- the span of a page with a sheet of the series in a slot
 abbrev pub span_of : Shape → ℕ → ℕ → Sheet → Span
-span_of shape slot number sheet = record { slot = slot; count = length sheet.1; page = number; first = sheet.0; last = end_of shape sheet }
+span_of shape slot number sheet = record {
+  slot = slot;
+  count = length sheet.1;
+  page = number;
+  first = sheet.0;
+  last =
+      end_of shape sheet;
+}
 
 -- a page has a sheet of the series in a slot, such as the format of the volume allows
-pub record HasSheet (shape : Shape) (slot : ℕ) (columns : List Column) (format : ℕ) (page : List ℕ) (sheet : Sheet) : Type 0 where
+pub record HasSheet (shape : Shape) (slot : ℕ) (columns : List Column) (format : ℕ) (page : List ℕ)
+    (sheet : Sheet) : Type 0 where
   pub bytes : HoldsSheet shape slot columns sheet page
   pub of_format : AreOfFormat format sheet.1
 
 -- this is the span of the page of a number, where it has a sheet of the series in a slot
 abbrev pub IsSpanFound : Shape → ℕ → List Column → ℕ → ℕ → List ℕ → Option Span → Type 0
-IsSpanFound shape slot columns format number page (Some span) = (sheet : Sheet) × HasSheet shape slot columns format page sheet × (span ≡ span_of shape slot number sheet)
-IsSpanFound shape slot columns format number page None = (sheet : Sheet) → HasSheet shape slot columns format page sheet → ⊥
+IsSpanFound shape slot columns format number page (Some span) = (sheet : Sheet)
+    × HasSheet shape slot columns format page sheet × (span ≡ span_of shape slot number sheet)
+IsSpanFound shape slot columns format number page None = (sheet : Sheet) → HasSheet shape slot columns format page sheet
+    → ⊥
 
 -- where the elements of the series in a slot can stand; at all stamps where there is none
 abbrev pub shape_in : Definitions → ℕ → Shape

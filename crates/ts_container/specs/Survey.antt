@@ -1,6 +1,7 @@
 -- The calls that read pages, over what a keeper of pages means.
 pub use Rattle.ts_slots.specs.Writing.{SlotWritten, HeaderWritten}
-use Rattle.std.specs.Prelude.{◌≡◌, ℕ, ◌-◌, ◌≤◌, Bool, IsTrue, Option, Some, None, Result, IfOk, IfErr, OnOk, IsErrOf, List}
+use Rattle.std.specs.Prelude.{◌≡◌, ℕ, ◌-◌, ◌≤◌, Bool, IsTrue, Option, Some, None, Result, IfOk, IfErr, OnOk, IsErrOf}
+use Rattle.std.specs.Prelude.{List}
 use Rattle.ts_disk.specs.Device.{Rose}
 use Rattle.ts_page.specs.Volume.{first_element_page}
 use Rattle.ts_page.specs.Pages.{Contents, EqualPages}
@@ -35,7 +36,8 @@ IfRefused Failed P = Unit {0}
 IfRefused (Memory error) P = Unit {0}
 
 -- a page is read
-pub record PageGot (tells : Bool) (number : ℕ) (into : List ℕ) (result : Result Unit SurveyFault) (v w : Contents) : Type 0 where
+pub record PageGot (tells : Bool) (number : ℕ) (into : List ℕ) (result : Result Unit SurveyFault)
+    (v w : Contents) : Type 0 where
   pub call : Reads tells result v w
   pub read : OnOk result (IsTrue tells → into ≡ v.page number)
   pub refused : IfErr result (λ e. IfRefused e ⊥)
@@ -46,7 +48,8 @@ HoldUnless format None pages d = HoldsDefinitions pages d
 HoldUnless format (Some number) pages d = HoldNone format pages
 
 -- all definition pages of a volume of a format are read
-pub record DefinitionsRead (tells : Bool) (format : ℕ) (result : Result Flaws SurveyFault) (d : Definitions) (v w : Contents) : Type 0 where
+pub record DefinitionsRead (tells : Bool) (format : ℕ) (result : Result Flaws SurveyFault) (d : Definitions)
+    (v w : Contents) : Type 0 where
   pub call : Reads tells result v w
   pub read : OnOk result (AreReadTo format all_slots d)
   pub known : IfOk result (λ faults. IsTrue tells → HoldUnless format (first_flaw faults) v.page d)
@@ -59,9 +62,10 @@ pub record IsSurveyOf (d : Definitions) (space : Directory) (spare : List ℕ) (
   pub free : spare ≡ free_pages l
   pub filled : AreFilled l
 
--- What was found of the pages, so many in all: it keeps its rules on every keeper of pages, and where the pages are told it is what
--- a layout has that keeps the rules and that they hold.
-pub record IsFound (tells : Bool) (count : ℕ) (v : Contents) (d : Definitions) (space : Directory) (free : List ℕ) : Type 0 where
+-- What was found of the pages, so many in all: it keeps its rules on every keeper of pages, and where the pages are
+-- told it is what a layout has that keeps the rules and that they hold.
+pub record IsFound (tells : Bool) (count : ℕ) (v : Contents) (d : Definitions) (space : Directory)
+    (free : List ℕ) : Type 0 where
   pub kept : AreKept d space free count
   pub layout : IsTrue tells → (l : Layout) × IsSurveyOf d space free l × IsLaidOut count v.page l
 
@@ -73,6 +77,7 @@ HoldNoLayout count pages = (l : Layout) → IsLaidOut count pages l → ⊥
 pub record SoundRead (tells : Bool) (count : ℕ) (result : Result Defs SurveyFault) (v w : Contents) : Type 0 where
   pub call : Reads tells result v w
   pub read : IfOk result (λ x. AreSound (count - first_element_page) x.definitions)
-  pub header : IfOk result (λ x. IsTrue tells → v.page 0 ≡ header_bytes x.definitions.format (count - first_element_page))
+  pub header : IfOk result (λ x. IsTrue tells
+      → v.page 0 ≡ header_bytes x.definitions.format (count - first_element_page))
   pub known : IfOk result (λ x. IsTrue tells → HoldsDefinitions v.page x.definitions)
   pub refused : IfErr result (λ e. IfRefused e (IsTrue tells → HoldNoLayout count v.page))

@@ -3,7 +3,8 @@ ghost use Rattle.std.specs.Prelude.{◌≡◌, ◌≤◌, ◌<◌, ◌^◌, ◌�
 ghost use Rattle.ts_model.specs.Definitions.{container_slots, series_slots, at_slot, IsDefinitions};
 ghost use Rattle.ts_space.specs.Directory.{places_of};
 ghost use Rattle.ts_layout.specs.Meaning.{KeepLimits};
-ghost use Rattle.ts_layout.specs.Charges.{IsCountable, AreCountable, places_charge, charge_listed, container_charge, KeepsQuotaAt, KeepQuotas};
+ghost use Rattle.ts_layout.specs.Charges.{IsCountable, AreCountable, places_charge, charge_listed, container_charge};
+ghost use Rattle.ts_layout.specs.Charges.{KeepsQuotaAt, KeepQuotas};
 
 use crate::content::row_type_in;
 use ts_base::Stamp;
@@ -78,8 +79,8 @@ fn charge_at(defs: &Defs, space: &Space, container: u8, room: usize, slot: u16) 
     }
 }
 
-/// What a series is charged by its places, in pages: an irregular one by their elements, where a page has room for so many, a regular one,
-/// whose calendar and origin are given, a page for each place.
+/// What a series is charged by its places, in pages: an irregular one by their elements, where a page has room for so
+/// many, a regular one, whose calendar and origin are given, a page for each place.
 pub fn charge_of_places(space: &Space, regular: Option<(u8, Stamp)>, slot: u16, room: usize) -> u64
     requires slot { slot < series_slots }
     requires room { 0 < room }

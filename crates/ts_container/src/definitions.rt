@@ -19,8 +19,8 @@ use ts_page::{Page, Pages};
 use ts_row::is_zero;
 use ts_slots::{Reading, Written, read_slot};
 
-/// Reads all definition pages into definitions of which there are none, by their format. The answer is the first pages with
-/// flaws. What has a flaw is left out.
+/// Reads all definition pages into definitions of which there are none, by their format. The answer is the first pages
+/// with flaws. What has a flaw is left out.
 pub(crate) fn read_definitions<P: Pages>(
     alloc: Global,
     pages: &mut P,
@@ -29,7 +29,8 @@ pub(crate) fn read_definitions<P: Pages>(
 ) -> Result<Flaws, SurveyFault>
     requires within { first_element_page ≤ (P.contents pages.old).count }
     requires empty { defs.old.definitions ≡ with_format defs.old.definitions.format no_definitions }
-    ensures read { DefinitionsRead P.tells defs.old.definitions.format result defs.new.definitions (P.contents pages.old) (P.contents pages.new) }
+    ensures read { DefinitionsRead P.tells defs.old.definitions.format result defs.new.definitions
+        (P.contents pages.old) (P.contents pages.new) }
     ensures undisturbed { P.undisturbed pages.old pages.new }
 {
     let mut flaws = Flaws {
@@ -52,7 +53,8 @@ fn read_page(alloc: Global, number: u32, page: &Page, defs: &mut Defs) -> Result
     requires low { first_definition_page ≤ number }
     requires high { number < first_element_page }
     requires before { AreReadTo defs.old.definitions.format (rank_of_page number) defs.old.definitions }
-    ensures { IfOk result (PageRead defs.old.definitions.format number page.now.bytes defs.old.definitions defs.new.definitions) }
+    ensures { IfOk result
+        (PageRead defs.old.definitions.format number page.now.bytes defs.old.definitions defs.new.definitions) }
 {
     let on = slots_in_page(number);
     let size = slot_size(on.kind);
@@ -81,7 +83,8 @@ fn read_into(
 ) -> Result<Found, AllocError>
     requires slot { slot < limit kind }
     requires size { length bytes.now ≡ slot_size kind }
-    ensures { IfOk result (SlotRead defs.old.definitions.format kind slot bytes.now defs.old.definitions defs.new.definitions) }
+    ensures { IfOk result
+        (SlotRead defs.old.definitions.format kind slot bytes.now defs.old.definitions defs.new.definitions) }
 {
     match read_slot(alloc, defs.format(), kind, bytes)? {
         Reading::Bad => Ok(Found::Bad),

@@ -36,7 +36,8 @@ pub(crate) fn read_elements<P: Pages>(
     requires limits { KeepLimits defs.now.definitions }
     requires rules { IsDefinitions defs.now.definitions }
     requires origins { HaveOrigins defs.now.definitions }
-    ensures read { ElementsRead P.tells (count - first_element_page) defs.now.definitions result (P.contents pages.old) (P.contents pages.new) }
+    ensures read { ElementsRead P.tells (count - first_element_page) defs.now.definitions result (P.contents pages.old)
+        (P.contents pages.new) }
     ensures undisturbed { P.undisturbed pages.old pages.new }
 {
     let mut elements = Elements {
@@ -56,7 +57,8 @@ pub(crate) fn read_elements<P: Pages>(
 impl Elements {
     // Adds what one page has.
     fn add(&mut self, number: u32, content: Content) -> Result<(), AllocError>
-        ensures { OnOk result ((d : Definitions) (es : List ElementPage) (e : ElementPage) → number ≡ first_element_page + length es
+        ensures { OnOk result ((d : Definitions) (es : List ElementPage) (e : ElementPage)
+            → number ≡ first_element_page + length es
             → Describes d number content e → Listed d self.old.spans.items self.old.free.items es
             → Listed d self.new.spans.items self.new.free.items (es ++ e ∷ [])) }
     {

@@ -3,7 +3,8 @@ ghost use Rattle.std.specs.Prelude.{◌≡◌, ◌≢◌, ◌+◌, ◌≤◌, �
 ghost use Rattle.ts_row.specs.RowType.{Heading};
 ghost use Rattle.ts_space.specs.Directory.{Directory, places_of};
 ghost use Rattle.ts_cells.specs.Cell.{page_room};
-ghost use Rattle.ts_model.specs.Definitions.{Definitions, SeriesDef, container_slots, series_slots, at_slot, with_format, IsDefinitions};
+ghost use Rattle.ts_model.specs.Definitions.{Definitions, SeriesDef, container_slots, series_slots, at_slot};
+ghost use Rattle.ts_model.specs.Definitions.{with_format, IsDefinitions};
 ghost use Rattle.ts_layout.specs.Meaning.{KeepLimits, heading_in};
 ghost use Rattle.ts_layout.specs.Charges.{IsCountable, AreCountable, places_charge};
 ghost use Rattle.ts_container.specs.KeptCharges.{AreCharges, IsCharged, charged_to, with_charge};
@@ -96,7 +97,8 @@ impl Charges {
         requires limits { KeepLimits defs.now.definitions }
         requires countable { IsCountable (places_of slot space.now) }
         requires room { (container : ℕ) → slice_index self.old container < 2 ^ 63 }
-        ensures added { (container : ℕ) → container < container_slots → slice_index self.new container ≡ slice_index self.old container + charged_to defs.now.definitions space.now container slot }
+        ensures added { (container : ℕ) → container < container_slots → slice_index self.new container
+            ≡ slice_index self.old container + charged_to defs.now.definitions space.now container slot }
         ensures bound { (container : ℕ) → slice_index self.new container ≤ slice_index self.old container + 2 ^ 33 }
     {
         let Some(
@@ -121,10 +123,13 @@ impl Charges {
 /// Where the places of one series change, the charge of its container changes with them, and no other does.
 pub fn a_charge_changes_with_a_series()
     ensures part { (d : Definitions) (space : Directory) (slot : ℕ) (s : SeriesDef) (h : Heading) (sums : List ℕ) →
-        IsDefinitions d → at_slot slot d.series ≡ Some s → s.container < container_slots → heading_in d s.container ≡ Some h → AreCharges sums d space →
+        IsDefinitions d → at_slot slot d.series ≡ Some s → s.container < container_slots → heading_in d s.container
+        ≡ Some h → AreCharges sums d space →
         places_charge (page_room h.columns) s.regular (places_of slot space) ≤ slice_index sums s.container }
-    ensures changed { (d : Definitions) (space space' : Directory) (slot : ℕ) (s : SeriesDef) (h : Heading) (sums : List ℕ) →
-        IsDefinitions d → at_slot slot d.series ≡ Some s → s.container < container_slots → heading_in d s.container ≡ Some h → length sums ≡ container_slots →
+    ensures changed { (d : Definitions) (space space' : Directory) (slot : ℕ) (s : SeriesDef) (h : Heading)
+        (sums : List ℕ) →
+        IsDefinitions d → at_slot slot d.series ≡ Some s → s.container < container_slots → heading_in d s.container
+        ≡ Some h → length sums ≡ container_slots →
         ((t : ℕ) → t < series_slots → t ≢ slot → places_of t space' ≡ places_of t space) → AreCharges sums d space →
         AreCharges (with_charge s.container (places_charge (page_room h.columns) s.regular (places_of slot space))
         (places_charge (page_room h.columns) s.regular (places_of slot space')) sums) d space' }

@@ -3,7 +3,8 @@ ghost use Rattle.std.specs.Prelude.{◌≡◌, ◌↔◌, ◌<◌, Some, IsTrue,
 ghost use Rattle.ts_model.specs.declared.def.Def.{Def};
 ghost use Rattle.ts_model.specs.Definitions.{limit, at_slot, references, calendar_reference, container_slots};
 ghost use Rattle.ts_layout.specs.Limits.{IsDef};
-ghost use Rattle.ts_layout.specs.Meaning.{def_at, IsThere, AreThere, KeepLimits, AreFollowing, quota_in, sum_of_quotas, AreThereIn};
+ghost use Rattle.ts_layout.specs.Meaning.{def_at, IsThere, AreThere, KeepLimits, AreFollowing, quota_in, sum_of_quotas};
+ghost use Rattle.ts_layout.specs.Meaning.{AreThereIn};
 
 use ts_base::Stamp;
 use ts_layout::page_of_slot;

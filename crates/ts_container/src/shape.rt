@@ -9,8 +9,8 @@ use ts_base::Stamp;
 use ts_model::{Def, Defs, Kind};
 use ts_offset::{Grid, Shape};
 
-/// Where the elements of the series in a slot can stand: at all stamps, or at the on starts of its calendar from its origin on. Nothing
-/// where there is no series, or none of its calendar.
+/// Where the elements of the series in a slot can stand: at all stamps, or at the on starts of its calendar from its
+/// origin on. Nothing where there is no series, or none of its calendar.
 pub fn shape_of(defs: &Defs, slot: u16) -> Option<Shape<'_>>
     requires rules { IsDefinitions defs.now.definitions }
     requires origins { HaveOrigins defs.now.definitions }

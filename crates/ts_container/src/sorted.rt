@@ -1,4 +1,5 @@
-// The spans of all pages, sorted and judged: those of one series are apart, and two neighbours of an irregular one never fit one page.
+// The spans of all pages, sorted and judged: those of one series are apart, and two neighbours of an irregular one
+// never fit one page.
 ghost use Rattle.std.specs.Prelude.{IsPermutation, MatchOption};
 ghost use Rattle.ts_model.specs.Definitions.{IsDefinitions};
 ghost use Rattle.ts_layout.specs.Meaning.{KeepLimits};
@@ -19,8 +20,8 @@ pub(crate) fn sort(spans: &mut Vec<Span>)
     spans.sort_unstable_by_key(|span| (span.slot, span.first));
 }
 
-/// The least page that overlaps a neighbour of a lower number; where there is none, the least that fits one page with the next one of
-/// its series, which is irregular.
+/// The least page that overlaps a neighbour of a lower number; where there is none, the least that fits one page with
+/// the next one of its series, which is irregular.
 pub(crate) fn bad_page(defs: &Defs, spans: &[Span]) -> Option<u32>
     requires limits { KeepLimits defs.now.definitions }
     requires rules { IsDefinitions defs.now.definitions }
@@ -44,7 +45,8 @@ fn overlapping(spans: &[Span]) -> Option<u32>
     least
 }
 
-// The higher page of two, where they are of one series and the second begins before the first has ended, or where it ends.
+// The higher page of two, where they are of one series and the second begins before the first has ended, or where it
+// ends.
 fn overlap(first: &Span, second: &Span) -> Option<u32>
     ensures { MatchOption result (IsApart first.now second.now) (λ _. IsApart first.now second.now → ⊥) }
 {
@@ -58,7 +60,8 @@ fn overlap(first: &Span, second: &Span) -> Option<u32>
 fn sparse(defs: &Defs, spans: &[Span]) -> Option<u32>
     requires limits { KeepLimits defs.now.definitions }
     requires rules { IsDefinitions defs.now.definitions }
-    ensures { MatchOption result (AreDense defs.now.definitions spans.now) (λ _. AreDense defs.now.definitions spans.now → ⊥) }
+    ensures { MatchOption result (AreDense defs.now.definitions spans.now) (λ _. AreDense defs.now.definitions spans.now
+        → ⊥) }
 {
     let mut least = None;
     for i in 1..spans.len() {

@@ -16,9 +16,9 @@ use ts_page::Page;
 use ts_regular::{RegularExtent, regular_extent_of};
 use ts_row::RowType;
 
-/// A page of a series, as it is found: the slot of the series, how many elements the page has, its number, and where it begins and ends. A
-/// page of an irregular series begins and ends at its first and its last stamp. One of a regular series does both at the offset of its
-/// first cell, since two of them overlap exactly where they begin at one offset.
+/// A page of a series, as it is found: the slot of the series, how many elements the page has, its number, and where it
+/// begins and ends. A page of an irregular series begins and ends at its first and its last stamp. One of a regular
+/// series does both at the offset of its first cell, since two of them overlap exactly where they begin at one offset.
 #[derive(Clone, Copy, Debug)]
 pub struct Span {
     pub slot: u16,
@@ -28,7 +28,8 @@ pub struct Span {
     pub last: i64,
 }
 
-/// The span of the page of a number, whose head tells a series in a slot, if it is a page of an irregular series of this row type.
+/// The span of the page of a number, whose head tells a series in a slot, if it is a page of an irregular series of
+/// this row type.
 pub(crate) fn span_of_stamps(
     kind: &RowType,
     format: u8,

@@ -29,16 +29,18 @@ pub struct Surveyed {
 }
 
 /// Reads all pages of a volume but the journal's, each once: `count` is the number of all. They give the format, the
-/// definitions, the directory and the free pages, or a bad page; which one, no clause says. The code takes the first step
-/// that finds one, and the least that this step finds; where pages of a series overlap, the least that overlaps a
+/// definitions, the directory and the free pages, or a bad page; which one, no clause says. The code takes the first
+/// step that finds one, and the least that this step finds; where pages of a series overlap, the least that overlaps a
 /// neighbour of a lower number. It doesn't look for a page that overlaps others alone, nor for a calendar that has the
 /// name of one that breaks a rule. The pages stay as they are, and so does the list of free ones.
 pub fn survey<P: Pages>(alloc: Global, pages: &mut P, count: u32) -> Result<Surveyed, SurveyFault>
     requires count { count ≡ (P.contents pages.old).count }
     requires some { first_element_page + 1 ≤ count }
     requires most { count ≤ first_element_page + most_element_pages }
-    ensures ok { IfOk result (λ s. IsFound P.tells count (P.contents pages.old) s.defs.definitions s.space s.free.items) }
-    ensures refused { IfErr result (λ e. IfRefused e (IsTrue P.tells → HoldNoLayout count (P.contents pages.old).page)) }
+    ensures ok { IfOk result
+        (λ s. IsFound P.tells count (P.contents pages.old) s.defs.definitions s.space s.free.items) }
+    ensures refused { IfErr result
+        (λ e. IfRefused e (IsTrue P.tells → HoldNoLayout count (P.contents pages.old).page)) }
     ensures call { Reads P.tells result (P.contents pages.old) (P.contents pages.new) }
     ensures undisturbed { P.undisturbed pages.old pages.new }
 {

@@ -29,16 +29,19 @@ join_of_calendars Or name first second = OrCalendars name first second
 
 -- where there is a slot, it has this pattern
 abbrev pub IsPatternBy : Option ℕ → Plan → Definitions → Type 0
-IsPatternBy by pattern d = IfSome by (λ slot. (slot < pattern_slots) × (option_map (λ p. p.pattern) (at_slot slot d.patterns) ≡ Some pattern))
+IsPatternBy by pattern d = IfSome by (λ slot. (slot < pattern_slots)
+    × (option_map (λ p. p.pattern) (at_slot slot d.patterns) ≡ Some pattern))
 
--- The pattern that the text of a calendar gives: the one in the slot of the name there, or its own. A calendar that has it so has this
--- text.
+-- The pattern that the text of a calendar gives: the one in the slot of the name there, or its own. A calendar that has
+-- it so has this text.
 pub record IsGivenPattern (part : PatternPart) (l : Layout) (found : Plan × Option ℕ) (pattern : Plan) : Type 0 where
   pub same : found.0 ≡ pattern
   pub by : IsPatternBy found.1 found.0 l.definitions
-  pub text : (c : CalendarDef) → c.calendar.pattern ≡ found.0 → c.by ≡ found.1 → text_of l.definitions c ≡ calendar_text c.calendar.start c.calendar.patt_start part
+  pub text : (c : CalendarDef) → c.calendar.pattern ≡ found.0 → c.by ≡ found.1 → text_of l.definitions c
+      ≡ calendar_text c.calendar.start c.calendar.patt_start part
 
 -- what is decided puts this under a name of a kind
 abbrev pub IsMade : (kind : Kind) → List ℕ → In kind → Layout → Result (ℕ × Option Def) Trouble → Type 0
 IsMade kind name value l decided =
-    IsTried decided (Ok (ok_line, with_named kind name value (catalogue_of l))) (λ change answered. DefinesAs kind change.0 change.1 l answered)
+    IsTried decided (Ok (ok_line, with_named kind name value (catalogue_of l)))
+    (λ change answered. DefinesAs kind change.0 change.1 l answered)

@@ -30,7 +30,8 @@ pub fn new_calendar(
 ) -> Result<(u16, Option<Def>), Trouble>
     requires form { HasForm (CreateCalendar name.now text.now) }
     ensures fits { IfOk result (λ change. FitsSlot Calendars change.0 change.1 defs.now.definitions) }
-    ensures decision { (count : ℕ) → IsDecision Calendars (CreateCalendar name.now text.now) result defs.now.definitions count }
+    ensures decision { (count : ℕ)
+        → IsDecision Calendars (CreateCalendar name.now text.now) result defs.now.definitions count }
 {
     let read = CalendarText::read(alloc, text.as_slice())?;
     let (pattern, by) = given(defs, read.part)?;
@@ -53,7 +54,9 @@ pub fn joined_calendar(
 ) -> Result<(u16, Option<Def>), Trouble>
     requires form { HasForm (join_of_calendars junction name.now first.now second.now) }
     ensures fits { IfOk result (λ change. FitsSlot Calendars change.0 change.1 defs.now.definitions) }
-    ensures decision { (count : ℕ) → IsDecision Calendars (join_of_calendars junction name.now first.now second.now) result defs.now.definitions count }
+    ensures decision { (count : ℕ)
+        → IsDecision Calendars
+        (join_of_calendars junction name.now first.now second.now) result defs.now.definitions count }
 {
     let a = calendar_named(defs, first)?;
     let b = calendar_named(defs, second)?;
@@ -64,7 +67,8 @@ pub fn joined_calendar(
 
 /// The calendar that has this name.
 pub fn calendar_named<'a>(defs: &'a Defs, name: &Name) -> Result<&'a Counter, Trouble>
-    ensures { (count : ℕ) (l : Layout) → IsDefinedBy defs.now.definitions count l → IsTried result (a_calendar name.now (catalogue_of l)) (λ found calendar. found.now ≡ calendar) }
+    ensures { (count : ℕ) (l : Layout) → IsDefinedBy defs.now.definitions count l
+        → IsTried result (a_calendar name.now (catalogue_of l)) (λ found calendar. found.now ≡ calendar) }
 {
     let slot = calendar_slot(defs, name)?;
     Ok(calendar_at(defs, slot))
@@ -73,7 +77,8 @@ pub fn calendar_named<'a>(defs: &'a Defs, name: &Name) -> Result<&'a Counter, Tr
 /// The slot of the calendar that has this name.
 pub(crate) fn calendar_slot(defs: &Defs, name: &Name) -> Result<u16, Trouble>
     ensures found { IfOk result (λ slot. IsSlotNamed Calendars slot name.now defs.now.definitions) }
-    ensures tried { (count : ℕ) (l : Layout) → IsDefinedBy defs.now.definitions count l → IsTried result (a_calendar name.now (catalogue_of l)) (IsCalendarIn name.now l) }
+    ensures tried { (count : ℕ) (l : Layout) → IsDefinedBy defs.now.definitions count l
+        → IsTried result (a_calendar name.now (catalogue_of l)) (IsCalendarIn name.now l) }
 {
     slot_named(defs, Kind::Calendar, name)
 }

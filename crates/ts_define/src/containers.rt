@@ -25,7 +25,8 @@ pub fn new_container(
     requires granted { sum_of_quotas defs.now.definitions.containers ≤ pages }
     requires form { HasForm (TSContainerCreate name.now row_type.now quota) }
     ensures fits { IfOk result (λ change. FitsSlot Containers change.0 change.1 defs.now.definitions) }
-    ensures decision { (count : ℕ) → count ≡ first_element_page + pages → IsDecision Containers (TSContainerCreate name.now row_type.now quota) result defs.now.definitions count }
+    ensures decision { (count : ℕ) → count ≡ first_element_page + pages
+        → IsDecision Containers (TSContainerCreate name.now row_type.now quota) result defs.now.definitions count }
 {
     let target = slot_named(defs, Kind::RowType, row_type)?;
     let slot = slot_for(defs, Kind::Container, name)?;

@@ -18,7 +18,8 @@ pub fn drop_definition(defs: &Defs, kind: Kind, name: &Name) -> Result<(u16, Opt
     requires { HasNoPages kind }
     ensures fits { IfOk result (λ change. FitsSlot kind change.0 change.1 defs.now.definitions) }
     ensures tried { (count : ℕ) (l : Layout) → IsDefinedBy defs.now.definitions count l
-        → IsTried result (drop_definition kind name.now (catalogue_of l)) (λ change answered. DefinesAs kind change.0 change.1 l answered) }
+        → IsTried result (drop_definition kind name.now (catalogue_of l))
+        (λ change answered. DefinesAs kind change.0 change.1 l answered) }
 {
     let slot = slot_named(defs, kind, name)?;
     if has_user(defs, kind, slot) {
@@ -66,8 +67,10 @@ fn has_user_in(defs: &Defs, users: Kind, kind: Kind, slot: u16) -> bool
 // Whether a slot is filled with a definition that does.
 fn is_user(defs: &Defs, users: Kind, user: u16, kind: Kind, slot: u16) -> bool
     requires { user < limit users }
-    ensures some { result ≡ true → (def : TheDef) × (def_at users user defs.now.definitions ≡ Some def) × Refers def kind slot }
-    ensures none { result ≡ false → (def : TheDef) → def_at users user defs.now.definitions ≡ Some def → Refers def kind slot → ⊥ }
+    ensures some { result ≡ true → (def : TheDef) × (def_at users user defs.now.definitions ≡ Some def)
+        × Refers def kind slot }
+    ensures none { result ≡ false → (def : TheDef) → def_at users user defs.now.definitions ≡ Some def
+        → Refers def kind slot → ⊥ }
 {
     match defs.get(users, user) {
         Some(def) => refers(def, kind, slot),

@@ -8,7 +8,8 @@ use ts_model::{Defs, OLD_FORMAT};
 
 /// On a volume of format 1 what goes beyond it is refused: long decimals, and marks of elements.
 pub fn in_format(defs: &Defs, beyond: bool) -> Result<(), Trouble>
-    ensures { IsTried result (beyond_old_format beyond defs.now.definitions.format) (λ done has. IsInFormat beyond defs.now.definitions.format) }
+    ensures { IsTried result (beyond_old_format beyond defs.now.definitions.format)
+        (λ done has. IsInFormat beyond defs.now.definitions.format) }
 {
     if beyond && defs.format() == OLD_FORMAT {
         return Err(Trouble::Refused(Refusal::OldFormat));

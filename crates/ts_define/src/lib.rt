@@ -1,7 +1,7 @@
-//! Routines that make and drop definitions. Each decides on a slot of a kind and what goes there, or a refusal: what the
-//! catalogue of each layout with these definitions answers (`specs/Decided` of ts_answer); `redefine` writes it. Tests
-//! on names and on the format serve the other routines too. Stands on ts_container for slots on pages and on ts_layout
-//! for the rules of a layout. Read `slots.rt`, `drops.rt`, then `write.rt`.
+//! Routines that make and drop definitions. Each decides on a slot of a kind and what goes there, or a refusal: what
+//! the catalogue of each layout with these definitions answers (`specs/Decided` of ts_answer); `redefine` writes it.
+//! Tests on names and on the format serve the other routines too. Stands on ts_container for slots on pages and on
+//! ts_layout for the rules of a layout. Read `slots.rt`, `drops.rt`, then `write.rt`.
 #![tactic(auto)]
 
 mod calendars;

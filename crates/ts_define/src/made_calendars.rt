@@ -25,7 +25,8 @@ use ts_pattern::{Junction, Pattern};
 
 /// The pattern that a text gives: a copy of the one of a name, with its slot, or its own.
 pub(crate) fn given(defs: &Defs, part: PatternPart) -> Result<(Pattern, Option<u8>), Trouble>
-    ensures { (count : ℕ) (l : Layout) → IsDefinedBy defs.now.definitions count l → IsTried result (given part (catalogue_of l)) (IsGivenPattern part l) }
+    ensures { (count : ℕ) (l : Layout) → IsDefinedBy defs.now.definitions count l
+        → IsTried result (given part (catalogue_of l)) (IsGivenPattern part l) }
 {
     match part {
         PatternPart::Named(name) => {
@@ -56,9 +57,12 @@ pub(crate) fn calendar_in(
     by: Option<u8>,
 ) -> Result<(u16, Option<Def>), Trouble>
     requires { IsTrue (is_name name.now) }
-    ensures fits { (d : Definitions) → IsFreeSlot Calendars slot name.now d → IfOk result (λ change. FitsSlot Calendars change.0 change.1 d) }
-    ensures made { (l : Layout) → IsSound l → AreFilled l → IsFreeSlot Calendars slot name.now l.definitions → IsPatternBy by calendar.pattern l.definitions
-        → IsMade Calendars name.now (text_of l.definitions (record { name = name.now; calendar = calendar; by = by })) l result }
+    ensures fits { (d : Definitions) → IsFreeSlot Calendars slot name.now d
+        → IfOk result (λ change. FitsSlot Calendars change.0 change.1 d) }
+    ensures made { (l : Layout) → IsSound l → AreFilled l → IsFreeSlot Calendars slot name.now l.definitions
+        → IsPatternBy by calendar.pattern l.definitions
+        → IsMade Calendars name.now
+        (text_of l.definitions (record { name = name.now; calendar = calendar; by = by })) l result }
 {
     // What each calendar keeps: two stamps, and a pattern within the limits.
     let _start = calendar.start().units();

@@ -29,7 +29,8 @@ pub fn new_pattern(
 ) -> Result<(u16, Option<Def>), Trouble>
     requires form { HasForm (CreatePattern name.now text.now) }
     ensures fits { IfOk result (λ change. FitsSlot Patterns change.0 change.1 defs.now.definitions) }
-    ensures decision { (count : ℕ) → IsDecision Patterns (CreatePattern name.now text.now) result defs.now.definitions count }
+    ensures decision { (count : ℕ)
+        → IsDecision Patterns (CreatePattern name.now text.now) result defs.now.definitions count }
 {
     let pattern = Pattern::read(alloc, text.as_slice())?;
     let slot = slot_for(defs, Kind::Pattern, name)?;
@@ -44,7 +45,8 @@ pub fn turned_pattern(
 ) -> Result<(u16, Option<Def>), Trouble>
     requires form { HasForm (NotOp name.now pattern.now) }
     ensures fits { IfOk result (λ change. FitsSlot Patterns change.0 change.1 defs.now.definitions) }
-    ensures decision { (count : ℕ) → IsDecision Patterns (NotOp name.now pattern.now) result defs.now.definitions count }
+    ensures decision { (count : ℕ)
+        → IsDecision Patterns (NotOp name.now pattern.now) result defs.now.definitions count }
 {
     let old = pattern_named(defs, pattern)?;
     let slot = slot_for(defs, Kind::Pattern, name)?;
@@ -62,7 +64,9 @@ pub fn joined_pattern(
 ) -> Result<(u16, Option<Def>), Trouble>
     requires form { HasForm (join_of_patterns junction name.now first.now second.now) }
     ensures fits { IfOk result (λ change. FitsSlot Patterns change.0 change.1 defs.now.definitions) }
-    ensures decision { (count : ℕ) → IsDecision Patterns (join_of_patterns junction name.now first.now second.now) result defs.now.definitions count }
+    ensures decision { (count : ℕ)
+        → IsDecision Patterns
+        (join_of_patterns junction name.now first.now second.now) result defs.now.definitions count }
 {
     let a = pattern_named(defs, first)?;
     let b = pattern_named(defs, second)?;
@@ -73,7 +77,8 @@ pub fn joined_pattern(
 
 /// The pattern that has this name.
 pub fn pattern_named<'a>(defs: &'a Defs, name: &Name) -> Result<&'a Pattern, Trouble>
-    ensures { (count : ℕ) (l : Layout) → IsDefinedBy defs.now.definitions count l → IsTried result (wanted name.now (catalogue_of l).patterns) (λ found pattern. found.now ≡ pattern) }
+    ensures { (count : ℕ) (l : Layout) → IsDefinedBy defs.now.definitions count l
+        → IsTried result (wanted name.now (catalogue_of l).patterns) (λ found pattern. found.now ≡ pattern) }
 {
     let slot = slot_named(defs, Kind::Pattern, name)?;
     Ok(pattern_at(defs, slot))
@@ -94,8 +99,10 @@ pub(crate) fn pattern_at(defs: &Defs, slot: u16) -> &Pattern
 // A pattern goes under a new name into the slot for it.
 fn pattern_in(slot: u16, name: &Name, pattern: Pattern) -> Result<(u16, Option<Def>), Trouble>
     requires { IsTrue (is_name name.now) }
-    ensures fits { (d : Definitions) → IsFreeSlot Patterns slot name.now d → IfOk result (λ change. FitsSlot Patterns change.0 change.1 d) }
-    ensures made { (l : Layout) → IsSound l → AreFilled l → IsFreeSlot Patterns slot name.now l.definitions → IsMade Patterns name.now pattern l result }
+    ensures fits { (d : Definitions) → IsFreeSlot Patterns slot name.now d
+        → IfOk result (λ change. FitsSlot Patterns change.0 change.1 d) }
+    ensures made { (l : Layout) → IsSound l → AreFilled l → IsFreeSlot Patterns slot name.now l.definitions
+        → IsMade Patterns name.now pattern l result }
 {
     // What each pattern keeps: merged runs within the limits.
     let _length = pattern.length();

@@ -27,7 +27,8 @@ pub fn new_row_type(
 ) -> Result<(u16, Option<Def>), Trouble>
     requires form { HasForm (CreateRowType name.now stamp.now columns.now) }
     ensures fits { IfOk result (λ change. FitsSlot RowTypes change.0 change.1 defs.now.definitions) }
-    ensures decision { (count : ℕ) → IsDecision RowTypes (CreateRowType name.now stamp.now columns.now) result defs.now.definitions count }
+    ensures decision { (count : ℕ)
+        → IsDecision RowTypes (CreateRowType name.now stamp.now columns.now) result defs.now.definitions count }
 {
     let kind = row_type_of(alloc, stamp, columns)?;
     in_format(defs, kind.has_long_decimal())?;

@@ -19,7 +19,8 @@ pub fn new_irregular(
 ) -> Result<(u16, Option<Def>), Trouble>
     requires form { HasForm (TSCreateIrr key.now container.now) }
     ensures fits { IfOk result (λ change. FitsSlot AllSeries change.0 change.1 defs.now.definitions) }
-    ensures decision { (count : ℕ) → IsDecision AllSeries (TSCreateIrr key.now container.now) result defs.now.definitions count }
+    ensures decision { (count : ℕ)
+        → IsDecision AllSeries (TSCreateIrr key.now container.now) result defs.now.definitions count }
 {
     let target = slot_named(defs, Kind::Container, container)?;
     let slot = slot_for_series(defs, key)?;
@@ -34,8 +35,8 @@ pub fn new_irregular(
     ))
 }
 
-/// The definition of a new regular series, and the slot for it. Its origin is the start of the on interval of the calendar that holds the
-/// given one, else the next on start; refused as past the end where there is none.
+/// The definition of a new regular series, and the slot for it. Its origin is the start of the on interval of the
+/// calendar that holds the given one, else the next on start; refused as past the end where there is none.
 pub fn new_regular(
     defs: &Defs,
     key: &Key,
@@ -45,7 +46,8 @@ pub fn new_regular(
 ) -> Result<(u16, Option<Def>), Trouble>
     requires form { HasForm (TSCreate key.now calendar.now origin container.now) }
     ensures fits { IfOk result (λ change. FitsSlot AllSeries change.0 change.1 defs.now.definitions) }
-    ensures decision { (count : ℕ) → IsDecision AllSeries (TSCreate key.now calendar.now origin container.now) result defs.now.definitions count }
+    ensures decision { (count : ℕ)
+        → IsDecision AllSeries (TSCreate key.now calendar.now origin container.now) result defs.now.definitions count }
 {
     let on = calendar_slot(defs, calendar)?;
     let target = slot_named(defs, Kind::Container, container)?;

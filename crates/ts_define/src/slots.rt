@@ -14,7 +14,9 @@ use ts_model::{Defs, Kind};
 /// An empty slot for a new name; else the name is taken, or no slot is left.
 pub fn slot_for(defs: &Defs, kind: Kind, name: &Name) -> Result<u16, Trouble>
     ensures free { IfOk result (λ slot. IsFreeSlot kind slot name.now defs.now.definitions) }
-    ensures tried { (count : ℕ) (l : Layout) → IsDefinedBy defs.now.definitions count l → IsTried result (a_new_name kind name.now (catalogue_of l)) (λ slot room. IsFreeSlot kind slot name.now l.definitions) }
+    ensures tried { (count : ℕ) (l : Layout) → IsDefinedBy defs.now.definitions count l
+        → IsTried result (a_new_name kind name.now (catalogue_of l))
+        (λ slot room. IsFreeSlot kind slot name.now l.definitions) }
 {
     empty_slot(defs, kind, name.as_slice())
 }
@@ -22,7 +24,9 @@ pub fn slot_for(defs: &Defs, kind: Kind, name: &Name) -> Result<u16, Trouble>
 /// The same for a new key.
 pub fn slot_for_series(defs: &Defs, key: &Key) -> Result<u16, Trouble>
     ensures free { IfOk result (λ slot. IsFreeSlot Series slot key.now defs.now.definitions) }
-    ensures tried { (count : ℕ) (l : Layout) → IsDefinedBy defs.now.definitions count l → IsTried result (a_new_name Series key.now (catalogue_of l)) (λ slot room. IsFreeSlot Series slot key.now l.definitions) }
+    ensures tried { (count : ℕ) (l : Layout) → IsDefinedBy defs.now.definitions count l
+        → IsTried result (a_new_name Series key.now (catalogue_of l))
+        (λ slot room. IsFreeSlot Series slot key.now l.definitions) }
 {
     empty_slot(defs, Kind::Series, key.as_slice())
 }
@@ -30,7 +34,8 @@ pub fn slot_for_series(defs: &Defs, key: &Key) -> Result<u16, Trouble>
 /// The slot that has this name.
 pub fn slot_named(defs: &Defs, kind: Kind, name: &Name) -> Result<u16, Trouble>
     ensures found { IfOk result (λ slot. IsSlotNamed kind slot name.now defs.now.definitions) }
-    ensures tried { (count : ℕ) (l : Layout) → IsDefinedBy defs.now.definitions count l → IsTried result (wanted name.now (named kind (catalogue_of l))) (Stands kind name.now l) }
+    ensures tried { (count : ℕ) (l : Layout) → IsDefinedBy defs.now.definitions count l
+        → IsTried result (wanted name.now (named kind (catalogue_of l))) (Stands kind name.now l) }
 {
     filled_slot(defs, kind, name.as_slice())
 }
@@ -38,7 +43,8 @@ pub fn slot_named(defs: &Defs, kind: Kind, name: &Name) -> Result<u16, Trouble>
 /// The slot of the series that has this key.
 pub fn series_named(defs: &Defs, key: &Key) -> Result<u16, Trouble>
     ensures found { IfOk result (λ slot. IsSlotNamed Series slot key.now defs.now.definitions) }
-    ensures tried { (count : ℕ) (l : Layout) → IsDefinedBy defs.now.definitions count l → IsTried result (wanted key.now (catalogue_of l).series) (Stands Series key.now l) }
+    ensures tried { (count : ℕ) (l : Layout) → IsDefinedBy defs.now.definitions count l
+        → IsTried result (wanted key.now (catalogue_of l).series) (Stands Series key.now l) }
 {
     filled_slot(defs, Kind::Series, key.as_slice())
 }
@@ -46,7 +52,9 @@ pub fn series_named(defs: &Defs, key: &Key) -> Result<u16, Trouble>
 // The same by bytes.
 fn empty_slot(defs: &Defs, kind: Kind, name: &[u8]) -> Result<u16, Trouble>
     ensures free { IfOk result (λ slot. IsFreeSlot kind slot name.now defs.now.definitions) }
-    ensures tried { (count : ℕ) (l : Layout) → IsDefinedBy defs.now.definitions count l → IsTried result (a_new_name kind name.now (catalogue_of l)) (λ slot room. IsFreeSlot kind slot name.now l.definitions) }
+    ensures tried { (count : ℕ) (l : Layout) → IsDefinedBy defs.now.definitions count l
+        → IsTried result (a_new_name kind name.now (catalogue_of l))
+        (λ slot room. IsFreeSlot kind slot name.now l.definitions) }
 {
     if defs.find(kind, name).is_some() {
         return Err(Trouble::Refused(Refusal::NameTaken));
@@ -59,7 +67,8 @@ fn empty_slot(defs: &Defs, kind: Kind, name: &[u8]) -> Result<u16, Trouble>
 
 fn filled_slot(defs: &Defs, kind: Kind, name: &[u8]) -> Result<u16, Trouble>
     ensures found { IfOk result (λ slot. IsSlotNamed kind slot name.now defs.now.definitions) }
-    ensures tried { (count : ℕ) (l : Layout) → IsDefinedBy defs.now.definitions count l → IsTried result (wanted name.now (named kind (catalogue_of l))) (Stands kind name.now l) }
+    ensures tried { (count : ℕ) (l : Layout) → IsDefinedBy defs.now.definitions count l
+        → IsTried result (wanted name.now (named kind (catalogue_of l))) (Stands kind name.now l) }
 {
     match defs.find(kind, name) {
         Some(slot) => Ok(slot),

@@ -29,7 +29,8 @@ pub fn redefine<P: Pages>(
     requires within { first_element_page ≤ (P.contents pages.old).count }
     requires slot { IfOk decided (λ change. change.0 < limit kind) }
     requires kind { IfOk decided (λ change. IfSome change.1 (λ d. kind_of d ≡ kind)) }
-    ensures carried { (command : TheCommand) (d : Definitions) (space : Directory) → IsDecision kind command decided d (P.contents pages.old).count
+    ensures carried { (command : TheCommand) (d : Definitions) (space : Directory)
+        → IsDecision kind command decided d (P.contents pages.old).count
         → IfOk decided (λ change. FitsSlot kind change.0 change.1 d) → is_writing command ≡ true
         → CarriedOut P.tells command result out.new (view d space (P.contents pages.old)) (P.contents pages.new) }
     ensures undisturbed { P.undisturbed pages.old pages.new }

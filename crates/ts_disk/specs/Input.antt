@@ -1,5 +1,6 @@
 -- What a source means, and what a pull does to that.
-use Rattle.std.specs.Prelude.{◌≡◌, ℕ, ◌+◌, ◌-◌, ◌^◌, min, ◌≤◌, ◌==◌, ◌||◌, Bool, false, IsTrue, List, [], ◌++◌, length, take, Result, Ok, Err, IfOk, OnErr, IsOk, IsErr}
+use Rattle.std.specs.Prelude.{◌≡◌, ℕ, ◌+◌, ◌-◌, ◌^◌, min, ◌≤◌, ◌==◌, ◌||◌, Bool, false, IsTrue, List, [], ◌++◌, length}
+use Rattle.std.specs.Prelude.{take, Result, Ok, Err, IfOk, OnErr, IsOk, IsErr}
 use Rattle.ts_disk.specs.Device.{Rose}
 
 -- All that is meant by a source. What is not told is empty.

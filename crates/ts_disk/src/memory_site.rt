@@ -1,5 +1,6 @@
 // A site in memory, which keeps its first bytes and each call.
-ghost use Rattle.std.specs.Prelude.{◌≡◌, ◌+◌, ◌≤◌, ◌<◌, ◌⊎◌, ℕ, List, length, OnOk, OnErr, IfOk, IsErr, IsTrue, [], ◌∷◌, ◌++◌, true, vec_capacity, vec_len, IsOk, replicate, ◌-◌, take, drop, ◌^◌};
+ghost use Rattle.std.specs.Prelude.{◌≡◌, ◌+◌, ◌≤◌, ◌<◌, ◌⊎◌, ℕ, List, length, OnOk, OnErr, IfOk, IsErr, IsTrue, []};
+ghost use Rattle.std.specs.Prelude.{◌∷◌, ◌++◌, true, vec_capacity, vec_len, IsOk, replicate, ◌-◌, take, drop, ◌^◌};
 ghost use Rattle.ts_disk.specs.Replay.{events_of, used_by, run, fresh, IsOfBytes};
 ghost use Rattle.ts_disk.specs.Replay.{State, after_call, used, put};
 ghost use Rattle.ts_disk.specs.Picks.{pick_write, pick_grow, pick_within, pick_after};
@@ -34,7 +35,8 @@ pub struct MemorySite {
 }
 
 impl MemorySite {
-    ghost use Rattle.ts_disk.specs.Memory.{site_device, site_calls, site_log, failing_calls, fuse_of, next_fails, spare_calls, spare_bytes, SameRoom, image_at, state_before};
+    ghost use Rattle.ts_disk.specs.Memory.{site_device, site_calls, site_log, failing_calls, fuse_of, next_fails};
+    ghost use Rattle.ts_disk.specs.Memory.{spare_calls, spare_bytes, SameRoom, image_at, state_before};
     ghost use Rattle.ts_disk.specs.Replay.{IsImage};
     ghost use Rattle.ts_disk.specs.Device.{Only};
 
@@ -101,7 +103,8 @@ impl MemorySite {
     pub fn image(&self, moment: u64, pick: Pick) -> Result<Vec<u8>, AllocError>
         requires { moment < site_calls self.now }
         ensures exact { IfOk result (λ v. v.items ≡ image_at self.now moment pick) }
-        ensures is_image { IfOk result (λ v. IsImage (state_before self.now moment) v.items ⊎ IsImage (state_before self.now (moment + 1)) v.items) }
+        ensures is_image { IfOk result (λ v. IsImage (state_before self.now moment) v.items
+            ⊎ IsImage (state_before self.now (moment + 1)) v.items) }
     {
         let alloc = *self.first.allocator();
         let mut held = self.first.to_vec(alloc)?;
@@ -162,7 +165,8 @@ where
     ensures tape_stays { OnErr result (tape.new.items ≡ tape.old.items) }
     ensures rose { OnErr result (Rose count.old count.new) }
     ensures no_less { count.old ≤ count.new }
-    ensures room { vec_len calls.old < vec_capacity calls.old → vec_len tape.old + length bytes.now ≤ vec_capacity tape.old → IsOk result }
+    ensures room { vec_len calls.old < vec_capacity calls.old
+        → vec_len tape.old + length bytes.now ≤ vec_capacity tape.old → IsOk result }
     ensures calls_room { vec_capacity calls.old ≤ vec_capacity calls.new }
     ensures tape_room { vec_capacity tape.old ≤ vec_capacity tape.new }
     ensures calls_len { vec_len calls.new ≤ vec_len calls.old + 1 }
@@ -304,7 +308,8 @@ fn pick_within(image: &mut Vec<u8>, pick: Pick, call: Call, bytes: &[u8]) -> Res
 
 // The bytes held after a call.
 fn hold(held: &mut Vec<u8>, call: Call, bytes: &[u8]) -> Result<(), AllocError>
-    ensures { OnOk result ((s : State) → s.held ≡ held.old.items → held.new.items ≡ (after_call call bytes.now s).held) }
+    ensures { OnOk result ((s : State) → s.held ≡ held.old.items
+        → held.new.items ≡ (after_call call bytes.now s).held) }
 {
     match call {
         Call::Resize(len, true) => fill_up(held, len, 0)?,

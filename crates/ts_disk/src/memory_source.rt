@@ -1,5 +1,6 @@
 // Sources in memory: bytes in pieces, and spaces without end.
-ghost use Rattle.std.specs.Prelude.{◌≡◌, ◌+◌, ◌≤◌, ◌<◌, ℕ, List, length, OnOk, OnErr, IfOk, IsErr, IsTrue, [], ◌∷◌, ◌++◌, take, drop, true, false, min, is_err, replicate};
+ghost use Rattle.std.specs.Prelude.{◌≡◌, ◌+◌, ◌≤◌, ◌<◌, ℕ, List, length, OnOk, OnErr, IfOk, IsErr, IsTrue, [], ◌∷◌};
+ghost use Rattle.std.specs.Prelude.{◌++◌, take, drop, true, false, min, is_err, replicate};
 ghost use Rattle.ts_disk.specs.Input.{Pulled};
 
 use crate::{PullFailed, Source, either, raise};
@@ -84,7 +85,8 @@ impl Source for MemorySource {
         requires { 0 < length into.old }
         ensures pulled { Pulled true into.new result (source_input self.old) (source_input self.new) }
         ensures failing { is_err result ≡ pull_fails self.old }
-        ensures count { IfOk result (λ n. n ≡ min (min (piece_of self.old) (length into.old)) (length (source_input self.old).left)) }
+        ensures count { IfOk result (λ n. n ≡ min (min (piece_of self.old) (length into.old))
+            (length (source_input self.old).left)) }
         ensures piece { piece_of self.new ≡ piece_of self.old }
     {
         let number = self.pulls;

@@ -89,8 +89,8 @@ fn each_stop_leaves_nothing_or_the_value(rt: HostRuntime) -> Result<(), Fail> {
     Ok(())
 }
 
-// How many calls of a gated write answer Ok where the call of one number is to fail, or all from it on; how many faults the
-// volume then counts, and how many calls it keeps.
+// How many calls of a gated write answer Ok where the call of one number is to fail, or all from it on; how many faults
+// the volume then counts, and how many calls it keeps.
 fn counted(alloc: Global, number: u64, is_fuse: bool) -> Result<(usize, u64, u64), AllocError> {
     let mut site = MemorySite::new(vec![in alloc; 0, 0]?)?;
     if is_fuse {

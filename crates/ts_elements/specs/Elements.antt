@@ -4,7 +4,8 @@ use Rattle.ts_row.specs.declared.value.Literal.{Literal}
 use Rattle.ts_row.specs.RowType.{Heading}
 use Rattle.ts_row.specs.Row.{Row}
 use Rattle.ts_command.specs.declared.command.Command.{Command}
-use Rattle.ts_command.specs.declared.command.Command.TheVariants.{PutElem, PutElemNoDups, InsElem, UpdElem, HideElem, RevealElem}
+use Rattle.ts_command.specs.declared.command.Command.TheVariants.{PutElem, PutElemNoDups, InsElem, UpdElem, HideElem}
+use Rattle.ts_command.specs.declared.command.Command.TheVariants.{RevealElem}
 use Rattle.ts_series.specs.declared.edits.EditKind.{EditKind}
 use Rattle.ts_series.specs.declared.edits.EditKind.TheVariants.{Put, PutNoDups, Insert, Update}
 use Rattle.ts_offset.specs.declared.shape.Shape.{Shape}
@@ -15,7 +16,8 @@ use Rattle.ts_answer.specs.Answer.{a_row}
 use Rattle.ts_shelf.specs.Shelf.{IsShelf}
 
 -- literals give this row for the columns of the series of a key
-pub record HasRow (key : List ℕ) (literals : List Literal) (shape : Shape) (slot : ℕ) (h : Heading) (row : Row) (d : Definitions) : Type 0 where
+pub record HasRow (key : List ℕ) (literals : List Literal) (shape : Shape) (slot : ℕ) (h : Heading) (row : Row)
+    (d : Definitions) : Type 0 where
   pub shelf : IsShelf shape slot h key d
   pub gives : a_row h.columns literals ≡ Ok row
 

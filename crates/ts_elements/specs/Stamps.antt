@@ -1,4 +1,5 @@
--- What edits write on the pages of a series, whatever its shape, what it is charged for it, and where an edit puts its row.
+-- What edits write on the pages of a series, whatever its shape, what it is charged for it, and where an edit puts its
+-- row.
 use Rattle.std.specs.Prelude.{◌≡◌, ℕ, ◌+◌, ℤ, Option, Some, None, Contains, Result, Ok, Err, is_some, List, length}
 use Rattle.ts_base.specs.declared.refusal.Refusal.{Refusal}
 use Rattle.ts_page.specs.Pages.{Contents}
@@ -18,11 +19,13 @@ use Rattle.ts_offset.specs.declared.shape.Shape.TheVariants.{Irregular, Regular}
 pub use Rattle.ts_clip.specs.Series.{IsLaidOut, ArePlaces, HaveChain, HaveCells, HaveElements, IsTold}
 use Rattle.ts_answer.specs.Answer.{Tried, ◌>>=◌, addressed}
 
--- The pages have these elements, of which the new places tell; no page changed but those of the old places and those that `take` could
--- give.
-pub record AreWritten (shape : Shape) (slot : ℕ) (columns : List Column) (es : List Element) (old new : List Place) (v w : Contents) : Type 0 where
+-- The pages have these elements, of which the new places tell; no page changed but those of the old places and those
+-- that `take` could give.
+pub record AreWritten (shape : Shape) (slot : ℕ) (columns : List Column) (es : List Element) (old new : List Place)
+    (v w : Contents) : Type 0 where
   pub have : HaveElements shape slot columns w.page new es
-  pub others : (number : ℕ) → ¬ Contains (pages_of old) number → ¬ Contains v.free number → w.page number ≡ v.page number
+  pub others : (number : ℕ) → ¬ Contains (pages_of old) number → ¬ Contains v.free number
+      → w.page number ≡ v.page number
 
 -- what a series of a shape is charged by its places: an irregular one by its elements, a regular one for each place
 abbrev pub charge_by : Shape → List Column → List Place → ℕ

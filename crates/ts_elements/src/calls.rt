@@ -21,8 +21,9 @@ use ts_row::{Row, Shelf};
 use ts_series::{EditKind, Edited, del_clip, edit};
 use ts_space::{Moved, Space};
 
-/// Edits the element that a stamp addresses. `room` is how many pages the series may be charged for, no more than there are spare pages and
-/// own ones. A refusal leaves all pages; after an error pages may have changed in part. `page` is room to read one.
+/// Edits the element that a stamp addresses. `room` is how many pages the series may be charged for, no more than there
+/// are spare pages and own ones. A refusal leaves all pages; after an error pages may have changed in part. `page` is
+/// room to read one.
 pub(crate) fn edit_in<P: Pages>(
     pages: &mut P,
     page: &mut Page,
@@ -38,11 +39,13 @@ pub(crate) fn edit_in<P: Pages>(
     requires laid { IsLaidOut shape.now }
     requires some { 0 < page_room shelf.now.kind.now.columns }
     requires rising { IsRising (places_of shelf.now.series space.now) }
-    requires places { ArePlaces shape.now shelf.now.kind.now.columns (P.contents pages.old) (places_of shelf.now.series space.now) }
+    requires places { ArePlaces shape.now shelf.now.kind.now.columns (P.contents pages.old)
+        (places_of shelf.now.series space.now) }
     requires fits { IsTrue (fits shelf.now.kind.now.columns row.now) }
     requires countable { count_of (places_of shelf.now.series space.now) < 2 ^ 32 }
     requires room { room ≤ length (P.contents pages.old).free + length (places_of shelf.now.series space.now) }
-    ensures ok { IfOk result (IsEdited P.tells shape.now shelf.now.series shelf.now.kind.now.columns how stamp row.now room
+    ensures ok { IfOk result
+        (IsEdited P.tells shape.now shelf.now.series shelf.now.kind.now.columns how stamp row.now room
         (places_of shelf.now.series space.now) (P.contents pages.old) (P.contents pages.new)) }
     ensures call { Answered result (P.contents pages.old) (P.contents pages.new) }
     ensures grows { IfOk result (λ edited. Grows 1 (P.contents pages.old) (P.contents pages.new)) }
@@ -55,8 +58,8 @@ pub(crate) fn edit_in<P: Pages>(
     }
 }
 
-/// Hides the element that a stamp addresses, or shows it again, and tells the stamp at which it stands; refused where it addresses none, and
-/// where none stands there. A refusal leaves all pages. `page` is room to read one.
+/// Hides the element that a stamp addresses, or shows it again, and tells the stamp at which it stands; refused where
+/// it addresses none, and where none stands there. A refusal leaves all pages. `page` is room to read one.
 pub(crate) fn mark_in<P: Pages>(
     pages: &mut P,
     page: &mut Page,
@@ -68,7 +71,8 @@ pub(crate) fn mark_in<P: Pages>(
 ) -> Result<Result<Stamp, Refusal>, StoreFault>
     requires slot { shelf.now.series < series_slots }
     requires laid { IsLaidOut shape.now }
-    requires places { ArePlaces shape.now shelf.now.kind.now.columns (P.contents pages.old) (places_of shelf.now.series space.now) }
+    requires places { ArePlaces shape.now shelf.now.kind.now.columns (P.contents pages.old)
+        (places_of shelf.now.series space.now) }
     ensures ok { IfOk result (IsMarked P.tells shape.now shelf.now.series shelf.now.kind.now.columns stamp hidden
         (places_of shelf.now.series space.now) (P.contents pages.old) (P.contents pages.new)) }
     ensures call { Answered result (P.contents pages.old) (P.contents pages.new) }
@@ -96,8 +100,8 @@ fn stamp_if(there: bool, stamp: Stamp) -> Result<Stamp, Refusal>
     }
 }
 
-/// Takes away the element that a stamp addresses, and tells which places go and come: none, and no page changes, where it addresses none
-/// that is there. `page` is room to read one.
+/// Takes away the element that a stamp addresses, and tells which places go and come: none, and no page changes, where
+/// it addresses none that is there. `page` is room to read one.
 pub(crate) fn remove_in<P: Pages>(
     pages: &mut P,
     page: &mut Page,
@@ -109,7 +113,8 @@ pub(crate) fn remove_in<P: Pages>(
     requires slot { shelf.now.series < series_slots }
     requires laid { IsLaidOut shape.now }
     requires some { 0 < page_room shelf.now.kind.now.columns }
-    requires places { ArePlaces shape.now shelf.now.kind.now.columns (P.contents pages.old) (places_of shelf.now.series space.now) }
+    requires places { ArePlaces shape.now shelf.now.kind.now.columns (P.contents pages.old)
+        (places_of shelf.now.series space.now) }
     ensures ok { IfOk result (IsRemoved P.tells shape.now shelf.now.series shelf.now.kind.now.columns stamp
         (places_of shelf.now.series space.now) (P.contents pages.old) (P.contents pages.new)) }
     ensures call { Answered result (P.contents pages.old) (P.contents pages.new) }
@@ -122,9 +127,9 @@ pub(crate) fn remove_in<P: Pages>(
     }
 }
 
-/// Takes all elements from one stamp to another away, both included; gives how many they were, and which places go and come: none, and no
-/// page changes, where none stands there. `page` is room to read one; the memory is for the numbers of the pages that are freed, 4 bytes
-/// each.
+/// Takes all elements from one stamp to another away, both included; gives how many they were, and which places go and
+/// come: none, and no page changes, where none stands there. `page` is room to read one; the memory is for the numbers
+/// of the pages that are freed, 4 bytes each.
 pub(crate) fn clear_in<P: Pages>(
     alloc: Global,
     pages: &mut P,
@@ -138,7 +143,8 @@ pub(crate) fn clear_in<P: Pages>(
     requires slot { shelf.now.series < series_slots }
     requires laid { IsLaidOut shape.now }
     requires some { 0 < page_room shelf.now.kind.now.columns }
-    requires places { ArePlaces shape.now shelf.now.kind.now.columns (P.contents pages.old) (places_of shelf.now.series space.now) }
+    requires places { ArePlaces shape.now shelf.now.kind.now.columns (P.contents pages.old)
+        (places_of shelf.now.series space.now) }
     ensures ok { IfOk result (λ r. IsCleared P.tells shape.now shelf.now.series shelf.now.kind.now.columns from to
         (places_of shelf.now.series space.now) (P.contents pages.old) (P.contents pages.new) r.0 r.1) }
     ensures call { Answered result (P.contents pages.old) (P.contents pages.new) }

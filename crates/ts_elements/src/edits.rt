@@ -30,9 +30,9 @@ use ts_series::{EditKind, Edited};
 use ts_shelf::shelf_of;
 use ts_space::Space;
 
-/// Edits the element that a stamp of a series addresses. A key that no series has is refused, then literals that are no row, then a stamp
-/// that a regular series has no place for, then what the kind of edit refuses, and at last an element that would be added beyond the quota
-/// of the container. `page` is room to read one.
+/// Edits the element that a stamp of a series addresses. A key that no series has is refused, then literals that are no
+/// row, then a stamp that a regular series has no place for, then what the kind of edit refuses, and at last an element
+/// that would be added beyond the quota of the container. `page` is room to read one.
 pub fn edit_element<P: Pages>(
     pages: &mut P,
     page: &mut Page,
@@ -48,7 +48,8 @@ pub fn edit_element<P: Pages>(
     requires seen { IsSeen P.tells (view defs.now.definitions space.now (P.contents pages.old)) }
     requires charged { AreCharges charges.now defs.now.definitions space.now }
     requires empty { out.old ≡ [] }
-    ensures carried { CarriedOut P.tells (edit_of how key.now stamp values.now) result out.new (view defs.now.definitions space.now (P.contents pages.old)) (P.contents pages.new) }
+    ensures carried { CarriedOut P.tells (edit_of how key.now stamp values.now) result out.new
+        (view defs.now.definitions space.now (P.contents pages.old)) (P.contents pages.new) }
     ensures undisturbed { P.undisturbed pages.old pages.new }
 {
     let (shelf, shape) = shelf_of(pages, defs, space, key)?;
@@ -88,11 +89,14 @@ fn edit_on<P: Pages>(
     requires laid { IsLaidOut shape.now }
     requires some { 0 < page_room shelf.now.kind.now.columns }
     requires rising { IsRising (places_of shelf.now.series space.now) }
-    requires places { ArePlaces shape.now shelf.now.kind.now.columns (P.contents pages.old) (places_of shelf.now.series space.now) }
+    requires places { ArePlaces shape.now shelf.now.kind.now.columns (P.contents pages.old)
+        (places_of shelf.now.series space.now) }
     requires fits { IsTrue (fits shelf.now.kind.now.columns row.now) }
     requires empty { out.old ≡ [] }
-    ensures carried { (key : List ℕ) (literals : List TheLiteral) → HasRow key literals shape.now shelf.now.series shelf.now.kind.now row.now defs.now.definitions
-        → CarriedOut P.tells (edit_of how key stamp literals) result out.new (view defs.now.definitions space.now (P.contents pages.old)) (P.contents pages.new) }
+    ensures carried { (key : List ℕ) (literals : List TheLiteral)
+        → HasRow key literals shape.now shelf.now.series shelf.now.kind.now row.now defs.now.definitions
+        → CarriedOut P.tells (edit_of how key stamp literals) result out.new
+        (view defs.now.definitions space.now (P.contents pages.old)) (P.contents pages.new) }
     ensures undisturbed { P.undisturbed pages.old pages.new }
 {
     let budget = budget_of(defs, space, charges, shelf);

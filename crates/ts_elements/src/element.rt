@@ -34,7 +34,8 @@ pub fn get_element<P: Pages>(
 ) -> Result<(), Stop>
     requires seen { IsSeen P.tells (view defs.now.definitions space.now (P.contents pages.old)) }
     requires empty { out.old ≡ [] }
-    ensures read { ReadOut P.tells (GetElem key.now stamp) result out.new (view defs.now.definitions space.now (P.contents pages.old)) (P.contents pages.new) }
+    ensures read { ReadOut P.tells (GetElem key.now stamp) result out.new
+        (view defs.now.definitions space.now (P.contents pages.old)) (P.contents pages.new) }
     ensures undisturbed { P.undisturbed pages.old pages.new }
 {
     let (shelf, shape) = shelf_of(pages, defs, space, key)?;
@@ -56,10 +57,12 @@ fn get_on<P: Pages>(
     requires seen { IsSeen P.tells (view _defs.now.definitions space.now (P.contents pages.old)) }
     requires slot { shelf.now.series < series_slots }
     requires laid { IsLaidOut shape.now }
-    requires places { ArePlaces shape.now shelf.now.kind.now.columns (P.contents pages.old) (places_of shelf.now.series space.now) }
+    requires places { ArePlaces shape.now shelf.now.kind.now.columns (P.contents pages.old)
+        (places_of shelf.now.series space.now) }
     requires empty { out.old ≡ [] }
     ensures read { (key : List ℕ) → IsShelf shape.now shelf.now.series shelf.now.kind.now key _defs.now.definitions
-        → ReadOut P.tells (GetElem key stamp) result out.new (view _defs.now.definitions space.now (P.contents pages.old)) (P.contents pages.new) }
+        → ReadOut P.tells (GetElem key stamp) result out.new
+        (view _defs.now.definitions space.now (P.contents pages.old)) (P.contents pages.new) }
     ensures undisturbed { P.undisturbed pages.old pages.new }
 {
     let found = find_in(pages, page, space, shelf, shape, stamp)?;

@@ -16,7 +16,8 @@ use ts_regular_edits::find_at;
 use ts_row::{Row, Shelf};
 use ts_space::Space;
 
-/// The element that a stamp addresses, hidden or not, with the stamp at which it stands. All pages stay; `page` is room to read one.
+/// The element that a stamp addresses, hidden or not, with the stamp at which it stands. All pages stay; `page` is room
+/// to read one.
 pub(crate) fn find_in<P: Pages>(
     pages: &mut P,
     page: &mut Page,
@@ -27,7 +28,8 @@ pub(crate) fn find_in<P: Pages>(
 ) -> Result<Option<(Stamp, Row)>, StoreFault>
     requires slot { shelf.now.series < series_slots }
     requires laid { IsLaidOut shape.now }
-    requires places { ArePlaces shape.now shelf.now.kind.now.columns (P.contents pages.old) (places_of shelf.now.series space.now) }
+    requires places { ArePlaces shape.now shelf.now.kind.now.columns (P.contents pages.old)
+        (places_of shelf.now.series space.now) }
     ensures found { IfOk result (IsFound P.tells shape.now shelf.now.series shelf.now.kind.now.columns stamp
         (places_of shelf.now.series space.now) (P.contents pages.old)) }
     ensures fits { IfOk result (λ found. IfSome found (λ e. IsTrue (fits shelf.now.kind.now.columns e.1))) }

@@ -20,8 +20,9 @@ use ts_say::say_stamp;
 use ts_shelf::shelf_of;
 use ts_space::Space;
 
-/// Hides the element that a stamp of a series addresses, or shows it again; it may be so already. A key that no series has is refused,
-/// then a volume of format 1, then a stamp that a regular series has no place for, then one without an element. `page` is room to read one.
+/// Hides the element that a stamp of a series addresses, or shows it again; it may be so already. A key that no series
+/// has is refused, then a volume of format 1, then a stamp that a regular series has no place for, then one without an
+/// element. `page` is room to read one.
 pub fn mark_element<P: Pages>(
     pages: &mut P,
     page: &mut Page,
@@ -34,7 +35,8 @@ pub fn mark_element<P: Pages>(
 ) -> Result<Effect, Stop>
     requires seen { IsSeen P.tells (view defs.now.definitions space.now (P.contents pages.old)) }
     requires empty { out.old ≡ [] }
-    ensures carried { CarriedOut P.tells (mark_of hidden key.now stamp) result out.new (view defs.now.definitions space.now (P.contents pages.old)) (P.contents pages.new) }
+    ensures carried { CarriedOut P.tells (mark_of hidden key.now stamp) result out.new
+        (view defs.now.definitions space.now (P.contents pages.old)) (P.contents pages.new) }
     ensures undisturbed { P.undisturbed pages.old pages.new }
 {
     let (shelf, shape) = shelf_of(pages, defs, space, key)?;
@@ -56,10 +58,12 @@ fn mark_on<P: Pages>(
     requires seen { IsSeen P.tells (view defs.now.definitions space.now (P.contents pages.old)) }
     requires slot { shelf.now.series < series_slots }
     requires laid { IsLaidOut shape.now }
-    requires places { ArePlaces shape.now shelf.now.kind.now.columns (P.contents pages.old) (places_of shelf.now.series space.now) }
+    requires places { ArePlaces shape.now shelf.now.kind.now.columns (P.contents pages.old)
+        (places_of shelf.now.series space.now) }
     requires empty { out.old ≡ [] }
     ensures carried { (key : List ℕ) → IsShelf shape.now shelf.now.series shelf.now.kind.now key defs.now.definitions
-        → CarriedOut P.tells (mark_of hidden key stamp) result out.new (view defs.now.definitions space.now (P.contents pages.old)) (P.contents pages.new) }
+        → CarriedOut P.tells (mark_of hidden key stamp) result out.new
+        (view defs.now.definitions space.now (P.contents pages.old)) (P.contents pages.new) }
     ensures undisturbed { P.undisturbed pages.old pages.new }
 {
     in_format(defs, true)?;

@@ -21,8 +21,8 @@ use ts_say::say_count;
 use ts_shelf::shelf_of;
 use ts_space::Space;
 
-/// Takes the element that a stamp of a series addresses away, hidden or not. Where it addresses none that is there nothing changes, and that
-/// is no error. `page` is room to read one.
+/// Takes the element that a stamp of a series addresses away, hidden or not. Where it addresses none that is there
+/// nothing changes, and that is no error. `page` is room to read one.
 pub fn delete_element<P: Pages>(
     pages: &mut P,
     page: &mut Page,
@@ -34,7 +34,8 @@ pub fn delete_element<P: Pages>(
 ) -> Result<Effect, Stop>
     requires seen { IsSeen P.tells (view defs.now.definitions space.now (P.contents pages.old)) }
     requires empty { out.old ≡ [] }
-    ensures carried { CarriedOut P.tells (DelElem key.now stamp) result out.new (view defs.now.definitions space.now (P.contents pages.old)) (P.contents pages.new) }
+    ensures carried { CarriedOut P.tells (DelElem key.now stamp) result out.new
+        (view defs.now.definitions space.now (P.contents pages.old)) (P.contents pages.new) }
     ensures undisturbed { P.undisturbed pages.old pages.new }
 {
     let (shelf, shape) = shelf_of(pages, defs, space, key)?;
@@ -56,10 +57,12 @@ fn remove_on<P: Pages>(
     requires slot { shelf.now.series < series_slots }
     requires laid { IsLaidOut shape.now }
     requires some { 0 < page_room shelf.now.kind.now.columns }
-    requires places { ArePlaces shape.now shelf.now.kind.now.columns (P.contents pages.old) (places_of shelf.now.series space.now) }
+    requires places { ArePlaces shape.now shelf.now.kind.now.columns (P.contents pages.old)
+        (places_of shelf.now.series space.now) }
     requires empty { out.old ≡ [] }
     ensures carried { (key : List ℕ) → IsShelf shape.now shelf.now.series shelf.now.kind.now key _defs.now.definitions
-        → CarriedOut P.tells (DelElem key stamp) result out.new (view _defs.now.definitions space.now (P.contents pages.old)) (P.contents pages.new) }
+        → CarriedOut P.tells (DelElem key stamp) result out.new
+        (view _defs.now.definitions space.now (P.contents pages.old)) (P.contents pages.new) }
     ensures undisturbed { P.undisturbed pages.old pages.new }
 {
     match remove_in(pages, page, space, shelf, shape, stamp)? {
@@ -77,8 +80,9 @@ fn remove_on<P: Pages>(
     }
 }
 
-/// Takes all elements of a series from one stamp to another away, both included, hidden or not. Where none stands there nothing changes.
-/// `page` is room to read one; the memory is for the numbers of the pages that are freed, 4 bytes each.
+/// Takes all elements of a series from one stamp to another away, both included, hidden or not. Where none stands there
+/// nothing changes. `page` is room to read one; the memory is for the numbers of the pages that are freed, 4 bytes
+/// each.
 pub fn delete_range<P: Pages>(
     alloc: Global,
     pages: &mut P,
@@ -92,7 +96,8 @@ pub fn delete_range<P: Pages>(
 ) -> Result<Effect, Stop>
     requires seen { IsSeen P.tells (view defs.now.definitions space.now (P.contents pages.old)) }
     requires empty { out.old ≡ [] }
-    ensures carried { CarriedOut P.tells (DelClip key.now from to) result out.new (view defs.now.definitions space.now (P.contents pages.old)) (P.contents pages.new) }
+    ensures carried { CarriedOut P.tells (DelClip key.now from to) result out.new
+        (view defs.now.definitions space.now (P.contents pages.old)) (P.contents pages.new) }
     ensures undisturbed { P.undisturbed pages.old pages.new }
 {
     let (shelf, shape) = shelf_of(pages, defs, space, key)?;
@@ -118,10 +123,12 @@ fn clear_on<P: Pages>(
     requires slot { shelf.now.series < series_slots }
     requires laid { IsLaidOut shape.now }
     requires some { 0 < page_room shelf.now.kind.now.columns }
-    requires places { ArePlaces shape.now shelf.now.kind.now.columns (P.contents pages.old) (places_of shelf.now.series space.now) }
+    requires places { ArePlaces shape.now shelf.now.kind.now.columns (P.contents pages.old)
+        (places_of shelf.now.series space.now) }
     requires empty { out.old ≡ [] }
     ensures carried { (key : List ℕ) → IsShelf shape.now shelf.now.series shelf.now.kind.now key _defs.now.definitions
-        → CarriedOut P.tells (DelClip key from to) result out.new (view _defs.now.definitions space.now (P.contents pages.old)) (P.contents pages.new) }
+        → CarriedOut P.tells (DelClip key from to) result out.new
+        (view _defs.now.definitions space.now (P.contents pages.old)) (P.contents pages.new) }
     ensures undisturbed { P.undisturbed pages.old pages.new }
 {
     let (removed, moved) = clear_in(alloc, pages, page, space, shelf, shape, from, to)?;

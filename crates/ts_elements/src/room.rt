@@ -41,7 +41,8 @@ pub(crate) fn budget_of(defs: &Defs, space: &Space, charges: &Charges, shelf: &S
     requires quotas { KeepQuotas defs.now.definitions space.now }
     requires countable { IsCountable (places_of shelf.now.series space.now) }
     ensures within { result.others ≤ result.quota }
-    ensures budget { (s : SeriesDef) (c : ContainerDef) (h : Heading) → IsSeries shelf.now.series s c h defs.now.definitions
+    ensures budget { (s : SeriesDef) (c : ContainerDef) (h : Heading)
+        → IsSeries shelf.now.series s c h defs.now.definitions
         → IsBudget shelf.now.series s c h defs.now.definitions space.now result.others result.quota }
 {
     let Some(
@@ -84,7 +85,8 @@ fn charge_of(_defs: &Defs, _space: &Space, charges: &Charges, container: u8) -> 
 fn charge_now(space: &Space, shelf: &Shelf, regular: Option<(u8, Stamp)>) -> u64
     requires slot { shelf.now.series < series_slots }
     requires countable { IsCountable (places_of shelf.now.series space.now) }
-    ensures { result ≡ places_charge (page_room shelf.now.kind.now.columns) regular (places_of shelf.now.series space.now) }
+    ensures { result ≡ places_charge (page_room shelf.now.kind.now.columns) regular
+        (places_of shelf.now.series space.now) }
 {
     // A page has room for one row at least, by the greatest width.
     let _width = shelf.kind.width();
@@ -95,7 +97,8 @@ fn charge_now(space: &Space, shelf: &Shelf, regular: Option<(u8, Stamp)>) -> u64
 pub(crate) fn room_in<P: Pages>(pages: &P, space: &Space, slot: u16, budget: Budget) -> u64
     requires slot { slot < series_slots }
     requires within { budget.others ≤ budget.quota }
-    ensures { result ≡ min (budget.quota - budget.others) (length (P.contents pages.now).free + length (places_of slot space.now)) }
+    ensures { result
+        ≡ min (budget.quota - budget.others) (length (P.contents pages.now).free + length (places_of slot space.now)) }
 {
     let left = budget.quota as u64 - budget.others;
     let most = pages.spare() as u64 + space.places(slot).len() as u64;
@@ -107,7 +110,9 @@ pub(crate) fn refusal_of(budget: Budget, space: &Space, shelf: &Shelf, shape: &S
     requires slot { shelf.now.series < series_slots }
     requires within { budget.others ≤ budget.quota }
     requires countable { IsCountable (places_of shelf.now.series space.now) }
-    ensures { result ≡ ContainerFull (budget.others + charge_with_one shape.now shelf.now.kind.now.columns (places_of shelf.now.series space.now)) budget.quota }
+    ensures { result
+        ≡ ContainerFull (budget.others + charge_with_one shape.now shelf.now.kind.now.columns
+        (places_of shelf.now.series space.now)) budget.quota }
 {
     Refusal::ContainerFull {
         charge: budget.others + charge_with(space, shelf, shape),
@@ -119,7 +124,8 @@ pub(crate) fn refusal_of(budget: Budget, space: &Space, shelf: &Shelf, shape: &S
 fn charge_with(space: &Space, shelf: &Shelf, shape: &Shape<'_>) -> u64
     requires slot { shelf.now.series < series_slots }
     requires countable { IsCountable (places_of shelf.now.series space.now) }
-    ensures value { result ≡ charge_with_one shape.now shelf.now.kind.now.columns (places_of shelf.now.series space.now) }
+    ensures value { result ≡ charge_with_one shape.now shelf.now.kind.now.columns
+        (places_of shelf.now.series space.now) }
     ensures bound { result < 2 ^ 34 }
 {
     match shape {

@@ -26,7 +26,8 @@ pub fn drop_series<P: Pages>(
 ) -> Result<Effect, Stop>
     requires seen { IsSeen P.tells (view defs.now.definitions space.now (P.contents pages.old)) }
     requires empty { out.old ≡ [] }
-    ensures carried { CarriedOut P.tells (DropSeries key.now) result out.new (view defs.now.definitions space.now (P.contents pages.old)) (P.contents pages.new) }
+    ensures carried { CarriedOut P.tells (DropSeries key.now) result out.new
+        (view defs.now.definitions space.now (P.contents pages.old)) (P.contents pages.new) }
     ensures undisturbed { P.undisturbed pages.old pages.new }
 {
     let slot = series_named(defs, key)?;

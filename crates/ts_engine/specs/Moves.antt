@@ -10,7 +10,8 @@ use Rattle.ts_engine.specs.Engine.{Kept, IsReady, IsAt, IsSame}
 
 -- an image that means the state before or the one after, and nothing said
 abbrev pub BeforeOrAfter : State → State → Device → List ℕ → List ℕ → Type 0
-BeforeOrAfter state after v image said = (MeansCatalogue image (committed state) ⊎ MeansCatalogue image (committed after)) × (said ≡ v.said)
+BeforeOrAfter state after v image said = (MeansCatalogue image (committed state)
+    ⊎ MeansCatalogue image (committed after)) × (said ≡ v.said)
 
 -- nothing was written, and the engine keeps what it kept
 pub record IsUntouched (tells : Bool) (e f : Kept) (v w : Device) : Type 0 where
@@ -24,11 +25,13 @@ StepFaulted tells (Memory error) e f v w = IsUntouched tells e f v w × IsReady 
 StepFaulted tells (Closed faults) e f v w = ⊥
 
 -- what an engine does that no call of the disk's failed before, where it goes from a state to the one after it
-pub record Moves (tells : Bool) (after : State → State) (result : Result Unit StepFault) (e f : Kept) (v w : Device) : Type 0 where
+pub record Moves (tells : Bool) (after : State → State) (result : Result Unit StepFault) (e f : Kept)
+    (v w : Device) : Type 0 where
   pub ready : OnOk result (IsReady tells f w)
   pub at : OnOk result (IsTrue tells → (state : State) → IsAt tells e state v → IsAt tells f (after state) w)
   pub fault : IfErr result (λ fault. StepFaulted tells fault e f v w)
-  pub moments : IsTrue tells → (state : State) → IsAt tells e state v → LeavesOnly v w (BeforeOrAfter state (after state) v)
+  pub moments : IsTrue tells → (state : State) → IsAt tells e state v
+      → LeavesOnly v w (BeforeOrAfter state (after state) v)
   pub others : Keeps tells v w
   -- only a failed call of the disk raises the count
   pub no_fault : OnOk result (w.faults ≡ v.faults)

@@ -16,11 +16,12 @@ use Rattle.ts_engine.specs.Engine.{IsReady, IsAt, NothingIsPending}
 abbrev pub StillMeans : Catalogue → Device → List ℕ → List ℕ → Type 0
 StillMeans cat v image said = MeansCatalogue image cat × (said ≡ v.said)
 
--- The disk failed only where its count rose. The volume is no store exactly where it means no catalogue; then, and for want of
--- memory, nothing was written.
+-- The disk failed only where its count rose. The volume is no store exactly where it means no catalogue; then, and for
+-- want of memory, nothing was written.
 abbrev pub StartFault : Bool → SurveyFault → Device → Device → Type 0
 StartFault tells Failed v w = Rose v.faults w.faults
-StartFault tells (NotAStore page) v w = (IsTrue tells → MeansNothing v.held) × (w.held ≡ v.held) × Within v.images w.images × (w.faults ≡ v.faults)
+StartFault tells (NotAStore page) v w = (IsTrue tells → MeansNothing v.held) × (w.held ≡ v.held)
+    × Within v.images w.images × (w.faults ≡ v.faults)
 StartFault tells (Memory error) v w = (w.held ≡ v.held) × Within v.images w.images × (w.faults ≡ v.faults)
 
 -- what a call that only read was refused for
@@ -45,7 +46,8 @@ pub record Opened (tells : Bool) (result : Result Engine SurveyFault) (v w : Dev
   pub ready : IfOk result (λ e. IsReady tells e w)
   pub rests : IfOk result (λ e. e.saved ≡ None)
   pub means : IfOk result (λ e. IsTrue tells → (cat : Catalogue) × MeansCatalogue v.held cat)
-  pub at : IfOk result (λ e. IsTrue tells → (cat : Catalogue) → MeansCatalogue v.held cat → IsAt tells e (resting cat) w)
+  pub at : IfOk result (λ e. IsTrue tells → (cat : Catalogue) → MeansCatalogue v.held cat
+      → IsAt tells e (resting cat) w)
   pub fault : IfErr result (λ fault. StartFault tells fault v w)
   pub others : Keeps tells v w
   pub moments : IsTrue tells → (cat : Catalogue) → MeansCatalogue v.held cat → LeavesOnly v w (StillMeans cat v)
@@ -60,7 +62,8 @@ pub record Started (tells : Bool) (result : Result Engine SurveyFault) (v w : De
   -- it means some catalogue
   pub means : IfOk result (λ e. IsTrue tells → (cat : Catalogue) × MeansCatalogue v.held cat)
   -- and the engine stands there, at each that it means, with no transaction
-  pub at : IfOk result (λ e. IsTrue tells → (cat : Catalogue) → MeansCatalogue v.held cat → IsAt tells e (resting cat) w)
+  pub at : IfOk result (λ e. IsTrue tells → (cat : Catalogue) → MeansCatalogue v.held cat
+      → IsAt tells e (resting cat) w)
   pub fault : IfErr result (λ fault. StartFault tells fault v w)
   pub others : Keeps tells v w
   -- an opened volume was synced

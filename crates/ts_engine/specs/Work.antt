@@ -88,9 +88,10 @@ pub record IsGiven (tells : Bool) (x : View) (charges out : List ℕ) : Type 0 w
   pub charged : AreCharges charges x.definitions x.space
   pub empty : out ≡ []
 
--- What is decided on a command that makes or drops a definition of a kind, where there are so many element pages: it fits a slot, and it
--- is what the catalogue of each layout with these definitions answers.
-pub record IsDecided (kind : Kind) (command : Command) (decided : Result (ℕ × Option Def) Trouble) (d : Definitions) (pages : ℕ) : Type 0 where
+-- What is decided on a command that makes or drops a definition of a kind, where there are so many element pages: it
+-- fits a slot, and it is what the catalogue of each layout with these definitions answers.
+pub record IsDecided (kind : Kind) (command : Command) (decided : Result (ℕ × Option Def) Trouble) (d : Definitions)
+    (pages : ℕ) : Type 0 where
   pub writes : is_writing command ≡ true
   pub fits : IfOk decided (λ change. FitsSlot kind change.0 change.1 d)
   pub decision : (count : ℕ) → count ≡ first_element_page + pages → IsDecision kind command decided d count

@@ -27,7 +27,8 @@ struct Rate {
     room: usize,
 }
 
-/// The places of a series change, or all go where no change is told, and its container is charged for them in place of those before.
+/// The places of a series change, or all go where no change is told, and its container is charged for them in place of
+/// those before.
 pub(crate) fn change_places(
     alloc: Global,
     defs: &Defs,
@@ -72,7 +73,8 @@ pub(crate) fn charge_definition(
 )
     requires slot { slot < limit kind }
     requires can { CanCount defs.now.definitions space.now.lists }
-    ensures { (d : Definitions) (def : Option TheDef) → defs.now.definitions ≡ with_slot kind slot def d → AreCharges charges.old d space.now
+    ensures { (d : Definitions) (def : Option TheDef) → defs.now.definitions ≡ with_slot kind slot def d
+        → AreCharges charges.old d space.now
         → AreCharges charges.new defs.now.definitions space.now }
 {
     if is_never_charged(space, kind, slot) {

@@ -41,7 +41,15 @@ impl Model for Engine {
 
     ghost Value = { Kept };
 
-    ghost view = { λ e. record { store = e.store; tables = e.defs; space = e.space; charges = e.charges; saved = e.saved; spent = e.spent } };
+    ghost view = { λ e. record {
+      store = e.store;
+      tables = e.defs;
+      space = e.space;
+      charges = e.charges;
+      saved = e.saved;
+      spent =
+          e.spent;
+    } };
 }
 
 impl Engine {
@@ -55,8 +63,8 @@ impl Engine {
         }
     }
 
-    /// Carries out a command, and gives its reply. `out` is empty after an error. Series of a container are folded by as many workers as
-    /// serve; all else is done in the calling thread.
+    /// Carries out a command, and gives its reply. `out` is empty after an error. Series of a container are folded by
+    /// as many workers as serve; all else is done in the calling thread.
     pub fn step<V: Volume>(
         &mut self,
         rt: &(impl Threads + Sync),
@@ -66,9 +74,11 @@ impl Engine {
     ) -> Result<(), StepFault>
         requires ready { self.old.spent ≡ None → IsReady V.tells self.old (V.device vol.old) }
         requires form { HasForm command.now }
-        ensures stepped { self.old.spent ≡ None → Stepped V.tells command.now result out.new self.old self.new (V.device vol.old) (V.device vol.new) }
+        ensures stepped { self.old.spent ≡ None → Stepped V.tells command.now result out.new self.old self.new
+            (V.device vol.old) (V.device vol.new) }
         // An engine that the disk failed makes no call any more.
-        ensures closed { (faults : ℕ) → self.old.spent ≡ Some faults → (result ≡ Err (Closed faults)) × (out.new ≡ []) × (self.new ≡ self.old) × (vol.new ≡ vol.old) }
+        ensures closed { (faults : ℕ) → self.old.spent ≡ Some faults → (result ≡ Err (Closed faults)) × (out.new ≡ [])
+            × (self.new ≡ self.old) × (vol.new ≡ vol.old) }
     {
         out.clear();
         if let Some(faults) = self.spent {

@@ -22,15 +22,18 @@ use ts_space::Space;
 use ts_store::{On, Store};
 
 impl Engine {
-    /// Puts a volume of the old format into the newest one, by one record, where no transaction is open. A volume of the
-    /// newest format stays as it is: no call is made on it.
+    /// Puts a volume of the old format into the newest one, by one record, where no transaction is open. A volume of
+    /// the newest format stays as it is: no call is made on it.
     pub fn migrate<V: Volume>(&mut self, vol: &mut V) -> Result<(), StepFault>
         requires ready { self.old.spent ≡ None → IsReady V.tells self.old (V.device vol.old) }
         requires rests { self.old.saved ≡ None }
-        ensures migrated { self.old.spent ≡ None → Migrated V.tells result self.old self.new (V.device vol.old) (V.device vol.new) }
-        ensures idle { self.old.spent ≡ None → self.old.tables.definitions.format ≡ newest_format → (result ≡ Ok tt) × (self.new ≡ self.old) × (vol.new ≡ vol.old) }
+        ensures migrated { self.old.spent ≡ None → Migrated V.tells result self.old self.new (V.device vol.old)
+            (V.device vol.new) }
+        ensures idle { self.old.spent ≡ None → self.old.tables.definitions.format ≡ newest_format → (result ≡ Ok tt)
+            × (self.new ≡ self.old) × (vol.new ≡ vol.old) }
         // An engine that the disk failed makes no call any more.
-        ensures closed { (faults : ℕ) → self.old.spent ≡ Some faults → (result ≡ Err (Closed faults)) × (self.new ≡ self.old) × (vol.new ≡ vol.old) }
+        ensures closed { (faults : ℕ) → self.old.spent ≡ Some faults → (result ≡ Err (Closed faults))
+            × (self.new ≡ self.old) × (vol.new ≡ vol.old) }
     {
         if let Some(faults) = self.spent {
             return Err(StepFault::Closed { faults });
@@ -58,9 +61,11 @@ impl Engine {
     fn put_newest_format<V: Volume>(&mut self, vol: &mut V) -> Result<(), StoreFault>
         requires idle { IsIdle V.tells self.old.store (V.device vol.old) }
         requires kept { AreKept self.old.tables.definitions self.old.space self.old.store.free self.old.store.pages }
-        ensures written { HeaderWritten V.tells newest_format (self.old.store.pages - first_element_page) result (contents_over self.old.store (V.device vol.old)) (contents_over self.new.store (V.device vol.new)) }
+        ensures written { HeaderWritten V.tells newest_format (self.old.store.pages - first_element_page) result
+            (contents_over self.old.store (V.device vol.old)) (contents_over self.new.store (V.device vol.new)) }
         ensures over { IsOver V.tells self.new.store (V.device vol.new) }
-        ensures short { (contents_over self.new.store (V.device vol.new)).change_bytes ≤ (contents_over self.old.store (V.device vol.old)).change_bytes + image_entry_size }
+        ensures short { (contents_over self.new.store (V.device vol.new)).change_bytes ≤
+            (contents_over self.old.store (V.device vol.old)).change_bytes + image_entry_size }
         ensures undisturbed { Undisturbed V.tells self.old.store self.new.store (V.device vol.old) (V.device vol.new) }
         ensures others { self.new ≡ record self.old { store = self.new.store } }
     {
@@ -78,9 +83,11 @@ fn put_newest_format_over<V: Volume>(
     requires some { first_element_page + 1 ≤ store.old.pages }
     requires most { store.old.pages ≤ first_element_page + most_element_pages }
     requires all { length store.old.free + used_of space.now ≡ store.old.pages - first_element_page }
-    ensures written { HeaderWritten V.tells newest_format (store.old.pages - first_element_page) result (contents_over store.old (V.device vol.old)) (contents_over store.new (V.device vol.new)) }
+    ensures written { HeaderWritten V.tells newest_format (store.old.pages - first_element_page) result
+        (contents_over store.old (V.device vol.old)) (contents_over store.new (V.device vol.new)) }
     ensures over { IsOver V.tells store.new (V.device vol.new) }
-    ensures short { (contents_over store.new (V.device vol.new)).change_bytes ≤ (contents_over store.old (V.device vol.old)).change_bytes + image_entry_size }
+    ensures short { (contents_over store.new (V.device vol.new)).change_bytes ≤
+        (contents_over store.old (V.device vol.old)).change_bytes + image_entry_size }
     ensures undisturbed { Undisturbed V.tells store.old store.new (V.device vol.old) (V.device vol.new) }
 {
     let mut on = On {

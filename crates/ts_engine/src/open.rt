@@ -17,7 +17,8 @@ use ts_page::{PAGE, Page};
 use ts_recover::{RecoverFault, recover};
 use ts_store::{On, Store};
 
-/// Reads the journal and all pages, and brings the journal's pages to their places. All memory is taken before the first write.
+/// Reads the journal and all pages, and brings the journal's pages to their places. All memory is taken before the
+/// first write.
 pub(crate) fn open<V: Volume>(alloc: Global, vol: &mut V) -> Result<Engine, SurveyFault>
     requires settled { NothingIsPending (V.device vol.old) }
     ensures opened { Opened V.tells result (V.device vol.old) (V.device vol.new) }
@@ -63,7 +64,9 @@ fn survey_over<V: Volume>(
     requires closed { IsClosed store.old }
     ensures idle { OnOk result (IsIdle V.tells store.new (V.device vol.new)) }
     ensures closed { OnOk result (IsClosed store.new) }
-    ensures found { IfOk result (λ s. IsFound V.tells store.new.pages (contents_over store.new (V.device vol.new)) s.defs.definitions s.space s.free.items) }
+    ensures found { IfOk result
+        (λ s. IsFound V.tells store.new.pages
+        (contents_over store.new (V.device vol.new)) s.defs.definitions s.space s.free.items) }
     ensures fault { IfErr result (λ fault. ReadFault V.tells fault (V.device vol.old) (V.device vol.new)) }
     ensures no_fault { OnOk result ((V.device vol.new).faults ≡ (V.device vol.old).faults) }
     ensures others { OnlyReads V.tells (V.device vol.old) (V.device vol.new) }
@@ -83,8 +86,11 @@ fn survey_on<V: Volume>(
 ) -> Result<Surveyed, SurveyFault>
     requires read { IsReadOver V.tells store.old (V.device vol.old) }
     requires count { count ≡ store.old.pages }
-    ensures found { IfOk result (λ s. IsFound V.tells count (contents_over store.old (V.device vol.old)) s.defs.definitions s.space s.free.items) }
-    ensures refused { IfErr result (λ e. IfRefused e (IsTrue V.tells → HoldNoLayout count (read_pages store.old (V.device vol.old).held))) }
+    ensures found { IfOk result
+        (λ s. IsFound V.tells count
+        (contents_over store.old (V.device vol.old)) s.defs.definitions s.space s.free.items) }
+    ensures refused { IfErr result
+        (λ e. IfRefused e (IsTrue V.tells → HoldNoLayout count (read_pages store.old (V.device vol.old).held))) }
     ensures cause { IsErrOf result Failed → Rose (V.device vol.old).faults (V.device vol.new).faults }
     ensures no_fault { ¬ IsErrOf result Failed → (V.device vol.new).faults ≡ (V.device vol.old).faults }
     ensures undisturbed { Undisturbed V.tells store.old store.new (V.device vol.old) (V.device vol.new) }
@@ -107,7 +113,8 @@ fn settle<V: Volume>(
 ) -> Result<Engine, SurveyFault>
     requires idle { IsIdle V.tells store (V.device vol.old) }
     requires closed { IsClosed store }
-    requires found { IsFound V.tells store.pages (contents_over store (V.device vol.old)) surveyed.defs.definitions surveyed.space surveyed.free.items }
+    requires found { IsFound V.tells store.pages
+        (contents_over store (V.device vol.old)) surveyed.defs.definitions surveyed.space surveyed.free.items }
     ensures opened { Opened V.tells result (V.device vol.old) (V.device vol.new) }
 {
     let Surveyed { defs, space, free } = surveyed;

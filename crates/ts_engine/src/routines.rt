@@ -9,7 +9,8 @@ ghost use Rattle.ts_model.specs.declared.kind.Kind.TheVariants.{Pattern as Patte
 ghost use Rattle.ts_model.specs.Definitions.{container_slots};
 ghost use Rattle.ts_layout.specs.Meaning.{sum_of_quotas};
 ghost use Rattle.ts_container.specs.KeptCharges.{AreCharges};
-ghost use Rattle.ts_engine.specs.Work.{Defines, Elements, Readings, Combinations, Aggregates, Memory, work_of, IsGiven, IsDecided};
+ghost use Rattle.ts_engine.specs.Work.{Defines, Elements, Readings, Combinations, Aggregates, Memory, work_of, IsGiven};
+ghost use Rattle.ts_engine.specs.Work.{IsDecided};
 
 use std::alloc::Global;
 use std::thread::Threads;
@@ -52,7 +53,8 @@ pub(crate) fn edit<P: Pages>(
     out: &mut Reply,
 ) -> Option<Result<Effect, Stop>>
     requires given { IsGiven P.tells (view defs.now.definitions space.now (P.contents pages.old)) charges.now out.old }
-    ensures carried { IfSome result (λ came. CarriedOut P.tells command.now came out.new (view defs.now.definitions space.now (P.contents pages.old)) (P.contents pages.new)) }
+    ensures carried { IfSome result (λ came. CarriedOut P.tells command.now came out.new
+        (view defs.now.definitions space.now (P.contents pages.old)) (P.contents pages.new)) }
     ensures none { IsNone result → (work_of command.now ≢ Elements) × (pages.new ≡ pages.old) × (out.new ≡ []) }
     ensures undisturbed { P.undisturbed pages.old pages.new }
 {
@@ -112,7 +114,9 @@ pub(crate) fn read<P: Pages>(
     requires seen { IsSeen P.tells (view defs.now.definitions space.now (P.contents pages.old)) }
     requires form { HasForm command.now }
     requires empty { out.old ≡ [] }
-    ensures read { IfSome result (λ came. ReadOut P.tells command.now came out.new (view defs.now.definitions space.now (P.contents pages.old)) (P.contents pages.new)) }
+    ensures read { IfSome result
+        (λ came. ReadOut P.tells command.now came out.new (view defs.now.definitions space.now (P.contents pages.old))
+        (P.contents pages.new)) }
     ensures none { IsNone result → (work_of command.now ≢ Readings) × (pages.new ≡ pages.old) × (out.new ≡ []) }
     ensures undisturbed { P.undisturbed pages.old pages.new }
 {
@@ -146,7 +150,8 @@ pub(crate) fn read<P: Pages>(
     Some(came)
 }
 
-/// Answers a command that combines the elements of two series, or of one with itself; none for another one. `page` is room to read one.
+/// Answers a command that combines the elements of two series, or of one with itself; none for another one. `page` is
+/// room to read one.
 pub(crate) fn combine<P: Pages>(
     alloc: Global,
     pages: &mut P,
@@ -159,7 +164,9 @@ pub(crate) fn combine<P: Pages>(
     requires seen { IsSeen P.tells (view defs.now.definitions space.now (P.contents pages.old)) }
     requires form { HasForm command.now }
     requires empty { out.old ≡ [] }
-    ensures read { IfSome result (λ came. ReadOut P.tells command.now came out.new (view defs.now.definitions space.now (P.contents pages.old)) (P.contents pages.new)) }
+    ensures read { IfSome result
+        (λ came. ReadOut P.tells command.now came out.new (view defs.now.definitions space.now (P.contents pages.old))
+        (P.contents pages.new)) }
     ensures none { IsNone result → (work_of command.now ≢ Combinations) × (pages.new ≡ pages.old) × (out.new ≡ []) }
     ensures undisturbed { P.undisturbed pages.old pages.new }
 {
@@ -192,8 +199,8 @@ pub(crate) fn combine<P: Pages>(
     Some(came)
 }
 
-/// Answers a command that folds the elements of series by an aggregate list, or makes a row of each; none for another one. `page` is room
-/// to read one.
+/// Answers a command that folds the elements of series by an aggregate list, or makes a row of each; none for another
+/// one. `page` is room to read one.
 pub(crate) fn aggregate<P: Pages>(
     rt: &(impl Threads + Sync),
     alloc: Global,
@@ -299,8 +306,8 @@ pub(crate) fn tell(
     Some(came)
 }
 
-/// Decides on a command that makes or drops a definition, where there are so many element pages: its kind, and a slot of this
-/// and what goes there, or a refusal.
+/// Decides on a command that makes or drops a definition, where there are so many element pages: its kind, and a slot
+/// of this and what goes there, or a refusal.
 pub(crate) fn decide(
     alloc: Global,
     defs: &Defs,
@@ -367,7 +374,8 @@ fn decide_pattern(
     command: &Command,
 ) -> Option<Result<(u16, Option<Def>), Trouble>>
     requires form { HasForm command.now }
-    ensures decided { IfSome result (λ decided. (pages : ℕ) → IsDecided Patterns command.now decided defs.now.definitions pages) }
+    ensures decided { IfSome result (λ decided. (pages : ℕ)
+        → IsDecided Patterns command.now decided defs.now.definitions pages) }
     ensures none { IsNone result → work_of command.now ≢ Defines Patterns }
 {
     let decided = match command {
@@ -396,7 +404,8 @@ fn decide_calendar(
     command: &Command,
 ) -> Option<Result<(u16, Option<Def>), Trouble>>
     requires form { HasForm command.now }
-    ensures decided { IfSome result (λ decided. (pages : ℕ) → IsDecided Calendars command.now decided defs.now.definitions pages) }
+    ensures decided { IfSome result (λ decided. (pages : ℕ)
+        → IsDecided Calendars command.now decided defs.now.definitions pages) }
     ensures none { IsNone result → work_of command.now ≢ Defines Calendars }
 {
     let decided = match command {

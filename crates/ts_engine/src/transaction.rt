@@ -38,7 +38,8 @@ pub(crate) struct Saved {
 impl Engine {
     /// Why a command is refused before all else, by whether a transaction is open.
     pub(crate) fn misplaced(&self, command: &Command) -> Option<Refusal>
-        ensures { result ≡ misplaced_in (boundary_of command.now) (is_writing command.now) (option_map (λ saved. saved.accepted) self.now.saved) }
+        ensures { result ≡ misplaced_in (boundary_of command.now) (is_writing command.now)
+            (option_map (λ saved. saved.accepted) self.now.saved) }
     {
         let boundary = command.boundary();
         match &self.saved {
@@ -61,7 +62,8 @@ impl Engine {
 
     // The copies.
     fn copy(&self) -> Result<Saved, AllocError>
-        ensures { IfOk result (λ saved. (saved.defs.definitions ≡ self.now.tables.definitions) × (saved.space.lists ≡ self.now.space.lists) × (saved.accepted ≡ 0)) }
+        ensures { IfOk result (λ saved. (saved.defs.definitions ≡ self.now.tables.definitions)
+            × (saved.space.lists ≡ self.now.space.lists) × (saved.accepted ≡ 0)) }
     {
         let defs = self.defs.copy()?;
         let space = self.space.copy()?;

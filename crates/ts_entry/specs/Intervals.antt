@@ -19,10 +19,12 @@ held_from calendar es start = filter (λ e. is_start start (held_start calendar 
 abbrev pub Group : Type 0
 Group = ℤ × List Element
 
--- the on starts from one stamp to another, both included, each with the elements that its interval holds, where it holds some
+-- the on starts from one stamp to another, both included, each with the elements that its interval holds, where it
+-- holds some
 abbrev pub grouped : CalendarPlan → ℤ → ℤ → List Element → List Group
 grouped calendar from to es =
-    filter (λ g. nat_lt 0 (length g.1)) (map (λ start. (start, held_from calendar es start)) (starts_between calendar from to))
+    filter (λ g. nat_lt 0 (length g.1)) (map (λ start. (start, held_from calendar es start))
+    (starts_between calendar from to))
 
 -- what a function makes of the rows of each of these groups, as an element at its start
 abbrev pub by_interval : (List Row → Row) → CalendarPlan → ℤ → ℤ → List Element → List Element

@@ -1,6 +1,8 @@
--- What is read of a series: its elements that aren't hidden, and on a grid an entry without an element at each on start between them and
--- the origin.
-use Rattle.std.specs.Prelude.{ℕ, ◌-◌, nat_lt, ℤ, pos, int_lt, unsigned_abs, Bool, false, not, ◌&&◌, if◌then◌else◌, Option, Some, None, option_to_list, Result, Ok, Err, List, map, filter, take, drop, length, slice_get}
+-- What is read of a series: its elements that aren't hidden, and on a grid an entry without an element at each on start
+-- between them and the origin.
+use Rattle.std.specs.Prelude.{ℕ, ◌-◌, nat_lt, ℤ, pos, int_lt, unsigned_abs, Bool, false, not, ◌&&◌, if◌then◌else◌}
+use Rattle.std.specs.Prelude.{Option, Some, None, option_to_list, Result, Ok, Err, List, map, filter, take, drop}
+use Rattle.std.specs.Prelude.{length, slice_get}
 use Rattle.ts_base.specs.declared.refusal.Refusal.{Refusal}
 use Rattle.ts_base.specs.declared.refusal.Refusal.TheVariants.{TooLarge}
 use Rattle.ts_row.specs.Element.{Element, seen}

@@ -1,4 +1,5 @@
--- Rows in the bytes of cells: a cell has a byte that tells whether an element stands there, on some pages its stamp, and its row.
+-- Rows in the bytes of cells: a cell has a byte that tells whether an element stands there, on some pages its stamp,
+-- and its row.
 use Rattle.std.specs.Prelude.{◌≡◌, ℕ, ◌+◌, IsTrue, Option, Some, None, List, [], ◌∷◌, filter_map, slice_get, take, drop}
 use Rattle.ts_row.specs.declared.kind.Column.{Column}
 use Rattle.ts_row.specs.RowType.{width_of}
@@ -15,7 +16,8 @@ IsCellWith columns front cell (Some row) =
 abbrev pub AreCellsWith : List Column → ℕ → List ℕ → List (Option Row) → Type 0
 AreCellsWith columns front cells [] = cells ≡ []
 AreCellsWith columns front cells (found ∷ others) =
-    IsCellWith columns front (take (front + width_of columns) cells) found × AreCellsWith columns front (drop (front + width_of columns) cells) others
+    IsCellWith columns front (take (front + width_of columns) cells) found
+    × AreCellsWith columns front (drop (front + width_of columns) cells) others
 
 -- the rows in some cells, in order
 abbrev pub rows_in : List (Option Row) → List Row

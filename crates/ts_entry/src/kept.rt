@@ -9,8 +9,8 @@ use std::marker::Model;
 use ts_base::Stamp;
 use ts_row::{Elem, RowType};
 
-/// Keeps the elements that it is handed, each as a row, in the order in which they come. Stamps without an element are passed over, and so
-/// are bytes that are no row's.
+/// Keeps the elements that it is handed, each as a row, in the order in which they come. Stamps without an element are
+/// passed over, and so are bytes that are no row's.
 #[derive(Debug, Drop)]
 pub struct KeptElements {
     items: Vec<Elem>,

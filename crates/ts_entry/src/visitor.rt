@@ -9,8 +9,8 @@ use std::alloc::AllocError;
 use ts_base::Stamp;
 use ts_row::RowType;
 
-/// Takes entries of a series one after the other, each element with its row in its bytes, so that no row is made of which nothing is kept.
-/// After an error it may have taken the entry in part.
+/// Takes entries of a series one after the other, each element with its row in its bytes, so that no row is made of
+/// which nothing is kept. After an error it may have taken the entry in part.
 pub trait EntryVisitor {
     /// From one state to another, by taking these entries, whose rows have such columns.
     ghost took: { List Column → Self → List Entry → Self → Type 0 };
@@ -27,6 +27,7 @@ pub trait EntryVisitor {
 
     ghost none: { (columns : List Column) (v : Self) → took columns v [] v };
 
-    ghost then: { (columns : List Column) (a b c : Self) (es fs : List Entry) → took columns a es b → took columns b fs c
+    ghost then: { (columns : List Column) (a b c : Self) (es fs : List Entry) → took columns a es b
+        → took columns b fs c
         → took columns a (es ++ fs) c };
 }

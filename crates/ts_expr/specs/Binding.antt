@@ -1,5 +1,6 @@
 -- An aggregate list with the columns that it takes its values from.
-use Rattle.std.specs.Prelude.{ℕ, ◌+◌, ◌<◌, ◌≤◌, Bool, true, false, if◌then◌else◌, List, [], ◌∷◌, length, Option, Some, None, Result, Ok, Err, IsTrue, All}
+use Rattle.std.specs.Prelude.{ℕ, ◌+◌, ◌<◌, ◌≤◌, Bool, true, false, if◌then◌else◌, List, [], ◌∷◌, length, Option, Some}
+use Rattle.std.specs.Prelude.{None, Result, Ok, Err, IsTrue, All}
 use Rattle.std.specs.List.{list_all}
 use Rattle.std.specs.Str.{bytes_eq}
 use Rattle.ts_base.specs.declared.refusal.Refusal.{Refusal}
@@ -25,7 +26,8 @@ pub record Binding : Type 0 where
 -- the number, counted from `first`, and the type of the column that has this name
 abbrev pub column_from : ℕ → List ℕ → List Column → Option (ℕ × ColumnKind)
 column_from first name [] = None
-column_from first name (c ∷ columns) = if bytes_eq c.name name then Some (first, c.kind) else column_from (first + 1) name columns
+column_from first name (c ∷ columns) = if bytes_eq c.name name then Some (first, c.kind)
+    else column_from (first + 1) name columns
 
 -- a column of texts
 abbrev pub is_text_kind : ColumnKind → Bool

@@ -1,5 +1,6 @@
 -- The values of a column over rows, and what each function makes of them.
-use Rattle.std.specs.Prelude.{ℕ, ◌+◌, ◌*◌, ◌/◌, Bool, true, false, not, if◌then◌else◌, ℤ, pos, ◌+ℤ◌, ◌*ℤ◌, unsigned_abs, List, [], ◌∷◌, length, map, filter, fold, slice_index_or}
+use Rattle.std.specs.Prelude.{ℕ, ◌+◌, ◌*◌, ◌/◌, Bool, true, false, not, if◌then◌else◌, ℤ, pos, ◌+ℤ◌, ◌*ℤ◌, unsigned_abs}
+use Rattle.std.specs.Prelude.{List, [], ◌∷◌, length, map, filter, fold, slice_index_or}
 use Rattle.std.specs.Ordering.{is_lt, is_gt, nat_cmp, int_cmp}
 use Rattle.std.specs.declared.cmp.Ordering.{Ordering}
 use Rattle.std.specs.declared.cmp.Ordering.TheVariants.{Equal}
@@ -24,7 +25,8 @@ value_at column values = slice_index_or values column Null
 
 -- the values of a column over rows in order of stamps: no NULL, and none of a hidden row
 abbrev pub values_of : ℕ → List Row → List Value
-values_of column rows = filter (λ v. not (is_null v)) (map (λ r. value_at column r.values) (filter (λ r. not r.hidden) rows))
+values_of column rows =
+    filter (λ v. not (is_null v)) (map (λ r. value_at column r.values) (filter (λ r. not r.hidden) rows))
 
 -- the number of a value
 abbrev pub number_of : Value → ℤ

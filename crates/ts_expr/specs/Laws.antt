@@ -1,5 +1,6 @@
 -- What the laws of aggregate lists say.
-use Rattle.std.specs.Prelude.{◌≡◌, ◌⊎◌, ℕ, ◌*◌, ◌≤◌, Bool, true, false, ℤ, pos, ◌-ℤ◌, ◌*ℤ◌, ◌≤ℤ◌, unsigned_abs, Ok, List, map, All, Contains}
+use Rattle.std.specs.Prelude.{◌≡◌, ◌⊎◌, ℕ, ◌*◌, ◌≤◌, Bool, true, false, ℤ, pos, ◌-ℤ◌, ◌*ℤ◌, ◌≤ℤ◌, unsigned_abs, Ok}
+use Rattle.std.specs.Prelude.{List, map, All, Contains}
 use Rattle.std.specs.Ordering.{is_lt, is_gt}
 use Rattle.ts_row.specs.declared.kind.Column.{Column}
 use Rattle.ts_row.specs.declared.value.Value.{Value}
@@ -13,8 +14,8 @@ use Rattle.ts_expr.specs.Binding.{bound}
 abbrev pub distance : ℤ → ℕ → ℤ → ℕ
 distance sum count mean = unsigned_abs (mean *ℤ pos count -ℤ sum *ℤ pos 1_000_000)
 
--- a whole number at most half a unit from a million times the sum divided by the count, and on its side of zero; of two that
--- are exactly half a unit from it, the one farther from zero
+-- a whole number at most half a unit from a million times the sum divided by the count, and on its side of zero; of two
+-- that are exactly half a unit from it, the one farther from zero
 pub record IsNearestMean (sum : ℤ) (count : ℕ) (mean : ℤ) : Type 0 where
   pub near : 2 * distance sum count mean ≤ count
   pub half : 2 * distance sum count mean ≡ count → unsigned_abs sum * 1_000_000 ≤ unsigned_abs mean * count

@@ -33,8 +33,8 @@ impl Model for Bound {
 }
 
 impl AggList {
-    /// The list bound to the columns of a row type; else why the first item that can't be isn't: no value column has the
-    /// name, or it is the sum or the mean of texts.
+    /// The list bound to the columns of a row type; else why the first item that can't be isn't: no value column has
+    /// the name, or it is the sum or the mean of texts.
     pub fn bind(&self, kind: &RowType) -> Result<Bound, Trouble>
         ensures value { Answers (binding kind.now.columns self.now) result }
         ensures columns { IfOk result (λ bound. bound.columns ≡ kind.now.columns) }
@@ -52,7 +52,8 @@ impl AggList {
 }
 
 impl Bound {
-    /// The digits after the point of what each item makes: none for a count or a text, those of the column, or six more.
+    /// The digits after the point of what each item makes: none for a count or a text, those of the column, or six
+    /// more.
     pub fn scales(&self) -> &[u8]
         ensures value { result.now ≡ map (λ i. i.scale) self.now.items }
         ensures most { All (λ s. s ≤ most_scale) result.now }

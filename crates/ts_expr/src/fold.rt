@@ -29,8 +29,8 @@ impl Model for Running {
 }
 
 impl Bound {
-    /// What the items make of elements in order of stamps, hidden ones and NULLs left out: one value for each item, a count
-    /// of 0 or NULL where there are no values. The sum of so many numbers of at most 28 digits fits.
+    /// What the items make of elements in order of stamps, hidden ones and NULLs left out: one value for each item, a
+    /// count of 0 or NULL where there are no values. The sum of so many numbers of at most 28 digits fits.
     pub fn fold(&self, elems: &[Elem]) -> Result<Row, AllocError>
         requires fits { All (λ e. IsTrue (fits self.now.columns e.row)) elems.now }
         requires few { length elems.now ≤ 2 ^ 32 }
@@ -64,7 +64,8 @@ impl Running {
     pub fn take(&mut self, bound: &Bound, row: &Row) -> Result<(), AllocError>
         requires so_far { IsAfter bound.now.items self.old (2 ^ 32 - 1) }
         requires fits { IsTrue (fits bound.now.columns row.now) }
-        ensures { OnOk result ((rows : List Row) → self.old ≡ after bound.now.items rows → self.new ≡ after bound.now.items (rows ++ row.now ∷ [])) }
+        ensures { OnOk result ((rows : List Row) → self.old ≡ after bound.now.items rows
+            → self.new ≡ after bound.now.items (rows ++ row.now ∷ [])) }
     {
         if row.hidden() {
             return Ok(());
@@ -76,7 +77,8 @@ impl Running {
     /// What the items make of the rows.
     pub fn finish(self) -> Result<Row, AllocError>
         requires { (items : List BoundItem) × IsAfter items self (2 ^ 32) }
-        ensures { IfOk result (λ row. (items : List BoundItem) (rows : List Row) → self ≡ after items rows → row ≡ visible (folded items rows)) }
+        ensures { IfOk result (λ row. (items : List BoundItem) (rows : List Row) → self ≡ after items rows
+            → row ≡ visible (folded items rows)) }
     {
         Ok(Row::of(values_of(self.tallies)?))
     }

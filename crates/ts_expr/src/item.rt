@@ -8,8 +8,8 @@ pub struct Item {
     pub column: Name,
 }
 
-/// A function, the number of the column whose values it takes, counted from 0, and the digits after the point of what it
-/// makes of them.
+/// A function, the number of the column whose values it takes, counted from 0, and the digits after the point of what
+/// it makes of them.
 #[derive(Clone, Copy, Debug, PartialEq, Eq)]
 pub struct BoundItem {
     pub function: Function,

@@ -13,20 +13,23 @@ ghost use Rattle.ts_expr.specs.Fold.{is_null, values_of, total, mean, made};
 ghost use Rattle.ts_expr.specs.Binding.{Binding, bound, binding};
 ghost use Rattle.ts_expr.specs.Laws.{IsNearestMean, AreAlike, IsLeast, IsGreatest, AreBoundAs};
 
-/// The mean of values is the whole number nearest to a million times their sum divided by their number, a half rounded away
-/// from zero, and no other number is.
+/// The mean of values is the whole number nearest to a million times their sum divided by their number, a half rounded
+/// away from zero, and no other number is.
 pub fn a_mean_is_the_nearest()
-    ensures nearest { (values : List TheValue) → 0 < length values → IsNearestMean (total values) (length values) (mean values) }
-    ensures only { (values : List TheValue) (z : ℤ) → 0 < length values → IsNearestMean (total values) (length values) z →
+    ensures nearest { (values : List TheValue) → 0 < length values
+        → IsNearestMean (total values) (length values) (mean values) }
+    ensures only { (values : List TheValue) (z : ℤ) → 0 < length values
+        → IsNearestMean (total values) (length values) z →
         z ≡ mean values }
     ensures made { (values : List TheValue) → 0 < length values → made Avg values ≡ Number (mean values) }
 {}
 
-/// Of values that are all numbers or all texts, the least is one of them and none is less, and the greatest is one of them and
-/// none is greater.
+/// Of values that are all numbers or all texts, the least is one of them and none is less, and the greatest is one of
+/// them and none is greater.
 pub fn the_least_is_one_of_the_values()
     ensures least { (values : List TheValue) → 0 < length values → AreAlike values → IsLeast values (made Min values) }
-    ensures greatest { (values : List TheValue) → 0 < length values → AreAlike values → IsGreatest values (made Max values) }
+    ensures greatest { (values : List TheValue) → 0 < length values → AreAlike values
+        → IsGreatest values (made Max values) }
 {}
 
 /// The values of a column over rows of one row type, NULLs and hidden rows left out, are all numbers or all texts.
@@ -35,8 +38,8 @@ pub fn the_values_of_a_column_are_alike()
         AreAlike (values_of column rows) }
 {}
 
-/// The first value is the one at the front, the last the one at the back; a count is the number of the values, and without
-/// values everything else is NULL.
+/// The first value is the one at the front, the last the one at the back; a count is the number of the values, and
+/// without values everything else is NULL.
 pub fn the_first_value_is_at_the_front()
     ensures first { (v : TheValue) (values : List TheValue) → is_null v ≡ false → made First (v ∷ values) ≡ v }
     ensures last { (values : List TheValue) (v : TheValue) → made Last (values ++ v ∷ []) ≡ v }
@@ -44,12 +47,15 @@ pub fn the_first_value_is_at_the_front()
     ensures none { (function : TheFunction) → (made function [] ≡ Null) ⊎ (function ≡ Count) }
 {}
 
-/// A list is refused as the first item of it that can't be bound, whatever stands behind; where each item can be, each is, in their order.
+/// A list is refused as the first item of it that can't be bound, whatever stands behind; where each item can be, each
+/// is, in their order.
 pub fn the_first_item_that_cannot_be_bound_is_refused()
-    ensures refused { (columns : List TheColumn) (front back : List TheItem) (ones : List TheBoundItem) (i : TheItem) (why : TheRefusal) →
+    ensures refused { (columns : List TheColumn) (front back : List TheItem) (ones : List TheBoundItem) (i : TheItem)
+        (why : TheRefusal) →
         AreBoundAs columns front ones → bound columns i ≡ Err why → binding columns (front ++ i ∷ back) ≡ Err why }
     ensures bound { (columns : List TheColumn) (items : List TheItem) (ones : List TheBoundItem) →
         AreBoundAs columns items ones → binding columns items ≡ Ok (record { columns = columns; items = ones }) }
-    ensures each { (columns : List TheColumn) (items : List TheItem) (list : Binding) → binding columns items ≡ Ok list →
+    ensures each { (columns : List TheColumn) (items : List TheItem) (list : Binding) → binding columns items
+        ≡ Ok list →
         AreBoundAs columns items list.items × (list.columns ≡ columns) }
 {}

@@ -70,9 +70,9 @@ pub fn aggregate_texts_are_tokens()
     ensures { (text : List ℕ) → (items : List Item) → written_list text ≡ Ok items ↔ IsListText items text }
 {}
 
-/// Where a text is refused as an aggregate list, what stands before the place goes on to a list's text; with the token that
-/// stands at the place none does: whatever comes behind it that leaves it this token, the text is refused at this place.
-/// Nothing is said of bytes that begin no token.
+/// Where a text is refused as an aggregate list, what stands before the place goes on to a list's text; with the token
+/// that stands at the place none does: whatever comes behind it that leaves it this token, the text is refused at this
+/// place. Nothing is said of bytes that begin no token.
 pub fn aggregates_are_refused_in_place()
     ensures { RefusesInPlace (everywhere plain_front) written_list }
 {}

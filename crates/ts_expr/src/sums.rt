@@ -67,8 +67,8 @@ impl Sums {
         self.sum += sum;
     }
 
-    /// The mean with six more digits after the point, a half rounded away from zero: by quotient and remainder, since the
-    /// sum times a million need not fit.
+    /// The mean with six more digits after the point, a half rounded away from zero: by quotient and remainder, since
+    /// the sum times a million need not fit.
     pub fn mean(&self) -> i128
         requires few { self.now.count ≤ 2 ^ 32 }
         requires some { 0 < self.now.count }

@@ -4,7 +4,8 @@ ghost use Rattle.ts_row.specs.declared.value.Value.{Value};
 ghost use Rattle.ts_expr.specs.declared.function.Function.{Function};
 ghost use Rattle.ts_expr.specs.Fold.{is_null, number_of, total, value_cmp, lesser, greater, earlier};
 ghost use Rattle.ts_expr.specs.Sums.{most_values};
-ghost use Rattle.ts_expr.specs.Running.{tally_of, count_of, taken_into, with_value, is_summed, with_sums, IsSmall, value_of, sum_if_any};
+ghost use Rattle.ts_expr.specs.Running.{tally_of, count_of, taken_into, with_value, is_summed, with_sums, IsSmall};
+ghost use Rattle.ts_expr.specs.Running.{value_of, sum_if_any};
 
 use crate::Function;
 use crate::sums::Sums;
@@ -90,13 +91,14 @@ impl Tally {
         Ok(())
     }
 
-    /// So many more values, none of them NULL, with this sum; they change a count, a sum or a mean alone. It is as if they had been taken
-    /// one after the other.
+    /// So many more values, none of them NULL, with this sum; they change a count, a sum or a mean alone. It is as if
+    /// they had been taken one after the other.
     pub fn add(&mut self, count: u64, sum: i128)
         requires few { count_of self.old + count ≤ 2 ^ 32 }
         requires small { unsigned_abs sum ≤ count * 10 ^ 28 }
         ensures value { self.new ≡ with_sums self.old count sum }
-        ensures at_once { (function : Function) (values more : List Value) → IsTrue (is_summed function) → self.old ≡ tally_of function values
+        ensures at_once { (function : Function) (values more : List Value) → IsTrue (is_summed function)
+            → self.old ≡ tally_of function values
             → length more ≡ count → total more ≡ sum → self.new ≡ tally_of function (values ++ more) }
     {
         match self {

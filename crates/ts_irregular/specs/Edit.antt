@@ -1,5 +1,6 @@
 -- The elements of a series in the order of their stamps, and what an edit at one stamp makes of them.
-use Rattle.std.specs.Prelude.{ℕ, suc, ◌-◌, slice_get, ℤ, int_lt, not, if◌then◌else◌, Option, Some, None, is_some, Result, Ok, Err, List, [], ◌∷◌, filter, length}
+use Rattle.std.specs.Prelude.{ℕ, suc, ◌-◌, slice_get, ℤ, int_lt, not, if◌then◌else◌, Option, Some, None, is_some}
+use Rattle.std.specs.Prelude.{Result, Ok, Err, List, [], ◌∷◌, filter, length}
 use Rattle.std.specs.Ordering.{int_cmp, int_eq}
 use Rattle.std.specs.FinMap.{find, put}
 use Rattle.ts_row.specs.Row.{Row}

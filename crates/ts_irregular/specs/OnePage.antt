@@ -10,7 +10,8 @@ use Rattle.ts_row.specs.Element.{Element}
 use Rattle.ts_cells.specs.Cell.{page_room}
 use Rattle.ts_cells.specs.IrregularPage.{IsIrregularPage, first_stamp}
 
--- a place is that of an element page which `take` can't give, with one element at least, and no more than there is room for
+-- a place is that of an element page which `take` can't give, with one element at least, and no more than there is room
+-- for
 pub record IsPlace (columns : List Column) (c : Contents) (place : Place) : Type 0 where
   pub element : IsElementPage place.page
   pub below : place.page < c.count

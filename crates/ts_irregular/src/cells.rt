@@ -15,9 +15,11 @@ use ts_row::{Row, RowType};
 pub(crate) fn take_row(kind: &RowType, behind: &mut [u8], count: usize, stamp: Stamp) -> usize
     requires size { length behind.old ≡ 4064 }
     requires room { count ≤ page_room kind.now.columns }
-    ensures count { (es : List Element) → AreInOrder kind.now.columns es → length es ≡ count → behind.old ≡ behind_head kind.now.columns es
+    ensures count { (es : List Element) → AreInOrder kind.now.columns es → length es ≡ count
+        → behind.old ≡ behind_head kind.now.columns es
         → length (without_element stamp es) ≡ result }
-    ensures bytes { (es : List Element) → AreInOrder kind.now.columns es → length es ≡ count → behind.old ≡ behind_head kind.now.columns es
+    ensures bytes { (es : List Element) → AreInOrder kind.now.columns es → length es ≡ count
+        → behind.old ≡ behind_head kind.now.columns es
         → behind.new ≡ behind_head kind.now.columns (without_element stamp es) }
     ensures most { result ≤ count }
 {
@@ -43,7 +45,8 @@ pub(crate) fn insert_cell(
     requires room { count < page_room kind.now.columns }
     requires index { index ≤ count }
     requires fits { IsTrue (fits kind.now.columns row.now) }
-    ensures { (es : List Element) → AreElements kind.now.columns es → length es ≡ count → behind.old ≡ behind_head kind.now.columns es
+    ensures { (es : List Element) → AreElements kind.now.columns es → length es ≡ count
+        → behind.old ≡ behind_head kind.now.columns es
         → behind.new ≡ behind_head kind.now.columns (take index es ++ (stamp, row.now) ∷ drop index es) }
 {
     let size = cell_size(kind);
@@ -57,7 +60,8 @@ pub(crate) fn replace_cell(kind: &RowType, behind: &mut [u8], index: usize, stam
     requires size { length behind.old ≡ 4064 }
     requires index { index < page_room kind.now.columns }
     requires fits { IsTrue (fits kind.now.columns row.now) }
-    ensures { (es : List Element) → AreElements kind.now.columns es → index < length es → behind.old ≡ behind_head kind.now.columns es
+    ensures { (es : List Element) → AreElements kind.now.columns es → index < length es
+        → behind.old ≡ behind_head kind.now.columns es
         → behind.new ≡ behind_head kind.now.columns (take index es ++ (stamp, row.now) ∷ drop (index + 1) es) }
 {
     let size = cell_size(kind);
@@ -70,7 +74,8 @@ fn remove_cell(kind: &RowType, behind: &mut [u8], count: usize, index: usize)
     requires size { length behind.old ≡ 4064 }
     requires room { count ≤ page_room kind.now.columns }
     requires index { index < count }
-    ensures { (es : List Element) → AreElements kind.now.columns es → length es ≡ count → behind.old ≡ behind_head kind.now.columns es
+    ensures { (es : List Element) → AreElements kind.now.columns es → length es ≡ count
+        → behind.old ≡ behind_head kind.now.columns es
         → behind.new ≡ behind_head kind.now.columns (take index es ++ drop (index + 1) es) }
 {
     let size = cell_size(kind);

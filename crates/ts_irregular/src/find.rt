@@ -12,7 +12,8 @@ use ts_space::Place;
 
 /// How many elements of the series a page has by its head; none where that disagrees with its place.
 pub fn count_told(shelf: &Shelf, place: &Place, page: &Page) -> usize
-    ensures told { (es : List Element) → IsOn shelf.now.series shelf.now.kind.now.columns page.now.bytes place.now es → length es ≡ result }
+    ensures told { (es : List Element) → IsOn shelf.now.series shelf.now.kind.now.columns page.now.bytes place.now es
+        → length es ≡ result }
     ensures room { result ≤ page_room shelf.now.kind.now.columns }
     ensures few { result ≤ place.now.count }
 {

@@ -22,7 +22,8 @@ pub fn put_alone<P: Pages>(
     requires fits { IsTrue (fits shelf.now.kind.now.columns row.now) }
     requires spare { 0 < length (P.contents pages.old).free }
     ensures more { IfOk result (λ place. IsOneMore [] place (P.contents pages.old) (P.contents pages.new)) }
-    ensures put { IfOk result (λ place. ArePut P.tells shelf.now.series shelf.now.kind.now.columns [] (with_element stamp row.now [])
+    ensures put { IfOk result (λ place. ArePut P.tells shelf.now.series shelf.now.kind.now.columns []
+        (with_element stamp row.now [])
         (place ∷ []) (P.contents pages.old) (P.contents pages.new)) }
     ensures err { OnErr result (AreLeft P.tells (P.contents pages.old) (P.contents pages.new)) }
     ensures call { Answered result (P.contents pages.old) (P.contents pages.new) }

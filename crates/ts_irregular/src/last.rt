@@ -35,7 +35,8 @@ pub fn last_among(
 fn index_of_last(kind: &RowType, behind: &[u8], count: usize) -> Option<usize>
     requires size { length behind.now ≡ 4064 }
     requires room { count ≤ page_room kind.now.columns }
-    ensures last { (es : List Element) → AreInOrder kind.now.columns es → length es ≡ count → behind.now ≡ behind_head kind.now.columns es
+    ensures last { (es : List Element) → AreInOrder kind.now.columns es → length es ≡ count
+        → behind.now ≡ behind_head kind.now.columns es
         → last_seen es ≡ option_and_then (slice_get es) result }
     ensures within { IfSome result (λ index. index < count) }
 {

@@ -30,14 +30,15 @@ pub fn edits_keep_the_order()
 
 /// A mark that is set keeps the order; any change of a row that is there keeps the number of elements.
 pub fn a_mark_keeps_the_rest()
-    ensures order { (columns : List TheColumn) (stamp : ℤ) (hidden : Bool) (row : Row) (es : List Element) → AreInOrder columns es →
+    ensures order { (columns : List TheColumn) (stamp : ℤ) (hidden : Bool) (row : Row) (es : List Element)
+        → AreInOrder columns es →
         element_at stamp es ≡ Some row → AreInOrder columns (with_element stamp (marked hidden row) es) }
     ensures count { (stamp : ℤ) (row : Row) (es : List Element) → AreRising es → IsSome (element_at stamp es) →
         length (with_element stamp row es) ≡ length es }
 {}
 
-/// The entries of the map of elements are these, in their order; and of those that aren't hidden one is at a stamp where one is there that
-/// isn't hidden.
+/// The entries of the map of elements are these, in their order; and of those that aren't hidden one is at a stamp
+/// where one is there that isn't hidden.
 pub fn the_map_has_the_elements()
     ensures entries { (es : List Element) → AreRising es → entries (from_entries {R = int_cmp} es) ≡ es }
     ensures seen { (stamp : ℤ) (es : List Element) → AreRising es →

@@ -1,10 +1,11 @@
-//! The elements of one page of an irregular series: the row at a stamp is read, put, marked or taken away, and the last element that isn't
-//! hidden is told. A page is taken as the one that was judged when the volume was opened: its head is compared with its place, and its stamps
-//! are searched once. A page that disagrees with its place is taken as one without elements. `replace_on`, `mark_on` and `put_alone` say what
-//! they leave on the pages; the others read or change the bytes of a page that the caller has read (`specs/Edit`, `specs/OnePage`,
-//! `specs/Call`). A `let _width = ..;` that nothing uses brings in what the word above it names, for the proof alone. Stands on ts_cells,
-//! ts_space and ts_page; knows nothing of the other pages of a series, nor of definitions, quotas or journals. Read `specs/Edit.antt`,
-//! `specs/Call.antt`, then `find.rt`, `page.rt`, `insert.rt`, `replace.rt`, `mark.rt`, `last.rt`.
+//! The elements of one page of an irregular series: the row at a stamp is read, put, marked or taken away, and the last
+//! element that isn't hidden is told. A page is taken as the one that was judged when the volume was opened: its head
+//! is compared with its place, and its stamps are searched once. A page that disagrees with its place is taken as one
+//! without elements. `replace_on`, `mark_on` and `put_alone` say what they leave on the pages; the others read or
+//! change the bytes of a page that the caller has read (`specs/Edit`, `specs/OnePage`, `specs/Call`). A `let _width =
+//! ..;` that nothing uses brings in what the word above it names, for the proof alone. Stands on ts_cells, ts_space and
+//! ts_page; knows nothing of the other pages of a series, nor of definitions, quotas or journals. Read
+//! `specs/Edit.antt`, `specs/Call.antt`, then `find.rt`, `page.rt`, `insert.rt`, `replace.rt`, `mark.rt`, `last.rt`.
 #![tactic(auto)]
 
 mod cell;

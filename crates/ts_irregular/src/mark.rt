@@ -11,10 +11,10 @@ use ts_page::{HEAD, Page, Pages};
 use ts_row::Shelf;
 use ts_space::Place;
 
-/// Hides the element at a stamp, or reveals it, and tells whether one is there; where none stands there all pages are as before. Its values
-/// and all places stay; setting a mark twice is no error. The page isn't judged again: its head is compared with its place, and the stamp is
-/// searched once; one that disagrees is taken as a page without elements. After an error all pages are as before too. `page` is room to read
-/// one.
+/// Hides the element at a stamp, or reveals it, and tells whether one is there; where none stands there all pages are
+/// as before. Its values and all places stay; setting a mark twice is no error. The page isn't judged again: its head
+/// is compared with its place, and the stamp is searched once; one that disagrees is taken as a page without elements.
+/// After an error all pages are as before too. `page` is room to read one.
 pub fn mark_on<P: Pages>(
     pages: &mut P,
     page: &mut Page,

@@ -42,7 +42,8 @@ pub fn insert_into(
     requires room { count < page_room shelf.now.kind.now.columns }
     requires index { index ≤ count }
     requires fits { IsTrue (fits shelf.now.kind.now.columns row.now) }
-    ensures { (es : List Element) → AreInOrder shelf.now.kind.now.columns es → length es ≡ count → search_of stamp es ≡ Err index
+    ensures { (es : List Element) → AreInOrder shelf.now.kind.now.columns es → length es ≡ count → search_of stamp es
+        ≡ Err index
         → drop 32 page.old.bytes ≡ behind_head shelf.now.kind.now.columns es
         → page.new.bytes ≡ irregular_page shelf.now.series shelf.now.kind.now.columns (with_element stamp row.now es) }
 {
@@ -60,7 +61,8 @@ pub fn insert_into(
 // Writes the head of a page with so many elements.
 fn set_count(shelf: &Shelf, page: &mut Page, count: usize)
     requires { count ≤ page_room shelf.now.kind.now.columns }
-    ensures { (es : List Element) → length es ≡ count → drop 32 page.old.bytes ≡ behind_head shelf.now.kind.now.columns es
+    ensures { (es : List Element) → length es ≡ count → drop 32 page.old.bytes
+        ≡ behind_head shelf.now.kind.now.columns es
         → page.new.bytes ≡ irregular_page shelf.now.series shelf.now.kind.now.columns es }
 {
     page.set_head(&Head::Irregular {
@@ -76,7 +78,8 @@ pub fn place_in(shelf: &Shelf, number: u32, count: usize, page: &Page) -> Place
     ensures number { result.page ≡ number }
     ensures count { result.count ≡ count }
     ensures listed { (es : List Element) → AreElements shelf.now.kind.now.columns es → length es ≡ count
-        → page.now.bytes ≡ irregular_page shelf.now.series shelf.now.kind.now.columns es → place_of number es ≡ result ∷ [] }
+        → page.now.bytes ≡ irregular_page shelf.now.series shelf.now.kind.now.columns es → place_of number es ≡ result
+        ∷ [] }
 {
     Place {
         at: units_in(&page.bytes[HEAD + 1..HEAD + 9]),

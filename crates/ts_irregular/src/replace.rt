@@ -12,9 +12,10 @@ use ts_page::{HEAD, Page, Pages};
 use ts_row::{Row, Shelf};
 use ts_space::Place;
 
-/// Puts a row, with its own mark, in place of that of the element at a stamp, and tells whether it did; where none stands there all pages are as before. All
-/// places stay. The page isn't judged again: its head is compared with its place, and the stamp is searched once; one that disagrees is
-/// taken as a page without elements. After an error all pages are as before too. `page` is room to read one.
+/// Puts a row, with its own mark, in place of that of the element at a stamp, and tells whether it did; where none
+/// stands there all pages are as before. All places stay. The page isn't judged again: its head is compared with its
+/// place, and the stamp is searched once; one that disagrees is taken as a page without elements. After an error all
+/// pages are as before too. `page` is room to read one.
 pub fn replace_on<P: Pages>(
     pages: &mut P,
     page: &mut Page,

@@ -15,7 +15,8 @@ use ts_row::RowType;
 pub fn search(kind: &RowType, behind: &[u8], count: usize, stamp: Stamp) -> Result<usize, usize>
     requires size { length behind.now ≡ 4064 }
     requires room { count ≤ page_room kind.now.columns }
-    ensures ok { (es : List Element) → AreInOrder kind.now.columns es → length es ≡ count → behind.now ≡ behind_head kind.now.columns es
+    ensures ok { (es : List Element) → AreInOrder kind.now.columns es → length es ≡ count
+        → behind.now ≡ behind_head kind.now.columns es
         → result ≡ search_of stamp es }
     ensures there { IfOk result (λ index. index < count) }
     ensures within { IfErr result (λ index. index ≤ count) }
@@ -32,7 +33,8 @@ pub fn search(kind: &RowType, behind: &[u8], count: usize, stamp: Stamp) -> Resu
 fn rank(kind: &RowType, behind: &[u8], count: usize, stamp: Stamp) -> usize
     requires size { length behind.now ≡ 4064 }
     requires room { count ≤ page_room kind.now.columns }
-    ensures ok { (es : List Element) → AreInOrder kind.now.columns es → length es ≡ count → behind.now ≡ behind_head kind.now.columns es
+    ensures ok { (es : List Element) → AreInOrder kind.now.columns es → length es ≡ count
+        → behind.now ≡ behind_head kind.now.columns es
         → result ≡ rank_of stamp es }
     ensures within { result ≤ count }
 {

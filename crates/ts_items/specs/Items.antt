@@ -1,9 +1,11 @@
 -- The items of a script, byte by byte.
-use Rattle.std.specs.Prelude.{ℕ, ◌%◌, ◌==◌, ◌&&◌, Bool, false, not, if◌then◌else◌, List, [], ◌∷◌, ◌++◌, length, count_by, Option, Some, None}
+use Rattle.std.specs.Prelude.{ℕ, ◌%◌, ◌==◌, ◌&&◌, Bool, false, not, if◌then◌else◌, List, [], ◌∷◌, ◌++◌, length}
+use Rattle.std.specs.Prelude.{count_by, Option, Some, None}
 use Rattle.std.specs.List.{list_all}
 use Rattle.ts_base.specs.Name.{is_blank}
 
--- a statement with its `;`, a statement without an end among its first 65536 bytes, or one that the script's end cuts off
+-- a statement with its `;`, a statement without an end among its first 65536 bytes, or one that the script's end cuts
+-- off
 pub data Item : Type 0 where
   Statement : List ℕ → Item
   TooLong : Item

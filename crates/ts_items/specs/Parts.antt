@@ -11,7 +11,8 @@ IsOpen text = (front rest : List ℕ) → text ≡ front ++ 59 ∷ rest → quot
 abbrev pub HasNoEnd : List ℕ → Type 0
 HasNoEnd text = (front rest : List ℕ) → text ≡ front ++ 59 ∷ rest → ⊥
 
--- a statement before its `;`, 65536 blanks, or the 65536 bytes of a long statement with what is skipped up to the next `;`
+-- a statement before its `;`, 65536 blanks, or the 65536 bytes of a long statement with what is skipped up to the next
+-- `;`
 pub data Part : Type 0 where
   Whole : List ℕ → Part
   Blanks : List ℕ → Part

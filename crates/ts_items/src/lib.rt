@@ -1,7 +1,7 @@
 //! The items of a script: `Reader` cuts its bytes into statements, however they come in pieces, and keeps one statement
 //! at a time. Which items a script has is said byte by byte (`specs/Items`), and once more by the parts that it is made
-//! of (`specs/Parts`); that both say the same, and that the items of a front come first, are laws (`laws.rt`). Stands on
-//! ts_base; knows nothing of what a statement says. Read `specs/Parts.antt`, then `reader.rt`.
+//! of (`specs/Parts`); that both say the same, and that the items of a front come first, are laws (`laws.rt`). Stands
+//! on ts_base; knows nothing of what a statement says. Read `specs/Parts.antt`, then `reader.rt`.
 #![tactic(auto)]
 
 mod laws;

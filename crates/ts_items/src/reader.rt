@@ -1,5 +1,6 @@
 // A reader of scripts by bytes, which keeps one statement.
-ghost use Rattle.std.specs.Prelude.{◌≡◌, ◌≢◌, ◌≤◌, ◌<◌, ℕ, List, [], Option, Some, None, IfOk, IfNone, IfSome, take, length, ◌==◌, ◌&&◌, not, if◌then◌else◌};
+ghost use Rattle.std.specs.Prelude.{◌≡◌, ◌≢◌, ◌≤◌, ◌<◌, ℕ, List, [], Option, Some, None, IfOk, IfNone, IfSome, take};
+ghost use Rattle.std.specs.Prelude.{length, ◌==◌, ◌&&◌, not, if◌then◌else◌};
 ghost use Rattle.std.specs.List.{prefix_len};
 ghost use Rattle.ts_base.specs.Name.{is_blank};
 ghost use Rattle.ts_items.specs.Items.{items_from, place_from, after, is_unended_at};

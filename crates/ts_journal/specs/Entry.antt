@@ -1,5 +1,6 @@
 -- The entries of a batch: each is the number of a page and what becomes of that page.
-use Rattle.std.specs.Prelude.{◌≡◌, ℕ, ◌+◌, ◌<◌, ◌≤◌, ◌==◌, nat_lt, if◌then◌else◌, Option, Some, None, List, [], ◌∷◌, ◌++◌, length, ◌^◌}
+use Rattle.std.specs.Prelude.{◌≡◌, ℕ, ◌+◌, ◌<◌, ◌≤◌, ◌==◌, nat_lt, if◌then◌else◌, Option, Some, None, List, [], ◌∷◌}
+use Rattle.std.specs.Prelude.{◌++◌, length, ◌^◌}
 use Rattle.std.specs.List.{flat_map}
 use Rattle.std.specs.Int.{to_be_bytes, w32}
 use Rattle.ts_page.specs.Volume.{page_size}
@@ -13,8 +14,8 @@ use Rattle.ts_journal.specs.declared.batch.Change.TheVariants.{Image, Free}
 abbrev pub Entry : Type 0
 Entry = ℕ × Change
 
--- what contracts see of a batch: its entries, how many more it has room for without taking memory, and how many of these may
--- be images
+-- what contracts see of a batch: its entries, how many more it has room for without taking memory, and how many of
+-- these may be images
 pub record Entries : Type 0 where
   pub entries : List Entry
   pub spare : ℕ

@@ -1,5 +1,6 @@
 -- What the calls of a journal do to a volume, and what a stop within them leaves.
-use Rattle.std.specs.Prelude.{◌≡◌, ◌≢◌, ◌⊎◌, ℕ, ◌<◌, ◌≤◌, Bool, IsTrue, List, [], length, Result, Ok, Err, OnOk, IsOk, IsErr}
+use Rattle.std.specs.Prelude.{◌≡◌, ◌≢◌, ◌⊎◌, ℕ, ◌<◌, ◌≤◌, Bool, IsTrue, List, [], length, Result, Ok, Err, OnOk, IsOk}
+use Rattle.std.specs.Prelude.{IsErr}
 use Rattle.ts_disk.specs.Device.{Device, Only, Torn, Follows, LeavesOnly, Rose, overwritten}
 use Rattle.ts_journal.specs.Entry.{Entry, AreAllowed, put_pages}
 use Rattle.ts_journal.specs.Journal.{IsVolumeSize, page_count, pages, IsAtEnd, StandsOver, ReadsAs, ReadsButFreed}
@@ -38,9 +39,10 @@ pub record CanCommit (tells : Bool) (position : ℕ) (es : List Entry) (v : Devi
   pub changes : es ≢ []
   pub allowed : AreAllowed (page_count v.size) es
 
--- What each call does that makes pages last: after an Ok the bytes held are such ones, and a stop leaves these alone; a stop
--- within the call leaves such a moment; and the count of the disk's faults rises exactly where the disk failed.
-pub record MakesLast {E : Type 0} (tells : Bool) (after : List ℕ → Type 0) (moment : List ℕ → List ℕ → Type 0) (failed : Type 0) (result : Result Unit E) (v w : Device) : Type 0 where
+-- What each call does that makes pages last: after an Ok the bytes held are such ones, and a stop leaves these alone; a
+-- stop within the call leaves such a moment; and the count of the disk's faults rises exactly where the disk failed.
+pub record MakesLast {E : Type 0} (tells : Bool) (after : List ℕ → Type 0) (moment : List ℕ → List ℕ → Type 0)
+    (failed : Type 0) (result : Result Unit E) (v w : Device) : Type 0 where
   pub ok : OnOk result (IsTrue tells → after w.held)
   pub durable : OnOk result (Only w.held w.images)
   pub cause : failed → Rose v.faults w.faults
@@ -73,7 +75,8 @@ pub record WritesWithin (tells : Bool) (at n : ℕ) (v w : Device) : Type 0 wher
   pub moments : LeavesOnly v w (TornFrom at n v)
 
 -- writes of these bytes, one piece behind the other
-pub record Writes {E : Type 0} (tells : Bool) (at : ℕ) (bytes : List ℕ) (result : Result Unit E) (v w : Device) : Type 0 where
+pub record Writes {E : Type 0} (tells : Bool) (at : ℕ) (bytes : List ℕ) (result : Result Unit E)
+    (v w : Device) : Type 0 where
   pub within : WritesWithin tells at (length bytes) v w
   pub written : OnOk result (IsTrue tells → w.held ≡ overwritten at bytes v.held)
   pub cause : IsErr result → Rose v.faults w.faults

@@ -24,7 +24,8 @@ pub record Adds (tells : Bool) (piece : List ℕ) (result : Result Unit Failed) 
 -- all is still on its way, or all is written
 abbrev pub Moved : Bool → Pen → Pen → Device → Device → Type 0
 Moved tells p q v w =
-    ((q ≡ p) × Writes {E = Failed} tells p.at [] (Ok tt) v w) ⊎ ((pending q ≡ []) × Writes {E = Failed} tells p.at (pending p) (Ok tt) v w)
+    ((q ≡ p) × Writes {E = Failed} tells p.at [] (Ok tt) v w)
+    ⊎ ((pending q ≡ []) × Writes {E = Failed} tells p.at (pending p) (Ok tt) v w)
 
 -- the next piece goes to this place; what was on its way is written, or the place is right behind it
 pub record Moves (tells : Bool) (target : ℕ) (result : Result Unit Failed) (p q : Pen) (v w : Device) : Type 0 where

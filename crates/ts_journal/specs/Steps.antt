@@ -1,5 +1,6 @@
 -- The steps of a commit and of a checkpoint, and what a stop within them leaves.
-use Rattle.std.specs.Prelude.{◌≡◌, ◌⊎◌, ℕ, ◌+◌, ◌*◌, Bool, IsTrue, None, List, [], ◌∷◌, length, replicate, Result, OnOk, IsOk, IsErr}
+use Rattle.std.specs.Prelude.{◌≡◌, ◌⊎◌, ℕ, ◌+◌, ◌*◌, Bool, IsTrue, None, List, [], ◌∷◌, length, replicate, Result, OnOk}
+use Rattle.std.specs.Prelude.{IsOk, IsErr}
 use Rattle.ts_disk.specs.Device.{Device, Only, Torn, Follows, LeavesOnly, Rose, overwritten}
 use Rattle.ts_page.specs.Volume.{page_size, head_size, region_start}
 use Rattle.ts_page.specs.Head.{bytes_at}
@@ -22,7 +23,8 @@ Appending at es v image said =
     (Torn (at + 8) (length (body_bytes es)) v.held image ⊎ Torn at 8 (staged at es v.held) image) × (said ≡ v.said)
 
 -- a record goes to the disk, and then its gate is opened
-pub record Appends {E : Type 0} (tells : Bool) (at : ℕ) (es : List Entry) (result : Result Unit E) (v w : Device) : Type 0 where
+pub record Appends {E : Type 0} (tells : Bool) (at : ℕ) (es : List Entry) (result : Result Unit E)
+    (v w : Device) : Type 0 where
   pub keeps : Keeps tells v w
   pub written : OnOk result (IsTrue tells → w.held ≡ overwritten at open_gate (staged at es v.held))
   pub durable : OnOk result (Only w.held w.images)
@@ -34,7 +36,8 @@ pub record Appends {E : Type 0} (tells : Bool) (at : ℕ) (es : List Entry) (res
 pub record Beside (es : List Entry) (old new : List ℕ) : Type 0 where
   pub len : length new ≡ length old
   pub region : region new ≡ region old
-  pub others : (number : ℕ) → change_of number es ≡ None → bytes_at (page_size * number) page_size new ≡ bytes_at (page_size * number) page_size old
+  pub others : (number : ℕ) → change_of number es ≡ None → bytes_at (page_size * number) page_size new
+      ≡ bytes_at (page_size * number) page_size old
 
 -- what is written to the place of the page; of a freed page the head alone
 abbrev pub home_bytes : Change → List ℕ
@@ -56,7 +59,8 @@ abbrev pub BesideFrom : List Entry → Device → List ℕ → List ℕ → Type
 BesideFrom es v image said = (earlier : List ℕ) × v.images earlier × Beside es earlier image × (said ≡ v.said)
 
 -- the pages of these entries go to their places
-pub record WritesHome {E : Type 0} (tells : Bool) (es : List Entry) (result : Result Unit E) (v w : Device) : Type 0 where
+pub record WritesHome {E : Type 0} (tells : Bool) (es : List Entry) (result : Result Unit E)
+    (v w : Device) : Type 0 where
   pub keeps : Keeps tells v w
   pub home : OnOk result (IsTrue tells → AreHome es w.held)
   pub cause : IsErr result → Rose v.faults w.faults
@@ -71,12 +75,14 @@ BroughtHome es old new = Beside es old new × AreHome es new
 -- any bytes in these pages; or all pages in their places, and a torn first gate; and nothing said
 abbrev pub Emptying : List Entry → Device → List ℕ → List ℕ → Type 0
 Emptying es v image said =
-    (Beside es v.held image ⊎ ((settled : List ℕ) × BroughtHome es v.held settled × Torn region_start 8 settled image)) × (said ≡ v.said)
+    (Beside es v.held image ⊎ ((settled : List ℕ) × BroughtHome es v.held settled × Torn region_start 8 settled image))
+    × (said ≡ v.said)
 
 -- the pages go to their places, and then the first gate is closed
 pub record Empties {E : Type 0} (tells : Bool) (es : List Entry) (result : Result Unit E) (v w : Device) : Type 0 where
   pub keeps : Keeps tells v w
-  pub emptied : OnOk result (IsTrue tells → (settled : List ℕ) × BroughtHome es v.held settled × (w.held ≡ overwritten region_start (replicate 8 0) settled))
+  pub emptied : OnOk result (IsTrue tells → (settled : List ℕ) × BroughtHome es v.held settled
+      × (w.held ≡ overwritten region_start (replicate 8 0) settled))
   pub durable : OnOk result (Only w.held w.images)
   pub cause : IsErr result → Rose v.faults w.faults
   pub no_fault : IsOk result → w.faults ≡ v.faults

@@ -1,5 +1,6 @@
 // The numbers of pages, each once and in rising order.
-ghost use Rattle.std.specs.Prelude.{◌≡◌, ◌+◌, ◌≤◌, ◌<◌, ◌^◌, [], Some, None, if◌then◌else◌, length, OnOk, OnErr, IsOk, slice_index_or};
+ghost use Rattle.std.specs.Prelude.{◌≡◌, ◌+◌, ◌≤◌, ◌<◌, ◌^◌, [], Some, None, if◌then◌else◌, length, OnOk, OnErr, IsOk};
+ghost use Rattle.std.specs.Prelude.{slice_index_or};
 ghost use Rattle.ts_journal.specs.declared.batch.Change.TheVariants.{Free};
 ghost use Rattle.ts_journal.specs.Entry.{Entry, IsRising, IsBatch, change_of, put};
 

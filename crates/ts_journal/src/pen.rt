@@ -4,7 +4,8 @@ ghost use Rattle.ts_journal.specs.Buffer.{buffer_size};
 
 use ts_disk::{Failed, Volume};
 
-/// Three pages: the record of a command, four pages at most, goes to the disk in two writes, and that of one or two pages in one.
+/// Three pages: the record of a command, four pages at most, goes to the disk in two writes, and that of one or two
+/// pages in one.
 const BUFFER: usize = 12288;
 
 /// What isn't written yet, and where it goes. One pen serves all records, so that its buffer is filled with zeros once.

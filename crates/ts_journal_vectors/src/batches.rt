@@ -67,8 +67,8 @@ fn a_batch_has_one_change_for_each_page(rt: HostRuntime) -> Result<(), Fail> {
     Ok(())
 }
 
-// Sets the changes of a second batch over those of a first, by one call or by the other, of which one leaves the second batch,
-// and empty. Nothing where it isn't.
+// Sets the changes of a second batch over those of a first, by one call or by the other, of which one leaves the second
+// batch, and empty. Nothing where it isn't.
 fn joined(
     alloc: Global,
     first: &[(u32, u8)],

@@ -18,8 +18,8 @@ fn with_record(alloc: Global, body: &[u8]) -> Result<MemorySite, AllocError>
     MemorySite::new(bytes)
 }
 
-// The smallest volume with a record that frees its page, and behind the closed gate one open gate after the other to the
-// region's end.
+// The smallest volume with a record that frees its page, and behind the closed gate one open gate after the other to
+// the region's end.
 fn with_gates(alloc: Global, shift: usize) -> Result<MemorySite, AllocError>
     requires { shift < 8 }
 {

@@ -83,12 +83,13 @@ fn four_images_go_home_in_two_writes(rt: HostRuntime) -> Result<(), Fail> {
 #[test]
 fn a_record_of_65000_freed_pages_takes_29_writes(rt: HostRuntime) -> Result<(), Fail> {
     let wanted = Counted {
-        // The gate is read. Then 29 writes, a sync, the gate's write and a sync: two images in 8211 bytes with the first piece,
-        // two more and 818 freed pages, 26 times 2457 freed pages, and the last 300 with the next gate.
+        // The gate is read. Then 29 writes, a sync, the gate's write and a sync: two images in 8211 bytes with the
+        // first piece, two more and 818 freed pages, 26 times 2457 freed pages, and the last 300 with the next gate.
         committing: 33,
         entries: 341_404,
         room: 707_160,
-        // The images and the first freed page in two writes, each other freed page in its own, a sync, the gate's write and a sync.
+        // The images and the first freed page in two writes, each other freed page in its own, a sync, the gate's write
+        // and a sync.
         settling: 65_004,
         settled_room: 1_048_576,
     };

@@ -81,7 +81,8 @@ fn entries_in(alloc: Global, image: Vec<u8>) -> Result<u64, RecoverFault> {
     Ok(recover(alloc, &mut left)?.overlay.bytes())
 }
 
-// Whether a stop within that call leaves the image in the journal or in its place; within the commit it may leave neither.
+// Whether a stop within that call leaves the image in the journal or in its place; within the commit it may leave
+// neither.
 fn is_left_whole(alloc: Global, site: &MemorySite, moment: u64) -> Result<bool, RecoverFault> {
     for pick in PICKS {
         if moment >= site.calls() {
@@ -102,8 +103,8 @@ fn a_stop_leaves_all_or_nothing_of_a_commit_and_all_of_a_settling(
     rt: HostRuntime,
 ) -> Result<(), Fail> {
     let site = after(rt.alloc(), &[Step::Image, Step::Settle])?.ok_or("not done")?;
-    // Each opening reads: the gate; then the gate, the length, an entry's front, its image and the next gate. A commit and a
-    // settling are two writes, each with a sync.
+    // Each opening reads: the gate; then the gate, the length, an entry's front, its image and the next gate. A commit
+    // and a settling are two writes, each with a sync.
     assert!(rt; site.calls() == 14);
     for moment in 0..14u64 {
         assert!(rt; is_left_whole(rt.alloc(), &site, moment)?, "at {moment}");

@@ -1,5 +1,6 @@
 -- The pages of series in a layout, and layouts in which one series has other pages.
-use Rattle.std.specs.Prelude.{◌≡◌, ℕ, pos, unwrap_or, ◌-◌, ◌≤◌, ◌==◌, if◌then◌else◌, ◌++◌, Some, None, Contains, IsPermutation, List, [], ◌∷◌, length, map, All, replicate, slice_set}
+use Rattle.std.specs.Prelude.{◌≡◌, ℕ, pos, unwrap_or, ◌-◌, ◌≤◌, ◌==◌, if◌then◌else◌, ◌++◌, Some, None, Contains}
+use Rattle.std.specs.Prelude.{IsPermutation, List, [], ◌∷◌, length, map, All, replicate, slice_set}
 use Rattle.std.specs.FinMap.{from_entries}
 use Rattle.ts_row.specs.declared.kind.Column.{Column}
 use Rattle.ts_row.specs.RowType.{Heading}
@@ -22,7 +23,8 @@ use Rattle.ts_model.specs.Kinds.{with_named}
 use Rattle.ts_model.specs.Definitions.{Definitions, ContainerDef, SeriesDef, at_slot, with_slot}
 use Rattle.ts_layout.specs.Limits.{AreOfFormat}
 use Rattle.ts_layout.specs.Sheets.{Sheet, FillSheet, AreInSequence, AreSheetsOn}
-use Rattle.ts_layout.specs.Meaning.{ElementPage, Free, Cells, Layout, element_page, elements_at, heading_at, shape_at, heading_of_container, charge_of_container, series_of, catalogue_of}
+use Rattle.ts_layout.specs.Meaning.{ElementPage, Free, Cells, Layout, element_page, elements_at, heading_at, shape_at}
+use Rattle.ts_layout.specs.Meaning.{heading_of_container, charge_of_container, series_of, catalogue_of}
 
 -- elements by their stamps
 abbrev pub by_stamp : List Element → Elements
@@ -30,7 +32,8 @@ by_stamp es = from_entries es
 
 -- the catalogue of a layout in which the series in a slot has these elements
 abbrev pub with_elements_at : ℕ → SeriesDef → Elements → Layout → Catalogue
-with_elements_at slot s es l = with_named kinds.Series s.key (record (series_of l slot s) { elements = es }) (catalogue_of l)
+with_elements_at slot s es l = with_named kinds.Series s.key (record (series_of l slot s) { elements = es })
+    (catalogue_of l)
 
 -- a sheet is such as a page of the series in a slot can have, and its elements are of the format
 pub record IsFilledFor (d : Definitions) (slot : ℕ) (sheet : Sheet) : Type 0 where
@@ -43,7 +46,8 @@ pub record IsFilledFor (d : Definitions) (slot : ℕ) (sheet : Sheet) : Type 0 w
 
 -- each page of elements has those of a series that is defined
 abbrev pub AreFilled : Layout → Type 0
-AreFilled l = (i slot : ℕ) (sheet : Sheet) → element_page i l.element_pages ≡ Cells slot sheet → IsFilledFor l.definitions slot sheet
+AreFilled l = (i slot : ℕ) (sheet : Sheet) → element_page i l.element_pages ≡ Cells slot sheet
+    → IsFilledFor l.definitions slot sheet
 
 -- the container of the series in a slot is charged its quota at most
 abbrev pub KeepsQuotaOf : ℕ → Layout → Type 0
@@ -52,17 +56,20 @@ KeepsQuotaOf slot l =
     → at_slot s.container l.definitions.containers ≡ Some c → heading_of_container l.definitions c ≡ Some h
     → charge_of_container l s.container (page_room h.columns) ≤ c.quota
 
--- A chain is all that an irregular series has: these pages hold it as its places tell, and its elements are those of the series.
-pub record IsChainOf (slot : ℕ) (columns : List Column) (pages : ℕ → List ℕ) (places : List Place) (l : Layout) (chain : List (List Element)) : Type 0 where
+-- A chain is all that an irregular series has: these pages hold it as its places tell, and its elements are those of
+-- the series.
+pub record IsChainOf (slot : ℕ) (columns : List Column) (pages : ℕ → List ℕ) (places : List Place) (l : Layout)
+    (chain : List (List Element)) : Type 0 where
   pub is : IsChain columns chain
   pub on : AreChained slot columns pages places chain
   pub elements : elements_at slot l.element_pages ≡ by_stamp (all_in chain)
   pub count : count_of places ≡ length (all_in chain)
   pub of_format : AreOfFormat l.definitions.format (all_in chain)
 
--- Cells at offsets are all that a regular series has: these pages hold them as its places tell, and its elements are theirs, each at the
--- on start of its offset.
-pub record IsOnGrid (grid : GridPlan) (slot : ℕ) (columns : List Column) (pages : ℕ → List ℕ) (places : List Place) (l : Layout) (ps : List OffsetPage) : Type 0 where
+-- Cells at offsets are all that a regular series has: these pages hold them as its places tell, and its elements are
+-- theirs, each at the on start of its offset.
+pub record IsOnGrid (grid : GridPlan) (slot : ℕ) (columns : List Column) (pages : ℕ → List ℕ) (places : List Place)
+    (l : Layout) (ps : List OffsetPage) : Type 0 where
   pub on : AreOn slot columns pages places ps
   pub starts : HaveStarts grid (all_at ps)
   pub elements : elements_at slot l.element_pages ≡ by_stamp (stamped grid (all_at ps))
@@ -86,21 +93,25 @@ freed slot (Cells s sheet) = if s == slot then Free else Cells s sheet
 abbrev pub with_sheets : ℕ → List ℕ → List Sheet → List ElementPage → List ElementPage
 with_sheets slot [] sheets pages = pages
 with_sheets slot (number ∷ numbers) [] pages = pages
-with_sheets slot (number ∷ numbers) (sheet ∷ sheets) pages = slice_set (with_sheets slot numbers sheets pages) (number - first_element_page) (Cells slot sheet)
+with_sheets slot (number ∷ numbers) (sheet ∷ sheets) pages = slice_set (with_sheets slot numbers sheets pages)
+    (number - first_element_page) (Cells slot sheet)
 
 -- the layout in which the series in a slot has these pages with these sheets, and no others
 abbrev pub rewritten : ℕ → List ℕ → List Sheet → Layout → Layout
-rewritten slot numbers sheets l = record l { element_pages = with_sheets slot numbers sheets (map (freed slot) l.element_pages) }
+rewritten slot numbers sheets l =
+    record l { element_pages = with_sheets slot numbers sheets (map (freed slot) l.element_pages) }
 
--- The places of a series and its pages become others, which have these sheets: they are of the pages that were free or its own; what is
--- free then is so; and no other page changes.
-pub record IsRewritten (shape : Shape) (slot : ℕ) (columns : List Column) (old new : List Place) (sheets : List Sheet) (v w : Contents) : Type 0 where
+-- The places of a series and its pages become others, which have these sheets: they are of the pages that were free or
+-- its own; what is free then is so; and no other page changes.
+pub record IsRewritten (shape : Shape) (slot : ℕ) (columns : List Column) (old new : List Place) (sheets : List Sheet)
+    (v w : Contents) : Type 0 where
   pub is : AreInSequence shape columns sheets
   pub on : AreSheetsOn shape slot columns w.page new sheets
   pub rising : IsRising new
   pub pages : IsPermutation (v.free ++ pages_of old) (w.free ++ pages_of new)
   pub freed : All (λ number. IsFreePage (w.page number)) w.free
-  pub others : (number : ℕ) → ¬ Contains (pages_of old) number → ¬ Contains v.free number → w.page number ≡ v.page number
+  pub others : (number : ℕ) → ¬ Contains (pages_of old) number → ¬ Contains v.free number
+      → w.page number ≡ v.page number
 
 -- the layout without the series in a slot, and without its elements
 abbrev pub without_series : ℕ → Layout → Layout

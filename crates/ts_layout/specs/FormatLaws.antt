@@ -21,7 +21,8 @@ CataloguesKeepFormats = (count : ℕ) (pages : ℕ → List ℕ) (cat : Catalogu
 
 -- the newest format is taken by the first page alone: nothing else changes, and the catalogue is the same
 pub record VolumesTakeNewestFormat : Type 0 where
-  pub bytes : (l : Layout) (v w : ℕ → List ℕ) → EqualPages (with_page 0 (header_bytes newest_format (length l.element_pages)) v) w
+  pub bytes : (l : Layout) (v w : ℕ → List ℕ)
+      → EqualPages (with_page 0 (header_bytes newest_format (length l.element_pages)) v) w
       → HoldsLayout v l → HoldsLayout w (layout_in newest_format l)
   pub rules : (l : Layout) → IsSound l → IsSound (layout_in newest_format l)
   pub filled : (l : Layout) → AreFilled l → AreFilled (layout_in newest_format l)
@@ -40,5 +41,6 @@ pub record NewestFormatHasAll : Type 0 where
 
 -- elements that hide one only where others of the format do are of the format
 pub record EditedElementsKeepFormats : Type 0 where
-  pub edited : (format : ℕ) (old es : List Element) → AreOfFormat format old → (has_hidden es ≡ true → has_hidden old ≡ true)
+  pub edited : (format : ℕ) (old es : List Element) → AreOfFormat format old
+      → (has_hidden es ≡ true → has_hidden old ≡ true)
       → AreOfFormat format es

@@ -23,7 +23,8 @@ pub record IsHeldOf (d : Definitions) (space : Directory) (count : ℕ) (numbers
   pub filled : AreFilled l
 
 -- A layout is held, and the series in a slot gets these places with these sheets, whose elements are of the format.
-pub record IsRewrittenIn (shape : Shape) (slot : ℕ) (h : Heading) (space : Directory) (new : List Place) (sheets : List Sheet) (v w : Contents) (l : Layout) : Type 0 where
+pub record IsRewrittenIn (shape : Shape) (slot : ℕ) (h : Heading) (space : Directory) (new : List Place)
+    (sheets : List Sheet) (v w : Contents) (l : Layout) : Type 0 where
   pub held : IsHeldOf l.definitions space v.count v.free l
   pub slots : length space.lists ≡ series_slots
   pub heading : heading_at l.definitions slot ≡ Some h

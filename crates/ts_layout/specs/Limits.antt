@@ -11,7 +11,8 @@ use Rattle.ts_model.specs.Catalogue.{old_format}
 use Rattle.ts_model.specs.declared.kind.Kind.{Kind}
 use Rattle.ts_model.specs.declared.def.Def.{Def}
 use Rattle.ts_model.specs.declared.def.Def.TheVariants as defs
-use Rattle.ts_model.specs.Definitions.{RowTypeDef, PatternDef, CalendarDef, ContainerDef, SeriesDef, row_type_slots, pattern_slots, calendar_slots, container_slots, kind_of}
+use Rattle.ts_model.specs.Definitions.{RowTypeDef, PatternDef, CalendarDef, ContainerDef, SeriesDef, row_type_slots}
+use Rattle.ts_model.specs.Definitions.{pattern_slots, calendar_slots, container_slots, kind_of}
 
 -- what a volume of a format asks of a row type: in the old one no decimal has over 18 digits
 abbrev pub IsOfFormat : ℕ → Heading → Type 0
@@ -65,8 +66,10 @@ abbrev pub IsDef : ℕ → Def → Type 0
 IsDef format (defs.RowType name kind) = IsRowTypeDef format (record { name = name; heading = kind })
 IsDef format (defs.Pattern name pattern) = IsPatternDef (record { name = name; pattern = pattern })
 IsDef format (defs.Calendar name calendar by) = IsCalendarDef (record { name = name; calendar = calendar; by = by })
-IsDef format (defs.Container name row_type quota) = IsContainerDef (record { name = name; row_type = row_type; quota = quota })
-IsDef format (defs.Series key container regular) = IsSeriesDef (record { key = key; container = container; regular = regular })
+IsDef format (defs.Container name row_type quota) =
+    IsContainerDef (record { name = name; row_type = row_type; quota = quota })
+IsDef format (defs.Series key container regular) =
+    IsSeriesDef (record { key = key; container = container; regular = regular })
 
 -- an empty slot, or a definition of the kind
 abbrev pub IsSlotOf : ℕ → Kind → Option Def → Type 0

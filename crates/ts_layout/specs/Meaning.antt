@@ -1,6 +1,8 @@
 -- What the pages of a volume mean: they are laid out from definitions and elements that keep the rules, and mean the
 -- catalogue of these.
-use Rattle.std.specs.Prelude.{◌≡◌, ℕ, ℤ, IfSome, suc, ◌+◌, ◌-◌, ◌<◌, ◌≤◌, ◌==◌, if◌then◌else◌, IsSome, IsPermutation, Option, Some, None, option_and_then, option_map, unwrap_or, List, [], ◌∷◌, length, drop, replicate, slice_index_or, sum_by}
+use Rattle.std.specs.Prelude.{◌≡◌, ℕ, ℤ, IfSome, suc, ◌+◌, ◌-◌, ◌<◌, ◌≤◌, ◌==◌, if◌then◌else◌, IsSome, IsPermutation}
+use Rattle.std.specs.Prelude.{Option, Some, None, option_and_then, option_map, unwrap_or, List, [], ◌∷◌, length, drop}
+use Rattle.std.specs.Prelude.{replicate, slice_index_or, sum_by}
 use Rattle.std.specs.List.{flat_map}
 use Rattle.std.specs.FinMap.{from_entries}
 use Rattle.ts_row.specs.declared.kind.Column.{Column}
@@ -24,11 +26,13 @@ use Rattle.ts_model.specs.Kinds.{In}
 use Rattle.ts_model.specs.declared.kind.Kind.{Kind}
 use Rattle.ts_model.specs.declared.kind.Kind.TheVariants as kinds
 use Rattle.ts_model.specs.declared.def.Def.{Def}
-use Rattle.ts_model.specs.Definitions.{Definitions, PatternDef, CalendarDef, ContainerDef, SeriesDef, KindDef, limit, name_in, table_of, at_slot, by_name, references, IsDefinitions}
+use Rattle.ts_model.specs.Definitions.{Definitions, PatternDef, CalendarDef, ContainerDef, SeriesDef, KindDef, limit}
+use Rattle.ts_model.specs.Definitions.{name_in, table_of, at_slot, by_name, references, IsDefinitions}
 pub use Rattle.ts_model.specs.Definitions.{def_at}
 use Rattle.ts_layout.specs.Limits.{IsSlotOf, AreOfFormat}
 use Rattle.ts_layout.specs.Sheets.{Sheet, HoldsSheet, AreInSequence}
-use Rattle.ts_layout.specs.Slot.{slot_size, slot_bytes, page_of_slot, byte_of_slot, first_definition_page, slots_in_page, bytes_of_slots, header_bytes}
+use Rattle.ts_layout.specs.Slot.{slot_size, slot_bytes, page_of_slot, byte_of_slot, first_definition_page}
+use Rattle.ts_layout.specs.Slot.{slots_in_page, bytes_of_slots, header_bytes}
 
 -- an element page: free, or with a sheet of the series in a slot
 pub data ElementPage : Type 0 where
@@ -58,7 +62,8 @@ heading_at d slot = option_and_then (λ s. heading_in d s.container) (at_slot sl
 
 -- the grid of a calendar in a slot, and an origin
 abbrev pub grid_in : Definitions → ℕ × ℤ → Option GridPlan
-grid_in d regular = option_map (λ c. record { calendar = c.calendar; origin = regular.1 }) (at_slot regular.0 d.calendars)
+grid_in d regular = option_map (λ c. record { calendar = c.calendar; origin = regular.1 })
+    (at_slot regular.0 d.calendars)
 
 -- where the elements of a series can stand: at all stamps, or at the on starts of its grid
 abbrev pub shape_of : Definitions → Option (ℕ × ℤ) → Option Shape
@@ -75,11 +80,14 @@ bytes_of_slot kind slot pages = bytes_at (byte_of_slot kind slot) (slot_size kin
 
 -- the bytes of definitions, each in its slot; what is in no slot is zero
 pub record HoldsDefinitions (pages : ℕ → List ℕ) (d : Definitions) : Type 0 where
-  pub slots : (kind : Kind) (slot : ℕ) → slot < limit kind → bytes_of_slot kind slot pages ≡ slot_bytes kind (def_at kind slot d)
+  pub slots : (kind : Kind) (slot : ℕ) → slot < limit kind → bytes_of_slot kind slot pages
+      ≡ slot_bytes kind (def_at kind slot d)
   pub behind : (number : ℕ) → first_definition_page ≤ number → number < first_element_page
-      → drop (bytes_of_slots (slots_in_page number)) (pages number) ≡ replicate (page_size - bytes_of_slots (slots_in_page number)) 0
+      → drop (bytes_of_slots (slots_in_page number)) (pages number)
+      ≡ replicate (page_size - bytes_of_slots (slots_in_page number)) 0
 
--- the page of a sheet of the series in a slot, of its columns, where its elements can stand, and in the format of the volume
+-- the page of a sheet of the series in a slot, of its columns, where its elements can stand, and in the format of the
+-- volume
 pub record HoldsSeries (d : Definitions) (page : List ℕ) (slot : ℕ) (sheet : Sheet) : Type 0 where
   pub heading : Heading
   pub shape : Shape
@@ -101,7 +109,8 @@ HoldAll d pages es = (j : ℕ) → j < length es → HoldsElements d (pages (fir
 pub record HoldsLayout (pages : ℕ → List ℕ) (l : Layout) : Type 0 where
   pub header : pages 0 ≡ header_bytes l.definitions.format (length l.element_pages)
   pub definitions : HoldsDefinitions pages l.definitions
-  pub elements : (i : ℕ) → i < length l.element_pages → HoldsElements l.definitions (pages (first_element_page + i)) (element_page i l.element_pages)
+  pub elements : (i : ℕ) → i < length l.element_pages → HoldsElements l.definitions (pages (first_element_page + i))
+      (element_page i l.element_pages)
 
 -- what stands in the slots of each kind is of that kind and keeps its limits and those of the format
 pub record KeepLimits (d : Definitions) : Type 0 where
@@ -114,7 +123,8 @@ IsThere d (target ∷ rest) = IsSome (def_at target.0 target.1 d) × IsThere d r
 
 -- each definition of a kind refers to filled slots
 abbrev pub AreThereIn : Kind → Definitions → Type 0
-AreThereIn kind d = (slot : ℕ) (def : Def) → slot < limit kind → def_at kind slot d ≡ Some def → IsThere d (references def)
+AreThereIn kind d = (slot : ℕ) (def : Def) → slot < limit kind → def_at kind slot d ≡ Some def
+    → IsThere d (references def)
 
 -- each definition does
 abbrev pub AreThere : Definitions → Type 0
@@ -122,7 +132,8 @@ AreThere d = (kind : Kind) → AreThereIn kind d
 
 -- where it was made by a pattern's name, the pattern of a calendar is the one in that slot
 abbrev pub Follows : List (Option PatternDef) → CalendarDef → Type 0
-Follows patterns c = (slot : ℕ) → c.by ≡ Some slot → option_map (λ p. p.pattern) (at_slot slot patterns) ≡ Some c.calendar.pattern
+Follows patterns c = (slot : ℕ) → c.by ≡ Some slot → option_map (λ p. p.pattern) (at_slot slot patterns)
+    ≡ Some c.calendar.pattern
 
 -- so it is of each calendar
 abbrev pub AreFollowing : Definitions → Type 0
@@ -168,7 +179,8 @@ elements_on slot (Cells s sheet) = if s == slot then sheet.1 else []
 abbrev pub elements_of : ℕ → List ElementPage → List Element
 elements_of slot pages = flat_map (elements_on slot) pages
 
--- the sum over the filled slots of a table, from slot number `first` on, of what a function gives of slot and definition
+-- the sum over the filled slots of a table, from slot number `first` on, of what a function gives of slot and
+-- definition
 abbrev pub sum_filled : {A : Type 0} → (ℕ → A → ℕ) → ℕ → List (Option A) → ℕ
 sum_filled f first [] = 0
 sum_filled f first (None ∷ rest) = sum_filled f (suc first) rest
@@ -183,18 +195,21 @@ sheets_on slot (Cells s sheet) = if s == slot then sheet ∷ [] else []
 abbrev pub sheets_of : ℕ → List ElementPage → List Sheet
 sheets_of slot pages = flat_map (sheets_on slot) pages
 
--- what the series in a slot is charged: an irregular one by its elements, where a page has room for so many, a regular one for each page
+-- what the series in a slot is charged: an irregular one by its elements, where a page has room for so many, a regular
+-- one for each page
 abbrev pub charge_on : List ElementPage → ℕ → ℕ → Option (ℕ × ℤ) → ℕ
 charge_on pages room slot None = irregular_charge room (length (elements_of slot pages))
 charge_on pages room slot (Some regular) = length (sheets_of slot pages)
 
 -- what one series is charged to the container in a slot
 abbrev pub charge_of_series : List ElementPage → ℕ → ℕ → ℕ → SeriesDef → ℕ
-charge_of_series pages container room slot s = if s.container == container then charge_on pages room slot s.regular else 0
+charge_of_series pages container room slot s = if s.container == container then charge_on pages room slot s.regular
+    else 0
 
 -- what all series of the container in a slot are charged together
 abbrev pub charge_of_container : Layout → ℕ → ℕ → ℕ
-charge_of_container l container room = sum_filled (charge_of_series l.element_pages container room) 0 l.definitions.series
+charge_of_container l container room =
+    sum_filled (charge_of_series l.element_pages container room) 0 l.definitions.series
 
 -- the sheets of the series in a slot, in their order, are such as those of its shape have to be
 pub record IsInSequence (shape : Shape) (slot : ℕ) (columns : List Column) (pages : List ElementPage) : Type 0 where
@@ -205,13 +220,15 @@ pub record IsInSequence (shape : Shape) (slot : ℕ) (columns : List Column) (pa
 -- those of each series are
 abbrev pub AreAllInSequence : Layout → Type 0
 AreAllInSequence l =
-    (slot : ℕ) (h : Heading) (shape : Shape) → heading_at l.definitions slot ≡ Some h → shape_at l.definitions slot ≡ Some shape
+    (slot : ℕ) (h : Heading) (shape : Shape) → heading_at l.definitions slot ≡ Some h → shape_at l.definitions slot
+    ≡ Some shape
     → IsInSequence shape slot h.columns l.element_pages
 
 -- no container is charged more than its quota
 abbrev pub KeepsQuotas : Layout → Type 0
 KeepsQuotas l =
-    (i : ℕ) (c : ContainerDef) (h : Heading) → at_slot i l.definitions.containers ≡ Some c → heading_of_container l.definitions c ≡ Some h
+    (i : ℕ) (c : ContainerDef) (h : Heading) → at_slot i l.definitions.containers ≡ Some c
+    → heading_of_container l.definitions c ≡ Some h
     → charge_of_container l i (page_room h.columns) ≤ c.quota
 
 -- the rules of a volume

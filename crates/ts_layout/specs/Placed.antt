@@ -1,5 +1,5 @@
--- What is kept in memory of a volume, whatever its pages hold: definitions that keep their rules, places and free pages that are all
--- different and all there are, and charges by these places that keep the quotas.
+-- What is kept in memory of a volume, whatever its pages hold: definitions that keep their rules, places and free pages
+-- that are all different and all there are, and charges by these places that keep the quotas.
 use Rattle.std.specs.Prelude.{◌≡◌, ◌≢◌, ℕ, ◌+◌, ◌-◌, ◌<◌, ◌≤◌, Some, List, ◌++◌, length, All, AllPairs, IsPermutation}
 use Rattle.std.specs.List.{flat_map}
 use Rattle.ts_row.specs.RowType.{Heading}
@@ -14,8 +14,8 @@ use Rattle.ts_layout.specs.Sheets.{room_of}
 use Rattle.ts_offset.specs.declared.shape.Shape.{Shape}
 use Rattle.ts_layout.specs.Charges.{KeepQuotas}
 
--- a place within the limits of the series in a slot: of an element page, with one element at least and no more than a page has
--- room for by the columns of the series and by where its elements can stand
+-- a place within the limits of the series in a slot: of an element page, with one element at least and no more than a
+-- page has room for by the columns of the series and by where its elements can stand
 pub record IsPlaceIn (d : Definitions) (count slot : ℕ) (p : Place) : Type 0 where
   pub element : IsElementPage p.page
   pub below : p.page < count
@@ -31,8 +31,8 @@ pub record IsCounted (room : ℕ) (place : Place) : Type 0 where
   pub some : 1 ≤ place.count
   pub most : place.count ≤ room
 
--- On every volume: the pages of the places and the free ones are together the same ones before and after, the places rise, and each has
--- some elements and no more than there is room for.
+-- On every volume: the pages of the places and the free ones are together the same ones before and after, the places
+-- rise, and each has some elements and no more than there is room for.
 pub record AreMoved (room : ℕ) (old new : List Place) (v w : Contents) : Type 0 where
   pub pages : IsPermutation (v.free ++ pages_of old) (w.free ++ pages_of new)
   pub rising : IsRising new
@@ -46,8 +46,8 @@ IsElementNumber count number = IsElementPage number × (number < count)
 abbrev pub used_pages : Directory → List ℕ
 used_pages space = flat_map pages_of space.lists
 
--- The places of each series rise and are within its limits. The free pages and those of all places are different ones, and are all
--- element pages together.
+-- The places of each series rise and are within its limits. The free pages and those of all places are different ones,
+-- and are all element pages together.
 pub record ArePlaced (d : Definitions) (space : Directory) (free : List ℕ) (count : ℕ) : Type 0 where
   pub slots : length space.lists ≡ series_slots
   pub rising : (slot : ℕ) → slot < series_slots → IsRising (places_of slot space)

@@ -45,7 +45,8 @@ FillSheet Irregular columns sheet = irregular.FillPage columns sheet.1 × (first
 FillSheet (Regular grid) columns sheet = FillGridSheet grid columns sheet
 
 -- these bytes are the page of a sheet of the series in a slot on a grid
-pub record HoldsGridSheet (grid : GridPlan) (slot : ℕ) (columns : List Column) (sheet : Sheet) (page : List ℕ) : Type 0 where
+pub record HoldsGridSheet (grid : GridPlan) (slot : ℕ) (columns : List Column) (sheet : Sheet)
+    (page : List ℕ) : Type 0 where
   pub base : ℕ
   pub cells : List Cell
   pub bytes : IsRegularPage slot columns base cells page
@@ -53,7 +54,8 @@ pub record HoldsGridSheet (grid : GridPlan) (slot : ℕ) (columns : List Column)
 
 -- the same of a shape
 abbrev pub HoldsSheet : Shape → ℕ → List Column → Sheet → List ℕ → Type 0
-HoldsSheet Irregular slot columns sheet page = IsIrregularPage slot columns sheet.1 page × (first_stamp sheet.1 ≡ Some sheet.0)
+HoldsSheet Irregular slot columns sheet page = IsIrregularPage slot columns sheet.1 page
+    × (first_stamp sheet.1 ≡ Some sheet.0)
 HoldsSheet (Regular grid) slot columns sheet page = HoldsGridSheet grid slot columns sheet page
 
 -- how many elements a page of a shape can have
@@ -67,8 +69,8 @@ BeginInOrder [] = Unit {0}
 BeginInOrder (a ∷ []) = Unit {0}
 BeginInOrder (a ∷ b ∷ sheets) = (a.0 <ℤ b.0) × BeginInOrder (b ∷ sheets)
 
--- The sheets of one series in their order. Those of an irregular series are a chain: no two overlap, and two neighbours never fit one
--- page. Of those on a grid no two begin at one offset.
+-- The sheets of one series in their order. Those of an irregular series are a chain: no two overlap, and two neighbours
+-- never fit one page. Of those on a grid no two begin at one offset.
 abbrev pub AreInSequence : Shape → List Column → List Sheet → Type 0
 AreInSequence Irregular columns sheets = IsChain columns (map (λ sheet. sheet.1) sheets)
 AreInSequence (Regular grid) columns sheets = BeginInOrder sheets
@@ -78,7 +80,8 @@ abbrev pub place_of_sheet : ℕ → Sheet → Place
 place_of_sheet number sheet = record { at = sheet.0; page = number; count = length sheet.1 }
 
 -- a page has a sheet of the series in a slot, and its place tells of it
-pub record IsSheetOn (shape : Shape) (slot : ℕ) (columns : List Column) (page : List ℕ) (place : Place) (sheet : Sheet) : Type 0 where
+pub record IsSheetOn (shape : Shape) (slot : ℕ) (columns : List Column) (page : List ℕ) (place : Place)
+    (sheet : Sheet) : Type 0 where
   pub bytes : HoldsSheet shape slot columns sheet page
   pub tells : place ≡ place_of_sheet place.page sheet
 

@@ -1,5 +1,6 @@
 -- The bytes of definitions in their slots. What isn't named is zero, and an empty slot is zeros.
-use Rattle.std.specs.Prelude.{ℕ, ℤ, ◌+◌, ◌-◌, ◌*◌, ◌/◌, ◌%◌, ◌^◌, ◌==◌, nat_lt, min, if◌then◌else◌, Option, Some, None, List, [], ◌∷◌, ◌++◌, length, replicate, codes}
+use Rattle.std.specs.Prelude.{ℕ, ℤ, ◌+◌, ◌-◌, ◌*◌, ◌/◌, ◌%◌, ◌^◌, ◌==◌, nat_lt, min, if◌then◌else◌, Option, Some, None}
+use Rattle.std.specs.Prelude.{List, [], ◌∷◌, ◌++◌, length, replicate, codes}
 use Rattle.std.specs.List.{flat_map}
 use Rattle.std.specs.Int.{w16, w32, to_be_bytes}
 use Rattle.ts_base.specs.declared.unit.Unit.{Unit}
@@ -84,7 +85,8 @@ part_bytes p None = 1 ∷ 0 ∷ plan_bytes p
 
 -- a calendar in the 4096 bytes of its page: 1, its name, its two starts, which pattern it has
 unfoldable pub calendar_bytes : List ℕ → CalendarPlan → Option ℕ → List ℕ
-calendar_bytes name c by = 1 ∷ (name_bytes name ++ (stamp_bytes c.start ++ (stamp_bytes c.patt_start ++ padded 4046 (part_bytes c.pattern by))))
+calendar_bytes name c by = 1
+    ∷ (name_bytes name ++ (stamp_bytes c.start ++ (stamp_bytes c.patt_start ++ padded 4046 (part_bytes c.pattern by))))
 
 -- a container in 60 bytes: 1, its name, the slot of its row type, its quota
 unfoldable pub container_bytes : List ℕ → ℕ → ℕ → List ℕ
@@ -100,7 +102,8 @@ abbrev pub regular_bytes : Option (ℕ × ℤ) → List ℕ
 regular_bytes None = []
 regular_bytes (Some regular) = regular.0 ∷ stamp_bytes regular.1
 
--- a series in 94 bytes: whether it is regular, the length of its key, its key, the slot of its container, what a regular one has besides
+-- a series in 94 bytes: whether it is regular, the length of its key, its key, the slot of its container, what a
+-- regular one has besides
 unfoldable pub series_bytes : List ℕ → ℕ → Option (ℕ × ℤ) → List ℕ
 series_bytes key container regular =
     series_code regular ∷ (length key ∷ (padded 64 key ++ (container ∷ padded 27 (regular_bytes regular))))
@@ -113,7 +116,8 @@ def_bytes (defs.Calendar name calendar by) = calendar_bytes name calendar by
 def_bytes (defs.Container name row_type quota) = container_bytes name row_type quota
 def_bytes (defs.Series key container regular) = series_bytes key container regular
 
--- The definition pages: those of row types, of patterns and of calendars, one each; one of all containers; those of series, so many in each.
+-- The definition pages: those of row types, of patterns and of calendars, one each; one of all containers; those of
+-- series, so many in each.
 abbrev pub first_definition_page : ℕ
 first_definition_page = 257
 
@@ -156,8 +160,8 @@ slot_bytes kinds.Container None = replicate container_size 0
 slot_bytes kinds.Series None = replicate series_size 0
 slot_bytes kind (Some def) = def_bytes def
 
--- the page of a slot: row types have one each from page 257 on, patterns from 321 on and calendars from 577 on, containers share page 833,
--- and of series 43 stand in each page from 834 on
+-- the page of a slot: row types have one each from page 257 on, patterns from 321 on and calendars from 577 on,
+-- containers share page 833, and of series 43 stand in each page from 834 on
 abbrev pub page_of_slot : Kind → ℕ → ℕ
 page_of_slot kinds.RowType slot = first_definition_page + slot
 page_of_slot kinds.Pattern slot = first_pattern_page + slot
@@ -176,11 +180,28 @@ byte_of_slot kinds.Series slot = series_size * (slot % series_in_page)
 -- the slots that stand in a definition page, from its first byte on
 abbrev pub slots_in_page : ℕ → Slots
 slots_in_page number =
-    if nat_lt number first_pattern_page then record { kind = kinds.RowType; first = number - first_definition_page; count = 1 }
-    else (if nat_lt number first_calendar_page then record { kind = kinds.Pattern; first = number - first_pattern_page; count = 1 }
-    else (if nat_lt number container_page then record { kind = kinds.Calendar; first = number - first_calendar_page; count = 1 }
+    if nat_lt number first_pattern_page then record {
+      kind = kinds.RowType;
+      first = number - first_definition_page;
+      count = 1;
+    }
+    else (if nat_lt number first_calendar_page then record {
+      kind = kinds.Pattern;
+      first = number - first_pattern_page;
+      count = 1;
+    }
+    else (if nat_lt number container_page then record {
+      kind = kinds.Calendar;
+      first = number - first_calendar_page;
+      count = 1;
+    }
     else (if number == container_page then record { kind = kinds.Container; first = 0; count = container_slots }
-    else record { kind = kinds.Series; first = series_in_page * (number - first_series_page); count = min series_in_page (series_slots - series_in_page * (number - first_series_page)) })))
+    else record {
+      kind = kinds.Series;
+      first = series_in_page * (number - first_series_page);
+      count =
+          min series_in_page (series_slots - series_in_page * (number - first_series_page));
+    })))
 
 -- how many bytes of a definition page are slots
 abbrev pub bytes_of_slots : Slots → ℕ

@@ -1,8 +1,9 @@
 // What holds of the pages of a series, of a series that gets other pages, and of one that is dropped with its pages.
-ghost use Rattle.ts_layout.specs.ChainLaws.{SeriesAreOnPages, PagesAreSheets, ElementsAreMaps, SeriesAreRewritten, HeldPagesAreFilled, RegularElementsAreOnStarts, SeriesAreDropped};
+ghost use Rattle.ts_layout.specs.ChainLaws.{SeriesAreOnPages, PagesAreSheets, ElementsAreMaps, SeriesAreRewritten};
+ghost use Rattle.ts_layout.specs.ChainLaws.{HeldPagesAreFilled, RegularElementsAreOnStarts, SeriesAreDropped};
 
-/// The pages of a series, in the order of its places, have all its elements: those of an irregular series are a chain, and those of a
-/// regular one have cells at the offsets of its grid.
+/// The pages of a series, in the order of its places, have all its elements: those of an irregular series are a chain,
+/// and those of a regular one have cells at the offsets of its grid.
 pub fn a_series_is_on_its_pages()
     ensures { SeriesAreOnPages }
 {}

@@ -1,8 +1,8 @@
 // What holds of charges and quotas.
 ghost use Rattle.ts_layout.specs.ChargeLaws.{QuotasLeaveRoom, ChargesFollowPlaces, QuotasFollowPlaces};
 
-/// Where no container is charged more than its quota, the pages that are free and those that a series has are as many as it may be
-/// charged beside the other series of its container.
+/// Where no container is charged more than its quota, the pages that are free and those that a series has are as many
+/// as it may be charged beside the other series of its container.
 pub fn the_quotas_leave_room()
     ensures { QuotasLeaveRoom }
 {}

@@ -1,5 +1,6 @@
 // What holds of the formats of volumes.
-ghost use Rattle.ts_layout.specs.FormatLaws.{CataloguesKeepFormats, VolumesTakeNewestFormat, NewestFormatHasAll, EditedElementsKeepFormats};
+ghost use Rattle.ts_layout.specs.FormatLaws.{CataloguesKeepFormats, VolumesTakeNewestFormat, NewestFormatHasAll};
+ghost use Rattle.ts_layout.specs.FormatLaws.{EditedElementsKeepFormats};
 
 /// What pages mean keeps its format: in the old one no decimal is long, and no element is hidden.
 pub fn a_catalogue_keeps_its_format()

@@ -1,6 +1,8 @@
 // What holds of layouts and of their catalogues.
-ghost use Rattle.ts_layout.specs.Laws.{PagesMeanOneCatalogue, OtherBytesMeanNothing, WrittenSlotsChangeDefinitions, DefinitionsAreMade, DefinitionsAreDropped};
-ghost use Rattle.ts_layout.specs.Laws.{NamesStandInSlots, ReferencesAreNames, SlotsAreCounted, DefinitionsAreUsedBySlots};
+ghost use Rattle.ts_layout.specs.Laws.{PagesMeanOneCatalogue, OtherBytesMeanNothing, WrittenSlotsChangeDefinitions};
+ghost use Rattle.ts_layout.specs.Laws.{DefinitionsAreMade, DefinitionsAreDropped};
+ghost use Rattle.ts_layout.specs.Laws.{NamesStandInSlots, ReferencesAreNames, SlotsAreCounted};
+ghost use Rattle.ts_layout.specs.Laws.{DefinitionsAreUsedBySlots};
 
 /// Pages are laid out in one way at most, and so mean one catalogue at most.
 pub fn pages_mean_one_catalogue()
@@ -23,7 +25,8 @@ pub fn a_definition_is_made()
     ensures { DefinitionsAreMade }
 {}
 
-/// A definition that has no pages and to which nothing refers is dropped: its name goes, and elements keep their columns.
+/// A definition that has no pages and to which nothing refers is dropped: its name goes, and elements keep their
+/// columns.
 pub fn a_definition_is_dropped()
     ensures { DefinitionsAreDropped }
 {}
@@ -33,8 +36,8 @@ pub fn names_stand_in_slots()
     ensures { NamesStandInSlots }
 {}
 
-/// What a calendar, a container or a series refers to stands in the catalogue under the name that it gives; and the calendar that a
-/// text there stands for is the one in the slot.
+/// What a calendar, a container or a series refers to stands in the catalogue under the name that it gives; and the
+/// calendar that a text there stands for is the one in the slot.
 pub fn references_are_names()
     ensures { ReferencesAreNames }
 {}

@@ -1,5 +1,6 @@
 // What holds of what is kept in memory, whatever the pages hold.
-ghost use Rattle.ts_layout.specs.MemoryLaws.{LayoutsAreKept, SameListsAreKept, SoundDefinitionsHaveLayouts, PlacesAreDropped, PlacesStayApart};
+ghost use Rattle.ts_layout.specs.MemoryLaws.{LayoutsAreKept, SameListsAreKept, SoundDefinitionsHaveLayouts};
+ghost use Rattle.ts_layout.specs.MemoryLaws.{PlacesAreDropped, PlacesStayApart};
 
 /// The places and the free pages of a layout are apart and are all pages; so what is kept of a layout keeps its rules.
 pub fn a_layout_is_kept()
@@ -21,8 +22,8 @@ pub fn a_series_is_dropped_with_its_places()
     ensures { PlacesAreDropped }
 {}
 
-/// What is kept keeps its rules where the places of one series change: its pages and the free ones are together the same, and its
-/// container is charged its quota at most. Its places are such as an edit asks for.
+/// What is kept keeps its rules where the places of one series change: its pages and the free ones are together the
+/// same, and its container is charged its quota at most. Its places are such as an edit asks for.
 pub fn places_and_free_pages_stay_apart()
     ensures { PlacesStayApart }
 {}

@@ -6,7 +6,8 @@ ghost use Rattle.ts_layout.specs.Slot.{first_definition_page, slot_size, slots_i
 
 use ts_model::Kind;
 
-/// The definition pages: 64 of row types, 256 of patterns, 256 of calendars, one of all containers, and those of series.
+/// The definition pages: 64 of row types, 256 of patterns, 256 of calendars, one of all containers, and those of
+/// series.
 pub const ROW_TYPES: u32 = 257;
 
 const PATTERNS: u32 = 321;

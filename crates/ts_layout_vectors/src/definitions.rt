@@ -20,7 +20,8 @@ fn put(defs: &mut Defs, slot: u16, def: Def) -> Result<bool, StoreFault> {
     }
 }
 
-// Puts a definition into the lowest empty slot of its kind, and gives that; none where its name is taken or all are filled.
+// Puts a definition into the lowest empty slot of its kind, and gives that; none where its name is taken or all are
+// filled.
 fn add(alloc: Global, defs: &mut Defs, kind: Kind, text: &[u8]) -> Result<Option<u16>, StoreFault> {
     let Some(slot) = defs.vacant(kind) else {
         return Ok(None);

@@ -72,7 +72,8 @@ fn calendar(alloc: Global) -> Result<Counter, StoreFault> {
     }
 }
 
-// A definition of a kind with this name or key: of integers, the week, of 2 pages, an irregular series of the container in slot 3.
+// A definition of a kind with this name or key: of integers, the week, of 2 pages, an irregular series of the container
+// in slot 3.
 pub(crate) fn def(alloc: Global, kind: Kind, text: &[u8]) -> Result<Def, StoreFault>
     ensures { IfOk result (λ def. kind_of def ≡ kind) }
 {

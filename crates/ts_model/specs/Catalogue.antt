@@ -1,5 +1,6 @@
 -- The catalogue: what a store holds, as plain values under their names.
-use Rattle.std.specs.Prelude.{ℕ, ℤ, Bool, true, false, List, [], Option, Some, unwrap_or, option_map, option_and_then, map, sum, filter, bytes_eq}
+use Rattle.std.specs.Prelude.{ℕ, ℤ, Bool, true, false, List, [], Option, Some, unwrap_or, option_map, option_and_then}
+use Rattle.std.specs.Prelude.{map, sum, filter, bytes_eq}
 use Rattle.std.specs.Ordering.{nat_cmp, int_cmp}
 use Rattle.std.specs.Cmp.Lexicographic.{slice_cmp}
 use Rattle.std.specs.declared.cmp.Ordering.{Ordering}
@@ -48,8 +49,8 @@ pub record Series : Type 0 where
   pub kind : SeriesKind
   pub elements : Elements
 
--- what a store holds: the format of its volume, and so many element pages; row types, patterns, calendars by their texts, containers and
--- series under their names and keys
+-- what a store holds: the format of its volume, and so many element pages; row types, patterns, calendars by their
+-- texts, containers and series under their names and keys
 pub record Catalogue : Type 0 where
   pub format : ℕ
   pub pages : ℕ
@@ -69,7 +70,16 @@ newest_format = 2
 
 -- a store of a format, with so many element pages, that holds nothing
 abbrev pub empty_catalogue : ℕ → ℕ → Catalogue
-empty_catalogue format pages = record { format = format; pages = pages; row_types = empty; patterns = empty; calendars = empty; containers = empty; series = empty }
+empty_catalogue format pages = record {
+  format = format;
+  pages = pages;
+  row_types = empty;
+  patterns = empty;
+  calendars =
+      empty;
+  containers = empty;
+  series = empty;
+}
 
 -- the same catalogue in the newest format
 abbrev pub in_newest_format : Catalogue → Catalogue
@@ -92,10 +102,12 @@ calendar_of cat c = option_map (with_plan c) (pattern_of cat c.part)
 abbrev pub calendar_named : Catalogue → List ℕ → Option CalendarPlan
 calendar_named cat name = option_and_then (calendar_of cat) (get cat.calendars name)
 
--- where the elements of a series can stand: at all stamps, or at the on starts of a grid; none where the calendar of that name is missing
+-- where the elements of a series can stand: at all stamps, or at the on starts of a grid; none where the calendar of
+-- that name is missing
 abbrev pub shape_of : Catalogue → SeriesKind → Option Shape
 shape_of cat Irregular = Some shapes.Irregular
-shape_of cat (Regular calendar origin) = option_map (λ plan. shapes.Regular (record { calendar = plan; origin = origin })) (calendar_named cat calendar)
+shape_of cat (Regular calendar origin) =
+    option_map (λ plan. shapes.Regular (record { calendar = plan; origin = origin })) (calendar_named cat calendar)
 
 -- the row type of a series, that of its container
 abbrev pub heading_of : Catalogue → Series → Option Heading

@@ -28,7 +28,8 @@ elements_charge columns (Regular grid) elements = regular_charge (page_cells col
 
 -- how many pages a series is charged; none where its calendar is missing
 abbrev pub series_charge : Catalogue → Series → ℕ
-series_charge cat s = unwrap_or (option_map (λ shape. elements_charge (columns_of cat s) shape s.elements) (shape_of cat s.kind)) 0
+series_charge cat s =
+    unwrap_or (option_map (λ shape. elements_charge (columns_of cat s) shape s.elements) (shape_of cat s.kind)) 0
 
 -- how many pages the series of a container are charged together
 abbrev pub container_charge : List ℕ → Catalogue → ℕ

@@ -1,5 +1,8 @@
--- The definitions of row types, patterns, calendars, containers and series, in numbered slots, and the format of their volume.
-use Rattle.std.specs.Prelude.{◌≡◌, ℕ, ℤ, ◌+◌, ◌<◌, ◌⊎◌, Bool, true, false, List, [], ◌∷◌, length, map, replicate, slice_index_or, slice_set, position, is_none, Option, Some, None, option_map, option_and_then, bytes_eq, Contains}
+-- The definitions of row types, patterns, calendars, containers and series, in numbered slots, and the format of their
+-- volume.
+use Rattle.std.specs.Prelude.{◌≡◌, ℕ, ℤ, ◌+◌, ◌<◌, ◌⊎◌, Bool, true, false, List, [], ◌∷◌, length, map, replicate}
+use Rattle.std.specs.Prelude.{slice_index_or, slice_set, position, is_none, Option, Some, None, option_map}
+use Rattle.std.specs.Prelude.{option_and_then, bytes_eq, Contains}
 use Rattle.std.specs.FinMap.{from_entries}
 use Rattle.ts_row.specs.RowType.{Heading}
 use Rattle.ts_pattern.specs.Plan.{Plan}
@@ -148,9 +151,11 @@ from_def kinds.Pattern (defs.Pattern name pattern) = Some (record { name = name;
 from_def kinds.Pattern other = None
 from_def kinds.Calendar (defs.Calendar name calendar by) = Some (record { name = name; calendar = calendar; by = by })
 from_def kinds.Calendar other = None
-from_def kinds.Container (defs.Container name row_type quota) = Some (record { name = name; row_type = row_type; quota = quota })
+from_def kinds.Container (defs.Container name row_type quota) =
+    Some (record { name = name; row_type = row_type; quota = quota })
 from_def kinds.Container other = None
-from_def kinds.Series (defs.Series key container regular) = Some (record { key = key; container = container; regular = regular })
+from_def kinds.Series (defs.Series key container regular) =
+    Some (record { key = key; container = container; regular = regular })
 from_def kinds.Series other = None
 
 -- the table of a kind: its slots
@@ -199,8 +204,8 @@ abbrev pub calendar_reference : Option (ℕ × ℤ) → List (Kind × ℕ)
 calendar_reference None = []
 calendar_reference (Some regular) = (kinds.Calendar, regular.0) ∷ []
 
--- what a definition refers to: a calendar that was made by a pattern's name to the slot of that pattern, a container to the slot of its row
--- type, a series to that of its container and, where it is regular, to that of its calendar
+-- what a definition refers to: a calendar that was made by a pattern's name to the slot of that pattern, a container to
+-- the slot of its row type, a series to that of its container and, where it is regular, to that of its calendar
 abbrev pub references : Def → List (Kind × ℕ)
 references (defs.RowType name kind) = []
 references (defs.Pattern name pattern) = []
@@ -214,7 +219,8 @@ Refers def kind slot = let target : Kind × ℕ = (kind, slot) in Contains (refe
 
 -- a definition of some kind refers to it
 abbrev pub IsUsedBy : Kind → Kind → ℕ → Definitions → Type 0
-IsUsedBy user kind slot d = (i : ℕ) × (def : Def) × (i < limit user) × (def_at user i d ≡ Some def) × Refers def kind slot
+IsUsedBy user kind slot d = (i : ℕ) × (def : Def) × (i < limit user) × (def_at user i d ≡ Some def)
+    × Refers def kind slot
 
 -- some definition refers to it
 abbrev pub IsUsed : Kind → ℕ → Definitions → Type 0
@@ -253,7 +259,17 @@ no_definitions = record {
 
 -- the same without room
 abbrev pub no_tables : Tables
-no_tables = record { definitions = no_definitions; room = record { row_types = false; patterns = false; calendars = false; containers = false; series = false } }
+no_tables = record {
+  definitions = no_definitions;
+  room = record {
+    row_types = false;
+    patterns = false;
+    calendars =
+        false;
+    containers = false;
+    series = false;
+  };
+}
 
 -- a slot is filled with what has this name
 abbrev pub has_name : List ℕ → Option Def → Bool
@@ -272,7 +288,8 @@ vacant_slot table = position is_none table
 abbrev pub IsNewName : List ℕ → ℕ → List (Option Def) → Type 0
 IsNewName name slot table = (slot_of name table ≡ None) ⊎ (slot_of name table ≡ Some slot)
 
--- what the filled slots of a table have, from slot number `first` on: a name, and what a function gives of slot and definition
+-- what the filled slots of a table have, from slot number `first` on: a name, and what a function gives of slot and
+-- definition
 abbrev pub filled_from : {A X : Type 0} → (A → List ℕ) → (ℕ → A → X) → ℕ → List (Option A) → List (List ℕ × X)
 filled_from name value first [] = []
 filled_from name value first (None ∷ rest) = filled_from name value (first + 1) rest

@@ -1,5 +1,6 @@
 -- One kind's slots, with an index of the filled ones in the order of their names.
-use Rattle.std.specs.Prelude.{◌≡◌, ℕ, zero, suc, ◌-◌, ◌≤◌, ◌⊎◌, Bool, false, if◌then◌else◌, List, [], ◌∷◌, ◌++◌, length, replicate, Option, Some, None, bytes_eq, min}
+use Rattle.std.specs.Prelude.{◌≡◌, ℕ, zero, suc, ◌-◌, ◌≤◌, ◌⊎◌, Bool, false, if◌then◌else◌, List, [], ◌∷◌, ◌++◌, length}
+use Rattle.std.specs.Prelude.{replicate, Option, Some, None, bytes_eq, min}
 use Rattle.std.specs.Ordering.{is_gt}
 use Rattle.std.specs.FinMap.{values}
 use Rattle.ts_model.specs.Catalogue.{name_cmp}
@@ -18,11 +19,13 @@ padded count items = items ++ replicate (count - length items) None
 
 -- no two slots have one name
 abbrev pub AreApart : List (Option Def) → Type 0
-AreApart items = (i j : ℕ) (a b : Def) → at_slot i items ≡ Some a → at_slot j items ≡ Some b → name_of a ≡ name_of b → i ≡ j
+AreApart items = (i j : ℕ) (a b : Def) → at_slot i items ≡ Some a → at_slot j items ≡ Some b → name_of a ≡ name_of b
+    → i ≡ j
 
 -- what a table of at most 4096 slots keeps: all of them or, before it took memory, none, the numbers of the filled ones
 -- in the order of their names, and the lowest empty one
-pub record IsIndexed (count : ℕ) (items : List (Option Def)) (order : List ℕ) (vacant : Option ℕ) (capacity : ℕ) : Type 0 where
+pub record IsIndexed (count : ℕ) (items : List (Option Def)) (order : List ℕ) (vacant : Option ℕ)
+    (capacity : ℕ) : Type 0 where
   pub most : count ≤ 4096
   pub size : (length items ≡ 0) ⊎ (length items ≡ count)
   pub apart : AreApart items

@@ -32,8 +32,8 @@ pub enum Def {
         row_type: u8,
         quota: u32,
     },
-    /// A series of the container in slot `container`. Where it is regular, `regular` is the slot of its calendar and its origin, which is
-    /// an on start of that calendar.
+    /// A series of the container in slot `container`. Where it is regular, `regular` is the slot of its calendar and
+    /// its origin, which is an on start of that calendar.
     Series {
         key: Key,
         container: u8,

@@ -1,6 +1,9 @@
-ghost use Rattle.std.specs.Prelude.{◌≡◌, ◌<◌, ◌⊎◌, true, OnOk, OnErr, IsOk, IfOk, IfSome, IsSome, EachIndex, slice_index, option_copied};
+ghost use Rattle.std.specs.Prelude.{◌≡◌, ◌<◌, ◌⊎◌, true, OnOk, OnErr, IsOk, IfOk, IfSome, IsSome, EachIndex};
+ghost use Rattle.std.specs.Prelude.{slice_index, option_copied};
 ghost use Rattle.std.specs.FinMap.{values};
-ghost use Rattle.ts_model.specs.Definitions.{limit, kind_of, name_of, slots, with_slot, has_room, with_room, no_tables, at_slot, slot_of, vacant_slot, slots_by_name, with_format, IsNewName, IsFormat, IsDefinitions};
+ghost use Rattle.ts_model.specs.Definitions.{limit, kind_of, name_of, slots, with_slot, has_room, with_room, no_tables};
+ghost use Rattle.ts_model.specs.Definitions.{at_slot, slot_of, vacant_slot, slots_by_name, with_format, IsNewName};
+ghost use Rattle.ts_model.specs.Definitions.{IsFormat, IsDefinitions};
 
 use crate::table::Table;
 use crate::{Def, FORMAT, Kind};
@@ -87,7 +90,8 @@ impl Defs {
     /// The filled slots in the order of their names.
     pub fn in_order(&self, kind: Kind) -> &[u16]
         ensures value { result.now ≡ values (slots_by_name (slots kind self.now.definitions)) }
-        ensures filled { EachIndex result.now (λ k. IsSome (at_slot (slice_index result.now k) (slots kind self.now.definitions))) }
+        ensures filled { EachIndex result.now
+            (λ k. IsSome (at_slot (slice_index result.now k) (slots kind self.now.definitions))) }
         ensures within { EachIndex result.now (λ k. slice_index result.now k < limit kind) }
         ensures rules { IsDefinitions self.now.definitions }
     {
@@ -115,7 +119,8 @@ impl Defs {
         requires slot { slot < limit kind }
         requires kind { IfSome def (λ d. kind_of d ≡ kind) }
         requires name { IfSome def (λ d. IsNewName (name_of d) slot (slots kind self.old.definitions)) }
-        requires room { IsSome def → (has_room kind self.old.room ≡ true) ⊎ IsSome (at_slot slot (slots kind self.old.definitions)) }
+        requires room { IsSome def → (has_room kind self.old.room ≡ true)
+            ⊎ IsSome (at_slot slot (slots kind self.old.definitions)) }
         ensures slot { self.new.definitions ≡ with_slot kind slot def self.old.definitions }
         ensures room { self.new.room ≡ self.old.room }
     {

@@ -1,6 +1,8 @@
 // One kind's definitions in their slots. The numbers of the filled slots are kept in the order of their names, so
 // that a name is found by a binary search; and so is the lowest empty slot.
-ghost use Rattle.std.specs.Prelude.{◌≡◌, ◌<◌, ◌≤◌, ◌⊎◌, true, false, length, replicate, slice_set, Some, None, OnOk, OnErr, IsOk, IsSome, IfSome, IfOk, EachIndex, slice_index, ℕ, option_copied, option_map};
+ghost use Rattle.std.specs.Prelude.{◌≡◌, ◌<◌, ◌≤◌, ◌⊎◌, true, false, length, replicate, slice_set, Some, None, OnOk};
+ghost use Rattle.std.specs.Prelude.{OnErr, IsOk, IsSome, IfSome, IfOk, EachIndex, slice_index, ℕ, option_copied};
+ghost use Rattle.std.specs.Prelude.{option_map};
 ghost use Rattle.std.specs.FinMap.{values, entries};
 ghost use Rattle.ts_model.specs.Definitions.{name_of, at_slot, slot_of, vacant_slot, slots_by_name, IsNewName, IsTable};
 ghost use Rattle.ts_model.specs.Table.{place_of, stands_at, lower, AreApart};
@@ -25,7 +27,12 @@ impl Model for Table {
 
     ghost Value = { Slots };
 
-    ghost view = { λ t. record { count = t.count; slots = padded t.count t.slots.items; room = length t.slots.items == t.count } };
+    ghost view = { λ t. record {
+      count = t.count;
+      slots = padded t.count t.slots.items;
+      room = length t.slots.items
+          == t.count;
+    } };
 
     ghost invariant = { λ t. IsIndexed t.count t.slots.items t.order.items t.vacant (vec_capacity t.order) };
 }

@@ -1,23 +1,28 @@
 -- The commits of a run of sessions, and the transactions that are open: which commit stands in whose way.
-use Rattle.std.specs.Prelude.{◌≡◌, ℕ, ◌+◌, ◌-◌, ◌<◌, ◌≤◌, Bool, true, false, Option, Some, None, option_map, List, [], ◌∷◌, ◌++◌, length, drop, position, slice_set, slice_index_or, replicate}
+use Rattle.std.specs.Prelude.{◌≡◌, ℕ, ◌+◌, ◌-◌, ◌<◌, ◌≤◌, Bool, true, false, Option, Some, None, option_map, List, []}
+use Rattle.std.specs.Prelude.{◌∷◌, ◌++◌, length, drop, position, slice_set, slice_index_or, replicate}
 use Rattle.ts_multi.specs.declared.object.Object.{Object}
 use Rattle.ts_multi.specs.declared.object.Touched.{Touched}
 use Rattle.ts_multi.specs.Objects.{written, meets}
 
--- an open transaction: how many commits there were at its Begin, and what its accepted commands touched, the first of them first
+-- an open transaction: how many commits there were at its Begin, and what its accepted commands touched, the first of
+-- them first
 pub record Pending : Type 0 where
   pub begun : ℕ
   pub noted : List Touched
 
--- what each commit wrote, the first of them first; the transaction of each session, where one is open; whether there is room for one step more
+-- what each commit wrote, the first of them first; the transaction of each session, where one is open; whether there is
+-- room for one step more
 pub record Log : Type 0 where
   pub commits : List (List Object)
   pub sessions : List (Option Pending)
   pub room : Bool
 
--- the number of the first commit behind so many that wrote an object which one of these commands wrote or named; commits are counted from 1
+-- the number of the first commit behind so many that wrote an object which one of these commands wrote or named;
+-- commits are counted from 1
 abbrev pub conflict_after : ℕ → List Touched → List (List Object) → Option ℕ
-conflict_after begun noted commits = option_map (λ place. begun + 1 + place) (position (λ wrote. meets wrote noted) (drop begun commits))
+conflict_after begun noted commits =
+    option_map (λ place. begun + 1 + place) (position (λ wrote. meets wrote noted) (drop begun commits))
 
 -- what a commit of this number wrote
 abbrev pub commit_at : ℕ → List (List Object) → List Object

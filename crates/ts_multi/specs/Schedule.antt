@@ -1,5 +1,6 @@
 -- Whose turn it is: the order in which the items of sessions are carried out. The picks decide it.
-use Rattle.std.specs.Prelude.{ℕ, ◌+◌, ◌%◌, ◌==◌, if◌then◌else◌, Option, Some, None, option_and_then, List, [], ◌∷◌, length, map, slice_get, slice_set, slice_index_or}
+use Rattle.std.specs.Prelude.{ℕ, ◌+◌, ◌%◌, ◌==◌, if◌then◌else◌, Option, Some, None, option_and_then, List, [], ◌∷◌}
+use Rattle.std.specs.Prelude.{length, map, slice_get, slice_set, slice_index_or}
 
 -- the sessions that have items left, counted from 0, by how many each has left
 abbrev pub waiting : ℕ → List ℕ → List ℕ
@@ -21,9 +22,11 @@ first_of number [] left = None
 first_of number (item ∷ items) left = Some ((number + 1, item), slice_set left number items)
 
 abbrev pub turn : {A : Type 0} → ℕ → List (List A) → Option ((ℕ × A) × List (List A))
-turn pick left = option_and_then (λ number. first_of number (slice_index_or left number []) left) (next_session pick (map length left))
+turn pick left = option_and_then (λ number. first_of number (slice_index_or left number []) left)
+    (next_session pick (map length left))
 
--- the items of all sessions, each behind its session's number, in the order in which they are carried out: one for each pick, as long as there is one
+-- the items of all sessions, each behind its session's number, in the order in which they are carried out: one for each
+-- pick, as long as there is one
 abbrev pub order : {A : Type 0} → List (List A) → List ℕ → List (ℕ × A)
 order left [] = []
 order left (pick ∷ picks) = elim (turn pick left) [ None ↦ [] | Some now ↦ now.0 ∷ order now.1 picks ]

@@ -44,16 +44,21 @@ abbrev pub pattern_named : Result CalendarText Refusal → List Object
 pattern_named (Ok text) = named_part text.part
 pattern_named (Err refusal) = []
 
--- the object that a command makes, drops or edits, and every other object among its arguments; an element edit names nothing
+-- the object that a command makes, drops or edits, and every other object among its arguments; an element edit names
+-- nothing
 abbrev pub objects : Command → Touched
 objects (commands.CreateRowType name stamp columns) = writes kinds.RowType name []
 objects (commands.DropRowType name) = writes kinds.RowType name []
 objects (commands.CreatePattern name text) = writes kinds.Pattern name []
 objects (commands.NotOp name pattern) = writes kinds.Pattern name (one kinds.Pattern pattern)
-objects (commands.AndPatterns name first second) = writes kinds.Pattern name (two kinds.Pattern first kinds.Pattern second)
-objects (commands.OrPatterns name first second) = writes kinds.Pattern name (two kinds.Pattern first kinds.Pattern second)
-objects (commands.AndCalendars name first second) = writes kinds.Calendar name (two kinds.Calendar first kinds.Calendar second)
-objects (commands.OrCalendars name first second) = writes kinds.Calendar name (two kinds.Calendar first kinds.Calendar second)
+objects (commands.AndPatterns name first second) =
+    writes kinds.Pattern name (two kinds.Pattern first kinds.Pattern second)
+objects (commands.OrPatterns name first second) =
+    writes kinds.Pattern name (two kinds.Pattern first kinds.Pattern second)
+objects (commands.AndCalendars name first second) =
+    writes kinds.Calendar name (two kinds.Calendar first kinds.Calendar second)
+objects (commands.OrCalendars name first second) =
+    writes kinds.Calendar name (two kinds.Calendar first kinds.Calendar second)
 objects (commands.ShowPattern name) = reads (one kinds.Pattern name)
 objects (commands.DropPattern name) = writes kinds.Pattern name []
 objects (commands.CreateCalendar name text) = writes kinds.Calendar name (pattern_named (read_calendar text))
@@ -65,7 +70,8 @@ objects (commands.CalRange calendar from to) = reads (one kinds.Calendar calenda
 objects (commands.TSContainerCreate name row_type quota) = writes kinds.Container name (one kinds.RowType row_type)
 objects (commands.TSContainerDestroy name) = writes kinds.Container name []
 objects (commands.TSContainerUsage name) = reads (one kinds.Container name)
-objects (commands.TSCreate key calendar origin container) = writes kinds.Series key (two kinds.Calendar calendar kinds.Container container)
+objects (commands.TSCreate key calendar origin container) =
+    writes kinds.Series key (two kinds.Calendar calendar kinds.Container container)
 objects (commands.TSCreateIrr key container) = writes kinds.Series key (one kinds.Container container)
 objects (commands.DropSeries key) = writes kinds.Series key []
 objects (commands.ListSeries container) = reads (one kinds.Container container)

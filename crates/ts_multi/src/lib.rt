@@ -1,9 +1,9 @@
 //! Sessions of one source. A source is cut into their scripts (`specs/Sections`), picks decide whose turn it is
 //! (`specs/Schedule`, `specs/Picks`), each command is told the objects that it writes and names (`specs/Touched`), and
-//! `Sessions` keeps what each commit wrote and what each open transaction touched, so that a transaction is told the first
-//! commit that stands in its way (`specs/Log`). That an order is a shuffle, that the sections are the source and that a
-//! conflict is the first are laws (`laws.rt`). Stands on ts_command, ts_model, ts_calendar and ts_base; knows nothing of
-//! elements, pages or disks. Read `specs/Log.antt`, then `sessions.rt`.
+//! `Sessions` keeps what each commit wrote and what each open transaction touched, so that a transaction is told the
+//! first commit that stands in its way (`specs/Log`). That an order is a shuffle, that the sections are the source and
+//! that a conflict is the first are laws (`laws.rt`). Stands on ts_command, ts_model, ts_calendar and ts_base; knows
+//! nothing of elements, pages or disks. Read `specs/Log.antt`, then `sessions.rt`.
 #![tactic(auto)]
 
 mod commit;

@@ -1,7 +1,9 @@
 // The transactions of sessions, and the commits that stand in their way.
-ghost use Rattle.std.specs.Prelude.{◌≡◌, ◌<◌, IsSome, is_some, None, IsOk, IfOk, OnOk, OnErr, true, map, length, replicate};
+ghost use Rattle.std.specs.Prelude.{◌≡◌, ◌<◌, IsSome, is_some, None, IsOk, IfOk, OnOk, OnErr, true, map, length};
+ghost use Rattle.std.specs.Prelude.{replicate};
 ghost use Rattle.std.specs.List.{AllPass};
-ghost use Rattle.ts_multi.specs.Log.{start, pending_at, after_begin, after_end, after_note, after_commit, with_commit, conflict_of};
+ghost use Rattle.ts_multi.specs.Log.{start, pending_at, after_begin, after_end, after_note, after_commit, with_commit};
+ghost use Rattle.ts_multi.specs.Log.{conflict_of};
 
 use crate::commit::Commit;
 use crate::object::Touched;
@@ -25,7 +27,12 @@ impl Model for Sessions {
 
     ghost Value = { Log };
 
-    ghost view = { λ s. record { commits = s.commits.items; sessions = map (λ slot. slot.pending) s.slots.items; room = s.room } };
+    ghost view = { λ s. record {
+      commits = s.commits.items;
+      sessions = map (λ slot. slot.pending) s.slots.items;
+      room =
+          s.room;
+    } };
 
     ghost invariant = { λ s. IsKept s.commits.items s.slots.items s.room (vec_capacity s.commits) };
 }

@@ -1,5 +1,6 @@
 // The place of a session's transaction.
-ghost use Rattle.std.specs.Prelude.{◌≡◌, ◌≤◌, [], Some, None, is_some, IsSome, IfSome, OnOk, true, length, drop, position, ◌+◌, ◌<◌};
+ghost use Rattle.std.specs.Prelude.{◌≡◌, ◌≤◌, [], Some, None, is_some, IsSome, IfSome, OnOk, true, length, drop};
+ghost use Rattle.std.specs.Prelude.{position, ◌+◌, ◌<◌};
 ghost use Rattle.ts_multi.specs.Log.{with_noted, conflict_of, conflict_after};
 ghost use Rattle.ts_multi.specs.Objects.{meets};
 
@@ -24,7 +25,11 @@ impl Model for Slot {
 
     ghost Value = { Standing };
 
-    ghost view = { λ s. record { pending = pending_of s.begun s.noted.items; room = nat_lt (length s.noted.items) (vec_capacity s.noted) } };
+    ghost view = { λ s. record {
+      pending = pending_of s.begun s.noted.items;
+      room =
+          nat_lt (length s.noted.items) (vec_capacity s.noted);
+    } };
 }
 
 impl Slot {

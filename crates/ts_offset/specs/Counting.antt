@@ -1,6 +1,7 @@
 -- What is counted of the on starts of a calendar: CalIndex, CalStamp and CalRange of the Informix TimeSeries Data
 -- User's Guide.
-use Rattle.std.specs.Prelude.{◌≡◌, ℕ, ◌-◌, ◌&&◌, not, nat_lt, if◌then◌else◌, int_lt, ℤ, pos, neg_ℤ, Option, List, length, filter, slice_get, Result, Ok, Err, Vec}
+use Rattle.std.specs.Prelude.{◌≡◌, ℕ, ◌-◌, ◌&&◌, not, nat_lt, if◌then◌else◌, int_lt, ℤ, pos, neg_ℤ, Option, List}
+use Rattle.std.specs.Prelude.{length, filter, slice_get, Result, Ok, Err, Vec}
 use Rattle.ts_base.specs.declared.refusal.Refusal.{Refusal}
 use Rattle.ts_base.specs.declared.refusal.Refusal.TheVariants.{TooLarge}
 use Rattle.ts_base.specs.declared.fault.Trouble.{Trouble}

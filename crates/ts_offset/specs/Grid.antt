@@ -1,5 +1,7 @@
 -- The on starts of a calendar from an origin on, counted from 0.
-use Rattle.std.specs.Prelude.{◌≡◌, ℕ, Bool, true, false, ◌&&◌, not, if◌then◌else◌, int_lt, ℤ, pos, ◌+ℤ◌, ◌≤ℤ◌, ◌<ℤ◌, Option, Some, None, option_and_then, option_map, ok_or, List, length, filter, slice_get, Result, Ok, Err}
+use Rattle.std.specs.Prelude.{◌≡◌, ℕ, Bool, true, false, ◌&&◌, not, if◌then◌else◌, int_lt, ℤ, pos, ◌+ℤ◌, ◌≤ℤ◌, ◌<ℤ◌}
+use Rattle.std.specs.Prelude.{Option, Some, None, option_and_then, option_map, ok_or, List, length, filter, slice_get}
+use Rattle.std.specs.Prelude.{Result, Ok, Err}
 use Rattle.ts_base.specs.declared.refusal.Refusal.{Refusal}
 use Rattle.ts_base.specs.declared.refusal.Refusal.TheVariants.{OffStamp, BeforeOrigin, PastEnd}
 use Rattle.ts_calendar.specs.Plan.{CalendarPlan}

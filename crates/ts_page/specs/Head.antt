@@ -1,5 +1,6 @@
 -- The head of an element page: its first 32 bytes. A page whose first byte is 0 is free, whatever follows.
-use Rattle.std.specs.Prelude.{◌≡◌, ℕ, ◌<◌, ◌^◌, Bool, ◌&&◌, ◌==◌, if◌then◌else◌, Option, Some, None, List, ◌∷◌, ◌++◌, take, drop, replicate, slice_index}
+use Rattle.std.specs.Prelude.{◌≡◌, ℕ, ◌<◌, ◌^◌, Bool, ◌&&◌, ◌==◌, if◌then◌else◌, Option, Some, None, List, ◌∷◌, ◌++◌}
+use Rattle.std.specs.Prelude.{take, drop, replicate, slice_index}
 use Rattle.std.specs.Int.{from_be_bytes, to_be_bytes, w16, w64}
 use Rattle.std.specs.List.{list_all}
 use Rattle.ts_page.specs.Volume.{page_size, head_size}

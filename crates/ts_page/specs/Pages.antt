@@ -1,5 +1,7 @@
 -- Pages by their numbers, and what each call on a keeper of pages does to them.
-use Rattle.std.specs.Prelude.{◌≡◌, ◌≢◌, ◌⊎◌, ℕ, ◌+◌, ◌<◌, ◌≤◌, ◌==◌, ◌&&◌, nat_le, if◌then◌else◌, Bool, IsTrue, List, [], ◌∷◌, All, AllPairs, length, take, replicate, slice_index, slice_index_or, Result, OnOk, OnErr, IsErrOf}
+use Rattle.std.specs.Prelude.{◌≡◌, ◌≢◌, ◌⊎◌, ℕ, ◌+◌, ◌<◌, ◌≤◌, ◌==◌, ◌&&◌, nat_le, if◌then◌else◌, Bool, IsTrue, List}
+use Rattle.std.specs.Prelude.{[], ◌∷◌, All, AllPairs, length, take, replicate, slice_index, slice_index_or, Result}
+use Rattle.std.specs.Prelude.{OnOk, OnErr, IsErrOf}
 use Rattle.ts_base.specs.declared.fault.StoreFault.{StoreFault}
 use Rattle.ts_base.specs.declared.fault.StoreFault.TheVariants.{Failed}
 use Rattle.ts_disk.specs.Device.{Rose}
@@ -48,11 +50,12 @@ with_page changed bytes pages number = if changed == number then bytes else page
 abbrev pub HasFreeHead : List ℕ → Type 0
 HasFreeHead page = take head_size page ≡ replicate head_size 0
 
--- The same pages, but for the bytes behind the heads of free element pages. A free page is free whatever follows, so the two
--- mean the same. This is all that the emptying of a journal may change.
+-- The same pages, but for the bytes behind the heads of free element pages. A free page is free whatever follows, so
+-- the two mean the same. This is all that the emptying of a journal may change.
 abbrev pub SameButFreed : (ℕ → List ℕ) → (ℕ → List ℕ) → Type 0
 SameButFreed wanted pages =
-    (number : ℕ) → (pages number ≡ wanted number) ⊎ (IsElementPage number × HasFreeHead (wanted number) × HasFreeHead (pages number))
+    (number : ℕ) → (pages number ≡ wanted number) ⊎ (IsElementPage number × HasFreeHead (wanted number)
+    × HasFreeHead (pages number))
 
 -- what holds of each page that `take` can give
 pub record IsListed (tells : Bool) (c : Contents) (number : ℕ) : Type 0 where
@@ -74,7 +77,8 @@ pub record Answered {T : Type 0} (result : Result T StoreFault) (v w : Contents)
   pub no_fault : ¬ IsErrOf result Failed → w.faults ≡ v.faults
 
 -- a page is read
-pub record Got (tells : Bool) (number : ℕ) (into : List ℕ) (result : Result Unit StoreFault) (v w : Contents) : Type 0 where
+pub record Got (tells : Bool) (number : ℕ) (into : List ℕ) (result : Result Unit StoreFault)
+    (v w : Contents) : Type 0 where
   pub call : Answered result v w
   pub read : OnOk result (IsTrue tells → IsOutsideJournal number → into ≡ v.page number)
   pub pages : IsTrue tells → EqualPages v.page w.page
@@ -82,7 +86,8 @@ pub record Got (tells : Bool) (number : ℕ) (into : List ℕ) (result : Result 
   pub change_bytes : w.change_bytes ≡ v.change_bytes
 
 -- a page is given other bytes: five bytes and its image in a record
-pub record Put (tells : Bool) (number : ℕ) (bytes : List ℕ) (result : Result Unit StoreFault) (v w : Contents) : Type 0 where
+pub record Put (tells : Bool) (number : ℕ) (bytes : List ℕ) (result : Result Unit StoreFault)
+    (v w : Contents) : Type 0 where
   pub call : Answered result v w
   pub put : OnOk result (IsTrue tells → EqualPages (with_page number bytes v.page) w.page)
   pub free : w.free ≡ v.free

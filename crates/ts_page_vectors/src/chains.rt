@@ -4,8 +4,8 @@ use std::alloc::Global;
 use ts_container::Surveyed;
 use ts_space::Place;
 
-/// What makes the rows of the good volume so wide that a page holds four: its page has the stamps 0, 2, 4 and 6 then, without values,
-/// and the quota is three pages.
+/// What makes the rows of the good volume so wide that a page holds four: its page has the stamps 0, 2, 4 and 6 then,
+/// without values, and the quota is three pages.
 const WIDE: [Patch; 10] = [
     (257, 67, b"\x04\x05\xff\x00\x01v"),
     (257, 104, b"\x05\xff\x00\x01w"),

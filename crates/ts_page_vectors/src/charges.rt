@@ -58,7 +58,8 @@ fn a_container_is_charged_for_all_its_series(rt: HostRuntime) {
 
 // A directory where a series has these places, which have six elements.
 fn two_places(alloc: Global) -> Result<Space, AllocError>
-    ensures { IfOk result (λ space. places_of 7 space ≡ record { at = pos 0; page = 931; count = 5 } ∷ record { at = pos 677; page = 930; count = 1 } ∷ []) }
+    ensures { IfOk result (λ space. places_of 7 space ≡ record { at = pos 0; page = 931; count = 5 }
+        ∷ record { at = pos 677; page = 930; count = 1 } ∷ []) }
 {
     let mut space = Space::new(alloc)?;
     space.reserve(7, 2)?;

@@ -51,8 +51,8 @@ const ELEMENTS: [Case; 17] = [
     // Stamps that don't rise, and stamps that do.
     (&[TWO, SECOND, (931, 53, &[0xf0])], Some(931)),
     (&[TWO, SECOND, (931, 53, &[0xf1])], None),
-    // A second page of the series: with the same stamp; later, and earlier, which fits one page with the first. Two that fit one
-    // page, and one more that overlaps.
+    // A second page of the series: with the same stamp; later, and earlier, which fits one page with the first. Two
+    // that fit one page, and one more that overlaps.
     (&[HEAD, FIRST], Some(931)),
     (&[HEAD, FIRST, (930, 40, &[1])], Some(931)),
     (&[HEAD, FIRST, (930, 39, &[0xef])], Some(930)),

@@ -1,4 +1,5 @@
-// A regular series: its slot and its pages, what a survey keeps of them, where its elements can stand, and the first bad page.
+// A regular series: its slot and its pages, what a survey keeps of them, where its elements can stand, and the first
+// bad page.
 ghost use Rattle.std.specs.Prelude.{◌≡◌, IfOk};
 ghost use Rattle.ts_model.specs.Definitions.{kind_of};
 ghost use Rattle.ts_page.specs.Memory.{memory_contents};
@@ -21,8 +22,8 @@ const KEY: Patch = (834, 282, b"\x01\x01g");
 
 const REST: Patch = (834, 348, b"\x03\x05\x00\x00\x75\xb0\x95\x53\xf0\x00");
 
-/// That series, the calendar, of each day from 2011-01-03 on, and a page of 677 cells from offset 677 on, with the integer 7 in its first cell and NULL
-/// in its last.
+/// That series, the calendar, of each day from 2011-01-03 on, and a page of 677 cells from offset 677 on, with the
+/// integer 7 in its first cell and NULL in its last.
 pub(crate) const DAYS: [Patch; 8] = [
     KEY,
     REST,
@@ -182,7 +183,8 @@ fn shape_in(found: &Surveyed, slot: u16) -> Option<Shape<'_>>
     shape_of(&found.defs, slot)
 }
 
-// Whether the elements of the series in slot 3 can stand at those days, those in slot 50 at all stamps, and in slot 4 is none.
+// Whether the elements of the series in slot 3 can stand at those days, those in slot 50 at all stamps, and in slot 4
+// is none.
 fn are_shapes(found: &Surveyed) -> bool
     requires { AreSound 3 found.now.defs.definitions }
 {

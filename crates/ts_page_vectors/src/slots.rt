@@ -139,7 +139,8 @@ const ROW_TYPES: [Case; 14] = [
     (&[NEWEST, (257, 68, &[4, 19]), LONG], None),
     (&[NEWEST, (257, 68, &[4, 28]), LONG], None),
     (&[NEWEST, (257, 68, &[4, 29]), LONG], Some(257)),
-    // A name that is there twice; and behind its page one with a decimal of 19 digits, which in the old format comes first.
+    // A name that is there twice; and behind its page one with a decimal of 19 digits, which in the old format comes
+    // first.
     (&[AGAIN, AGAIN_T, AGAIN_V], Some(258)),
     (
         &[AGAIN, AGAIN_T, AGAIN_V, OTHER_Q, OTHER_T, OTHER_V],

@@ -143,7 +143,8 @@ fn told(alloc: Global, base: &[Patch], patches: &[Patch]) -> Option<Option<u32>>
     page_told(surveyed(alloc, base, patches))
 }
 
-/// Which of these cases is the first whose bytes, put into the good volume behind others, don't have the page that is wanted.
+/// Which of these cases is the first whose bytes, put into the good volume behind others, don't have the page that is
+/// wanted.
 pub(crate) fn first_missed(alloc: Global, base: &[Patch], cases: &[Case]) -> Option<usize> {
     for (number, (patches, wanted)) in cases.iter().enumerate() {
         if told(alloc, base, patches) != Some(*wanted) {

@@ -1,5 +1,6 @@
 -- The text of a pattern, as in `{1 off,5 on,1 off},day`: its grammar, what it reads as, and how it is printed.
-use Rattle.std.specs.Prelude.{ℕ, ◌^◌, Bool, ◌&&◌, true, false, nat_le, nat_lt, if◌then◌else◌, List, [], ◌∷◌, ◌++◌, length, Option, Some, None, Result, Ok, Err, codes}
+use Rattle.std.specs.Prelude.{ℕ, ◌^◌, Bool, ◌&&◌, true, false, nat_le, nat_lt, if◌then◌else◌, List, [], ◌∷◌, ◌++◌}
+use Rattle.std.specs.Prelude.{length, Option, Some, None, Result, Ok, Err, codes}
 use Rattle.std.specs.List.{list_all}
 use Rattle.std.specs.Str.{bytes_eq}
 use Rattle.std.specs.Fmt.{decimal}
@@ -19,7 +20,8 @@ use Rattle.ts_pattern.specs.Algebra.{plan_of_flags}
 
 -- the flag that a word names
 abbrev pub flag_of_word : List ℕ → Option Bool
-flag_of_word word = if bytes_eq word (codes "on") then Some true else (if bytes_eq word (codes "off") then Some false else None)
+flag_of_word word = if bytes_eq word (codes "on") then Some true else (if bytes_eq word (codes "off") then Some false
+    else None)
 
 -- the name of a unit
 abbrev pub unit_name : unit.Unit → List ℕ

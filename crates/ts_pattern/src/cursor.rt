@@ -1,4 +1,5 @@
-ghost use Rattle.std.specs.Prelude.{◌≡◌, ℕ, ◌+◌, ◌*◌, ◌%◌, ◌^◌, ◌<◌, ◌≤◌, length, take, slice_get, Some, IsTrue, IsSome};
+ghost use Rattle.std.specs.Prelude.{◌≡◌, ℕ, ◌+◌, ◌*◌, ◌%◌, ◌^◌, ◌<◌, ◌≤◌, length, take, slice_get, Some, IsTrue};
+ghost use Rattle.std.specs.Prelude.{IsSome};
 ghost use Rattle.ts_pattern.specs.Runs.{total, later_flag, is_pattern};
 ghost use Rattle.ts_pattern.specs.declared.run.Run.{Run};
 
@@ -96,7 +97,8 @@ impl<'a> Cursor<'a> {
     // The index of the run after this one.
     fn next_index(&self) -> usize
         ensures within { result < length self.now.runs.now }
-        ensures place { (self.now.at + self.now.rest) % total self.now.runs.now ≡ total (take result self.now.runs.now) }
+        ensures place { (self.now.at + self.now.rest) % total self.now.runs.now
+            ≡ total (take result self.now.runs.now) }
     {
         if self.index + 1 == self.runs.len() {
             0

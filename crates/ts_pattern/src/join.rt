@@ -1,5 +1,6 @@
 // The runs of two rows of runs that are joined, from run end to run end.
-ghost use Rattle.std.specs.Prelude.{◌≡◌, ℕ, ◌+◌, ◌*◌, ◌%◌, ◌^◌, ◌<◌, ◌≤◌, ◌↔◌, length as count_of, take, slice_get, sum_by, Some, IsTrue, IsSome, IfSome, IfOk, OnOk, OnErr};
+ghost use Rattle.std.specs.Prelude.{◌≡◌, ℕ, ◌+◌, ◌*◌, ◌%◌, ◌^◌, ◌<◌, ◌≤◌, ◌↔◌, length as count_of, take, slice_get};
+ghost use Rattle.std.specs.Prelude.{sum_by, Some, IsTrue, IsSome, IfSome, IfOk, OnOk, OnErr};
 ghost use Rattle.ts_pattern.specs.Runs.{total, is_pattern, runs_of, run};
 ghost use Rattle.ts_pattern.specs.Algebra.{joined};
 ghost use Rattle.ts_pattern.specs.Growth.{extended, ends_on};
@@ -59,7 +60,8 @@ pub(crate) fn count_joined(junction: Junction, left: Line, right: Line, length: 
     requires within { (left.from < total left.runs.now) × (right.from < total right.runs.now) }
     requires small { length ≤ 527_040 }
     ensures { result
-        ≡ count_of (runs_of (side_by_side junction left.entry.runs.now left.entry.from right.entry.runs.now right.entry.from) length) }
+        ≡ count_of (runs_of
+        (side_by_side junction left.entry.runs.now left.entry.from right.entry.runs.now right.entry.from) length) }
 {
     let mut count: u32 = 0;
     let mut last: Option<bool> = None;

@@ -1,4 +1,5 @@
-ghost use Rattle.std.specs.Prelude.{◌≡◌, ℕ, ◌+◌, ◌-◌, ◌*◌, ◌/◌, ◌<◌, ◌≤◌, ◌↔◌, not, length, IsTrue, IsSome, IfSome, IfOk, Ok, map, ℤ, pos, unsigned_abs};
+ghost use Rattle.std.specs.Prelude.{◌≡◌, ℕ, ◌+◌, ◌-◌, ◌*◌, ◌/◌, ◌<◌, ◌≤◌, ◌↔◌, not, length, IsTrue, IsSome, IfSome};
+ghost use Rattle.std.specs.Prelude.{IfOk, Ok, map, ℤ, pos, unsigned_abs};
 ghost use Rattle.std.specs.Int.{int_rem_euclid};
 ghost use Rattle.ts_pattern.specs.Runs.{total, flag_at, flag, is_pattern, turned, scaled};
 ghost use Rattle.ts_base.specs.Answer.{Answers};
@@ -129,7 +130,8 @@ impl Pattern {
     /// The pattern in a smaller unit: each interval becomes as many intervals of that unit as it has.
     pub fn expand(&self, unit: Unit) -> Result<Pattern, Trouble>
         ensures answer { Answers (expanded_plan self.now unit) result }
-        ensures flags { IfOk result (λ p. (k : ℤ) → flag p.runs k ≡ expanded_flag self.now.runs (factor self.now.unit unit) k) }
+        ensures flags { IfOk result (λ p. (k : ℤ)
+            → flag p.runs k ≡ expanded_flag self.now.runs (factor self.now.unit unit) k) }
         ensures length { IfOk result (λ p. total p.runs ≡ total self.now.runs * factor self.now.unit unit) }
     {
         if !is_made_of(self.unit, unit) {
@@ -151,7 +153,8 @@ impl Pattern {
     /// The pattern that is on where both are.
     pub fn and_op(&self, other: &Pattern) -> Result<Pattern, Trouble>
         ensures answer { Answers (joined_plan And self.now (pos 0) other.now (pos 0)) result }
-        ensures flags { IfOk result (λ p. (k : ℤ) → flag p.runs k ≡ joined_flag And p.unit self.now (pos 0) other.now (pos 0) k) }
+        ensures flags { IfOk result (λ p. (k : ℤ) → flag p.runs k ≡ joined_flag And p.unit self.now (pos 0) other.now
+            (pos 0) k) }
         ensures length { IfOk result (λ p. total p.runs ≡ joined_length p.unit self.now other.now) }
     {
         self.join_shifted(Junction::And, 0, other, 0)
@@ -160,7 +163,8 @@ impl Pattern {
     /// The pattern that is on where one of the two is, or both.
     pub fn or_op(&self, other: &Pattern) -> Result<Pattern, Trouble>
         ensures answer { Answers (joined_plan Or self.now (pos 0) other.now (pos 0)) result }
-        ensures flags { IfOk result (λ p. (k : ℤ) → flag p.runs k ≡ joined_flag Or p.unit self.now (pos 0) other.now (pos 0) k) }
+        ensures flags { IfOk result (λ p. (k : ℤ) → flag p.runs k ≡ joined_flag Or p.unit self.now (pos 0) other.now
+            (pos 0) k) }
         ensures length { IfOk result (λ p. total p.runs ≡ joined_length p.unit self.now other.now) }
     {
         self.join_shifted(Junction::Or, 0, other, 0)
@@ -176,7 +180,8 @@ impl Pattern {
         other_shift: i64,
     ) -> Result<Pattern, Trouble>
         ensures answer { Answers (joined_plan junction self.now shift other.now other_shift) result }
-        ensures flags { IfOk result (λ p. (k : ℤ) → flag p.runs k ≡ joined_flag junction p.unit self.now shift other.now other_shift k) }
+        ensures flags { IfOk result (λ p. (k : ℤ)
+            → flag p.runs k ≡ joined_flag junction p.unit self.now shift other.now other_shift k) }
         ensures length { IfOk result (λ p. total p.runs ≡ joined_length p.unit self.now other.now) }
     {
         let Some(unit) = smaller_unit(self.unit, other.unit) else {
@@ -204,7 +209,9 @@ impl Pattern {
         requires left_fits { total self.now.runs * factor self.now.unit unit ≤ length }
         requires right_fits { total other.now.runs * factor other.now.unit unit ≤ length }
         requires small { length ≤ 527_040 }
-        ensures answer { Answers (plan_of_flags unit (λ k. joined_flag junction unit self.now shift other.now other_shift (pos k)) length) result }
+        ensures answer { Answers
+            (plan_of_flags unit (λ k. joined_flag junction unit self.now shift other.now other_shift
+            (pos k)) length) result }
     {
         let left = self.runs_in(unit)?;
         let right = other.runs_in(unit)?;

@@ -133,10 +133,12 @@ fn run_in(text: &[u8]) -> Result<(Run, &[u8]), Misfit>
 // Further runs, as many as commas stand there.
 fn read_runs<'a>(runs: &mut Vec<Run>, text: &'a [u8]) -> Result<&'a [u8], Misfit>
     requires { IsTrue (are_counts runs.old.items) }
-    ensures ok { IfOk result (λ rest. onto runs.old.items (repeated Grammar.run_in text.now) ≡ Ok (runs.new.items, rest.now)) }
+    ensures ok { IfOk result (λ rest. onto runs.old.items (repeated Grammar.run_in text.now)
+        ≡ Ok (runs.new.items, rest.now)) }
     ensures cause { IfErr result (λ misfit. Refuses misfit (repeated Grammar.run_in text.now)) }
     ensures counts { OnOk result (IsTrue (are_counts runs.new.items)) }
-    ensures few { IfOk result (λ rest. length runs.new.items + length rest.now ≤ length runs.old.items + length text.now) }
+    ensures few { IfOk result
+        (λ rest. length runs.new.items + length rest.now ≤ length runs.old.items + length text.now) }
     ensures some { length runs.old.items ≤ length runs.new.items }
 {
     let mut rest = text;
@@ -178,7 +180,8 @@ pub struct WrittenPattern {
 #[tactic(auto, unfolding(crate::specs::Grammar::pattern_in))]
 pub fn pattern_in(alloc: Global, text: &[u8]) -> Result<(WrittenPattern, &[u8]), Misfit>
     requires { length text.now < 2 ^ 32 }
-    ensures ok { IfOk result (λ x. Grammar.pattern_in text.now ≡ Ok (record { unit = x.0.unit; runs = x.0.runs.items }, x.1.now)) }
+    ensures ok { IfOk result (λ x. Grammar.pattern_in text.now
+        ≡ Ok (record { unit = x.0.unit; runs = x.0.runs.items }, x.1.now)) }
     ensures cause { IfErr result (λ misfit. Refuses misfit (Grammar.pattern_in text.now)) }
 {
     let (runs, rest) = runs_in(alloc, text)?;
@@ -189,7 +192,8 @@ pub fn pattern_in(alloc: Global, text: &[u8]) -> Result<(WrittenPattern, &[u8]),
 /// The pattern that a text writes.
 pub(crate) fn written_pattern(alloc: Global, text: &[u8]) -> Result<WrittenPattern, Misfit>
     requires { length text.now < 2 ^ 32 }
-    ensures ok { IfOk result (λ x. ended [] Grammar.pattern_in text.now ≡ Ok (record { unit = x.unit; runs = x.runs.items }, [])) }
+    ensures ok { IfOk result (λ x. ended [] Grammar.pattern_in text.now
+        ≡ Ok (record { unit = x.unit; runs = x.runs.items }, [])) }
     ensures cause { IfErr result (λ misfit. Refuses misfit (ended [] Grammar.pattern_in text.now)) }
 {
     let (written, rest) = pattern_in(alloc, text)?;

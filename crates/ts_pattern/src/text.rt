@@ -1,11 +1,13 @@
 // Patterns as texts: `{1 off,5 on,1 off},day`.
-ghost use Rattle.std.specs.Prelude.{◌≡◌, ◌≢◌, ℕ, ◌+◌, ◌-◌, ◌*◌, ◌^◌, ◌<◌, ◌≤◌, ◌↔◌, List, [], ◌∷◌, ◌++◌, Ok, length, IsTrue, IfOk, OnOk, OnErr};
+ghost use Rattle.std.specs.Prelude.{◌≡◌, ◌≢◌, ℕ, ◌+◌, ◌-◌, ◌*◌, ◌^◌, ◌<◌, ◌≤◌, ◌↔◌, List, [], ◌∷◌, ◌++◌, Ok, length};
+ghost use Rattle.std.specs.Prelude.{IsTrue, IfOk, OnOk, OnErr};
 ghost use Rattle.ts_text.specs.Place.{everywhere, RefusesInPlace};
 ghost use Rattle.ts_text.specs.Plain.{plain_front};
 ghost use Rattle.ts_text.specs.Spelling.{AreItsTokens};
 ghost use Rattle.ts_pattern.specs.Runs.{total, flag_at, runs_of, is_pattern};
 ghost use Rattle.ts_base.specs.Answer.{Answers};
-ghost use Rattle.ts_pattern.specs.Grammar.{are_counts, plan_of_written, read_plan, written_plan, printed_run, printed_runs, printed_plan};
+ghost use Rattle.ts_pattern.specs.Grammar.{are_counts, plan_of_written, read_plan, written_plan, printed_run};
+ghost use Rattle.ts_pattern.specs.Grammar.{printed_runs, printed_plan};
 ghost use Rattle.ts_pattern.specs.Grammar;
 ghost use Rattle.ts_pattern.specs.Plan.{Plan};
 ghost use Rattle.ts_pattern.specs.Spelling.{IsPatternText};
@@ -139,14 +141,15 @@ pub fn pattern_texts_are_tokens()
     ensures { (text : List ℕ) → (p : Plan) → written_plan text ≡ Ok p ↔ IsPatternText p text }
 {}
 
-/// A pattern's text is its tokens with blanks between them; where a text is refused, whole tokens stand before the place.
+/// A pattern's text is its tokens with blanks between them; where a text is refused, whole tokens stand before the
+/// place.
 pub fn a_pattern_is_its_tokens()
     ensures { AreItsTokens plain_front [] written_plan }
 {}
 
 /// Where a text is refused as a pattern, what stands before the place goes on to a pattern's text; with the token that
-/// stands at the place none does: whatever comes behind it that leaves it this token, the text is refused at this place.
-/// Nothing is said of bytes that begin no token.
+/// stands at the place none does: whatever comes behind it that leaves it this token, the text is refused at this
+/// place. Nothing is said of bytes that begin no token.
 pub fn patterns_are_refused_in_place()
     ensures { RefusesInPlace (everywhere plain_front) written_plan }
 {}

@@ -6,13 +6,14 @@ use Rattle.ts_journal.specs.Journal.{IsVolumeSize, records, IsMalformed}
 use Rattle.ts_recover.specs.declared.replay.RecoverFault.{RecoverFault}
 use Rattle.ts_recover.specs.declared.replay.RecoverFault.TheVariants.{Failed, NotAStore, Memory}
 
--- Page 0 is bad where the length is none of a volume, and else page 1 where a record of the journal is malformed. The disk
--- failed only where its count rose; want of memory is free.
+-- Page 0 is bad where the length is none of a volume, and else page 1 where a record of the journal is malformed. The
+-- disk failed only where its count rose; want of memory is free.
 abbrev pub RecoverCause : {T : Type 0} → Bool → Result T RecoverFault → Device → Device → Type 0
 RecoverCause tells (Ok replayed) v w = Unit {0}
 RecoverCause tells (Err Failed) v w = Rose v.faults w.faults
 RecoverCause tells (Err (NotAStore page)) v w =
-    ((page ≡ 0) × (IsVolumeSize v.size → ⊥)) ⊎ ((page ≡ 1) × IsVolumeSize v.size × (IsTrue tells → records v.held ≡ None))
+    ((page ≡ 0) × (IsVolumeSize v.size → ⊥))
+    ⊎ ((page ≡ 1) × IsVolumeSize v.size × (IsTrue tells → records v.held ≡ None))
 RecoverCause tells (Err (Memory e)) v w = Unit {0}
 
 -- Where page 1 is bad, a record of the journal that is reached through open gates is malformed; and nowhere else.

@@ -2,10 +2,12 @@
 ghost use Rattle.std.specs.Prelude.{◌≡◌, ◌*◌, [], IsTrue, IsErr, IsErrOf, IfOk, OnOk, OnErr};
 ghost use Rattle.ts_page.specs.Volume.{page_size};
 ghost use Rattle.ts_journal.specs.Entry.{AreAllowed};
-ghost use Rattle.ts_journal.specs.Journal.{IsVolumeSize, page_count, StandsAt, StandsOver, StaysUnread, ReadsButFreed, pages};
+ghost use Rattle.ts_journal.specs.Journal.{IsVolumeSize, page_count, StandsAt, StandsOver, StaysUnread, ReadsButFreed};
+ghost use Rattle.ts_journal.specs.Journal.{pages};
 ghost use Rattle.ts_journal.specs.Moment.{IsJournalOf, MakesLast, OnlyReads, SamePages};
 ghost use Rattle.ts_recover.specs.Overlay.{IsEmptied, RecoverCause, PageOneCause};
-ghost use Rattle.ts_recover.specs.declared.replay.RecoverFault.TheVariants.{Failed as RecoverFailed, Memory as RecoverMemory};
+ghost use Rattle.ts_recover.specs.declared.replay.RecoverFault.TheVariants.{Failed as RecoverFailed};
+ghost use Rattle.ts_recover.specs.declared.replay.RecoverFault.TheVariants.{Memory as RecoverMemory};
 
 use crate::read::read_journal;
 use std::alloc::{AllocError, Global};

@@ -1,5 +1,6 @@
 -- What is left of pages of which the elements in a range of offsets go: of each page of some places.
-use Rattle.std.specs.Prelude.{◌≡◌, ℕ, zero, suc, ◌+◌, ◌*◌, ◌<◌, ◌≤◌, if◌then◌else◌, Bool, IsTrue, ℤ, ◌≤ℤ◌, pos, All, Contains, IsPermutation, None, List, [], ◌∷◌, ◌++◌, length, take}
+use Rattle.std.specs.Prelude.{◌≡◌, ℕ, zero, suc, ◌+◌, ◌*◌, ◌<◌, ◌≤◌, if◌then◌else◌, Bool, IsTrue, ℤ, ◌≤ℤ◌, pos, All}
+use Rattle.std.specs.Prelude.{Contains, IsPermutation, None, List, [], ◌∷◌, ◌++◌, length, take}
 use Rattle.ts_space.specs.declared.place.Place.{Place}
 use Rattle.ts_space.specs.Place.{AreBelow, pages_of}
 use Rattle.ts_page.specs.Pages.{Contents, IsElementPage}
@@ -14,7 +15,8 @@ use Rattle.ts_regular.specs.Range.{is_between}
 -- cells, of which the first has this offset, without the elements in a range
 abbrev pub cells_outside : ℕ → ℕ → ℕ → List Cell → List Cell
 cells_outside from to offset [] = []
-cells_outside from to offset (cell ∷ cells) = (if is_between from to offset then None else cell) ∷ cells_outside from to (offset + 1) cells
+cells_outside from to offset (cell ∷ cells) = (if is_between from to offset then None else cell)
+    ∷ cells_outside from to (offset + 1) cells
 
 -- each place begins here or above
 abbrev pub AreNotBelow : ℤ → List Place → Type 0
@@ -42,7 +44,8 @@ Cut = Place × ℕ
 abbrev pub recounted : Place → ℕ → Place
 recounted place left = record { at = place.at; page = place.page; count = left }
 
--- some places, of whose pages these numbers of elements are left: of the first, of the last where it is another, and none between
+-- some places, of whose pages these numbers of elements are left: of the first, of the last where it is another, and
+-- none between
 abbrev pub cuts_behind : ℕ → List Place → List Cut
 cuts_behind back [] = []
 cuts_behind back (p ∷ []) = (p, back) ∷ []
@@ -64,13 +67,17 @@ gone_of ((place, zero) ∷ cuts) = place ∷ gone_of cuts
 gone_of ((place, suc n) ∷ cuts) = gone_of cuts
 
 -- So many elements are left of a page, no more than it had; where some are, it has them.
-pub record IsCutTo (tells : Bool) (slot : ℕ) (columns : List Column) (from to left : ℕ) (place : Place) (v w : Contents) : Type 0 where
+pub record IsCutTo (tells : Bool) (slot : ℕ) (columns : List Column) (from to left : ℕ) (place : Place)
+    (v w : Contents) : Type 0 where
   pub fewer : left ≤ place.count
   pub number : IsToldOn tells slot columns place v (λ p. filled_count (cells_outside from to p.0 p.1) ≡ left)
-  pub on : 1 ≤ left → IsToldOn tells slot columns place v (λ p. IsOn slot columns (w.page place.page) (recounted place left) (p.0, cells_outside from to p.0 p.1))
+  pub on : 1 ≤ left
+      → IsToldOn tells slot columns place v (λ p. IsOn slot columns (w.page place.page) (recounted place left)
+      (p.0, cells_outside from to p.0 p.1))
 
 -- So many elements are left of these cells of a page; where some are, it has them.
-pub record IsRest (slot : ℕ) (columns : List Column) (from to : ℕ) (pages : ℕ → List ℕ) (cut : Cut) (p : OffsetPage) : Type 0 where
+pub record IsRest (slot : ℕ) (columns : List Column) (from to : ℕ) (pages : ℕ → List ℕ) (cut : Cut)
+    (p : OffsetPage) : Type 0 where
   pub number : filled_count (cells_outside from to p.0 p.1) ≡ cut.1
   pub on : 1 ≤ cut.1 → IsOn slot columns (pages cut.0.page) (recounted cut.0 cut.1) (p.0, cells_outside from to p.0 p.1)
 
@@ -79,10 +86,12 @@ abbrev pub AreRests : ℕ → List Column → ℕ → ℕ → (ℕ → List ℕ)
 AreRests slot columns from to pages [] [] = Unit {0}
 AreRests slot columns from to pages [] (p ∷ ps) = ⊥
 AreRests slot columns from to pages (cut ∷ cuts) [] = ⊥
-AreRests slot columns from to pages (cut ∷ cuts) (p ∷ ps) = IsRest slot columns from to pages cut p × AreRests slot columns from to pages cuts ps
+AreRests slot columns from to pages (cut ∷ cuts) (p ∷ ps) = IsRest slot columns from to pages cut p
+    × AreRests slot columns from to pages cuts ps
 
 -- it is so of the pages of these places; no other page changes, and none where all elements are left
-pub record AreCutTo (tells : Bool) (slot : ℕ) (columns : List Column) (from to : ℕ) (places : List Place) (cuts : List Cut) (v w : Contents) : Type 0 where
+pub record AreCutTo (tells : Bool) (slot : ℕ) (columns : List Column) (from to : ℕ) (places : List Place)
+    (cuts : List Cut) (v w : Contents) : Type 0 where
   pub fewer : All (λ cut. cut.1 ≤ cut.0.count) cuts
   pub rests : IsTold tells slot columns places v (λ ps. AreRests slot columns from to w.page cuts ps)
   pub free : w.free ≡ v.free

@@ -1,5 +1,7 @@
--- Elements at offsets, rising: the list that the pages of a regular series are, and what an edit at one offset makes of it.
-use Rattle.std.specs.Prelude.{ℕ, ◌+◌, ◌-◌, ◌<◌, ◌==◌, not, Bool, Option, Some, None, List, [], ◌∷◌, filter, length, slice_get}
+-- Elements at offsets, rising: the list that the pages of a regular series are, and what an edit at one offset makes of
+-- it.
+use Rattle.std.specs.Prelude.{ℕ, ◌+◌, ◌-◌, ◌<◌, ◌==◌, not, Bool, Option, Some, None, List, [], ◌∷◌, filter, length}
+use Rattle.std.specs.Prelude.{slice_get}
 use Rattle.std.specs.Ordering.{nat_cmp}
 use Rattle.std.specs.FinMap.{find, put}
 use Rattle.std.specs.Option.{option_map}

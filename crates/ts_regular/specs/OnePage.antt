@@ -1,5 +1,6 @@
 -- What an edit does to one page of a series, whatever other pages the series has.
-use Rattle.std.specs.Prelude.{◌≡◌, ◌≢◌, ℕ, ◌<◌, ◌≤◌, pos, not, Bool, true, false, IsTrue, Option, Some, None, IsSome, is_some, List, ◌∷◌, length, slice_set, slice_index_or, replicate}
+use Rattle.std.specs.Prelude.{◌≡◌, ◌≢◌, ℕ, ◌<◌, ◌≤◌, pos, not, Bool, true, false, IsTrue, Option, Some, None, IsSome}
+use Rattle.std.specs.Prelude.{is_some, List, ◌∷◌, length, slice_set, slice_index_or, replicate}
 use Rattle.std.specs.Option.{option_map}
 use Rattle.ts_space.specs.declared.place.Place.{Place}
 use Rattle.ts_space.specs.declared.moved.Come.{Come}
@@ -33,7 +34,8 @@ is_seen (Some row) = not row.hidden
 
 -- this is the number of the last cell with an element that isn't hidden, or there is none
 abbrev pub IsLastCell : List Cell → Option ℕ → Type 0
-IsLastCell cells (Some index) = IsTrue (is_seen (cell_at cells index)) × ((other : ℕ) → index < other → other < length cells → is_seen (cell_at cells other) ≡ false)
+IsLastCell cells (Some index) = IsTrue (is_seen (cell_at cells index))
+    × ((other : ℕ) → index < other → other < length cells → is_seen (cell_at cells other) ≡ false)
 IsLastCell cells None = (other : ℕ) → other < length cells → is_seen (cell_at cells other) ≡ false
 
 -- cells of which none has an element
@@ -42,14 +44,16 @@ no_cells columns = replicate (regular_room columns) None
 
 -- where the pages are told and the page of a place has the cells that this tells of, this holds of them
 abbrev pub IsToldOn : Bool → ℕ → List Column → Place → Contents → (OffsetPage → Type 0) → Type 0
-IsToldOn tells slot columns place v P = IsTrue tells → (p : OffsetPage) → IsOn slot columns (v.page place.page) place p → P p
+IsToldOn tells slot columns place v P = IsTrue tells → (p : OffsetPage) → IsOn slot columns (v.page place.page) place p
+    → P p
 
 -- where the pages are told, those under other numbers stay
 abbrev pub KeepsOthers : Bool → ℕ → Contents → Contents → Type 0
 KeepsOthers tells number v w = IsTrue tells → (other : ℕ) → other ≢ number → w.page other ≡ v.page other
 
 -- the cells of a page become others, and its place tells of these
-pub record IsEditedOn (tells : Bool) (slot : ℕ) (columns : List Column) (edit : List Cell → List Cell) (old new : Place) (v w : Contents) : Type 0 where
+pub record IsEditedOn (tells : Bool) (slot : ℕ) (columns : List Column) (edit : List Cell → List Cell) (old new : Place)
+    (v w : Contents) : Type 0 where
   pub free : w.free ≡ v.free
   pub number : new.page ≡ old.page
   pub at : new.at ≡ old.at
@@ -58,7 +62,8 @@ pub record IsEditedOn (tells : Bool) (slot : ℕ) (columns : List Column) (edit 
   pub others : KeepsOthers tells old.page v w
 
 -- a first element is put on a page that is taken
-pub record IsPutAlone (tells : Bool) (slot : ℕ) (columns : List Column) (base index : ℕ) (row : Row) (new : Place) (v w : Contents) : Type 0 where
+pub record IsPutAlone (tells : Bool) (slot : ℕ) (columns : List Column) (base index : ℕ) (row : Row) (new : Place)
+    (v w : Contents) : Type 0 where
   pub free : v.free ≡ new.page ∷ w.free
   pub at : new.at ≡ pos base
   pub count : new.count ≡ 1
@@ -66,17 +71,20 @@ pub record IsPutAlone (tells : Bool) (slot : ℕ) (columns : List Column) (base 
   pub others : KeepsOthers tells new.page v w
 
 -- there is no element in a cell, and everything stays
-pub record IsEmptyOn (tells : Bool) (slot : ℕ) (columns : List Column) (index : ℕ) (place : Place) (v w : Contents) : Type 0 where
+pub record IsEmptyOn (tells : Bool) (slot : ℕ) (columns : List Column) (index : ℕ) (place : Place)
+    (v w : Contents) : Type 0 where
   pub absent : IsToldOn tells slot columns place v (λ p. cell_at p.1 index ≡ None)
   pub same : ArePagesSame tells v w
 
--- where the page of a place is told and has the cells that this tells of, it was read, and this tells whether a cell has an element
+-- where the page of a place is told and has the cells that this tells of, it was read, and this tells whether a cell
+-- has an element
 abbrev pub IsThereOn : Bool → ℕ → List Column → ℕ → Place → List ℕ → Contents → Bool → Type 0
 IsThereOn tells slot columns index place bytes v there =
     IsToldOn tells slot columns place v (λ p. IsOn slot columns bytes place p × (there ≡ is_some (cell_at p.1 index)))
 
 -- the element in a cell is hidden or revealed
-pub record IsMarkSet (tells : Bool) (slot : ℕ) (columns : List Column) (index : ℕ) (hidden : Bool) (place : Place) (v w : Contents) : Type 0 where
+pub record IsMarkSet (tells : Bool) (slot : ℕ) (columns : List Column) (index : ℕ) (hidden : Bool) (place : Place)
+    (v w : Contents) : Type 0 where
   pub there : IsToldOn tells slot columns place v (λ p. IsSome (cell_at p.1 index))
   pub edited : IsEditedOn tells slot columns (with_mark index hidden) place place v w
 
@@ -86,13 +94,15 @@ IsMarkedOn tells slot columns index hidden place v w true = IsMarkSet tells slot
 IsMarkedOn tells slot columns index hidden place v w false = IsEmptyOn tells slot columns index place v w
 
 -- the element in a cell is taken away, and others are left
-pub record IsTakenFrom (tells : Bool) (slot : ℕ) (columns : List Column) (index : ℕ) (old new : Place) (v w : Contents) : Type 0 where
+pub record IsTakenFrom (tells : Bool) (slot : ℕ) (columns : List Column) (index : ℕ) (old new : Place)
+    (v w : Contents) : Type 0 where
   pub there : IsToldOn tells slot columns old v (λ p. IsSome (cell_at p.1 index))
   pub fewer : new.count ≤ old.count
   pub edited : IsEditedOn tells slot columns (without_row index) old new v w
 
 -- the last element of a page is taken away, and the page is free
-pub record IsFreedOn (tells : Bool) (slot : ℕ) (columns : List Column) (index : ℕ) (place : Place) (v w : Contents) : Type 0 where
+pub record IsFreedOn (tells : Bool) (slot : ℕ) (columns : List Column) (index : ℕ) (place : Place)
+    (v w : Contents) : Type 0 where
   pub there : IsToldOn tells slot columns place v (λ p. IsSome (cell_at p.1 index))
   pub left : IsToldOn tells slot columns place v (λ p. filled_count (without_row index p.1) ≡ 0)
   pub free : w.free ≡ place.page ∷ v.free

@@ -28,7 +28,8 @@ abbrev pub AreOn : ℕ → List Column → (ℕ → List ℕ) → List Place →
 AreOn slot columns pages [] [] = Unit {0}
 AreOn slot columns pages [] (p ∷ ps) = ⊥
 AreOn slot columns pages (place ∷ places) [] = ⊥
-AreOn slot columns pages (place ∷ places) (p ∷ ps) = IsOn slot columns (pages place.page) place p × AreOn slot columns pages places ps
+AreOn slot columns pages (place ∷ places) (p ∷ ps) = IsOn slot columns (pages place.page) place p
+    × AreOn slot columns pages places ps
 
 -- a place's page can be read: it is an element page
 pub record CanBeRead (c : Contents) (place : Place) : Type 0 where
@@ -51,8 +52,8 @@ pub record ArePlaces (columns : List Column) (c : Contents) (places : List Place
   pub each : All (IsPlace columns c) places
   pub different : AllPairs (λ a b. a ≢ b) (pages_of places)
 
--- On every volume: the pages of the places and those that `take` can give are together the same ones before and after, the places
--- rise, and each has some elements and no more than a page has cells.
+-- On every volume: the pages of the places and those that `take` can give are together the same ones before and after,
+-- the places rise, and each has some elements and no more than a page has cells.
 pub record AreMoved (columns : List Column) (old new : List Place) (v w : Contents) : Type 0 where
   pub pages : IsPermutation (v.free ++ pages_of old) (w.free ++ pages_of new)
   pub rising : IsRising new

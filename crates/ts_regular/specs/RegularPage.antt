@@ -1,5 +1,6 @@
 -- A regular page: cells for so many offsets in a row, each with the element at its offset or without one.
-use Rattle.std.specs.Prelude.{◌≡◌, ℕ, suc, ◌+◌, ◌-◌, ◌*◌, ◌%◌, ◌<◌, ◌≤◌, ◌^◌, Option, Some, None, List, [], ◌∷◌, ◌++◌, length, replicate}
+use Rattle.std.specs.Prelude.{◌≡◌, ℕ, suc, ◌+◌, ◌-◌, ◌*◌, ◌%◌, ◌<◌, ◌≤◌, ◌^◌, Option, Some, None, List, [], ◌∷◌, ◌++◌}
+use Rattle.std.specs.Prelude.{length, replicate}
 use Rattle.std.specs.List.{flat_map}
 use Rattle.ts_page.specs.Head.{head_bytes}
 use Rattle.ts_page.specs.declared.page.Head.TheVariants.{Free, Regular, Irregular}
@@ -31,7 +32,8 @@ behind_head columns cells = cells_bytes columns cells ++ replicate (4064 - cell_
 -- this holds of the cells that stand behind the head of a page, as many as it has
 abbrev pub HoldsOfCells : List Column → List ℕ → (List Cell → Type 0) → Type 0
 HoldsOfCells columns behind P =
-    (cells : List Cell) → AreCells columns cells → length cells ≡ regular_room columns → behind ≡ behind_head columns cells → P cells
+    (cells : List Cell) → AreCells columns cells → length cells ≡ regular_room columns
+    → behind ≡ behind_head columns cells → P cells
 
 -- the page of these cells of the series in a slot; its first cell has the offset `base`
 unfoldable pub regular_page : ℕ → List Column → ℕ → List Cell → List ℕ
@@ -43,8 +45,10 @@ pub record FillPage (columns : List Column) (cells : List Cell) : Type 0 where
   pub room : length cells ≡ regular_room columns
   pub some : 1 ≤ filled_count cells
 
--- these bytes are the page of these cells of the series in a slot; the offset of its first cell is a multiple of the number of its cells
-pub record IsRegularPage (slot : ℕ) (columns : List Column) (base : ℕ) (cells : List Cell) (page : List ℕ) : Type 0 where
+-- these bytes are the page of these cells of the series in a slot; the offset of its first cell is a multiple of the
+-- number of its cells
+pub record IsRegularPage (slot : ℕ) (columns : List Column) (base : ℕ) (cells : List Cell)
+    (page : List ℕ) : Type 0 where
   pub number : slot < 2 ^ 16
   pub begins : base < 2 ^ 64
   pub whole : base % regular_room columns ≡ 0

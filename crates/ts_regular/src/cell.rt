@@ -1,5 +1,6 @@
 // A cell of a regular page: a byte 1 and a row, or zeros.
-ghost use Rattle.std.specs.Prelude.{◌≡◌, ◌↔◌, ◌+◌, ◌*◌, ◌<◌, ◌≤◌, IsTrue, IfOk, IfSome, IfNone, Some, None, length, slice_index, is_some};
+ghost use Rattle.std.specs.Prelude.{◌≡◌, ◌↔◌, ◌+◌, ◌*◌, ◌<◌, ◌≤◌, IsTrue, IfOk, IfSome, IfNone, Some, None, length};
+ghost use Rattle.std.specs.Prelude.{slice_index, is_some};
 ghost use Rattle.ts_row.specs.Row.{Row as TheRow, fits, marked};
 ghost use Rattle.ts_regular.specs.Cell.{Cell, FitsCell, cell_bytes, cell_size, regular_room, base_of};
 
@@ -39,8 +40,10 @@ pub fn base_of(kind: &RowType, offset: u64) -> u64
 /// Whether a cell has an element; none where its bytes are those of no cell.
 pub(crate) fn is_filled_cell(kind: &RowType, cell: &[u8]) -> Option<bool>
     requires { length cell.now ≡ cell_size kind.now.columns }
-    ensures found { IfSome result (λ filled. (c : Cell) × FitsCell kind.now.columns c × (cell.now ≡ cell_bytes kind.now.columns c) × (is_some c ≡ filled)) }
-    ensures none { IfNone result ((c : Cell) → FitsCell kind.now.columns c → cell.now ≡ cell_bytes kind.now.columns c → ⊥) }
+    ensures found { IfSome result (λ filled. (c : Cell) × FitsCell kind.now.columns c
+        × (cell.now ≡ cell_bytes kind.now.columns c) × (is_some c ≡ filled)) }
+    ensures none { IfNone result ((c : Cell) → FitsCell kind.now.columns c → cell.now ≡ cell_bytes kind.now.columns c
+        → ⊥) }
 {
     match cell[0] {
         0 if is_zero(&cell[1..]) => Some(false),
@@ -52,7 +55,8 @@ pub(crate) fn is_filled_cell(kind: &RowType, cell: &[u8]) -> Option<bool>
 /// Whether the element of a cell is hidden.
 pub(crate) fn is_hidden_cell(kind: &RowType, cell: &[u8]) -> bool
     requires { length cell.now ≡ cell_size kind.now.columns }
-    ensures { (row : TheRow) → IsTrue (fits kind.now.columns row) → cell.now ≡ cell_bytes kind.now.columns (Some row) → result ≡ row.hidden }
+    ensures { (row : TheRow) → IsTrue (fits kind.now.columns row) → cell.now ≡ cell_bytes kind.now.columns (Some row)
+        → result ≡ row.hidden }
 {
     kind.is_hidden(&cell[1..])
 }
@@ -68,7 +72,8 @@ pub(crate) fn has_element(cell: &[u8]) -> bool
 /// The row in a cell, if it has one.
 pub(crate) fn row_in_cell(kind: &RowType, cell: &[u8]) -> Result<Option<Row>, AllocError>
     requires { length cell.now ≡ cell_size kind.now.columns }
-    ensures found { IfOk result (λ found. (c : Cell) → FitsCell kind.now.columns c → cell.now ≡ cell_bytes kind.now.columns c → found ≡ c) }
+    ensures found { IfOk result (λ found. (c : Cell) → FitsCell kind.now.columns c
+        → cell.now ≡ cell_bytes kind.now.columns c → found ≡ c) }
     ensures fits { IfOk result (λ found. IfSome found (λ row. IsTrue (fits kind.now.columns row))) }
 {
     if !has_element(cell) {

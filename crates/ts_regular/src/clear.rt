@@ -17,11 +17,12 @@ use ts_page::{Page, Pages};
 use ts_row::{RowType, Shelf};
 use ts_space::{Come, Moved, Place, Space, search};
 
-/// Takes all elements from one offset up to, not including, another away, hidden or not; gives how many they were, and which places go and
-/// come: none, and no page changes, where no element stands there. The pages of the two ends alone are read, and at most these two are
-/// written; the head of each is compared with its place, and one that disagrees is taken as a page without elements. A page that loses its
-/// last element is freed, and those between the ends are freed unread. After an error pages may have changed in part. `page` is room to
-/// read one; the memory is for the numbers of the pages that are freed, 4 bytes each.
+/// Takes all elements from one offset up to, not including, another away, hidden or not; gives how many they were, and
+/// which places go and come: none, and no page changes, where no element stands there. The pages of the two ends alone
+/// are read, and at most these two are written; the head of each is compared with its place, and one that disagrees is
+/// taken as a page without elements. A page that loses its last element is freed, and those between the ends are freed
+/// unread. After an error pages may have changed in part. `page` is room to read one; the memory is for the numbers of
+/// the pages that are freed, 4 bytes each.
 pub fn regular_clear<P: Pages>(
     alloc: Global,
     pages: &mut P,
@@ -33,8 +34,10 @@ pub fn regular_clear<P: Pages>(
 ) -> Result<(u64, Option<Moved>), StoreFault>
     requires slot { shelf.now.series < 4096 }
     requires limit { to < 2 ^ 63 }
-    requires places { ArePlaces shelf.now.kind.now.columns (P.contents pages.old) (places_of shelf.now.series space.now) }
-    ensures ok { IfOk result (λ r. IsCleared P.tells shelf.now.series shelf.now.kind.now.columns from to (places_of shelf.now.series space.now)
+    requires places { ArePlaces shelf.now.kind.now.columns (P.contents pages.old)
+        (places_of shelf.now.series space.now) }
+    ensures ok { IfOk result (λ r. IsCleared P.tells shelf.now.series shelf.now.kind.now.columns from to
+        (places_of shelf.now.series space.now)
         (P.contents pages.old) (P.contents pages.new) r.0 r.1) }
     ensures call { Answered result (P.contents pages.old) (P.contents pages.new) }
     ensures change { (P.contents pages.new).change_bytes
@@ -86,7 +89,8 @@ fn clear<P: Pages>(
     ensures ok { IfOk result (λ r. IsCleared P.tells shelf.now.series shelf.now.kind.now.columns from to places.now
         (P.contents pages.old) (P.contents pages.new) r.0 r.1) }
     ensures call { Answered result (P.contents pages.old) (P.contents pages.new) }
-    ensures change { (P.contents pages.new).change_bytes ≤ (P.contents pages.old).change_bytes + 8202 + 5 * length places.now }
+    ensures change { (P.contents pages.new).change_bytes ≤
+        (P.contents pages.old).change_bytes + 8202 + 5 * length places.now }
     ensures grows { OnOk result ((P.contents pages.new).change_bytes + 5 * length (P.contents pages.old).free
         ≤ (P.contents pages.old).change_bytes + 5 * length (P.contents pages.new).free + 8202) }
     ensures taken { OnOk result (length (P.contents pages.old).free ≤ length (P.contents pages.new).free) }
@@ -110,7 +114,8 @@ fn clear<P: Pages>(
     Ok((removed, Some(moved)))
 }
 
-// How many elements the pages of the places hold together, as far as a counter of 64 bits goes: told elements are never more.
+// How many elements the pages of the places hold together, as far as a counter of 64 bits goes: told elements are never
+// more.
 fn count_among(places: &[Place]) -> u64
     ensures { result ≡ min (count_of places.now) (2 ^ 64 - 1) }
 {

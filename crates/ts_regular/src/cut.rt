@@ -23,8 +23,9 @@ pub(crate) struct Left {
     pub(crate) back: u16,
 }
 
-/// Takes the elements in a range of offsets out of the pages of places that have cells for it, and tells how many are left of the two ends.
-/// The pages at the ends alone are read, and written where some went and some are left; the others stay, and none of theirs is left.
+/// Takes the elements in a range of offsets out of the pages of places that have cells for it, and tells how many are
+/// left of the two ends. The pages at the ends alone are read, and written where some went and some are left; the
+/// others stay, and none of theirs is left.
 pub(crate) fn cut_ends<P: Pages>(
     pages: &mut P,
     page: &mut Page,
@@ -55,7 +56,8 @@ pub(crate) fn cut_ends<P: Pages>(
     Ok(Left { front, back })
 }
 
-// Takes them out of the page of one place, and gives how many are left. Where none went or none is left, no page changes.
+// Takes them out of the page of one place, and gives how many are left. Where none went or none is left, no page
+// changes.
 fn cut<P: Pages>(
     pages: &mut P,
     page: &mut Page,
@@ -67,9 +69,11 @@ fn cut<P: Pages>(
     requires order { from < to }
     requires low { pos 0 ≤ℤ place.now.at }
     requires place { IsPlace shelf.now.kind.now.columns (P.contents pages.old) place.now }
-    ensures cut { IfOk result (λ left. IsCutTo P.tells shelf.now.series shelf.now.kind.now.columns from to left place.now
+    ensures cut { IfOk result
+        (λ left. IsCutTo P.tells shelf.now.series shelf.now.kind.now.columns from to left place.now
         (P.contents pages.old) (P.contents pages.new)) }
-    ensures same { IfOk result (λ left. left ≡ place.now.count → ArePagesSame P.tells (P.contents pages.old) (P.contents pages.new)) }
+    ensures same { IfOk result (λ left. left ≡ place.now.count
+        → ArePagesSame P.tells (P.contents pages.old) (P.contents pages.new)) }
     ensures others { KeepsOthers P.tells place.now.page (P.contents pages.old) (P.contents pages.new) }
     ensures free { (P.contents pages.new).free ≡ (P.contents pages.old).free }
     ensures call { Answered result (P.contents pages.old) (P.contents pages.new) }
@@ -98,10 +102,12 @@ fn begin_of(place: &Place) -> u64
 // Takes them out of a page with so many elements, and gives how many are left.
 fn clear_page(shelf: &Shelf, page: &mut Page, base: u64, count: u16, from: u64, to: u64) -> u16
     requires order { from < to }
-    ensures cleared { (cells : List Cell) → AreCells shelf.now.kind.now.columns cells → length cells ≡ regular_room shelf.now.kind.now.columns
+    ensures cleared { (cells : List Cell) → AreCells shelf.now.kind.now.columns cells
+        → length cells ≡ regular_room shelf.now.kind.now.columns
         → filled_count cells ≡ count → drop 32 page.old.bytes ≡ behind_head shelf.now.kind.now.columns cells
         → (filled_count (cells_outside from to base cells) ≡ result)
-        × (page.new.bytes ≡ regular_page shelf.now.series shelf.now.kind.now.columns base (cells_outside from to base cells)) }
+        × (page.new.bytes ≡ regular_page shelf.now.series shelf.now.kind.now.columns base
+        (cells_outside from to base cells)) }
     ensures fewer { result ≤ count }
 {
     let left = clear_cells(shelf.kind, &mut page.bytes[HEAD..], base, count, from, to);
@@ -113,9 +119,11 @@ fn clear_page(shelf: &Shelf, page: &mut Page, base: u64, count: u16, from: u64, 
 fn clear_cells(kind: &RowType, behind: &mut [u8], base: u64, count: u16, from: u64, to: u64) -> u16
     requires size { length behind.old ≡ 4064 }
     requires order { from < to }
-    ensures cleared { (cells : List Cell) → AreCells kind.now.columns cells → length cells ≡ regular_room kind.now.columns
+    ensures cleared { (cells : List Cell) → AreCells kind.now.columns cells
+        → length cells ≡ regular_room kind.now.columns
         → filled_count cells ≡ count → behind.old ≡ behind_head kind.now.columns cells
-        → (filled_count (cells_outside from to base cells) ≡ result) × (behind.new ≡ behind_head kind.now.columns (cells_outside from to base cells)) }
+        → (filled_count (cells_outside from to base cells) ≡ result)
+        × (behind.new ≡ behind_head kind.now.columns (cells_outside from to base cells)) }
     ensures fewer { result ≤ count }
 {
     let room = regular_room(kind);
@@ -139,7 +147,8 @@ fn take_cell(kind: &RowType, behind: &mut [u8], index: usize, count: u16) -> u16
     requires index { index < regular_room kind.now.columns }
     ensures taken { (cells : List Cell) → AreCells kind.now.columns cells → index < length cells
         → filled_count cells ≡ count → behind.old ≡ behind_head kind.now.columns cells
-        → (filled_count (without_row index cells) ≡ result) × (behind.new ≡ behind_head kind.now.columns (without_row index cells)) }
+        → (filled_count (without_row index cells) ≡ result)
+        × (behind.new ≡ behind_head kind.now.columns (without_row index cells)) }
     ensures fewer { result ≤ count }
 {
     if count == 0 {

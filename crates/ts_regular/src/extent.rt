@@ -1,9 +1,11 @@
-// A page judged by its bytes: which offsets it has cells for, how many have an element, the last of these, and whether some are hidden.
+// A page judged by its bytes: which offsets it has cells for, how many have an element, the last of these, and whether
+// some are hidden.
 ghost use Rattle.std.specs.Prelude.{◌≡◌, ◌*◌, ◌<◌, ◌^◌, IfSome, IfNone, Some, List, ℕ, length};
 ghost use Rattle.ts_page.specs.Head.{head_of};
 ghost use Rattle.ts_page.specs.declared.page.Head.TheVariants.{Regular};
 ghost use Rattle.ts_regular.specs.Cell.{Cell, cell_size, regular_room};
-ghost use Rattle.ts_regular.specs.RegularPage.{IsRegularPage, FillPage, HasExtent, cells_bytes, behind_head, filled_count, told_in};
+ghost use Rattle.ts_regular.specs.RegularPage.{IsRegularPage, FillPage, HasExtent, cells_bytes, behind_head};
+ghost use Rattle.ts_regular.specs.RegularPage.{filled_count, told_in};
 
 use crate::cell::{cell_size, is_filled_cell, is_hidden_cell, regular_room};
 use ts_page::{HEAD, Head, Page};
@@ -26,7 +28,8 @@ pub struct RegularExtent {
 pub fn regular_extent_of(kind: &RowType, page: &Page) -> Option<RegularExtent>
     ensures found { IfSome result (λ extent. (slot base : ℕ) × (cells : List Cell)
         × IsRegularPage slot kind.now.columns base cells page.now.bytes × HasExtent base cells extent) }
-    ensures none { IfNone result ((slot base : ℕ) (cells : List Cell) → IsRegularPage slot kind.now.columns base cells page.now.bytes → ⊥) }
+    ensures none { IfNone result ((slot base : ℕ) (cells : List Cell)
+        → IsRegularPage slot kind.now.columns base cells page.now.bytes → ⊥) }
 {
     let (_series, count, base) = told(page)?;
     extent_told(kind, base, count, &page.bytes)
@@ -38,7 +41,8 @@ fn extent_told(kind: &RowType, base: u64, count: u16, page: &[u8]) -> Option<Reg
     requires told { (slot : ℕ) × (slot < 2 ^ 16) × (head_of page.now ≡ Some (Regular slot count base)) }
     ensures found { IfSome result (λ extent. (slot first : ℕ) × (cells : List Cell)
         × IsRegularPage slot kind.now.columns first cells page.now × HasExtent first cells extent) }
-    ensures none { IfNone result ((slot first : ℕ) (cells : List Cell) → IsRegularPage slot kind.now.columns first cells page.now → ⊥) }
+    ensures none { IfNone result ((slot first : ℕ) (cells : List Cell)
+        → IsRegularPage slot kind.now.columns first cells page.now → ⊥) }
 {
     if base % regular_room(kind) as u64 != 0 {
         return None;
@@ -46,7 +50,8 @@ fn extent_told(kind: &RowType, base: u64, count: u16, page: &[u8]) -> Option<Reg
     extent_in(kind, base, count, &page[HEAD..])
 }
 
-// The slot of the series and the number of elements that the head of a regular page tells, and the offset of its first cell.
+// The slot of the series and the number of elements that the head of a regular page tells, and the offset of its first
+// cell.
 fn told(page: &Page) -> Option<(u16, u16, u64)>
     ensures { result ≡ told_in (head_of page.now.bytes) }
 {
@@ -65,7 +70,8 @@ fn told(page: &Page) -> Option<(u16, u16, u64)>
 // The extent of cells with so many elements, one at least, and zeros behind them.
 fn extent_in(kind: &RowType, base: u64, count: u16, behind: &[u8]) -> Option<RegularExtent>
     requires size { length behind.now ≡ 4064 }
-    ensures found { IfSome result (λ extent. (cells : List Cell) × FillPage kind.now.columns cells × HasExtent base cells extent
+    ensures found { IfSome result (λ extent. (cells : List Cell) × FillPage kind.now.columns cells
+        × HasExtent base cells extent
         × (filled_count cells ≡ count) × (behind.now ≡ behind_head kind.now.columns cells)) }
     ensures none { IfNone result ((cells : List Cell) → FillPage kind.now.columns cells → filled_count cells ≡ count
         → behind.now ≡ behind_head kind.now.columns cells → ⊥) }
@@ -86,7 +92,8 @@ fn extent_of_cells(kind: &RowType, base: u64, cells: &[u8]) -> Option<RegularExt
     requires size { length cells.now ≡ cell_size kind.now.columns * regular_room kind.now.columns }
     ensures found { IfSome result (λ extent. (cs : List Cell) × FillPage kind.now.columns cs × HasExtent base cs extent
         × (cells.now ≡ cells_bytes kind.now.columns cs)) }
-    ensures none { IfNone result ((cs : List Cell) → FillPage kind.now.columns cs → cells.now ≡ cells_bytes kind.now.columns cs → ⊥) }
+    ensures none { IfNone result ((cs : List Cell) → FillPage kind.now.columns cs
+        → cells.now ≡ cells_bytes kind.now.columns cs → ⊥) }
 {
     let size = cell_size(kind);
     let mut count = 0;

@@ -13,9 +13,9 @@ use ts_page::{HEAD, Page, Pages};
 use ts_row::{Row, Shelf};
 use ts_space::{Place, Space, search};
 
-/// The row of the element at an offset of a series, hidden or not. One page is read: that of the place whose cells the offset is among.
-/// Its head is compared with the place; one that disagrees is taken as a page without elements. All pages stay; `page` is room to read
-/// one.
+/// The row of the element at an offset of a series, hidden or not. One page is read: that of the place whose cells the
+/// offset is among. Its head is compared with the place; one that disagrees is taken as a page without elements. All
+/// pages stay; `page` is room to read one.
 pub fn regular_find<P: Pages>(
     pages: &mut P,
     page: &mut Page,
@@ -26,7 +26,8 @@ pub fn regular_find<P: Pages>(
     requires slot { shelf.now.series < 4096 }
     requires limit { offset < 2 ^ 63 }
     requires readable { All (CanBeRead (P.contents pages.old)) (places_of shelf.now.series space.now) }
-    ensures found { IfOk result (IsRowIn P.tells shelf.now.series shelf.now.kind.now.columns offset (places_of shelf.now.series space.now)
+    ensures found { IfOk result (IsRowIn P.tells shelf.now.series shelf.now.kind.now.columns offset
+        (places_of shelf.now.series space.now)
         (P.contents pages.old)) }
     ensures fits { IfOk result (λ found. IfSome found (λ row. IsTrue (fits shelf.now.kind.now.columns row))) }
     ensures call { Reads P.tells result (P.contents pages.old) (P.contents pages.new) }

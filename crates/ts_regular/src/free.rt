@@ -9,8 +9,8 @@ use ts_base::StoreFault;
 use ts_page::Pages;
 use ts_space::Place;
 
-/// Frees the pages of some places, by rising numbers: a copy of the numbers is sorted first, 4 bytes each. After an error some of them may
-/// be free.
+/// Frees the pages of some places, by rising numbers: a copy of the numbers is sorted first, 4 bytes each. After an
+/// error some of them may be free.
 pub(crate) fn free_pages<P: Pages>(
     alloc: Global,
     pages: &mut P,
@@ -39,9 +39,11 @@ fn numbers_of(alloc: Global, places: &[Place]) -> Result<Vec<u32>, AllocError>
 fn free_each<P: Pages>(pages: &mut P, numbers: &[u32]) -> Result<(), StoreFault>
     requires each { All (CanBeFreed (P.contents pages.old)) numbers.now }
     requires different { AllPairs (λ a b. a ≢ b) numbers.now }
-    ensures freed { OnOk result (AreFreedTo P.tells numbers.now (length numbers.now) (P.contents pages.old) (P.contents pages.new)) }
+    ensures freed { OnOk result (AreFreedTo P.tells numbers.now (length numbers.now) (P.contents pages.old)
+        (P.contents pages.new)) }
     ensures call { Answered result (P.contents pages.old) (P.contents pages.new) }
-    ensures change { (P.contents pages.new).change_bytes ≤ (P.contents pages.old).change_bytes + 5 * length numbers.now }
+    ensures change { (P.contents pages.new).change_bytes ≤
+        (P.contents pages.old).change_bytes + 5 * length numbers.now }
     ensures undisturbed { P.undisturbed pages.old pages.new }
 {
     for number in numbers {

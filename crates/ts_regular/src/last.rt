@@ -1,5 +1,6 @@
 // The last element that isn't hidden.
-ghost use Rattle.std.specs.Prelude.{◌≡◌, ◌+◌, ◌<◌, ◌<ℤ◌, ◌^◌, pos, All, IsTrue, IfOk, IfSome, IfNone, [], ◌∷◌, List, length};
+ghost use Rattle.std.specs.Prelude.{◌≡◌, ◌+◌, ◌<◌, ◌<ℤ◌, ◌^◌, pos, All, IsTrue, IfOk, IfSome, IfNone, [], ◌∷◌, List};
+ghost use Rattle.std.specs.Prelude.{length};
 ghost use Rattle.ts_row.specs.Row.{fits};
 ghost use Rattle.ts_space.specs.Directory.{places_of};
 ghost use Rattle.ts_regular.specs.Cell.{Cell, regular_room};
@@ -17,9 +18,9 @@ use ts_page::{HEAD, Page, Pages};
 use ts_row::{Row, RowType, Shelf};
 use ts_space::{Place, Space};
 
-/// The last element of a series, of those that aren't hidden. The pages are read from the last one backwards, each once, up to the first
-/// that has such an element. The head of each is compared with its place; one that disagrees is taken as a page without elements. All pages
-/// stay; `page` is room to read one.
+/// The last element of a series, of those that aren't hidden. The pages are read from the last one backwards, each
+/// once, up to the first that has such an element. The head of each is compared with its place; one that disagrees is
+/// taken as a page without elements. All pages stay; `page` is room to read one.
 pub fn regular_last<P: Pages>(
     pages: &mut P,
     page: &mut Page,
@@ -28,7 +29,8 @@ pub fn regular_last<P: Pages>(
 ) -> Result<Option<(u64, Row)>, StoreFault>
     requires slot { shelf.now.series < 4096 }
     requires readable { All (CanBeRead (P.contents pages.old)) (places_of shelf.now.series space.now) }
-    ensures last { IfOk result (IsLastIn P.tells shelf.now.series shelf.now.kind.now.columns (places_of shelf.now.series space.now)
+    ensures last { IfOk result (IsLastIn P.tells shelf.now.series shelf.now.kind.now.columns
+        (places_of shelf.now.series space.now)
         (P.contents pages.old)) }
     ensures fits { IfOk result (λ last. IfSome last (λ e. IsTrue (fits shelf.now.kind.now.columns e.1))) }
     ensures call { Reads P.tells result (P.contents pages.old) (P.contents pages.new) }
@@ -54,7 +56,8 @@ fn last_on<P: Pages>(
     place: &Place,
 ) -> Result<Option<(u64, Row)>, StoreFault>
     requires readable { CanBeRead (P.contents pages.old) place.now }
-    ensures last { IfOk result (IsLastIn P.tells shelf.now.series shelf.now.kind.now.columns (place.now ∷ []) (P.contents pages.old)) }
+    ensures last { IfOk result (IsLastIn P.tells shelf.now.series shelf.now.kind.now.columns (place.now ∷ [])
+        (P.contents pages.old)) }
     ensures fits { IfOk result (λ last. IfSome last (λ e. IsTrue (fits shelf.now.kind.now.columns e.1))) }
     ensures call { Reads P.tells result (P.contents pages.old) (P.contents pages.new) }
     ensures undisturbed { P.undisturbed pages.old pages.new }
@@ -83,7 +86,8 @@ fn base_in(place: &Place) -> Option<u64>
 fn last_among(kind: &RowType, behind: &[u8], base: u64) -> Result<Option<(u64, Row)>, AllocError>
     requires size { length behind.now ≡ 4064 }
     requires base { base < 2 ^ 63 }
-    ensures last { IfOk result (λ last. (cells : List Cell) → AreCells kind.now.columns cells → length cells ≡ regular_room kind.now.columns
+    ensures last { IfOk result (λ last. (cells : List Cell) → AreCells kind.now.columns cells
+        → length cells ≡ regular_room kind.now.columns
         → behind.now ≡ behind_head kind.now.columns cells → last ≡ last_seen (elements_from base cells)) }
     ensures fits { IfOk result (λ last. IfSome last (λ e. IsTrue (fits kind.now.columns e.1))) }
 {

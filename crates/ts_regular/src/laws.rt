@@ -12,7 +12,8 @@ ghost use Rattle.ts_regular.specs.OnePage.{cell_at, with_row, without_row};
 
 /// An edit of a cell is that of the element at its offset.
 pub fn cells_are_elements_at_offsets()
-    ensures found { (base index : ℕ) (cells : List Cell) → index < length cells → element_at (base + index) (elements_from base cells) ≡ cell_at cells index }
+    ensures found { (base index : ℕ) (cells : List Cell) → index < length cells
+        → element_at (base + index) (elements_from base cells) ≡ cell_at cells index }
     ensures put { (base index : ℕ) (row : Row) (cells : List Cell) → index < length cells →
         elements_from base (with_row index row cells) ≡ with_element (base + index) row (elements_from base cells) }
     ensures taken { (base index : ℕ) (cells : List Cell) → index < length cells →
@@ -22,6 +23,7 @@ pub fn cells_are_elements_at_offsets()
 
 /// The elements of all pages rise, where the places of the pages do.
 pub fn pages_of_offsets_rise()
-    ensures { (slot : ℕ) (columns : List TheColumn) (pages : ℕ → List ℕ) (places : List ThePlace) (ps : List OffsetPage) →
+    ensures { (slot : ℕ) (columns : List TheColumn) (pages : ℕ → List ℕ) (places : List ThePlace)
+        (ps : List OffsetPage) →
         AreOn slot columns pages places ps → IsRising places → AreRising (all_in ps) }
 {}

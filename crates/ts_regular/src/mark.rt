@@ -15,10 +15,10 @@ use ts_page::{HEAD, Page, Pages};
 use ts_row::Shelf;
 use ts_space::{Place, Space};
 
-/// Hides the element at an offset, or reveals it, and tells whether one is there; where none stands there all pages are as before. Its
-/// values and all places stay; setting a mark twice is no error. The page whose cells the offset is among is read and written. Its head is
-/// compared with its place; one that disagrees is taken as a page without elements. After an error all pages are as before too. `page` is
-/// room to read one.
+/// Hides the element at an offset, or reveals it, and tells whether one is there; where none stands there all pages are
+/// as before. Its values and all places stay; setting a mark twice is no error. The page whose cells the offset is
+/// among is read and written. Its head is compared with its place; one that disagrees is taken as a page without
+/// elements. After an error all pages are as before too. `page` is room to read one.
 pub fn regular_mark<P: Pages>(
     pages: &mut P,
     page: &mut Page,
@@ -29,8 +29,10 @@ pub fn regular_mark<P: Pages>(
 ) -> Result<bool, StoreFault>
     requires slot { shelf.now.series < 4096 }
     requires limit { offset < 2 ^ 63 }
-    requires places { ArePlaces shelf.now.kind.now.columns (P.contents pages.old) (places_of shelf.now.series space.now) }
-    ensures ok { IfOk result (IsMarked P.tells shelf.now.series shelf.now.kind.now.columns offset hidden (places_of shelf.now.series space.now)
+    requires places { ArePlaces shelf.now.kind.now.columns (P.contents pages.old)
+        (places_of shelf.now.series space.now) }
+    ensures ok { IfOk result (IsMarked P.tells shelf.now.series shelf.now.kind.now.columns offset hidden
+        (places_of shelf.now.series space.now)
         (P.contents pages.old) (P.contents pages.new)) }
     ensures err { OnErr result (AreLeft P.tells (P.contents pages.old) (P.contents pages.new)) }
     ensures call { Answered result (P.contents pages.old) (P.contents pages.new) }
@@ -67,7 +69,8 @@ fn mark_on<P: Pages>(
     requires place { IsPlace shelf.now.kind.now.columns (P.contents pages.old) place.now }
     requires at { place.now.at ≡ pos base }
     requires index { index < regular_room shelf.now.kind.now.columns }
-    ensures ok { IfOk result (IsMarkedOn P.tells shelf.now.series shelf.now.kind.now.columns index hidden place.now (P.contents pages.old) (P.contents pages.new)) }
+    ensures ok { IfOk result (IsMarkedOn P.tells shelf.now.series shelf.now.kind.now.columns index hidden place.now
+        (P.contents pages.old) (P.contents pages.new)) }
     ensures err { OnErr result (AreLeft P.tells (P.contents pages.old) (P.contents pages.new)) }
     ensures call { Answered result (P.contents pages.old) (P.contents pages.new) }
     ensures change { (P.contents pages.new).change_bytes ≤ (P.contents pages.old).change_bytes + 4101 }
@@ -93,7 +96,9 @@ fn is_there<P: Pages>(
     requires place { IsPlace shelf.now.kind.now.columns (P.contents pages.old) place.now }
     requires at { place.now.at ≡ pos base }
     requires index { index < regular_room shelf.now.kind.now.columns }
-    ensures there { IfOk result (IsThereOn P.tells shelf.now.series shelf.now.kind.now.columns index place.now page.new.bytes (P.contents pages.old)) }
+    ensures there { IfOk result
+        (IsThereOn P.tells shelf.now.series shelf.now.kind.now.columns index place.now page.new.bytes
+        (P.contents pages.old)) }
     ensures call { Reads P.tells result (P.contents pages.old) (P.contents pages.new) }
     ensures undisturbed { P.undisturbed pages.old pages.new }
 {

@@ -1,5 +1,6 @@
 // The cells behind the head of a page, read and edited one at a time.
-ghost use Rattle.std.specs.Prelude.{◌≡◌, ◌↔◌, ◌+◌, ◌<◌, ◌≤◌, IsTrue, IfOk, IfSome, IsSome, Some, None, is_some, false, List, length, drop};
+ghost use Rattle.std.specs.Prelude.{◌≡◌, ◌↔◌, ◌+◌, ◌<◌, ◌≤◌, IsTrue, IfOk, IfSome, IsSome, Some, None, is_some, false};
+ghost use Rattle.std.specs.Prelude.{List, length, drop};
 ghost use Rattle.ts_page.specs.Head.{head_of};
 ghost use Rattle.ts_page.specs.declared.page.Head.TheVariants.{Regular};
 ghost use Rattle.ts_row.specs.Row.{fits};
@@ -20,7 +21,8 @@ fn cell_at<'a>(kind: &RowType, behind: &'a [u8], index: usize) -> &'a [u8]
     requires size { length behind.now ≡ 4064 }
     requires index { index < regular_room kind.now.columns }
     ensures bytes { (cells : List Cell) → AreCells kind.now.columns cells → index < length cells
-        → behind.now ≡ behind_head kind.now.columns cells → result.now ≡ cell_bytes kind.now.columns (cell_at cells index) }
+        → behind.now ≡ behind_head kind.now.columns cells
+        → result.now ≡ cell_bytes kind.now.columns (cell_at cells index) }
     ensures size { length result.now ≡ cell_size kind.now.columns }
 {
     let size = cell_size(kind);
@@ -66,7 +68,8 @@ fn put_cell(kind: &RowType, behind: &mut [u8], index: usize, row: &Row)
     requires index { index < regular_room kind.now.columns }
     requires fits { IsTrue (fits kind.now.columns row.now) }
     ensures { (cells : List Cell) → AreCells kind.now.columns cells → index < length cells
-        → behind.old ≡ behind_head kind.now.columns cells → behind.new ≡ behind_head kind.now.columns (with_row index row.now cells) }
+        → behind.old ≡ behind_head kind.now.columns cells
+        → behind.new ≡ behind_head kind.now.columns (with_row index row.now cells) }
 {
     let size = cell_size(kind);
     let at = size * index;
@@ -78,7 +81,8 @@ pub(crate) fn empty_cell(kind: &RowType, behind: &mut [u8], index: usize)
     requires size { length behind.old ≡ 4064 }
     requires index { index < regular_room kind.now.columns }
     ensures { (cells : List Cell) → AreCells kind.now.columns cells → index < length cells
-        → behind.old ≡ behind_head kind.now.columns cells → behind.new ≡ behind_head kind.now.columns (without_row index cells) }
+        → behind.old ≡ behind_head kind.now.columns cells
+        → behind.new ≡ behind_head kind.now.columns (without_row index cells) }
 {
     let size = cell_size(kind);
     let at = size * index;
@@ -89,8 +93,10 @@ pub(crate) fn empty_cell(kind: &RowType, behind: &mut [u8], index: usize)
 pub(crate) fn mark_at(kind: &RowType, behind: &mut [u8], index: usize, hidden: bool)
     requires size { length behind.old ≡ 4064 }
     requires index { index < regular_room kind.now.columns }
-    ensures { (cells : List Cell) → AreCells kind.now.columns cells → index < length cells → IsSome (cell_at cells index)
-        → behind.old ≡ behind_head kind.now.columns cells → behind.new ≡ behind_head kind.now.columns (with_mark index hidden cells) }
+    ensures { (cells : List Cell) → AreCells kind.now.columns cells → index < length cells
+        → IsSome (cell_at cells index)
+        → behind.old ≡ behind_head kind.now.columns cells
+        → behind.new ≡ behind_head kind.now.columns (with_mark index hidden cells) }
 {
     let size = cell_size(kind);
     let at = size * index;
@@ -115,7 +121,8 @@ pub(crate) fn agrees(shelf: &Shelf, count: u16, base: u64, page: &Page) -> bool
 
 /// How many elements a page has; where its head disagrees with its place, it becomes one without elements, of zeros.
 pub(crate) fn count_taken(shelf: &Shelf, count: u16, base: u64, page: &mut Page) -> u16
-    ensures told { (cells : List Cell) → IsRegularPage shelf.now.series shelf.now.kind.now.columns base cells page.old.bytes
+    ensures told { (cells : List Cell)
+        → IsRegularPage shelf.now.series shelf.now.kind.now.columns base cells page.old.bytes
         → filled_count cells ≡ count → (result ≡ count) × (page.new.bytes ≡ page.old.bytes) }
     ensures few { result ≤ count }
 {
@@ -138,10 +145,12 @@ pub(crate) fn put_into(
     requires index { index < regular_room shelf.now.kind.now.columns }
     requires room { count ≤ regular_room shelf.now.kind.now.columns }
     requires fits { IsTrue (fits shelf.now.kind.now.columns row.now) }
-    ensures put { (cells : List Cell) → AreCells shelf.now.kind.now.columns cells → length cells ≡ regular_room shelf.now.kind.now.columns
+    ensures put { (cells : List Cell) → AreCells shelf.now.kind.now.columns cells
+        → length cells ≡ regular_room shelf.now.kind.now.columns
         → filled_count cells ≡ count → drop 32 page.old.bytes ≡ behind_head shelf.now.kind.now.columns cells
         → (filled_count (with_row index row.now cells) ≡ result)
-        × (page.new.bytes ≡ regular_page shelf.now.series shelf.now.kind.now.columns base (with_row index row.now cells)) }
+        × (page.new.bytes ≡ regular_page shelf.now.series shelf.now.kind.now.columns base
+        (with_row index row.now cells)) }
     ensures some { 1 ≤ result }
     ensures most { result ≤ regular_room shelf.now.kind.now.columns }
     ensures more { result ≤ count + 1 }
@@ -177,10 +186,12 @@ fn count_with(count: u16, there: bool, room: usize) -> u16
 /// Takes the element in a cell, if there is one, out of a page with so many, and gives how many are left.
 pub(crate) fn take_out(shelf: &Shelf, page: &mut Page, base: u64, count: u16, index: usize) -> u16
     requires index { index < regular_room shelf.now.kind.now.columns }
-    ensures empty { result ≡ count → (cells : List Cell) → AreCells shelf.now.kind.now.columns cells → length cells ≡ regular_room shelf.now.kind.now.columns
+    ensures empty { result ≡ count → (cells : List Cell) → AreCells shelf.now.kind.now.columns cells
+        → length cells ≡ regular_room shelf.now.kind.now.columns
         → filled_count cells ≡ count → drop 32 page.old.bytes ≡ behind_head shelf.now.kind.now.columns cells
         → cell_at cells index ≡ None }
-    ensures taken { result < count → (cells : List Cell) → AreCells shelf.now.kind.now.columns cells → length cells ≡ regular_room shelf.now.kind.now.columns
+    ensures taken { result < count → (cells : List Cell) → AreCells shelf.now.kind.now.columns cells
+        → length cells ≡ regular_room shelf.now.kind.now.columns
         → filled_count cells ≡ count → drop 32 page.old.bytes ≡ behind_head shelf.now.kind.now.columns cells
         → IsSome (cell_at cells index) × (filled_count (without_row index cells) ≡ result)
         × (page.new.bytes ≡ regular_page shelf.now.series shelf.now.kind.now.columns base (without_row index cells)) }
@@ -201,7 +212,8 @@ pub(crate) fn take_out(shelf: &Shelf, page: &mut Page, base: u64, count: u16, in
 
 /// Writes the head of a page with so many elements.
 pub(crate) fn set_count(shelf: &Shelf, page: &mut Page, base: u64, count: u16)
-    ensures { (cells : List Cell) → filled_count cells ≡ count → drop 32 page.old.bytes ≡ behind_head shelf.now.kind.now.columns cells
+    ensures { (cells : List Cell) → filled_count cells ≡ count → drop 32 page.old.bytes
+        ≡ behind_head shelf.now.kind.now.columns cells
         → page.new.bytes ≡ regular_page shelf.now.series shelf.now.kind.now.columns base cells }
 {
     page.set_head(&Head::Regular {

@@ -18,10 +18,10 @@ use ts_page::{Page, Pages};
 use ts_row::{Row, Shelf};
 use ts_space::{Come, Moved, Place, Space};
 
-/// Puts a row, with its own mark, at an offset of a series, in place of one that is there, and tells which place goes and comes. The page
-/// whose cells the offset is among is read and written; where the series has no such, one is taken. Its head is compared with its place;
-/// one that disagrees is taken as a page without elements. After an error all pages are as before; one may be taken. `page` is room to
-/// read one.
+/// Puts a row, with its own mark, at an offset of a series, in place of one that is there, and tells which place goes
+/// and comes. The page whose cells the offset is among is read and written; where the series has no such, one is taken.
+/// Its head is compared with its place; one that disagrees is taken as a page without elements. After an error all
+/// pages are as before; one may be taken. `page` is room to read one.
 pub fn regular_put<P: Pages>(
     pages: &mut P,
     page: &mut Page,
@@ -32,12 +32,15 @@ pub fn regular_put<P: Pages>(
 ) -> Result<Moved, StoreFault>
     requires slot { shelf.now.series < 4096 }
     requires limit { offset < 2 ^ 63 }
-    requires places { ArePlaces shelf.now.kind.now.columns (P.contents pages.old) (places_of shelf.now.series space.now) }
+    requires places { ArePlaces shelf.now.kind.now.columns (P.contents pages.old)
+        (places_of shelf.now.series space.now) }
     requires fits { IsTrue (fits shelf.now.kind.now.columns row.now) }
-    requires spare { place_at (pos (base_of shelf.now.kind.now.columns offset)) (places_of shelf.now.series space.now) ≡ None
+    requires spare { place_at (pos (base_of shelf.now.kind.now.columns offset)) (places_of shelf.now.series space.now)
+        ≡ None
         → 0 < length (P.contents pages.old).free }
     ensures ok { IfOk result (λ moved. IsPut P.tells shelf.now.series shelf.now.kind.now.columns offset row.now
-        (places_of shelf.now.series space.now) (moved_to moved (places_of shelf.now.series space.now)) (P.contents pages.old) (P.contents pages.new)) }
+        (places_of shelf.now.series space.now) (moved_to moved (places_of shelf.now.series space.now))
+        (P.contents pages.old) (P.contents pages.new)) }
     ensures err { OnErr result (AreLeft P.tells (P.contents pages.old) (P.contents pages.new)) }
     ensures call { Answered result (P.contents pages.old) (P.contents pages.new) }
     ensures change { (P.contents pages.new).change_bytes ≤ (P.contents pages.old).change_bytes + 4101 }
@@ -81,7 +84,8 @@ fn put_on<P: Pages>(
     requires at { place.now.at ≡ pos base }
     requires index { index < regular_room shelf.now.kind.now.columns }
     requires fits { IsTrue (fits shelf.now.kind.now.columns row.now) }
-    ensures ok { IfOk result (λ now. IsEditedOn P.tells shelf.now.series shelf.now.kind.now.columns (with_row index row.now)
+    ensures ok { IfOk result (λ now. IsEditedOn P.tells shelf.now.series shelf.now.kind.now.columns
+        (with_row index row.now)
         place.now now (P.contents pages.old) (P.contents pages.new)) }
     ensures more { IfOk result (λ now. now.count ≤ place.now.count + 1) }
     ensures err { OnErr result (AreLeft P.tells (P.contents pages.old) (P.contents pages.new)) }

@@ -15,9 +15,10 @@ use ts_page::{Page, Pages};
 use ts_row::Shelf;
 use ts_space::{Come, Moved, Place, Space};
 
-/// Takes the element at an offset away, and tells which places go and come; where none stands there all pages are as before. The page
-/// whose cells the offset is among is read and written; one that loses its last element is freed. Its head is compared with its place; one
-/// that disagrees is taken as a page without elements. After an error all pages are as before too. `page` is room to read one.
+/// Takes the element at an offset away, and tells which places go and come; where none stands there all pages are as
+/// before. The page whose cells the offset is among is read and written; one that loses its last element is freed. Its
+/// head is compared with its place; one that disagrees is taken as a page without elements. After an error all pages
+/// are as before too. `page` is room to read one.
 pub fn regular_remove<P: Pages>(
     pages: &mut P,
     page: &mut Page,
@@ -27,8 +28,10 @@ pub fn regular_remove<P: Pages>(
 ) -> Result<Option<Moved>, StoreFault>
     requires slot { shelf.now.series < 4096 }
     requires limit { offset < 2 ^ 63 }
-    requires places { ArePlaces shelf.now.kind.now.columns (P.contents pages.old) (places_of shelf.now.series space.now) }
-    ensures ok { IfOk result (IsRemoved P.tells shelf.now.series shelf.now.kind.now.columns offset (places_of shelf.now.series space.now)
+    requires places { ArePlaces shelf.now.kind.now.columns (P.contents pages.old)
+        (places_of shelf.now.series space.now) }
+    ensures ok { IfOk result (IsRemoved P.tells shelf.now.series shelf.now.kind.now.columns offset
+        (places_of shelf.now.series space.now)
         (P.contents pages.old) (P.contents pages.new)) }
     ensures err { OnErr result (AreLeft P.tells (P.contents pages.old) (P.contents pages.new)) }
     ensures call { Answered result (P.contents pages.old) (P.contents pages.new) }
@@ -64,7 +67,8 @@ fn take_on<P: Pages>(
     requires place { IsPlace shelf.now.kind.now.columns (P.contents pages.old) place.now }
     requires at { place.now.at ≡ pos base }
     requires index { index < regular_room shelf.now.kind.now.columns }
-    ensures ok { IfOk result (IsTakenOn P.tells shelf.now.series shelf.now.kind.now.columns index place.now (P.contents pages.old) (P.contents pages.new)) }
+    ensures ok { IfOk result (IsTakenOn P.tells shelf.now.series shelf.now.kind.now.columns index place.now
+        (P.contents pages.old) (P.contents pages.new)) }
     ensures err { OnErr result (AreLeft P.tells (P.contents pages.old) (P.contents pages.new)) }
     ensures call { Answered result (P.contents pages.old) (P.contents pages.new) }
     ensures change { (P.contents pages.new).change_bytes ≤ (P.contents pages.old).change_bytes + 4101 }

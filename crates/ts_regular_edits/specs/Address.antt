@@ -3,7 +3,8 @@ use Rattle.std.specs.Prelude.{◌≡◌, ◌⊎◌, ℕ, ℤ, Some, Ok, Err}
 use Rattle.ts_base.specs.declared.refusal.Refusal.{Refusal}
 use Rattle.ts_offset.specs.Grid.{GridPlan, held_start, offset_of, stamp_of}
 
--- a stamp addresses the element at an offset: the on interval that holds it has this start, which is the on start of the offset
+-- a stamp addresses the element at an offset: the on interval that holds it has this start, which is the on start of
+-- the offset
 pub record IsAddressed (grid : GridPlan) (stamp : ℤ) (offset : ℕ) (start : ℤ) : Type 0 where
   pub offset_is : offset_of grid stamp ≡ Ok offset
   pub held : held_start grid.calendar stamp ≡ Some start

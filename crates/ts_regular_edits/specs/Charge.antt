@@ -13,4 +13,5 @@ charge_of columns es = regular_charge (regular_room columns) (map (λ e. e.0) es
 
 -- how many pages a series with these places has with an element at an offset
 abbrev pub pages_with : List Column → ℕ → List Place → ℕ
-pages_with columns offset places = if is_some (place_at (pos (base_of columns offset)) places) then length places else length places + 1
+pages_with columns offset places = if is_some (place_at (pos (base_of columns offset)) places) then length places
+    else length places + 1

@@ -1,5 +1,7 @@
--- What an edit of a regular series at a stamp comes to: a row that stands at the start of an interval, or why it is refused.
-use Rattle.std.specs.Prelude.{◌≡◌, ℕ, ◌<◌, ◌≤◌, ◌+◌, ℤ, pos, Bool, if◌then◌else◌, Option, Some, None, is_some, Result, List, length, IfOk, OnErr}
+-- What an edit of a regular series at a stamp comes to: a row that stands at the start of an interval, or why it is
+-- refused.
+use Rattle.std.specs.Prelude.{◌≡◌, ℕ, ◌<◌, ◌≤◌, ◌+◌, ℤ, pos, Bool, if◌then◌else◌, Option, Some, None, is_some, Result}
+use Rattle.std.specs.Prelude.{List, length, IfOk, OnErr}
 use Rattle.ts_base.specs.declared.refusal.Refusal.{Refusal}
 use Rattle.ts_base.specs.declared.refusal.Refusal.TheVariants as refusals
 use Rattle.ts_base.specs.declared.fault.StoreFault.{StoreFault}
@@ -39,19 +41,22 @@ abbrev pub NeedsPage : List Column → ℕ → List Place → Type 0
 NeedsPage columns offset places = place_at (pos (base_of columns offset)) places ≡ None
 
 -- a row is put at an offset, as a new element or in place of the one that is there; a page more is within the room
-pub record IsSet (tells : Bool) (slot : ℕ) (columns : List Column) (how : EditKind) (offset : ℕ) (row : Row) (room : ℕ) (old new : List Place) (v w : Contents) : Type 0 where
+pub record IsSet (tells : Bool) (slot : ℕ) (columns : List Column) (how : EditKind) (offset : ℕ) (row : Row) (room : ℕ)
+    (old new : List Place) (v w : Contents) : Type 0 where
   pub allowed : IsRefusedFor tells slot columns how offset old v None
   pub put : IsPut tells slot columns offset row old new v w
   pub fits : NeedsPage columns offset old → length old < room
 
 -- it is refused for this, and everything stays
-pub record IsRefused (tells : Bool) (slot : ℕ) (columns : List Column) (how : EditKind) (offset : ℕ) (refusal : Refusal) (places : List Place) (v w : Contents) : Type 0 where
+pub record IsRefused (tells : Bool) (slot : ℕ) (columns : List Column) (how : EditKind) (offset : ℕ) (refusal : Refusal)
+    (places : List Place) (v w : Contents) : Type 0 where
   pub why : IsRefusedFor tells slot columns how offset places v (Some refusal)
   pub same : ArePagesSame tells v w
 
--- An element would be added, where none of the told ones stands, on a page that the series doesn't have. One page more is over the room,
--- and everything stays.
-pub record IsFull (tells : Bool) (slot : ℕ) (columns : List Column) (how : EditKind) (offset room : ℕ) (places : List Place) (v w : Contents) : Type 0 where
+-- An element would be added, where none of the told ones stands, on a page that the series doesn't have. One page more
+-- is over the room, and everything stays.
+pub record IsFull (tells : Bool) (slot : ℕ) (columns : List Column) (how : EditKind) (offset room : ℕ)
+    (places : List Place) (v w : Contents) : Type 0 where
   pub allowed : IsRefusedFor tells slot columns how offset places v None
   pub new : IsTold tells slot columns places v (λ ps. element_at offset (all_in ps) ≡ None)
   pub needs : NeedsPage columns offset places
@@ -59,14 +64,19 @@ pub record IsFull (tells : Bool) (slot : ℕ) (columns : List Column) (how : Edi
   pub same : ArePagesSame tells v w
 
 -- what an edit at an offset, whose interval starts here, did to the pages and places of a series, as it tells
-abbrev pub IsEditedAt : Bool → ℕ → List Column → EditKind → ℕ → ℤ → Row → ℕ → List Place → Contents → Contents → Edited → Type 0
-IsEditedAt tells slot columns how offset start row room places v w (edited.Put at moved) = (at ≡ start) × IsSet tells slot columns how offset row room places (moved_to moved places) v w
+abbrev pub IsEditedAt : Bool → ℕ → List Column → EditKind → ℕ → ℤ → Row → ℕ → List Place → Contents → Contents → Edited
+    → Type 0
+IsEditedAt tells slot columns how offset start row room places v w (edited.Put at moved) = (at ≡ start)
+    × IsSet tells slot columns how offset row room places (moved_to moved places) v w
 IsEditedAt tells slot columns how offset start row room places v w edited.Replaced = ⊥
-IsEditedAt tells slot columns how offset start row room places v w (edited.Refused refusal) = IsRefused tells slot columns how offset refusal places v w
-IsEditedAt tells slot columns how offset start row room places v w edited.Full = IsFull tells slot columns how offset room places v w
+IsEditedAt tells slot columns how offset start row room places v w (edited.Refused refusal) =
+    IsRefused tells slot columns how offset refusal places v w
+IsEditedAt tells slot columns how offset start row room places v w edited.Full =
+    IsFull tells slot columns how offset room places v w
 
 -- the same at a stamp: where it addresses no element, the edit is refused for that, and everything stays
-abbrev pub IsEdited : Bool → ℕ → List Column → GridPlan → EditKind → ℤ → Row → ℕ → List Place → Contents → Contents → Edited → Type 0
+abbrev pub IsEdited : Bool → ℕ → List Column → GridPlan → EditKind → ℤ → Row → ℕ → List Place → Contents → Contents
+    → Edited → Type 0
 IsEdited tells slot columns grid how stamp row room places v w done =
     ByAddress grid stamp (λ offset start. IsEditedAt tells slot columns how offset start row room places v w done)
     (λ why. (done ≡ edited.Refused why) × ArePagesSame tells v w)
@@ -76,7 +86,8 @@ abbrev pub most_edit : ℕ
 most_edit = image_entry_size + free_entry_size
 
 -- all that holds of an edit at an offset: what it did, and how it ends
-pub record IsDone (tells : Bool) (slot : ℕ) (columns : List Column) (how : EditKind) (offset : ℕ) (start : ℤ) (row : Row) (room : ℕ) (places : List Place) (v w : Contents) (result : Result Edited StoreFault) : Type 0 where
+pub record IsDone (tells : Bool) (slot : ℕ) (columns : List Column) (how : EditKind) (offset : ℕ) (start : ℤ)
+    (row : Row) (room : ℕ) (places : List Place) (v w : Contents) (result : Result Edited StoreFault) : Type 0 where
   pub ok : IfOk result (IsEditedAt tells slot columns how offset start row room places v w)
   pub err : OnErr result (AreLeft tells v w)
   pub call : Answered result v w

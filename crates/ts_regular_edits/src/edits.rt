@@ -1,4 +1,5 @@
-// An edit at a stamp that puts a row at the start of its interval: as a new element, or in place of the row that stands there.
+// An edit at a stamp that puts a row at the start of its interval: as a new element, or in place of the row that stands
+// there.
 ghost use Rattle.std.specs.Prelude.{◌≡◌, ◌+◌, ◌^◌, ◌<◌, ◌≤◌, false, None, IsTrue, IfOk, OnErr, length};
 ghost use Rattle.ts_row.specs.Row.{fits};
 ghost use Rattle.ts_space.specs.Place.{IsRising};
@@ -21,10 +22,11 @@ use ts_row::{Row, Shelf};
 use ts_series::{EditKind, Edited};
 use ts_space::{Space, search};
 
-/// Edits the element that a stamp addresses, and tells the start of its interval and which place goes and comes, also where the row
-/// replaces one; refused as the grid does where it addresses none. `room` is how many pages the series may have, no more than there are
-/// spare pages and own ones: it is full where an element would come on a page that it doesn't have, and one page more is over that. One
-/// page is read, twice where an element must stand there or must not, and the same one written. A refusal leaves all pages; after an error all pages are as before, and one may be taken.
+/// Edits the element that a stamp addresses, and tells the start of its interval and which place goes and comes, also
+/// where the row replaces one; refused as the grid does where it addresses none. `room` is how many pages the series
+/// may have, no more than there are spare pages and own ones: it is full where an element would come on a page that it
+/// doesn't have, and one page more is over that. One page is read, twice where an element must stand there or must not,
+/// and the same one written. A refusal leaves all pages; after an error all pages are as before, and one may be taken.
 /// `page` is room to read one.
 pub fn edit_at<P: Pages>(
     pages: &mut P,
@@ -38,10 +40,12 @@ pub fn edit_at<P: Pages>(
     room: u64,
 ) -> Result<Edited, StoreFault>
     requires slot { shelf.now.series < 4096 }
-    requires places { ArePlaces shelf.now.kind.now.columns (P.contents pages.old) (places_of shelf.now.series space.now) }
+    requires places { ArePlaces shelf.now.kind.now.columns (P.contents pages.old)
+        (places_of shelf.now.series space.now) }
     requires fits { IsTrue (fits shelf.now.kind.now.columns row.now) }
     requires room { room ≤ length (P.contents pages.old).free + length (places_of shelf.now.series space.now) }
-    ensures ok { IfOk result (IsEdited P.tells shelf.now.series shelf.now.kind.now.columns grid.now how stamp row.now room
+    ensures ok { IfOk result
+        (IsEdited P.tells shelf.now.series shelf.now.kind.now.columns grid.now how stamp row.now room
         (places_of shelf.now.series space.now) (P.contents pages.old) (P.contents pages.new)) }
     ensures err { OnErr result (AreLeft P.tells (P.contents pages.old) (P.contents pages.new)) }
     ensures call { Answered result (P.contents pages.old) (P.contents pages.new) }
@@ -71,7 +75,8 @@ fn edit_offset<P: Pages>(
 ) -> Result<Edited, StoreFault>
     requires slot { shelf.now.series < 4096 }
     requires limit { offset < 2 ^ 63 }
-    requires places { ArePlaces shelf.now.kind.now.columns (P.contents pages.old) (places_of shelf.now.series space.now) }
+    requires places { ArePlaces shelf.now.kind.now.columns (P.contents pages.old)
+        (places_of shelf.now.series space.now) }
     requires fits { IsTrue (fits shelf.now.kind.now.columns row.now) }
     requires room { room ≤ length (P.contents pages.old).free + length (places_of shelf.now.series space.now) }
     ensures done { IsDone P.tells shelf.now.series shelf.now.kind.now.columns how offset start row.now room
@@ -100,7 +105,8 @@ fn put<P: Pages>(
 ) -> Result<Edited, StoreFault>
     requires slot { shelf.now.series < 4096 }
     requires limit { offset < 2 ^ 63 }
-    requires places { ArePlaces shelf.now.kind.now.columns (P.contents pages.old) (places_of shelf.now.series space.now) }
+    requires places { ArePlaces shelf.now.kind.now.columns (P.contents pages.old)
+        (places_of shelf.now.series space.now) }
     requires fits { IsTrue (fits shelf.now.kind.now.columns row.now) }
     requires room { room ≤ length (P.contents pages.old).free + length (places_of shelf.now.series space.now) }
     ensures done { (how : TheKind) → IsRefusedFor P.tells shelf.now.series shelf.now.kind.now.columns how offset
@@ -132,7 +138,8 @@ fn insert<P: Pages>(
 ) -> Result<Edited, StoreFault>
     requires slot { shelf.now.series < 4096 }
     requires limit { offset < 2 ^ 63 }
-    requires places { ArePlaces shelf.now.kind.now.columns (P.contents pages.old) (places_of shelf.now.series space.now) }
+    requires places { ArePlaces shelf.now.kind.now.columns (P.contents pages.old)
+        (places_of shelf.now.series space.now) }
     requires fits { IsTrue (fits shelf.now.kind.now.columns row.now) }
     requires room { room ≤ length (P.contents pages.old).free + length (places_of shelf.now.series space.now) }
     ensures done { IsDone P.tells shelf.now.series shelf.now.kind.now.columns Insert offset start row.now room
@@ -159,7 +166,8 @@ fn update<P: Pages>(
 ) -> Result<Edited, StoreFault>
     requires slot { shelf.now.series < 4096 }
     requires limit { offset < 2 ^ 63 }
-    requires places { ArePlaces shelf.now.kind.now.columns (P.contents pages.old) (places_of shelf.now.series space.now) }
+    requires places { ArePlaces shelf.now.kind.now.columns (P.contents pages.old)
+        (places_of shelf.now.series space.now) }
     requires fits { IsTrue (fits shelf.now.kind.now.columns row.now) }
     requires room { room ≤ length (P.contents pages.old).free + length (places_of shelf.now.series space.now) }
     ensures done { IsDone P.tells shelf.now.series shelf.now.kind.now.columns Update offset start row.now room

@@ -1,5 +1,6 @@
 // The element that a stamp addresses is read, marked or taken away.
-ghost use Rattle.std.specs.Prelude.{◌≡◌, ◌+◌, ◌<◌, ◌≤◌, false, All, IsTrue, IfOk, IfSome, OnErr, Ok, Err, option_map, length};
+ghost use Rattle.std.specs.Prelude.{◌≡◌, ◌+◌, ◌<◌, ◌≤◌, false, All, IsTrue, IfOk, IfSome, OnErr, Ok, Err, option_map};
+ghost use Rattle.std.specs.Prelude.{length};
 ghost use Rattle.ts_base.specs.declared.refusal.Refusal.TheVariants.{Missing};
 ghost use Rattle.ts_row.specs.Row.{fits};
 ghost use Rattle.ts_space.specs.Directory.{places_of};
@@ -17,8 +18,8 @@ use ts_regular::{regular_find, regular_mark, regular_remove};
 use ts_row::{Row, Shelf};
 use ts_space::{Moved, Space};
 
-/// The element that a stamp addresses, hidden or not, with the start of its interval as its stamp; none where it addresses none. One page
-/// is read, and all stay; `page` is room to read it.
+/// The element that a stamp addresses, hidden or not, with the start of its interval as its stamp; none where it
+/// addresses none. One page is read, and all stay; `page` is room to read it.
 pub fn find_at<P: Pages>(
     pages: &mut P,
     page: &mut Page,
@@ -54,9 +55,10 @@ fn stamped(start: Stamp, found: Option<Row>) -> Option<(Stamp, Row)>
     }
 }
 
-/// Hides the element that a stamp addresses, or reveals it, and tells the start of its interval. Its values and all places stay; setting a
-/// mark twice is no error. Refused as the grid does where the stamp addresses none, and as missing where none stands there; a refusal
-/// leaves all pages. One page is read, and the same one written; after an error all pages are as before. `page` is room to read one.
+/// Hides the element that a stamp addresses, or reveals it, and tells the start of its interval. Its values and all
+/// places stay; setting a mark twice is no error. Refused as the grid does where the stamp addresses none, and as
+/// missing where none stands there; a refusal leaves all pages. One page is read, and the same one written; after an
+/// error all pages are as before. `page` is room to read one.
 pub fn mark_at<P: Pages>(
     pages: &mut P,
     page: &mut Page,
@@ -67,7 +69,8 @@ pub fn mark_at<P: Pages>(
     hidden: bool,
 ) -> Result<Result<Stamp, Refusal>, StoreFault>
     requires slot { shelf.now.series < 4096 }
-    requires places { ArePlaces shelf.now.kind.now.columns (P.contents pages.old) (places_of shelf.now.series space.now) }
+    requires places { ArePlaces shelf.now.kind.now.columns (P.contents pages.old)
+        (places_of shelf.now.series space.now) }
     ensures ok { IfOk result (IsMarkedAt P.tells shelf.now.series shelf.now.kind.now.columns grid.now stamp hidden
         (places_of shelf.now.series space.now) (P.contents pages.old) (P.contents pages.new)) }
     ensures err { OnErr result (AreLeft P.tells (P.contents pages.old) (P.contents pages.new)) }
@@ -96,9 +99,9 @@ fn start_if(there: bool, start: Stamp) -> Result<Stamp, Refusal>
     }
 }
 
-/// Takes away the element that a stamp addresses, and tells which places go and come: none, and no page changes, where none stands there or
-/// the stamp addresses none. One page is read, and the same one written, or freed where it has no other element; after an error all pages
-/// are as before. `page` is room to read one.
+/// Takes away the element that a stamp addresses, and tells which places go and come: none, and no page changes, where
+/// none stands there or the stamp addresses none. One page is read, and the same one written, or freed where it has no
+/// other element; after an error all pages are as before. `page` is room to read one.
 pub fn delete_at<P: Pages>(
     pages: &mut P,
     page: &mut Page,
@@ -108,7 +111,8 @@ pub fn delete_at<P: Pages>(
     stamp: Stamp,
 ) -> Result<Option<Moved>, StoreFault>
     requires slot { shelf.now.series < 4096 }
-    requires places { ArePlaces shelf.now.kind.now.columns (P.contents pages.old) (places_of shelf.now.series space.now) }
+    requires places { ArePlaces shelf.now.kind.now.columns (P.contents pages.old)
+        (places_of shelf.now.series space.now) }
     ensures ok { IfOk result (IsRemovedAt P.tells shelf.now.series shelf.now.kind.now.columns grid.now stamp
         (places_of shelf.now.series space.now) (P.contents pages.old) (P.contents pages.new)) }
     ensures err { OnErr result (AreLeft P.tells (P.contents pages.old) (P.contents pages.new)) }

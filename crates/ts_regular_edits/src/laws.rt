@@ -15,34 +15,47 @@ ghost use Rattle.ts_regular_edits.specs.Range.{AreOffsetsOf};
 ghost use Rattle.ts_regular_edits.specs.Charge.{charge_of, pages_with};
 ghost use Rattle.ts_regular_edits.specs.Stamped.{stamped, HaveStarts};
 
-/// Stamps rise with their offsets, so distinct offsets have distinct stamps; and what is found, put and taken away at an offset is found,
-/// put and taken away at its stamp.
+/// Stamps rise with their offsets, so distinct offsets have distinct stamps; and what is found, put and taken away at
+/// an offset is found, put and taken away at its stamp.
 pub fn edits_at_offsets_are_edits_at_stamps()
-    ensures rising { (grid : GridPlan) → IsLaid grid.calendar → (m n : ℕ) (s t : ℤ) → m < n → stamp_of grid m ≡ Some s → stamp_of grid n ≡ Some t → s <ℤ t }
-    ensures found { (grid : GridPlan) → IsLaid grid.calendar → (n : ℕ) (s : ℤ) (es : List OffsetElement) → HaveStarts grid es → stamp_of grid n ≡ Some s →
+    ensures rising { (grid : GridPlan) → IsLaid grid.calendar → (m n : ℕ) (s t : ℤ) → m < n → stamp_of grid m ≡ Some s
+        → stamp_of grid n ≡ Some t → s <ℤ t }
+    ensures found { (grid : GridPlan) → IsLaid grid.calendar → (n : ℕ) (s : ℤ) (es : List OffsetElement)
+        → HaveStarts grid es → stamp_of grid n ≡ Some s →
         stamps.element_at s (stamped grid es) ≡ element_at n es }
-    ensures put { (grid : GridPlan) → IsLaid grid.calendar → (n : ℕ) (s : ℤ) (row : TheRow) (es : List OffsetElement) → HaveStarts grid es → stamp_of grid n ≡ Some s →
+    ensures put { (grid : GridPlan) → IsLaid grid.calendar → (n : ℕ) (s : ℤ) (row : TheRow) (es : List OffsetElement)
+        → HaveStarts grid es → stamp_of grid n ≡ Some s →
         stamped grid (with_element n row es) ≡ stamps.with_element s row (stamped grid es) }
-    ensures taken { (grid : GridPlan) → IsLaid grid.calendar → (n : ℕ) (s : ℤ) (es : List OffsetElement) → HaveStarts grid es → stamp_of grid n ≡ Some s →
+    ensures taken { (grid : GridPlan) → IsLaid grid.calendar → (n : ℕ) (s : ℤ) (es : List OffsetElement)
+        → HaveStarts grid es → stamp_of grid n ≡ Some s →
         stamped grid (without_element n es) ≡ stamps.without_element s (stamped grid es) }
 {}
 
 /// The elements at the offsets of a range are those at its stamps, as many; and the others are those at other stamps.
 pub fn ranges_of_offsets_are_ranges_of_stamps()
-    ensures within { (grid : GridPlan) → IsLaid grid.calendar → (from to : ℤ) (lower upper : ℕ) → AreOffsetsOf grid from to lower upper →
-        (es : List OffsetElement) → HaveStarts grid es → stamped grid (within lower upper es) ≡ within_range from to (stamped grid es) }
-    ensures number { (grid : GridPlan) → IsLaid grid.calendar → (from to : ℤ) (lower upper : ℕ) → AreOffsetsOf grid from to lower upper →
-        (es : List OffsetElement) → HaveStarts grid es → length (within lower upper es) ≡ length (within_range from to (stamped grid es)) }
-    ensures outside { (grid : GridPlan) → IsLaid grid.calendar → (from to : ℤ) (lower upper : ℕ) → AreOffsetsOf grid from to lower upper →
-        (es : List OffsetElement) → HaveStarts grid es → stamped grid (outside lower upper es) ≡ without_range from to (stamped grid es) }
-    ensures starts { (grid : GridPlan) (lower upper : ℕ) (es : List OffsetElement) → HaveStarts grid es → HaveStarts grid (outside lower upper es) }
+    ensures within { (grid : GridPlan) → IsLaid grid.calendar → (from to : ℤ) (lower upper : ℕ)
+        → AreOffsetsOf grid from to lower upper →
+        (es : List OffsetElement) → HaveStarts grid es → stamped grid (within lower upper es)
+        ≡ within_range from to (stamped grid es) }
+    ensures number { (grid : GridPlan) → IsLaid grid.calendar → (from to : ℤ) (lower upper : ℕ)
+        → AreOffsetsOf grid from to lower upper →
+        (es : List OffsetElement) → HaveStarts grid es → length (within lower upper es)
+        ≡ length (within_range from to (stamped grid es)) }
+    ensures outside { (grid : GridPlan) → IsLaid grid.calendar → (from to : ℤ) (lower upper : ℕ)
+        → AreOffsetsOf grid from to lower upper →
+        (es : List OffsetElement) → HaveStarts grid es → stamped grid (outside lower upper es)
+        ≡ without_range from to (stamped grid es) }
+    ensures starts { (grid : GridPlan) (lower upper : ℕ) (es : List OffsetElement) → HaveStarts grid es
+        → HaveStarts grid (outside lower upper es) }
 {}
 
 /// A series is charged for as many pages as it has places, and with an element more for as many as it then has.
 pub fn places_are_the_charge()
-    ensures charge { (slot : ℕ) (columns : List TheColumn) (pages : ℕ → List ℕ) (places : List ThePlace) (ps : List OffsetPage) →
+    ensures charge { (slot : ℕ) (columns : List TheColumn) (pages : ℕ → List ℕ) (places : List ThePlace)
+        (ps : List OffsetPage) →
         AreOn slot columns pages places ps → IsRising places → charge_of columns (all_in ps) ≡ length places }
-    ensures more { (slot : ℕ) (columns : List TheColumn) (pages : ℕ → List ℕ) (places : List ThePlace) (ps : List OffsetPage) →
+    ensures more { (slot : ℕ) (columns : List TheColumn) (pages : ℕ → List ℕ) (places : List ThePlace)
+        (ps : List OffsetPage) →
         AreOn slot columns pages places ps → IsRising places → (offset : ℕ) (row : TheRow) →
         charge_of columns (with_element offset row (all_in ps)) ≡ pages_with columns offset places }
 {}

@@ -13,10 +13,11 @@ use ts_regular::regular_clear;
 use ts_row::Shelf;
 use ts_space::{Moved, Space};
 
-/// Takes away all elements from one stamp to another, both included, hidden or not; gives how many they were and which places go and come:
-/// none, and no page changes, where no element stands there, or the first stamp is the later one. The pages of the two ends alone are read,
-/// and at most these two are written; those that lose all of their elements are freed. After an error pages may have changed in part.
-/// `page` is room to read one; the memory is for the numbers of the pages that are freed, 4 bytes each.
+/// Takes away all elements from one stamp to another, both included, hidden or not; gives how many they were and which
+/// places go and come: none, and no page changes, where no element stands there, or the first stamp is the later one.
+/// The pages of the two ends alone are read, and at most these two are written; those that lose all of their elements
+/// are freed. After an error pages may have changed in part. `page` is room to read one; the memory is for the numbers
+/// of the pages that are freed, 4 bytes each.
 pub fn clear_at<P: Pages>(
     alloc: Global,
     pages: &mut P,
@@ -28,8 +29,10 @@ pub fn clear_at<P: Pages>(
     to: Stamp,
 ) -> Result<(u64, Option<Moved>), StoreFault>
     requires slot { shelf.now.series < 4096 }
-    requires places { ArePlaces shelf.now.kind.now.columns (P.contents pages.old) (places_of shelf.now.series space.now) }
-    ensures ok { IfOk result (λ r. IsClearedAt P.tells shelf.now.series shelf.now.kind.now.columns grid.now from to (places_of shelf.now.series space.now)
+    requires places { ArePlaces shelf.now.kind.now.columns (P.contents pages.old)
+        (places_of shelf.now.series space.now) }
+    ensures ok { IfOk result (λ r. IsClearedAt P.tells shelf.now.series shelf.now.kind.now.columns grid.now from to
+        (places_of shelf.now.series space.now)
         (P.contents pages.old) (P.contents pages.new) r.0 r.1) }
     ensures call { Answered result (P.contents pages.old) (P.contents pages.new) }
     ensures change { (P.contents pages.new).change_bytes

@@ -1,5 +1,6 @@
 -- What was said, read as replies to a list of items. The catalogue, the item and what answers it are left open.
-use Rattle.std.specs.Prelude.{◌≡◌, ◌⊎◌, ℕ, ◌+◌, ◌==◌, if◌then◌else◌, List, [], ◌∷◌, ◌++◌, length, Option, Some, None, codes}
+use Rattle.std.specs.Prelude.{◌≡◌, ◌⊎◌, ℕ, ◌+◌, ◌==◌, if◌then◌else◌, List, [], ◌∷◌, ◌++◌, length, Option, Some, None}
+use Rattle.std.specs.Prelude.{codes}
 
 -- the line that may stand in the place of a reply for want of memory
 abbrev pub memory_line : List ℕ
@@ -33,7 +34,8 @@ pub record Protocol (C I : Type 0) : Type 1 where
   pub stand_in : I → Option (List ℕ)
   pub means : List ℕ → C → Type 0
 
--- the first that is there: what stands behind the reply, with the next catalogue, or behind the memory line, with this one
+-- the first that is there: what stands behind the reply, with the next catalogue, or behind the memory line, with this
+-- one
 abbrev pub first_heard : {C : Type 0} → C → C → Option (List ℕ) → Option (List ℕ) → Option (C × List ℕ)
 first_heard next cat (Some rest) memory = Some (next, rest)
 first_heard next cat None (Some rest) = Some (cat, rest)
@@ -46,7 +48,8 @@ behind_stand_in (Some line) said = behind line said
 
 -- after a whole reply to the item, or the line in its place: the catalogue, and what stands behind
 abbrev pub hear : {C I : Type 0} → Protocol C I → C → I → List ℕ → Option (C × List ℕ)
-hear p cat item said = first_heard (p.answer cat item).1 cat (behind (p.answer cat item).0 said) (behind_stand_in (p.stand_in item) said)
+hear p cat item said = first_heard (p.answer cat item).1 cat (behind (p.answer cat item).0 said)
+    (behind_stand_in (p.stand_in item) said)
 
 -- one reply more
 abbrev pub one_more : {C I : Type 0} → Heard C I → Heard C I
@@ -64,7 +67,8 @@ heard p cat (item ∷ items) said =
 -- what else was said is the front of a reply that the next item may have, and nothing where there is no next item
 abbrev pub CanFollow : {C I : Type 0} → Protocol C I → C → List I → List ℕ → Type 0
 CanFollow p cat [] rest = rest ≡ []
-CanFollow p cat (item ∷ items) rest = IsFront rest (p.answer cat item).0 ⊎ ((line : List ℕ) × (p.stand_in item ≡ Some line) × IsFront rest line)
+CanFollow p cat (item ∷ items) rest = IsFront rest (p.answer cat item).0
+    ⊎ ((line : List ℕ) × (p.stand_in item ≡ Some line) × IsFront rest line)
 
 -- what was said is replies to the items in their order, the last of them perhaps in part
 abbrev pub IsFair : {C I : Type 0} → Protocol C I → C → List I → List ℕ → Type 0
@@ -87,6 +91,8 @@ pub record AreApart {C I : Type 0} (answer : Answer C I) : Type 0 where
 
 -- The replies and the lines in their place tell one another apart: none begins with the other, and no reply is empty.
 pub record TellsApart {C I : Type 0} (p : Protocol C I) : Type 0 where
-  pub line : (cat : C) (item : I) (line x : List ℕ) → p.stand_in item ≡ Some line → behind (p.answer cat item).0 (line ++ x) ≡ None
-  pub reply : (cat : C) (item : I) (line : List ℕ) → p.stand_in item ≡ Some line → behind line (p.answer cat item).0 ≡ None
+  pub line : (cat : C) (item : I) (line x : List ℕ) → p.stand_in item ≡ Some line
+      → behind (p.answer cat item).0 (line ++ x) ≡ None
+  pub reply : (cat : C) (item : I) (line : List ℕ) → p.stand_in item ≡ Some line → behind line (p.answer cat item).0
+      ≡ None
   pub some : (cat : C) (item : I) → behind (p.answer cat item).0 [] ≡ None

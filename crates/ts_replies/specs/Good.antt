@@ -8,7 +8,8 @@ IsNowOrNext p keeps cat [] = keeps cat
 IsNowOrNext p keeps cat (item ∷ items) = keeps cat ⊎ keeps (p.answer cat item).1
 
 -- what was said is fair, and the image keeps the catalogue after exactly the acknowledged items, or these and the next
-pub record IsGood {C I : Type 0} (p : Protocol C I) (keeps : C → Type 0) (cat : C) (items : List I) (said : List ℕ) : Type 0 where
+pub record IsGood {C I : Type 0} (p : Protocol C I) (keeps : C → Type 0) (cat : C) (items : List I)
+    (said : List ℕ) : Type 0 where
   pub fair : IsFair p cat items said
   pub kept : IsNowOrNext p keeps (heard p cat items said).catalogue (heard p cat items said).waiting
 

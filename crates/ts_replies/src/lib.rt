@@ -2,6 +2,6 @@
 //! whether what is left is the front of the next reply (`specs/Acknowledged`); and what a stop may leave beside it
 //! (`specs/Good`). How items are answered, which line may stand in the place of a reply, and what an image means is one
 //! record (`Protocol`), so the same definitions serve however the language grows. The lemmas on them (`proofs/Hearing`,
-//! `proofs/Steps`, `proofs/Apart`) are what proofs of runs cite; there is no code. Stands on nothing; knows nothing of volumes, pages or
-//! scripts. Read `specs/Acknowledged.antt` first.
+//! `proofs/Steps`, `proofs/Apart`) are what proofs of runs cite; there is no code. Stands on nothing; knows nothing of
+//! volumes, pages or scripts. Read `specs/Acknowledged.antt` first.
 #![tactic(auto)]

@@ -1,5 +1,6 @@
 -- The value and the row that bytes give, read from their first byte on.
-use Rattle.std.specs.Prelude.{ℕ, Bool, ◌-◌, ◌&&◌, ◌==◌, nat_le, nat_lt, if◌then◌else◌, ℤ, unsigned_abs, Option, Some, None, List, [], ◌∷◌, length, take, drop}
+use Rattle.std.specs.Prelude.{ℕ, Bool, ◌-◌, ◌&&◌, ◌==◌, nat_le, nat_lt, if◌then◌else◌, ℤ, unsigned_abs, Option, Some}
+use Rattle.std.specs.Prelude.{None, List, [], ◌∷◌, length, take, drop}
 use Rattle.std.specs.Option.{option_map}
 use Rattle.std.specs.List.{list_all}
 use Rattle.std.specs.Int.{w16, w32, w64, w128, from_be_bytes, cast_signed}
@@ -23,7 +24,8 @@ number_in SmallInt bytes = cast_signed w16 (from_be_bytes w16 bytes)
 number_in Integer bytes = cast_signed w32 (from_be_bytes w32 bytes)
 number_in BigInt bytes = cast_signed w64 (from_be_bytes w64 bytes)
 number_in (Decimal digits scale) bytes =
-    if nat_lt short_digits digits then cast_signed w128 (from_be_bytes w128 bytes) else cast_signed w64 (from_be_bytes w64 bytes)
+    if nat_lt short_digits digits then cast_signed w128 (from_be_bytes w128 bytes)
+    else cast_signed w64 (from_be_bytes w64 bytes)
 number_in (VarChar most) bytes = cast_signed w64 0
 
 -- the number, if the column holds it
@@ -58,7 +60,8 @@ abbrev pub values_in : List Column → List ℕ → Option Values
 values_in [] bytes = if length bytes == 0 then Some [] else None
 values_in (column ∷ columns) bytes =
     if nat_le (column_width column.kind) (length bytes)
-    then put_first (value_in column.kind (take (column_width column.kind) bytes)) (values_in columns (drop (column_width column.kind) bytes))
+    then put_first (value_in column.kind (take (column_width column.kind) bytes))
+    (values_in columns (drop (column_width column.kind) bytes))
     else None
 
 -- a first byte is one of a hidden row
@@ -73,4 +76,5 @@ unmarked byte = if is_mark byte then byte - hidden_mark else byte
 abbrev pub row_in : List Column → List ℕ → Option Row
 row_in columns [] = option_map visible (values_in columns [])
 row_in columns (first ∷ bytes) =
-    option_map (λ values. record { values = values; hidden = is_mark first }) (values_in columns (unmarked first ∷ bytes))
+    option_map (λ values. record { values = values; hidden = is_mark first })
+    (values_in columns (unmarked first ∷ bytes))

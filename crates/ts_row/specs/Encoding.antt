@@ -1,5 +1,6 @@
 -- The bytes of a row: those of its columns one after the other, with the mark in the first byte.
-use Rattle.std.specs.Prelude.{◌≡◌, ◌↔◌, ℕ, ◌+◌, ◌-◌, Bool, nat_lt, if◌then◌else◌, IsTrue, ℤ, Option, Some, List, [], ◌∷◌, ◌++◌, length, replicate}
+use Rattle.std.specs.Prelude.{◌≡◌, ◌↔◌, ℕ, ◌+◌, ◌-◌, Bool, nat_lt, if◌then◌else◌, IsTrue, ℤ, Option, Some, List, []}
+use Rattle.std.specs.Prelude.{◌∷◌, ◌++◌, length, replicate}
 use Rattle.std.specs.Int.{w16, w32, w64, w128, to_be_bytes, cast_unsigned}
 use Rattle.ts_row.specs.declared.kind.ColumnKind.{ColumnKind}
 use Rattle.ts_row.specs.declared.kind.ColumnKind.TheVariants.{SmallInt, Integer, BigInt, Decimal, VarChar}
@@ -15,7 +16,8 @@ number_bytes SmallInt z = to_be_bytes w16 (cast_unsigned w16 z)
 number_bytes Integer z = to_be_bytes w32 (cast_unsigned w32 z)
 number_bytes BigInt z = to_be_bytes w64 (cast_unsigned w64 z)
 number_bytes (Decimal digits scale) z =
-    if nat_lt short_digits digits then to_be_bytes w128 (cast_unsigned w128 z) else to_be_bytes w64 (cast_unsigned w64 z)
+    if nat_lt short_digits digits then to_be_bytes w128 (cast_unsigned w128 z)
+    else to_be_bytes w64 (cast_unsigned w64 z)
 number_bytes (VarChar most) z = []
 
 -- the bytes of a text: its length, its bytes, then zeros

@@ -1,12 +1,14 @@
 -- What is printed of values and rows.
-use Rattle.std.specs.Prelude.{◌≡◌, ℕ, zero, suc, ◌+◌, ◌/◌, ◌%◌, ◌^◌, ◌==◌, if◌then◌else◌, ℤ, pos, int_lt, unsigned_abs, List, [], ◌∷◌, ◌++◌, codes}
+use Rattle.std.specs.Prelude.{◌≡◌, ℕ, zero, suc, ◌+◌, ◌/◌, ◌%◌, ◌^◌, ◌==◌, if◌then◌else◌, ℤ, pos, int_lt, unsigned_abs}
+use Rattle.std.specs.Prelude.{List, [], ◌∷◌, ◌++◌, codes}
 use Rattle.std.specs.List.{flat_map, join_with_byte}
 use Rattle.std.specs.Fmt.{decimal}
 use Rattle.ts_row.specs.declared.kind.Column.{Column}
 use Rattle.ts_row.specs.declared.value.Value.{Value}
 use Rattle.ts_row.specs.declared.value.Value.TheVariants.{Null, Number, Text}
 use Rattle.ts_row.specs.declared.value.Literal.{Literal}
-use Rattle.ts_row.specs.declared.value.Literal.TheVariants.{Null as NullLiteral, Number as NumberLiteral, Text as TextLiteral}
+use Rattle.ts_row.specs.declared.value.Literal.TheVariants.{Null as NullLiteral, Number as NumberLiteral}
+use Rattle.ts_row.specs.declared.value.Literal.TheVariants.{Text as TextLiteral}
 use Rattle.ts_row.specs.RowType.{scale_of}
 use Rattle.ts_row.specs.Row.{Values, Row}
 
@@ -58,7 +60,8 @@ literal_of scale (Text text) = TextLiteral text
 
 -- the literals that the texts of values are
 abbrev pub value_literals : List Column → Values → List Literal
-value_literals (column ∷ columns) (value ∷ values) = literal_of (scale_of column.kind) value ∷ value_literals columns values
+value_literals (column ∷ columns) (value ∷ values) = literal_of (scale_of column.kind) value
+    ∷ value_literals columns values
 value_literals _ _ = []
 
 -- the literals that the texts of a row's values are

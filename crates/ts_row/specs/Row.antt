@@ -1,5 +1,7 @@
 -- Rows: the values that a column may hold, and the row that literals give.
-use Rattle.std.specs.Prelude.{◌≡◌, ℕ, ◌+◌, ◌*◌, ◌/◌, ◌%◌, ◌^◌, Bool, true, false, ◌&&◌, ◌==◌, nat_lt, nat_le, if◌then◌else◌, ℤ, pos, neg_ℤ, int_lt, unsigned_abs, Option, Some, None, Result, Ok, Err, List, [], ◌∷◌, length}
+use Rattle.std.specs.Prelude.{◌≡◌, ℕ, ◌+◌, ◌*◌, ◌/◌, ◌%◌, ◌^◌, Bool, true, false, ◌&&◌, ◌==◌, nat_lt, nat_le}
+use Rattle.std.specs.Prelude.{if◌then◌else◌, ℤ, pos, neg_ℤ, int_lt, unsigned_abs, Option, Some, None, Result, Ok, Err}
+use Rattle.std.specs.Prelude.{List, [], ◌∷◌, length}
 use Rattle.std.specs.Option.{option_map, option_and_then}
 use Rattle.ts_base.specs.Name.{is_text}
 use Rattle.ts_base.specs.declared.fault.Trouble.{Trouble}
@@ -11,7 +13,8 @@ use Rattle.ts_row.specs.declared.kind.Column.{Column}
 use Rattle.ts_row.specs.declared.value.Value.{Value}
 use Rattle.ts_row.specs.declared.value.Value.TheVariants.{Null, Number, Text}
 use Rattle.ts_row.specs.declared.value.Literal.{Literal}
-use Rattle.ts_row.specs.declared.value.Literal.TheVariants.{Null as NullLiteral, Number as NumberLiteral, Text as TextLiteral}
+use Rattle.ts_row.specs.declared.value.Literal.TheVariants.{Null as NullLiteral, Number as NumberLiteral}
+use Rattle.ts_row.specs.declared.value.Literal.TheVariants.{Text as TextLiteral}
 use Rattle.ts_row.specs.RowType.{scale_of}
 
 -- the values of a row, one for each value column
@@ -102,7 +105,8 @@ with_first number None rest = Err number
 with_first number (Some value) (Ok values) = Ok (value ∷ values)
 with_first number (Some value) (Err later) = Err later
 
--- the values that literals give, where the columns count from `number`; else the first that misfits, is missing or is too many
+-- the values that literals give, where the columns count from `number`; else the first that misfits, is missing or is
+-- too many
 abbrev pub values_from : ℕ → List Column → List Literal → Result Values ℕ
 values_from number [] [] = Ok []
 values_from number [] (literal ∷ literals) = Err number
@@ -115,7 +119,8 @@ abbrev pub visible_if_any : Result Values ℕ → Result Row ℕ
 visible_if_any (Ok values) = Ok (visible values)
 visible_if_any (Err number) = Err number
 
--- the visible row that literals give, or the number, counted from 1, of the first column that misfits, is missing or is too many
+-- the visible row that literals give, or the number, counted from 1, of the first column that misfits, is missing or is
+-- too many
 abbrev pub row_of : List Column → List Literal → Result Row ℕ
 row_of columns literals = visible_if_any (values_from 1 columns literals)
 

@@ -1,5 +1,6 @@
 -- Row types: the columns that they may have, and the first column that breaks a rule.
-use Rattle.std.specs.Prelude.{◌≡◌, ℕ, zero, suc, ◌+◌, Bool, true, false, ◌&&◌, nat_lt, nat_le, nat_eq, not, max, if◌then◌else◌, Option, Some, None, List, [], ◌∷◌, length, map, take}
+use Rattle.std.specs.Prelude.{◌≡◌, ℕ, zero, suc, ◌+◌, Bool, true, false, ◌&&◌, nat_lt, nat_le, nat_eq, not, max}
+use Rattle.std.specs.Prelude.{if◌then◌else◌, Option, Some, None, List, [], ◌∷◌, length, map, take}
 use Rattle.std.specs.List.{list_all, list_any, sum_by}
 use Rattle.std.specs.Cmp.Lexicographic.{pointwise}
 use Rattle.ts_base.specs.declared.fault.Trouble.{Trouble}
@@ -85,7 +86,8 @@ keep_rules stamp columns =
     nat_le (length columns) 32 && list_all (λ c. is_kind c.kind) columns && nat_le (width_of columns) 1000
     && are_distinct (stamp ∷ names_of columns)
 
--- a column may follow others: they are fewer than 32, its kind may be, the row gets no wider than 1000 bytes, its name is new
+-- a column may follow others: they are fewer than 32, its kind may be, the row gets no wider than 1000 bytes, its name
+-- is new
 abbrev pub may_follow : List ℕ → List Column → Column → Bool
 may_follow stamp before c =
     nat_lt (length before) 32 && is_kind c.kind && nat_le (width_of before + column_width c.kind) 1000

@@ -1,5 +1,6 @@
 // The row that bytes are: each function takes the first column and goes on with the others, at most 32 in all.
-ghost use Rattle.std.specs.Prelude.{◌≡◌, ◌≤◌, ◌+◌, ◌∷◌, ◌++◌, nat_lt, if◌then◌else◌, IsTrue, IfOk, MatchOption, length, true, false};
+ghost use Rattle.std.specs.Prelude.{◌≡◌, ◌≤◌, ◌+◌, ◌∷◌, ◌++◌, nat_lt, if◌then◌else◌, IsTrue, IfOk, MatchOption, length};
+ghost use Rattle.std.specs.Prelude.{true, false};
 ghost use Rattle.std.specs.List.{list_all};
 ghost use Rattle.std.specs.Int.{cast_signed, from_be_bytes, w64, w128};
 ghost use Rattle.ts_row.specs.RowType.{column_width, is_kind};

@@ -1,5 +1,6 @@
 // The bytes of values: each function takes the first column and goes on with the others, at most 32 in all.
-ghost use Rattle.std.specs.Prelude.{◌≡◌, ◌+◌, ◌-◌, ◌^◌, ◌<◌, ◌≤◌, nat_lt, if◌then◌else◌, IsTrue, ◌∷◌, ◌++◌, length, unsigned_abs, replicate};
+ghost use Rattle.std.specs.Prelude.{◌≡◌, ◌+◌, ◌-◌, ◌^◌, ◌<◌, ◌≤◌, nat_lt, if◌then◌else◌, IsTrue, ◌∷◌, ◌++◌, length};
+ghost use Rattle.std.specs.Prelude.{unsigned_abs, replicate};
 ghost use Rattle.std.specs.List.{list_all};
 ghost use Rattle.std.specs.Int.{w64, w128, to_be_bytes, cast_unsigned};
 ghost use Rattle.ts_row.specs.RowType.{column_width, is_kind, width_of};

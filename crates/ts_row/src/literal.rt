@@ -1,5 +1,6 @@
 // The values that literals give: the number units / 10^written is brought to the column's scale.
-ghost use Rattle.std.specs.Prelude.{◌≡◌, ◌-◌, ◌*◌, ◌/◌, ◌%◌, ◌^◌, ◌==◌, ◌<◌, ◌≤◌, IsTrue, IfOk, IfErr, OnOk, IsOkAnd, IfSome, ◌+◌, ◌++◌, length, Some, None, if◌then◌else◌};
+ghost use Rattle.std.specs.Prelude.{◌≡◌, ◌-◌, ◌*◌, ◌/◌, ◌%◌, ◌^◌, ◌==◌, ◌<◌, ◌≤◌, IsTrue, IfOk, IfErr, OnOk, IsOkAnd};
+ghost use Rattle.std.specs.Prelude.{IfSome, ◌+◌, ◌++◌, length, Some, None, if◌then◌else◌};
 ghost use Rattle.std.specs.Option.{option_and_then};
 ghost use Rattle.ts_row.specs.RowType.{is_kind};
 ghost use Rattle.ts_row.specs.Row.{rescaled, size_if_any, size_if_fits, value_if_any, with_sign};

@@ -1,4 +1,5 @@
-ghost use Rattle.std.specs.Prelude.{◌≡◌, ◌↔◌, ◌≤◌, ◌++◌, IsTrue, IfOk, IfSome, IfErr, OnOk, OnErr, MatchResult, Ok, None, length};
+ghost use Rattle.std.specs.Prelude.{◌≡◌, ◌↔◌, ◌≤◌, ◌++◌, IsTrue, IfOk, IfSome, IfErr, OnOk, OnErr, MatchResult, Ok};
+ghost use Rattle.std.specs.Prelude.{None, length};
 ghost use Rattle.ts_row.specs.RowType.{is_row_type, width_of, has_long_decimal, bad_column, IsBadRowType};
 ghost use Rattle.ts_row.specs.Row.{row_of, IsRowTrouble, fits};
 ghost use Rattle.ts_row.specs.Encoding.{row_bytes, IsMeaning, AreRowBytes, IsMarkOf, Marks};

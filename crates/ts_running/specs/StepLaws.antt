@@ -7,7 +7,8 @@ use mathlib.Core.List.{reverse_aux}
 use Rattle.ts_running.specs.declared.step.Step.{Step}
 use Rattle.ts_running.specs.declared.step.Step.TheVariants as step
 use Rattle.ts_running.specs.Expr.{Expr, Column, Digits, Opposite, Joined, steps_of, all_steps}
-use Rattle.ts_running.specs.Parts.{Parts, of_two, made_of, with_others, made_of_all, onto_stack, after_steps, building, exprs_of}
+use Rattle.ts_running.specs.Parts.{Parts, of_two, made_of, with_others, made_of_all, onto_stack, after_steps, building}
+use Rattle.ts_running.specs.Parts.{exprs_of}
 
 -- steps over a stack with one more, if there is one
 abbrev pub over_more : {C A : Type 0} → Parts C A → List (Step C) → List A → Option A → Option (List A)
@@ -26,7 +27,8 @@ steps_make {C} {A} parts (Opposite e) steps stack =
     ap (λ (l : List (Step C)). after_steps parts l stack) (append_assoc (steps_of e) (step.Opposite ∷ []) steps)
     ∙ steps_make parts e (step.Opposite ∷ steps) stack ∙ of_made (made_of parts e) where
       of_made : (made : Option A) →
-          over_more parts (step.Opposite ∷ steps) stack made ≡ over_more parts steps stack (option_and_then parts.opposite made)
+          over_more parts (step.Opposite ∷ steps) stack made
+          ≡ over_more parts steps stack (option_and_then parts.opposite made)
       of_made None = refl
       of_made (Some a) = onto_more parts steps stack (parts.opposite a)
 steps_make {C} {A} parts (Joined operation a b) steps stack =

@@ -43,8 +43,8 @@ fn written_column(alloc: Global, text: &[u8]) -> Result<Name, Misfit>
     Ok(name)
 }
 
-/// The sum or the mean of a column: its number, and the digits after the point, for a mean six more than the column has.
-/// Else why there is none: no value column has the name, or it is one of texts.
+/// The sum or the mean of a column: its number, and the digits after the point, for a mean six more than the column
+/// has. Else why there is none: no value column has the name, or it is one of texts.
 pub fn bind_column(function: Function, name: &[u8], kind: &RowType) -> Result<BoundItem, Trouble>
     requires running { IsTrue (is_running function) }
     ensures value { Answers (bound kind.now.columns (item function name.now)) result }

@@ -1,6 +1,7 @@
 // A running sum.
 ghost use Rattle.std.specs.Prelude.{◌≡◌, [], ◌<◌, ◌≤◌, ◌*◌, ◌^◌, unsigned_abs, IfOk, IfSome};
-ghost use Rattle.ts_running.specs.Window.{window, after_push, sum_of, count_of, mean_of, number_of, tally_of, IsSmall, IsWindow};
+ghost use Rattle.ts_running.specs.Window.{window, after_push, sum_of, count_of, mean_of, number_of, tally_of, IsSmall};
+ghost use Rattle.ts_running.specs.Window.{IsWindow};
 
 use circular_buffer::HeapCircularBuffer;
 use std::alloc::{AllocError, Global};
@@ -64,8 +65,8 @@ impl Running {
         }
     }
 
-    /// The mean of the values in the window, if it has one, with six more digits after the point than they have; a half is
-    /// rounded away from zero.
+    /// The mean of the values in the window, if it has one, with six more digits after the point than they have; a half
+    /// is rounded away from zero.
     pub fn mean(&self) -> Option<i128>
         ensures { result ≡ mean_of self.now.values }
     {

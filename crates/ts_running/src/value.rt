@@ -1,5 +1,6 @@
 // The values of expressions over the values of a row.
-ghost use Rattle.std.specs.Prelude.{◌≡◌, ◌≤◌, ◌^◌, ◌+ℤ◌, ◌-ℤ◌, ◌*ℤ◌, neg_ℤ, pos, Some, IfOk, IfErr, IfSome, IsSome, [], ◌∷◌, map, reverse};
+ghost use Rattle.std.specs.Prelude.{◌≡◌, ◌≤◌, ◌^◌, ◌+ℤ◌, ◌-ℤ◌, ◌*ℤ◌, neg_ℤ, pos, Some, IfOk, IfErr, IfSome, IsSome, []};
+ghost use Rattle.std.specs.Prelude.{◌∷◌, map, reverse};
 ghost use Rattle.std.specs.Option.{option_and_then};
 ghost use Rattle.ts_running.specs.declared.step.Operation.TheVariants.{Plus, Less, Times};
 ghost use Rattle.ts_running.specs.Parts.{onto_stack, over_one, over_two, after_step, after_steps};

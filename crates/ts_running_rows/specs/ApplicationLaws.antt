@@ -1,6 +1,7 @@
--- The laws of one that applies expressions: it takes none, or some and then others. They stand here since the law of a trait
--- takes its proof from specs/.
-use Rattle.std.proofs.Common.{◌≡◌, ℕ, ◌+◌, ◌<◌, ◌^◌, Bool, true, false, List, [], ◌∷◌, ◌++◌, length, length-append, Option, Some, None, refl, sym, ap, subst, ◌∙◌}
+-- The laws of one that applies expressions: it takes none, or some and then others. They stand here since the law of a
+-- trait takes its proof from specs/.
+use Rattle.std.proofs.Common.{◌≡◌, ℕ, ◌+◌, ◌<◌, ◌^◌, Bool, true, false, List, [], ◌∷◌, ◌++◌, length, length-append}
+use Rattle.std.proofs.Common.{Option, Some, None, refl, sym, ap, subst, ◌∙◌}
 use Rattle.std.specs.Prelude.{MatchOption}
 use Rattle.std.proofs.Math.Nat.{le_refl, le_trans, add-zero, add_assoc, lt_of_le_of_lt, le-add_right}
 use Rattle.std.proofs.lemmas.List.Elements.{filter_map-append}

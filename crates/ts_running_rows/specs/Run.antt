@@ -21,7 +21,8 @@ row_of function stamp w = (stamp, visible (made_over function w.values ∷ []))
 abbrev pub run : Function → ℕ → Window → List Element → List Element
 run function column w [] = []
 run function column w (e ∷ es) =
-    row_of function e.0 (after_push (place_of column e.1) w) ∷ run function column (after_push (place_of column e.1) w) es
+    row_of function e.0 (after_push (place_of column e.1) w)
+    ∷ run function column (after_push (place_of column e.1) w) es
 
 -- one that makes running values: its window, the column with its function, and how many rows there were
 pub record Runner : Type 0 where
@@ -33,7 +34,8 @@ abbrev pub runner : Window → BoundItem → ℕ → Runner
 runner window item count = record { window = window; item = item; count = count }
 
 -- From one state to another these elements were taken.
-pub record Runs {V : Type 0} (took : V → List Element → V → Type 0) (v : Runner) (x : V) (es : List Element) (w : Runner)
+pub record Runs {V : Type 0} (took : V → List Element → V → Type 0) (v : Runner) (x : V) (es : List Element)
+    (w : Runner)
     (y : V) : Type 0 where
   pub item : w.item ≡ v.item
   pub window : w.window ≡ pushed v.item.column v.window es

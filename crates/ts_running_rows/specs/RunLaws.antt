@@ -1,6 +1,7 @@
--- The laws of one that makes running values: it takes none, or some and then others. They stand here since the law of a trait
--- takes its proof from specs/.
-use Rattle.std.proofs.Common.{◌≡◌, ℕ, ◌+◌, ◌<◌, ◌^◌, List, [], ◌∷◌, ◌++◌, length, length-append, refl, sym, ap, subst, ◌∙◌}
+-- The laws of one that makes running values: it takes none, or some and then others. They stand here since the law of a
+-- trait takes its proof from specs/.
+use Rattle.std.proofs.Common.{◌≡◌, ℕ, ◌+◌, ◌<◌, ◌^◌, List, [], ◌∷◌, ◌++◌, length, length-append, refl, sym, ap, subst}
+use Rattle.std.proofs.Common.{◌∙◌}
 use Rattle.std.proofs.Math.Nat.{le_refl, le_trans, add-zero, add_assoc, lt_of_le_of_lt, le-add_right}
 use Rattle.std.proofs.lemmas.List.Elements.{filter_map-append}
 use Rattle.ts_row.specs.Element.{Element}
@@ -34,7 +35,8 @@ module _ {V : Type 0} (took : V → List Element → V → Type 0) where
   }
 
   -- what comes behind, by the first state
-  as_first : (u v w : Runner) (y z : V) (es fs : List Element) → v.item ≡ u.item → v.window ≡ pushed u.item.column u.window es →
+  as_first : (u v w : Runner) (y z : V) (es fs : List Element) → v.item ≡ u.item
+      → v.window ≡ pushed u.item.column u.window es →
       took y (run v.item.function v.item.column v.window fs) z →
       took y (run u.item.function u.item.column (pushed u.item.column u.window es) fs) z
   as_first u v w y z es fs item window taken =

@@ -12,8 +12,8 @@ use ts_entry::{ElementVisitor, EntryVisitor};
 use ts_row::{Elem, RowType};
 use ts_running::{ApplyError, BoundExpr};
 
-/// Hands on the values of expressions for each element, until a number has no place. Rows beyond the most of a reply are
-/// counted alone.
+/// Hands on the values of expressions for each element, until a number has no place. Rows beyond the most of a reply
+/// are counted alone.
 #[derive(Drop)]
 pub(crate) struct AppliedRows<'a, V> {
     exprs: &'a BoundExpr,

@@ -19,10 +19,10 @@ use ts_row::Shelf;
 use ts_running::BoundExpr;
 use ts_space::Space;
 
-/// Hands on a row for each element from one stamp to another, both included, that isn't hidden: at its stamp the values of
-/// expressions over its own. Tells how many rows they are; TooLarge where they are more than 1000000, else Overflow where a
-/// number of one of them has no place, and then some of them were handed on. The pages that have such elements are read,
-/// each once; all pages stay; `page` is room to read one.
+/// Hands on a row for each element from one stamp to another, both included, that isn't hidden: at its stamp the values
+/// of expressions over its own. Tells how many rows they are; TooLarge where they are more than 1000000, else Overflow
+/// where a number of one of them has no place, and then some of them were handed on. The pages that have such elements
+/// are read, each once; all pages stay; `page` is room to read one.
 pub fn applied_rows<P: Pages, V: ElementVisitor>(
     pages: &mut P,
     page: &mut Page,
@@ -36,11 +36,13 @@ pub fn applied_rows<P: Pages, V: ElementVisitor>(
 ) -> Result<Result<u64, Refusal>, StoreFault>
     requires slot { shelf.now.series < 4096 }
     requires laid { IsLaidOut shape.now }
-    requires places { ArePlaces shape.now shelf.now.kind.now.columns (P.contents pages.old) (places_of shelf.now.series space.now) }
+    requires places { ArePlaces shape.now shelf.now.kind.now.columns (P.contents pages.old)
+        (places_of shelf.now.series space.now) }
     requires countable { count_of (places_of shelf.now.series space.now) < 2 ^ 32 }
     ensures read { IfOk result (λ done. IsTold P.tells shape.now shelf.now.series shelf.now.kind.now.columns
         (places_of shelf.now.series space.now) (P.contents pages.old)
-        (λ es. AreHanded (λ rows. V.took visitor.old rows visitor.new) (rows_within (Rows.applied_rows exprs.now) from to es) done)) }
+        (λ es. AreHanded (λ rows. V.took visitor.old rows visitor.new)
+        (rows_within (Rows.applied_rows exprs.now) from to es) done)) }
     ensures call { Reads P.tells result (P.contents pages.old) (P.contents pages.new) }
     ensures undisturbed { P.undisturbed pages.old pages.new }
 {

@@ -15,8 +15,8 @@ use ts_running::Running;
 /// The most rows of a reply.
 pub(crate) const MOST_ROWS: u64 = 1_000_000;
 
-/// Keeps the window at the last element, and hands on for each what a function makes of it. Rows beyond the most of a reply
-/// are counted alone.
+/// Keeps the window at the last element, and hands on for each what a function makes of it. Rows beyond the most of a
+/// reply are counted alone.
 #[derive(Drop)]
 pub(crate) struct RunningRows<'a, V> {
     alloc: Global,
@@ -51,7 +51,8 @@ impl<'a, V: ElementVisitor> RunningRows<'a, V> {
     // Counts a row, and hands it on unless they are too many.
     fn hand_on(&mut self, stamp: Stamp) -> Result<(), AllocError>
         ensures same { self.new.out.ghost_name ≡ self.old.out.ghost_name }
-        ensures handed { OnOk result (IsHandedOn V.took (runner self.old.window.now self.old.item self.old.count) self.old.out.now
+        ensures handed { OnOk result
+            (IsHandedOn V.took (runner self.old.window.now self.old.item self.old.count) self.old.out.now
             stamp (runner self.new.window.now self.new.item self.new.count) self.new.out.now) }
     {
         self.count = self.count.saturating_add(1);
@@ -84,7 +85,8 @@ impl<'a, V: ElementVisitor> EntryVisitor for RunningRows<'a, V> {
     ghost use Rattle.ts_running_rows.specs.RunLaws.{runs_none, runs_then};
 
     ghost took = { λ columns v es w. (w.out.ghost_name ≡ v.out.ghost_name)
-        × Runs V.took (runner v.window.now v.item v.count) v.out.now (elements_of es) (runner w.window.now w.item w.count) w.out.now };
+        × Runs V.took (runner v.window.now v.item v.count) v.out.now (elements_of es)
+        (runner w.window.now w.item w.count) w.out.now };
 
     fn element(&mut self, kind: &RowType, stamp: Stamp, row: &[u8]) -> Result<(), AllocError> {
         let place = place_in(kind, self.item.column, row)?;

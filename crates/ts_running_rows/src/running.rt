@@ -21,10 +21,10 @@ use ts_row::Shelf;
 use ts_running::Running;
 use ts_space::Space;
 
-/// Hands on a row for each element from one stamp to another, both included, that isn't hidden: at its stamp the sum or the
-/// mean of a column in it and those before it there, as many as an empty window has places. Tells how many rows they are;
-/// TooLarge where they are more than 1000000, and then some of them were handed on. The pages that have such elements are
-/// read, each once; all pages stay; `page` is room to read one.
+/// Hands on a row for each element from one stamp to another, both included, that isn't hidden: at its stamp the sum or
+/// the mean of a column in it and those before it there, as many as an empty window has places. Tells how many rows
+/// they are; TooLarge where they are more than 1000000, and then some of them were handed on. The pages that have such
+/// elements are read, each once; all pages stay; `page` is room to read one.
 pub fn running_rows<P: Pages, V: ElementVisitor>(
     alloc: Global,
     pages: &mut P,
@@ -40,7 +40,8 @@ pub fn running_rows<P: Pages, V: ElementVisitor>(
 ) -> Result<Result<u64, Refusal>, StoreFault>
     requires slot { shelf.now.series < 4096 }
     requires laid { IsLaidOut shape.now }
-    requires places { ArePlaces shape.now shelf.now.kind.now.columns (P.contents pages.old) (places_of shelf.now.series space.now) }
+    requires places { ArePlaces shape.now shelf.now.kind.now.columns (P.contents pages.old)
+        (places_of shelf.now.series space.now) }
     requires countable { count_of (places_of shelf.now.series space.now) < 2 ^ 32 }
     requires begins { Begins window item }
     ensures read { IfOk result (λ done. IsTold P.tells shape.now shelf.now.series shelf.now.kind.now.columns

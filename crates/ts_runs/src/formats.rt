@@ -12,8 +12,8 @@ const FORMAT_BYTE: u64 = 8;
 const SERIES: &[u8] = b"CreateRowType(rd, t datetime, v integer);TSContainerCreate(c1, rd, 8);\
     TSCreateIrr('x', c1);TSCreateIrr('y', c1);";
 
-/// The calls that a migration over a journal with records makes behind its reads: two writes, a sync, a write and a sync that bring
-/// its pages home, and two writes and two syncs of its own.
+/// The calls that a migration over a journal with records makes behind its reads: two writes, a sync, a write and a
+/// sync that bring its pages home, and two writes and two syncs of its own.
 const LAST_CALLS: u64 = 9;
 
 const HIDE: &[u8] = b"HideElem('x','2011-01-03 00:00:00');";
@@ -86,8 +86,8 @@ fn holds_series(rt: &(impl Threads + Sync), alloc: Global, bytes: Vec<u8>) -> Re
     Ok(status == 0 && (is_old || is_new))
 }
 
-// Stops in each call of a migration that isn't a read: the opening's sync, and, behind its reads, the calls that bring the journal's pages
-// home and those that write the record.
+// Stops in each call of a migration that isn't a read: the opening's sync, and, behind its reads, the calls that bring
+// the journal's pages home and those that write the record.
 #[test]
 fn a_stop_in_a_migration_leaves_either_format(rt: HostRuntime) -> Result<(), Fail> {
     let alloc = rt.alloc();

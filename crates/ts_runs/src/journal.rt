@@ -1,5 +1,5 @@
-// The journal as a script fills it: a record for each update, a checkpoint where the next one has no room, and what a stop
-// around it, or within an opening over a full journal, leaves.
+// The journal as a script fills it: a record for each update, a checkpoint where the next one has no room, and what a
+// stop around it, or within an opening over a full journal, leaves.
 ghost use Rattle.std.specs.Prelude.{◌<◌};
 ghost use Rattle.ts_disk.specs.Memory.{site_calls};
 
@@ -104,8 +104,8 @@ fn all_have(
     Ok(true)
 }
 
-// Stops in the five calls before a checkpoint, in its four and in the five behind it, where the record before it is of the
-// update of this number.
+// Stops in the five calls before a checkpoint, in its four and in the five behind it, where the record before it is of
+// the update of this number.
 fn stops_around(rt: &(impl Threads + Sync), alloc: Global, last: u32) -> Result<bool, Fail> {
     let bytes = &bytes_after(rt, alloc, ELEMENT)?;
     let checkpoint = updated(rt, alloc, bytes, last, NEVER)?.calls();

@@ -1,6 +1,6 @@
 //! Scripts cut into items, and whole runs by their words, volumes and scripts: their status, what they say, and what a
-//! stop within any of their calls leaves. There are only tests: they stand apart, since a crate that has tests of its own
-//! is proved twice. Stands on ts_items and ts_shell, which it tests, and on ts_disk's volume in memory. Read
+//! stop within any of their calls leaves. There are only tests: they stand apart, since a crate that has tests of its
+//! own is proved twice. Stands on ts_items and ts_shell, which it tests, and on ts_disk's volume in memory. Read
 //! `program.rt`, then the others in any order. Scripts whose replies alone are compared stand in the folder examples/.
 #![tactic(auto)]
 

@@ -9,7 +9,8 @@ use std::test::Fail;
 use std::thread::Threads;
 use ts_disk::{MemorySite, Pick};
 
-/// Statements that a run carries out, of which each tells whether it was carried out before, and a reading of all that they make.
+/// Statements that a run carries out, of which each tells whether it was carried out before, and a reading of all that
+/// they make.
 #[derive(Clone, Copy)]
 struct Course<'a> {
     /// A statement, what is said to it, and what is said where it was carried out before.
@@ -150,8 +151,8 @@ fn all_hold(
     Ok(true)
 }
 
-// Runs of a course over a volume on which this script was carried out, which makes what so many of its statements make; each
-// is stopped at the call of one number. The calls from 1 on, so many, only read.
+// Runs of a course over a volume on which this script was carried out, which makes what so many of its statements make;
+// each is stopped at the call of one number. The calls from 1 on, so many, only read.
 fn stops(
     rt: &(impl Threads + Sync),
     alloc: Global,
@@ -213,7 +214,8 @@ const FULL: &[u8] =
     InsElem('w','2011-01-05 00:00:00','5','',null);\
     CreateCalendar(k, 'startdate(2011-01-02 00:00:00),pattstart(2011-01-02 00:00:00),pattern({1 on},day)');";
 
-/// The page is split in the middle, both become one again, and so once more at the end by a range; the calendar is dropped.
+/// The page is split in the middle, both become one again, and so once more at the end by a range; the calendar is
+/// dropped.
 const MOVING: [(&[u8], &[u8], &[u8]); 5] = [
     (
         b"InsElem('w','2011-01-03 12:00:00','6','',null);",
@@ -271,8 +273,8 @@ fn holds_or_lacks(
     Ok(status == 0 && (lacks || holds && !must_lack))
 }
 
-// Runs that drop a series, each stopped at the call of one number, with half of each write made. The calls from 1 on, so
-// many, only read.
+// Runs that drop a series, each stopped at the call of one number, with half of each write made. The calls from 1 on,
+// so many, only read.
 #[test]
 fn a_stop_in_a_drop(rt: HostRuntime) -> Result<(), Fail> {
     let alloc = rt.alloc();

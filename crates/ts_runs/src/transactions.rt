@@ -1,5 +1,5 @@
-// Transactions: what is said in them, what is left of one that the script's end cuts off, and what a stop within each call that
-// isn't a read leaves.
+// Transactions: what is said in them, what is left of one that the script's end cuts off, and what a stop within each
+// call that isn't a read leaves.
 ghost use Rattle.std.specs.Prelude.{◌<◌};
 ghost use Rattle.ts_disk.specs.Memory.{site_calls};
 

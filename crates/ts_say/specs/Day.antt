@@ -6,7 +6,8 @@ use Rattle.ts_base.specs.StampText.{two_digits, four_digits, five_digits}
 -- the text of a day, and a blank
 abbrev pub day_text : ℤ → List ℕ
 day_text day =
-    four_digits (civil_of day).year ++ 45 ∷ two_digits (civil_of day).month ++ 45 ∷ two_digits (civil_of day).day ++ 32 ∷ []
+    four_digits (civil_of day).year ++ 45 ∷ two_digits (civil_of day).month ++ 45 ∷ two_digits (civil_of day).day ++ 32
+    ∷ []
 
 -- the text of the units since midnight
 abbrev pub time_text : ℕ → List ℕ

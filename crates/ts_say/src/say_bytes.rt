@@ -1,5 +1,5 @@
-// Values said straight from the bytes of their columns: each function takes the first column and goes on with the others,
-// at most 32 in all.
+// Values said straight from the bytes of their columns: each function takes the first column and goes on with the
+// others, at most 32 in all.
 ghost use Rattle.std.specs.Prelude.{◌≡◌, ℕ, ◌≤◌, ◌+◌, ◌++◌, nat_lt, if◌then◌else◌, IsTrue, OnOk, Some, length};
 ghost use Rattle.std.specs.List.{list_all};
 ghost use Rattle.std.specs.Int.{cast_signed, from_be_bytes, w64, w128};

@@ -13,8 +13,8 @@ use ts_base::{Reply, Stamp};
 use ts_entry::EntryVisitor;
 use ts_row::RowType;
 
-/// The lines of entries, behind what a reply has said: each entry that it is handed is said in a line of its own, an element straight from
-/// its bytes.
+/// The lines of entries, behind what a reply has said: each entry that it is handed is said in a line of its own, an
+/// element straight from its bytes.
 #[derive(Drop)]
 pub struct EntryLines<'a> {
     out: &'a mut Reply,

@@ -11,8 +11,8 @@ use ts_base::{Key, Reply, Stamp};
 use ts_entry::ElementVisitor;
 use ts_row::{Row, Value};
 
-/// The lines of what a list makes, behind what a reply has said: each element that it is handed is said in a line of its own, its numbers
-/// with as many digits after the point as the list's items have.
+/// The lines of what a list makes, behind what a reply has said: each element that it is handed is said in a line of
+/// its own, its numbers with as many digits after the point as the list's items have.
 #[derive(Drop)]
 pub struct FoldedLines<'a> {
     out: &'a mut Reply,

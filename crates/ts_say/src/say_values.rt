@@ -4,7 +4,8 @@ ghost use Rattle.std.specs.List.{flat_map};
 ghost use Rattle.ts_base.specs.StampText.{stamp_text};
 ghost use Rattle.ts_row.specs.Row.{fits};
 ghost use Rattle.ts_row.specs.Printed.{quoted};
-ghost use Rattle.ts_answer.specs.Reply.{count_line, counts_line, number_line, stamp_line, element_line, elements_text, series_line, shape_word};
+ghost use Rattle.ts_answer.specs.Reply.{count_line, counts_line, number_line, stamp_line, element_line, elements_text};
+ghost use Rattle.ts_answer.specs.Reply.{series_line, shape_word};
 
 use itoa::Buffer;
 use std::alloc::{AllocError, Global};
@@ -83,7 +84,8 @@ pub fn say_row(
     row: Option<Row>,
 ) -> Result<(), AllocError>
     requires { IfSome row (λ r. IsTrue (fits kind.now.columns r)) }
-    ensures { OnOk result (out.new ≡ out.old ++ elements_text kind.now.columns (map (λ r. (stamp, r)) (option_to_list row))) }
+    ensures { OnOk result (out.new ≡ out.old
+        ++ elements_text kind.now.columns (map (λ r. (stamp, r)) (option_to_list row))) }
 {
     match row {
         Some(row) => say_found(alloc, out, kind, Some((stamp, row))),

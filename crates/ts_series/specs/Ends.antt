@@ -1,5 +1,7 @@
--- The pages side by side that elements between two stamps stand on: what is left at their two ends, and which pages it goes to.
-use Rattle.std.specs.Prelude.{◌≡◌, ◌≢◌, ℕ, zero, suc, ◌+◌, ◌<◌, ◌≤◌, ℤ, ◌≤ℤ◌, Bool, true, false, IsTrue, int_lt, All, AllPairs, Contains, IsPermutation, Some, List, [], ◌∷◌, ◌++◌, filter, length}
+-- The pages side by side that elements between two stamps stand on: what is left at their two ends, and which pages it
+-- goes to.
+use Rattle.std.specs.Prelude.{◌≡◌, ◌≢◌, ℕ, zero, suc, ◌+◌, ◌<◌, ◌≤◌, ℤ, ◌≤ℤ◌, Bool, true, false, IsTrue, int_lt, All}
+use Rattle.std.specs.Prelude.{AllPairs, Contains, IsPermutation, Some, List, [], ◌∷◌, ◌++◌, filter, length}
 use Rattle.ts_space.specs.declared.place.Place.{Place}
 use Rattle.ts_space.specs.declared.moved.Come.{Come}
 use Rattle.ts_space.specs.declared.moved.Come.TheVariants.{Nothing, One, Two}
@@ -49,22 +51,24 @@ pub record HasElements (slot : ℕ) (columns : List Column) (es : List Element) 
   pub bytes : page ≡ irregular_page slot columns es
 
 -- of some elements one page has those that are earlier than a stamp, and another those that are later than one
-pub record AreEnds (slot : ℕ) (columns : List Column) (from to : ℤ) (es : List Element) (n m : ℕ) (page behind : List ℕ) : Type 0 where
+pub record AreEnds (slot : ℕ) (columns : List Column) (from to : ℤ) (es : List Element) (n m : ℕ)
+    (page behind : List ℕ) : Type 0 where
   pub front : HasElements slot columns (earlier from es) n page
   pub back : HasElements slot columns (later to es) m behind
 
 -- where the pages are told, this is so of what these places tell of
 abbrev pub AreEndsOf : Bool → ℕ → List Column → ℤ → ℤ → List Place → Contents → ℕ → ℕ → List ℕ → List ℕ → Type 0
 AreEndsOf tells slot columns from to places v n m page behind =
-    IsTrue tells → (chain : List (List Element)) → AreChained slot columns v.page places chain → ArePages columns chain → AreEnds slot columns from to (all_in chain) n m page behind
+    IsTrue tells → (chain : List (List Element)) → AreChained slot columns v.page places chain → ArePages columns chain
+    → AreEnds slot columns from to (all_in chain) n m page behind
 
 -- the elements of a neighbour that is joined: all, or none
 abbrev pub joined_count : ℕ → ℕ → ℕ
 joined_count zero count = 0
 joined_count (suc k) count = count
 
--- Two pieces of x and y elements stay apart: both have some, they don't fit one page, and neither fits one with a neighbour that isn't
--- joined to it.
+-- Two pieces of x and y elements stay apart: both have some, they don't fit one page, and neither fits one with a
+-- neighbour that isn't joined to it.
 pub record StayApart (room before x y behind joined_before joined_behind : ℕ) : Type 0 where
   pub first : x ≤ room
   pub second : y ≤ room
@@ -72,7 +76,8 @@ pub record StayApart (room before x y behind joined_before joined_behind : ℕ) 
   pub meets_before : joined_before ≡ 0 → 1 ≤ before → room < before + x
   pub meets_behind : joined_behind ≡ 0 → 1 ≤ behind → room < y + behind
 
--- They become one page, or none where they have no elements; nor does that fit one with such a neighbour, or the neighbours each other.
+-- They become one page, or none where they have no elements; nor does that fit one with such a neighbour, or the
+-- neighbours each other.
 pub record GoTogether (room before all behind joined_before joined_behind : ℕ) : Type 0 where
   pub fits : all ≤ room
   pub meets_before : 1 ≤ all → joined_before ≡ 0 → 1 ≤ before → room < before + all
@@ -80,20 +85,24 @@ pub record GoTogether (room before all behind joined_before joined_behind : ℕ)
   pub meet : all ≡ 0 → 1 ≤ before → 1 ≤ behind → room < before + behind
 
 abbrev pub FitTheirPages : Bool → (room before x y behind joined_before joined_behind : ℕ) → Type 0
-FitTheirPages true room before x y behind joined_before joined_behind = StayApart room before x y behind joined_before joined_behind
-FitTheirPages false room before x y behind joined_before joined_behind = GoTogether room before (x + y) behind joined_before joined_behind
+FitTheirPages true room before x y behind joined_before joined_behind =
+    StayApart room before x y behind joined_before joined_behind
+FitTheirPages false room before x y behind joined_before joined_behind =
+    GoTogether room before (x + y) behind joined_before joined_behind
 
--- Which pieces are joined. `before` and `behind` are the elements of the pages beside the two ends, none where there is no page; n and m
--- are left of the ends.
+-- Which pieces are joined. `before` and `behind` are the elements of the pages beside the two ends, none where there is
+-- no page; n and m are left of the ends.
 pub record AreJoined (room before n m behind : ℕ) (joins : Joins) : Type 0 where
   pub one_before : joins.before ≤ 1
   pub one_behind : joins.behind ≤ 1
   pub there_before : 1 ≤ joins.before → 1 ≤ before
   pub there_behind : 1 ≤ joins.behind → 1 ≤ behind
   pub full : IsTrue joins.apart → room < n + m
-  pub fit : FitTheirPages joins.apart room before (joined_count joins.before before + n) (m + joined_count joins.behind behind) behind joins.before joins.behind
+  pub fit : FitTheirPages joins.apart room before (joined_count joins.before before + n)
+      (m + joined_count joins.behind behind) behind joins.before joins.behind
 
--- The pages that hold elements from one stamp to another: `mid`, some side by side. All before them are earlier, and all behind them later.
+-- The pages that hold elements from one stamp to another: `mid`, some side by side. All before them are earlier, and
+-- all behind them later.
 pub record IsRange (from to : ℤ) (places : List Place) (first stop : ℕ) : Type 0 where
   pub front : List Place
   pub mid : List Place
@@ -146,7 +155,8 @@ HasShape apart Nothing = apart ≡ false
 HasShape apart (One p) = apart ≡ false
 HasShape apart (Two p r) = apart ≡ true
 
--- a page with these elements can begin where the first of them stands: not before a place, and before those that stay behind it
+-- a page with these elements can begin where the first of them stands: not before a place, and before those that stay
+-- behind it
 abbrev pub BeginsWithin : Place → List Place → List Element → Type 0
 BeginsWithin place back es = (at : ℤ) → first_stamp es ≡ Some at → (place.at ≤ℤ at) × AreAbove at back
 

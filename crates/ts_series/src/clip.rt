@@ -1,5 +1,6 @@
 // All elements between two stamps are taken away.
-ghost use Rattle.std.specs.Prelude.{◌≡◌, ◌+◌, ◌*◌, ◌<◌, ◌≤◌, ◌<ℤ◌, ◌≤ℤ◌, false, IsTrue, IfOk, OnOk, length, take, drop, min, ◌-◌, ◌^◌};
+ghost use Rattle.std.specs.Prelude.{◌≡◌, ◌+◌, ◌*◌, ◌<◌, ◌≤◌, ◌<ℤ◌, ◌≤ℤ◌, false, IsTrue, IfOk, OnOk, length, take, drop};
+ghost use Rattle.std.specs.Prelude.{min, ◌-◌, ◌^◌};
 ghost use Rattle.ts_space.specs.Place.{IsRising, count_of};
 ghost use Rattle.ts_space.specs.Directory.{places_of};
 ghost use Rattle.ts_page.specs.Pages.{Answered};
@@ -18,11 +19,12 @@ use ts_page::{Page, Pages};
 use ts_row::Shelf;
 use ts_space::{Moved, Place, Space};
 
-/// Takes away all elements from one stamp to another, both included, hidden or not; gives how many they were and which places go and come:
-/// none, and no page changes, where no element stands there. The pages of the two ends are read, and pages beside them where they are
-/// joined: four at most; the head of each is compared with its place, and one that disagrees is taken as a page without elements. The pages
-/// between the ends aren't read, but freed. At most two pages are written. After an error pages may have changed in part. `page` is room to
-/// read one; the memory is for the numbers of the pages that are freed, 4 bytes each.
+/// Takes away all elements from one stamp to another, both included, hidden or not; gives how many they were and which
+/// places go and come: none, and no page changes, where no element stands there. The pages of the two ends are read,
+/// and pages beside them where they are joined: four at most; the head of each is compared with its place, and one that
+/// disagrees is taken as a page without elements. The pages between the ends aren't read, but freed. At most two pages
+/// are written. After an error pages may have changed in part. `page` is room to read one; the memory is for the
+/// numbers of the pages that are freed, 4 bytes each.
 pub fn del_clip<P: Pages>(
     alloc: Global,
     pages: &mut P,
@@ -33,8 +35,10 @@ pub fn del_clip<P: Pages>(
     to: Stamp,
 ) -> Result<(u64, Option<Moved>), StoreFault>
     requires slot { shelf.now.series < 4096 }
-    requires places { ArePlaces shelf.now.kind.now.columns (P.contents pages.old) (places_of shelf.now.series space.now) }
-    ensures ok { IfOk result (λ r. IsCleared P.tells shelf.now.series shelf.now.kind.now.columns from to (places_of shelf.now.series space.now)
+    requires places { ArePlaces shelf.now.kind.now.columns (P.contents pages.old)
+        (places_of shelf.now.series space.now) }
+    ensures ok { IfOk result (λ r. IsCleared P.tells shelf.now.series shelf.now.kind.now.columns from to
+        (places_of shelf.now.series space.now)
         (P.contents pages.old) (P.contents pages.new) r.0 r.1) }
     ensures call { Answered result (P.contents pages.old) (P.contents pages.new) }
     ensures change { (P.contents pages.new).change_bytes
@@ -75,7 +79,8 @@ fn first_held(places: &[Place], last: usize, from: Stamp, to: Stamp) -> usize
     }
 }
 
-// How many elements the pages of the places hold together, as far as a counter of 64 bits goes: told elements are never more.
+// How many elements the pages of the places hold together, as far as a counter of 64 bits goes: told elements are never
+// more.
 fn count_among(places: &[Place]) -> u64
     ensures { result ≡ min (count_of places.now) (2 ^ 64 - 1) }
 {
@@ -129,7 +134,8 @@ fn clear<P: Pages>(
     ensures ok { IfOk result (λ r. IsCleared P.tells shelf.now.series shelf.now.kind.now.columns from to places.now
         (P.contents pages.old) (P.contents pages.new) r.0 r.1) }
     ensures call { Answered result (P.contents pages.old) (P.contents pages.new) }
-    ensures change { (P.contents pages.new).change_bytes ≤ (P.contents pages.old).change_bytes + 8202 + 5 * length places.now }
+    ensures change { (P.contents pages.new).change_bytes ≤
+        (P.contents pages.old).change_bytes + 8202 + 5 * length places.now }
     ensures grows { OnOk result ((P.contents pages.new).change_bytes + 5 * length (P.contents pages.old).free
         ≤ (P.contents pages.old).change_bytes + 5 * length (P.contents pages.new).free + 8202) }
     ensures undisturbed { P.undisturbed pages.old pages.new }

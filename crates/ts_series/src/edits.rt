@@ -41,9 +41,10 @@ pub enum Edited {
     Full,
 }
 
-/// Edits the element at a stamp of a series. `room` is how many pages the series may be charged for, no more than there are spare pages
-/// and own ones. Where one element more would be charged within it, an insert is tried first, so that most edits read one page. A refusal
-/// leaves all pages; after an error pages may have changed in part. `page` is room to read one.
+/// Edits the element at a stamp of a series. `room` is how many pages the series may be charged for, no more than there
+/// are spare pages and own ones. Where one element more would be charged within it, an insert is tried first, so that
+/// most edits read one page. A refusal leaves all pages; after an error pages may have changed in part. `page` is room
+/// to read one.
 pub fn edit<P: Pages>(
     pages: &mut P,
     page: &mut Page,
@@ -55,11 +56,13 @@ pub fn edit<P: Pages>(
     room: u64,
 ) -> Result<Edited, StoreFault>
     requires slot { shelf.now.series < 4096 }
-    requires places { ArePlaces shelf.now.kind.now.columns (P.contents pages.old) (places_of shelf.now.series space.now) }
+    requires places { ArePlaces shelf.now.kind.now.columns (P.contents pages.old)
+        (places_of shelf.now.series space.now) }
     requires fits { IsTrue (fits shelf.now.kind.now.columns row.now) }
     requires countable { count_of (places_of shelf.now.series space.now) < 2 ^ 32 }
     requires room { room ≤ length (P.contents pages.old).free + length (places_of shelf.now.series space.now) }
-    ensures ok { IfOk result (IsEdited P.tells shelf.now.series shelf.now.kind.now.columns how stamp row.now room (places_of shelf.now.series space.now)
+    ensures ok { IfOk result (IsEdited P.tells shelf.now.series shelf.now.kind.now.columns how stamp row.now room
+        (places_of shelf.now.series space.now)
         (P.contents pages.old) (P.contents pages.new)) }
     ensures call { Answered result (P.contents pages.old) (P.contents pages.new) }
     ensures grows { IfOk result (λ edited. GrowsWithin 16424 (P.contents pages.old) (P.contents pages.new)) }
@@ -85,11 +88,13 @@ fn put<P: Pages>(
     room: u64,
 ) -> Result<Edited, StoreFault>
     requires slot { shelf.now.series < 4096 }
-    requires places { ArePlaces shelf.now.kind.now.columns (P.contents pages.old) (places_of shelf.now.series space.now) }
+    requires places { ArePlaces shelf.now.kind.now.columns (P.contents pages.old)
+        (places_of shelf.now.series space.now) }
     requires fits { IsTrue (fits shelf.now.kind.now.columns row.now) }
     requires countable { count_of (places_of shelf.now.series space.now) < 2 ^ 32 }
     requires room { room ≤ length (P.contents pages.old).free + length (places_of shelf.now.series space.now) }
-    ensures done { IsDone P.tells shelf.now.series shelf.now.kind.now.columns Put stamp row.now room (places_of shelf.now.series space.now)
+    ensures done { IsDone P.tells shelf.now.series shelf.now.kind.now.columns Put stamp row.now room
+        (places_of shelf.now.series space.now)
         (P.contents pages.old) (P.contents pages.new) result }
     ensures undisturbed { P.undisturbed pages.old pages.new }
 {
@@ -116,12 +121,14 @@ fn put_behind<P: Pages>(
     room: u64,
 ) -> Result<Edited, StoreFault>
     requires slot { shelf.now.series < 4096 }
-    requires places { ArePlaces shelf.now.kind.now.columns (P.contents pages.old) (places_of shelf.now.series space.now) }
+    requires places { ArePlaces shelf.now.kind.now.columns (P.contents pages.old)
+        (places_of shelf.now.series space.now) }
     requires fits { IsTrue (fits shelf.now.kind.now.columns row.now) }
     requires countable { count_of (places_of shelf.now.series space.now) < 2 ^ 32 }
     requires within { charge_with_one shelf.now.kind.now.columns (places_of shelf.now.series space.now) ≤ room }
     requires room { room ≤ length (P.contents pages.old).free + length (places_of shelf.now.series space.now) }
-    ensures done { IsDone P.tells shelf.now.series shelf.now.kind.now.columns Put stamp row.now room (places_of shelf.now.series space.now)
+    ensures done { IsDone P.tells shelf.now.series shelf.now.kind.now.columns Put stamp row.now room
+        (places_of shelf.now.series space.now)
         (P.contents pages.old) (P.contents pages.new) result }
     ensures undisturbed { P.undisturbed pages.old pages.new }
 {
@@ -146,11 +153,13 @@ fn put_no_dups<P: Pages>(
     room: u64,
 ) -> Result<Edited, StoreFault>
     requires slot { shelf.now.series < 4096 }
-    requires places { ArePlaces shelf.now.kind.now.columns (P.contents pages.old) (places_of shelf.now.series space.now) }
+    requires places { ArePlaces shelf.now.kind.now.columns (P.contents pages.old)
+        (places_of shelf.now.series space.now) }
     requires fits { IsTrue (fits shelf.now.kind.now.columns row.now) }
     requires countable { count_of (places_of shelf.now.series space.now) < 2 ^ 32 }
     requires room { room ≤ length (P.contents pages.old).free + length (places_of shelf.now.series space.now) }
-    ensures done { IsDone P.tells shelf.now.series shelf.now.kind.now.columns PutNoDups stamp row.now room (places_of shelf.now.series space.now)
+    ensures done { IsDone P.tells shelf.now.series shelf.now.kind.now.columns PutNoDups stamp row.now room
+        (places_of shelf.now.series space.now)
         (P.contents pages.old) (P.contents pages.new) result }
     ensures undisturbed { P.undisturbed pages.old pages.new }
 {
@@ -179,11 +188,13 @@ fn insert<P: Pages>(
     room: u64,
 ) -> Result<Edited, StoreFault>
     requires slot { shelf.now.series < 4096 }
-    requires places { ArePlaces shelf.now.kind.now.columns (P.contents pages.old) (places_of shelf.now.series space.now) }
+    requires places { ArePlaces shelf.now.kind.now.columns (P.contents pages.old)
+        (places_of shelf.now.series space.now) }
     requires fits { IsTrue (fits shelf.now.kind.now.columns row.now) }
     requires countable { count_of (places_of shelf.now.series space.now) < 2 ^ 32 }
     requires room { room ≤ length (P.contents pages.old).free + length (places_of shelf.now.series space.now) }
-    ensures done { IsDone P.tells shelf.now.series shelf.now.kind.now.columns Insert stamp row.now room (places_of shelf.now.series space.now)
+    ensures done { IsDone P.tells shelf.now.series shelf.now.kind.now.columns Insert stamp row.now room
+        (places_of shelf.now.series space.now)
         (P.contents pages.old) (P.contents pages.new) result }
     ensures undisturbed { P.undisturbed pages.old pages.new }
 {
@@ -211,9 +222,11 @@ fn update<P: Pages>(
     row: &Row,
 ) -> Result<Edited, StoreFault>
     requires slot { shelf.now.series < 4096 }
-    requires places { ArePlaces shelf.now.kind.now.columns (P.contents pages.old) (places_of shelf.now.series space.now) }
+    requires places { ArePlaces shelf.now.kind.now.columns (P.contents pages.old)
+        (places_of shelf.now.series space.now) }
     requires fits { IsTrue (fits shelf.now.kind.now.columns row.now) }
-    ensures done { (room : ℕ) → IsDone P.tells shelf.now.series shelf.now.kind.now.columns Update stamp row.now room (places_of shelf.now.series space.now)
+    ensures done { (room : ℕ) → IsDone P.tells shelf.now.series shelf.now.kind.now.columns Update stamp row.now room
+        (places_of shelf.now.series space.now)
         (P.contents pages.old) (P.contents pages.new) result }
     ensures undisturbed { P.undisturbed pages.old pages.new }
 {
@@ -229,8 +242,10 @@ fn update<P: Pages>(
 fn has_room(space: &Space, shelf: &Shelf, room: u64) -> bool
     requires slot { shelf.now.series < 4096 }
     requires countable { count_of (places_of shelf.now.series space.now) < 2 ^ 32 }
-    ensures yes { IsTrue result → charge_with_one shelf.now.kind.now.columns (places_of shelf.now.series space.now) ≤ room }
-    ensures no { ¬ IsTrue result → room < charge_with_one shelf.now.kind.now.columns (places_of shelf.now.series space.now) }
+    ensures yes { IsTrue result
+        → charge_with_one shelf.now.kind.now.columns (places_of shelf.now.series space.now) ≤ room }
+    ensures no { ¬ IsTrue result
+        → room < charge_with_one shelf.now.kind.now.columns (places_of shelf.now.series space.now) }
 {
     charge_with_one(space, shelf) <= room
 }

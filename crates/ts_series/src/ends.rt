@@ -25,8 +25,9 @@ pub(crate) struct Left {
     pub back: usize,
 }
 
-/// Of the elements of some places side by side, keeps those that are earlier than a stamp on one page and those that are later than another
-/// on a second. The pages at the two ends are read alone; one that disagrees with its place is taken as a page without elements.
+/// Of the elements of some places side by side, keeps those that are earlier than a stamp on one page and those that
+/// are later than another on a second. The pages at the two ends are read alone; one that disagrees with its place is
+/// taken as a page without elements.
 pub(crate) fn ends_of<P: Pages>(
     pages: &mut P,
     page: &mut Page,
@@ -165,7 +166,8 @@ fn keep_later(shelf: &Shelf, page: &mut Page, count: usize, to: Stamp) -> usize
 fn count_earlier(kind: &RowType, behind: &[u8], count: usize, from: Stamp) -> usize
     requires size { length behind.now ≡ 4064 }
     requires room { count ≤ page_room kind.now.columns }
-    ensures front { (es : List Element) → AreInOrder kind.now.columns es → length es ≡ count → behind.now ≡ behind_head kind.now.columns es
+    ensures front { (es : List Element) → AreInOrder kind.now.columns es → length es ≡ count
+        → behind.now ≡ behind_head kind.now.columns es
         → earlier from es ≡ take result es }
     ensures few { result ≤ count }
 {
@@ -179,7 +181,8 @@ fn count_earlier(kind: &RowType, behind: &[u8], count: usize, from: Stamp) -> us
 fn count_until(kind: &RowType, behind: &[u8], count: usize, to: Stamp) -> usize
     requires size { length behind.now ≡ 4064 }
     requires room { count ≤ page_room kind.now.columns }
-    ensures back { (es : List Element) → AreInOrder kind.now.columns es → length es ≡ count → behind.now ≡ behind_head kind.now.columns es
+    ensures back { (es : List Element) → AreInOrder kind.now.columns es → length es ≡ count
+        → behind.now ≡ behind_head kind.now.columns es
         → later to es ≡ drop result es }
     ensures few { result ≤ count }
 {

@@ -2,8 +2,8 @@
 ghost use Rattle.std.specs.Prelude.{◌≡◌, ◌+◌, ◌<◌, ◌≤◌, false};
 ghost use Rattle.ts_series.specs.Ends.{joined_count, GoTogether, AreJoined};
 
-/// How many pages are joined with what is left: of those before and of those behind none or one. Two pieces stay apart where they don't fit
-/// one page.
+/// How many pages are joined with what is left: of those before and of those behind none or one. Two pieces stay apart
+/// where they don't fit one page.
 #[derive(Clone, Copy, Debug, PartialEq, Eq)]
 pub(crate) struct Joins {
     pub before: usize,
@@ -11,7 +11,8 @@ pub(crate) struct Joins {
     pub apart: bool,
 }
 
-/// Which of these four become one: the page before, of so many elements, or of none where there is none; two pieces; and the page behind.
+/// Which of these four become one: the page before, of so many elements, or of none where there is none; two pieces;
+/// and the page behind.
 pub(crate) fn joins_of(before: usize, n: usize, m: usize, behind: usize, room: usize) -> Joins
     requires first { n ≤ room }
     requires second { m ≤ room }

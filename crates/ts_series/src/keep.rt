@@ -21,8 +21,8 @@ use ts_page::{Page, Pages};
 use ts_row::Shelf;
 use ts_space::{Moved, Place};
 
-/// Joins what is left of the pages from one index to another with the pages beside them, as it was told, puts it on pages of them, and
-/// frees the others.
+/// Joins what is left of the pages from one index to another with the pages beside them, as it was told, puts it on
+/// pages of them, and frees the others.
 pub(crate) fn keep<P: Pages>(
     alloc: Global,
     pages: &mut P,
@@ -39,18 +39,23 @@ pub(crate) fn keep<P: Pages>(
     requires rising { IsRising places.now }
     requires places { ArePlaces shelf.now.kind.now.columns (P.contents pages.old) places.now }
     requires one { (joins.before ≤ 1) × (joins.behind ≤ 1) }
-    requires room { (p : AreParts places.now first stop joins) → (count_of p.before + left.front ≤ page_room shelf.now.kind.now.columns) × (left.back + count_of p.behind ≤ page_room shelf.now.kind.now.columns) }
-    requires apart { IsTrue joins.apart → (p : AreParts places.now first stop joins) → (2 ≤ length p.mid) × (1 ≤ left.front) × (1 ≤ left.back) }
+    requires room { (p : AreParts places.now first stop joins)
+        → (count_of p.before + left.front ≤ page_room shelf.now.kind.now.columns)
+        × (left.back + count_of p.behind ≤ page_room shelf.now.kind.now.columns) }
+    requires apart { IsTrue joins.apart → (p : AreParts places.now first stop joins) → (2 ≤ length p.mid)
+        × (1 ≤ left.front) × (1 ≤ left.back) }
     requires together { joins.apart ≡ false → (p : AreParts places.now first stop joins)
         → count_of p.before + left.front + (left.back + count_of p.behind) ≤ page_room shelf.now.kind.now.columns }
     ensures index { IfOk result (λ moved. (p : AreParts places.now first stop joins)
         → (moved.index ≡ length p.front) × (moved.gone ≡ length (p.before ++ (p.mid ++ p.behind)))) }
-    ensures kept { IfOk result (λ moved. (p : AreParts places.now first stop joins) → AreKept P.tells shelf.now.kind.now.columns
+    ensures kept { IfOk result (λ moved. (p : AreParts places.now first stop joins)
+        → AreKept P.tells shelf.now.kind.now.columns
         (p.before ++ (p.mid ++ p.behind)) (list_of moved.come) p.back (P.contents pages.old) (P.contents pages.new)) }
     ensures shape { IfOk result (λ moved. HasShape joins.apart moved.come) }
     ensures count { IfOk result (λ moved. (p : AreParts places.now first stop joins)
         → count_of (list_of moved.come) ≤ count_of p.before + left.front + (left.back + count_of p.behind)) }
-    ensures told { IfOk result (λ moved. IsTrue P.tells → shelf.now.series < 2 ^ 16 → (p : AreParts places.now first stop joins) (cl cr : List (List Element)) (es fs : List Element)
+    ensures told { IfOk result (λ moved. IsTrue P.tells → shelf.now.series < 2 ^ 16
+        → (p : AreParts places.now first stop joins) (cl cr : List (List Element)) (es fs : List Element)
         → AreChained shelf.now.series shelf.now.kind.now.columns (P.contents pages.old).page p.before cl
         → AreChained shelf.now.series shelf.now.kind.now.columns (P.contents pages.old).page p.behind cr
         → HasElements shelf.now.series shelf.now.kind.now.columns es left.front page.old.bytes
@@ -59,7 +64,8 @@ pub(crate) fn keep<P: Pages>(
         → CanBegin joins.apart (p.before ++ (p.mid ++ p.behind)) p.back (all_in cl ++ es) (fs ++ all_in cr)
         → AreChained shelf.now.series shelf.now.kind.now.columns (P.contents pages.new).page (list_of moved.come)
         (pieces moved.come (all_in cl ++ es) (fs ++ all_in cr))) }
-    ensures number { IfOk result (λ moved. IsTrue P.tells → (p : AreParts places.now first stop joins) (cl cr : List (List Element)) (es fs : List Element)
+    ensures number { IfOk result (λ moved. IsTrue P.tells
+        → (p : AreParts places.now first stop joins) (cl cr : List (List Element)) (es fs : List Element)
         → AreChained shelf.now.series shelf.now.kind.now.columns (P.contents pages.old).page p.before cl
         → AreChained shelf.now.series shelf.now.kind.now.columns (P.contents pages.old).page p.behind cr
         → AreElements shelf.now.kind.now.columns es → AreElements shelf.now.kind.now.columns fs
@@ -67,7 +73,8 @@ pub(crate) fn keep<P: Pages>(
         → HasElements shelf.now.series shelf.now.kind.now.columns fs left.back behind.old.bytes
         → length ((all_in cl ++ es) ++ (fs ++ all_in cr)) ≡ count_of (list_of moved.come)) }
     ensures call { Answered result (P.contents pages.old) (P.contents pages.new) }
-    ensures change { (P.contents pages.new).change_bytes ≤ (P.contents pages.old).change_bytes + 8202 + 5 * length places.now }
+    ensures change { (P.contents pages.new).change_bytes ≤
+        (P.contents pages.old).change_bytes + 8202 + 5 * length places.now }
     ensures grows { OnOk result ((P.contents pages.new).change_bytes + 5 * length (P.contents pages.old).free
         ≤ (P.contents pages.old).change_bytes + 5 * length (P.contents pages.new).free + 8202) }
     ensures undisturbed { P.undisturbed pages.old pages.new }
@@ -106,7 +113,8 @@ fn with_before<P: Pages>(
     requires places { ArePlaces shelf.now.kind.now.columns (P.contents pages.old) before.now }
     requires room { count_of before.now + count ≤ page_room shelf.now.kind.now.columns }
     ensures told { IfOk result (λ all. IsTrue P.tells → (chain : List (List Element)) (es : List Element)
-        → AreChained shelf.now.series shelf.now.kind.now.columns (P.contents pages.old).page before.now chain → AreElements shelf.now.kind.now.columns es
+        → AreChained shelf.now.series shelf.now.kind.now.columns (P.contents pages.old).page before.now chain
+        → AreElements shelf.now.kind.now.columns es
         → HasElements shelf.now.series shelf.now.kind.now.columns es count page.old.bytes
         → HasElements shelf.now.series shelf.now.kind.now.columns (all_in chain ++ es) all page.new.bytes) }
     ensures least { IfOk result (λ all. count ≤ all) }
@@ -132,7 +140,8 @@ fn with_behind<P: Pages>(
     requires places { ArePlaces shelf.now.kind.now.columns (P.contents pages.old) behind.now }
     requires room { count + count_of behind.now ≤ page_room shelf.now.kind.now.columns }
     ensures told { IfOk result (λ all. IsTrue P.tells → (chain : List (List Element)) (es : List Element)
-        → AreChained shelf.now.series shelf.now.kind.now.columns (P.contents pages.old).page behind.now chain → AreElements shelf.now.kind.now.columns es
+        → AreChained shelf.now.series shelf.now.kind.now.columns (P.contents pages.old).page behind.now chain
+        → AreElements shelf.now.kind.now.columns es
         → HasElements shelf.now.series shelf.now.kind.now.columns es count page.old.bytes
         → HasElements shelf.now.series shelf.now.kind.now.columns (es ++ all_in chain) all page.new.bytes) }
     ensures least { IfOk result (λ all. count ≤ all) }

@@ -1,5 +1,6 @@
 // Two pieces of elements are put on the first of some pages, and the others are freed.
-ghost use Rattle.std.specs.Prelude.{◌≡◌, ℕ, ◌+◌, ◌*◌, ◌^◌, ◌<◌, ◌≤◌, ◌<ℤ◌, ◌≤ℤ◌, true, false, IsPermutation, IsTrue, IfOk, OnOk, Contains, List, ◌∷◌, ◌++◌, length, drop};
+ghost use Rattle.std.specs.Prelude.{◌≡◌, ℕ, ◌+◌, ◌*◌, ◌^◌, ◌<◌, ◌≤◌, ◌<ℤ◌, ◌≤ℤ◌, true, false, IsPermutation, IsTrue};
+ghost use Rattle.std.specs.Prelude.{IfOk, OnOk, Contains, List, ◌∷◌, ◌++◌, length, drop};
 ghost use Rattle.ts_space.specs.declared.place.Place.{Place as ThePlace};
 ghost use Rattle.ts_space.specs.Place.{IsRising, count_of, pages_of};
 ghost use Rattle.ts_space.specs.Moved.{list_of};
@@ -8,7 +9,8 @@ ghost use Rattle.ts_row.specs.Element.{Element};
 ghost use Rattle.ts_cells.specs.Cell.{page_room};
 ghost use Rattle.ts_cells.specs.IrregularPage.{AreInOrder};
 ghost use Rattle.ts_chain.specs.Places.{AreChained, ArePlaces, IsBeginning};
-ghost use Rattle.ts_series.specs.Ends.{HasElements, AreUsed, AreKept, pieces, HasShape, BeginApart, BeginTogether, CanBegin};
+ghost use Rattle.ts_series.specs.Ends.{HasElements, AreUsed, AreKept, pieces, HasShape, BeginApart, BeginTogether};
+ghost use Rattle.ts_series.specs.Ends.{CanBegin};
 
 use crate::ends::Left;
 use std::alloc::Global;
@@ -20,8 +22,8 @@ use ts_page::{Page, Pages};
 use ts_row::Shelf;
 use ts_space::{Come, Place};
 
-/// Puts the elements of two pages on the first two of the pages that go, or together on the first, frees the others, and gives the places
-/// that come. Where there are no elements all are freed.
+/// Puts the elements of two pages on the first two of the pages that go, or together on the first, frees the others,
+/// and gives the places that come. Where there are no elements all are freed.
 pub(crate) fn lay<P: Pages>(
     alloc: Global,
     pages: &mut P,
@@ -36,19 +38,24 @@ pub(crate) fn lay<P: Pages>(
     requires some { 1 ≤ length gone.now }
     requires rising { IsRising (gone.now ++ back.now) }
     requires places { ArePlaces shelf.now.kind.now.columns (P.contents pages.old) gone.now }
-    requires apart { IsTrue apart → (2 ≤ length gone.now) × (1 ≤ left.front) × (1 ≤ left.back) × (left.front ≤ page_room shelf.now.kind.now.columns) × (left.back ≤ page_room shelf.now.kind.now.columns) }
+    requires apart { IsTrue apart → (2 ≤ length gone.now) × (1 ≤ left.front) × (1 ≤ left.back)
+        × (left.front ≤ page_room shelf.now.kind.now.columns) × (left.back ≤ page_room shelf.now.kind.now.columns) }
     requires together { apart ≡ false → left.front + left.back ≤ page_room shelf.now.kind.now.columns }
-    ensures kept { IfOk result (λ come. AreKept P.tells shelf.now.kind.now.columns gone.now (list_of come) back.now (P.contents pages.old) (P.contents pages.new)) }
+    ensures kept { IfOk result (λ come. AreKept P.tells shelf.now.kind.now.columns gone.now (list_of come) back.now
+        (P.contents pages.old) (P.contents pages.new)) }
     ensures shape { IfOk result (HasShape apart) }
     ensures count { IfOk result (λ come. count_of (list_of come) ≡ left.front + left.back) }
     ensures told { IfOk result (λ come. IsTrue P.tells → shelf.now.series < 2 ^ 16 → (xs ys : List Element)
         → HasElements shelf.now.series shelf.now.kind.now.columns xs left.front page.old.bytes
         → HasElements shelf.now.series shelf.now.kind.now.columns ys left.back behind.now.bytes
         → AreInOrder shelf.now.kind.now.columns (xs ++ ys) → CanBegin apart gone.now back.now xs ys
-        → AreChained shelf.now.series shelf.now.kind.now.columns (P.contents pages.new).page (list_of come) (pieces come xs ys)) }
+        → AreChained shelf.now.series shelf.now.kind.now.columns (P.contents pages.new).page (list_of come)
+        (pieces come xs ys)) }
     ensures call { Answered result (P.contents pages.old) (P.contents pages.new) }
-    ensures change { (P.contents pages.new).change_bytes ≤ (P.contents pages.old).change_bytes + 8202 + 5 * length gone.now }
-    ensures grows { OnOk result ((P.contents pages.new).change_bytes + 5 * length (P.contents pages.old).free ≤ (P.contents pages.old).change_bytes + 5 * length (P.contents pages.new).free + 8202) }
+    ensures change { (P.contents pages.new).change_bytes ≤
+        (P.contents pages.old).change_bytes + 8202 + 5 * length gone.now }
+    ensures grows { OnOk result ((P.contents pages.new).change_bytes + 5 * length (P.contents pages.old).free ≤
+        (P.contents pages.old).change_bytes + 5 * length (P.contents pages.new).free + 8202) }
     ensures undisturbed { P.undisturbed pages.old pages.new }
 {
     if apart {
@@ -81,18 +88,23 @@ fn lay_apart<P: Pages>(
     requires rising { IsRising (gone.now ++ back.now) }
     requires places { ArePlaces shelf.now.kind.now.columns (P.contents pages.old) gone.now }
     requires some { (1 ≤ left.front) × (1 ≤ left.back) }
-    requires room { (left.front ≤ page_room shelf.now.kind.now.columns) × (left.back ≤ page_room shelf.now.kind.now.columns) }
-    ensures kept { IfOk result (λ come. AreKept P.tells shelf.now.kind.now.columns gone.now (list_of come) back.now (P.contents pages.old) (P.contents pages.new)) }
+    requires room { (left.front ≤ page_room shelf.now.kind.now.columns)
+        × (left.back ≤ page_room shelf.now.kind.now.columns) }
+    ensures kept { IfOk result (λ come. AreKept P.tells shelf.now.kind.now.columns gone.now (list_of come) back.now
+        (P.contents pages.old) (P.contents pages.new)) }
     ensures shape { IfOk result (HasShape true) }
     ensures count { IfOk result (λ come. count_of (list_of come) ≡ left.front + left.back) }
     ensures told { IfOk result (λ come. IsTrue P.tells → shelf.now.series < 2 ^ 16 → (xs ys : List Element)
         → HasElements shelf.now.series shelf.now.kind.now.columns xs left.front page.now.bytes
         → HasElements shelf.now.series shelf.now.kind.now.columns ys left.back behind.now.bytes
         → AreInOrder shelf.now.kind.now.columns (xs ++ ys) → BeginApart gone.now back.now xs ys
-        → AreChained shelf.now.series shelf.now.kind.now.columns (P.contents pages.new).page (list_of come) (pieces come xs ys)) }
+        → AreChained shelf.now.series shelf.now.kind.now.columns (P.contents pages.new).page (list_of come)
+        (pieces come xs ys)) }
     ensures call { Answered result (P.contents pages.old) (P.contents pages.new) }
-    ensures change { (P.contents pages.new).change_bytes ≤ (P.contents pages.old).change_bytes + 8202 + 5 * length gone.now }
-    ensures grows { OnOk result ((P.contents pages.new).change_bytes + 5 * length (P.contents pages.old).free ≤ (P.contents pages.old).change_bytes + 5 * length (P.contents pages.new).free + 8202) }
+    ensures change { (P.contents pages.new).change_bytes ≤
+        (P.contents pages.old).change_bytes + 8202 + 5 * length gone.now }
+    ensures grows { OnOk result ((P.contents pages.new).change_bytes + 5 * length (P.contents pages.old).free ≤
+        (P.contents pages.old).change_bytes + 5 * length (P.contents pages.new).free + 8202) }
     ensures undisturbed { P.undisturbed pages.old pages.new }
 {
     // No page has room for more than 451.
@@ -118,16 +130,20 @@ fn lay_together<P: Pages>(
     requires rising { IsRising (gone.now ++ back.now) }
     requires places { ArePlaces shelf.now.kind.now.columns (P.contents pages.old) gone.now }
     requires room { all ≤ page_room shelf.now.kind.now.columns }
-    ensures kept { IfOk result (λ come. AreKept P.tells shelf.now.kind.now.columns gone.now (list_of come) back.now (P.contents pages.old) (P.contents pages.new)) }
+    ensures kept { IfOk result (λ come. AreKept P.tells shelf.now.kind.now.columns gone.now (list_of come) back.now
+        (P.contents pages.old) (P.contents pages.new)) }
     ensures shape { IfOk result (HasShape false) }
     ensures count { IfOk result (λ come. count_of (list_of come) ≡ all) }
     ensures told { IfOk result (λ come. IsTrue P.tells → shelf.now.series < 2 ^ 16 → (xs ys : List Element)
         → HasElements shelf.now.series shelf.now.kind.now.columns (xs ++ ys) all page.now.bytes
         → AreInOrder shelf.now.kind.now.columns (xs ++ ys) → BeginTogether gone.now back.now (xs ++ ys)
-        → AreChained shelf.now.series shelf.now.kind.now.columns (P.contents pages.new).page (list_of come) (pieces come xs ys)) }
+        → AreChained shelf.now.series shelf.now.kind.now.columns (P.contents pages.new).page (list_of come)
+        (pieces come xs ys)) }
     ensures call { Answered result (P.contents pages.old) (P.contents pages.new) }
-    ensures change { (P.contents pages.new).change_bytes ≤ (P.contents pages.old).change_bytes + 8202 + 5 * length gone.now }
-    ensures grows { OnOk result ((P.contents pages.new).change_bytes + 5 * length (P.contents pages.old).free ≤ (P.contents pages.old).change_bytes + 5 * length (P.contents pages.new).free + 8202) }
+    ensures change { (P.contents pages.new).change_bytes ≤
+        (P.contents pages.old).change_bytes + 8202 + 5 * length gone.now }
+    ensures grows { OnOk result ((P.contents pages.new).change_bytes + 5 * length (P.contents pages.old).free ≤
+        (P.contents pages.old).change_bytes + 5 * length (P.contents pages.new).free + 8202) }
     ensures undisturbed { P.undisturbed pages.old pages.new }
 {
     if all == 0 {
@@ -151,10 +167,13 @@ fn put_one<P: Pages>(
     requires places { AreUsed (P.contents pages.old) gone.now }
     ensures put { OnOk result (IsTrue P.tells → (a : ThePlace) (gs : List ThePlace) → gone.now ≡ a ∷ gs
         → (P.contents pages.new).page a.page ≡ page.now.bytes) }
-    ensures others { OnOk result (IsTrue P.tells → (number : ℕ) → ¬ Contains (pages_of gone.now) number → (P.contents pages.new).page number ≡ (P.contents pages.old).page number) }
-    ensures free { OnOk result (IsPermutation ((P.contents pages.old).free ++ pages_of (drop 1 gone.now)) (P.contents pages.new).free) }
+    ensures others { OnOk result (IsTrue P.tells → (number : ℕ) → ¬ Contains (pages_of gone.now) number
+        → (P.contents pages.new).page number ≡ (P.contents pages.old).page number) }
+    ensures free { OnOk result (IsPermutation ((P.contents pages.old).free ++ pages_of (drop 1 gone.now))
+        (P.contents pages.new).free) }
     ensures call { Answered result (P.contents pages.old) (P.contents pages.new) }
-    ensures change { (P.contents pages.new).change_bytes ≤ (P.contents pages.old).change_bytes + 4101 + 5 * length (drop 1 gone.now) }
+    ensures change { (P.contents pages.new).change_bytes ≤ (P.contents pages.old).change_bytes + 4101 + 5 * length
+        (drop 1 gone.now) }
     ensures undisturbed { P.undisturbed pages.old pages.new }
 {
     pages.put(gone[0].page, page)?;
@@ -172,11 +191,15 @@ fn put_two<P: Pages>(
     requires two { 2 ≤ length gone.now }
     requires places { AreUsed (P.contents pages.old) gone.now }
     ensures put { OnOk result (IsTrue P.tells → (a b : ThePlace) (gs : List ThePlace) → gone.now ≡ a ∷ b ∷ gs
-        → ((P.contents pages.new).page a.page ≡ page.now.bytes) × ((P.contents pages.new).page b.page ≡ behind.now.bytes)) }
-    ensures others { OnOk result (IsTrue P.tells → (number : ℕ) → ¬ Contains (pages_of gone.now) number → (P.contents pages.new).page number ≡ (P.contents pages.old).page number) }
-    ensures free { OnOk result (IsPermutation ((P.contents pages.old).free ++ pages_of (drop 2 gone.now)) (P.contents pages.new).free) }
+        → ((P.contents pages.new).page a.page ≡ page.now.bytes)
+        × ((P.contents pages.new).page b.page ≡ behind.now.bytes)) }
+    ensures others { OnOk result (IsTrue P.tells → (number : ℕ) → ¬ Contains (pages_of gone.now) number
+        → (P.contents pages.new).page number ≡ (P.contents pages.old).page number) }
+    ensures free { OnOk result (IsPermutation ((P.contents pages.old).free ++ pages_of (drop 2 gone.now))
+        (P.contents pages.new).free) }
     ensures call { Answered result (P.contents pages.old) (P.contents pages.new) }
-    ensures change { (P.contents pages.new).change_bytes ≤ (P.contents pages.old).change_bytes + 8202 + 5 * length (drop 2 gone.now) }
+    ensures change { (P.contents pages.new).change_bytes ≤ (P.contents pages.old).change_bytes + 8202 + 5 * length
+        (drop 2 gone.now) }
     ensures undisturbed { P.undisturbed pages.old pages.new }
 {
     pages.put(gone[0].page, page)?;

@@ -1,4 +1,5 @@
-// The routines that fold the elements of one series by an aggregate list: those of a range as one row, or a row for each on interval.
+// The routines that fold the elements of one series by an aggregate list: those of a range as one row, or a row for
+// each on interval.
 ghost use Rattle.std.specs.Prelude.{◌≡◌, ◌<◌, ◌^◌, [], length};
 ghost use Rattle.ts_command.specs.declared.command.Command.TheVariants.{AggregateBy, AggregateRange};
 ghost use Rattle.ts_answer.specs.View.{view, IsSeen};
@@ -16,9 +17,9 @@ use ts_say::{FoldedLines, say_count, say_folded};
 use ts_shelf::shelf_of;
 use ts_space::Space;
 
-/// Says what an aggregate list makes of the elements of a series from one stamp to another, both included: one row, at the first stamp. A
-/// text that is no list is refused first, then a key that no series has, then a list that its columns don't bear. `page` is room to read
-/// one; the memory is for the list and for the row.
+/// Says what an aggregate list makes of the elements of a series from one stamp to another, both included: one row, at
+/// the first stamp. A text that is no list is refused first, then a key that no series has, then a list that its
+/// columns don't bear. `page` is room to read one; the memory is for the list and for the row.
 pub fn aggregate_range<P: Pages>(
     alloc: Global,
     pages: &mut P,
@@ -56,11 +57,11 @@ pub fn aggregate_range<P: Pages>(
     Ok(())
 }
 
-/// Says what an aggregate list makes of the elements of a series by the on intervals of a calendar that start from one stamp to another,
-/// both included: a row for each that holds an element that isn't hidden, at its start, and how many they are. A text that is no list is
-/// refused first, then a calendar that isn't there, then a key that no series has, then a list that its columns don't bear; TooLarge where
-/// the rows are more than 1000000. `page` is room to read one; the memory is for the list and for the rows, one
-/// at a time.
+/// Says what an aggregate list makes of the elements of a series by the on intervals of a calendar that start from one
+/// stamp to another, both included: a row for each that holds an element that isn't hidden, at its start, and how many
+/// they are. A text that is no list is refused first, then a calendar that isn't there, then a key that no series has,
+/// then a list that its columns don't bear; TooLarge where the rows are more than 1000000. `page` is room to read one;
+/// the memory is for the list and for the rows, one at a time.
 pub fn aggregate_by<P: Pages>(
     alloc: Global,
     pages: &mut P,

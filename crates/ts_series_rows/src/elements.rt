@@ -1,4 +1,5 @@
-// The routines that say a row for each element of a series: running sums and means of a column, and the values of expressions.
+// The routines that say a row for each element of a series: running sums and means of a column, and the values of
+// expressions.
 ghost use Rattle.std.specs.Prelude.{◌≡◌, ◌<◌, ◌^◌, ◌≤ℤ◌, pos, [], IsTrue, length};
 ghost use Rattle.ts_command.specs.declared.command.Command.TheVariants.{TSRunningSum, TSRunningAvg, Apply};
 ghost use Rattle.ts_running.specs.Places.{is_running};
@@ -18,10 +19,11 @@ use ts_say::{FoldedLines, say_count};
 use ts_shelf::shelf_of;
 use ts_space::Space;
 
-/// Says the sum of a column in each element of a series from one stamp to another, both included, and those before it there, `span` in
-/// all: a row for each, at its stamp, and how many they are. A text that names no column is refused first, then a key that no series has,
-/// then a name that no column has, then a column of texts; TooLarge where the rows are more than 1000000, and some lines stand in the reply
-/// by then. `page` is room to read one; the memory is for the window and for the rows, one at a time.
+/// Says the sum of a column in each element of a series from one stamp to another, both included, and those before it
+/// there, `span` in all: a row for each, at its stamp, and how many they are. A text that names no column is refused
+/// first, then a key that no series has, then a name that no column has, then a column of texts; TooLarge where the
+/// rows are more than 1000000, and some lines stand in the reply by then. `page` is room to read one; the memory is for
+/// the window and for the rows, one at a time.
 pub fn running_sum<P: Pages>(
     alloc: Global,
     pages: &mut P,
@@ -59,10 +61,11 @@ pub fn running_sum<P: Pages>(
     )
 }
 
-/// Says the mean of a column in each element of a series from one stamp to another, both included, and those before it there, `span` in
-/// all: a row for each, at its stamp, and how many they are. A text that names no column is refused first, then a key that no series has,
-/// then a name that no column has, then a column of texts; TooLarge where the rows are more than 1000000, and some lines stand in the reply
-/// by then. `page` is room to read one; the memory is for the window and for the rows, one at a time.
+/// Says the mean of a column in each element of a series from one stamp to another, both included, and those before it
+/// there, `span` in all: a row for each, at its stamp, and how many they are. A text that names no column is refused
+/// first, then a key that no series has, then a name that no column has, then a column of texts; TooLarge where the
+/// rows are more than 1000000, and some lines stand in the reply by then. `page` is room to read one; the memory is for
+/// the window and for the rows, one at a time.
 pub fn running_avg<P: Pages>(
     alloc: Global,
     pages: &mut P,
@@ -141,10 +144,11 @@ fn running_values<P: Pages>(
     Ok(())
 }
 
-/// Says the values of expressions over those of each element of a series from one stamp to another, both included: a row for each, at its
-/// stamp, and how many they are. A text that is no list is refused first, then a key that no series has, then a list that its columns don't
-/// bear; TooLarge where the rows are more than 1000000, else Overflow where a number has no place, and some lines stand in the reply by
-/// then. `page` is room to read one; the memory is for the list and for the rows, one at a time.
+/// Says the values of expressions over those of each element of a series from one stamp to another, both included: a
+/// row for each, at its stamp, and how many they are. A text that is no list is refused first, then a key that no
+/// series has, then a list that its columns don't bear; TooLarge where the rows are more than 1000000, else Overflow
+/// where a number has no place, and some lines stand in the reply by then. `page` is room to read one; the memory is
+/// for the list and for the rows, one at a time.
 pub fn apply_list<P: Pages>(
     alloc: Global,
     pages: &mut P,

@@ -34,8 +34,8 @@ pub enum Choice {
     Count(Stamp, i64),
 }
 
-/// Says the chosen entries of a series, and how many they are; TooLarge where those of a range are more than 1000000. `page` is room to
-/// read one.
+/// Says the chosen entries of a series, and how many they are; TooLarge where those of a range are more than 1000000.
+/// `page` is room to read one.
 pub fn read_entries<P: Pages>(
     pages: &mut P,
     page: &mut Page,
@@ -61,8 +61,8 @@ pub fn read_entries<P: Pages>(
     Ok(())
 }
 
-// Hands the chosen entries to a visitor, and tells how many they are; or why they are refused, and then none is handed on. All pages stay;
-// `page` is room to read one.
+// Hands the chosen entries to a visitor, and tells how many they are; or why they are refused, and then none is handed
+// on. All pages stay; `page` is room to read one.
 fn entries_in<P: Pages, V: EntryVisitor>(
     pages: &mut P,
     page: &mut Page,
@@ -74,10 +74,12 @@ fn entries_in<P: Pages, V: EntryVisitor>(
 ) -> Result<Result<u64, Refusal>, StoreFault>
     requires slot { shelf.now.series < series_slots }
     requires laid { IsLaidOut shape.now }
-    requires places { ArePlaces shape.now shelf.now.kind.now.columns (P.contents pages.old) (places_of shelf.now.series space.now) }
+    requires places { ArePlaces shape.now shelf.now.kind.now.columns (P.contents pages.old)
+        (places_of shelf.now.series space.now) }
     ensures read { IfOk result (λ done. IsTold P.tells shape.now shelf.now.series shelf.now.kind.now.columns
         (places_of shelf.now.series space.now) (P.contents pages.old)
-        (λ es. IsRead (λ entries. V.took shelf.now.kind.now.columns visitor.old entries visitor.new) (chosen choice (reading shape.now es)) done)) }
+        (λ es. IsRead (λ entries. V.took shelf.now.kind.now.columns visitor.old entries visitor.new)
+        (chosen choice (reading shape.now es)) done)) }
     ensures call { Reads P.tells result (P.contents pages.old) (P.contents pages.new) }
     ensures undisturbed { P.undisturbed pages.old pages.new }
 {

@@ -15,7 +15,8 @@ pub record IsShelf (shape : Shape) (slot : ℕ) (h : Heading) (key : List ℕ) (
   pub lies : shape_at d slot ≡ Some shape
 
 -- for a layout: it stands there for this series, which has these columns and this shape
-pub record IsShelfIn (l : Layout) (key : List ℕ) (shape : Shape) (slot : ℕ) (h : Heading) (series : Series) : Type 0 where
+pub record IsShelfIn (l : Layout) (key : List ℕ) (shape : Shape) (slot : ℕ) (h : Heading)
+    (series : Series) : Type 0 where
   pub stands : Stands kinds.Series key l slot series
   pub columns : columns_of (catalogue_of l) series ≡ h.columns
   pub lies : shape_of (catalogue_of l) series.kind ≡ Some shape

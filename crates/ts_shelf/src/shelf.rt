@@ -21,7 +21,8 @@ use ts_page::Pages;
 use ts_row::Shelf;
 use ts_space::Space;
 
-/// The series of a key, with its columns, and where its elements can stand. Its pages are such that they can be read and written.
+/// The series of a key, with its columns, and where its elements can stand. Its pages are such that they can be read
+/// and written.
 pub fn shelf_of<'a, P: Pages>(
     pages: &P,
     defs: &'a Defs,
@@ -33,9 +34,11 @@ pub fn shelf_of<'a, P: Pages>(
     ensures laid { IfOk result (λ r. IsLaidOut r.1) }
     ensures some { IfOk result (λ r. 0 < page_room r.0.kind.now.columns) }
     ensures rising { IfOk result (λ r. IsRising (places_of r.0.series space.now)) }
-    ensures places { IfOk result (λ r. ArePlaces r.1 r.0.kind.now.columns (P.contents pages.now) (places_of r.0.series space.now)) }
+    ensures places { IfOk result (λ r. ArePlaces r.1 r.0.kind.now.columns (P.contents pages.now)
+        (places_of r.0.series space.now)) }
     ensures tried { (l : Layout) → IsViewOf (view defs.now.definitions space.now (P.contents pages.now)) l
-        → IsTried result (wanted key.now (catalogue_of l).series) (λ r series. IsShelfIn l key.now r.1 r.0.series r.0.kind.now series) }
+        → IsTried result (wanted key.now (catalogue_of l).series)
+        (λ r series. IsShelfIn l key.now r.1 r.0.series r.0.kind.now series) }
 {
     let slot = series_named(defs, key)?;
     let found = shelf_at(pages, defs, space, slot);

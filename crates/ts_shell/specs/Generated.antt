@@ -1,10 +1,13 @@
--- The commands that `gen` carries out, by a count and a seed: a regular and an irregular series are made, that many elements are put into
--- them in turn, and both are folded.
-use Rattle.std.specs.Prelude.{◌≡◌, ℕ, zero, suc, ◌+◌, ◌-◌, ◌*◌, ◌/◌, ◌%◌, ◌==◌, min, if◌then◌else◌, ℤ, pos, ◌+ℤ◌, List, [], ◌∷◌, ◌++◌, take, codes}
+-- The commands that `gen` carries out, by a count and a seed: a regular and an irregular series are made, that many
+-- elements are put into them in turn, and both are folded.
+use Rattle.std.specs.Prelude.{◌≡◌, ℕ, zero, suc, ◌+◌, ◌-◌, ◌*◌, ◌/◌, ◌%◌, ◌==◌, min, if◌then◌else◌, ℤ, pos, ◌+ℤ◌, List}
+use Rattle.std.specs.Prelude.{[], ◌∷◌, ◌++◌, take, codes}
 use Rattle.ts_row.specs.declared.kind.ColumnKind.TheVariants.{Integer}
 use Rattle.ts_row.specs.declared.value.Literal.TheVariants.{Number}
 use Rattle.ts_command.specs.declared.command.Command.{Command}
-use Rattle.ts_command.specs.declared.command.Command.TheVariants.{CreateRowType, CreatePattern, CreateCalendar, TSContainerCreate, TSCreate, TSCreateIrr, PutElem, AggregateRange}
+use Rattle.ts_command.specs.declared.command.Command.TheVariants.{CreateRowType, CreatePattern, CreateCalendar}
+use Rattle.ts_command.specs.declared.command.Command.TheVariants.{TSContainerCreate, TSCreate, TSCreateIrr, PutElem}
+use Rattle.ts_command.specs.declared.command.Command.TheVariants.{AggregateRange}
 
 -- 2011-01-03 00:00:00, where both series begin, and 2012-01-01 00:00:00, which lies behind their elements
 abbrev pub beginning : ℤ
@@ -25,7 +28,8 @@ unfoldable pub opening : List Command
 opening =
     CreateRowType (codes "gent") (codes "t") (record { name = codes "v"; kind = Integer } ∷ [])
     ∷ CreatePattern (codes "genp") (codes "{1 on},minute")
-    ∷ CreateCalendar (codes "genc") (codes "startdate(2011-01-03 00:00:00), pattstart(2011-01-03 00:00:00), pattname(genp)")
+    ∷ CreateCalendar (codes "genc")
+    (codes "startdate(2011-01-03 00:00:00), pattstart(2011-01-03 00:00:00), pattname(genp)")
     ∷ TSContainerCreate (codes "genk") (codes "gent") (pos 4096)
     ∷ TSCreate regular_key (codes "genc") beginning (codes "genk")
     ∷ TSCreateIrr irregular_key (codes "genk")
@@ -40,8 +44,8 @@ drawn seed (suc i) = (1_103_515_245 * drawn seed i + 12_345) % 2_147_483_648
 abbrev pub put_behind : List ℕ → ℕ → ℕ → Command
 put_behind key units value = PutElem key (beginning +ℤ pos units) (Number (pos value) 0 ∷ [])
 
--- Edit number i, by its number drawn: the last three digits are the value, the five before them the place. That counts minutes of the
--- regular series where i is odd, and else seconds of the irregular one.
+-- Edit number i, by its number drawn: the last three digits are the value, the five before them the place. That counts
+-- minutes of the regular series where i is odd, and else seconds of the irregular one.
 unfoldable pub edit : ℕ → ℕ → Command
 edit i x =
     if i % 2 == 1 then put_behind regular_key (x / 1000 % 100_000 * 6_000_000) (x % 1000)

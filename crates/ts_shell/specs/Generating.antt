@@ -1,5 +1,7 @@
--- What `gen` does: it carries out the generated commands, and says what the last two come to and how many there were of each kind.
-use Rattle.std.specs.Prelude.{◌≡◌, ◌≢◌, ◌⊎◌, ℕ, ◌+◌, ◌-◌, ◌≤◌, Bool, not, IsTrue, List, [], ◌∷◌, ◌++◌, length, take, drop, codes, decimal, flat_map, Result, Ok, OnOk, IfErr}
+-- What `gen` does: it carries out the generated commands, and says what the last two come to and how many there were of
+-- each kind.
+use Rattle.std.specs.Prelude.{◌≡◌, ◌≢◌, ◌⊎◌, ℕ, ◌+◌, ◌-◌, ◌≤◌, Bool, not, IsTrue, List, [], ◌∷◌, ◌++◌, length, take}
+use Rattle.std.specs.Prelude.{drop, codes, decimal, flat_map, Result, Ok, OnOk, IfErr}
 use Rattle.std.specs.List.{count_by}
 use Rattle.ts_disk.specs.Device.{Device, Rose, FirstSync, LeavesOnly, Saying}
 use Rattle.ts_journal.specs.Moment.{Keeps, OnlyReads}
@@ -23,13 +25,15 @@ last_two rs = flat_map (λ r. r) (drop (length rs - 2) rs)
 -- `done`, how many replies end with an `ok` line, and how many don't
 abbrev pub done_line : List (List ℕ) → List ℕ
 done_line rs =
-    codes "done " ++ decimal (count_by ends_with_ok rs) ++ codes " " ++ decimal (count_by (λ r. not (ends_with_ok r)) rs) ++ codes "\n"
+    codes "done " ++ decimal (count_by ends_with_ok rs) ++ codes " "
+    ++ decimal (count_by (λ r. not (ends_with_ok r)) rs) ++ codes "\n"
 
 -- what is said of all replies
 unfoldable pub summary : List (List ℕ) → List ℕ
 summary rs = last_two rs ++ done_line rs
 
--- what an engine keeps of replies: the last two (nothing for one that isn't there), and how many end with an `ok` line and how many don't
+-- what an engine keeps of replies: the last two (nothing for one that isn't there), and how many end with an `ok` line
+-- and how many don't
 pub record IsTally (rs : List (List ℕ)) (before reply : List ℕ) (answered refused : ℕ) : Type 0 where
   pub front : List (List ℕ)
   pub two : [] ∷ [] ∷ rs ≡ front ++ before ∷ reply ∷ []
@@ -49,8 +53,10 @@ QuietFault Disk v w = Rose v.faults w.faults
 QuietFault (Memory error) v w = w.faults ≡ v.faults
 QuietFault (Closed faults) v w = ⊥
 
--- what carrying out commands in their order does, with nothing said, and with an engine that is `e` before and `f` behind
-pub record RanQuietly (tells : Bool) (commands : List Command) (result : Result Unit StepFault) (e f : Kept) (v w : Device) : Type 0 where
+-- what carrying out commands in their order does, with nothing said, and with an engine that is `e` before and `f`
+-- behind
+pub record RanQuietly (tells : Bool) (commands : List Command) (result : Result Unit StepFault) (e f : Kept)
+    (v w : Device) : Type 0 where
   pub ready : OnOk result (IsReady tells f w)
   pub at : OnOk result (IsTrue tells → (state : State) → IsAt tells e state v
       → IsAt tells f (after state commands) w)
@@ -59,16 +65,18 @@ pub record RanQuietly (tells : Bool) (commands : List Command) (result : Result 
   pub others : Keeps tells v w
   pub no_fault : OnOk result (w.faults ≡ v.faults)
 
--- Commands were carried out from an engine `e` on, with nothing said: what is in hand behind them is their engine, and what is kept of
--- their replies.
-pub record IsBehind (tells : Bool) (commands : List Command) (e : Kept) (v : Device) (hand : Generator) (w : Device) : Type 0 where
+-- Commands were carried out from an engine `e` on, with nothing said: what is in hand behind them is their engine, and
+-- what is kept of their replies.
+pub record IsBehind (tells : Bool) (commands : List Command) (e : Kept) (v : Device) (hand : Generator)
+    (w : Device) : Type 0 where
   pub ran : RanQuietly tells commands (Ok (tt {0})) e hand.engine v w
   pub tally : IsTrue tells → (state : State) → IsAt tells e state v
       → IsTally (replies state commands) hand.before hand.reply hand.answered hand.refused
   pub total : hand.answered + hand.refused ≡ length commands
 
 -- the command behind the first so many was carried out, or not
-pub record IsNextStep (tells : Bool) (commands : List Command) (number : ℕ) (result : Result Unit StepFault) (hand more : Generator) (v w : Device) : Type 0 where
+pub record IsNextStep (tells : Bool) (commands : List Command) (number : ℕ) (result : Result Unit StepFault)
+    (hand more : Generator) (v w : Device) : Type 0 where
   pub command : Command
   pub next : IsNext commands number command
   pub stepped : Stepped tells command result more.reply hand.engine more.engine v w
@@ -88,8 +96,8 @@ pub record IsUnmade (tells : Bool) (fault : StepFault) (v w : Device) : Type 0 w
   pub reads : OnlyReads tells v w
   pub no_fault : w.faults ≡ v.faults
 
--- An image and the bytes said by then: the image means the state after the first commands, however many, and what was said is a front of
--- the summary of all replies; once a byte was said, these are all commands.
+-- An image and the bytes said by then: the image means the state after the first commands, however many, and what was
+-- said is a front of the summary of all replies; once a byte was said, these are all commands.
 pub record IsWithin (state : State) (commands : List Command) (before image said : List ℕ) : Type 0 where
   pub count : ℕ
   pub within : count ≤ length commands
@@ -128,8 +136,9 @@ pub record OpenedGen (tells : Bool) (commands : List Command) (e : Kept) (status
 -- What `gen` does with these commands over a volume that means this catalogue at the entry.
 pub record GeneratedFrom (commands : List Command) (cat : Catalogue) (status : ℕ) (v w : Device) : Type 0 where
   pub says : SaysSummary (resting cat) commands status v w
-  -- From the end of the first sync on each moment means the catalogue after the first commands, and after all once a byte was said;
-  -- before it, and in the whole call where no sync answered Ok, each is an image of the entry with nothing said.
+  -- From the end of the first sync on each moment means the catalogue after the first commands, and after all once a
+  -- byte was said; before it, and in the whole call where no sync answered Ok, each is an image of the entry with
+  -- nothing said.
   pub moments : FirstSync v w (IsWithin (resting cat) commands v.said)
   -- where nothing was pending at the entry, each moment of the call means it so
   pub at_rest : NothingIsPending v → (image said : List ℕ) → w.since v.clock image said
@@ -140,7 +149,8 @@ pub record GeneratedFrom (commands : List Command) (cat : Catalogue) (status : �
 -- What `gen` does.
 pub record GenRan (tells : Bool) (count seed status : ℕ) (v w : Device) : Type 0 where
   pub store : OpensStore tells status v w
-  pub from : IsTrue tells → (cat : Catalogue) → MeansCatalogue v.held cat → GeneratedFrom (generated count seed) cat status v w
+  pub from : IsTrue tells → (cat : Catalogue) → MeansCatalogue v.held cat
+      → GeneratedFrom (generated count seed) cat status v w
   -- at 0 nothing is pending
   pub settled : status ≡ 0 → NothingIsPending w
   -- a piece could not be said at 4, and at no other status

@@ -7,7 +7,8 @@ use Rattle.ts_volume.specs.Volume.{MeansCatalogue}
 -- an image that means the empty catalogue of either format with so many element pages, or means none
 abbrev pub IsEmptyOrNone : ℕ → List ℕ → Type 0
 IsEmptyOrNone pages image =
-    (cat : Catalogue) → MeansCatalogue image cat → (cat ≡ empty_catalogue old_format pages) ⊎ (cat ≡ empty_catalogue newest_format pages)
+    (cat : Catalogue) → MeansCatalogue image cat → (cat ≡ empty_catalogue old_format pages)
+    ⊎ (cat ≡ empty_catalogue newest_format pages)
 
 -- from that time on each image means such a catalogue or none, and nothing is said
 pub record EmptyFrom (pages time : ℕ) (v w : Device) : Type 0 where

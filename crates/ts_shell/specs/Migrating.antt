@@ -9,7 +9,8 @@ use Rattle.ts_shell.specs.Opening.{OpensStore}
 
 -- an image that means the catalogue in its own format or in the newest, and nothing said
 abbrev pub InEitherFormat : Catalogue → Device → List ℕ → List ℕ → Type 0
-InEitherFormat cat v image said = (MeansCatalogue image cat ⊎ MeansCatalogue image (in_newest_format cat)) × (said ≡ v.said)
+InEitherFormat cat v image said = (MeansCatalogue image cat ⊎ MeansCatalogue image (in_newest_format cat))
+    × (said ≡ v.said)
 
 -- What `migrate` does over a volume that means this catalogue at the entry.
 pub record MigratedFrom (cat : Catalogue) (status : ℕ) (v w : Device) : Type 0 where
@@ -17,8 +18,8 @@ pub record MigratedFrom (cat : Catalogue) (status : ℕ) (v w : Device) : Type 0
   pub done : status ≡ 0 → MeansCatalogue w.held (in_newest_format cat)
   -- at 7 the volume means it in its own format, and so does each moment from the end of the first sync on
   pub kept : status ≡ 7 → MeansCatalogue w.held cat × FirstSync v w (StillMeans cat v)
-  -- From the end of the first sync on each moment means it in its own format or in the newest; before it, and in the whole call
-  -- where no sync answered Ok, each is an image of the entry; nothing is said.
+  -- From the end of the first sync on each moment means it in its own format or in the newest; before it, and in the
+  -- whole call where no sync answered Ok, each is an image of the entry; nothing is said.
   pub moments : FirstSync v w (InEitherFormat cat v)
   -- where nothing was pending at the entry, each moment of the call means it so
   pub at_rest : NothingIsPending v → (image said : List ℕ) → w.since v.clock image said

@@ -1,5 +1,6 @@
 -- A run over an engine: what is said, and what a stop within it leaves.
-use Rattle.std.specs.Prelude.{◌≡◌, ◌≤◌, ℕ, Bool, IsTrue, if◌then◌else◌, List, [], ◌∷◌, ◌++◌, map, Option, Result, Err, OnOk, IsErrOf}
+use Rattle.std.specs.Prelude.{◌≡◌, ◌≤◌, ℕ, Bool, IsTrue, if◌then◌else◌, List, [], ◌∷◌, ◌++◌, map, Option, Result, Err}
+use Rattle.std.specs.Prelude.{OnOk, IsErrOf}
 use Rattle.ts_base.specs.declared.refusal.Refusal.TheVariants as refusals
 use Rattle.ts_disk.specs.Device.{Device, LeavesOnly, Rose}
 use Rattle.ts_items.specs.Items.{items_from, is_unended_at}
@@ -20,21 +21,27 @@ requests_from place bytes = map request_of (items_from place bytes)
 abbrev pub requests_at_end : Option (List ℕ) → List Request
 requests_at_end place = if is_unended_at place then Err refusals.Unended ∷ [] else []
 
--- How the requests of a script are answered from one state to the next. An image means the catalogue that is committed there.
+-- How the requests of a script are answered from one state to the next. An image means the catalogue that is committed
+-- there.
 abbrev pub script : Protocol State Request
-script = record { answer = run_answer; stand_in = stand_in; means = λ image state. MeansCatalogue image (committed state) }
+script = record {
+  answer = run_answer;
+  stand_in = stand_in;
+  means =
+      λ image state. MeansCatalogue image (committed state);
+}
 
 -- what was said is replies to the items in their order, the last of them perhaps in part
 abbrev pub SaysFairly : {C I : Type 0} → Protocol C I → C → List I → Device → Device → Type 0
 SaysFairly p cat asked v w = (gained : List ℕ) × (w.said ≡ v.said ++ gained) × IsFair p cat asked gained
 
--- An image and the bytes said by then: these are replies from `before` on, and the image means what is committed after exactly
--- the acknowledged items, or after these and the next.
+-- An image and the bytes said by then: these are replies from `before` on, and the image means what is committed after
+-- exactly the acknowledged items, or after these and the next.
 abbrev pub IsGoodRun : {C I : Type 0} → Protocol C I → C → List I → List ℕ → List ℕ → List ℕ → Type 0
 IsGoodRun p cat asked before image said = IsGoodMoment p cat asked before image said
 
--- What carries items out: whether its device tells what it holds, when it can go on, and when it stands at a state. A run
--- is said in these words, whatever its items and its states are.
+-- What carries items out: whether its device tells what it holds, when it can go on, and when it stands at a state. A
+-- run is said in these words, whatever its items and its states are.
 pub record Carrier (E C : Type 0) : Type 1 where
   pub tells : Bool
   -- on every device, between two items

@@ -1,5 +1,6 @@
 -- What the top call does, by its words.
-use Rattle.std.specs.Prelude.{◌≡◌, ◌⊎◌, ℕ, ◌+◌, ◌*◌, ◌<◌, ◌≤◌, Bool, false, IsTrue, if◌then◌else◌, List, [], ◌++◌, length, take, Result, Ok, Err, ◌≢◌}
+use Rattle.std.specs.Prelude.{◌≡◌, ◌⊎◌, ℕ, ◌+◌, ◌*◌, ◌<◌, ◌≤◌, Bool, false, IsTrue, if◌then◌else◌, List, [], ◌++◌}
+use Rattle.std.specs.Prelude.{length, take, Result, Ok, Err, ◌≢◌}
 use Rattle.ts_disk.specs.Device.{Device, Within, Rose, FirstSync, LeavesOnly}
 use Rattle.ts_disk.specs.Input.{Input}
 use Rattle.ts_command.specs.Script.{Request, requests, last_request}
@@ -31,8 +32,8 @@ pub record Made (tells : Bool) (pages status : ℕ) (v w : Device) : Type 0 wher
   -- at 0 the only image has that length and means the empty catalogue in the newest format
   pub done : status ≡ 0 → (w.size ≡ 4096 * (930 + pages)) × NothingIsPending w
       × (IsTrue tells → MeansCatalogue w.held (empty_catalogue newest_format pages))
-  -- from the end of its first sync that answers Ok on, the second call that does, each image means the empty catalogue of either
-  -- format or none
+  -- from the end of its first sync that answers Ok on, the second call that does, each image means the empty catalogue
+  -- of either format or none
   pub moments : IsTrue tells → v.syncs < w.syncs → EmptyFrom pages (v.clock + 2) v w
   -- 10 comes exactly where the volume isn't empty, and then nothing is done
   pub there : status ≡ 10 → 0 < v.size
@@ -91,8 +92,8 @@ pub record Took (limit : ℕ) (IsEnd : ℕ → Type 0) (status : ℕ) (i j : Inp
   pub cut : i.left ≡ taken ++ j.left
   pub end : IsTrue ended → (j.left ≡ []) × (length taken ≤ limit) × IsEnd status
 
--- Everything was taken up to the end of the source, and every request of the script is answered. A transaction that is open
--- behind them is given up.
+-- Everything was taken up to the end of the source, and every request of the script is answered. A transaction that is
+-- open behind them is given up.
 pub record DoneToEnd (state : State) (v w : Device) (i j : Input) : Type 0 where
   pub ended : j.left ≡ []
   pub done : AllDone script state (requests i.left ++ last_request i.left) v w
@@ -115,7 +116,8 @@ pub record TookEnough (limit : ℕ) (i j : Input) : Type 0 where
   pub cut : i.left ≡ taken ++ j.left
   pub short : length taken ≤ limit
 
--- What was said over an engine that stood at this state, and what a stop left. `asked` tells the items of what was taken.
+-- What was said over an engine that stood at this state, and what a stop left. `asked` tells the items of what was
+-- taken.
 pub record RanOn {C I : Type 0} (p : Protocol C I) (limit : ℕ) (IsEnd : ℕ → Type 0) (asked : Bool → List ℕ → List I)
     (state : C) (status : ℕ) (v w : Device) (i j : Input) : Type 0 where
   pub took : Took limit IsEnd status i j
@@ -127,7 +129,8 @@ pub record OpenedRan (tells told : Bool) (e : Kept) (status : ℕ) (v w : Device
   pub fair : IsTrue tells → IsTrue told → (state : State) → IsAt tells e state v
       → RanOn script most_script IsScriptEnd asked_of state status v w i j
   pub all : status ≡ 0 → IsTrue tells → IsTrue told → (state : State) → IsAt tells e state v → DoneToEnd state v w i j
-  pub so_far : (status ≡ 3) ⊎ (status ≡ 8) → IsTrue tells → IsTrue told → (state : State) → IsAt tells e state v → DoneSoFar state v w i j
+  pub so_far : (status ≡ 3) ⊎ (status ≡ 8) → IsTrue tells → IsTrue told → (state : State) → IsAt tells e state v
+      → DoneSoFar state v w i j
   pub pull : status ≡ 3 → Rose i.pull_faults j.pull_faults
   pub output : status ≡ 4 → Rose v.say_faults w.say_faults
   pub disk : status ≡ 5 → Rose v.faults w.faults
@@ -146,13 +149,13 @@ pub record OpenedRan (tells told : Bool) (e : Kept) (status : ℕ) (v w : Device
   pub pulls_most : j.pulls ≤ i.pulls + 268435457
   pub once : i.ended ≡ false → j.past_end ≡ i.past_end
 
--- What was said and what a stop leaves, over a volume that means this catalogue at the entry: with no transaction, the run is
--- there.
+-- What was said and what a stop leaves, over a volume that means this catalogue at the entry: with no transaction, the
+-- run is there.
 pub record RanFrom (cat : Catalogue) (status : ℕ) (v w : Device) (i j : Input) : Type 0 where
   pub took : Took most_script IsScriptEnd status i j
   pub fair : SaysFairly script (resting cat) (asked_of took.ended took.taken) v w
-  -- From the end of the first sync on each moment is good; before it, and in the whole call where no sync answered Ok, each is
-  -- an image of the entry with nothing said.
+  -- From the end of the first sync on each moment is good; before it, and in the whole call where no sync answered Ok,
+  -- each is an image of the entry with nothing said.
   pub moments : FirstSync v w (IsGoodRun script (resting cat) (asked_of took.ended took.taken) v.said)
   -- where nothing was pending at the entry, each moment of the call is good
   pub at_rest : NothingIsPending v → (image said : List ℕ) → w.since v.clock image said
@@ -164,9 +167,11 @@ pub record ScriptRan (tells told : Bool) (status : ℕ) (v w : Device) (i j : In
   -- what was said is replies to the script taken, and what a stop leaves agrees with them
   pub fair : IsTrue tells → IsTrue told → (cat : Catalogue) → MeansCatalogue v.held cat → RanFrom cat status v w i j
   -- at 0 the script is read to its end and every request has its reply
-  pub all : status ≡ 0 → IsTrue tells → IsTrue told → (cat : Catalogue) → MeansCatalogue v.held cat → DoneToEnd (resting cat) v w i j
+  pub all : status ≡ 0 → IsTrue tells → IsTrue told → (cat : Catalogue) → MeansCatalogue v.held cat
+      → DoneToEnd (resting cat) v w i j
   -- at 3 and 8 every item has its reply that ends within the bytes taken, up to the limit
-  pub so_far : (status ≡ 3) ⊎ (status ≡ 8) → IsTrue tells → IsTrue told → (cat : Catalogue) → MeansCatalogue v.held cat → DoneSoFar (resting cat) v w i j
+  pub so_far : (status ≡ 3) ⊎ (status ≡ 8) → IsTrue tells → IsTrue told → (cat : Catalogue) → MeansCatalogue v.held cat
+      → DoneSoFar (resting cat) v w i j
   pub pull : status ≡ 3 → Rose i.pull_faults j.pull_faults
   pub output : status ≡ 4 → Rose v.say_faults w.say_faults
   -- 8 comes exactly where a pull gave bytes past the first 268435456
@@ -176,19 +181,22 @@ pub record ScriptRan (tells told : Bool) (status : ℕ) (v w : Device) (i j : In
   pub quiet : (status ≡ 6) ⊎ (status ≡ 7) → w.said ≡ v.said
   pub unwritten : status ≡ 7 → (w.held ≡ v.held) × Within v.images w.images
   pub unread : (status ≡ 6) ⊎ (status ≡ 7) → j ≡ i
-  pub statuses : (status ≡ 0) ⊎ ((status ≡ 3) ⊎ ((status ≡ 4) ⊎ ((status ≡ 5) ⊎ ((status ≡ 6) ⊎ ((status ≡ 7) ⊎ (status ≡ 8))))))
+  pub statuses : (status ≡ 0)
+      ⊎ ((status ≡ 3) ⊎ ((status ≡ 4) ⊎ ((status ≡ 5) ⊎ ((status ≡ 6) ⊎ ((status ≡ 7) ⊎ (status ≡ 8))))))
   -- no fault is forgotten
   pub say_faults : v.say_faults ≤ w.say_faults
   pub pull_faults : i.pull_faults ≤ j.pull_faults
   -- no count rises but the one that the status names
   pub no_say_fault : status ≢ 4 → w.say_faults ≡ v.say_faults
   pub no_pull_fault : status ≢ 3 → j.pull_faults ≡ i.pull_faults
-  -- as many pulls at most as bytes were taken, and one more; of a source that tells nothing as many as the limit has, and one more
+  -- as many pulls at most as bytes were taken, and one more; of a source that tells nothing as many as the limit has,
+  -- and one more
   pub pulls : IsTrue told → j.pulls + length j.left ≤ i.pulls + length i.left + 1
   pub pulls_most : j.pulls ≤ i.pulls + 268435457
   -- of no source, told or not, is more asked once it answered its end in this run
   pub once : i.ended ≡ false → j.past_end ≡ i.past_end
-  -- a volume that means a catalogue and a source that ends within the limit: unless a count rose, the script is carried out whole,
-  -- or there was no memory to open the volume
+  -- a volume that means a catalogue and a source that ends within the limit: unless a count rose, the script is carried
+  -- out whole, or there was no memory to open the volume
   pub complete : IsTrue tells → IsTrue told → (cat : Catalogue) → MeansCatalogue v.held cat → length i.left ≤ 268435456
-      → ¬ Rose v.faults w.faults → ¬ Rose v.say_faults w.say_faults → ¬ Rose i.pull_faults j.pull_faults → (status ≡ 0) ⊎ (status ≡ 7)
+      → ¬ Rose v.faults w.faults → ¬ Rose v.say_faults w.say_faults → ¬ Rose i.pull_faults j.pull_faults → (status ≡ 0)
+      ⊎ (status ≡ 7)

@@ -7,7 +7,8 @@ use Rattle.ts_shell.specs.declared.words.Job.TheVariants.{Init, Run, Migrate, Ge
 
 -- the number that 1 to 10 digits write
 abbrev pub decimal : List ℕ → Option ℕ
-decimal text = if nat_le 1 (length text) && nat_le (length text) 10 && all_digits text then Some (number_of text) else None
+decimal text = if nat_le 1 (length text) && nat_le (length text) 10 && all_digits text then Some (number_of text)
+    else None
 
 -- a number of element pages, 1 to 65536
 abbrev pub pages_in : List ℕ → Option ℕ

@@ -1,5 +1,6 @@
 // The generated commands, carried out one after the other: all are durable before anything is said.
-ghost use Rattle.std.specs.Prelude.{◌≡◌, ◌+◌, ◌≤◌, ◌<◌, ◌^◌, ◌++◌, [], ◌∷◌, ℕ, List, if◌then◌else◌, not, IfOk, OnOk, IfErr, ◌⊎◌, IsErr, codes, decimal};
+ghost use Rattle.std.specs.Prelude.{◌≡◌, ◌+◌, ◌≤◌, ◌<◌, ◌^◌, ◌++◌, [], ◌∷◌, ℕ, List, if◌then◌else◌, not, IfOk, OnOk};
+ghost use Rattle.std.specs.Prelude.{IfErr, ◌⊎◌, IsErr, codes, decimal};
 ghost use Rattle.ts_command.specs.Form.{HasForm};
 ghost use Rattle.ts_engine.specs.Engine.{IsReady};
 ghost use Rattle.ts_engine.specs.Step.{Stepped};
@@ -18,8 +19,8 @@ use ts_disk::Site;
 use ts_engine::{Engine, StepFault};
 use ts_text::print_number;
 
-/// Commands that are carried out: the engine of the volume, the last two replies, and how many of all end with an `ok` line and how
-/// many don't.
+/// Commands that are carried out: the engine of the volume, the last two replies, and how many of all end with an `ok`
+/// line and how many don't.
 #[derive(Drop)]
 pub(crate) struct Generator {
     engine: Engine,
@@ -59,7 +60,8 @@ impl Generator {
         requires few { self.old.answered + self.old.refused < 2 ^ 31 }
         ensures stepped { Stepped S.tells command.now result self.new.reply self.old.engine self.new.engine
             (S.device site.old) (S.device site.new) }
-        ensures tally { OnOk result ((rs : List (List ℕ)) → IsTally rs self.old.before self.old.reply self.old.answered self.old.refused
+        ensures tally { OnOk result ((rs : List (List ℕ))
+            → IsTally rs self.old.before self.old.reply self.old.answered self.old.refused
             → IsTally (rs ++ self.new.reply ∷ []) self.new.before self.new.reply self.new.answered self.new.refused) }
         ensures total { OnOk result (self.new.answered + self.new.refused ≡ self.old.answered + self.old.refused + 1) }
     {
@@ -101,10 +103,12 @@ impl Generator {
         requires number { number < count + 8 }
         requires few { self.old.answered + self.old.refused < 2 ^ 31 }
         ensures next { OnOk result ((seed : ℕ) → random ≡ drawn seed (edits_before count (number + 1))
-            → IsNextStep S.tells (generated count seed) number result self.old self.new (S.device site.old) (S.device site.new)) }
+            → IsNextStep S.tells (generated count seed) number result self.old self.new (S.device site.old)
+            (S.device site.new)) }
         ensures stopped { IfErr result (λ fault. (seed : ℕ) → random ≡ drawn seed (edits_before count (number + 1))
             → IsUnmade S.tells fault (S.device site.old) (S.device site.new)
-            ⊎ IsNextStep S.tells (generated count seed) number result self.old self.new (S.device site.old) (S.device site.new)) }
+            ⊎ IsNextStep S.tells (generated count seed) number result self.old self.new (S.device site.old)
+            (S.device site.new)) }
     {
         match make_command(self.alloc, count, number, random) {
             Ok(command) => self.carry_out(rt, site, &command),
@@ -125,7 +129,8 @@ impl Generator {
         ensures behind { OnOk result
             (IsBehind S.tells (generated count seed) self.old.engine (S.device site.old) self.new (S.device site.new)) }
         ensures stopped { IsErr result
-            → RanQuietly S.tells (generated count seed) result self.old.engine self.new.engine (S.device site.old) (S.device site.new) }
+            → RanQuietly S.tells (generated count seed) result self.old.engine self.new.engine (S.device site.old)
+            (S.device site.new) }
     {
         let mut random = first_drawn(seed);
         let mut number = 0;
@@ -164,7 +169,8 @@ impl Generator {
     ) -> u8
         requires count { count ≤ 1000000 }
         requires start { IsBehind S.tells [] self.old.engine (S.device site.old) self.old (S.device site.old) }
-        ensures ran { OpenedGen S.tells (generated count seed) self.old.engine result (S.device site.old) (S.device site.new) }
+        ensures ran { OpenedGen S.tells (generated count seed) self.old.engine result (S.device site.old)
+            (S.device site.new) }
     {
         match self.carry_out_all(rt, site, count, seed) {
             Err(StepFault::Memory(_)) => 7,

@@ -3,7 +3,8 @@ ghost use Rattle.std.specs.Prelude.{◌≡◌, ◌≤◌, ◌<◌, ◌+◌, ℕ,
 ghost use Rattle.ts_base.specs.Name.{is_name, is_key};
 ghost use Rattle.ts_base.specs.Moment.{IsStamp};
 ghost use Rattle.ts_command.specs.Form.{HasForm};
-ghost use Rattle.ts_shell.specs.Generated.{beginning, ending, opening, drawn, edit, put_behind, add_up, closing, generated, edits_before, IsNext};
+ghost use Rattle.ts_shell.specs.Generated.{beginning, ending, opening, drawn, edit, put_behind, add_up, closing};
+ghost use Rattle.ts_shell.specs.Generated.{generated, edits_before, IsNext};
 
 use std::alloc::{AllocError, Global};
 use ts_base::{Bytes, Key, Name, Stamp};

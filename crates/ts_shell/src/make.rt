@@ -15,12 +15,14 @@ pub(crate) fn make<V: Volume>(vol: &mut V, pages: u32) -> Result<(), Failed>
     requires empty { (V.device vol.old).size ≡ 0 }
     requires some { 1 ≤ pages }
     requires limit { pages ≤ 65536 }
-    ensures means { OnOk result (IsTrue V.tells → MeansCatalogue (V.device vol.new).held (empty_catalogue newest_format pages)) }
+    ensures means { OnOk result (IsTrue V.tells
+        → MeansCatalogue (V.device vol.new).held (empty_catalogue newest_format pages)) }
     ensures size { OnOk result ((V.device vol.new).size ≡ 4096 * (930 + pages)) }
     ensures durable { OnOk result (Only (V.device vol.new).held (V.device vol.new).images) }
     ensures said { (V.device vol.new).said ≡ (V.device vol.old).said }
     // Where a sync answered Ok, two calls had answered Ok by then.
-    ensures moments { IsTrue V.tells → (V.device vol.old).syncs < (V.device vol.new).syncs → EmptyFrom pages ((V.device vol.old).clock + 2) (V.device vol.old) (V.device vol.new) }
+    ensures moments { IsTrue V.tells → (V.device vol.old).syncs < (V.device vol.new).syncs
+        → EmptyFrom pages ((V.device vol.old).clock + 2) (V.device vol.old) (V.device vol.new) }
     ensures no_fault { OnOk result ((V.device vol.new).faults ≡ (V.device vol.old).faults) }
     ensures say_faults { (V.device vol.new).say_faults ≡ (V.device vol.old).say_faults }
     ensures cause { IsErr result → Rose (V.device vol.old).faults (V.device vol.new).faults }

@@ -15,8 +15,8 @@ pub(crate) const PIECE: usize = 65536;
 /// The most bytes of a script.
 const LIMIT: usize = 268_435_456;
 
-// How many bytes are pulled next, where so many were: no piece goes past the limit, but for the one byte that shows that the
-// script does.
+// How many bytes are pulled next, where so many were: no piece goes past the limit, but for the one byte that shows
+// that the script does.
 fn room_after(count: usize) -> usize
     requires { count ≤ 268435456 }
     ensures some { 0 < result }
@@ -75,7 +75,8 @@ pub(crate) fn run_script<S: Site, R: Source>(
     requires ready { IsReady S.tells session.old.engine (S.device site.old) }
     requires start { session.old.reader.place ≡ Some [] }
     requires piece { length buffer.old ≡ 65536 }
-    ensures ran { OpenedRan S.tells R.tells session.old.engine result (S.device site.old) (S.device site.new) (R.input source.old) (R.input source.new) }
+    ensures ran { OpenedRan S.tells R.tells session.old.engine result (S.device site.old) (S.device site.new)
+        (R.input source.old) (R.input source.new) }
 {
     let mut count = 0;
     loop {

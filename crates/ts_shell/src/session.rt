@@ -1,4 +1,5 @@
-// Items carried out one after the other: each reply is said once its command is durable, and before the next item begins.
+// Items carried out one after the other: each reply is said once its command is durable, and before the next item
+// begins.
 ghost use Rattle.std.specs.Prelude.{◌≡◌, ◌≤◌, ◌<◌, [], ◌∷◌, Ok, Err, Some, IsErr, IfOk, OnOk, length, take};
 ghost use Rattle.ts_disk.specs.Device.{Says};
 ghost use Rattle.ts_items.specs.Items.{place_from};
@@ -114,7 +115,8 @@ impl Session {
         requires ready { IsReady S.tells self.old.engine (S.device site.old) }
         ensures within { IfOk result (λ n. n ≤ length bytes.now) }
         ensures some { IfOk result (λ n. 0 < length bytes.now → 0 < n) }
-        ensures ran { IfOk result (λ n. Ran (by_engine S.tells) script (requests_from self.old.reader.place (take n bytes.now))
+        ensures ran { IfOk result
+            (λ n. Ran (by_engine S.tells) script (requests_from self.old.reader.place (take n bytes.now))
             result self.old.engine self.new.engine (S.device site.old) (S.device site.new)) }
         ensures place { IfOk result (λ n. self.new.reader.place ≡ place_from self.old.reader.place (take n bytes.now)) }
         ensures fault { IsErr result → Ran (by_engine S.tells) script (requests_from self.old.reader.place bytes.now)

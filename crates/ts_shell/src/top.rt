@@ -23,9 +23,9 @@ use ts_engine::Engine;
 
 /// Does what the words ask for, and answers with the program's status.
 ///
-/// `init PAGES` makes an empty store in the newest format, `run` carries out the script of the source, one reply per item,
-/// `migrate` brings a store to the newest format and leaves all that it holds, and `gen COUNT SEED` carries out a list of commands
-/// that a seed gives, with so many edits, and says what they come to. The status:
+/// `init PAGES` makes an empty store in the newest format, `run` carries out the script of the source, one reply per
+/// item, `migrate` brings a store to the newest format and leaves all that it holds, and `gen COUNT SEED` carries out a
+/// list of commands that a seed gives, with so many edits, and says what they come to. The status:
 ///
 /// - 0: the work was done; `run` has read the source to its end.
 /// - 2: exactly where the words are none of these forms. Nothing was done.
@@ -50,10 +50,15 @@ pub fn run_ts<S: Site, R: Source>(
     ensures usage { (result ≡ 2) ↔ (job_of (map (λ w. string_bytes w) words.now) ≡ None) }
     ensures refused { result ≡ 2 → Untouched (S.device site.old) (S.device site.new) }
     // Only `run` reads the script.
-    ensures no_pull { job_of (map (λ w. string_bytes w) words.now) ≢ Some Run → R.input source.new ≡ R.input source.old }
-    ensures init { (pages : ℕ) → job_of (map (λ w. string_bytes w) words.now) ≡ Some (Init pages) → Made S.tells pages result (S.device site.old) (S.device site.new) }
-    ensures run { job_of (map (λ w. string_bytes w) words.now) ≡ Some Run → ScriptRan S.tells R.tells result (S.device site.old) (S.device site.new) (R.input source.old) (R.input source.new) }
-    ensures migrate { job_of (map (λ w. string_bytes w) words.now) ≡ Some Migrate → MigrateRan S.tells result (S.device site.old) (S.device site.new) }
+    ensures no_pull { job_of (map (λ w. string_bytes w) words.now) ≢ Some Run → R.input source.new
+        ≡ R.input source.old }
+    ensures init { (pages : ℕ) → job_of (map (λ w. string_bytes w) words.now) ≡ Some (Init pages)
+        → Made S.tells pages result (S.device site.old) (S.device site.new) }
+    ensures run { job_of (map (λ w. string_bytes w) words.now) ≡ Some Run
+        → ScriptRan S.tells R.tells result (S.device site.old) (S.device site.new) (R.input source.old)
+        (R.input source.new) }
+    ensures migrate { job_of (map (λ w. string_bytes w) words.now) ≡ Some Migrate
+        → MigrateRan S.tells result (S.device site.old) (S.device site.new) }
     ensures generated { (count seed : ℕ) → job_of (map (λ w. string_bytes w) words.now) ≡ Some (Gen count seed)
         → GenRan S.tells count seed result (S.device site.old) (S.device site.new) }
 {
@@ -88,7 +93,8 @@ fn run<S: Site, R: Source>(
     site: &mut S,
     source: &mut R,
 ) -> u8
-    ensures ran { ScriptRan S.tells R.tells result (S.device site.old) (S.device site.new) (R.input source.old) (R.input source.new) }
+    ensures ran { ScriptRan S.tells R.tells result (S.device site.old) (S.device site.new) (R.input source.old)
+        (R.input source.new) }
 {
     match Buffers::new(alloc) {
         Ok(buffers) => run_with(rt, alloc, site, source, buffers),
@@ -105,7 +111,8 @@ fn run_with<S: Site, R: Source>(
     buffers: Buffers,
 ) -> u8
     requires start { buffers.reader ≡ start }
-    ensures ran { ScriptRan S.tells R.tells result (S.device site.old) (S.device site.new) (R.input source.old) (R.input source.new) }
+    ensures ran { ScriptRan S.tells R.tells result (S.device site.old) (S.device site.new) (R.input source.old)
+        (R.input source.new) }
 {
     let Buffers {
         reader,

@@ -13,19 +13,25 @@ use Rattle.ts_layout.specs.Changed.{with_slot_bytes}
 
 -- A slot is written: the other bytes of its page stay, and all other pages, so the pages that held some definitions
 -- hold them with this slot changed.
-pub record SlotWritten (tells : Bool) (kind : Kind) (slot : ℕ) (def : Option Def) (result : Result Unit StoreFault) (v w : Contents) : Type 0 where
+pub record SlotWritten (tells : Bool) (kind : Kind) (slot : ℕ) (def : Option Def) (result : Result Unit StoreFault)
+    (v w : Contents) : Type 0 where
   pub count : w.count ≡ v.count
   pub faults : v.faults ≤ w.faults
   pub free : w.free ≡ v.free
   pub cause : IsErrOf result StoreFailed → Rose v.faults w.faults
-  pub written : OnOk result (IsTrue tells → EqualPages (with_page (page_of_slot kind slot) (with_slot_bytes kind slot def (v.page (page_of_slot kind slot))) v.page) w.page)
-  pub definitions : OnOk result (IsTrue tells → (d : Definitions) → IsDefinitions d → HoldsDefinitions v.page d → HoldsDefinitions w.page (with_slot kind slot def d))
+  pub written : OnOk result (IsTrue tells
+      → EqualPages
+      (with_page (page_of_slot kind slot)
+      (with_slot_bytes kind slot def (v.page (page_of_slot kind slot))) v.page) w.page)
+  pub definitions : OnOk result (IsTrue tells → (d : Definitions) → IsDefinitions d → HoldsDefinitions v.page d
+      → HoldsDefinitions w.page (with_slot kind slot def d))
   pub pages_stay : OnErr result (IsTrue tells → EqualPages v.page w.page)
   -- any answer but the store's failure leaves the count
   pub no_fault : ¬ IsErrOf result StoreFailed → w.faults ≡ v.faults
 
 -- The header is written: all other pages stay.
-pub record HeaderWritten (tells : Bool) (format element_pages : ℕ) (result : Result Unit StoreFault) (v w : Contents) : Type 0 where
+pub record HeaderWritten (tells : Bool) (format element_pages : ℕ) (result : Result Unit StoreFault)
+    (v w : Contents) : Type 0 where
   pub count : w.count ≡ v.count
   pub faults : v.faults ≤ w.faults
   pub free : w.free ≡ v.free

@@ -1,4 +1,5 @@
--- What is written in a slot: a definition, or a calendar as its slot has it, which has the runs of its pattern only where this is its own.
+-- What is written in a slot: a definition, or a calendar as its slot has it, which has the runs of its pattern only
+-- where this is its own.
 use Rattle.std.specs.Prelude.{◌≡◌, ℕ, ℤ, Option, Some, None, List, [], ◌∷◌, ◌++◌}
 use Rattle.ts_pattern.specs.Plan.{Plan}
 use Rattle.ts_cells.specs.Cell.{stamp_bytes}
@@ -26,7 +27,13 @@ part_on_page p None = Own p
 
 -- a calendar as its page has it
 abbrev pub form_of : CalendarDef → CalendarForm
-form_of c = record { name = c.name; start = c.calendar.start; patt_start = c.calendar.patt_start; part = part_on_page c.calendar.pattern c.by }
+form_of c = record {
+  name = c.name;
+  start = c.calendar.start;
+  patt_start = c.calendar.patt_start;
+  part =
+      part_on_page c.calendar.pattern c.by;
+}
 
 -- the bytes of that: 0 and the slot, or 1, 0 and the pattern
 abbrev pub said_bytes : Part → List ℕ

@@ -1,4 +1,5 @@
-// The slot of a calendar: a whole page. It is judged by itself first, since the calendar may lack its pattern or break a rule.
+// The slot of a calendar: a whole page. It is judged by itself first, since the calendar may lack its pattern or break
+// a rule.
 ghost use Rattle.std.specs.Prelude.{◌≡◌, ◌↔◌, ◌++◌, ℕ, ℤ, Option, Some, IsTrue, IfOk, length};
 ghost use Rattle.ts_page.specs.Volume.{page_size};
 ghost use Rattle.ts_base.specs.Moment.{IsStamp};
@@ -36,7 +37,8 @@ pub struct CalendarForm {
     pub part: Part,
 }
 
-/// Writes a calendar over its page; where it was made by a pattern's name, the slot of that pattern stands for its runs.
+/// Writes a calendar over its page; where it was made by a pattern's name, the slot of that pattern stands for its
+/// runs.
 pub(crate) fn write_calendar(name: &Name, calendar: &Calendar, by: Option<u8>, page: &mut [u8])
     requires { length page.old ≡ page_size }
     ensures { page.new ≡ calendar_bytes name.now calendar.now by }
@@ -132,7 +134,8 @@ fn write_own(pattern: &Pattern, into: &mut [u8])
 /// The one form whose page this may be.
 pub(crate) fn parse_calendar(alloc: Global, page: &[u8]) -> Result<Option<CalendarForm>, AllocError>
     requires { length page.now ≡ page_size }
-    ensures { IfOk result (λ found. (c : CalendarDef) → IsCalendarDef c → page.now ≡ calendar_bytes c.name c.calendar c.by
+    ensures { IfOk result (λ found. (c : CalendarDef) → IsCalendarDef c
+        → page.now ≡ calendar_bytes c.name c.calendar c.by
         → found ≡ Some (form_of c)) }
 {
     let Some(name) = read_name(alloc, &page[1..34])? else {
@@ -168,7 +171,8 @@ pub(crate) fn parse_stamp(bytes: &[u8]) -> Option<Stamp>
 // The one part whose bytes these may be.
 fn parse_part(alloc: Global, bytes: &[u8]) -> Result<Option<Part>, AllocError>
     requires { length bytes.now ≡ 4046 }
-    ensures { IfOk result (λ found. (p : plan.Plan) (by : Option ℕ) → IsTrue (is_pattern p.runs) → bytes.now ≡ padded 4046 (part_bytes p by)
+    ensures { IfOk result (λ found. (p : plan.Plan) (by : Option ℕ) → IsTrue (is_pattern p.runs)
+        → bytes.now ≡ padded 4046 (part_bytes p by)
         → found ≡ Some (part_on_page p by)) }
 {
     if bytes[0] == 0 {

@@ -47,7 +47,8 @@ fn write_numbers(row_type: u8, quota: u32, into: &mut [u8])
 /// The one container whose 60 bytes these may be, in every format.
 pub(crate) fn parse_container(alloc: Global, slot: &[u8]) -> Result<Option<Def>, AllocError>
     requires { length slot.now ≡ 60 }
-    ensures rules { IfOk result (λ found. IfSome found (λ def. (kind_of def ≡ Kind.Container) × ((format : ℕ) → IsDef format def))) }
+    ensures rules { IfOk result (λ found. IfSome found (λ def. (kind_of def ≡ Kind.Container)
+        × ((format : ℕ) → IsDef format def))) }
     ensures found { IfOk result (λ found. (format : ℕ) (def : Def) → kind_of def ≡ Kind.Container → IsDef format def →
         slot.now ≡ def_bytes def → found ≡ Some def) }
 {
@@ -69,7 +70,8 @@ pub(crate) fn parse_container(alloc: Global, slot: &[u8]) -> Result<Option<Def>,
 // The quota in a slot.
 fn quota_in(slot: &[u8]) -> u32
     requires { length slot.now ≡ 60 }
-    ensures { (name : List ℕ) (row_type quota : ℕ) → length name ≤ 32 → quota < 2 ^ 32 → slot.now ≡ container_bytes name row_type quota → result ≡ quota }
+    ensures { (name : List ℕ) (row_type quota : ℕ) → length name ≤ 32 → quota < 2 ^ 32
+        → slot.now ≡ container_bytes name row_type quota → result ≡ quota }
 {
     u32::from_be_bytes([slot[35], slot[36], slot[37], slot[38]])
 }

@@ -23,7 +23,8 @@ pub fn write_header(format: u8, element_pages: u32, page: &mut Page)
 /// The format that a page tells, if it is the header of a volume with so many element pages.
 pub fn format_of(element_pages: u32, page: &Page) -> Option<u8>
     ensures found { IfSome result (λ format. IsFormat format × (page.now.bytes ≡ header_bytes format element_pages)) }
-    ensures none { IfNone result ((format : ℕ) → IsFormat format → page.now.bytes ≡ header_bytes format element_pages → ⊥) }
+    ensures none { IfNone result ((format : ℕ) → IsFormat format → page.now.bytes ≡ header_bytes format element_pages
+        → ⊥) }
 {
     if is_header(FORMAT, element_pages, page) {
         return Some(FORMAT);

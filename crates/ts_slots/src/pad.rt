@@ -30,7 +30,8 @@ pub(crate) fn write_name(name: &Name, into: &mut [u8])
 /// The one name whose 33 bytes these may be.
 pub(crate) fn read_name(alloc: Global, bytes: &[u8]) -> Result<Option<Name>, AllocError>
     requires { length bytes.now ≡ 33 }
-    ensures { IfOk result (λ found. (name : List ℕ) → IsTrue (is_name name) → bytes.now ≡ name_bytes name → found ≡ Some name) }
+    ensures { IfOk result (λ found. (name : List ℕ) → IsTrue (is_name name) → bytes.now ≡ name_bytes name
+        → found ≡ Some name) }
 {
     let length = bytes[0] as usize;
     if length > 32 {

@@ -34,7 +34,8 @@ fn write_named(name: &Name, pattern: &Pattern, into: &mut [u8])
 /// The one pattern whose page this may be, in every format.
 pub(crate) fn parse_pattern(alloc: Global, page: &[u8]) -> Result<Option<Def>, AllocError>
     requires { length page.now ≡ page_size }
-    ensures rules { IfOk result (λ found. IfSome found (λ def. (kind_of def ≡ Kind.Pattern) × ((format : ℕ) → IsDef format def))) }
+    ensures rules { IfOk result (λ found. IfSome found (λ def. (kind_of def ≡ Kind.Pattern)
+        × ((format : ℕ) → IsDef format def))) }
     ensures found { IfOk result (λ found. (format : ℕ) (def : Def) → kind_of def ≡ Kind.Pattern → IsDef format def →
         page.now ≡ def_bytes def → found ≡ Some def) }
 {

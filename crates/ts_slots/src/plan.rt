@@ -81,7 +81,8 @@ fn unit_code(unit: Unit) -> u8
 /// The one pattern with whose bytes these may begin.
 pub(crate) fn parse_plan(alloc: Global, bytes: &[u8]) -> Result<Option<Pattern>, AllocError>
     requires { 3 + 4 * 512 ≤ length bytes.now }
-    ensures { IfOk result (λ found. (p : plan.Plan) (rest : List ℕ) → IsTrue (is_pattern p.runs) → bytes.now ≡ plan_bytes p ++ rest
+    ensures { IfOk result (λ found. (p : plan.Plan) (rest : List ℕ) → IsTrue (is_pattern p.runs)
+        → bytes.now ≡ plan_bytes p ++ rest
         → found ≡ Some p) }
 {
     let Some(unit) = unit_of(bytes[0]) else {

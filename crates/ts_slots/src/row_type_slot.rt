@@ -1,5 +1,6 @@
 // The slot of a row type: a whole page.
-ghost use Rattle.std.specs.Prelude.{◌≡◌, ◌*◌, ◌≤◌, ◌∷◌, ◌++◌, [], ℕ, List, Some, true, IsTrue, IfOk, OnOk, IfSome, length};
+ghost use Rattle.std.specs.Prelude.{◌≡◌, ◌*◌, ◌≤◌, ◌∷◌, ◌++◌, [], ℕ, List, Some, true, IsTrue, IfOk, OnOk, IfSome};
+ghost use Rattle.std.specs.Prelude.{length};
 ghost use Rattle.ts_page.specs.Volume.{page_size};
 ghost use Rattle.std.specs.List.{list_all};
 ghost use Rattle.ts_row.specs.RowType.{is_kind};
@@ -8,7 +9,8 @@ ghost use Rattle.ts_row.specs.declared.kind.ColumnKind.{ColumnKind};
 ghost use Rattle.ts_row.specs.declared.kind.Column.{Column};
 ghost use Rattle.ts_model.specs.declared.def.Def.{Def};
 ghost use Rattle.ts_model.specs.Definitions.{kind_of};
-ghost use Rattle.ts_layout.specs.Slot.{padded, name_bytes, kind_bytes, column_bytes, columns_bytes, row_type_bytes, def_bytes};
+ghost use Rattle.ts_layout.specs.Slot.{padded, name_bytes, kind_bytes, column_bytes, columns_bytes, row_type_bytes};
+ghost use Rattle.ts_layout.specs.Slot.{def_bytes};
 ghost use Rattle.ts_layout.specs.Limits.{IsDef};
 
 use crate::format::is_of_format;
@@ -108,7 +110,8 @@ pub(crate) fn parse_row_type(
 ) -> Result<Option<Def>, AllocError>
     requires { length page.now ≡ page_size }
     ensures rules { IfOk result (λ found. IfSome found (λ def. (kind_of def ≡ Kind.RowType) × IsDef format def)) }
-    ensures found { IfOk result (λ found. (def : Def) → kind_of def ≡ Kind.RowType → IsDef format def → page.now ≡ def_bytes def
+    ensures found { IfOk result (λ found. (def : Def) → kind_of def ≡ Kind.RowType → IsDef format def
+        → page.now ≡ def_bytes def
         → found ≡ Some def) }
 {
     let count = page[67] as usize;
@@ -166,7 +169,8 @@ fn parse_columns(
 fn parse_column(alloc: Global, bytes: &[u8]) -> Result<Option<Column>, AllocError>
     requires { length bytes.now ≡ 36 }
     ensures name { IfOk result (λ found. IfSome found (λ c. IsTrue (is_name c.name))) }
-    ensures found { IfOk result (λ found. (c : Column) → IsTrue (is_name c.name) → bytes.now ≡ column_bytes c → found ≡ Some c) }
+    ensures found { IfOk result (λ found. (c : Column) → IsTrue (is_name c.name) → bytes.now ≡ column_bytes c
+        → found ≡ Some c) }
 {
     let Some(kind) = parse_kind(bytes[0], bytes[1], bytes[2]) else {
         return Ok(None);

@@ -82,7 +82,8 @@ fn write_regular(regular: &Option<(u8, Stamp)>, into: &mut [u8])
 /// The one series whose 94 bytes these may be, in every format.
 pub(crate) fn parse_series(alloc: Global, slot: &[u8]) -> Result<Option<Def>, AllocError>
     requires { length slot.now ≡ 94 }
-    ensures rules { IfOk result (λ found. IfSome found (λ def. (kind_of def ≡ Kind.Series) × ((format : ℕ) → IsDef format def))) }
+    ensures rules { IfOk result (λ found. IfSome found (λ def. (kind_of def ≡ Kind.Series)
+        × ((format : ℕ) → IsDef format def))) }
     ensures found { IfOk result (λ found. (format : ℕ) (def : Def) → kind_of def ≡ Kind.Series → IsDef format def →
         slot.now ≡ def_bytes def → found ≡ Some def) }
 {
@@ -104,11 +105,13 @@ pub(crate) fn parse_series(alloc: Global, slot: &[u8]) -> Result<Option<Def>, Al
     }))
 }
 
-// The one calendar's slot and origin that a series with these bytes may have, if it is regular and its origin is a stamp.
+// The one calendar's slot and origin that a series with these bytes may have, if it is regular and its origin is a
+// stamp.
 fn parse_regular(slot: &[u8]) -> Option<Option<(u8, Stamp)>>
     requires { length slot.now ≡ 94 }
     ensures rules { IfSome result (λ regular. IfSome regular IsRegularPart) }
-    ensures found { (key : List ℕ) (container : ℕ) (regular : Option (ℕ × ℤ)) → length key ≤ 64 → IfSome regular IsRegularPart →
+    ensures found { (key : List ℕ) (container : ℕ) (regular : Option (ℕ × ℤ)) → length key ≤ 64
+        → IfSome regular IsRegularPart →
         slot.now ≡ series_bytes key container regular → result ≡ Some regular }
 {
     if slot[0] != REGULAR {

@@ -77,7 +77,8 @@ pub fn read_slot(alloc: Global, format: u8, kind: Kind, bytes: &[u8]) -> Result<
 fn parse(alloc: Global, format: u8, kind: Kind, bytes: &[u8]) -> Result<Option<Written>, AllocError>
     requires { length bytes.now ≡ slot_size kind }
     ensures rules { IfOk result (λ found. IfSome found (λ w. (kind_written w ≡ kind) × IsWritten format w)) }
-    ensures found { IfOk result (λ found. (def : Def) → kind_of def ≡ kind → IsDef format def → bytes.now ≡ def_bytes def
+    ensures found { IfOk result (λ found. (def : Def) → kind_of def ≡ kind → IsDef format def
+        → bytes.now ≡ def_bytes def
         → found ≡ Some (written_of def)) }
 {
     let def = match kind {
@@ -93,8 +94,10 @@ fn parse(alloc: Global, format: u8, kind: Kind, bytes: &[u8]) -> Result<Option<W
 // The same of a calendar.
 fn parse_form(alloc: Global, bytes: &[u8]) -> Result<Option<Written>, AllocError>
     requires { length bytes.now ≡ slot_size Kind.Calendar }
-    ensures rules { IfOk result (λ found. IfSome found (λ w. (kind_written w ≡ Kind.Calendar) × ((format : ℕ) → IsWritten format w))) }
-    ensures found { IfOk result (λ found. (format : ℕ) (def : Def) → kind_of def ≡ Kind.Calendar → IsDef format def → bytes.now ≡ def_bytes def
+    ensures rules { IfOk result (λ found. IfSome found (λ w. (kind_written w ≡ Kind.Calendar)
+        × ((format : ℕ) → IsWritten format w))) }
+    ensures found { IfOk result (λ found. (format : ℕ) (def : Def) → kind_of def ≡ Kind.Calendar → IsDef format def
+        → bytes.now ≡ def_bytes def
         → found ≡ Some (written_of def)) }
 {
     match parse_calendar(alloc, bytes)? {

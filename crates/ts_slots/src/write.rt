@@ -14,7 +14,8 @@ use ts_layout::{byte_of_slot, page_of_slot, slot_size};
 use ts_model::{Def, Kind};
 use ts_page::{Page, Pages};
 
-/// Writes a definition over its slot, or zeros. Every other slot and every other page stays; after an error all pages stay.
+/// Writes a definition over its slot, or zeros. Every other slot and every other page stays; after an error all pages
+/// stay.
 pub fn write_slot<P: Pages>(
     alloc: Global,
     pages: &mut P,
@@ -25,7 +26,8 @@ pub fn write_slot<P: Pages>(
     requires slot { slot < limit kind }
     requires kind { IfSome (option_copied def) (λ d. kind_of d ≡ kind) }
     requires within { first_element_page ≤ (P.contents pages.old).count }
-    ensures written { SlotWritten P.tells kind slot (option_copied def.entry) result (P.contents pages.old) (P.contents pages.new) }
+    ensures written { SlotWritten P.tells kind slot (option_copied def.entry) result (P.contents pages.old)
+        (P.contents pages.new) }
     ensures bytes { (P.contents pages.new).change_bytes ≤ (P.contents pages.old).change_bytes + image_entry_size }
     ensures undisturbed { P.undisturbed pages.old pages.new }
 {
@@ -36,8 +38,8 @@ pub fn write_slot<P: Pages>(
     pages.put(number, &page)
 }
 
-/// Writes the header of a volume with so many element pages, in a format. Every other page stays; after an error all pages
-/// stay.
+/// Writes the header of a volume with so many element pages, in a format. Every other page stays; after an error all
+/// pages stay.
 pub fn put_header<P: Pages>(pages: &mut P, format: u8, element_pages: u32) -> Result<(), StoreFault>
     requires { 0 < (P.contents pages.old).count }
     ensures written { HeaderWritten P.tells format element_pages result (P.contents pages.old) (P.contents pages.new) }

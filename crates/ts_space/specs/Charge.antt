@@ -14,8 +14,8 @@ distinct_count (x ∷ xs) = (if list_any (λ y. y == x) xs then 0 else 1) + dist
 abbrev pub regular_charge : ℕ → List ℕ → ℕ
 regular_charge r offsets = distinct_count (map (λ offset. offset / r) offsets)
 
--- of an irregular series of n elements, where a page holds q: as many pages as could be needed if each two neighbours hold
--- more than q together
+-- of an irregular series of n elements, where a page holds q: as many pages as could be needed if each two neighbours
+-- hold more than q together
 abbrev pub irregular_charge : ℕ → ℕ → ℕ
 irregular_charge q n = if n == 0 then 0 else 2 * div_ceil n q - 1
 

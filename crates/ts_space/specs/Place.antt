@@ -1,5 +1,6 @@
 -- The places of one series: the pages that hold its elements, rising in where they begin.
-use Rattle.std.specs.Prelude.{ℕ, suc, ◌%◌, ◌^◌, ℤ, ◌<ℤ◌, Bool, not, int_lt, Option, is_some, Result, Ok, Err, if◌then◌else◌, List, [], ◌∷◌, ◌++◌, filter, find, length, map, sum_by}
+use Rattle.std.specs.Prelude.{ℕ, suc, ◌%◌, ◌^◌, ℤ, ◌<ℤ◌, Bool, not, int_lt, Option, is_some, Result, Ok, Err}
+use Rattle.std.specs.Prelude.{if◌then◌else◌, List, [], ◌∷◌, ◌++◌, filter, find, length, map, sum_by}
 use Rattle.std.specs.Ordering.{int_eq}
 use Rattle.ts_space.specs.declared.place.Place.{Place}
 
@@ -63,8 +64,8 @@ kept_count places = count_of places % 2 ^ 64
 abbrev pub pages_of : List Place → List ℕ
 pages_of places = map (λ place. place.page) places
 
--- the place of a page with these elements, each a stamp and something more: its first stamp, its number and how many it has;
--- none where it has none
+-- the place of a page with these elements, each a stamp and something more: its first stamp, its number and how many it
+-- has; none where it has none
 abbrev pub place_of : {A : Type 0} → ℕ → List (ℤ × A) → List Place
 place_of number [] = []
 place_of number (e ∷ es) = record { at = e.0; page = number; count = length (e ∷ es) } ∷ []

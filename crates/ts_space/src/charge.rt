@@ -21,8 +21,8 @@ pub fn charge_regular(offsets: &[u64], r: u64) -> u64
     charge
 }
 
-/// The charge of an irregular series of `n` elements, of which a page holds at most `q`: nothing for none, else one less
-/// than twice as many pages as would do.
+/// The charge of an irregular series of `n` elements, of which a page holds at most `q`: nothing for none, else one
+/// less than twice as many pages as would do.
 pub fn charge_irregular(n: u64, q: u64) -> u64
     requires elements { n ≤ 2 ^ 62 }
     requires page { 0 < q }

@@ -7,18 +7,21 @@ ghost use Rattle.ts_space.specs.Charge.{irregular_charge, irregular_places_charg
 
 /// A place that is put is found where it begins, and every other one is as it was.
 pub fn a_put_changes_one_place()
-    ensures own { (places : List ThePlace) (place : ThePlace) → IsRising places → place_at place.at (put_place place places) ≡ Some place }
+    ensures own { (places : List ThePlace) (place : ThePlace) → IsRising places
+        → place_at place.at (put_place place places) ≡ Some place }
     ensures others { (places : List ThePlace) (place : ThePlace) (at : ℤ) → IsRising places → at ≢ place.at →
         place_at at (put_place place places) ≡ place_at at places }
     ensures rising { (places : List ThePlace) (place : ThePlace) → IsRising places → IsRising (put_place place places) }
     ensures count { (places : List ThePlace) (place : ThePlace) → IsRising places →
-        count_of (put_place place places) + option_map_or (λ old. old.count) (place_at place.at places) 0 ≡ count_of places + place.count }
+        count_of (put_place place places) + option_map_or (λ old. old.count) (place_at place.at places) 0
+        ≡ count_of places + place.count }
 {}
 
 /// A place that is dropped is gone, and every other one is as it was.
 pub fn a_drop_takes_out_one_place()
     ensures own { (places : List ThePlace) (at : ℤ) → place_at at (drop_place at places) ≡ None }
-    ensures others { (places : List ThePlace) (at other : ℤ) → other ≢ at → place_at other (drop_place at places) ≡ place_at other places }
+    ensures others { (places : List ThePlace) (at other : ℤ) → other ≢ at → place_at other (drop_place at places)
+        ≡ place_at other places }
     ensures rising { (places : List ThePlace) (at : ℤ) → IsRising places → IsRising (drop_place at places) }
     ensures count { (places : List ThePlace) (at : ℤ) → IsRising places →
         count_of (drop_place at places) + option_map_or (λ old. old.count) (place_at at places) 0 ≡ count_of places }
@@ -26,7 +29,8 @@ pub fn a_drop_takes_out_one_place()
 
 /// Before and after the place that is put or dropped the list is as it was.
 pub fn places_are_edited_where_they_stand()
-    ensures replaced { (front : List ThePlace) (old place : ThePlace) (back : List ThePlace) → IsRising (front ++ old ∷ back) → old.at ≡ place.at →
+    ensures replaced { (front : List ThePlace) (old place : ThePlace) (back : List ThePlace)
+        → IsRising (front ++ old ∷ back) → old.at ≡ place.at →
         put_place place (front ++ old ∷ back) ≡ front ++ place ∷ back }
     ensures between { (front : List ThePlace) (place : ThePlace) (back : List ThePlace) → IsRising (front ++ back) →
         AreBelow place.at front → AreAbove place.at back → put_place place (front ++ back) ≡ front ++ place ∷ back }

@@ -73,7 +73,8 @@ fn replace(list: &mut Vec<Place>, start: usize, end: usize, come: Come)
     }
 }
 
-// Puts a place over the first of those from one index to another, or between where there are none. Gives where they end then.
+// Puts a place over the first of those from one index to another, or between where there are none. Gives where they end
+// then.
 fn put_over(list: &mut Vec<Place>, start: usize, end: usize, place: Place) -> usize
     requires order { start ≤ end }
     requires within { end ≤ vec_len list.old }

@@ -1,6 +1,8 @@
 // The places of one series.
-ghost use Rattle.std.specs.Prelude.{◌≡◌, ℕ, ◌+◌, ◌%◌, ◌^◌, ◌<◌, ◌≤◌, None, IfOk, IfErr, length, slice_get, vec_len, vec_capacity};
-ghost use Rattle.ts_space.specs.Place.{IsRising, place_at, rank_of, search_of, put_place, drop_place, count_of, kept_count};
+ghost use Rattle.std.specs.Prelude.{◌≡◌, ℕ, ◌+◌, ◌%◌, ◌^◌, ◌<◌, ◌≤◌, None, IfOk, IfErr, length, slice_get, vec_len};
+ghost use Rattle.std.specs.Prelude.{vec_capacity};
+ghost use Rattle.ts_space.specs.Place.{IsRising, place_at, rank_of, search_of, put_place, drop_place, count_of};
+ghost use Rattle.ts_space.specs.Place.{kept_count};
 
 /// A page of a series.
 #[derive(Clone, Copy, Debug, PartialEq, Eq)]
@@ -66,7 +68,8 @@ pub(crate) fn counted(places: &[Place]) -> u64
     count
 }
 
-// Puts a place, in place of one that begins there. Takes how many elements there are, and gives how many there are then.
+// Puts a place, in place of one that begins there. Takes how many elements there are, and gives how many there are
+// then.
 pub(crate) fn put(list: &mut Vec<Place>, place: Place, count: u64) -> u64
     requires rising { IsRising list.old.items }
     requires room { place_at place.at list.old.items ≡ None → vec_len list.old < vec_capacity list.old }
@@ -109,7 +112,8 @@ pub(crate) fn drop_at(list: &mut Vec<Place>, at: i64, count: u64) -> u64
 
 // A counter once some elements went and others came.
 pub(crate) fn exchanged(count: u64, gone: u64, come: u64) -> u64
-    ensures { (old new went came : ℕ) → new + went ≡ old + came → count ≡ old % 2 ^ 64 → gone ≡ went % 2 ^ 64 → come ≡ came % 2 ^ 64
+    ensures { (old new went came : ℕ) → new + went ≡ old + came → count ≡ old % 2 ^ 64 → gone ≡ went % 2 ^ 64
+        → come ≡ came % 2 ^ 64
         → result ≡ new % 2 ^ 64 }
 {
     count.wrapping_sub(gone).wrapping_add(come)

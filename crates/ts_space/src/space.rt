@@ -1,5 +1,6 @@
 // The directory.
-ghost use Rattle.std.specs.Prelude.{◌≡◌, ◌+◌, ◌-◌, ◌^◌, ◌<◌, ◌≤◌, [], None, length, replicate, IfOk, OnOk, OnErr, vec_len, vec_capacity};
+ghost use Rattle.std.specs.Prelude.{◌≡◌, ◌+◌, ◌-◌, ◌^◌, ◌<◌, ◌≤◌, [], None, length, replicate, IfOk, OnOk, OnErr};
+ghost use Rattle.std.specs.Prelude.{vec_len, vec_capacity};
 ghost use Rattle.ts_space.specs.Place.{IsRising, place_at, put_place, drop_place, count_of};
 ghost use Rattle.ts_space.specs.Moved.{moved_to};
 ghost use Rattle.ts_space.specs.Directory.{Directory, places_of, spare_of, capacity_of, used_of, ChangesOnly};
@@ -29,7 +30,11 @@ impl Model for Space {
 
     ghost Value = { Directory };
 
-    ghost view = { λ s. record { lists = map (λ list. list.items) s.lists.items; spares = map (λ list. vec_capacity list - vec_len list) s.lists.items } };
+    ghost view = { λ s. record {
+      lists = map (λ list. list.items) s.lists.items;
+      spares =
+          map (λ list. vec_capacity list - vec_len list) s.lists.items;
+    } };
 
     ghost invariant = { λ s. IsDirectory (map (λ list. list.items) s.lists.items) s.counts.items s.used };
 }

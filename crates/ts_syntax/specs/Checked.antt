@@ -10,7 +10,8 @@ use Rattle.ts_syntax.specs.Lines.{SaysAll, SaysFirst}
 abbrev pub IsWhole : ℕ → Type 0
 IsWhole status = (status ≡ 0) ⊎ (status ≡ 1)
 
--- What a check does, by its status. `tells` and `told` say whether the output tells what was said, and the source what is left.
+-- What a check does, by its status. `tells` and `told` say whether the output tells what was said, and the source what
+-- is left.
 pub record Checked (tells told : Bool) (status : ℕ) (v w : Heard) (i j : Input) : Type 0 where
   -- at 0 and 1 exactly the mistakes of the script are told, each by a line
   pub all : IsWhole status → IsTrue tells → IsTrue told → SaysAll (mistakes i.left) v.said w.said

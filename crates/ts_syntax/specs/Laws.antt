@@ -1,5 +1,6 @@
 -- What holds of the mistakes of every script, in the words of one who writes it.
-use Rattle.std.specs.Prelude.{◌≡◌, ◌⊎◌, ℕ, ◌+◌, ◌≤◌, IsTrue, List, [], ◌∷◌, ◌++◌, length, take, Option, Some, Ok, Err, ⊤}
+use Rattle.std.specs.Prelude.{◌≡◌, ◌⊎◌, ℕ, ◌+◌, ◌≤◌, IsTrue, List, [], ◌∷◌, ◌++◌, length, take, Option, Some, Ok, Err}
+use Rattle.std.specs.Prelude.{⊤}
 use Rattle.std.specs.List.{flat_map}
 use Rattle.ts_base.specs.declared.refusal.Refusal.{Refusal}
 use Rattle.ts_items.specs.Items.{Item, Unended, after, place_from, is_unended_at}
@@ -25,15 +26,16 @@ pub record IsEnded (start text : List ℕ) (item : Item) : Type 0 where
   pub so_far : place_from (Some []) (start ++ front) ≡ Some front
   pub ends : (after (Some front) last).0 ≡ item ∷ []
 
--- These bytes, which come behind the first part of a script, are all those of a statement that the script's end cuts off.
+-- These bytes, which come behind the first part of a script, are all those of a statement that the script's end cuts
+-- off.
 pub record IsCutOff (start text rest : List ℕ) (item : Item) : Type 0 where
   pub end : rest ≡ []
   pub so_far : place_from (Some []) (start ++ text) ≡ Some text
   pub unended : IsTrue (is_unended_at (Some text))
   pub made : item ≡ Unended
 
--- A mistake stands in these bytes of a script, which come behind its first part: they are those of an item that is refused
--- for its cause, and before its place stand that part and as many of them as the grammar takes.
+-- A mistake stands in these bytes of a script, which come behind its first part: they are those of an item that is
+-- refused for its cause, and before its place stand that part and as many of them as the grammar takes.
 pub record StandsIn (script start text : List ℕ) (mistake : Mistake) : Type 0 where
   pub rest : List ℕ
   pub whole : script ≡ start ++ (text ++ rest)

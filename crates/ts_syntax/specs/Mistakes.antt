@@ -1,5 +1,6 @@
 -- The refused statements of a script, each at its place.
-use Rattle.std.specs.Prelude.{ℕ, ◌-◌, List, [], ◌∷◌, ◌++◌, length, take, if◌then◌else◌, Option, Some, None, Result, Ok, Err}
+use Rattle.std.specs.Prelude.{ℕ, ◌-◌, List, [], ◌∷◌, ◌++◌, length, take, if◌then◌else◌, Option, Some, None, Result, Ok}
+use Rattle.std.specs.Prelude.{Err}
 use Rattle.std.specs.List.{flat_map}
 use Rattle.ts_base.specs.declared.refusal.Refusal.{Refusal}
 use Rattle.ts_items.specs.Items.{Unended, after, place_from, is_unended_at}
@@ -24,7 +25,10 @@ before_place front text place = take (length front - (length text - place)) fron
 -- what is wrong with these bytes of a statement, with which the first part of a script ends, if its item asks for this
 abbrev pub mistakes_of : List ℕ → List ℕ → Request → List Mistake
 mistakes_of front text (Ok command) = []
-mistakes_of front text (Err refusal) = record { before = before_place front text (place_in text (command_of text)); refusal = refusal } ∷ []
+mistakes_of front text (Err refusal) = record {
+  before = before_place front text (place_in text (command_of text));
+  refusal = refusal;
+} ∷ []
 
 -- the bytes of the statement so far
 abbrev pub text_at : Option (List ℕ) → List ℕ
@@ -40,7 +44,8 @@ mistakes_from front place (b ∷ bytes) =
 
 -- what is wrong with the statement that the end of a script cuts off, if one is
 abbrev pub mistakes_at_end : List ℕ → Option (List ℕ) → List Mistake
-mistakes_at_end script place = if is_unended_at place then mistakes_of script (text_at place) (request_of Unended) else []
+mistakes_at_end script place = if is_unended_at place then mistakes_of script (text_at place) (request_of Unended)
+    else []
 
 -- all that is wrong with the statements of a script
 abbrev pub mistakes : List ℕ → List Mistake

@@ -1,5 +1,6 @@
 -- What a checker holds of a script.
-use Rattle.std.specs.Prelude.{◌≡◌, ℕ, ◌+◌, ◌<◌, ◌^◌, Bool, true, false, ◌||◌, ◌≤◌, codes, IsTrue, List, [], ◌∷◌, ◌++◌, length, Option, Some, None, Result, Ok, Err, OnOk, IsErrOf}
+use Rattle.std.specs.Prelude.{◌≡◌, ℕ, ◌+◌, ◌<◌, ◌^◌, Bool, true, false, ◌||◌, ◌≤◌, codes, IsTrue, List, [], ◌∷◌, ◌++◌}
+use Rattle.std.specs.Prelude.{length, Option, Some, None, Result, Ok, Err, OnOk, IsErrOf}
 use Rattle.ts_disk.specs.Device.{Rose}
 use Rattle.ts_base.specs.declared.refusal.Refusal.{Refusal}
 use Rattle.ts_base.specs.declared.refusal.Refusal.TheVariants as refusals
@@ -18,8 +19,8 @@ use Rattle.ts_syntax.specs.declared.checker.Checker.{Checker}
 use Rattle.ts_syntax.specs.declared.checker.CheckFault.{CheckFault}
 use Rattle.ts_syntax.specs.declared.checker.CheckFault.TheVariants.{Output}
 
--- Behind the first part of a script, which ends with these bytes of a statement: it keeps them but for the blanks in front,
--- and knows where they begin and end.
+-- Behind the first part of a script, which ends with these bytes of a statement: it keeps them but for the blanks in
+-- front, and knows where they begin and end.
 pub record Stands (front text : List ℕ) (checker : Checker) : Type 0 where
   pub kept : checker.text ≡ unblanked text
   pub start : List ℕ
@@ -41,7 +42,8 @@ abbrev pub Reads : List ℕ → List ℕ → Option Cut → Checker → Checker 
 Reads front bytes None e f = HasRead (front ++ bytes) f × (mistakes_from front e.reader.place bytes ≡ [])
 Reads front bytes (Some cut) e f =
     let text = text_at e.reader.place ++ bytes in
-    Stands (front ++ bytes) text f × (f.reader.place ≡ place_from (Some []) (front ++ bytes)) × (text_at f.reader.place ≡ [])
+    Stands (front ++ bytes) text f × (f.reader.place ≡ place_from (Some []) (front ++ bytes))
+    × (text_at f.reader.place ≡ [])
     × (mistakes_from front e.reader.place bytes ≡ mistakes_of (front ++ bytes) text (request_of (item_of cut text)))
 
 -- an item ended, or a statement that isn't blank goes on
@@ -77,8 +79,10 @@ name_of cuts.Statement = codes "Syntax"
 name_of cuts.TooLong = codes "TooLong"
 name_of cuts.Unended = codes "Unended"
 
--- These mistakes are told, or the first of them, where a fault ends it. `f` and `g` say whether any was told before and behind it.
-pub record Told {T : Type 0} (tells : Bool) (mistakes : List Mistake) (result : Result T CheckFault) (f g : Bool) (v w : Heard) : Type 0 where
+-- These mistakes are told, or the first of them, where a fault ends it. `f` and `g` say whether any was told before and
+-- behind it.
+pub record Told {T : Type 0} (tells : Bool) (mistakes : List Mistake) (result : Result T CheckFault) (f g : Bool)
+    (v w : Heard) : Type 0 where
   pub all : OnOk result (IsTrue tells → SaysAll mistakes v.said w.said)
   pub first : IsTrue tells → SaysFirst mistakes v.said w.said
   pub found : OnOk result (g ≡ (f || are_some mistakes))

@@ -16,8 +16,8 @@ const PIECE: usize = 65536;
 /// The most bytes of a script, as of one that is run.
 const LIMIT: usize = 268_435_456;
 
-// How many bytes are pulled next, where so many were: no piece goes past the limit, but for the one byte that shows that the
-// script does.
+// How many bytes are pulled next, where so many were: no piece goes past the limit, but for the one byte that shows
+// that the script does.
 fn room_after(count: usize) -> usize
     requires { count ≤ 268435456 }
     ensures some { 0 < result }
@@ -75,7 +75,8 @@ fn check_source<O: Output, R: Source>(
     requires start { HasRead [] checker.old }
     requires found { checker.old.found ≡ false }
     requires piece { length buffer.old ≡ 65536 }
-    ensures { Checked O.tells R.tells result (O.heard output.old) (O.heard output.new) (R.input source.old) (R.input source.new) }
+    ensures { Checked O.tells R.tells result (O.heard output.old) (O.heard output.new) (R.input source.old)
+        (R.input source.new) }
 {
     let mut count = 0;
     loop {
@@ -100,10 +101,12 @@ fn check_source<O: Output, R: Source>(
 
 /// Checks the script of a source of at most 268435456 bytes, and says a line of each statement that is refused.
 ///
-/// The status is 0 where none is and 1 where one is. It is 3 where the source failed, 4 where the output did, 7 where there was
-/// no memory, and 8 where the script has more bytes; then some first lines were said, the last perhaps in part.
+/// The status is 0 where none is and 1 where one is. It is 3 where the source failed, 4 where the output did, 7 where
+/// there was no memory, and 8 where the script has more bytes; then some first lines were said, the last perhaps in
+/// part.
 pub fn check_syntax<O: Output, R: Source>(alloc: Global, output: &mut O, source: &mut R) -> u8
-    ensures { Checked O.tells R.tells result (O.heard output.old) (O.heard output.new) (R.input source.old) (R.input source.new) }
+    ensures { Checked O.tells R.tells result (O.heard output.old) (O.heard output.new) (R.input source.old)
+        (R.input source.new) }
 {
     let Ok(mut checker) = Checker::new(alloc) else {
         return 7;

@@ -1,5 +1,6 @@
 // A checker of a script, which keeps one statement and where it stands.
-ghost use Rattle.std.specs.Prelude.{◌≡◌, ◌≤◌, ◌<◌, ◌+◌, ◌^◌, [], ◌∷◌, ◌++◌, ℕ, List, Some, IfOk, IsErr, OnOk, length, take, false};
+ghost use Rattle.std.specs.Prelude.{◌≡◌, ◌≤◌, ◌<◌, ◌+◌, ◌^◌, [], ◌∷◌, ◌++◌, ℕ, List, Some, IfOk, IsErr, OnOk, length};
+ghost use Rattle.std.specs.Prelude.{take, false};
 ghost use Rattle.ts_base.specs.Refusal.{refusal_name};
 ghost use Rattle.ts_items.specs.Reader.{item_of};
 ghost use Rattle.ts_command.specs.Grammar.{command_of};
@@ -7,7 +8,8 @@ ghost use Rattle.ts_command.specs.Script.{request_of};
 ghost use Rattle.ts_syntax.specs.Places.{IsBehind};
 ghost use Rattle.ts_syntax.specs.Mistakes.{Mistake, mistakes_of, mistakes_from, mistakes_at_end};
 ghost use Rattle.ts_syntax.specs.Lines.{IsLine};
-ghost use Rattle.ts_syntax.specs.Reading.{Stands, HasRead, IsReading, Reads, Told, refused_at, syntax_place, shows_at, told_at, name_of};
+ghost use Rattle.ts_syntax.specs.Reading.{Stands, HasRead, IsReading, Reads, Told, refused_at, syntax_place, shows_at};
+ghost use Rattle.ts_syntax.specs.Reading.{told_at, name_of};
 
 use crate::line::make_line;
 use crate::output::Output;
@@ -103,7 +105,8 @@ impl Checker {
         requires lead { self.old.text ≡ [] }
         ensures some { IfOk result (λ fed. 0 < fed.taken) }
         ensures within { IfOk result (λ fed. fed.taken ≤ length bytes.now) }
-        ensures reads { IfOk result (λ fed. (front : List ℕ) → length front + length bytes.now < 2 ^ 32 → HasRead front self.old →
+        ensures reads { IfOk result (λ fed. (front : List ℕ) → length front + length bytes.now < 2 ^ 32
+            → HasRead front self.old →
             Reads front (take fed.taken bytes.now) fed.cut self.old self.new) }
         ensures found { self.new.found ≡ self.old.found }
     {
@@ -124,7 +127,8 @@ impl Checker {
         requires body { 0 < length self.old.text }
         ensures some { IfOk result (λ fed. 0 < fed.taken) }
         ensures within { IfOk result (λ fed. fed.taken ≤ length bytes.now) }
-        ensures reads { IfOk result (λ fed. (front : List ℕ) → length front + length bytes.now < 2 ^ 32 → HasRead front self.old →
+        ensures reads { IfOk result (λ fed. (front : List ℕ) → length front + length bytes.now < 2 ^ 32
+            → HasRead front self.old →
             Reads front (take fed.taken bytes.now) fed.cut self.old self.new) }
         ensures found { self.new.found ≡ self.old.found }
     {
@@ -140,7 +144,8 @@ impl Checker {
         requires { 0 < length bytes.now }
         ensures some { IfOk result (λ fed. 0 < fed.taken) }
         ensures within { IfOk result (λ fed. fed.taken ≤ length bytes.now) }
-        ensures reads { IfOk result (λ fed. (front : List ℕ) → length front + length bytes.now < 2 ^ 32 → HasRead front self.old →
+        ensures reads { IfOk result (λ fed. (front : List ℕ) → length front + length bytes.now < 2 ^ 32
+            → HasRead front self.old →
             Reads front (take fed.taken bytes.now) fed.cut self.old self.new) }
         ensures found { self.new.found ≡ self.old.found }
     {
@@ -166,8 +171,10 @@ impl Checker {
     // The line of a mistake at a place of the statement.
     fn line_at(&self, cut: Cut, place: usize) -> Result<Bytes, AllocError>
         requires { place ≤ length self.now.text }
-        ensures { IfOk result (λ line. (start : List ℕ) (mistake : Mistake) → length start + length self.now.text < 2 ^ 32 → IsBehind start self.now.begin →
-            mistake.before ≡ start ++ take place self.now.text → refusal_name mistake.refusal ≡ name_of cut → IsLine mistake line) }
+        ensures { IfOk result (λ line. (start : List ℕ) (mistake : Mistake)
+            → length start + length self.now.text < 2 ^ 32 → IsBehind start self.now.begin →
+            mistake.before ≡ start ++ take place self.now.text → refusal_name mistake.refusal ≡ name_of cut
+            → IsLine mistake line) }
     {
         let text = self.text.as_slice();
         let position = self.begin.behind(&text[..place]);
@@ -183,7 +190,8 @@ impl Checker {
         place: usize,
     ) -> Result<(), CheckFault>
         requires { place ≤ length self.old.text }
-        ensures told { (start : List ℕ) (mistake : Mistake) → length start + length self.old.text < 2 ^ 32 → IsBehind start self.old.begin →
+        ensures told { (start : List ℕ) (mistake : Mistake) → length start + length self.old.text < 2 ^ 32
+            → IsBehind start self.old.begin →
             mistake.before ≡ start ++ take place self.old.text → refusal_name mistake.refusal ≡ name_of cut →
             Told O.tells (mistake ∷ []) result self.old.found self.new.found (O.heard output.old) (O.heard output.new) }
         ensures others { self.new ≡ record self.old { found = self.new.found } }
@@ -204,7 +212,8 @@ impl Checker {
     fn tell<O: Output>(&mut self, output: &mut O, cut: Cut) -> Result<(), CheckFault>
         requires { length self.old.text < 2 ^ 32 }
         ensures told { (front text : List ℕ) → length front < 2 ^ 32 → Stands front text self.old →
-            Told O.tells (mistakes_of front text (request_of (item_of cut text))) result self.old.found self.new.found (O.heard output.old) (O.heard output.new) }
+            Told O.tells (mistakes_of front text (request_of (item_of cut text))) result self.old.found self.new.found
+            (O.heard output.old) (O.heard output.new) }
         ensures others { self.new ≡ record self.old { found = self.new.found } }
     {
         let Ok(refused) = self.refused_at() else {
@@ -222,11 +231,17 @@ impl Checker {
         requires reading { IsReading self.old (length bytes.now) }
         ensures some { IfOk result (λ n. 0 < n) }
         ensures within { IfOk result (λ n. n ≤ length bytes.now) }
-        ensures read { IfOk result (λ n. (front : List ℕ) → length front + length bytes.now < 2 ^ 32 → HasRead front self.old → HasRead (front ++ take n bytes.now) self.new) }
-        ensures told { IfOk result (λ n. (front : List ℕ) → length front + length bytes.now < 2 ^ 32 → HasRead front self.old →
-            Told O.tells (mistakes_from front self.old.reader.place (take n bytes.now)) result self.old.found self.new.found (O.heard output.old) (O.heard output.new)) }
-        ensures fault { IsErr result → (front : List ℕ) → length front + length bytes.now < 2 ^ 32 → HasRead front self.old →
-            Told O.tells (mistakes_from front self.old.reader.place bytes.now) result self.old.found self.new.found (O.heard output.old) (O.heard output.new) }
+        ensures read { IfOk result (λ n. (front : List ℕ) → length front + length bytes.now < 2 ^ 32
+            → HasRead front self.old → HasRead (front ++ take n bytes.now) self.new) }
+        ensures told { IfOk result (λ n. (front : List ℕ) → length front + length bytes.now < 2 ^ 32
+            → HasRead front self.old →
+            Told O.tells
+            (mistakes_from front self.old.reader.place (take n bytes.now)) result self.old.found self.new.found
+            (O.heard output.old) (O.heard output.new)) }
+        ensures fault { IsErr result → (front : List ℕ) → length front + length bytes.now < 2 ^ 32
+            → HasRead front self.old →
+            Told O.tells (mistakes_from front self.old.reader.place bytes.now) result self.old.found self.new.found
+            (O.heard output.old) (O.heard output.new) }
     {
         let Ok(fed) = self.read_on(bytes) else {
             return Err(CheckFault::Memory);
@@ -251,9 +266,11 @@ impl Checker {
         piece: &[u8],
     ) -> Result<(), CheckFault>
         requires reading { IsReading self.old (length piece.now) }
-        ensures read { OnOk result ((front : List ℕ) → length front + length piece.now < 2 ^ 32 → HasRead front self.old → HasRead (front ++ piece.now) self.new) }
+        ensures read { OnOk result ((front : List ℕ) → length front + length piece.now < 2 ^ 32 → HasRead front self.old
+            → HasRead (front ++ piece.now) self.new) }
         ensures told { (front : List ℕ) → length front + length piece.now < 2 ^ 32 → HasRead front self.old →
-            Told O.tells (mistakes_from front self.old.reader.place piece.now) result self.old.found self.new.found (O.heard output.old) (O.heard output.new) }
+            Told O.tells (mistakes_from front self.old.reader.place piece.now) result self.old.found self.new.found
+            (O.heard output.old) (O.heard output.new) }
     {
         let mut rest = piece;
         while !rest.is_empty() {
@@ -269,7 +286,8 @@ impl Checker {
     pub(crate) fn check_end<O: Output>(&mut self, output: &mut O) -> Result<(), CheckFault>
         requires { IsReading self.old 0 }
         ensures { (script : List ℕ) → length script < 2 ^ 32 → HasRead script self.old →
-            Told O.tells (mistakes_at_end script self.old.reader.place) result self.old.found self.new.found (O.heard output.old) (O.heard output.new) }
+            Told O.tells (mistakes_at_end script self.old.reader.place) result self.old.found self.new.found
+            (O.heard output.old) (O.heard output.new) }
     {
         match self.reader.finish() {
             Some(_) => self.tell(output, Cut::Unended),

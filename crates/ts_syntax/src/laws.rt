@@ -8,8 +8,8 @@ pub fn mistakes_are_the_refusals()
     ensures { (script : List ℕ) → map (λ m. m.refusal) (mistakes script) ≡ refusals script }
 {}
 
-/// Each mistake stands in the bytes of a refused statement of its own, in the order of the statements, where the grammar
-/// refuses them. As there are just as many mistakes as refusals, no other list keeps both laws.
+/// Each mistake stands in the bytes of a refused statement of its own, in the order of the statements, where the
+/// grammar refuses them. As there are just as many mistakes as refusals, no other list keeps both laws.
 pub fn mistakes_stand_in_their_statements()
     ensures { (script : List ℕ) → StandInTurn script 0 (mistakes script) }
 {}

@@ -43,7 +43,8 @@ pub(crate) fn make_line(
     name: &[u8],
     words: &[u8],
 ) -> Result<Bytes, AllocError>
-    ensures { IfOk result (λ line. (mistake : Mistake) → IsBehind mistake.before position → refusal_name mistake.refusal ≡ name.now → IsLine mistake line) }
+    ensures { IfOk result (λ line. (mistake : Mistake) → IsBehind mistake.before position → refusal_name mistake.refusal
+        ≡ name.now → IsLine mistake line) }
 {
     let mut line = Bytes::new(alloc);
     push_number(&mut line, position.line)?;

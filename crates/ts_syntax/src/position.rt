@@ -19,7 +19,8 @@ impl Position {
 
     // Where the byte behind this one stands.
     fn behind_byte(self, byte: u8) -> Position
-        ensures { (before : List ℕ) → length before < 2 ^ 32 → IsBehind before self → IsBehind (before ++ byte ∷ []) result }
+        ensures { (before : List ℕ) → length before < 2 ^ 32 → IsBehind before self
+            → IsBehind (before ++ byte ∷ []) result }
     {
         if byte == b'\n' {
             Position {
@@ -36,7 +37,8 @@ impl Position {
 
     /// Where the byte behind these stands.
     pub(crate) fn behind(self, bytes: &[u8]) -> Position
-        ensures { (before : List ℕ) → length before + length bytes.now < 2 ^ 32 → IsBehind before self → IsBehind (before ++ bytes.now) result }
+        ensures { (before : List ℕ) → length before + length bytes.now < 2 ^ 32 → IsBehind before self
+            → IsBehind (before ++ bytes.now) result }
     {
         let mut position = self;
         for byte in bytes {

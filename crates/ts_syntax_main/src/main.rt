@@ -1,6 +1,6 @@
-//! The program `ts_syntax`: it calls `check_syntax` with standard input and standard output, and ends with that status. Here are
-//! only the words and the lines on standard error; what is promised of the lines is on `check_syntax`. Stands on ts_syntax for
-//! the work and on ts_file for the outside.
+//! The program `ts_syntax`: it calls `check_syntax` with standard input and standard output, and ends with that status.
+//! Here are only the words and the lines on standard error; what is promised of the lines is on `check_syntax`. Stands
+//! on ts_syntax for the work and on ts_file for the outside.
 #![tactic(auto)]
 
 mod advice;

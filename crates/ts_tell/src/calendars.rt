@@ -1,7 +1,8 @@
 // The routines that only read patterns and calendars. Each says the reply of its command, whatever series and pages
 // there are.
 ghost use Rattle.std.specs.Prelude.{◌≡◌, ◌<◌, [], IfOk, IsSome, Some, option_copied, option_map, option_and_then};
-ghost use Rattle.ts_command.specs.declared.command.Command.TheVariants.{ShowPattern, ShowCalendar, CalIndex, CalStamp, CalRange};
+ghost use Rattle.ts_command.specs.declared.command.Command.TheVariants.{ShowPattern, ShowCalendar, CalIndex, CalStamp};
+ghost use Rattle.ts_command.specs.declared.command.Command.TheVariants.{CalRange};
 ghost use Rattle.ts_command.specs.Form.{HasForm};
 ghost use Rattle.ts_space.specs.Directory.{Directory};
 ghost use Rattle.ts_model.specs.Definitions.{CalendarDef, at_slot, pattern_reference, calendar_slots};
@@ -67,7 +68,8 @@ pub fn cal_stamp(
 ) -> Result<(), Trouble>
     requires form { HasForm (CalStamp calendar.now after count) }
     requires empty { out.old ≡ [] }
-    ensures { (space : Directory) → IsSaid (CalStamp calendar.now after count) result out.new defs.now.definitions space }
+    ensures { (space : Directory)
+        → IsSaid (CalStamp calendar.now after count) result out.new defs.now.definitions space }
 {
     let counter = calendar_named(defs, calendar)?;
     let Some(stamp) = counter.cal_stamp(after, count as u32) else {
@@ -98,7 +100,8 @@ pub fn cal_range(
 fn text_in(defs: &Defs, slot: u16) -> Result<CalendarText, AllocError>
     requires within { slot < calendar_slots }
     requires filled { IsSome (at_slot slot defs.now.definitions.calendars) }
-    ensures { IfOk result (λ text. (c : CalendarDef) → at_slot slot defs.now.definitions.calendars ≡ Some c → IsThere defs.now.definitions (pattern_reference c.by) → text ≡ text_of defs.now.definitions c) }
+    ensures { IfOk result (λ text. (c : CalendarDef) → at_slot slot defs.now.definitions.calendars ≡ Some c
+        → IsThere defs.now.definitions (pattern_reference c.by) → text ≡ text_of defs.now.definitions c) }
 {
     match defs.get(Kind::Calendar, slot) {
         Some(Def::Calendar { calendar, by, .. }) => Ok(CalendarText {
@@ -112,7 +115,8 @@ fn text_in(defs: &Defs, slot: u16) -> Result<CalendarText, AllocError>
 
 // The part of a calendar's text that gives its pattern: by name, where it was made by one, else its own.
 fn part_in(defs: &Defs, calendar: &Calendar, by: Option<u8>) -> Result<PatternPart, AllocError>
-    ensures { IfOk result (λ part. (c : CalendarDef) → c.calendar ≡ calendar.now → IsThere defs.now.definitions (pattern_reference by) → part ≡ part_of defs.now.definitions c by) }
+    ensures { IfOk result (λ part. (c : CalendarDef) → c.calendar ≡ calendar.now
+        → IsThere defs.now.definitions (pattern_reference by) → part ≡ part_of defs.now.definitions c by) }
 {
     match pattern_name(defs, by) {
         Some(name) => Ok(PatternPart::Named(name.copy()?)),
@@ -122,7 +126,8 @@ fn part_in(defs: &Defs, calendar: &Calendar, by: Option<u8>) -> Result<PatternPa
 
 // The name of the pattern in a slot, if one is given.
 fn pattern_name(defs: &Defs, by: Option<u8>) -> Option<&Name>
-    ensures { option_copied result ≡ option_and_then (λ slot. option_map (λ p. p.name) (at_slot slot defs.now.definitions.patterns)) by }
+    ensures { option_copied result
+        ≡ option_and_then (λ slot. option_map (λ p. p.name) (at_slot slot defs.now.definitions.patterns)) by }
 {
     match defs.get(Kind::Pattern, by? as u16) {
         Some(Def::Pattern { name, .. }) => Some(name),

@@ -59,7 +59,8 @@ fn quota_in(defs: &Defs, slot: u16) -> u32
     }
 }
 
-/// Lists the series of a container in the order of their keys, whether each is regular, and the numbers of their elements.
+/// Lists the series of a container in the order of their keys, whether each is regular, and the numbers of their
+/// elements.
 pub fn list_series(
     defs: &Defs,
     space: &Space,
@@ -84,7 +85,8 @@ fn say_listed(
     out: &mut Reply,
 ) -> Result<u64, AllocError>
     requires { AreCountable space.now }
-    ensures said { OnOk result (out.new ≡ out.old ++ flat_map series_line (listed_in defs.now.definitions space.now container)) }
+    ensures said { OnOk result (out.new ≡ out.old
+        ++ flat_map series_line (listed_in defs.now.definitions space.now container)) }
     ensures count { IfOk result (λ n. n ≡ length (listed_in defs.now.definitions space.now container)) }
 {
     let mut count = 0;
@@ -104,7 +106,8 @@ fn say_if_listed(
 ) -> Result<u64, AllocError>
     requires slot { slot < series_slots }
     requires countable { AreCountable space.now }
-    ensures said { OnOk result (out.new ≡ out.old ++ flat_map series_line (listed_at defs.now.definitions space.now container slot)) }
+    ensures said { OnOk result (out.new ≡ out.old
+        ++ flat_map series_line (listed_at defs.now.definitions space.now container slot)) }
     ensures count { IfOk result (λ n. n ≡ length (listed_at defs.now.definitions space.now container slot)) }
     ensures one { IfOk result (λ n. n ≤ 1) }
 {

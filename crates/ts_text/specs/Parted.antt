@@ -6,4 +6,5 @@ use Rattle.ts_text.specs.Blanks.{are_blanks}
 abbrev pub IsParted : List (List ℕ) → List ℕ → Type 0
 IsParted [] text = IsTrue (are_blanks text)
 IsParted (token ∷ tokens) text =
-    (blanks : List ℕ) × (rest : List ℕ) × IsTrue (are_blanks blanks) × (text ≡ blanks ++ (token ++ rest)) × IsParted tokens rest
+    (blanks : List ℕ) × (rest : List ℕ) × IsTrue (are_blanks blanks) × (text ≡ blanks ++ (token ++ rest))
+    × IsParted tokens rest

@@ -1,4 +1,5 @@
--- The tokens of patterns, calendars and lists of aggregates: words, digits and signs, each the longest that stands there.
+-- The tokens of patterns, calendars and lists of aggregates: words, digits and signs, each the longest that stands
+-- there.
 use Rattle.std.specs.Prelude.{ℕ, ◌+◌, ◌==◌, ◌||◌, Bool, if◌then◌else◌, List, [], ◌∷◌, take, Option, Some, None}
 use Rattle.std.specs.List.{prefix_len}
 use Rattle.std.specs.Char.{is_ascii_digit}

@@ -19,7 +19,8 @@ spelled lexemes = flat_map (λ l. l.blanks ++ l.token) lexemes
 abbrev pub AreTokens : Front → List Lexeme → List ℕ → Type 0
 AreTokens front [] rest = Unit {0}
 AreTokens front (l ∷ lexemes) rest =
-    IsTrue (are_blanks l.blanks) × (front (l.token ++ (spelled lexemes ++ rest)) ≡ Some (l.kind, length l.token)) × AreTokens front lexemes rest
+    IsTrue (are_blanks l.blanks) × (front (l.token ++ (spelled lexemes ++ rest)) ≡ Some (l.kind, length l.token))
+    × AreTokens front lexemes rest
 
 -- the bytes are these tokens with their blanks, and this rest
 pub record Spells (front : Front) (bytes : List ℕ) (lexemes : List Lexeme) (rest : List ℕ) : Type 0 where
@@ -32,4 +33,5 @@ pub record AreItsTokens {A : Type 0} (front : Front) (ending : List ℕ) (readin
   pub read : (text : List ℕ) (found : A) → reading text ≡ Ok found →
       (lexemes : List Lexeme) × (rest : List ℕ) × Spells front text lexemes rest × (unblanked rest ≡ ending)
   pub before : (text : List ℕ) (place : ℕ) → reading text ≡ Err place →
-      (lexemes : List Lexeme) × (rest : List ℕ) × Spells front text lexemes rest × (place ≡ length text - length (unblanked rest))
+      (lexemes : List Lexeme) × (rest : List ℕ) × Spells front text lexemes rest
+      × (place ≡ length text - length (unblanked rest))

@@ -1,5 +1,6 @@
 -- The number that a token writes.
-use Rattle.std.specs.Prelude.{ℕ, ◌+◌, ◌-◌, ◌==◌, if◌then◌else◌, List, length, slice_index, position, Option, Some, None, ℤ, pos, neg_ℤ}
+use Rattle.std.specs.Prelude.{ℕ, ◌+◌, ◌-◌, ◌==◌, if◌then◌else◌, List, length, slice_index, position, Option, Some, None}
+use Rattle.std.specs.Prelude.{ℤ, pos, neg_ℤ}
 use Rattle.ts_text.specs.Digits.{magnitude_of}
 
 -- the number without its point, with its sign

@@ -2,7 +2,8 @@
 use Rattle.std.specs.Prelude.{◌≡◌, ℕ, ◌==◌, ◌&&◌, ◌<◌, ◌≤◌, Bool, false, if◌then◌else◌, List, [], ◌∷◌, length, take}
 use Rattle.ts_base.specs.Name.{is_text_byte}
 
--- Behind the quote that opens a text: bytes of a text, each quote among them doubled, and then the quote that closes it.
+-- Behind the quote that opens a text: bytes of a text, each quote among them doubled, and then the quote that closes
+-- it.
 abbrev pub closes : List ℕ → Bool
 closes [] = false
 closes (b ∷ []) = b == 39

@@ -28,7 +28,8 @@ signed_length sign length = if length == 0 then None else Some (sign + length)
 -- the length of the number in front, if one stands there
 unfoldable pub number_length : List ℕ → Option ℕ
 number_length [] = None
-number_length (b ∷ bytes) = if b == 45 then signed_length 1 (magnitude_length bytes) else signed_length 0 (magnitude_length (b ∷ bytes))
+number_length (b ∷ bytes) = if b == 45 then signed_length 1 (magnitude_length bytes)
+    else signed_length 0 (magnitude_length (b ∷ bytes))
 
 -- an end so many bytes later
 abbrev pub later : ℕ → Option ℕ → Option ℕ

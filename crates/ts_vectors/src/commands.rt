@@ -3,7 +3,8 @@ use std::alloc::{AllocError, Global};
 use ts_command::{Columns, Command, Literals, read_command};
 use ts_row::{Column, ColumnKind, Literal};
 
-// A command as a row of a table has it: its routine, its name or key, a second one or its calendar if it has one, and the rest.
+// A command as a row of a table has it: its routine, its name or key, a second one or its calendar if it has one, and
+// the rest.
 pub(crate) type Row = (&'static str, &'static [u8], &'static [u8], Rest);
 
 #[derive(Clone, Copy, Debug)]

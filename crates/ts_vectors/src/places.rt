@@ -1,5 +1,5 @@
-// Statements and the places where they are refused: those of words alone and of running values, and those that no script has
-// as a line of its own. All others stand in the script of the program ts_syntax, which tells their places.
+// Statements and the places where they are refused: those of words alone and of running values, and those that no
+// script has as a line of its own. All others stand in the script of the program ts_syntax, which tells their places.
 use std::alloc::Global;
 use ts_base::{Refusal, Trouble};
 use ts_command::read_command;

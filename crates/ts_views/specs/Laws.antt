@@ -47,7 +47,8 @@ CommitLeavesView =
     → Covers old batch → SameButFreed (over batch before) after
     → SameButFreed (view_pages old own before) (view_pages old own after)
 
--- So where the old image of each page that the batch names was kept, the commit leaves what the view read before all that.
+-- So where the old image of each page that the batch names was kept, the commit leaves what the view read before all
+-- that.
 abbrev pub KeptCommitLeavesView : Type 0
 KeptCommitLeavesView =
     (old own batch : List Entry) (images : List (ℕ × Page)) (before after : ℕ → List ℕ)

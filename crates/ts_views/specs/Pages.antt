@@ -9,14 +9,15 @@ use Rattle.ts_journal.specs.Entry.{Entry, change_of, change_or, over, put}
 
 -- the change that a view shows of a page: of the command in hand, else of its own, else an old image
 abbrev pub change_shown : ℕ → List Entry → List Entry → List Entry → Option Change
-change_shown number old own changes = change_or (change_of number changes) (change_or (change_of number own) (change_of number old))
+change_shown number old own changes =
+    change_or (change_of number changes) (change_or (change_of number own) (change_of number old))
 
 -- what a view reads over the newest pages
 abbrev pub view_pages : List Entry → List Entry → (ℕ → List ℕ) → ℕ → List ℕ
 view_pages old own newest = over own (over old newest)
 
--- The same as a keeper of pages, with the changes of the command in hand over them. Of the newest pages come their count
--- and the failures of their disk. A view is never committed as it stands, so no change counts for a record.
+-- The same as a keeper of pages, with the changes of the command in hand over them. Of the newest pages come their
+-- count and the failures of their disk. A view is never committed as it stands, so no change counts for a record.
 abbrev pub view_contents : List Entry → List Entry → List Entry → List ℕ → Contents → Contents
 view_contents old own changes free newest = record {
   count = newest.count;

@@ -1,5 +1,6 @@
 // What keeping an image, and a commit, do to what a view reads.
-ghost use Rattle.ts_views.specs.Laws.{KeepLeavesView, KeepCovers, CommitLeavesView, KeptCommitLeavesView, KeepLeavesViews, KeepCoversViews, CommitLeavesViews};
+ghost use Rattle.ts_views.specs.Laws.{KeepLeavesView, KeepCovers, CommitLeavesView, KeptCommitLeavesView};
+ghost use Rattle.ts_views.specs.Laws.{KeepLeavesViews, KeepCoversViews, CommitLeavesViews};
 
 /// A commit leaves what a view reads, once the old image of each page that it changes is kept.
 pub fn a_commit_leaves_a_view()

@@ -25,7 +25,8 @@ pub struct ViewPages<'a, P: Pages> {
     /// The free element pages; the next to be taken stands last.
     pub free: &'a mut Vec<u32>,
     ghost few: { (P.contents newest.now).count < 2 ^ 32 },
-    ghost lawful: { IsLawful P.tells (view_contents old.now.entries own.now.entries changes.now.entries (reverse free.now.items) (P.contents newest.now)) } by { Prim.hlevel props },
+    ghost lawful: { IsLawful P.tells (view_contents old.now.entries own.now.entries changes.now.entries
+        (reverse free.now.items) (P.contents newest.now)) } by { Prim.hlevel props },
 }
 
 impl<'a, P: Pages> Pages for ViewPages<'a, P> {
@@ -36,12 +37,15 @@ impl<'a, P: Pages> Pages for ViewPages<'a, P> {
 
     ghost tells = { P.tells };
 
-    ghost contents = { λ v. view_contents v.old.now.entries v.own.now.entries v.changes.now.entries (reverse v.free.now.items) (P.contents v.newest.now) };
+    ghost contents = { λ v. view_contents v.old.now.entries v.own.now.entries v.changes.now.entries (reverse v.free.now.items)
+        (P.contents v.newest.now) };
 
     // The references stay, and all but `changes` and `free`. Of the newest pages stays besides what each page is.
-    ghost undisturbed = { λ v w. (w.newest.ghost_name ≡ v.newest.ghost_name) × (w.changes.ghost_name ≡ v.changes.ghost_name) × (w.free.ghost_name ≡ v.free.ghost_name)
+    ghost undisturbed = { λ v w. (w.newest.ghost_name ≡ v.newest.ghost_name)
+        × (w.changes.ghost_name ≡ v.changes.ghost_name) × (w.free.ghost_name ≡ v.free.ghost_name)
         × (w.old.now.entries ≡ v.old.now.entries) × (w.own.now.entries ≡ v.own.now.entries)
-        × (IsTrue P.tells → EqualPages (P.contents v.newest.now).page (P.contents w.newest.now).page) × P.undisturbed v.newest.now w.newest.now };
+        × (IsTrue P.tells → EqualPages (P.contents v.newest.now).page (P.contents w.newest.now).page)
+        × P.undisturbed v.newest.now w.newest.now };
 
     fn get(&mut self, no: u32, into: &mut Page) -> Result<(), StoreFault> {
         if let Some(change) = find(self.old, self.own, self.changes, no) {
@@ -81,7 +85,16 @@ impl<'a, P: Pages> Pages for ViewPages<'a, P> {
 
     ghost stays = { λ v. (refl, refl, refl, refl, refl, λ told number. refl, P.stays v.newest.now) };
 
-    ghost then = { λ u v w p q. (q.0 ∙ p.0, q.1 ∙ p.1, q.2 ∙ p.2, q.3 ∙ p.3, q.4 ∙ p.4, λ told number. q.5 told number ∙ p.5 told number, P.then u.newest.now v.newest.now w.newest.now p.6 q.6) };
+    ghost then = { λ u v w p q. (
+      q.0 ∙ p.0,
+      q.1 ∙ p.1,
+      q.2 ∙ p.2,
+      q.3 ∙ p.3,
+      q.4 ∙ p.4,
+      λ told number.
+          q.5 told number ∙ p.5 told number,
+      P.then u.newest.now v.newest.now w.newest.now p.6 q.6,
+    ) };
 }
 
 // The change that a view shows of a page, if there is one.

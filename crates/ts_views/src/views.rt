@@ -3,7 +3,8 @@ ghost use Rattle.std.specs.Prelude.{◌≡◌, ◌<◌, None, Some, false, lengt
 ghost use Rattle.std.specs.List.{list_any};
 ghost use Rattle.std.specs.Option.{IsSome, option_copied_mut};
 ghost use Rattle.std.specs.Borrow.{sem};
-ghost use Rattle.ts_views.specs.View.{view_of, lacks_image, HasImage, KeepsImage, MayKeepImage, OfEachOpen, Turns, EachTurns};
+ghost use Rattle.ts_views.specs.View.{view_of, lacks_image, HasImage, KeepsImage, MayKeepImage, OfEachOpen, Turns};
+ghost use Rattle.ts_views.specs.View.{EachTurns};
 ghost use Rattle.ts_views.specs.Lends.{lends_view};
 ghost use Rattle.ts_views.specs.Pages.{keep_image};
 

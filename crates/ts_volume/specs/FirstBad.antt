@@ -1,6 +1,7 @@
 -- The first bad page of a volume: pages are judged in steps, and of what the first step with a bad page finds it is the
 -- least.
-use Rattle.std.specs.Prelude.{◌≡◌, ◌≢◌, ℕ, ◌+◌, ◌-◌, ◌<◌, ◌≤◌, ◌⊎◌, ℤ, ◌<ℤ◌, ◌≤ℤ◌, Option, Some, None, unwrap_or, List, [], ◌∷◌, length, drop, replicate}
+use Rattle.std.specs.Prelude.{◌≡◌, ◌≢◌, ℕ, ◌+◌, ◌-◌, ◌<◌, ◌≤◌, ◌⊎◌, ℤ, ◌<ℤ◌, ◌≤ℤ◌, Option, Some, None, unwrap_or, List}
+use Rattle.std.specs.Prelude.{[], ◌∷◌, length, drop, replicate}
 use Rattle.ts_page.specs.Volume.{page_size, first_element_page}
 use Rattle.ts_cells.specs.Cell.{page_room}
 use Rattle.ts_cells.specs.IrregularPage.{last_stamp}
@@ -12,11 +13,15 @@ use Rattle.ts_offset.specs.Walk.{IsOnStart}
 use Rattle.ts_model.specs.declared.kind.Kind.{Kind}
 use Rattle.ts_model.specs.declared.kind.Kind.TheVariants as kinds
 use Rattle.ts_model.specs.declared.def.Def.{Def}
-use Rattle.ts_model.specs.Definitions.{Definitions, PatternDef, CalendarDef, ContainerDef, SeriesDef, IsFormat, Refers, limit, name_of, at_slot, def_at, table_of}
-use Rattle.ts_layout.specs.Slot.{first_definition_page, container_page, slot_bytes, page_of_slot, slots_in_page, bytes_of_slots, header_bytes}
+use Rattle.ts_model.specs.Definitions.{Definitions, PatternDef, CalendarDef, ContainerDef, SeriesDef, IsFormat, Refers}
+use Rattle.ts_model.specs.Definitions.{limit, name_of, at_slot, def_at, table_of}
+use Rattle.ts_layout.specs.Slot.{first_definition_page, container_page, slot_bytes, page_of_slot, slots_in_page}
+use Rattle.ts_layout.specs.Slot.{bytes_of_slots, header_bytes}
 use Rattle.ts_layout.specs.Limits.{IsSlotOf}
 use Rattle.ts_layout.specs.Sheets.{Sheet}
-use Rattle.ts_layout.specs.Meaning.{Layout, ElementPage, Cells, element_page, bytes_of_slot, heading_of_container, heading_at, shape_at, sum_of_quotas, charge_of_container, HoldsDefinitions, HoldsElements, HoldAll, KeepLimits}
+use Rattle.ts_layout.specs.Meaning.{Layout, ElementPage, Cells, element_page, bytes_of_slot, heading_of_container}
+use Rattle.ts_layout.specs.Meaning.{heading_at, shape_at, sum_of_quotas, charge_of_container, HoldsDefinitions}
+use Rattle.ts_layout.specs.Meaning.{HoldsElements, HoldAll, KeepLimits}
 use Rattle.ts_journal.specs.Entry.{Entry}
 use Rattle.ts_journal.specs.Journal.{IsVolumeSize, page_count, records, pages}
 

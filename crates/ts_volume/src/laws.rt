@@ -1,12 +1,14 @@
 // What holds of what the bytes of a volume mean.
-ghost use Rattle.ts_volume.specs.Laws.{BytesMeanOneCatalogue, LayoutsAreMeant, SamePagesMeanTheSame, NoVolumeMeansNothing};
+ghost use Rattle.ts_volume.specs.Laws.{BytesMeanOneCatalogue, LayoutsAreMeant, SamePagesMeanTheSame};
+ghost use Rattle.ts_volume.specs.Laws.{NoVolumeMeansNothing};
 
 /// Bytes mean one catalogue at most.
 pub fn bytes_mean_one_catalogue()
     ensures { BytesMeanOneCatalogue }
 {}
 
-/// Bytes whose pages are laid out, whatever stands behind the heads of the free ones, mean the catalogue of that layout.
+/// Bytes whose pages are laid out, whatever stands behind the heads of the free ones, mean the catalogue of that
+/// layout.
 pub fn layouts_are_meant()
     ensures { LayoutsAreMeant }
 {}
