@@ -1,6 +1,6 @@
 -- All elements of a range grouped, and their groups handed on.
 use Rattle.std.proofs.Common.{◌≡◌, ℕ, ◌<◌, ◌≤◌, ℤ, ◌<ℤ◌, ◌≤ℤ◌, Bool, true, false, cond, Option, Some, None, Result, Ok, Err, List, [], ◌∷◌, ◌++◌, length, map, refl, sym, ap, subst, ◌∙◌, arith, lt-ltb, le-ltb}
-use Rattle.std.specs.Prelude.{not, ◌&&◌, int_lt, nat_lt}
+use Rattle.std.specs.Prelude.{filter, not, ◌&&◌, int_lt, nat_lt}
 use Rattle.std.proofs.lemmas.Int.{by_lt_z, ints}
 use Rattle.std.proofs.lemmas.Bool.{and_parts}
 use Rattle.std.proofs.lemmas.List.{length-map}
@@ -14,15 +14,13 @@ use Rattle.ts_chain.specs.Range.{is_within, within_range}
 use Rattle.ts_offset.specs.Walk.{on_starts}
 use Rattle.ts_offset.specs.Grid.{held_start}
 use Rattle.ts_offset.specs.Counting.{starts_between}
-use Rattle.ts_entry.specs.Entry.{elements_of}
 use Rattle.ts_entry.specs.Intervals.{Group, grouped, held_from, by_interval}
 use Rattle.ts_entry.specs.Reading.{most_rows, within_rows}
-use Rattle.ts_clip.specs.Call.{AreElementsTaken}
 use Rattle.ts_expr.specs.Binding.{Binding}
 use Rattle.ts_expr.specs.declared.item.BoundItem.{BoundItem}
 use Rattle.ts_expr.specs.Fold.{folded_row}
 use Rattle.ts_aggregate.specs.Fold.{Fold}
-use Rattle.ts_aggregate.specs.Call.{AreHanded}
+use Rattle.ts_entry.specs.Handed.{AreHanded}
 use Rattle.ts_aggregate.specs.Groups.{WantedPlan, is_asked, Grouping, closed, made_of, AreOrdered, AreGiven, Stands, AreMade, AreGrouped, IsClosed}
 use Rattle.ts_aggregate.specs.GroupLaws.{made_both, made_as}
 use Rattle.ts_aggregate.proofs.GroupLemmas.{Each, groups_same, kept_within}
@@ -69,25 +67,44 @@ module _ {V : Type 0} (took : V → List Element → V → Type 0)
   all_made : (columns : List Column) (v w u : Grouping) (x y z : V) (es : List Element) → AreGrouped took columns v x es w y
       → IsClosed took w y u z
       → columns ≡ v.fold.binding.columns → v.span.start ≡ None → Stands v [] → AreGiven es
-      → (u.count ≡ length (closed v.wanted None es))
-      × (u.count ≤ most_rows → took x (made_of v.fold.binding.items (closed v.wanted None es)) z)
+      → (u.count ≡ length (closed v.wanted None (seen es)))
+      × (u.count ≤ most_rows → took x (made_of v.fold.binding.items (closed v.wanted None (seen es))) z)
   all_made columns v w u x y z es p q own start stands are =
       let items : List BoundItem = v.fold.binding.items in
       let first = p.taken own [] are stands in
-      let second = q.taken es are first.0 in
-      let both : AreMade took items (closed v.wanted v.span.start []) (closed v.wanted None es) u.count x z =
-      made_both took then items (closed v.wanted v.span.start []) (closed v.wanted w.span.start es)
-      (closed v.wanted None es) w.count u.count x y z q.same.more first.1
-      (made_as took w.fold.binding.items items (closed w.wanted w.span.start es) (closed v.wanted w.span.start es)
-      (closed w.wanted None es) (closed v.wanted None es) u.count y z
-      (ap (λ (b : Binding). b.items) p.same.binding) (ap (λ (a : WantedPlan). closed a w.span.start es) p.same.wanted)
-      (ap (λ (a : WantedPlan). closed a None es) p.same.wanted) second.1) in
+      let second = q.taken (seen es) (given_kept (λ e. not e.1.hidden) es are) first.0 in
+      let both : AreMade took items (closed v.wanted v.span.start []) (closed v.wanted None (seen es)) u.count x z =
+      made_both took then items (closed v.wanted v.span.start []) (closed v.wanted w.span.start (seen es))
+      (closed v.wanted None (seen es)) w.count u.count x y z q.same.more first.1
+      (made_as took w.fold.binding.items items (closed w.wanted w.span.start (seen es)) (closed v.wanted w.span.start (seen es))
+      (closed w.wanted None (seen es)) (closed v.wanted None (seen es)) u.count y z
+      (ap (λ (b : Binding). b.items) p.same.binding) (ap (λ (a : WantedPlan). closed a w.span.start (seen es)) p.same.wanted)
+      (ap (λ (a : WantedPlan). closed a None (seen es)) p.same.wanted) second.1) in
       let none : closed v.wanted v.span.start [] ≡ [] = ap (λ (o : Option ℤ). closed v.wanted o []) start ∙ none_grouped v.wanted in
-      let rows : made_of items (closed v.wanted None es) ≡ both.rows = both.behind
+      let rows : made_of items (closed v.wanted None (seen es)) ≡ both.rows = both.behind
       ∙ ap (λ (l : List Group). made_of items l ++ both.rows) none in (
-        second.0.number ∙ ap (λ (a : WantedPlan). length (closed a None es)) (q.same.wanted ∙ p.same.wanted),
+        second.0.number ∙ ap (λ (a : WantedPlan). length (closed a None (seen es))) (q.same.wanted ∙ p.same.wanted),
         λ few. subst (λ (l : List Element). took x l z) (sym rows) (both.taken few),
       )
+
+-- of elements of a range those that aren't hidden
+kept_both : (p q : Element → Bool) (es : List Element) → filter p (filter q es) ≡ filter q (filter p es)
+kept_both p q [] = refl
+kept_both p q (e ∷ es) = by (p e) (q e) refl refl (kept_both p q es)
+  where
+    by : (b c : Bool) → p e ≡ b → q e ≡ c → filter p (filter q es) ≡ filter q (filter p es)
+        → filter p (cond (q e) (e ∷ filter q es) (filter q es)) ≡ filter q (cond (p e) (e ∷ filter p es) (filter p es))
+    by b c first second rest =
+        ap (λ k. filter p (cond k (e ∷ filter q es) (filter q es))) second ∙ one b c first second
+        ∙ ap (λ k. filter q (cond k (e ∷ filter p es) (filter p es))) (sym first)
+      where
+        one : (b c : Bool) → p e ≡ b → q e ≡ c
+            → filter p (cond c (e ∷ filter q es) (filter q es)) ≡ filter q (cond b (e ∷ filter p es) (filter p es))
+        one true true first second = ap (λ k. cond k (e ∷ filter p (filter q es)) (filter p (filter q es))) first
+            ∙ ap (λ (l : List Element). e ∷ l) rest ∙ ap (λ k. cond k (e ∷ filter q (filter p es)) (filter q (filter p es))) (sym second)
+        one true false first second = rest ∙ ap (λ k. cond k (e ∷ filter q (filter p es)) (filter q (filter p es))) (sym second)
+        one false true first second = ap (λ k. cond k (e ∷ filter p (filter q es)) (filter p (filter q es))) first ∙ rest
+        one false false first second = rest
 
 -- as a call answers
 handed_few : (took : List Element → Type 0) (rows : List Element) (count : ℕ) → count ≡ length rows → count ≤ most_rows → took rows
@@ -110,7 +127,7 @@ module _ {V Name : Type 0} (took : V → List Element → V → Type 0)
     (behind : (t s : ℤ) → IsStamp t → last <ℤ t → held_start wanted.calendar t ≡ Some s → wanted.to <ℤ s)
     (v w u : Grouping) (x y z : V) (es : List Element) (begins : begun ≡ name) (starts : x ≡ first) (same : v.wanted ≡ wanted)
     (folds : v.fold ≡ fold) (start : v.span.start ≡ None) (stands : Stands v [])
-    (taken : AreElementsTaken (λ entries. (going ≡ begun) × AreGrouped took columns v x (elements_of entries) w y) wanted.from last es)
+    (taken : (going ≡ begun) × AreGrouped took columns v x (within_range wanted.from last es) w y)
     (ends : ended ≡ going) (closes : IsClosed took w y u z) (back : name ≡ ended → final ≡ z) (are : AreGiven es)
     (own : columns ≡ fold.binding.columns) where
   abbrev answer : Result (List Element) Refusal
@@ -122,18 +139,19 @@ module _ {V Name : Type 0} (took : V → List Element → V → Type 0)
   grouped_all : (u.count ≡ length rows) × (u.count ≤ most_rows → took first rows final)
   grouped_all =
       let given : AreGiven (seen es) = given_kept (λ e. not e.1.hidden) es are in
-      let p : AreGrouped took columns v x (within_range wanted.from last (seen es)) w y = subst
-      (λ (l : List Element). AreGrouped took columns v x l w y) taken.are taken.taken.1 in
-      let made = all_made took then columns v w u x y z (within_range wanted.from last (seen es)) p closes
-      (own ∙ ap (λ (f : Fold). f.binding.columns) (sym folds)) start stands (given_kept (is_within wanted.from last) (seen es) given) in
-      let is : closed v.wanted None (within_range wanted.from last (seen es)) ≡ grouped wanted.calendar wanted.from wanted.to (seen es) =
-      ap (λ (a : WantedPlan). closed a None (within_range wanted.from last (seen es))) same
+      let own_ : seen (within_range wanted.from last es) ≡ within_range wanted.from last (seen es) =
+      kept_both (λ e. not e.1.hidden) (is_within wanted.from last) es in
+      let made = all_made took then columns v w u x y z (within_range wanted.from last es) taken.1 closes
+      (own ∙ ap (λ (f : Fold). f.binding.columns) (sym folds)) start stands (given_kept (is_within wanted.from last) es are) in
+      let is : closed v.wanted None (seen (within_range wanted.from last es)) ≡ grouped wanted.calendar wanted.from wanted.to (seen es) =
+      ap (closed v.wanted None) own_
+      ∙ ap (λ (a : WantedPlan). closed a None (within_range wanted.from last (seen es))) same
       ∙ range_grouped wanted last behind (seen es) given.ordered in
-      let all : made_of v.fold.binding.items (closed v.wanted None (within_range wanted.from last (seen es))) ≡ rows =
+      let all : made_of v.fold.binding.items (closed v.wanted None (seen (within_range wanted.from last es))) ≡ rows =
       ap (made_of v.fold.binding.items) is ∙ ap (λ (f : Fold). made_of f.binding.items
       (grouped wanted.calendar wanted.from wanted.to (seen es))) folds in
-      let end : final ≡ z = back (sym (ends ∙ taken.taken.0 ∙ begins)) in (
-        made.0 ∙ sym (length-map (closed v.wanted None (within_range wanted.from last (seen es)))
+      let end : final ≡ z = back (sym (ends ∙ taken.0 ∙ begins)) in (
+        made.0 ∙ sym (length-map (closed v.wanted None (seen (within_range wanted.from last es)))
             (λ (g : Group). (g.0, folded_row v.fold.binding.items (map (λ e. e.1) g.1)))) ∙ ap length all,
         λ few. subst (λ (s : V). took s rows final) starts
             (subst (λ (s : V). took x rows s) (sym end) (subst (λ (l : List Element). took x l z) all (made.1 few))),

@@ -8,5 +8,6 @@ pub mod ToldLemmas
 pub mod HandedLemmas
 pub mod RowLemmas
 pub mod FoldingLemmas
-pub mod OneRowLemmas
 pub mod StackLemmas
+pub mod PieceLemmas
+pub mod TurnLemmas

@@ -1,14 +1,16 @@
 -- One step of one that groups elements.
-use Rattle.std.proofs.Common.{◌≡◌, ℕ, ◌+◌, ◌<◌, ◌≤◌, ◌^◌, ℤ, ◌<ℤ◌, Bool, Option, Some, None, List, [], ◌∷◌, ◌++◌, length, refl, sym, ap, subst, ◌∙◌, arith, length-append}
+use Rattle.std.proofs.Common.{◌≡◌, ℕ, ◌+◌, ◌<◌, ◌≤◌, ◌^◌, ℤ, ◌<ℤ◌, Bool, Option, Some, None, List, [], ◌∷◌, ◌++◌, length, refl, sym, ap, subst, ◌∙◌, arith, append_assoc, length-append, cond, true, false, map}
 use Rattle.std.specs.Prelude.{filter, not}
 use Rattle.std.proofs.lemmas.Int.{ints}
 use Rattle.std.proofs.lemmas.List.{map-append, length-map}
+use Rattle.std.proofs.lemmas.List.Elements.{filter-append}
 use Rattle.std.proofs.lemmas.List.Filters.{length-filter_both}
 use Rattle.std.proofs.lemmas.Option.{same_Some}
 use Rattle.ts_base.specs.Moment.{IsStamp}
 use Rattle.ts_row.specs.declared.kind.Column.{Column}
 use Rattle.ts_row.specs.Row.{Row}
-use Rattle.ts_row.specs.Element.{Element}
+use Rattle.ts_row.specs.Element.{Element, seen}
+use Rattle.ts_row.specs.declared.value.Value.{Value}
 use Rattle.ts_calendar.specs.Plan.{CalendarPlan}
 use Rattle.ts_calendar.specs.Intervals.{IsBefore}
 use Rattle.ts_chain.specs.Chain.{AreEarlier, AreLater}
@@ -18,12 +20,17 @@ use Rattle.ts_offset.proofs.OwnLemmas.{from-held}
 use Rattle.ts_entry.specs.Intervals.{Group}
 use Rattle.ts_entry.specs.Reading.{most_rows}
 use Rattle.ts_expr.specs.Binding.{Binding}
-use Rattle.ts_expr.specs.Fold.{folded_row}
+use Rattle.ts_expr.specs.Fold.{folded_row, values_of, value_at, is_null}
+use Rattle.ts_expr.specs.Running.{after, tally_of}
+use Rattle.ts_expr.specs.declared.item.BoundItem.{BoundItem}
+use Rattle.ts_expr.proofs.CallerLemmas.{values_all}
+use Rattle.ts_clip.proofs.ChainCellLemmas.{seen_hidden}
 use Rattle.ts_aggregate.specs.declared.span.Span.{Span}
 use Rattle.ts_aggregate.specs.Fold.{Fold, HasTaken, most_folded}
-use Rattle.ts_aggregate.specs.Groups.{WantedPlan, Grouping, grouping, IsBound, IsSpan, AreWithin, IsGoingOn, AreHeldBy, MayBeOpen, open_group, IsFilled, open_count, closed, rows_of, made_of, AreOrdered, AreGiven, MayTake, Stands, Waits, AreMade, AreGrouped, IsClosed, IsReady}
+use Rattle.ts_aggregate.specs.Groups.{WantedPlan, Grouping, grouping, IsBound, IsSpan, AreWithin, IsGoingOn, AreHeldBy, MayBeOpen, open_group, IsFilled, open_count, closed, rows_of, made_of, AreOrdered, AreGiven, AreBefore, MayTake, Stands, Waits, AreMade, AreGrouped, IsClosed, IsReady}
 use Rattle.ts_aggregate.specs.GroupLaws.{given_front, made_same}
 use Rattle.ts_aggregate.proofs.GroupLemmas.{Each}
+use Rattle.ts_aggregate.proofs.ToldLemmas.{given_kept}
 use Rattle.ts_aggregate.proofs.StartLemmas.{passed_over, closed_same, open_more, closed_all, open_none, closed_last, group_held, none_grouped}
 
 -- the last of ordered elements
@@ -217,9 +224,6 @@ ready_turned took v u span x y at stamp behind p is = record {
 }
 
 -- an element that was awaited is taken
-rows_more : (es : List Element) (e : Element) → rows_of (es ++ e ∷ []) ≡ rows_of es ++ e.1 ∷ []
-rows_more es e = map-append (λ (e : Element). e.1) es (e ∷ [])
-
 held_more : (calendar : CalendarPlan) (s : ℤ) (es : List Element) (e : Element) → held_start calendar e.0 ≡ Some s
     → AreHeldBy calendar s es → AreHeldBy calendar s (es ++ e ∷ [])
 held_more calendar s [] e own by_ = (λ z held. let same : s ≡ z = same_Some s z (sym own ∙ held) in omega (arith, ints, same), tt)
@@ -236,35 +240,49 @@ going_more wanted span given e within is = record {
   bound = is.bound;
 }
 
-taking : (wanted : WantedPlan) (start end : Option ℤ) (columns : List Column) (fold fold' : Fold) (count : ℕ) (given : List Element)
-    (e : Element) → AreGiven (given ++ e ∷ []) → columns ≡ fold.binding.columns
-    → Waits (grouping wanted (record { start = start; end = end }) fold count) e.0 given → MayTake start columns fold e.1 fold'
-    → Stands (grouping wanted (record { start = start; end = end }) fold' count) (given ++ e ∷ [])
-    × (closed wanted start (given ++ e ∷ []) ≡ closed wanted start given)
-taking wanted None end columns fold fold' count given e are own waits takes =
+-- of some elements those that belong to an open group
+abbrev own_of : Option ℤ → List Element → List Element
+own_of None es = []
+own_of (Some s) es = es
+
+own_both : (start : Option ℤ) (es fs : List Element) → own_of start es ++ own_of start fs ≡ own_of start (es ++ fs)
+own_both None es fs = refl
+own_both (Some s) es fs = refl
+
+-- elements of the open group, or of none, were given behind others
+record IsTaken (wanted : WantedPlan) (start end : Option ℤ) (count : ℕ) (given es : List Element) : Type 0 where
+  stands : (fold : Fold) → HasTaken fold (rows_of (open_group wanted start (given ++ es)))
+      → Stands (grouping wanted (record { start = start; end = end }) fold count) (given ++ es)
+  same : closed wanted start (given ++ es) ≡ closed wanted start given
+  more : open_group wanted start (given ++ es) ≡ open_group wanted start given ++ own_of start es
+
+taking : (wanted : WantedPlan) (start end : Option ℤ) (fold : Fold) (count : ℕ) (given : List Element) (e : Element) → AreGiven (given ++ e ∷ [])
+    → Waits (grouping wanted (record { start = start; end = end }) fold count) e.0 given → IsTaken wanted start end count given (e ∷ [])
+taking wanted None end fold count given e are waits =
     let here = waits.span.inside e.0 (last_stamp given e are.ordered) (omega (arith, ints)) waits.span.here in
-    let same : closed wanted None (given ++ e ∷ []) ≡ closed wanted None given = passed_over wanted given e here in (
-      record {
+    let same : closed wanted None (given ++ e ∷ []) ≡ closed wanted None given = passed_over wanted given e here in
+    record {
+      stands = λ now taken. record {
         going = going_more wanted (record { start = None; end = end }) given e waits.within waits.span;
         group = tt;
         filled = tt;
-        folded = subst (λ (f : Fold). HasTaken f []) (sym takes) waits.folded;
+        folded = taken;
         number = waits.number ∙ ap length (sym same);
         few = omega (arith, waits.few, length-append given (e ∷ []));
-      },
-      same,
-    )
-taking wanted (Some s) end columns fold fold' count given e are own waits takes =
+      };
+      same = same;
+      more = refl;
+    }
+taking wanted (Some s) end fold count given e are waits =
     let here = group_held wanted (held_start wanted.calendar e.0) s
     (waits.span.inside e.0 (last_stamp given e are.ordered) (omega (arith, ints)) waits.span.here) in
     let same : closed wanted (Some s) (given ++ e ∷ []) ≡ closed wanted (Some s) given = closed_same wanted s given e here.0 in
     let more : open_group wanted (Some s) (given ++ e ∷ []) ≡ open_group wanted
     (Some s) given ++ e ∷ [] = open_more wanted s given e here.0 in
     let group : List Element = open_group wanted (Some s) given in
-    let fewer : length group ≤ length given = few_kept _ given in
-    let rows : length (rows_of group) ≡ length group = length-map group (λ (e : Element). e.1) in
-    let all : length (given ++ e ∷ []) ≡ length given + 1 = length-append given (e ∷ []) in (
-      record {
+    let all : length (given ++ e ∷ []) ≡ length given + 1 = length-append given (e ∷ []) in
+    record {
+      stands = λ now taken. record {
         going = going_more wanted (record { start = Some s; end = end }) given e waits.within waits.span;
         group = record {
           laid = waits.group.laid;
@@ -273,42 +291,161 @@ taking wanted (Some s) end columns fold fold' count given e are own waits takes 
           last = held_more wanted.calendar s given e here.0 waits.group.last;
         };
         filled = subst (λ (l : List Element). 1 ≤ length l) (sym more) (omega (arith, length-append group (e ∷ [])));
-        folded = subst (λ (l : List Row). HasTaken fold' l) (sym (ap rows_of more ∙ rows_more group e))
-            (takes.taken own (rows_of group) (omega (arith, rows, fewer, all, are.few)) waits.folded);
+        folded = taken;
         number = waits.number ∙ ap length (sym same);
         few = omega (arith, waits.few, all);
-      },
-      same,
-    )
+      };
+      same = same;
+      more = more;
+    }
 
-pub grouped_one : {V : Type 0} (took : V → List Element → V → Type 0) (columns : List Column) (v u : Grouping) (fold : Fold) (x y : V)
-    (at : ℤ) (row : Row) → IsReady took v x at u y → fold.binding ≡ u.fold.binding → MayTake u.span.start columns u.fold row fold
-    → AreGrouped took columns v x ((at, row) ∷ []) (grouping u.wanted u.span fold u.count) y
-grouped_one took columns v u fold x y at row p binding takes = record {
-  same = record { wanted = p.same.wanted; binding = binding ∙ p.same.binding; more = p.same.more };
+-- a fold that has taken these rows
+abbrev after_rows : Binding → List Row → Fold
+after_rows binding rows = record { binding = binding; tallies = after binding.items rows }
+
+-- elements that stand before the end of the span of the first of them
+taking_all : (wanted : WantedPlan) (start end : Option ℤ) (fold : Fold) (count : ℕ) (given : List Element) (e : Element) (more : List Element)
+    → AreGiven (given ++ e ∷ more) → AreBefore end more
+    → Waits (grouping wanted (record { start = start; end = end }) fold count) e.0 given → IsTaken wanted start end count given (e ∷ more)
+taking_all wanted start end fold count given e [] are before waits = taking wanted start end fold count given e are waits
+taking_all wanted start end fold count given e (f ∷ more) are before waits =
+    let front : List Element = given ++ e ∷ [] in
+    let assoc : front ++ f ∷ more ≡ given ++ e ∷ f ∷ more = append_assoc given (e ∷ []) (f ∷ more) in
+    let all : AreGiven (front ++ f ∷ more) = subst AreGiven (sym assoc) are in
+    let own : AreGiven (front ++ f ∷ []) = given_front (front ++ f ∷ []) more (subst AreGiven (sym (append_assoc front (f ∷ []) more)) all) in
+    let first = taking wanted start end fold count given e (given_front front (f ∷ more) all) waits in
+    let now : Fold = after_rows fold.binding (rows_of (open_group wanted start front)) in
+    let stands = first.stands now refl in
+    let next = waits_on (grouping wanted (record { start = start; end = end }) now count) f.0 front before.0 (last_earlier front f own.ordered) stands in
+    let rest = taking_all wanted start end now count front f more all before.1 next in
+    record {
+      stands = λ last taken. subst (Stands (grouping wanted (record { start = start; end = end }) last count)) assoc
+          (rest.stands last (subst (λ (l : List Element). HasTaken last (rows_of (open_group wanted start l))) (sym assoc) taken));
+      same = ap (closed wanted start) (sym assoc) ∙ rest.same ∙ first.same;
+      more = ap (open_group wanted start) (sym assoc) ∙ rest.more ∙ ap (λ (l : List Element). l ++ own_of start (f ∷ more)) first.more
+          ∙ append_assoc (open_group wanted start given) (own_of start (e ∷ [])) (own_of start (f ∷ more))
+          ∙ ap (λ (l : List Element). open_group wanted start given ++ l) (own_both start (e ∷ []) (f ∷ more));
+    }
+
+-- rows that are hidden leave a fold as it is
+shown_rows : (es : List Element) → filter (λ r. not r.hidden) (rows_of es) ≡ filter (λ r. not r.hidden) (rows_of (seen es))
+shown_rows [] = refl
+shown_rows (e ∷ es) = by e.1.hidden refl (shown_rows es)
+  where
+    abbrev shown : List Row → List Row
+    shown rows = filter (λ r. not r.hidden) rows
+
+    by : (b : Bool) → e.1.hidden ≡ b → shown (rows_of es) ≡ shown (rows_of (seen es)) → shown (rows_of (e ∷ es)) ≡ shown (rows_of (seen (e ∷ es)))
+    by true is rest =
+        ap (λ k. cond (not k) (e.1 ∷ shown (rows_of es)) (shown (rows_of es))) is ∙ rest
+        ∙ ap (λ k. shown (rows_of (cond (not k) (e ∷ seen es) (seen es)))) (sym is)
+    by false is rest =
+        ap (λ k. cond (not k) (e.1 ∷ shown (rows_of es)) (shown (rows_of es))) is ∙ ap (λ (l : List Row). e.1 ∷ l) rest
+        ∙ ap (λ k. cond (not k) (e.1 ∷ shown (rows_of (seen es))) (shown (rows_of (seen es)))) (sym is)
+        ∙ ap (λ k. shown (rows_of (cond (not k) (e ∷ seen es) (seen es)))) (sym is)
+
+values_shown : (column : ℕ) (es : List Element) → values_of column (rows_of es) ≡ values_of column (rows_of (seen es))
+values_shown column es = ap (λ (l : List Row). filter (λ v. not (is_null v)) (map (λ r. value_at column r.values) l)) (shown_rows es)
+
+after_shown : (items : List BoundItem) (before : List Row) (es : List Element)
+    → after items (before ++ rows_of es) ≡ after items (before ++ rows_of (seen es))
+after_shown items before es = λ j. map (λ (i : BoundItem). tally_of i.function (same i.column j)) items
+  where
+    same : (column : ℕ) → values_of column (before ++ rows_of es) ≡ values_of column (before ++ rows_of (seen es))
+    same column =
+        values_all column before (rows_of es) ∙ ap (λ (l : List Value). values_of column before ++ l) (values_shown column es)
+        ∙ sym (values_all column before (rows_of (seen es)))
+
+-- a fold takes the rows of elements, hidden ones too, where a group is open
+fold_taken : (wanted : WantedPlan) (start : Option ℤ) (columns : List Column) (fold fold' : Fold) (given es own : List Element)
+    → columns ≡ fold.binding.columns → MayTake start columns fold (rows_of es) fold' → HasTaken fold (rows_of (open_group wanted start given))
+    → seen es ≡ own → length given + length es ≤ most_folded
+    → HasTaken fold' (rows_of (open_group wanted start given ++ own_of start own))
+fold_taken wanted None columns fold fold' given es own are takes was shown few = subst (λ (f : Fold). HasTaken f []) (sym takes) was
+fold_taken wanted (Some s) columns fold fold' given es own are takes was shown few =
+    let group : List Element = open_group wanted (Some s) given in
+    let rows : length (rows_of group) ≡ length group = length-map group (λ (e : Element). e.1) in
+    let others : length (rows_of es) ≡ length es = length-map es (λ (e : Element). e.1) in
+    let fewer : length group ≤ length given = few_kept _ given in
+    takes.taken are (rows_of group) (omega (arith, few, rows, others, fewer)) was
+    ∙ after_shown fold'.binding.items (rows_of group) es
+    ∙ ap (λ (l : List Element). after fold'.binding.items (rows_of group ++ rows_of l)) shown
+    ∙ ap (after fold'.binding.items) (sym (map-append (λ (e : Element). e.1) group own))
+
+taken_binding : (start : Option ℤ) (columns : List Column) (v w : Fold) (rows : List Row) → MayTake start columns v rows w → w.binding ≡ v.binding
+taken_binding None columns v w rows takes = ap (λ (f : Fold). f.binding) takes
+taken_binding (Some s) columns v w rows takes = takes.same
+
+-- one that isn't hidden, with those that come behind it
+shown_first : (given : List Element) (e : Element) (more : List Element) → e.1.hidden ≡ false → seen (given ++ e ∷ more) ≡ seen given ++ e ∷ seen more
+shown_first given e more shown =
+    filter-append (λ (e : Element). not e.1.hidden) given (e ∷ more)
+    ∙ ap (λ k. seen given ++ cond (not k) (e ∷ seen more) (seen more)) shown
+
+before_kept : (end : Option ℤ) (es : List Element) → AreBefore end es → AreBefore end (seen es)
+before_kept end [] before = tt
+before_kept end (e ∷ es) before = by (not e.1.hidden) (before_kept end es before.1)
+  where
+    by : (b : Bool) → AreBefore end (seen es) → AreBefore end (cond b (e ∷ seen es) (seen es))
+    by true rest = (before.0, rest)
+    by false rest = rest
+
+pub group_taken : {V : Type 0} (took : V → List Element → V → Type 0) (columns : List Column) (v u : Grouping) (fold : Fold) (x y : V)
+    (e : Element) (more : List Element) → IsReady took v x e.0 u y → e.1.hidden ≡ false → AreBefore u.span.end more
+    → MayTake u.span.start columns u.fold (rows_of (e ∷ more)) fold
+    → AreGrouped took columns v x (e ∷ more) (grouping u.wanted u.span fold u.count) y
+group_taken took columns v u fold x y e more p shown before takes = record {
+  same = record {
+    wanted = p.same.wanted;
+    binding = taken_binding u.span.start columns u.fold fold (rows_of (e ∷ more)) takes ∙ p.same.binding;
+    more = p.same.more;
+  };
   taken = λ own given are stands.
-      let w = p.taken given (given_front given ((at, row) ∷ []) are) (last_earlier given (at, row) are.ordered) stands in
-      let t = taking u.wanted u.span.start u.span.end columns u.fold fold u.count given (at, row) are
-      (own ∙ ap (λ (b : Binding). b.columns) (sym p.same.binding)) w.0 takes in (
-        t.0,
-        subst (λ (l : List Group). AreMade took v.fold.binding.items (closed v.wanted v.span.start given) l u.count x y)
-            (sym (ap (λ (a : WantedPlan). closed a u.span.start (given ++ (at, row) ∷ [])) (sym p.same.wanted) ∙ t.1
-            ∙ ap (λ (a : WantedPlan). closed a u.span.start given) p.same.wanted)) w.1,
+      let gs : List Element = seen given in
+      let ms : List Element = seen more in
+      let parts : seen (given ++ e ∷ more) ≡ gs ++ e ∷ ms = shown_first given e more shown in
+      let all : AreGiven (gs ++ e ∷ ms) = subst AreGiven parts (given_kept (λ e. not e.1.hidden) (given ++ e ∷ more) are) in
+      let first : AreGiven (gs ++ e ∷ []) = given_front (gs ++ e ∷ []) ms (subst AreGiven (sym (append_assoc gs (e ∷ []) ms)) all) in
+      let w = p.taken gs (given_front gs (e ∷ ms) all) (last_earlier gs e first.ordered) stands in
+      let t = taking_all u.wanted u.span.start u.span.end u.fold u.count gs e ms all (before_kept u.span.end more before) w.0 in
+      let few : length gs + length (e ∷ more) ≤ most_folded = omega
+      (arith, are.few, length-append given (e ∷ more), few_kept (λ e. not e.1.hidden) given) in
+      let folds : HasTaken fold (rows_of (open_group u.wanted u.span.start gs ++ own_of u.span.start (e ∷ ms))) =
+      fold_taken u.wanted u.span.start columns u.fold fold gs (e ∷ more) (e ∷ ms)
+      (own ∙ ap (λ (b : Binding). b.columns) (sym p.same.binding)) takes w.0.folded (shown_first [] e more shown) few in (
+        subst (Stands (grouping u.wanted u.span fold u.count)) (sym parts)
+            (t.stands fold (subst (λ (l : List Element). HasTaken fold (rows_of l)) (sym t.more) folds)),
+        subst (λ (l : List Group). AreMade took v.fold.binding.items (closed v.wanted v.span.start gs) l u.count x y)
+            (sym (ap (closed v.wanted u.span.start) parts
+            ∙ ap (λ (a : WantedPlan). closed a u.span.start (gs ++ e ∷ ms)) (sym p.same.wanted) ∙ t.same
+            ∙ ap (λ (a : WantedPlan). closed a u.span.start gs) p.same.wanted)) w.1,
       );
 }
 
-taken_binding : (start : Option ℤ) (columns : List Column) (v w : Fold) (row : Row) → MayTake start columns v row w → w.binding ≡ v.binding
-taken_binding None columns v w row takes = ap (λ (f : Fold). f.binding) takes
-taken_binding (Some s) columns v w row takes = takes.same
-
-pub element_grouped : {V : Type 0} (took : V → List Element → V → Type 0) (columns : List Column) (v u w : Grouping) (x y z : V) (at : ℤ)
-    (row : Row) → IsReady took v x at u y → w.wanted ≡ u.wanted → w.span ≡ u.span → w.count ≡ u.count → z ≡ y
-    → MayTake u.span.start columns u.fold row w.fold → AreGrouped took columns v x ((at, row) ∷ []) w z
-element_grouped {V} took columns v u w x y z at row ready wanted span count out takes =
-    let one = grouped_one took columns v u w.fold x y at row ready (taken_binding u.span.start columns u.fold w.fold row takes) takes in
+-- the same, as the parts of one that groups elements tell
+pub piece_grouped : {V : Type 0} (took : V → List Element → V → Type 0) (columns : List Column) (v u w : Grouping) (x y z : V) (e : Element)
+    (more : List Element) → IsReady took v x e.0 u y → e.1.hidden ≡ false → AreBefore u.span.end more → w.wanted ≡ u.wanted → w.span ≡ u.span
+    → w.count ≡ u.count → z ≡ y
+    → MayTake u.span.start columns u.fold (rows_of (e ∷ more)) w.fold → AreGrouped took columns v x (e ∷ more) w z
+piece_grouped {V} took columns v u w x y z e more ready shown before wanted span count out takes =
+    let one = group_taken took columns v u w.fold x y e more ready shown before takes in
     let same : grouping u.wanted u.span w.fold u.count ≡ w = λ j. grouping (sym wanted j) (sym span j) w.fold (sym count j) in
-    subst (λ (s : V). AreGrouped took columns v x ((at, row) ∷ []) w s) (sym out)
-    (subst (λ (a : Grouping). AreGrouped took columns v x ((at, row) ∷ []) a y) same one)
+    subst (λ (s : V). AreGrouped took columns v x (e ∷ more) w s) (sym out)
+    (subst (λ (a : Grouping). AreGrouped took columns v x (e ∷ more) a y) same one)
+
+-- one that is hidden is passed over
+pub hidden_passed : {V : Type 0} (took : V → List Element → V → Type 0) (none : (x : V) → took x [] x) (columns : List Column) (v : Grouping)
+    (x : V) (e : Element) → e.1.hidden ≡ true → AreGrouped took columns v x (e ∷ []) v x
+hidden_passed took none columns v x e hidden = record {
+  same = record { wanted = refl; binding = refl; more = omega arith };
+  taken = λ own given are stands.
+      let same : seen (given ++ e ∷ []) ≡ seen given = seen_hidden given e hidden in (
+        subst (Stands v) (sym same) stands,
+        made_same took none v.fold.binding.items (closed v.wanted v.span.start (seen given))
+            (closed v.wanted v.span.start (seen (given ++ e ∷ []))) v.count x
+            (ap (closed v.wanted v.span.start) same),
+      );
+}
 
 -- before any element
 pub stands_none : (wanted : WantedPlan) (span : Span) (fold : Fold) → span.start ≡ None → IsGoingOn wanted span [] → HasTaken fold []

@@ -3,11 +3,9 @@
 use Rattle.std.proofs.Common.{◌≡◌, ℕ, ◌≤◌, ℤ, List, [], ◌∷◌, ◌++◌, length, refl, sym, ap, subst, ◌∙◌, zero-le}
 use Rattle.std.proofs.Common.{append-nil, append_assoc}
 use Rattle.std.proofs.Math.Nat.{le_refl, le_trans, lt_of_le_of_lt, suc-le-suc_iff}
-use Rattle.std.proofs.lemmas.List.Elements.{filter_map-append}
 use Rattle.ts_row.specs.declared.kind.Column.{Column}
-use Rattle.ts_row.specs.Element.{Element}
+use Rattle.ts_row.specs.Element.{Element, seen}
 use Rattle.ts_chain.specs.Chain.{AreLater}
-use Rattle.ts_entry.specs.Entry.{Entry, element_of, elements_of}
 use Rattle.ts_entry.specs.Intervals.{Group}
 use Rattle.ts_expr.specs.declared.item.BoundItem.{BoundItem}
 use Rattle.ts_expr.specs.Binding.{Binding}
@@ -72,12 +70,13 @@ module _ {V : Type 0} (took : V → List Element → V → Type 0) where
       → AreGrouped took columns v x [] v x
   grouped_none none columns v x = record {
     same = record { wanted = refl; binding = refl; more = le_refl v.count };
-    taken = λ own given are stands. (
-      subst (Stands v) (sym (append-nil given)) stands,
-      made_same none v.fold.binding.items (closed v.wanted v.span.start given)
-          (closed v.wanted v.span.start (given ++ [])) v.count x
-          (ap (closed v.wanted v.span.start) (append-nil given)),
-    );
+    taken = λ own given are stands.
+        let all : seen (given ++ []) ≡ seen given = ap seen (append-nil given) in (
+          subst (Stands v) (sym all) stands,
+          made_same none v.fold.binding.items (closed v.wanted v.span.start (seen given))
+              (closed v.wanted v.span.start (seen (given ++ []))) v.count x
+              (ap (closed v.wanted v.span.start) all),
+        );
   }
 
   goes_both : (u v w : Grouping) → GoesOn u v → GoesOn v w → GoesOn u w
@@ -88,38 +87,31 @@ module _ {V : Type 0} (took : V → List Element → V → Type 0) where
         le_trans p.more q.more;
   }
 
-  grouped_both : (then : (x y z : V) (es fs : List Element) → took x es y → took y fs z → took x (es ++ fs) z)
+  pub grouped_then : (then : (x y z : V) (es fs : List Element) → took x es y → took y fs z → took x (es ++ fs) z)
       (columns : List Column)
       (u v w : Grouping) (x y z : V) (es fs : List Element)
       → AreGrouped took columns u x es v y → AreGrouped took columns v y fs w z
       → AreGrouped took columns u x (es ++ fs) w z
-  grouped_both then columns u v w x y z es fs p q = record {
+  grouped_then then columns u v w x y z es fs p q = record {
     same = goes_both u v w p.same q.same;
     taken = λ own given are stands.
         let assoc = append_assoc given es fs in
+        let both : seen ((given ++ es) ++ fs) ≡ seen (given ++ (es ++ fs)) = ap seen assoc in
         let all : AreGiven ((given ++ es) ++ fs) = subst AreGiven (sym assoc) are in
         let first = p.taken own given (given_front (given ++ es) fs all) stands in
         let second = q.taken (own ∙ ap (λ (b : Binding). b.columns) (sym p.same.binding)) (given ++ es) all first.0 in (
-          subst (Stands w) assoc second.0,
-          made_both then u.fold.binding.items (closed u.wanted u.span.start given)
-              (closed u.wanted v.span.start (given ++ es))
-              (closed u.wanted w.span.start (given ++ (es ++ fs))) v.count w.count x y z q.same.more first.1
-              (made_as v.fold.binding.items u.fold.binding.items (closed v.wanted v.span.start (given ++ es))
-              (closed u.wanted v.span.start (given ++ es))
-              (closed v.wanted w.span.start ((given ++ es) ++ fs))
-              (closed u.wanted w.span.start (given ++ (es ++ fs))) w.count y z
+          subst (Stands w) both second.0,
+          made_both then u.fold.binding.items (closed u.wanted u.span.start (seen given))
+              (closed u.wanted v.span.start (seen (given ++ es)))
+              (closed u.wanted w.span.start (seen (given ++ (es ++ fs)))) v.count w.count x y z q.same.more first.1
+              (made_as v.fold.binding.items u.fold.binding.items (closed v.wanted v.span.start (seen (given ++ es)))
+              (closed u.wanted v.span.start (seen (given ++ es)))
+              (closed v.wanted w.span.start (seen ((given ++ es) ++ fs)))
+              (closed u.wanted w.span.start (seen (given ++ (es ++ fs)))) w.count y z
               (ap (λ (b : Binding). b.items) p.same.binding)
-              (ap (λ (a : WantedPlan). closed a v.span.start (given ++ es)) p.same.wanted)
-              (ap (λ (a : WantedPlan). closed a w.span.start ((given ++ es) ++ fs)) p.same.wanted ∙ ap
-              (closed u.wanted w.span.start) assoc)
+              (ap (λ (a : WantedPlan). closed a v.span.start (seen (given ++ es))) p.same.wanted)
+              (ap (λ (a : WantedPlan). closed a w.span.start (seen ((given ++ es) ++ fs))) p.same.wanted ∙ ap
+              (closed u.wanted w.span.start) both)
               second.1),
         );
   }
-
-  pub grouped_then : (then : (x y z : V) (es fs : List Element) → took x es y → took y fs z → took x (es ++ fs) z)
-      (columns : List Column) (u v w : Grouping) (x y z : V) (es fs : List Entry)
-      → AreGrouped took columns u x (elements_of es) v y → AreGrouped took columns v y (elements_of fs) w z
-      → AreGrouped took columns u x (elements_of (es ++ fs)) w z
-  grouped_then then columns u v w x y z es fs p q =
-      subst (λ (l : List Element). AreGrouped took columns u x l w z) (sym (filter_map-append element_of es fs))
-      (grouped_both then columns u v w x y z (elements_of es) (elements_of fs) p q)

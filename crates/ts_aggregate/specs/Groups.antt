@@ -1,10 +1,10 @@
 -- Elements in the order of their stamps, grouped by the on intervals of a calendar that hold them: one group is open,
 -- those before it are closed.
-use Rattle.std.specs.Prelude.{◌≡◌, ℕ, ◌+◌, ◌<◌, ◌≤◌, ◌^◌, ℤ, ◌<ℤ◌, ◌≤ℤ◌, int_lt, Bool, true, not, ◌&&◌, if◌then◌else◌}
-use Rattle.std.specs.Prelude.{Option, Some, None, List, [], ◌∷◌, ◌++◌, length, map, filter}
+use Rattle.std.specs.Prelude.{◌≡◌, ℕ, ◌+◌, ◌<◌, ◌≤◌, ◌^◌, ℤ, ◌<ℤ◌, ◌≤ℤ◌, int_lt, Bool, true, false, not, ◌&&◌}
+use Rattle.std.specs.Prelude.{if◌then◌else◌, IfSome, Option, Some, None, List, [], ◌∷◌, ◌++◌, length, map, filter}
 use Rattle.ts_base.specs.Moment.{IsStamp}
 use Rattle.ts_row.specs.Row.{Row}
-use Rattle.ts_row.specs.Element.{Element}
+use Rattle.ts_row.specs.Element.{Element, seen}
 use Rattle.ts_row.specs.declared.kind.Column.{Column}
 use Rattle.ts_calendar.specs.Plan.{CalendarPlan}
 use Rattle.ts_calendar.specs.Intervals.{IsBefore, IsLaid}
@@ -130,10 +130,25 @@ pub record Grouping : Type 0 where
 abbrev pub grouping : WantedPlan → Span → Fold → ℕ → Grouping
 grouping wanted span fold count = record { wanted = wanted; span = span; fold = fold; count = count }
 
--- a row is folded, where a group is open
-abbrev pub MayTake : Option ℤ → List Column → Fold → Row → Fold → Type 0
-MayTake None columns v row w = w ≡ v
-MayTake (Some s) columns v row w = Takes columns v (row ∷ []) w
+-- the element of the first cell, if there is one, stands before an end
+abbrev pub IsFirstBefore : Option ℤ → List (Option Element) → Type 0
+IsFirstBefore end [] = Unit {0}
+IsFirstBefore end (found ∷ others) = IfSome found (λ e. IsBefore e.0 end)
+
+-- a cell has an element that isn't hidden
+abbrev pub is_seen : Option Row → Bool
+is_seen None = false
+is_seen (Some row) = not row.hidden
+
+-- rows are folded, where a group is open
+abbrev pub MayTake : Option ℤ → List Column → Fold → List Row → Fold → Type 0
+MayTake None columns v rows w = w ≡ v
+MayTake (Some s) columns v rows w = Takes columns v rows w
+
+-- each of the elements stands before an end, if there is one
+abbrev pub AreBefore : Option ℤ → List Element → Type 0
+AreBefore end [] = Unit {0}
+AreBefore end (e ∷ es) = IsBefore e.0 end × AreBefore end es
 
 -- it has these elements: those of the open group are folded, and the others counted
 pub record Stands (v : Grouping) (given : List Element) : Type 0 where
@@ -174,15 +189,16 @@ pub record GoesOn (v w : Grouping) : Type 0 where
   pub binding : w.fold.binding ≡ v.fold.binding
   pub more : v.count ≤ w.count
 
--- From one state to another these elements were taken.
+-- From one state to another these elements were taken, of which those that are hidden belong to no group.
 pub record AreGrouped {V : Type 0} (took : V → List Element → V → Type 0) (columns : List Column) (v : Grouping) (x : V)
     (es : List Element)
     (w : Grouping) (y : V) : Type 0 where
   pub same : GoesOn v w
-  pub taken : columns ≡ v.fold.binding.columns → (given : List Element) → AreGiven (given ++ es) → Stands v given
-      → Stands w (given ++ es)
-      × AreMade took v.fold.binding.items (closed v.wanted v.span.start given)
-      (closed v.wanted w.span.start (given ++ es)) w.count x y
+  pub taken : columns ≡ v.fold.binding.columns → (given : List Element) → AreGiven (given ++ es) → Stands v (seen given)
+      → Stands w (seen (given ++ es))
+      × AreMade took v.fold.binding.items (closed v.wanted v.span.start (seen given))
+      (closed v.wanted w.span.start (seen (given ++ es)))
+      w.count x y
 
 -- From one state to another the open group was closed.
 pub record IsClosed {V : Type 0} (took : V → List Element → V → Type 0) (v : Grouping) (x : V) (w : Grouping)

@@ -1,9 +1,10 @@
 -- Rows that are taken one after the other.
-use Rattle.std.specs.Prelude.{List, [], ◌++◌, refl}
-use Rattle.std.proofs.Common.{append_assoc, sym, ap, ◌∙◌}
-use Rattle.std.proofs.lemmas.List.{append-nil}
+use Rattle.std.specs.Prelude.{List, [], ◌++◌, map, refl}
+use Rattle.std.proofs.Common.{append_assoc, sym, ap, subst, ◌∙◌}
+use Rattle.std.proofs.lemmas.List.{append-nil, map-append}
 use Rattle.ts_row.specs.declared.kind.Column.{Column}
 use Rattle.ts_row.specs.Row.{Row}
+use Rattle.ts_row.specs.Element.{Element}
 use Rattle.ts_expr.specs.Binding.{Binding}
 use Rattle.ts_expr.specs.Running.{after}
 use Rattle.ts_expr.proofs.CallerLemmas.{few_first, few_behind}
@@ -28,3 +29,11 @@ both_taken columns a b c rs others p q = record {
       (p.taken is before (few_first before rs others most_folded few) was)
       ∙ ap (after c.binding.items) (append_assoc before rs others);
 }
+
+-- the same of the rows of elements
+pub elements_taken : (columns : List Column) (a b c : Fold) (es others : List Element)
+    → Takes columns a (map (λ e. e.1) es) b
+    → Takes columns b (map (λ e. e.1) others) c → Takes columns a (map (λ e. e.1) (es ++ others)) c
+elements_taken columns a b c es others p q = subst (λ (l : List Row). Takes columns a l c)
+    (sym (map-append (λ (e : Element). e.1) es others))
+    (both_taken columns a b c (map (λ e. e.1) es) (map (λ e. e.1) others) p q)

@@ -1,19 +1,25 @@
 // One that groups the elements that it is handed.
-ghost use Rattle.std.specs.Prelude.{◌≡◌, ◌+◌, ◌-◌, ◌^◌, ◌≤◌, min, [], ◌∷◌, None, OnOk, IfOk, length};
+ghost use Rattle.std.specs.Prelude.{◌≡◌, ℕ, ◌+◌, ◌-◌, ◌*◌, ◌^◌, ◌<◌, ◌≤◌, min, [], ◌∷◌, Option, None, OnOk, IfOk, List};
+ghost use Rattle.std.specs.Prelude.{length, map, take};
 ghost use Rattle.ts_row.specs.Row.{Row as TheRow};
+ghost use Rattle.ts_row.specs.Element.{Element};
 ghost use Rattle.ts_row.specs.RowType.{width_of};
-ghost use Rattle.ts_entry.specs.Entry.{AreSeenBytes};
+ghost use Rattle.ts_calendar.specs.Intervals.{IsBefore};
+ghost use Rattle.ts_entry.specs.Stamps.{IsNear};
+ghost use Rattle.ts_entry.specs.Rows.{IsCellWith, AreCellsWith, AreStamped, elements_in, row_if_any, rows_in};
 ghost use Rattle.ts_entry.specs.Reading.{most_rows};
+ghost use Rattle.ts_aggregate.specs.Column.{AreRowCells};
 ghost use Rattle.ts_aggregate.specs.Fold.{HasTaken};
-ghost use Rattle.ts_aggregate.specs.Groups.{grouping, IsClosed, IsReady, MayTake, Stands};
+ghost use Rattle.ts_aggregate.specs.Groups.{AreGrouped, grouping, is_seen, IsClosed, IsReady, MayTake, Stands};
 
 use crate::Folding;
-use crate::one_row::OneRow;
+use crate::cells::RowCells;
+use crate::run::cells_before;
 use crate::span::{Span, is_before};
 use crate::wanted::WantedIntervals;
 use std::alloc::AllocError;
 use ts_base::Stamp;
-use ts_entry::{ElementVisitor, EntryVisitor};
+use ts_entry::{ElementVisitor, RowVisitor, Stamps};
 use ts_row::{Row, RowType};
 
 /// The most rows of a reply.
@@ -31,8 +37,6 @@ pub(crate) struct ByInterval<'a, 'b, V> {
     out: &'a mut V,
     /// How many groups are closed.
     count: u64,
-    /// Where a row is copied that is folded.
-    one: OneRow,
 }
 
 impl<'a, 'b, V: ElementVisitor> ByInterval<'a, 'b, V> {
@@ -57,7 +61,6 @@ impl<'a, 'b, V: ElementVisitor> ByInterval<'a, 'b, V> {
             folding,
             out,
             count: 0,
-            one: OneRow::new(),
         }
     }
 
@@ -111,6 +114,7 @@ impl<'a, 'b, V: ElementVisitor> ByInterval<'a, 'b, V> {
         ensures ready { OnOk result (IsReady V.took
             (grouping self.old.wanted.now self.old.span self.old.folding.now self.old.count) self.old.out.now stamp
             (grouping self.new.wanted.now self.new.span self.new.folding.now self.new.count) self.new.out.now) }
+        ensures here { OnOk result (IsBefore stamp self.new.span.end) }
     {
         if is_before(stamp, self.span.end) {
             return Ok(());
@@ -120,42 +124,108 @@ impl<'a, 'b, V: ElementVisitor> ByInterval<'a, 'b, V> {
         Ok(())
     }
 
-    // Folds a row, where a group is open.
-    fn fold(&mut self, kind: &RowType, row: &[u8]) -> Result<(), AllocError>
-        requires size { length row.now ≡ width_of kind.now.columns }
+    // Folds the rows in cells, where a group is open.
+    fn fold(&mut self, kind: &RowType, cells: &[u8], front: usize) -> Result<(), AllocError>
+        requires front { 0 < front }
+        requires whole { (n : ℕ) × (length cells.now ≡ n * (front + width_of kind.now.columns)) }
         ensures same { self.new.out.ghost_name ≡ self.old.out.ghost_name }
         ensures out { self.new.out.now ≡ self.old.out.now }
         ensures wanted { self.new.wanted.now ≡ self.old.wanted.now }
         ensures span { self.new.span ≡ self.old.span }
         ensures count { self.new.count ≡ self.old.count }
-        ensures takes { OnOk result ((r : TheRow) → AreSeenBytes kind.now.columns row.now r
-            → MayTake self.old.span.start kind.now.columns self.old.folding.now r self.new.folding.now) }
+        ensures takes { OnOk result ((found : List (Option TheRow))
+            → AreCellsWith kind.now.columns front cells.now found
+            → MayTake self.old.span.start kind.now.columns self.old.folding.now (rows_in found) self.new.folding.now) }
     {
         if self.span.start.is_some() {
-            self.one.fold(self.folding, kind, row)?;
+            self.folding.take(kind, cells, front)?;
         }
         Ok(())
     }
+
+    // Takes the first of some cells, and with it those behind it that belong to its group; tells how many they are.
+    fn take_group(
+        &mut self,
+        kind: &RowType,
+        cells: RowCells<'_>,
+        stamps: &Stamps<'_>,
+        number: usize,
+    ) -> Result<usize, AllocError>
+        requires whole { AreRowCells kind.now.columns cells }
+        requires some { 0 < cells.left }
+        requires near { IsNear stamps.now }
+        requires number { number + cells.left < 2 ^ 63 }
+        ensures same { self.new.out.ghost_name ≡ self.old.out.ghost_name }
+        ensures count { IfOk result (λ n. (1 ≤ n) × (n ≤ cells.entry.left)) }
+        ensures took { IfOk result (λ n. (found : List (Option Element))
+            → AreCellsWith kind.now.columns cells.entry.front cells.entry.bytes.now (map row_if_any found)
+            → AreStamped stamps.now cells.entry.size number cells.entry.bytes.now found
+            → AreGrouped V.took kind.now.columns
+            (grouping self.old.wanted.now self.old.span self.old.folding.now self.old.count)
+            self.old.out.now (elements_in (take n found))
+            (grouping self.new.wanted.now self.new.span self.new.folding.now self.new.count) self.new.out.now) }
+    {
+        let (cell, _) = cells.bytes.split_at(cells.size);
+        if !is_shown(kind, cell, cells.front) {
+            return Ok(1);
+        }
+        let Some(stamp) = stamps.stamp(number, cell) else {
+            return Ok(1);
+        };
+        self.reach(stamp)?;
+        let count = cells_before(cells, stamps, number, self.span.end);
+        let (piece, _) = cells.bytes.split_at(count * cells.size);
+        self.fold(kind, piece, cells.front)?;
+        Ok(count)
+    }
 }
 
-impl<'a, 'b, V: ElementVisitor> EntryVisitor for ByInterval<'a, 'b, V> {
+// Whether an element that isn't hidden stands in a cell, whose row stands behind so many bytes.
+fn is_shown(kind: &RowType, cell: &[u8], front: usize) -> bool
+    requires some { 0 < front }
+    requires front { front ≤ length cell.now }
+    ensures { (found : Option TheRow) → IsCellWith kind.now.columns front cell.now found → result ≡ is_seen found }
+{
+    cell[0] == 1 && !kind.is_hidden(&cell[front..])
+}
+
+impl<'a, 'b, V: ElementVisitor> RowVisitor for ByInterval<'a, 'b, V> {
     ghost use Rattle.std.specs.Prelude.{◌≡◌};
     ghost use Rattle.std.proofs.Common.{refl, ◌∙◌};
-    ghost use Rattle.ts_entry.specs.Entry.{elements_of};
     ghost use Rattle.ts_aggregate.specs.Groups.{AreGrouped, grouping};
     ghost use Rattle.ts_aggregate.specs.GroupLaws.{grouped_none, grouped_then};
 
     ghost took = { λ columns v es w. (w.out.ghost_name ≡ v.out.ghost_name)
-        × AreGrouped V.took columns (grouping v.wanted.now v.span v.folding.now v.count) v.out.now (elements_of es)
+        × AreGrouped V.took columns (grouping v.wanted.now v.span v.folding.now v.count) v.out.now es
         (grouping w.wanted.now w.span w.folding.now w.count) w.out.now };
 
-    fn element(&mut self, kind: &RowType, stamp: Stamp, row: &[u8]) -> Result<(), AllocError> {
-        self.reach(stamp)?;
-        self.fold(kind, row)?;
-        Ok(())
-    }
-
-    fn blank(&mut self, _kind: &RowType, _stamp: Stamp) -> Result<(), AllocError> {
+    fn rows(
+        &mut self,
+        kind: &RowType,
+        cells: &[u8],
+        front: usize,
+        stamps: &Stamps<'_>,
+    ) -> Result<(), AllocError> {
+        if cells.is_empty() {
+            return Ok(());
+        }
+        let size = front + kind.width();
+        let mut left = cells.len() / size;
+        let mut rest = cells;
+        let mut number = 0;
+        while left > 0 {
+            let near = RowCells {
+                size,
+                front,
+                left,
+                bytes: rest,
+            };
+            let count = self.take_group(kind, near, stamps, number)?;
+            let (_, behind) = rest.split_at(count * size);
+            rest = behind;
+            left -= count;
+            number += count;
+        }
         Ok(())
     }
 

@@ -1,20 +1,20 @@
 // A fold of rows in their bytes.
-ghost use Rattle.std.specs.Prelude.{◌≡◌, ◌+◌, ◌≤◌, ◌<◌, [], ◌++◌, IfOk, OnOk, IsTrue, All, List, Option, length, map};
-ghost use Rattle.std.specs.Prelude.{take};
+ghost use Rattle.std.specs.Prelude.{◌≡◌, ℕ, ◌+◌, ◌*◌, ◌≤◌, ◌<◌, [], ◌++◌, IfOk, OnOk, IsTrue, All, List, Option};
+ghost use Rattle.std.specs.Prelude.{length, map, take};
 ghost use Rattle.std.specs.List.{list_all};
 ghost use Rattle.ts_row.specs.Row.{Row as TheRow};
 ghost use Rattle.ts_row.specs.RowType.{is_kind, width_of};
 ghost use Rattle.ts_entry.specs.Rows.{AreCellsWith, rows_in};
 ghost use Rattle.ts_expr.specs.Fold.{folded_row};
 ghost use Rattle.ts_expr.specs.Running.{after, value_of};
-ghost use Rattle.ts_aggregate.specs.Fold.{HasTaken, AreTallies, most_folded};
+ghost use Rattle.ts_aggregate.specs.Fold.{HasTaken, AreTallies, Takes, most_folded};
 ghost use Rattle.ts_aggregate.specs.Column.{AreRowCells};
 
 use crate::cells::{Cells, RowCells, ValuePosition};
 use crate::column::take_column;
 use std::alloc::{AllocError, Global};
 use std::marker::Model;
-use ts_entry::RowVisitor;
+use ts_entry::{RowVisitor, Stamps};
 use ts_expr::{Bound, BoundItem, Tally};
 use ts_row::{Column, Row, RowType, Value};
 
@@ -61,13 +61,19 @@ impl<'a> Folding<'a> {
     }
 }
 
-impl<'a> RowVisitor for Folding<'a> {
-    ghost use Rattle.ts_aggregate.specs.Fold.{Takes};
-    ghost use Rattle.ts_aggregate.specs.Takes.{none_taken, both_taken};
-
-    ghost took = { Takes };
-
-    fn rows(&mut self, kind: &RowType, cells: &[u8], front: usize) -> Result<(), AllocError> {
+impl<'a> Folding<'a> {
+    /// Takes the rows in cells that stand one behind the other, in each behind so many bytes, hidden ones too.
+    pub(crate) fn take(
+        &mut self,
+        kind: &RowType,
+        cells: &[u8],
+        front: usize,
+    ) -> Result<(), AllocError>
+        requires front { 0 < front }
+        requires whole { (n : ℕ) × (length cells.now ≡ n * (front + width_of kind.now.columns)) }
+        ensures took { OnOk result ((found : List (Option TheRow)) → AreCellsWith kind.now.columns front cells.now found
+            → Takes kind.now.columns self.old (rows_in found) self.new) }
+    {
         if cells.is_empty() {
             return Ok(());
         }
@@ -90,10 +96,28 @@ impl<'a> RowVisitor for Folding<'a> {
             &mut self.tallies,
         )
     }
+}
+
+impl<'a> RowVisitor for Folding<'a> {
+    ghost use Rattle.std.specs.Prelude.{map};
+    ghost use Rattle.ts_aggregate.specs.Fold.{Takes};
+    ghost use Rattle.ts_aggregate.specs.Takes.{none_taken, elements_taken};
+
+    ghost took = { λ columns v es w. Takes columns v (map (λ e. e.1) es) w };
+
+    fn rows(
+        &mut self,
+        kind: &RowType,
+        cells: &[u8],
+        front: usize,
+        _stamps: &Stamps<'_>,
+    ) -> Result<(), AllocError> {
+        self.take(kind, cells, front)
+    }
 
     ghost none = { none_taken };
 
-    ghost then = { both_taken };
+    ghost then = { λ columns a b c es others p q. elements_taken columns a b c es others p q };
 }
 
 // What the items make of what is known of the rows; then nothing is known.

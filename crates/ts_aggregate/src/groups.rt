@@ -9,13 +9,13 @@ ghost use Rattle.ts_entry.specs.Intervals.{by_interval};
 ghost use Rattle.ts_clip.specs.Series.{IsLaidOut, ArePlaces, IsTold};
 ghost use Rattle.ts_expr.specs.Fold.{folded_row};
 ghost use Rattle.ts_aggregate.specs.Fold.{HasTaken};
-ghost use Rattle.ts_aggregate.specs.Call.{AreHanded};
+ghost use Rattle.ts_entry.specs.Handed.{AreHanded};
 
 use crate::Folding;
 use crate::by_interval::{ByInterval, MOST_ROWS};
 use crate::wanted::WantedIntervals;
 use ts_base::{Refusal, Stamp, StoreFault};
-use ts_clip::elements;
+use ts_clip::rows;
 use ts_entry::ElementVisitor;
 use ts_offset::{Counter, Shape};
 use ts_page::{Page, Pages};
@@ -56,7 +56,7 @@ pub fn aggregate_by<P: Pages, V: ElementVisitor>(
     let wanted = WantedIntervals::new(calendar, from, to);
     let last = wanted.last();
     let mut groups = ByInterval::new(&wanted, folding, visitor);
-    elements(pages, page, space, shelf, shape, from, last, &mut groups)?;
+    rows(pages, page, space, shelf, shape, from, last, &mut groups)?;
     let count = groups.end()?;
     if count > MOST_ROWS {
         return Ok(Err(Refusal::TooLarge { rows: count }));

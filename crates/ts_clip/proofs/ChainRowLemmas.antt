@@ -1,4 +1,4 @@
--- The rows of a range on the pages of a chain, hidden ones too.
+-- The elements of a range on the pages of a chain, hidden ones too.
 use Rattle.std.proofs.Common.{◌≡◌, ℕ, suc, ◌+◌, ℤ, List, [], ◌∷◌, ◌++◌, map, take, sym, ap, ◌∙◌, arith, append-nil}
 use Rattle.std.proofs.lemmas.List.{map-append}
 use Rattle.std.proofs.lemmas.List.Elements.{filter-append}
@@ -11,18 +11,14 @@ use Rattle.ts_chain.specs.Range.{is_within, within_range}
 use Rattle.ts_chain.proofs.OrderLemmas.{all_in-append}
 use Rattle.ts_clip.proofs.ChainPageLemmas.{PageIn}
 
--- the rows of a range
-abbrev pub rows_within : ℤ → ℤ → List Element → List Row
-rows_within from to es = map (λ e. e.1) (within_range from to es)
-
-rows_both : (from to : ℤ) (xs ys : List Element) → rows_within from to (xs ++ ys) ≡ rows_within from to xs ++ rows_within from to ys
-rows_both from to xs ys = ap (map (λ (e : Element). e.1)) (filter-append (is_within from to) xs ys) ∙ map-append (λ (e : Element). e.1) (within_range from to xs) (within_range from to ys)
+range_both : (from to : ℤ) (xs ys : List Element) → within_range from to (xs ++ ys) ≡ within_range from to xs ++ within_range from to ys
+range_both from to xs ys = filter-append (is_within from to) xs ys
 
 -- on one page more
-pub rows_next : (from to : ℤ) (slot : ℕ) (columns : List Column) (pages : ℕ → List ℕ) (place : Place) (i : ℕ) (chain : List (List Element)) (p : PageIn slot columns pages place i chain)
-    → rows_within from to (all_in (take i chain)) ++ rows_within from to p.elements ≡ rows_within from to (all_in (take (i + 1) chain))
-rows_next from to slot columns pages place i chain p =
+pub range_next : (from to : ℤ) (slot : ℕ) (columns : List Column) (pages : ℕ → List ℕ) (place : Place) (i : ℕ) (chain : List (List Element)) (p : PageIn slot columns pages place i chain)
+    → within_range from to (all_in (take i chain)) ++ within_range from to p.elements ≡ within_range from to (all_in (take (i + 1) chain))
+range_next from to slot columns pages place i chain p =
     let one : suc i ≡ i + 1 = omega arith in
-    sym (rows_both from to (all_in (take i chain)) p.elements)
-    ∙ ap (λ (l : List Element). rows_within from to (all_in (take i chain) ++ l)) (sym (append-nil p.elements))
-    ∙ ap (rows_within from to) (sym (all_in-append (take i chain) (p.elements ∷ [])) ∙ ap all_in (sym p.front) ∙ ap (λ (n : ℕ). all_in (take n chain)) one)
+    sym (range_both from to (all_in (take i chain)) p.elements)
+    ∙ ap (λ (l : List Element). within_range from to (all_in (take i chain) ++ l)) (sym (append-nil p.elements))
+    ∙ ap (within_range from to) (sym (all_in-append (take i chain) (p.elements ∷ [])) ∙ ap all_in (sym p.front) ∙ ap (λ (n : ℕ). all_in (take n chain)) one)

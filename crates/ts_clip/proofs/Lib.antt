@@ -24,3 +24,4 @@ pub mod GridWithinLemmas
 pub mod PageListLemmas
 pub mod RangePlaceLemmas
 pub mod RowRunLemmas
+pub mod StampedRunLemmas

@@ -14,7 +14,7 @@ use Rattle.ts_cells.proofs.PageLemmas.{length-cell_bytes, length-cells_bytes}
 use Rattle.ts_regular.specs.Cell.{Cell, FitsCell, cell_bytes, cell_size}
 use Rattle.ts_regular.specs.RegularPage.{AreCells, cells_bytes, behind_head as grid_behind}
 use Rattle.ts_regular.proofs.BytesLemmas.{length-cell, length-cells}
-use Rattle.ts_entry.specs.Rows.{IsCellWith, AreCellsWith, rows_in}
+use Rattle.ts_entry.specs.Rows.{IsCellWith, AreCellsWith}
 
 -- cells of one size, from one number on and before another
 module _ (size first last : ℕ) (order : first ≤ last) where
@@ -90,10 +90,6 @@ elements_found columns (e ∷ es) are =
     subst (λ (l : List ℕ). AreCellsWith columns 9 l (found_of (e ∷ es))) (sym (flat_map-cons (element_bytes columns) e es))
     (next_cell columns 9 (element_bytes columns e) (element_cells columns es) (Some e.1) (found_of es) (omega (arith, length-cell_bytes columns e are.0)) (refl, are.0.row, refl) (elements_found columns es are.1))
 
-pub rows_found : (es : List Element) → rows_in (found_of es) ≡ map (λ e. e.1) es
-rows_found [] = refl
-rows_found (e ∷ es) = ap (λ (l : List Row). e.1 ∷ l) (rows_found es)
-
 -- and in cells on a grid
 cells_found : (columns : List Column) (cells : List Cell) → AreCells columns cells → AreCellsWith columns 1 (cells_bytes columns cells) cells
 cells_found columns [] are = refl
@@ -107,7 +103,7 @@ cells_found columns (cell ∷ cells) are =
 
 -- a run of the cells of elements is handed on
 module _ (columns : List Column) (size first last : ℕ) (es : List Element) (behind : List ℕ) (are : AreElements columns es) (order : first ≤ last) (within : last ≤ length es) (same : behind ≡ chain_behind columns es) (is : size ≡ element_size columns) where
-  elements_there : take (size * last - size * first) (drop (size * first) behind) ≡ element_cells columns (take (last - first) (drop first es))
+  pub elements_there : take (size * last - size * first) (drop (size * first) behind) ≡ element_cells columns (take (last - first) (drop first es))
   elements_there =
       let front : List Element = take first es in
       let mid : List Element = take (last - first) (drop first es) in
@@ -119,6 +115,9 @@ module _ (columns : List Column) (size first last : ℕ) (es : List Element) (be
       ∙ (λ j. sym is j * length-part first (last - first) es (omega (arith, order, within)) j) in
       run_is size first last order (element_cells columns front) (element_cells columns mid) (element_cells columns (drop (last - first) (drop first es)) ++ zeros) behind
       (same ∙ three_parts (element_bytes columns) first (last - first) es zeros) before own
+
+  pub elements_mid : AreElements columns (take (last - first) (drop first es))
+  elements_mid = elements_first columns (last - first) (drop first es) (elements_others columns first es are)
 
   pub elements_run : AreCellsWith columns 9 (take (size * last - size * first) (drop (size * first) behind)) (found_of (take (last - first) (drop first es)))
   elements_run =

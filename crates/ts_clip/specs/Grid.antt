@@ -3,7 +3,6 @@ use Rattle.std.specs.Prelude.{◌≡◌, ℕ, ◌-◌, Bool, Option, List, lengt
 use Rattle.ts_space.specs.declared.place.Place.{Place}
 use Rattle.ts_space.specs.Directory.{Directory, places_of}
 use Rattle.ts_page.specs.Pages.{Contents}
-use Rattle.ts_row.specs.Row.{Row}
 use Rattle.ts_row.specs.Element.{Element, seen}
 use Rattle.ts_row.specs.declared.row.Shelf.{Shelf}
 use Rattle.ts_offset.specs.Grid.{GridPlan, starts_of}
@@ -37,10 +36,6 @@ first_of es = slice_get (seen_of es) 0
 -- those in a range of offsets that aren't hidden, each at its on start
 abbrev pub stamped_within : GridPlan → ℕ → ℕ → List OffsetElement → List Element
 stamped_within grid lower upper es = stamped grid (seen_of (within lower upper es))
-
--- the rows of those in a range, hidden ones too
-abbrev pub rows_within : ℕ → ℕ → List OffsetElement → List Row
-rows_within lower upper es = map (λ e. e.1) (within lower upper es)
 
 -- entries were taken that have these elements, perhaps with others between them that have none
 pub record HaveTaken (took : List Entry → Type 0) (es : List Element) : Type 0 where

@@ -1,5 +1,5 @@
-// The rows of a series, many at a time, whatever its shape.
-ghost use Rattle.std.specs.Prelude.{◌<◌, IfOk, map};
+// The rows of a series with their stamps, many at a time, whatever its shape.
+ghost use Rattle.std.specs.Prelude.{◌<◌, IfOk};
 ghost use Rattle.ts_space.specs.Directory.{places_of};
 ghost use Rattle.ts_irregular.specs.Call.{Reads};
 ghost use Rattle.ts_chain.specs.Range.{within_range};
@@ -15,10 +15,10 @@ use ts_page::{Page, Pages};
 use ts_row::Shelf;
 use ts_space::Space;
 
-/// Hands the rows of the elements from one stamp to another, both included, to a visitor, hidden ones too: those of a
-/// page at a time, so that nothing is done for each. The pages of the range are read, each once; its head is compared
-/// with its place, and one that disagrees is taken as a page without elements. All pages stay; `page` is room to read
-/// one.
+/// Hands the elements from one stamp to another, both included, to a visitor, hidden ones too: those of a page at a
+/// time, in their cells, so that nothing is done for each. The pages of the range are read, each once; its head is
+/// compared with its place, and one that disagrees is taken as a page without elements. All pages stay; `page` is room
+/// to read one.
 pub fn rows<P: Pages, V: RowVisitor>(
     pages: &mut P,
     page: &mut Page,
@@ -35,7 +35,7 @@ pub fn rows<P: Pages, V: RowVisitor>(
         (places_of shelf.now.series space.now) }
     ensures read { IfOk result (λ done. IsTold P.tells shape.now shelf.now.series shelf.now.kind.now.columns
         (places_of shelf.now.series space.now) (P.contents pages.old)
-        (λ es. V.took shelf.now.kind.now.columns visitor.old (map (λ e. e.1) (within_range from to es)) visitor.new)) }
+        (λ es. V.took shelf.now.kind.now.columns visitor.old (within_range from to es) visitor.new)) }
     ensures call { Reads P.tells result (P.contents pages.old) (P.contents pages.new) }
     ensures undisturbed { P.undisturbed pages.old pages.new }
 {

@@ -1,5 +1,5 @@
 // The rows of an irregular series, a page at a time.
-ghost use Rattle.std.specs.Prelude.{◌≡◌, ◌-◌, ◌≤◌, ℕ, All, IfOk, OnOk, List, length, map, take, drop};
+ghost use Rattle.std.specs.Prelude.{◌≡◌, ◌-◌, ◌≤◌, ℕ, All, IfOk, OnOk, List, length, take, drop};
 ghost use Rattle.ts_row.specs.Element.{Element};
 ghost use Rattle.ts_cells.specs.Cell.{page_room};
 ghost use Rattle.ts_offset.specs.declared.shape.Shape.TheVariants.{Irregular};
@@ -14,7 +14,7 @@ use crate::chain_cells::{FRONT, range_on};
 use std::alloc::AllocError;
 use ts_base::{Stamp, StoreFault};
 use ts_cells::cell_size;
-use ts_entry::RowVisitor;
+use ts_entry::{RowVisitor, Stamps};
 use ts_irregular::count_told;
 use ts_page::{HEAD, Page, Pages};
 use ts_row::{RowType, Shelf};
@@ -34,7 +34,7 @@ pub(crate) fn chain_rows<P: Pages, V: RowVisitor>(
     ensures read { IfOk result
         (λ done. IsToldOnPlaces P.tells Irregular shelf.now.series shelf.now.kind.now.columns places.now
         (P.contents pages.old)
-        (λ es. V.took shelf.now.kind.now.columns visitor.old (map (λ e. e.1) (within_range from to es)) visitor.new)) }
+        (λ es. V.took shelf.now.kind.now.columns visitor.old (within_range from to es) visitor.new)) }
     ensures call { Reads P.tells result (P.contents pages.old) (P.contents pages.new) }
     ensures undisturbed { P.undisturbed pages.old pages.new }
 {
@@ -56,7 +56,7 @@ fn rows_on_page<P: Pages, V: RowVisitor>(
 ) -> Result<(), StoreFault>
     requires readable { CanBeRead (P.contents pages.old) place.now }
     ensures read { IfOk result (λ done. HoldsOfPage P.tells shelf.now place.now (P.contents pages.old)
-        (λ es. V.took shelf.now.kind.now.columns visitor.old (map (λ e. e.1) (within_range from to es)) visitor.new)) }
+        (λ es. V.took shelf.now.kind.now.columns visitor.old (within_range from to es) visitor.new)) }
     ensures call { Reads P.tells result (P.contents pages.old) (P.contents pages.new) }
     ensures undisturbed { P.undisturbed pages.old pages.new }
 {
@@ -76,7 +76,7 @@ pub(crate) fn chain_rows_of_pages<V: RowVisitor>(
 ) -> Result<(), AllocError>
     ensures took { OnOk result ((pages : ℕ → List ℕ) (es : List Element) → ArePagesOf pages places.now read.now
         → HaveOnPlaces Irregular shelf.now.series shelf.now.kind.now.columns pages places.now es
-        → V.took shelf.now.kind.now.columns visitor.old (map (λ e. e.1) (within_range from to es)) visitor.new) }
+        → V.took shelf.now.kind.now.columns visitor.old (within_range from to es) visitor.new) }
 {
     for (place, page) in places.iter().zip(read) {
         rows_of_page(page, shelf, place, from, to, visitor)?;
@@ -95,7 +95,7 @@ fn rows_of_page<V: RowVisitor>(
 ) -> Result<(), AllocError>
     ensures took { OnOk result ((es : List Element)
         → IsOn shelf.now.series shelf.now.kind.now.columns page.now.bytes place.now es
-        → V.took shelf.now.kind.now.columns visitor.old (map (λ e. e.1) (within_range from to es)) visitor.new) }
+        → V.took shelf.now.kind.now.columns visitor.old (within_range from to es) visitor.new) }
 {
     let count = count_told(shelf, place, page);
     let behind = &page.bytes[HEAD..];
@@ -114,12 +114,12 @@ fn rows_between<V: RowVisitor>(
     requires size { length behind.now ≡ 4064 }
     requires room { last ≤ page_room kind.now.columns }
     ensures { OnOk result (HoldsOfMore kind.now.columns last behind.now
-        (λ es. V.took kind.now.columns visitor.old
-        (map (λ e. e.1) (take (last - first) (drop first es))) visitor.new)) }
+        (λ es. V.took kind.now.columns visitor.old (take (last - first) (drop first es)) visitor.new)) }
 {
     if last <= first {
         return Ok(());
     }
     let size = cell_size(kind);
-    visitor.rows(kind, &behind[size * first..size * last], FRONT)
+    let cells = &behind[size * first..size * last];
+    visitor.rows(kind, cells, FRONT, &Stamps::InCells)
 }

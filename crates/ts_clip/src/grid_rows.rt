@@ -1,5 +1,5 @@
 // The rows of a regular series, a page at a time.
-ghost use Rattle.std.specs.Prelude.{◌<◌, ◌^◌, ℕ, All, IfOk, OnOk, List, map};
+ghost use Rattle.std.specs.Prelude.{◌<◌, ◌^◌, ℕ, All, IfOk, OnOk, List};
 ghost use Rattle.ts_row.specs.Element.{Element};
 ghost use Rattle.ts_calendar.specs.Intervals.{IsLaid};
 ghost use Rattle.ts_offset.specs.declared.shape.Shape.TheVariants.{Regular};
@@ -7,7 +7,9 @@ ghost use Rattle.ts_regular.specs.Places.{OffsetPage, AreOn, CanBeRead, all_in};
 ghost use Rattle.ts_irregular.specs.Call.{Reads};
 ghost use Rattle.ts_chain.specs.Range.{within_range};
 ghost use Rattle.ts_clip.specs.Series.{HaveOnPlaces, IsToldOnPlaces, ArePagesOf};
-ghost use Rattle.ts_clip.specs.Grid.{HoldsOfCellPages, rows_within};
+ghost use Rattle.ts_regular.specs.Range.{within};
+ghost use Rattle.ts_regular_edits.specs.Stamped.{stamped, HaveStarts};
+ghost use Rattle.ts_clip.specs.Grid.{HoldsOfCellPages};
 
 use crate::grid_offsets::{Offsets, offsets_of};
 use crate::grid_page_rows::{rows_of_page, rows_on_page};
@@ -35,12 +37,12 @@ pub(crate) fn grid_rows<P: Pages, V: RowVisitor>(
     ensures read { IfOk result
         (λ done. IsToldOnPlaces P.tells (Regular grid.now) shelf.now.series shelf.now.kind.now.columns places.now
         (P.contents pages.old)
-        (λ es. V.took shelf.now.kind.now.columns visitor.old (map (λ e. e.1) (within_range from to es)) visitor.new)) }
+        (λ es. V.took shelf.now.kind.now.columns visitor.old (within_range from to es) visitor.new)) }
     ensures call { Reads P.tells result (P.contents pages.old) (P.contents pages.new) }
     ensures undisturbed { P.undisturbed pages.old pages.new }
 {
     let offsets = offsets_of(grid, from, to);
-    rows_on_places(pages, page, shelf, places, offsets, visitor)
+    rows_on_places(pages, page, shelf, grid, places, offsets, visitor)
 }
 
 // Hands on those of some offsets on the pages of some places.
@@ -48,6 +50,7 @@ fn rows_on_places<P: Pages, V: RowVisitor>(
     pages: &mut P,
     page: &mut Page,
     shelf: &Shelf,
+    grid: &Grid<'_>,
     places: &[Place],
     offsets: Offsets,
     visitor: &mut V,
@@ -55,13 +58,14 @@ fn rows_on_places<P: Pages, V: RowVisitor>(
     requires readable { All (CanBeRead (P.contents pages.old)) places.now }
     requires limit { offsets.upper < 2 ^ 63 }
     ensures took { OnOk result (HoldsOfCellPages P.tells shelf.now places.now (P.contents pages.old)
-        (λ ps. V.took shelf.now.kind.now.columns visitor.old (rows_within offsets.lower offsets.upper (all_in ps))
-        visitor.new)) }
+        (λ ps. IsLaid grid.now.calendar → HaveStarts grid.now (all_in ps)
+        → V.took shelf.now.kind.now.columns visitor.old
+        (stamped grid.now (within offsets.lower offsets.upper (all_in ps))) visitor.new)) }
     ensures call { Reads P.tells result (P.contents pages.old) (P.contents pages.new) }
     ensures undisturbed { P.undisturbed pages.old pages.new }
 {
     for place in places {
-        rows_on_page(pages, page, shelf, place, offsets, visitor)?;
+        rows_on_page(pages, page, shelf, grid, place, offsets, visitor)?;
     }
     Ok(())
 }
@@ -79,10 +83,10 @@ pub(crate) fn grid_rows_of_pages<V: RowVisitor>(
     ensures took { OnOk result (IsLaid grid.now.calendar → (pages : ℕ → List ℕ) (es : List Element)
         → ArePagesOf pages places.now read.now
         → HaveOnPlaces (Regular grid.now) shelf.now.series shelf.now.kind.now.columns pages places.now es
-        → V.took shelf.now.kind.now.columns visitor.old (map (λ e. e.1) (within_range from to es)) visitor.new) }
+        → V.took shelf.now.kind.now.columns visitor.old (within_range from to es) visitor.new) }
 {
     let offsets = offsets_of(grid, from, to);
-    rows_in_memory(read, places, shelf, offsets, visitor)
+    rows_in_memory(read, places, shelf, grid, offsets, visitor)
 }
 
 // Hands on those of some offsets on pages that were read.
@@ -90,17 +94,19 @@ fn rows_in_memory<V: RowVisitor>(
     read: &[Page],
     places: &[Place],
     shelf: &Shelf,
+    grid: &Grid<'_>,
     offsets: Offsets,
     visitor: &mut V,
 ) -> Result<(), AllocError>
     requires limit { offsets.upper < 2 ^ 63 }
     ensures took { OnOk result ((pages : ℕ → List ℕ) (ps : List OffsetPage) → ArePagesOf pages places.now read.now
         → AreOn shelf.now.series shelf.now.kind.now.columns pages places.now ps
+        → IsLaid grid.now.calendar → HaveStarts grid.now (all_in ps)
         → V.took shelf.now.kind.now.columns visitor.old
-        (rows_within offsets.lower offsets.upper (all_in ps)) visitor.new) }
+        (stamped grid.now (within offsets.lower offsets.upper (all_in ps))) visitor.new) }
 {
     for (place, page) in places.iter().zip(read) {
-        rows_of_page(page, shelf, place, offsets, visitor)?;
+        rows_of_page(page, shelf, grid, place, offsets, visitor)?;
     }
     Ok(())
 }

@@ -1,5 +1,5 @@
 // The rows of pages that are in memory, and which pages of a series those of a range are.
-ghost use Rattle.std.specs.Prelude.{OnOk, ℕ, List, map};
+ghost use Rattle.std.specs.Prelude.{OnOk, ℕ, List};
 ghost use Rattle.ts_row.specs.declared.kind.Column.{Column};
 ghost use Rattle.ts_row.specs.Element.{Element};
 ghost use Rattle.ts_space.specs.Place.{IsRising};
@@ -67,9 +67,9 @@ fn grid_places<'a>(
     grid_page::places_between(kind, places, offsets.lower, offsets.upper)
 }
 
-/// Hands the rows of the elements from one stamp to another, both included, to a visitor, hidden ones too, as `rows`
-/// does: those on pages that are in memory, each at the index of its place. A page whose head disagrees with its place
-/// is taken as one without elements.
+/// Hands the elements from one stamp to another, both included, to a visitor, hidden ones too, as `rows` does: those on
+/// pages that are in memory, each at the index of its place. A page whose head disagrees with its place is taken as one
+/// without elements.
 pub fn rows_of_pages<V: RowVisitor>(
     read: &[Page],
     places: &[Place],
@@ -82,7 +82,7 @@ pub fn rows_of_pages<V: RowVisitor>(
     ensures took { OnOk result (IsLaidOut shape.now → (pages : ℕ → List ℕ) (es : List Element)
         → ArePagesOf pages places.now read.now
         → HaveOnPlaces shape.now shelf.now.series shelf.now.kind.now.columns pages places.now es
-        → V.took shelf.now.kind.now.columns visitor.old (map (λ e. e.1) (within_range from to es)) visitor.new) }
+        → V.took shelf.now.kind.now.columns visitor.old (within_range from to es) visitor.new) }
 {
     match shape {
         Shape::Irregular => chain_rows_of_pages(read, places, shelf, from, to, visitor),

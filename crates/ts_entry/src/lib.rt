@@ -8,9 +8,11 @@
 mod elements;
 mod kept;
 mod rows;
+mod stamps;
 mod visitor;
 
 pub use elements::ElementVisitor;
 pub use kept::KeptElements;
 pub use rows::RowVisitor;
+pub use stamps::Stamps;
 pub use visitor::EntryVisitor;

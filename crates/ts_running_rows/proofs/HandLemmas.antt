@@ -12,7 +12,7 @@ use Rattle.ts_chain.specs.Range.{is_within, within_range}
 use Rattle.ts_entry.specs.Entry.{elements_of}
 use Rattle.ts_entry.specs.Reading.{most_rows}
 use Rattle.ts_clip.specs.Call.{AreElementsTaken}
-use Rattle.ts_aggregate.specs.Call.{AreHanded}
+use Rattle.ts_entry.specs.Handed.{AreHanded}
 use Rattle.ts_aggregate.proofs.ToldLemmas.{few_kept}
 use Rattle.ts_expr.specs.declared.item.BoundItem.{BoundItem}
 use Rattle.ts_running.specs.Window.{Window, window}

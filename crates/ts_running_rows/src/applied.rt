@@ -4,7 +4,7 @@ ghost use Rattle.ts_space.specs.Place.{count_of};
 ghost use Rattle.ts_space.specs.Directory.{places_of};
 ghost use Rattle.ts_irregular.specs.Call.{Reads};
 ghost use Rattle.ts_clip.specs.Series.{IsLaidOut, ArePlaces, IsTold};
-ghost use Rattle.ts_aggregate.specs.Call.{AreHanded};
+ghost use Rattle.ts_entry.specs.Handed.{AreHanded};
 ghost use Rattle.ts_running.specs.Rows;
 ghost use Rattle.ts_running_rows.specs.Call.{rows_within};
 

@@ -21,7 +21,7 @@ use Rattle.ts_expr.specs.Binding.{Binding, binding}
 use Rattle.ts_expr.specs.Fold.{folded_row}
 use Rattle.ts_clip.specs.Series.{IsLaidOut, IsTold}
 use Rattle.ts_aggregate.specs.Fold.{Fold, Folds, HasTaken}
-use Rattle.ts_aggregate.specs.Call.{AreHanded}
+use Rattle.ts_entry.specs.Handed.{AreHanded}
 use Rattle.ts_model.specs.Catalogue.{Series, Catalogue, columns_of}
 use Rattle.ts_layout.specs.Meaning.{Layout, elements_at, heading_at, shape_at, catalogue_of}
 use Rattle.ts_answer.specs.Answer.{Tried, Answered, ◌>>=◌, wanted, a_calendar, outcome, carried_out, aggregate_by, aggregate_range, scales_of, folded_range, seen_elements}

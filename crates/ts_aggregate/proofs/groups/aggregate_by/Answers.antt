@@ -10,7 +10,7 @@ use Rattle.ts_aggregate.proofs.groups.aggregate_by.Goals as goal
 pub returns-then-count-gt-MOST_ROWS-clause-read : goal.returns-then-count-gt-MOST_ROWS-clause-read
 returns-then-count-gt-MOST_ROWS-clause-read g c = λ told es have own empty.
     let v = c.new-groups.result in
-    let w = c.elements.new.visitor in
+    let w = c.rows.new.visitor in
     let u = c.end.new.self in
     let wanted : WantedPlan = record { calendar = c.args.calendar.now; from = c.args.from; to = c.args.to } in
     let last : ℤ = c.last-last.result in
@@ -25,14 +25,14 @@ returns-then-count-gt-MOST_ROWS-clause-read g c = λ told es have own empty.
     (grouping u.wanted.now u.span u.folding.now u.count)
     v.out.now w.out.now u.out.now es c.new-groups.ensures.same c.new-groups.ensures.none
     (c.new-groups.ensures.wanted ∙ made) c.new-groups.ensures.fold c.new-groups.ensures.start
-    (c.new-groups.ensures.stands empty) (c.in_ok-elements.ensures.read told es have) c.in_ok-count.ensures.same
+    (c.new-groups.ensures.stands empty) (c.in_ok-rows.ensures.read told es have) c.in_ok-count.ensures.same
     c.in_ok-count.ensures.closed (assumption) given own
     c.in_ok-count.count c.in_ok-count.ensures.count (omega (arith, c.if-count-gt-MOST_ROWS.true))
 
 pub returns-clause-read : goal.returns-clause-read
 returns-clause-read g c = λ told es have own empty.
     let v = c.new-groups.result in
-    let w = c.elements.new.visitor in
+    let w = c.rows.new.visitor in
     let u = c.end.new.self in
     let wanted : WantedPlan = record { calendar = c.args.calendar.now; from = c.args.from; to = c.args.to } in
     let last : ℤ = c.last-last.result in
@@ -47,6 +47,6 @@ returns-clause-read g c = λ told es have own empty.
     (grouping u.wanted.now u.span u.folding.now u.count)
     v.out.now w.out.now u.out.now es c.new-groups.ensures.same c.new-groups.ensures.none
     (c.new-groups.ensures.wanted ∙ made) c.new-groups.ensures.fold c.new-groups.ensures.start
-    (c.new-groups.ensures.stands empty) (c.in_ok-elements.ensures.read told es have) c.in_ok-count.ensures.same
+    (c.new-groups.ensures.stands empty) (c.in_ok-rows.ensures.read told es have) c.in_ok-count.ensures.same
     c.in_ok-count.ensures.closed (assumption) given own
     c.in_ok-count.count c.in_ok-count.ensures.count (omega (arith, c.if-count-gt-MOST_ROWS.false))

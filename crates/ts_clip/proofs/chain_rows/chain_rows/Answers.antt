@@ -1,12 +1,12 @@
 use Rattle.std.proofs.Common.{Ok, List, get_or, ap, subst, ◌∙◌, take}
 use Rattle.ts_space.specs.declared.place.Place.{Place}
 use Rattle.ts_row.specs.declared.kind.Column.{Column}
-use Rattle.ts_row.specs.Row.{Row}
 use Rattle.ts_row.specs.Element.{Element}
 use Rattle.ts_chain.specs.Chain.{all_in}
 use Rattle.ts_page.proofs.ReadsLemmas.{reads_none, reads_more}
 use Rattle.ts_clip.proofs.ChainPageLemmas.{readable_since, page_in, pages_all, on_since}
-use Rattle.ts_clip.proofs.ChainRowLemmas.{rows_next, rows_within}
+use Rattle.ts_chain.specs.Range.{within_range}
+use Rattle.ts_clip.proofs.ChainRowLemmas.{range_next}
 use Rattle.ts_clip.proofs.chain_rows.chain_rows.Goals as goal
 
 pub rows_on_page-requires : goal.rows_on_page-requires
@@ -36,8 +36,8 @@ loop-place-preserved g c =
       undisturbed = g.met.P.Pages.«then» c.args.pages.now c.loop-place.pages c.rows_on_page.new.pages i.undisturbed e.undisturbed;
       taken = λ told chain on.
           let p = page_in c.args.shelf.now.series columns u.page places c.loop-place.place-index _ chain on c.loop-place-test.true in
-          subst (λ (l : List Row). g.V.RowVisitor.took columns c.args.visitor.now l c.rows_on_page.new.visitor) (rows_next c.args.from c.args.to c.args.shelf.now.series columns u.page place c.loop-place.place-index chain p)
-          (g.met.V.RowVisitor.«then» columns c.args.visitor.now c.loop-place.visitor c.rows_on_page.new.visitor (rows_within c.args.from c.args.to (all_in (take c.loop-place.place-index chain))) (rows_within c.args.from c.args.to p.elements)
+          subst (λ (l : List Element). g.V.RowVisitor.took columns c.args.visitor.now l c.rows_on_page.new.visitor) (range_next c.args.from c.args.to c.args.shelf.now.series columns u.page place c.loop-place.place-index chain p)
+          (g.met.V.RowVisitor.«then» columns c.args.visitor.now c.loop-place.visitor c.rows_on_page.new.visitor (within_range c.args.from c.args.to (all_in (take c.loop-place.place-index chain))) (within_range c.args.from c.args.to p.elements)
           (i.taken told chain on) (e.read told p.elements (on_since g.P.Pages.tells c.args.shelf.now.series columns u v place p.elements i.call told p.on)));
     }
 
@@ -45,6 +45,6 @@ pub returns-clause-read : goal.returns-clause-read
 returns-clause-read g c = λ told es have.
     let columns : List Column = c.args.shelf.now.kind.now.columns in
     let all = pages_all c.args.shelf.now.series columns (g.P.Pages.contents c.args.pages.now).page c.loop-place.place-index c.args.places.now have.0 have.1 c.loop-place-test.false in
-    subst (λ (l : List Row). g.V.RowVisitor.took columns c.args.visitor.now l c.loop-place.visitor)
-    (ap (λ (l : List (List Element)). rows_within c.args.from c.args.to (all_in l)) all ∙ ap (rows_within c.args.from c.args.to) have.2)
+    subst (λ (l : List Element). g.V.RowVisitor.took columns c.args.visitor.now l c.loop-place.visitor)
+    (ap (λ (l : List (List Element)). within_range c.args.from c.args.to (all_in l)) all ∙ ap (within_range c.args.from c.args.to) have.2)
     (c.loop-place.invariant.taken told have.0 have.1)

@@ -1,10 +1,10 @@
--- The rows on the pages before an index were handed on.
+-- The elements on the pages before an index were handed on.
 use Rattle.std.proofs.Common.{Ok, List, take}
 use Rattle.ts_row.specs.Element.{Element}
 use Rattle.ts_irregular.specs.Call.{Reads}
 use Rattle.ts_chain.specs.Chain.{all_in}
 use Rattle.ts_clip.specs.Chain.{HoldsOfPages}
-use Rattle.ts_clip.proofs.ChainRowLemmas.{rows_within}
+use Rattle.ts_chain.specs.Range.{within_range}
 use Rattle.ts_clip.proofs.chain_rows.chain_rows.Given as goal
 
 abbrev pub invariant-loop-place : goal.invariant-loop-place
@@ -12,5 +12,5 @@ invariant-loop-place g l = record {
   call : Reads {T = Unit {0}} g.P.Pages.tells (Ok tt) (g.P.Pages.contents l.fn.pages) (g.P.Pages.contents l.pages);
   undisturbed : g.P.Pages.undisturbed l.fn.pages l.pages;
   taken : HoldsOfPages g.P.Pages.tells l.shelf l.places (g.P.Pages.contents l.fn.pages)
-      (λ (chain : List (List Element)). g.V.RowVisitor.took l.shelf.kind.now.columns l.fn.visitor (rows_within l.from l.to (all_in (take l.place-index chain))) l.visitor);
+      (λ (chain : List (List Element)). g.V.RowVisitor.took l.shelf.kind.now.columns l.fn.visitor (within_range l.from l.to (all_in (take l.place-index chain))) l.visitor);
 }

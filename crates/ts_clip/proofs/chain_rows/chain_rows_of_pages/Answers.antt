@@ -4,12 +4,12 @@ use Rattle.std.proofs.lemmas.Slice.Zip.{AllZip-long, zip_turn, zip_end}
 use Rattle.ts_page.specs.declared.page.Page.{Page}
 use Rattle.ts_space.specs.declared.place.Place.{Place}
 use Rattle.ts_row.specs.declared.kind.Column.{Column}
-use Rattle.ts_row.specs.Row.{Row}
 use Rattle.ts_row.specs.Element.{Element}
 use Rattle.ts_irregular.specs.OnePage.{IsOn}
 use Rattle.ts_chain.specs.Chain.{all_in}
 use Rattle.ts_clip.proofs.ChainPageLemmas.{page_in, pages_all}
-use Rattle.ts_clip.proofs.ChainRowLemmas.{rows_next, rows_within}
+use Rattle.ts_chain.specs.Range.{within_range}
+use Rattle.ts_clip.proofs.ChainRowLemmas.{range_next}
 use Rattle.ts_clip.proofs.PageListLemmas.{read_there}
 use Rattle.ts_clip.proofs.chain_rows.chain_rows_of_pages.Goals as goal
 
@@ -27,9 +27,9 @@ loop-place-preserved g c =
     λ pages chain are on.
     let p = page_in slot columns pages places i place chain on turn.0 in
     let there = read_there pages places read i place c.in-Some.page.now are turn.0 (turn.2 place) (turn.3 c.in-Some.page.now) (λ b q. IsOn slot columns b q p.elements) p.on in
-    subst (λ (l : List Row). g.V.RowVisitor.took columns c.args.visitor.now l c.rows_of_page.new.visitor)
-    (rows_next from to slot columns pages (get_or places i place) i chain p ∙ ap (λ (n : ℕ). rows_within from to (all_in (take n chain))) (sym (length_push c.loop-place.yielded (c.in-Some.place, c.in-Some.page))))
-    (g.met.V.RowVisitor.«then» columns c.args.visitor.now c.loop-place.visitor c.rows_of_page.new.visitor (rows_within from to (all_in (take i chain))) (rows_within from to p.elements)
+    subst (λ (l : List Element). g.V.RowVisitor.took columns c.args.visitor.now l c.rows_of_page.new.visitor)
+    (range_next from to slot columns pages (get_or places i place) i chain p ∙ ap (λ (n : ℕ). within_range from to (all_in (take n chain))) (sym (length_push c.loop-place.yielded (c.in-Some.place, c.in-Some.page))))
+    (g.met.V.RowVisitor.«then» columns c.args.visitor.now c.loop-place.visitor c.rows_of_page.new.visitor (within_range from to (all_in (take i chain))) (within_range from to p.elements)
     (c.loop-place.invariant pages chain are on) (c.in_ok-rows_of_page.ensures.took p.elements there))
 
 pub returns : goal.returns
@@ -43,8 +43,8 @@ returns g c =
     record {
       took = λ pages es are have.
           let long = AllZip-long (λ (place : Place) (page : Page). page.bytes ≡ pages place.page) places read are in
-          subst (λ (l : List Row). g.V.RowVisitor.took columns c.args.visitor.now l c.loop-place.visitor)
-          (ap (λ (l : List (List Element)). rows_within c.args.from c.args.to (all_in l)) (pages_all slot columns pages i places have.0 have.1 (omega (arith, all, long)))
-          ∙ ap (rows_within c.args.from c.args.to) have.2)
+          subst (λ (l : List Element). g.V.RowVisitor.took columns c.args.visitor.now l c.loop-place.visitor)
+          (ap (λ (l : List (List Element)). within_range c.args.from c.args.to (all_in l)) (pages_all slot columns pages i places have.0 have.1 (omega (arith, all, long)))
+          ∙ ap (within_range c.args.from c.args.to) have.2)
           (c.loop-place.invariant pages have.0 are have.1);
     }

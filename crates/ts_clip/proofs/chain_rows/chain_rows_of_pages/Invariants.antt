@@ -1,13 +1,13 @@
--- The rows on the pages before an index were handed on.
+-- The elements on the pages before an index were handed on.
 use Rattle.std.proofs.Common.{ℕ, List, length, take}
 use Rattle.ts_row.specs.Element.{Element}
 use Rattle.ts_chain.specs.Chain.{all_in}
 use Rattle.ts_chain.specs.Places.{AreChained}
 use Rattle.ts_clip.specs.Series.{ArePagesOf}
-use Rattle.ts_clip.proofs.ChainRowLemmas.{rows_within}
+use Rattle.ts_chain.specs.Range.{within_range}
 use Rattle.ts_clip.proofs.chain_rows.chain_rows_of_pages.Given as goal
 
 abbrev pub invariant-loop-place : goal.invariant-loop-place
 invariant-loop-place g l =
     (pages : ℕ → List ℕ) (chain : List (List Element)) → ArePagesOf pages l.places l.read → AreChained l.shelf.series l.shelf.kind.now.columns pages l.places chain
-    → g.V.RowVisitor.took l.shelf.kind.now.columns l.fn.visitor (rows_within l.from l.to (all_in (take (length l.yielded) chain))) l.visitor
+    → g.V.RowVisitor.took l.shelf.kind.now.columns l.fn.visitor (within_range l.from l.to (all_in (take (length l.yielded) chain))) l.visitor

@@ -1,4 +1,4 @@
--- What a call hands on of elements that are folded in groups.
+-- What a call hands on of rows that it makes.
 use Rattle.std.specs.Prelude.{◌≡◌, ℕ, Result, Ok, Err, List, length}
 use Rattle.ts_base.specs.declared.refusal.Refusal.{Refusal}
 use Rattle.ts_row.specs.Element.{Element}
