@@ -1,7 +1,7 @@
 -- What a table keeps: one slot that is filled or emptied, and memory that is taken.
-use Rattle.std.proofs.Common.{◌≡◌, ℕ, zero, suc, ◌+◌, ◌-◌, ◌<◌, ◌≤◌, ◌⊎◌, Bool, true, false, cond, eqb, Option, Some, None, List, [], ◌∷◌, ◌++◌, length, get_or, set, replicate, inl, inr, refl, ap, sym, ◌∙◌, subst, arith, length-append, length-set, get_or-set_same, get_or-set_other, zero-add}
+use Rattle.std.proofs.Common.{◌≡◌, ℕ, zero, suc, ◌+◌, ◌-◌, ◌<◌, ◌≤◌, ◌⊎◌, append_assoc, Bool, true, false, cond, eqb, Option, Some, None, List, [], ◌∷◌, ◌++◌, length, get_or, set, replicate, inl, inr, refl, ap, sym, ◌∙◌, subst, arith, length-append, length-set, get_or-set_same, get_or-set_other, zero-add}
 use Rattle.std.proofs.lemmas.Bool.{cases_lt, cases_eq, eqb-true, eq-eqb}
-use Rattle.std.proofs.lemmas.List.{get_or_past, append-nil, length-replicate}
+use Rattle.std.proofs.lemmas.List.{get_or_past, append-nil, length-replicate, replicate-append-replicate}
 use Rattle.std.specs.List.{insert, remove, position}
 use Rattle.std.specs.Option.{IsSome, is_none, option_eq}
 use Rattle.std.proofs.lemmas.List.Quantifiers.{position-Some}
@@ -10,7 +10,7 @@ use Rattle.std.specs.FinMap.{find, values, from_entries, len, len-empty, len-ins
 use Rattle.ts_model.specs.Catalogue.{name_cmp}
 use Rattle.ts_model.specs.declared.def.Def.{Def}
 use Rattle.ts_model.specs.Definitions.{at_slot, name_of, slot_of, vacant_slot, slots_by_name, filled_from, IsTable, IsNewName}
-use Rattle.ts_model.specs.Table.{Slots, padded, place_of, lower, IsIndexed, AreApart}
+use Rattle.ts_model.specs.Table.{Slots, padded, place_of, lower, IsIndexed, IsRoomy, AreApart}
 use Rattle.ts_model.proofs.SlotLemmas.{some≢none, find-filled, find-other, find-missing, filled-padded}
 use Rattle.ts_model.proofs.IndexLemmas.{index, index-find, index-slot_of, index-fill, index-clear, index-filled, index-none, index-length, find-position, unshifted}
 use Rattle.ts_model.proofs.VacantLemmas.{vacant-clear, vacant-none}
@@ -49,17 +49,28 @@ padded-full count items full =
     let none : count - length items ≡ 0 = omega (arith, full) in
     ap (λ (n : ℕ). items ++ replicate n None) none ∙ append-nil items
 
-pub padded-length : (count : ℕ) (items : List (Option Def)) → (length items ≡ 0) ⊎ (length items ≡ count) → length (padded count items) ≡ count
+pub padded-length : (count : ℕ) (items : List (Option Def)) → length items ≤ count → length (padded count items) ≡ count
 padded-length count items size =
     let sum = length-append items (replicate (count - length items) None) in
     let more = length-replicate (count - length items) (let o : Option Def = None in o) in
-    elim size [ inl none ↦ omega (arith, sum, more, none) | inr full ↦ omega (arith, sum, more, full) ]
+    omega (arith, sum, more, size)
+
+-- more empty slots at the front's end are fewer behind it
+pub padded-longer : (count : ℕ) (items : List (Option Def)) (n : ℕ) → length items + n ≤ count → padded count (items ++ replicate n None) ≡ padded count items
+padded-longer count items n few =
+    let none : Option Def = None in
+    let size = length-append items (replicate n none) in
+    let more = length-replicate n none in
+    let rest : n + (count - length (items ++ replicate n none)) ≡ count - length items = omega (arith, size, more, few) in
+    append_assoc items (replicate n none) (replicate (count - length (items ++ replicate n none)) none)
+    ∙ ap (λ (l : List (Option Def)). items ++ l) (replicate-append-replicate n (count - length (items ++ replicate n none)) none)
+    ∙ ap (λ (m : ℕ). items ++ replicate m none) rest
 
 -- a table as its callers see it
 pub padded-index : (count : ℕ) (items : List (Option Def)) → values (slots_by_name items) ≡ values (slots_by_name (padded count items))
 padded-index count items = ap (λ (l : List (List ℕ × ℕ)). values (from_entries {R = name_cmp} l)) (sym (filled-padded name_of (λ slot def. slot) items 0 (count - length items)))
 
-pub padded-table : (count : ℕ) (items : List (Option Def)) → (length items ≡ 0) ⊎ (length items ≡ count) → AreApart items → IsTable name_of count (padded count items)
+pub padded-table : (count : ℕ) (items : List (Option Def)) → length items ≤ count → AreApart items → IsTable name_of count (padded count items)
 padded-table count items size apart = record {
   size = padded-length count items size;
   apart = λ i j a b here there same. apart i j a b (sym (at-padded count items i) ∙ here) (sym (at-padded count items j) ∙ there) same;
@@ -123,94 +134,128 @@ apart-fill items slot a within apart new i j b c here there same =
     ]
 
 -- a filled slot is emptied
-pub kept-clear : (count : ℕ) (items : List (Option Def)) (order : List ℕ) (vacant : Option ℕ) (room more slot place : ℕ) (a : Def) → IsIndexed count items order vacant room → at_slot slot items ≡ Some a → place ≡ place_of (name_of a) (index items) → more ≡ room
-    → IsIndexed count (set items slot None) (remove order place) (Some (lower vacant slot)) more
-kept-clear count items order vacant room more slot place a kept here at same =
+pub kept-clear : (count : ℕ) (items : List (Option Def)) (order : List ℕ) (vacant : Option ℕ) (room : Bool) (slot place : ℕ) (a : Def) → IsIndexed count items order vacant room → at_slot slot items ≡ Some a → place ≡ place_of (name_of a) (index items)
+    → IsIndexed count (set items slot None) (remove order place) (Some (lower vacant slot)) room
+kept-clear count items order vacant room slot place a kept here at =
     let within = filled-within items slot a here in
     let size = length-set items slot (let o : Option Def = None in o) in
-    let full : length items ≡ count = elim kept.size [ inl none ↦ absurd (omega (arith, none, within)) | inr full ↦ full ] in
+    let all = padded-length count items kept.size in
     record {
       most = kept.most;
-      size = inr (size ∙ full);
+      size = (let few = kept.size in omega (arith, size, few));
       apart = apart-clear items slot kept.apart;
       index = ap (remove order) at ∙ index-clear items order slot a kept.index kept.apart here;
       lowest =
-          ap (λ (o : Option ℕ). Some (lower o slot)) (kept.lowest ∙ ap (vacant_slot {A = Def}) (padded-full count items full))
-          ∙ sym (vacant-clear items slot within) ∙ ap (vacant_slot {A = Def}) (sym (padded-full count (set items slot None) (size ∙ full)));
-      spare = λ e. let room = kept.spare full in omega (arith, room, same);
+          ap (λ (o : Option ℕ). Some (lower o slot)) kept.lowest
+          ∙ sym (vacant-clear (padded count items) slot (let few = kept.size in omega (arith, all, few, within))) ∙ ap (vacant_slot {A = Def}) (sym (padded-set count items slot None within));
+      taken = λ none. absurd (let e = ap length (kept.taken none) in omega (arith, e, within));
     }
 
 -- an empty slot is filled
-pub kept-fill : (count : ℕ) (items : List (Option Def)) (order : List ℕ) (vacant lowest : Option ℕ) (room more slot place : ℕ) (a : Def) → IsIndexed count items order vacant room → length items ≡ count → slot < count → at_slot slot items ≡ None → slot_of (name_of a) (padded count items) ≡ None
-    → place ≡ place_of (name_of a) (index items) → room ≤ more → lowest ≡ vacant_slot (set items slot (Some a))
-    → IsIndexed count (set items slot (Some a)) (insert order place slot) lowest more
-kept-fill count items order vacant lowest room more slot place a kept full below empty new at grown low =
-    let within : slot < length items = omega (arith, full, below) in
+pub kept-fill : (count : ℕ) (items : List (Option Def)) (order : List ℕ) (vacant lowest : Option ℕ) (room : Bool) (slot place : ℕ) (a : Def) → IsIndexed count items order vacant room → slot < length items → at_slot slot items ≡ None → slot_of (name_of a) (padded count items) ≡ None
+    → place ≡ place_of (name_of a) (index items) → lowest ≡ vacant_slot (padded count (set items slot (Some a)))
+    → IsIndexed count (set items slot (Some a)) (insert order place slot) lowest room
+kept-fill count items order vacant lowest room slot place a kept within empty new at low =
     let size = length-set items slot (Some a) in
     let none : find name_cmp (name_of a) (index items) ≡ None = index-slot_of count items (name_of a) ∙ new in
     record {
       most = kept.most;
-      size = inr (size ∙ full);
+      size = (let few = kept.size in omega (arith, size, few));
       apart = apart-fill items slot a within kept.apart (nowhere count items (name_of a) new);
       index = ap (λ (p : ℕ). insert order p slot) at ∙ index-fill items order slot a kept.index within empty none;
-      lowest = low ∙ ap (vacant_slot {A = Def}) (sym (padded-full count (set items slot (Some a)) (size ∙ full)));
-      spare = λ e. let room = kept.spare full in omega (arith, room, grown);
+      lowest = low;
+      taken = λ none. absurd (let e = ap length (kept.taken none) in omega (arith, e, within));
+    }
+
+-- empty slots come behind the first ones
+pub kept-longer : (count : ℕ) (items : List (Option Def)) (order : List ℕ) (vacant : Option ℕ) (n : ℕ) → IsIndexed count items order vacant true → length items + n ≤ count
+    → IsIndexed count (items ++ replicate n None) order vacant true
+kept-longer count items order vacant n kept few =
+    let none : Option Def = None in
+    record {
+      most = kept.most;
+      size = omega (arith, length-append items (replicate n none), length-replicate n none, few);
+      apart = λ i j a b here there same. kept.apart i j a b (sym (at-behind items n i) ∙ here) (sym (at-behind items n j) ∙ there) same;
+      index = kept.index ∙ ap (λ (l : List (List ℕ × ℕ)). values (from_entries {R = name_cmp} l)) (sym (filled-padded name_of (λ slot def. slot) items 0 n));
+      lowest = kept.lowest ∙ ap (vacant_slot {A = Def}) (sym (padded-longer count items n few));
+      taken = λ none. absurd (cc);
     }
 
 -- memory is taken for all slots
-pub kept-empty : (count room : ℕ) (order : List ℕ) (vacant : Option ℕ) → count ≤ 4096 → count ≤ room → order ≡ values (slots_by_name []) → vacant ≡ vacant_slot (padded count []) → IsIndexed count (replicate count None) order vacant room
-kept-empty count room order vacant most enough same lowest =
-    let all : count - 0 ≡ count = omega arith in
-    let full = length-replicate count (let o : Option Def = None in o) in
-    record {
-      most = most;
-      size = inr full;
-      apart = λ i j a b here there same. absurd (some≢none a (sym here ∙ none-in count i));
-      index = same ∙ index-none 0 ∙ sym (index-none count);
-      lowest = lowest ∙ ap (λ (n : ℕ). vacant_slot {A = Def} (replicate n None)) all ∙ ap (vacant_slot {A = Def}) (sym (padded-full count (replicate count None) full));
-      spare = λ e. enough;
-    }
+pub kept-roomy : (count : ℕ) (items : List (Option Def)) (order : List ℕ) (vacant : Option ℕ) (room : Bool) → IsIndexed count items order vacant room → IsIndexed count items order vacant true
+kept-roomy count items order vacant room kept = record {
+  most = kept.most;
+  size = kept.size;
+  apart = kept.apart;
+  index = kept.index;
+  lowest = kept.lowest;
+  taken = λ none. absurd (cc);
+}
 
--- a table with the same slots and the same index, whose index has memory for all slots that there are
-pub kept-copied : (count capacity room : ℕ) (items made : List (Option Def)) (order sorted : List ℕ) (vacant : Option ℕ) → IsIndexed count items order vacant capacity
-    → made ≡ items → sorted ≡ order → length items ≤ room → IsIndexed count made sorted vacant room
-kept-copied count capacity room items made order sorted vacant is same also wide =
-    subst (λ (l : List (Option Def)). IsIndexed count l sorted vacant room) (sym same)
-    (subst (λ (l : List ℕ). IsIndexed count items l vacant room) (sym also) (record {
-      most = is.most;
-      size = is.size;
-      apart = is.apart;
-      index = is.index;
-      lowest = is.lowest;
-      spare = λ full. omega (arith, full, wide);
-    }))
+-- a table with the same slots and the same index
+pub kept-copied : (count : ℕ) (items made : List (Option Def)) (order sorted : List ℕ) (vacant : Option ℕ) (room : Bool) → IsIndexed count items order vacant room → made ≡ items → sorted ≡ order → IsIndexed count made sorted vacant room
+kept-copied count items made order sorted vacant room is same also =
+    subst (λ (l : List (Option Def)). IsIndexed count l sorted vacant room) (sym same) (subst (λ (l : List ℕ). IsIndexed count items l vacant room) (sym also) is)
 
 -- no memory was taken yet
-pub kept-new : (count room : ℕ) → 0 < count → count ≤ 4096 → IsIndexed count [] [] (Some 0) room
-kept-new count room some most = record {
+pub kept-new : (count : ℕ) → 0 < count → count ≤ 4096 → IsIndexed count [] [] (Some 0) false
+kept-new count some most = record {
   most = most;
-  size = inl refl;
+  size = omega arith;
   apart = λ i j a b here there same. absurd (some≢none a (sym here));
   index = sym (index-none 0);
   lowest = sym (ap (λ (n : ℕ). vacant_slot {A = Def} (replicate (count - n) None)) refl ∙ vacant-none (count - 0) (omega (arith, some)));
-  spare = λ e. absurd (omega (arith, e, some));
+  taken = λ none. refl;
+}
+
+pub no-memory : (count capacity order_capacity : ℕ) → IsRoomy count false capacity order_capacity
+no-memory count capacity order_capacity = record { slots = λ taken. absurd (cc); order = λ taken. absurd (cc) }
+
+-- more memory
+pub more-memory : (count : ℕ) (room : Bool) (capacity order_capacity more order_more : ℕ) → IsRoomy count room capacity order_capacity → capacity ≤ more → order_capacity ≤ order_more → IsRoomy count room more order_more
+more-memory count room capacity order_capacity more order_more is grown order_grown = record {
+  slots = λ taken. let enough = is.slots taken in omega (arith, enough, grown);
+  order = λ taken. let enough = is.order taken in omega (arith, enough, order_grown);
 }
 
 -- what a caller knows of a table, said of what it keeps
-pub record Fillable (count : ℕ) (items : List (Option Def)) (slot : ℕ) (q : List ℕ) : Type 0 where
-  pub full : length items ≡ count
+pub record Fillable (count : ℕ) (items : List (Option Def)) (room : Bool) (slot : ℕ) (q : List ℕ) : Type 0 where
+  pub taken : room ≡ true
   pub below : slot < count
   pub empty : at_slot slot items ≡ None
   pub new : slot_of q (padded count items) ≡ None
 
-pub fillable : (t : Slots) (count : ℕ) (items : List (Option Def)) (slot : ℕ) (q : List ℕ) → record { count = count; slots = padded count items; room = eqb (length items) count } ≡ t → slot < t.count → at_slot slot t.slots ≡ None → slot_of q t.slots ≡ None → t.room ≡ true
-    → Fillable count items slot q
-fillable t count items slot q view below empty new room = record {
-  full = eqb-true (length items) count (ap (λ (u : Slots). u.room) view ∙ room);
+pub fillable : (t : Slots) (count : ℕ) (items : List (Option Def)) (room : Bool) (slot : ℕ) (q : List ℕ) → record { count = count; slots = padded count items; room = room } ≡ t → slot < t.count → at_slot slot t.slots ≡ None → slot_of q t.slots ≡ None → t.room ≡ true
+    → Fillable count items room slot q
+fillable t count items room slot q view below empty new taken = record {
+  taken = ap (λ (u : Slots). u.room) view ∙ taken;
   below = (let same : count ≡ t.count = ap (λ (u : Slots). u.count) view in omega (arith, same, below));
   empty = sym (at-padded count items slot) ∙ ap (λ (u : Slots). at_slot slot u.slots) view ∙ empty;
   new = ap (λ (u : Slots). slot_of q u.slots) view ∙ new;
 }
+
+-- what is known of such a table once it has slots up to this one
+pub record Long (count : ℕ) (first items : List (Option Def)) (order : List ℕ) (vacant : Option ℕ) (slot : ℕ) (q : List ℕ) : Type 0 where
+  pub kept : IsIndexed count items order vacant true
+  pub same : padded count items ≡ padded count first
+  pub within : slot < length items
+  pub empty : at_slot slot items ≡ None
+  pub new : slot_of q (padded count items) ≡ None
+
+pub long : (count : ℕ) (items longer : List (Option Def)) (order : List ℕ) (vacant : Option ℕ) (room : Bool) (slot : ℕ) (q : List ℕ) → IsIndexed count items order vacant room → Fillable count items room slot q
+    → slot < length longer → longer ≡ items ++ replicate (slot + 1 - length items) None → Long count items longer order vacant slot q
+long count items longer order vacant room slot q is f within same =
+    let n : ℕ = slot + 1 - length items in
+    let most = is.size in
+    let below = f.below in
+    let few : length items + n ≤ count = omega (arith, most, below) in
+    record {
+      kept = subst (λ (l : List (Option Def)). IsIndexed count l order vacant true) (sym same) (kept-longer count items order vacant n (kept-roomy count items order vacant room is) few);
+      same = ap (padded count) same ∙ padded-longer count items n few;
+      within = within;
+      empty = ap (at_slot slot) same ∙ at-behind items n slot ∙ f.empty;
+      new = ap (λ (l : List (Option Def)). slot_of q (padded count l)) same ∙ ap (slot_of q) (padded-longer count items n few) ∙ f.new;
+    }
 
 filled-most : (table : List (Option Def)) (first : ℕ) → length (filled_from name_of (λ slot def. slot) first table) ≤ length table
 filled-most [] first = omega arith
@@ -257,6 +302,11 @@ lowest-filled items slot a lowest i upto =
           subst (λ (x : Option Def). IsSome x) (sym (ap (λ (n : ℕ). at_slot n (set items slot (Some a))) same ∙ get_or-set_same items slot (Some a) None there.0)) refl
     ]
 
+pub lowest-filled-first : (count : ℕ) (items : List (Option Def)) (slot : ℕ) (a : Def) → slot < length items → vacant_slot (padded count items) ≡ Some slot → (i : ℕ) → i ≤ slot → IsSome (at_slot i (set items slot (Some a)))
+lowest-filled-first count items slot a within lowest i upto =
+    let same = ap (λ (l : List (Option Def)). at_slot i l) (sym (padded-set count items slot (Some a) within)) ∙ at-padded count (set items slot (Some a)) i in
+    subst (λ (x : Option Def). IsSome x) same (lowest-filled (padded count items) slot a lowest i upto)
+
 pub option-same : (o : Option ℕ) (n : ℕ) → option_eq eqb o (Some n) ≡ true → o ≡ Some n
 option-same None n h = absurd (cc)
 option-same (Some m) n h = ap (λ (k : ℕ). Some k) (eqb-true m n h)
@@ -279,7 +329,7 @@ some-in : (o : Option Def) → IsSome o → (a : Def) × (o ≡ Some a)
 some-in None h = absurd (cc)
 some-in (Some a) h = (a, refl)
 
-pub order-within : (count : ℕ) (items : List (Option Def)) (order : List ℕ) (k : ℕ) → (length items ≡ 0) ⊎ (length items ≡ count) → order ≡ values (slots_by_name items) → k < length order → get_or order k 0 < count
+pub order-within : (count : ℕ) (items : List (Option Def)) (order : List ℕ) (k : ℕ) → length items ≤ count → order ≡ values (slots_by_name items) → k < length order → get_or order k 0 < count
 order-within count items order k size same within =
     let there = some-in (at_slot (get_or order k 0) (padded count items)) (order-filled count items order k same within) in
     let low = filled-within (padded count items) (get_or order k 0) there.0 there.1 in

@@ -1,9 +1,10 @@
 -- The lowest empty slot: what one slot that is filled or emptied changes.
-use Rattle.std.proofs.Common.{◌≡◌, ℕ, zero, suc, ◌+◌, ◌<◌, min, Option, Some, None, List, [], ◌∷◌, length, set, drop, replicate, refl, ap, sym, ◌∙◌, arith, zero-add}
+use Rattle.std.proofs.Common.{◌≡◌, ℕ, zero, suc, ◌+◌, ◌-◌, ◌<◌, Bool, cond, inl, inr, min, Option, Some, None, List, [], ◌∷◌, ◌++◌, length, set, drop, replicate, refl, ap, sym, ◌∙◌, arith, zero-add}
 use Rattle.std.specs.Option.{option_map, IsSome, is_none}
 use Rattle.ts_model.specs.Definitions.{at_slot, vacant_slot}
 use Rattle.ts_model.specs.declared.def.Def.{Def}
-use Rattle.ts_model.specs.Table.{lower}
+use Rattle.std.proofs.lemmas.Bool.{cases_lt, lt-ltb, le-ltb}
+use Rattle.ts_model.specs.Table.{lower, slot_behind}
 use Rattle.ts_model.proofs.IndexLemmas.{position-more}
 
 lower-suc : (o : Option ℕ) (i : ℕ) → Some (suc (lower o i)) ≡ Some (lower (option_map (λ n. suc n) o) (suc i))
@@ -60,7 +61,35 @@ module _ {A : Type 0} where
   vacant-behind (Some a ∷ xs) (suc n) filled =
       first-filled a xs ∙ ap (option_map (λ (m : ℕ). suc m)) (vacant-behind xs n (λ j below. filled (suc j) (omega (arith, below)))) ∙ later n (vacant_slot (drop n xs))
 
+-- the first, or a later one behind so many
+abbrev pub or_later : Option ℕ → ℕ → Option ℕ → Option ℕ
+or_later (Some i) n o = Some i
+or_later None n o = option_map (λ m. n + m) o
+
+later_or : (o : Option ℕ) (n : ℕ) (p : Option ℕ) → option_map (λ m. suc m) (or_later o n p) ≡ or_later (option_map (λ m. suc m) o) (suc n) p
+later_or (Some i) n p = refl
+later_or None n p = later n p
+
+-- in slots behind others
+pub vacant-append : {A : Type 0} (xs ys : List (Option A)) → vacant_slot (xs ++ ys) ≡ or_later (vacant_slot xs) (length xs) (vacant_slot ys)
+vacant-append [] ys = same-map (vacant_slot ys)
+vacant-append (None ∷ xs) ys = first-empty (xs ++ ys) ∙ ap (λ (o : Option ℕ). or_later o (suc (length xs)) (vacant_slot ys)) (sym (first-empty xs))
+vacant-append (Some a ∷ xs) ys =
+    first-filled a (xs ++ ys) ∙ ap (option_map (λ (m : ℕ). suc m)) (vacant-append xs ys) ∙ later_or (vacant_slot xs) (length xs) (vacant_slot ys)
+    ∙ ap (λ (o : Option ℕ). or_later o (suc (length xs)) (vacant_slot ys)) (sym (first-filled a xs))
+
 -- nothing is filled
 pub vacant-none : (n : ℕ) → 0 < n → vacant_slot {A = Def} (replicate n None) ≡ Some 0
 vacant-none zero some = absurd (omega arith)
 vacant-none (suc n) some = position-more (λ (x : Option Def). is_none x) None (replicate n None)
+
+-- behind filled slots of a table there is one, if there are more
+pub vacant-behind-all : (count len : ℕ) → option_map (λ m. len + m) (vacant_slot {A = Def} (replicate (count - len) None)) ≡ slot_behind len count
+vacant-behind-all count len = elim (cases_lt len count) [
+  | inl low ↦
+      ap (option_map (λ (m : ℕ). len + m)) (vacant-none (count - len) (omega (arith, low))) ∙ (let e : len + 0 ≡ len = omega arith in ap (λ (k : ℕ). Some k) e)
+      ∙ ap (λ (b : Bool). cond b (Some len) None) (sym (lt-ltb len count low))
+  | inr high ↦
+      ap (λ (n : ℕ). option_map (λ (m : ℕ). len + m) (vacant_slot {A = Def} (replicate n None))) (let e : count - len ≡ 0 = omega (arith, high) in e)
+      ∙ ap (λ (b : Bool). cond b (Some len) None) (sym (le-ltb len count high))
+]

@@ -1,6 +1,6 @@
 -- One kind's slots, with an index of the filled ones in the order of their names.
-use Rattle.std.specs.Prelude.{◌≡◌, ℕ, zero, suc, ◌-◌, ◌≤◌, ◌⊎◌, Bool, false, if◌then◌else◌, List, [], ◌∷◌, ◌++◌, length}
-use Rattle.std.specs.Prelude.{replicate, Option, Some, None, bytes_eq, min}
+use Rattle.std.specs.Prelude.{◌≡◌, ℕ, zero, suc, ◌-◌, ◌≤◌, ltb, Bool, true, false, if◌then◌else◌, List, [], ◌∷◌, ◌++◌}
+use Rattle.std.specs.Prelude.{length, replicate, Option, Some, None, bytes_eq, min}
 use Rattle.std.specs.Ordering.{is_gt}
 use Rattle.std.specs.FinMap.{values}
 use Rattle.ts_model.specs.Catalogue.{name_cmp}
@@ -22,16 +22,27 @@ abbrev pub AreApart : List (Option Def) → Type 0
 AreApart items = (i j : ℕ) (a b : Def) → at_slot i items ≡ Some a → at_slot j items ≡ Some b → name_of a ≡ name_of b
     → i ≡ j
 
--- what a table of at most 4096 slots keeps: all of them or, before it took memory, none, the numbers of the filled ones
--- in the order of their names, and the lowest empty one
+-- what a table of at most 4096 slots keeps: the first of them, and none before it took memory for all, the numbers of
+-- the filled ones in the order of their names, and the lowest empty one
 pub record IsIndexed (count : ℕ) (items : List (Option Def)) (order : List ℕ) (vacant : Option ℕ)
-    (capacity : ℕ) : Type 0 where
+    (room : Bool) : Type 0 where
   pub most : count ≤ 4096
-  pub size : (length items ≡ 0) ⊎ (length items ≡ count)
+  pub size : length items ≤ count
   pub apart : AreApart items
   pub index : order ≡ values (slots_by_name items)
   pub lowest : vacant ≡ vacant_slot (padded count items)
-  pub spare : length items ≡ count → count ≤ capacity
+  pub taken : room ≡ false → items ≡ []
+
+-- the memory of such a table
+pub record IsRoomy (count : ℕ) (room : Bool) (capacity order_capacity : ℕ) : Type 0 where
+  pub slots : room ≡ true → count ≤ capacity
+  pub order : room ≡ true → count ≤ order_capacity
+
+-- what a table keeps, and its memory
+pub record IsHeld (count : ℕ) (items : List (Option Def)) (order : List ℕ) (vacant : Option ℕ) (room : Bool)
+    (capacity order_capacity : ℕ) : Type 0 where
+  pub kept : IsIndexed count items order vacant room
+  pub memory : IsRoomy count room capacity order_capacity
 
 -- how many entries have a lower name
 abbrev pub place_of : List ℕ → List (List ℕ × ℕ) → ℕ
@@ -48,3 +59,7 @@ stands_at (suc place) name (e ∷ es) = stands_at place name es
 abbrev pub lower : Option ℕ → ℕ → ℕ
 lower None slot = slot
 lower (Some n) slot = min n slot
+
+-- the slot behind the first `len` of `count` slots, where there are more
+abbrev pub slot_behind : ℕ → ℕ → Option ℕ
+slot_behind len count = if ltb len count then Some len else None

@@ -1,11 +1,11 @@
 // One kind's definitions in their slots. The numbers of the filled slots are kept in the order of their names, so
 // that a name is found by a binary search; and so is the lowest empty slot.
-ghost use Rattle.std.specs.Prelude.{◌≡◌, ◌<◌, ◌≤◌, ◌⊎◌, true, false, length, replicate, slice_set, Some, None, OnOk};
-ghost use Rattle.std.specs.Prelude.{OnErr, IsOk, IsSome, IfSome, IfOk, EachIndex, slice_index, ℕ, option_copied};
-ghost use Rattle.std.specs.Prelude.{option_map};
+ghost use Rattle.std.specs.Prelude.{◌≡◌, ◌+◌, ◌-◌, ◌++◌, ◌<◌, ◌≤◌, ◌⊎◌, vec_capacity, true, false, length, replicate};
+ghost use Rattle.std.specs.Prelude.{slice_set, Some, None, OnOk, OnErr, IsOk, IsSome, IfSome, IfOk, EachIndex};
+ghost use Rattle.std.specs.Prelude.{slice_index, ℕ, option_copied, option_map};
 ghost use Rattle.std.specs.FinMap.{values, entries};
 ghost use Rattle.ts_model.specs.Definitions.{name_of, at_slot, slot_of, vacant_slot, slots_by_name, IsNewName, IsTable};
-ghost use Rattle.ts_model.specs.Table.{place_of, stands_at, lower, AreApart};
+ghost use Rattle.ts_model.specs.Table.{padded, place_of, stands_at, lower, slot_behind, AreApart};
 
 use crate::Def;
 use std::alloc::{AllocError, Global};
@@ -15,6 +15,8 @@ use std::marker::Model;
 #[derive(Drop)]
 pub(crate) struct Table {
     count: u16,
+    // Whether memory was taken for all slots.
+    room: bool,
     // The first slots; those behind them are empty.
     slots: Vec<Option<Def>>,
     order: Vec<u16>,
@@ -22,19 +24,15 @@ pub(crate) struct Table {
 }
 
 impl Model for Table {
-    ghost use Rattle.std.specs.Prelude.{vec_capacity, length, ◌==◌};
-    ghost use Rattle.ts_model.specs.Table.{Slots, padded, IsIndexed};
+    ghost use Rattle.std.specs.Prelude.{vec_capacity};
+    ghost use Rattle.ts_model.specs.Table.{Slots, padded, IsHeld};
 
     ghost Value = { Slots };
 
-    ghost view = { λ t. record {
-      count = t.count;
-      slots = padded t.count t.slots.items;
-      room = length t.slots.items
-          == t.count;
-    } };
+    ghost view = { λ t. record { count = t.count; slots = padded t.count t.slots.items; room = t.room } };
 
-    ghost invariant = { λ t. IsIndexed t.count t.slots.items t.order.items t.vacant (vec_capacity t.order) };
+    ghost invariant = { λ t. IsHeld t.count t.slots.items t.order.items t.vacant t.room (vec_capacity t.slots)
+        (vec_capacity t.order) };
 }
 
 impl Table {
@@ -46,6 +44,7 @@ impl Table {
     {
         Table {
             count,
+            room: false,
             slots: Vec::new(alloc),
             order: Vec::new(alloc),
             vacant: Some(0),
@@ -102,25 +101,29 @@ impl Table {
         ensures memory { self.old.room ≡ true → IsOk result }
         ensures others { (self.new.slots ≡ self.old.slots) × (self.new.count ≡ self.old.count) }
     {
-        let count = self.count as usize;
-        if self.slots.len() == count {
+        if self.room {
             return Ok(());
         }
+        let count = self.count as usize;
         self.order.reserve(count)?;
-        self.slots = empty_slots(*self.slots.allocator(), count)?;
+        self.slots.reserve(count)?;
+        self.room = true;
         Ok(())
     }
 
-    /// The same slots anew, with the same room. Where no slot was ever filled it takes no memory.
+    /// The same slots anew, with the same room. Where there is none it takes no memory; it takes no
+    /// more time than there are slots up to the last that was filled.
     pub(crate) fn copy(&self) -> Result<Table, AllocError>
         ensures { IfOk result (λ made. made ≡ self.now) }
     {
         let alloc = *self.slots.allocator();
-        let slots = copied(alloc, self.slots.as_slice())?;
-        let mut order = Vec::with_capacity(alloc, self.slots.len())?;
+        let size = memory_for(self.room, self.count);
+        let slots = copied(alloc, self.slots.as_slice(), size)?;
+        let mut order = Vec::with_capacity(alloc, size)?;
         order.extend_from_slice(self.order.as_slice())?;
         Ok(Table {
             count: self.count,
+            room: self.room,
             slots,
             order,
             vacant: self.vacant,
@@ -164,13 +167,14 @@ impl Table {
         requires room { self.old.room ≡ true }
         ensures { self.new ≡ record self.old { slots = slice_set self.old.slots slot (Some def) } }
     {
+        extend(&mut self.slots, slot as usize);
         let place = place_in(self.slots.as_slice(), self.order.as_slice(), def.name());
         let Ok(()) = self.order.insert(place, slot) else {
             unreachable!()
         };
         self.slots[slot as usize] = Some(def);
         if self.vacant == Some(slot) {
-            self.vacant = vacant_behind(self.slots.as_slice(), slot);
+            self.vacant = vacant_behind(self.slots.as_slice(), slot, self.count);
         }
     }
 }
@@ -222,17 +226,29 @@ fn lower(vacant: Option<u16>, slot: u16) -> u16
     }
 }
 
-// The lowest empty slot, where those up to this one are filled.
-fn vacant_behind(slots: &[Option<Def>], slot: u16) -> Option<u16>
+// The lowest empty slot of so many, of which these are the first, where those up to this one are filled.
+fn vacant_behind(slots: &[Option<Def>], slot: u16, count: u16) -> Option<u16>
     requires within { slot < length slots.now }
-    requires most { length slots.now ≤ 4096 }
+    requires most { length slots.now ≤ count }
     requires filled { (i : ℕ) → i ≤ slot → IsSome (at_slot i slots.now) }
-    ensures { result ≡ vacant_slot slots.now }
+    ensures { result ≡ vacant_slot (padded count slots.now) }
 {
     let first = slot as usize + 1;
+    let len = slots.len();
     match first_empty(&slots[first..]) {
         Some(more) => Some((first + more) as u16),
-        None => None,
+        None => slot_behind(len, count),
+    }
+}
+
+// The slot behind so many of all slots.
+fn slot_behind(len: usize, count: u16) -> Option<u16>
+    ensures { result ≡ slot_behind len count }
+{
+    if len < count as usize {
+        Some(len as u16)
+    } else {
+        None
     }
 }
 
@@ -244,22 +260,34 @@ fn first_empty(slots: &[Option<Def>]) -> Option<usize>
     slots.iter().position(|kept| kept.is_none())
 }
 
-// So many empty slots.
-fn empty_slots(alloc: Global, count: usize) -> Result<Vec<Option<Def>>, AllocError>
-    ensures { IfOk result (λ made. made.items ≡ replicate count None) }
+// For how many slots a table with or without room takes memory.
+fn memory_for(room: bool, count: u16) -> usize
+    ensures { room ≡ true → count ≤ result }
 {
-    let mut made = Vec::with_capacity(alloc, count)?;
-    for _ in 0..count {
-        made.push(None)?;
-    }
-    Ok(made)
+    if room { count as usize } else { 0 }
 }
 
-// Slots with copies of their definitions.
-fn copied(alloc: Global, slots: &[Option<Def>]) -> Result<Vec<Option<Def>>, AllocError>
-    ensures { IfOk result (λ made. made.items ≡ slots.now) }
+// Has empty slots up to this one. There is room for them.
+fn extend(slots: &mut Vec<Option<Def>>, slot: usize)
+    requires small { slot < 4096 }
+    requires room { slot < vec_capacity slots.old }
+    ensures within { slot < length slots.new.items }
+    ensures empty { slots.new.items ≡ slots.old.items ++ replicate (slot + 1 - length slots.old.items) None }
+    ensures room { vec_capacity slots.old ≤ vec_capacity slots.new }
 {
-    let mut made = Vec::with_capacity(alloc, slots.len())?;
+    for _ in slots.len()..slot + 1 {
+        let Ok(()) = slots.push(None) else {
+            unreachable!()
+        };
+    }
+}
+
+// Slots with copies of their definitions, with room for so many.
+fn copied(alloc: Global, slots: &[Option<Def>], room: usize) -> Result<Vec<Option<Def>>, AllocError>
+    ensures slots { IfOk result (λ made. made.items ≡ slots.now) }
+    ensures room { IfOk result (λ made. room ≤ vec_capacity made) }
+{
+    let mut made = Vec::with_capacity(alloc, room)?;
     for slot in slots {
         let copy = copied_slot(slot)?;
         made.push(copy)?;

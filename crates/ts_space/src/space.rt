@@ -1,9 +1,9 @@
 // The directory.
-ghost use Rattle.std.specs.Prelude.{◌≡◌, ◌+◌, ◌-◌, ◌^◌, ◌<◌, ◌≤◌, [], None, length, replicate, IfOk, OnOk, OnErr};
+ghost use Rattle.std.specs.Prelude.{◌≡◌, ◌+◌, ◌-◌, ◌^◌, ◌<◌, ◌≤◌, [], None, length, map, replicate, IfOk, OnOk, OnErr};
 ghost use Rattle.std.specs.Prelude.{vec_len, vec_capacity};
 ghost use Rattle.ts_space.specs.Place.{IsRising, place_at, put_place, drop_place, count_of};
 ghost use Rattle.ts_space.specs.Moved.{moved_to};
-ghost use Rattle.ts_space.specs.Directory.{Directory, places_of, spare_of, capacity_of, used_of, ChangesOnly};
+ghost use Rattle.ts_space.specs.Directory.{Directory, places_of, spare_of, capacity_of, used_of, ChangesOnly, HasGrown};
 
 use crate::moved::{Moved, exchange};
 use crate::place::{Place, counted, drop_at, put};
@@ -16,27 +16,29 @@ const SLOTS: usize = 4096;
 #[derive(Drop)]
 pub struct Space {
     alloc: Global,
+    /// The lists of the first slots; those behind them have no places. There is room for all.
     lists: Vec<Vec<Place>>,
-    /// How many elements each list has by its places: kept with each change, so that no walk counts
-    /// them.
+    /// How many elements each of these lists has by its places: kept with each change, so that no
+    /// walk counts them.
     counts: Vec<u64>,
     /// How many places all lists have together.
     used: u128,
 }
 
 impl Model for Space {
-    ghost use Rattle.std.specs.Prelude.{◌-◌, map, vec_len, vec_capacity};
-    ghost use Rattle.ts_space.specs.Directory.{Directory, IsDirectory};
+    ghost use Rattle.std.specs.Prelude.{◌-◌, [], map, vec_len, vec_capacity};
+    ghost use Rattle.ts_space.specs.Directory.{Directory, IsRoomy, padded};
 
     ghost Value = { Directory };
 
     ghost view = { λ s. record {
-      lists = map (λ list. list.items) s.lists.items;
+      lists = padded [] (map (λ list. list.items) s.lists.items);
       spares =
-          map (λ list. vec_capacity list - vec_len list) s.lists.items;
+          padded 0 (map (λ list. vec_capacity list - vec_len list) s.lists.items);
     } };
 
-    ghost invariant = { λ s. IsDirectory (map (λ list. list.items) s.lists.items) s.counts.items s.used };
+    ghost invariant = { λ s. IsRoomy (map (λ list. list.items) s.lists.items) s.counts.items s.used (vec_capacity s.lists)
+        (vec_capacity s.counts) };
 }
 
 impl Space {
@@ -45,11 +47,8 @@ impl Space {
         ensures ok { IfOk result (λ space. space.lists ≡ replicate 4096 []) }
         ensures used { IfOk result (λ space. used_of space ≡ 0) }
     {
-        let mut lists = Vec::with_capacity(alloc, SLOTS)?;
-        let counts = vec![in alloc; 0; SLOTS]?;
-        for _slot in 0..SLOTS {
-            lists.push(Vec::new(alloc))?;
-        }
+        let lists = Vec::with_capacity(alloc, SLOTS)?;
+        let counts = Vec::with_capacity(alloc, SLOTS)?;
         Ok(Space {
             alloc,
             lists,
@@ -58,7 +57,8 @@ impl Space {
         })
     }
 
-    /// The same places anew: a list takes room for its places alone, and one without places none.
+    /// The same places anew: a list takes room for its places alone, and one without places none. It
+    /// takes no more time than there are slots up to the last that had places.
     pub fn copy(&self) -> Result<Space, AllocError>
         ensures { IfOk result (λ made. made.lists ≡ self.now.lists) }
     {
@@ -68,7 +68,8 @@ impl Space {
             let places = Vec::from_slice(alloc, list)?;
             lists.push(places)?;
         }
-        let counts = Vec::from_slice(alloc, &self.counts)?;
+        let mut counts = Vec::with_capacity(alloc, SLOTS)?;
+        counts.extend_from_slice(&self.counts)?;
         Ok(Space {
             alloc,
             lists,
@@ -84,7 +85,12 @@ impl Space {
         ensures rising { IsRising result.now }
         ensures slots { length self.now.lists ≡ 4096 }
     {
-        &self.lists[series as usize]
+        let slot = series as usize;
+        if slot < self.lists.len() {
+            &self.lists[slot]
+        } else {
+            &[]
+        }
     }
 
     /// Takes memory for so many places more of a series.
@@ -96,7 +102,9 @@ impl Space {
         ensures spare { spare_of series self.old ≤ spare_of series self.new }
         ensures others { ChangesOnly series self.old self.new }
     {
-        self.lists[series as usize].reserve(more)
+        let slot = series as usize;
+        grow(self.alloc, &mut self.lists, &mut self.counts, slot);
+        self.lists[slot].reserve(more)
     }
 
     /// Sets a place of a series, in place of the one that begins there.
@@ -127,6 +135,9 @@ impl Space {
         ensures spare { spare_of series self.old ≤ spare_of series self.new }
     {
         let slot = series as usize;
+        if slot >= self.lists.len() {
+            return;
+        }
         let count = self.counts[slot];
         let list = &mut self.lists[slot];
         let before = list.len();
@@ -162,7 +173,12 @@ impl Space {
         requires bound { count_of (places_of series self.now) < 2 ^ 64 }
         ensures { result ≡ count_of (places_of series self.now) }
     {
-        self.counts[series as usize]
+        let slot = series as usize;
+        if slot < self.counts.len() {
+            self.counts[slot]
+        } else {
+            0
+        }
     }
 
     /// How many places all series have together.
@@ -191,6 +207,7 @@ impl Space {
         ensures others { ChangesOnly series self.old self.new }
     {
         let slot = series as usize;
+        grow(self.alloc, &mut self.lists, &mut self.counts, slot);
         let kept = &mut self.lists[slot];
         let before = kept.len();
         let after = places.len();
@@ -198,5 +215,30 @@ impl Space {
         *kept = places;
         self.used = self.used - before as u128 + after as u128;
         self.counts[slot] = count;
+    }
+}
+
+// Has lists without places up to that of a slot. There is room for them.
+fn grow(alloc: Global, lists: &mut Vec<Vec<Place>>, counts: &mut Vec<u64>, slot: usize)
+    requires slot { slot < 4096 }
+    requires room { 4096 ≤ vec_capacity lists.old }
+    requires counts_room { 4096 ≤ vec_capacity counts.old }
+    requires same { vec_len counts.old ≡ vec_len lists.old }
+    ensures within { slot < length lists.new.items }
+    ensures grown { HasGrown (slot + 1 - length lists.old.items) (map (λ list. list.items) lists.old.items)
+        (map (λ list. list.items) lists.new.items)
+        (map (λ list. vec_capacity list - vec_len list) lists.old.items)
+        (map (λ list. vec_capacity list - vec_len list) lists.new.items)
+        counts.old.items counts.new.items }
+    ensures room { vec_capacity lists.old ≤ vec_capacity lists.new }
+    ensures counts_room { vec_capacity counts.old ≤ vec_capacity counts.new }
+{
+    for _ in lists.len()..slot + 1 {
+        let Ok(()) = lists.push(Vec::new(alloc)) else {
+            unreachable!()
+        };
+        let Ok(()) = counts.push(0) else {
+            unreachable!()
+        };
     }
 }

@@ -1,7 +1,7 @@
 use Rattle.std.proofs.Common.{◌≡◌, ◌+◌, ◌<◌, ◌++◌, ◌∷◌, [], ℕ, List, take, length, map, get_or, arith, sym, ap, ◌∙◌, subst, Vec, Global}
 use Rattle.std.proofs.lemmas.List.{map_more, map-append, take_all}
 use Rattle.ts_space.specs.declared.place.Place.{Place}
-use Rattle.ts_space.specs.Directory.{Directory, IsDirectory}
+use Rattle.ts_space.specs.Directory.{Directory, IsDirectory, padded}
 use Rattle.ts_space.proofs.DirectoryLemmas.{items_of}
 use Rattle.ts_space.proofs.space.Space.copy.Goals as goal
 
@@ -19,21 +19,29 @@ loop-list-preserved c =
     let within : c.loop-list.list-index < length vs = omega (arith, c.loop-list-test.true, ap length whole) in
     let old = c.list-item.result in
     let here = c.list-item.is ∙ ap (λ (l : List (Vec Place Global)). get_or l c.loop-list.list-index old) whole in
-    ap (map items_of) c.in_ok-push.ensures.items
-    ∙ more_copied vs c.loop-list.lists.items c.loop-list.list-index old c.in_ok-places.places within c.loop-list.invariant here (c.in_ok-places.ensures.items ∙ c.deref.ensures.value)
+    record {
+      copied = ap (map items_of) c.in_ok-push.ensures.items
+          ∙ more_copied vs c.loop-list.lists.items c.loop-list.list-index old c.in_ok-places.places within c.loop-list.invariant.copied here (c.in_ok-places.ensures.items ∙ c.deref.ensures.value);
+      room = omega (arith, c.loop-list.invariant.room, c.in_ok-push.ensures.capacity);
+    }
 
 pub invariant_of-result : goal.invariant_of-result
 invariant_of-result c =
     let vs = c.self.inside.lists.items in
     let all = take_all c.loop-list.list-index vs (omega (arith, c.loop-list-test.false)) in
-    let same = c.loop-list.invariant ∙ ap (map items_of) all in
-    let counts = c.in_ok-counts.ensures.items ∙ c.deref-2.ensures.value in
-    subst (λ (lists : List (List Place)). IsDirectory lists c.in_ok-counts.counts.items c.self.inside.used) (sym same)
-    (subst (λ (counts : List ℕ). IsDirectory (map items_of vs) counts c.self.inside.used) (sym counts) c.self.invariant)
+    let same = c.loop-list.invariant.copied ∙ ap (map items_of) all in
+    let counts : c.extend_from_slice.new.self.items ≡ c.self.inside.counts.items =
+    c.in_ok-extend_from_slice.ensures.items ∙ ap (λ (l : List ℕ). l ++ c.deref-2.result.now) c.in_ok-counts.ensures.items ∙ c.deref-2.ensures.value in
+    record {
+      directory = subst (λ (lists : List (List Place)). IsDirectory lists c.extend_from_slice.new.self.items c.self.inside.used) (sym same)
+          (subst (λ (counts : List ℕ). IsDirectory (map items_of vs) counts c.self.inside.used) (sym counts) c.self.invariant.directory);
+      lists_room = c.loop-list.invariant.room;
+      counts_room = omega (arith, c.in_ok-counts.ensures.capacity, c.extend_from_slice.ensures.capacity);
+    }
 
 pub returns : goal.returns
 returns c =
     let vs = c.self.inside.lists.items in
     let all = take_all c.loop-list.list-index vs (omega (arith, c.loop-list-test.false)) in
-    let same = c.loop-list.invariant ∙ ap (map items_of) all in
-    same ∙ ap (λ (d : Directory). d.lists) c.self.view_is
+    let same = c.loop-list.invariant.copied ∙ ap (map items_of) all in
+    ap (padded []) same ∙ ap (λ (d : Directory). d.lists) c.self.view_is
