@@ -1,9 +1,10 @@
 -- What it is to carry out a command on pages. Nothing here speaks of a device, a journal or a commit.
+pub use Rattle.ts_page.specs.Unchanged.{Stays}
 use Rattle.std.specs.Prelude.{◌≡◌, ℕ, ◌<◌, ◌≤◌, ◌+◌, ◌*◌, Bool, true, false, IsTrue, None, Result, Ok, Err, IfOk, OnOk}
 use Rattle.std.specs.Prelude.{IfErr, List, [], length, slice_set, slice_index_or}
 use Rattle.ts_disk.specs.Device.{Rose}
 use Rattle.ts_command.specs.declared.command.Command.{Command}
-use Rattle.ts_page.specs.Pages.{Contents, EqualPages}
+use Rattle.ts_page.specs.Pages.{Contents}
 use Rattle.ts_space.specs.declared.place.Place.{Place}
 use Rattle.ts_space.specs.Moved.{moved_to}
 use Rattle.ts_space.specs.Directory.{Directory, spare_of}
@@ -65,11 +66,6 @@ HasRoom Pages room space = Unit {0}
 HasRoom (Slot kind slot def) room space = has_room kind room ≡ true
 HasRoom (Places slot moved) room space = 2 ≤ spare_of slot space
 HasRoom (Series slot) room space = Unit {0}
-
--- the pages stay, and the free ones of them
-pub record Stays (tells : Bool) (v w : Contents) : Type 0 where
-  pub free : w.free ≡ v.free
-  pub pages : IsTrue tells → EqualPages v.page w.page
 
 -- A layout was seen, and by the catalogue of the one that is seen with the effect this is the answer.
 pub record Comes (tells : Bool) (command : Command) (effect : Effect) (out : List ℕ) (x : View) (c : Contents)

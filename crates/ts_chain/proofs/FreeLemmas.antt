@@ -139,6 +139,9 @@ module _ (tells : Bool) (numbers : List ℕ) (v : Contents) where
           count = freed.call.count ∙ so.count;
           faults = freed.call.no_fault (λ err. cc) ∙ so.faults;
           change_bytes = omega (arith, bytes, before);
+          images = λ n not is.
+              let other : n ≢ x = λ same. not (subst (λ (l : List ℕ). Contains l n) (sym more) (contains_second (take i numbers) (x ∷ []) n (0, omega arith, sym same))) in
+              freed.images n other (so.images n (λ has. not (subst (λ (l : List ℕ). Contains l n) (sym more) (contains_first (take i numbers) (x ∷ []) n has))) is);
         }
       where
         among : (xs : List ℕ) (x n : ℕ) → Contains (xs ++ x ∷ []) n → n ≢ x → Contains xs n
@@ -161,6 +164,7 @@ freed_places tells places numbers n v w moved whole so =
       free = IsPermutation-trans (v.free ++ pages_of places) (v.free ++ numbers) w.free (IsPermutation-append_right v.free (pages_of places) numbers moved) (subst (λ (l : List ℕ). IsPermutation (v.free ++ l) w.free) all so.free);
       zero = λ told m has. so.zero told m (subst (λ (l : List ℕ). Contains l m) (sym all) (Contains-permutation (pages_of places) numbers m moved has));
       others = λ told m not. so.others told m (λ has. not (Contains-permutation numbers (pages_of places) m (IsPermutation-sym (pages_of places) numbers moved) (subst (λ (l : List ℕ). Contains l m) all has)));
+      images = λ m not. so.images m (λ has. not (Contains-permutation numbers (pages_of places) m (IsPermutation-sym (pages_of places) numbers moved) (subst (λ (l : List ℕ). Contains l m) all has)));
     }
   where
     take_all : (xs : List ℕ) → take (length xs) xs ≡ xs

@@ -7,7 +7,6 @@ pub mod FindLemmas
 pub mod PagesLemmas
 pub mod ChangeLemmas
 pub mod MovedLemmas
-pub mod ReadLemmas
 pub mod LastLemmas
 pub mod PlacingLemmas
 pub mod BehindLemmas

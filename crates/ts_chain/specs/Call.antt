@@ -8,7 +8,7 @@ use Rattle.ts_row.specs.declared.kind.Column.{Column}
 use Rattle.ts_row.specs.Row.{Row, marked}
 use Rattle.ts_row.specs.Element.{Element}
 use Rattle.ts_irregular.specs.Edit.{element_at, with_element, without_element, last_seen}
-use Rattle.ts_irregular.specs.Call.{ArePagesSame}
+use Rattle.ts_irregular.specs.Call.{Stays}
 use Rattle.ts_space.specs.Place.{count_of}
 use Rattle.ts_space.specs.declared.moved.Moved.{Moved}
 use Rattle.ts_chain.specs.Chain.{IsChain, all_in}
@@ -52,7 +52,7 @@ pub record IsPutOver (tells : Bool) (slot : ℕ) (columns : List Column) (stamp 
 pub record IsMissing (tells : Bool) (slot : ℕ) (columns : List Column) (stamp : ℤ) (places : List Place)
     (v w : Contents) : Type 0 where
   pub absent : IsTold tells slot columns places v (λ chain. element_at stamp (all_in chain) ≡ None)
-  pub same : ArePagesSame tells v w
+  pub same : Stays tells v w
 
 -- the row at a stamp is changed, or none is there
 abbrev pub IsChanged : Bool → ℕ → List Column → ℤ → (Row → Row) → List Place → Contents → Contents → Bool → Type 0
@@ -108,7 +108,7 @@ pub record IsPutNew (tells : Bool) (slot : ℕ) (columns : List Column) (stamp :
 pub record IsThereAlready (tells : Bool) (slot : ℕ) (columns : List Column) (stamp : ℤ) (places : List Place)
     (v w : Contents) : Type 0 where
   pub there : IsTold tells slot columns places v (λ chain. IsSome (element_at stamp (all_in chain)))
-  pub same : ArePagesSame tells v w
+  pub same : Stays tells v w
   pub bytes : w.change_bytes ≡ v.change_bytes
 
 -- a row is put, and the places become others; or one is there
@@ -117,11 +117,12 @@ IsInserted tells slot columns stamp row places v w (Some moved) = IsPutNew tells
     (moved_to moved places) v w
 IsInserted tells slot columns stamp row places v w None = IsThereAlready tells slot columns stamp places v w
 
--- the pages of some places are freed, and no other page changes
+-- the pages of some places are freed, and no other page changes, nor loses its image in the open batch
 pub record AreFreed (tells : Bool) (places : List Place) (v w : Contents) : Type 0 where
   pub free : IsPermutation (v.free ++ pages_of places) w.free
   pub zero : IsTrue tells → (number : ℕ) → Contains (pages_of places) number → w.page number ≡ zero_page
   pub others : IsTrue tells → (number : ℕ) → ¬ Contains (pages_of places) number → w.page number ≡ v.page number
+  pub images : (number : ℕ) → ¬ Contains (pages_of places) number → IsTrue (v.imaged number) → IsTrue (w.imaged number)
 
 -- where the pages are told, no page changed but those of these places and those that `take` could give
 abbrev pub ChangesOnlyPages : Bool → List Place → Contents → Contents → Type 0

@@ -87,6 +87,7 @@ pub record AreFreedTo (tells : Bool) (numbers : List ℕ) (n : ℕ) (v w : Conte
   pub count : w.count ≡ v.count
   pub faults : w.faults ≡ v.faults
   pub change_bytes : w.change_bytes ≤ v.change_bytes + 5 * n
+  pub images : (number : ℕ) → ¬ Contains (take n numbers) number → IsTrue (v.imaged number) → IsTrue (w.imaged number)
 
 -- Of the elements of a page none is at a stamp; with a row put there they are one more, and these bytes have their
 -- halves.

@@ -16,7 +16,6 @@ use Rattle.ts_space.specs.Charge.{irregular_charge}
 use Rattle.ts_space.proofs.ChargeLemmas.{charge_grows}
 use Rattle.ts_cells.specs.Cell.{page_room}
 use Rattle.ts_irregular.specs.Edit.{element_at, with_element, without_element}
-use Rattle.ts_irregular.specs.Call.{ArePagesSame}
 use Rattle.ts_irregular.specs.OnePage.{IsPlace}
 use Rattle.ts_chain.specs.Chain.{IsChain, all_in}
 use Rattle.ts_chain.specs.Places as chain
@@ -32,7 +31,6 @@ use Rattle.ts_offset.specs.declared.shape.Shape.TheVariants.{Irregular}
 use Rattle.ts_layout.specs.Placed.{AreMoved}
 use Rattle.ts_layout.specs.Chains.{by_stamp}
 use Rattle.ts_model.specs.Catalogue.{Elements}
-use Rattle.ts_answer.specs.CarriedOut.{Stays}
 use Rattle.ts_elements.specs.Stamps.{IsTold, AreWritten, charge_with_one, target_in}
 use Rattle.ts_elements.specs.Calls.{IsEdited, IsFound, IsMarked, IsRemoved, IsCleared, WouldCost}
 use Rattle.ts_elements.proofs.LawLemmas.{as_maps}
@@ -58,9 +56,6 @@ ok_as (Err e) P Q follows is = tt
 pub both_ok : {T E : Type 0} (r : Result T E) (A : Type 0) (P Q : T → Type 0) → ((t : T) → A → P t → Q t) → OnOk r A → IfOk r P → IfOk r Q
 both_ok (Ok t) A P Q follows also is = follows t also is
 both_ok (Err e) A P Q follows also is = tt
-
-same : (tells : Bool) (v w : Contents) → ArePagesSame tells v w → Stays tells v w
-same tells v w is = record { free = is.free; pages = is.pages }
 
 -- an element more
 one_more : (m : Elements) (stamp : ℤ) (row : Row) → get m stamp ≡ None → len (insert m stamp row) ≡ len m + 1
@@ -98,7 +93,7 @@ module _ (tells : Bool) (slot : ℕ) (columns : List Column) (places : List Plac
         (is.put tell have.chain have.on have.is row (ap (element_at stamp) have.all ∙ at)));
   })
   marked_chain stamp hidden false answer is there missing = subst (λ (r : Result ℤ Refusal). IsMarked tells Irregular slot columns stamp hidden places v w r) (sym (missing refl)) (
-    same tells v w is.same,
+    is.same,
     λ tell es have. inr (refl, stamp, refl, ap (element_at stamp) (sym have.all) ∙ is.absent tell have.chain have.on have.is),
   )
 
@@ -117,7 +112,7 @@ module _ (tells : Bool) (slot : ℕ) (columns : List Column) (places : List Plac
       left = told (λ es. AreWritten Irregular slot columns (without_element stamp es) places _ v w) (λ tell chain on of. written _ _ (is.left tell chain on of));
     }
     removed_chain stamp None is = (
-      same tells v w is.same,
+      is.same,
       λ tell es have at address.
           ap (λ (s : ℤ). element_at s es) (one_address Irregular stamp at stamp refl address) ∙ ap (element_at stamp) (sym have.all) ∙ is.absent tell have.chain have.on have.is,
     )
@@ -130,7 +125,7 @@ module _ (tells : Bool) (slot : ℕ) (columns : List Column) (places : List Plac
       number = told _ is.number;
       left = told (λ es. AreWritten Irregular slot columns _ places _ v w) (λ tell chain on of. written _ _ (is.left tell chain on of));
     }
-    cleared_chain from to removed None is = (same tells v w is.same, is.number, told _ is.none)
+    cleared_chain from to removed None is = (is.same, is.number, told _ is.none)
 
     -- an edit
     module _ (how : EditKind) (stamp : ℤ) (row : Row) (pages : ℕ) where
@@ -165,9 +160,9 @@ module _ (tells : Bool) (slot : ℕ) (columns : List Column) (places : List Plac
             put = puts at _ is.put;
           }
       edited_chain edited.Replaced is = record { free = is.free; target_is = aims (Ok stamp) is.target_is; put = puts stamp places is.put }
-      edited_chain (edited.Refused refusal) is = record { same = same tells v w is.same; why = aims (Err refusal) is.why }
+      edited_chain (edited.Refused refusal) is = record { same = is.same; why = aims (Err refusal) is.why }
       edited_chain edited.Full is = record {
-        same = same tells v w is.same;
+        same = is.same;
         over = is.over;
         new = told (λ es. WouldCost Irregular columns how stamp row es (charge_with_one Irregular columns places)) (λ tell chain on of.
             let at = is.new tell chain on of in would_cost at.0 chain on of at.1 at.2);

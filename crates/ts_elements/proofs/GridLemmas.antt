@@ -41,7 +41,6 @@ use Rattle.ts_model.specs.Charge.{elements_charge}
 use Rattle.ts_layout.specs.Placed.{AreMoved}
 use Rattle.ts_layout.specs.Chains.{by_stamp}
 use Rattle.ts_answer.specs.Answer.{addressed}
-use Rattle.ts_answer.specs.CarriedOut.{Stays}
 use Rattle.ts_shelf.proofs.LawLemmas.{charges}
 use Rattle.ts_elements.specs.Stamps.{IsTold, AreWritten, HaveElements, charge_with_one, target_in, unless}
 use Rattle.ts_elements.specs.Calls.{IsEdited, IsFound, IsMarked, IsRemoved, IsCleared, WouldCost, IsPut}
@@ -59,9 +58,6 @@ moved columns old new v w is = record {
   rising = is.rising;
   counts = λ k d within. let one : cells.IsCounted columns _ = is.counts k d within in record { some = one.some; most = one.room };
 }
-
-same : (tells : Bool) (v w : Contents) → call.ArePagesSame tells v w → Stays tells v w
-same tells v w is = record { free = is.free; pages = is.pages }
 
 -- where no page more is used, there are no more places
 pub no_more : (old new : List Place) (v w : Contents) → IsPermutation (v.free ++ pages_of old) (w.free ++ pages_of new) → length v.free ≤ length w.free → length new ≤ length old
@@ -138,11 +134,11 @@ module _ (tells : Bool) (grid : GridPlan) (laid : IsLaid grid.calendar) (slot : 
       pub edited_at : IsRising places → (done : Edited) → edit.IsEditedAt tells slot columns how offset start row room places v w done → IsEdited tells (Regular grid) slot columns how stamp row room places v w done
       edited_at rising (edited.Put at m) done = subst (λ (s : ℤ). IsPut tells (Regular grid) slot columns how stamp row room s places (moved_to m places) v w) (sym done.0) (put_at (moved_to m places) done.1)
       edited_at rising edited.Replaced done = absurd done
-      edited_at rising (edited.Refused refusal) done = record { same = same tells v w done.same; why = aims (Some refusal) done.why }
+      edited_at rising (edited.Refused refusal) done = record { same = done.same; why = aims (Some refusal) done.why }
       edited_at rising edited.Full done =
           let over = done.over in
           record {
-            same = same tells v w done.same;
+            same = done.same;
             over = omega (arith, over);
             new = λ tell es have. would_cost rising es have (aims None done.allowed tell es have) (done.new tell have.cells have.on) done.needs;
           }
@@ -156,7 +152,7 @@ module _ (tells : Bool) (grid : GridPlan) (laid : IsLaid grid.calendar) (slot : 
       put = λ tell es have row at. put_here (marked hidden row) places es have (done.1.put tell have.cells have.on row (sym (found_here es have) ∙ at));
     })
     marked_at hidden (Err refusal) done = (
-      same tells v w done.1.same,
+      done.1.same,
       λ tell es have. inr (done.0, start, address, found_here es have ∙ done.1.absent tell have.cells have.on),
     )
 
@@ -175,7 +171,7 @@ module _ (tells : Bool) (grid : GridPlan) (laid : IsLaid grid.calendar) (slot : 
           (written (offsets.without_element offset all) (moved_to m places) (done.left tell have.cells have.on) (starts_left grid (λ e. not (offset == e.0)) all have.starts));
     }
     removed_at free None done = (
-      same tells v w done.same,
+      done.same,
       λ tell es have at other.
           ap (λ (s : ℤ). element_at s es) (one_address (Regular grid) stamp at start address other) ∙ found_here es have ∙ done.absent tell have.cells have.on,
     )
@@ -193,7 +189,7 @@ module _ (tells : Bool) (grid : GridPlan) (laid : IsLaid grid.calendar) (slot : 
   pub edited_cells : IsRising places → (how : EditKind) (stamp : ℤ) (row : Row) (room : ℕ) (done : Edited) → edit.IsEdited tells slot columns grid how stamp row room places v w done → IsEdited tells (Regular grid) slot columns how stamp row room places v w done
   edited_cells rising how stamp row room done (inl on) = edited_at stamp on.offset on.start on.is how row room rising done on.holds
   edited_cells rising how stamp row room done (inr off) = subst (λ (e : Edited). IsEdited tells (Regular grid) slot columns how stamp row room places v w e) (sym off.holds.0) (record {
-    same = same tells v w off.holds.1;
+    same = off.holds.1;
     why = λ tell es have. aims_at_none grid how stamp es off.why (no_address grid stamp off.why off.is);
   })
 
@@ -207,14 +203,14 @@ module _ (tells : Bool) (grid : GridPlan) (laid : IsLaid grid.calendar) (slot : 
   pub marked_cells : (stamp : ℤ) (hidden : Bool) (answer : Result ℤ Refusal) → element.IsMarkedAt tells slot columns grid stamp hidden places v w answer → IsMarked tells (Regular grid) slot columns stamp hidden places v w answer
   marked_cells stamp hidden answer (inl on) = marked_at stamp on.offset on.start on.is hidden answer on.holds
   marked_cells stamp hidden answer (inr off) = subst (λ (r : Result ℤ Refusal). IsMarked tells (Regular grid) slot columns stamp hidden places v w r) (sym off.holds.0) (
-    same tells v w off.holds.1,
+    off.holds.1,
     λ tell es have. inl (no_address grid stamp off.why off.is),
   )
 
   pub removed_cells : length v.free ≤ length w.free → (stamp : ℤ) (o : Option Moved) → element.IsRemovedAt tells slot columns grid stamp places v w o → IsRemoved tells (Regular grid) slot columns stamp places v w o
   removed_cells free stamp o (inl on) = removed_at stamp on.offset on.start on.is free o on.holds
   removed_cells free stamp o (inr off) = subst (λ (o : Option Moved). IsRemoved tells (Regular grid) slot columns stamp places v w o) (sym off.holds.0) (
-    same tells v w off.holds.1,
+    off.holds.1,
     λ tell es have at address. absurd (not_both (Regular grid) stamp at off.why (no_address grid stamp off.why off.is) address),
   )
 
@@ -237,7 +233,7 @@ module _ (tells : Bool) (grid : GridPlan) (laid : IsLaid grid.calendar) (slot : 
             (written (outside lower upper all) (moved_to m places) (is.left tell have.cells have.on) (starts_left grid (λ e. not (is_between lower upper e.0)) all have.starts));
       }
   cleared_cells free from to removed None at = (
-    same tells v w at.cleared.same,
+    at.cleared.same,
     at.cleared.number,
     λ tell es have.
         ap (within_range from to) (sym have.all) ∙ sym (within_stamped grid laid from to at.lower at.upper at.offsets (all_at have.cells) have.starts)

@@ -1,10 +1,10 @@
 -- What the calls do to pages and places.
-use Rattle.std.specs.Prelude.{◌≡◌, ◌⊎◌, ℕ, ◌+◌, ◌≤◌, ℤ, Bool, true, false, IsTrue, Option, Some, None, IsSome, Result}
-use Rattle.std.specs.Prelude.{Ok, List, [], ◌∷◌, length}
-use Rattle.ts_base.specs.declared.fault.StoreFault.{StoreFault}
+pub use Rattle.ts_page.specs.Unchanged.{Reads, Stays, AreLeft}
+use Rattle.std.specs.Prelude.{◌≡◌, ℕ, ◌+◌, ◌≤◌, ℤ, Bool, true, false, IsTrue, Option, Some, None, IsSome, Ok, List, []}
+use Rattle.std.specs.Prelude.{◌∷◌, length}
 use Rattle.ts_space.specs.declared.place.Place.{Place}
 use Rattle.ts_page.specs.Head.{zero_page}
-use Rattle.ts_page.specs.Pages.{Contents, Answered, EqualPages, with_page}
+use Rattle.ts_page.specs.Pages.{Contents, EqualPages, with_page}
 use Rattle.ts_row.specs.declared.kind.Column.{Column}
 use Rattle.ts_row.specs.Row.{Row, marked}
 use Rattle.ts_row.specs.Element.{Element}
@@ -12,13 +12,6 @@ use Rattle.ts_cells.specs.Cell.{page_room}
 use Rattle.ts_cells.specs.IrregularPage.{AreInOrder, irregular_page}
 use Rattle.ts_irregular.specs.Edit.{element_at, with_element, last_seen, search_of}
 use Rattle.ts_irregular.specs.OnePage.{place_of, IsOn, AreOn}
-
--- pages are read
-pub record Reads {T : Type 0} (tells : Bool) (result : Result T StoreFault) (v w : Contents) : Type 0 where
-  pub call : Answered result v w
-  pub pages : IsTrue tells → EqualPages v.page w.page
-  pub free : w.free ≡ v.free
-  pub change_bytes : w.change_bytes ≡ v.change_bytes
 
 -- Where the pages are told, this is the row at a stamp among the elements that they have and their places tell of. Of
 -- pages that have none such it says nothing.
@@ -79,11 +72,6 @@ IsOneMore [] new v w = (v.free ≡ new.page ∷ w.free) × (new.count ≡ 1)
 IsOneMore (old ∷ others) new v w = (w.free ≡ v.free) × (new.page ≡ old.page) × (1 ≤ new.count)
     × (new.count ≤ old.count + 1)
 
--- all pages stay, and the free ones of them
-pub record ArePagesSame (tells : Bool) (v w : Contents) : Type 0 where
-  pub free : w.free ≡ v.free
-  pub pages : IsTrue tells → EqualPages v.page w.page
-
 -- one of the told elements is at the stamp, and its row is changed; all places stay
 pub record IsPutOver (tells : Bool) (slot : ℕ) (columns : List Column) (stamp : ℤ) (change : Row
     → Row) (places : List Place) (v w : Contents) : Type 0 where
@@ -97,7 +85,7 @@ pub record IsPutOver (tells : Bool) (slot : ℕ) (columns : List Column) (stamp 
 pub record IsMissing (tells : Bool) (slot : ℕ) (columns : List Column) (stamp : ℤ) (places : List Place)
     (v w : Contents) : Type 0 where
   pub absent : IsTold tells slot columns places v (λ es. element_at stamp es ≡ None)
-  pub same : ArePagesSame tells v w
+  pub same : Stays tells v w
 
 -- the row at a stamp is changed, or none is there
 abbrev pub IsChanged : Bool → ℕ → List Column → ℤ → (Row → Row) → List Place → Contents → Contents → Bool → Type 0
@@ -113,11 +101,6 @@ IsReplaced tells slot columns stamp row places v w done =
 abbrev pub IsMarked : Bool → ℕ → List Column → ℤ → Bool → List Place → Contents → Contents → Bool → Type 0
 IsMarked tells slot columns stamp hidden places v w done =
     IsChanged tells slot columns stamp (marked hidden) places v w done
-
--- an edit that fails leaves the pages; one may be taken
-pub record AreLeft (tells : Bool) (v w : Contents) : Type 0 where
-  pub pages : IsTrue tells → EqualPages v.page w.page
-  pub free : (w.free ≡ v.free) ⊎ ((number : ℕ) × (v.free ≡ number ∷ w.free))
 
 -- Where a stamp stands on the page of a series that was read: at this index, the page having these bytes; or nowhere.
 pub record IsIndexOf (tells : Bool) (slot : ℕ) (columns : List Column) (stamp : ℤ) (place : Place) (bytes : List ℕ)

@@ -1,6 +1,6 @@
 -- The entries of a batch: each is the number of a page and what becomes of that page.
-use Rattle.std.specs.Prelude.{◌≡◌, ℕ, ◌+◌, ◌<◌, ◌≤◌, ◌==◌, nat_lt, if◌then◌else◌, Option, Some, None, List, [], ◌∷◌}
-use Rattle.std.specs.Prelude.{◌++◌, length, ◌^◌}
+use Rattle.std.specs.Prelude.{◌≡◌, ℕ, ◌+◌, ◌<◌, ◌≤◌, ◌==◌, nat_lt, if◌then◌else◌, Bool, true, false, Option, Some, None}
+use Rattle.std.specs.Prelude.{List, [], ◌∷◌, ◌++◌, length, ◌^◌}
 use Rattle.std.specs.List.{flat_map}
 use Rattle.std.specs.Int.{to_be_bytes, w32}
 use Rattle.ts_page.specs.Volume.{page_size}
@@ -42,6 +42,12 @@ put_all old (e ∷ es) = put_all (put e.0 e.1 old) es
 abbrev pub IsRising : ℕ → ℕ → List Entry → Type 0
 IsRising least top [] = least ≤ top
 IsRising least top (e ∷ es) = (least ≤ e.0) × IsRising (e.0 + 1) top es
+
+-- there is a change, and it is an image
+abbrev pub is_image : Option Change → Bool
+is_image None = false
+is_image (Some Free) = false
+is_image (Some (Image page)) = true
 
 -- an image is a whole page
 abbrev pub IsWhole : Change → Type 0

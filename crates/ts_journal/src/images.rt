@@ -41,6 +41,13 @@ impl Images {
         }
     }
 
+    /// The rules that they keep. Nothing is done.
+    pub(crate) fn rules(&self)
+        ensures { IsBatch self.now.entries }
+    {
+        let _ = &self.items;
+    }
+
     /// What becomes of a page: its image, or else it is freed.
     pub(crate) fn change(&self, no: u32) -> &Change
         ensures is { result.now ≡ unwrap_or (change_of no self.now.entries) Free }

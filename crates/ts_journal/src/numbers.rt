@@ -54,6 +54,13 @@ impl Numbers {
         self.items.binary_search(&no).is_ok()
     }
 
+    /// The rules that they keep. Nothing is done.
+    pub(crate) fn rules(&self)
+        ensures { IsBatch self.now.entries }
+    {
+        let _ = &self.items;
+    }
+
     /// Adds a number, unless it is there.
     pub(crate) fn add(&mut self, no: u32) -> Result<(), AllocError>
         ensures ok { OnOk result (self.new.entries ≡ put no Free self.old.entries) }

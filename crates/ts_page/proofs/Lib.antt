@@ -1,3 +1,4 @@
 pub mod HeadLemmas
 pub mod PagesLemmas
+pub mod ReadsLemmas
 mod MemoryLemmas

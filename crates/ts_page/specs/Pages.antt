@@ -1,7 +1,7 @@
 -- Pages by their numbers, and what each call on a keeper of pages does to them.
-use Rattle.std.specs.Prelude.{◌≡◌, ◌≢◌, ◌⊎◌, ℕ, ◌+◌, ◌<◌, ◌≤◌, ◌==◌, ◌&&◌, nat_le, if◌then◌else◌, Bool, IsTrue, List}
-use Rattle.std.specs.Prelude.{[], ◌∷◌, All, AllPairs, length, take, replicate, slice_index, slice_index_or, Result}
-use Rattle.std.specs.Prelude.{OnOk, OnErr, IsErrOf}
+use Rattle.std.specs.Prelude.{◌≡◌, ◌≢◌, ◌⊎◌, ℕ, ◌+◌, ◌<◌, ◌≤◌, ◌==◌, ◌&&◌, nat_le, if◌then◌else◌, Bool, true, IsTrue}
+use Rattle.std.specs.Prelude.{List, [], ◌∷◌, All, AllPairs, length, take, replicate, slice_index, slice_index_or}
+use Rattle.std.specs.Prelude.{Result, OnOk, OnErr, IsErrOf}
 use Rattle.ts_base.specs.declared.fault.StoreFault.{StoreFault}
 use Rattle.ts_base.specs.declared.fault.StoreFault.TheVariants.{Failed}
 use Rattle.ts_disk.specs.Device.{Rose}
@@ -19,6 +19,8 @@ pub record Contents : Type 0 where
   pub free : List ℕ
   -- how many bytes of a journal's record the changes need that aren't committed yet
   pub change_bytes : ℕ
+  -- the page of that number has its image among the changes of the open batch, and needs no bytes for another one
+  pub imaged : ℕ → Bool
   -- how often the disk failed
   pub faults : ℕ
 
@@ -68,6 +70,10 @@ pub record IsLawful (tells : Bool) (c : Contents) : Type 0 where
   pub different : AllPairs (λ a b. a ≢ b) c.free
   pub listed : All (IsListed tells c) c.free
 
+-- each page that has an image in the open batch still has one
+abbrev pub StayImaged : Contents → Contents → Type 0
+StayImaged v w = (number : ℕ) → IsTrue (v.imaged number) → IsTrue (w.imaged number)
+
 -- what each call does besides
 pub record Answered {T : Type 0} (result : Result T StoreFault) (v w : Contents) : Type 0 where
   pub count : w.count ≡ v.count
@@ -84,8 +90,9 @@ pub record Got (tells : Bool) (number : ℕ) (into : List ℕ) (result : Result 
   pub pages : IsTrue tells → EqualPages v.page w.page
   pub free : w.free ≡ v.free
   pub change_bytes : w.change_bytes ≡ v.change_bytes
+  pub images : StayImaged v w
 
--- a page is given other bytes: five bytes and its image in a record
+-- a page is given other bytes: five bytes and its image in a record, once for each page of the open batch
 pub record Put (tells : Bool) (number : ℕ) (bytes : List ℕ) (result : Result Unit StoreFault)
     (v w : Contents) : Type 0 where
   pub call : Answered result v w
@@ -93,6 +100,10 @@ pub record Put (tells : Bool) (number : ℕ) (bytes : List ℕ) (result : Result
   pub free : w.free ≡ v.free
   pub pages_stay : OnErr result (IsTrue tells → EqualPages v.page w.page)
   pub change_bytes : w.change_bytes ≤ v.change_bytes + image_entry_size
+  -- the image of before makes room for this one
+  pub again : IsTrue (v.imaged number) → w.change_bytes ≤ v.change_bytes
+  pub images : StayImaged v w
+  pub imaged : OnOk result (IsTrue (w.imaged number))
 
 -- a page is freed, five bytes in a record: it reads as zeros, and is the next that `take` gives
 pub record Freed (tells : Bool) (number : ℕ) (result : Result Unit StoreFault) (v w : Contents) : Type 0 where
@@ -102,6 +113,8 @@ pub record Freed (tells : Bool) (number : ℕ) (result : Result Unit StoreFault)
   pub pages_stay : OnErr result (IsTrue tells → EqualPages v.page w.page)
   pub free_stays : OnErr result (w.free ≡ v.free)
   pub change_bytes : w.change_bytes ≤ v.change_bytes + free_entry_size
+  -- its own may go
+  pub images : (other : ℕ) → other ≢ number → IsTrue (v.imaged other) → IsTrue (w.imaged other)
 
 -- a page leaves the list
 pub record Taken (tells : Bool) (number : ℕ) (v w : Contents) : Type 0 where
@@ -110,11 +123,21 @@ pub record Taken (tells : Bool) (number : ℕ) (v w : Contents) : Type 0 where
   pub pages : IsTrue tells → EqualPages v.page w.page
   pub listed : v.free ≡ number ∷ w.free
   pub change_bytes : w.change_bytes ≡ v.change_bytes
+  pub images : StayImaged v w
 
 -- the bytes of the page of that number in a list of pages
 abbrev pub page_at : List Page → ℕ → List ℕ
 page_at pages number = (slice_index_or pages number (record { bytes = [] })).bytes
 
--- what a list of pages means, of which these can be taken; there is no commit, and no disk to fail
+-- what a list of pages means, of which these can be taken; there is no commit, so no image needs bytes, and no disk to
+-- fail
 abbrev pub kept : List Page → List ℕ → Contents
-kept pages free = record { count = length pages; page = page_at pages; free = free; change_bytes = 0; faults = 0 }
+kept pages free = record {
+  count = length pages;
+  page = page_at pages;
+  free = free;
+  change_bytes = 0;
+  imaged =
+      λ number. true;
+  faults = 0;
+}

@@ -22,7 +22,7 @@ use Rattle.ts_regular.specs.Cell.{Cell, regular_room, base_of}
 use Rattle.ts_regular.specs.Offsets.{OffsetElement, elements_from, element_at, with_element, without_element}
 use Rattle.ts_regular.specs.Places.{OffsetPage, all_in, IsOn, AreOn, IsCounted, IsPlace, ArePlaces, AreMoved}
 use Rattle.ts_regular.specs.OnePage.{cell_at, with_row, without_row, with_mark, no_cells, IsToldOn, IsEditedOn, IsPutAlone, IsEmptyOn, IsMarkedOn, IsTakenFrom, IsFreedOn, IsTakenOn}
-use Rattle.ts_regular.specs.Call.{ArePagesSame, IsRowIn, AreWritten, IsPut, IsMissing, IsMarked, IsTakenAway, IsRemoved}
+use Rattle.ts_regular.specs.Call.{Stays, IsRowIn, AreWritten, IsPut, IsMissing, IsMarked, IsTakenAway, IsRemoved}
 use Rattle.ts_regular.proofs.OffsetLemmas.{AreLess, AreMore, at_front, at_back, with_front, with_back, without_front, without_back, none_more, first_more}
 use Rattle.ts_regular.proofs.CellsLemmas.{found_in, put_in, taken_in, count_in}
 use Rattle.ts_regular.proofs.KeptLemmas.{no_count, pos_one}
@@ -347,7 +347,7 @@ module _ (tells : Bool) (slot : ℕ) (columns : List Column) (n : ℕ) (places :
       ap (λ (l : List OffsetPage). element_at n (all_in l)) c.parts ∙ ap (element_at n) (all_both c.before c.behind)
       ∙ at_front n (all_in c.before) (all_in c.behind) (all_less ps on) ∙ none_more n (all_in c.behind) (all_more ps on)
 
-  pub none_missing_to : ArePagesSame tells v w → IsMissing tells slot columns n places v w
+  pub none_missing_to : Stays tells v w → IsMissing tells slot columns n places v w
   none_missing_to same = record { absent = λ t ps on. none_there ps on; same = same }
 
   -- a first page for it

@@ -18,7 +18,7 @@ use Rattle.ts_regular.specs.Cell.{Cell, FitsCell, cell_bytes, cell_size, regular
 use Rattle.ts_regular.specs.RegularPage.{AreCells, IsRegularPage, cells_bytes, behind_head, filled_count, regular_page}
 use Rattle.ts_regular.specs.Places.{OffsetPage, IsOn, IsCounted, IsPlace, ArePlaces}
 use Rattle.ts_regular.specs.OnePage.{cell_at, with_row, with_mark, no_cells, IsToldOn, KeepsOthers, IsEditedOn, IsPutAlone}
-use Rattle.ts_regular.specs.Call.{ArePagesSame, AreLeft}
+use Rattle.ts_regular.specs.Call.{Stays, AreLeft}
 use Rattle.ts_regular.proofs.BytesLemmas.{some_row, cells_fit}
 use Rattle.ts_regular.proofs.CellsLemmas.{count_over}
 
@@ -42,7 +42,7 @@ read_on tells slot columns place bytes v w element got t p on =
     subst (λ (b : List ℕ). IsOn slot columns b place p) (sym page) on
 
 -- nothing changed
-pub same_pages : (tells : Bool) (number : ℕ) (bytes : List ℕ) (v w : Contents) → Got tells number bytes (Ok tt) v w → ArePagesSame tells v w
+pub same_pages : (tells : Bool) (number : ℕ) (bytes : List ℕ) (v w : Contents) → Got tells number bytes (Ok tt) v w → Stays tells v w
 same_pages tells number bytes v w got = record { free = got.free; pages = got.pages }
 
 -- a page was read and then put

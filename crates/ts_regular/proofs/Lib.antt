@@ -6,7 +6,6 @@ pub mod JudgeLemmas
 pub mod PlaceLemmas
 pub mod KeptLemmas
 pub mod EditLemmas
-pub mod ReadLemmas
 pub mod LastLemmas
 pub mod FreeLemmas
 pub mod RangeLemmas

@@ -12,7 +12,7 @@ use Rattle.ts_regular.specs.Cell.{Cell, regular_room, base_of}
 use Rattle.ts_regular.specs.RegularPage.{filled_count}
 use Rattle.ts_regular.specs.Places.{OffsetPage, IsOn, AreOn}
 use Rattle.ts_regular.specs.OnePage.{KeepsOthers}
-use Rattle.ts_regular.specs.Call.{ArePagesSame}
+use Rattle.ts_regular.specs.Call.{Stays}
 use Rattle.ts_regular.specs.Range.{is_between}
 use Rattle.ts_regular.specs.Cut.{Cut, AreNotBelow, AreCutTo, AreRests, IsCutTo, IsRest, cells_outside, cuts_behind, cuts_of, recounted}
 use Rattle.ts_regular.proofs.CellsLemmas.{count_within}
@@ -99,7 +99,7 @@ end_behind P back b (q ∷ r ∷ places) d some all last = end_behind P back b (
 
 -- what is left of one page
 pub alone_cut : (tells : Bool) (slot : ℕ) (columns : List Column) (from to front : ℕ) (places : List Place) (d : Place) (v w : Contents) → 1 ≤ length places → length places - 1 ≡ 0
-    → IsCutTo tells slot columns from to front (get_or places 0 d) v w → (front ≡ (get_or places 0 d).count → ArePagesSame tells v w) → KeepsOthers tells (get_or places 0 d).page v w → w.free ≡ v.free
+    → IsCutTo tells slot columns from to front (get_or places 0 d) v w → (front ≡ (get_or places 0 d).count → Stays tells v w) → KeepsOthers tells (get_or places 0 d).page v w → w.free ≡ v.free
     → AreCutTo tells slot columns from to places (cuts_of front 0 places) v w
 alone_cut tells slot columns from to front [] d v w some one cut same others free = absurd (omega (arith, some))
 alone_cut tells slot columns from to front (a ∷ q ∷ places) d v w some one cut same others free = absurd (omega (arith, one))
@@ -119,8 +119,8 @@ alone_cut tells slot columns from to front (a ∷ []) d v w some one cut same ot
 -- of more than one
 pub ends_cut : (tells : Bool) (slot : ℕ) (columns : List Column) (from to front back : ℕ) (places : List Place) (d : Place) (v u w : Contents) → length places - 1 ≢ 0
     → IsRising places → AreNotBelow (pos (base_of columns from)) places → AreBelow (pos to) places → AllPairs (λ a b. a ≢ b) (pages_of places)
-    → IsCutTo tells slot columns from to front (get_or places 0 d) v u → (front ≡ (get_or places 0 d).count → ArePagesSame tells v u) → KeepsOthers tells (get_or places 0 d).page v u → u.free ≡ v.free
-    → IsCutTo tells slot columns from to back (get_or places (length places - 1) d) u w → (back ≡ (get_or places (length places - 1) d).count → ArePagesSame tells u w) → KeepsOthers tells (get_or places (length places - 1) d).page u w → w.free ≡ u.free
+    → IsCutTo tells slot columns from to front (get_or places 0 d) v u → (front ≡ (get_or places 0 d).count → Stays tells v u) → KeepsOthers tells (get_or places 0 d).page v u → u.free ≡ v.free
+    → IsCutTo tells slot columns from to back (get_or places (length places - 1) d) u w → (back ≡ (get_or places (length places - 1) d).count → Stays tells u w) → KeepsOthers tells (get_or places (length places - 1) d).page u w → w.free ≡ u.free
     → AreCutTo tells slot columns from to places (cuts_of front back places) v w
 ends_cut tells slot columns from to front back [] d v u w many rising begins ends different cut same others free cut2 same2 others2 free2 = absurd (many refl)
 ends_cut tells slot columns from to front back (a ∷ []) d v u w many rising begins ends different cut same others free cut2 same2 others2 free2 = absurd (many (omega arith))

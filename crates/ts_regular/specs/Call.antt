@@ -1,34 +1,17 @@
 -- What the calls do to the pages of a regular series.
+pub use Rattle.ts_page.specs.Unchanged.{Reads, Stays, AreLeft}
 use Rattle.std.specs.Prelude.{◌≡◌, ◌⊎◌, ℕ, ◌+◌, ◌≤◌, Bool, true, false, IsTrue, Option, Some, None, IsSome, Contains}
-use Rattle.std.specs.Prelude.{Result, List, ◌∷◌, length, pos}
-use Rattle.ts_base.specs.declared.fault.StoreFault.{StoreFault}
+use Rattle.std.specs.Prelude.{List, length, pos}
 use Rattle.ts_space.specs.declared.place.Place.{Place}
 use Rattle.ts_space.specs.declared.moved.Moved.{Moved}
 use Rattle.ts_space.specs.Place.{count_of, pages_of, place_at}
 use Rattle.ts_space.specs.Moved.{moved_to}
-use Rattle.ts_page.specs.Pages.{Contents, Answered, EqualPages}
+use Rattle.ts_page.specs.Pages.{Contents}
 use Rattle.ts_row.specs.declared.kind.Column.{Column}
 use Rattle.ts_row.specs.Row.{Row, marked}
 use Rattle.ts_regular.specs.Cell.{base_of}
 use Rattle.ts_regular.specs.Offsets.{OffsetElement, element_at, with_element, without_element, last_seen}
 use Rattle.ts_regular.specs.Places.{OffsetPage, all_in, AreOn, AreMoved}
-
--- pages are read
-pub record Reads {T : Type 0} (tells : Bool) (result : Result T StoreFault) (v w : Contents) : Type 0 where
-  pub call : Answered result v w
-  pub pages : IsTrue tells → EqualPages v.page w.page
-  pub free : w.free ≡ v.free
-  pub change_bytes : w.change_bytes ≡ v.change_bytes
-
--- all pages stay, and the free ones of them
-pub record ArePagesSame (tells : Bool) (v w : Contents) : Type 0 where
-  pub free : w.free ≡ v.free
-  pub pages : IsTrue tells → EqualPages v.page w.page
-
--- an edit that fails leaves the pages; one may be taken
-pub record AreLeft (tells : Bool) (v w : Contents) : Type 0 where
-  pub pages : IsTrue tells → EqualPages v.page w.page
-  pub free : (w.free ≡ v.free) ⊎ ((number : ℕ) × (v.free ≡ number ∷ w.free))
 
 -- Where the pages are told, this holds of the cells that they have and their places tell of. Of pages that have none
 -- such it says nothing.
@@ -82,7 +65,7 @@ pub record IsPutOver (tells : Bool) (slot : ℕ) (columns : List Column) (offset
 pub record IsMissing (tells : Bool) (slot : ℕ) (columns : List Column) (offset : ℕ) (places : List Place)
     (v w : Contents) : Type 0 where
   pub absent : IsTold tells slot columns places v (λ ps. element_at offset (all_in ps) ≡ None)
-  pub same : ArePagesSame tells v w
+  pub same : Stays tells v w
 
 -- the element at an offset is hidden or revealed, with the values that it has, or none is there
 abbrev pub IsMarked : Bool → ℕ → List Column → ℕ → Bool → List Place → Contents → Contents → Bool → Type 0

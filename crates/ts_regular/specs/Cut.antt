@@ -9,7 +9,7 @@ use Rattle.ts_regular.specs.Cell.{Cell, base_of}
 use Rattle.ts_regular.specs.RegularPage.{filled_count}
 use Rattle.ts_regular.specs.Places.{OffsetPage, IsOn}
 use Rattle.ts_regular.specs.OnePage.{IsToldOn}
-use Rattle.ts_regular.specs.Call.{ArePagesSame, IsTold}
+use Rattle.ts_regular.specs.Call.{Stays, IsTold}
 use Rattle.ts_regular.specs.Range.{is_between}
 
 -- cells, of which the first has this offset, without the elements in a range
@@ -95,7 +95,7 @@ pub record AreCutTo (tells : Bool) (slot : ℕ) (columns : List Column) (from to
   pub fewer : All (λ cut. cut.1 ≤ cut.0.count) cuts
   pub rests : IsTold tells slot columns places v (λ ps. AreRests slot columns from to w.page cuts ps)
   pub free : w.free ≡ v.free
-  pub same : All (λ cut. cut.1 ≡ cut.0.count) cuts → ArePagesSame tells v w
+  pub same : All (λ cut. cut.1 ≡ cut.0.count) cuts → Stays tells v w
   pub others : IsTrue tells → (number : ℕ) → ¬ Contains (pages_of places) number → w.page number ≡ v.page number
 
 -- the page of that number can be freed: it is an element page which `take` can't give
@@ -111,8 +111,10 @@ pub record AreFreedTo (tells : Bool) (numbers : List ℕ) (n : ℕ) (v w : Conte
   pub count : w.count ≡ v.count
   pub faults : w.faults ≡ v.faults
   pub change_bytes : w.change_bytes ≤ v.change_bytes + 5 * n
+  pub images : (number : ℕ) → ¬ Contains (take n numbers) number → IsTrue (v.imaged number) → IsTrue (w.imaged number)
 
--- the pages of some places are freed, and no other page changes
+-- the pages of some places are freed, and no other page changes, nor loses its image in the open batch
 pub record AreFreed (tells : Bool) (places : List Place) (v w : Contents) : Type 0 where
   pub free : IsPermutation (v.free ++ pages_of places) w.free
   pub others : IsTrue tells → (number : ℕ) → ¬ Contains (pages_of places) number → w.page number ≡ v.page number
+  pub images : (number : ℕ) → ¬ Contains (pages_of places) number → IsTrue (v.imaged number) → IsTrue (w.imaged number)

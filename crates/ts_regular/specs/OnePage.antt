@@ -11,7 +11,7 @@ use Rattle.ts_row.specs.Row.{Row, marked}
 use Rattle.ts_regular.specs.Cell.{Cell, regular_room}
 use Rattle.ts_regular.specs.RegularPage.{filled_count}
 use Rattle.ts_regular.specs.Places.{OffsetPage, IsOn, IsCounted}
-use Rattle.ts_regular.specs.Call.{ArePagesSame}
+use Rattle.ts_regular.specs.Call.{Stays}
 
 -- the cell of a number, from 0 on
 abbrev pub cell_at : List Cell → ℕ → Cell
@@ -74,7 +74,7 @@ pub record IsPutAlone (tells : Bool) (slot : ℕ) (columns : List Column) (base 
 pub record IsEmptyOn (tells : Bool) (slot : ℕ) (columns : List Column) (index : ℕ) (place : Place)
     (v w : Contents) : Type 0 where
   pub absent : IsToldOn tells slot columns place v (λ p. cell_at p.1 index ≡ None)
-  pub same : ArePagesSame tells v w
+  pub same : Stays tells v w
 
 -- where the page of a place is told and has the cells that this tells of, it was read, and this tells whether a cell
 -- has an element

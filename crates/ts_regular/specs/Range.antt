@@ -9,7 +9,7 @@ use Rattle.ts_page.specs.Pages.{Contents}
 use Rattle.ts_row.specs.declared.kind.Column.{Column}
 use Rattle.ts_regular.specs.Offsets.{OffsetElement}
 use Rattle.ts_regular.specs.Places.{all_in, AreMoved}
-use Rattle.ts_regular.specs.Call.{ArePagesSame, IsTold, AreWritten}
+use Rattle.ts_regular.specs.Call.{Stays, IsTold, AreWritten}
 
 -- whether an offset is in a range: from one up to, not including, another; from a greater one to a lesser there are
 -- none
@@ -37,7 +37,7 @@ pub record HasNoneWithin (tells : Bool) (slot : ℕ) (columns : List Column) (fr
     (v w : Contents) : Type 0 where
   pub number : removed ≡ 0
   pub none : IsTold tells slot columns places v (λ ps. within from to (all_in ps) ≡ [])
-  pub same : ArePagesSame tells v w
+  pub same : Stays tells v w
 
 -- elements are taken away, or none is there
 abbrev pub IsCleared : Bool → ℕ → List Column → ℕ → ℕ → List Place → Contents → Contents → ℕ → Option Moved → Type 0

@@ -6,7 +6,7 @@ ghost use Rattle.ts_regular.specs.Cell.{Cell, regular_room, base_of};
 ghost use Rattle.ts_regular.specs.RegularPage.{AreCells, behind_head, filled_count, regular_page};
 ghost use Rattle.ts_regular.specs.Places.{ArePlaces, IsPlace};
 ghost use Rattle.ts_regular.specs.OnePage.{KeepsOthers, without_row};
-ghost use Rattle.ts_regular.specs.Call.{ArePagesSame};
+ghost use Rattle.ts_regular.specs.Call.{Stays};
 ghost use Rattle.ts_regular.specs.Cut.{AreCutTo, AreNotBelow, IsCutTo, cells_outside, cuts_of};
 
 use crate::cell::regular_room;
@@ -73,7 +73,7 @@ fn cut<P: Pages>(
         (λ left. IsCutTo P.tells shelf.now.series shelf.now.kind.now.columns from to left place.now
         (P.contents pages.old) (P.contents pages.new)) }
     ensures same { IfOk result (λ left. left ≡ place.now.count
-        → ArePagesSame P.tells (P.contents pages.old) (P.contents pages.new)) }
+        → Stays P.tells (P.contents pages.old) (P.contents pages.new)) }
     ensures others { KeepsOthers P.tells place.now.page (P.contents pages.old) (P.contents pages.new) }
     ensures free { (P.contents pages.new).free ≡ (P.contents pages.old).free }
     ensures call { Answered result (P.contents pages.old) (P.contents pages.new) }

@@ -7,10 +7,11 @@ use Rattle.ts_base.specs.declared.fault.StoreFault.{StoreFault}
 use Rattle.ts_offset.specs.Grid.{GridPlan}
 use Rattle.ts_space.specs.declared.place.Place.{Place}
 use Rattle.ts_page.specs.Pages.{Contents, Answered}
+use Rattle.ts_page.proofs.ReadsLemmas.{reads_none, reads_ok}
 use Rattle.ts_row.specs.declared.kind.Column.{Column}
 use Rattle.ts_row.specs.Row.{Row}
 use Rattle.ts_row.specs.Element.{Element}
-use Rattle.ts_regular.specs.Call.{ArePagesSame, IsRowIn, IsMarked, Reads}
+use Rattle.ts_regular.specs.Call.{Stays, IsRowIn, IsMarked, Reads}
 use Rattle.ts_regular_edits.specs.Address.{IsAddressed, ByAddress}
 use Rattle.ts_regular_edits.specs.Element.{IsFoundAt, IsMarkedFrom, IsMarkedAt}
 
@@ -21,21 +22,18 @@ any_addressed grid stamp offset start On Off (Ok t) is holds = inl (record { off
 any_addressed grid stamp offset start On Off (Err fault) is holds = tt
 
 -- all stays
-pub same : (tells : Bool) (v : Contents) → ArePagesSame tells v v
+pub same : (tells : Bool) (v : Contents) → Stays tells v v
 same tells v = record { free = refl; pages = λ told number. refl }
 
 pub answered_same : {T : Type 0} (t : T) (v : Contents) → Answered {T = T} (Ok t) v v
 answered_same t v = record { count = refl; faults = omega arith; cause = λ failed. absurd (cc); no_fault = λ fine. refl }
 
 pub reads_same : {T : Type 0} (tells : Bool) (t : T) (v : Contents) → Reads {T = T} tells (Ok t) v v
-reads_same tells t v = record { call = answered_same t v; pages = λ told number. refl; free = refl; change_bytes = refl }
+reads_same tells t v = reads_ok tells tt t v v (reads_none tells v)
 
 -- another answer of a call that answers
 pub answered_as : {S T : Type 0} (s : S) (t : T) (v w : Contents) → Answered {T = S} (Ok s) v w → Answered {T = T} (Ok t) v w
 answered_as s t v w call = record { count = call.count; faults = call.faults; cause = λ failed. absurd (cc); no_fault = λ fine. call.no_fault (λ failed. cc) }
-
-pub reads_as : {S T : Type 0} (tells : Bool) (s : S) (t : T) (v w : Contents) → Reads {T = S} tells (Ok s) v w → Reads {T = T} tells (Ok t) v w
-reads_as tells s t v w reads = record { call = answered_as s t v w reads.call; pages = reads.pages; free = reads.free; change_bytes = reads.change_bytes }
 
 -- an element that was sought at the offset
 pub found_addressed : (tells : Bool) (slot : ℕ) (columns : List Column) (grid : GridPlan) (stamp : ℤ) (offset : ℕ) (start : ℤ) (places : List Place) (v : Contents) (found : Option Row) (answer : Option Element)

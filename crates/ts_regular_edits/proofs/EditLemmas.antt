@@ -12,7 +12,7 @@ use Rattle.ts_row.specs.declared.kind.Column.{Column}
 use Rattle.ts_row.specs.Row.{Row}
 use Rattle.ts_regular.specs.Offsets.{element_at, with_element}
 use Rattle.ts_regular.specs.Places.{OffsetPage, all_in, AreOn, AreMoved}
-use Rattle.ts_regular.specs.Call.{ArePagesSame, AreLeft, AreWritten, IsPut, IsTold, IsRowIn, Reads}
+use Rattle.ts_regular.specs.Call.{Stays, AreLeft, AreWritten, IsPut, IsTold, IsRowIn, Reads}
 use Rattle.ts_series.specs.declared.edits.EditKind.{EditKind}
 use Rattle.ts_series.specs.declared.edits.Edited.{Edited}
 use Rattle.ts_series.specs.declared.edits.Edited.TheVariants as edited
@@ -21,7 +21,7 @@ use Rattle.ts_regular_edits.specs.Edit.{refusal_if, IsRefusedFor, NeedsPage, IsE
 use Rattle.ts_regular_edits.proofs.AbsentLemmas.{absent}
 
 -- what holds of the elements that are told on pages that stay
-module _ (tells : Bool) (slot : ℕ) (columns : List Column) (places : List Place) (u v : Contents) (same : ArePagesSame tells u v) where
+module _ (tells : Bool) (slot : ℕ) (columns : List Column) (places : List Place) (u v : Contents) (same : Stays tells u v) where
   pages_same : IsTrue tells → u.page ≡ v.page
   pages_same told i number = sym (same.pages told number) i
 
@@ -31,7 +31,7 @@ module _ (tells : Bool) (slot : ℕ) (columns : List Column) (places : List Plac
   pub told_after : (P : List OffsetPage → Type 0) → IsTold tells slot columns places u P → IsTold tells slot columns places v P
   told_after P holds told ps on = holds told ps (subst (λ (pages : ℕ → List ℕ). AreOn slot columns pages places ps) (sym (pages_same told)) on)
 
-  same_before : (w : Contents) → ArePagesSame tells v w → ArePagesSame tells u w
+  same_before : (w : Contents) → Stays tells v w → Stays tells u w
   same_before w after = record { free = after.free ∙ same.free; pages = λ told number. after.pages told number ∙ same.pages told number }
 
   left_before : (w : Contents) → AreLeft tells v w → AreLeft tells u w
@@ -121,7 +121,7 @@ module _ (tells : Bool) (slot : ℕ) (columns : List Column) (how : EditKind) (o
       → (IsRefusedFor tells slot columns how offset places u None → IsDone tells slot columns how offset start row room places u w r)
       → IsDone tells slot columns how offset start row room places v w r
   put_after is allowed reads done =
-      let same : ArePagesSame tells v u = record { free = reads.free; pages = reads.pages } in
+      let same : Stays tells v u = record { free = reads.free; pages = reads.pages } in
       let here : IsRefusedFor tells slot columns how offset places v None = λ told ps on. ap (λ (o : Option Row). refusal_if how (is_some o)) (sym (is told ps on)) ∙ allowed in
       done_before tells slot columns places v u same how offset start row room w r reads.call.count (reads.call.no_fault (λ failed. cc)) reads.change_bytes
       (done (told_after tells slot columns places v u same (λ ps. refusal_if how (is_some (element_at offset (all_in ps))) ≡ None) here))

@@ -16,7 +16,7 @@ use Rattle.ts_row.specs.Row.{Row}
 use Rattle.ts_regular.specs.Cell.{base_of}
 use Rattle.ts_regular.specs.Offsets.{element_at}
 use Rattle.ts_regular.specs.Places.{all_in}
-use Rattle.ts_regular.specs.Call.{ArePagesSame, AreLeft, IsTold, IsPut}
+use Rattle.ts_regular.specs.Call.{Stays, AreLeft, IsTold, IsPut}
 use Rattle.ts_series.specs.declared.edits.EditKind.{EditKind}
 use Rattle.ts_series.specs.declared.edits.EditKind.TheVariants.{Put, PutNoDups, Insert, Update}
 use Rattle.ts_series.specs.declared.edits.Edited.{Edited}
@@ -51,7 +51,7 @@ pub record IsSet (tells : Bool) (slot : ℕ) (columns : List Column) (how : Edit
 pub record IsRefused (tells : Bool) (slot : ℕ) (columns : List Column) (how : EditKind) (offset : ℕ) (refusal : Refusal)
     (places : List Place) (v w : Contents) : Type 0 where
   pub why : IsRefusedFor tells slot columns how offset places v (Some refusal)
-  pub same : ArePagesSame tells v w
+  pub same : Stays tells v w
 
 -- An element would be added, where none of the told ones stands, on a page that the series doesn't have. One page more
 -- is over the room, and everything stays.
@@ -61,7 +61,7 @@ pub record IsFull (tells : Bool) (slot : ℕ) (columns : List Column) (how : Edi
   pub new : IsTold tells slot columns places v (λ ps. element_at offset (all_in ps) ≡ None)
   pub needs : NeedsPage columns offset places
   pub over : room ≤ length places
-  pub same : ArePagesSame tells v w
+  pub same : Stays tells v w
 
 -- what an edit at an offset, whose interval starts here, did to the pages and places of a series, as it tells
 abbrev pub IsEditedAt : Bool → ℕ → List Column → EditKind → ℕ → ℤ → Row → ℕ → List Place → Contents → Contents → Edited
@@ -79,7 +79,7 @@ abbrev pub IsEdited : Bool → ℕ → List Column → GridPlan → EditKind →
     → Edited → Type 0
 IsEdited tells slot columns grid how stamp row room places v w done =
     ByAddress grid stamp (λ offset start. IsEditedAt tells slot columns how offset start row room places v w done)
-    (λ why. (done ≡ edited.Refused why) × ArePagesSame tells v w)
+    (λ why. (done ≡ edited.Refused why) × Stays tells v w)
 
 -- so much an edit adds to the bytes of a record, and the number of a page that is taken: one page, and one number
 abbrev pub most_edit : ℕ

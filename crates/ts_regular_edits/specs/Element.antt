@@ -10,7 +10,7 @@ use Rattle.ts_row.specs.declared.kind.Column.{Column}
 use Rattle.ts_row.specs.Element.{Element}
 use Rattle.ts_regular.specs.Offsets.{element_at}
 use Rattle.ts_regular.specs.Places.{all_in}
-use Rattle.ts_regular.specs.Call.{ArePagesSame, IsTold, IsMarked, IsRemoved}
+use Rattle.ts_regular.specs.Call.{Stays, IsTold, IsMarked, IsRemoved}
 use Rattle.ts_regular_edits.specs.Address.{ByAddress}
 
 -- this is the element that a stamp addresses, hidden or not, with the start of its interval; none where it addresses
@@ -34,11 +34,11 @@ abbrev pub IsMarkedAt : Bool → ℕ → List Column → GridPlan → ℤ → Bo
     → Result ℤ Refusal → Type 0
 IsMarkedAt tells slot columns grid stamp hidden places v w done =
     ByAddress grid stamp (λ offset start. IsMarkedFrom tells slot columns offset start hidden places v w done)
-    (λ why. (done ≡ Err why) × ArePagesSame tells v w)
+    (λ why. (done ≡ Err why) × Stays tells v w)
 
 -- the element that a stamp addresses is taken away, or none is there; where it addresses none, everything stays
 abbrev pub IsRemovedAt : Bool → ℕ → List Column → GridPlan → ℤ → List Place → Contents → Contents → Option Moved
     → Type 0
 IsRemovedAt tells slot columns grid stamp places v w moved =
     ByAddress grid stamp (λ offset start. IsRemoved tells slot columns offset places v w moved)
-    (λ why. (moved ≡ None) × ArePagesSame tells v w)
+    (λ why. (moved ≡ None) × Stays tells v w)

@@ -11,7 +11,7 @@ use Rattle.ts_row.specs.declared.kind.Column.{Column}
 use Rattle.ts_row.specs.Row.{Row}
 use Rattle.ts_row.specs.Element.{Element}
 use Rattle.ts_irregular.specs.Edit.{element_at}
-use Rattle.ts_irregular.specs.Call.{ArePagesSame, Reads}
+use Rattle.ts_irregular.specs.Call.{Stays, Reads}
 use Rattle.ts_chain.specs.Chain.{all_in}
 use Rattle.ts_chain.specs.Placing.{place_for}
 use Rattle.ts_chain.specs.Call.{IsTold, IsReplaced, IsPutNew, IsThereAlready, IsPlaceIn}
@@ -48,7 +48,7 @@ module _ (tells : Bool) (slot : ℕ) (columns : List Column) (stamp : ℤ) (row 
 
   -- pages were read, and there is no room
   module _ (u : Contents) (put : Option ℤ) (reads : Reads tells (Ok put) v u) where
-    still : ArePagesSame tells v u
+    still : Stays tells v u
     still = record { free = reads.free; pages = reads.pages }
 
     grown : GrowsWithin most_edit v u

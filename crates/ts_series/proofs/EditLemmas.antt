@@ -9,7 +9,7 @@ use Rattle.ts_row.specs.declared.kind.Column.{Column}
 use Rattle.ts_row.specs.Row.{Row}
 use Rattle.ts_row.specs.Element.{Element}
 use Rattle.ts_irregular.specs.Edit.{element_at, with_element}
-use Rattle.ts_irregular.specs.Call.{ArePagesSame}
+use Rattle.ts_irregular.specs.Call.{Stays}
 use Rattle.ts_chain.specs.Chain.{all_in}
 use Rattle.ts_chain.specs.Places.{AreChained, AreMoved}
 use Rattle.ts_chain.specs.Call.{IsTold, AreWritten}
@@ -19,7 +19,7 @@ use Rattle.ts_series.specs.declared.edits.Edited.TheVariants as edited
 use Rattle.ts_series.specs.Edit.{target, IsEdited, GrowsWithin, IsDone, most_edit}
 
 -- what holds of the elements that are told on pages that stay
-module _ (tells : Bool) (slot : ℕ) (columns : List Column) (places : List Place) (u v : Contents) (same : ArePagesSame tells u v) where
+module _ (tells : Bool) (slot : ℕ) (columns : List Column) (places : List Place) (u v : Contents) (same : Stays tells u v) where
   pages_same : IsTrue tells → u.page ≡ v.page
   pages_same told i number = sym (same.pages told number) i
 
@@ -48,7 +48,7 @@ module _ (tells : Bool) (slot : ℕ) (columns : List Column) (places : List Plac
         others = λ number other kept. after.others number other (λ there. kept (subst (λ (ns : List ℕ). Contains ns number) same.free there)) ∙ same.pages told number;
       }
 
-  same_before : (w : Contents) → ArePagesSame tells v w → ArePagesSame tells u w
+  same_before : (w : Contents) → Stays tells v w → Stays tells u w
   same_before w after = record { free = after.free ∙ same.free; pages = λ told number. after.pages told number ∙ same.pages told number }
 
   module _ (how : EditKind) (stamp : ℤ) (row : Row) (room : ℕ) (w : Contents) where

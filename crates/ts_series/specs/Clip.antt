@@ -6,7 +6,7 @@ use Rattle.ts_space.specs.Place.{count_of}
 use Rattle.ts_space.specs.Moved.{moved_to}
 use Rattle.ts_page.specs.Pages.{Contents}
 use Rattle.ts_row.specs.declared.kind.Column.{Column}
-use Rattle.ts_irregular.specs.Call.{ArePagesSame}
+use Rattle.ts_irregular.specs.Call.{Stays}
 use Rattle.ts_chain.specs.Chain.{all_in}
 use Rattle.ts_chain.specs.Places.{AreMoved}
 use Rattle.ts_chain.specs.Range.{within_range, without_range}
@@ -26,7 +26,7 @@ pub record HasNoneWithin (tells : Bool) (slot : ℕ) (columns : List Column) (fr
     (places : List Place) (v w : Contents) : Type 0 where
   pub number : removed ≡ 0
   pub none : IsTold tells slot columns places v (λ chain. within_range from to (all_in chain) ≡ [])
-  pub same : ArePagesSame tells v w
+  pub same : Stays tells v w
 
 -- elements are taken away, or none is there
 abbrev pub IsCleared : Bool → ℕ → List Column → ℤ → ℤ → List Place → Contents → Contents → ℕ → Option Moved → Type 0

@@ -14,7 +14,7 @@ use Rattle.ts_row.specs.Row.{Row}
 use Rattle.ts_row.specs.Element.{Element}
 use Rattle.ts_cells.specs.Cell.{page_room}
 use Rattle.ts_irregular.specs.Edit.{element_at, with_element}
-use Rattle.ts_irregular.specs.Call.{ArePagesSame}
+use Rattle.ts_irregular.specs.Call.{Stays}
 use Rattle.ts_chain.specs.Chain.{all_in}
 use Rattle.ts_chain.specs.Places.{AreMoved}
 use Rattle.ts_chain.specs.Placing.{place_for}
@@ -61,14 +61,14 @@ pub record IsGivenRow (tells : Bool) (slot : ℕ) (columns : List Column) (how :
 -- it is refused for this, and everything stays
 pub record IsRefused (tells : Bool) (slot : ℕ) (columns : List Column) (how : EditKind) (stamp : ℤ) (refusal : Refusal)
     (places : List Place) (v w : Contents) : Type 0 where
-  pub same : ArePagesSame tells v w
+  pub same : Stays tells v w
   pub why : IsTold tells slot columns places v (λ chain. target how stamp (all_in chain) ≡ Err refusal)
 
 -- An element would be added, where none of the told ones stands. One element more is charged more than there is room
 -- for, and everything stays.
 pub record IsFull (tells : Bool) (slot : ℕ) (columns : List Column) (how : EditKind) (stamp : ℤ) (room : ℕ)
     (places : List Place) (v w : Contents) : Type 0 where
-  pub same : ArePagesSame tells v w
+  pub same : Stays tells v w
   pub over : room < charge_with_one columns places
   pub new : IsTold tells slot columns places v (λ chain. (at : ℤ) × (target how stamp (all_in chain) ≡ Ok at)
       × (element_at at (all_in chain) ≡ None))

@@ -6,6 +6,7 @@ use Rattle.ts_base.specs.declared.fault.StoreFault.{StoreFault}
 use Rattle.ts_base.specs.declared.fault.StoreFault.TheVariants as faults
 use Rattle.ts_command.specs.declared.command.Command.{Command}
 use Rattle.ts_page.specs.Pages.{Contents}
+use Rattle.ts_page.proofs.ReadsLemmas.{reads_more, reads_ok}
 use Rattle.ts_irregular.specs.Call.{Reads}
 use Rattle.ts_space.specs.Directory.{Directory}
 use Rattle.ts_model.specs.Definitions.{Definitions}
@@ -66,23 +67,11 @@ module _ (tells : Bool) (command : Command) (out : List ℕ) (x : View) (c : Con
 
 -- one reading after another is one
 pub then_reads : {A B : Type 0} (tells : Bool) (a : A) (b : B) (u v w : Contents) → Reads tells (Ok a) u v → Reads tells (Ok b) v w → Reads tells (Ok b) u w
-then_reads tells a b u v w first second =
-    let faults = second.call.no_fault (λ failed. cc) ∙ first.call.no_fault (λ failed. cc) in
-    record {
-      call = record { count = second.call.count ∙ first.call.count; faults = omega (arith, faults); cause = λ failed. absurd (cc); no_fault = λ fine. faults };
-      pages = λ told k. second.pages told k ∙ first.pages told k;
-      free = second.free ∙ first.free;
-      change_bytes = second.change_bytes ∙ first.change_bytes;
-    }
+then_reads tells a b u v w first second = reads_more tells a (Ok b) u v w first second
 
 -- what was read, with another answer
 pub reads_as : {A B : Type 0} (tells : Bool) (a : A) (b : B) (v w : Contents) → Reads tells (Ok a) v w → Reads tells (Ok b) v w
-reads_as tells a b v w reads = record {
-  call = record { count = reads.call.count; faults = reads.call.faults; cause = λ failed. absurd (cc); no_fault = λ fine. reads.call.no_fault (λ failed. cc) };
-  pages = reads.pages;
-  free = reads.free;
-  change_bytes = reads.change_bytes;
-}
+reads_as tells a b v w reads = reads_ok tells a b v w reads
 
 -- what is seen is seen still on pages that were only read
 pub seen_still : {A : Type 0} (tells : Bool) (a : A) (d : Definitions) (space : Directory) (v w : Contents) → IsSeen tells (view d space v) → Reads tells (Ok a) v w → IsSeen tells (view d space w)

@@ -204,6 +204,9 @@ slot_written tells kind slot def result v v' w before after within kinded got lo
           let length' : length (v.page number) ≡ 4096 = ap length (sym (read told)) ∙ long in
           hold_written kind slot def d v.page w.page within kinded rules (omega (arith, slot_room kind slot within, length')) (slot_wide kind slot def before after long long' (slot_room kind slot within) is) (same told) holds);
       pages_stay = on_err result _ _ put.pages_stay (λ stay told n. stay told n ∙ got.pages told n);
+      again = λ is. omega (arith, put.again (got.images number is), got.change_bytes);
+      images = λ n is. put.images n (got.images n is);
+      imaged = put.imaged;
     }
 
 -- an empty slot, written

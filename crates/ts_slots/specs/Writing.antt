@@ -3,7 +3,7 @@ use Rattle.std.specs.Prelude.{◌≡◌, ℕ, ◌≤◌, Bool, IsTrue, Option, R
 use Rattle.ts_base.specs.declared.fault.StoreFault.{StoreFault}
 use Rattle.ts_base.specs.declared.fault.StoreFault.TheVariants.{Failed as StoreFailed}
 use Rattle.ts_disk.specs.Device.{Rose}
-use Rattle.ts_page.specs.Pages.{Contents, EqualPages, with_page}
+use Rattle.ts_page.specs.Pages.{Contents, EqualPages, StayImaged, with_page}
 use Rattle.ts_model.specs.declared.kind.Kind.{Kind}
 use Rattle.ts_model.specs.declared.def.Def.{Def}
 use Rattle.ts_model.specs.Definitions.{Definitions, with_slot, IsDefinitions}
@@ -28,6 +28,10 @@ pub record SlotWritten (tells : Bool) (kind : Kind) (slot : ℕ) (def : Option D
   pub pages_stay : OnErr result (IsTrue tells → EqualPages v.page w.page)
   -- any answer but the store's failure leaves the count
   pub no_fault : ¬ IsErrOf result StoreFailed → w.faults ≡ v.faults
+  -- Slots of one page that are written in one batch need the bytes of one image together. No page loses its image.
+  pub again : IsTrue (v.imaged (page_of_slot kind slot)) → w.change_bytes ≤ v.change_bytes
+  pub images : StayImaged v w
+  pub imaged : OnOk result (IsTrue (w.imaged (page_of_slot kind slot)))
 
 -- The header is written: all other pages stay.
 pub record HeaderWritten (tells : Bool) (format element_pages : ℕ) (result : Result Unit StoreFault)

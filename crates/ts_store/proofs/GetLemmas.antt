@@ -26,6 +26,7 @@ got_memory tells s t number into v is there found cached = subst (λ (x : State)
   pages = λ told n. refl;
   free = refl;
   change_bytes = refl;
+  images = λ n is. is;
 })
 
 -- it is read from the volume
@@ -37,6 +38,7 @@ got_clean tells s t number at into r v w is place size none read answered done =
   pages = λ told n. ap (λ (h : List ℕ). read_pages s h n) read.held;
   free = refl;
   change_bytes = refl;
+  images = λ n is. is;
 })
 
 -- and is the one in its place

@@ -1,27 +1,40 @@
 -- What the calls on an open batch keep.
-use Rattle.std.proofs.Common.{◌≡◌, ℕ, ◌*◌, ◌<◌, ◌≤◌, ◌^◌, Bool, Result, Ok, Err, OnOk, OnErr, List, ◌∷◌, Contains, length, refl, ap, sym, ◌∙◌, subst, arith, length-append}
-use Rattle.std.specs.Int.{to_be_bytes, w32}
+use Rattle.std.proofs.Common.{◌≡◌, ◌≢◌, ℕ, ◌*◌, ◌<◌, ◌≤◌, ◌^◌, eqb, Bool, IsTrue, Result, Ok, Err, OnOk, OnErr, Option, Some, List, ◌∷◌, Contains, length, refl, ap, sym, ◌∙◌, subst, arith}
+use Rattle.std.proofs.lemmas.Bool.{cond_both, cond-true, cond-false, eq-eqb, ne_eqb}
 use Rattle.ts_disk.specs.Device.{Device, Lawful}
 use Rattle.ts_page.specs.declared.page.Page.{Page}
 use Rattle.ts_page.specs.Pages.{IsLawful, IsElementPage, with_page, Put, Freed}
 use Rattle.ts_page.proofs.PagesLemmas.{few_free, lawful_put, lawful_freed, lawful_taken}
 use Rattle.ts_journal.specs.declared.batch.Change.{Change}
 use Rattle.ts_journal.specs.declared.batch.Change.TheVariants.{Image, Free}
-use Rattle.ts_journal.specs.Entry.{Entry, entry_bytes, entries_bytes, content, over, put}
+use Rattle.ts_journal.specs.Entry.{Entry, IsBatch, change_of, content, entry_bytes, entries_bytes, is_image, over, put}
 use Rattle.ts_journal.specs.Journal.{own_page}
-use Rattle.ts_journal.proofs.CallerLemmas.{over_put}
+use Rattle.ts_journal.proofs.CallerLemmas.{change_of-put, over_put}
 use Rattle.ts_recover.proofs.CallerLemmas.{reads_none}
 use Rattle.ts_cache.specs.Cache.{after_forget}
 use Rattle.ts_store.specs.OpenBatch.{State, AreInPlace, read_pages, contents_over}
 use Rattle.ts_store.specs.Undisturbed.{Undisturbed}
 use Rattle.ts_store.proofs.CacheLemmas.{forget_cached}
-use Rattle.ts_store.proofs.JoinLemmas.{put_bytes}
-
-pub image_bytes : (number : ℕ) (page : Page) → length page.bytes ≡ 4096 → length (entry_bytes (number, Image page)) ≡ 4101
-image_bytes number page whole = omega (arith, length-append (1 ∷ to_be_bytes w32 number) page.bytes, whole)
+use Rattle.ts_store.proofs.JoinLemmas.{image_bytes, put_again, put_bytes}
 
 pub free_bytes : (number : ℕ) → length (entry_bytes (number, Free)) ≡ 5
 free_bytes number = refl
+
+-- the images of a batch once one is put
+image_there : (es : List Entry) (number : ℕ) (page : Page) → IsTrue (is_image (change_of number (put number (Image page) es)))
+image_there es number page =
+    ap is_image (change_of-put es number (Image page) number ∙ cond-true (eqb number number) (Some (Image page)) (change_of number es) (eq-eqb number number refl))
+
+image_stays : (es : List Entry) (number n : ℕ) (page : Page) → IsTrue (is_image (change_of n es)) → IsTrue (is_image (change_of n (put number (Image page) es)))
+image_stays es number n page there =
+    subst (λ (o : Option Change). IsTrue (is_image o)) (sym (change_of-put es number (Image page) n))
+    (cond_both (eqb number n) (Some (Image page)) (change_of n es) (λ o. IsTrue (is_image o)) (λ here. refl) (λ off. there))
+
+-- and once a page is freed
+others_imaged : (es : List Entry) (number n : ℕ) → n ≢ number → IsTrue (is_image (change_of n es)) → IsTrue (is_image (change_of n (put number Free es)))
+others_imaged es number n other there =
+    subst (λ (o : Option Change). IsTrue (is_image o))
+    (sym (change_of-put es number Free n ∙ cond-false (eqb number n) (Some Free) (change_of n es) (ne_eqb number n (λ same. other (sym same))))) there
 
 -- a page put over a store
 module _ (tells : Bool) (s t : State) (d : Device) (number : ℕ) where
@@ -47,15 +60,21 @@ module _ (tells : Bool) (s t : State) (d : Device) (number : ℕ) where
   same_size (Ok done) ok err size = omega (arith, size, ok)
   same_size (Err e) ok err size = omega (arith, size, err)
 
-  pub put_done : (change : Change) (bytes : List ℕ) → bytes ≡ content change → length (entry_bytes (number, change)) ≤ 4101 → t ≡ record s { batch = put number change s.batch; cache = after_forget number s.cache } → Put tells number bytes (Ok tt) (contents_over s d) (contents_over t d)
-  put_done change bytes is few done = record {
-    call = record { count = ap (λ (x : State). x.pages) done; faults = omega arith; cause = λ failed. absurd (cc); no_fault = λ other. refl };
-    put = λ told n. ap (λ (x : State). read_pages x d.held n) done ∙ over_put s.batch number change (over s.transaction (over s.overlay (own_page d.held))) n
-        ∙ ap (λ (b : List ℕ). with_page number b (read_pages s d.held) n) (sym is);
-    free = ap (λ (x : State). x.free) done;
-    pages_stay = tt;
-    change_bytes = omega (arith, ap (λ (x : State). length (entries_bytes x.transaction)) done, ap (λ (x : State). length (entries_bytes x.batch)) done, put_bytes s.batch number change, few);
-  }
+  pub put_done : (page : Page) → IsBatch s.batch → length page.bytes ≡ 4096 → t ≡ record s { batch = put number (Image page) s.batch; cache = after_forget number s.cache } → Put tells number page.bytes (Ok tt) (contents_over s d) (contents_over t d)
+  put_done page rules whole done =
+      let kept = ap (λ (x : State). length (entries_bytes x.transaction)) done in
+      let batch = ap (λ (x : State). x.batch) done in
+      let bytes = ap (λ (es : List Entry). length (entries_bytes es)) batch in
+      record {
+        call = record { count = ap (λ (x : State). x.pages) done; faults = omega arith; cause = λ failed. absurd (cc); no_fault = λ other. refl };
+        put = λ told n. ap (λ (x : State). read_pages x d.held n) done ∙ over_put s.batch number (Image page) (over s.transaction (over s.overlay (own_page d.held))) n;
+        free = ap (λ (x : State). x.free) done;
+        pages_stay = tt;
+        change_bytes = omega (arith, kept, bytes, put_bytes s.batch number (Image page), image_bytes number page whole);
+        again = λ there. omega (arith, kept, bytes, put_again s.batch 0 (2 ^ 32) number page rules.rising rules.whole whole there);
+        images = λ n there. subst (λ (es : List Entry). IsTrue (is_image (change_of n es))) (sym batch) (image_stays s.batch number n page there);
+        imaged = subst (λ (es : List Entry). IsTrue (is_image (change_of number es))) (sym batch) (image_there s.batch number page);
+      }
 
   pub free_done : t ≡ record s { batch = put number Free s.batch; free = number ∷ s.free; cache = after_forget number s.cache } → Freed tells number (Ok tt) (contents_over s d) (contents_over t d)
   free_done done = record {
@@ -65,6 +84,7 @@ module _ (tells : Bool) (s t : State) (d : Device) (number : ℕ) where
     pages_stay = tt;
     free_stays = tt;
     change_bytes = omega (arith, ap (λ (x : State). length (entries_bytes x.transaction)) done, ap (λ (x : State). length (entries_bytes x.batch)) done, put_bytes s.batch number Free, free_bytes number);
+    images = λ n other there. subst (λ (es : List Entry). IsTrue (is_image (change_of n es))) (sym (ap (λ (x : State). x.batch) done)) (others_imaged s.batch number n other there);
   }
 
   pub take_lawful : s ≡ record t { free = number ∷ t.free } → IsLawful tells (contents_over s d) → IsLawful tells (contents_over t d)

@@ -65,8 +65,9 @@ impl<'a, V: Volume> Pages for On<'a, V> {
     }
 
     fn put(&mut self, no: u32, page: &Page) -> Result<(), StoreFault> {
-        // An image has as many bytes as a page.
+        // An image has as many bytes as a page, and so has each of the open batch.
         let _bytes: &[u8] = &page.bytes;
+        self.store.rules();
         self.store.set(no, Change::Image(*page))?;
         Ok(())
     }

@@ -27,6 +27,9 @@ module _ (tells : Bool) (old own es fs : List Entry) (c : Contents) (number : â„
     free = refl;
     pages_stay = tt;
     change_bytes = omega arith;
+    again = Î» imaged. omega arith;
+    images = Î» other imaged. imaged;
+    imaged = refl;
   }
 
   -- a page is freed
@@ -43,6 +46,7 @@ module _ (tells : Bool) (old own es fs : List Entry) (c : Contents) (number : â„
     pages_stay = tt;
     free_stays = tt;
     change_bytes = omega arith;
+    images = Î» other differs imaged. imaged;
   }
 
 -- what is pushed is the next to be taken

@@ -1,5 +1,5 @@
 -- What a view reads: its own changes, else the old images that it keeps, else the newest pages.
-use Rattle.std.specs.Prelude.{ℕ, Option, List, if◌then◌else◌}
+use Rattle.std.specs.Prelude.{ℕ, true, Option, List, if◌then◌else◌}
 use Rattle.std.specs.Option.{is_some}
 use Rattle.ts_page.specs.declared.page.Page.{Page}
 use Rattle.ts_page.specs.Pages.{Contents}
@@ -17,13 +17,15 @@ abbrev pub view_pages : List Entry → List Entry → (ℕ → List ℕ) → ℕ
 view_pages old own newest = over own (over old newest)
 
 -- The same as a keeper of pages, with the changes of the command in hand over them. Of the newest pages come their
--- count and the failures of their disk. A view is never committed as it stands, so no change counts for a record.
+-- count and the failures of their disk. A view is never committed as it stands, so no change counts for a record, and
+-- no image needs bytes.
 abbrev pub view_contents : List Entry → List Entry → List Entry → List ℕ → Contents → Contents
 view_contents old own changes free newest = record {
   count = newest.count;
   page = over changes (view_pages old own newest.page);
   free = free;
   change_bytes = 0;
+  imaged = λ number. true;
   faults = newest.faults;
 }
 

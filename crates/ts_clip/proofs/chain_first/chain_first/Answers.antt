@@ -6,7 +6,7 @@ use Rattle.ts_row.specs.Element.{Element, seen}
 use Rattle.ts_irregular.specs.Call.{IsTold}
 use Rattle.ts_chain.specs.Chain.{all_in}
 use Rattle.ts_chain.specs.Places.{AreChained}
-use Rattle.ts_chain.proofs.ReadLemmas.{reads_more, reads_ok}
+use Rattle.ts_page.proofs.ReadsLemmas.{reads_more, reads_ok}
 use Rattle.ts_entry.specs.Reading.{first_seen}
 use Rattle.ts_clip.proofs.ChainPageLemmas.{page_in, pages_all, on_since}
 use Rattle.ts_clip.proofs.ChainFirstLemmas.{page_hidden, page_first}

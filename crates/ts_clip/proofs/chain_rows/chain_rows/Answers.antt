@@ -4,7 +4,7 @@ use Rattle.ts_row.specs.declared.kind.Column.{Column}
 use Rattle.ts_row.specs.Row.{Row}
 use Rattle.ts_row.specs.Element.{Element}
 use Rattle.ts_chain.specs.Chain.{all_in}
-use Rattle.ts_chain.proofs.ReadLemmas.{reads_none, reads_more}
+use Rattle.ts_page.proofs.ReadsLemmas.{reads_none, reads_more}
 use Rattle.ts_clip.proofs.ChainPageLemmas.{readable_since, page_in, pages_all, on_since}
 use Rattle.ts_clip.proofs.ChainRowLemmas.{rows_next, rows_within}
 use Rattle.ts_clip.proofs.chain_rows.chain_rows.Goals as goal

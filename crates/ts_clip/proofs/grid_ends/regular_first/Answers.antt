@@ -5,7 +5,7 @@ use Rattle.ts_row.specs.declared.kind.Column.{Column}
 use Rattle.ts_regular.specs.Offsets.{OffsetElement, elements_from}
 use Rattle.ts_regular.specs.Places.{OffsetPage, AreOn, IsOn, all_in}
 use Rattle.ts_regular.specs.OnePage.{IsToldOn}
-use Rattle.ts_chain.proofs.ReadLemmas.{reads_more, reads_ok}
+use Rattle.ts_page.proofs.ReadsLemmas.{reads_more, reads_ok}
 use Rattle.ts_clip.specs.Grid.{first_of}
 use Rattle.ts_clip.proofs.GridFirstLemmas.{first_ahead, first_here}
 use Rattle.ts_clip.proofs.GridPlaceLemmas.{page_at, pages_count}

@@ -5,7 +5,7 @@ use Rattle.ts_row.specs.declared.kind.Column.{Column}
 use Rattle.ts_row.specs.Row.{Row}
 use Rattle.ts_regular.specs.Offsets.{elements_from}
 use Rattle.ts_regular.specs.Places.{OffsetPage, IsOn, all_in}
-use Rattle.ts_chain.proofs.ReadLemmas.{reads_more}
+use Rattle.ts_page.proofs.ReadsLemmas.{reads_more}
 use Rattle.ts_clip.proofs.GridPlaceLemmas.{page_of, pages_count}
 use Rattle.ts_clip.specs.Grid.{rows_within}
 use Rattle.ts_clip.proofs.GridRowLemmas.{rows_next}

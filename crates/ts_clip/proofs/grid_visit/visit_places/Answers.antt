@@ -4,7 +4,7 @@ use Rattle.ts_space.specs.declared.place.Place.{Place}
 use Rattle.ts_row.specs.declared.kind.Column.{Column}
 use Rattle.ts_regular.specs.Offsets.{elements_from}
 use Rattle.ts_regular.specs.Places.{OffsetPage, IsOn, all_in}
-use Rattle.ts_chain.proofs.ReadLemmas.{reads_more, reads_ok}
+use Rattle.ts_page.proofs.ReadsLemmas.{reads_more, reads_ok}
 use Rattle.ts_entry.specs.Entry.{Entry}
 use Rattle.ts_clip.specs.Numbered.{numbered, seen_at}
 use Rattle.ts_clip.proofs.GridPlaceLemmas.{next_ahead, next_entries, page_at, pages_count}

@@ -1,7 +1,7 @@
 use Rattle.std.proofs.Common.{List, get_or, take, arith}
 use Rattle.std.proofs.lemmas.List.{length-take-le}
 use Rattle.ts_space.specs.declared.place.Place.{Place}
-use Rattle.ts_chain.proofs.ReadLemmas.{reads_none}
+use Rattle.ts_page.proofs.ReadsLemmas.{reads_none}
 use Rattle.ts_shelf.proofs.ReadingLemmas.{then_reads}
 use Rattle.ts_combined_rows.proofs.GatheredLemmas.{readable_still, page_got, none_read, read_more, read_within}
 use Rattle.ts_combined_rows.proofs.gathered.read_pages.Goals as goal

@@ -3,7 +3,7 @@ use Rattle.ts_space.specs.declared.place.Place.{Place}
 use Rattle.ts_row.specs.declared.kind.Column.{Column}
 use Rattle.ts_regular.specs.Call.{IsLastIn}
 use Rattle.ts_regular.specs.Places.{AreOn}
-use Rattle.ts_regular.proofs.ReadLemmas.{reads_none, reads_more, reads_ok}
+use Rattle.ts_page.proofs.ReadsLemmas.{reads_none, reads_more, reads_ok}
 use Rattle.ts_regular.proofs.LastLemmas.{among_all, among_before, last_here}
 use Rattle.ts_regular.proofs.last.regular_last.Goals as goal
 

@@ -1,7 +1,7 @@
 use Rattle.std.proofs.Common.{◌≡◌, ℕ, ℤ, refl, arith, inr}
 use Rattle.ts_base.specs.declared.refusal.Refusal.{Refusal}
 use Rattle.ts_space.specs.Directory.{places_of}
-use Rattle.ts_regular.specs.Call.{ArePagesSame}
+use Rattle.ts_regular.specs.Call.{Stays}
 use Rattle.ts_series.specs.declared.edits.Edited.{Edited}
 use Rattle.ts_series.specs.declared.edits.Edited.TheVariants.{Refused}
 use Rattle.ts_regular_edits.specs.Edit.{IsEditedAt}
@@ -18,7 +18,7 @@ returns-in-Ok g c =
     record {
       ok = any_addressed c.args.grid.now c.args.stamp c.in-Ok.at.offset c.in-Ok.at.start
           (λ (e : Edited) (offset : ℕ) (start : ℤ). IsEditedAt tells shelf.series shelf.kind.now.columns c.args.how offset start c.args.row.now c.args.room (places_of shelf.series c.args.space.now) v w e)
-          (λ (e : Edited) (why : Refusal). (e ≡ Refused why) × ArePagesSame tells v w) c.edit_offset.result c.in-Ok.ensures.ok done.ok;
+          (λ (e : Edited) (why : Refusal). (e ≡ Refused why) × Stays tells v w) c.edit_offset.result c.in-Ok.ensures.ok done.ok;
       err = done.err;
       call = done.call;
       grows = done.grows;

@@ -2,7 +2,7 @@ use Rattle.std.proofs.Common.{◌≡◌, ℕ, ℤ, Option, None, refl, arith, in
 use Rattle.ts_base.specs.declared.refusal.Refusal.{Refusal}
 use Rattle.ts_space.specs.declared.moved.Moved.{Moved}
 use Rattle.ts_space.specs.Directory.{places_of}
-use Rattle.ts_regular.specs.Call.{ArePagesSame, IsRemoved}
+use Rattle.ts_regular.specs.Call.{Stays, IsRemoved}
 use Rattle.ts_regular_edits.proofs.AddressLemmas.{any_addressed, answered_same, same}
 use Rattle.ts_regular_edits.proofs.element.delete_at.Goals as goal
 
@@ -16,7 +16,7 @@ returns-in-Ok g c =
     record {
       ok = any_addressed c.args.grid.now c.args.stamp c.in-Ok.at.offset c.in-Ok.at.start
           (λ (moved : Option Moved) (offset : ℕ) (start : ℤ). IsRemoved tells shelf.series shelf.kind.now.columns offset (places_of shelf.series c.args.space.now) v w moved)
-          (λ (moved : Option Moved) (why : Refusal). (moved ≡ None) × ArePagesSame tells v w) c.regular_remove.result c.in-Ok.ensures.ok removed.ok;
+          (λ (moved : Option Moved) (why : Refusal). (moved ≡ None) × Stays tells v w) c.regular_remove.result c.in-Ok.ensures.ok removed.ok;
       err = removed.err;
       call = removed.call;
       change = removed.change;

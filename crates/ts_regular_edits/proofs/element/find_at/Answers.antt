@@ -1,7 +1,8 @@
 use Rattle.std.proofs.Common.{None, IsTrue, refl, inr}
 use Rattle.ts_space.specs.Directory.{places_of}
 use Rattle.ts_row.specs.Row.{Row, fits}
-use Rattle.ts_regular_edits.proofs.AddressLemmas.{found_addressed, held_stamped, reads_as, reads_same}
+use Rattle.ts_page.proofs.ReadsLemmas.{reads_ok}
+use Rattle.ts_regular_edits.proofs.AddressLemmas.{found_addressed, held_stamped, reads_same}
 use Rattle.ts_regular_edits.proofs.element.find_at.Goals as goal
 
 pub returns-in_ok-found-in-Ok : goal.returns-in_ok-found-in-Ok
@@ -16,7 +17,7 @@ returns-in_ok-found-in-Ok g c =
     record {
       found = found_addressed tells shelf.series columns c.args.grid.now c.args.stamp at.offset at.start (places_of shelf.series c.args.space.now) v found c.stamped.result c.in-Ok.ensures.ok told.found c.stamped.ensures;
       fits = held_stamped (λ (row : Row). IsTrue (fits columns row)) at.start found c.stamped.result c.stamped.ensures told.fits;
-      call = reads_as tells found c.stamped.result v (g.P.Pages.contents c.regular_find.new.pages) told.call;
+      call = reads_ok tells found c.stamped.result v (g.P.Pages.contents c.regular_find.new.pages) told.call;
       undisturbed = told.undisturbed;
     }
 

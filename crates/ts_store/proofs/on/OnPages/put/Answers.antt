@@ -2,7 +2,7 @@ use Rattle.std.proofs.Common.{refl, ap, arith}
 use Rattle.std.proofs.lemmas.Result.{on_ok_weaker, on_err_weaker}
 use Rattle.ts_journal.specs.declared.batch.Change.TheVariants.{Image}
 use Rattle.ts_store.specs.OpenBatch.{State}
-use Rattle.ts_store.proofs.KeepLemmas.{put_lawful, put_done, put_undisturbed, same_undisturbed, same_size, image_bytes}
+use Rattle.ts_store.proofs.KeepLemmas.{put_lawful, put_done, put_undisturbed, same_undisturbed, same_size}
 use Rattle.ts_store.proofs.CacheLemmas.{forgot_cached}
 use Rattle.ts_store.proofs.on.OnPages.put.Goals as goal
 
@@ -17,7 +17,7 @@ invariant_of-self-clause-lawful g c =
 
 pub returns-clause-put : goal.returns-clause-put
 returns-clause-put g c =
-    put_done g.V.Volume.tells c.args.self.now.store.now c.set.new.self (g.V.Volume.device c.args.self.now.vol.now) c.args.no (Image c.args.page.now) c.args.page.now.bytes refl (omega (arith, image_bytes c.args.no c.args.page.now (omega arith))) c.in_ok-set.ensures.ok
+    put_done g.V.Volume.tells c.args.self.now.store.now c.set.new.self (g.V.Volume.device c.args.self.now.vol.now) c.args.no c.args.page.now c.rules.ensures (omega arith) c.in_ok-set.ensures.ok
 
 pub invariant_of-self-clause-cached : goal.invariant_of-self-clause-cached
 invariant_of-self-clause-cached g c told =

@@ -1,16 +1,17 @@
--- One read after another.
-use Rattle.std.proofs.Common.{◌≡◌, Bool, Result, Ok, Err, refl, ap, ◌∙◌, arith}
+-- One read of pages after another.
+use Rattle.std.proofs.Common.{Bool, Result, Ok, refl, ◌∙◌, arith}
 use Rattle.ts_base.specs.declared.fault.StoreFault.{StoreFault}
-use Rattle.ts_base.specs.declared.fault.StoreFault.TheVariants.{Failed}
 use Rattle.ts_page.specs.Pages.{Contents}
-use Rattle.ts_regular.specs.Call.{Reads}
+use Rattle.ts_page.specs.Unchanged.{Reads}
 
+-- none at all
 pub reads_none : (tells : Bool) (v : Contents) → Reads tells (Ok (tt {0})) v v
 reads_none tells v = record {
   call = record { count = refl; faults = omega arith; cause = λ failed. absurd (cc); no_fault = λ fine. refl };
   pages = λ told n. refl;
   free = refl;
   change_bytes = refl;
+  images = λ n is. is;
 }
 
 pub reads_more : {S T : Type 0} (tells : Bool) (x : S) (r : Result T StoreFault) (u v w : Contents) → Reads tells (Ok x) u v → Reads tells r v w → Reads tells r u w
@@ -24,6 +25,7 @@ reads_more tells x r u v w first second = record {
   pages = λ told n. second.pages told n ∙ first.pages told n;
   free = second.free ∙ first.free;
   change_bytes = second.change_bytes ∙ first.change_bytes;
+  images = λ n is. second.images n (first.images n is);
 }
 
 -- a read that went well, seen as another answer
@@ -33,21 +35,5 @@ reads_ok tells x y v w reads = record {
   pages = reads.pages;
   free = reads.free;
   change_bytes = reads.change_bytes;
+  images = reads.images;
 }
-
--- and one that failed, seen as a failure of another call
-pub reads_err : {S T : Type 0} (tells : Bool) (e : StoreFault) (v w : Contents) → Reads {T = S} tells (Err e) v w → Reads {T = T} tells (Err e) v w
-reads_err {S} {T} tells e v w reads = record {
-  call = record {
-    count = reads.call.count;
-    faults = reads.call.faults;
-    cause = λ failed. reads.call.cause (err_again S T e failed);
-    no_fault = λ fine. reads.call.no_fault (λ failed. fine (err_again T S e failed));
-  };
-  pages = reads.pages;
-  free = reads.free;
-  change_bytes = reads.change_bytes;
-}
-  where
-    err_again : (S T : Type 0) (e : StoreFault) → ◌≡◌ {A = Result T StoreFault} (Err e) (Err Failed) → ◌≡◌ {A = Result S StoreFault} (Err e) (Err Failed)
-    err_again S T e same = let one : e ≡ Failed = cc in ap Err one

@@ -1,0 +1,68 @@
+// One page that is put again and again in one batch: its record has one image.
+ghost use Rattle.std.specs.Prelude.{◌≡◌, ◌+◌, ◌≤◌, ◌<◌, [], OnOk, Contains};
+ghost use Rattle.ts_page.specs.Volume.{image_entry_size};
+ghost use Rattle.ts_store.specs.OpenBatch.{IsOver, IsIdle, IsClosed, contents_over};
+ghost use Rattle.ts_store.specs.Undisturbed.{Undisturbed};
+
+use crate::stores::{ELEMENT_PAGE, blank, committed, opened, page_of, tried};
+use std::test::Fail;
+use ts_base::StoreFault;
+use ts_disk::{MemorySite, Volume};
+use ts_page::Pages;
+use ts_store::{On, Store};
+
+// Puts the element page so often, each time with other bytes.
+fn put_often<P: Pages>(pages: &mut P, times: u32) -> Result<(), StoreFault>
+    requires within { ELEMENT_PAGE < (P.contents pages.old).count }
+    requires used { ¬ Contains (P.contents pages.old).free ELEMENT_PAGE }
+    ensures undisturbed { P.undisturbed pages.old pages.new }
+    ensures free { (P.contents pages.new).free ≡ (P.contents pages.old).free }
+    ensures bytes { (P.contents pages.new).change_bytes ≤ (P.contents pages.old).change_bytes + image_entry_size }
+{
+    for time in 0..times {
+        pages.put(ELEMENT_PAGE, &page_of((time % 256) as u8))?;
+    }
+    Ok(())
+}
+
+fn put_often_on<V: Volume>(store: &mut Store, vol: &mut V, times: u32) -> Result<(), StoreFault>
+    requires over { IsOver V.tells store.old (V.device vol.old) }
+    requires free { store.old.free ≡ [] }
+    ensures undisturbed { Undisturbed V.tells store.old store.new (V.device vol.old) (V.device vol.new) }
+    ensures over { IsOver V.tells store.new (V.device vol.new) }
+    ensures free { store.new.free ≡ [] }
+    ensures bytes { (contents_over store.new (V.device vol.new)).change_bytes
+        ≤ (contents_over store.old (V.device vol.old)).change_bytes + image_entry_size }
+{
+    let mut on = On {
+        store,
+        vol,
+        scan: false,
+    };
+    put_often(&mut on, times)
+}
+
+// Commits them in one record, however many they are.
+fn stored_often<V: Volume>(store: &mut Store, vol: &mut V, times: u32) -> Result<(), StoreFault>
+    requires idle { IsIdle V.tells store.old (V.device vol.old) }
+    requires closed { IsClosed store.old }
+    requires free { store.old.free ≡ [] }
+    ensures idle { OnOk result (IsIdle V.tells store.new (V.device vol.new)) }
+    ensures closed { OnOk result (IsClosed store.new) }
+    ensures free { OnOk result (store.new.free ≡ []) }
+{
+    put_often_on(store, vol, times)?;
+    committed(store, vol)
+}
+
+#[test]
+fn a_thousand_puts_of_a_page_are_one_image(rt: HostRuntime) -> Result<(), Fail> {
+    let mut site = MemorySite::new(blank(rt.alloc())?)?;
+    let mut store = opened(rt.alloc(), &mut site)?;
+    let before = site.calls();
+    stored_often(&mut store, &mut site, 1000)?;
+    // Two writes and two syncs: with a thousand images there would be no room for the record, with 256 a checkpoint.
+    assert_eq!(rt; site.calls(), before + 4);
+    assert_eq!(rt; tried(&mut store, &mut site, None)?, Some(231));
+    Ok(())
+}
