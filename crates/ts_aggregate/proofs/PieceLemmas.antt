@@ -1,6 +1,7 @@
 -- Cells one behind the other in two parts, and how far their elements stand before an end.
-use Rattle.std.proofs.Common.{◌≡◌, ℕ, zero, suc, ◌+◌, ◌*◌, ◌<◌, ◌≤◌, ℤ, ◌<ℤ◌, Option, Some, None, List, [], ◌∷◌, length, map, take, take-take, drop, drop-drop, refl, sym, ap, subst, ◌∙◌, arith}
-use Rattle.std.specs.Prelude.{IfSome}
+use Rattle.std.proofs.Common.{◌≡◌, ℕ, zero, suc, ◌+◌, ◌-◌, ◌*◌, ◌<◌, ◌≤◌, ℤ, ◌<ℤ◌, Bool, true, false, not, Option, Some, None, List, [], ◌∷◌, length, map, take, take-take, drop, drop-drop, refl, sym, ap, subst, ◌∙◌, arith}
+use Rattle.std.specs.Prelude.{IfSome, int_lt, nat_le}
+use Rattle.std.proofs.lemmas.Bool.Decides.{nat_tests}
 use Rattle.std.specs.Borrow.{Bor}
 use Rattle.std.proofs.lemmas.List.{take_all, drop_all, drop-take}
 use Rattle.std.proofs.Math.Nat.{suc-mul}
@@ -10,7 +11,9 @@ use Rattle.ts_row.specs.RowType.{width_of}
 use Rattle.ts_row.specs.Element.{Element}
 use Rattle.ts_cells.specs.Cell.{stamp_bytes}
 use Rattle.ts_calendar.specs.Intervals.{IsBefore, IsLaid}
-use Rattle.ts_offset.specs.Grid.{GridPlan, stamp_of}
+use Rattle.ts_calendar.proofs.StampLemmas.{int_lt-true}
+use Rattle.ts_offset.specs.Grid.{GridPlan, stamp_of, starts_before}
+use Rattle.ts_clip.proofs.GridOffsetLemmas.{lower_side}
 use Rattle.ts_entry.specs.declared.stamps.Stamps.{Stamps}
 use Rattle.ts_entry.specs.declared.stamps.Stamps.TheVariants.{InCells, OnGrid}
 use Rattle.ts_entry.specs.Rows.{IsCellWith, AreCellsWith, AreStamped, elements_in, row_if_any}
@@ -23,6 +26,19 @@ some_fit (suc n) zero size len within whole = absurd (omega (arith, within))
 some_fit (suc n) (suc left) size len within whole =
     let rest : n * size ≤ left * size = some_fit n left size (left * size) (omega (arith, within)) refl in
     omega (arith, rest, whole, suc-mul n size, suc-mul left size)
+
+-- and there is room for one more
+pub more_fit : (n left size len : ℕ) → n < left → len ≡ left * size → n * size + size ≤ len
+more_fit n left size len below whole =
+    let all : suc n * size ≤ len = some_fit (suc n) left size len (omega (arith, below)) whole in
+    omega (arith, all, suc-mul n size)
+
+-- the stamp of a cell stands within it
+pub stamp_part : (size : ℕ) (bytes : List ℕ) → 9 ≤ size → take 8 (drop 1 (take size bytes)) ≡ take 8 (drop 1 bytes)
+stamp_part size bytes wide =
+    let parts : size ≡ 1 + (size - 1) = omega (arith, wide) in
+    ap (λ (n : ℕ). take 8 (drop 1 (take n bytes))) parts ∙ ap (take 8) (drop-take 1 (size - 1) bytes)
+    ∙ take-take 8 (size - 1) (drop 1 bytes) (omega (arith, wide))
 
 -- the first of some cells, and those behind them
 module _ (cs : List Column) (front : ℕ) where
@@ -70,6 +86,18 @@ stamped_behind stamps size (suc n) m number cells (f ∷ fs) is are =
     (drop-drop (n * size) size cells ∙ ap (λ (k : ℕ). drop k cells) more)
     (subst (λ (k : ℕ). AreStamped stamps size k (drop (n * size) (drop size cells)) (drop n fs)) same
     (stamped_behind stamps size n (n * size) (number + 1) (drop size cells) fs refl are.1))
+
+not_false : (b : Bool) → not b ≡ false → b ≡ true
+not_false true is = refl
+not_false false is = sym is
+
+-- the start of an offset that is less than how many starts come before an end
+pub start_before : (grid : GridPlan) → IsLaid grid.calendar → (end : ℤ) (behind : ℕ) → behind ≡ starts_before grid end → (i : ℕ) (s : ℤ)
+    → i < behind → stamp_of grid i ≡ Some s → s <ℤ end
+start_before grid laid end behind is i s low at =
+    let side = lower_side grid laid end behind is i s at in
+    let under : nat_le behind i ≡ false = grind (arith, nat_tests) in
+    int_lt-true s end (not_false (int_lt s end) (sym side ∙ under))
 
 -- no end is there
 pub none_behind : (es : List Element) → AreBefore None es

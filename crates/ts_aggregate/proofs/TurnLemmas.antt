@@ -1,5 +1,5 @@
 -- Cells that are taken by the groups of their elements, one group after the other.
-use Rattle.std.proofs.Common.{◌≡◌, ℕ, zero, suc, ◌+◌, ◌*◌, ◌<◌, ◌≤◌, ℤ, Bool, true, false, not, Option, Some, None, List, [], ◌∷◌, ◌++◌, length, map, take, drop, refl, sym, ap, subst, ◌∙◌, arith, append_assoc, append-nil, length-take}
+use Rattle.std.proofs.Common.{◌≡◌, ℕ, zero, suc, ◌+◌, ◌-◌, ◌*◌, ◌<◌, ◌≤◌, ℤ, Bool, true, false, not, Option, Some, None, List, [], ◌∷◌, ◌++◌, length, map, take, drop, refl, sym, ap, subst, ◌∙◌, arith, append_assoc, append-nil, length-take}
 use Rattle.std.proofs.lemmas.List.{take-append-drop}
 use Rattle.std.proofs.lemmas.Option.{same_Some}
 use Rattle.std.proofs.Math.Nat.{suc-mul}
@@ -24,6 +24,23 @@ few_cells zero size len some whole = omega arith
 few_cells (suc n) size len some whole =
     let rest : n ≤ n * size = few_cells n size (n * size) some refl in
     omega (arith, rest, whole, some, suc-mul n size)
+
+-- those that are left without some of them
+pub less_cells : (n left size len rest : ℕ) → n ≤ left → len ≡ left * size → n * size + rest ≡ len → rest ≡ (left - n) * size
+less_cells zero left size len rest within whole parts =
+    let none : 0 * size ≡ 0 = omega arith in
+    let same : left ≡ left - 0 = omega arith in
+    let all : rest ≡ left * size = omega (arith, whole, parts, none) in
+    all ∙ ap (λ (k : ℕ). k * size) same
+less_cells (suc n) zero size len rest within whole parts = absurd (omega (arith, within))
+less_cells (suc n) (suc left) size len rest within whole parts =
+    let same : left - n ≡ suc left - suc n = omega arith in
+    less_cells n left size (left * size) rest (omega (arith, within)) refl (omega (arith, whole, parts, suc-mul n size, suc-mul left size))
+    ∙ ap (λ (k : ℕ). k * size) same
+
+pub none_left : (left size len : ℕ) → left ≡ 0 → len ≡ left * size → len ≡ 0
+none_left zero size len none whole = whole ∙ (let zero_ : 0 * size ≡ 0 = omega arith in zero_)
+none_left (suc n) size len none whole = absurd (omega (arith, none))
 
 shown_not : (b : Bool) → not b ≡ true → b ≡ false
 shown_not true is = sym is

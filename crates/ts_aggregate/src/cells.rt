@@ -38,6 +38,7 @@ pub(crate) struct Cells<'a> {
 
 impl<'a> Cells<'a> {
     /// The bytes of the first value, and the cells behind it.
+    #[inline(always)]
     pub(crate) fn next(self) -> Option<(&'a [u8], Cells<'a>)>
         requires { AreWhole self }
         ensures { MatchOption result (found self.entry ≡ []) (λ next. IsNext self.entry next.0.now next.1) }
@@ -83,6 +84,7 @@ impl<'a> Cells<'a> {
 }
 
 // Whether a cell has a value that is folded.
+#[inline(always)]
 fn has_value(position: ValuePosition, cell: &[u8]) -> bool
     requires front { position.front < position.size }
     requires place { position.place + position.width < position.size }
@@ -93,6 +95,7 @@ fn has_value(position: ValuePosition, cell: &[u8]) -> bool
 }
 
 // The bytes of its value.
+#[inline(always)]
 fn bytes_of(position: ValuePosition, cell: &[u8]) -> &[u8]
     requires place { position.place + position.width < position.size }
     requires size { length cell.now ≡ position.size }

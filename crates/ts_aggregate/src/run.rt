@@ -40,12 +40,7 @@ pub(crate) fn cells_before(
     };
     match stamps {
         Stamps::InCells => stamped_before(cells, end),
-        Stamps::OnGrid(grid, first) => offsets_before(
-            grid,
-            *first + number as u64,
-            cells.left,
-            end,
-        ),
+        Stamps::OnGrid(grid, first) => offsets_before(grid, *first + number as u64, cells.left, end),
     }
 }
 
@@ -65,7 +60,11 @@ fn stamped_before(cells: RowCells<'_>, end: Stamp) -> usize
     let limit = end.units();
     let (_, mut rest) = cells.bytes.split_at(cells.size);
     let mut count = 1;
-    while count < cells.left && units_at(rest, cells.size, 0) < limit {
+    while count < cells.left {
+        let units = units_at(rest, cells.size, 0);
+        if units >= limit {
+            return count;
+        }
         let (_, behind) = rest.split_at(cells.size);
         rest = behind;
         count += 1;

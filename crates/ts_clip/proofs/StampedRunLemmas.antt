@@ -1,6 +1,7 @@
 -- A run of cells behind the head of a page with the stamps of their elements, as it is handed on.
 use Rattle.std.proofs.Common.{◌≡◌, ℕ, zero, suc, ◌+◌, ◌-◌, ◌≤◌, ◌<◌, ℤ, IsSome, Option, Some, None, List, [], ◌∷◌, ◌++◌, length, map, take, drop, refl, sym, ap, subst, ◌∙◌, arith}
 use Rattle.std.specs.Prelude.{IfSome, option_map}
+use Rattle.std.specs.List.{cons_option}
 use Rattle.std.specs.Borrow.{Bor}
 use Rattle.std.proofs.lemmas.List.{take_at, drop_at}
 use Rattle.std.proofs.lemmas.List.Concat.{flat_map-cons}
@@ -65,12 +66,7 @@ pub elements_on : (grid : GridPlan) (offset : ℕ) (cells : List Cell)
     → elements_in (held_from grid offset cells) ≡ stamped grid (elements_from offset cells)
 elements_on grid offset [] = refl
 elements_on grid offset (None ∷ cells) = elements_on grid (offset + 1) cells
-elements_on grid offset (Some row ∷ cells) = by (stamped_one grid (offset, row)) (elements_on grid (offset + 1) cells)
-  where
-    by : (o : Option Element) → elements_in (held_from grid (offset + 1) cells) ≡ stamped grid (elements_from (offset + 1) cells)
-        → elements_in (o ∷ held_from grid (offset + 1) cells) ≡ elements_in (o ∷ []) ++ stamped grid (elements_from (offset + 1) cells)
-    by None rest = rest
-    by (Some e) rest = ap (λ (l : List Element). e ∷ l) rest
+elements_on grid offset (Some row ∷ cells) = ap (cons_option (stamped_one grid (offset, row))) (elements_on grid (offset + 1) cells)
 
 pub rows_on : (grid : GridPlan) (offset : ℕ) (cells : List Cell) → HaveStarts grid (elements_from offset cells)
     → cells ≡ map row_if_any (held_from grid offset cells)

@@ -3,19 +3,22 @@ ghost use Rattle.ts_page.specs.Memory.{memory_contents};
 ghost use Rattle.ts_space.specs.Directory.{places_of};
 ghost use Rattle.ts_offset.specs.declared.shape.Shape.{Shape as TheShape};
 ghost use Rattle.ts_clip.specs.Series.{ArePlaces};
+ghost use Rattle.ts_entry.specs.Stamps.{IsNear};
 
-use crate::series::{SLOT, Series, day, filled, mislead, shape_of};
+use crate::series::{DAY, DAY_1, SLOT, Series, day, filled, mislead, shape_of};
 use std::alloc::{AllocError, Global};
 use ts_base::StoreFault;
 use ts_clip::rows;
-use ts_entry::RowVisitor;
+use ts_entry::{RowVisitor, Stamps};
 use ts_page::Page;
 use ts_row::{RowType, Shelf};
 
-/// The bytes of the rows, how many cells there were, and the bytes before the row of a cell, by call.
+/// The bytes of the rows, the days at which they stand, how many cells there were, and the bytes before the row of a
+/// cell, by call.
 #[derive(Drop)]
 struct Copied {
     rows: Vec<u8>,
+    days: Vec<i64>,
     cells: usize,
     fronts: Vec<usize>,
 }
@@ -23,12 +26,19 @@ struct Copied {
 impl RowVisitor for Copied {
     ghost took = { λ _ _ _ _. Unit {0} };
 
-    fn rows(&mut self, kind: &RowType, cells: &[u8], front: usize) -> Result<(), AllocError> {
+    fn rows(
+        &mut self,
+        kind: &RowType,
+        cells: &[u8],
+        front: usize,
+        stamps: &Stamps<'_>,
+    ) -> Result<(), AllocError> {
         self.fronts.push(front)?;
-        for cell in cells.chunks(front.saturating_add(kind.width())) {
+        for (number, cell) in cells.chunks(front.saturating_add(kind.width())).enumerate() {
             self.cells = self.cells.saturating_add(1);
             if cell.first() == Some(&1) {
                 self.rows.extend_from_slice(row_in(cell, front))?;
+                self.days.push(day_at(stamps, number, cell))?;
             }
         }
         Ok(())
@@ -37,6 +47,19 @@ impl RowVisitor for Copied {
     ghost none = { λ _ _. tt };
 
     ghost then = { λ _ _ _ _ _ _ _ _. tt };
+}
+
+// The day of January 2011 at which the element of a cell stands; 0 where it has no stamp.
+fn day_at(stamps: &Stamps<'_>, number: usize, cell: &[u8]) -> i64
+    requires { IsNear stamps.now }
+{
+    if number > 4064 {
+        return 0;
+    }
+    match stamps.stamp(number, cell) {
+        Some(stamp) => stamp.units().wrapping_sub(DAY_1) / DAY + 1,
+        None => 0,
+    }
 }
 
 // The bytes of the row in a cell.
@@ -73,6 +96,7 @@ fn copied_of(alloc: Global, series: &mut Series, from: u8, to: u8) -> Result<Cop
     let space = &series.space;
     let mut copied = Copied {
         rows: Vec::new(alloc),
+        days: Vec::new(alloc),
         cells: 0,
         fronts: Vec::new(alloc),
     };
@@ -86,11 +110,18 @@ const ALL: &[u8] = &[1, 0, 0, 0, 1, 1, 0, 0, 0, 2, 3, 0, 0, 0, 3, 1, 0, 0, 0, 4]
 
 const INSIDE: &[u8] = &[1, 0, 0, 0, 2, 3, 0, 0, 0, 3];
 
-// Whether these rows are handed on in so many cells, in calls with these bytes before a row.
-fn gives(copied: Result<Copied, StoreFault>, rows: &[u8], cells: usize, fronts: &[usize]) -> bool {
+// Whether these rows of these days are handed on in so many cells, in calls with these bytes before a row.
+fn gives(
+    copied: Result<Copied, StoreFault>,
+    rows: &[u8],
+    days: &[i64],
+    cells: usize,
+    fronts: &[usize],
+) -> bool {
     match copied {
         Ok(copied) => {
             copied.rows.as_slice() == rows
+                && copied.days.as_slice() == days
                 && copied.cells == cells
                 && copied.fronts.as_slice() == fronts
         }
@@ -101,31 +132,31 @@ fn gives(copied: Result<Copied, StoreFault>, rows: &[u8], cells: usize, fronts: 
 #[test]
 fn all_rows_are_handed_on_in_one_call_a_page(rt: HostRuntime) {
     let alloc = rt.alloc();
-    assert!(rt; gives(handed_on(alloc, false, 1, 31), ALL, 4, &[9]));
-    assert!(rt; gives(handed_on(alloc, true, 1, 31), ALL, 21, &[1]));
+    assert!(rt; gives(handed_on(alloc, false, 1, 31), ALL, &[3, 5, 6, 10], 4, &[9]));
+    assert!(rt; gives(handed_on(alloc, true, 1, 31), ALL, &[3, 5, 6, 10], 21, &[1]));
 }
 
 #[test]
 fn both_ends_of_a_range_belong_to_it(rt: HostRuntime) {
     let alloc = rt.alloc();
-    assert!(rt; gives(handed_on(alloc, false, 5, 6), INSIDE, 2, &[9]));
-    assert!(rt; gives(handed_on(alloc, false, 4, 9), INSIDE, 2, &[9]));
-    assert!(rt; gives(handed_on(alloc, true, 5, 6), INSIDE, 2, &[1]));
-    assert!(rt; gives(handed_on(alloc, true, 4, 9), INSIDE, 4, &[1]));
+    assert!(rt; gives(handed_on(alloc, false, 5, 6), INSIDE, &[5, 6], 2, &[9]));
+    assert!(rt; gives(handed_on(alloc, false, 4, 9), INSIDE, &[5, 6], 2, &[9]));
+    assert!(rt; gives(handed_on(alloc, true, 5, 6), INSIDE, &[5, 6], 2, &[1]));
+    assert!(rt; gives(handed_on(alloc, true, 4, 9), INSIDE, &[5, 6], 4, &[1]));
 }
 
 #[test]
 fn a_range_without_cells_hands_on_nothing(rt: HostRuntime) {
     let alloc = rt.alloc();
-    assert!(rt; gives(handed_on(alloc, false, 8, 9), &[], 0, &[]));
-    assert!(rt; gives(handed_on(alloc, true, 8, 9), &[], 0, &[]));
-    assert!(rt; gives(handed_on(alloc, false, 10, 3), &[], 0, &[]));
-    assert!(rt; gives(handed_on(alloc, true, 10, 3), &[], 0, &[]));
+    assert!(rt; gives(handed_on(alloc, false, 8, 9), &[], &[], 0, &[]));
+    assert!(rt; gives(handed_on(alloc, true, 8, 9), &[], &[], 0, &[]));
+    assert!(rt; gives(handed_on(alloc, false, 10, 3), &[], &[], 0, &[]));
+    assert!(rt; gives(handed_on(alloc, true, 10, 3), &[], &[], 0, &[]));
 }
 
 #[test]
 fn a_page_that_disagrees_with_its_place_has_no_rows(rt: HostRuntime) {
     let alloc = rt.alloc();
-    assert!(rt; gives(misled(alloc, false, 1, 31), &[], 0, &[]));
-    assert!(rt; gives(misled(alloc, true, 1, 31), &[], 0, &[]));
+    assert!(rt; gives(misled(alloc, false, 1, 31), &[], &[], 0, &[]));
+    assert!(rt; gives(misled(alloc, true, 1, 31), &[], &[], 0, &[]));
 }

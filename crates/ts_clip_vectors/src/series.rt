@@ -22,9 +22,10 @@ use ts_space::{Place, Space};
 pub(crate) const SLOT: u16 = 7;
 
 /// 2011-01-01 00:00:00, a Saturday.
-const DAY_1: i64 = 129_384_000_000_000;
+pub(crate) const DAY_1: i64 = 129_384_000_000_000;
 
-const DAY: i64 = 8_640_000_000;
+/// A day.
+pub(crate) const DAY: i64 = 8_640_000_000;
 
 /// A series of integers.
 #[derive(Drop)]

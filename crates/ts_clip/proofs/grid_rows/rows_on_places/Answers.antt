@@ -26,14 +26,14 @@ loop-place-preserved g c =
     let w = g.P.Pages.contents c.rows_on_page.new.pages in
     let i = c.loop-place.invariant in
     let index : ℕ = c.loop-place.place-index in
-    let within : index < length places = c.loop-place-test.true in
+    let inside : index < length places = c.loop-place-test.true in
     let place : Place = get_or places index _ in
     let done = c.in_ok-rows_on_page.ensures in
     record {
       call = reads_more tells tt (Ok tt) u v w i.call done.call;
       undisturbed = g.met.P.Pages.«then» c.args.pages.now c.loop-place.pages c.rows_on_page.new.pages i.undisturbed done.undisturbed;
       taken = λ t ps on laid starts.
-          let here = page_of slot columns u.page places index _ ps on within in
+          let here = page_of slot columns u.page places index _ ps on inside in
           let own = subst (λ (b : List ℕ). IsOn slot columns b place here.0) (sym (i.call.pages t place.page)) here.2 in
           subst (λ (l : List Element). g.V.RowVisitor.took columns c.args.visitor.now l c.rows_on_page.new.visitor) (stamped_next grid o.lower o.upper index here.0 ps here.1)
           (g.met.V.RowVisitor.«then» columns c.args.visitor.now c.loop-place.visitor c.rows_on_page.new.visitor (stamped grid (within o.lower o.upper (all_in (take index ps)))) (stamped grid (within o.lower o.upper (elements_from here.0.0 here.0.1)))

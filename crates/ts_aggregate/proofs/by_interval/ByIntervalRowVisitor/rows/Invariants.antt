@@ -1,5 +1,5 @@
 -- The cells before those that are left are taken by their groups.
-use Rattle.std.proofs.Common.{◌≡◌, ◌+◌, ◌*◌, ◌≤◌, Option, List, length}
+use Rattle.std.proofs.Common.{◌≡◌, ◌+◌, ◌*◌, ◌≤◌, ℕ, Option, List, length}
 use Rattle.ts_row.specs.Element.{Element}
 use Rattle.ts_entry.specs.Rows.{AreCellsOf}
 use Rattle.ts_aggregate.specs.Groups.{grouping}
