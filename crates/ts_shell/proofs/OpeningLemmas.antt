@@ -58,7 +58,7 @@ unopened_store tells Failed v y started = record {
   faults = started.others.faults;
 }
 unopened_store tells (NotAStore page) v y started = record {
-  no_store = λ six. started.fault.0;
+  no_store = λ six told. nothing_meant.bytes v.held page (started.fault.0 told);
   not_a_store = λ t none. inr (inl refl);
   left = started.nothing;
   unwritten = λ six. (started.fault.1, started.fault.2);
