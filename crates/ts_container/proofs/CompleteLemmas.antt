@@ -9,7 +9,6 @@ use Rattle.ts_model.specs.declared.def.Def.TheVariants as defs
 use Rattle.ts_model.specs.Definitions.{Definitions, PatternDef, CalendarDef, at_slot}
 use Rattle.ts_layout.specs.Meaning.{Follows}
 use Rattle.ts_layout.specs.Changed.{KeepsCalendarRules}
-use Rattle.ts_slots.specs.declared.calendar_slot.Part.{Part}
 use Rattle.ts_slots.specs.declared.calendar_slot.CalendarForm.{CalendarForm}
 use Rattle.ts_slots.specs.declared.slot.Written.TheVariants.{Form}
 use Rattle.ts_slots.specs.Written.{part_on_page, form_of, written_of}

@@ -1,17 +1,17 @@
 -- The first bad page of a volume, by what its parts say: definitions that pass, element pages, and what spans them.
-use Rattle.std.proofs.Common.{◌≡◌, ℕ, ◌+◌, ◌-◌, ◌<◌, ◌≤◌, Bool, IsTrue, Result, Ok, Err, IfErr, IsErrOf, List, [], ◌∷◌, length, refl, sym, ap, subst, ◌∙◌, arith, inl, inr}
+use Rattle.std.proofs.Common.{◌≡◌, ℕ, ◌+◌, ◌-◌, ◌<◌, ◌≤◌, Bool, IsTrue, Result, Ok, Err, IfErr, IsErrOf, List, [], ◌∷◌, length, sym, ap, subst, ◌∙◌, arith, inl, inr}
 use Rattle.ts_page.specs.Pages.{Contents}
 use Rattle.ts_model.specs.Definitions.{Definitions, IsDefinitions}
 use Rattle.ts_layout.specs.Slot.{header_bytes}
 use Rattle.ts_layout.specs.Meaning.{Layout, ElementPage, element_page, HoldsElements, HoldAll, KeepLimits, AreSound, IsSound, IsLaidOut}
 use Rattle.ts_layout.proofs.CallerLemmas.{same_page, same_pages}
-use Rattle.ts_volume.specs.FirstBad.{Step, Header, Slots, Names, Rules, Grants, Elements, Overlaps, Neighbours, Charges, IsLeast, HasNone, AreSaid, AllSaid, Finds, IsOverlap, IsSparse, IsOvercharged, IsFirstIn, IsFirstBad}
+use Rattle.ts_volume.specs.FirstBad.{Elements, Overlaps, Neighbours, Charges, IsLeast, HasNone, AllSaid, Finds, IsOverlap, IsSparse, IsOvercharged, IsFirstIn, IsFirstBad}
 use Rattle.ts_container.specs.declared.fault.SurveyFault.{SurveyFault}
-use Rattle.ts_container.specs.declared.fault.SurveyFault.TheVariants.{NotAStore, Failed, Memory}
+use Rattle.ts_container.specs.declared.fault.SurveyFault.TheVariants.{Failed}
 use Rattle.ts_container.specs.declared.span.Span.{Span}
 use Rattle.ts_container.specs.declared.surveyed.Surveyed.{Surveyed}
-use Rattle.ts_container.specs.Elements.{IsReadAs, AllRead, AreListed, AreElements, IsBadElement, IsFinished, IsLateBad, ElementsRead}
-use Rattle.ts_container.specs.Survey.{Reads, IfRefused, PassDefinitions, FindsLate, IsFirstLate, late_steps, IsFound}
+use Rattle.ts_container.specs.Elements.{IsReadAs, AllRead, AreListed, IsBadElement, IsFinished, IsLateBad}
+use Rattle.ts_container.specs.Survey.{Reads, IfRefused, PassDefinitions, IsFirstLate, IsFound}
 use Rattle.ts_container.proofs.SurveyLemmas.{equal_pages, refused_so}
 
 module _ (count : ℕ) (pages : ℕ → List ℕ) (d : Definitions) (pass : PassDefinitions count pages d) where
@@ -69,18 +69,36 @@ module _ (count : ℕ) (pages : ℕ → List ℕ) (d : Definitions) (pass : Pass
     -- the page that the last steps find
     pub late_bad : (page : ℕ) → IsFirstLate l page → IsFirstBad count pages page
     unfolding behind elements_none they_said one_layout overlaps_none sparse_none
-    late_bad page (inl least) = behind page (inr (elements_none, inl (record {
-      has = (l, they_said, least.has);
-      least = λ other (k, said, found). least.least other (subst (λ (x : Layout). IsOverlap x other) (one_layout k said) found);
-    })))
-    late_bad page (inr (none, inl least)) = behind page (inr (elements_none, inr (overlaps_none none, inl (record {
-      has = (l, they_said, least.has);
-      least = λ other (k, said, found). least.least other (subst (λ (x : Layout). IsSparse x other) (one_layout k said) found);
-    }))))
-    late_bad page (inr (none, inr (none', inl least))) = behind page (inr (elements_none, inr (overlaps_none none, inr (sparse_none none', inl (record {
-      has = (l, they_said, least.has);
-      least = λ other (k, said, found). least.least other (subst (λ (x : Layout). IsOvercharged x other) (one_layout k said) found);
-    })))))
+    late_bad page (inl least) = behind page (inr (
+      elements_none,
+      inl (record {
+        has = (l, they_said, least.has);
+        least = λ other (k, said, found). least.least other (subst (λ (x : Layout). IsOverlap x other) (one_layout k said) found);
+      }),
+    ))
+    late_bad page (inr (none, inl least)) = behind page (inr (
+      elements_none,
+      inr (
+        overlaps_none none,
+        inl (record {
+          has = (l, they_said, least.has);
+          least = λ other (k, said, found). least.least other (subst (λ (x : Layout). IsSparse x other) (one_layout k said) found);
+        }),
+      ),
+    ))
+    late_bad page (inr (none, inr (none', inl least))) = behind page (inr (
+      elements_none,
+      inr (
+        overlaps_none none,
+        inr (
+          sparse_none none',
+          inl (record {
+            has = (l, they_said, least.has);
+            least = λ other (k, said, found). least.least other (subst (λ (x : Layout). IsOvercharged x other) (one_layout k said) found);
+          }),
+        ),
+      ),
+    ))
     late_bad page (inr (none, inr (none', inr (none'', nothing)))) = absurd nothing
 
     -- or the layout that they hold

@@ -1,6 +1,6 @@
 -- The first bad page by the header and the definition pages.
 use Rattle.std.specs.Prelude.{Any, AllPairs, slice_get}
-use Rattle.std.proofs.Common.{◌≡◌, Bool, IsTrue, Ok, Err, Vec, ℕ, zero, suc, get_or, ◌+◌, ◌-◌, ◌<◌, ◌≤◌, Option, Some, None, MatchOption, List, [], ◌∷◌, map, length, refl, sym, ap, subst, ◌∙◌, arith, inl, inr}
+use Rattle.std.proofs.Common.{◌≡◌, Bool, IsTrue, Ok, Err, Vec, ℕ, zero, suc, get_or, ◌-◌, ◌<◌, ◌≤◌, Option, Some, None, MatchOption, List, [], ◌∷◌, map, length, refl, sym, ap, subst, ◌∙◌, arith, inl, inr}
 use Rattle.std.specs.Option.{option_map, IfSome}
 use Rattle.ts_calendar.specs.Calendar.{IsValid}
 use Rattle.ts_layout.specs.Meaning.{IsThere, IsOnCalendar, HaveOrigins, sum_of_quotas}
@@ -8,16 +8,15 @@ use Rattle.std.proofs.lemmas.Bool.{cases_lt}
 use Rattle.std.proofs.lemmas.List.{get_or_past, length-map}
 use Rattle.ts_model.specs.declared.kind.Kind.{Kind}
 use Rattle.ts_model.specs.declared.kind.Kind.TheVariants as kinds
-use Rattle.ts_model.specs.declared.def.Def.{Def}
-use Rattle.ts_model.specs.Definitions.{Definitions, CalendarDef, IsDefinitions, IsFormat, references, limit, slots, KindDef, to_def, from_def, of_calendar, table_of, at_slot, def_at}
+use Rattle.ts_model.specs.Definitions.{Definitions, IsDefinitions, IsFormat, references, limit, KindDef, to_def, from_def, of_calendar, table_of, at_slot, def_at}
 use Rattle.ts_model.proofs.PartsLemmas.{all-tables, forth}
 use Rattle.ts_layout.specs.Slot.{header_bytes, page_of_slot}
-use Rattle.ts_layout.specs.Rank.{rank, all_slots}
+use Rattle.ts_layout.specs.Rank.{all_slots}
 use Rattle.ts_layout.proofs.CallerLemmas.{header_format, own, at_slot-map}
-use Rattle.ts_volume.specs.FirstBad.{Header, Slots, Names, Rules, Grants, IsLeast, HasNone, HasHeader, HoldsSlots, AreSaid, IsUnresolved, IsInvalid, IsOvergranted, IsAstray, Finds, IsFirstBad}
+use Rattle.ts_volume.specs.FirstBad.{Header, Slots, Names, Rules, Grants, IsLeast, HasNone, HasHeader, HoldsSlots, AreSaid, IsInvalid, IsAstray, Finds, IsFirstBad}
 use Rattle.ts_container.specs.declared.found.Broken.{Broken}
-use Rattle.ts_container.specs.Reading.{AreFilledAmong, IsReadTo, IsBrokenIn, IsLeftOut, AreOfVolume, AreWritten}
-use Rattle.ts_container.specs.Survey.{Reads, DefinitionsRead, SoundRead, HoldAllSlots, AreKnown, IsNoDefinitionPage, IsBadDefinition, IsPageOfBroken, IsUngranted, AreGranted, AreRight, IsWrong, PassDefinitions}
+use Rattle.ts_container.specs.Reading.{AreFilledAmong, IsReadTo, IsBrokenIn, AreOfVolume, AreWritten}
+use Rattle.ts_container.specs.Survey.{Reads, DefinitionsRead, SoundRead, HoldAllSlots, AreKnown, IsBadDefinition, IsPageOfBroken, IsUngranted, AreGranted, AreRight, IsWrong, PassDefinitions}
 use Rattle.ts_page.specs.Pages.{Contents}
 use Rattle.ts_model.specs.declared.defs.Defs.{Defs}
 use Rattle.ts_container.specs.declared.fault.SurveyFault.{SurveyFault}
@@ -75,16 +74,25 @@ module _ (count format : ℕ) (pages : ℕ → List ℕ) (header : HasHeader cou
   -- a bad definition page
   pub definition_bad : (page : ℕ) → IsBadDefinition format pages page → IsFirstBad count pages page
   unfolding own_format header_none as_written as_said slots_none
-  definition_bad page (inl least) = inr (header_none, inl (record {
-    has = record { format = format; header = header; low = least.has.0; high = least.has.1; bad = least.has.2 };
-    least = λ other found. least.least other (found.low, found.high, λ holds. found.bad (subst (λ (f : ℕ). HoldsSlots f pages other) (sym (own_format found.format found.header)) holds));
-  }))
+  definition_bad page (inl least) = inr (
+    header_none,
+    inl (record {
+      has = record { format = format; header = header; low = least.has.0; high = least.has.1; bad = least.has.2 };
+      least = λ other found. least.least other (found.low, found.high, λ holds. found.bad (subst (λ (f : ℕ). HoldsSlots f pages other) (sym (own_format found.format found.header)) holds));
+    }),
+  )
   definition_bad page (inr (all, unresolved)) =
       let s = some_written format pages all in
-      inr (header_none, inr (slots_none all, inl (record {
-        has = (s.0, as_said s.0 s.1, (unresolved s.0 s.1).has);
-        least = λ other (d, said, found). (unresolved d (as_written d said)).least other found;
-      })))
+      inr (
+        header_none,
+        inr (
+          slots_none all,
+          inl (record {
+            has = (s.0, as_said s.0 s.1, (unresolved s.0 s.1).has);
+            least = λ other (d, said, found). (unresolved d (as_written d said)).least other found;
+          }),
+        ),
+      )
 
   -- the definitions that were read
   module _ (d : Definitions) (broken : List Broken) (known : AreKnown format pages d broken) (read : IsReadTo format all_slots d broken) where
@@ -116,21 +124,30 @@ module _ (count format : ℕ) (pages : ℕ → List ℕ) (header : HasHeader cou
         let said = as_said s.0 s.1 in
         let b = least.has in
         let one = all_of (IsBrokenIn s.0) broken b.0 b.1 (of_said s.0 said).listed b.2 b.3 in
-        inr (header_none, inr (slots_none known.slots, inr (names_none, inl (record {
-          has = (
-            s.0,
-            said,
-            record {
-              slot = b.1.slot;
-              c = one.c;
-              within = all_of (λ (x : Broken). x.slot < limit kinds.Calendar) broken b.0 b.1 read.listed.within b.2 b.3;
-              there = one.there;
-              page = b.4;
-              breaks = one.breaks;
-            },
-          );
-          least = λ other (e, its, found). least.least other (invalid_listed e other its found);
-        }))))
+        inr (
+          header_none,
+          inr (
+            slots_none known.slots,
+            inr (
+              names_none,
+              inl (record {
+                has = (
+                  s.0,
+                  said,
+                  record {
+                    slot = b.1.slot;
+                    c = one.c;
+                    within = all_of (λ (x : Broken). x.slot < limit kinds.Calendar) broken b.0 b.1 read.listed.within b.2 b.3;
+                    there = one.there;
+                    page = b.4;
+                    breaks = one.breaks;
+                  },
+                );
+                least = λ other (e, its, found). least.least other (invalid_listed e other its found);
+              }),
+            ),
+          ),
+        )
 
     -- where none is, these are the definitions of the volume
     module _ (none : broken ≡ []) where
@@ -170,10 +187,22 @@ module _ (count format : ℕ) (pages : ℕ → List ℕ) (header : HasHeader cou
 
       grants_bad : (page : ℕ) → IsLeast (IsUngranted count d) page → IsFirstBad count pages page
       unfolding header_none slots_none names_none rules_none they_said only
-      grants_bad page least = inr (header_none, inr (slots_none known.slots, inr (names_none, inr (rules_none, inl (record {
-        has = (d, they_said, least.has);
-        least = λ other (s, said, found). least.least other (subst (λ (x : Definitions). IsUngranted count x other) (only s said) found);
-      })))))
+      grants_bad page least = inr (
+        header_none,
+        inr (
+          slots_none known.slots,
+          inr (
+            names_none,
+            inr (
+              rules_none,
+              inl (record {
+                has = (d, they_said, least.has);
+                least = λ other (s, said, found). least.least other (subst (λ (x : Definitions). IsUngranted count x other) (only s said) found);
+              }),
+            ),
+          ),
+        ),
+      )
 
       grants_none : AreGranted count d → HasNone (Finds count pages Grants)
       unfolding only

@@ -9,7 +9,7 @@ use Rattle.ts_row.specs.declared.kind.Column.{Column}
 use Rattle.ts_offset.specs.declared.shape.Shape.{Shape}
 use Rattle.ts_offset.specs.declared.shape.Shape.TheVariants.{Irregular, Regular}
 use Rattle.ts_model.specs.Definitions.{Definitions}
-use Rattle.ts_layout.specs.Meaning.{ElementPage, Free, Cells, element_page, elements_on, elements_of, sheets_on, sheets_of, Layout, HoldsElements, AreSound, IsSound}
+use Rattle.ts_layout.specs.Meaning.{ElementPage, Free, Cells, elements_on, elements_of, sheets_on, sheets_of, HoldsElements, AreSound, IsSound}
 use Rattle.ts_layout.specs.Sheets.{room_of}
 use Rattle.ts_layout.specs.Surveyed.{ListsPlaces, places_from}
 use Rattle.ts_layout.specs.Charges.{AreCountable, KeepQuotas}
@@ -19,7 +19,7 @@ use Rattle.ts_layout.proofs.CallerLemmas.{within_list, kept_in, AreCounted, coun
 use Rattle.ts_volume.specs.FirstBad.{IsLeast}
 use Rattle.ts_container.specs.declared.span.Span.{Span}
 use Rattle.ts_container.specs.Spans.{spans_from, places_in, AreSorted, AreDifferent, AreApart, AreDense, IsSpan, Lists, IsClash, IsThin, IsOverQuota}
-use Rattle.ts_container.specs.Elements.{AreListed, IsLateBad}
+use Rattle.ts_container.specs.Elements.{AreListed}
 use Rattle.ts_container.specs.Survey.{IsSurveyOf, IsFirstLate}
 use Rattle.ts_container.proofs.SpanLemmas.{rising_in}
 use Rattle.ts_container.proofs.SeenLemmas.{AllHeld}

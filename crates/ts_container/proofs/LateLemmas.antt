@@ -1,10 +1,9 @@
 -- What spans element pages, by the spans of these, sorted: pages that overlap, neighbours that fit one page, and charges.
-use Rattle.std.specs.Prelude.{All, AllPairs, Contains, IsPermutation}
-use Rattle.std.proofs.Common.{◌≡◌, ◌≢◌, ℕ, zero, suc, ◌+◌, ◌<◌, ◌≤◌, ◌⊎◌, Option, Some, None, List, [], ◌∷◌, ◌++◌, length, get_or, refl, sym, ap, subst, ◌∙◌, arith, inl, inr, ℤ, ◌<ℤ◌, ◌≤ℤ◌}
+use Rattle.std.specs.Prelude.{All, Contains, IsPermutation}
+use Rattle.std.proofs.Common.{◌≡◌, ◌≢◌, ℕ, zero, suc, ◌+◌, ◌<◌, ◌≤◌, Option, Some, None, List, [], ◌∷◌, length, get_or, refl, sym, ap, subst, ◌∙◌, arith, inl, inr, ◌<ℤ◌, ◌≤ℤ◌}
 use Rattle.std.specs.Option.{unwrap_or}
 use Rattle.std.proofs.lemmas.Bool.{cases_lt, cases_eq}
 use Rattle.std.proofs.lemmas.Int.{ints}
-use Rattle.std.proofs.lemmas.List.Elements.{All-cons, All-nil}
 use Rattle.std.proofs.lemmas.List.Sorted.{Contains-permutation, IsPermutation-sym}
 use Rattle.ts_row.specs.RowType.{Heading}
 use Rattle.ts_cells.specs.Cell.{page_room}
@@ -13,12 +12,12 @@ use Rattle.ts_offset.specs.declared.shape.Shape.TheVariants.{Irregular, Regular}
 use Rattle.ts_space.specs.Directory.{Directory}
 use Rattle.ts_model.specs.Definitions.{Definitions, ContainerDef, IsDefinitions, at_slot}
 use Rattle.ts_layout.specs.Sheets.{Sheet}
-use Rattle.ts_layout.specs.Meaning.{ElementPage, Free, Cells, Layout, element_page, shape_at, heading_at, heading_of_container, charge_of_container, HoldsElements}
-use Rattle.ts_layout.specs.Charges.{container_charge, KeepsQuotaAt}
+use Rattle.ts_layout.specs.Meaning.{ElementPage, Free, Cells, Layout, element_page, shape_at, heading_at, heading_of_container, HoldsElements}
+use Rattle.ts_layout.specs.Charges.{container_charge}
 use Rattle.ts_layout.proofs.CallerLemmas.{within_list, pairs_permuted, AreCounted, charge_same}
-use Rattle.ts_volume.specs.FirstBad.{Meet, IsNext, IsLeast, IsOverlap, IsSparse, IsOvercharged}
+use Rattle.ts_volume.specs.FirstBad.{Meet, IsLeast, IsOverlap, IsSparse, IsOvercharged}
 use Rattle.ts_container.specs.declared.span.Span.{Span}
-use Rattle.ts_container.specs.Spans.{end_of, span_of, shape_in, spans_from, IsSpan, Follows, AreSorted, AreDifferent, IsApart, AreApart, IsClash, IsThinPair, IsThin, IsOverQuota}
+use Rattle.ts_container.specs.Spans.{end_of, span_of, shape_in, spans_from, IsSpan, Follows, AreSorted, AreDifferent, IsApart, AreApart, IsClash, IsThin, IsOverQuota}
 use Rattle.ts_container.proofs.SeenLemmas.{AllHeld}
 use Rattle.ts_container.proofs.ClashLemmas.{placed, stands_at, sorted_pairs, apart_pairs}
 

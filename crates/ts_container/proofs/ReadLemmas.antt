@@ -1,5 +1,5 @@
 -- Definition pages that are read slot by slot.
-use Rattle.std.proofs.Common.{◌≡◌, ◌≢◌, ℕ, zero, suc, ◌+◌, ◌-◌, ◌*◌, ◌/◌, ◌<◌, ◌≤◌, ◌⊎◌, Bool, true, false, MatchBool, nat_le, min, Option, Some, None, List, [], ◌∷◌, length, take, drop, replicate, length-drop, refl, sym, ap, subst, ◌∙◌, arith, lit≤, inl, inr}
+use Rattle.std.proofs.Common.{◌≡◌, ℕ, ◌+◌, ◌-◌, ◌*◌, ◌/◌, ◌<◌, ◌≤◌, Bool, true, false, MatchBool, nat_le, min, Option, List, length, take, drop, replicate, length-drop, refl, sym, ap, subst, ◌∙◌, arith, lit≤, inl, inr}
 use Rattle.std.proofs.lemmas.Bool.{cases_lt, cases_eq}
 use Rattle.std.proofs.lemmas.Bool.Decides.{nat_tests}
 use Rattle.std.proofs.lemmas.List.{take_all, length-replicate}
@@ -15,9 +15,8 @@ use Rattle.ts_layout.specs.declared.place.Slots.{Slots}
 use Rattle.ts_layout.specs.Slot.{slot_size, slot_bytes, slots_in_page, bytes_of_slots, page_of_slot}
 use Rattle.ts_layout.specs.Limits.{IsSlotOf}
 use Rattle.ts_layout.specs.Meaning.{bytes_of_slot}
-use Rattle.ts_layout.specs.Rank.{rank, rank_of_page, slots_with_own_page}
+use Rattle.ts_layout.specs.Rank.{rank, rank_of_page}
 use Rattle.ts_layout.proofs.CallerLemmas.{Stands, stands, rank_next, this_or_other}
-use Rattle.ts_volume.specs.FirstBad.{IsLeast, HoldsSlots, IsUnresolved, Repeats, Dangles}
 use Rattle.ts_container.specs.Reading.{IsReadTo, AreOfVolume, AreWritten, IsWrittenAt, IsSlot, SlotRead, HasZerosBehind, IsPageOf, IsNoPageOf, PageRead}
 
 -- how many bytes of a page are slots, as the code counts them

@@ -1,32 +1,28 @@
 -- One slot more is read: what stands there has the name of a lower one, refers to an empty one, or is settled.
 use Rattle.std.specs.Prelude.{All, Any, Contains}
-use Rattle.std.proofs.Common.{◌≡◌, ◌≢◌, ℕ, zero, suc, ◌+◌, ◌<◌, ◌≤◌, ◌⊎◌, Bool, true, false, cond, position, Option, Some, None, IfSome, IsSome, Result, Ok, Err, List, [], ◌∷◌, ◌++◌, map, length, get_or, ℤ, refl, sym, ap, subst, ◌∙◌, arith, inl, inr}
+use Rattle.std.proofs.Common.{◌≡◌, ℕ, zero, suc, ◌<◌, Bool, true, false, cond, position, Option, Some, None, IfSome, IsSome, List, [], ◌∷◌, length, get_or, ℤ, refl, sym, ap, subst, ◌∙◌, arith, inl, inr}
 use Rattle.std.specs.Option.{option_map}
-use Rattle.std.proofs.lemmas.Bool.{cases_lt, cases_eq}
+use Rattle.std.proofs.lemmas.Bool.{cases_lt}
 use Rattle.std.proofs.lemmas.List.{get_or_past}
 use Rattle.std.proofs.lemmas.Slice.Eq.{bytes_eq-Decides}
 use Rattle.std.proofs.lemmas.List.Quantifiers.{position-Some}
 use Rattle.ts_model.proofs.IndexLemmas.{position-more}
-use Rattle.ts_pattern.specs.Plan.{Plan}
-use Rattle.ts_calendar.specs.Plan.{CalendarPlan}
-use Rattle.ts_calendar.specs.Calendar.{IsValid}
 use Rattle.ts_model.specs.declared.kind.Kind.{Kind}
 use Rattle.ts_model.specs.declared.kind.Kind.TheVariants as kinds
 use Rattle.ts_model.specs.declared.def.Def.{Def}
 use Rattle.ts_model.specs.declared.def.Def.TheVariants as defs
-use Rattle.ts_model.specs.Definitions.{Definitions, PatternDef, CalendarDef, kind_of, name_of, limit, slots, slot_of, has_name, to_def, of_pattern, of_calendar, at_slot, def_at, pattern_reference, calendar_reference, references}
+use Rattle.ts_model.specs.Definitions.{Definitions, CalendarDef, kind_of, name_of, limit, slots, slot_of, has_name, of_calendar, at_slot, def_at, pattern_reference, calendar_reference, references}
 use Rattle.ts_slots.specs.declared.slot.Written.{Written}
-use Rattle.ts_slots.specs.declared.slot.Written.TheVariants.{Whole, Form}
-use Rattle.ts_slots.specs.Written.{IsWritten, form_of, written_of, kind_written, name_written}
+use Rattle.ts_slots.specs.Written.{written_of, name_written}
 use Rattle.ts_slots.specs.Reading.{IsWrittenWith}
-use Rattle.ts_slots.proofs.WrittenLemmas.{kind_same, name_same}
+use Rattle.ts_slots.proofs.WrittenLemmas.{name_same}
 use Rattle.ts_layout.specs.Slot.{slot_bytes}
 use Rattle.ts_layout.specs.Limits.{IsDef, IsSlotOf, IsRegularPart}
 use Rattle.ts_layout.specs.Rank.{rank}
-use Rattle.ts_layout.proofs.CallerLemmas.{own, slot_filled, at_slot-map}
+use Rattle.ts_layout.proofs.CallerLemmas.{slot_filled, at_slot-map}
 use Rattle.ts_volume.specs.FirstBad.{Repeats, Dangles}
 use Rattle.ts_container.specs.declared.found.Broken.{Broken}
-use Rattle.ts_container.specs.Reading.{AreReadTo, IsFilledAmong, AreFilledAmong, IsTakenAmong, AreBroken, IsReadTo, IsBrokenIn, IsLeftOut, AreOfVolume, IsWrittenAt, references_written}
+use Rattle.ts_container.specs.Reading.{AreReadTo, IsFilledAmong, AreFilledAmong, IsTakenAmong, IsReadTo, IsBrokenIn, AreOfVolume, IsWrittenAt, references_written}
 
 none_is : {A : Type 0} (o : Option A) (a : A) → o ≡ None → o ≡ Some a → ⊥
 none_is o a none some = cc

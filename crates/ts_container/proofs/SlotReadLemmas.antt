@@ -1,12 +1,10 @@
 -- A slot is read into the definitions before it.
-use Rattle.std.specs.Prelude.{All, AllPairs, Any, Contains}
-use Rattle.std.proofs.Common.{◌≡◌, ◌≢◌, ℕ, zero, suc, ◌+◌, ◌<◌, ◌≤◌, ◌⊎◌, Option, Some, None, IfSome, IsSome, Result, Ok, Err, List, [], ◌∷◌, ◌++◌, length, length-append, get_or, refl, sym, ap, subst, ◌∙◌, arith, inl, inr}
+use Rattle.std.specs.Prelude.{All, Any}
+use Rattle.std.proofs.Common.{◌≡◌, ◌≢◌, ℕ, zero, suc, ◌+◌, ◌<◌, ◌⊎◌, Option, Some, None, IfSome, IsSome, Ok, Err, List, [], ◌∷◌, ◌++◌, length, length-append, get_or, refl, sym, ap, subst, ◌∙◌, arith, inl, inr}
 use Rattle.std.specs.Option.{option_map}
-use Rattle.std.proofs.lemmas.Bool.{cases_lt, cases_eq}
 use Rattle.std.proofs.lemmas.List.Elements.{All-push}
 use Rattle.std.proofs.lemmas.List.Quantifiers.{Any-push, all_pairs_push}
 use Rattle.ts_pattern.specs.Plan.{Plan}
-use Rattle.ts_calendar.specs.Plan.{CalendarPlan}
 use Rattle.ts_calendar.specs.Calendar.{IsValid}
 use Rattle.ts_model.specs.declared.kind.Kind.{Kind}
 use Rattle.ts_model.specs.declared.kind.Kind.TheVariants as kinds
@@ -14,15 +12,13 @@ use Rattle.ts_model.specs.declared.def.Def.{Def}
 use Rattle.ts_model.specs.declared.def.Def.TheVariants as defs
 use Rattle.ts_model.specs.Definitions.{Definitions, PatternDef, CalendarDef, kind_of, limit, of_pattern, of_calendar, at_slot, def_at, references, pattern_reference, with_slot}
 use Rattle.ts_slots.specs.declared.calendar_slot.CalendarForm.{CalendarForm}
-use Rattle.ts_slots.specs.declared.calendar_slot.Part.{Part}
-use Rattle.ts_slots.specs.declared.calendar_slot.Part.TheVariants.{By, Own}
 use Rattle.ts_slots.specs.declared.slot.Written.{Written}
 use Rattle.ts_slots.specs.declared.slot.Written.TheVariants.{Whole, Form}
-use Rattle.ts_slots.specs.Written.{IsWritten, part_on_page, form_of, written_of, kind_written, name_written, written_bytes}
+use Rattle.ts_slots.specs.Written.{form_of, written_of, kind_written, name_written, written_bytes}
 use Rattle.ts_slots.specs.Reading.{IsWrittenWith}
 use Rattle.ts_slots.proofs.WrittenLemmas.{kind_same, bytes_same, whole}
 use Rattle.ts_layout.specs.Slot.{slot_bytes}
-use Rattle.ts_layout.specs.Limits.{IsDef, IsSlotOf}
+use Rattle.ts_layout.specs.Limits.{IsDef}
 use Rattle.ts_layout.specs.Rank.{rank}
 use Rattle.ts_layout.specs.Meaning.{Follows}
 use Rattle.ts_layout.specs.Changed.{KeepsCalendarRules}
@@ -31,10 +27,10 @@ use Rattle.ts_volume.specs.FirstBad.{Repeats, Dangles, HavePatterns}
 use Rattle.ts_container.specs.declared.found.Broken.{Broken}
 use Rattle.ts_container.specs.declared.found.Found.{Found}
 use Rattle.ts_container.specs.declared.found.Found.TheVariants as found
-use Rattle.ts_container.specs.Reading.{AreReadTo, IsFilledAmong, AreFilledAmong, AreBroken, IsReadTo, IsBrokenIn, IsLeftOut, AreOfVolume, IsWrittenAt, IsSlot, StandsFor, IsTakenAmong, HasPart, HasPattern, Completes, IsPut, Admitted, SlotRead, filled, references_written, part_references}
+use Rattle.ts_container.specs.Reading.{IsFilledAmong, AreFilledAmong, AreBroken, IsReadTo, IsBrokenIn, IsLeftOut, AreOfVolume, IsWrittenAt, IsSlot, StandsFor, IsTakenAmong, Completes, Admitted, SlotRead, filled, references_written}
 use Rattle.ts_container.proofs.FilledLemmas.{filled_same, filled_other, read_more, read_on}
 use Rattle.ts_container.proofs.CompleteLemmas.{one_calendar}
-use Rattle.ts_container.proofs.SettledLemmas.{StandsThere, stands_there, there_is, repeats, not_repeated, dangles, not_dangling, references_same, calendar_stands}
+use Rattle.ts_container.proofs.SettledLemmas.{StandsThere, stands_there, there_is, repeats, not_repeated, dangles, not_dangling, references_same}
 
 -- what is filled stays so with more
 some_more : (d e : Definitions) (broken more : List Broken) → ((kind : Kind) (slot : ℕ) → IsSome (def_at kind slot d) → IsSome (def_at kind slot e)) → ((slot : ℕ) → Any (λ b. b.slot ≡ slot) broken → Any (λ b. b.slot ≡ slot) more)

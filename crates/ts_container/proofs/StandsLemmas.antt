@@ -1,5 +1,5 @@
 -- What is written in a slot stands for a definition.
-use Rattle.std.proofs.Common.{◌≡◌, ℕ, ℤ, ◌<◌, IsTrue, true, Option, Some, None, List, [], ◌∷◌, refl, ap, sym, ◌∙◌, subst, lit<}
+use Rattle.std.proofs.Common.{◌≡◌, ℕ, ◌<◌, IsTrue, true, Some, None, [], ◌∷◌, refl, sym}
 use Rattle.ts_base.specs.Name.{is_name}
 use Rattle.ts_base.specs.Moment.{IsStamp}
 use Rattle.ts_base.specs.declared.unit.Unit.TheVariants.{Day}
@@ -7,7 +7,6 @@ use Rattle.ts_pattern.specs.declared.run.Run.{Run}
 use Rattle.ts_pattern.specs.Plan.{Plan}
 use Rattle.ts_pattern.specs.Runs.{is_pattern}
 use Rattle.ts_model.specs.declared.def.Def.TheVariants as defs
-use Rattle.ts_slots.specs.declared.calendar_slot.Part.{Part}
 use Rattle.ts_slots.specs.declared.calendar_slot.Part.TheVariants.{By, Own}
 use Rattle.ts_slots.specs.declared.calendar_slot.CalendarForm.{CalendarForm}
 use Rattle.ts_slots.specs.declared.slot.Written.TheVariants.{Form}

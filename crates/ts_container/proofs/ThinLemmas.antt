@@ -1,7 +1,7 @@
 -- Neighbours of an irregular series that fit one page, among the spans of all.
-use Rattle.std.proofs.Common.{◌≡◌, ℕ, zero, suc, ◌+◌, ◌-◌, ◌<◌, ◌≤◌, min, Option, Some, None, MatchOption, List, [], ◌∷◌, length, get_or, refl, sym, ap, subst, ◌∙◌, arith, inl, inr}
+use Rattle.std.proofs.Common.{◌≡◌, ℕ, ◌+◌, ◌-◌, ◌<◌, ◌≤◌, min, Option, Some, None, MatchOption, List, length, get_or, sym, ap, subst, ◌∙◌, arith, inl, inr}
 use Rattle.std.specs.List.{AllAdjacentBelow}
-use Rattle.std.proofs.lemmas.Bool.{cases_lt, cases_eq}
+use Rattle.std.proofs.lemmas.Bool.{cases_lt}
 use Rattle.ts_model.specs.Definitions.{Definitions}
 use Rattle.ts_volume.specs.FirstBad.{IsLeast}
 use Rattle.ts_container.specs.declared.span.Span.{Span}

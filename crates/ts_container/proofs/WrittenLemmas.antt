@@ -1,5 +1,5 @@
 -- Definition pages of slots say some definitions, whatever rules these break together.
-use Rattle.std.proofs.Common.{◌≡◌, ℕ, zero, suc, ◌<◌, ◌≤◌, IsTrue, Option, Some, None, IfSome, List, [], ◌∷◌, map, length, refl, sym, ap, subst, ◌∙◌, arith, inl, inr}
+use Rattle.std.proofs.Common.{◌≡◌, ℕ, zero, suc, ◌<◌, IsTrue, Option, Some, None, IfSome, List, [], ◌∷◌, map, length, refl, sym, ap, subst, ◌∙◌, arith, inl, inr}
 use Rattle.std.specs.Option.{option_map, option_and_then, unwrap_or}
 use Rattle.std.proofs.lemmas.Bool.{cases_lt}
 use Rattle.std.proofs.lemmas.List.{get_or_past}
@@ -15,7 +15,7 @@ use Rattle.ts_model.proofs.PartsLemmas.{back}
 use Rattle.ts_layout.specs.Slot.{calendar_bytes, slot_bytes, def_bytes, page_of_slot}
 use Rattle.ts_layout.specs.Limits.{IsDef, IsSlotOf, IsPatternDef}
 use Rattle.ts_layout.specs.Meaning.{bytes_of_slot}
-use Rattle.ts_layout.proofs.CallerLemmas.{at_slot-map, own, page_low, page_high, slot_filled}
+use Rattle.ts_layout.proofs.CallerLemmas.{at_slot-map, page_low, page_high}
 use Rattle.ts_container.specs.Reading.{AreWritten}
 use Rattle.ts_container.specs.Survey.{HoldAllSlots}
 

@@ -82,8 +82,8 @@ abbrev pub IsFinished : ℕ → Definitions → List Span → List ℕ → Surve
 IsFinished count d spans free s =
     (s.defs.definitions ≡ d) × AreKept d s.space s.free.items count
     × ((es : List ElementPage) → AreListed (count - first_element_page) d spans free es
-      → IsSurveyOf d s.space s.free.items (record { definitions = d; element_pages = es })
-          × IsSound (record { definitions = d; element_pages = es }))
+    → IsSurveyOf d s.space s.free.items (record { definitions = d; element_pages = es })
+        × IsSound (record { definitions = d; element_pages = es }))
 
 -- in the layout of each such pages this is the page that the first of the last steps with a bad page finds
 abbrev pub IsLateBad : ℕ → Definitions → List Span → List ℕ → ℕ → Type 0

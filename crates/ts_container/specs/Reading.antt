@@ -1,6 +1,6 @@
 -- What is found in slots and on the pages where they stand.
-use Rattle.std.specs.Prelude.{◌≡◌, ℕ, ◌+◌, ◌<◌, ◌≤◌, ◌⊎◌, Option, Some, None, IfSome, IsSome, Result, Ok, Err, List, []}
-use Rattle.std.specs.Prelude.{◌∷◌, length, drop, replicate, All, Any, AllPairs, ◌-◌, ◌++◌}
+use Rattle.std.specs.Prelude.{◌≡◌, ℕ, ◌+◌, ◌<◌, ◌≤◌, ◌⊎◌, Option, Some, None, IsSome, Result, Ok, Err, List, [], ◌∷◌}
+use Rattle.std.specs.Prelude.{length, drop, replicate, All, Any, AllPairs, ◌-◌, ◌++◌}
 use Rattle.ts_page.specs.Volume.{page_size}
 use Rattle.ts_model.specs.declared.kind.Kind.{Kind}
 use Rattle.ts_model.specs.declared.kind.Kind.TheVariants as kinds
@@ -199,7 +199,7 @@ PageRead format number page old new found.Good =
     IsPageOf format number page × IsReadTo format (rank_of_page (number + 1)) new.0 new.1
     × ((pages : ℕ → List ℕ) (s : Definitions) → pages number ≡ page → AreWritten format pages s
         → AreOfVolume (rank_of_page number) old.0 old.1 s
-      → AreOfVolume (rank_of_page (number + 1)) new.0 new.1 s)
+    → AreOfVolume (rank_of_page (number + 1)) new.0 new.1 s)
 PageRead format number page old new found.Unresolved =
     (pages : ℕ → List ℕ) (s : Definitions) → pages number ≡ page → AreWritten format pages s
         → AreOfVolume (rank_of_page number) old.0 old.1 s → IsLeast (IsUnresolved s) number

@@ -22,7 +22,9 @@ pub(crate) fn is_taken(defs: &Defs, broken: &[Broken], kind: Kind, name: &[u8]) 
 fn has_name(broken: &[Broken], name: &[u8]) -> bool
     ensures { IsTrue result ↔ Any (λ b. b.name ≡ name.now) broken.now }
 {
-    broken.iter().any(|calendar| calendar.name.as_slice() == name)
+    broken
+        .iter()
+        .any(|calendar| calendar.name.as_slice() == name)
 }
 
 // Whether one of these calendars stands in the slot.

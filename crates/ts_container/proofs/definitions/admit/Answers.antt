@@ -1,5 +1,4 @@
-use Rattle.std.proofs.Common.{◌≡◌, ℕ, List, Option, Some, None, Result, Ok, Err, IsSome, refl, sym, ap, subst, ◌∙◌, inl, inr}
-use Rattle.ts_model.specs.declared.def.Def.{Def}
+use Rattle.std.proofs.Common.{◌≡◌, ℕ, List, Option, Some, None, Ok, Err, IsSome, refl, sym, ap, subst, ◌∙◌, inl, inr}
 use Rattle.ts_model.specs.Definitions.{Definitions, name_of, slots, slot_of, with_slot}
 use Rattle.ts_slots.specs.Written.{name_written}
 use Rattle.ts_slots.proofs.WrittenLemmas.{name_same}

@@ -1,8 +1,7 @@
-use Rattle.std.proofs.Common.{Ok, Err, sym, ap, subst, ◌∙◌, ◌+◌, ◌≡◌, ℕ, IsTrue, arith, List}
+use Rattle.std.proofs.Common.{Ok, sym, subst, ◌∙◌, ◌≡◌, ℕ, arith}
 use Rattle.ts_layout.specs.Rank.{rank_of_page}
 use Rattle.ts_container.specs.declared.found.Found.{Found}
 use Rattle.ts_container.specs.declared.found.Found.TheVariants as found
-use Rattle.ts_container.specs.declared.fault.SurveyFault.TheVariants.{NotAStore}
 use Rattle.ts_container.specs.Reading.{IsReadTo, PageRead}
 use Rattle.ts_container.proofs.SurveyLemmas.{reads_none, reads_more, reads_ok, reads_refused, known_none, known_more, known_bad, known_all, none_read_to, unresolved_read, judged_read, err_is, KnownTo}
 use Rattle.ts_container.proofs.definitions.read_definitions.Goals as goal

@@ -1,4 +1,4 @@
-use Rattle.std.proofs.Common.{rules, ◌<◌, sym, subst, IsTrue}
+use Rattle.std.proofs.Common.{rules, subst, IsTrue}
 use Rattle.ts_base.specs.Moment.{IsStamp}
 use Rattle.ts_pattern.specs.Runs.{is_pattern}
 use Rattle.ts_container.proofs.StandsLemmas.{own_stands, by_stands}

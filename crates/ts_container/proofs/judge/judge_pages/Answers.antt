@@ -1,4 +1,4 @@
-use Rattle.std.proofs.Common.{◌≡◌, Ok, sym, subst, ◌∙◌, arith, inl, inr}
+use Rattle.std.proofs.Common.{Ok, sym, subst, ◌∙◌, arith, inl, inr}
 use Rattle.std.proofs.lemmas.Bool.{cases_eq}
 use Rattle.ts_volume.specs.FirstBad.{HoldsSlots}
 use Rattle.ts_container.proofs.SurveyLemmas.{reads_none, reads_more, is_true}
@@ -22,7 +22,7 @@ loop-number-preserved g c =
       undisturbed = g.met.P.Pages.«then» c.args.pages.now c.loop-number.pages c.read.new.pages c.loop-number.invariant.undisturbed c.in_ok-read.ensures.undisturbed;
       all = λ told n low below. elim (cases_eq n c.loop-number.number) [
         | inl this ↦ subst (HoldsSlots c.args.format u.page) (sym this)
-          (is_true c.in_ok-is_page_of.field-0 _ _ c.if-not-branch.false c.in_ok-is_page_of.ensures u.page (sym (got.read told ∙ c.loop-number.invariant.call.pages told c.loop-number.number)))
+            (is_true c.in_ok-is_page_of.field-0 _ _ c.if-not-branch.false c.in_ok-is_page_of.ensures u.page (sym (got.read told ∙ c.loop-number.invariant.call.pages told c.loop-number.number)))
         | inr other ↦ c.loop-number.invariant.all told n low (omega (arith, below, other))
       ];
     }

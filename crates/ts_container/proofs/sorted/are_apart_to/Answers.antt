@@ -1,4 +1,4 @@
-use Rattle.std.proofs.Common.{◌≡◌, ◌<◌, ◌≤◌, ◌+◌, ℕ, Some, None, get_or, length, sym, subst, arith}
+use Rattle.std.proofs.Common.{◌≡◌, ◌<◌, ◌≤◌, ◌+◌, ℕ, get_or, length, sym, subst, arith}
 use Rattle.ts_slots.proofs.ParseLemmas.{both_ways}
 use Rattle.ts_container.specs.declared.span.Span.{Span}
 use Rattle.ts_container.specs.Spans.{IsApart}
@@ -19,17 +19,17 @@ loop-i-preserved c =
     let inside : i < length spans = c.loop-i-test.true in
     elim c.if-spans-i.branch [
       | then-spans-i+in-Some+else-not-are_apart w ↦ subst (PassedTo c.args.limit (i + 1) spans) (sym w.before-is)
-        (passed_more c.args.limit i spans c.loop-i.before c.requires.order c.requires.ends inside (λ d. subst (λ (s : Span). s.page ≤ c.args.limit) (get_any spans i _ d inside) w.if-spans-i.true)
-        (λ m is d.
-        let same : w.in-Some.k ≡ m = (let first = w.in-Some.is in cc) in
-        let low = (c.loop-i.invariant.there m is).0 in
-        subst (λ (n : ℕ). IsApart (get_or spans n d) (get_or spans i d)) same
-        (apart_any spans w.in-Some.k i _ d (omega (arith, low, inside, same)) inside (w.are_apart.ensures.0 w.if-not-are_apart.false))) c.loop-i.invariant)
+          (passed_more c.args.limit i spans c.loop-i.before c.requires.order c.requires.ends inside (λ d. subst (λ (s : Span). s.page ≤ c.args.limit) (get_any spans i _ d inside) w.if-spans-i.true)
+          (λ m is d.
+          let same : w.in-Some.k ≡ m = (let first = w.in-Some.is in cc) in
+          let low = (c.loop-i.invariant.there m is).0 in
+          subst (λ (n : ℕ). IsApart (get_or spans n d) (get_or spans i d)) same
+          (apart_any spans w.in-Some.k i _ d (omega (arith, low, inside, same)) inside (w.are_apart.ensures.0 w.if-not-are_apart.false))) c.loop-i.invariant)
       | then-spans-i+in_default w ↦ subst (PassedTo c.args.limit (i + 1) spans) (sym w.before-is)
-        (passed_more c.args.limit i spans c.loop-i.before c.requires.order c.requires.ends inside (λ d. subst (λ (s : Span). s.page ≤ c.args.limit) (get_any spans i _ d inside) w.if-spans-i.true)
-        (λ m is d. absurd (let none = w.in_default.is in cc)) c.loop-i.invariant)
+          (passed_more c.args.limit i spans c.loop-i.before c.requires.order c.requires.ends inside (λ d. subst (λ (s : Span). s.page ≤ c.args.limit) (get_any spans i _ d inside) w.if-spans-i.true)
+          (λ m is d. absurd (let none = w.in_default.is in cc)) c.loop-i.invariant)
       | else-spans-i w ↦ subst (PassedTo c.args.limit (i + 1) spans) (sym w.before-is)
-        (passed_over c.args.limit i spans c.loop-i.before (λ d. subst (λ (s : Span). c.args.limit < s.page) (get_any spans i _ d inside) w.if-spans-i.false) c.loop-i.invariant)
+          (passed_over c.args.limit i spans c.loop-i.before (λ d. subst (λ (s : Span). c.args.limit < s.page) (get_any spans i _ d inside) w.if-spans-i.false) c.loop-i.invariant)
     ]
 
 pub returns : goal.returns

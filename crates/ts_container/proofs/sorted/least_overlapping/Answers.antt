@@ -1,5 +1,5 @@
 use Rattle.std.proofs.Common.{arith}
-use Rattle.ts_container.proofs.ClashLemmas.{least_clash, none_low, low_below}
+use Rattle.ts_container.proofs.ClashLemmas.{least_clash}
 use Rattle.ts_container.proofs.sorted.least_overlapping.Goals as goal
 
 pub returns : goal.returns

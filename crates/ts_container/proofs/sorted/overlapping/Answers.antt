@@ -1,4 +1,4 @@
-use Rattle.std.proofs.Common.{◌-◌, ◌≤◌, arith}
+use Rattle.std.proofs.Common.{◌-◌, arith}
 use Rattle.ts_slots.proofs.ParseLemmas.{both_ways}
 use Rattle.ts_container.proofs.ClashLemmas.{clash_at}
 use Rattle.ts_container.proofs.sorted.overlapping.Goals as goal

@@ -1,5 +1,5 @@
 use Rattle.std.proofs.Common.{◌+◌, sym, subst, arith}
-use Rattle.ts_container.proofs.ThinLemmas.{ThinTo, thin_none, thin_step, thin_all}
+use Rattle.ts_container.proofs.ThinLemmas.{ThinTo, thin_step, thin_all}
 use Rattle.ts_container.proofs.sorted.sparse.Goals as goal
 
 pub loop-i-preserved : goal.loop-i-preserved

@@ -1,5 +1,5 @@
 use Rattle.std.specs.Prelude.{All}
-use Rattle.std.proofs.Common.{◌-◌, List, sym, subst, refl}
+use Rattle.std.proofs.Common.{List, sym, subst, refl}
 use Rattle.ts_container.specs.declared.span.Span.{Span}
 use Rattle.ts_container.specs.Spans.{IsSpan, AreDifferent, AreApart, AreDense, IsClash, IsThin, Lists}
 use Rattle.ts_volume.specs.FirstBad.{IsLeast}

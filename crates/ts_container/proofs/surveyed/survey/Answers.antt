@@ -1,7 +1,7 @@
 use Rattle.std.proofs.Common.{◌-◌, Ok}
 use Rattle.std.proofs.lemmas.Result.{IfOk-weaker}
 use Rattle.ts_container.proofs.SurveyLemmas.{reads_more, reads_ok, err_is}
-use Rattle.ts_container.proofs.ComposedLemmas.{all_before, all_listed, finished_found, late_refused, elements_refused, refused_all, finish_reads, bad_before}
+use Rattle.ts_container.proofs.ComposedLemmas.{all_before, all_listed, finished_found, elements_refused, refused_all, finish_reads, bad_before}
 use Rattle.ts_container.proofs.surveyed.survey.Goals as goal
 
 pub finish-requires-clause-read : goal.finish-requires-clause-read
