@@ -83,10 +83,10 @@ IsFinished count d spans free s =
     (s.defs.definitions ≡ d) × AreKept d s.space s.free.items count
     × ((es : List ElementPage) → AreListed (count - first_element_page) d spans free es
     → IsSurveyOf d s.space s.free.items (record { definitions = d; element_pages = es })
-        × IsSound (record { definitions = d; element_pages = es }))
+    × IsSound (record { definitions = d; element_pages = es }))
 
 -- in the layout of each such pages this is the page that the first of the last steps with a bad page finds
 abbrev pub IsLateBad : ℕ → Definitions → List Span → List ℕ → ℕ → Type 0
 IsLateBad count d spans free page =
     (es : List ElementPage) → AreListed (count - first_element_page) d spans free es
-        → IsFirstLate (record { definitions = d; element_pages = es }) page
+    → IsFirstLate (record { definitions = d; element_pages = es }) page

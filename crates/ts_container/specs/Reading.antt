@@ -172,11 +172,11 @@ abbrev pub SlotRead : ℕ → Kind → ℕ → List ℕ → Definitions × List 
 SlotRead format kind slot bytes old new found.Good =
     IsSlot format kind bytes × IsReadTo format (rank kind slot + 1) new.0 new.1
     × ((s : Definitions) → IsWrittenAt format kind slot bytes s → AreOfVolume (rank kind slot) old.0 old.1 s
-        → AreOfVolume (rank kind slot + 1) new.0 new.1 s)
+    → AreOfVolume (rank kind slot + 1) new.0 new.1 s)
 SlotRead format kind slot bytes old new found.Unresolved =
     IsSlot format kind bytes
     × ((s : Definitions) → IsWrittenAt format kind slot bytes s → AreOfVolume (rank kind slot) old.0 old.1 s
-        → Repeats kind slot s ⊎ Dangles kind slot s)
+    → Repeats kind slot s ⊎ Dangles kind slot s)
 SlotRead format kind slot bytes old new found.Bad = IsSlot format kind bytes → ⊥
 
 -- zeros behind the slots of a page
@@ -198,9 +198,9 @@ abbrev pub PageRead : ℕ → ℕ → List ℕ → Definitions × List Broken �
 PageRead format number page old new found.Good =
     IsPageOf format number page × IsReadTo format (rank_of_page (number + 1)) new.0 new.1
     × ((pages : ℕ → List ℕ) (s : Definitions) → pages number ≡ page → AreWritten format pages s
-        → AreOfVolume (rank_of_page number) old.0 old.1 s
+    → AreOfVolume (rank_of_page number) old.0 old.1 s
     → AreOfVolume (rank_of_page (number + 1)) new.0 new.1 s)
 PageRead format number page old new found.Unresolved =
     (pages : ℕ → List ℕ) (s : Definitions) → pages number ≡ page → AreWritten format pages s
-        → AreOfVolume (rank_of_page number) old.0 old.1 s → IsLeast (IsUnresolved s) number
+    → AreOfVolume (rank_of_page number) old.0 old.1 s → IsLeast (IsUnresolved s) number
 PageRead format number page old new found.Bad = IsNoPageOf format number page

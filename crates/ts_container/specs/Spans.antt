@@ -26,8 +26,14 @@ end_of (Regular grid) sheet = sheet.0
 
 -- the span of a page with a sheet of the series in a slot
 abbrev pub span_of : Shape → ℕ → ℕ → Sheet → Span
-span_of shape slot number sheet = record { slot = slot; count = length sheet.1; page = number; first = sheet.0; last =
-    end_of shape sheet }
+span_of shape slot number sheet = record {
+  slot = slot;
+  count = length sheet.1;
+  page = number;
+  first = sheet.0;
+  last =
+      end_of shape sheet;
+}
 
 -- a page has a sheet of the series in a slot, such as the format of the volume allows
 pub record HasSheet (shape : Shape) (slot : ℕ) (columns : List Column) (format : ℕ) (page : List ℕ)

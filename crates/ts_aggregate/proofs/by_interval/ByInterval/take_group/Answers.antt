@@ -24,9 +24,9 @@ fold-requires-clause-whole g c =
     let count = c.cells_before-count.result in (
       count,
       ap length c.split_at-piece.ensures.front
-      ∙ length-take-le (count * r.size) r.bytes.now
+          ∙ length-take-le (count * r.size) r.bytes.now
           (some_fit count r.left r.size (length r.bytes.now) c.cells_before-count.ensures.high c.requires.whole.whole)
-      ∙ ap (λ (n : ℕ). count * n) c.requires.whole.size,
+          ∙ ap (λ (n : ℕ). count * n) c.requires.whole.size,
     )
 
 pub returns-then-is_shown-clause-took : goal.returns-then-is_shown-clause-took
