@@ -83,7 +83,7 @@ fn sum_long(cells: Cells<'_>) -> (u64, i128)
     ensures value { IsTrue (list_all is_small (map long_number (found cells.entry)))
         → length (found cells.entry) ≤ 2 ^ 32
         → (result.0 ≡ length (found cells.entry))
-            × (result.1 ≡ fold ◌+ℤ◌ (pos 0) (map long_number (found cells.entry))) }
+        × (result.1 ≡ fold ◌+ℤ◌ (pos 0) (map long_number (found cells.entry))) }
 {
     let mut rest = cells;
     let mut count = 0;

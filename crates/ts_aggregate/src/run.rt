@@ -40,7 +40,12 @@ pub(crate) fn cells_before(
     };
     match stamps {
         Stamps::InCells => stamped_before(cells, end),
-        Stamps::OnGrid(grid, first) => offsets_before(grid, *first + number as u64, cells.left, end),
+        Stamps::OnGrid(grid, first) => offsets_before(
+            grid,
+            *first + number as u64,
+            cells.left,
+            end,
+        ),
     }
 }
 
