@@ -327,14 +327,14 @@ taking_all wanted start end fold count given e (f ∷ more) are before waits =
           ∙ ap (λ (l : List Element). open_group wanted start given ++ l) (own_both start (e ∷ []) (f ∷ more));
     }
 
--- rows that are hidden leave a fold as it is
+-- of some rows those that aren't hidden: the others leave a fold as it is
+abbrev shown : List Row → List Row
+shown rows = filter (λ r. not r.hidden) rows
+
 shown_rows : (es : List Element) → filter (λ r. not r.hidden) (rows_of es) ≡ filter (λ r. not r.hidden) (rows_of (seen es))
 shown_rows [] = refl
 shown_rows (e ∷ es) = by e.1.hidden refl (shown_rows es)
   where
-    abbrev shown : List Row → List Row
-    shown rows = filter (λ r. not r.hidden) rows
-
     by : (b : Bool) → e.1.hidden ≡ b → shown (rows_of es) ≡ shown (rows_of (seen es)) → shown (rows_of (e ∷ es)) ≡ shown (rows_of (seen (e ∷ es)))
     by true is rest =
         ap (λ k. cond (not k) (e.1 ∷ shown (rows_of es)) (shown (rows_of es))) is ∙ rest

@@ -1,9 +1,9 @@
-use Rattle.std.proofs.Common.{◌∙◌, arith}
+use Rattle.std.proofs.Common.{◌+◌, ◌∙◌, arith}
 use Rattle.ts_aggregate.proofs.PieceLemmas.{start_before}
 use Rattle.ts_aggregate.proofs.run.offsets_before.Goals as goal
 
-pub returns-then-behind-le-clause-before : goal.returns-then-behind-le-clause-before
-returns-then-behind-le-clause-before c = λ k s laid some low at. absurd (omega (arith, some, low))
+pub returns-then-behind-offset-clause-before : goal.returns-then-behind-offset-clause-before
+returns-then-behind-offset-clause-before c = λ k s laid some low at. absurd (omega (arith, some, low))
 
 pub returns-clause-before : goal.returns-clause-before
 returns-clause-before c = λ k s laid some low at.

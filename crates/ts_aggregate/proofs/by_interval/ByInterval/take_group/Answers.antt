@@ -1,6 +1,7 @@
-use Rattle.std.proofs.Common.{◌≡◌, ◌+◌, ◌*◌, ◌<◌, ◌≤◌, ℕ, List, length, take, sym, ap, subst, ◌∙◌, arith, length-take-le}
+use Rattle.std.proofs.Common.{◌≡◌, ◌+◌, ◌*◌, ◌<◌, ◌≤◌, ℕ, List, length, map, take, sym, ap, subst, ◌∙◌, arith, length-take-le}
 use Rattle.ts_row.specs.declared.kind.Column.{Column}
 use Rattle.ts_row.specs.RowType.{width_of}
+use Rattle.ts_entry.specs.Stamps.{HasStamp}
 use Rattle.ts_entry.specs.Rows.{AreCellsWith, IsCellWith, row_if_any}
 use Rattle.ts_aggregate.specs.Groups.{grouping, is_seen}
 use Rattle.ts_aggregate.proofs.CellsLemmas.{one_fits}
@@ -13,8 +14,8 @@ split_at-requires g c =
     let r = c.args.cells in
     one_fits r.left r.size (length r.bytes.now) c.requires.some c.requires.whole.whole
 
-pub split_at-piece-requires : goal.split_at-piece-requires
-split_at-piece-requires g c =
+pub split_at-requires-2 : goal.split_at-requires-2
+split_at-requires-2 g c =
     let r = c.args.cells in
     some_fit c.cells_before-count.result r.left r.size (length r.bytes.now) c.cells_before-count.ensures.high c.requires.whole.whole
 
@@ -23,20 +24,20 @@ fold-requires-clause-whole g c =
     let r = c.args.cells in
     let count = c.cells_before-count.result in (
       count,
-      ap length c.split_at-piece.ensures.front
+      ap length c.split_at-2.ensures.front
           ∙ length-take-le (count * r.size) r.bytes.now
           (some_fit count r.left r.size (length r.bytes.now) c.cells_before-count.ensures.high c.requires.whole.whole)
           ∙ ap (λ (n : ℕ). count * n) c.requires.whole.size,
     )
 
-pub returns-then-is_shown-clause-took : goal.returns-then-is_shown-clause-took
-returns-then-is_shown-clause-took g c = λ found are stamped.
+pub returns-then-not-is_shown-clause-took : goal.returns-then-not-is_shown-clause-took
+returns-then-not-is_shown-clause-took g c = λ found are stamped.
     let v = c.args.self.now in
     let r = c.args.cells in
     none_taken g.V.ElementVisitor.took g.met.V.ElementVisitor.none c.args.kind.now.columns r.front r.size r.bytes.now found
     (grouping v.wanted.now v.span v.folding.now v.count) v.out.now c.requires.whole.size
-    (λ f is. sym (c.is_shown.ensures f (subst (λ (l : List ℕ). IsCellWith c.args.kind.now.columns r.front l f) (sym c.split_at-cell.ensures.front) is))
-    ∙ c.if-is_shown.true)
+    (λ f is. sym (c.is_shown.ensures f (subst (λ (l : List ℕ). IsCellWith c.args.kind.now.columns r.front l f) (sym c.split_at.ensures.front) is))
+    ∙ c.if-not-is_shown.true)
     are
 
 pub returns-in_default-clause-took : goal.returns-in_default-clause-took
@@ -45,7 +46,7 @@ returns-in_default-clause-took g c = λ found are stamped.
     let r = c.args.cells in
     none_stamped g.V.ElementVisitor.took g.met.V.ElementVisitor.none c.args.kind.now.columns r.front r.size c.args.number c.args.stamps.now
     r.bytes.now found (grouping v.wanted.now v.span v.folding.now v.count) v.out.now c.stamp.result c.in_default.is
-    (λ s has. c.stamp.ensures s has) stamped
+    (λ s has. c.stamp.ensures s (subst (λ (l : List ℕ). HasStamp c.args.stamps.now c.args.number l s) (sym c.split_at.ensures.front) has)) stamped
 
 pub returns-clause-took : goal.returns-clause-took
 returns-clause-took g c = λ found are stamped.
@@ -61,12 +62,12 @@ returns-clause-took g c = λ found are stamped.
     (grouping w.wanted.now w.span w.folding.now w.count) v.out.now u.out.now w.out.now c.in-Some.stamp c.stamp.result
     (omega (arith, one_fits r.left r.size (length r.bytes.now) c.requires.some c.requires.whole.whole, c.requires.whole.size, c.requires.whole.some))
     c.requires.whole.size
-    (λ f is. sym (c.is_shown.ensures f (subst (λ (l : List ℕ). IsCellWith columns r.front l f) (sym c.split_at-cell.ensures.front) is))
-    ∙ c.if-is_shown.false)
-    (λ s has. c.stamp.ensures s has) c.in-Some.is c.in_ok-reach.ensures.ready c.in_ok-reach.ensures.here
+    (λ f is. sym (c.is_shown.ensures f (subst (λ (l : List ℕ). IsCellWith columns r.front l f) (sym c.split_at.ensures.front) is))
+    ∙ c.if-not-is_shown.false)
+    (λ s has. c.stamp.ensures s (subst (λ (l : List ℕ). HasStamp c.args.stamps.now c.args.number l s) (sym c.split_at.ensures.front) has)) c.in-Some.is c.in_ok-reach.ensures.ready c.in_ok-reach.ensures.here
     on.wanted on.span on.count on.out count found c.cells_before-count.ensures.low
     (λ first. c.cells_before-count.ensures.before found stamped first)
     (on.takes (map row_if_any (take count found))
-    (subst (λ (l : List ℕ). AreCellsWith columns r.front l (map row_if_any (take count found))) (sym c.split_at-piece.ensures.front)
+    (subst (λ (l : List ℕ). AreCellsWith columns r.front l (map row_if_any (take count found))) (sym c.split_at-2.ensures.front)
     (cells_front columns r.front count (count * r.size) r.bytes.now found (ap (λ (n : ℕ). count * n) c.requires.whole.size) are)))
     are stamped

@@ -52,12 +52,16 @@ take_group-requires-clause-whole g c =
     let n : ℕ = c.requires.whole.0 in
     let len : ℕ = length c.args.cells.now in
     let size : ℕ = c.args.front + c.width.result in
+    let is = c.is_empty.ensures in
+    let test = c.if-is_empty.false in
+    let some : 0 < len = grind (arith, nat_tests) in
+    let whole : len ≡ n * size = c.requires.whole.1 ∙ ap (λ (w : ℕ). n * (c.args.front + w)) (sym c.width.ensures.value) in
     record {
       some = c.requires.front;
       size = ap (λ (w : ℕ). c.args.front + w) c.width.ensures.value;
       whole = c.loop-left.invariant.whole;
       narrow = omega (arith, c.width.ensures.value, c.width.ensures.bound);
-      small = omega (arith, c.requires.few, c.width.ensures.bound);
+      small = omega (arith, one_there n size len some whole, c.requires.few);
     }
 
 pub loop-left-preserved : goal.loop-left-preserved
@@ -65,7 +69,7 @@ loop-left-preserved g c =
     let i = c.loop-left.invariant in
     let v = c.args.self.now in
     let w = c.loop-left.self in
-    let u = c.take_group-count.new.self in
+    let u = c.take_group.new.self in
     let columns : List Column = c.args.kind.now.columns in
     let size : ℕ = c.args.front + c.width.result in
     let count = c.in_ok-count.count in
