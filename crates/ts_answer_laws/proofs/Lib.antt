@@ -15,7 +15,7 @@ mod OriginLemmas
 mod PartLemmas
 mod PlacedLemmas
 mod RangeLemmas
-mod ReadingLemmas
+pub mod ReadingLemmas
 mod RowLemmas
 mod SeenLemmas
 mod ShapeLemmas

@@ -1,6 +1,6 @@
 -- What a command doesn't write stays in the catalogue.
 use Rattle.std.specs.Prelude.{Contains}
-use Rattle.std.proofs.Common.{◌≡◌, ℕ, Bool, true, false, cond, Option, Some, None, Ok, Err, List, [], ◌∷◌, refl, sym, ◌∙◌, arith}
+use Rattle.std.proofs.Common.{◌≡◌, ℕ, Bool, true, false, cond, Option, Some, None, Ok, Err, List, [], refl, sym, ◌∙◌, arith}
 use Rattle.std.specs.FinMap.{get, insert, remove, get-insert, get-remove}
 use Rattle.std.specs.Ordering.{eq_by_cmp}
 use Rattle.ts_command.specs.declared.command.Command.{Command}
@@ -11,7 +11,9 @@ use Rattle.ts_model.specs.Catalogue.{name_cmp, Named, Catalogue}
 use Rattle.ts_model.proofs.OrderLemmas.{total, ties-same}
 use Rattle.ts_model.specs.Kinds.{In, named}
 use Rattle.ts_answer.specs.Answer.{Answered, Tried, ◌>>=◌, settled, outcome, answer, carried_out, create_row_type, drop_definition, create_pattern, turn_pattern, join_patterns, show_pattern, create_calendar, join_calendars, show_calendar, count_starts, find_start, list_starts, create_container, container_usage, create_irregular, create_regular, drop_series, list_series, put_element, put_no_dups, insert_element, update_element, delete_element, delete_range, mark_element, get_element, get_last_element, count_elements, get_first_element, get_nth_element, clip_series, count_clip, clip_counted, join_series, lag_series, aggregate_by, aggregate_range, aggregate_all, running_values, apply_exprs}
-use Rattle.ts_answer_laws.specs.Objects.{Object, objects, StaysBut}
+use Rattle.ts_multi.specs.declared.object.Object.{Object}
+use Rattle.ts_multi.specs.Touched.{one, objects}
+use Rattle.ts_answer_laws.specs.Objects.{StaysBut}
 
 -- a map with another value under one name, or none
 apart : {X : Type 0} (b : Bool) (q name : List ℕ) (v m : Option X) → (b ≡ true → ⊥) → cond b v m ≡ m
@@ -25,8 +27,8 @@ pub removed : {X : Type 0} (m : Named X) (name q : List ℕ) → (q ≡ name →
 removed {X} m name q other = get-remove total m name q ∙ apart (eq_by_cmp name_cmp q name) q name (let o : Option X = None in o) (get m q) (λ same. other (ties-same q name same))
 
 -- another object than the one that is written
-other_than : (kind : Kind) (name : List ℕ) (object : Object) → ¬ Contains ((kind, name) ∷ []) object → object.0 ≡ kind → object.1 ≡ name → ⊥
-other_than kind name object none same also = none (0, omega arith, λ i. (sym same i, sym also i))
+other_than : (kind : Kind) (name : List ℕ) (object : Object) → ¬ Contains (one kind name) object → object.kind ≡ kind → object.name ≡ name → ⊥
+other_than kind name object none same also = none (0, omega arith, λ i. record { kind = sym same i; name = sym also i })
 
 module _ (cat : Catalogue) where
   pub stays_whole : (wrote : List Object) → StaysBut wrote cat cat
@@ -56,20 +58,20 @@ module _ (cat : Catalogue) where
   others_stay kinds.Series kinds.Series name q rows same other = same q (other refl)
   others_stay kinds.Series k name q rows same other = refl
 
-  stays_with : (kind : Kind) (name : List ℕ) (rows : Named (In kind)) → SameBut kind name rows → (with_rows kind rows).format ≡ cat.format → (with_rows kind rows).pages ≡ cat.pages → StaysBut ((kind, name) ∷ []) cat (with_rows kind rows)
-  stays_with kind name rows same format pages = record { format = format; pages = pages; others = λ object none. others_stay kind object.0 name object.1 rows same (other_than kind name object none) }
+  stays_with : (kind : Kind) (name : List ℕ) (rows : Named (In kind)) → SameBut kind name rows → (with_rows kind rows).format ≡ cat.format → (with_rows kind rows).pages ≡ cat.pages → StaysBut (one kind name) cat (with_rows kind rows)
+  stays_with kind name rows same format pages = record { format = format; pages = pages; others = λ object none. others_stay kind object.kind name object.name rows same (other_than kind name object none) }
 
-  written : (kind : Kind) (name : List ℕ) (rows : Named (In kind)) → SameBut kind name rows → StaysBut ((kind, name) ∷ []) cat (with_rows kind rows)
+  written : (kind : Kind) (name : List ℕ) (rows : Named (In kind)) → SameBut kind name rows → StaysBut (one kind name) cat (with_rows kind rows)
   written kinds.RowType name rows same = stays_with kinds.RowType name rows same refl refl
   written kinds.Pattern name rows same = stays_with kinds.Pattern name rows same refl refl
   written kinds.Calendar name rows same = stays_with kinds.Calendar name rows same refl refl
   written kinds.Container name rows same = stays_with kinds.Container name rows same refl refl
   written kinds.Series name rows same = stays_with kinds.Series name rows same refl refl
 
-  made : (kind : Kind) (name : List ℕ) (value : In kind) → StaysBut ((kind, name) ∷ []) cat (with_rows kind (insert (named kind cat) name value))
+  made : (kind : Kind) (name : List ℕ) (value : In kind) → StaysBut (one kind name) cat (with_rows kind (insert (named kind cat) name value))
   made kind name value = written kind name (insert (named kind cat) name value) (λ q other. inserted (named kind cat) name q value other)
 
-  dropped : (kind : Kind) (name : List ℕ) → StaysBut ((kind, name) ∷ []) cat (with_rows kind (remove (named kind cat) name))
+  dropped : (kind : Kind) (name : List ℕ) → StaysBut (one kind name) cat (with_rows kind (remove (named kind cat) name))
   dropped kind name = written kind name (remove (named kind cat) name) (λ q other. removed (named kind cat) name q other)
 
   -- what is tried stays but for these

@@ -23,7 +23,8 @@ use Rattle.ts_answer.specs.CarriedOut.{Grows}
 use Rattle.ts_command.specs.Writing.{is_writing}
 use Rattle.ts_answer.specs.Reply.{refusal_line, count_line, counts_line, number_line, pattern_lines, calendar_lines}
 use Rattle.ts_answer.specs.Reply.{stamps_text, series_text}
-use Rattle.ts_answer_laws.specs.Objects.{objects, StaysBut}
+use Rattle.ts_multi.specs.Touched.{objects}
+use Rattle.ts_answer_laws.specs.Objects.{StaysBut}
 
 -- a request that is refused is answered by the line of its refusal, and changes nothing
 abbrev pub RefusalsChangeNothing : Type 0

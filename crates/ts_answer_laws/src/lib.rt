@@ -1,11 +1,11 @@
-//! What follows of the answers of a catalogue, in the words of one who asks: laws of its commands (`specs/Laws`,
-//! with the objects that each command writes in `specs/Objects`), of series and their edits (`specs/SeriesLaws`
-//! over `specs/Edited`), of what is read of them (`specs/ReadingLaws`), of what is folded (`specs/AggregateLaws`)
-//! and of transactions (`specs/TransactionLaws`). Each law is the contract of a function without a body. They
-//! stand apart, so that the crates which carry commands out don't wait for them. Stands on ts_answer for the
-//! answers, on ts_combine, ts_entry, ts_chain and ts_irregular for lists of elements, on ts_offset and
-//! ts_calendar for grids. Read `laws.rt`, `reading_laws.rt`, `aggregate_laws.rt`, then `transaction_laws.rt`,
-//! each beside its specs.
+//! What follows of the answers of a catalogue, in the words of one who asks: laws of its commands (`specs/Laws`, and
+//! `specs/Objects` over the objects that each command writes), of series and their edits (`specs/SeriesLaws` over
+//! `specs/Edited`), of what is read of them (`specs/ReadingLaws`), of what is folded (`specs/AggregateLaws`) and of
+//! transactions (`specs/TransactionLaws`). Each law is the contract of a function without a body. They stand apart, so
+//! that the crates which carry commands out don't wait for them. Stands on ts_answer for the answers, on ts_multi for
+//! the objects that commands write, on ts_combine, ts_entry, ts_chain and ts_irregular for lists of elements, on
+//! ts_offset and ts_calendar for grids. Read `laws.rt`, `reading_laws.rt`, `aggregate_laws.rt`, then
+//! `transaction_laws.rt`, each beside its specs.
 #![tactic(auto)]
 
 mod aggregate_laws;

@@ -1,0 +1,5 @@
+pub mod Laws
+pub mod LogOf
+pub mod Machine
+pub mod Steps
+pub mod Turns

@@ -1,0 +1,2 @@
+pub mod Catalogues
+pub mod Laws
