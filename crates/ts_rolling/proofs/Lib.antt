@@ -1,0 +1,4 @@
+pub mod DigitLemmas
+pub mod KeyLemmas
+pub mod PlanLemmas
+pub mod NumberedLemmas

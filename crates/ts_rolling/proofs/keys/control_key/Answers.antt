@@ -1,0 +1,7 @@
+use Rattle.std.proofs.Common.{rules}
+use Rattle.ts_rolling.specs.Keys.{control_key}
+use Rattle.ts_rolling.proofs.keys.control_key.Goals as goal
+
+pub returns : goal.returns
+unfolding control_key
+returns c = c.numbered_key.ensures

@@ -1,0 +1,9 @@
+pub mod OffsetLemmas
+pub mod NumberLemmas
+pub mod PartLemmas
+pub mod JoinLemmas
+pub mod CameLemmas
+pub mod SetLemmas
+pub mod RemovedLemmas
+pub mod StepLemmas
+pub mod RunLemmas
