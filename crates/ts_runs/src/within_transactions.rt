@@ -14,7 +14,7 @@ const SERIES: &[u8] = b"CreateRowType(rd, t datetime, v integer);TSContainerCrea
     TSCreateIrr('x', c1);TSCreateIrr('y', c1);InsElem('x','2011-01-02 00:00:00',0);";
 
 /// Four elements, two in each series, as one commit, and what is said to each statement.
-const FOUR: [(&[u8], &[u8]); 6] = [
+const FOUR: &[(&[u8], &[u8])] = &[
     (b"Begin;", b"ok\n"),
     (
         b"InsElem('x','2011-01-03 00:00:00',1);",
@@ -103,8 +103,11 @@ fn left_by(rt: &(impl Threads + Sync), alloc: Global, site: &mut MemorySite) -> 
     // The reading of the bytes is the last call, which leaves what was pending.
     let last = site.calls().saturating_sub(1);
     for pick in [Pick::Old, Pick::New, Pick::Half] {
-        if last < site.calls() && held_in(rt, alloc, site.image(last, pick)?)? != held {
-            return Ok(Held::Other);
+        if last < site.calls() {
+            let image = site.image(last, pick)?;
+            if held_in(rt, alloc, image)? != held {
+                return Ok(Held::Other);
+            }
         }
     }
     Ok(held)
@@ -151,8 +154,11 @@ fn leaves_either(
     }
     let last = site.calls().saturating_sub(1);
     for pick in PICKS {
-        if last < site.calls() && held_in(rt, alloc, site.image(last, pick)?)? == Held::Other {
-            return Ok(false);
+        if last < site.calls() {
+            let image = site.image(last, pick)?;
+            if held_in(rt, alloc, image)? == Held::Other {
+                return Ok(false);
+            }
         }
     }
     Ok(true)
