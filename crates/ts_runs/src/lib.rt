@@ -20,3 +20,5 @@ mod statuses;
 mod stops;
 #[cfg(test)]
 mod transactions;
+#[cfg(test)]
+mod within_transactions;
