@@ -27,12 +27,12 @@ use Rattle.ts_aggregate.specs.Column.{has_value, bytes_of, found_in, read_value,
 use Rattle.ts_aggregate.proofs.CellsLemmas.{seen, unseen}
 
 -- the value of the first column, and those of the others
-record AreParts (c : Column) (cs : List Column) (cell rest : List ℕ) (values : Values) : Type 0 where
-  first : Value
-  others : Values
-  first_in : value_in c.kind cell ≡ Some first
-  others_in : values_in cs rest ≡ Some others
-  are : values ≡ first ∷ others
+pub record AreParts (c : Column) (cs : List Column) (cell rest : List ℕ) (values : Values) : Type 0 where
+  pub first : Value
+  pub others : Values
+  pub first_in : value_in c.kind cell ≡ Some first
+  pub others_in : values_in cs rest ≡ Some others
+  pub are : values ≡ first ∷ others
 
 both_there : (c : Column) (cs : List Column) (cell rest : List ℕ) (o : Option Value) (p : Option Values) (values : Values)
     → value_in c.kind cell ≡ o → values_in cs rest ≡ p
@@ -43,7 +43,7 @@ both_there c cs cell rest (Some v) (Some vs) values first others is =
     record { first = v; others = vs; first_in = first; others_in = others; are = cc }
 
 -- values of some columns have such parts
-cut : (c : Column) (cs : List Column) (bytes : List ℕ) (values : Values) → values_in (c ∷ cs) bytes ≡ Some values
+pub cut : (c : Column) (cs : List Column) (bytes : List ℕ) (values : Values) → values_in (c ∷ cs) bytes ≡ Some values
     → AreParts c cs (take (column_width c.kind) bytes) (drop (column_width c.kind) bytes) values
 cut c cs bytes values is =
     elim (nat_le (column_width c.kind) (length bytes)) as
@@ -74,10 +74,10 @@ value_there (c ∷ cs) (suc k) bytes values d is within =
     ∙ ap (λ (l : Values). Some (value_at (suc k) l)) (sym parts.are)
 
 -- a value that isn't NULL is what its bytes are read as
-record IsFilled (kind : ColumnKind) (bytes : List ℕ) (v : Value) : Type 0 where
-  value : v ≡ read_value kind bytes
-  some : is_null v ≡ false
-  small : is_small (number_in kind bytes) ≡ true
+pub record IsFilled (kind : ColumnKind) (bytes : List ℕ) (v : Value) : Type 0 where
+  pub value : v ≡ read_value kind bytes
+  pub some : is_null v ≡ false
+  pub small : is_small (number_in kind bytes) ≡ true
 
 held : (kind : ColumnKind) (z : ℤ) (v : Value) → (if holds_size kind (unsigned_abs z) then Some (Number z) else None) ≡ Some v
     → (v ≡ Number z) × (holds_size kind (unsigned_abs z) ≡ true)
@@ -120,19 +120,19 @@ filled (Decimal digits scale) bytes v good is =
 filled (VarChar most) bytes v good is = filled_text most bytes v is
 
 -- what the bytes of a column tell: NULL, or a value
-record IsNone (bytes : List ℕ) (v : Value) : Type 0 where
-  flag : (get_or bytes 0 0 == 1) ≡ false
-  none : v ≡ Null
+pub record IsNone (bytes : List ℕ) (v : Value) : Type 0 where
+  pub flag : (get_or bytes 0 0 == 1) ≡ false
+  pub none : v ≡ Null
 
-record IsSome (kind : ColumnKind) (bytes : List ℕ) (v : Value) : Type 0 where
-  flag : (get_or bytes 0 0 == 1) ≡ true
-  is : IsFilled kind (drop 1 bytes) v
+pub record IsSome (kind : ColumnKind) (bytes : List ℕ) (v : Value) : Type 0 where
+  pub flag : (get_or bytes 0 0 == 1) ≡ true
+  pub is : IsFilled kind (drop 1 bytes) v
 
 if_some : {A : Type 0} (b : Bool) (x y : A) → (if b then Some x else None) ≡ Some y → y ≡ x
 if_some true x y is = cc
 if_some false x y is = absurd (cc)
 
-told : (kind : ColumnKind) (bytes : List ℕ) (v : Value) → is_kind kind ≡ true → value_in kind bytes ≡ Some v → IsNone bytes v
+pub told : (kind : ColumnKind) (bytes : List ℕ) (v : Value) → is_kind kind ≡ true → value_in kind bytes ≡ Some v → IsNone bytes v
     ⊎ IsSome kind bytes v
 told kind [] v good is = absurd (cc)
 told kind (flag ∷ rest) v good is = elim (cases_Bool (flag == 0)) [
@@ -207,7 +207,7 @@ mark_of cs front cell row some wide fit is =
     mark_told cs (drop front cell) (get_or cell front 0) (drop (front + 1) cell) some (drop_more cell front 0 within) row fit is
 
 -- of a row that isn't hidden they are those of its values
-values_seen : (cs : List Column) (bytes : List ℕ) (row : Row) → list_all (λ c. is_kind c.kind) cs ≡ true → fits cs row ≡ true
+pub values_seen : (cs : List Column) (bytes : List ℕ) (row : Row) → list_all (λ c. is_kind c.kind) cs ≡ true → fits cs row ≡ true
     → row.hidden ≡ false → row_bytes cs row ≡ bytes
     → values_in cs bytes ≡ Some row.values
 values_seen cs bytes row kinds fit visible is =

@@ -26,5 +26,6 @@ mod wanted;
 pub use all_series::aggregate_all;
 pub use folding::Folding;
 pub use groups::aggregate_by;
+pub use numbers::number;
 pub use range::aggregate_range;
 pub use series_pages::Stack;

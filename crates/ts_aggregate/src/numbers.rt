@@ -144,7 +144,7 @@ fn better(most: bool, best: Option<i128>, number: i128) -> i128
 }
 
 /// The number that the bytes of a column are.
-pub(crate) fn number(kind: ColumnKind, bytes: &[u8]) -> i128
+pub fn number(kind: ColumnKind, bytes: &[u8]) -> i128
     requires { length bytes.now + 1 ≡ column_width kind }
     ensures { result ≡ number_in kind bytes.now }
 {

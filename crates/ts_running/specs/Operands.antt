@@ -1,6 +1,6 @@
 -- The value of an expression over the values of a row.
 use Rattle.std.specs.Prelude.{◌≡◌, ℕ, ◌+◌, ◌-◌, ◌^◌, nat_lt, max, if◌then◌else◌, ℤ, pos, neg_ℤ, ◌+ℤ◌, ◌-ℤ◌, ◌*ℤ◌}
-use Rattle.std.specs.Prelude.{unsigned_abs, List, map, Option, Some, None, Result, Ok, Err}
+use Rattle.std.specs.Prelude.{unsigned_abs, List, map, slice_index_or, Option, Some, None, Result, Ok, Err}
 use Rattle.std.specs.Option.{option_map}
 use Rattle.ts_row.specs.declared.value.Value.{Value}
 use Rattle.ts_row.specs.declared.value.Value.TheVariants.{Null, Number, Text}
@@ -75,6 +75,19 @@ numbers values = record {
   joined = joined_of;
 }
 
+-- the numbers of the values of a row, one for each column; none of NULL and of a text
+abbrev pub numbers_of : Values → List (Option ℤ)
+numbers_of values = map number_if_any values
+
+-- what is made of such numbers
+abbrev pub over_numbers : List (Option ℤ) → Parts Source Operand
+over_numbers numbers = record {
+  column = λ s. Some (operand (slice_index_or numbers s.column None) s.scale);
+  digits = λ n. Some (operand (Some (pos n)) 0);
+  opposite = opposite_of;
+  joined = joined_of;
+}
+
 -- a number or NULL, as a value
 abbrev pub value_if_any : Option ℤ → Value
 value_if_any None = Null
@@ -95,3 +108,12 @@ Applies answer (Err (Memory error)) = Unit {0}
 abbrev pub ApplyFails : {A : Type 0} → Option A → ApplyError → Type 0
 ApplyFails answer Overflow = answer ≡ None
 ApplyFails answer (Memory error) = Unit {0}
+
+-- the visible row of these numbers
+abbrev pub numbers_row : List (Option ℤ) → Row
+numbers_row numbers = visible (map value_if_any numbers)
+
+-- the numbers of this row were made, or the call fails
+abbrev pub Leaves : {A : Type 0} → Option Row → List (Option ℤ) → Result A ApplyError → Type 0
+Leaves answer made (Ok done) = answer ≡ Some (numbers_row made)
+Leaves answer made (Err error) = ApplyFails answer error

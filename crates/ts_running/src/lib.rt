@@ -3,8 +3,8 @@
 //! refused, is `specs/Grammar`; it is read exactly where it is the tokens of expressions with blanks between them
 //! (`specs/Spelling`). Bound to a row type each column has its number and its scale (`specs/Binding`), and the values
 //! are those of `specs/Operands`, part by part (`specs/Parts`). The code keeps an expression as steps over a stack. The
-//! rows that both give for the elements of a series are `specs/Rows`.
-//! Stands on circular_buffer, ts_expr, ts_text, ts_row and ts_base; knows nothing of stamps, pages or scripts. Read
+//! rows that both give for the elements of a series are `specs/Rows`; whoever takes them is a `NumbersVisitor`.
+//! Stands on circular_buffer, ts_expr, ts_text, ts_row and ts_base; knows nothing of pages or scripts. Read
 //! `specs/Grammar.antt`, `specs/Binding.antt`, `specs/Operands.antt`, then `running.rt`, `list.rt`, `bind.rt`,
 //! `value.rt`.
 #![tactic(auto)]
@@ -20,6 +20,7 @@ mod running;
 mod scale;
 mod step;
 mod value;
+mod visitor;
 
 pub use bind::{BoundExpr, MOST_PART_SCALE, Source};
 pub use column::{bind_column, read_column};
@@ -33,3 +34,5 @@ pub use list::{
 pub use read::{MOST_DIGITS, MOST_INSIDE};
 pub use running::Running;
 pub use step::Operation;
+pub use value::ApplyRoom;
+pub use visitor::NumbersVisitor;

@@ -1,3 +1,4 @@
 pub mod RunLemmas
 pub mod HandLemmas
-pub mod SmallLemmas
+pub mod NumberLemmas
+pub mod MadeLemmas

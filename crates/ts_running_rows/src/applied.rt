@@ -10,20 +10,21 @@ ghost use Rattle.ts_running_rows.specs.Call.{rows_within};
 
 use crate::application::AppliedRows;
 use crate::run::MOST_ROWS;
+use std::alloc::Global;
 use ts_base::{Refusal, Stamp, StoreFault};
 use ts_clip::elements;
-use ts_entry::ElementVisitor;
 use ts_offset::Shape;
 use ts_page::{Page, Pages};
 use ts_row::Shelf;
-use ts_running::BoundExpr;
+use ts_running::{ApplyRoom, BoundExpr, NumbersVisitor};
 use ts_space::Space;
 
 /// Hands on a row for each element from one stamp to another, both included, that isn't hidden: at its stamp the values
 /// of expressions over its own. Tells how many rows they are; TooLarge where they are more than 1000000, else Overflow
 /// where a number of one of them has no place, and then some of them were handed on. The pages that have such elements
 /// are read, each once; all pages stay; `page` is room to read one.
-pub fn applied_rows<P: Pages, V: ElementVisitor>(
+pub fn applied_rows<P: Pages, V: NumbersVisitor>(
+    alloc: Global,
     pages: &mut P,
     page: &mut Page,
     space: &Space,
@@ -48,7 +49,9 @@ pub fn applied_rows<P: Pages, V: ElementVisitor>(
 {
     // There are as many as its places tell.
     let _places = space.places(shelf.series);
-    let mut rows = AppliedRows::new(exprs, visitor);
+    let mut numbers = Vec::new(alloc);
+    let mut room = ApplyRoom::new(alloc);
+    let mut rows = AppliedRows::new(exprs, &mut numbers, &mut room, visitor);
     elements(pages, page, space, shelf, shape, from, to, &mut rows)?;
     let count = rows.count;
     if count > MOST_ROWS {

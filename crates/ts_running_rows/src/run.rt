@@ -4,13 +4,13 @@ ghost use Rattle.ts_running.specs.Operands.{value_if_any};
 ghost use Rattle.ts_running.specs.Places.{made_over};
 ghost use Rattle.ts_running_rows.specs.Run.{runner, IsHandedOn};
 
-use crate::place::place_in;
-use std::alloc::{AllocError, Global};
+use crate::number::place_in;
+use std::alloc::AllocError;
 use ts_base::Stamp;
-use ts_entry::{ElementVisitor, EntryVisitor};
+use ts_entry::EntryVisitor;
 use ts_expr::{BoundItem, Function};
-use ts_row::{Row, RowType, Value};
-use ts_running::Running;
+use ts_row::RowType;
+use ts_running::{NumbersVisitor, Running};
 
 /// The most rows of a reply.
 pub(crate) const MOST_ROWS: u64 = 1_000_000;
@@ -19,7 +19,6 @@ pub(crate) const MOST_ROWS: u64 = 1_000_000;
 /// reply are counted alone.
 #[derive(Drop)]
 pub(crate) struct RunningRows<'a, V> {
-    alloc: Global,
     window: &'a mut Running,
     item: BoundItem,
     out: &'a mut V,
@@ -27,10 +26,9 @@ pub(crate) struct RunningRows<'a, V> {
     pub(crate) count: u64,
 }
 
-impl<'a, V: ElementVisitor> RunningRows<'a, V> {
+impl<'a, V: NumbersVisitor> RunningRows<'a, V> {
     /// None so far.
     pub(crate) fn new(
-        alloc: Global,
         window: &'a mut Running,
         item: BoundItem,
         out: &'a mut V,
@@ -40,7 +38,6 @@ impl<'a, V: ElementVisitor> RunningRows<'a, V> {
         ensures state { runner result.window.now result.item result.count ≡ runner window.old item 0 }
     {
         RunningRows {
-            alloc,
             window,
             item,
             out,
@@ -59,25 +56,23 @@ impl<'a, V: ElementVisitor> RunningRows<'a, V> {
         if self.count > MOST_ROWS {
             return Ok(());
         }
-        let mut values = Vec::with_capacity(self.alloc, 1)?;
-        values.push(self.value())?;
-        self.out.element(stamp, &Row::of(values))?;
-        Ok(())
+        let number = self.number();
+        self.out.numbers(stamp, &[number])
     }
 
     // What the function makes of the window.
-    fn value(&self) -> Value
-        ensures { result ≡ made_over self.now.item.function self.now.window.now.values }
+    fn number(&self) -> Option<i128>
+        ensures { value_if_any result ≡ made_over self.now.item.function self.now.window.now.values }
     {
         match self.item.function {
-            Function::Sum => value_of(self.window.sum()),
-            Function::Avg => value_of(self.window.mean()),
-            _ => Value::Null,
+            Function::Sum => self.window.sum(),
+            Function::Avg => self.window.mean(),
+            _ => None,
         }
     }
 }
 
-impl<'a, V: ElementVisitor> EntryVisitor for RunningRows<'a, V> {
+impl<'a, V: NumbersVisitor> EntryVisitor for RunningRows<'a, V> {
     ghost use Rattle.std.specs.Prelude.{◌≡◌};
     ghost use Rattle.std.proofs.Common.{refl, ◌∙◌};
     ghost use Rattle.ts_entry.specs.Entry.{elements_of};
@@ -89,10 +84,9 @@ impl<'a, V: ElementVisitor> EntryVisitor for RunningRows<'a, V> {
         (runner w.window.now w.item w.count) w.out.now };
 
     fn element(&mut self, kind: &RowType, stamp: Stamp, row: &[u8]) -> Result<(), AllocError> {
-        let place = place_in(kind, self.item.column, row)?;
+        let place = place_in(kind, self.item.column, row);
         self.window.push(place);
-        self.hand_on(stamp)?;
-        Ok(())
+        self.hand_on(stamp)
     }
 
     fn blank(&mut self, _kind: &RowType, _stamp: Stamp) -> Result<(), AllocError> {
@@ -106,14 +100,4 @@ impl<'a, V: ElementVisitor> EntryVisitor for RunningRows<'a, V> {
       runs_then V.took V.then (runner a.window.now a.item a.count) (runner b.window.now b.item b.count)
           (runner c.window.now c.item c.count) a.out.now b.out.now c.out.now es fs p.1 q.1,
     ) };
-}
-
-// A number or NULL.
-fn value_of(number: Option<i128>) -> Value
-    ensures { result ≡ value_if_any number }
-{
-    match number {
-        None => Value::Null,
-        Some(number) => Value::Number(number),
-    }
 }

@@ -10,23 +10,20 @@ ghost use Rattle.ts_running_rows.specs.Call.{rows_within};
 ghost use Rattle.ts_running_rows.specs.Run.{Begins};
 
 use crate::run::{MOST_ROWS, RunningRows};
-use std::alloc::Global;
 use ts_base::{Refusal, Stamp, StoreFault};
 use ts_clip::elements;
-use ts_entry::ElementVisitor;
 use ts_expr::BoundItem;
 use ts_offset::Shape;
 use ts_page::{Page, Pages};
 use ts_row::Shelf;
-use ts_running::Running;
+use ts_running::{NumbersVisitor, Running};
 use ts_space::Space;
 
 /// Hands on a row for each element from one stamp to another, both included, that isn't hidden: at its stamp the sum or
 /// the mean of a column in it and those before it there, as many as an empty window has places. Tells how many rows
 /// they are; TooLarge where they are more than 1000000, and then some of them were handed on. The pages that have such
 /// elements are read, each once; all pages stay; `page` is room to read one.
-pub fn running_rows<P: Pages, V: ElementVisitor>(
-    alloc: Global,
+pub fn running_rows<P: Pages, V: NumbersVisitor>(
     pages: &mut P,
     page: &mut Page,
     space: &Space,
@@ -54,7 +51,7 @@ pub fn running_rows<P: Pages, V: ElementVisitor>(
     // There are as many as its places tell.
     let _places = space.places(shelf.series);
     let mut window = window;
-    let mut rows = RunningRows::new(alloc, &mut window, item, visitor);
+    let mut rows = RunningRows::new(&mut window, item, visitor);
     elements(pages, page, space, shelf, shape, from, to, &mut rows)?;
     let count = rows.count;
     if count > MOST_ROWS {

@@ -1,7 +1,7 @@
 // The values of expressions, and where a number has no place.
 use crate::made::{bound, element, is_row};
 use std::alloc::Global;
-use ts_running::ApplyError;
+use ts_running::{ApplyError, ApplyRoom, BoundExpr};
 
 /// What came of expressions over an element.
 #[derive(Clone, Copy, Debug, PartialEq, Eq)]
@@ -19,11 +19,47 @@ fn outcome(alloc: Global, text: &[u8], numbers: &[Option<i128>], wanted: &[Optio
     let (Ok(bound), Ok(element)) = (bound(alloc, text), element(alloc, numbers)) else {
         return Came::Nothing;
     };
-    match bound.apply(&element) {
+    let mut room = ApplyRoom::new(alloc);
+    let came = match bound.apply(&element) {
         Ok(row) if is_row(&row, wanted) => Came::Wanted,
         Ok(_) => Came::Other,
         Err(ApplyError::Overflow) => Came::Overflow,
         Err(ApplyError::Memory(_)) => Came::Nothing,
+    };
+    if came == came_of_numbers(&bound, numbers, &mut room, wanted) {
+        came
+    } else {
+        Came::Nothing
+    }
+}
+
+// What comes of them over the numbers of a row, in room that is kept.
+fn came_of_numbers(
+    bound: &BoundExpr,
+    numbers: &[Option<i128>],
+    room: &mut ApplyRoom,
+    wanted: &[Option<i128>],
+) -> Came {
+    match bound.apply_to(numbers, room) {
+        Ok(()) if room.numbers() == wanted => Came::Wanted,
+        Ok(()) => Came::Other,
+        Err(ApplyError::Overflow) => Came::Overflow,
+        Err(ApplyError::Memory(_)) => Came::Nothing,
+    }
+}
+
+// What an overflow left in the room isn't there in the next row.
+#[test]
+fn the_room_of_a_row_serves_the_next(rt: HostRuntime) {
+    let Ok(bound) = bound(rt.alloc(), b"$v*$v+1,$v*$v*$v,-$v") else {
+        panic!(rt; "not bound");
+    };
+    let mut room = ApplyRoom::new(rt.alloc());
+    for _ in 0..2 {
+        let wanted = [Some(10), Some(27), Some(-3)];
+        assert!(rt; came_of_numbers(&bound, &[Some(3)], &mut room, &wanted) == Came::Wanted);
+        assert!(rt; came_of_numbers(&bound, &[Some(MOST_BIG)], &mut room, &[]) == Came::Overflow);
+        assert!(rt; came_of_numbers(&bound, &[None], &mut room, &[None; 3]) == Came::Wanted);
     }
 }
 
@@ -155,7 +191,13 @@ fn null_beside_a_number_is_null(rt: HostRuntime) {
     ] {
         assert!(rt; outcome(rt.alloc(), text, &numbers, &[None]) == Came::Wanted);
     }
-    for text in [b"$b*$b*$b+$w".as_slice(), b"$w+$b*$b*$b", b"$w*($b*$b*$b)"] {
+    for text in [
+        b"$b*$b*$b+$w".as_slice(),
+        b"$w+$b*$b*$b",
+        b"$w*($b*$b*$b)",
+        b"((($b*$b*$b)))",
+        b"$w*(1-(($b*$b*$b)))",
+    ] {
         assert!(rt; outcome(rt.alloc(), text, &numbers, &[None]) == Came::Overflow);
     }
 }

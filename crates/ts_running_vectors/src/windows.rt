@@ -97,6 +97,35 @@ fn a_mean_is_that_of_the_last_two_places(rt: HostRuntime) -> Result<(), Fail> {
     Ok(())
 }
 
+// A mean has as many digits as its values have, and six more behind them.
+#[test]
+fn the_mean_of_numbers_of_28_digits_is_made(rt: HostRuntime) -> Result<(), Fail> {
+    let mut running = Running::new(rt.alloc(), 3)?;
+    running.push(Some(MOST));
+    running.push(Some(MOST));
+    assert_eq!(rt;
+        running.mean(),
+        Some(9_999_999_999_999_999_999_999_999_999_000_000)
+    );
+    running.push(Some(MOST - 1));
+    assert_eq!(rt;
+        running.mean(),
+        Some(9_999_999_999_999_999_999_999_999_998_666_667)
+    );
+    running.push(Some(-MOST));
+    assert_eq!(rt;
+        running.mean(),
+        Some(3_333_333_333_333_333_333_333_333_332_666_667)
+    );
+    running.push(Some(-MOST));
+    running.push(Some(-MOST));
+    assert_eq!(rt;
+        running.mean(),
+        Some(-9_999_999_999_999_999_999_999_999_999_000_000)
+    );
+    Ok(())
+}
+
 // 1 / 128 is 0.0078125.
 #[test]
 fn half_a_digit_of_a_mean_is_rounded_away_from_zero(rt: HostRuntime) -> Result<(), Fail> {

@@ -1,18 +1,21 @@
-// What an aggregate list makes of elements, said in lines.
-ghost use Rattle.std.specs.Prelude.{◌≡◌, ◌↔◌, ◌⊎◌, ◌≤◌, [], ◌∷◌, ◌++◌, All, IsTrue, OnOk, length};
+// What an aggregate list makes of elements, and rows of numbers, said in lines.
+ghost use Rattle.std.specs.Prelude.{◌≡◌, ◌↔◌, ◌⊎◌, ◌≤◌, [], ◌∷◌, ◌++◌, All, IsTrue, OnOk, length, map};
 ghost use Rattle.ts_expr.specs.Binding.{most_scale};
+ghost use Rattle.ts_row.specs.Printed.{value_text};
+ghost use Rattle.ts_running.specs.Operands.{value_if_any, numbers_row};
 ghost use Rattle.ts_answer.specs.Reply.{scaled_text, folded_line, folded_text, series_folded_line};
 
 use crate::day_text::DayText;
-use crate::say_rows::say_value;
+use crate::say_rows::{say_scaled, say_value};
 use crate::say_values::{say_count, say_quoted};
 use std::alloc::AllocError;
 use ts_base::{Key, Reply, Stamp};
 use ts_entry::ElementVisitor;
 use ts_row::{Row, Value};
+use ts_running::NumbersVisitor;
 
-/// The lines of what a list makes, behind what a reply has said: each element that it is handed is said in a line of
-/// its own, its numbers with as many digits after the point as the list's items have.
+/// The lines of what a list makes, behind what a reply has said: each element that it is handed, or row of numbers, is
+/// said in a line of its own, its numbers with as many digits after the point as the list's items have.
 #[derive(Drop)]
 pub struct FoldedLines<'a> {
     out: &'a mut Reply,
@@ -40,9 +43,9 @@ impl<'a> FoldedLines<'a> {
 impl<'a> ElementVisitor for FoldedLines<'a> {
     ghost use Rattle.std.specs.Prelude.{◌≡◌, ◌++◌, List};
     ghost use Rattle.std.specs.List.{flat_map};
-    ghost use Rattle.std.proofs.Common.{refl, sym, ap, ◌∙◌, append_assoc, append-nil};
-    ghost use Rattle.std.proofs.lemmas.List.Concat.{flat_map-append};
+    ghost use Rattle.std.proofs.Common.{refl, sym, ◌∙◌, append-nil};
     ghost use Rattle.ts_answer.specs.Reply.{folded_line};
+    ghost use Rattle.ts_say.specs.Folded.{folded_then};
 
     ghost took = { λ v es w. (w.out.ghost_name ≡ v.out.ghost_name) × (w.scales.now ≡ v.scales.now)
         × (w.out.now ≡ v.out.now ++ flat_map (folded_line v.scales.now) es) };
@@ -56,10 +59,30 @@ impl<'a> ElementVisitor for FoldedLines<'a> {
     ghost then = { λ a b c es fs p q. (
       q.0 ∙ p.0,
       q.1 ∙ p.1,
-      q.2 ∙ ap (λ l. b.out.now ++ flat_map (folded_line l) fs) p.1
-          ∙ ap (λ l. l ++ flat_map (folded_line a.scales.now) fs) p.2
-          ∙ append_assoc a.out.now (flat_map (folded_line a.scales.now) es) (flat_map (folded_line a.scales.now) fs)
-          ∙ ap (λ l. a.out.now ++ l) (sym (flat_map-append (folded_line a.scales.now) es fs)),
+      folded_then a.scales.now b.scales.now a.out.now b.out.now c.out.now es fs p.1 p.2 q.2,
+    ) };
+}
+
+impl<'a> NumbersVisitor for FoldedLines<'a> {
+    ghost use Rattle.std.specs.Prelude.{◌≡◌, ◌++◌, List};
+    ghost use Rattle.std.specs.List.{flat_map};
+    ghost use Rattle.std.proofs.Common.{refl, sym, ◌∙◌, append-nil};
+    ghost use Rattle.ts_answer.specs.Reply.{folded_line};
+    ghost use Rattle.ts_say.specs.Folded.{folded_then};
+
+    ghost took = { λ v es w. (w.out.ghost_name ≡ v.out.ghost_name) × (w.scales.now ≡ v.scales.now)
+        × (w.out.now ≡ v.out.now ++ flat_map (folded_line v.scales.now) es) };
+
+    fn numbers(&mut self, stamp: Stamp, numbers: &[Option<i128>]) -> Result<(), AllocError> {
+        say_numbers_line(self.out, &mut self.day, self.scales, stamp, numbers)
+    }
+
+    ghost none = { λ v. (refl, refl, sym (append-nil v.out.now)) };
+
+    ghost then = { λ a b c es fs p q. (
+      q.0 ∙ p.0,
+      q.1 ∙ p.1,
+      folded_then a.scales.now b.scales.now a.out.now b.out.now c.out.now es fs p.1 p.2 q.2,
     ) };
 }
 
@@ -109,6 +132,57 @@ fn say_folded_line(
     out.push(b'\n')
 }
 
+// Says a row of numbers in a line.
+#[tactic(auto, unfolding(ts_answer::specs::Reply::folded_line))]
+fn say_numbers_line(
+    out: &mut Reply,
+    day: &mut DayText,
+    scales: &[u8],
+    stamp: Stamp,
+    numbers: &[Option<i128>],
+) -> Result<(), AllocError>
+    requires { All (λ s. s ≤ most_scale) scales.now }
+    ensures { OnOk result (out.new ≡ out.old ++ folded_line scales.now (stamp, numbers_row numbers.now)) }
+{
+    day.say(out, stamp)?;
+    say_scaled_numbers(out, scales, numbers)?;
+    out.push(b'\n')
+}
+
+// Says numbers, each with as many digits after the point as its scale, with commas between them; none as NULL.
+fn say_scaled_numbers(
+    out: &mut Reply,
+    scales: &[u8],
+    numbers: &[Option<i128>],
+) -> Result<(), AllocError>
+    requires { All (λ s. s ≤ most_scale) scales.now }
+    ensures { OnOk result (out.new ≡ out.old ++ scaled_text scales.now (map value_if_any numbers.now)) }
+{
+    let Some((scale, scales)) = scales.split_first() else {
+        return Ok(());
+    };
+    let Some((number, numbers)) = numbers.split_first() else {
+        return Ok(());
+    };
+    say_number_if_any(out, *number, *scale as u32)?;
+    if is_end(scales, numbers) {
+        return Ok(());
+    }
+    out.push(b',')?;
+    say_scaled_numbers(out, scales, numbers)
+}
+
+// Says a number with so many digits after the point, or NULL where there is none.
+fn say_number_if_any(out: &mut Reply, number: Option<i128>, scale: u32) -> Result<(), AllocError>
+    requires { scale ≤ most_scale }
+    ensures { OnOk result (out.new ≡ out.old ++ value_text scale (value_if_any number)) }
+{
+    match number {
+        None => out.extend_from_slice(b"null"),
+        Some(number) => say_scaled(out, number, scale),
+    }
+}
+
 // Says values, each number with as many digits after the point as its scale, with commas between them.
 fn say_scaled_values(out: &mut Reply, scales: &[u8], values: &[Value]) -> Result<(), AllocError>
     requires { All (λ s. s ≤ most_scale) scales.now }
@@ -129,7 +203,7 @@ fn say_scaled_values(out: &mut Reply, scales: &[u8], values: &[Value]) -> Result
 }
 
 // Whether there are no scales or no values.
-fn is_end(scales: &[u8], values: &[Value]) -> bool
+fn is_end<T>(scales: &[u8], values: &[T]) -> bool
     ensures { IsTrue result ↔ (length scales.now ≡ 0) ⊎ (length values.now ≡ 0) }
 {
     scales.is_empty() || values.is_empty()

@@ -127,8 +127,8 @@ pub(crate) fn say_value(out: &mut Reply, value: &Value, scale: u32) -> Result<()
     }
 }
 
-// Says a number with so many digits after the point.
-fn say_scaled(out: &mut Reply, number: i128, scale: u32) -> Result<(), AllocError>
+/// Says a number with so many digits after the point.
+pub(crate) fn say_scaled(out: &mut Reply, number: i128, scale: u32) -> Result<(), AllocError>
     requires { scale ≤ most_scale }
     ensures { OnOk result (out.new ≡ out.old ++ number_text scale number) }
 {

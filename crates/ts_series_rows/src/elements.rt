@@ -135,7 +135,7 @@ fn running_values<P: Pages>(
     let scales = [item.scale];
     let mut lines = FoldedLines::behind(out, &scales);
     let done = running_rows(
-        alloc, pages, page, space, &shelf, &shape, window, item, from, to, &mut lines,
+        pages, page, space, &shelf, &shape, window, item, from, to, &mut lines,
     )?;
     match done {
         Ok(count) => say_count(out, count)?,
@@ -173,7 +173,7 @@ pub fn apply_list<P: Pages>(
     let exprs = list.bind(shelf.kind)?;
     let mut lines = FoldedLines::behind(out, exprs.scales());
     let done = applied_rows(
-        pages, page, space, &shelf, &shape, &exprs, from, to, &mut lines,
+        alloc, pages, page, space, &shelf, &shape, &exprs, from, to, &mut lines,
     )?;
     match done {
         Ok(count) => say_count(out, count)?,
