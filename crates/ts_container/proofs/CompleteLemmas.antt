@@ -1,23 +1,27 @@
--- A calendar completed with its pattern, and each definition that is written as it is.
-use Rattle.std.proofs.Common.{◌≡◌, ℕ, Option, Some, None, Result, Ok, Err, List, refl, sym, ap, subst, ◌∙◌, inr}
+-- A calendar completed with its pattern, and each calendar with the same form.
+use Rattle.std.proofs.Common.{◌≡◌, ℕ, Option, Some, None, Result, Ok, Err, List, refl, sym, ap, subst, ◌∙◌}
 use Rattle.std.specs.Option.{option_map}
 use Rattle.ts_pattern.specs.Plan.{Plan}
 use Rattle.ts_calendar.specs.Plan.{CalendarPlan}
 use Rattle.ts_calendar.specs.Calendar.{IsValid}
 use Rattle.ts_model.specs.declared.def.Def.{Def}
 use Rattle.ts_model.specs.declared.def.Def.TheVariants as defs
-use Rattle.ts_model.specs.Definitions.{Definitions, PatternDef, at_slot}
+use Rattle.ts_model.specs.Definitions.{Definitions, PatternDef, CalendarDef, at_slot}
 use Rattle.ts_layout.specs.Meaning.{Follows}
 use Rattle.ts_layout.specs.Changed.{KeepsCalendarRules}
-use Rattle.ts_slots.specs.declared.calendar_slot.Part.TheVariants.{By}
 use Rattle.ts_slots.specs.declared.calendar_slot.CalendarForm.{CalendarForm}
 use Rattle.ts_slots.specs.declared.slot.Written.TheVariants.{Form}
 use Rattle.ts_slots.specs.Written.{part_on_page, form_of, written_of}
-use Rattle.ts_container.specs.declared.found.Flaw.{Flaw}
-use Rattle.ts_container.specs.declared.found.Flaw.TheVariants.{Unresolved, Invalid}
-use Rattle.ts_container.specs.Reading.{Completes, Makes, Hinders, HasFlaw, IsTaken, LacksPattern}
+use Rattle.ts_container.specs.Reading.{Completes, Makes}
 
--- two calendars with one form that follow the same patterns have the same pattern
+-- two calendars with one form say the same slot
+same_by : (p q : Plan) (by by' : Option ℕ) → part_on_page q by' ≡ part_on_page p by → by' ≡ by
+same_by p q None None same = refl
+same_by p q None (Some slot') same = absurd (cc)
+same_by p q (Some slot) None same = absurd (cc)
+same_by p q (Some slot) (Some slot') same = let slots : slot' ≡ slot = cc in ap (λ (n : ℕ). Some n) slots
+
+-- and have the same pattern, where they follow the same patterns
 same_pattern : (patterns : List (Option PatternDef)) (p q : Plan) (by by' : Option ℕ) → part_on_page q by' ≡ part_on_page p by
     → ((slot : ℕ) → by ≡ Some slot → option_map (λ (x : PatternDef). x.pattern) (at_slot slot patterns) ≡ Some p)
     → ((slot : ℕ) → by' ≡ Some slot → option_map (λ (x : PatternDef). x.pattern) (at_slot slot patterns) ≡ Some q) → q ≡ p
@@ -30,55 +34,34 @@ same_pattern patterns p q (Some slot) (Some slot') same follows follows' =
     let second = follows' slot (ap Some slots) in
     cc
 
--- each definition that is written so is that calendar
-only_calendar : (d : Definitions) (form : CalendarForm) (name : List ℕ) (c : CalendarPlan) (by : Option ℕ) → form ≡ record { name = name; start = c.start; patt_start = c.patt_start; part = part_on_page c.pattern by }
-    → Follows d.patterns (record { name = name; calendar = c; by = by }) → (IsValid c → ⊥) → (def : Def) → written_of def ≡ Form form → KeepsCalendarRules def d → ⊥
-only_calendar d form name c by is follows broken (defs.Calendar name' c' by') written keeps =
-    let forms : form_of (record { name = name'; calendar = c'; by = by' }) ≡ form = cc in
-    let parts : part_on_page c'.pattern by' ≡ part_on_page c.pattern by = ap (λ (f : CalendarForm). f.part) (forms ∙ is) in
-    let pattern : c'.pattern ≡ c.pattern = same_pattern d.patterns c.pattern c'.pattern by by' parts follows keeps.1 in
-    let start : c'.start ≡ c.start = ap (λ (f : CalendarForm). f.start) (forms ∙ is) in
-    let patt_start : c'.patt_start ≡ c.patt_start = ap (λ (f : CalendarForm). f.patt_start) (forms ∙ is) in
-    let same : c' ≡ c = λ i. record { start = start i; patt_start = patt_start i; pattern = pattern i } in
-    broken (subst IsValid same keeps.0)
-only_calendar d form name c by is follows broken (defs.RowType name' kind) written keeps = absurd (cc)
-only_calendar d form name c by is follows broken (defs.Pattern name' pattern) written keeps = absurd (cc)
-only_calendar d form name c by is follows broken (defs.Container name' row_type quota) written keeps = absurd (cc)
-only_calendar d form name c by is follows broken (defs.Series key container regular) written keeps = absurd (cc)
+-- so they have the same plan
+same_plan : (patterns : List (Option PatternDef)) (a b : CalendarDef) → form_of b ≡ form_of a → Follows patterns a → Follows patterns b → b.calendar ≡ a.calendar
+same_plan patterns a b forms follows follows' =
+    let start : b.calendar.start ≡ a.calendar.start = ap (λ (f : CalendarForm). f.start) forms in
+    let patt_start : b.calendar.patt_start ≡ a.calendar.patt_start = ap (λ (f : CalendarForm). f.patt_start) forms in
+    let pattern = same_pattern patterns a.calendar.pattern b.calendar.pattern a.by b.by (ap (λ (f : CalendarForm). f.part) forms) follows follows' in
+    λ i. record { start = start i; patt_start = patt_start i; pattern = pattern i }
 
--- nor does it lack its pattern
-not_lacking : (d : Definitions) (form : CalendarForm) (name : List ℕ) (c : CalendarPlan) (by : Option ℕ) → form ≡ record { name = name; start = c.start; patt_start = c.patt_start; part = part_on_page c.pattern by }
-    → Follows d.patterns (record { name = name; calendar = c; by = by }) → (def : Def) → written_of def ≡ Form form → LacksPattern def d → ⊥
-not_lacking d form name c by is follows (defs.Calendar name' c' (Some slot)) written lacks =
-    let forms : form_of (record { name = name'; calendar = c'; by = Some slot }) ≡ form = cc in
-    there by (ap (λ (f : CalendarForm). f.part) (forms ∙ is)) follows where
-      no_plan : (o : Option PatternDef) (p : Plan) → o ≡ None → option_map (λ (x : PatternDef). x.pattern) o ≡ Some p → ⊥
-      no_plan None p none some = cc
-      no_plan (Some x) p none some = cc
-
-      there : (by : Option ℕ) → By slot ≡ part_on_page c.pattern by → Follows d.patterns (record { name = name; calendar = c; by = by }) → ⊥
-      there None same follows = let no : ⊥ = cc in no
-      there (Some said) same follows =
-          let slots : slot ≡ said = cc in
-          no_plan (at_slot said d.patterns) c.pattern (ap (λ (n : ℕ). at_slot n d.patterns) (sym slots) ∙ lacks) (follows said refl)
-not_lacking d form name c by is follows (defs.Calendar name' c' None) written lacks = lacks
-not_lacking d form name c by is follows (defs.RowType name' kind) written lacks = lacks
-not_lacking d form name c by is follows (defs.Pattern name' pattern) written lacks = lacks
-not_lacking d form name c by is follows (defs.Container name' row_type quota) written lacks = lacks
-not_lacking d form name c by is follows (defs.Series key container regular) written lacks = lacks
+-- and are one
+pub one_calendar : (patterns : List (Option PatternDef)) (n n' : List ℕ) (c c' : CalendarPlan) (by by' : Option ℕ) → form_of (record { name = n'; calendar = c'; by = by' }) ≡ form_of (record { name = n; calendar = c; by = by })
+    → Follows patterns (record { name = n; calendar = c; by = by }) → Follows patterns (record { name = n'; calendar = c'; by = by' }) → defs.Calendar n' c' by' ≡ defs.Calendar n c by
+one_calendar patterns n n' c c' by by' forms follows follows' =
+    let names : n' ≡ n = ap (λ (f : CalendarForm). f.name) forms in
+    let plans = same_plan patterns (record { name = n; calendar = c; by = by }) (record { name = n'; calendar = c'; by = by' }) forms follows follows' in
+    let bys = same_by c.pattern c'.pattern by by' (ap (λ (f : CalendarForm). f.part) forms) in
+    λ i. defs.Calendar (names i) (plans i) (bys i)
 
 -- a calendar made of a form and its pattern
-pub completed : (d : Definitions) (form : CalendarForm) (name : List ℕ) (c : CalendarPlan) (by : Option ℕ) (r : Result Def Flaw) → Makes name c by r
+pub completed : (d : Definitions) (form : CalendarForm) (name : List ℕ) (c : CalendarPlan) (by : Option ℕ) (r : Result Def (List ℕ)) → Makes name c by r
     → form ≡ record { name = name; start = c.start; patt_start = c.patt_start; part = part_on_page c.pattern by } → Follows d.patterns (record { name = name; calendar = c; by = by }) → Completes d (Form form) r
 completed d form name c by (Ok def) made is follows = (
   made.1 d.format,
   ap written_of made.0 ∙ ap Form (sym is),
   subst (λ (x : Def). KeepsCalendarRules x d) (sym made.0) (made.2, follows),
 )
-completed d form name c by (Err flaw) made is follows = λ def written.
-    subst (λ (x : Flaw). Hinders x def d) (sym made.0) (not_lacking d form name c by is follows def written, only_calendar d form name c by is follows made.1 def written)
-
--- one that isn't completed has a flaw
-pub hindered : (flaw : Flaw) (def : Def) (d : Definitions) → (IsTaken def d → ⊥) → Hinders flaw def d → HasFlaw flaw def d
-hindered Unresolved def d new hinders = inr hinders
-hindered Invalid def d new hinders = (new, hinders)
+completed d form name c by (Err given) made is follows = (
+  form,
+  refl,
+  made.0 ∙ ap (λ (f : CalendarForm). f.name) (sym is),
+  λ other same follows' valid. made.1 (subst IsValid (same_plan d.patterns (record { name = name; calendar = c; by = by }) other (same ∙ is) follows follows') valid),
+)

@@ -9,7 +9,8 @@ use Rattle.ts_layout.specs.Surveyed.{free_from}
 use Rattle.ts_container.specs.declared.content.Content.{Content}
 use Rattle.ts_container.specs.declared.span.Span.{Span}
 use Rattle.ts_container.specs.Spans.{span_on, spans_from}
-use Rattle.ts_container.specs.Elements.{Describes, IsContentOf, Listed, IsReadAs, AllRead, HoldNoElements}
+use Rattle.ts_container.specs.Elements.{Describes, IsContentOf, Listed, IsReadAs, AllRead, IsBadElement}
+use Rattle.ts_volume.specs.FirstBad.{IsLeast}
 use Rattle.ts_layout.proofs.CallerLemmas.{before, at_end, free_from-append}
 
 -- the spans with one page more
@@ -61,8 +62,16 @@ read_more tells d v number spans spans' free free' content bytes low read found 
       ];
     }
 
--- a page without elements is read
-pub read_bad : (d : Definitions) (pages : ℕ → List ℕ) (number count : ℕ) (bytes : List ℕ) → 930 ≤ number → number < count → pages number ≡ bytes → IsContentOf d number bytes None → HoldNoElements (count - 930) d pages
-read_bad d pages number count bytes low high is none es size holds =
-    let at : 930 + (number - 930) ≡ number = omega arith in
-    none (element_page (number - 930) es) (subst (λ (l : List ℕ). HoldsElements d l (element_page (number - 930) es)) (ap pages at ∙ is) (holds (number - 930) (omega (arith, size))))
+-- a page without elements is read, behind those that have some
+pub read_bad : (tells : Bool) (d : Definitions) (v : Contents) (number count : ℕ) (bytes : List ℕ) (spans : List Span) (free : List ℕ) → 930 ≤ number → number < count → v.page number ≡ bytes → IsContentOf d number bytes None → AllRead tells (number - 930) d v spans free → IsTrue tells
+    → IsLeast (IsBadElement (count - 930) d v.page) number
+read_bad tells d v number count bytes spans free low high is none read told = record {
+  has = (low, omega (arith, low, high), λ e holds. none e (subst (λ (l : List ℕ). HoldsElements d l e) is holds));
+  least = λ other (above, below, bad). elim (cases_lt other number) [
+    | inl less ↦
+        let at : 930 + (other - 930) ≡ other = omega (arith, above) in
+        let one = read.seen (other - 930) (omega (arith, less, above)) in
+        absurd (bad (element_page (other - 930) read.elements) (subst (λ (l : List ℕ). HoldsElements d l (element_page (other - 930) read.elements)) (sym (one.2 told) ∙ ap v.page at) one.1))
+    | inr past ↦ past
+  ];
+}

@@ -1,5 +1,5 @@
 -- Definitions with what was read into one slot more.
-use Rattle.std.proofs.Common.{◌≡◌, ◌≢◌, ℕ, ◌+◌, ◌<◌, ◌≤◌, Option, Some, None, IfSome, List, length, refl, sym, ap, subst, ◌∙◌, arith, inl, inr}
+use Rattle.std.proofs.Common.{◌≡◌, ℕ, ◌+◌, ◌<◌, ◌≤◌, Option, Some, None, IfSome, length, refl, sym, subst, ◌∙◌, arith, inl, inr}
 use Rattle.std.specs.Option.{option_map}
 use Rattle.std.proofs.lemmas.List.{length-map}
 use Rattle.ts_model.specs.declared.kind.Kind.{Kind}
@@ -7,20 +7,19 @@ use Rattle.ts_model.specs.declared.def.Def.{Def}
 use Rattle.ts_model.specs.Definitions.{Definitions, kind_of, limit, slots, to_def, table_of}
 use Rattle.ts_model.proofs.PartsLemmas.{format-stays}
 use Rattle.ts_container.proofs.FollowLemmas.{follow_more, valid_more}
-use Rattle.ts_layout.specs.Slot.{slot_bytes}
 use Rattle.ts_layout.specs.Limits.{IsSlotOf}
-use Rattle.ts_layout.specs.Meaning.{def_at, bytes_of_slot, AreFollowing, AreValid}
+use Rattle.ts_layout.specs.Meaning.{def_at, AreFollowing, AreValid}
 use Rattle.ts_layout.specs.Changed.{KeepsCalendarRules}
-use Rattle.ts_container.specs.Reading.{AreReadTo, HoldBelow, filled}
+use Rattle.ts_container.specs.Reading.{AreReadTo, filled}
 use Rattle.ts_layout.specs.Rank.{rank}
 use Rattle.ts_layout.proofs.CallerLemmas.{apart_by_rank, this_or_other, def_at-with_slot, def_at-other, length-with_slot}
 
 -- a slot with what was read into it
-filled_same : (format : ℕ) (kind : Kind) (slot : ℕ) (o : Option Def) (d : Definitions) → IsSlotOf format kind o → slot < length (slots kind d) → def_at kind slot d ≡ None → def_at kind slot (filled kind slot o d) ≡ o
+pub filled_same : (format : ℕ) (kind : Kind) (slot : ℕ) (o : Option Def) (d : Definitions) → IsSlotOf format kind o → slot < length (slots kind d) → def_at kind slot d ≡ None → def_at kind slot (filled kind slot o d) ≡ o
 filled_same format kind slot None d is within empty = empty
 filled_same format kind slot (Some def) d is within empty = def_at-with_slot kind slot def d is.0 within
 
-filled_other : (kind kind' : Kind) (slot slot' : ℕ) (o : Option Def) (d : Definitions) → (kind' ≡ kind → slot' ≡ slot → ⊥) → def_at kind' slot' (filled kind slot o d) ≡ def_at kind' slot' d
+pub filled_other : (kind kind' : Kind) (slot slot' : ℕ) (o : Option Def) (d : Definitions) → (kind' ≡ kind → slot' ≡ slot → ⊥) → def_at kind' slot' (filled kind slot o d) ≡ def_at kind' slot' d
 filled_other kind kind' slot slot' None d other = refl
 filled_other kind kind' slot slot' (Some def) d other = def_at-other kind kind' slot slot' (Some def) d other
 
@@ -66,21 +65,6 @@ read_more format kind slot reached o d within at is rules read = record {
 } where
   in_table : (kind : Kind) (slot : ℕ) (d : Definitions) → slot < limit kind → length (slots kind d) ≡ limit kind → slot < length (table_of kind d)
   in_table kind slot d within size = omega (arith, within, size, length-map (table_of kind d) (option_map (to_def kind)))
-
--- and it holds what was read
-pub hold_more : (format : ℕ) (kind : Kind) (slot reached : ℕ) (o : Option Def) (d : Definitions) (pages : ℕ → List ℕ) → slot < limit kind → rank kind slot ≡ reached → IsSlotOf format kind o → AreReadTo format reached d
-    → bytes_of_slot kind slot pages ≡ slot_bytes kind o → HoldBelow reached pages d → HoldBelow (reached + 1) pages (filled kind slot o d)
-hold_more format kind slot reached o d pages within at is read bytes held = λ kind' slot' within' below.
-    elim (this_or_other kind kind' slot slot' within within') [
-      | inl same ↦
-          let here = filled_same format kind slot o d is (omega (arith, within, read.sizes kind)) (read.empty kind slot (omega (arith, at))) in
-          subst (λ (p : Kind × ℕ). bytes_of_slot p.0 p.1 pages ≡ slot_bytes p.0 (def_at p.0 p.1 (filled kind slot o d))) (λ i. (sym same.0 i, sym same.1 i)) (bytes ∙ ap (slot_bytes kind) (sym here))
-      | inr other ↦
-          held kind' slot' within' (lower reached kind kind' slot slot' at below other)
-          ∙ ap (slot_bytes kind') (sym (filled_other kind kind' slot slot' o d (apart_by_rank kind kind' slot slot' other)))
-    ] where
-      lower : (reached : ℕ) (kind kind' : Kind) (slot slot' : ℕ) → rank kind slot ≡ reached → rank kind' slot' < reached + 1 → rank kind' slot' ≢ rank kind slot → rank kind' slot' < reached
-      lower reached kind kind' slot slot' at below other = omega arith
 
 -- what was read as far as some rank was read further
 pub read_on : (format : ℕ) (reached further : ℕ) (d : Definitions) → reached ≤ further → AreReadTo format reached d → AreReadTo format further d

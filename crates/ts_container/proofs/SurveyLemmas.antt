@@ -1,26 +1,27 @@
 -- Pages read one after the other.
-use Rattle.std.proofs.Common.{◌≡◌, ℕ, ◌+◌, ◌<◌, ◌≤◌, Bool, Option, Some, None, Result, Ok, Err, List, length, map, refl, sym, ap, subst, ◌∙◌, arith, inl, inr}
-use Rattle.std.proofs.lemmas.Bool.{cases_eq}
-use Rattle.ts_page.specs.Pages.{Contents, IsOutsideJournal, Got}
+use Rattle.std.proofs.Common.{◌≡◌, ℕ, ◌+◌, ◌<◌, ◌≤◌, Bool, true, false, MatchBool, IsTrue, IsErrAnd, Option, Some, None, Result, Ok, Err, List, [], length, map, refl, sym, ap, subst, ◌∙◌, arith, inl, inr}
+use Rattle.std.proofs.lemmas.Bool.{cases_lt, cases_eq}
+use Rattle.std.proofs.lemmas.List.Elements.{All-nil}
+use Rattle.ts_page.specs.Pages.{Contents, EqualPages, IsOutsideJournal, Got}
+use Rattle.std.specs.Prelude.{All}
+use Rattle.ts_model.specs.declared.def.Def.{Def}
 use Rattle.ts_model.specs.declared.kind.Kind.{Kind}
 use Rattle.ts_model.specs.declared.kind.Kind.TheVariants as kinds
-use Rattle.std.specs.Option.{option_map, option_or, unwrap_or}
+use Rattle.std.specs.Option.{option_map}
 use Rattle.ts_layout.proofs.CallerLemmas.{at_slot-map}
 use Rattle.std.proofs.lemmas.List.{length-map, length-replicate}
 use Rattle.ts_model.specs.Definitions.{Definitions, KindDef, CalendarDef, of_calendar, at_slot, to_def, table_of, limit, slots, with_format, no_definitions}
 use Rattle.ts_model.proofs.PartsLemmas.{empty-table, nothing-defined, tables-stay}
 use Rattle.ts_layout.specs.Limits.{IsSlotOf}
 use Rattle.ts_container.specs.declared.fault.SurveyFault.{SurveyFault}
-use Rattle.ts_container.specs.declared.fault.SurveyFault.TheVariants.{NotAStore, Failed}
-use Rattle.ts_container.specs.declared.found.Flaw.{Flaw}
-use Rattle.ts_container.specs.declared.found.Flaw.TheVariants.{Unresolved, Invalid}
-use Rattle.ts_container.specs.declared.found.Found.{Found}
+use Rattle.ts_container.specs.declared.fault.SurveyFault.TheVariants.{NotAStore, Failed, Memory}
 use Rattle.ts_container.specs.declared.found.Found.TheVariants as found
-use Rattle.ts_container.specs.declared.found.Flaws.{Flaws}
+use Rattle.ts_container.specs.declared.found.Broken.{Broken}
+use Rattle.ts_volume.specs.FirstBad.{IsLeast, HoldsSlots}
 use Rattle.ts_layout.specs.Meaning.{def_at}
-use Rattle.ts_container.specs.Reading.{HoldNone, AreReadTo, HoldBelow, HasZerosBehind, PageRead, with_found, first_flaw}
+use Rattle.ts_container.specs.Reading.{AreReadTo, AreBroken, IsReadTo, IsBrokenIn, AreOfVolume, AreWritten, IsNoPageOf, PageRead}
 use Rattle.ts_layout.specs.Rank.{rank, rank_of_page, all_slots}
-use Rattle.ts_container.specs.Survey.{Reads, PageGot, HoldUnless}
+use Rattle.ts_container.specs.Survey.{Reads, IfRefused, PageGot, AreKnown, IsNoDefinitionPage, IsBadDefinition, DefinitionsRead, PagesJudged}
 
 -- a page that was got was read
 pub got_read : (tells : Bool) (number : ℕ) (into : List ℕ) (v w : Contents) → IsOutsideJournal number → Got tells number into (Ok tt) v w → PageGot tells number into (Ok tt) v w
@@ -60,54 +61,45 @@ pub reads_refused : {S T : Type 0} (tells : Bool) (x : S) (number : ℕ) (v w : 
 reads_refused tells x number v w reads = record { count = reads.count; faults = reads.faults; pages = reads.pages; free = reads.free; cause = λ failed. absurd (cc); no_fault = λ fine. reads.no_fault (λ failed. cc) }
 
 -- what is known of definition pages below some number
-abbrev pub KnownBelow : ℕ → Option ℕ → (ℕ → List ℕ) → ℕ → Definitions → Type 0
-KnownBelow format None pages number d = HoldBelow (rank_of_page number) pages d × ((n : ℕ) → 257 ≤ n → n < number → HasZerosBehind n (pages n))
-KnownBelow format (Some flaw) pages number d = HoldNone format pages
-
--- one page more without a flaw
-good_more : (format : ℕ) (before : Option ℕ) (number : ℕ) (page : List ℕ) (pages : ℕ → List ℕ) (old new : Definitions) → pages number ≡ page → PageRead format number page old new found.Good
-    → KnownBelow format before pages number old → KnownBelow format before pages (number + 1) new
-good_more format (Some flaw) number page pages old new same read known = known
-good_more format None number page pages old new same read known = (
-  read.2 pages same known.0,
-  λ n low below. elim (cases_eq n number) [
-    | inl this ↦ subst (λ (k : ℕ). HasZerosBehind k (pages k)) (sym this) (subst (HasZerosBehind number) (sym same) read.0)
-    | inr other ↦ known.1 n low (lower n number below other)
-  ],
-) where
-  lower : (n number : ℕ) → n < number + 1 → (n ≡ number → ⊥) → n < number
-  lower n number below other = omega arith
-
--- and one with a flaw
-flaw_more : (format : ℕ) (before : Option ℕ) (pages : ℕ → List ℕ) (number : ℕ) (old : Definitions) → (HoldBelow (rank_of_page number) pages old → HoldNone format pages) → KnownBelow format before pages number old → HoldNone format pages
-flaw_more format None pages number old none known = none known.0
-flaw_more format (Some flaw) pages number old none known = known
-
--- then there is a page to tell
-flaw_told : (flaw : Flaw) (number : ℕ) (before : Flaws) → (page : ℕ) × (first_flaw (with_found (found.Flawed flaw) number before) ≡ Some page)
-flaw_told Unresolved number before = (_, refl)
-flaw_told Invalid number before = of_misnamed before.unresolved before.invalid where
-  of_misnamed : (unresolved invalid : Option ℕ) → (page : ℕ) × (option_or unresolved (Some (unwrap_or invalid number)) ≡ Some page)
-  of_misnamed None invalid = (_, refl)
-  of_misnamed (Some page) invalid = (page, refl)
+pub record KnownTo (format number : ℕ) (pages : ℕ → List ℕ) (d : Definitions) (broken : List Broken) : Type 0 where
+  pub slots : (n : ℕ) → 257 ≤ n → n < number → HoldsSlots format pages n
+  pub of_volume : (s : Definitions) → AreWritten format pages s → AreOfVolume (rank_of_page number) d broken s
 
 -- one page more
-pub known_more : (format : ℕ) (before : Flaws) (g : Found) (number : ℕ) (page : List ℕ) (pages : ℕ → List ℕ) (old new : Definitions) → (g ≡ found.Bad → ⊥) → pages number ≡ page → PageRead format number page old new g
-    → KnownBelow format (first_flaw before) pages number old → KnownBelow format (first_flaw (with_found g number before)) pages (number + 1) new
-known_more format before found.Good number page pages old new good same read known = good_more format (first_flaw before) number page pages old new same read known
-known_more format before (found.Flawed flaw) number page pages old new good same read known =
-    let P : Option ℕ → Type 0 = λ o. KnownBelow format o pages (number + 1) new in
-    subst P (sym (flaw_told flaw number before).1) (flaw_more format (first_flaw before) pages number old (read.1 pages same) known)
-known_more format before found.Bad number page pages old new good same read known = absurd (good refl)
+pub known_more : (format number : ℕ) (page : List ℕ) (pages : ℕ → List ℕ) (old new : Definitions × List Broken) → pages number ≡ page → PageRead format number page old new found.Good → KnownTo format number pages old.0 old.1 → KnownTo format (number + 1) pages new.0 new.1
+known_more format number page pages old new same read known = record {
+  slots = λ n low below. elim (cases_eq n number) [
+    | inl this ↦ subst (HoldsSlots format pages) (sym this) (read.0 pages same)
+    | inr other ↦ known.slots n low (omega (arith, below, other))
+  ];
+  of_volume = λ s written. read.2 pages s same written (known.of_volume s written);
+}
 
--- a page that isn't bad was read
-pub page_is_read : (format : ℕ) (g : Found) (number : ℕ) (page : List ℕ) (old new : Definitions) → (g ≡ found.Bad → ⊥) → PageRead format number page old new g → AreReadTo format (rank_of_page (number + 1)) new
-page_is_read format found.Good number page old new good read = read.1
-page_is_read format (found.Flawed flaw) number page old new good read = read.0
-page_is_read format found.Bad number page old new good read = absurd (good refl)
+-- a page that is the first of a definition that has the name of a lower slot or refers to an empty one
+pub known_unresolved : (format number : ℕ) (page : List ℕ) (pages : ℕ → List ℕ) (old new : Definitions × List Broken) → pages number ≡ page → PageRead format number page old new found.Unresolved → KnownTo format number pages old.0 old.1
+    → ((n : ℕ) → number ≤ n → n < 930 → HoldsSlots format pages n) → IsBadDefinition format pages number
+known_unresolved format number page pages old new same read known others = inr (
+  λ n low high. elim (cases_lt n number) [ inl below ↦ known.slots n low below | inr past ↦ others n past high ],
+  λ s written. read pages s same written (known.of_volume s written),
+)
+
+-- the least page that is none, of those from a number on and of all
+pub least_none : (format number page : ℕ) (pages : ℕ → List ℕ) → ((n : ℕ) → 257 ≤ n → n < number → HoldsSlots format pages n) → IsLeast (λ n. (number ≤ n) × IsNoDefinitionPage format pages n) page → IsBadDefinition format pages page
+least_none format number page pages before least = inl (record {
+  has = least.has.1;
+  least = λ other none. elim (cases_lt other number) [
+    | inl below ↦ absurd (none.2 (before other none.0 below))
+    | inr past ↦ least.least other (past, none)
+  ];
+})
+
+-- a page that is none, behind those that are
+pub known_bad : (format number : ℕ) (page : List ℕ) (pages : ℕ → List ℕ) (d : Definitions) (broken : List Broken) → pages number ≡ page → 257 ≤ number → number < 930 → IsNoPageOf format number page → KnownTo format number pages d broken → IsBadDefinition format pages number
+known_bad format number page pages d broken same low high none known =
+    least_none format number number pages known.slots (record { has = ((let z : number ≤ number = omega arith in z), (low, high, none pages same)); least = λ other found. found.0 })
 
 -- all slots stand below the end
-below_end : (kind : Kind) (slot : ℕ) → slot < limit kind → rank kind slot < all_slots
+pub below_end : (kind : Kind) (slot : ℕ) → slot < limit kind → rank kind slot < all_slots
 below_end kinds.RowType slot within = omega arith
 below_end kinds.Pattern slot within = omega arith
 below_end kinds.Calendar slot within = omega arith
@@ -115,16 +107,19 @@ below_end kinds.Container slot within = omega arith
 below_end kinds.Series slot within = omega arith
 
 -- all definition pages were read
-pub known_all : (format : ℕ) (flaw : Option ℕ) (pages : ℕ → List ℕ) (d : Definitions) → KnownBelow format flaw pages 930 d → HoldUnless format flaw pages d
-known_all format None pages d known = record {
-  slots = λ kind slot within. known.0 kind slot within (below_end kind slot within);
-  behind = known.1;
-}
-known_all format (Some number) pages d known = known
+pub known_all : (format : ℕ) (pages : ℕ → List ℕ) (d : Definitions) (broken : List Broken) → KnownTo format 930 pages d broken → AreKnown format pages d broken
+known_all format pages d broken known = record { slots = known.slots; of_volume = known.of_volume }
 
 -- nothing stands below the first page
-pub known_none : (format : ℕ) (pages : ℕ → List ℕ) (d : Definitions) → KnownBelow format None pages 257 d
-known_none format pages d = (λ kind slot within below. absurd (omega arith), λ n low below. absurd (omega arith))
+pub known_none : (format : ℕ) (pages : ℕ → List ℕ) (d : Definitions) (broken : List Broken) → broken ≡ [] → KnownTo format 257 pages d broken
+known_none format pages d broken none = record {
+  slots = λ n low below. absurd (omega (arith, low, below));
+  of_volume = λ s written. record {
+    same = λ kind slot within below. absurd (omega (arith, below));
+    listed = subst (All (IsBrokenIn s)) (sym none) (All-nil (IsBrokenIn s));
+    resolved = λ kind slot within below flaw. omega (arith, below);
+  };
+}
 
 -- no definitions were read yet
 sizes_none : (kind : Kind) → length (slots kind no_definitions) ≡ limit kind
@@ -150,3 +145,59 @@ none_read d is = subst (AreReadTo d.format 0) (sym is) (record {
       let none = sym (at_slot-map of_calendar slot (with_format d.format no_definitions).calendars) ∙ nothing_defined kinds.Calendar slot in
       let some = ap (option_map of_calendar) there in
       cc
+
+pub none_read_to : (d : Definitions) (broken : List Broken) → d ≡ with_format d.format no_definitions → broken ≡ [] → IsReadTo d.format 0 d broken
+none_read_to d broken is none = record {
+  read = none_read d is;
+  there = λ kind slot def within here. absurd (none_or (def_at kind slot d) def ((none_read d is).empty kind slot (omega arith)) here);
+  listed = subst (AreBroken 0) (sym none) (record {
+    below = All-nil (λ (b : Broken). rank kinds.Calendar b.slot < 0);
+    within = All-nil (λ (b : Broken). b.slot < limit kinds.Calendar);
+    rising = λ i j x before inside. absurd (omega (arith, inside));
+  });
+} where
+  none_or : (o : Option Def) (a : Def) → o ≡ None → o ≡ Some a → ⊥
+  none_or o a none some = cc
+
+-- a call that failed as this one
+pub err_is : {T : Type 0} (r : Result T SurveyFault) (e : SurveyFault) → IsErrAnd r (λ x. x ≡ e) → r ≡ Err e
+err_is (Ok x) e is = absurd is
+err_is (Err x) e is = ap Err is
+
+-- what a refusal says, said of something else
+pub refused_so : (e : SurveyFault) (P Q : ℕ → Type 0) → ((page : ℕ) → P page → Q page) → IfRefused e P → IfRefused e Q
+refused_so (NotAStore page) P Q so refused = so page refused
+refused_so Failed P Q so refused = tt
+refused_so (Memory error) P Q so refused = tt
+
+-- the same pages
+pub equal_pages : (a b : ℕ → List ℕ) → EqualPages a b → b ≡ a
+equal_pages a b same = λ i n. same n i
+
+-- the pages behind one where something isn't settled were judged
+pub judged_read : {A : Type 0} (tells : Bool) (format number own : ℕ) (e : SurveyFault) (d x : Definitions) (broken : List Broken) (u v w : Contents) → own ≡ format → Reads tells (Ok (tt {0})) u v → (IsTrue tells → KnownTo format number u.page d broken) → PagesJudged tells own number (Err e) v w
+    → DefinitionsRead {A = A} tells format (Err e) x u w
+judged_read {A} tells format number own e d x broken u v w same first known judged = record {
+  call = reads_more tells tt (Err e) u v w first (reads_err tells e v w judged.call);
+  read = tt;
+  known = tt;
+  refused = refused_so e (λ page. IsTrue tells → IsLeast (λ n. (number ≤ n) × IsNoDefinitionPage own v.page n) page) (λ page. IsTrue tells → IsBadDefinition format u.page page)
+      (λ page least told. least_none format number page u.page (known told).slots
+      (subst (λ (p : ℕ × (ℕ → List ℕ)). IsLeast (λ n. (number ≤ n) × IsNoDefinitionPage p.0 p.1 n) page) (λ i. (same i, equal_pages u.page v.page (first.pages told) i)) (least told))) judged.refused;
+}
+
+pub unresolved_read : {A : Type 0} (tells : Bool) (format number own : ℕ) (page : List ℕ) (old new : Definitions × List Broken) (u v w : Contents) → own ≡ format → PageRead format number page old new found.Unresolved → Reads tells (Ok (tt {0})) u v → (IsTrue tells → u.page number ≡ page)
+    → (IsTrue tells → KnownTo format number u.page old.0 old.1) → PagesJudged tells own number (Ok tt) v w → DefinitionsRead {A = A} tells format (Err (NotAStore number)) new.0 u w
+unresolved_read {A} tells format number own page old new u v w same read first here known judged = record {
+  call = reads_refused tells (tt {0}) number u w (reads_more tells (tt {0}) (Ok (tt {0})) u v w first judged.call);
+  read = tt;
+  known = tt;
+  refused = λ told.
+      known_unresolved format number page u.page old new (here told) read (known told)
+      (subst (λ (p : ℕ × (ℕ → List ℕ)). (n : ℕ) → number ≤ n → n < 930 → HoldsSlots p.0 p.1 n) (λ i. (same i, equal_pages u.page v.page (first.pages told) i)) (judged.all told));
+}
+
+-- what an answer says
+pub is_true : (b : Bool) (P Q : Type 0) → b ≡ true → MatchBool b P Q → P
+is_true true P Q is holds = holds
+is_true false P Q is holds = absurd (cc)

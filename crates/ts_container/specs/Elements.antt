@@ -1,6 +1,6 @@
 -- The element pages as they are read.
-use Rattle.std.specs.Prelude.{◌≡◌, ℕ, ◌+◌, ◌<◌, Bool, IsTrue, Option, Some, None, Result, IfOk, IfErr, List, [], ◌∷◌}
-use Rattle.std.specs.Prelude.{length}
+use Rattle.std.specs.Prelude.{◌≡◌, ℕ, ◌+◌, ◌-◌, ◌<◌, ◌≤◌, Bool, IsTrue, Option, Some, None, Result, IfOk, IfErr, List}
+use Rattle.std.specs.Prelude.{[], ◌∷◌, length}
 use Rattle.ts_page.specs.declared.page.Head.{Head}
 use Rattle.ts_page.specs.declared.page.Head.TheVariants as heads
 use Rattle.ts_page.specs.Volume.{first_element_page}
@@ -11,10 +11,13 @@ use Rattle.ts_container.specs.declared.content.Content.TheVariants as content
 use Rattle.ts_container.specs.declared.elements.Elements.{Elements}
 use Rattle.ts_container.specs.declared.fault.SurveyFault.{SurveyFault}
 use Rattle.ts_container.specs.declared.span.Span.{Span}
-use Rattle.ts_layout.specs.Meaning.{ElementPage, Free, element_page, HoldsElements, HoldAll}
+use Rattle.ts_layout.specs.Meaning.{ElementPage, Free, element_page, HoldsElements, IsSound}
 use Rattle.ts_layout.specs.Surveyed.{free_from}
 use Rattle.ts_container.specs.Spans.{span_on, spans_from}
-use Rattle.ts_container.specs.Survey.{Reads, IfRefused}
+use Rattle.ts_container.specs.declared.surveyed.Surveyed.{Surveyed}
+use Rattle.ts_container.specs.Survey.{Reads, IfRefused, IsSurveyOf, IsFirstLate}
+use Rattle.ts_volume.specs.FirstBad.{IsLeast}
+use Rattle.ts_layout.specs.Placed.{AreKept}
 
 -- what is found of the page of a number tells what stands on it
 abbrev pub Describes : Definitions → ℕ → Content → ElementPage → Type 0
@@ -42,9 +45,10 @@ pub record Listed (d : Definitions) (spans : List Span) (free : List ℕ) (es : 
 abbrev pub IsReadAs : Bool → Contents → Definitions → ℕ → ElementPage → Type 0
 IsReadAs tells v d number e = (bytes : List ℕ) × HoldsElements d bytes e × (IsTrue tells → v.page number ≡ bytes)
 
--- no elements stand on so many element pages
-abbrev pub HoldNoElements : ℕ → Definitions → (ℕ → List ℕ) → Type 0
-HoldNoElements count d pages = (es : List ElementPage) → length es ≡ count → HoldAll d pages es → ⊥
+-- an element page that is none of these definitions, in a volume with so many pages
+abbrev pub IsBadElement : ℕ → Definitions → (ℕ → List ℕ) → ℕ → Type 0
+IsBadElement count d pages number = (first_element_page ≤ number) × (number < first_element_page + count)
+    × ((e : ElementPage) → HoldsElements d (pages number) e → ⊥)
 
 -- all element pages were read, so many
 pub record AllRead (tells : Bool) (count : ℕ) (d : Definitions) (v : Contents) (spans : List Span)
@@ -59,4 +63,30 @@ pub record ElementsRead (tells : Bool) (count : ℕ) (d : Definitions) (result :
     (v w : Contents) : Type 0 where
   pub call : Reads tells result v w
   pub read : IfOk result (λ x. AllRead tells count d v x.spans.items x.free.items)
-  pub refused : IfErr result (λ e. IfRefused e (IsTrue tells → HoldNoElements count d v.page))
+  pub refused : IfErr result (λ e. IfRefused e (λ page. IsTrue tells → IsLeast (IsBadElement count d v.page) page))
+
+-- so many element pages hold what was found of them, each in some bytes
+pub record AreListed (count : ℕ) (d : Definitions) (spans : List Span) (free : List ℕ)
+    (es : List ElementPage) : Type 0 where
+  pub size : length es ≡ count
+  pub listed : Listed d spans free es
+  pub held : (j : ℕ) → j < length es → (bytes : List ℕ) × HoldsElements d bytes (element_page j es)
+
+-- some do
+abbrev pub AreElements : ℕ → Definitions → List Span → List ℕ → Type 0
+AreElements count d spans free = (es : List ElementPage) × AreListed count d spans free es
+
+-- What was found of the element pages is finished: it keeps its rules, and is what the layout of each such pages has,
+-- which keeps the rules.
+abbrev pub IsFinished : ℕ → Definitions → List Span → List ℕ → Surveyed → Type 0
+IsFinished count d spans free s =
+    (s.defs.definitions ≡ d) × AreKept d s.space s.free.items count
+    × ((es : List ElementPage) → AreListed (count - first_element_page) d spans free es
+    → IsSurveyOf d s.space s.free.items (record { definitions = d; element_pages = es })
+    × IsSound (record { definitions = d; element_pages = es }))
+
+-- in the layout of each such pages this is the page that the first of the last steps with a bad page finds
+abbrev pub IsLateBad : ℕ → Definitions → List Span → List ℕ → ℕ → Type 0
+IsLateBad count d spans free page =
+    (es : List ElementPage) → AreListed (count - first_element_page) d spans free es
+    → IsFirstLate (record { definitions = d; element_pages = es }) page

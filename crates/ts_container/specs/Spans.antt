@@ -1,7 +1,7 @@
 -- The pages of series as they are found: their spans, in the order of the series and of where they begin, and the rules
 -- that they keep.
-use Rattle.std.specs.Prelude.{◌≡◌, ℕ, suc, ◌+◌, ◌<◌, ◌≤◌, ◌==◌, ℤ, ◌<ℤ◌, ◌≤ℤ◌, Option, Some, None, unwrap_or, List, []}
-use Rattle.std.specs.Prelude.{◌∷◌, ◌++◌, length, map, filter}
+use Rattle.std.specs.Prelude.{◌≡◌, ◌≢◌, ℕ, suc, ◌+◌, ◌<◌, ◌≤◌, ◌==◌, ℤ, ◌<ℤ◌, ◌≤ℤ◌, Option, Some, None, unwrap_or, List}
+use Rattle.std.specs.Prelude.{[], ◌∷◌, ◌++◌, length, map, filter, slice_index_or, AllPairs, Contains}
 use Rattle.std.specs.List.{AllAdjacentBelow}
 use Rattle.ts_row.specs.declared.kind.Column.{Column}
 use Rattle.ts_row.specs.RowType.{Heading}
@@ -11,8 +11,9 @@ use Rattle.ts_cells.specs.Cell.{page_room}
 use Rattle.ts_cells.specs.IrregularPage.{last_stamp}
 use Rattle.ts_offset.specs.declared.shape.Shape.{Shape}
 use Rattle.ts_offset.specs.declared.shape.Shape.TheVariants.{Irregular, Regular}
-use Rattle.ts_model.specs.Definitions.{Definitions, series_slots}
+use Rattle.ts_model.specs.Definitions.{Definitions, container_slots, series_slots}
 use Rattle.ts_container.specs.declared.span.Span.{Span}
+use Rattle.ts_layout.specs.Charges.{KeepsQuotaAt}
 use Rattle.ts_layout.specs.Limits.{AreOfFormat}
 use Rattle.ts_layout.specs.Sheets.{Sheet, HoldsSheet}
 use Rattle.ts_layout.specs.Meaning.{ElementPage, Free, Cells, heading_at, shape_at}
@@ -99,6 +100,52 @@ AreMore d a b =
 -- no page and the next one do
 abbrev pub AreDense : Definitions → List Span → Type 0
 AreDense d spans = AllAdjacentBelow (AreMore d) spans (length spans)
+
+-- no two have one page
+abbrev pub AreDifferent : List Span → Type 0
+AreDifferent spans = AllPairs (λ a b. a.page ≢ b.page) spans
+
+-- two pages of one series overlap; this is the higher one
+pub record IsClash (spans : List Span) (page : ℕ) : Type 0 where
+  pub lower : Span
+  pub upper : Span
+  pub first : Contains spans lower
+  pub second : Contains spans upper
+  pub below : lower.page < upper.page
+  pub is : page ≡ upper.page
+  pub series : lower.slot ≡ upper.slot
+  pub begins : lower.first ≤ℤ upper.last
+  pub ends : upper.first ≤ℤ lower.last
+
+-- a page up to a number overlaps a lower one, or none does
+abbrev pub HasClashTo : ℕ → List Span → Type 0
+HasClashTo limit spans = (page : ℕ) × IsClash spans page × (page ≤ limit)
+
+abbrev pub AreApartTo : ℕ → List Span → Type 0
+AreApartTo limit spans = (page : ℕ) → IsClash spans page → limit < page
+
+-- two pages of one irregular series fit one page
+pub record IsThinPair (d : Definitions) (a b : Span) : Type 0 where
+  pub heading : Heading
+  pub series : a.slot ≡ b.slot
+  pub lies : shape_at d a.slot ≡ Some Irregular
+  pub columns : heading_at d a.slot ≡ Some heading
+  pub fit : a.count + b.count ≤ page_room heading.columns
+
+-- a page and the next one of these are such
+pub record IsThin (d : Definitions) (spans : List Span) (page : ℕ) : Type 0 where
+  pub at : ℕ
+  pub a : Span
+  pub b : Span
+  pub within : at + 1 < length spans
+  pub first : slice_index_or spans at a ≡ a
+  pub second : slice_index_or spans (at + 1) b ≡ b
+  pub is : page ≡ a.page
+  pub pair : IsThinPair d a b
+
+-- some container is charged more than its quota
+abbrev pub IsOverQuota : Definitions → Directory → Type 0
+IsOverQuota d space = (slot : ℕ) × (slot < container_slots) × (KeepsQuotaAt d space slot → ⊥)
 
 -- the places of the series in a slot, by the spans of all
 abbrev pub places_in : ℕ → List Span → List Place

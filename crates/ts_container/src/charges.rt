@@ -1,10 +1,11 @@
 // What containers are charged for the pages of their series.
-ghost use Rattle.std.specs.Prelude.{◌≡◌, ◌≤◌, ◌<◌, ◌^◌, ◌↔◌, IsTrue};
+ghost use Rattle.std.specs.Prelude.{◌≡◌, ◌≤◌, ◌<◌, ◌^◌, ◌↔◌, IsTrue, MatchBool};
 ghost use Rattle.ts_model.specs.Definitions.{container_slots, series_slots, at_slot, IsDefinitions};
 ghost use Rattle.ts_space.specs.Directory.{places_of};
 ghost use Rattle.ts_layout.specs.Meaning.{KeepLimits};
 ghost use Rattle.ts_layout.specs.Charges.{IsCountable, AreCountable, places_charge, charge_listed, container_charge};
 ghost use Rattle.ts_layout.specs.Charges.{KeepsQuotaAt, KeepQuotas};
+ghost use Rattle.ts_container.specs.Spans.{IsOverQuota};
 
 use crate::content::row_type_in;
 use ts_base::Stamp;
@@ -17,7 +18,8 @@ pub(crate) fn keep_quotas(defs: &Defs, space: &Space) -> bool
     requires limits { KeepLimits defs.now.definitions }
     requires rules { IsDefinitions defs.now.definitions }
     requires countable { AreCountable space.now }
-    ensures { IsTrue result ↔ KeepQuotas defs.now.definitions space.now }
+    ensures { MatchBool result (KeepQuotas defs.now.definitions space.now)
+        (IsOverQuota defs.now.definitions space.now) }
 {
     for slot in 0..64 {
         if !keeps_quota(defs, space, slot) {

@@ -2,9 +2,8 @@
 ghost use Rattle.std.specs.Prelude.{◌≡◌, IfOk, option_map};
 ghost use Rattle.ts_model.specs.Definitions.{at_slot};
 ghost use Rattle.ts_slots.specs.Written.{IsWritten};
-ghost use Rattle.ts_container.specs.Reading.{Completes, Makes};
+ghost use Rattle.ts_container.specs.Reading.{Completes, HasPattern, Makes};
 
-use crate::found::Flaw;
 use std::alloc::{AllocError, Global};
 use ts_base::{Name, Stamp};
 use ts_calendar::Calendar;
@@ -13,13 +12,14 @@ use ts_offset::Counter;
 use ts_pattern::Pattern;
 use ts_slots::{CalendarForm, Part, Written};
 
-/// The definition that is written, among those before it.
+/// The definition that is written, among those before it; of a calendar that breaks a rule its name.
 pub(crate) fn complete(
     alloc: Global,
     written: Written,
     defs: &Defs,
-) -> Result<Result<Def, Flaw>, AllocError>
-    requires { IsWritten defs.now.definitions.format written }
+) -> Result<Result<Def, Name>, AllocError>
+    requires limits { IsWritten defs.now.definitions.format written }
+    requires there { HasPattern defs.now.definitions written }
     ensures { IfOk result (Completes defs.now.definitions written) }
 {
     match written {
@@ -33,7 +33,8 @@ fn complete_calendar(
     alloc: Global,
     form: CalendarForm,
     defs: &Defs,
-) -> Result<Result<Def, Flaw>, AllocError>
+) -> Result<Result<Def, Name>, AllocError>
+    requires { HasPattern defs.now.definitions (Written.Form form) }
     ensures { IfOk result (Completes defs.now.definitions (Written.Form form)) }
 {
     let CalendarForm {
@@ -46,7 +47,7 @@ fn complete_calendar(
         Part::Own(pattern) => make(alloc, name, start, patt_start, pattern, None),
         Part::By(slot) => match pattern_at(defs, slot)? {
             Some(pattern) => make(alloc, name, start, patt_start, pattern, Some(slot)),
-            None => Ok(Err(Flaw::Unresolved)),
+            None => Ok(Err(name)),
         },
     }
 }
@@ -61,7 +62,7 @@ fn pattern_at(defs: &Defs, slot: u8) -> Result<Option<Pattern>, AllocError>
     }
 }
 
-// The calendar of these parts, if it breaks no rule.
+// The calendar of these parts, if it breaks no rule; else its name.
 fn make(
     alloc: Global,
     name: Name,
@@ -69,7 +70,7 @@ fn make(
     patt_start: Stamp,
     pattern: Pattern,
     by: Option<u8>,
-) -> Result<Result<Def, Flaw>, AllocError>
+) -> Result<Result<Def, Name>, AllocError>
     ensures { IfOk result (Makes name (record { start = start; patt_start = patt_start; pattern = pattern }) by) }
 {
     match Calendar::make(start, patt_start, pattern) {
@@ -77,6 +78,6 @@ fn make(
             let calendar = Counter::make(alloc, calendar)?;
             Ok(Ok(Def::Calendar { name, calendar, by }))
         }
-        Err(_) => Ok(Err(Flaw::Invalid)),
+        Err(_) => Ok(Err(name)),
     }
 }

@@ -21,7 +21,7 @@ pub enum Content {
 
 /// What stands on the element page of a number, if it is one of the format of the volume, of a series that is there and
 /// of its kind.
-pub(crate) fn content_of(number: u32, page: &Page, defs: &Defs) -> Option<Content>
+pub fn content_of(number: u32, page: &Page, defs: &Defs) -> Option<Content>
     requires limits { KeepLimits defs.now.definitions }
     requires rules { IsDefinitions defs.now.definitions }
     requires origins { HaveOrigins defs.now.definitions }

@@ -14,7 +14,7 @@ use ts_layout::ELEMENTS;
 use ts_model::Defs;
 use ts_page::{Page, Pages};
 
-/// What was found of the element pages.
+/// What is found of the element pages.
 #[derive(Drop)]
 pub struct Elements {
     /// The pages of series, page after page.
@@ -55,8 +55,8 @@ pub(crate) fn read_elements<P: Pages>(
 }
 
 impl Elements {
-    // Adds what one page has.
-    fn add(&mut self, number: u32, content: Content) -> Result<(), AllocError>
+    /// Adds what is found of the page of a number.
+    pub fn add(&mut self, number: u32, content: Content) -> Result<(), AllocError>
         ensures { OnOk result ((d : Definitions) (es : List ElementPage) (e : ElementPage)
             → number ≡ first_element_page + length es
             → Describes d number content e → Listed d self.old.spans.items self.old.free.items es

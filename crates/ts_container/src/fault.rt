@@ -7,7 +7,7 @@ use ts_base::StoreFault;
 /// The pages mean no catalogue, or they could not be read.
 #[derive(Debug, Drop)]
 pub enum SurveyFault {
-    /// Some page is bad. Which one is told no clause says.
+    /// This is the first bad page.
     NotAStore { page: u32 },
     Failed,
     Memory(AllocError),

@@ -1,6 +1,6 @@
 // The lower of two pages.
 ghost use Rattle.std.specs.Prelude.{◌≡◌, ◌⊎◌, None, IsSome};
-ghost use Rattle.ts_container.specs.Reading.{lower_page};
+ghost use Rattle.ts_container.specs.Lower.{lower_page};
 
 /// The lower of two pages, if there is one.
 pub(crate) fn lower(first: Option<u32>, second: Option<u32>) -> Option<u32>

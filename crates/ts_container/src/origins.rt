@@ -4,6 +4,7 @@ ghost use Rattle.ts_calendar.specs.Intervals.{start_at};
 ghost use Rattle.ts_offset.specs.Walk.{IsOnStart};
 ghost use Rattle.ts_model.specs.Definitions.{SeriesDef, at_slot, series_slots, IsDefinitions};
 ghost use Rattle.ts_layout.specs.Meaning.{IsOnCalendar, HaveOrigins};
+ghost use Rattle.ts_volume.specs.FirstBad.{IsAstray, IsLeast};
 
 use ts_base::Stamp;
 use ts_calendar::{Calendar, starts_rise};
@@ -13,7 +14,7 @@ use ts_model::{Def, Defs, Kind};
 /// The page of the first regular series whose origin is no on start of its calendar. It takes no memory.
 pub(crate) fn first_astray(defs: &Defs) -> Option<u32>
     requires { IsDefinitions defs.now.definitions }
-    ensures { MatchOption result (HaveOrigins defs.now.definitions) (λ _. HaveOrigins defs.now.definitions → ⊥) }
+    ensures { MatchOption result (HaveOrigins defs.now.definitions) (IsLeast (IsAstray defs.now.definitions)) }
 {
     for slot in 0..Kind::Series.limit() {
         if !has_origin_at(defs, slot) {

@@ -1,61 +1,64 @@
 // The rules that definitions keep together.
-ghost use Rattle.std.specs.Prelude.{◌≡◌, ◌↔◌, ◌<◌, Some, IsTrue, MatchOption, length};
-ghost use Rattle.ts_model.specs.declared.def.Def.{Def};
-ghost use Rattle.ts_model.specs.Definitions.{limit, at_slot, references, calendar_reference, container_slots};
+ghost use Rattle.std.specs.Prelude.{◌≡◌, ◌↔◌, ◌<◌, Any, IsTrue, length};
+ghost use Rattle.ts_model.specs.Definitions.{at_slot, references, calendar_reference, container_slots};
 ghost use Rattle.ts_layout.specs.Limits.{IsDef};
-ghost use Rattle.ts_layout.specs.Meaning.{def_at, IsThere, AreThere, KeepLimits, AreFollowing, quota_in, sum_of_quotas};
-ghost use Rattle.ts_layout.specs.Meaning.{AreThereIn};
+ghost use Rattle.ts_layout.specs.Meaning.{quota_in, sum_of_quotas};
+ghost use Rattle.ts_slots.specs.Written.{IsWritten};
+ghost use Rattle.ts_container.specs.Reading.{AreFilledAmong, IsTakenAmong, part_references, references_written};
 
+use crate::found::Broken;
 use ts_base::Stamp;
-use ts_layout::page_of_slot;
 use ts_model::{Def, Defs, Kind};
+use ts_slots::{Part, Written};
 
-/// The page of the first definition that refers to an empty slot, where each calendar has its pattern.
-pub(crate) fn first_dangling(defs: &Defs) -> Option<u32>
-    requires limits { KeepLimits defs.now.definitions }
-    requires calendars { AreFollowing defs.now.definitions }
-    ensures { MatchOption result (AreThere defs.now.definitions) (λ _. AreThere defs.now.definitions → ⊥) }
+/// Whether a definition of the kind has the name, or a calendar that breaks a rule.
+pub(crate) fn is_taken(defs: &Defs, broken: &[Broken], kind: Kind, name: &[u8]) -> bool
+    ensures { IsTrue result ↔ IsTakenAmong defs.now.definitions broken.now kind name.now }
 {
-    if let Some(slot) = dangling_in(defs, Kind::Container) {
-        return Some(page_of_slot(Kind::Container, slot));
-    }
-    if let Some(slot) = dangling_in(defs, Kind::Series) {
-        return Some(page_of_slot(Kind::Series, slot));
-    }
-    None
+    defs.find(kind, name).is_some() || (kind == Kind::Calendar && has_name(broken, name))
 }
 
-// The first slot of a kind whose definition refers to an empty slot.
-fn dangling_in(defs: &Defs, kind: Kind) -> Option<u16>
-    requires limits { KeepLimits defs.now.definitions }
-    ensures { MatchOption result (AreThereIn kind defs.now.definitions)
-        (λ slot. (slot < limit kind) × (AreThereIn kind defs.now.definitions → ⊥)) }
+// Whether one of these calendars has the name.
+fn has_name(broken: &[Broken], name: &[u8]) -> bool
+    ensures { IsTrue result ↔ Any (λ b. b.name ≡ name.now) broken.now }
 {
-    for slot in 0..kind.limit() {
-        if !is_sound_at(defs, kind, slot) {
-            return Some(slot);
-        }
-    }
-    None
+    broken
+        .iter()
+        .any(|calendar| calendar.name.as_slice() == name)
 }
 
-// Whether what stands in a slot, if anything does, refers to a filled slot.
-fn is_sound_at(defs: &Defs, kind: Kind, slot: u16) -> bool
-    requires limits { KeepLimits defs.now.definitions }
-    requires slot { slot < limit kind }
-    ensures { IsTrue result ↔ ((def : Def) → def_at kind slot defs.now.definitions ≡ Some def
-        → IsThere defs.now.definitions (references def)) }
+// Whether one of these calendars stands in the slot.
+fn has_slot(broken: &[Broken], slot: u16) -> bool
+    ensures { IsTrue result ↔ Any (λ b. b.slot ≡ slot) broken.now }
 {
-    match defs.get(kind, slot) {
-        None => true,
-        Some(def) => is_there(defs, def),
+    broken.iter().any(|calendar| calendar.slot == slot)
+}
+
+/// Whether something stands in each slot to which what is written refers.
+pub(crate) fn is_resolved(defs: &Defs, broken: &[Broken], written: &Written) -> bool
+    requires { IsWritten defs.now.definitions.format written.now }
+    ensures { IsTrue result ↔ AreFilledAmong defs.now.definitions broken.now (references_written written.now) }
+{
+    match written {
+        Written::Whole(def) => is_there(defs, broken, def),
+        Written::Form(form) => has_part(defs, broken, &form.part),
     }
 }
 
-// Whether something stands in the slot that a definition refers to.
-fn is_there(defs: &Defs, def: &Def) -> bool
+// Whether the pattern stands in its slot, where a calendar says one.
+fn has_part(defs: &Defs, broken: &[Broken], part: &Part) -> bool
+    ensures { IsTrue result ↔ AreFilledAmong defs.now.definitions broken.now (part_references part.now) }
+{
+    match part {
+        Part::By(slot) => defs.get(Kind::Pattern, *slot as u16).is_some(),
+        Part::Own(_) => true,
+    }
+}
+
+// Whether something stands in each slot to which a definition refers.
+fn is_there(defs: &Defs, broken: &[Broken], def: &Def) -> bool
     requires { IsDef defs.now.definitions.format def.now }
-    ensures { IsTrue result ↔ IsThere defs.now.definitions (references def.now) }
+    ensures { IsTrue result ↔ AreFilledAmong defs.now.definitions broken.now (references def.now) }
 {
     match def {
         Def::RowType { .. } | Def::Pattern { .. } => true,
@@ -69,17 +72,21 @@ fn is_there(defs: &Defs, def: &Def) -> bool
             regular,
             ..
         } => {
-            defs.get(Kind::Container, *container as u16).is_some() && has_calendar(defs, regular)
+            defs.get(Kind::Container, *container as u16).is_some()
+                && has_calendar(defs, broken, regular)
         }
     }
 }
 
 // Whether a series has a calendar, where it is regular.
-fn has_calendar(defs: &Defs, regular: &Option<(u8, Stamp)>) -> bool
-    ensures { IsTrue result ↔ IsThere defs.now.definitions (calendar_reference regular.now) }
+fn has_calendar(defs: &Defs, broken: &[Broken], regular: &Option<(u8, Stamp)>) -> bool
+    ensures { IsTrue result ↔ AreFilledAmong defs.now.definitions broken.now (calendar_reference regular.now) }
 {
     match regular {
-        Some((calendar, _)) => defs.get(Kind::Calendar, *calendar as u16).is_some(),
+        Some((calendar, _)) => {
+            let slot = *calendar as u16;
+            defs.get(Kind::Calendar, slot).is_some() || has_slot(broken, slot)
+        }
         None => true,
     }
 }

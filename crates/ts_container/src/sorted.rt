@@ -1,9 +1,11 @@
 // The spans of all pages, sorted and judged: those of one series are apart, and two neighbours of an irregular one
 // never fit one page.
-ghost use Rattle.std.specs.Prelude.{IsPermutation, MatchOption};
+ghost use Rattle.std.specs.Prelude.{◌≡◌, ◌↔◌, IsTrue, IsPermutation, All, MatchBool, MatchOption};
 ghost use Rattle.ts_model.specs.Definitions.{IsDefinitions};
 ghost use Rattle.ts_layout.specs.Meaning.{KeepLimits};
-ghost use Rattle.ts_container.specs.Spans.{AreSorted, IsApart, AreApart, AreMore, AreDense};
+ghost use Rattle.ts_volume.specs.FirstBad.{IsLeast};
+ghost use Rattle.ts_container.specs.Spans.{AreSorted, AreDifferent, IsSpan, IsApart, AreApart, AreMore, AreDense};
+ghost use Rattle.ts_container.specs.Spans.{AreApartTo, HasClashTo, IsClash, IsThin, IsThinPair};
 
 use crate::content::row_type_of;
 use crate::lower::lower;
@@ -20,48 +22,78 @@ pub(crate) fn sort(spans: &mut Vec<Span>)
     spans.sort_unstable_by_key(|span| (span.slot, span.first));
 }
 
-/// The least page that overlaps a neighbour of a lower number; where there is none, the least that fits one page with
-/// the next one of its series, which is irregular.
-pub(crate) fn bad_page(defs: &Defs, spans: &[Span]) -> Option<u32>
-    requires limits { KeepLimits defs.now.definitions }
-    requires rules { IsDefinitions defs.now.definitions }
-    ensures { MatchOption result (AreApart spans.now × AreDense defs.now.definitions spans.now)
-        (λ _. AreApart spans.now → AreDense defs.now.definitions spans.now → ⊥) }
+/// The least page that overlaps a lower page of its series.
+pub(crate) fn overlapping(spans: &[Span]) -> Option<u32>
+    requires order { AreSorted spans.now }
+    requires ends { All IsSpan spans.now }
+    requires pages { AreDifferent spans.now }
+    ensures { MatchOption result (AreApart spans.now) (IsLeast (IsClash spans.now)) }
 {
-    match overlapping(spans) {
-        Some(page) => Some(page),
-        None => sparse(defs, spans),
-    }
-}
-
-// The least page that overlaps a neighbour of a lower number.
-fn overlapping(spans: &[Span]) -> Option<u32>
-    ensures { MatchOption result (AreApart spans.now) (λ _. AreApart spans.now → ⊥) }
-{
-    let mut least = None;
     for i in 1..spans.len() {
-        least = lower(least, overlap(&spans[i - 1], &spans[i]));
-    }
-    least
-}
-
-// The higher page of two, where they are of one series and the second begins before the first has ended, or where it
-// ends.
-fn overlap(first: &Span, second: &Span) -> Option<u32>
-    ensures { MatchOption result (IsApart first.now second.now) (λ _. IsApart first.now second.now → ⊥) }
-{
-    if first.slot == second.slot && second.first <= first.last {
-        return Some(first.page.max(second.page));
+        let (first, second) = (&spans[i - 1], &spans[i]);
+        if !are_apart(first, second) {
+            return Some(least_overlapping(spans, first.page.max(second.page)));
+        }
     }
     None
 }
 
-// The least page that fits one page with the next one of its series, which is irregular.
-fn sparse(defs: &Defs, spans: &[Span]) -> Option<u32>
+// Whether the first of two pages ends before the second begins, where they are of one series.
+fn are_apart(first: &Span, second: &Span) -> bool
+    ensures { IsTrue result ↔ IsApart first.now second.now }
+{
+    first.slot != second.slot || first.last < second.first
+}
+
+// The least page that overlaps a lower page of its series, where one up to a number does. It passes over the pages up
+// to the middle of what is left, again and again.
+fn least_overlapping(spans: &[Span], high: u32) -> u32
+    requires order { AreSorted spans.now }
+    requires ends { All IsSpan spans.now }
+    requires pages { AreDifferent spans.now }
+    requires some { HasClashTo high spans.now }
+    ensures { IsLeast (IsClash spans.now) result }
+{
+    let mut low = 0;
+    let mut high = high;
+    while high - low > 1 {
+        let middle = low + (high - low) / 2;
+        if are_apart_to(spans, middle) {
+            low = middle;
+        } else {
+            high = middle;
+        }
+    }
+    high
+}
+
+// Whether of the pages up to a number no two of one series overlap.
+fn are_apart_to(spans: &[Span], limit: u32) -> bool
+    requires order { AreSorted spans.now }
+    requires ends { All IsSpan spans.now }
+    requires pages { AreDifferent spans.now }
+    ensures { MatchBool result (AreApartTo limit spans.now) (HasClashTo limit spans.now) }
+{
+    let mut before: Option<usize> = None;
+    for i in 0..spans.len() {
+        if spans[i].page <= limit {
+            if let Some(k) = before {
+                if !are_apart(&spans[k], &spans[i]) {
+                    return false;
+                }
+            }
+            before = Some(i);
+        }
+    }
+    true
+}
+
+/// The least page that fits one page with the next one of its series, which is irregular.
+pub(crate) fn sparse(defs: &Defs, spans: &[Span]) -> Option<u32>
     requires limits { KeepLimits defs.now.definitions }
     requires rules { IsDefinitions defs.now.definitions }
-    ensures { MatchOption result (AreDense defs.now.definitions spans.now) (λ _. AreDense defs.now.definitions spans.now
-        → ⊥) }
+    ensures { MatchOption result (AreDense defs.now.definitions spans.now)
+        (IsLeast (IsThin defs.now.definitions spans.now)) }
 {
     let mut least = None;
     for i in 1..spans.len() {
@@ -75,7 +107,7 @@ fn sparse_page(defs: &Defs, first: &Span, second: &Span) -> Option<u32>
     requires limits { KeepLimits defs.now.definitions }
     requires rules { IsDefinitions defs.now.definitions }
     ensures { MatchOption result (AreMore defs.now.definitions first.now second.now)
-        (λ _. AreMore defs.now.definitions first.now second.now → ⊥) }
+        (λ page. (page ≡ first.now.page) × IsThinPair defs.now.definitions first.now second.now) }
 {
     if first.slot != second.slot || !is_irregular(defs, first.slot) {
         return None;

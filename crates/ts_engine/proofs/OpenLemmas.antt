@@ -1,11 +1,11 @@
 -- An opening: what it finds, and what a stop within it leaves.
-use Rattle.std.proofs.Common.{◌≡◌, ◌≢◌, inl, ℕ, ◌+◌, ◌<◌, ◌≤◌, Bool, IsTrue, Result, Ok, Err, IfErr, IsErrAnd, None, List, [], slice_index, length, get_or, IsPermutation, refl, ap, sym, ◌∙◌, subst, arith}
+use Rattle.std.proofs.Common.{◌≡◌, ◌≢◌, inl, inr, ℕ, ◌+◌, ◌<◌, ◌≤◌, Bool, IsTrue, Result, Ok, Err, IfErr, IsErrAnd, None, List, [], slice_index, length, get_or, IsPermutation, refl, ap, sym, ◌∙◌, subst, arith}
 use Rattle.std.proofs.lemmas.List.Sorted.{IsPermutation-refl}
 use Rattle.ts_disk.specs.Device.{Device, Lawful, Only, Rose, LeavesOnly}
 use Rattle.ts_disk.proofs.Moments.{then_on, leaves_map}
 use Rattle.ts_page.specs.Pages.{Contents, IsLawful}
 use Rattle.ts_journal.specs.Entry.{AreAllowed}
-use Rattle.ts_journal.specs.Journal.{page_count, pages, ReadsButFreed}
+use Rattle.ts_journal.specs.Journal.{IsVolumeSize, page_count, pages, ReadsButFreed}
 use Rattle.ts_journal.specs.Moment.{Keeps, OnlyReads, SamePages}
 use Rattle.ts_store.proofs.CallerLemmas.{keeps_then, reads_then, idle_reads, read_closed, counted, read_dropped, read_committed}
 use Rattle.ts_store.specs.OpenBatch.{State, IsOver, IsIdle, IsClosed, Settles, read_pages, contents_over}
@@ -16,7 +16,12 @@ use Rattle.ts_space.specs.Directory.{Directory}
 use Rattle.ts_container.specs.declared.fault.SurveyFault.{SurveyFault}
 use Rattle.ts_container.specs.declared.fault.SurveyFault.TheVariants.{NotAStore, Failed, Memory}
 use Rattle.ts_layout.specs.Meaning.{ElementPage, HoldsElements, HoldsLayout, catalogue_of}
-use Rattle.ts_container.specs.Survey.{IsFound, IfRefused, HoldNoLayout}
+use Rattle.ts_container.specs.Survey.{IsFound, IfRefused}
+use Rattle.ts_recover.specs.declared.replay.RecoverFault.{RecoverFault}
+use Rattle.ts_recover.specs.declared.replay.RecoverFault.TheVariants as journal
+use Rattle.ts_recover.specs.declared.replay.Replayed.{Replayed}
+use Rattle.ts_recover.specs.Overlay.{RecoverCause}
+use Rattle.ts_volume.specs.FirstBad.{IsFirstBad, IsFirstBadOf}
 use Rattle.ts_layout.specs.Surveyed.{free_pages}
 use Rattle.ts_layout.proofs.CallerLemmas.{free_at, kept_alike, pairs_front}
 use Rattle.ts_engine.specs.declared.engine.Engine.{Engine}
@@ -26,7 +31,7 @@ use Rattle.ts_layout.specs.Placed.{AreKept, used_pages}
 use Rattle.ts_engine.specs.Charged.{CanCount}
 use Rattle.ts_engine.proofs.ChargedLemmas.{can_count}
 use Rattle.ts_engine.specs.Engine.{Kept, IsKeptOf, IsReady}
-use Rattle.ts_engine.specs.Start.{StillMeans, StartFault, ReadFault, Opened}
+use Rattle.ts_engine.specs.Start.{StillMeans, StartFault, ReadFault, Opened, read_as}
 use Rattle.ts_volume.proofs.CallerLemmas.{holds_still, means_layout}
 use Rattle.ts_engine.proofs.MeansLemmas.{still_means}
 use Rattle.ts_engine.proofs.MovesLemmas.{ready_resting, at_meant}
@@ -44,20 +49,28 @@ opened_err tells (Err other) fault v w is opened = subst (λ (x : SurveyFault). 
 pub read_idle : (tells : Bool) (told : IsTrue tells) (s : State) (d : Device) → IsIdle tells s d → IsClosed s → read_pages s d.held ≡ pages d.held
 read_idle tells told s d idle closed = λ i k. idle_reads tells s d idle closed told k i
 
--- pages of which no layout serves are those of no store
+-- what the journal's reading is refused for
+pub journal_fault : (tells : Bool) (fault : RecoverFault) (v w : Device) → Lawful tells v → RecoverCause {T = Replayed} tells (Err fault) v w → ((fault ≡ journal.Failed → ⊥) → w.faults ≡ v.faults) → ReadFault tells (read_as fault) v w
+journal_fault tells journal.Failed v w lawful cause quiet = cause
+journal_fault tells (journal.Memory error) v w lawful cause quiet = quiet (λ failed. cc)
+journal_fault tells (journal.NotAStore page) v w lawful (inl (zero, none)) quiet = (λ told. inl ((λ size. none (subst IsVolumeSize (lawful.size told) size)), zero), quiet (λ failed. cc))
+journal_fault tells (journal.NotAStore page) v w lawful (inr (one, size, malformed)) quiet = (λ told. inr (subst IsVolumeSize (sym (lawful.size told)) size, inl (malformed told, one)), quiet (λ failed. cc))
+
+-- the first bad page of the pages is that of the volume
 pub survey_fault : (tells : Bool) (fault : SurveyFault) (number : ℕ) (s : State) (v w : Device) → Lawful tells v → IsIdle tells s v → IsClosed s → number ≡ s.pages
-    → (fault ≡ Failed → Rose v.faults w.faults) → ((fault ≡ Failed → ⊥) → w.faults ≡ v.faults) → IfRefused fault (IsTrue tells → HoldNoLayout number (read_pages s v.held)) → ReadFault tells fault v w
+    → (fault ≡ Failed → Rose v.faults w.faults) → ((fault ≡ Failed → ⊥) → w.faults ≡ v.faults) → IfRefused fault (λ page. IsTrue tells → IsFirstBad number (read_pages s v.held) page) → ReadFault tells fault v w
 survey_fault tells Failed number s v w lawful idle closed same cause quiet refused = cause refl
 survey_fault tells (Memory error) number s v w lawful idle closed same cause quiet refused = quiet (λ failed. cc)
 survey_fault tells (NotAStore page) number s v w lawful idle closed same cause quiet refused = (
-  λ told cat means.
+  λ told.
       let count : page_count (length v.held) ≡ number = ap page_count (lawful.size told) ∙ counted v.size s.pages idle.over.read.size ∙ sym same in
-      let laid = means.pages.1 in
-      refused told means.pages.0 (record {
-        size = sym count ∙ laid.size;
-        bytes = subst (λ (p : ℕ → List ℕ). HoldsLayout p means.pages.0) (sym (read_idle tells told s v idle closed)) laid.bytes;
-        rules = laid.rules;
-      }),
+      inr (
+        subst IsVolumeSize (sym (lawful.size told)) idle.over.read.volume,
+        inr (record {
+          sound = ((idle.over.read.stands told).rs, (idle.over.read.stands told).stands.records);
+          first = subst (λ (p : ℕ × (ℕ → List ℕ)). IsFirstBad p.0 p.1 page) (λ i. (sym count i, read_idle tells told s v idle closed i)) (refused told);
+        }),
+      ),
   quiet (λ failed. cc),
 )
 
@@ -243,7 +256,7 @@ rose_on a b c le rose = omega arith
 -- the same after reads
 pub fault_after : (tells : Bool) (fault : SurveyFault) (v x w : Device) → OnlyReads tells v x → x.faults ≡ v.faults → ReadFault tells fault x w → ReadFault tells fault v w
 fault_after tells Failed v x w reads quiet cause = rose_on v.faults x.faults w.faults reads.keeps.faults cause
-fault_after tells (NotAStore page) v x w reads quiet cause = (λ told cat means. cause.0 told cat (subst (λ (bytes : List ℕ). MeansCatalogue bytes cat) (sym reads.held) means), cause.1 ∙ quiet)
+fault_after tells (NotAStore page) v x w reads quiet cause = (λ told. subst (λ (bytes : List ℕ). IsFirstBadOf bytes page) reads.held (cause.0 told), cause.1 ∙ quiet)
 fault_after tells (Memory error) v x w reads quiet cause = cause ∙ quiet
 
 -- each moment of both
@@ -279,5 +292,5 @@ opened_after tells (Err fault) v x w only reads quiet opened = record {
   where
     later : (fault : SurveyFault) → StartFault tells fault x w → StartFault tells fault v w
     later Failed cause = rose_on v.faults x.faults w.faults reads.keeps.faults cause
-    later (NotAStore page) cause = (λ told cat means. cause.0 told cat (subst (λ (bytes : List ℕ). MeansCatalogue bytes cat) (sym reads.held) means), cause.1 ∙ reads.held, λ image now. reads.images image (cause.2 image now), cause.3 ∙ quiet)
+    later (NotAStore page) cause = (λ told. subst (λ (bytes : List ℕ). IsFirstBadOf bytes page) reads.held (cause.0 told), cause.1 ∙ reads.held, λ image now. reads.images image (cause.2 image now), cause.3 ∙ quiet)
     later (Memory error) cause = (cause.0 ∙ reads.held, λ image now. reads.images image (cause.1 image now), cause.2 ∙ quiet)

@@ -9,6 +9,7 @@ use Rattle.ts_container.specs.declared.fault.SurveyFault.{SurveyFault}
 use Rattle.ts_container.specs.declared.fault.SurveyFault.TheVariants.{NotAStore, Failed, Memory}
 use Rattle.ts_engine.specs.declared.engine.Engine.{Engine}
 use Rattle.ts_volume.specs.Volume.{MeansCatalogue, MeansNothing}
+use Rattle.ts_volume.specs.FirstBad.{IsFirstBadOf}
 use Rattle.ts_engine.proofs.OpenLemmas.{rose_on}
 use Rattle.ts_engine.specs.Start.{StillMeans, StartFault, LeavesAsItWas, Opened, Started}
 
@@ -112,7 +113,7 @@ module _ {E : Type 0} (tells : Bool) (v x w : Device) (lawful : Lawful tells v) 
 
   start_fault : (fault : SurveyFault) → StartFault tells fault x w → StartFault tells fault v w
   start_fault Failed cause = rose_on v.faults x.faults w.faults sync.call.faults cause
-  start_fault (NotAStore page) cause = (λ told cat means. cause.0 told cat (same_bytes v.held x.held cat (sym sync.held) means), cause.1 ∙ sync.held, λ image now. sync.crash image (cause.2 image now), cause.3 ∙ sync.call.no_fault refl)
+  start_fault (NotAStore page) cause = (λ told. subst (λ (bytes : List ℕ). IsFirstBadOf bytes page) sync.held (cause.0 told), cause.1 ∙ sync.held, λ image now. sync.crash image (cause.2 image now), cause.3 ∙ sync.call.no_fault refl)
   start_fault (Memory error) cause = (cause.0 ∙ sync.held, λ image now. sync.crash image (cause.1 image now), cause.2 ∙ sync.call.no_fault refl)
 
   pub synced_started : (result : Result Engine SurveyFault) → Opened tells result x w → Started tells result v w

@@ -10,24 +10,25 @@ use Rattle.ts_container.specs.declared.fault.SurveyFault.{SurveyFault}
 use Rattle.ts_container.specs.declared.fault.SurveyFault.TheVariants.{NotAStore, Failed, Memory}
 use Rattle.ts_engine.specs.declared.engine.Engine.{Engine}
 use Rattle.ts_volume.specs.Volume.{MeansCatalogue, MeansNothing}
+use Rattle.ts_volume.specs.FirstBad.{IsFirstBadOf}
 use Rattle.ts_engine.specs.Engine.{IsReady, IsAt, NothingIsPending}
 
 -- an image that means the catalogue, and nothing said
 abbrev pub StillMeans : Catalogue → Device → List ℕ → List ℕ → Type 0
 StillMeans cat v image said = MeansCatalogue image cat × (said ≡ v.said)
 
--- The disk failed only where its count rose. The volume is no store exactly where it means no catalogue; then, and for
--- want of memory, nothing was written.
+-- The disk failed only where its count rose. The volume is no store exactly where it means no catalogue, and the page
+-- that is told is its first bad one; then, and for want of memory, nothing was written.
 abbrev pub StartFault : Bool → SurveyFault → Device → Device → Type 0
 StartFault tells Failed v w = Rose v.faults w.faults
-StartFault tells (NotAStore page) v w = (IsTrue tells → MeansNothing v.held) × (w.held ≡ v.held)
+StartFault tells (NotAStore page) v w = (IsTrue tells → IsFirstBadOf v.held page) × (w.held ≡ v.held)
     × Within v.images w.images × (w.faults ≡ v.faults)
 StartFault tells (Memory error) v w = (w.held ≡ v.held) × Within v.images w.images × (w.faults ≡ v.faults)
 
 -- what a call that only read was refused for
 abbrev pub ReadFault : Bool → SurveyFault → Device → Device → Type 0
 ReadFault tells Failed v w = Rose v.faults w.faults
-ReadFault tells (NotAStore page) v w = (IsTrue tells → MeansNothing v.held) × (w.faults ≡ v.faults)
+ReadFault tells (NotAStore page) v w = (IsTrue tells → IsFirstBadOf v.held page) × (w.faults ≡ v.faults)
 ReadFault tells (Memory error) v w = w.faults ≡ v.faults
 
 -- what a fault of the journal's reading is to an opening

@@ -5,7 +5,8 @@ ghost use Rattle.ts_journal.specs.Moment.{OnlyReads};
 ghost use Rattle.ts_store.specs.OpenBatch.{IsIdle, IsClosed, IsReadOver, read_pages, contents_over};
 ghost use Rattle.ts_store.specs.Undisturbed.{Undisturbed};
 ghost use Rattle.ts_container.specs.declared.fault.SurveyFault.TheVariants.{Failed};
-ghost use Rattle.ts_container.specs.Survey.{IsFound, IfRefused, HoldNoLayout};
+ghost use Rattle.ts_container.specs.Survey.{IsFound, IfRefused};
+ghost use Rattle.ts_volume.specs.FirstBad.{IsFirstBad};
 ghost use Rattle.ts_engine.specs.Engine.{NothingIsPending};
 ghost use Rattle.ts_engine.specs.Start.{Opened, ReadFault, read_as};
 
@@ -89,8 +90,8 @@ fn survey_on<V: Volume>(
     ensures found { IfOk result
         (λ s. IsFound V.tells count
         (contents_over store.old (V.device vol.old)) s.defs.definitions s.space s.free.items) }
-    ensures refused { IfErr result
-        (λ e. IfRefused e (IsTrue V.tells → HoldNoLayout count (read_pages store.old (V.device vol.old).held))) }
+    ensures refused { IfErr result (λ e. IfRefused e (λ page. IsTrue V.tells
+        → IsFirstBad count (read_pages store.old (V.device vol.old).held) page)) }
     ensures cause { IsErrOf result Failed → Rose (V.device vol.old).faults (V.device vol.new).faults }
     ensures no_fault { ¬ IsErrOf result Failed → (V.device vol.new).faults ≡ (V.device vol.old).faults }
     ensures undisturbed { Undisturbed V.tells store.old store.new (V.device vol.old) (V.device vol.new) }

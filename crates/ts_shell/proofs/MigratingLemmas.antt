@@ -4,6 +4,7 @@ use Rattle.ts_disk.specs.Device.{Device, Only, Rose, FirstSync, LeavesOnly}
 use Rattle.ts_disk.proofs.Moments.{first_map, leaves_map}
 use Rattle.ts_model.specs.Catalogue.{Catalogue, in_newest_format}
 use Rattle.ts_answer.specs.State.{resting}
+use Rattle.ts_volume.proofs.CallerLemmas.{nothing_meant}
 use Rattle.ts_container.specs.declared.fault.SurveyFault.{SurveyFault}
 use Rattle.ts_container.specs.declared.fault.SurveyFault.TheVariants.{NotAStore, Failed, Memory}
 use Rattle.ts_engine.specs.declared.engine.Engine.{Engine}
@@ -63,7 +64,7 @@ module _ (cat : Catalogue) (v w : Device) (means : MeansCatalogue v.held cat) (m
 module _ (tells : Bool) (v y : Device) where
   unmigrated_from : (fault : SurveyFault) → Started tells (Err fault) v y → IsTrue tells → (cat : Catalogue) → MeansCatalogue v.held cat → FirstSync v y (InEitherFormat cat v) → MigratedFrom cat (status_of_opening fault) v y
   unmigrated_from Failed started t cat means moments = at_five cat v y means moments started.fault
-  unmigrated_from (NotAStore page) started t cat means moments = absurd (started.fault.0 t cat means)
+  unmigrated_from (NotAStore page) started t cat means moments = absurd (nothing_meant.bytes v.held page (started.fault.0 t) cat means)
   unmigrated_from (Memory error) started t cat means moments =
       at_seven cat v y means moments (subst (λ (l : List ℕ). MeansCatalogue l cat) (sym started.fault.0) means) (started.moments t cat means)
 

@@ -4,6 +4,7 @@ use Rattle.ts_disk.specs.Device.{Device, Lawful, Within, Rose, FirstSync, Leaves
 use Rattle.ts_disk.proofs.Moments.{started as moments_now}
 use Rattle.ts_container.specs.declared.fault.SurveyFault.{SurveyFault}
 use Rattle.ts_container.specs.declared.fault.SurveyFault.TheVariants.{NotAStore, Failed, Memory}
+use Rattle.ts_volume.proofs.CallerLemmas.{nothing_meant}
 use Rattle.ts_engine.specs.declared.engine.Engine.{Engine}
 use Rattle.ts_engine.specs.Start.{Started}
 use Rattle.ts_shell.specs.Opening.{status_of_opening, OpensStore}
@@ -58,7 +59,7 @@ unopened_store tells Failed v y started = record {
   faults = started.others.faults;
 }
 unopened_store tells (NotAStore page) v y started = record {
-  no_store = λ six. started.fault.0;
+  no_store = λ six told. nothing_meant.bytes v.held page (started.fault.0 told);
   not_a_store = λ t none. inr (inl refl);
   left = started.nothing;
   unwritten = λ six. (started.fault.1, started.fault.2);

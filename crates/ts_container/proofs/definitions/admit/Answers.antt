@@ -1,55 +1,52 @@
-use Rattle.std.proofs.Common.{◌≡◌, ℕ, List, Option, Some, None, IsSome, refl, sym, ap, subst, ◌∙◌, inl}
-use Rattle.ts_model.specs.Definitions.{Definitions, kind_of, name_of, slots, slot_of, with_slot}
-use Rattle.ts_slots.specs.Written.{kind_written, name_written}
-use Rattle.ts_container.specs.Reading.{Completes}
-use Rattle.ts_container.proofs.ReadLemmas.{some_slot, no_slot}
-use Rattle.ts_slots.proofs.WrittenLemmas.{kind_same, name_same}
-use Rattle.ts_container.proofs.CompleteLemmas.{hindered}
+use Rattle.std.proofs.Common.{◌≡◌, ℕ, List, Option, Some, None, Ok, Err, IsSome, refl, sym, ap, subst, ◌∙◌, inl, inr}
+use Rattle.ts_model.specs.Definitions.{Definitions, name_of, slots, slot_of, with_slot}
+use Rattle.ts_slots.specs.Written.{name_written}
+use Rattle.ts_slots.proofs.WrittenLemmas.{name_same}
+use Rattle.ts_slots.proofs.ParseLemmas.{both_ways}
+use Rattle.ts_container.specs.declared.found.Broken.{Broken}
+use Rattle.ts_container.specs.Reading.{AreFilledAmong, IsTakenAmong, Completes, references_written}
+use Rattle.ts_container.proofs.definitions.admit.Goals.{then-is_taken-via-then-is_taken, then-is_taken-via-else-is_taken+then-not-is_resolved}
 use Rattle.ts_container.proofs.definitions.admit.Goals as goal
 
-not_some : (o : Option ℕ) → o ≡ None → IsSome o → ⊥
-not_some None none some = cc
-not_some (Some x) none some = cc
+none_left : (o : Option ℕ) → (IsSome o → ⊥) → o ≡ None
+none_left None never = refl
+none_left (Some n) never = absurd (never refl)
 
-pub returns-then-is_some : goal.returns-then-is_some
-returns-then-is_some c = (
-  λ def written.
-      let names = c.name.ensures ∙ ap name_written (sym written) ∙ name_same def in
-      let kinds = sym c.requires.kind ∙ ap kind_written (sym written) ∙ kind_same def in
-      let taken = some_slot c.find.result (sym c.is_some.ensures ∙ c.if-is_some.true) in
-      inl (subst IsSome (sym taken.1 ∙ c.find.ensures.value ∙ (λ i. slot_of (names i) (slots (kinds i) c.args.defs.now.definitions))) refl),
-  refl,
-)
-
-pub set-requires-clause-kind : goal.set-requires-clause-kind
-set-requires-clause-kind c =
-    let done = subst (Completes c.args.defs.now.definitions c.args.written) c.in-Ok.is c.in_ok-def.ensures in
-    sym (kind_same c.in-Ok.def) ∙ ap kind_written done.1 ∙ c.requires.kind
+pub returns-then-is_taken : goal.returns-then-is_taken
+returns-then-is_taken c =
+    let d = c.args.defs.now.definitions in
+    elim c.then-is_taken.branch [
+      | then-is_taken-via-then-is_taken w ↦ inl (subst (λ (p : List Broken × List ℕ). IsTakenAmong d p.0 c.args.kind p.1) (λ i. (c.deref.ensures.value i, c.name.ensures i)) (c.is_taken.ensures.0 w.if-is_taken.true))
+      | then-is_taken-via-else-is_taken+then-not-is_resolved w ↦ inr (λ filled. both_ways (w.is_resolved.ensures.1 (subst (λ (b : List Broken). AreFilledAmong d b (references_written c.args.written)) (sym w.deref-else-is_taken.ensures.value) filled)) w.if-not-is_resolved.true)
+    ]
 
 pub set-requires-clause-name : goal.set-requires-clause-name
 set-requires-clause-name c =
-    let done = subst (Completes c.args.defs.now.definitions c.args.written) c.in-Ok.is c.in_ok-def.ensures in
+    let d = c.args.defs.now.definitions in
+    let done = subst (Completes d c.args.written) c.in-Ok.is c.in_ok-def.ensures in
     let name = sym (name_same c.in-Ok.def) ∙ ap name_written done.1 ∙ sym c.name.ensures in
-    inl (ap (λ (d : Definitions). slot_of (name_of c.in-Ok.def) (slots c.args.kind d)) c.in_ok-reserve.ensures.others
-    ∙ ap (λ (n : List ℕ). slot_of n (slots c.args.kind c.args.defs.now.definitions)) name ∙ sym c.find.ensures.value ∙ no_slot c.find.result (sym c.is_some.ensures ∙ c.if-is_some.false))
+    inl (ap (λ (d : Definitions). slot_of (name_of c.in-Ok.def) (slots c.args.kind d)) c.in_ok-reserve-in-Ok.ensures.others
+    ∙ ap (λ (n : List ℕ). slot_of n (slots c.args.kind d)) name
+    ∙ none_left (slot_of c.name.result.now (slots c.args.kind d)) (λ some. both_ways (c.is_taken.ensures.1 (inl some)) c.if-is_taken.false))
 
-pub returns : goal.returns
-returns c = (
-  c.in-Ok.def,
-  (
-    subst (Completes c.args.defs.now.definitions c.args.written) c.in-Ok.is c.in_ok-def.ensures,
-    c.set.ensures.slot ∙ ap (λ (d : Definitions). with_slot c.args.kind c.args.slot (Some c.in-Ok.def) d) c.in_ok-reserve.ensures.others,
-  ),
-)
+pub returns-in_ok-reserve-in-Ok : goal.returns-in_ok-reserve-in-Ok
+returns-in_ok-reserve-in-Ok c =
+    let d = c.args.defs.now.definitions in
+    let done = subst (Completes d c.args.written) c.in-Ok.is c.in_ok-def.ensures in (
+      (
+        λ taken. both_ways (c.is_taken.ensures.1 (subst (λ (p : List Broken × List ℕ). IsTakenAmong d p.0 c.args.kind p.1) (λ i. (sym c.deref.ensures.value i, sym c.name.ensures i)) taken)) c.if-is_taken.false,
+        subst (λ (b : List Broken). AreFilledAmong d b (references_written c.args.written)) c.deref-else-is_taken.ensures.value (c.is_resolved.ensures.0 c.if-not-is_resolved.false),
+      ),
+      (Ok c.in-Ok.def, done, (c.set.ensures.slot ∙ ap (λ (d : Definitions). with_slot c.args.kind c.args.slot (Some c.in-Ok.def) d) c.in_ok-reserve-in-Ok.ensures.others, refl)),
+    )
 
-pub returns-in-Err : goal.returns-in-Err
-returns-in-Err c =
-    let old = c.args.defs.now.definitions in
-    let done = subst (Completes old c.args.written) c.in-Err.is c.in_ok-def.ensures in (
-      λ def written.
-          let names = c.name.ensures ∙ ap name_written (sym written) ∙ name_same def in
-          let kinds = sym c.requires.kind ∙ ap kind_written (sym written) ∙ kind_same def in
-          let free = sym (c.find.ensures.value ∙ (λ i. slot_of (names i) (slots (kinds i) old))) ∙ no_slot c.find.result (sym c.is_some.ensures ∙ c.if-is_some.false) in
-          hindered c.in-Err.flaw def old (λ taken. not_some (slot_of (name_of def) (slots (kind_of def) old)) free taken) (done def written),
-      refl,
+pub returns-in_ok-push-in-Err : goal.returns-in_ok-push-in-Err
+returns-in_ok-push-in-Err c =
+    let d = c.args.defs.now.definitions in
+    let done = subst (Completes d c.args.written) c.in-Err.is c.in_ok-def.ensures in (
+      (
+        λ taken. both_ways (c.is_taken.ensures.1 (subst (λ (p : List Broken × List ℕ). IsTakenAmong d p.0 c.args.kind p.1) (λ i. (sym c.deref.ensures.value i, sym c.name.ensures i)) taken)) c.if-is_taken.false,
+        subst (λ (b : List Broken). AreFilledAmong d b (references_written c.args.written)) c.deref-else-is_taken.ensures.value (c.is_resolved.ensures.0 c.if-not-is_resolved.false),
+      ),
+      (Err c.in-Err.name, done, (refl, c.in_ok-push-in-Err.ensures.items)),
     )

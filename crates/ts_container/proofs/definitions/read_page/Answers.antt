@@ -1,45 +1,50 @@
-use Rattle.std.proofs.Common.{◌≡◌, ◌+◌, ℕ, length, subst, arith, rules}
-use Rattle.ts_layout.specs.Rank.{rank_of_page}
-use Rattle.ts_container.specs.Reading.{AreReadTo, HoldBelow}
-use Rattle.ts_container.proofs.ReadLemmas.{Step, made, step_of, step_is_bad, page_read, behind_none, counted, ended, zeros_to, zeros_from}
+use Rattle.std.proofs.Common.{◌≡◌, ◌+◌, ◌-◌, ◌*◌, length, take, drop, subst, rules}
+use Rattle.ts_container.specs.declared.found.Found.{Found}
+use Rattle.ts_container.specs.Reading.{SlotRead}
+use Rattle.ts_container.proofs.ReadLemmas.{counted, zeros_to, zeros_from, so_far_none, read_before, so_far_more, page_unresolved, page_bad, page_read, no_zeros}
 use Rattle.ts_slots.proofs.ParseLemmas.{both_ways}
 use Rattle.ts_container.proofs.definitions.read_page.Goals as goal
 
 pub loop-k-init : goal.loop-k-init
-loop-k-init c =
-    let same : rank_of_page c.args.number ≡ rank_of_page c.args.number + 0 = omega arith in
-    record {
-      good = λ bad. cc;
-      read = subst (λ (n : ℕ). AreReadTo c.args.defs.now.definitions.format n c.args.defs.now.definitions) same c.requires.before;
-      known = λ pages is held. subst (λ (n : ℕ). HoldBelow n pages c.args.defs.now.definitions) same held;
-    }
+loop-k-init c = so_far_none c.args.defs.now.definitions.format c.args.number c.args.page.now.bytes (c.args.defs.now.definitions, c.args.broken.now.items) c.requires.before
 
-pub returns-in-Bad : goal.returns-in-Bad
-returns-in-Bad c =
-    step_is_bad c.args.defs.now.definitions.format c.and-found.result c.args.number _ c.args.page.now.bytes c.args.defs.now.definitions c.read_into.new.defs.definitions c.in-Bad.is
-    (made c.args.defs.now.definitions.format c.args.number c.loop-k.k c.slot_size-size.result c.args.page.now.bytes c.slots_in_page-on.result c.args.defs.now.definitions c.loop-k.defs.definitions c.read_into.new.defs.definitions
-    c.loop-k.found c.in_ok-read_into.field-0 c.and-found.result c.slots_in_page-on.ensures c.requires.low c.requires.high c.loop-k-test.true c.slot_size-size.ensures.value
-    c.loop-k.invariant.good c.loop-k.invariant.read c.loop-k.invariant.known c.in_ok-read_into.ensures c.and-found.ensures)
+pub read_into-requires-clause-before : goal.read_into-requires-clause-before
+read_into-requires-clause-before c =
+    read_before c.args.defs.now.definitions.format c.args.number c.loop-k.k c.slot_size-size.result c.args.page.now.bytes c.slots_in_page-on.result (c.args.defs.now.definitions, c.args.broken.now.items)
+    (c.loop-k.defs.definitions, c.loop-k.broken.items) (c.loop-k.defs.definitions, c.loop-k.broken.items) c.slots_in_page-on.ensures c.requires.low c.requires.high c.loop-k-test.true c.slot_size-size.ensures.value c.loop-k.invariant
 
 pub loop-k-preserved : goal.loop-k-preserved
 loop-k-preserved c =
-    let step = step_of c.args.defs.now.definitions.format c.and-found.result c.args.number (rank_of_page c.args.number + (c.loop-k.k + 1)) c.args.page.now.bytes c.args.defs.now.definitions c.read_into.new.defs.definitions c.in_default.not-Bad
-    (made c.args.defs.now.definitions.format c.args.number c.loop-k.k c.slot_size-size.result c.args.page.now.bytes c.slots_in_page-on.result c.args.defs.now.definitions c.loop-k.defs.definitions c.read_into.new.defs.definitions
-    c.loop-k.found c.in_ok-read_into.field-0 c.and-found.result c.slots_in_page-on.ensures c.requires.low c.requires.high c.loop-k-test.true c.slot_size-size.ensures.value
-    c.loop-k.invariant.good c.loop-k.invariant.read c.loop-k.invariant.known c.in_ok-read_into.ensures c.and-found.ensures) in
-    record { good = c.in_default.not-Bad; read = step.read; known = step.known }
+    so_far_more c.args.defs.now.definitions.format c.args.number c.loop-k.k c.slot_size-size.result c.args.page.now.bytes c.slots_in_page-on.result (c.args.defs.now.definitions, c.args.broken.now.items)
+    (c.loop-k.defs.definitions, c.loop-k.broken.items) (c.read_into.new.defs.definitions, c.read_into.new.broken.items) c.slots_in_page-on.ensures c.requires.low c.requires.high c.loop-k-test.true c.slot_size-size.ensures.value c.loop-k.invariant
+    (subst (λ (g : Found). SlotRead c.loop-k.defs.definitions.format c.slots_in_page-on.result.kind (c.slots_in_page-on.result.first + c.loop-k.k)
+    (take (c.slot_size-size.result * c.loop-k.k + c.slot_size-size.result - c.slot_size-size.result * c.loop-k.k) (drop (c.slot_size-size.result * c.loop-k.k) c.args.page.now.bytes))
+    (c.loop-k.defs.definitions, c.loop-k.broken.items) (c.read_into.new.defs.definitions, c.read_into.new.broken.items) g) c.in-Good.is c.in_ok-read_into.ensures)
+
+pub returns-in-Unresolved : goal.returns-in-Unresolved
+returns-in-Unresolved c =
+    page_unresolved c.args.defs.now.definitions.format c.args.number c.loop-k.k c.slot_size-size.result c.args.page.now.bytes c.slots_in_page-on.result (c.args.defs.now.definitions, c.args.broken.now.items)
+    (c.loop-k.defs.definitions, c.loop-k.broken.items) (c.read_into.new.defs.definitions, c.read_into.new.broken.items) c.slots_in_page-on.ensures c.requires.low c.requires.high c.loop-k-test.true c.slot_size-size.ensures.value c.loop-k.invariant
+    (subst (λ (g : Found). SlotRead c.loop-k.defs.definitions.format c.slots_in_page-on.result.kind (c.slots_in_page-on.result.first + c.loop-k.k)
+    (take (c.slot_size-size.result * c.loop-k.k + c.slot_size-size.result - c.slot_size-size.result * c.loop-k.k) (drop (c.slot_size-size.result * c.loop-k.k) c.args.page.now.bytes))
+    (c.loop-k.defs.definitions, c.loop-k.broken.items) (c.read_into.new.defs.definitions, c.read_into.new.broken.items) g) c.in-Unresolved.is c.in_ok-read_into.ensures)
+
+pub returns-in-Bad : goal.returns-in-Bad
+returns-in-Bad c =
+    page_bad c.args.defs.now.definitions.format c.args.number c.loop-k.k c.slot_size-size.result c.args.page.now.bytes c.slots_in_page-on.result (c.args.defs.now.definitions, c.args.broken.now.items)
+    (c.loop-k.defs.definitions, c.loop-k.broken.items) (c.read_into.new.defs.definitions, c.read_into.new.broken.items) c.slots_in_page-on.ensures c.requires.low c.requires.high c.loop-k-test.true c.slot_size-size.ensures.value c.loop-k.invariant
+    (subst (λ (g : Found). SlotRead c.loop-k.defs.definitions.format c.slots_in_page-on.result.kind (c.slots_in_page-on.result.first + c.loop-k.k)
+    (take (c.slot_size-size.result * c.loop-k.k + c.slot_size-size.result - c.slot_size-size.result * c.loop-k.k) (drop (c.slot_size-size.result * c.loop-k.k) c.args.page.now.bytes))
+    (c.loop-k.defs.definitions, c.loop-k.broken.items) (c.read_into.new.defs.definitions, c.read_into.new.broken.items) g) c.in-Bad.is c.in_ok-read_into.ensures)
 
 pub returns-then-not-is_zero : goal.returns-then-not-is_zero
 returns-then-not-is_zero c =
-    behind_none c.args.defs.now.definitions.format c.args.number c.args.page.now.bytes c.requires.low c.requires.high (λ zeros.
+    no_zeros c.args.defs.now.definitions.format c.args.number c.args.page.now.bytes (λ zeros.
     both_ways (c.is_zero.ensures.zeros.1 (zeros_to _ _ c.args.page.now.bytes (counted c.args.number c.slot_size-size.result c.slots_in_page-on.result c.slots_in_page-on.ensures c.slot_size-size.ensures.value) zeros)) c.if-not-is_zero.true)
 
 pub returns : goal.returns
 returns c =
     let long : length c.args.page.now.bytes ≡ 4096 = search rules in
-    let all : rank_of_page c.args.number + c.loop-k.k ≡ rank_of_page (c.args.number + 1) =
-    ended c.args.number c.loop-k.k c.slots_in_page-on.result c.slots_in_page-on.ensures c.requires.low c.requires.high c.loop-k-test.false c.loop-k.auto.k-end in
-    page_read c.args.defs.now.definitions.format c.loop-k.found c.args.number c.args.page.now.bytes c.args.defs.now.definitions c.loop-k.defs.definitions c.loop-k.invariant.good
+    page_read c.args.defs.now.definitions.format c.args.number c.loop-k.k c.args.page.now.bytes c.slots_in_page-on.result (c.args.defs.now.definitions, c.args.broken.now.items) (c.loop-k.defs.definitions, c.loop-k.broken.items)
+    c.slots_in_page-on.ensures c.requires.low c.requires.high c.loop-k-test.false c.loop-k.auto.k-end c.loop-k.invariant
     (zeros_from _ _ c.args.page.now.bytes (counted c.args.number c.slot_size-size.result c.slots_in_page-on.result c.slots_in_page-on.ensures c.slot_size-size.ensures.value) long (c.is_zero.ensures.zeros.0 c.if-not-is_zero.false))
-    (subst (λ (n : ℕ). Step c.args.defs.now.definitions.format c.args.number n c.args.page.now.bytes c.args.defs.now.definitions c.loop-k.defs.definitions c.loop-k.found) all
-    (record { read = c.loop-k.invariant.read; known = c.loop-k.invariant.known }))

@@ -20,8 +20,8 @@ returns-in_default-clause-read g c =
     record {
       call = reads_refused g.P.Pages.tells tt c.loop-number.number u w (reads_more g.P.Pages.tells tt (Ok tt) u v w c.loop-number.invariant.call got.call);
       read = tt;
-      refused = λ told. read_bad c.args.defs.now.definitions u.page c.loop-number.number c.args.count c.read.new.page.bytes c.loop-number.auto.number c.loop-number-test.true
-          (sym (got.read told ∙ c.loop-number.invariant.call.pages told c.loop-number.number)) (subst (IsContentOf c.args.defs.now.definitions c.loop-number.number c.read.new.page.bytes) c.in_default.is c.content_of.ensures);
+      refused = λ told. read_bad g.P.Pages.tells c.args.defs.now.definitions u c.loop-number.number c.args.count c.read.new.page.bytes c.loop-number.elements.spans.items c.loop-number.elements.free.items c.loop-number.auto.number c.loop-number-test.true
+          (sym (got.read told ∙ c.loop-number.invariant.call.pages told c.loop-number.number)) (subst (IsContentOf c.args.defs.now.definitions c.loop-number.number c.read.new.page.bytes) c.in_default.is c.content_of.ensures) c.loop-number.invariant.read told;
     }
 
 pub loop-number-preserved : goal.loop-number-preserved

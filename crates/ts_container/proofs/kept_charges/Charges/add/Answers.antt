@@ -1,7 +1,7 @@
-use Rattle.std.proofs.Common.{◌≡◌, ℕ, ◌+◌, ◌<◌, ◌≤◌, ◌^◌, Option, Some, None, List, get_or, set, length, sym, ap, subst, ◌∙◌, arith, rules}
+use Rattle.std.proofs.Common.{◌≡◌, ℕ, ◌+◌, ◌<◌, Some, None, List, get_or, set, length, sym, ap, subst, ◌∙◌, arith, rules}
 use Rattle.std.specs.Option.{option_copied}
 use Rattle.std.proofs.lemmas.Grind.{common_steps}
-use Rattle.ts_model.specs.Definitions.{SeriesDef, at_slot}
+use Rattle.ts_model.specs.Definitions.{at_slot}
 use Rattle.ts_layout.proofs.CallerLemmas.{series_limit}
 use Rattle.ts_space.specs.Directory.{places_of}
 use Rattle.ts_layout.specs.Charges.{places_charge}

@@ -1,8 +1,8 @@
-use Rattle.std.proofs.Common.{◌≡◌, ℕ, ◌+◌, ◌*◌, ◌<◌, ◌≤◌, ◌^◌, List, length, take, sym, ap, ◌∙◌, arith}
+use Rattle.std.proofs.Common.{ℕ, List, length, ap, ◌∙◌, arith}
 use Rattle.std.specs.List.{sum_by}
 use Rattle.std.proofs.lemmas.List.{take_all}
 use Rattle.ts_container.specs.KeptCharges.{charged_to}
-use Rattle.ts_container.proofs.ChargedLemmas.{series_order, order_few, all_charged}
+use Rattle.ts_container.proofs.ChargedLemmas.{order_few, all_charged}
 use Rattle.ts_container.proofs.kept_charges.Charges.count.Goals as goal
 
 pub add-requires-clause-room : goal.add-requires-clause-room
