@@ -1,0 +1,71 @@
+use Rattle.std.proofs.Common.{◌-◌, Result, Ok, Err, sym, subst}
+use Rattle.std.proofs.lemmas.Result.{IfOk-weaker}
+use Rattle.ts_container.specs.declared.fault.SurveyFault.{SurveyFault}
+use Rattle.ts_container.specs.declared.surveyed.Surveyed.{Surveyed}
+use Rattle.ts_container.specs.Survey.{Reads}
+use Rattle.ts_container.proofs.SurveyLemmas.{reads_more, reads_ok, reads_err, err_is}
+use Rattle.ts_container.proofs.ComposedLemmas.{all_before, all_listed, finished_found, elements_refused, refused_all, finish_reads, bad_before}
+use Rattle.ts_check.proofs.survey.survey_in_lists.Goals as goal
+
+pub finish-requires-clause-read : goal.finish-requires-clause-read
+finish-requires-clause-read g c =
+    let x = c.in_ok-elements.elements in
+    let v = g.P.Pages.contents c.survey_definitions.new.pages in
+    let read = c.in_ok-elements.ensures.read.read in
+    (read.elements, all_listed g.P.Pages.tells (c.args.count - 930) c.in_ok-defs.defs.definitions v x.spans.items x.free.items read)
+
+pub returns-in_err-elements-clause-refused : goal.returns-in_err-elements-clause-refused
+returns-in_err-elements-clause-refused g c =
+    let tells = g.P.Pages.tells in
+    let u = g.P.Pages.contents c.args.pages.now in
+    let v = g.P.Pages.contents c.survey_definitions.new.pages in
+    let sound = c.in_ok-defs.ensures.read in
+    let d = c.in_ok-defs.defs.definitions in
+    let is = err_is c.from_residual-in_err-elements.result c.in_err-elements.field-0.0 c.from_residual-in_err-elements.ensures.1 in
+    let refused = elements_refused tells c.args.count d u c.requires.some sound.known sound.read c.in_err-elements.field-0.0 (bad_before tells c.args.count c.in_err-elements.field-0.0 d u v (reads_ok tells c.in_ok-defs.defs (tt {0}) u v sound.call) c.in_err-elements.ensures.read.refused) in
+    rw is refused
+
+pub returns-clause-ok : goal.returns-clause-ok
+returns-clause-ok g c =
+    let tells = g.P.Pages.tells in
+    let u = g.P.Pages.contents c.args.pages.now in
+    let v = g.P.Pages.contents c.survey_definitions.new.pages in
+    let sound = c.in_ok-defs.ensures.read in
+    let d = c.in_ok-defs.defs.definitions in
+    let x = c.in_ok-elements.elements in
+    let all = all_before tells (c.args.count - 930) d u v x.spans.items x.free.items (reads_ok tells c.in_ok-defs.defs (tt {0}) u v sound.call) c.in_ok-elements.ensures.read.read in
+    IfOk-weaker c.finish.result _ _ (λ s finished. finished_found tells c.args.count d u c.requires.some sound.known sound.read x.spans.items x.free.items s all finished) c.finish.ensures.ok
+
+pub returns-clause-refused : goal.returns-clause-refused
+returns-clause-refused g c =
+    let tells = g.P.Pages.tells in
+    let u = g.P.Pages.contents c.args.pages.now in
+    let v = g.P.Pages.contents c.survey_definitions.new.pages in
+    let sound = c.in_ok-defs.ensures.read in
+    let d = c.in_ok-defs.defs.definitions in
+    let x = c.in_ok-elements.elements in
+    let all = all_before tells (c.args.count - 930) d u v x.spans.items x.free.items (reads_ok tells c.in_ok-defs.defs (tt {0}) u v sound.call) c.in_ok-elements.ensures.read.read in
+    refused_all tells c.args.count d u c.requires.some sound.known sound.read x.spans.items x.free.items c.finish.result all c.finish.ensures.refused
+
+pub returns-clause-call : goal.returns-clause-call
+returns-clause-call g c =
+    let tells = g.P.Pages.tells in
+    let u = g.P.Pages.contents c.args.pages.now in
+    let v = g.P.Pages.contents c.survey_definitions.new.pages in
+    let w = g.P.Pages.contents c.judge_elements.new.pages in
+    finish_reads tells c.finish.result u w (reads_more tells (tt {0}) (Ok (tt {0})) u v w (reads_ok tells c.in_ok-defs.defs (tt {0}) u v c.in_ok-defs.ensures.read.call) (reads_ok tells c.in_ok-elements.elements (tt {0}) v w c.in_ok-elements.ensures.read.call)) c.finish.ensures.done
+
+pub returns-clause-undisturbed : goal.returns-clause-undisturbed
+returns-clause-undisturbed g c =
+    g.met.P.Pages.«then» c.args.pages.now c.survey_definitions.new.pages c.judge_elements.new.pages c.in_ok-defs.ensures.undisturbed c.in_ok-elements.ensures.undisturbed
+
+pub returns-in_err-elements-clause-call : goal.returns-in_err-elements-clause-call
+returns-in_err-elements-clause-call g c =
+    let tells = g.P.Pages.tells in
+    let u = g.P.Pages.contents c.args.pages.now in
+    let v = g.P.Pages.contents c.survey_definitions.new.pages in
+    let w = g.P.Pages.contents c.judge_elements.new.pages in
+    let e = c.in_err-elements.field-0.0 in
+    let is = err_is c.from_residual-in_err-elements.result e c.from_residual-in_err-elements.ensures.1 in
+    subst (λ (r : Result Surveyed SurveyFault). Reads tells r u w) (sym is)
+    (reads_more tells c.in_ok-defs.defs (Err e) u v w c.in_ok-defs.ensures.read.call (reads_err tells e v w c.in_err-elements.ensures.read.call))

@@ -1,0 +1,4 @@
+pub mod Report
+pub mod Listed
+pub mod Judged
+pub mod Checked
