@@ -27,10 +27,9 @@ Among x (y ∷ ys) = (x ≡ y) ⊎ Among x ys
 -- a filter by tests that agree on the list
 pub filter_same : {X : Type 0} (p q : X → Bool) (xs : List X) → ((x : X) → Among x xs → p x ≡ q x) → filter p xs ≡ filter q xs
 filter_same p q [] same = refl
-filter_same p q (x ∷ xs) same = (λ i. cond (same x (inl refl) i) (x ∷ rest i) (rest i))
-  where
-    rest : filter p xs ≡ filter q xs
-    rest = filter_same p q xs (λ y among. same y (inr among))
+filter_same p q (x ∷ xs) same =
+    let rest = filter_same p q xs (λ y among. same y (inr among)) in
+    (λ i. cond (same x (inl refl) i) (x ∷ rest i) (rest i))
 
 filter_none : {X : Type 0} (p : X → Bool) (xs : List X) → ((x : X) → Among x xs → p x ≡ false) → filter p xs ≡ []
 filter_none p [] none = refl
@@ -42,12 +41,12 @@ filter_all p (x ∷ xs) all = ap (λ b. cond b (x ∷ filter p xs) (filter p xs)
 
 pub among_filter : {X : Type 0} (p : X → Bool) (xs : List X) (x : X) → Among x (filter p xs) → Among x xs
 among_filter p [] x among = among
-among_filter p (y ∷ xs) x among = by (p y) among
+among_filter p (y ∷ xs) x among = by (p y) (among_filter p xs x) among
   where
-    by : (b : Bool) → Among x (cond b (y ∷ filter p xs) (filter p xs)) → (x ≡ y) ⊎ Among x xs
-    by true (inl same) = inl same
-    by true (inr later) = inr (among_filter p xs x later)
-    by false later = inr (among_filter p xs x later)
+    by : (b : Bool) → (Among x (filter p xs) → Among x xs) → Among x (cond b (y ∷ filter p xs) (filter p xs)) → (x ≡ y) ⊎ Among x xs
+    by true more (inl same) = inl same
+    by true more (inr later) = inr (more later)
+    by false more later = inr (more later)
 
 both : (a b : Bool) → T (a && b) → T a × T b
 both true b h = (tt, h)
@@ -58,38 +57,37 @@ less Less h = refl
 less Equal h = absurd h
 less Greater h = absurd h
 
+apart_keys : {K : Type 0} (R : K → K → Ordering) (o : IsTotalOrder R) (a b : K) → R a b ≡ Less → eq_by_cmp R b a ≡ false
+apart_keys R o a b lt = ap is_eq (o.antisymm b a ∙ ap ordering_reverse lt)
+
 -- lists in the order of their keys
 module _ {K X : Type 0} (R : K → K → Ordering) (o : IsTotalOrder R) where
   -- the later ones have later keys
   pub behind : (t : K) (es : List (K × X)) (f : K × X) → T (below_all R t es) → Among f es → R t f.0 ≡ Less
   behind t [] f below among = absurd among
-  behind t (e ∷ es) f below among = by among
+  behind t (e ∷ es) f below among =
+      let parts = both (is_lt (R t e.0)) (below_all R t es) below in
+      by (less (R t e.0) parts.0) (behind t es f parts.1) among
     where
-      parts : T (is_lt (R t e.0)) × T (below_all R t es)
-      parts = both (is_lt (R t e.0)) (below_all R t es) below
-
-      by : (f ≡ e) ⊎ Among f es → R t f.0 ≡ Less
-      by (inl same) = ap (λ (x : K × X). R t x.0) same ∙ less (R t e.0) parts.0
-      by (inr later) = behind t es f parts.1 later
-
-  apart_keys : (a b : K) → R a b ≡ Less → eq_by_cmp R b a ≡ false
-  apart_keys a b lt = ap is_eq (o.antisymm b a ∙ ap ordering_reverse lt)
+      by : R t e.0 ≡ Less → (Among f es → R t f.0 ≡ Less) → (f ≡ e) ⊎ Among f es → R t f.0 ≡ Less
+      by first more (inl same) = ap (λ (x : K × X). R t x.0) same ∙ first
+      by first more (inr later) = more later
 
   -- each is found at its key
   pub among_found : (es : List (K × X)) (f : K × X) → T (is_sorted R es) → Among f es → find R f.0 es ≡ Some f.1
   among_found [] f sorted among = absurd among
-  among_found (e ∷ es) f sorted among = by among
+  among_found (e ∷ es) f sorted among =
+      let parts = both (below_all R e.0 es) (is_sorted R es) sorted in
+      by (λ later. behind e.0 es f parts.0 later) (among_found es f parts.1) among
     where
-      parts : T (below_all R e.0 es) × T (is_sorted R es)
-      parts = both (below_all R e.0 es) (is_sorted R es) sorted
-
-      by : (f ≡ e) ⊎ Among f es → cond (eq_by_cmp R f.0 e.0) (Some e.1) (find R f.0 es) ≡ Some f.1
-      by (inl same) =
+      by : (Among f es → R e.0 f.0 ≡ Less) → (Among f es → find R f.0 es ≡ Some f.1) → (f ≡ e) ⊎ Among f es
+          → cond (eq_by_cmp R f.0 e.0) (Some e.1) (find R f.0 es) ≡ Some f.1
+      by after more (inl same) =
           ap (λ (x : K × X). cond (eq_by_cmp R x.0 e.0) (Some e.1) (find R x.0 es)) same
           ∙ ap (λ b. cond b (Some e.1) (find R e.0 es)) (ap is_eq (tied_itself o e.0))
           ∙ sym (ap (λ (x : K × X). Some x.1) same)
-      by (inr later) =
-          ap (λ b. cond b (Some e.1) (find R f.0 es)) (apart_keys e.0 f.0 (behind e.0 es f parts.0 later)) ∙ among_found es f parts.1 later
+      by after more (inr later) =
+          ap (λ b. cond b (Some e.1) (find R f.0 es)) (apart_keys R o e.0 f.0 (after later)) ∙ more later
 
 -- of elements in order, the later ones have later stamps
 later_stamp : (t : ℤ) (es : List Element) (f : Element) → T (below_all int_cmp t es) → Among f es → t <ℤ f.0
@@ -103,19 +101,16 @@ Apart p q (e ∷ es) = (q e ≡ true → (f : Element) → Among f es → p f �
 joined_filters : (p q : Element → Bool) → ((e : Element) → p e ≡ true → q e ≡ false) → (es : List Element) → Apart p q es
     → filter p es ++ filter q es ≡ filter (λ e. p e || q e) es
 joined_filters p q never [] apart = refl
-joined_filters p q never (e ∷ es) apart = by (p e) (q e) refl refl
+joined_filters p q never (e ∷ es) apart = by (p e) (q e) refl refl (joined_filters p q never es apart.1)
   where
-    rest : filter p es ++ filter q es ≡ filter (λ e. p e || q e) es
-    rest = joined_filters p q never es apart.1
-
-    by : (a b : Bool) → p e ≡ a → q e ≡ b
+    by : (a b : Bool) → p e ≡ a → q e ≡ b → filter p es ++ filter q es ≡ filter (λ e. p e || q e) es
         → cond a (e ∷ filter p es) (filter p es) ++ cond b (e ∷ filter q es) (filter q es) ≡ cond (a || b) (e ∷ filter (λ e. p e || q e) es) (filter (λ e. p e || q e) es)
-    by true true is also = absurd (false≢true (sym (never e is) ∙ also))
-    by true false is also = ap (λ l. e ∷ l) rest
-    by false true is also =
+    by true true is also rest = absurd (false≢true (sym (never e is) ∙ also))
+    by true false is also rest = ap (λ l. e ∷ l) rest
+    by false true is also rest =
         let none = filter_none p es (apart.0 also) in
         ap (λ l. l ++ e ∷ filter q es) none ∙ ap (λ l. e ∷ l) (sym (ap (λ l. l ++ filter q es) none) ∙ rest)
-    by false false is also = rest
+    by false false is also rest = rest
 
 module _ (g : GridPlan) (laid : IsLaid g.calendar) where
   -- the stamp lies in the window of one of some series
@@ -125,14 +120,14 @@ module _ (g : GridPlan) (laid : IsLaid g.calendar) where
   -- such a window is a later one
   later_window : (j : ℕ) (ws : List (ℕ × Series)) (t : ℤ) → T (below_all nat_cmp j ws) → in_one ws t ≡ true → (k : ℕ) × (j < k) × (offset_of g t ≡ Ok k)
   later_window j [] t below one = absurd (false≢true one)
-  later_window j (w ∷ ws) t below one = by (in_window g w.0 t) refl one
+  later_window j (w ∷ ws) t below one =
+      let parts = both (is_lt (nat_cmp j w.0)) (below_all nat_cmp j ws) below in
+      by (in_window g w.0 t) refl (ranked j w.0 Less (sym (less (nat_cmp j w.0) parts.0))) (later_window j ws t parts.1) one
     where
-      parts : T (is_lt (nat_cmp j w.0)) × T (below_all nat_cmp j ws)
-      parts = both (is_lt (nat_cmp j w.0)) (below_all nat_cmp j ws) below
-
-      by : (b : Bool) → in_window g w.0 t ≡ b → (b || in_one ws t) ≡ true → (k : ℕ) × (j < k) × (offset_of g t ≡ Ok k)
-      by true is h = (w.0, ranked j w.0 Less (sym (less (nat_cmp j w.0) parts.0)), in_window-is g w.0 t is)
-      by false is h = later_window j ws t parts.1 h
+      by : (b : Bool) → in_window g w.0 t ≡ b → j < w.0 → (in_one ws t ≡ true → (k : ℕ) × (j < k) × (offset_of g t ≡ Ok k))
+          → (b || in_one ws t) ≡ true → (k : ℕ) × (j < k) × (offset_of g t ≡ Ok k)
+      by true is up more h = (w.0, up, in_window-is g w.0 t is)
+      by false is up more h = more h
 
   apart_windows : (j : ℕ) (ws : List (ℕ × Series)) → T (below_all nat_cmp j ws) → (es : List Element) → T (is_sorted int_cmp es)
       → Apart (λ e. in_window g j e.0) (λ e. in_one ws e.0) es

@@ -39,11 +39,11 @@ later_within j k m h g = grind (arith, nat_tests)
 -- each number is at most the greatest
 pub at_most : (ks : List ℕ) (j : ℕ) → has ks j ≡ true → j ≤ greatest ks
 at_most [] j h = absurd (false≢true h)
-at_most (k ∷ ks) j h = by (k == j) refl h
+at_most (k ∷ ks) j h = by (k == j) refl (at_most ks j) h
   where
-    by : (b : Bool) → (k == j) ≡ b → (b || has ks j) ≡ true → j ≤ later k (greatest ks)
-    by true e g = let same = eq_same k j e in let up = later_first k (greatest ks) in omega (arith, same, up)
-    by false e g = let rest = at_most ks j g in let up = later_second k (greatest ks) in omega (arith, rest, up)
+    by : (b : Bool) → (k == j) ≡ b → (has ks j ≡ true → j ≤ greatest ks) → (b || has ks j) ≡ true → j ≤ later k (greatest ks)
+    by true e more g = let same = eq_same k j e in let up = later_first k (greatest ks) in omega (arith, same, up)
+    by false e more g = let rest = more g in let up = later_second k (greatest ks) in omega (arith, rest, up)
 
 -- a bound of all is one of the greatest
 pub greatest_within : (ks : List ℕ) (m : ℕ) → ((j : ℕ) → has ks j ≡ true → j ≤ m) → greatest ks ≤ m
@@ -62,15 +62,15 @@ has_greatest k [] = ap (λ b. b || false) (subst (λ m. (k == m) ≡ true) (sym 
   where
     alone : (j : ℕ) → later j 0 ≡ j
     alone j = grind (arith, nat_tests)
-has_greatest k (m ∷ ms) = by (nat_lt k (greatest (m ∷ ms))) refl
+has_greatest k (m ∷ ms) = by (nat_lt k (greatest (m ∷ ms))) (has_greatest m ms)
   where
-    by : (b : Bool) → nat_lt k (greatest (m ∷ ms)) ≡ b → ((k == cond b (greatest (m ∷ ms)) k) || has (m ∷ ms) (cond b (greatest (m ∷ ms)) k)) ≡ true
-    by true e = or_second (k == greatest (m ∷ ms)) _ (has_greatest m ms)
+    by : (b : Bool) → has (m ∷ ms) (greatest (m ∷ ms)) ≡ true → ((k == cond b (greatest (m ∷ ms)) k) || has (m ∷ ms) (cond b (greatest (m ∷ ms)) k)) ≡ true
+    by true rest = or_second (k == greatest (m ∷ ms)) _ rest
       where
         or_second : (a b : Bool) → b ≡ true → (a || b) ≡ true
         or_second true b h = refl
         or_second false b h = h
-    by false e = ap (λ b. b || has (m ∷ ms) k) (eq_refl k)
+    by false rest = ap (λ b. b || has (m ∷ ms) k) (eq_refl k)
 
 later-zero : (j : ℕ) → later 0 j ≡ j
 later-zero j = grind (arith, nat_tests)
@@ -101,6 +101,19 @@ and_both : (a b : Bool) → a ≡ true → b ≡ true → (a && b) ≡ true
 and_both true b h g = g
 and_both false b h g = h
 
+or_parts : (a b : Bool) → (a || b) ≡ false → (a ≡ false) × (b ≡ false)
+or_parts true b e = absurd (false≢true (sym e))
+or_parts false b e = (refl, e)
+
+-- where no window is old beside j, none of them is
+reach : (n j : ℕ) (l : List ℕ) (m : ℕ) → has l m ≡ true → list_any (λ k. is_old n k j) l ≡ false → is_old n m j ≡ false
+reach n j [] m h none = absurd (false≢true h)
+reach n j (k ∷ l) m h none = at (k == m) refl (λ g. reach n j l m g (or_parts (is_old n k j) (list_any (λ k. is_old n k j) l) none).1) h
+  where
+    at : (b : Bool) → (k == m) ≡ b → (has l m ≡ true → is_old n m j ≡ false) → (b || has l m) ≡ true → is_old n m j ≡ false
+    at true e more g = subst (λ x. is_old n x j ≡ false) (eq_same k m e) (or_parts (is_old n k j) (list_any (λ k. is_old n k j) l) none).0
+    at false e more g = more g
+
 -- the live windows are those of puts that stand
 module _ (n : ℕ) (least : 1 ≤ n) (ks live : List ℕ) (alike : (k : ℕ) → has live k ≡ stands n ks k) where
   not_old : (m : ℕ) → is_old n m m ≡ false
@@ -129,24 +142,12 @@ module _ (n : ℕ) (least : 1 ≤ n) (ks live : List ℕ) (alike : (k : ℕ) →
   pub gone_by_newest : (j : ℕ) → is_gone n live j ≡ false → is_old n (greatest ks) j ≡ false
   gone_by_newest j kept = by ks refl
     where
-      reach : (l : List ℕ) (m : ℕ) → has l m ≡ true → list_any (λ k. is_old n k j) l ≡ false → is_old n m j ≡ false
-      reach [] m h none = absurd (false≢true h)
-      reach (k ∷ l) m h none = at (k == m) refl h
-        where
-          or_parts : (a b : Bool) → (a || b) ≡ false → (a ≡ false) × (b ≡ false)
-          or_parts true b e = absurd (false≢true (sym e))
-          or_parts false b e = (refl, e)
-
-          at : (b : Bool) → (k == m) ≡ b → (b || has l m) ≡ true → is_old n m j ≡ false
-          at true e g = subst (λ x. is_old n x j ≡ false) (eq_same k m e) (or_parts (is_old n k j) _ none).0
-          at false e g = reach l m g (or_parts (is_old n k j) _ none).1
-
       young : (m : ℕ) → m ≡ 0 → is_old n m j ≡ false
       young m e = grind (arith, nat_tests, least)
 
       by : (l : List ℕ) → ks ≡ l → is_old n (greatest ks) j ≡ false
       by [] is = young (greatest ks) (ap greatest is)
-      by (k ∷ rest) is = reach live (greatest ks) (newest_stands k rest is) kept
+      by (k ∷ rest) is = reach n j live (greatest ks) (newest_stands k rest is) kept
 
   old-push : (k j : ℕ) → (stands n ks k && not (is_old n (later (greatest ks) j) k)) ≡ (has ks k && not (is_old n (later (greatest ks) j) k))
   old-push k j = by (has ks k) (is_old n (greatest ks) k) refl

@@ -135,8 +135,8 @@ last-none g j q (e ∷ ps) m puts inside none before =
         false≢true (sym apart ∙ ap (λ r. result_unwrap_or r 0 == j) at ∙ eq_refl j)
 
     by : (b : Bool) → (b ≡ true → ⊥) → get m q ≡ None → cond b (Some e.1) (get m q) ≡ None
-    by true no h = absurd (no refl)
-    by false no h = h
+    by true never h = absurd (never refl)
+    by false never h = h
 
 -- what stands there is a row of a put: it is seen, and its stamp has a window
 pub last-put : (g : GridPlan) (q : ℤ) (row : Row) (ps : List Element) (m : Elements) → ArePuts g ps

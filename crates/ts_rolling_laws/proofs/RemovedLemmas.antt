@@ -80,31 +80,29 @@ module _ (rise : WindowKeysRise) (set : List ℕ) where
 -- the numbers of a list that pass a test
 pub has-filter : (p : ℕ → Bool) (ks : List ℕ) (k : ℕ) → has (filter p ks) k ≡ (has ks k && p k)
 has-filter p [] k = refl
-has-filter p (j ∷ ks) k = by (p j) (j == k) refl refl
+has-filter p (j ∷ ks) k = by (p j) (j == k) refl refl (has-filter p ks k)
   where
-    rest : has (filter p ks) k ≡ (has ks k && p k)
-    rest = has-filter p ks k
-
     eq_is : (j == k) ≡ true → j ≡ k
     eq_is h = eq_same j k h
 
-    by : (a b : Bool) → p j ≡ a → (j == k) ≡ b → has (cond a (j ∷ filter p ks) (filter p ks)) k ≡ ((b || has ks k) && p k)
-    by true true passes same = ap (λ b. b || has (filter p ks) k) same ∙ sym (sym (ap p (eq_is same)) ∙ passes)
-    by true false passes same = ap (λ b. b || has (filter p ks) k) same ∙ rest
-    by false true passes same = rest ∙ none (has ks k) (p k) (sym (ap p (eq_is same)) ∙ passes)
-      where
-        none : (a b : Bool) → b ≡ false → (a && b) ≡ b
-        none true b h = refl
-        none false b h = sym h
-    by false false passes same = rest
+    none : (a b : Bool) → b ≡ false → (a && b) ≡ b
+    none true b h = refl
+    none false b h = sym h
+
+    by : (a b : Bool) → p j ≡ a → (j == k) ≡ b → has (filter p ks) k ≡ (has ks k && p k)
+        → has (cond a (j ∷ filter p ks) (filter p ks)) k ≡ ((b || has ks k) && p k)
+    by true true passes same rest = ap (λ b. b || has (filter p ks) k) same ∙ sym (sym (ap p (eq_is same)) ∙ passes)
+    by true false passes same rest = ap (λ b. b || has (filter p ks) k) same ∙ rest
+    by false true passes same rest = rest ∙ none (has ks k) (p k) (sym (ap p (eq_is same)) ∙ passes)
+    by false false passes same rest = rest
 
 pub all-filter : (P : ℕ → Type 0) (p : ℕ → Bool) (ks : List ℕ) → AllByRecursion P ks → AllByRecursion P (filter p ks)
 all-filter P p [] all = tt
-all-filter P p (k ∷ ks) all = by (p k)
+all-filter P p (k ∷ ks) all = by (p k) (all-filter P p ks all.1)
   where
-    by : (b : Bool) → AllByRecursion P (cond b (k ∷ filter p ks) (filter p ks))
-    by true = (all.0, all-filter P p ks all.1)
-    by false = all-filter P p ks all.1
+    by : (b : Bool) → AllByRecursion P (filter p ks) → AllByRecursion P (cond b (k ∷ filter p ks) (filter p ks))
+    by true rest = (all.0, rest)
+    by false rest = rest
 
 pub all-numbers : (P : ℕ → Type 0) (ws : List (ℕ × Series)) → AllByRecursion (λ w. P w.0) ws → AllByRecursion P (map (λ w. w.0) ws)
 all-numbers P [] all = tt

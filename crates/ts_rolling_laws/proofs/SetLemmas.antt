@@ -141,16 +141,16 @@ module _ (laws : Laws) (set : List ℕ) (n : ℕ) (g : GridPlan) (laid : IsLaid 
 
     put_few : (qs : List Element) → ArePuts g qs → (j : ℕ) → has (numbers g qs) j ≡ true → j < most_windows
     put_few [] puts j h = absurd (false≢true h)
-    put_few (e ∷ qs) puts j h = by (window_of g e.0 == j) refl h
+    put_few (e ∷ qs) puts j h = by (window_of g e.0 == j) refl (put_few qs puts.1 j) h
       where
-        by : (b : Bool) → (window_of g e.0 == j) ≡ b → (b || has (numbers g qs) j) ≡ true → j < most_windows
-        by true same i =
+        by : (b : Bool) → (window_of g e.0 == j) ≡ b → (has (numbers g qs) j ≡ true → j < most_windows) → (b || has (numbers g qs) j) ≡ true → j < most_windows
+        by true same more i =
             let at = puts.0.0 in
             let window : window_of g e.0 ≡ at.0 = ap (λ r. result_unwrap_or r 0) at.1 in
             let few = offset_few g e.0 at.0 at.1 in
             let own = eq_same (window_of g e.0) j same in
             omega (arith, few, window, own)
-        by false same i = put_few qs puts.1 j i
+        by false same more i = more i
 
     pub live_stands : (j : ℕ) → has (live set after.control.container cat) j ≡ stands n ks j
     live_stands j = has_found ws j ∙ at (cases_lt j most_windows)

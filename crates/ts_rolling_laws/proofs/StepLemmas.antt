@@ -23,7 +23,7 @@ use Rattle.ts_rolling.specs.Keys.{most_windows, most_kept, window_key, control_k
 use Rattle.ts_rolling.specs.Plan.{Planned, a_plan, later, greatest, is_old, is_gone, going, plan_for, plan_at, planned}
 use Rattle.ts_rolling.specs.Sets.{control_of, live, windows}
 use Rattle.ts_rolling.specs.Kept.{last_puts, window_of}
-use Rattle.ts_answer.specs.Answer.{Tried, Answered, ◌>>=◌, known, a_row, an_address, wanted, put_no_dups, create_irregular, answer}
+use Rattle.ts_answer.specs.Answer.{Tried, Answered, ◌>>=◌, known, a_row, an_address, addressed, wanted, put_no_dups, create_irregular, answer}
 use Rattle.ts_answer_laws.specs.Objects.{objects}
 use Rattle.ts_rolling_laws.specs.Rolling.{a_control, control_grid, without_windows, with_window, roll_put}
 use Rattle.ts_rolling_laws.specs.Content.{row_by, IsOfSet, Avoids, Other}
@@ -79,6 +79,12 @@ pub record IsPut (key : List ℕ) (stamp : ℤ) (literals : List Literal) (made 
   pub row_is : a_row (columns_of made s) literals ≡ Ok row
   pub is : s.kind ≡ Irregular → answered.1 ≡ record made { series = insert made.series key (record s { elements = insert s.elements stamp row }) }
 
+-- in an irregular series a stamp addresses itself
+own_stamp : (s : Series) (made : Catalogue) (stamp at : ℤ) → s.kind ≡ Irregular → an_address s stamp made ≡ Ok at → at ≡ stamp
+unfolding an_address
+own_stamp s made stamp at irregular e =
+    sym (same_Ok stamp at (sym (on_ok (known (shape_of made s.kind)) shapes.Irregular (λ shape. addressed shape stamp) (ap (λ k. known (shape_of made k)) irregular)) ∙ e))
+
 pub put_is : (key : List ℕ) (stamp : ℤ) (literals : List Literal) (made : Catalogue) (answered : Answered) → put_no_dups key stamp literals made ≡ Ok answered → IsPut key stamp literals made answered
 unfolding put_no_dups
 put_is key stamp literals made answered is =
@@ -93,12 +99,8 @@ put_is key stamp literals made answered is =
       row_is = row.1;
       is = λ irregular.
           sym (ap (λ (a : Answered). a.1) (same_Ok _ answered fits.2))
-          ∙ ap (λ t. record made { series = insert made.series key (record series.0 { elements = insert series.0.elements t row.0 }) }) (own series.0 at.0 irregular at.1);
+          ∙ ap (λ t. record made { series = insert made.series key (record series.0 { elements = insert series.0.elements t row.0 }) }) (own_stamp series.0 made stamp at.0 irregular at.1);
     }
-  where
-    own : (s : Series) (at : ℤ) → s.kind ≡ Irregular → an_address s stamp made ≡ Ok at → at ≡ stamp
-    unfolding an_address
-    own s at irregular e = sym (same_Ok stamp at (sym (on_ok (known (shape_of made s.kind)) shapes.Irregular _ (ap (λ k. known (shape_of made k)) irregular)) ∙ e))
 
 map-push : (g : GridPlan) (ps : List Element) (e : Element) → numbers g (ps ++ e ∷ []) ≡ numbers g ps ++ window_of g e.0 ∷ []
 map-push g [] e = refl
@@ -184,7 +186,8 @@ module _ (laws : Laws) (set : List ℕ) (n : ℕ) (g : GridPlan) (laid : IsLaid 
               inserted-window laws.windows_rise set less j j (new_window container) few few
               ∙ ap (λ b. cond b (Some (new_window container)) (get less (window_key set j))) (eq_refl j)
               ∙ ap (λ (e : Elements). Some (record { container = container; kind = Irregular; elements = e })) (sym (part-none g (last_puts ps) j (λ q in_j.
-                  last-none g j q ps empty after.puts in_j (none_yet n least ks l alike j there is) (get-empty int_cmp q))))
+              last-none g j q ps empty after.puts in_j (none_yet n least ks l alike j there is) (get-empty int_cmp q))))
+
           by : (b : Bool) → stands n ks j ≡ b → get more (window_key set j) ≡ Some (a_window container g ps j)
           by b is = ap (λ c. get (with_made (not c) (window_key set j) container less) (window_key set j)) (alike j ∙ is) ∙ here b is
 

@@ -55,8 +55,8 @@ row_by (Some control) literals cat = a_row (columns_of cat control.1) literals
 
 -- the same of any command: only a put of the set puts
 abbrev pub put_by : List ℕ → Deed → Catalogue → List Element
-put_by set (Put stamp literals) cat = put_if_any stamp (row_by (control_of set cat) literals cat)
-    (roll_put set stamp literals cat)
+put_by set (Put stamp literals) cat =
+    put_if_any stamp (row_by (control_of set cat) literals cat) (roll_put set stamp literals cat)
 put_by set (Other command) cat = []
 
 -- all accepted puts, in order
