@@ -3,7 +3,6 @@ use Rattle.std.specs.Prelude.{ℕ, not, ℤ, List, map, filter}
 use Rattle.std.specs.List.{fold}
 use Rattle.std.specs.Result.{result_unwrap_or}
 use Rattle.std.specs.FinMap.{empty, entries, insert}
-use Rattle.ts_row.specs.Row.{Row}
 use Rattle.ts_row.specs.Element.{Element}
 use Rattle.ts_model.specs.Catalogue.{Elements}
 use Rattle.ts_offset.specs.Grid.{GridPlan, offset_of}

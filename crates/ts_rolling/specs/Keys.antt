@@ -1,7 +1,6 @@
 -- The keys of a rolling set's series: its windows and its control.
-use Rattle.std.specs.Prelude.{◌≡◌, ℕ, zero, suc, ◌+◌, ◌/◌, ◌%◌, ◌^◌, ◌<◌, ◌≤◌, Bool, ◌==◌, ◌&&◌, not, nat_le}
-use Rattle.std.specs.Prelude.{if◌then◌else◌, Option, Some, None, option_and_then, List, [], ◌∷◌, ◌++◌, length, take}
-use Rattle.std.specs.Prelude.{drop, codes, bytes_eq, nat_eq}
+use Rattle.std.specs.Prelude.{ℕ, zero, suc, ◌+◌, ◌/◌, ◌%◌, ◌^◌, Bool, ◌==◌, ◌&&◌, not, nat_le, if◌then◌else◌, Option}
+use Rattle.std.specs.Prelude.{Some, None, option_and_then, List, [], ◌∷◌, ◌++◌, length, take, drop, codes, bytes_eq}
 use Rattle.std.specs.List.{list_any}
 use Rattle.ts_base.specs.Name.{is_key}
 use Rattle.ts_base.specs.StampText.{all_digits, number_of}

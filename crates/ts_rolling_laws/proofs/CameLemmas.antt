@@ -1,5 +1,5 @@
 -- Tests in a row: what came to something passed each, and a test that is passed goes on.
-use Rattle.std.proofs.Common.{◌≡◌, Bool, true, false, Option, Some, None, Ok, Err, List, ℕ, ℤ, refl, sym, ap, ◌∙◌}
+use Rattle.std.proofs.Common.{◌≡◌, Bool, true, false, Option, Some, None, Ok, Err, List, ℕ, refl, sym, ap}
 use Rattle.std.specs.FinMap.{get}
 use Rattle.ts_base.specs.declared.refusal.Refusal.{Refusal}
 use Rattle.ts_row.specs.declared.kind.Column.{Column}

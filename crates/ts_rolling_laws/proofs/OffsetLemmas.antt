@@ -2,18 +2,16 @@
 use Rattle.std.specs.Prelude.{int_lt}
 use Rattle.std.proofs.Common.{◌≡◌, ℕ, zero, suc, ◌<◌, ◌≤◌, Bool, true, false, ◌&&◌, not, cond, Option, Some, None, Ok, Err, List, [], ◌∷◌, length, filter, filter_map, refl, sym, ap, subst, ◌∙◌, arith, ℤ, pos, neg_ℤ, ◌+ℤ◌, ◌≤ℤ◌, ◌<ℤ◌}
 use Rattle.std.specs.List.{cons_option}
-use Rattle.std.proofs.lemmas.Bool.{and_parts}
 use Rattle.std.proofs.lemmas.Option.{same_Some}
 use Rattle.std.proofs.lemmas.Int.{by_lt_z, ints}
 use Rattle.ts_base.specs.Moment.{IsStamp, stamp_if_any}
-use Rattle.ts_base.specs.declared.refusal.Refusal.{Refusal}
-use Rattle.ts_base.specs.declared.refusal.Refusal.TheVariants.{OffStamp, BeforeOrigin}
+use Rattle.ts_base.specs.declared.refusal.Refusal.TheVariants.{BeforeOrigin}
 use Rattle.ts_calendar.specs.Plan.{CalendarPlan}
-use Rattle.ts_calendar.specs.Intervals.{start_at, IsLaid, Holds, IsBefore}
+use Rattle.ts_calendar.specs.Intervals.{start_at, IsLaid, IsBefore}
 use Rattle.ts_calendar.proofs.StampLemmas.{int_lt_yes, int_lt-true, stamp-is, stamp-not}
 use Rattle.ts_calendar.proofs.LineLemmas.{line-start}
-use Rattle.ts_offset.specs.Walk.{numbers_from, on_start, starts_among, on_starts}
-use Rattle.ts_offset.specs.Grid.{GridPlan, held_start, starts_before, offset_at, offset_of, IsHeldFrom}
+use Rattle.ts_offset.specs.Walk.{numbers_from, on_start, on_starts}
+use Rattle.ts_offset.specs.Grid.{GridPlan, held_start, starts_before, offset_at, offset_of}
 use Rattle.ts_offset.proofs.StartLemmas.{line, on-line, rise}
 use Rattle.ts_offset.proofs.OwnLemmas.{from-held}
 use Rattle.ts_rolling.specs.Keys.{most_windows}

@@ -1,19 +1,18 @@
 -- The last puts, and the part of them that lies in one window.
-use Rattle.std.specs.Prelude.{⊤}
-use Rattle.std.proofs.Common.{◌≡◌, ◌⊎◌, ℕ, ◌==◌, Bool, true, false, ◌&&◌, ◌||◌, not, cond, Option, Some, None, Ok, Err, Result, List, [], ◌∷◌, ◌++◌, map, filter, refl, sym, ap, subst, ◌∙◌, arith, inl, inr, ℤ, ◌<ℤ◌, ◌≤ℤ◌, T}
-use Rattle.std.specs.List.{AllByRecursion, list_any, fold}
+use Rattle.std.proofs.Common.{◌≡◌, ℕ, ◌==◌, Bool, true, false, ◌||◌, cond, Option, Some, None, Ok, Err, Result, List, [], ◌∷◌, ◌++◌, map, filter, refl, sym, ap, subst, ◌∙◌, ℤ}
+use Rattle.std.specs.List.{AllByRecursion, fold}
 use Rattle.std.specs.Result.{result_unwrap_or}
-use Rattle.std.specs.Ordering.{int_cmp, eq_by_cmp, is_eq, is_lt}
+use Rattle.std.specs.Ordering.{int_cmp, eq_by_cmp, is_eq}
 use Rattle.std.specs.declared.cmp.Ordering.{Ordering}
 use Rattle.std.specs.declared.cmp.Ordering.TheVariants.{Less, Equal, Greater}
-use Rattle.std.specs.Cmp.{int_cmp_total, int_ranked, tied_itself}
-use Rattle.std.specs.FinMap.{entries, entries_sorted, empty, get, insert, find, is_sorted, retain_keys, get-entries, get-empty, get-insert, get-retain_keys, same_map, int_cmp-IsAntisymmetric}
-use Rattle.std.specs.FinMap.Entries.{below_all, where_key, is_sorted-where_key, find-where_key, same_entries}
+use Rattle.std.specs.Cmp.{int_cmp_total, tied_itself}
+use Rattle.std.specs.FinMap.{entries, entries_sorted, empty, get, insert, retain_keys, get-entries, get-empty, get-insert, get-retain_keys, same_map, int_cmp-IsAntisymmetric}
+use Rattle.std.specs.FinMap.Entries.{where_key, is_sorted-where_key, find-where_key, same_entries}
 use Rattle.std.proofs.lemmas.Bool.{false≢true}
 use Rattle.std.proofs.lemmas.Option.{same_Some}
 use Rattle.ts_base.specs.declared.refusal.Refusal.{Refusal}
 use Rattle.ts_row.specs.Row.{Row}
-use Rattle.ts_row.specs.Element.{Element, seen}
+use Rattle.ts_row.specs.Element.{Element}
 use Rattle.ts_offset.specs.Grid.{GridPlan, offset_of}
 use Rattle.ts_model.specs.Catalogue.{Elements}
 use Rattle.ts_rolling.specs.Kept.{window_of, last_puts}

@@ -1,10 +1,10 @@
 -- Whatever comes, what stands of a set stays what the puts make it.
-use Rattle.std.specs.Prelude.{Contains, is_some, slice_get, option_and_then}
-use Rattle.std.proofs.Common.{◌≡◌, ◌⊎◌, ℕ, ◌<◌, ◌≤◌, Bool, true, false, not, cond, Option, Some, None, option_map, ok_or, Ok, Err, Result, List, [], ◌∷◌, ◌++◌, append_assoc, refl, sym, ap, subst, ◌∙◌, arith, inl, inr, ℤ}
+use Rattle.std.specs.Prelude.{is_some, slice_get, option_and_then}
+use Rattle.std.proofs.Common.{◌≡◌, ℕ, ◌<◌, ◌≤◌, false, not, cond, Option, Some, None, option_map, ok_or, Ok, Err, List, [], ◌∷◌, ◌++◌, append_assoc, refl, sym, ap, subst, ◌∙◌, inl, inr, ℤ}
 use Rattle.std.proofs.lemmas.List.{append-nil}
 use Rattle.std.specs.List.{AllByRecursion}
 use Rattle.std.specs.FinMap.{empty, get, get-insert, insert, find}
-use Rattle.std.specs.Ordering.{nat_cmp, eq_by_cmp, is_eq}
+use Rattle.std.specs.Ordering.{nat_cmp, is_eq}
 use Rattle.std.specs.Cmp.{tied_itself}
 use Rattle.std.specs.Cmp.Lexicographic.{nat_list_cmp_total}
 use Rattle.std.proofs.lemmas.Bool.{false≢true}
@@ -14,28 +14,24 @@ use Rattle.ts_base.specs.declared.refusal.Refusal.TheVariants.{PastEnd}
 use Rattle.ts_row.specs.declared.value.Literal.{Literal}
 use Rattle.ts_row.specs.Row.{Row}
 use Rattle.ts_row.specs.Element.{Element}
-use Rattle.ts_calendar.specs.Plan.{CalendarPlan}
 use Rattle.ts_calendar.specs.Intervals.{IsLaid}
-use Rattle.ts_calendar.specs.declared.text.CalendarText.{CalendarText}
-use Rattle.ts_offset.specs.declared.shape.Shape.{Shape}
 use Rattle.ts_offset.specs.declared.shape.Shape.TheVariants as shapes
 use Rattle.ts_offset.specs.Grid.{GridPlan, grid_of, start_or_next, held_start}
 use Rattle.ts_command.specs.declared.command.Command.{Command}
 use Rattle.ts_model.specs.declared.kind.Kind.TheVariants as kinds
-use Rattle.ts_model.specs.Catalogue.{Catalogue, Series, Irregular, Regular, columns_of, shape_of, calendar_of}
-use Rattle.ts_rolling.specs.Keys.{most_windows, most_kept, window_key, control_key, read_window, read_control}
+use Rattle.ts_model.specs.Catalogue.{Catalogue, Series, Regular, columns_of, shape_of, calendar_of}
+use Rattle.ts_rolling.specs.Keys.{most_windows, most_kept, window_key, control_key, read_control}
 use Rattle.ts_rolling.specs.Sets.{control_of, controls, live}
-use Rattle.ts_rolling.specs.Plan.{Planned, going, planned, a_plan}
+use Rattle.ts_rolling.specs.Plan.{Planned, going, planned}
 use Rattle.ts_rolling.specs.Kept.{kept}
 use Rattle.ts_answer.specs.Answer.{Tried, Answered, settled, answer, known, a_row, a_calendar, wanted, create_regular, put_no_dups}
-use Rattle.ts_answer_laws.specs.Objects.{objects}
 use Rattle.ts_rolling_laws.specs.Rolling.{a_control, control_grid, grid_in, without_windows, with_window, roll_put, roll_create}
-use Rattle.ts_rolling_laws.specs.Content.{content, Deed, Put, Other, done, all_done, put_if_any, row_by, put_by, all_puts, IsOfSet, Avoids, HasNoWindows, IsMade, ContentIsKept}
+use Rattle.ts_rolling_laws.specs.Content.{content, Deed, Put, Other, done, all_done, put_if_any, row_by, put_by, all_puts, IsOfSet, Avoids, IsMade, ContentIsKept}
 use Rattle.ts_rolling_laws.proofs.CameLemmas.{came, on_ok, same_Ok, known_is, wanted_is, not_refused, row_seen}
 use Rattle.ts_rolling_laws.proofs.NumberLemmas.{has}
 use Rattle.ts_rolling_laws.proofs.RemovedLemmas.{inserted-other, without-is}
 use Rattle.ts_rolling_laws.proofs.SetLemmas.{Laws, IsAfter, control_found, content_kept}
-use Rattle.ts_rolling_laws.proofs.StepLemmas.{IsPlanned, planned_is, with_made, made_is, IsPut, put_is, more_own, more, less, final_after}
+use Rattle.ts_rolling_laws.proofs.StepLemmas.{IsPlanned, planned_is, with_made, made_is, put_is, more_own, more, final_after}
 
 module _ (laws : Laws) (set : List ℕ) (n : ℕ) (g : GridPlan) (laid : IsLaid g.calendar) (least : 1 ≤ n) (most : n ≤ most_kept) where
   -- a put that is accepted

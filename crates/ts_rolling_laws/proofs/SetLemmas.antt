@@ -1,17 +1,15 @@
 -- What stands in a catalogue of a set, after some puts.
-use Rattle.std.specs.Prelude.{⊤, bytes_eq}
-use Rattle.std.proofs.Common.{◌≡◌, ◌⊎◌, ℕ, zero, suc, ◌<◌, ◌≤◌, ◌==◌, Bool, true, false, ◌&&◌, ◌||◌, not, cond, Option, Some, None, Ok, Err, List, [], ◌∷◌, ◌++◌, map, is_some, slice_get, refl, sym, ap, subst, ◌∙◌, arith, inl, inr, ℤ, T}
-use Rattle.std.specs.List.{AllByRecursion, list_any, flat_map}
+use Rattle.std.proofs.Common.{◌≡◌, ◌⊎◌, ℕ, ◌<◌, ◌≤◌, ◌==◌, Bool, true, false, ◌&&◌, ◌||◌, not, cond, Option, Some, None, Ok, List, [], ◌∷◌, map, is_some, slice_get, refl, sym, ap, subst, ◌∙◌, arith, inl, inr, T}
+use Rattle.std.specs.List.{AllByRecursion}
 use Rattle.std.specs.Result.{result_unwrap_or}
-use Rattle.std.specs.Ordering.{nat_cmp, int_cmp, eq_by_cmp, is_eq}
+use Rattle.std.specs.Ordering.{nat_cmp, int_cmp, eq_by_cmp}
 use Rattle.std.specs.Cmp.{nat_cmp_total, int_cmp_total, unsigned_tied}
-use Rattle.std.specs.FinMap.{entries, entries_sorted, empty, get, get-empty, get-entries, find, is_sorted, nat_cmp-IsAntisymmetric}
+use Rattle.std.specs.FinMap.{entries, entries_sorted, empty, get, get-empty, get-entries, find, nat_cmp-IsAntisymmetric}
 use Rattle.std.specs.FinMap.Entries.{same_entries}
 use Rattle.std.proofs.lemmas.Bool.{false≢true, cases_lt}
 use Rattle.std.proofs.lemmas.Bool.Decides.{nat_tests}
 use Rattle.std.proofs.lemmas.Option.{same_Some}
 use Rattle.std.proofs.lemmas.Slice.Eq.{bytes_eq-Decides}
-use Rattle.ts_row.specs.Row.{Row}
 use Rattle.ts_row.specs.Element.{Element, seen}
 use Rattle.ts_calendar.specs.Intervals.{IsLaid}
 use Rattle.ts_offset.specs.declared.shape.Shape.TheVariants as shapes
@@ -20,7 +18,7 @@ use Rattle.ts_model.specs.Catalogue.{Catalogue, Series, Irregular, shape_of}
 use Rattle.ts_rolling.specs.Keys.{most_windows, most_kept, window_key, control_key}
 use Rattle.ts_rolling.specs.KeyLaws.{WindowKeysRise, ControlKeysRise, KeysAreReadExactly, SetsShareNoKeys}
 use Rattle.ts_rolling.specs.Plan.{greatest, is_old}
-use Rattle.ts_rolling.specs.Sets.{controls, control_of, windows, live, may_be_window, window_elements}
+use Rattle.ts_rolling.specs.Sets.{controls, control_of, windows, live}
 use Rattle.ts_rolling.specs.SetLaws.{SeriesAreFoundByKeys, window_in}
 use Rattle.ts_rolling.specs.Kept.{kept, last_puts, window_of, newest_put}
 use Rattle.ts_answer_laws.specs.Laws.{OthersStay}

@@ -1,6 +1,5 @@
 -- A put, and another command: what stands of a set stays what the puts make it.
-use Rattle.std.specs.Prelude.{⊤, Contains, is_some}
-use Rattle.std.proofs.Common.{◌≡◌, ◌⊎◌, ℕ, ◌<◌, ◌≤◌, ◌==◌, Bool, true, false, ◌&&◌, ◌||◌, not, cond, Option, Some, None, option_map, Ok, Err, Result, List, [], ◌∷◌, ◌++◌, map, refl, sym, ap, subst, ◌∙◌, arith, inl, inr, ℤ}
+use Rattle.std.proofs.Common.{◌≡◌, ℕ, ◌<◌, ◌≤◌, ◌==◌, Bool, true, false, ◌&&◌, not, cond, Some, None, Ok, Err, Result, List, [], ◌∷◌, ◌++◌, refl, sym, ap, subst, ◌∙◌, ℤ}
 use Rattle.std.specs.List.{AllByRecursion}
 use Rattle.std.specs.Result.{result_unwrap_or}
 use Rattle.std.specs.FinMap.{empty, get, get-empty, insert}
@@ -16,23 +15,19 @@ use Rattle.ts_row.specs.Element.{Element}
 use Rattle.ts_calendar.specs.Intervals.{IsLaid}
 use Rattle.ts_offset.specs.declared.shape.Shape.TheVariants as shapes
 use Rattle.ts_offset.specs.Grid.{GridPlan, offset_of}
-use Rattle.ts_command.specs.declared.command.Command.{Command}
-use Rattle.ts_model.specs.declared.kind.Kind.TheVariants as kinds
 use Rattle.ts_model.specs.Catalogue.{Catalogue, Named, Series, Elements, Irregular, name_cmp, columns_of, shape_of}
 use Rattle.ts_rolling.specs.Keys.{most_windows, most_kept, window_key, control_key}
 use Rattle.ts_rolling.specs.Plan.{Planned, a_plan, later, greatest, is_old, is_gone, going, plan_for, plan_at, planned}
-use Rattle.ts_rolling.specs.Sets.{control_of, live, windows}
+use Rattle.ts_rolling.specs.Sets.{live, windows}
 use Rattle.ts_rolling.specs.Kept.{last_puts, window_of}
-use Rattle.ts_answer.specs.Answer.{Tried, Answered, ◌>>=◌, known, a_row, an_address, addressed, wanted, put_no_dups, create_irregular, answer}
-use Rattle.ts_answer_laws.specs.Objects.{objects}
-use Rattle.ts_rolling_laws.specs.Rolling.{a_control, control_grid, without_windows, with_window, roll_put}
-use Rattle.ts_rolling_laws.specs.Content.{row_by, IsOfSet, Avoids, Other}
-use Rattle.ts_rolling_laws.proofs.CameLemmas.{came, on_ok, same_Ok, known_is, wanted_is, row_seen}
+use Rattle.ts_answer.specs.Answer.{Answered, known, a_row, an_address, addressed, wanted, put_no_dups, create_irregular}
+use Rattle.ts_rolling_laws.specs.Rolling.{with_window}
+use Rattle.ts_rolling_laws.proofs.CameLemmas.{came, on_ok, same_Ok, wanted_is}
 use Rattle.ts_rolling_laws.proofs.NumberLemmas.{has, stands, eq_refl, eq_same, eq_apart, same_newest, stands-other, stands-own, own_young, none_yet}
 use Rattle.ts_rolling_laws.proofs.OffsetLemmas.{offset_few}
-use Rattle.ts_rolling_laws.proofs.PartLemmas.{is_window, in_window, in_window-yes, in_window-is, part, numbers, ArePuts, part-put, part-other, part-none, last-push, last-none}
-use Rattle.ts_rolling_laws.proofs.RemovedLemmas.{key_tie, inserted-other, removed, without-is, removed-none, inserted-window, removed-window, has-filter, all-filter, all-numbers}
-use Rattle.ts_rolling_laws.proofs.SetLemmas.{Laws, a_window, IsAfter, control_found, live_stands}
+use Rattle.ts_rolling_laws.proofs.PartLemmas.{is_window, in_window, in_window-yes, part, numbers, ArePuts, part-put, part-other, part-none, last-push, last-none}
+use Rattle.ts_rolling_laws.proofs.RemovedLemmas.{key_tie, inserted-other, removed, removed-none, inserted-window, removed-window, has-filter, all-filter, all-numbers}
+use Rattle.ts_rolling_laws.proofs.SetLemmas.{Laws, a_window, IsAfter, live_stands}
 
 -- a plan that was made, of a window that isn't gone
 pub record IsPlanned (n : ℕ) (l : List ℕ) (g : GridPlan) (stamp : ℤ) (plan : Planned) : Type 0 where

@@ -1,6 +1,6 @@
 -- What a rolling set has after any puts and other commands.
 use Rattle.std.specs.Prelude.{◌≡◌, ◌⊎◌, ℕ, ◌<◌, ◌≤◌, true, Option, Some, None, is_some, ℤ, List, [], ◌∷◌, ◌++◌}
-use Rattle.std.specs.Prelude.{Contains, Ok, Err}
+use Rattle.std.specs.Prelude.{Contains, Ok}
 use Rattle.std.specs.List.{AllByRecursion}
 use Rattle.std.specs.FinMap.{get}
 use Rattle.ts_row.specs.declared.value.Literal.{Literal}

@@ -1,5 +1,5 @@
 -- What the routines of rolling sets answer, composed of what single commands answer: each tries its refusals in order.
-use Rattle.std.specs.Prelude.{ℕ, Bool, true, false, is_some, ℤ, List, length, Option, Ok, Err}
+use Rattle.std.specs.Prelude.{ℕ, Bool, true, false, is_some, ℤ, List, length, Ok, Err}
 use Rattle.std.specs.List.{fold}
 use Rattle.ts_base.specs.declared.refusal.Refusal.TheVariants as refusals
 use Rattle.ts_row.specs.declared.value.Literal.{Literal}

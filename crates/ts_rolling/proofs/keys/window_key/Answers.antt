@@ -1,4 +1,3 @@
-use Rattle.std.proofs.Common.{rules}
 use Rattle.ts_rolling.specs.Keys.{window_key}
 use Rattle.ts_rolling.proofs.keys.window_key.Goals as goal
 

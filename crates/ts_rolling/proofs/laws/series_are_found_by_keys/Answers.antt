@@ -1,7 +1,5 @@
-use Rattle.std.proofs.Common.{◌≡◌, ℕ, ◌<◌, ◌≤◌, Bool, true, false, T, Some, None, Option, List, arith, refl, sym, ap, ◌∙◌}
-use Rattle.std.specs.Prelude.{IsTrue}
+use Rattle.std.proofs.Common.{◌≡◌, ℕ, ◌<◌, ◌≤◌, Bool, true, false, T, Some, None, Option, List, refl, sym, ap, ◌∙◌}
 use Rattle.std.specs.FinMap.{entries, entries_sorted, get-entries, find}
-use Rattle.std.specs.Ordering.{nat_cmp}
 use Rattle.ts_model.specs.Catalogue.{Series, name_cmp}
 use Rattle.ts_rolling.specs.Keys.{read_window, window_key, read_control, control_key, most_windows, most_kept}
 use Rattle.ts_rolling.specs.Sets.{windows, controls, may_be_window}
