@@ -93,7 +93,7 @@ module _ (laws : Laws) (set : List ℕ) (n : ℕ) (g : GridPlan) (laid : IsLaid 
   passed_by : (ps : List Element) (cat : Catalogue) → IsAfter set n g ps cat → (command : Command) → Avoids set (Other command) → IsAfter set n g ps (answer cat (Ok command)).1
   passed_by ps cat after command avoids =
       let next = (answer cat (Ok command)).1 in
-      let same = λ (key : List ℕ) (of_set : IsOfSet set key). (laws.others cat command).others (kinds.Series, key) (avoids key of_set) in
+      let same = λ (key : List ℕ) (of_set : IsOfSet set key). (laws.others cat command).others (object kinds.Series key) (avoids key of_set) in
       let there = same (control_key set n) (control_of_set n least most) ∙ after.there in
       record {
         control = after.control;

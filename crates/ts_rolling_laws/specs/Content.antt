@@ -16,7 +16,7 @@ use Rattle.ts_rolling.specs.Keys.{most_windows, most_kept, window_key, read_wind
 use Rattle.ts_rolling.specs.Sets.{control_of, window_elements}
 use Rattle.ts_rolling.specs.Kept.{kept}
 use Rattle.ts_answer.specs.Answer.{Tried, Answered, settled, answer, a_row, a_calendar}
-use Rattle.ts_answer_laws.specs.Objects.{objects}
+use Rattle.ts_multi.specs.Touched.{object, objects}
 use Rattle.ts_rolling_laws.specs.Rolling.{roll_create, roll_put}
 
 -- the elements in the windows of a control, if there is one
@@ -71,7 +71,7 @@ IsOfSet set key = (is_some (read_window key set) ≡ true) ⊎ (is_some (read_co
 -- another command writes no series of the set; a put may come
 abbrev pub Avoids : List ℕ → Deed → Type 0
 Avoids set (Put stamp literals) = Unit {0}
-Avoids set (Other command) = (key : List ℕ) → IsOfSet set key → ¬ Contains (objects command).wrote (kinds.Series, key)
+Avoids set (Other command) = (key : List ℕ) → IsOfSet set key → ¬ Contains (objects command).wrote (object kinds.Series key)
 
 -- no series has the key of a window of the set
 abbrev pub HasNoWindows : List ℕ → Catalogue → Type 0
