@@ -65,7 +65,7 @@ module _ (tells : Bool) (v y : Device) (reads : OnlyReads tells v y) where
       said_on : (says : List ℕ) → w.said ≡ y.said ++ says → w.said ≡ v.said ++ says
       said_on says said = said ∙ (λ i. reads.keeps.said i ++ says)
 
-      pub check_cut : {E : Type 0} (e : E) → Says tells text (Err {T = Unit {0}} e) y w → CheckRan tells 4 v w
+      pub check_cut : {E : Type 0} (e : E) → Says {E = E} tells text (Err e) y w → CheckRan tells 4 v w
       check_cut e says = record {
         report = λ at. absurd (omega arith);
         bad = λ at. absurd (omega arith);
@@ -87,7 +87,7 @@ module _ (tells : Bool) (v y : Device) (reads : OnlyReads tells v y) where
         statuses = inr (inl refl);
       }
         where
-          neither : ((4 ≡ 5) ⊎ (4 ≡ 7)) → ⊥
+          neither : (◌≡◌ {A = ℕ} 4 5) ⊎ (◌≡◌ {A = ℕ} 4 7) → ⊥
           neither (inl at) = omega arith
           neither (inr at) = omega arith
 
@@ -114,7 +114,7 @@ module _ (tells : Bool) (v y : Device) (reads : OnlyReads tells v y) where
       statuses = inl refl;
     }
       where
-        neither : ((0 ≡ 5) ⊎ (0 ≡ 7)) → ⊥
+        neither : (◌≡◌ {A = ℕ} 0 5) ⊎ (◌≡◌ {A = ℕ} 0 7) → ⊥
         neither (inl at) = omega arith
         neither (inr at) = omega arith
 
@@ -141,7 +141,7 @@ module _ (tells : Bool) (v y : Device) (reads : OnlyReads tells v y) where
       statuses = inr (inr (inr (inl refl)));
     }
       where
-        neither : ((6 ≡ 5) ⊎ (6 ≡ 7)) → ⊥
+        neither : (◌≡◌ {A = ℕ} 6 5) ⊎ (◌≡◌ {A = ℕ} 6 7) → ⊥
         neither (inl at) = omega arith
         neither (inr at) = omega arith
 
