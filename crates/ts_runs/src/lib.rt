@@ -7,12 +7,6 @@
 #[cfg(test)]
 mod cached;
 #[cfg(test)]
-mod checks;
-#[cfg(test)]
-mod courses;
-#[cfg(test)]
-mod failing;
-#[cfg(test)]
 mod formats;
 #[cfg(test)]
 mod items;
@@ -20,8 +14,6 @@ mod items;
 mod journal;
 #[cfg(test)]
 mod program;
-#[cfg(test)]
-mod routines;
 #[cfg(test)]
 mod statuses;
 #[cfg(test)]

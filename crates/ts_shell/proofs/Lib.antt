@@ -15,4 +15,3 @@ pub mod MigratingLemmas
 pub mod PullLemmas
 pub mod NewLemmas
 pub mod MakingLemmas
-pub mod CheckingLemmas

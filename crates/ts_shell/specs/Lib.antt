@@ -6,4 +6,3 @@ pub mod Top
 pub mod Migrating
 pub mod Generated
 pub mod Generating
-pub mod Checking
