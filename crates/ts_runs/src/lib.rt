@@ -20,5 +20,3 @@ mod statuses;
 mod stops;
 #[cfg(test)]
 mod transactions;
-#[cfg(test)]
-mod within_transactions;
