@@ -77,13 +77,13 @@ module _ (tells : Bool) (v y : Device) (reads : OnlyReads tells v y) where
         size = says.size ∙ reads.keeps.size;
         no_more = λ image now. reads.images image (says.crash image now);
         no_fewer = λ image now. says.no_fewer image (reads.no_fewer image now);
-        output = λ at. subst (λ (n : ℕ). Rose n w.say_faults) reads.keeps.say_faults (says.cause tt);
+        output = λ at. subst (λ (n : ℕ). Rose n w.say_faults) reads.keeps.say_faults (says.cause refl);
         disk = λ at. absurd (omega arith);
         no_say_fault = λ other. absurd (other refl);
         no_fault = λ other. says.faults ∙ quiet;
         say_faults = omega (arith, says.say_faults, reads.keeps.say_faults);
         faults = omega (arith, says.faults, reads.keeps.faults);
-        complete = λ no_rise no_say. absurd (no_say (subst (λ (n : ℕ). Rose n w.say_faults) reads.keeps.say_faults (says.cause tt)));
+        complete = λ no_rise no_say. absurd (no_say (subst (λ (n : ℕ). Rose n w.say_faults) reads.keeps.say_faults (says.cause refl)));
         statuses = inr (inl refl);
       }
         where
@@ -106,7 +106,7 @@ module _ (tells : Bool) (v y : Device) (reads : OnlyReads tells v y) where
       no_fewer = λ image now. says.no_fewer image (reads.no_fewer image now);
       output = λ at. absurd (omega arith);
       disk = λ at. absurd (omega arith);
-      no_say_fault = λ other. says.no_fault tt ∙ reads.keeps.say_faults;
+      no_say_fault = λ other. says.no_fault refl ∙ reads.keeps.say_faults;
       no_fault = λ other. says.faults ∙ quiet;
       say_faults = omega (arith, says.say_faults, reads.keeps.say_faults);
       faults = omega (arith, says.faults, reads.keeps.faults);
@@ -133,7 +133,7 @@ module _ (tells : Bool) (v y : Device) (reads : OnlyReads tells v y) where
       no_fewer = λ image now. says.no_fewer image (reads.no_fewer image now);
       output = λ at. absurd (omega arith);
       disk = λ at. absurd (omega arith);
-      no_say_fault = λ other. says.no_fault tt ∙ reads.keeps.say_faults;
+      no_say_fault = λ other. says.no_fault refl ∙ reads.keeps.say_faults;
       no_fault = λ other. says.faults ∙ quiet;
       say_faults = omega (arith, says.say_faults, reads.keeps.say_faults);
       faults = omega (arith, says.faults, reads.keeps.faults);

@@ -49,5 +49,5 @@ returns g c =
     let quiet = c.check_volume.ensures.no_fault (λ failed. fine_is_other _ (sym c.in-Ok.is ∙ failed)) in
     let is : IsTrue tells → IsReport v.held c.in-Ok.verdict c.as_slice.result.now = λ told. subst (IsReport v.held c.in-Ok.verdict) (sym c.as_slice.ensures) (c.in-Ok.ensures.report told) in
     record {
-      ran = check_cut tells v y c.check_volume.ensures.others quiet c.in-Ok.verdict c.as_slice.result.now w is c.in-Err-say.field-0 c.in-Err-say.ensures;
+      ran = check_cut tells v y c.check_volume.ensures.others quiet c.in-Ok.verdict c.as_slice.result.now w is c.in-Err.field-0 c.in-Err.ensures;
     }
