@@ -27,8 +27,8 @@ makes_no() {
   failed=$((failed + 1))
   echo "FAILED: $1 was made"
 }
-usage="say \`ts VOLUME init PAGES\` with 1 to 65536 pages, \`ts VOLUME run < SCRIPT\`, \`ts VOLUME migrate\`,"
-usage="$usage or \`ts VOLUME gen COUNT SEED\` with 1 to 1000000 edits and a seed"
+usage="say \`ts VOLUME init PAGES\` with 1 to 65536 pages, \`ts VOLUME run < SCRIPT\`, \`ts VOLUME check\`,"
+usage="$usage \`ts VOLUME migrate\`, or \`ts VOLUME gen COUNT SEED\` with 1 to 1000000 edits and a seed"
 wants "the edge: init" 0 "$ts" a.v init 8
 {
   echo "CreateRowType(r, t datetime, v integer); TSContainerCreate(c, r, 8); TSCreateIrr('x', c);"
@@ -57,6 +57,8 @@ types 'ts a.v run < a.v 2<>a.v' 11
 types 'ts a.v init 8 2>>a.v' 11
 types 'ts a.v gen 1 1 2>>a.v' 11
 types 'ts a.v migrate 2>>a.v' 11
+types 'ts a.v check 2>>a.v' 11
+types 'ts a.v check >> a.v' 11 "a.v: $output"
 types 'ts hard.v run 2>>link.v' 11
 types 'ts link.v init 8 2>>a.v' 11
 types "ts a.v run \$'\\377' 2>>a.v" 2
@@ -112,7 +114,7 @@ for word in -h -x -- -; do
 done
 types 'ts ./-h init 1' 0
 rm ./-h
-for words in help version run 'run a.v' init 'init 8 a.v' 'gen a.v 1 1' 'migrate a.v'; do
+for words in help version run 'run a.v' init 'init 8 a.v' 'gen a.v 1 1' 'migrate a.v' 'check a.v'; do
   types "ts $words" 11 "${words%% *}: isn't there, and the volume's path comes first; $usage"
   makes_no "${words%% *}"
 done

@@ -1,7 +1,8 @@
 # shellcheck shell=bash
 # A million intervals, the largest volume, and as many series as there may be.
 
-# A million elements in as many intervals are a reply, which a Clip says as well; with one more they are too many. The volume is made by hand.
+# A million elements in as many intervals are a reply, which a Clip says as well, and sums over one element and expressions do; with one more
+# they are too many. The volume is made by hand.
 if command -v cc > /dev/null; then
   cc -O2 -o readings "$top/bench/readings.c" && ./readings fill million.volume
   from=2011-01-03 to=2040-01-01
@@ -12,16 +13,31 @@ if command -v cc > /dev/null; then
     echo "AggregateBy('last(\$wh)',quarters,'$key','$from 00:00:00','$to 00:00:00');" > by.script
     input=by.script wants "a million intervals, $key: aggregate" 0 "$ts" million.volume run
     same "a million intervals, $key" said million.replies
+    echo "TSRunningSum('\$wh','$key',1,'$from 00:00:00','$to 00:00:00');" > running.script
+    input=running.script wants "a million sums, $key: run" 0 "$ts" million.volume run
+    same "a million sums, $key" said million.replies
+    echo "Apply('\$wh','$key','$from 00:00:00','$to 00:00:00');" > apply.script
+    input=apply.script wants "a million values, $key: run" 0 "$ts" million.volume run
+    same "a million values, $key" said million.replies
   done
   {
     echo "PutElem('regular','2039-07-11 16:00:00',7);"
-    cat by.script
+    cat by.script running.script apply.script
+    echo "TSRunningAvg('\$wh','regular',96,'$from 00:00:00','$to 00:00:00');"
+    # Too many rows come before a number without a place; what was said by then isn't said.
+    for key in regular irregular; do
+      echo "Apply('\$wh*999999999999999999*999999999999999999*999','$key','$from 00:00:00','$to 00:00:00');"
+    done
+    echo "TSRunningSum('\$wh','irregular',2,'$from 00:00:00','$from 00:15:00');"
     echo "AggregateRange('sum(\$wh),count(\$wh),avg(\$wh),last(\$wh)','irregular','$from 00:00:00','$to 00:00:00');"
     echo "AggregateAll('sum(\$wh),count(\$wh),max(\$wh),last(\$wh)',meters,'$from 00:00:00','$to 00:00:00');"
   } > more.script
   {
     echo "ok 2039-07-11 16:00:00.00000"
-    echo "error 34 TooLarge"
+    for _ in by running apply avg overflow; do echo "error 34 TooLarge"; done
+    echo "error 43 Overflow"
+    printf "$from %s\n" "00:00:00.00000 0" "00:15:00.00000 1"
+    echo "ok 2"
     echo "$from 00:00:00.00000 499999500000,1000000,499999.500000,999999"
     echo "ok 1"
     echo "'irregular' 499999500000,1000000,999999,999999"

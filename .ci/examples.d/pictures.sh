@@ -56,6 +56,8 @@ rows_of() {
     print "ok " count "\\n"
   }'
 }
+draws "a moving average" "$(cat "$examples/moving_average.replies")\n" \
+  "set ylabel 'kWh'\n with linespoints pointtype 7 pointsize 0.3 title\n"
 draws "300 marks" "$(rows_of 300)" "set ylabel 'kWh'\n with linespoints pointtype 7 pointsize 0.3 title\n"
 draws "301 numbers" "$(rows_of 301)" "set ylabel 'kWh'\n with lines title\n"
 printf "'a' 1\nok 1\n2011-01-06 00:00:00.00000 5\nok 1\n" > drawn.replies

@@ -10,6 +10,8 @@ for script in "$top"/examples/*.script; do
   [ -f "${script%.script}.format" ] && in_format "$(cat "${script%.script}.format")" "$name.volume"
   input=$script wants "$name: run" 0 "$ts" "$name.volume" run
   same "$name: replies" said "${script%.script}.replies"
+  wants "$name: check" 0 "$ts" "$name.volume" check
+  holds "$name: its report has its end" grep -q '^ok [0-9]* of [0-9]*$' said
 done
 
 # Each example that has words in place of a script.

@@ -3,10 +3,10 @@
 
 # Statuses.
 wants "no word" 2 "$ts"
-wants "no job" 2 "$ts" first_readings.volume check
+wants "no job" 2 "$ts" first_readings.volume verify
 wants "no pages" 2 "$ts" first_readings.volume init 0
 cp first_readings.volume before
-for words in "" init "init 0" "init 65537" "init eight" "init 00000000008" "init 8 9" "run x" "migrate 2" check \
+for words in "" init "init 0" "init 65537" "init eight" "init 00000000008" "init 8 9" "run x" "check x" "migrate 2" Check \
   gen "gen 1" "gen 0 1" "gen 1000001 1" "gen 1 4294967296" "gen 1 00000000001" "gen 00000000001 1" "gen 1 00000000000" \
   "gen -1 1" "gen 1 -1" "gen 1 x" "gen 1 1 1" "Gen 1 1"; do
   # shellcheck disable=SC2086
@@ -15,7 +15,7 @@ done
 wants "no job: gen with an empty word" 2 "$ts" first_readings.volume gen '' 1
 same "no job: nothing is said" said nothing
 same "words that name no job leave the volume" before first_readings.volume
-wants "no job and no file" 11 "$ts" none.volume check
+wants "no job and no file" 11 "$ts" none.volume verify
 wants "no pages and no file" 11 "$ts" none.volume init 0
 [ -e none.volume ] && { failed=$((failed + 1)); echo "FAILED: a refused command line made a file"; }
 wants "help" 0 "$ts" --help
@@ -25,7 +25,7 @@ wants "no folder" 11 "$ts" none/none.volume init 1
 wants "a folder" 11 "$ts" . run
 : > empty.volume
 wants "an empty file" 6 "$ts" empty.volume run
-for words in migrate "gen 1 1"; do
+for words in check migrate "gen 1 1"; do
   # shellcheck disable=SC2086
   wants "an empty file: $words" 6 "$ts" empty.volume $words
   # shellcheck disable=SC2086

@@ -218,6 +218,38 @@ fn a_copy_finds_what_there_was(rt: HostRuntime) {
     assert!(rt; matches!(are_copied(rt.alloc()), Ok(true)));
 }
 
+// Whether a copy has series in these two slots alone, in this order, and takes one more.
+fn gap_is_copied(alloc: Global) -> Result<bool, StoreFault> {
+    let mut defs = Defs::new(alloc);
+    put(&mut defs, 4095, def(alloc, Kind::Series, b"a")?)?;
+    put(&mut defs, 3, def(alloc, Kind::Series, b"b")?)?;
+    let mut copy = defs.copy()?;
+    let same = are_series(&copy, &[4095, 3], 0) && copy.get(Kind::Series, 4).is_none();
+    let added = add(alloc, &mut copy, Kind::Series, b"c")?;
+    Ok(same && added == Some(0) && are_series(&copy, &[4095, 3, 0], 1))
+}
+
+#[test]
+fn a_copy_has_the_gap_between_two_slots(rt: HostRuntime) {
+    assert!(rt; matches!(gap_is_copied(rt.alloc()), Ok(true)));
+}
+
+// Whether a copy of so many definitions of a kind, the most or none, has as many and takes no other.
+fn most_are_copied(alloc: Global, kind: Kind, other: Kind) -> Result<bool, StoreFault> {
+    let mut defs = Defs::new(alloc);
+    let none = defs.copy()?;
+    fill(alloc, &mut defs, kind)?;
+    let copy = defs.copy()?;
+    Ok(none.in_order(kind).is_empty() && is_full(&copy, kind, other))
+}
+
+#[test]
+fn a_copy_is_of_none_or_of_the_most(rt: HostRuntime) {
+    for (kind, _, other) in &MOST {
+        assert!(rt; matches!(most_are_copied(rt.alloc(), *kind, *other), Ok(true)));
+    }
+}
+
 // Whether definitions keep their names as they take another format, and that one again.
 fn format_is_set(alloc: Global) -> Result<bool, StoreFault> {
     let mut defs = defs_of(alloc, Kind::Container, &CONTAINERS)?;

@@ -131,12 +131,42 @@ fn are_copied(alloc: Global) -> Result<bool, AllocError> {
     let mut space = after(alloc, &[Step::Set(1, D), Step::Set(4095, A)])?;
     let copy = space.copy()?;
     space.clear(1, 0);
-    Ok(copy.places(1) == [D].as_slice() && copy.places(2).is_empty())
+    let gap = copy.places(2).is_empty() && copy.places(4094).is_empty();
+    Ok(gap && copy.places(1) == [D].as_slice() && copy.places(4095) == [A].as_slice())
 }
 
 #[test]
 fn a_copy_has_the_places(rt: HostRuntime) {
     assert!(rt; matches!(are_copied(rt.alloc()), Ok(true)));
+}
+
+// Whether the first series of a directory have a place each, and no other one has any.
+fn first_have_places(space: &Space, count: u16) -> bool {
+    for series in 0..4096_u16 {
+        if space.places(series).is_empty() == (series < count) {
+            return false;
+        }
+    }
+    true
+}
+
+// Whether a copy of a directory whose first series have a place each is one, and takes one more place.
+fn first_are_copied(alloc: Global, count: u16) -> Result<bool, AllocError> {
+    let mut space = Space::new(alloc)?;
+    for series in 0..count.min(4096) {
+        take(&mut space, Step::Set(series, D))?;
+    }
+    let mut copy = space.copy()?;
+    let same = first_have_places(&copy, count);
+    take(&mut copy, Step::Set(4095, A))?;
+    Ok(same && copy.places(4095).len() == 1 + usize::from(count == 4096))
+}
+
+#[test]
+fn a_copy_is_of_none_some_or_all(rt: HostRuntime) {
+    for count in [0, 1, 9, 4096] {
+        assert!(rt; matches!(first_are_copied(rt.alloc(), count), Ok(true)));
+    }
 }
 
 // How many elements a series without places has after a change past its end, and whether it has the places that came.

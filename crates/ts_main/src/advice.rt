@@ -4,8 +4,8 @@ use std::fmt::Display;
 
 /// What the words may be.
 pub(crate) const USAGE: &str =
-    "say `ts VOLUME init PAGES` with 1 to 65536 pages, `ts VOLUME run < SCRIPT`, `ts VOLUME migrate`, or `ts VOLUME \
-     gen COUNT SEED` with 1 to 1000000 edits and a seed";
+    "say `ts VOLUME init PAGES` with 1 to 65536 pages, `ts VOLUME run < SCRIPT`, `ts VOLUME check`, `ts VOLUME \
+     migrate`, or `ts VOLUME gen COUNT SEED` with 1 to 1000000 edits and a seed";
 
 /// Prints a text, and answers with the status.
 pub(crate) fn show(rt: &HostRuntime, text: &str) -> u8 {
@@ -41,6 +41,35 @@ pub(crate) fn refuse_option(rt: &HostRuntime, word: &str) -> u8 {
         );
     }
     2
+}
+
+/// Says what a status of `check` means for a volume, and answers with it.
+pub(crate) fn advise_check(rt: &HostRuntime, path: &str, status: u8) -> u8 {
+    match status {
+        4 => complain(
+            rt,
+            path,
+            "standard output failed; nothing was changed: check again",
+        ),
+        5 => complain(
+            rt,
+            path,
+            "the file failed; nothing was changed: check the disk, then check again",
+        ),
+        6 => complain(
+            rt,
+            path,
+            "this is no store, or the page that was said is damaged; nothing was changed: keep the file, take the last \
+             copy that a check finds sound, and say anew what it lacks",
+        ),
+        7 => complain(
+            rt,
+            path,
+            "there is no memory for a check; nothing was changed: free some, then check again",
+        ),
+        _ => return advise(rt, path, status),
+    }
+    status
 }
 
 /// Says what a status of `migrate` means for a volume, and answers with it.

@@ -1,5 +1,7 @@
 // What comes before the top call, and after it.
-use crate::advice::{USAGE, advise, advise_gen, advise_migrate, complain, refuse_option, show};
+use crate::advice::{
+    USAGE, advise, advise_check, advise_gen, advise_migrate, complain, refuse_option, show,
+};
 use crate::limit::file_limit;
 use crate::streams::may_complain;
 use crate::volume_file::{OpenError, open_volume, sync_folder};
@@ -12,6 +14,7 @@ use ts_shell::{Job, read_job};
 const HELP: &str = "\
 usage: ts VOLUME init PAGES      makes an empty store with 1 to 65536 element pages
        ts VOLUME run < SCRIPT    carries out the statements of a script, one reply each
+       ts VOLUME check           says what a store's containers take, or which page of a volume is bad; changes nothing
        ts VOLUME migrate         brings an older store to the newest format; all that it holds stays
        ts VOLUME gen COUNT SEED  makes two series, puts 1 to 1000000 elements into them that a seed from
                                  0 to 4294967295 gives, and says what they come to
@@ -22,6 +25,7 @@ examples:
        ts meters.volume init 8
        echo 'ListSeries(meters);' | ts meters.volume run
        ts meters.volume run      reads statements from the terminal, to the end of input
+       ts meters.volume check    says whether every page is sound
        ts meters.volume migrate  makes a store of an earlier version take every statement
        ts trial.volume gen 5000 7
 
@@ -33,7 +37,7 @@ const VERSION: &str = "ts 0.1.0";
 const LONGEST_PATH: usize = 4096;
 
 /// First words that stand where the path is left out.
-const JOBS: [&str; 6] = ["init", "run", "migrate", "gen", "help", "version"];
+const JOBS: [&str; 7] = ["init", "run", "check", "migrate", "gen", "help", "version"];
 
 /// Whether there is work to do.
 #[derive(Drop)]
@@ -142,6 +146,7 @@ pub(crate) fn finish(rt: &HostRuntime, job: Job, path: &str, status: u8) -> u8 {
     match job {
         Job::Init(_) => finish_init(rt, path, status),
         Job::Run => advise(rt, path, status),
+        Job::Check => advise_check(rt, path, status),
         Job::Migrate => advise_migrate(rt, path, status),
         Job::Gen { .. } => advise_gen(rt, path, status),
     }

@@ -151,7 +151,7 @@ const AGAIN: Patch = (324, 0, b"\x01\x02ww");
 const AGAIN_RUNS: Patch = (324, 34, b"\x00\x00\x01\x80\x00\x00\x01");
 
 /// The same of calendars.
-const CALENDARS: [Case; 13] = [
+const CALENDARS: [Case; 14] = [
     // Starts past the year 9999, neither a slot nor a pattern, a run behind a slot, a pattern with no unit.
     (&[(582, 34, &[0x7f])], Some(582)),
     (&[(582, 42, &[0x7f])], Some(582)),
@@ -165,7 +165,9 @@ const CALENDARS: [Case; 13] = [
     // A pattern start six days after the start, and eight.
     (&[(582, 42, b"\x00\x00\x75\xbc\xa7\x3b\x90\x00")], None),
     (&[LATE], Some(582)),
-    // Before that comes a container that refers to nothing, behind it one with too many pages.
+    // Before that comes a later calendar with its name, and a container that refers to nothing; behind it one with too
+    // many pages.
+    (&[LATE, (583, 1, b"\x03cal")], Some(583)),
     (&[LATE, (833, 214, &[1])], Some(833)),
     (&[LATE, (833, 218, &[4])], Some(582)),
     // A pattern that is never on.

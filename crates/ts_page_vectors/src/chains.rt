@@ -20,13 +20,18 @@ const WIDE: [Patch; 10] = [
 ];
 
 /// Bytes of pages of the series with wide rows.
-const CHAINS: [Case; 7] = [
+const CHAINS: [Case; 8] = [
     // A later page with one element, and the charge of both in a container with a quota of two pages.
     (&[HEAD, AT_7], None),
     (&[HEAD, AT_7, (833, 218, &[2])], Some(833)),
     // A page that begins at the first's last stamp, or before it.
     (&[HEAD, (930, 32, STAMP_6)], Some(931)),
     (&[HEAD, (930, 32, STAMP_5)], Some(931)),
+    // And before it a page behind it that overlaps it too.
+    (
+        &[HEAD, (930, 32, STAMP_5), LAST, (932, 32, STAMP_3)],
+        Some(931),
+    ),
     // Two pages with as many elements as one has room for.
     (
         &[
@@ -49,6 +54,8 @@ const CHAINS: [Case; 7] = [
 const HEAD: Patch = (930, 0, b"\x02\x00\x32\x00\x01");
 
 const LAST: Patch = (932, 0, b"\x02\x00\x32\x00\x01");
+
+const STAMP_3: &[u8] = b"\x01\x00\x00\x75\xb0\x95\x53\xf0\x03";
 
 const STAMP_5: &[u8] = b"\x01\x00\x00\x75\xb0\x95\x53\xf0\x05";
 

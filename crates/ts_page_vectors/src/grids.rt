@@ -207,7 +207,7 @@ fn a_series_has_the_shape_of_its_definition(rt: HostRuntime) {
 }
 
 /// Bytes for that volume, and the first page that is bad with them, if one is.
-const SLOTS: [Case; 13] = [
+const SLOTS: [Case; 14] = [
     // An origin past the year 9999, which comes before too many pages of quotas; a byte behind it.
     (&[(834, 350, &[0x7f])], Some(834)),
     (&[(834, 350, &[0x7f]), (833, 218, &[4])], Some(834)),
@@ -218,6 +218,7 @@ const SLOTS: [Case; 13] = [
     // An empty slot of a calendar, which comes before a calendar that breaks a rule.
     (&[(834, 349, &[6])], Some(834)),
     (&[(834, 349, &[6]), LATE], Some(834)),
+    (&[LATE], Some(582)),
     // An origin within an interval, behind too many pages of quotas, before a bad page of elements.
     (&[WITHIN], Some(834)),
     (&[WITHIN, (833, 218, &[4])], Some(833)),
@@ -245,7 +246,7 @@ const WITHIN: Patch = (834, 357, &[1]);
 const OFF_ON: Patch = (582, 53, b"\x00\x02\x00\x00\x00\x01\x80\x00\x00\x01");
 
 /// The same of pages.
-const PAGES: [Case; 21] = [
+const PAGES: [Case; 22] = [
     // The head: too few elements and too many, none, a base that is no multiple of 677, a byte behind the base.
     (&[(932, 4, &[1])], Some(932)),
     (&[(932, 4, &[3])], Some(932)),
@@ -274,6 +275,11 @@ const PAGES: [Case; 21] = [
     // Two pages of one base, which come before a container over its quota; and behind a page that is bad by itself.
     (&[BASE_677, CELL_0], Some(932)),
     (&[BASE_677, CELL_0, (931, 4, &[0])], Some(931)),
+    // Three pages of one base.
+    (
+        &[BASE_677, CELL_0, MIDDLE_677, MIDDLE_0, MIDDLE_1],
+        Some(931),
+    ),
     // A page for each of two bases: the charge of the container is three pages, of its quota of two, and of three.
     (&[BASE_0, CELL_0], Some(833)),
     (&[BASE_0, CELL_0, THREE], None),
@@ -298,6 +304,12 @@ const BASE_677: Patch = (
     b"\x01\x00\x03\x00\x01\x00\x00\x00\x00\x00\x00\x02\xa5",
 );
 
+const MIDDLE_677: Patch = (
+    931,
+    0,
+    b"\x01\x00\x03\x00\x01\x00\x00\x00\x00\x00\x00\x02\xa5",
+);
+
 const BASE_1354: Patch = (
     930,
     0,
@@ -305,6 +317,10 @@ const BASE_1354: Patch = (
 );
 
 const CELL_0: Patch = (930, 32, SEVEN);
+
+const MIDDLE_0: Patch = (931, 32, SEVEN);
+
+const MIDDLE_1: Patch = (931, 38, &[0; 8]);
 
 /// The quota is three pages.
 const THREE: Patch = (833, 218, &[3]);

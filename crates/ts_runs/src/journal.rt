@@ -104,12 +104,12 @@ fn all_have(
     Ok(true)
 }
 
-// Stops in the five calls before a checkpoint, in its four and in the five behind it, where the record before it is of
+// Stops in the ten calls before a checkpoint, in its four and in the ten behind it, where the record before it is of
 // the update of this number.
 fn stops_around(rt: &(impl Threads + Sync), alloc: Global, last: u32) -> Result<bool, Fail> {
     let bytes = &bytes_after(rt, alloc, ELEMENT)?;
     let checkpoint = updated(rt, alloc, bytes, last, NEVER)?.calls();
-    for call in checkpoint.saturating_sub(5)..checkpoint.saturating_add(9) {
+    for call in checkpoint.saturating_sub(10)..checkpoint.saturating_add(14) {
         let site = updated(rt, alloc, bytes, 260, call)?;
         if site.calls() <= call {
             return Ok(false);

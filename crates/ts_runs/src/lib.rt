@@ -7,6 +7,12 @@
 #[cfg(test)]
 mod cached;
 #[cfg(test)]
+mod checks;
+#[cfg(test)]
+mod courses;
+#[cfg(test)]
+mod failing;
+#[cfg(test)]
 mod formats;
 #[cfg(test)]
 mod items;
@@ -15,8 +21,12 @@ mod journal;
 #[cfg(test)]
 mod program;
 #[cfg(test)]
+mod routines;
+#[cfg(test)]
 mod statuses;
 #[cfg(test)]
 mod stops;
 #[cfg(test)]
 mod transactions;
+#[cfg(test)]
+mod within_transactions;

@@ -1,9 +1,10 @@
-// What an aggregate list makes of elements and series, as a user reads it.
+// What an aggregate list makes of elements and series, and rows of numbers, as a user reads them.
 use std::alloc::{AllocError, Global};
 use std::test::Fail;
 use ts_base::{Bytes, Key, Reply, Stamp};
 use ts_entry::ElementVisitor;
 use ts_row::{Row, Value};
+use ts_running::NumbersVisitor;
 use ts_say::{FoldedLines, say_folded, say_series_folded};
 
 // The digits behind the point of a mean of a decimal(28,28), of a count, of an integer's sum and of a least text.
@@ -37,6 +38,28 @@ fn a_mean_is_said_to_its_last_digit(rt: HostRuntime) -> Result<(), Fail> {
     let wanted: &[u8] =
         b"1969-12-31 23:59:59.99999 -0.0000000000000000000000000000000001,3,null,'it''s'
 1970-02-01 13:14:15.67890 17014.1183460469231731687303715884105727,4294967296,null,'it''s'
+";
+    assert!(rt; out.as_slice() == wanted);
+    Ok(())
+}
+
+// Two rows of numbers.
+fn numbers(out: &mut Reply) -> Result<(), Fail> {
+    let (Some(first), Some(second)) = (Stamp::of(-1), Stamp::of(272_605_567_890)) else {
+        return Err(Fail::from("no stamp"));
+    };
+    let mut lines = FoldedLines::behind(out, &SCALES);
+    lines.numbers(first, &[Some(-1), Some(3), None, Some(-7)])?;
+    lines.numbers(second, &[None, Some(i128::MAX), Some(0), None])?;
+    Ok(())
+}
+
+#[test]
+fn rows_of_numbers_are_said_as_rows(rt: HostRuntime) -> Result<(), Fail> {
+    let mut out = Reply::new(rt.alloc());
+    numbers(&mut out)?;
+    let wanted: &[u8] = b"1969-12-31 23:59:59.99999 -0.0000000000000000000000000000000001,3,null,-7
+1970-02-01 13:14:15.67890 null,170141183460469231731687303715884105727,0,null
 ";
     assert!(rt; out.as_slice() == wanted);
     Ok(())

@@ -15,3 +15,4 @@ pub mod MigratingLemmas
 pub mod PullLemmas
 pub mod NewLemmas
 pub mod MakingLemmas
+pub mod CheckingLemmas

@@ -6,3 +6,4 @@ pub mod Top
 pub mod Migrating
 pub mod Generated
 pub mod Generating
+pub mod Checking

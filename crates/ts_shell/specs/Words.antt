@@ -3,7 +3,7 @@ use Rattle.std.specs.Prelude.{◌≤◌, ℕ, ◌&&◌, nat_le, if◌then◌else
 use Rattle.std.specs.Str.{bytes_eq}
 use Rattle.ts_base.specs.StampText.{number_of, all_digits}
 use Rattle.ts_shell.specs.declared.words.Job.{Job}
-use Rattle.ts_shell.specs.declared.words.Job.TheVariants.{Init, Run, Migrate, Gen}
+use Rattle.ts_shell.specs.declared.words.Job.TheVariants.{Init, Run, Check, Migrate, Gen}
 
 -- the number that 1 to 10 digits write
 abbrev pub decimal : List ℕ → Option ℕ
@@ -31,13 +31,16 @@ gen_job _ _ = None
 abbrev pub IsJob : Job → Type 0
 IsJob (Init pages) = (1 ≤ pages) × (pages ≤ 65536)
 IsJob Run = Unit {0}
+IsJob Check = Unit {0}
 IsJob Migrate = Unit {0}
 IsJob (Gen count seed) = (1 ≤ count) × (count ≤ 1000000)
 
--- what the words ask for: `run`, `migrate`, `init` and a number of pages, or `gen`, a count and a seed
+-- what the words ask for: `run`, `check`, `migrate`, `init` and a number of pages, or `gen`, a count and a seed
 unfoldable pub job_of : List (List ℕ) → Option Job
 job_of (word ∷ []) =
-    if bytes_eq word (codes "run") then Some Run else (if bytes_eq word (codes "migrate") then Some Migrate else None)
+    if bytes_eq word (codes "run") then Some Run
+    else (if bytes_eq word (codes "check") then Some Check else (if bytes_eq word (codes "migrate") then Some Migrate
+    else None))
 job_of (word ∷ pages ∷ []) =
     if bytes_eq word (codes "init") then (elim (pages_in pages) [ None ↦ None | Some n ↦ Some (Init n) ]) else None
 job_of (word ∷ count ∷ seed ∷ []) =

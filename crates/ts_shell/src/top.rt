@@ -2,11 +2,13 @@
 ghost use Rattle.std.specs.Prelude.{◌≡◌, ◌≢◌, ◌≤◌, ◌↔◌, ℕ, None, Some, IfOk, length, map, string_bytes};
 ghost use Rattle.ts_items.specs.Reader.{start};
 ghost use Rattle.ts_shell.specs.Words.{job_of};
+ghost use Rattle.ts_shell.specs.Checking.{CheckRan};
 ghost use Rattle.ts_shell.specs.Migrating.{MigrateRan};
 ghost use Rattle.ts_shell.specs.Generating.{GenRan};
 ghost use Rattle.ts_shell.specs.Top.{Made, Untouched, ScriptRan};
-ghost use Rattle.ts_shell.specs.declared.words.Job.TheVariants.{Init, Run, Migrate, Gen};
+ghost use Rattle.ts_shell.specs.declared.words.Job.TheVariants.{Init, Run, Check, Migrate, Gen};
 
+use crate::check::check;
 use crate::fault::unopened;
 use crate::generate::generate;
 use crate::make::make;
@@ -24,19 +26,21 @@ use ts_engine::Engine;
 /// Does what the words ask for, and answers with the program's status.
 ///
 /// `init PAGES` makes an empty store in the newest format, `run` carries out the script of the source, one reply per
-/// item, `migrate` brings a store to the newest format and leaves all that it holds, and `gen COUNT SEED` carries out a
-/// list of commands that a seed gives, with so many edits, and says what they come to. The status:
+/// item, `check` says the report on a store, or which page of a volume that is none is the first bad one, and changes
+/// nothing, `migrate` brings a store to the newest format and leaves all that it holds, and `gen COUNT SEED` carries
+/// out a list of commands that a seed gives, with so many edits, and says what they come to. The status:
 ///
 /// - 0: the work was done; `run` has read the source to its end.
 /// - 2: exactly where the words are none of these forms. Nothing was done.
 /// - 3: of `run`, a pull failed. Every item has its reply that ended before.
-/// - 4: of `run` and `gen`, a reply could not be said whole. Of `gen` every command was carried out.
+/// - 4: of `run`, `check` and `gen`, a reply or the report could not be said whole. Of `gen` every command was carried out.
 /// - 5: a call of the volume failed.
-/// - 6: of `run`, `migrate` and `gen`, exactly where the volume is no store, but for a fault or want of memory that came first.
-///   Nothing was said or written.
+/// - 6: of `run`, `check`, `migrate` and `gen`, exactly where the volume is no store, but for a fault or want of memory
+///   that came first. Nothing was written; `check` has said which page is the first bad one, and the others nothing.
 /// - 7: of `run`, there was no memory to open the volume: nothing was said or written, and the source wasn't pulled. Of
-///   `migrate`, there was no memory for it, and the store has its own format. Of `gen`, there was no memory for a command or for what
-///   is said: nothing was said, and some first commands were carried out.
+///   `check`, there was none for the report, and nothing was said. Of `migrate`, there was no memory for it, and the store
+///   has its own format. Of `gen`, there was no memory for a command or for what is said: nothing was said, and some
+///   first commands were carried out.
 /// - 8: of `run`, exactly where a pull gave bytes past the first 268435456. Every item has its reply that ends within these.
 /// - 10: of `init`, exactly where the volume isn't empty. Nothing was done.
 pub fn run_ts<S: Site, R: Source>(
@@ -57,6 +61,8 @@ pub fn run_ts<S: Site, R: Source>(
     ensures run { job_of (map (λ w. string_bytes w) words.now) ≡ Some Run
         → ScriptRan S.tells R.tells result (S.device site.old) (S.device site.new) (R.input source.old)
         (R.input source.new) }
+    ensures check { job_of (map (λ w. string_bytes w) words.now) ≡ Some Check
+        → CheckRan S.tells result (S.device site.old) (S.device site.new) }
     ensures migrate { job_of (map (λ w. string_bytes w) words.now) ≡ Some Migrate
         → MigrateRan S.tells result (S.device site.old) (S.device site.new) }
     ensures generated { (count seed : ℕ) → job_of (map (λ w. string_bytes w) words.now) ≡ Some (Gen count seed)
@@ -66,6 +72,7 @@ pub fn run_ts<S: Site, R: Source>(
         None => 2,
         Some(Job::Init(pages)) => init(site, pages),
         Some(Job::Run) => run(rt, alloc, site, source),
+        Some(Job::Check) => check(rt, alloc, site),
         Some(Job::Migrate) => migrate(alloc, site),
         Some(Job::Gen { count, seed }) => generate(rt, alloc, site, count, seed),
     }

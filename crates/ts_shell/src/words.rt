@@ -10,6 +10,8 @@ pub enum Job {
     /// Make a store with so many element pages, 1 to 65536.
     Init(u32),
     Run,
+    /// Say a report on the volume.
+    Check,
     /// Bring a store to the newest format.
     Migrate,
     /// Carry out the commands of a seed, with so many edits, 1 to 1000000.
@@ -26,6 +28,8 @@ pub fn read_job(words: &[String]) -> Option<Job>
         [word] => {
             if word.as_str() == "run" {
                 Some(Job::Run)
+            } else if word.as_str() == "check" {
+                Some(Job::Check)
             } else if word.as_str() == "migrate" {
                 Some(Job::Migrate)
             } else {

@@ -1,7 +1,7 @@
 use Rattle.std.proofs.Common.{◌≡◌, ◌⊎◌, ℕ, Option, Some, None, refl, sym, ◌∙◌, ap, subst, arith}
 use Rattle.std.specs.Option.{IfSome}
 use Rattle.ts_shell.specs.declared.words.Job.{Job}
-use Rattle.ts_shell.specs.declared.words.Job.TheVariants.{Init, Run, Migrate, Gen}
+use Rattle.ts_shell.specs.declared.words.Job.TheVariants.{Init, Run, Check, Migrate, Gen}
 use Rattle.ts_shell.specs.Words.{IsJob}
 use Rattle.ts_shell.specs.Top.{Made}
 use Rattle.ts_shell.specs.Generating.{GenRan}
@@ -29,6 +29,21 @@ init_is_migrate a e = cc
 
 run_is_migrate : ◌≡◌ {A = Option Job} (Some Run) (Some Migrate) → ⊥
 run_is_migrate e = cc
+
+check_is_none : ◌≡◌ {A = Option Job} (Some Check) None → ⊥
+check_is_none e = cc
+
+init_is_check : (a : ℕ) → ◌≡◌ {A = Option Job} (Some (Init a)) (Some Check) → ⊥
+init_is_check a e = cc
+
+run_is_check : ◌≡◌ {A = Option Job} (Some Run) (Some Check) → ⊥
+run_is_check e = cc
+
+check_is_migrate : ◌≡◌ {A = Option Job} (Some Check) (Some Migrate) → ⊥
+check_is_migrate e = cc
+
+gen_is_check : (a b : ℕ) → ◌≡◌ {A = Option Job} (Some (Gen a b)) (Some Check) → ⊥
+gen_is_check a b e = cc
 
 gen_count : (a b c d : ℕ) → ◌≡◌ {A = Option Job} (Some (Gen a b)) (Some (Gen c d)) → a ≡ c
 gen_count a b c d e = cc
@@ -241,3 +256,60 @@ returns-in-Some-Gen-clause-generated g c = λ count seed e.
 
 pub returns-in-Some-Gen-clause-no_pull : goal.returns-in-Some-Gen-clause-no_pull
 returns-in-Some-Gen-clause-no_pull g c = λ no. refl
+
+pub returns-in-None-clause-check : goal.returns-in-None-clause-check
+returns-in-None-clause-check g c = λ e. absurd (check_is_none (sym e ∙ sym c.read_job.ensures.job ∙ c.in-None.is))
+
+pub returns-in-Some-Init-clause-check : goal.returns-in-Some-Init-clause-check
+returns-in-Some-Init-clause-check g c = λ e.
+    let is : ◌≡◌ {A = Option Job} c.read_job.result (Some (Init c.in-Some-Init.pages)) = c.in-Some-Init.is ∙ ap Some c.in-Some-Init.field-0-is in
+    absurd (init_is_check c.in-Some-Init.pages (sym is ∙ c.read_job.ensures.job ∙ e))
+
+pub returns-in-Some-Run-clause-check : goal.returns-in-Some-Run-clause-check
+returns-in-Some-Run-clause-check g c = λ e.
+    let is : ◌≡◌ {A = Option Job} c.read_job.result (Some Run) = c.in-Some-Run.is ∙ ap Some c.in-Some-Run.field-0-is in
+    absurd (run_is_check (sym is ∙ c.read_job.ensures.job ∙ e))
+
+pub returns-in-Some-Migrate-clause-check : goal.returns-in-Some-Migrate-clause-check
+returns-in-Some-Migrate-clause-check g c = λ e.
+    let is : ◌≡◌ {A = Option Job} c.read_job.result (Some Migrate) = c.in-Some-Migrate.is ∙ ap Some c.in-Some-Migrate.field-0-is in
+    absurd (check_is_migrate (sym e ∙ sym c.read_job.ensures.job ∙ is))
+
+pub returns-in-Some-Gen-clause-check : goal.returns-in-Some-Gen-clause-check
+returns-in-Some-Gen-clause-check g c = λ e.
+    let is : ◌≡◌ {A = Option Job} c.read_job.result (Some (Gen c.in-Some-Gen.count c.in-Some-Gen.seed)) = c.in-Some-Gen.is ∙ ap Some c.in-Some-Gen.field-0-is in
+    absurd (gen_is_check c.in-Some-Gen.count c.in-Some-Gen.seed (sym is ∙ c.read_job.ensures.job ∙ e))
+
+pub returns-in-Some-Check-clause-usage : goal.returns-in-Some-Check-clause-usage
+returns-in-Some-Check-clause-usage g c =
+    let is : ◌≡◌ {A = Option Job} c.read_job.result (Some Check) = c.in-Some-Check.is ∙ ap Some c.in-Some-Check.field-0-is in
+    (λ two. absurd (gen_not_two c.check.result c.check.ensures.ran.statuses two), λ none. absurd (check_is_none (sym is ∙ c.read_job.ensures.job ∙ none)))
+
+pub returns-in-Some-Check-clause-refused : goal.returns-in-Some-Check-clause-refused
+returns-in-Some-Check-clause-refused g c = λ two. absurd (gen_not_two c.check.result c.check.ensures.ran.statuses two)
+
+pub returns-in-Some-Check-clause-no_pull : goal.returns-in-Some-Check-clause-no_pull
+returns-in-Some-Check-clause-no_pull g c = λ no. refl
+
+pub returns-in-Some-Check-clause-init : goal.returns-in-Some-Check-clause-init
+returns-in-Some-Check-clause-init g c = λ pages e.
+    let is : ◌≡◌ {A = Option Job} c.read_job.result (Some Check) = c.in-Some-Check.is ∙ ap Some c.in-Some-Check.field-0-is in
+    absurd (init_is_check pages (sym e ∙ sym c.read_job.ensures.job ∙ is))
+
+pub returns-in-Some-Check-clause-run : goal.returns-in-Some-Check-clause-run
+returns-in-Some-Check-clause-run g c = λ e.
+    let is : ◌≡◌ {A = Option Job} c.read_job.result (Some Check) = c.in-Some-Check.is ∙ ap Some c.in-Some-Check.field-0-is in
+    absurd (run_is_check (sym e ∙ sym c.read_job.ensures.job ∙ is))
+
+pub returns-in-Some-Check-clause-check : goal.returns-in-Some-Check-clause-check
+returns-in-Some-Check-clause-check g c = λ e. c.check.ensures.ran
+
+pub returns-in-Some-Check-clause-migrate : goal.returns-in-Some-Check-clause-migrate
+returns-in-Some-Check-clause-migrate g c = λ e.
+    let is : ◌≡◌ {A = Option Job} c.read_job.result (Some Check) = c.in-Some-Check.is ∙ ap Some c.in-Some-Check.field-0-is in
+    absurd (check_is_migrate (sym is ∙ c.read_job.ensures.job ∙ e))
+
+pub returns-in-Some-Check-clause-generated : goal.returns-in-Some-Check-clause-generated
+returns-in-Some-Check-clause-generated g c = λ count seed e.
+    let is : ◌≡◌ {A = Option Job} c.read_job.result (Some Check) = c.in-Some-Check.is ∙ ap Some c.in-Some-Check.field-0-is in
+    absurd (gen_is_check count seed (sym e ∙ sym c.read_job.ensures.job ∙ is))
