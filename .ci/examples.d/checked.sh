@@ -10,24 +10,24 @@ judged() {
   same "$1: what is said" last wanted
   same "$1: the volume" before "$2"
 }
-wants "a store that is checked: init" 0 "$ts" sound.volume init 8
-input=$examples/checked_store.script wants "a store that is checked: run" 0 "$ts" sound.volume run
-judged "a store with records in its journal" sound.volume 0 "ok 3 of 8"
+wants "a store that is checked: init" 0 "$ts" checked.volume init 8
+input=$examples/checked_store.script wants "a store that is checked: run" 0 "$ts" checked.volume run
+judged "a store with records in its journal" checked.volume 0 "ok 3 of 8"
 cat > report << REPORT
 container hourly charge 1 of 3 series 1
 container notes charge 3 of 4 series 2
 ok 3 of 8
 REPORT
 same "its whole report" said report
-wants "its pages come home" 0 "$ts" sound.volume run
-judged "the same at rest" sound.volume 0 "ok 3 of 8"
+wants "its pages come home" 0 "$ts" checked.volume run
+judged "the same at rest" checked.volume 0 "ok 3 of 8"
 same "its report is the same" said report
 
 # Each of these bytes breaks one page: the place, the bytes, the page.
 while read -r place bytes page; do
-  cp sound.volume damaged.volume
-  write_at damaged.volume "$place" "$bytes"
-  judged "damaged at $place" damaged.volume 6 "bad page $page"
+  cp checked.volume harmed.volume
+  write_at harmed.volume "$place" "$bytes"
+  judged "damaged at $place" harmed.volume 6 "bad page $page"
 done << BYTES
 0 \000 0
 8 \011 0
@@ -41,15 +41,15 @@ $((937 * 4096)) \002 937
 BYTES
 
 # Two series of one key: the page is the same, so the second slot breaks it. A file that was cut, or made longer.
-cp sound.volume damaged.volume
-truncate -s -1 damaged.volume
-judged "a file that was cut" damaged.volume 6 "bad page 0"
-truncate -s +4097 damaged.volume
-judged "a file that was made longer" damaged.volume 6 "bad page 0"
-rm damaged.volume
+cp checked.volume harmed.volume
+truncate -s -1 harmed.volume
+judged "a file that was cut" harmed.volume 6 "bad page 0"
+truncate -s +4097 harmed.volume
+judged "a file that was made longer" harmed.volume 6 "bad page 0"
+rm harmed.volume
 
 # A full disk takes no report.
 if [ -c /dev/full ]; then
-  "$ts" sound.volume check > /dev/full 2> complained
+  "$ts" checked.volume check > /dev/full 2> complained
   [ $? -eq 4 ] && passed=$((passed + 1)) || { failed=$((failed + 1)); echo "FAILED: a report that isn't taken"; }
 fi

@@ -65,20 +65,30 @@ pub(crate) fn read_words(rt: &HostRuntime) -> io::Result<Vec<String>> {
     Ok(words)
 }
 
-/// Says that the words can't be read, and answers with the status of a faulty command line. Standard error may be the
-/// file that the first word names, whatever the others are: then the line goes nowhere.
+/// Says that the words can't be read, and answers with the status of that: there is no memory for them, or the command
+/// line is faulty. Standard error may be the file that the first word names, whatever the others are: then the line goes
+/// nowhere.
 pub(crate) fn refuse_words(rt: &HostRuntime, error: &io::Error) -> u8 {
     let mut room = [0; LONGEST_PATH];
     let first = rt.arg(1, &mut room).ok();
     let path = first.and_then(|len| str::from_utf8(&room[..len]).ok());
+    let wants = error.kind() == io::ErrorKind::OutOfMemory;
     if may_complain(rt, path) {
-        complain(
-            rt,
-            "the command line",
-            format_args!("can't be read: {error}"),
-        );
+        if wants {
+            complain(
+                rt,
+                "the command line",
+                "there is no memory to read it; nothing was done: free some, then say it again",
+            );
+        } else {
+            complain(
+                rt,
+                "the command line",
+                format_args!("can't be read: {error}"),
+            );
+        }
     }
-    2
+    if wants { 7 } else { 2 }
 }
 
 /// Opens the volume that the words name. Only `init` with a right number may make its file.
