@@ -44,14 +44,22 @@ __attribute__((constructor)) static void begin(void) {
   counts = number != NULL;
 }
 
-__attribute__((destructor)) static void end(void) {
+static void end(void) {
   counts = 0;
   const char *path = getenv("REFUSED");
   int file = path ? open(path, O_WRONLY | O_CREAT | O_TRUNC, 0644) : -1;
   if (file < 0) return;
   char line[32];
   int length = snprintf(line, sizeof line, "%ld\n", atomic_load(&asked));
-  if (write(file, line, length) != length) _exit(99);
+  if (write(file, line, length) != length) abort();
+}
+
+// How the program ends: without the destructors of libraries.
+void _exit(int status) {
+  void (*below)(int) = (void (*)(int))dlsym(RTLD_NEXT, "_exit");
+  end();
+  below(status);
+  __builtin_unreachable();
 }
 
 void *malloc(size_t size) {
