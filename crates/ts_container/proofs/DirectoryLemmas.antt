@@ -1,11 +1,12 @@
 -- The spans of one series among those of all, which are sorted.
-use Rattle.std.proofs.Common.{◌≡◌, ℕ, zero, suc, ◌+◌, ◌-◌, ◌<◌, ◌≤◌, List, [], ◌∷◌, length, get_or, take, drop, refl, sym, ap, subst, ◌∙◌, arith, inl, inr, get_or-set_other}
+use Rattle.std.proofs.Common.{◌≡◌, ℕ, zero, suc, ◌+◌, ◌-◌, ◌<◌, ◌≤◌, List, [], ◌∷◌, length, get_or, map, replicate, take, drop, refl, sym, ap, subst, ◌∙◌, arith, inl, inr, get_or-set_other}
+use Rattle.std.proofs.lemmas.List.{get_or-replicate, get_or_past, length-replicate}
 use Rattle.std.specs.List.{AllWithin}
 use Rattle.std.proofs.lemmas.Bool.{cases_eq, cases_lt}
 use Rattle.ts_space.specs.declared.place.Place.{Place}
 use Rattle.ts_space.specs.Directory.{Directory, places_of, ChangesOnly}
 use Rattle.ts_container.specs.declared.span.Span.{Span}
-use Rattle.ts_container.specs.Spans.{spans_in, places_in}
+use Rattle.ts_container.specs.Spans.{place_in, spans_in, places_in}
 use Rattle.ts_container.proofs.SpanLemmas.{in_own, in_others}
 
 -- some before them, those of the series, and those behind
@@ -78,3 +79,32 @@ places_more slot spans old new listed changes is t below = elim (cases_eq t slot
 ] where
   earlier : (t slot : ℕ) → t < slot + 1 → (t ≡ slot → ⊥) → t < slot
   earlier t slot below other = omega (arith, below, other)
+
+-- a directory without places has none of any series
+pub none_listed : (n slot : ℕ) (space : Directory) → space.lists ≡ replicate n [] → places_of slot space ≡ []
+none_listed n slot space empty = ap (λ (l : List (List Place)). get_or l slot []) empty ∙ elim (cases_lt slot n) [
+  | inl below ↦ get_or-replicate n slot [] [] below
+  | inr behind ↦ let most : n ≤ slot = omega (arith, behind) in get_or_past (replicate n []) slot [] (subst (λ (k : ℕ). k ≤ slot) (sym (length-replicate n [])) most)
+]
+
+-- the series behind the one that is listed have none still
+pub none_behind : (slot : ℕ) (old new : Directory) → ((t : ℕ) → slot ≤ t → places_of t old ≡ []) → ChangesOnly slot old new → (t : ℕ) → slot + 1 ≤ t → places_of t new ≡ []
+none_behind slot old new none changes t above =
+    ap (λ (l : List (List Place)). get_or l t []) changes.lists ∙ get_or-set_other old.lists slot t (places_of slot new) [] (λ same. omega (arith, above, same))
+    ∙ none t (omega (arith, above))
+
+-- where all spans stand before a slot, the series from there on have none
+none_from : (low slot : ℕ) (spans : List Span) → AllWithin (λ (a : Span). a.slot < low) spans 0 (length spans) → low ≤ slot → spans_in slot spans ≡ []
+none_from low slot [] before least = refl
+none_from low slot (a ∷ spans) before least =
+    let earlier = before 0 a (omega arith) (omega arith) in
+    in_others a slot spans (λ same. omega (arith, same, earlier, least))
+    ∙ none_from low slot spans (λ k b low within. before (suc k) b (omega arith) (omega (arith, within))) least
+
+-- so all are listed once none is left
+pub all_listed : (low : ℕ) (spans : List Span) (space : Directory) → ((t : ℕ) → t < low → places_of t space ≡ places_in t spans) → ((t : ℕ) → low ≤ t → places_of t space ≡ [])
+    → AllWithin (λ (a : Span). a.slot < low) spans 0 (length spans) → (t : ℕ) → places_of t space ≡ places_in t spans
+all_listed low spans space listed none before t = elim (cases_lt t low) [
+  | inl below ↦ listed t below
+  | inr behind ↦ let from : low ≤ t = omega (arith, behind) in none t from ∙ sym (ap (map place_in) (none_from low t spans before from))
+]

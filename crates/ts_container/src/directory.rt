@@ -20,6 +20,10 @@ pub(crate) fn directory_of(alloc: Global, spans: &[Span]) -> Result<Space, Alloc
     let mut space = Space::new(alloc)?;
     let mut first = 0;
     for slot in 0..SERIES_SLOTS {
+        // So the directory has lists up to the last one with places alone, and a copy of it is as short.
+        if first == spans.len() {
+            return Ok(space);
+        }
         let end = end_of(slot, spans);
         space.restore(slot, places_of(alloc, spans, first, end)?);
         first = end;

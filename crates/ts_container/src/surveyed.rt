@@ -84,7 +84,8 @@ pub fn finish(
         return Err(SurveyFault::NotAStore { page: bad });
     }
     let space = directory_of(alloc, &spans)?;
-    if !keep_quotas(&defs, &space) {
+    let kept = keep_quotas(alloc, &defs, &space)?;
+    if !kept {
         return Err(SurveyFault::NotAStore { page: CONTAINERS });
     }
     Ok(Surveyed { defs, space, free })

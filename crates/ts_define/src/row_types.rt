@@ -1,5 +1,5 @@
 // The routine that creates a row type.
-ghost use Rattle.std.specs.Prelude.{◌≡◌, ℕ, IfOk};
+ghost use Rattle.std.specs.Prelude.{ℕ, IfOk};
 ghost use Rattle.ts_row.specs.RowType.{bad_column};
 ghost use Rattle.ts_command.specs.declared.command.Command.TheVariants.{CreateRowType};
 ghost use Rattle.ts_command.specs.Form.{HasForm};
@@ -11,11 +11,11 @@ ghost use Rattle.ts_define.specs.RowTypes.{MakesRowType};
 
 use crate::format::in_format;
 use crate::slots::slot_for;
-use std::alloc::{AllocError, Global};
+use std::alloc::Global;
 use ts_base::{Name, Trouble};
 use ts_command::Columns;
 use ts_model::{Def, Defs, Kind};
-use ts_row::{Column, RowType};
+use ts_row::{RowType, copy_columns};
 
 /// The definition of a new row type, and the slot for it.
 pub fn new_row_type(
@@ -44,18 +44,4 @@ fn row_type_of(alloc: Global, stamp: &Name, columns: &Columns) -> Result<RowType
     let copied = copy_columns(alloc, columns.as_slice())?;
     let stamp = stamp.copy()?;
     RowType::make(alloc, stamp, copied)
-}
-
-// The same columns once more.
-fn copy_columns(alloc: Global, columns: &[Column]) -> Result<Vec<Column>, AllocError>
-    ensures { IfOk result (λ made. made.items ≡ columns.now) }
-{
-    let mut made = Vec::with_capacity(alloc, columns.len())?;
-    for column in columns {
-        made.push(Column {
-            name: column.name.copy()?,
-            kind: column.kind,
-        })?;
-    }
-    Ok(made)
 }

@@ -1,4 +1,4 @@
-use Rattle.std.proofs.Common.{◌≡◌, ℕ, ◌<◌, ◌≤◌, length}
+use Rattle.std.proofs.Common.{◌≡◌, ℕ, ◌<◌, ◌≤◌, [], length}
 use Rattle.std.specs.List.{AllWithin}
 use Rattle.ts_space.specs.Directory.{places_of}
 use Rattle.ts_container.specs.declared.span.Span.{Span}
@@ -12,4 +12,5 @@ invariant-loop-slot l = record {
   behind : AllWithin (λ (a : Span). l.slot ≤ a.slot) l.spans l.first (length l.spans);
   slots : length l.space.lists ≡ 4096;
   places : (slot : ℕ) → slot < l.slot → places_of slot l.space ≡ places_in slot l.spans;
+  none : (slot : ℕ) → l.slot ≤ slot → places_of slot l.space ≡ [];
 }
