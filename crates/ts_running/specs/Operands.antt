@@ -9,7 +9,6 @@ use Rattle.ts_expr.specs.Fold.{value_at}
 use Rattle.ts_running.specs.declared.step.Operation.{Operation}
 use Rattle.ts_running.specs.declared.step.Operation.TheVariants.{Plus, Less, Times}
 use Rattle.ts_running.specs.declared.bind.Source.{Source}
-use Rattle.ts_running.specs.declared.value.Operand.{Operand}
 use Rattle.ts_running.specs.declared.fault.ApplyError.{ApplyError}
 use Rattle.ts_running.specs.declared.fault.ApplyError.TheVariants.{Overflow, Memory}
 use Rattle.ts_running.specs.Parts.{Parts, of_two, made_of_all}
@@ -32,6 +31,11 @@ abbrev pub of_numbers : (ℤ → ℤ → Option ℤ) → Option ℤ → Option �
 of_numbers make None b = Some None
 of_numbers make (Some x) None = Some None
 of_numbers make (Some x) (Some y) = option_map (λ z. Some z) (make x y)
+
+-- a number or NULL, and the digits after its point
+pub record Operand : Type 0 where
+  pub value : Option ℤ
+  pub scale : ℕ
 
 abbrev pub operand : Option ℤ → ℕ → Operand
 operand value scale = record { value = value; scale = scale }

@@ -3,13 +3,14 @@ ghost use Rattle.std.specs.Prelude.{◌≡◌, ◌≤◌, All, ◌≤◌, Ok, So
 ghost use Rattle.std.specs.List.{list_all};
 ghost use Rattle.ts_row.specs.RowType.{is_kind};
 ghost use Rattle.ts_base.specs.Answer.{Answers, Fails};
-ghost use Rattle.ts_running.specs.Expr.{all_steps};
 ghost use Rattle.ts_running.specs.Parts.{made_of_all};
 ghost use Rattle.ts_running.specs.Binding.{most_part_scale, binding, part_scales};
 ghost use Rattle.ts_running.specs.Binding;
+ghost use Rattle.ts_running.specs.Instructions.{IsKept};
 
+use crate::instruction::Instruction;
 use crate::list::ExprList;
-use crate::scale::scales_of;
+use crate::scale::{ScaledExprs, scaled_exprs};
 use crate::step::Step;
 use std::alloc::Global;
 use std::marker::Model;
@@ -29,25 +30,25 @@ pub struct Source {
 /// Expressions over the columns of a row type.
 #[derive(Debug, Drop)]
 pub struct BoundExpr {
-    steps: Vec<Step<Source>>,
+    instructions: Vec<Instruction>,
     scales: Vec<u8>,
 }
 
 impl Model for BoundExpr {
     ghost use Rattle.std.specs.Prelude.{◌≡◌, List, Some};
-    ghost use Rattle.ts_running.specs.Expr.{all_steps};
-    ghost use Rattle.ts_running.specs.Parts.{exprs_of, made_of_all};
+    ghost use Rattle.ts_running.specs.Parts.{made_of_all};
     ghost use Rattle.ts_running.specs.Binding.{Sourced, part_scales};
     ghost use Rattle.ts_running.specs.SourceCodes.{sourced_code};
+    ghost use Rattle.ts_running.specs.Instructions.{exprs_in, IsKept};
 
     ghost Value = { List Sourced };
 
     ghost coded = { sourced_code };
 
-    ghost view = { λ b. exprs_of b.steps.items };
+    ghost view = { λ b. exprs_in b.instructions.items };
 
-    ghost invariant = { λ b. (b.steps.items ≡ all_steps (exprs_of b.steps.items))
-        × (made_of_all part_scales (exprs_of b.steps.items) ≡ Some b.scales.items) };
+    ghost invariant = { λ b. IsKept (exprs_in b.instructions.items) b.instructions.items
+        × (made_of_all part_scales (exprs_in b.instructions.items) ≡ Some b.scales.items) };
 }
 
 impl ExprList {
@@ -58,10 +59,17 @@ impl ExprList {
     {
         let alloc = self.allocator();
         let steps = bound_steps(alloc, kind.columns(), self.steps())?;
-        let Some(scales) = scales_of(alloc, steps.as_slice())? else {
+        let Some(exprs) = scaled_exprs(alloc, steps.as_slice())? else {
             return Err(Trouble::Refused(Refusal::BadExpression { place: 0 }));
         };
-        Ok(BoundExpr { steps, scales })
+        let ScaledExprs {
+            instructions,
+            scales,
+        } = exprs;
+        Ok(BoundExpr {
+            instructions,
+            scales,
+        })
     }
 }
 
@@ -75,14 +83,14 @@ impl BoundExpr {
         self.scales.as_slice()
     }
 
-    pub(crate) fn steps(&self) -> &[Step<Source>]
-        ensures { result.now ≡ all_steps self.now }
+    pub(crate) fn instructions(&self) -> &[Instruction]
+        ensures { IsKept self.now result.now }
     {
-        self.steps.as_slice()
+        self.instructions.as_slice()
     }
 
     pub(crate) fn allocator(&self) -> Global {
-        *self.steps.allocator()
+        *self.instructions.allocator()
     }
 }
 

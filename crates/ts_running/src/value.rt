@@ -1,35 +1,27 @@
 // The values of expressions over the numbers of a row.
-ghost use Rattle.std.specs.Prelude.{◌≡◌, ◌≤◌, ◌^◌, ◌+ℤ◌, ◌-ℤ◌, ◌*ℤ◌, neg_ℤ, pos, Some, None, IfOk, IfErr, IfSome};
-ghost use Rattle.std.specs.Prelude.{IsSome, OnOk, [], ◌∷◌, map, reverse, slice_index_or};
+ghost use Rattle.std.specs.Prelude.{◌≡◌, ◌+ℤ◌, ◌-ℤ◌, ◌*ℤ◌, neg_ℤ, Some, None, IfOk, IfErr, OnOk, [], map};
+ghost use Rattle.std.specs.Prelude.{reverse, slice_index_or};
 ghost use Rattle.std.specs.Option.{option_and_then};
 ghost use Rattle.ts_row.specs.Row.{Values};
-ghost use Rattle.ts_running.specs.declared.step.Operation.TheVariants.{Plus, Less, Times};
-ghost use Rattle.ts_running.specs.Parts.{onto_stack, over_one, over_two, after_step, after_steps};
-ghost use Rattle.ts_running.specs.Binding.{most_part_scale, part_scales, joined_scale};
-ghost use Rattle.ts_running.specs.Operands.{checked, opposite_of, over_numbers, value_if_any, applied, Applies, Leaves};
-ghost use Rattle.ts_running.specs.Operands.{ApplyFails};
+ghost use Rattle.ts_running.specs.Parts.{onto_stack, over_one, over_two};
+ghost use Rattle.ts_running.specs.Operands.{checked, value_if_any, applied, Applies, Leaves, ApplyFails};
 ghost use Rattle.ts_running.specs.Operands;
+ghost use Rattle.ts_running.specs.Instructions.{after_instruction, after_instructions, opposite_if_any, sum_if_any};
+ghost use Rattle.ts_running.specs.Instructions.{difference_if_any, product_if_any};
+ghost use Rattle.ts_running.specs.Instructions;
 
-use crate::bind::{BoundExpr, Source};
+use crate::bind::BoundExpr;
 use crate::fault::ApplyError;
-use crate::step::{Operation, Step};
+use crate::instruction::{Instruction, Powers};
 use std::alloc::{AllocError, Global};
 use std::marker::Model;
 use ts_row::{Elem, Row, Value};
-
-/// A number or NULL, and the digits after its point.
-#[derive(Clone, Copy, Debug, PartialEq, Eq)]
-pub(crate) struct Operand {
-    value: Option<i128>,
-    scale: u8,
-}
 
 /// Room for what expressions make of a row, whose memory stays from row to row. It is seen as the numbers that were
 /// made last.
 #[derive(Debug, Drop)]
 pub struct ApplyRoom {
-    stack: Vec<Operand>,
-    made: Vec<Option<i128>>,
+    stack: Vec<Option<i128>>,
 }
 
 impl Model for ApplyRoom {
@@ -37,7 +29,7 @@ impl Model for ApplyRoom {
 
     ghost Value = { List (Option ℤ) };
 
-    ghost view = { λ r. r.made.items };
+    ghost view = { λ r. r.stack.items };
 }
 
 impl ApplyRoom {
@@ -47,7 +39,6 @@ impl ApplyRoom {
     {
         ApplyRoom {
             stack: Vec::new(alloc),
-            made: Vec::new(alloc),
         }
     }
 
@@ -55,7 +46,7 @@ impl ApplyRoom {
     pub fn numbers(&self) -> &[Option<i128>]
         ensures { result.now ≡ self.now }
     {
-        self.made.as_slice()
+        self.stack.as_slice()
     }
 }
 
@@ -81,9 +72,7 @@ impl BoundExpr {
             → Leaves (applied self.now values) room.new result }
     {
         let _scales = self.scales();
-        carry_out(self.steps(), numbers, &mut room.stack)?;
-        keep_values(room.stack.as_slice(), &mut room.made)?;
-        Ok(())
+        carry_out(self.instructions(), numbers, &mut room.stack)
     }
 }
 
@@ -128,19 +117,19 @@ fn value_of(number: Option<i128>) -> Value
     }
 }
 
-// Carries steps out over the numbers of a row: the stack that they leave has the last one in front.
+// Carries instructions out over the numbers of a row: the stack that they leave has the last one in front.
 fn carry_out(
-    steps: &[Step<Source>],
+    instructions: &[Instruction],
     numbers: &[Option<i128>],
-    stack: &mut Vec<Operand>,
+    stack: &mut Vec<Option<i128>>,
 ) -> Result<(), ApplyError>
-    requires { IsSome (after_steps part_scales steps.now []) }
-    ensures ok { OnOk result (after_steps (over_numbers numbers.now) steps.now [] ≡ Some (reverse stack.new.items)) }
-    ensures cause { IfErr result (ApplyFails (after_steps (over_numbers numbers.now) steps.now [])) }
+    ensures ok { OnOk result
+        (after_instructions numbers.now instructions.now [] ≡ Some (reverse stack.new.items)) }
+    ensures cause { IfErr result (ApplyFails (after_instructions numbers.now instructions.now [])) }
 {
     stack.clear();
-    for step in steps {
-        let Some(made) = made_by(step, numbers, stack) else {
+    for instruction in instructions {
+        let Some(made) = made_by(instruction, numbers, stack) else {
             return Err(ApplyError::Overflow);
         };
         stack.push(made)?;
@@ -148,154 +137,130 @@ fn carry_out(
     Ok(())
 }
 
-// What a step leaves, and the operands that it takes for it.
+// What an instruction leaves, and the numbers that it takes for it.
+#[inline(always)]
 fn made_by(
-    step: &Step<Source>,
+    instruction: &Instruction,
     numbers: &[Option<i128>],
-    stack: &mut Vec<Operand>,
-) -> Option<Operand>
-    requires { IsSome (after_step part_scales step.now (map (λ o. o.scale) (reverse stack.old.items))) }
-    ensures value { after_step (over_numbers numbers.now) step.now (reverse stack.old.items)
+    stack: &mut Vec<Option<i128>>,
+) -> Option<Option<i128>>
+    ensures { after_instruction numbers.now instruction.now (reverse stack.old.items)
         ≡ onto_stack (reverse stack.new.items) result }
-    ensures scale { IfSome result (λ made.
-        after_step part_scales step.now (map (λ o. o.scale) (reverse stack.old.items))
-        ≡ Some (made.scale ∷ map (λ o. o.scale) (reverse stack.new.items))) }
 {
-    match step {
-        Step::Column(source) => Some(column_value(*source, numbers)),
-        Step::Digits(number) => Some(Operand {
-            value: Some(i128::from(*number)),
-            scale: 0,
-        }),
-        Step::Opposite => opposite_made(stack),
-        Step::Joined(operation) => joined_made(*operation, stack),
+    match instruction {
+        Instruction::Column(source) => Some(number_in(numbers, source.column)),
+        Instruction::Digits(number) => Some(Some(i128::from(*number))),
+        Instruction::Opposite => opposite_made(stack),
+        Instruction::Plus(powers) => sum_made(*powers, stack),
+        Instruction::Less(powers) => difference_made(*powers, stack),
+        Instruction::Times => product_made(stack),
     }
 }
 
 // The number in a column.
-fn column_value(source: Source, numbers: &[Option<i128>]) -> Operand
-    ensures { result ≡ Operands.operand (slice_index_or numbers.now source.column None) source.scale }
+#[inline(always)]
+fn number_in(numbers: &[Option<i128>], column: usize) -> Option<i128>
+    ensures { result ≡ slice_index_or numbers.now column None }
 {
-    let value = match numbers.get(source.column) {
+    match numbers.get(column) {
         Some(number) => *number,
         None => None,
-    };
-    Operand {
-        value,
-        scale: source.scale,
     }
 }
 
 // The number of opposite sign in place of the last one.
-fn opposite_made(stack: &mut Vec<Operand>) -> Option<Operand>
-    ensures value { over_one opposite_of (reverse stack.old.items) ≡ onto_stack (reverse stack.new.items) result }
-    ensures scale { IfSome result (λ made. map (λ o. o.scale) (reverse stack.old.items)
-        ≡ made.scale ∷ map (λ o. o.scale) (reverse stack.new.items)) }
+#[inline(always)]
+fn opposite_made(stack: &mut Vec<Option<i128>>) -> Option<Option<i128>>
+    ensures { over_one opposite_if_any (reverse stack.old.items) ≡ onto_stack (reverse stack.new.items) result }
 {
     let a = stack.pop()?;
-    opposite_of(a)
+    opposite_if_any(a)
 }
 
-// What is made of the last two.
-fn joined_made(operation: Operation, stack: &mut Vec<Operand>) -> Option<Operand>
-    requires { IsSome (over_two (part_scales.joined operation) (map (λ o. o.scale) (reverse stack.old.items))) }
-    ensures value { over_two (Operands.joined_of operation) (reverse stack.old.items)
-        ≡ onto_stack (reverse stack.new.items) result }
-    ensures scale { IfSome result (λ made.
-        over_two (part_scales.joined operation) (map (λ o. o.scale) (reverse stack.old.items))
-        ≡ Some (made.scale ∷ map (λ o. o.scale) (reverse stack.new.items))) }
+// The sum in place of the last two.
+#[inline(always)]
+fn sum_made(powers: Powers, stack: &mut Vec<Option<i128>>) -> Option<Option<i128>>
+    ensures { over_two (sum_if_any powers) (reverse stack.old.items) ≡ onto_stack (reverse stack.new.items) result }
 {
     let b = stack.pop()?;
     let a = stack.pop()?;
-    joined_of(operation, a, b)
+    sum_if_any(powers, a, b)
 }
 
-fn opposite_of(a: Operand) -> Option<Operand>
-    ensures value { result ≡ Operands.opposite_of a }
-    ensures scale { IfSome result (λ made. made.scale ≡ a.scale) }
+// The difference in place of the last two.
+#[inline(always)]
+fn difference_made(powers: Powers, stack: &mut Vec<Option<i128>>) -> Option<Option<i128>>
+    ensures { over_two (difference_if_any powers) (reverse stack.old.items)
+        ≡ onto_stack (reverse stack.new.items) result }
 {
-    let value = match a.value {
-        None => None,
-        Some(number) => Some(opposite(number)?),
+    let b = stack.pop()?;
+    let a = stack.pop()?;
+    difference_if_any(powers, a, b)
+}
+
+// The product in place of the last two.
+#[inline(always)]
+fn product_made(stack: &mut Vec<Option<i128>>) -> Option<Option<i128>>
+    ensures { over_two product_if_any (reverse stack.old.items) ≡ onto_stack (reverse stack.new.items) result }
+{
+    let b = stack.pop()?;
+    let a = stack.pop()?;
+    product_if_any(a, b)
+}
+
+#[inline(always)]
+fn opposite_if_any(a: Option<i128>) -> Option<Option<i128>>
+    ensures { result ≡ Instructions.opposite_if_any a }
+{
+    let Some(x) = a else {
+        return Some(None);
     };
-    Some(Operand {
-        value,
-        scale: a.scale,
-    })
+    Some(Some(opposite(x)?))
 }
 
-fn joined_of(operation: Operation, a: Operand, b: Operand) -> Option<Operand>
-    requires { joined_scale operation a.scale b.scale ≤ most_part_scale }
-    ensures value { result ≡ Operands.joined_of operation a b }
-    ensures scale { IfSome result (λ made. made.scale ≡ joined_scale operation a.scale b.scale) }
+#[inline(always)]
+fn sum_if_any(powers: Powers, a: Option<i128>, b: Option<i128>) -> Option<Option<i128>>
+    ensures { result ≡ Instructions.sum_if_any powers a b }
 {
-    match operation {
-        Operation::Plus => added(a, b),
-        Operation::Less => taken_away(a, b),
-        Operation::Times => multiplied(a, b),
-    }
-}
-
-fn added(a: Operand, b: Operand) -> Option<Operand>
-    requires { joined_scale Plus a.scale b.scale ≤ most_part_scale }
-    ensures value { result ≡ Operands.joined_of Plus a b }
-    ensures scale { IfSome result (λ made. made.scale ≡ joined_scale Plus a.scale b.scale) }
-{
-    let scale = a.scale.max(b.scale);
-    let (Some(x), Some(y)) = (a.value, b.value) else {
-        return Some(Operand { value: None, scale });
+    let (Some(x), Some(y)) = (a, b) else {
+        return Some(None);
     };
-    let x = brought(scale - a.scale, x)?;
-    let y = brought(scale - b.scale, y)?;
-    let value = Some(sum(x, y)?);
-    Some(Operand { value, scale })
+    let x = brought(powers.left, x)?;
+    let y = brought(powers.right, y)?;
+    Some(Some(sum(x, y)?))
 }
 
-fn taken_away(a: Operand, b: Operand) -> Option<Operand>
-    requires { joined_scale Less a.scale b.scale ≤ most_part_scale }
-    ensures value { result ≡ Operands.joined_of Less a b }
-    ensures scale { IfSome result (λ made. made.scale ≡ joined_scale Less a.scale b.scale) }
+#[inline(always)]
+fn difference_if_any(powers: Powers, a: Option<i128>, b: Option<i128>) -> Option<Option<i128>>
+    ensures { result ≡ Instructions.difference_if_any powers a b }
 {
-    let scale = a.scale.max(b.scale);
-    let (Some(x), Some(y)) = (a.value, b.value) else {
-        return Some(Operand { value: None, scale });
+    let (Some(x), Some(y)) = (a, b) else {
+        return Some(None);
     };
-    let x = brought(scale - a.scale, x)?;
-    let y = brought(scale - b.scale, y)?;
-    let value = Some(difference(x, y)?);
-    Some(Operand { value, scale })
+    let x = brought(powers.left, x)?;
+    let y = brought(powers.right, y)?;
+    Some(Some(difference(x, y)?))
 }
 
-fn multiplied(a: Operand, b: Operand) -> Option<Operand>
-    requires { joined_scale Times a.scale b.scale ≤ most_part_scale }
-    ensures value { result ≡ Operands.joined_of Times a b }
-    ensures scale { IfSome result (λ made. made.scale ≡ joined_scale Times a.scale b.scale) }
+#[inline(always)]
+fn product_if_any(a: Option<i128>, b: Option<i128>) -> Option<Option<i128>>
+    ensures { result ≡ Instructions.product_if_any a b }
 {
-    let scale = a.scale + b.scale;
-    let (Some(x), Some(y)) = (a.value, b.value) else {
-        return Some(Operand { value: None, scale });
+    let (Some(x), Some(y)) = (a, b) else {
+        return Some(None);
     };
-    let value = Some(product(x, y)?);
-    Some(Operand { value, scale })
+    Some(Some(product(x, y)?))
 }
 
-// A number with so many more digits after the point.
-fn brought(digits: u8, number: i128) -> Option<i128>
-    requires { digits ≤ most_part_scale }
-    ensures { result ≡ Operands.brought digits number }
+// A number multiplied by a power of ten, mostly by 1.
+#[inline(always)]
+fn brought(power: i128, number: i128) -> Option<i128>
+    ensures { result ≡ checked (number *ℤ power) }
 {
-    if digits == 0 {
+    if power == 1 {
         return in_range(Some(number));
     }
-    product(number, power_of_ten(digits))
-}
-
-fn power_of_ten(digits: u8) -> i128
-    requires { digits ≤ most_part_scale }
-    ensures { result ≡ pos (10 ^ digits) }
-{
-    let power = 10u128.pow(digits as u32);
-    power as i128
+    product(number, power)
 }
 
 fn opposite(number: i128) -> Option<i128>
@@ -316,10 +281,22 @@ fn difference(a: i128, b: i128) -> Option<i128>
     in_range(a.checked_sub(b))
 }
 
+// Most products are of two numbers of 64 bits.
 fn product(a: i128, b: i128) -> Option<i128>
     ensures { result ≡ checked (a *ℤ b) }
 {
-    in_range(a.checked_mul(b))
+    match (i64::try_from(a), i64::try_from(b)) {
+        (Ok(a), Ok(b)) => Some(short_product(a, b)),
+        _ => in_range(a.checked_mul(b)),
+    }
+}
+
+#[inline(always)]
+fn short_product(a: i64, b: i64) -> i128
+    ensures value { result ≡ a *ℤ b }
+    ensures small { checked (a *ℤ b) ≡ Some (a *ℤ b) }
+{
+    a as i128 * b as i128
 }
 
 // The number, but for the least one of 128 bits.
@@ -330,15 +307,4 @@ fn in_range(number: Option<i128>) -> Option<i128>
         Some(i128::MIN) => None,
         other => other,
     }
-}
-
-// Keeps the values of operands, in their order, in place of others.
-fn keep_values(operands: &[Operand], made: &mut Vec<Option<i128>>) -> Result<(), AllocError>
-    ensures { OnOk result (made.new.items ≡ map (λ o. o.value) operands.now) }
-{
-    made.clear();
-    for operand in operands {
-        made.push(operand.value)?;
-    }
-    Ok(())
 }

@@ -2,7 +2,7 @@ use Rattle.std.proofs.Common.{pos, ap, ◌∙◌, arith}
 use Rattle.std.proofs.lemmas.Int.{to_z_pos}
 use Rattle.std.specs.Int.{w128}
 use Rattle.ts_running.proofs.OperandLemmas.{ten_small}
-use Rattle.ts_running.proofs.value.power_of_ten.Goals as goal
+use Rattle.ts_running.proofs.scale.power_of_ten.Goals as goal
 
 pub pow-power-requires : goal.pow-power-requires
 pow-power-requires c = let small = ten_small c.args.digits c.requires in omega (arith, small)
