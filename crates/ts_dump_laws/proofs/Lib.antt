@@ -1,0 +1,7 @@
+pub mod MapLemmas
+pub mod ChargeLemmas
+pub mod StepLemmas
+pub mod DefineLemmas
+pub mod ElementLemmas
+pub mod MadeLemmas
+pub mod LawLemmas

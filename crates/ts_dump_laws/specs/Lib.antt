@@ -1,0 +1,4 @@
+pub mod Statements
+pub mod Rules
+pub mod CarriedOut
+pub mod Laws
