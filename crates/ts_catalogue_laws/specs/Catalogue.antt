@@ -56,12 +56,12 @@ pub record IsCalendar (stands_for : Option CalendarPlan) (name : List ℕ) : Typ
 
 -- A container under its name, by the row type that has the name of its own, and by what its series are charged: that
 -- row type is there, its quota is 1 to 65536 pages, and no less than the charge.
-pub record IsContainer (row_type : Option Heading) (charge : ℕ) (name : List ℕ) (c : Container) : Type 0 where
+pub record IsContainer (row_type : Option Heading) (charged : ℕ) (name : List ℕ) (c : Container) : Type 0 where
   pub word : IsTrue (is_name name)
   pub row_type_there : IsSome row_type
   pub some : 1 ≤ c.quota
   pub most : c.quota ≤ most_element_pages
-  pub charge : charge ≤ c.quota
+  pub charge : charged ≤ c.quota
 
 -- the origin of a grid is an on start of its calendar
 abbrev pub HasOrigin : Shape → Type 0
