@@ -97,10 +97,10 @@ SpreadsSecond g h from to a b cat rows =
 
 -- what Union lists of two regular series
 pub record UnitesGrids (g h : GridPlan) (from to : ℤ) (a b : Series) (cat : Catalogue) (answered : Answered) : Type 0
-    where
-  pub lists : ListsByStarts Or g h from to a b cat answered
-  pub first_spreads : SpreadsFirst g h from to a b cat lists.rows
-  pub second_spreads : SpreadsSecond g h from to a b cat lists.rows
+  where
+    pub lists : ListsByStarts Or g h from to a b cat answered
+    pub first_spreads : SpreadsFirst g h from to a b cat lists.rows
+    pub second_spreads : SpreadsSecond g h from to a b cat lists.rows
 
 -- two series lie on grids
 pub record LieOnGrids (cat : Catalogue) (a b : Series) (P : GridPlan → GridPlan → Type 0) : Type 0 where

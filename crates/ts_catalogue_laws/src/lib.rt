@@ -6,6 +6,21 @@
 //! `specs/Catalogue.antt`, then `laws.rt` beside `specs/Laws.antt`.
 #![tactic(auto)]
 
+mod edit_laws;
+mod join_laws;
 mod laws;
+mod of_catalogues;
 
-pub use laws::{a_run_keeps_catalogues, a_store_of_nothing_is_a_catalogue, a_volume_means_a_catalogue, an_answer_keeps_a_catalogue};
+pub use edit_laws::{a_row_is_put_in_its_place, an_addressed_element_is_marked};
+pub use join_laws::a_join_lists_the_values_of_both;
+pub use laws::{
+    a_run_keeps_catalogues, a_store_of_nothing_is_a_catalogue, a_volume_means_a_catalogue,
+    an_answer_keeps_a_catalogue,
+};
+pub use of_catalogues::{
+    a_clip_of_a_catalogue_lists_entries, a_counted_clip_of_a_catalogue_is_part_of_a_clip,
+    a_join_of_calendars_of_a_catalogue_is_valid, a_lag_in_a_catalogue_is_by_offsets,
+    a_number_in_a_catalogue_is_an_offset, a_series_of_a_catalogue_keeps_its_shape,
+    a_stamp_in_a_catalogue_addresses_an_interval, an_aggregate_of_a_catalogue_is_by_intervals,
+    an_origin_in_a_catalogue_is_an_on_start, what_a_series_refers_to_is_there,
+};
