@@ -5,3 +5,4 @@ pub mod DefineLemmas
 pub mod ElementLemmas
 pub mod MadeLemmas
 pub mod LawLemmas
+pub mod RuleLemmas

@@ -2,3 +2,4 @@ pub mod Statements
 pub mod Rules
 pub mod CarriedOut
 pub mod Laws
+pub mod Volumes
