@@ -1,0 +1,17 @@
+mod MapLemmas
+mod ListLemmas
+mod OnceLemmas
+mod StampLemmas
+mod ChargeLemmas
+mod PatternLemmas
+mod SameLemmas
+mod DefineLemmas
+mod EditLemmas
+mod CommandLemmas
+mod KeepLemmas
+mod MeantLemmas
+mod RunLemmas
+mod OfCatalogueLemmas
+mod EditedLemmas
+mod JoinLemmas
+mod UnionLemmas

@@ -1,0 +1,6 @@
+pub mod Catalogue
+pub mod Commands
+pub mod Laws
+pub mod OfCatalogues
+pub mod EditLaws
+pub mod JoinLaws

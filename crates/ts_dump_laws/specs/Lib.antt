@@ -1,0 +1,5 @@
+pub mod Statements
+pub mod Rules
+pub mod CarriedOut
+pub mod Laws
+pub mod Volumes

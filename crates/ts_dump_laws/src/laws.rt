@@ -1,0 +1,34 @@
+// What carrying out the statements of a catalogue comes to.
+ghost use Rattle.ts_dump_laws.specs.Laws.{StatementsMakeCatalogues, TransactionsMakeCatalogues};
+ghost use Rattle.ts_dump_laws.specs.Volumes.{StatementsMakeVolumes};
+
+use ts_calendar::printed_calendars_are_read;
+use ts_catalogue_laws::a_volume_means_a_catalogue;
+use ts_pattern::printed_patterns_are_read;
+
+/// The statements of a catalogue, carried out on an empty one with as many pages, are answered, each by `ok`, and make
+/// the catalogue, in the newest format.
+pub fn statements_make_their_catalogue()
+    ensures { StatementsMakeCatalogues }
+{
+    printed_patterns_are_read();
+    printed_calendars_are_read();
+}
+
+/// So do they in transactions of 32.
+pub fn transactions_make_the_catalogue()
+    ensures { TransactionsMakeCatalogues }
+{
+    printed_patterns_are_read();
+    printed_calendars_are_read();
+}
+
+/// The statements of what the bytes of a volume mean, carried out on an empty catalogue with as many pages, are
+/// answered, each by `ok`, and make what the volume means, in the newest format; so do they in transactions of 32.
+pub fn statements_make_what_a_volume_means()
+    ensures { StatementsMakeVolumes }
+{
+    a_volume_means_a_catalogue();
+    statements_make_their_catalogue();
+    transactions_make_the_catalogue();
+}
