@@ -1,0 +1,4 @@
+mod ExactLemmas
+mod ArgumentLemmas
+mod CallLemmas
+mod StatementLemmas
