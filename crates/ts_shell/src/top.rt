@@ -33,15 +33,17 @@ use ts_engine::Engine;
 /// - 0: the work was done; `run` has read the source to its end.
 /// - 2: exactly where the words are none of these forms. Nothing was done.
 /// - 3: of `run`, a pull failed. Every item has its reply that ended before.
-/// - 4: of `run`, `check` and `gen`, a reply or the report could not be said whole. Of `gen` every command was carried out.
+/// - 4: of `run`, `check` and `gen`, a reply or the report could not be said whole. Of `gen` every command was carried
+///   out.
 /// - 5: a call of the volume failed.
 /// - 6: of `run`, `check`, `migrate` and `gen`, exactly where the volume is no store, but for a fault or want of memory
 ///   that came first. Nothing was written; `check` has said which page is the first bad one, and the others nothing.
 /// - 7: of `run`, there was no memory to open the volume: nothing was said or written, and the source wasn't pulled. Of
-///   `check`, there was none for the report, and nothing was said. Of `migrate`, there was no memory for it, and the store
-///   has its own format. Of `gen`, there was no memory for a command or for what is said: nothing was said, and some
-///   first commands were carried out.
-/// - 8: of `run`, exactly where a pull gave bytes past the first 268435456. Every item has its reply that ends within these.
+///   `check`, there was none for the report, and nothing was said. Of `migrate`, there was no memory for it, and the
+///   store has its own format. Of `gen`, there was no memory for a command or for what is said: nothing was said, and
+///   some first commands were carried out.
+/// - 8: of `run`, exactly where a pull gave bytes past the first 268435456. Every item has its reply that ends within
+///   these.
 /// - 10: of `init`, exactly where the volume isn't empty. Nothing was done.
 pub fn run_ts<S: Site, R: Source>(
     rt: &(impl Threads + Sync),
