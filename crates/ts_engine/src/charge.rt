@@ -1,5 +1,5 @@
 // What containers are charged, when the places of a series change.
-ghost use Rattle.std.specs.Prelude.{◌≡◌, ◌<◌, ◌≤◌, IsTrue, IfSome, Option, slice_set};
+ghost use Rattle.std.specs.Prelude.{◌≡◌, ◌<◌, ◌≤◌, [], IsTrue, IfSome, Option, slice_set};
 ghost use Rattle.ts_space.specs.Place.{IsRising};
 ghost use Rattle.ts_space.specs.Directory.{places_of, spare_of};
 ghost use Rattle.ts_container.specs.KeptCharges.{AreCharges, AreFew};
@@ -60,6 +60,29 @@ pub(crate) fn change_places(
     exchange(alloc, space, slot, moved);
     let after = charge_of_places(space, rate.regular, slot, rate.room);
     charges.change(rate.container, before, after);
+}
+
+/// All places of a series go with their memory, and its container is charged nothing for it any more. Where it has none
+/// nothing is touched: the directory doesn't grow up to its slot, and what memory an emptied list has it keeps.
+pub(crate) fn drop_places(
+    alloc: Global,
+    defs: &Defs,
+    space: &mut Space,
+    charges: &mut Charges,
+    slot: u16,
+)
+    requires slot { slot < 4096 }
+    requires can { CanCount defs.now.definitions space.old.lists }
+    requires few { AreFew defs.now.definitions space.old }
+    requires charged { AreCharges charges.old defs.now.definitions space.old }
+    ensures places { places_of slot space.new ≡ [] }
+    ensures lists { space.new.lists ≡ slice_set space.old.lists slot [] }
+    ensures charged { AreCharges charges.new defs.now.definitions space.new }
+{
+    if is_never_charged(space, Kind::Series, slot) {
+        return;
+    }
+    change_places(alloc, defs, space, charges, slot, None);
 }
 
 /// A definition came or went: what containers are charged is right again. A pattern, a calendar and a series without

@@ -23,5 +23,5 @@ returns-in-Slot-clause-charges c =
 
 pub returns-in-Series-clause-charges : goal.returns-in-Series-clause-charges
 returns-in-Series-clause-charges c =
-    subst (λ (d : Definitions). AreCharges c.change_places-in-Series.new.charges d c.change_places-in-Series.new.space) (sym c.set-in-Series.ensures.slot)
-    (charges_stay c.args.defs.now.definitions c.change_places-in-Series.new.space c.in-Series.slot None c.change_places-in-Series.new.charges c.change_places-in-Series.ensures.places c.change_places-in-Series.ensures.charged)
+    subst (λ (d : Definitions). AreCharges c.drop_places.new.charges d c.drop_places.new.space) (sym c.set-in-Series.ensures.slot)
+    (charges_stay c.args.defs.now.definitions c.drop_places.new.space c.in-Series.slot None c.drop_places.new.charges c.drop_places.ensures.places c.drop_places.ensures.charged)
