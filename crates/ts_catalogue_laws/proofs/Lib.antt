@@ -15,3 +15,4 @@ mod OfCatalogueLemmas
 mod EditedLemmas
 mod JoinLemmas
 mod UnionLemmas
+mod ScriptLemmas

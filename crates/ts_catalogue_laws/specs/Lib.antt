@@ -4,3 +4,4 @@ pub mod Laws
 pub mod OfCatalogues
 pub mod EditLaws
 pub mod JoinLaws
+pub mod Scripts

@@ -199,8 +199,8 @@ AreStatement (Alone word) lexemes = One (IsWord word) lexemes
 AreStatement (Call word arguments) lexemes =
     Then (One (IsWord word)) (Then (One (IsSign 40)) (AreArguments arguments)) lexemes
 
--- A text is the statement of a command: its tokens, each the longest that stands in its place, with blanks between them,
--- and then blanks and the `;` that ends the text.
+-- A text is the statement of a command: its tokens, each the longest that stands in its place, with blanks between
+-- them, and then blanks and the `;` that ends the text.
 pub record IsStatementOf (command : Command) (text : List ℕ) : Type 0 where
   pub tokens : List Lexeme
   pub rest : List ℕ
