@@ -43,6 +43,11 @@ with_cell-append s cell xs ys = elim (has_value s cell) as
       | false ↦ λ has. rw (unseen s cell (xs ++ ys) has, unseen s cell xs has) refl
     ] refl
 
+-- no cells have no values
+pub none_found : (s : ValuePosition) (left : ℕ) (bytes : List ℕ) → left ≤ 0 → found_in s left bytes ≡ []
+none_found s zero bytes none = refl
+none_found s (suc n) bytes none = absurd (omega (arith, none))
+
 -- the last of some cells
 found_last : (s : ValuePosition) (n : ℕ) (bytes : List ℕ) → length bytes ≡ suc n * s.size
     → found_in s (suc n) bytes ≡ found_in s n (take (n * s.size) bytes) ++ with_cell s (drop (n * s.size) bytes) []

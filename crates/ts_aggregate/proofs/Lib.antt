@@ -1,5 +1,7 @@
 pub mod CellsLemmas
 pub mod ColumnLemmas
+pub mod TotalsLemmas
+pub mod KnownLemmas
 pub mod GroupLemmas
 pub mod StartLemmas
 pub mod StepLemmas

@@ -1,10 +1,12 @@
 -- Cells one behind the other in two parts, and how far their elements stand before an end.
 use Rattle.std.proofs.Common.{◌≡◌, ℕ, zero, suc, ◌+◌, ◌-◌, ◌*◌, ◌<◌, ◌≤◌, ℤ, ◌<ℤ◌, Bool, true, false, not, Option, Some, None, List, [], ◌∷◌, length, map, take, take-take, drop, drop-drop, refl, sym, ap, subst, ◌∙◌, arith}
-use Rattle.std.specs.Prelude.{IfSome, int_lt, nat_le}
+use Rattle.std.specs.Prelude.{IfSome, int_lt, nat_le, slice_index, slice_get}
+use Rattle.std.specs.Int.{w64, cast_signed, from_be_bytes}
+use Rattle.std.proofs.lemmas.Int.{ints}
 use Rattle.std.proofs.lemmas.Bool.Decides.{nat_tests}
 use Rattle.std.specs.Borrow.{Bor}
 use Rattle.std.proofs.lemmas.List.{take_all, drop_all, drop-take}
-use Rattle.std.proofs.Math.Nat.{suc-mul}
+use Rattle.std.proofs.Math.Nat.{suc-mul, mul_comm}
 use Rattle.ts_base.specs.Moment.{IsStamp}
 use Rattle.ts_row.specs.declared.kind.Column.{Column}
 use Rattle.ts_row.specs.RowType.{width_of}
@@ -17,7 +19,8 @@ use Rattle.ts_clip.proofs.GridOffsetLemmas.{lower_side}
 use Rattle.ts_entry.specs.declared.stamps.Stamps.{Stamps}
 use Rattle.ts_entry.specs.declared.stamps.Stamps.TheVariants.{InCells, OnGrid}
 use Rattle.ts_entry.specs.Rows.{IsCellWith, AreCellsWith, AreStamped, elements_in, row_if_any}
-use Rattle.ts_aggregate.specs.Groups.{AreBefore, IsFirstBefore}
+use Rattle.ts_entry.proofs.CallerLemmas.{units_are}
+use Rattle.ts_aggregate.specs.Groups.{AreBefore, AreOrdered, IsFirstBefore, HasBefore}
 
 -- so many cells have no more bytes than all of them
 pub some_fit : (n left size len : ℕ) → n ≤ left → len ≡ left * size → n * size ≤ len
@@ -119,35 +122,73 @@ pub first_before : (end : Option ℤ) (fs : List (Option Element)) → IsFirstBe
 first_before end [] first = tt
 first_before end (f ∷ fs) first = cons_before end f [] first tt
 
--- one cell more, whose stamp stands before the end
-module _ (end : Option ℤ) (size : ℕ) where
-  one_more : (n m number : ℕ) (cells : List ℕ) (fs : List (Option Element)) → m ≡ n * size → AreStamped InCells size number cells fs
-      → AreBefore end (elements_in (take n fs)) → ((s : ℤ) → IsStamp s → take 8 (drop 1 (take size (drop m cells))) ≡ stamp_bytes s → IsBefore s end)
-      → AreBefore end (elements_in (take (suc n) fs))
-  one_more n m number cells [] is are all next = tt
-  one_more zero m number cells (f ∷ fs) is are all next = cons_before end f [] (by f are.0) tt
-    where
-      none : 0 ≡ m
-      none = omega (arith, is)
+-- the units of a cell's stamp are the stamp
+units_of : (s : ℤ) → IsStamp s → (size : ℕ) → 9 ≤ size → (cells : List ℕ) → take 8 (drop 1 (take size cells)) ≡ stamp_bytes s
+    → cast_signed w64 (from_be_bytes w64 (take 8 (drop 1 cells))) ≡ s
+units_of s stamp size wide cells is =
+    units_are cells (cast_signed w64 (from_be_bytes w64 (take 8 (drop 1 cells)))) s 1 refl stamp (sym (stamp_part size cells wide) ∙ is) refl
 
-      by : (f : Option Element) → IfSome f (λ e. IsStamp e.0 × (take 8 (drop 1 (take size cells)) ≡ stamp_bytes e.0)) → IfSome f (λ e. IsBefore e.0 end)
-      by None there = tt
-      by (Some e) there = next e.0 there.0
-          (subst (λ (k : ℕ). take 8 (drop 1 (take size (drop k cells))) ≡ stamp_bytes e.0) none there.1)
-  one_more (suc n) m number cells (f ∷ fs) is are all next =
-      let parts = uncons_before end f (take n fs) all in
-      let more : m ≡ size + n * size = omega (arith, is, suc-mul n size) in
-      cons_before end f (take (suc n) fs) parts.0
-      (one_more n (n * size) (number + 1) (drop size cells) fs refl are.1 parts.1
-      (λ s stamp bytes. next s stamp (subst (λ (l : List ℕ). take 8 (drop 1 (take size l)) ≡ stamp_bytes s)
-      (drop-drop (n * size) size cells ∙ ap (λ (k : ℕ). drop k cells) (sym more)) bytes)))
+-- no element stands in a cell that says so
+not_there : (size : ℕ) (cells : List ℕ) → 9 ≤ size → slice_get (take size cells) 0 ≡ Some 0 → slice_index cells 0 ≡ 1 → ⊥
+not_there zero cells wide none there = omega (arith, wide)
+not_there (suc n) [] wide none there = cc
+not_there (suc n) (b ∷ cells) wide none there = let zero_ : b ≡ 0 = cc in let one : b ≡ 1 = there in omega (arith, zero_, one)
 
-  pub next_before : (n m number : ℕ) (cells : List ℕ) (fs : List (Option Element)) → m ≡ n * size → AreStamped InCells size number cells fs
-      → AreBefore end (elements_in (take n fs)) → ((s : ℤ) → IsStamp s → take 8 (drop 1 (take size (drop m cells))) ≡ stamp_bytes s → IsBefore s end)
-      → AreBefore end (elements_in (take (n + 1) fs))
-  next_before n m number cells fs is are all next =
-      let more : suc n ≡ n + 1 = omega arith in
-      subst (λ (k : ℕ). AreBefore end (elements_in (take k fs))) more (one_more n m number cells fs is are all next)
+-- elements that rise, of which the last stands before an end
+record AreUpTo (end : ℤ) (es : List Element) : Type 0 where
+  some : 1 ≤ length es
+  before : AreBefore (Some end) es
+
+up_to_more : (end : ℤ) (e : Element) (es : List Element) → AreOrdered (e ∷ es) → AreUpTo end es → AreUpTo end (e ∷ es)
+up_to_more end e [] ordered are = absurd (omega (arith, are.some))
+up_to_more end e (f ∷ es) ordered are =
+    let next = ordered.1.0 in
+    let below = are.before.0 in
+    record { some = omega arith; before = (omega (arith, ints, next, below), are.before) }
+
+module _ (cs : List Column) (front size : ℕ) (end : ℤ) (size_is : size ≡ front + width_of cs) (wide : 9 ≤ size) where
+  -- so do those before one that does
+  up_to : (n m number : ℕ) (cells : List ℕ) (fs : List (Option Element)) → m ≡ n * size → HasBefore end (drop m cells)
+      → AreCellsWith cs front cells (map row_if_any fs) → AreStamped InCells size number cells fs
+      → AreOrdered (elements_in (take (suc n) fs)) → AreUpTo end (elements_in (take (suc n) fs))
+  up_to n m number cells [] is has are stamped ordered =
+      let gone : slice_index (drop m cells) 0 ≡ slice_index [] 0 = ap (λ (l : List ℕ). slice_index l 0) (ap (drop m) are ∙ drop_all m [] (omega arith)) in
+      absurd (let there : slice_index (drop m cells) 0 ≡ 1 = has.there in omega (arith, gone, there))
+  up_to zero m number cells (f ∷ fs) is has are stamped ordered =
+      by f (subst (λ (k : ℕ). IsCellWith cs front (take k cells) (row_if_any f)) (sym size_is) are.0) stamped.0 where
+        here : drop m cells ≡ cells
+        here = ap (λ (k : ℕ). drop k cells) (let none : m ≡ 0 = omega (arith, is) in none)
+
+        by : (f : Option Element) → IsCellWith cs front (take size cells) (row_if_any f)
+            → IfSome f (λ e. IsStamp e.0 × (take 8 (drop 1 (take size cells)) ≡ stamp_bytes e.0)) → AreUpTo end (elements_in (f ∷ []))
+        by None cell there = absurd (not_there size cells wide cell (ap (λ (l : List ℕ). slice_index l 0) (sym here) ∙ has.there))
+        by (Some e) cell there =
+            let units = units_of e.0 there.0 size wide cells there.1 in
+            let below = subst (λ (l : List ℕ). cast_signed w64 (from_be_bytes w64 (take 8 (drop 1 l))) <ℤ end) here has.before in
+            record { some = omega arith; before = (subst (λ (s : ℤ). s <ℤ end) units below, tt) }
+  up_to (suc n) m number cells (f ∷ fs) is has are stamped ordered = by f ordered
+      (λ rises. up_to n (n * size) (number + 1) (drop size cells) fs refl
+      (subst (λ (l : List ℕ). HasBefore end l) (ap (λ (k : ℕ). drop k cells) more ∙ sym (drop-drop (n * size) size cells)) has)
+      (subst (λ (k : ℕ). AreCellsWith cs front (drop k cells) (map row_if_any fs)) (sym size_is) are.1) stamped.1 rises) where
+        more : m ≡ size + n * size
+        more = omega (arith, is, suc-mul n size)
+
+        by : (f : Option Element) → AreOrdered (elements_in (f ∷ take (suc n) fs))
+            → (AreOrdered (elements_in (take (suc n) fs)) → AreUpTo end (elements_in (take (suc n) fs)))
+            → AreUpTo end (elements_in (f ∷ take (suc n) fs))
+        by None rises rest = rest rises
+        by (Some e) rises rest = up_to_more end e (elements_in (take (suc n) fs)) rises (rest rises.2)
+
+-- so many cells, of which the last has an element before the end, or which are one
+pub all_before : (end : ℤ) (cs : List Column) (front size n number : ℕ) (cells : List ℕ) (fs : List (Option Element)) → size ≡ front + width_of cs → 9 ≤ size
+    → 1 ≤ n → (1 < n → HasBefore end (drop (size * (n - 1)) cells)) → AreCellsWith cs front cells (map row_if_any fs)
+    → AreStamped InCells size number cells fs → IsFirstBefore (Some end) fs → AreOrdered (elements_in (take n fs)) → AreBefore (Some end) (elements_in (take n fs))
+all_before end cs front size zero number cells fs is wide some has are stamped first ordered = absurd (omega (arith, some))
+all_before end cs front size (suc zero) number cells fs is wide some has are stamped first ordered = first_before (Some end) fs first
+all_before end cs front size (suc (suc n)) number cells fs is wide some has are stamped first ordered =
+    let one : suc (suc n) - 1 ≡ suc n = omega arith in
+    let there : HasBefore end (drop (size * suc n) cells) = subst (λ (k : ℕ). HasBefore end (drop (size * k) cells)) one (has (omega arith)) in
+    (up_to cs front size end is wide (suc n) (size * suc n) number cells fs (mul_comm size (suc n)) there are stamped ordered).before
 
 -- cells on a grid, by their offsets
 module _ (grid : Bor GridPlan) (first size : ℕ) (end : ℤ) where

@@ -390,8 +390,12 @@ before_kept end (e ∷ es) before = by (not e.1.hidden) (before_kept end es befo
     by true rest = (before.0, rest)
     by false rest = rest
 
+ordered_back : (es fs : List Element) → AreOrdered (es ++ fs) → AreOrdered fs
+ordered_back [] fs ordered = ordered
+ordered_back (e ∷ es) fs ordered = ordered_back es fs ordered.2
+
 pub group_taken : {V : Type 0} (took : V → List Element → V → Type 0) (columns : List Column) (v u : Grouping) (fold : Fold) (x y : V)
-    (e : Element) (more : List Element) → IsReady took v x e.0 u y → e.1.hidden ≡ false → AreBefore u.span.end more
+    (e : Element) (more : List Element) → IsReady took v x e.0 u y → e.1.hidden ≡ false → (AreOrdered (e ∷ more) → AreBefore u.span.end more)
     → MayTake u.span.start columns u.fold (rows_of (e ∷ more)) fold
     → AreGrouped took columns v x (e ∷ more) (grouping u.wanted u.span fold u.count) y
 group_taken took columns v u fold x y e more p shown before takes = record {
@@ -407,7 +411,8 @@ group_taken took columns v u fold x y e more p shown before takes = record {
       let all : AreGiven (gs ++ e ∷ ms) = subst AreGiven parts (given_kept (λ e. not e.1.hidden) (given ++ e ∷ more) are) in
       let first : AreGiven (gs ++ e ∷ []) = given_front (gs ++ e ∷ []) ms (subst AreGiven (sym (append_assoc gs (e ∷ []) ms)) all) in
       let w = p.taken gs (given_front gs (e ∷ ms) all) (last_earlier gs e first.ordered) stands in
-      let t = taking_all u.wanted u.span.start u.span.end u.fold u.count gs e ms all (before_kept u.span.end more before) w.0 in
+      let t = taking_all u.wanted u.span.start u.span.end u.fold u.count gs e ms all
+      (before_kept u.span.end more (before (ordered_back given (e ∷ more) are.ordered))) w.0 in
       let few : length gs + length (e ∷ more) ≤ most_folded = omega
       (arith, are.few, length-append given (e ∷ more), few_kept (λ e. not e.1.hidden) given) in
       let folds : HasTaken fold (rows_of (open_group u.wanted u.span.start gs ++ own_of u.span.start (e ∷ ms))) =
@@ -424,7 +429,7 @@ group_taken took columns v u fold x y e more p shown before takes = record {
 
 -- the same, as the parts of one that groups elements tell
 pub piece_grouped : {V : Type 0} (took : V → List Element → V → Type 0) (columns : List Column) (v u w : Grouping) (x y z : V) (e : Element)
-    (more : List Element) → IsReady took v x e.0 u y → e.1.hidden ≡ false → AreBefore u.span.end more → w.wanted ≡ u.wanted → w.span ≡ u.span
+    (more : List Element) → IsReady took v x e.0 u y → e.1.hidden ≡ false → (AreOrdered (e ∷ more) → AreBefore u.span.end more) → w.wanted ≡ u.wanted → w.span ≡ u.span
     → w.count ≡ u.count → z ≡ y
     → MayTake u.span.start columns u.fold (rows_of (e ∷ more)) w.fold → AreGrouped took columns v x (e ∷ more) w z
 piece_grouped {V} took columns v u w x y z e more ready shown before wanted span count out takes =

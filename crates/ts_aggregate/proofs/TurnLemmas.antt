@@ -12,7 +12,7 @@ use Rattle.ts_entry.specs.declared.stamps.Stamps.{Stamps}
 use Rattle.ts_entry.specs.Stamps.{HasStamp}
 use Rattle.ts_entry.specs.Rows.{IsCellWith, AreCellsWith, AreStamped, AreCellsOf, elements_in, row_if_any, rows_in}
 use Rattle.ts_entry.proofs.CallerLemmas.{elements_both, rows_held}
-use Rattle.ts_aggregate.specs.Groups.{Grouping, AreBefore, AreGrouped, IsFirstBefore, IsReady, MayTake, is_seen, rows_of}
+use Rattle.ts_aggregate.specs.Groups.{Grouping, AreBefore, AreOrdered, AreGrouped, IsFirstBefore, IsReady, MayTake, is_seen}
 use Rattle.ts_aggregate.specs.GroupLaws.{grouped_none, grouped_then}
 use Rattle.ts_aggregate.proofs.PieceLemmas.{cells_behind, stamped_behind}
 use Rattle.ts_aggregate.proofs.RowLemmas.{no_cell}
@@ -81,7 +81,7 @@ module _ {V : Type 0} (took : V → List Element → V → Type 0) (columns : Li
     (ready : IsReady took v x stamp u y) (here : IsBefore stamp u.span.end)
     (wanted : w.wanted ≡ u.wanted) (span : w.span ≡ u.span) (same : w.count ≡ u.count) (out : z ≡ y) where
   pub piece_taken : (count : ℕ) (found : List (Option Element)) → 1 ≤ count
-      → (IsFirstBefore u.span.end found → AreBefore u.span.end (elements_in (take count found)))
+      → (IsFirstBefore u.span.end found → AreOrdered (elements_in (take count found)) → AreBefore u.span.end (elements_in (take count found)))
       → MayTake u.span.start columns u.fold (rows_in (map row_if_any (take count found))) w.fold
       → AreCellsWith columns front bytes (map row_if_any found) → AreStamped stamps size number bytes found
       → AreGrouped took columns v x (elements_in (take count found)) w z
@@ -94,9 +94,8 @@ module _ {V : Type 0} (took : V → List Element → V → Type 0) (columns : Li
       let seen_ = shown (Some e.1) (subst (λ (n : ℕ). IsCellWith columns front (take n bytes) (Some e.1)) (sym size_is) are.0) in
       let at : stamp ≡ e.0 = same_Some stamp e.0 (sym is ∙ read e.0 stamped.0) in
       let first : IsBefore e.0 u.span.end = subst (λ (s : ℤ). IsBefore s u.span.end) at here in
-      let all = before first in
       piece_grouped took columns v u w x y z e (elements_in (take k fs)) (subst (λ (s : ℤ). IsReady took v x s u y) at ready)
-      (shown_not e.1.hidden seen_) all.1 wanted span same out
+      (shown_not e.1.hidden seen_) (λ ordered. (before first ordered).1) wanted span same out
       (subst (λ (l : List Row). MayTake u.span.start columns u.fold l w.fold) (rows_held (take (suc k) (Some e ∷ fs))) takes)
 
 -- some of the cells are taken, and the others not yet

@@ -117,3 +117,4 @@ pub record AreRowCells (columns : List Column) (s : RowCells) : Type 0 where
   pub whole : length s.bytes.now ≡ s.left * s.size
   pub narrow : width_of columns ≤ 1000
   pub small : s.size < 2 ^ 64
+  pub few : length s.bytes.now ≤ 4064

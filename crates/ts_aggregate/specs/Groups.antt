@@ -2,6 +2,8 @@
 -- those before it are closed.
 use Rattle.std.specs.Prelude.{◌≡◌, ℕ, ◌+◌, ◌<◌, ◌≤◌, ◌^◌, ℤ, ◌<ℤ◌, ◌≤ℤ◌, int_lt, Bool, true, false, not, ◌&&◌}
 use Rattle.std.specs.Prelude.{if◌then◌else◌, IfSome, Option, Some, None, List, [], ◌∷◌, ◌++◌, length, map, filter}
+use Rattle.std.specs.Prelude.{slice_index, take, drop}
+use Rattle.std.specs.Int.{w64, from_be_bytes, cast_signed}
 use Rattle.ts_base.specs.Moment.{IsStamp}
 use Rattle.ts_row.specs.Row.{Row}
 use Rattle.ts_row.specs.Element.{Element, seen}
@@ -134,6 +136,11 @@ grouping wanted span fold count = record { wanted = wanted; span = span; fold = 
 abbrev pub IsFirstBefore : Option ℤ → List (Option Element) → Type 0
 IsFirstBefore end [] = Unit {0}
 IsFirstBefore end (found ∷ others) = IfSome found (λ e. IsBefore e.0 end)
+
+-- cells begin with one whose element, if its stamp stands there, stands before a limit
+pub record HasBefore (limit : ℤ) (cells : List ℕ) : Type 0 where
+  pub there : slice_index cells 0 ≡ 1
+  pub before : cast_signed w64 (from_be_bytes w64 (take 8 (drop 1 cells))) <ℤ limit
 
 -- a cell has an element that isn't hidden
 abbrev pub is_seen : Option Row → Bool

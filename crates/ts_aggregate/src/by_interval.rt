@@ -128,6 +128,7 @@ impl<'a, 'b, V: ElementVisitor> ByInterval<'a, 'b, V> {
     fn fold(&mut self, kind: &RowType, cells: &[u8], front: usize) -> Result<(), AllocError>
         requires front { 0 < front }
         requires whole { (n : ℕ) × (length cells.now ≡ n * (front + width_of kind.now.columns)) }
+        requires few { length cells.now ≤ 4064 }
         ensures same { self.new.out.ghost_name ≡ self.old.out.ghost_name }
         ensures out { self.new.out.now ≡ self.old.out.now }
         ensures wanted { self.new.wanted.now ≡ self.old.wanted.now }

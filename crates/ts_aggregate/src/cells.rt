@@ -83,9 +83,9 @@ impl<'a> Cells<'a> {
     }
 }
 
-// Whether a cell has a value that is folded.
+/// Whether a cell has a value that is folded.
 #[inline(always)]
-fn has_value(position: ValuePosition, cell: &[u8]) -> bool
+pub(crate) fn has_value(position: ValuePosition, cell: &[u8]) -> bool
     requires front { position.front < position.size }
     requires place { position.place + position.width < position.size }
     requires size { length cell.now ≡ position.size }
@@ -94,9 +94,9 @@ fn has_value(position: ValuePosition, cell: &[u8]) -> bool
     cell[0] == 1 && cell[position.front] < MARK && cell[position.place] == 1
 }
 
-// The bytes of its value.
+/// The bytes of its value.
 #[inline(always)]
-fn bytes_of(position: ValuePosition, cell: &[u8]) -> &[u8]
+pub(crate) fn bytes_of(position: ValuePosition, cell: &[u8]) -> &[u8]
     requires place { position.place + position.width < position.size }
     requires size { length cell.now ≡ position.size }
     ensures value { result.now ≡ Column.bytes_of position cell.now }

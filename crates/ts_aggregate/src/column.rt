@@ -1,60 +1,139 @@
 // A tally takes the values of a column.
-ghost use Rattle.std.specs.Prelude.{◌≡◌, ◌+◌, ◌*◌, ◌^◌, ◌≤◌, IfOk, OnOk, IsTrue, unsigned_abs, fold, map, length};
+ghost use Rattle.std.specs.Prelude.{◌≡◌, ◌+◌, ◌*◌, ◌^◌, ◌≤◌, IfOk, OnOk, IsTrue, IfSome, IsSome, true, false, ℤ, List};
+ghost use Rattle.std.specs.Prelude.{unsigned_abs, fold, map, length};
 ghost use Rattle.std.specs.List.{list_all};
 ghost use Rattle.ts_row.specs.declared.value.Value.TheVariants.{Null, Number, Text};
 ghost use Rattle.ts_row.specs.RowType.{column_width};
-ghost use Rattle.ts_expr.specs.Fold.{total, earlier, later};
+ghost use Rattle.ts_expr.specs.Binding.{is_text_kind};
+ghost use Rattle.ts_expr.specs.Fold.{earlier, later};
 ghost use Rattle.ts_expr.specs.Running.{count_of, with_value, with_sums};
 ghost use Rattle.ts_aggregate.specs.Column;
 ghost use Rattle.ts_aggregate.specs.Column.{found, AreWhole, read_values, read_numbers, read_texts, is_small};
+ghost use Rattle.ts_aggregate.specs.Totals.{AreKnown, AreTotals, is_told};
+ghost use Rattle.ts_aggregate.specs.Totals as ThatTotals;
 
 use crate::cells::Cells;
-use crate::numbers::{MOST_FOLDED, best_number, count_values, number, sum_values};
+use crate::numbers::{Bests, MOST_FOLDED, Totals, count_values, number, totals_of};
 use crate::texts::{best_text, text_of};
 use std::alloc::{AllocError, Global};
 use ts_base::Bytes;
 use ts_expr::Tally;
 use ts_row::{ColumnKind, Value};
 
-/// Takes the values of a column, as long as there are no more than 2^32 that are counted.
+/// Takes the values of a column, as long as there are no more than 2^32 that are counted. What is known of its numbers
+/// may be known before, and is told; the least and the greatest are sought if they are wanted, or where they are needed.
 pub(crate) fn take_column(
     alloc: Global,
     tally: &mut Tally,
     cells: Cells<'_>,
     kind: ColumnKind,
-) -> Result<(), AllocError>
-    requires few { count_of tally.old ≤ 2 ^ 32 }
+    known: Option<Totals>,
+    wanted: bool,
+) -> Result<Option<Totals>, AllocError>
+    requires count { count_of tally.old ≤ 2 ^ 32 }
+    requires few { cells.left ≤ 4064 }
     requires whole { AreWhole cells }
     requires width { cells.position.width + 1 ≡ column_width kind }
+    requires known { IfSome known (AreKnown (read_numbers kind cells)) }
     ensures few { count_of tally.new ≤ 2 ^ 32 }
     ensures value { OnOk result (IsTrue (list_all is_small (read_numbers kind cells.entry))
         → count_of tally.old + length (found cells.entry) ≤ 2 ^ 32
         → tally.new ≡ fold with_value tally.old (read_values kind cells.entry)) }
+    ensures known { IfOk result (λ told. IfSome told (AreKnown (read_numbers kind cells.entry))) }
+{
+    if let ColumnKind::VarChar { .. } = kind {
+        take_texts(alloc, tally, cells, kind)?;
+        return Ok(known);
+    }
+    match tally {
+        Tally::First(kept) => {
+            keep_first(alloc, kept, cells, kind)?;
+            Ok(known)
+        }
+        Tally::Last(kept) => {
+            keep_last(alloc, kept, cells, kind)?;
+            Ok(known)
+        }
+        _ => {
+            let totals = totals_for(is_best(tally), cells, kind, known, wanted);
+            take_totals(tally, totals);
+            Ok(Some(totals))
+        }
+    }
+}
+
+// Takes the values of a column of texts.
+fn take_texts(
+    alloc: Global,
+    tally: &mut Tally,
+    cells: Cells<'_>,
+    kind: ColumnKind,
+) -> Result<(), AllocError>
+    requires texts { is_text_kind kind ≡ true }
+    requires few { count_of tally.old ≤ 2 ^ 32 }
+    requires whole { AreWhole cells }
+    requires width { cells.position.width + 1 ≡ column_width kind }
+    ensures few { count_of tally.new ≤ 2 ^ 32 }
+    ensures value { OnOk result (count_of tally.old + length (found cells.entry) ≤ 2 ^ 32
+        → tally.new ≡ fold with_value tally.old (read_values kind cells.entry)) }
 {
     match tally {
         Tally::Count(_) => add(tally, count_values(cells), 0),
-        Tally::Sum(_) => add_sums(tally, cells, kind),
-        Tally::Avg(_) => add_sums(tally, cells, kind),
-        Tally::Min(kept) => keep_best(alloc, kept, cells, kind, false)?,
-        Tally::Max(kept) => keep_best(alloc, kept, cells, kind, true)?,
+        Tally::Sum(_) => add(tally, count_values(cells), 0),
+        Tally::Avg(_) => add(tally, count_values(cells), 0),
+        Tally::Min(kept) => keep_best_text(alloc, kept, cells, false)?,
+        Tally::Max(kept) => keep_best_text(alloc, kept, cells, true)?,
         Tally::First(kept) => keep_first(alloc, kept, cells, kind)?,
         Tally::Last(kept) => keep_last(alloc, kept, cells, kind)?,
     }
     Ok(())
 }
 
-// Takes the values of a column for their sum.
-fn add_sums(tally: &mut Tally, cells: Cells<'_>, kind: ColumnKind)
-    requires few { count_of tally.old ≤ 2 ^ 32 }
+fn is_best(tally: &Tally) -> bool
+    ensures { result ≡ ThatTotals.is_best tally.now }
+{
+    matches!(tally, Tally::Min(_) | Tally::Max(_))
+}
+
+// What is known of the numbers of a column, if that is enough, or else from nothing.
+fn totals_for(
+    needed: bool,
+    cells: Cells<'_>,
+    kind: ColumnKind,
+    known: Option<Totals>,
+    wanted: bool,
+) -> Totals
+    requires few { cells.left ≤ 4064 }
     requires whole { AreWhole cells }
     requires width { cells.position.width + 1 ≡ column_width kind }
-    ensures few { count_of tally.new ≤ 2 ^ 32 }
-    ensures value { IsTrue (list_all is_small (read_numbers kind cells.entry))
-        → count_of tally.old + length (found cells.entry) ≤ 2 ^ 32
-        → tally.new ≡ with_sums tally.old (length (found cells.entry)) (total (read_values kind cells.entry)) }
+    requires numbers { is_text_kind kind ≡ false }
+    requires known { IfSome known (AreKnown (read_numbers kind cells)) }
+    ensures known { AreKnown (read_numbers kind cells.entry) result }
+    ensures needed { IsTrue needed → IsSome result.bests }
 {
-    let (count, sum) = sum_values(cells, kind);
-    add(tally, count, sum);
+    match known {
+        Some(totals) if !needed || totals.bests.is_some() => totals,
+        _ => totals_of(cells, kind, needed || wanted),
+    }
+}
+
+// Takes numbers of which this is known.
+fn take_totals(tally: &mut Tally, totals: Totals)
+    requires count { count_of tally.old ≤ 2 ^ 32 }
+    requires digits { unsigned_abs totals.sum ≤ totals.count * 10 ^ 28 }
+    requires told { IsTrue (is_told tally.old totals) }
+    ensures few { count_of tally.new ≤ 2 ^ 32 }
+    ensures value { (zs : List ℤ) → AreTotals zs totals → count_of tally.old + length zs ≤ 2 ^ 32
+        → tally.new ≡ fold with_value tally.old (map (λ z. Number z) zs) }
+{
+    match tally {
+        Tally::Count(_) => add(tally, totals.count, totals.sum),
+        Tally::Sum(_) => add(tally, totals.count, totals.sum),
+        Tally::Avg(_) => add(tally, totals.count, totals.sum),
+        Tally::Min(kept) => keep_best(kept, totals, false),
+        Tally::Max(kept) => keep_best(kept, totals, true),
+        _ => {}
+    }
 }
 
 // Takes so many values with this sum, unless they would be too many.
@@ -69,43 +148,47 @@ fn add(tally: &mut Tally, count: u64, sum: i128)
     }
 }
 
-// Keeps the least or the greatest of a value and those of a column.
-fn keep_best(
-    alloc: Global,
-    kept: &mut Value,
-    cells: Cells<'_>,
-    kind: ColumnKind,
-    most: bool,
-) -> Result<(), AllocError>
-    requires whole { AreWhole cells }
-    requires width { cells.position.width + 1 ≡ column_width kind }
-    ensures { OnOk result (kept.new ≡ fold (Column.better most) kept.old (read_values kind cells.entry)) }
+// Keeps the least or the greatest of a value and of numbers of which this is known.
+fn keep_best(kept: &mut Value, totals: Totals, most: bool)
+    requires { IsSome totals.bests }
+    ensures { (zs : List ℤ) → AreTotals zs totals
+        → kept.new ≡ fold (Column.better most) kept.old (map (λ z. Number z) zs) }
 {
-    match kind {
-        ColumnKind::VarChar { .. } => keep_best_text(alloc, kept, cells, most),
-        _ => {
-            keep_best_number(kept, cells, kind, most);
-            Ok(())
-        }
+    let Some(bests) = totals.bests else {
+        return;
+    };
+    if totals.count == 0 {
+        return;
+    }
+    keep_number(kept, most, best_of(bests, most));
+}
+
+fn best_of(bests: Bests, most: bool) -> i128
+    ensures { result ≡ ThatTotals.best_of most bests }
+{
+    if most { bests.greatest } else { bests.least }
+}
+
+// Keeps the lesser or the greater of a value, if there is one, and a number.
+fn keep_number(kept: &mut Value, most: bool, number: i128)
+    ensures { kept.new ≡ Column.better most kept.old (Number number) }
+{
+    match kept {
+        Value::Null => *kept = Value::Number(number),
+        Value::Number(old) => *old = better(most, *old, number),
+        Value::Text(_) => {}
     }
 }
 
-// The same of numbers.
-#[tactic(auto, using(crate::proofs::ColumnLemmas::text_stays))]
-fn keep_best_number(kept: &mut Value, cells: Cells<'_>, kind: ColumnKind, most: bool)
-    requires whole { AreWhole cells }
-    requires width { cells.position.width + 1 ≡ column_width kind }
-    ensures { kept.new ≡ fold (Column.better most) kept.old (map (λ z. Number z) (read_numbers kind cells.entry)) }
+// The lesser or the greater of two numbers.
+fn better(most: bool, kept: i128, number: i128) -> i128
+    ensures { Number result ≡ Column.better most (Number kept) (Number number) }
 {
-    let start = match kept {
-        Value::Null => None,
-        Value::Number(number) => Some(*number),
-        Value::Text(_) => return,
-    };
-    *kept = match best_number(cells, kind, start, most) {
-        None => Value::Null,
-        Some(best) => Value::Number(best),
-    };
+    if most {
+        kept.max(number)
+    } else {
+        kept.min(number)
+    }
 }
 
 // The same of texts.

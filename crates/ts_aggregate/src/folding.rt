@@ -1,6 +1,6 @@
 // A fold of rows in their bytes.
 ghost use Rattle.std.specs.Prelude.{◌≡◌, ℕ, ◌+◌, ◌*◌, ◌≤◌, ◌<◌, [], ◌++◌, IfOk, OnOk, IsTrue, All, List, Option};
-ghost use Rattle.std.specs.Prelude.{length, map, take};
+ghost use Rattle.std.specs.Prelude.{IfSome, Some, option_map, length, map, take};
 ghost use Rattle.std.specs.List.{list_all};
 ghost use Rattle.ts_row.specs.Row.{Row as TheRow};
 ghost use Rattle.ts_row.specs.RowType.{is_kind, width_of};
@@ -9,13 +9,15 @@ ghost use Rattle.ts_expr.specs.Fold.{folded_row};
 ghost use Rattle.ts_expr.specs.Running.{after, value_of};
 ghost use Rattle.ts_aggregate.specs.Fold.{HasTaken, AreTallies, Takes, most_folded};
 ghost use Rattle.ts_aggregate.specs.Column.{AreRowCells};
+ghost use Rattle.ts_aggregate.specs.KnownColumns.{known_column};
 
 use crate::cells::{Cells, RowCells, ValuePosition};
 use crate::column::take_column;
+use crate::numbers::Totals;
 use std::alloc::{AllocError, Global};
 use std::marker::Model;
 use ts_entry::{RowVisitor, Stamps};
-use ts_expr::{Bound, BoundItem, Tally};
+use ts_expr::{Bound, BoundItem, Function, Tally};
 use ts_row::{Column, Row, RowType, Value};
 
 /// A fold of an aggregate list over rows that it takes in their bytes.
@@ -71,6 +73,7 @@ impl<'a> Folding<'a> {
     ) -> Result<(), AllocError>
         requires front { 0 < front }
         requires whole { (n : ℕ) × (length cells.now ≡ n * (front + width_of kind.now.columns)) }
+        requires few { length cells.now ≤ 4064 }
         ensures took { OnOk result ((found : List (Option TheRow)) → AreCellsWith kind.now.columns front cells.now found
             → Takes kind.now.columns self.old (rows_in found) self.new) }
     {
@@ -138,7 +141,14 @@ fn renew_all(
     Ok(values)
 }
 
-// Each item takes the values of its column.
+/// What is known of the numbers of a column.
+#[derive(Clone, Copy)]
+pub(crate) struct KnownColumn {
+    pub column: usize,
+    pub totals: Totals,
+}
+
+// Each item takes the values of its column. Items of one column that stand beside each other look at its cells once.
 fn take_items(
     alloc: Global,
     items: &[BoundItem],
@@ -155,6 +165,7 @@ fn take_items(
         → (before : List TheRow) → length before + length (rows_in found) ≤ most_folded
         → tallies.old ≡ after items.now before → tallies.new ≡ after items.now (before ++ rows_in found)) }
 {
+    let mut last = None;
     for (number, item) in items.iter().enumerate() {
         let kind = columns[item.column].kind;
         let position = ValuePosition {
@@ -168,9 +179,40 @@ fn take_items(
             left: row_cells.left,
             bytes: row_cells.bytes,
         };
-        take_column(alloc, &mut tallies[number], cells, kind)?;
+        let known = known_of(last, item.column);
+        let wanted = are_bests_wanted(&items[number..], item.column);
+        let told = take_column(alloc, &mut tallies[number], cells, kind, known, wanted)?;
+        last = known_at(item.column, told);
     }
     Ok(())
+}
+
+// What is known of a column, if it is this one.
+fn known_of(last: Option<KnownColumn>, column: usize) -> Option<Totals>
+    ensures { IfSome result (λ totals. last ≡ Some (known_column column totals)) }
+{
+    match last {
+        Some(known) if known.column == column => Some(known.totals),
+        _ => None,
+    }
+}
+
+// What is known of a column, if that is.
+fn known_at(column: usize, told: Option<Totals>) -> Option<KnownColumn>
+    ensures { result ≡ option_map (λ totals. known_column column totals) told }
+{
+    let totals = told?;
+    Some(KnownColumn { column, totals })
+}
+
+// Whether one of some items wants the least or the greatest of a column.
+fn are_bests_wanted(items: &[BoundItem], column: usize) -> bool {
+    for item in items {
+        if item.column == column && matches!(item.function, Function::Min | Function::Max) {
+            return true;
+        }
+    }
+    false
 }
 
 // The bytes of the columns before one.

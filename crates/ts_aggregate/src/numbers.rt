@@ -1,17 +1,15 @@
-// The values of a column counted, its numbers summed up, and the least or the greatest of them.
-ghost use Rattle.std.specs.Prelude.{◌≡◌, ◌&&◌, nat_lt, ◌+◌, ◌*◌, ◌^◌, ◌≤◌, ◌<◌, ℤ, pos, ◌+ℤ◌, unsigned_abs, IsTrue};
-ghost use Rattle.std.specs.Prelude.{fold, map, length};
-ghost use Rattle.std.specs.List.{list_all};
-ghost use Rattle.std.specs.Int.{cast_signed, from_be_bytes, w64};
-ghost use Rattle.ts_row.specs.declared.value.Value.TheVariants.{Number};
+// The numbers of a column in cells: how many there are, their sum, the least and the greatest of them.
+ghost use Rattle.std.specs.Prelude.{◌≡◌, ◌+◌, ◌*◌, ◌^◌, ◌≤◌, ◌<◌, ◌+ℤ◌, unsigned_abs, if◌then◌else◌, true, false};
+ghost use Rattle.std.specs.Prelude.{IsTrue, IsSome, Some, None, length};
+ghost use Rattle.std.specs.Int.{cast_signed, from_be_bytes, w64, int_min, int_max};
 ghost use Rattle.ts_row.specs.RowType.{column_width};
 ghost use Rattle.ts_row.specs.Decoding.{number_in};
-ghost use Rattle.ts_expr.specs.Fold.{total};
-ghost use Rattle.ts_aggregate.specs.Column;
-ghost use Rattle.ts_aggregate.specs.Column.{found, AreWhole, read_values, read_numbers, long_number, is_small};
-ghost use Rattle.ts_aggregate.specs.Column.{number_if_any};
+ghost use Rattle.ts_expr.specs.Binding.{is_text_kind};
+ghost use Rattle.ts_aggregate.specs.Column.{found, AreWhole, read_numbers, long_number};
+ghost use Rattle.ts_aggregate.specs.Totals.{bytes_in, sized_numbers, AreKnown};
+ghost use Rattle.ts_aggregate.specs.Totals as ThatTotals;
 
-use crate::cells::Cells;
+use crate::cells::{Cells, bytes_of, has_value};
 use ts_row::{ColumnKind, SHORT_DIGITS};
 
 /// The most values that are counted or summed up.
@@ -19,6 +17,53 @@ pub(crate) const MOST_FOLDED: u64 = 4_294_967_296;
 
 /// A number of 29 digits.
 const TOO_LONG: u128 = 10_000_000_000_000_000_000_000_000_000;
+
+/// 2^94: no number of at most 28 digits is as large, and of numbers that aren't, those of a page have a sum.
+const FAR: i128 = 19_807_040_628_566_084_398_385_987_584;
+
+/// What is known of the numbers of a column in some cells.
+#[derive(Clone, Copy)]
+pub(crate) struct Totals {
+    /// How many there are.
+    pub count: u64,
+    pub sum: i128,
+    /// None where they weren't sought.
+    pub bests: Option<Bests>,
+}
+
+/// The least and the greatest of some numbers.
+#[derive(Clone, Copy)]
+pub(crate) struct Bests {
+    pub least: i128,
+    pub greatest: i128,
+}
+
+/// How many bytes a column's numbers have.
+#[derive(Clone, Copy, Debug, PartialEq, Eq)]
+pub(crate) enum NumberSize {
+    Two,
+    Four,
+    Eight,
+    Sixteen,
+}
+
+// What is known of the numbers so far. Of none the least is the greatest of all that there may be.
+#[derive(Clone, Copy)]
+struct Gathered {
+    count: u64,
+    sum: i128,
+    least: i128,
+    greatest: i128,
+}
+
+// The same of numbers of at most four bytes.
+#[derive(Clone, Copy)]
+struct GatheredShort {
+    count: u64,
+    sum: i64,
+    least: i64,
+    greatest: i64,
+}
 
 /// How many values there are.
 pub(crate) fn count_values(cells: Cells<'_>) -> u64
@@ -34,112 +79,271 @@ pub(crate) fn count_values(cells: Cells<'_>) -> u64
     count
 }
 
-/// How many values there are, and the sum of their numbers; those that a column can't hold may be left out, and those
-/// past 2^32.
-pub(crate) fn sum_values(cells: Cells<'_>, kind: ColumnKind) -> (u64, i128)
+/// What is known of the numbers of a column, with the least and the greatest where they are sought. There is a loop of
+/// its own for each size, which isn't asked for at each number.
+pub(crate) fn totals_of(cells: Cells<'_>, kind: ColumnKind, sought: bool) -> Totals
+    requires few { cells.left ≤ 4064 }
     requires whole { AreWhole cells }
     requires width { cells.position.width + 1 ≡ column_width kind }
-    ensures digits { unsigned_abs result.1 ≤ result.0 * 10 ^ 28 }
-    ensures value { IsTrue (list_all is_small (read_numbers kind cells.entry)) → length (found cells.entry) ≤ 2 ^ 32
-        → (result.0 ≡ length (found cells.entry)) × (result.1 ≡ total (read_values kind cells.entry)) }
+    requires numbers { is_text_kind kind ≡ false }
+    ensures known { AreKnown (read_numbers kind cells.entry) result }
+    ensures sought { IsTrue sought → IsSome result.bests }
+{
+    sized_totals(cells, size_of(kind), sought)
+}
+
+// The same of numbers of a size.
+fn sized_totals(cells: Cells<'_>, size: NumberSize, sought: bool) -> Totals
+    requires few { cells.left ≤ 4064 }
+    requires whole { AreWhole cells }
+    requires width { cells.position.width ≡ bytes_in size }
+    ensures known { AreKnown (sized_numbers size cells.entry) result }
+    ensures sought { IsTrue sought → IsSome result.bests }
+{
+    if sought {
+        totals_by_size(cells, size, true)
+    } else {
+        totals_by_size(cells, size, false)
+    }
+}
+
+fn size_of(kind: ColumnKind) -> NumberSize
+    ensures { result ≡ ThatTotals.size_of kind }
 {
     match kind {
-        ColumnKind::VarChar { .. } => (count_values(cells), 0),
-        ColumnKind::Decimal { digits, .. } if digits > SHORT_DIGITS => sum_long(cells),
-        ColumnKind::SmallInt => sum_short(cells, ColumnKind::SmallInt),
-        ColumnKind::Integer => sum_short(cells, ColumnKind::Integer),
-        ColumnKind::BigInt => sum_short(cells, ColumnKind::BigInt),
-        _ => sum_short(cells, kind),
+        ColumnKind::SmallInt => NumberSize::Two,
+        ColumnKind::Integer => NumberSize::Four,
+        ColumnKind::Decimal { digits, .. } if digits > SHORT_DIGITS => NumberSize::Sixteen,
+        _ => NumberSize::Eight,
     }
 }
 
-// The same of numbers of at most eight bytes; none is left out. A loop of its own for each kind, which isn't asked for
-// at each value.
+// The same by a loop for the size.
 #[inline(always)]
-fn sum_short(cells: Cells<'_>, kind: ColumnKind) -> (u64, i128)
+fn totals_by_size(cells: Cells<'_>, size: NumberSize, sought: bool) -> Totals
+    requires few { cells.left ≤ 4064 }
     requires whole { AreWhole cells }
-    requires width { cells.position.width + 1 ≡ column_width kind }
-    requires short { cells.position.width ≤ 8 }
-    ensures count { result.0 ≡ length (found cells.entry) }
-    ensures sum { result.1 ≡ fold ◌+ℤ◌ (pos 0) (read_numbers kind cells.entry) }
-    ensures digits { unsigned_abs result.1 ≤ result.0 * 2 ^ 63 }
+    requires width { cells.position.width ≡ bytes_in size }
+    ensures known { AreKnown (sized_numbers size cells.entry) result }
+    ensures sought { IsTrue sought → IsSome result.bests }
 {
-    let mut rest = cells;
-    let mut count = 0;
-    let mut sum = 0;
-    while let Some((bytes, more)) = rest.next() {
-        count += 1;
-        sum += short_number(kind, bytes) as i128;
-        rest = more;
+    match size {
+        NumberSize::Two => short_totals(cells, NumberSize::Two, sought),
+        NumberSize::Four => short_totals(cells, NumberSize::Four, sought),
+        NumberSize::Eight => long_totals(cells, NumberSize::Eight, sought),
+        NumberSize::Sixteen => long_totals(cells, NumberSize::Sixteen, sought),
     }
-    (count, sum)
 }
 
-// The same of numbers of sixteen bytes.
-fn sum_long(cells: Cells<'_>) -> (u64, i128)
+// The same of numbers of at most four bytes, whose sum is one of 64 bits.
+#[inline(always)]
+fn short_totals(cells: Cells<'_>, size: NumberSize, sought: bool) -> Totals
+    requires few { cells.left ≤ 4064 }
     requires whole { AreWhole cells }
-    requires width { cells.position.width ≡ 16 }
-    ensures digits { unsigned_abs result.1 ≤ result.0 * 10 ^ 28 }
-    ensures value { IsTrue (list_all is_small (map long_number (found cells.entry)))
-        → length (found cells.entry) ≤ 2 ^ 32
-        → (result.0 ≡ length (found cells.entry))
-        × (result.1 ≡ fold ◌+ℤ◌ (pos 0) (map long_number (found cells.entry))) }
+    requires width { cells.position.width ≡ bytes_in size }
+    requires short { bytes_in size ≤ 4 }
+    ensures known { AreKnown (sized_numbers size cells.entry) result }
+    ensures sought { IsTrue sought → IsSome result.bests }
 {
-    let mut rest = cells;
-    let mut count = 0;
-    let mut sum = 0;
-    while let Some((bytes, more)) = rest.next() {
-        let number = sixteen_bytes(bytes);
-        if is_summed(number, count) {
-            count += 1;
-            sum += number;
+    let position = cells.position;
+    let mut left = cells.left;
+    let mut bytes = cells.bytes;
+    let mut so_far = GatheredShort {
+        count: 0,
+        sum: 0,
+        least: i64::MAX,
+        greatest: i64::MIN,
+    };
+    while left > 0 {
+        left -= 1;
+        let (cell, rest) = bytes.split_at(position.size);
+        bytes = rest;
+        if has_value(position, cell) {
+            let number = short_number_of_size(size, bytes_of(position, cell));
+            so_far = with_short_number(so_far, number, sought);
         }
-        rest = more;
     }
-    (count, sum)
+    totals_gathered(widened(so_far), sought)
 }
 
-// Whether a number is summed up after so many others: it is one that a column may hold, and they aren't too many.
-fn is_summed(number: i128, count: u64) -> bool
-    ensures { result ≡ (is_small number && nat_lt count (2 ^ 32)) }
+fn widened(short: GatheredShort) -> Gathered
+    ensures { result ≡ ThatTotals.gathered short.count short.sum short.least short.greatest }
 {
-    number.unsigned_abs() < TOO_LONG && count < MOST_FOLDED
+    Gathered {
+        count: short.count,
+        sum: short.sum as i128,
+        least: short.least as i128,
+        greatest: short.greatest as i128,
+    }
 }
 
-/// The least or the greatest of a number, if there is one, and those of a column.
-pub(crate) fn best_number(
-    cells: Cells<'_>,
-    kind: ColumnKind,
-    start: Option<i128>,
-    most: bool,
-) -> Option<i128>
+// With one number more.
+#[inline(always)]
+fn with_short_number(so_far: GatheredShort, number: i64, sought: bool) -> GatheredShort
+    requires few { so_far.count < 4064 }
+    requires room { unsigned_abs so_far.sum ≤ so_far.count * 2 ^ 31 }
+    requires short { unsigned_abs number ≤ 2 ^ 31 }
+    ensures count { result.count ≡ so_far.count + 1 }
+    ensures room { unsigned_abs result.sum ≤ result.count * 2 ^ 31 }
+    ensures sum { result.sum ≡ so_far.sum +ℤ number }
+    ensures least { IsTrue sought → result.least ≡ int_min so_far.least number }
+    ensures greatest { IsTrue sought → result.greatest ≡ int_max so_far.greatest number }
+{
+    GatheredShort {
+        count: so_far.count + 1,
+        sum: so_far.sum + number,
+        least: if sought {
+            so_far.least.min(number)
+        } else {
+            so_far.least
+        },
+        greatest: if sought {
+            so_far.greatest.max(number)
+        } else {
+            so_far.greatest
+        },
+    }
+}
+
+// The number that at most four bytes are.
+#[inline(always)]
+fn short_number_of_size(size: NumberSize, bytes: &[u8]) -> i64
+    requires size { length bytes.now ≡ bytes_in size }
+    requires short { bytes_in size ≤ 4 }
+    ensures value { result ≡ ThatTotals.number_of_size size bytes.now }
+    ensures short { unsigned_abs result ≤ 2 ^ 31 }
+{
+    match size {
+        NumberSize::Two => i16::from_be_bytes([bytes[0], bytes[1]]) as i64,
+        NumberSize::Four => i32::from_be_bytes([bytes[0], bytes[1], bytes[2], bytes[3]]) as i64,
+        _ => 0,
+    }
+}
+
+// The same of numbers of more bytes.
+#[inline(always)]
+fn long_totals(cells: Cells<'_>, size: NumberSize, sought: bool) -> Totals
+    requires few { cells.left ≤ 4064 }
     requires whole { AreWhole cells }
-    requires width { cells.position.width + 1 ≡ column_width kind }
-    ensures { number_if_any result ≡ fold (Column.better most) (number_if_any start)
-        (map (λ z. Number z) (read_numbers kind cells.entry)) }
+    requires width { cells.position.width ≡ bytes_in size }
+    ensures known { AreKnown (sized_numbers size cells.entry) result }
+    ensures sought { IsTrue sought → IsSome result.bests }
 {
-    let mut rest = cells;
-    let mut best = start;
-    while let Some((bytes, more)) = rest.next() {
-        best = Some(better(most, best, number(kind, bytes)));
-        rest = more;
+    let position = cells.position;
+    let mut left = cells.left;
+    let mut bytes = cells.bytes;
+    let mut so_far = Gathered {
+        count: 0,
+        sum: 0,
+        least: i128::MAX,
+        greatest: i128::MIN,
+    };
+    while left > 0 {
+        left -= 1;
+        let (cell, rest) = bytes.split_at(position.size);
+        bytes = rest;
+        if has_value(position, cell) {
+            let number = number_of_size(size, bytes_of(position, cell));
+            so_far = with_number(so_far, number, sought);
+        }
     }
-    best
+    totals_gathered(so_far, sought)
 }
 
-// The lesser or the greater of a number, if there is one, and another.
-fn better(most: bool, best: Option<i128>, number: i128) -> i128
-    ensures { Number result ≡ Column.better most (number_if_any best) (Number number) }
+// With one number more.
+#[inline(always)]
+fn with_number(so_far: Gathered, number: i128, sought: bool) -> Gathered
+    requires few { so_far.count < 4064 }
+    requires room { unsigned_abs so_far.sum ≤ so_far.count * 2 ^ 94 }
+    ensures count { result.count ≡ so_far.count + 1 }
+    ensures room { unsigned_abs result.sum ≤ result.count * 2 ^ 94 }
+    ensures sum { unsigned_abs number < 2 ^ 94 → result.sum ≡ so_far.sum +ℤ number }
+    ensures least { IsTrue sought → result.least ≡ int_min so_far.least number }
+    ensures greatest { IsTrue sought → result.greatest ≡ int_max so_far.greatest number }
 {
-    match best {
-        None => number,
-        Some(best) => {
-            if most {
-                best.max(number)
-            } else {
-                best.min(number)
-            }
-        }
+    Gathered {
+        count: so_far.count + 1,
+        sum: with_summand(so_far.count, so_far.sum, number),
+        least: lesser_if(sought, so_far.least, number),
+        greatest: greater_if(sought, so_far.greatest, number),
+    }
+}
+
+// The sum of so many numbers with one more, unless no column may hold it.
+#[inline(always)]
+fn with_summand(count: u64, sum: i128, number: i128) -> i128
+    requires few { count < 4064 }
+    requires room { unsigned_abs sum ≤ count * 2 ^ 94 }
+    ensures room { unsigned_abs result ≤ (count + 1) * 2 ^ 94 }
+    ensures sum { unsigned_abs number < 2 ^ 94 → result ≡ sum +ℤ number }
+{
+    if -FAR < number && number < FAR {
+        sum + number
+    } else {
+        sum
+    }
+}
+
+#[inline(always)]
+fn lesser_if(sought: bool, kept: i128, number: i128) -> i128
+    ensures { IsTrue sought → result ≡ int_min kept number }
+{
+    if sought { kept.min(number) } else { kept }
+}
+
+#[inline(always)]
+fn greater_if(sought: bool, kept: i128, number: i128) -> i128
+    ensures { IsTrue sought → result ≡ int_max kept number }
+{
+    if sought { kept.max(number) } else { kept }
+}
+
+// What is known of all.
+fn totals_gathered(all: Gathered, sought: bool) -> Totals
+    requires few { all.count ≤ 4064 }
+    ensures count { result.count ≡ all.count }
+    ensures digits { unsigned_abs result.sum ≤ result.count * 10 ^ 28 }
+    ensures sum { unsigned_abs all.sum ≤ all.count * 10 ^ 28 → result.sum ≡ all.sum }
+    ensures bests { result.bests ≡ (if sought then Some (ThatTotals.bests all.least all.greatest) else None) }
+{
+    Totals {
+        count: all.count,
+        sum: sum_of_so_many(all.count, all.sum),
+        bests: if sought {
+            Some(Bests {
+                least: all.least,
+                greatest: all.greatest,
+            })
+        } else {
+            None
+        },
+    }
+}
+
+// A sum that so many numbers of 28 digits may have, or else 0.
+fn sum_of_so_many(count: u64, sum: i128) -> i128
+    requires { count ≤ 4064 }
+    ensures digits { unsigned_abs result ≤ count * 10 ^ 28 }
+    ensures same { unsigned_abs sum ≤ count * 10 ^ 28 → result ≡ sum }
+{
+    if sum.unsigned_abs() <= count as u128 * TOO_LONG {
+        sum
+    } else {
+        0
+    }
+}
+
+// The number that so many bytes are.
+#[inline(always)]
+fn number_of_size(size: NumberSize, bytes: &[u8]) -> i128
+    requires { length bytes.now ≡ bytes_in size }
+    ensures { result ≡ ThatTotals.number_of_size size bytes.now }
+{
+    match size {
+        NumberSize::Two => i16::from_be_bytes([bytes[0], bytes[1]]) as i128,
+        NumberSize::Four => { i32::from_be_bytes([bytes[0], bytes[1], bytes[2], bytes[3]]) as i128 }
+        NumberSize::Eight => eight_bytes(bytes) as i128,
+        NumberSize::Sixteen => sixteen_bytes(bytes),
     }
 }
 

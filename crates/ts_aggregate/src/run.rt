@@ -1,12 +1,15 @@
 // How far a group goes on in cells.
-ghost use Rattle.std.specs.Prelude.{◌≡◌, ℤ, ◌+◌, ◌*◌, ◌^◌, ◌<◌, ◌≤◌, ◌<ℤ◌, ℕ, Some, Option, List, length, take};
+ghost use Rattle.std.specs.Prelude.{◌≡◌, ℤ, ◌+◌, ◌*◌, ◌^◌, ◌<◌, ◌≤◌, ◌<ℤ◌, ℕ, Some, Option, IsTrue, List, length, map};
+ghost use Rattle.std.specs.Prelude.{take, drop};
+ghost use Rattle.ts_row.specs.declared.kind.Column.{Column};
+ghost use Rattle.ts_row.specs.RowType.{width_of};
 ghost use Rattle.ts_row.specs.Element.{Element};
 ghost use Rattle.ts_entry.specs.declared.stamps.Stamps.TheVariants.{InCells, OnGrid};
 ghost use Rattle.ts_calendar.specs.Intervals.{IsLaid};
 ghost use Rattle.ts_offset.specs.Grid.{stamp_of};
 ghost use Rattle.ts_entry.specs.Stamps.{IsNear};
-ghost use Rattle.ts_entry.specs.Rows.{AreStamped, elements_in};
-ghost use Rattle.ts_aggregate.specs.Groups.{AreBefore, IsFirstBefore};
+ghost use Rattle.ts_entry.specs.Rows.{AreCellsWith, AreStamped, elements_in, row_if_any};
+ghost use Rattle.ts_aggregate.specs.Groups.{AreBefore, AreOrdered, IsFirstBefore, HasBefore};
 
 use crate::cells::RowCells;
 use ts_base::Stamp;
@@ -31,9 +34,12 @@ pub(crate) fn cells_before(
     requires number { number + cells.left < 2 ^ 63 }
     ensures low { 1 ≤ result }
     ensures high { result ≤ cells.entry.left }
-    ensures before { (found : List (Option Element))
+    ensures before { (columns : List Column) (found : List (Option Element))
+        → cells.entry.size ≡ cells.entry.front + width_of columns
+        → AreCellsWith columns cells.entry.front cells.entry.bytes.now (map row_if_any found)
         → AreStamped stamps.now cells.entry.size number cells.entry.bytes.now found
-        → IsFirstBefore end found → AreBefore end (elements_in (take result found)) }
+        → IsFirstBefore end found → AreOrdered (elements_in (take result found))
+        → AreBefore end (elements_in (take result found)) }
 {
     let Some(end) = end else {
         return cells.left;
@@ -49,32 +55,45 @@ pub(crate) fn cells_before(
     }
 }
 
-// The same of cells that have their stamps.
+// The same of cells that have their stamps, which rise: sought ever farther away, and then between.
 fn stamped_before(cells: RowCells<'_>, end: Stamp) -> usize
     requires some { 0 < cells.left }
     requires whole { length cells.bytes.now ≡ cells.left * cells.size }
     ensures low { 1 ≤ result }
     ensures high { result ≤ cells.entry.left }
-    ensures before { (number : ℕ) (found : List (Option Element))
+    ensures before { (number : ℕ) (columns : List Column) (found : List (Option Element))
+        → cells.entry.size ≡ cells.entry.front + width_of columns
+        → AreCellsWith columns cells.entry.front cells.entry.bytes.now (map row_if_any found)
         → AreStamped InCells cells.entry.size number cells.entry.bytes.now found
-        → IsFirstBefore (Some end) found → AreBefore (Some end) (elements_in (take result found)) }
+        → IsFirstBefore (Some end) found → AreOrdered (elements_in (take result found))
+        → AreBefore (Some end) (elements_in (take result found)) }
 {
     if cells.size < FRONT {
         return 1;
     }
     let limit = end.units();
-    let (_, mut rest) = cells.bytes.split_at(cells.size);
-    let mut count = 1;
-    while count < cells.left {
-        let units = units_at(rest, cells.size, 0);
-        if units >= limit {
-            return count;
+    let mut low = 1;
+    let mut high = cells.left;
+    while low < high {
+        let count = low + low.min((high - low + 1) / 2);
+        if is_stamped_before(cells, count - 1, limit) {
+            low = count;
+        } else {
+            high = count - 1;
         }
-        let (_, behind) = rest.split_at(cells.size);
-        rest = behind;
-        count += 1;
     }
-    count
+    low
+}
+
+// Whether the cell of a number has an element that stands before a limit.
+#[inline(always)]
+fn is_stamped_before(cells: RowCells<'_>, number: usize, limit: i64) -> bool
+    requires wide { 9 ≤ cells.size }
+    requires within { cells.size * number + cells.size ≤ length cells.bytes.now }
+    ensures { IsTrue result → HasBefore limit (drop (cells.entry.size * number) cells.entry.bytes.now) }
+{
+    let (_, cell) = cells.bytes.split_at(cells.size * number);
+    cell[0] == 1 && units_at(cell, cells.size, 0) < limit
 }
 
 // The same of cells on a grid, of which the first has this offset.

@@ -1,4 +1,4 @@
-use Rattle.std.proofs.Common.{◌≤◌, ◌^◌, ◌+◌, ◌-◌, List, get_or, length-set, ap, ◌∙◌, arith}
+use Rattle.std.proofs.Common.{◌≤◌, ◌^◌, ◌+◌, ◌-◌, List, length, get_or, length-set, ap, ◌∙◌, arith}
 use Rattle.std.proofs.lemmas.List.Elements.{All-set}
 use Rattle.ts_row.specs.declared.kind.Column.{Column}
 use Rattle.ts_expr.specs.declared.item.BoundItem.{BoundItem}
@@ -6,6 +6,8 @@ use Rattle.ts_expr.specs.declared.tally.Tally.{Tally}
 use Rattle.ts_expr.specs.Running.{count_of}
 use Rattle.ts_aggregate.specs.declared.cells.ValuePosition.{ValuePosition}
 use Rattle.ts_aggregate.proofs.FoldingLemmas.{ItemTakes, an_item, item_takes, all_take, each_more, rest_more, position_of, position_within}
+use Rattle.ts_aggregate.proofs.TurnLemmas.{few_cells}
+use Rattle.ts_aggregate.proofs.KnownLemmas.{same_read, known_for, known_again}
 use Rattle.ts_aggregate.proofs.folding.take_items.Goals as goal
 
 pub take_column-requires-clause-whole : goal.take_column-requires-clause-whole
@@ -19,6 +21,26 @@ take_column-requires-clause-whole c =
     (c.requires.places n an_item c.loop-number-test.true)
     (ap (get_or cs i.column) c.index-columns-item.is) c.requires.whole.size c.width_before.ensures c.width.ensures in
     record { front = within.0; place = within.1; whole = c.requires.whole.whole }
+
+pub take_column-requires-clause-few : goal.take_column-requires-clause-few
+take_column-requires-clause-few c =
+    let r = c.args.row_cells in
+    omega (
+      arith,
+      few_cells r.left r.size (length r.bytes.now) (omega (arith, c.requires.whole.some, c.requires.whole.size)) c.requires.whole.whole,
+      c.requires.whole.few,
+    )
+
+pub take_column-requires-clause-known : goal.take_column-requires-clause-known
+take_column-requires-clause-known c =
+    let n = c.loop-number.number in
+    let i : BoundItem = get_or c.args.items.now n an_item in
+    let cs : List Column = c.args.columns.now in
+    let r = c.args.row_cells in
+    let column : Column = get_or cs i.column c.index-columns-item.result in
+    known_for cs r c.loop-number.last c.known_of-known.result i.column _ c.loop-number.invariant.known c.known_of-known.ensures
+    (same_read cs r i.column c.width_before.result c.width.result column (c.requires.places n an_item c.loop-number-test.true)
+    (ap (get_or cs i.column) c.index-columns-item.is) c.width_before.ensures c.width.ensures)
 
 pub loop-number-preserved : goal.loop-number-preserved
 loop-number-preserved c =
@@ -39,7 +61,7 @@ loop-number-preserved c =
     let new : Tally = c.take_column.new.tally in
     record {
       size = length-set c.loop-number.tallies n new ∙ v.size;
-      few = All-set (λ (t : Tally). count_of t ≤ 2 ^ 32) c.loop-number.tallies n new c.in_ok-take_column.ensures.few v.few;
+      few = All-set (λ (t : Tally). count_of t ≤ 2 ^ 32) c.loop-number.tallies n new c.in_ok-told.ensures.few v.few;
       taken = each_more (λ k. ItemTakes cs row_cells.front row_cells.bytes.now
           (get_or c.args.items.now k an_item)) c.args.tallies.now c.loop-number.tallies n was new
           (omega (arith, c.loop-number-test.true, v.size)) (ap (get_or c.loop-number.tallies n) c.index-tallies-number.is) v.taken v.rest
@@ -47,7 +69,10 @@ loop-number-preserved c =
           (position_of cs row_cells.front i.column c.width_before.result c.width.result column row_cells.size
           (c.requires.places n an_item c.loop-number-test.true)
           (ap (get_or cs i.column) c.index-columns-item.is) c.requires.whole.size c.width_before.ensures c.width.ensures)
-          (omega (arith, c.requires.whole.some, c.requires.whole.size)) c.requires.whole.whole c.in_ok-take_column.ensures.value);
+          (omega (arith, c.requires.whole.some, c.requires.whole.size)) c.requires.whole.whole c.in_ok-told.ensures.value);
+      known = known_again cs row_cells i.column c.in_ok-told.told c.known_at-last.result _ c.known_at-last.ensures c.in_ok-told.ensures.known
+          (same_read cs row_cells i.column c.width_before.result c.width.result column (c.requires.places n an_item c.loop-number-test.true)
+          (ap (get_or cs i.column) c.index-columns-item.is) c.width_before.ensures c.width.ensures);
       rest = rest_more c.args.tallies.now c.loop-number.tallies n new v.rest;
     }
 

@@ -6,25 +6,25 @@ use Rattle.ts_aggregate.proofs.PieceLemmas.{none_behind, offsets_all}
 use Rattle.ts_aggregate.proofs.run.cells_before.Goals as goal
 
 pub returns-in_default-clause-before : goal.returns-in_default-clause-before
-returns-in_default-clause-before c = λ found are first.
+returns-in_default-clause-before c = λ columns found is are stamped first ordered.
     let left = c.args.cells.left in
     subst (λ (e : Option ℤ). AreBefore e (elements_in (take left found))) (sym c.in_default.is) (none_behind (elements_in (take left found)))
 
 pub returns-in-InCells-clause-before : goal.returns-in-InCells-clause-before
-returns-in-InCells-clause-before c = λ found are first.
+returns-in-InCells-clause-before c = λ columns found is are stamped first ordered.
     let r = c.args.cells in
     let n = c.stamped_before.result in
     subst (λ (e : Option ℤ). AreBefore e (elements_in (take n found))) (sym c.in-Some.is)
-    (c.stamped_before.ensures.before c.args.number found
-    (subst (λ (s : Stamps). AreStamped s r.size c.args.number r.bytes.now found) c.in-InCells.is are)
-    (subst (λ (e : Option ℤ). IsFirstBefore e found) c.in-Some.is first))
+    (c.stamped_before.ensures.before c.args.number columns found is are
+    (subst (λ (s : Stamps). AreStamped s r.size c.args.number r.bytes.now found) c.in-InCells.is stamped)
+    (subst (λ (e : Option ℤ). IsFirstBefore e found) c.in-Some.is first) ordered)
 
 pub returns-in-OnGrid-clause-before : goal.returns-in-OnGrid-clause-before
-returns-in-OnGrid-clause-before c = λ found are first.
+returns-in-OnGrid-clause-before c = λ columns found is are stamped first ordered.
     let r = c.args.cells in
     let n = c.offsets_before.result in
     subst (λ (e : Option ℤ). AreBefore e (elements_in (take n found))) (sym c.in-Some.is)
     (offsets_all c.in-OnGrid.grid c.in-OnGrid.first r.size c.in-Some.end n c.args.number r.bytes.now found
-    (subst (λ (s : Stamps). AreStamped s r.size c.args.number r.bytes.now found) c.in-OnGrid.is are)
+    (subst (λ (s : Stamps). AreStamped s r.size c.args.number r.bytes.now found) c.in-OnGrid.is stamped)
     (subst (λ (e : Option ℤ). IsFirstBefore e found) c.in-Some.is first)
     (λ k s laid some low at. c.offsets_before.ensures.before k s laid some low at))

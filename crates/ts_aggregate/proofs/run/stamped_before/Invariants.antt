@@ -1,19 +1,15 @@
--- The elements of the cells counted so far stand before the end.
-use Rattle.std.proofs.Common.{◌≡◌, ℕ, ◌-◌, ◌*◌, ◌≤◌, Option, Some, List, drop, take}
-use Rattle.ts_row.specs.Element.{Element}
-use Rattle.ts_entry.specs.declared.stamps.Stamps.TheVariants.{InCells}
-use Rattle.ts_entry.specs.Rows.{AreStamped, elements_in}
-use Rattle.ts_aggregate.specs.Groups.{AreBefore, IsFirstBefore}
+-- So many cells are one, or the last of them has an element before the end.
+use Rattle.std.proofs.Common.{◌-◌, ◌*◌, ◌<◌, ◌≤◌, drop}
+use Rattle.ts_aggregate.specs.Groups.{HasBefore}
 use Rattle.ts_aggregate.proofs.run.stamped_before.Given as goal
 
-abbrev pub invariant-loop-count : goal.invariant-loop-count
-invariant-loop-count l = record {
-  low : 1 ≤ l.count;
-  high : l.count ≤ l.cells.left;
-  behind : l.rest ≡ drop (l.count * l.cells.size) l.cells.bytes.now;
-  before : (number : ℕ) (found : List (Option Element)) → AreStamped InCells l.cells.size number l.cells.bytes.now found
-      → IsFirstBefore (Some l.fn.end) found → AreBefore (Some l.fn.end) (elements_in (take l.count found));
+abbrev pub invariant-loop-low : goal.invariant-loop-low
+invariant-loop-low l = record {
+  one : 1 ≤ l.low;
+  order : l.low ≤ l.high;
+  within : l.high ≤ l.cells.left;
+  has : 1 < l.low → HasBefore l.limit (drop (l.cells.size * (l.low - 1)) l.cells.bytes.now);
 }
 
-abbrev pub decreases-loop-count : goal.decreases-loop-count
-decreases-loop-count l = l.cells.left - l.count
+abbrev pub decreases-loop-low : goal.decreases-loop-low
+decreases-loop-low l = l.high - l.low

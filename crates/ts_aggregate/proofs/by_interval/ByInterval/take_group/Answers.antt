@@ -1,9 +1,8 @@
-use Rattle.std.proofs.Common.{◌≡◌, ◌+◌, ◌*◌, ◌<◌, ◌≤◌, ℕ, List, length, map, take, sym, ap, subst, ◌∙◌, arith, length-take-le}
+use Rattle.std.proofs.Common.{◌*◌, ℕ, List, length, map, take, sym, ap, subst, ◌∙◌, arith, length-take-le}
 use Rattle.ts_row.specs.declared.kind.Column.{Column}
-use Rattle.ts_row.specs.RowType.{width_of}
 use Rattle.ts_entry.specs.Stamps.{HasStamp}
 use Rattle.ts_entry.specs.Rows.{AreCellsWith, IsCellWith, row_if_any}
-use Rattle.ts_aggregate.specs.Groups.{grouping, is_seen}
+use Rattle.ts_aggregate.specs.Groups.{grouping}
 use Rattle.ts_aggregate.proofs.CellsLemmas.{one_fits}
 use Rattle.ts_aggregate.proofs.PieceLemmas.{cells_front, some_fit}
 use Rattle.ts_aggregate.proofs.TurnLemmas.{none_taken, none_stamped, piece_taken}
@@ -28,6 +27,19 @@ fold-requires-clause-whole g c =
           ∙ length-take-le (count * r.size) r.bytes.now
           (some_fit count r.left r.size (length r.bytes.now) c.cells_before-count.ensures.high c.requires.whole.whole)
           ∙ ap (λ (n : ℕ). count * n) c.requires.whole.size,
+    )
+
+pub fold-requires-clause-few : goal.fold-requires-clause-few
+fold-requires-clause-few g c =
+    let r = c.args.cells in
+    let count = c.cells_before-count.result in
+    omega (
+      arith,
+      ap length c.split_at-2.ensures.front,
+      length-take-le (count * r.size) r.bytes.now
+          (some_fit count r.left r.size (length r.bytes.now) c.cells_before-count.ensures.high c.requires.whole.whole),
+      some_fit count r.left r.size (length r.bytes.now) c.cells_before-count.ensures.high c.requires.whole.whole,
+      c.requires.whole.few,
     )
 
 pub returns-then-not-is_shown-clause-took : goal.returns-then-not-is_shown-clause-took
@@ -66,7 +78,7 @@ returns-clause-took g c = λ found are stamped.
     ∙ c.if-not-is_shown.false)
     (λ s has. c.stamp.ensures s (subst (λ (l : List ℕ). HasStamp c.args.stamps.now c.args.number l s) (sym c.split_at.ensures.front) has)) c.in-Some.is c.in_ok-reach.ensures.ready c.in_ok-reach.ensures.here
     on.wanted on.span on.count on.out count found c.cells_before-count.ensures.low
-    (λ first. c.cells_before-count.ensures.before found stamped first)
+    (λ first ordered. c.cells_before-count.ensures.before columns found c.requires.whole.size are stamped first ordered)
     (on.takes (map row_if_any (take count found))
     (subst (λ (l : List ℕ). AreCellsWith columns r.front l (map row_if_any (take count found))) (sym c.split_at-2.ensures.front)
     (cells_front columns r.front count (count * r.size) r.bytes.now found (ap (λ (n : ℕ). count * n) c.requires.whole.size) are)))

@@ -1,12 +1,10 @@
-use Rattle.std.proofs.Common.{◌≡◌, ◌+◌, ◌-◌, ◌*◌, ◌/◌, ◌<◌, ◌≤◌, ℕ, Option, List, length, refl, sym, ap, subst, ◌∙◌, arith}
+use Rattle.std.proofs.Common.{◌≡◌, ◌+◌, ◌-◌, ◌*◌, ◌/◌, ◌<◌, ℕ, List, length, refl, sym, ap, subst, ◌∙◌, arith}
 use Rattle.std.proofs.lemmas.Bool.Decides.{nat_tests}
 use Rattle.ts_row.specs.declared.kind.Column.{Column}
 use Rattle.ts_row.specs.RowType.{width_of}
-use Rattle.ts_row.specs.Element.{Element}
 use Rattle.ts_entry.specs.Rows.{AreStamped}
 use Rattle.ts_aggregate.specs.Groups.{grouping}
 use Rattle.ts_aggregate.proofs.FoldingLemmas.{one_there, row_cells_of}
-use Rattle.ts_aggregate.proofs.PieceLemmas.{some_fit}
 use Rattle.ts_aggregate.proofs.TurnLemmas.{few_cells, less_cells, none_left, turn_first, turn_next, turn_last}
 use Rattle.ts_aggregate.proofs.by_interval.ByIntervalRowVisitor.rows.Goals as goal
 
@@ -41,6 +39,7 @@ loop-left-init g c =
     record {
       whole = all;
       bound = omega (arith, few_cells (len / size) size len some all, c.requires.few);
+      few = c.requires.few;
       same = refl;
       taken = λ found are. turn_first g.V.ElementVisitor.took g.met.V.ElementVisitor.none g.met.V.ElementVisitor.«then»
           c.args.kind.now.columns c.args.front c.args.stamps.now found (grouping v.wanted.now v.span v.folding.now v.count) v.out.now
@@ -62,6 +61,7 @@ take_group-requires-clause-whole g c =
       whole = c.loop-left.invariant.whole;
       narrow = omega (arith, c.width.ensures.value, c.width.ensures.bound);
       small = omega (arith, one_there n size len some whole, c.requires.few);
+      few = c.loop-left.invariant.few;
     }
 
 pub loop-left-preserved : goal.loop-left-preserved
@@ -78,6 +78,7 @@ loop-left-preserved g c =
     record {
       whole = less_cells count c.loop-left.left size (length c.loop-left.rest.now) _ done.count.1 i.whole (omega (arith, c.split_at.ensures.back_len));
       bound = omega (arith, i.bound, done.count.1);
+      few = omega (arith, i.few, c.split_at.ensures.back_len);
       same = done.same ∙ i.same;
       taken = λ found are. turn_next g.V.ElementVisitor.took g.met.V.ElementVisitor.none g.met.V.ElementVisitor.«then» columns c.args.front
           c.args.stamps.now found (grouping v.wanted.now v.span v.folding.now v.count) v.out.now c.loop-left.number count (count * size)

@@ -1,5 +1,5 @@
 -- The cells before those that are left are taken by their groups.
-use Rattle.std.proofs.Common.{◌≡◌, ◌+◌, ◌*◌, ◌≤◌, ℕ, Option, List, length}
+use Rattle.std.proofs.Common.{◌≡◌, ◌+◌, ◌*◌, ◌≤◌, Option, List, length}
 use Rattle.ts_row.specs.Element.{Element}
 use Rattle.ts_entry.specs.Rows.{AreCellsOf}
 use Rattle.ts_aggregate.specs.Groups.{grouping}
@@ -10,6 +10,7 @@ abbrev pub invariant-loop-left : goal.invariant-loop-left
 invariant-loop-left g l = record {
   whole : length l.rest ≡ l.left * l.size;
   bound : l.number + l.left ≤ 4064;
+  few : length l.rest ≤ 4064;
   same : l.self.out.ghost_name ≡ l.fn.self.out.ghost_name;
   taken : (found : List (Option Element)) → AreCellsOf l.kind.columns l.front l.stamps l.cells found
       → Turn g.V.ElementVisitor.took l.kind.columns l.front l.number l.stamps l.rest found

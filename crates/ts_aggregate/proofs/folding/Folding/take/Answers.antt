@@ -28,4 +28,5 @@ take_items-requires-clause-whole c =
       whole = row_cells_of n size len (omega (arith, c.requires.front)) whole;
       narrow = omega (arith, columns, c.width-2.ensures.value, c.width-2.ensures.bound);
       small = omega (arith, one_there n size len some whole);
+      few = c.requires.few;
     }
