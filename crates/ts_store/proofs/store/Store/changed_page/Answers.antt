@@ -34,7 +34,7 @@ returns-else-place-first-clause-within c =
     let b = c.self.inside.batch.entries in
     let all : length (c.self.inside.transaction.entries ++ b) ≡ length (c.args.self.now.transaction ++ c.args.self.now.batch) = ap (λ (s : State). length (s.transaction ++ s.batch)) c.self.view_is in
     let at = allowed_at c.self.inside.replayed.pages b (c.args.place - c.len-first.result) d c.self.invariant.batch_sound.allowed
-        (omega (arith, c.if-place-first.false, c.len-first.ensures, c.requires, all, length-append c.self.inside.transaction.entries b)) in
+    (omega (arith, c.if-place-first.false, c.len-first.ensures, c.requires, all, length-append c.self.inside.transaction.entries b)) in
     omega (arith, at.below, ap (λ (e : Entry). e.0) (c.entry-else-place-first.ensures.is d), ap (λ (s : State). s.pages) c.self.view_is)
 
 pub returns-else-place-first-clause-outside : goal.returns-else-place-first-clause-outside
@@ -43,5 +43,5 @@ returns-else-place-first-clause-outside c =
     let b = c.self.inside.batch.entries in
     let all : length (c.self.inside.transaction.entries ++ b) ≡ length (c.args.self.now.transaction ++ c.args.self.now.batch) = ap (λ (s : State). length (s.transaction ++ s.batch)) c.self.view_is in
     let at = allowed_at c.self.inside.replayed.pages b (c.args.place - c.len-first.result) d c.self.invariant.batch_sound.allowed
-        (omega (arith, c.if-place-first.false, c.len-first.ensures, c.requires, all, length-append c.self.inside.transaction.entries b)) in
+    (omega (arith, c.if-place-first.false, c.len-first.ensures, c.requires, all, length-append c.self.inside.transaction.entries b)) in
     subst IsOutsideJournal (sym (ap (λ (e : Entry). e.0) (c.entry-else-place-first.ensures.is d))) at.outside
