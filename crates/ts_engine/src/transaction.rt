@@ -49,7 +49,7 @@ impl Engine {
     }
 
     /// Begins a transaction: copies what a rollback goes back to.
-    pub(crate) fn begin(&mut self, out: &mut Reply) -> Result<(), StepFault>
+    pub fn begin(&mut self, out: &mut Reply) -> Result<(), StepFault>
         ensures said { OnOk result (out.new ≡ out.old ++ ok_line) }
         ensures ok { OnOk result (Begins self.old self.new) }
         ensures err { IfErr result (λ fault. IsWant fault × (self.new ≡ self.old)) }
@@ -75,11 +75,7 @@ impl Engine {
     }
 
     /// Commits the transaction as one record, and tells how many of its commands that write were accepted.
-    pub(crate) fn commit_all<V: Volume>(
-        &mut self,
-        vol: &mut V,
-        out: &mut Reply,
-    ) -> Result<(), StepFault>
+    pub fn commit_all<V: Volume>(&mut self, vol: &mut V, out: &mut Reply) -> Result<(), StepFault>
         requires over { IsOver V.tells self.old.store (V.device vol.old) }
         requires short { length (entries_bytes (to_commit self.old.store)) ≤ most_entries }
         ensures said { OnOk result (out.new ≡ out.old ++ number_line (pos (accepted_in self.old.saved))) }
@@ -104,7 +100,7 @@ impl Engine {
         Ok(())
     }
 
-    /// Goes back to what was there when the transaction was begun.
+    /// Goes back to what was there when the transaction was begun, and says so.
     pub(crate) fn roll_back(&mut self, out: &mut Reply) -> Result<(), StepFault>
         requires can { IfSome self.old.saved (λ saved. CanCount saved.defs.definitions saved.space.lists) }
         ensures said { OnOk result (out.new ≡ out.old ++ ok_line) }
@@ -112,19 +108,28 @@ impl Engine {
         ensures err { IfErr result (λ fault. IsWant fault × (self.new ≡ self.old)) }
     {
         say_ok(out)?;
+        self.give_up();
+        Ok(())
+    }
+
+    /// Gives the transaction up: goes back to what was there when it was begun. It takes no memory.
+    pub fn give_up(&mut self)
+        requires can { IfSome self.old.saved (λ saved. CanCount saved.defs.definitions saved.space.lists) }
+        ensures rolls { IfSome self.old.saved (RollsBackTo self.old self.new) }
+        ensures none { self.old.saved ≡ None → self.new ≡ self.old }
+    {
         let Some(saved) = self.saved.take() else {
-            return Ok(());
+            return;
         };
         let Saved { defs, space, .. } = saved;
         self.store.rollback();
         self.charges.count(&defs, &space);
         self.defs = defs;
         self.space = space;
-        Ok(())
     }
 
     /// Counts an accepted command: one that writes, where a transaction is open.
-    pub(crate) fn count(&mut self, command: &Command)
+    pub fn count(&mut self, command: &Command)
         requires few { IfSome self.old.saved (λ saved. saved.accepted ≤ most_accepted) }
         ensures { self.new ≡ record self.old { saved = counted_in command.now self.old.saved } }
     {

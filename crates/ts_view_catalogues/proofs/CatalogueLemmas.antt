@@ -20,7 +20,7 @@ use Rattle.ts_view_catalogues.specs.Catalogues.{seen_through, IsViewReady, ViewM
 use Rattle.ts_view_catalogues.specs.Laws.{CatalogueStays, CommitsLeaveCatalogues, KeptImagesLeaveCatalogues, OpenedViewsAreNewest}
 
 -- pages that are the same mean the same
-means_still : (count n : ℕ) (before after : ℕ → List ℕ) (cat : Catalogue) → n ≡ count → SameButFreed before after → Means count before cat → Means n after cat
+pub means_still : (count n : ℕ) (before after : ℕ → List ℕ) (cat : Catalogue) → n ≡ count → SameButFreed before after → Means count before cat → Means n after cat
 means_still count n before after cat size same means =
     (means.0, record { size = size ∙ means.1.size; bytes = holds_still before after means.0 same means.1.bytes; rules = means.1.rules }, means.2)
 
