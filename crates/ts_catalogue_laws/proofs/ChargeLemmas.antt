@@ -1,5 +1,5 @@
 -- What a series is charged, where its elements are as many as before, or fewer.
-use Rattle.std.proofs.Common.{◌≡◌, ℕ, ℤ, suc, ◌+◌, ◌-◌, ◌*◌, ◌/◌, ◌<◌, ◌≤◌, ◌==◌, Bool, true, false, cond, not, ◌&&◌, ◌||◌, Option, Some, None, List, [], ◌∷◌, ◌++◌, map, length, refl, sym, ap, ◌∙◌, subst, arith, append_assoc, IsTrue}
+use Rattle.std.proofs.Common.{◌≡◌, ℕ, ℤ, ◌+◌, ◌*◌, ◌/◌, ◌<◌, ◌≤◌, ◌==◌, Bool, true, false, cond, ◌||◌, Some, None, List, [], ◌∷◌, ◌++◌, map, length, refl, sym, ap, ◌∙◌, subst, arith, append_assoc, IsTrue}
 use Rattle.std.specs.List.{filter, list_any}
 use Rattle.std.specs.Cmp.{int_cmp_total}
 use Rattle.std.specs.Ordering.{int_cmp}
@@ -12,7 +12,7 @@ use Rattle.ts_row.specs.Row.{Row}
 use Rattle.ts_row.specs.RowType.{is_row_type, width_of}
 use Rattle.ts_space.specs.Charge.{distinct_count, regular_charge, irregular_charge}
 use Rattle.ts_space.proofs.ChargeLemmas.{charge_grows}
-use Rattle.ts_offset.specs.Grid.{GridPlan, starts_before}
+use Rattle.ts_offset.specs.Grid.{starts_before}
 use Rattle.ts_offset.specs.declared.shape.Shape.{Shape}
 use Rattle.ts_offset.specs.declared.shape.Shape.TheVariants.{Irregular, Regular}
 use Rattle.ts_model.specs.Catalogue.{Elements}

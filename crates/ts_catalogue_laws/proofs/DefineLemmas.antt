@@ -1,10 +1,10 @@
 -- A catalogue to which a definition of a new name comes, or from which one goes that nothing uses, is one.
-use Rattle.std.proofs.Common.{◌≡◌, ℕ, ℤ, ◌+◌, ◌-◌, ◌<◌, ◌≤◌, Bool, true, false, cond, ◌||◌, Option, Some, None, is_some, option_map, option_and_then, List, [], ◌∷◌, map, sum, refl, sym, ap, subst, ◌∙◌, arith, zero-add, IsTrue}
+use Rattle.std.proofs.Common.{◌≡◌, ℕ, ℤ, ◌+◌, ◌-◌, ◌<◌, ◌≤◌, Bool, true, false, cond, ◌||◌, Option, Some, None, is_some, option_map, option_and_then, List, [], ◌∷◌, map, refl, sym, ap, subst, ◌∙◌, arith, zero-add, IsTrue}
 use Rattle.std.specs.Option.{IsSome}
 use Rattle.std.specs.List.{list_any}
 use Rattle.std.specs.Str.{bytes_eq}
 use Rattle.std.specs.FinMap.{entries, get, insert, remove, len, values, len-remove, get-entries, find}
-use Rattle.std.specs.Ordering.{eq_by_cmp, is_eq}
+use Rattle.std.specs.Ordering.{eq_by_cmp}
 use Rattle.ts_base.specs.Name.{is_name}
 use Rattle.ts_row.specs.RowType.{Heading}
 use Rattle.ts_pattern.specs.Plan.{Plan}
@@ -16,15 +16,15 @@ use Rattle.ts_offset.specs.declared.shape.Shape.{Shape}
 use Rattle.ts_offset.specs.declared.shape.Shape.TheVariants as shapes
 use Rattle.ts_model.specs.declared.kind.Kind.{Kind}
 use Rattle.ts_model.specs.declared.kind.Kind.TheVariants as kinds
-use Rattle.ts_model.specs.Catalogue.{Named, name_cmp, Container, SeriesKind, Irregular, Regular, Series, Catalogue, pattern_of, with_plan, calendar_of, shape_of, columns_of, quotas}
+use Rattle.ts_model.specs.Catalogue.{Named, name_cmp, Container, Regular, Series, Catalogue, pattern_of, with_plan, calendar_of, shape_of, quotas}
 use Rattle.ts_model.specs.Charge.{series_charge, container_charge}
 use Rattle.ts_model.specs.Definitions.{limit}
-use Rattle.ts_model.specs.Kinds.{In, named, with_named, without, is_named, is_on_calendar, is_used, has_container, has_calendar, has_series, has_regular}
-use Rattle.ts_model.proofs.OrderLemmas.{total, same_name, eq_ties, ties-refl}
-use Rattle.ts_catalogue_laws.specs.Catalogue.{IsRowType, IsPattern, IsCalendar, IsContainer, IsSeries, IsCatalogue}
-use Rattle.ts_catalogue_laws.proofs.MapLemmas.{total_of, values_total, got_inserted, got_removed, others_inserted, others_removed, there_inserted, other_key, few_inserted, set_total, had_total, new_total, totals_same}
+use Rattle.ts_model.specs.Kinds.{named, with_named, without, is_named, is_on_calendar, is_used}
+use Rattle.ts_model.proofs.OrderLemmas.{total, same_name}
+use Rattle.ts_catalogue_laws.specs.Catalogue.{IsRowType, IsPattern, IsCalendar, IsContainer, IsCatalogue}
+use Rattle.ts_catalogue_laws.proofs.MapLemmas.{total_of, values_total, got_inserted, got_removed, others_inserted, others_removed, other_key, few_inserted, set_total, had_total, new_total, totals_same}
 use Rattle.ts_catalogue_laws.proofs.OnceLemmas.{once}
-use Rattle.ts_catalogue_laws.proofs.SameLemmas.{Same, there_is, series_stays, container_stays, charge_stays, charge_total, weight, bytes_same, same_bytes, charge_with, charge_had, charge_new, charge_without}
+use Rattle.ts_catalogue_laws.proofs.SameLemmas.{Same, there_is, series_stays, container_stays, charge_total, weight, bytes_same, same_bytes, charge_had, charge_new, charge_without}
 
 -- one that passes a test is among the values
 passes_found : {X : Type 0} (test : X → Bool) (q : List ℕ) (v : X) (es : List (List ℕ × X)) → find name_cmp q es ≡ Some v → test v ≡ true → list_any test (map (λ e. e.1) es) ≡ true

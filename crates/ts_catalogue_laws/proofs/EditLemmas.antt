@@ -1,28 +1,28 @@
 -- A catalogue of which one series has other elements is one, where these fit and the charges stay within the quotas.
-use Rattle.std.proofs.Common.{◌≡◌, ℕ, ℤ, ◌+◌, ◌<◌, ◌≤◌, Bool, true, false, cond, not, Option, Some, None, is_some, option_map, unwrap_or, List, refl, sym, ap, subst, ◌∙◌, arith, zero-add, IsTrue}
+use Rattle.std.proofs.Common.{◌≡◌, ℕ, ℤ, ◌+◌, ◌<◌, ◌≤◌, Bool, true, false, cond, Option, Some, None, option_map, unwrap_or, List, refl, sym, ap, subst, ◌∙◌, arith, zero-add, IsTrue}
 use Rattle.std.specs.Option.{IsSome}
 use Rattle.std.specs.Str.{bytes_eq}
 use Rattle.std.specs.Cmp.{int_cmp_total}
-use Rattle.std.specs.Ordering.{eq_by_cmp, int_cmp}
-use Rattle.std.specs.FinMap.{entries, empty, get, get-empty, insert, remove, get-remove, len, int_cmp-IsAntisymmetric}
+use Rattle.std.specs.Ordering.{int_cmp}
+use Rattle.std.specs.FinMap.{empty, get, get-empty, insert, len, int_cmp-IsAntisymmetric}
 use Rattle.ts_base.specs.Moment.{IsStamp}
 use Rattle.ts_base.specs.Name.{is_key}
-use Rattle.ts_row.specs.Row.{Row, fits, marked}
+use Rattle.ts_row.specs.Row.{Row, fits}
 use Rattle.ts_offset.specs.declared.shape.Shape.{Shape}
 use Rattle.ts_model.specs.declared.kind.Kind.{Kind}
 use Rattle.ts_model.specs.declared.kind.Kind.TheVariants as kinds
-use Rattle.ts_model.specs.Catalogue.{Named, Container, Elements, Series, Catalogue, old_format, shape_of, columns_of, quota_of}
-use Rattle.ts_model.specs.Charge.{page_elements, elements_charge, series_charge, container_charge}
+use Rattle.ts_model.specs.Catalogue.{Container, Elements, Series, Catalogue, old_format, shape_of, columns_of, quota_of}
+use Rattle.ts_model.specs.Charge.{elements_charge, series_charge, container_charge}
 use Rattle.ts_model.specs.Definitions.{limit}
 use Rattle.ts_model.specs.Kinds.{named, with_named}
 use Rattle.ts_model.proofs.OrderLemmas.{total, same_name}
 use Rattle.ts_answer.specs.Elements.{with_elements}
 use Rattle.ts_answer_laws.specs.ReadingLaws.{CanStand}
-use Rattle.ts_catalogue_laws.specs.Catalogue.{IsContainer, IsSeries, IsCatalogue, EachElement, HasOrigin}
-use Rattle.ts_catalogue_laws.proofs.MapLemmas.{got_inserted, few_inserted, len_stays, tied}
+use Rattle.ts_catalogue_laws.specs.Catalogue.{IsSeries, IsCatalogue, EachElement, HasOrigin}
+use Rattle.ts_catalogue_laws.proofs.MapLemmas.{got_inserted, few_inserted, len_stays}
 use Rattle.ts_catalogue_laws.proofs.OnceLemmas.{once, rising}
 use Rattle.ts_catalogue_laws.proofs.ChargeLemmas.{charged_less, charged_same, charged_none}
-use Rattle.ts_catalogue_laws.proofs.SameLemmas.{there_is, weight, same_bytes, others, charge_with, charge_had, charge_new, charge_shaped, columns_roomy, quota_there}
+use Rattle.ts_catalogue_laws.proofs.SameLemmas.{same_bytes, others, charge_with, charge_had, charge_new, charge_shaped, columns_roomy, quota_there}
 
 pub one_of : {X : Type 0} (o : Option X) (a b : X) → o ≡ Some a → o ≡ Some b → a ≡ b
 one_of o a b one other = let same = sym one ∙ other in cc

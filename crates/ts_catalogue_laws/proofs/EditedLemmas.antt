@@ -1,6 +1,6 @@
 -- What accepted edits put and marked, and where.
 use Rattle.std.specs.Prelude.{AllPairs, int_lt}
-use Rattle.std.proofs.Common.{◌≡◌, ◌⊎◌, ℕ, ℤ, pos, ◌+ℤ◌, ◌-ℤ◌, ◌*ℤ◌, ◌≤ℤ◌, ◌<ℤ◌, ◌+◌, ◌-◌, ◌<◌, ◌≤◌, Bool, true, false, cond, Option, Some, None, is_some, option_map, option_and_then, Ok, Err, List, [], ◌∷◌, length, slice_get, get_or, refl, sym, ap, subst, ◌∙◌, arith, inl, inr}
+use Rattle.std.proofs.Common.{◌≡◌, ◌⊎◌, ℕ, ℤ, pos, ◌+ℤ◌, ◌-ℤ◌, ◌*ℤ◌, ◌≤ℤ◌, ◌<ℤ◌, ◌-◌, ◌<◌, Bool, true, false, cond, Option, Some, None, is_some, option_map, option_and_then, Ok, Err, List, length, slice_get, get_or, refl, sym, ap, subst, ◌∙◌, arith, inl, inr}
 use Rattle.std.proofs.lemmas.Int.{ints}
 use Rattle.std.proofs.lemmas.Bool.{cases_lt}
 use Rattle.std.proofs.lemmas.List.Kept.{AllPairs-filter}
@@ -8,19 +8,17 @@ use Rattle.std.specs.Int.{int_div_euclid}
 use Rattle.std.specs.Cmp.{int_cmp_total}
 use Rattle.std.specs.FinMap.{entries, get, insert, get-entries, int_cmp-IsAntisymmetric}
 use Rattle.jiff_core.proofs.SignedLemmas.{signed_arith, int_div_euclid-parts}
-use Rattle.ts_base.specs.declared.refusal.Refusal.{Refusal}
 use Rattle.ts_base.specs.declared.refusal.Refusal.TheVariants as refusals
 use Rattle.ts_row.specs.declared.value.Literal.{Literal}
-use Rattle.ts_row.specs.Row.{Row, row_of, marked}
+use Rattle.ts_row.specs.Row.{Row, marked}
 use Rattle.ts_row.specs.Element.{Element}
-use Rattle.ts_calendar.specs.Plan.{CalendarPlan}
 use Rattle.ts_calendar.proofs.StampLemmas.{int_lt_yes, int_lt-false, int_lt-true}
 use Rattle.ts_offset.specs.Grid.{GridPlan, held_start}
 use Rattle.ts_offset.specs.declared.shape.Shape.{Shape}
 use Rattle.ts_offset.specs.declared.shape.Shape.TheVariants as shapes
 use Rattle.ts_offset.proofs.OwnLemmas.{from-held}
-use Rattle.ts_irregular.specs.Edit.{element_at, last_of}
-use Rattle.ts_chain.specs.Placing.{earlier, last_before, next_second, unit_after, place_for, placed}
+use Rattle.ts_irregular.specs.Edit.{last_of}
+use Rattle.ts_chain.specs.Placing.{earlier, last_before, next_second, unit_after, place_for}
 use Rattle.ts_command.specs.declared.command.Command.{Command}
 use Rattle.ts_command.specs.declared.command.Command.TheVariants as commands
 use Rattle.ts_model.specs.declared.kind.Kind.TheVariants as kinds

@@ -1,58 +1,36 @@
 -- What Union and Intersect list.
 use Rattle.std.specs.Prelude.{All, AllPairs, Contains, int_lt}
-use Rattle.std.proofs.Common.{◌≡◌, ◌⊎◌, ℕ, zero, suc, ℤ, pos, negsuc, ◌+ℤ◌, ◌≤ℤ◌, ◌<ℤ◌, ◌+◌, ◌-◌, ◌%◌, ◌<◌, ◌≤◌, nat_lt, Bool, true, false, cond, not, ◌&&◌, ◌||◌, T, Option, Some, None, is_some, option_map, option_and_then, Ok, Err, List, [], ◌∷◌, ◌++◌, map, length, filter_map, slice_get, get_or, refl, sym, ap, subst, ◌∙◌, arith, inl, inr}
+use Rattle.std.proofs.Common.{◌≡◌, ℕ, zero, suc, ℤ, ◌≤ℤ◌, ◌<ℤ◌, ◌<◌, nat_lt, Bool, true, false, cond, not, ◌&&◌, Option, Some, None, option_and_then, Ok, Err, List, [], ◌∷◌, ◌++◌, length, filter_map, slice_get, get_or, refl, sym, ap, subst, ◌∙◌, arith, inl, inr}
 use Rattle.std.specs.List.{filter, cons_option}
-use Rattle.std.specs.Int.{int_max}
-use Rattle.std.proofs.lemmas.Int.{ints, clamps}
+use Rattle.std.proofs.lemmas.Int.{ints}
 use Rattle.std.proofs.lemmas.Bool.{and_parts}
 use Rattle.std.proofs.lemmas.List.Kept.{AllPairs-cons, AllPairs-filter}
 use Rattle.std.specs.Cmp.{int_cmp_total, tied_itself}
 use Rattle.std.specs.declared.cmp.Ordering.{Ordering}
 use Rattle.std.specs.Ordering.{eq_by_cmp, int_cmp, is_eq}
-use Rattle.std.specs.FinMap.{FinMap, entries, find, get, get-entries, get-from_entries, int_cmp-IsAntisymmetric}
+use Rattle.std.specs.FinMap.{entries, find, int_cmp-IsAntisymmetric}
 use Rattle.ts_base.specs.Moment.{IsStamp}
-use Rattle.ts_base.specs.declared.unit.Unit as unit
-use Rattle.ts_base.specs.declared.refusal.Refusal.{Refusal}
 use Rattle.ts_base.specs.declared.refusal.Refusal.TheVariants as refusals
 use Rattle.ts_row.specs.Row.{Row, visible}
-use Rattle.ts_row.specs.Element.{Element, seen}
+use Rattle.ts_row.specs.Element.{Element}
 use Rattle.ts_pattern.specs.declared.junction.Junction.{Junction}
-use Rattle.ts_pattern.specs.declared.junction.Junction.TheVariants.{And, Or}
-use Rattle.ts_pattern.specs.Runs.{flag}
-use Rattle.ts_pattern.specs.Units.{smaller_unit}
-use Rattle.ts_pattern.proofs.RunLemmas.{lt_yes}
-use Rattle.ts_calendar.specs.Plan.{CalendarPlan}
-use Rattle.ts_calendar.specs.Calendar.{common_grid}
-use Rattle.ts_calendar.specs.Intervals.{IsEarly, IsLaid, start_in, start_at, is_on, starts_from}
-use Rattle.ts_calendar.specs.declared.grid.CommonGrid.{CommonGrid}
-use Rattle.ts_calendar.proofs.JoinedLemmas.{grid-parts}
-use Rattle.ts_calendar.proofs.LawLemmas.{steps-lead}
+use Rattle.ts_calendar.specs.Intervals.{IsLaid}
 use Rattle.ts_calendar.proofs.StampLemmas.{int_lt_no, int_lt-false}
-use Rattle.ts_calendar.proofs.ValidLemmas.{early-smaller}
-use Rattle.ts_offset.specs.Walk.{IsOnStart, on_starts}
-use Rattle.ts_offset.specs.Counting.{starts_between}
-use Rattle.ts_offset.specs.Grid.{GridPlan, IsHeldFrom, held_start}
+use Rattle.ts_offset.specs.Grid.{GridPlan, held_start}
 use Rattle.ts_offset.specs.declared.shape.Shape.{Shape}
-use Rattle.ts_offset.specs.declared.shape.Shape.TheVariants as shapes
-use Rattle.ts_offset.proofs.ListedLemmas.{listed-start, start-listed, listed-rise}
 use Rattle.ts_offset.proofs.OwnLemmas.{held-from, from-held}
 use Rattle.ts_irregular.specs.Edit.{element_at}
 use Rattle.ts_entry.specs.Reading.{most_rows, within_rows}
-use Rattle.ts_combine.specs.Combine.{Side, by_stamp, merged_stamps, stamps_between, every_start, row_around, values_or_nulls, is_kept, joined_at, rows_on, rows_there, joined_there, joined_on, joined_of, joined}
-use Rattle.ts_command.specs.declared.command.Command.TheVariants as commands
-use Rattle.ts_model.specs.Catalogue.{SeriesKind, Irregular, Regular, Series, Catalogue, columns_of, shape_of}
-use Rattle.ts_answer.specs.Answer.{Answered, Tried, outcome, carried_out, wanted, known, join_series}
+use Rattle.ts_combine.specs.Combine.{Side, row_around, values_or_nulls, is_kept, joined_at}
+use Rattle.ts_model.specs.Catalogue.{Series, Catalogue, columns_of}
+use Rattle.ts_answer.specs.Answer.{Answered, Tried}
 use Rattle.ts_answer.specs.Elements.{a_side, seen_elements}
 use Rattle.ts_answer.specs.Reply.{elements_text}
-use Rattle.ts_answer.proofs.CallerLemmas.{on_ok, wanted-there}
-use Rattle.ts_answer_laws.specs.ReadingLaws.{IsSeenAt, HasSeen, HasLaidCalendar, OneIsIrregular}
-use Rattle.ts_catalogue_laws.specs.Catalogue.{IsCatalogue}
-use Rattle.ts_catalogue_laws.specs.JoinLaws.{SeenAt, SeenAround, row_of_both, AreBoth, ListsBoth, IsCommonStart, ListsByStamps, ListsByStarts, SpreadsFirst, SpreadsSecond, UnitesGrids, LieOnGrids, BothAreRegular, JoinsListBoth}
+use Rattle.ts_answer_laws.specs.ReadingLaws.{IsSeenAt, HasSeen}
+use Rattle.ts_catalogue_laws.specs.JoinLaws.{SeenAt, SeenAround, row_of_both, ListsBoth}
 use Rattle.ts_catalogue_laws.proofs.MapLemmas.{tied}
 use Rattle.ts_catalogue_laws.proofs.OnceLemmas.{rising}
-use Rattle.ts_catalogue_laws.proofs.ListLemmas.{Among, one_of, entry_found, found_listed, found_among, among_filter, among_filtered, among_mapped, among_place, place_among, at_place, place_filtered}
-use Rattle.ts_catalogue_laws.proofs.StampLemmas.{start_stamp}
-use Rattle.ts_catalogue_laws.proofs.CommandLemmas.{came, known_is, shape_laid}
+use Rattle.ts_catalogue_laws.proofs.ListLemmas.{Among, entry_found, found_listed, found_among, among_filter, among_filtered, among_mapped, among_place, place_among, at_place, place_filtered}
 
 pub same_answer : (a b : Answered) → let left : Tried Answered = Ok a in left ≡ Ok b → b ≡ a
 same_answer a b is = cc

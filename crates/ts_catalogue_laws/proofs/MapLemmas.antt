@@ -1,7 +1,7 @@
 -- Maps: what stands under a key after a change, sums over what they have, and their keys.
 use Rattle.std.specs.Prelude.{All, AllPairs}
-use Rattle.std.proofs.Common.{◌≡◌, ◌≢◌, ℕ, suc, ◌+◌, ◌-◌, ◌<◌, ◌≤◌, Bool, true, false, cond, ◌&&◌, T, Option, Some, None, is_some, List, [], ◌∷◌, map, sum, length, refl, sym, ap, ◌∙◌, subst, arith, zero-add, inl, inr}
-use Rattle.std.specs.List.{filter, list_any}
+use Rattle.std.proofs.Common.{◌≡◌, ℕ, ◌+◌, ◌<◌, ◌≤◌, Bool, true, false, cond, ◌&&◌, T, Option, Some, None, is_some, List, [], ◌∷◌, map, sum, refl, sym, ap, ◌∙◌, subst, arith, zero-add}
+use Rattle.std.specs.List.{filter}
 use Rattle.std.proofs.lemmas.List.Sums.{sum_by-cons}
 use Rattle.std.proofs.lemmas.List.Elements.{All-nil, All-cons}
 use Rattle.std.proofs.lemmas.List.Kept.{AllPairs-cons}
@@ -144,7 +144,7 @@ module _ {K X : Type 0} {R : K → K → Ordering} (o : IsTotalOrder R) (same : 
   total_same w u (e ∷ es) sorted alike =
       let here : w e.1 ≡ u e.1 = alike e.0 e.1 (ap (λ (r : Ordering). cond (is_eq r) (Some e.1) (find R e.0 es)) (tied_itself o e.0)) in
       let rest : total_of w es ≡ total_of u es = total_same w u es (second _ _ sorted) (λ q x there. alike q x (found_behind e es q x (first _ _ sorted) there)) in
-      omega (arith, here, rest)
+      ap (λ (n : ℕ). n + total_of w es) here ∙ ap (λ (n : ℕ). u e.1 + n) rest
 
   pub totals_same : (w u : X → ℕ) (m : FinMap R X) → ((q : K) (x : X) → get m q ≡ Some x → w x ≡ u x) → total_of w (entries m) ≡ total_of u (entries m)
   totals_same w u m alike = total_same w u (entries m) (entries_sorted m) (λ q x there. alike q x (get-entries m q ∙ there))

@@ -1,5 +1,5 @@
 -- What a layout is laid out from means a catalogue.
-use Rattle.std.proofs.Common.{◌≡◌, ℕ, zero, suc, ℤ, ◌+◌, ◌<◌, ◌≤◌, ◌==◌, Bool, true, false, cond, not, T, Option, Some, None, List, [], ◌∷◌, length, slice_get, filter, refl, sym, ap, subst, ◌∙◌, arith, inl, inr, IsTrue, int_lt, ◌<ℤ◌, ◌≤ℤ◌}
+use Rattle.std.proofs.Common.{◌≡◌, ℕ, zero, suc, ℤ, ◌+◌, ◌<◌, ◌≤◌, ◌==◌, Bool, true, false, cond, not, Option, Some, None, List, [], ◌∷◌, length, slice_get, refl, sym, ap, subst, ◌∙◌, arith, inl, inr, IsTrue, int_lt}
 use Rattle.std.specs.Option.{is_some, IsSome, option_map, option_and_then, unwrap_or}
 use Rattle.std.proofs.lemmas.Bool.Decides.{nat_tests}
 use Rattle.std.specs.Ordering.{int_cmp}
@@ -12,9 +12,7 @@ use Rattle.ts_row.specs.RowType.{Heading}
 use Rattle.ts_row.specs.Row.{Row, fits, fits as fits_row}
 use Rattle.ts_row.specs.Element.{Element}
 use Rattle.ts_pattern.specs.Plan.{Plan}
-use Rattle.ts_calendar.specs.Plan.{CalendarPlan}
 use Rattle.ts_calendar.specs.declared.text.CalendarText.{CalendarText}
-use Rattle.ts_calendar.specs.Intervals.{IsLaid}
 use Rattle.ts_calendar.proofs.StampLemmas.{int_lt-false}
 use Rattle.ts_offset.specs.declared.shape.Shape.{Shape}
 use Rattle.ts_offset.specs.declared.shape.Shape.TheVariants.{Irregular, Regular}
@@ -24,21 +22,21 @@ use Rattle.ts_offset.proofs.ListedLemmas.{start-listed}
 use Rattle.ts_offset.proofs.StartLemmas.{on-line}
 use Rattle.ts_cells.specs.Cell.{IsElement, page_room}
 use Rattle.ts_cells.specs.IrregularPage.{AreElements}
-use Rattle.ts_regular.specs.Cell.{Cell, FitsCell}
+use Rattle.ts_regular.specs.Cell.{Cell}
 use Rattle.ts_regular.specs.Offsets.{OffsetElement, elements_from}
 use Rattle.ts_regular.specs.RegularPage.{AreCells}
 use Rattle.ts_regular_edits.specs.Stamped.{stamped_one}
 use Rattle.ts_model.specs.declared.kind.Kind.{Kind}
 use Rattle.ts_model.specs.declared.kind.Kind.TheVariants as kinds
 use Rattle.ts_model.specs.declared.def.Def.{Def}
-use Rattle.ts_model.specs.Catalogue.{Container, Series, Catalogue, calendar_of, shape_of as shape_by_name, columns_of, quotas}
+use Rattle.ts_model.specs.Catalogue.{Container, Series, Catalogue, calendar_of, shape_of as shape_by_name, columns_of}
 use Rattle.ts_model.specs.Charge.{container_charge}
 use Rattle.ts_model.specs.Format.{KeepsFormat}
 use Rattle.ts_model.specs.Kinds.{In, named}
-use Rattle.ts_model.specs.Definitions.{Definitions, RowTypeDef, CalendarDef, ContainerDef, SeriesDef, KindDef, to_def, name_in, kind_of, limit, slots, table_of, at_slot, vacant_slot}
+use Rattle.ts_model.specs.Definitions.{Definitions, RowTypeDef, CalendarDef, SeriesDef, KindDef, to_def, limit, slots, table_of, at_slot, vacant_slot}
 use Rattle.ts_layout.specs.Limits.{IsDef, IsSlotOf}
 use Rattle.ts_layout.specs.Sheets.{Sheet, FillSheet}
-use Rattle.ts_layout.specs.Meaning.{ElementPage, Free, Cells, Layout, element_page, elements_on, elements_of, elements_at, heading_at, heading_of_container, grid_in, shape_of, shape_at, HoldsLayout, IsSound, IsLaidOut, Means, def_at, value_of, charge_of_container, series_of, container_of, text_of, catalogue_of}
+use Rattle.ts_layout.specs.Meaning.{ElementPage, Free, Cells, Layout, element_page, elements_on, elements_of, elements_at, heading_at, heading_of_container, grid_in, shape_of, shape_at, HoldsLayout, IsSound, Means, value_of, charge_of_container, series_of, container_of, text_of, catalogue_of}
 use Rattle.ts_layout.specs.Chains.{AreFilled, IsFilledFor}
 use Rattle.ts_layout.specs.Lookup.{IsNamedAt}
 use Rattle.ts_layout.specs.Laws.{NamesStandInSlots, ReferencesAreNames, SlotsAreCounted}
@@ -47,8 +45,7 @@ use Rattle.ts_layout.specs.ChargeLaws.{ChargesFollowPlaces}
 use Rattle.ts_layout.specs.FormatLaws.{CataloguesKeepFormats}
 use Rattle.ts_layout.proofs.CallerLemmas.{laid_at}
 use Rattle.ts_answer_laws.specs.ReadingLaws.{CanStand}
-use Rattle.ts_volume.specs.Volume.{MeansCatalogue}
-use Rattle.ts_catalogue_laws.specs.Catalogue.{IsRowType, IsPattern, IsCalendar, IsContainer, IsSeries, IsCatalogue, HasOrigin, EachElement}
+use Rattle.ts_catalogue_laws.specs.Catalogue.{IsRowType, IsPattern, IsCalendar, IsContainer, IsSeries, IsCatalogue, HasOrigin}
 use Rattle.ts_catalogue_laws.specs.Laws.{VolumesMeanCatalogues}
 use Rattle.ts_catalogue_laws.proofs.ListLemmas.{Among, one_of, mapped, place_filtered, among_joined, among_mapped, found_among, within_table}
 use Rattle.ts_catalogue_laws.proofs.OnceLemmas.{once, rising}

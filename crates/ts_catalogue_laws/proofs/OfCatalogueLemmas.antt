@@ -1,9 +1,7 @@
 -- The laws of answers on catalogues.
-use Rattle.std.proofs.Common.{◌≡◌, ℕ, ℤ, pos, ◌≤ℤ◌, Option, Some, None, option_map, option_and_then, unwrap_or, Ok, Err, List, [], refl, sym, ap, subst, ◌∙◌}
+use Rattle.std.proofs.Common.{◌≡◌, ℕ, ℤ, Option, Some, None, option_map, option_and_then, Ok, Err, List, refl, sym, ap, ◌∙◌}
 use Rattle.std.specs.FinMap.{get}
-use Rattle.ts_base.specs.Moment.{IsStamp}
 use Rattle.ts_base.specs.declared.refusal.Refusal.TheVariants as refusals
-use Rattle.ts_row.specs.RowType.{Heading}
 use Rattle.ts_row.specs.Element.{Element}
 use Rattle.ts_calendar.specs.Plan.{CalendarPlan}
 use Rattle.ts_offset.specs.Grid.{GridPlan}
@@ -12,8 +10,8 @@ use Rattle.ts_offset.specs.declared.shape.Shape.TheVariants as shapes
 use Rattle.ts_expr.specs.Grammar.{read_list}
 use Rattle.ts_combine.specs.Lag.{lagged}
 use Rattle.ts_command.specs.declared.command.Command.TheVariants as commands
-use Rattle.ts_model.specs.Catalogue.{Container, SeriesKind, Irregular, Regular, Series, Catalogue, calendar_named, shape_of, heading_of, columns_of}
-use Rattle.ts_answer.specs.Answer.{Answered, Tried, ◌>>=◌, outcome, carried_out, wanted, known, a_calendar, a_new_name, join_calendars, create_regular, aggregate_by, lag_series, addressed, an_address}
+use Rattle.ts_model.specs.Catalogue.{Container, SeriesKind, Irregular, Regular, Series, Catalogue, calendar_named, shape_of}
+use Rattle.ts_answer.specs.Answer.{Answered, Tried, outcome, carried_out, wanted, known, a_calendar, join_calendars, create_regular, aggregate_by, lag_series}
 use Rattle.ts_answer.specs.Elements.{seen_elements}
 use Rattle.ts_answer.proofs.CallerLemmas.{on_ok, wanted-there}
 use Rattle.ts_answer_laws.specs.Laws.{MadeCalendarsAreValid}
@@ -21,7 +19,7 @@ use Rattle.ts_answer_laws.specs.ReadingLaws.{HasLaidCalendar, ClipsListEntries, 
 use Rattle.ts_answer_laws.specs.SeriesLaws.{StampsAddressIntervals, OriginsAreOnStarts, SeriesKeepTheirShapes}
 use Rattle.ts_answer_laws.specs.AggregateLaws.{IntervalsAreListed}
 use Rattle.ts_catalogue_laws.specs.Catalogue.{IsCatalogue}
-use Rattle.ts_catalogue_laws.specs.OfCatalogues.{HasAll, ReferencesAreThere, Lies, LiesOnGrid, IsNamed, ClipsOfCatalogues, NumbersOfCatalogues, LagsOfCatalogues, CountedClipsOfCatalogues, IntervalsOfCatalogues, LeadsToIntervals, AddressesOfCatalogues, OriginsOfCatalogues, JoinsOfCatalogues, ShapesOfCatalogues}
+use Rattle.ts_catalogue_laws.specs.OfCatalogues.{ReferencesAreThere, ClipsOfCatalogues, NumbersOfCatalogues, LagsOfCatalogues, CountedClipsOfCatalogues, IntervalsOfCatalogues, AddressesOfCatalogues, OriginsOfCatalogues, JoinsOfCatalogues, ShapesOfCatalogues}
 use Rattle.ts_catalogue_laws.proofs.ListLemmas.{one_of}
 use Rattle.ts_catalogue_laws.proofs.SameLemmas.{has_columns, quota_there}
 use Rattle.ts_catalogue_laws.proofs.CommandLemmas.{came, known_is, plan_named, shape_laid}

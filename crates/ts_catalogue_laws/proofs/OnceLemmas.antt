@@ -1,14 +1,13 @@
 -- Names and stamps rise, so none stands twice.
 use Rattle.std.specs.Prelude.{AllPairs}
-use Rattle.std.proofs.Common.{◌≡◌, ℕ, ℤ, ◌<◌, ◌<ℤ◌, T, List, length, sym, subst, get_or}
+use Rattle.std.proofs.Common.{◌≡◌, ℤ, ◌<ℤ◌, subst, get_or}
 use Rattle.std.specs.Ordering.{MatchOrdering, int_cmp}
 use Rattle.std.specs.Cmp.{int_cmp_total, int_ranks}
 use Rattle.std.specs.declared.cmp.Ordering.{Ordering}
 use Rattle.std.specs.declared.cmp.Ordering.TheVariants.{Less}
-use Rattle.std.specs.FinMap.{IsAntisymmetric, entries, int_cmp-IsAntisymmetric}
-use Rattle.ts_row.specs.Row.{Row}
-use Rattle.ts_model.specs.Catalogue.{Named, Elements, Catalogue, name_cmp}
-use Rattle.ts_model.specs.Kinds.{In, named}
+use Rattle.std.specs.FinMap.{entries, int_cmp-IsAntisymmetric}
+use Rattle.ts_model.specs.Catalogue.{Elements, Catalogue}
+use Rattle.ts_model.specs.Kinds.{named}
 use Rattle.ts_model.specs.declared.kind.Kind.{Kind}
 use Rattle.ts_model.proofs.OrderLemmas.{total, same_name}
 use Rattle.ts_catalogue_laws.specs.Catalogue.{AreOnce}

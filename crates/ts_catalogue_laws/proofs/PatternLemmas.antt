@@ -1,6 +1,6 @@
 -- What is read or made as a pattern has merged runs within the limits; what is read or made as a calendar has such a
 -- pattern, and starts at stamps.
-use Rattle.std.proofs.Common.{◌≡◌, ℕ, ◌+◌, ◌-◌, ◌<◌, ◌≤◌, nat_lt, Bool, true, false, cond, ◌&&◌, Option, Some, None, Ok, Err, List, [], ◌∷◌, length, map, refl, sym, ap, subst, ◌∙◌, arith, ℤ, pos, ◌-ℤ◌, IsTrue}
+use Rattle.std.proofs.Common.{◌≡◌, ℕ, ◌+◌, ◌<◌, ◌≤◌, nat_lt, Bool, true, false, cond, Option, Some, None, Ok, Err, List, [], ◌∷◌, length, map, refl, ap, subst, ◌∙◌, arith, ℤ, pos, ◌-ℤ◌, IsTrue}
 use Rattle.std.specs.List.{list_all}
 use Rattle.std.specs.Prelude.{Result, int_lt}
 use Rattle.std.specs.Int.{int_max}
@@ -10,18 +10,17 @@ use Rattle.ts_base.specs.Moment.{IsStamp}
 use Rattle.ts_base.specs.StampText.{number_of}
 use Rattle.ts_base.specs.declared.unit.Unit as unit
 use Rattle.ts_base.specs.declared.refusal.Refusal.{Refusal}
-use Rattle.ts_base.specs.declared.refusal.Refusal.TheVariants.{BadCalendar, AllOff, UnitMismatch, NotAligned, PastEnd, PatternTooLong}
+use Rattle.ts_base.specs.declared.refusal.Refusal.TheVariants.{AllOff, UnitMismatch, NotAligned, PastEnd, PatternTooLong}
 use Rattle.ts_pattern.specs.declared.run.Run.{Run}
 use Rattle.ts_pattern.specs.declared.junction.Junction.{Junction}
 use Rattle.ts_pattern.specs.Plan.{Plan}
-use Rattle.ts_pattern.specs.Runs.{run, total, flag_at, runs_of, turned, is_pattern, has_on}
+use Rattle.ts_pattern.specs.Runs.{total, flag_at, runs_of, turned, is_pattern, has_on}
 use Rattle.ts_pattern.specs.Units.{smaller_unit}
 use Rattle.ts_pattern.specs.Algebra.{plan_of_flags, joined_flag, joined_length, joined_in, joined_plan}
 use Rattle.ts_pattern.specs.Grammar.{is_count, written_plan, plan_of_written, plan_or_place, read_plan}
-use Rattle.ts_pattern.specs.Spelling.{Word, run_of, AreRuns, IsPatternText}
+use Rattle.ts_pattern.specs.Spelling.{Word, run_of, AreRuns}
 use Rattle.ts_pattern.proofs.RunLemmas.{total-cons}
 use Rattle.ts_pattern.proofs.GrowLemmas.{is_pattern-runs_of}
-use Rattle.ts_pattern.proofs.PlanLemmas.{plan-is}
 use Rattle.ts_pattern.proofs.TurnLemmas.{is_pattern-turned}
 use Rattle.ts_pattern.proofs.MultipleLemmas.{least-positive}
 use Rattle.ts_pattern.proofs.PatternTextLemmas.{found as pattern_found}
@@ -29,9 +28,9 @@ use Rattle.ts_calendar.specs.declared.text.PatternPart.{PatternPart}
 use Rattle.ts_calendar.specs.declared.text.PatternPart.TheVariants.{Named, Own}
 use Rattle.ts_calendar.specs.declared.text.CalendarText.{CalendarText}
 use Rattle.ts_calendar.specs.Plan.{CalendarPlan}
-use Rattle.ts_calendar.specs.Intervals.{IsEarly, IsLaid, start_in}
+use Rattle.ts_calendar.specs.Intervals.{IsLaid, start_in}
 use Rattle.ts_calendar.specs.Calendar.{steps_between, first_step, found_or, with_pattern, joined_calendar}
-use Rattle.ts_calendar.specs.Text.{calendar_text, written_calendar, own_part, part_of_written, with_part, calendar_of_written, calendar_or_place, read_calendar}
+use Rattle.ts_calendar.specs.Text.{calendar_text, written_calendar, own_part, part_of_written, with_part, calendar_or_place, read_calendar}
 use Rattle.ts_calendar.specs.Spelling.{IsPart, IsCalendarText}
 use Rattle.ts_calendar.proofs.TextLemmas.{found as calendar_found}
 use Rattle.ts_calendar.proofs.ValidLemmas.{early-smaller}

@@ -1,22 +1,18 @@
 -- A run keeps catalogues, and a store that holds nothing is one.
 use Rattle.std.proofs.Common.{◌≡◌, ℕ, ◌≤◌, Option, Some, None, Ok, Err, List, [], ◌∷◌, map, sum, length, refl, sym, ap, subst, ◌∙◌, arith}
 use Rattle.std.specs.Prelude.{IfSome}
-use Rattle.std.specs.FinMap.{empty, entries, get, get-empty, len, len-empty, len-entries, values}
-use Rattle.ts_base.specs.declared.refusal.Refusal.{Refusal}
-use Rattle.ts_base.specs.declared.refusal.Refusal.TheVariants as refusals
-use Rattle.ts_page.specs.Volume.{most_element_pages}
+use Rattle.std.specs.FinMap.{empty, entries, get, get-empty, len, len-empty, len-entries}
 use Rattle.ts_command.specs.Boundary.{boundary_of}
 use Rattle.ts_command.specs.declared.boundary.Boundary.{Boundary}
 use Rattle.ts_command.specs.declared.boundary.Boundary.TheVariants.{Opens, Commits, RollsBack}
 use Rattle.ts_command.specs.declared.command.Command.{Command}
-use Rattle.ts_command.specs.Script.{Request}
 use Rattle.ts_model.specs.declared.kind.Kind.{Kind}
 use Rattle.ts_model.specs.declared.kind.Kind.TheVariants as kinds
-use Rattle.ts_model.specs.Catalogue.{Container, Named, Catalogue, name_cmp, empty_catalogue, quotas}
-use Rattle.ts_model.specs.Definitions.{IsFormat, limit}
+use Rattle.ts_model.specs.Catalogue.{Container, Catalogue, name_cmp, empty_catalogue, quotas}
+use Rattle.ts_model.specs.Definitions.{limit}
 use Rattle.ts_model.specs.Kinds.{In, named}
 use Rattle.ts_answer.specs.Answer.{Answered, Tried, ◌>>=◌, settled, outcome, answer}
-use Rattle.ts_answer.specs.State.{State, Transaction, resting, opened, begun, outside, inside, carried_out_in, within_transaction, counted, run_outcome, run_answer}
+use Rattle.ts_answer.specs.State.{State, Transaction, begun, outside, inside, carried_out_in, run_outcome, run_answer}
 use Rattle.ts_catalogue_laws.specs.Catalogue.{IsCatalogue}
 use Rattle.ts_catalogue_laws.specs.Commands.{IsFormed}
 use Rattle.ts_catalogue_laws.specs.Laws.{AnswersKeepCatalogues, EmptyStoresAreCatalogues, HasCatalogues, RunsKeepCatalogues}

@@ -1,17 +1,16 @@
 -- Where what a catalogue's series, containers and calendars refer to stays, they are what they were.
-use Rattle.std.proofs.Common.{◌≡◌, ℕ, ℤ, ◌+◌, ◌<◌, ◌≤◌, Bool, true, false, cond, Option, Some, None, is_some, option_map, option_and_then, unwrap_or, List, [], map, sum, refl, sym, ap, subst, ◌∙◌, arith, IsTrue}
+use Rattle.std.proofs.Common.{◌≡◌, ℕ, ℤ, ◌+◌, ◌<◌, true, cond, Option, Some, None, option_map, option_and_then, unwrap_or, List, [], refl, sym, ap, subst, ◌∙◌}
 use Rattle.std.specs.Option.{IsSome}
 use Rattle.std.specs.Str.{bytes_eq}
 use Rattle.std.specs.Ordering.{eq_by_cmp}
-use Rattle.std.specs.FinMap.{entries, get, insert, remove}
-use Rattle.ts_row.specs.RowType.{Heading, is_row_type}
+use Rattle.std.specs.FinMap.{entries, get, remove}
+use Rattle.ts_row.specs.RowType.{Heading}
 use Rattle.ts_row.specs.declared.kind.Column.{Column}
 use Rattle.ts_calendar.specs.Plan.{CalendarPlan}
 use Rattle.ts_calendar.specs.declared.text.CalendarText.{CalendarText}
-use Rattle.ts_offset.specs.Grid.{GridPlan}
 use Rattle.ts_offset.specs.declared.shape.Shape.{Shape}
 use Rattle.ts_offset.specs.declared.shape.Shape.TheVariants as shapes
-use Rattle.ts_model.specs.Catalogue.{Named, name_cmp, Elements, Container, SeriesKind, Irregular, Regular, Series, Catalogue, calendar_of, calendar_named, shape_of, heading_of, columns_of, quota_of}
+use Rattle.ts_model.specs.Catalogue.{Named, name_cmp, Elements, Container, SeriesKind, Irregular, Regular, Series, Catalogue, calendar_of, shape_of, columns_of, quota_of}
 use Rattle.ts_model.specs.Charge.{page_elements, elements_charge, series_charge, container_charge}
 use Rattle.ts_model.specs.declared.kind.Kind.TheVariants as kinds
 use Rattle.ts_model.specs.Kinds.{with_named}

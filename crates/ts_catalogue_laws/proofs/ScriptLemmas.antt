@@ -1,5 +1,5 @@
 -- Each command that a script asks for has its form, and each stamp that it names is one.
-use Rattle.std.proofs.Common.{◌≡◌, ℕ, ℤ, ◌<◌, ◌≤◌, ◌==◌, ◌&&◌, ◌^◌, Bool, true, false, Option, Some, None, Ok, Err, Result, List, [], ◌∷◌, ◌++◌, length, map, length-append, refl, sym, ap, subst, ◌∙◌, arith}
+use Rattle.std.proofs.Common.{◌≡◌, ℕ, ◌<◌, ◌≤◌, ◌==◌, ◌&&◌, ◌^◌, Bool, true, false, Option, Some, None, Ok, Err, Result, List, [], ◌∷◌, ◌++◌, length, map, length-append, refl, ap, arith}
 use Rattle.std.specs.Prelude.{if◌then◌else◌, codes, pos, neg_ℤ}
 use Rattle.std.specs.List.{AllByRecursion}
 use Rattle.std.proofs.lemmas.Bool.Decides.{nat_tests}
@@ -7,10 +7,9 @@ use Rattle.ts_base.specs.Moment.{IsStamp}
 use Rattle.ts_text.specs.Phrase.{Read, outcome}
 use Rattle.ts_text.specs.Spelling.{Lexeme}
 use Rattle.ts_tokens.specs.Text.{said}
-use Rattle.ts_items.specs.Items.{Item, Statement, TooLong, Unended, quotes_match, all_blank, after, items_from, items, is_unended, last}
+use Rattle.ts_items.specs.Items.{Item, Statement, TooLong, Unended, quotes_match, all_blank, after, items_from, items, is_unended}
 use Rattle.ts_command.specs.declared.command.Command.{Command}
 use Rattle.ts_command.specs.declared.command.Command.TheVariants as commands
-use Rattle.ts_command.specs.Form.{HasForm}
 use Rattle.ts_command.specs.Grammar.{a_command, command_of}
 use Rattle.ts_command.specs.Script.{Request, or_syntax, request_of, requests, last_request}
 use Rattle.ts_command.proofs.CommandLemmas.{command-form}

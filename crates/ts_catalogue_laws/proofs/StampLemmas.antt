@@ -1,16 +1,14 @@
 -- What is read or made as a stamp is one.
-use Rattle.std.proofs.Common.{◌≡◌, ℕ, ◌+◌, ◌*◌, ◌<◌, ◌≤◌, nat_lt, Bool, true, false, cond, ◌&&◌, Option, Some, None, Ok, Err, List, refl, sym, ap, subst, ◌∙◌, arith, ℤ, pos, negsuc, ◌+ℤ◌, ◌*ℤ◌, ◌≤ℤ◌}
-use Rattle.std.proofs.lemmas.Int.{ints}
+use Rattle.std.proofs.Common.{◌≡◌, ℕ, ◌<◌, ◌≤◌, nat_lt, Bool, true, false, cond, ◌&&◌, Some, None, Ok, Err, List, refl, subst, arith, ℤ, pos, negsuc, ◌+ℤ◌, ◌*ℤ◌, ◌≤ℤ◌}
 use Rattle.std.proofs.lemmas.Bool.Decides.{nat_tests}
 use Rattle.jiff_core.specs.Calendar.{IsCivilDate, days_from_civil, days_in_month}
 use Rattle.jiff_core.proofs.SignedLemmas.{signed_arith}
-use Rattle.ts_base.specs.declared.unit.Unit as unit
 use Rattle.ts_base.specs.Moment.{IsStamp, Moment, is_moment, day_units, units_of, stamp_at}
 use Rattle.ts_base.specs.StampText.{has_stamp_form, moment_in, read_stamp}
 use Rattle.ts_base.proofs.CivilLemmas.{days_bounds}
 use Rattle.ts_calendar.specs.Plan.{CalendarPlan}
-use Rattle.ts_calendar.specs.Calendar.{is_late, is_apart, valid_calendar, IsValid}
-use Rattle.ts_calendar.specs.Intervals.{IsEarly, IsLaid}
+use Rattle.ts_calendar.specs.Calendar.{is_late, is_apart, IsValid}
+use Rattle.ts_calendar.specs.Intervals.{IsLaid}
 use Rattle.ts_offset.specs.Walk.{IsOnStart}
 use Rattle.ts_offset.proofs.StartLemmas.{on-line}
 use Rattle.ts_base.specs.Months.{day_of_month}

@@ -1,7 +1,6 @@
 -- What Union and Intersect list: by the stamps of elements, and by the starts of grids.
-use Rattle.std.specs.Prelude.{AllPairs, Contains, Result, int_lt}
-use Rattle.std.proofs.Common.{◌≡◌, ◌⊎◌, ℕ, zero, suc, ℤ, pos, negsuc, ◌+ℤ◌, ◌-ℤ◌, neg_ℤ, ◌≤ℤ◌, ◌<ℤ◌, ◌+◌, ◌-◌, ◌%◌, ◌<◌, ◌≤◌, nat_lt, Bool, true, false, cond, not, ◌&&◌, ◌||◌, Option, Some, None, is_some, option_map, option_and_then, Ok, Err, List, [], ◌∷◌, ◌++◌, map, length, filter_map, slice_get, get_or, refl, sym, ap, subst, ◌∙◌, arith, inl, inr}
-use Rattle.std.specs.List.{filter}
+use Rattle.std.specs.Prelude.{AllPairs, Result, int_lt}
+use Rattle.std.proofs.Common.{◌≡◌, ◌⊎◌, ℕ, zero, suc, ℤ, pos, negsuc, ◌≤ℤ◌, ◌<ℤ◌, ◌-◌, ◌%◌, ◌<◌, Bool, true, false, cond, not, ◌&&◌, ◌||◌, Option, Some, None, is_some, option_map, Ok, Err, List, [], ◌∷◌, ◌++◌, map, length, get_or, refl, sym, ap, subst, ◌∙◌, arith, inl, inr}
 use Rattle.std.specs.Int.{int_max}
 use Rattle.std.proofs.lemmas.Int.{ints, clamps}
 use Rattle.std.proofs.lemmas.Bool.{and_parts}
@@ -9,7 +8,7 @@ use Rattle.std.proofs.lemmas.List.{length-map}
 use Rattle.std.proofs.lemmas.List.Kept.{AllPairs-filter}
 use Rattle.std.specs.Cmp.{int_cmp_total}
 use Rattle.std.specs.Ordering.{eq_by_cmp, int_cmp}
-use Rattle.std.specs.FinMap.{FinMap, entries, find, get, get-entries, get-from_entries, int_cmp-IsAntisymmetric}
+use Rattle.std.specs.FinMap.{entries, find, get, get-entries, get-from_entries, int_cmp-IsAntisymmetric}
 use Rattle.ts_base.specs.Moment.{IsStamp}
 use Rattle.ts_base.specs.declared.unit.Unit as unit
 use Rattle.ts_base.specs.declared.refusal.Refusal.{Refusal}
@@ -21,36 +20,34 @@ use Rattle.ts_pattern.specs.Runs.{flag}
 use Rattle.ts_pattern.specs.Units.{smaller_unit}
 use Rattle.ts_pattern.proofs.RunLemmas.{lt_yes}
 use Rattle.ts_calendar.specs.Plan.{CalendarPlan}
-use Rattle.ts_calendar.specs.Calendar.{common_grid, steps_between}
-use Rattle.ts_calendar.specs.Intervals.{IsLaid, start_in, start_at, is_on, starts_from}
+use Rattle.ts_calendar.specs.Calendar.{common_grid}
+use Rattle.ts_calendar.specs.Intervals.{IsLaid, start_in, start_at, starts_from}
 use Rattle.ts_calendar.specs.declared.grid.CommonGrid.{CommonGrid}
 use Rattle.ts_calendar.proofs.JoinedLemmas.{grid-parts}
 use Rattle.ts_calendar.proofs.LawLemmas.{steps-lead}
 use Rattle.ts_calendar.proofs.StampLemmas.{int_lt_no, int_lt-false}
-use Rattle.ts_calendar.proofs.StepLemmas.{from-some}
 use Rattle.ts_calendar.proofs.ValidLemmas.{early-smaller}
 use Rattle.ts_offset.specs.Walk.{IsOnStart, on_starts}
 use Rattle.ts_offset.specs.Counting.{starts_between}
-use Rattle.ts_offset.specs.Grid.{GridPlan, IsHeldFrom, held_start}
+use Rattle.ts_offset.specs.Grid.{GridPlan, held_start}
 use Rattle.ts_offset.specs.declared.shape.Shape.{Shape}
 use Rattle.ts_offset.specs.declared.shape.Shape.TheVariants as shapes
 use Rattle.ts_offset.proofs.ListedLemmas.{listed-start, start-listed, listed-rise}
 use Rattle.ts_irregular.specs.Edit.{element_at}
 use Rattle.ts_entry.specs.Reading.{within_rows}
 use Rattle.ts_combine.specs.Combine.{Side, by_stamp, merged_stamps, stamps_between, every_start, row_around, is_kept, rows_on, rows_there, joined_there, joined_on, joined_of, joined}
-use Rattle.ts_command.specs.declared.command.Command.TheVariants as commands
 use Rattle.ts_model.specs.Catalogue.{SeriesKind, Irregular, Regular, Series, Catalogue, calendar_named, columns_of, shape_of}
-use Rattle.ts_answer.specs.Answer.{Answered, Tried, outcome, carried_out, wanted, known, join_series}
+use Rattle.ts_answer.specs.Answer.{Answered, outcome, carried_out, wanted, known, join_series}
 use Rattle.ts_answer.specs.Elements.{a_side, seen_elements}
 use Rattle.ts_answer.specs.Reply.{elements_text}
 use Rattle.ts_answer.proofs.CallerLemmas.{on_ok, wanted-there}
-use Rattle.ts_answer_laws.specs.ReadingLaws.{IsSeenAt, HasLaidCalendar, OneIsIrregular}
+use Rattle.ts_answer_laws.specs.ReadingLaws.{HasLaidCalendar, OneIsIrregular}
 use Rattle.ts_catalogue_laws.specs.Catalogue.{IsCatalogue}
-use Rattle.ts_catalogue_laws.specs.JoinLaws.{SeenAt, SeenAround, row_of_both, ListsBoth, IsCommonStart, ListsByStamps, ListsByStarts, SpreadsFirst, SpreadsSecond, UnitesGrids, LieOnGrids, BothAreRegular, JoinsListBoth}
+use Rattle.ts_catalogue_laws.specs.JoinLaws.{SeenAt, SeenAround, IsCommonStart, ListsByStamps, ListsByStarts, SpreadsFirst, SpreadsSecond, BothAreRegular, JoinsListBoth}
 use Rattle.ts_catalogue_laws.proofs.OnceLemmas.{rising}
-use Rattle.ts_catalogue_laws.proofs.ListLemmas.{Among, one_of, found_among, among_filter, among_filtered, among_mapped, among_place, place_among, at_place}
+use Rattle.ts_catalogue_laws.proofs.ListLemmas.{Among, one_of, found_among, among_filter, among_filtered, among_place, place_among}
 use Rattle.ts_catalogue_laws.proofs.StampLemmas.{start_stamp}
-use Rattle.ts_catalogue_laws.proofs.JoinLemmas.{same_answer, passes, placed, taken, pairs_made, few_rows, at_stamp, stamp_at_is, around, around_is, tests_within, within_tests, lists}
+use Rattle.ts_catalogue_laws.proofs.JoinLemmas.{same_answer, passes, placed, few_rows, at_stamp, stamp_at_is, around, around_is, tests_within, within_tests, lists}
 use Rattle.ts_catalogue_laws.proofs.CommandLemmas.{came, known_is, shape_laid}
 
 -- by stamps: what is found in one of two lists is found in both together

@@ -1,5 +1,5 @@
 -- What the laws of catalogues say.
-use Rattle.std.specs.Prelude.{◌≡◌, ◌⊎◌, ℕ, ◌≤◌, List, IfSome}
+use Rattle.std.specs.Prelude.{ℕ, ◌≤◌, List, IfSome}
 use Rattle.ts_page.specs.Volume.{most_element_pages}
 use Rattle.ts_command.specs.Script.{Request}
 use Rattle.ts_model.specs.Catalogue.{Catalogue, empty_catalogue}
