@@ -11,5 +11,5 @@ returns-clause-carried g c =
     let x = c.args.view.now in
     let r = c.carry_out_in_view_over in
     subst (λ (k : Kept). CarriedOut g.V.Volume.tells c.args.command.now r.result r.new.out
-      (sees x.defs.definitions x.space (view_contents x.old.entries x.own.entries c.args.changes.now.entries (reverse c.args.free.now.items) (contents_over k.store (g.V.Volume.device c.args.vol.now))))
-      (view_contents x.old.entries x.own.entries r.new.changes.entries (reverse r.new.free.items) (contents_over r.new.store (g.V.Volume.device r.new.vol)))) c.self.view_is r.ensures.carried
+    (sees x.defs.definitions x.space (view_contents x.old.entries x.own.entries c.args.changes.now.entries (reverse c.args.free.now.items) (contents_over k.store (g.V.Volume.device c.args.vol.now))))
+    (view_contents x.old.entries x.own.entries r.new.changes.entries (reverse r.new.free.items) (contents_over r.new.store (g.V.Volume.device r.new.vol)))) c.self.view_is r.ensures.carried
