@@ -6,8 +6,8 @@ use Rattle.std.proofs.lemmas.List.{append_assoc}
 use Rattle.std.proofs.Common.{◌≡◌, ℕ, suc, ◌+◌, ◌≤◌, Bool, true, false, cond, ◌||◌, ◌&&◌, T, ℤ, ◌++◌, Option, Some, None, List, [], ◌∷◌, length, map, sum, is_some, refl, ap, sym, ◌∙◌, subst, arith, inl, inr}
 use Rattle.std.specs.Prelude.{bytes_eq, option_to_list}
 use Rattle.std.specs.Option.{option_map, option_and_then, unwrap_or}
-use Rattle.std.specs.List.{filter, list_any, flat_map}
-use Rattle.std.specs.FinMap.{FinMap, entries, entries_sorted, get, get-entries, get-from_entries, from_entries, len, len-entries, find, is_sorted}
+use Rattle.std.specs.List.{filter, flat_map}
+use Rattle.std.specs.FinMap.{entries, entries_sorted, get, get-entries, get-from_entries, len, len-entries, is_sorted}
 use Rattle.std.specs.FinMap.Entries.{find-where_key, is_sorted-where_key, below_all}
 use Rattle.std.specs.Ordering.{is_lt}
 use Rattle.std.specs.declared.cmp.Ordering.{Ordering}
@@ -16,7 +16,6 @@ use Rattle.std.proofs.lemmas.Bool.{cases_Bool}
 use Rattle.std.proofs.lemmas.List.Sums.{sum_by-cons}
 use Rattle.ts_row.specs.declared.kind.Column.{Column}
 use Rattle.ts_row.specs.RowType.{Heading}
-use Rattle.ts_pattern.specs.Plan.{Plan}
 use Rattle.ts_calendar.specs.Plan.{CalendarPlan}
 use Rattle.ts_calendar.specs.declared.text.PatternPart.{PatternPart}
 use Rattle.ts_calendar.specs.declared.text.PatternPart.TheVariants.{Named as ByName, Own}
@@ -27,11 +26,11 @@ use Rattle.ts_model.specs.declared.kind.Kind.{Kind}
 use Rattle.ts_model.specs.declared.kind.Kind.TheVariants as kinds
 use Rattle.ts_model.specs.Definitions.{limit}
 use Rattle.ts_model.specs.Kinds.{named}
-use Rattle.ts_model.specs.Catalogue.{Named, name_cmp, Container, SeriesKind, Irregular, Regular, Series, Catalogue, with_plan, pattern_of, calendar_of, calendar_named, shape_of, heading_of, columns_of, quotas}
+use Rattle.ts_model.specs.Catalogue.{Named, name_cmp, Container, SeriesKind, Irregular, Regular, Series, Catalogue, with_plan, pattern_of, calendar_of, calendar_named, shape_of, columns_of, quotas}
 use Rattle.ts_model.specs.Charge.{elements_charge, series_charge, container_charge}
 use Rattle.ts_model.proofs.OrderLemmas.{total, same_name, eq_ties, ties-refl, ties-same}
 use Rattle.ts_catalogue_laws.specs.Catalogue.{AreOnce, IsCalendar, IsContainer, IsSeries, IsCatalogue}
-use Rattle.ts_dump_laws.specs.Alone.{is_among, only, row_type_named, calendar_named_by, pattern_named_by, pattern_of_calendar, alone, StandsAlone, SeriesStandAlone}
+use Rattle.ts_dump_laws.specs.Alone.{is_among, only, row_type_named, calendar_named_by, pattern_named_by, pattern_of_calendar, alone, SeriesStandAlone}
 use Rattle.ts_dump_laws.proofs.MadeLemmas.{entries_listed}
 use Rattle.ts_dump_laws.proofs.ChargeLemmas.{charged, charged_cons}
 use Rattle.ts_dump_laws.proofs.MapLemmas.{replaced}

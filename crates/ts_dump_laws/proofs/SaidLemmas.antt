@@ -1,5 +1,5 @@
 -- The texts of a catalogue are read as its statements.
-use Rattle.std.proofs.Common.{◌≡◌, ℕ, zero, suc, ◌≤◌, ℤ, Bool, true, false, cond, IsTrue, Option, Some, None, Result, Ok, List, [], ◌∷◌, ◌++◌, length, map, refl, ap, sym, ◌∙◌, subst, arith}
+use Rattle.std.proofs.Common.{◌≡◌, ℕ, zero, suc, ◌≤◌, ℤ, Bool, true, false, IsTrue, Option, Some, None, Result, Ok, List, [], ◌∷◌, ◌++◌, length, map, refl, ap, sym, ◌∙◌, subst, arith}
 use Rattle.std.specs.Option.{option_map, option_and_then, unwrap_or}
 use Rattle.std.specs.List.{flat_map, list_all}
 use Rattle.std.specs.declared.cmp.Ordering.{Ordering}
@@ -13,7 +13,6 @@ use Rattle.std.proofs.lemmas.List.{append_assoc, map-append}
 use Rattle.ts_row.specs.declared.kind.Column.{Column}
 use Rattle.ts_row.specs.RowType.{Heading, is_kind, is_row_type, keep_rules}
 use Rattle.ts_row.specs.Row.{Row}
-use Rattle.ts_row.specs.Element.{Element}
 use Rattle.ts_calendar.specs.declared.text.CalendarText.{CalendarText}
 use Rattle.ts_calendar.specs.Plan.{CalendarPlan}
 use Rattle.ts_offset.specs.declared.shape.Shape.{Shape}
@@ -27,7 +26,7 @@ use Rattle.ts_command.specs.Routines.{routine_of}
 use Rattle.ts_command.specs.Grammar.{command_of, a_command, a_call, a_routine, opening, arguments}
 use Rattle.ts_text.specs.Phrase.{the_end}
 use Rattle.ts_tokens.specs.Tokens.{front}
-use Rattle.ts_model.specs.Catalogue.{Named, name_cmp, Container, SeriesKind, Irregular, Regular, Series, Catalogue, calendar_of, shape_of, columns_of}
+use Rattle.ts_model.specs.Catalogue.{name_cmp, Container, SeriesKind, Irregular, Regular, Series, Catalogue, calendar_of, shape_of, columns_of}
 use Rattle.ts_model.proofs.OrderLemmas.{total}
 use Rattle.ts_catalogue_laws.specs.Catalogue.{IsCatalogue}
 use Rattle.ts_dump_laws.specs.Rules.{HasOrigin}
