@@ -75,7 +75,7 @@ series_grow cat s xs ys le = by_shape (columns_of cat s) (shape_of cat s.kind) x
 abbrev pub charged : Catalogue → List ℕ → List (List ℕ × Series) → ℕ
 charged cat name es = sum (map (λ e. series_charge cat e.1) (filter (λ e. bytes_eq e.1.container name) es))
 
-charged_cons : (cat : Catalogue) (name : List ℕ) (e : List ℕ × Series) (es : List (List ℕ × Series))
+pub charged_cons : (cat : Catalogue) (name : List ℕ) (e : List ℕ × Series) (es : List (List ℕ × Series))
     → charged cat name (e ∷ es) ≡ cond (bytes_eq e.1.container name) (series_charge cat e.1) 0 + charged cat name es
 charged_cons cat name e es =
     elim (bytes_eq e.1.container name) as (λ (b : Bool). sum (map (λ (x : List ℕ × Series). series_charge cat x.1) (cond b (e ∷ filter (λ (x : List ℕ × Series). bytes_eq x.1.container name) es) (filter (λ (x : List ℕ × Series). bytes_eq x.1.container name) es)))

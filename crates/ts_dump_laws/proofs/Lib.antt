@@ -6,3 +6,5 @@ pub mod ElementLemmas
 pub mod MadeLemmas
 pub mod LawLemmas
 pub mod RuleLemmas
+pub mod SaidLemmas
+pub mod AloneLemmas

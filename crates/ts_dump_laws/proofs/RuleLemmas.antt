@@ -24,7 +24,7 @@ use Rattle.ts_answer_laws.specs.ReadingLaws.{CanStand}
 use Rattle.ts_catalogue_laws.specs.Catalogue.{IsCatalogue, IsCalendar, HasOrigin as StartsOn}
 use Rattle.ts_dump_laws.specs.Rules.{HasCalendar, HasOrigin, IsPlace, KeepsRules}
 
-something : {A : Type 0} (o : Option A) → IsSome o → (a : A) × (o ≡ Some a)
+pub something : {A : Type 0} (o : Option A) → IsSome o → (a : A) × (o ≡ Some a)
 something (Some a) is = (a, refl)
 something None is = absurd (let no : ⊥ = cc in no)
 

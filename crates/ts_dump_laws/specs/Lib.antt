@@ -3,3 +3,5 @@ pub mod Rules
 pub mod CarriedOut
 pub mod Laws
 pub mod Volumes
+pub mod Said
+pub mod Alone
