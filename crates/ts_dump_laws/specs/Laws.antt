@@ -39,4 +39,5 @@ pub record TransactionsMakeCatalogues : Type 0 where
   pub definitions : (cat : Catalogue) → KeepsRules cat
       → Make (in_transactions (definitions_of cat)) (empty_as cat) (in_newest_format (without_elements cat))
   pub elements : (written : Writing) (cat : Catalogue) → GivesRows written → KeepsRules cat
-      → Make (in_transactions (elements_of written cat)) (in_newest_format (without_elements cat)) (in_newest_format cat)
+      → Make (in_transactions (elements_of written cat)) (in_newest_format (without_elements cat))
+      (in_newest_format cat)

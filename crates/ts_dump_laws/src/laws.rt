@@ -39,8 +39,8 @@ pub fn statements_make_what_a_volume_means()
 }
 
 /// The script of a catalogue, one statement a line, asks for commands which, carried out on an empty catalogue with as
-/// many pages, are answered, each by `ok`, and make the catalogue, in the newest format; also in transactions of 32. The
-/// script of its definitions makes it without elements.
+/// many pages, are answered, each by `ok`, and make the catalogue, in the newest format; also in transactions of 32.
+/// The script of its definitions makes it without elements.
 pub fn scripts_make_their_catalogue()
     ensures { ScriptsMakeCatalogues }
 {
@@ -59,8 +59,8 @@ pub fn scripts_make_what_a_volume_means()
     scripts_make_their_catalogue();
 }
 
-/// A series of a catalogue with its container, the row type of this, its calendar and the pattern of this is a catalogue
-/// too, with the series as it was: so its script makes it on another volume.
+/// A series of a catalogue with its container, the row type of this, its calendar and the pattern of this is a
+/// catalogue too, with the series as it was: so its script makes it on another volume.
 pub fn a_series_stands_alone()
     ensures { SeriesStandAlone }
 {}

@@ -1,8 +1,7 @@
 -- Columns as they are printed, and as they are read.
-use Rattle.std.proofs.Common.{◌≡◌, ℕ, zero, suc, ◌+◌, ◌<◌, ◌≤◌, ◌==◌, ◌&&◌, nat_le, Bool, true, false, cond, IsTrue, Ok, List, [], ◌∷◌, ◌++◌, length, refl, ap, sym, ◌∙◌, length-append, arith}
+use Rattle.std.proofs.Common.{◌≡◌, ℕ, zero, suc, ◌<◌, ◌≤◌, true, false, IsTrue, Ok, List, [], ◌∷◌, ◌++◌, length, refl, ap, sym, ◌∙◌, length-append, arith}
 use Rattle.std.specs.Prelude.{codes}
 use Rattle.std.specs.List.{list_all}
-use Rattle.std.specs.Char.{is_ascii_digit}
 use Rattle.std.specs.Fmt.{decimal}
 use Rattle.std.proofs.lemmas.Bool.{and_parts}
 use Rattle.std.proofs.lemmas.Bool.Decides.{nat_tests}
@@ -11,12 +10,12 @@ use Rattle.ts_row.specs.declared.kind.ColumnKind.{ColumnKind}
 use Rattle.ts_row.specs.declared.kind.ColumnKind.TheVariants as kinds
 use Rattle.ts_row.specs.declared.kind.Column.{Column}
 use Rattle.ts_row.specs.RowType.{is_kind}
-use Rattle.ts_text.specs.Phrase.{Read, Phrase, go_on, taken, taken_front, ◌>>=◌, give, a_sign, behind, phrases, repeated, closed, if_comma}
+use Rattle.ts_text.specs.Phrase.{Read, Phrase, go_on, taken, taken_front, ◌>>=◌, give, a_sign, behind, phrases, repeated, closed}
 use Rattle.std.proofs.Math.Seq.{take-append_seam}
 use Rattle.ts_tokens.specs.Tokens.{front}
 use Rattle.ts_arguments.specs.Words.{type_of}
 use Rattle.ts_arguments.specs.Arguments.{a_name, a_small, type_in, a_type, kind_behind, a_column}
-use Rattle.ts_dump_texts.specs.Texts.{comma_before, kind_before, columns_before}
+use Rattle.ts_dump_texts.specs.Texts.{kind_before, columns_before}
 use Rattle.ts_dump_texts.proofs.TokenLemmas.{word_shows, word_front, name_read}
 use Rattle.ts_dump_texts.proofs.NumberLemmas.{EndsNumber, small_read}
 

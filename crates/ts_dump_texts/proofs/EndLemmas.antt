@@ -1,16 +1,13 @@
 -- Each text of a statement is one line: it begins with a word, ends with its only `;` and isn't long.
-use Rattle.std.proofs.Common.{◌≡◌, ℕ, zero, suc, ◌+◌, ◌*◌, ◌/◌, ◌%◌, ◌^◌, ◌<◌, ◌≤◌, ◌==◌, ◌&&◌, not, nat_le, Bool, true, false, cond, IsTrue, List, [], ◌∷◌, ◌++◌, length, refl, ap, sym, ◌∙◌, subst, append_assoc, length-append, arith, ℤ, pos, negsuc, unsigned_abs, lit<, lit≤, inl, inr}
-use Rattle.std.specs.Prelude.{codes, int_lt}
+use Rattle.std.proofs.Common.{◌≡◌, ℕ, ◌+◌, ◌*◌, ◌≤◌, ◌==◌, ◌&&◌, not, nat_le, Bool, true, false, cond, IsTrue, List, [], ◌∷◌, ◌++◌, length, refl, ap, ◌∙◌, length-append, arith, inl, inr}
 use Rattle.std.specs.List.{list_all, flat_map}
 use Rattle.std.specs.Char.{is_ascii_digit}
-use Rattle.std.specs.Fmt.{decimal}
 use Rattle.std.proofs.lemmas.Bool.{cases_Bool, and_parts}
 use Rattle.std.proofs.lemmas.Bool.Decides.{nat_tests}
-use Rattle.std.proofs.lemmas.List.Folds.{list_all-append}
 use Rattle.ts_base.specs.Name.{begins_word, continues_word, is_word, is_name, is_key}
 use Rattle.ts_row.specs.Printed.{quoted}
 use Rattle.ts_dump_texts.specs.Texts.{end_of_call, quoted_before, comma_before}
-use Rattle.ts_dump_texts.specs.Script.{ends_once, begins_so, IsLine}
+use Rattle.ts_dump_texts.specs.Script.{ends_once}
 
 -- bytes that end with their only `;`, and are no more than so many
 pub record EndsCall (most : ℕ) (bytes : List ℕ) : Type 0 where

@@ -1,21 +1,19 @@
 -- A script of lines is cut into them.
-use Rattle.std.proofs.Common.{◌≡◌, ℕ, zero, suc, ◌+◌, ◌%◌, ◌<◌, ◌≤◌, ◌==◌, ◌&&◌, ◌||◌, not, Bool, true, false, cond, Option, Some, None, Result, Ok, Err, List, [], ◌∷◌, ◌++◌, length, map, refl, ap, sym, ◌∙◌, subst, length-append, arith, inl, inr, ◌⊎◌, add-zero}
+use Rattle.std.proofs.Common.{◌≡◌, ℕ, ◌+◌, ◌%◌, ◌<◌, ◌≤◌, ◌==◌, ◌&&◌, not, Bool, true, false, cond, Option, Some, Result, Ok, Err, List, [], ◌∷◌, ◌++◌, length, map, refl, ap, sym, ◌∙◌, length-append, arith, inl, inr, ◌⊎◌, add-zero}
 use Rattle.std.specs.Prelude.{count_by}
-use Rattle.std.specs.List.{list_all, flat_map}
 use Rattle.std.proofs.lemmas.Bool.{cases_Bool, and_parts}
 use Rattle.std.proofs.lemmas.Bool.Decides.{nat_tests}
 use Rattle.std.proofs.lemmas.List.{append-nil, append_assoc}
 use Rattle.std.proofs.lemmas.List.Folds.{list_all-append}
 use Rattle.std.proofs.lemmas.List.Sums.{sum_by-append, sum_by-cons}
-use Rattle.ts_base.specs.Name.{is_blank, begins_word}
+use Rattle.ts_base.specs.Name.{is_blank}
 use Rattle.ts_text.specs.Phrase.{Read, outcome}
-use Rattle.ts_items.specs.Items.{Item, Statement, Unended, all_blank, quotes_match, after, items_from, place_from, items, is_unended_at}
+use Rattle.ts_items.specs.Items.{Item, Statement, Unended, all_blank, quotes_match, after, items_from, place_from, is_unended_at}
 use Rattle.ts_items.proofs.ItemLaws.{items_from-append, place_from-append}
-use Rattle.ts_tokens.specs.Tokens.{front}
 use Rattle.ts_command.specs.declared.command.Command.{Command}
 use Rattle.ts_command.specs.Grammar.{a_routine, a_call, a_command, command_of}
-use Rattle.ts_command.specs.Script.{Request, or_syntax, request_of, requests, last_request}
-use Rattle.ts_dump_texts.specs.Script.{line_of, script_of, ends_once, begins_so, IsLine, AreLines, ScriptsAskForLines}
+use Rattle.ts_command.specs.Script.{Request, or_syntax, request_of}
+use Rattle.ts_dump_texts.specs.Script.{script_of, ends_once, IsLine, AreLines, ScriptsAskForLines}
 
 -- one quote more
 parity : (n : ℕ) → ((n + 1) % 2 == 0) ≡ not (n % 2 == 0)

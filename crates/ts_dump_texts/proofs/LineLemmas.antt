@@ -1,19 +1,18 @@
 -- The text of each statement is one line.
-use Rattle.std.proofs.Common.{◌≡◌, ℕ, zero, suc, ◌+◌, ◌*◌, ◌/◌, ◌%◌, ◌^◌, ◌<◌, ◌≤◌, ◌==◌, ◌&&◌, nat_le, Bool, true, false, cond, IsTrue, List, [], ◌∷◌, ◌++◌, length, refl, ap, sym, ◌∙◌, subst, append_assoc, length-append, arith, ℤ, pos, negsuc, unsigned_abs, lit<, inl, inr}
+use Rattle.std.proofs.Common.{◌≡◌, ℕ, zero, suc, ◌+◌, ◌*◌, ◌/◌, ◌%◌, ◌^◌, ◌<◌, ◌≤◌, ◌==◌, ◌&&◌, nat_le, Bool, true, false, cond, IsTrue, List, [], ◌∷◌, ◌++◌, length, refl, ap, sym, ◌∙◌, subst, append_assoc, length-append, arith, ℤ, pos, negsuc, unsigned_abs, lit<}
 use Rattle.std.specs.Prelude.{codes, int_lt}
 use Rattle.std.specs.List.{list_all, flat_map}
 use Rattle.std.specs.Char.{is_ascii_digit}
 use Rattle.std.specs.Fmt.{decimal}
 use Rattle.std.proofs.Math.Nat.{div-le_self, pow-le-pow_right}
-use Rattle.std.proofs.lemmas.Bool.{cases_Bool, and_parts}
+use Rattle.std.proofs.lemmas.Bool.{and_parts}
 use Rattle.std.proofs.lemmas.Bool.Decides.{nat_tests}
 use Rattle.std.proofs.lemmas.Fmt.{decimal_by_steps_wide, length-decimal-le_wide}
 use Rattle.std.proofs.lemmas.List.Folds.{list_all-append}
 use Rattle.ts_base.specs.declared.unit.Unit as unit
 use Rattle.ts_base.specs.declared.unit.Unit.TheVariants.{Second, Minute, Hour, Day, Week, Month, Year}
 use Rattle.ts_base.specs.Name.{is_name, is_key, is_text}
-use Rattle.ts_base.specs.Moment.{Civil, civil_of, day_of, clock_of}
-use Rattle.ts_base.specs.StampText.{text_of, stamp_text}
+use Rattle.ts_base.specs.StampText.{stamp_text}
 use Rattle.ts_row.specs.declared.kind.ColumnKind.{ColumnKind}
 use Rattle.ts_row.specs.declared.kind.ColumnKind.TheVariants.{SmallInt, Integer, BigInt, Decimal, VarChar}
 use Rattle.ts_row.specs.declared.kind.Column.{Column}
@@ -24,7 +23,7 @@ use Rattle.ts_row.specs.Row.{Values, Row, holds_size, holds, hold, fits}
 use Rattle.ts_row.specs.Printed.{last_digits, fraction_text, size_text, number_text, quoted, value_text, values_text, row_text}
 use Rattle.ts_pattern.specs.declared.run.Run.{Run}
 use Rattle.ts_pattern.specs.Plan.{Plan}
-use Rattle.ts_pattern.specs.Runs.{is_pattern, are_merged, total}
+use Rattle.ts_pattern.specs.Runs.{is_pattern}
 use Rattle.ts_pattern.specs.Grammar.{is_count, unit_name, printed_run, printed_runs, printed_plan}
 use Rattle.ts_pattern.specs.Spelling.{Word}
 use Rattle.ts_pattern.proofs.PrintLemmas.{words_of, words-are}
@@ -33,8 +32,8 @@ use Rattle.ts_calendar.specs.declared.text.PatternPart.TheVariants.{Named, Own}
 use Rattle.ts_calendar.specs.declared.text.CalendarText.{CalendarText}
 use Rattle.ts_calendar.specs.Text.{IsSoundPart, IsSound, printed_part, printed_calendar}
 use Rattle.ts_dump_texts.specs.Texts.{end_of_call, quoted_before, comma_before, kind_before, columns_before, row_type_text, pattern_text, calendar_text, container_text, irregular_text, regular_text, element_text, hiding_text}
-use Rattle.ts_dump_texts.specs.Script.{ends_once, begins_so, IsLine}
-use Rattle.ts_dump_texts.proofs.PrintedLemmas.{IsDigits, digits_of_number}
+use Rattle.ts_dump_texts.specs.Script.{begins_so, IsLine}
+use Rattle.ts_dump_texts.proofs.PrintedLemmas.{digits_of_number}
 use Rattle.ts_dump_texts.proofs.EndLemmas.{EndsCall, the_end_of_call, is_plain, plain_before, comma_ends, more_room, quoted_ends, digits_plain, name_ends, key_ends}
 
 -- a word in front of what ends a call

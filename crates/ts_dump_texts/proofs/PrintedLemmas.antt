@@ -13,7 +13,7 @@ use Rattle.ts_base.specs.declared.unit.Unit as unit
 use Rattle.ts_base.specs.declared.unit.Unit.TheVariants.{Second, Minute, Hour, Day, Week, Month, Year}
 use Rattle.ts_base.specs.Moment.{Civil, civil_of, day_of, clock_of}
 use Rattle.ts_base.specs.StampText.{all_digits, number_of, with_digit, digit, two_digits, four_digits, five_digits, text_of, stamp_text}
-use Rattle.ts_base.specs.Name.{is_blank, begins_word, continues_word, is_word, is_name, is_text_byte, is_text}
+use Rattle.ts_base.specs.Name.{begins_word, continues_word, is_word, is_text_byte, is_text}
 use Rattle.ts_pattern.specs.declared.run.Run.{Run}
 use Rattle.ts_pattern.specs.Plan.{Plan}
 use Rattle.ts_pattern.specs.Runs.{is_pattern}

@@ -1,5 +1,5 @@
 -- The text of each statement is read as it.
-use Rattle.std.proofs.Common.{◌≡◌, ℕ, suc, ◌+◌, ◌<◌, ◌≤◌, ◌^◌, ◌==◌, ◌&&◌, nat_le, Bool, true, false, cond, IsTrue, Some, Ok, List, [], ◌∷◌, ◌++◌, length, refl, ap, sym, subst, ◌∙◌, arith, ℤ, pos, lit<}
+use Rattle.std.proofs.Common.{◌≡◌, ℕ, ◌<◌, ◌≤◌, ◌^◌, ◌==◌, nat_le, true, false, IsTrue, Some, Ok, List, [], ◌∷◌, ◌++◌, length, refl, ap, sym, ◌∙◌, arith, ℤ, pos, lit<}
 use Rattle.std.specs.Prelude.{codes}
 use Rattle.std.specs.List.{list_all}
 use Rattle.std.specs.Fmt.{decimal}
@@ -11,7 +11,7 @@ use Rattle.ts_base.specs.StampText.{read_stamp, stamp_text}
 use Rattle.ts_base.proofs.CivilValid.{read_stamp-stamp_text}
 use Rattle.ts_row.specs.declared.kind.Column.{Column}
 use Rattle.ts_row.specs.declared.value.Literal.{Literal}
-use Rattle.ts_row.specs.RowType.{Heading, is_kind, is_row_type, keep_rules}
+use Rattle.ts_row.specs.RowType.{is_kind, is_row_type, keep_rules}
 use Rattle.ts_row.specs.Row.{Row, row_of, fits, marked}
 use Rattle.ts_row.specs.Printed.{row_text}
 use Rattle.ts_pattern.specs.Plan.{Plan}
@@ -19,7 +19,7 @@ use Rattle.ts_pattern.specs.Runs.{is_pattern}
 use Rattle.ts_pattern.specs.Grammar.{printed_plan}
 use Rattle.ts_calendar.specs.declared.text.CalendarText.{CalendarText}
 use Rattle.ts_calendar.specs.Text.{IsSound, printed_calendar}
-use Rattle.ts_text.specs.Phrase.{Read, Phrase, ◌>>=◌, give, a_sign, made, repeated, closed, the_end, outcome}
+use Rattle.ts_text.specs.Phrase.{Read, Phrase, give, a_sign, made, repeated, closed, the_end, outcome}
 use Rattle.ts_arguments.specs.Printed.{RowsAreReadAgain}
 use Rattle.ts_arguments.specs.Arguments.{a_name, a_key, a_stamp, stamp_in, a_text, text_in, a_whole, a_word, a_literal, a_stamp_column, a_column}
 use Rattle.ts_arguments.specs.Calls.{before, two, name_before, key_before, text_before, stamp_before, whole_before, name_and_text, name_and_whole, two_names_and_whole, key_and_name, key_and_stamp, stamp_and_name, name_stamp_and_name, key_name_stamp_and_name, stamp_and_values, key_stamp_and_values, some_columns, stamp_and_columns, name_and_columns}

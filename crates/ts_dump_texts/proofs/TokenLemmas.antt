@@ -1,21 +1,18 @@
 -- One token at a time: names, quoted texts and digits, as they are printed.
-use Rattle.std.proofs.Common.{◌≡◌, ℕ, zero, suc, ◌+◌, ◌-◌, ◌<◌, ◌≤◌, ◌^◌, ◌==◌, ◌||◌, ◌&&◌, nat_le, Bool, true, false, cond, IsTrue, Option, Some, None, Ok, List, [], ◌∷◌, ◌++◌, length, take, drop, filter, refl, ap, sym, ◌∙◌, subst, append_assoc, length-append, arith, ℤ, pos, inl, inr, lit<}
-use Rattle.std.specs.List.{list_all, flat_map, prefix_len, position_or_len}
-use Rattle.std.specs.Char.{is_ascii_digit}
-use Rattle.std.specs.Fmt.{decimal}
+use Rattle.std.proofs.Common.{◌≡◌, ℕ, ◌+◌, ◌-◌, ◌==◌, ◌&&◌, nat_le, Bool, true, false, cond, IsTrue, Option, Some, None, Ok, List, [], ◌∷◌, ◌++◌, length, take, refl, ap, sym, ◌∙◌, append_assoc, length-append, arith, inl, inr}
+use Rattle.std.specs.List.{list_all, flat_map, prefix_len}
 use Rattle.std.proofs.Math.Seq.{take-append_seam, drop-append_seam}
 use Rattle.std.proofs.lemmas.Bool.{cases_Bool, and_parts}
 use Rattle.std.proofs.lemmas.Bool.Decides.{nat_tests}
-use Rattle.ts_base.specs.Name.{is_blank, begins_word, continues_word, is_word, is_name, is_key, is_text_byte, is_text, name_if_any, key_if_any}
+use Rattle.ts_base.specs.Name.{is_blank, begins_word, continues_word, is_word, is_name, is_key, is_text_byte, is_text, key_if_any}
 use Rattle.ts_row.specs.Printed.{quoted}
 use Rattle.ts_text.specs.Blanks.{unblanked}
-use Rattle.ts_text.specs.Plain.{digits_in_front}
 use Rattle.ts_text.specs.Phrase.{Read, taken, taken_front, token, name_as}
 use Rattle.ts_text.specs.declared.token.TokenKind.{TokenKind}
-use Rattle.ts_text.specs.declared.token.TokenKind.TheVariants.{Word, Number, Text}
-use Rattle.ts_tokens.specs.Tokens.{fraction_length, magnitude_length, signed_length, number_length, closing, later, or_before, of_kind, front}
+use Rattle.ts_text.specs.declared.token.TokenKind.TheVariants.{Word, Text}
+use Rattle.ts_tokens.specs.Tokens.{closing, later, or_before, of_kind, front}
 use Rattle.ts_tokens.specs.Text.{undoubled, said}
-use Rattle.ts_tokens.proofs.CallerLemmas.{stops, text_byte, single_quote, doubled_quote, undoubled-cons}
+use Rattle.ts_tokens.proofs.CallerLemmas.{text_byte, single_quote, doubled_quote, undoubled-cons}
 use Rattle.ts_arguments.specs.Arguments.{a_name, a_key, key_in}
 use Rattle.ts_dump_texts.specs.Texts.{quoted_before}
 

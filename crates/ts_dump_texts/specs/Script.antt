@@ -1,5 +1,6 @@
 -- Texts of statements as a script, one a line, and what it asks for.
-use Rattle.std.specs.Prelude.{◌≡◌, ℕ, ◌==◌, ◌&&◌, ◌≤◌, Bool, true, false, not, if◌then◌else◌, Ok, List, [], ◌∷◌, ◌++◌, length, map}
+use Rattle.std.specs.Prelude.{◌≡◌, ℕ, ◌==◌, ◌&&◌, ◌≤◌, Bool, true, false, not, if◌then◌else◌, Ok, List, [], ◌∷◌}
+use Rattle.std.specs.Prelude.{◌++◌, length, map}
 use Rattle.std.specs.List.{flat_map}
 use Rattle.ts_base.specs.Name.{begins_word}
 use Rattle.ts_command.specs.Script.{requests, last_request}

@@ -1,5 +1,5 @@
 -- The texts of the statements that a catalogue is made by.
-use Rattle.std.specs.Prelude.{ℕ, ℤ, if◌then◌else◌, Result, Ok, Err, List, [], ◌∷◌, ◌++◌, codes}
+use Rattle.std.specs.Prelude.{ℕ, ℤ, Ok, Err, List, [], ◌∷◌, ◌++◌, codes}
 use Rattle.std.specs.List.{flat_map}
 use Rattle.std.specs.Fmt.{decimal}
 use Rattle.ts_base.specs.StampText.{stamp_text}
