@@ -1,13 +1,13 @@
 -- The steps that begin and end a transaction, and those that it refuses before all else.
 use Rattle.std.specs.declared.alloc.AllocError.{AllocError}
-use Rattle.std.proofs.Common.{◌≡◌, ◌⊎◌, inl, inr, ⊎_elim, ℕ, ◌+◌, ◌≤◌, pos, Bool, true, IsTrue, Option, Some, None, IsSome, IfSome, Result, Ok, Err, OnOk, IfErr, IsErrAnd, List, [], length, refl, ap, sym, ◌∙◌, subst, arith}
+use Rattle.std.proofs.Common.{◌≡◌, ◌⊎◌, inl, inr, ⊎_elim, ℕ, ◌+◌, ◌≤◌, pos, Bool, true, false, IsTrue, Option, Some, None, IsSome, IfSome, Result, Ok, Err, OnOk, IfErr, IsErrAnd, List, [], length, refl, ap, sym, ◌∙◌, subst, arith}
 use Rattle.ts_base.specs.declared.fault.StoreFault.{StoreFault}
 use Rattle.ts_base.specs.declared.fault.StoreFault.TheVariants.{Failed as StoreFailed}
 use Rattle.ts_base.specs.declared.refusal.Refusal.{Refusal}
 use Rattle.ts_command.specs.declared.command.Command.{Command}
 use Rattle.ts_command.specs.declared.boundary.Boundary.{Boundary}
 use Rattle.ts_command.specs.declared.boundary.Boundary.TheVariants.{Opens, Commits, RollsBack}
-use Rattle.ts_command.specs.Boundary.{boundary_of, is_reading}
+use Rattle.ts_command.specs.Boundary.{boundary_of, is_reading, is_between}
 use Rattle.ts_command.specs.Writing.{is_writing}
 use Rattle.ts_disk.specs.Device.{Device, Lawful, LeavesOnly}
 use Rattle.ts_disk.proofs.Moments.{leaves_map}
@@ -69,8 +69,9 @@ is_some_of None one = absurd (one refl)
 is_some_of (Some t) one = refl
 
 -- what begins or ends a transaction doesn't only read
-never_reads : (command : Command) (b : Boundary) → boundary_of command ≡ Some b → is_reading command ≡ true → ⊥
-never_reads command b is reads = let none = reads_between command reads in cc
+never_reads : (command : Command) (b : Boundary) → boundary_of command ≡ Some b → is_between (Some b) ≡ false → is_reading command ≡ true → ⊥
+never_reads command b is not reads =
+    let between = sym (ap is_between is) ∙ reads_between command reads in cc
 
 module _ (tells : Bool) (command : Command) (e : Kept) (v : Device) (lawful : Lawful tells v) (ready : IsReady tells e v) where
   -- it is refused before all else, and nothing changes
@@ -149,7 +150,7 @@ module _ (tells : Bool) (command : Command) (e : Kept) (v : Device) (lawful : La
           answered = λ told state at. sym (ap (λ (a : List ℕ × State). a.0) (after state at));
           reads = λ told state at nothing. reads_none tells v lawful;
           quiet = λ told state at no. reads_none tells v lawful;
-          unchanged = λ told state at nothing. absurd (never_nothing state command (ok_line, opened state.base state.base 0) (run_begun state at) (never_reads command Opens opens) nothing);
+          unchanged = λ told state at nothing. absurd (never_nothing state command (ok_line, opened state.base state.base 0) (run_begun state at) (never_reads command Opens opens refl) nothing);
           empty = λ err. absurd (cc);
         })
 
@@ -198,7 +199,7 @@ module _ (tells : Bool) (command : Command) (e : Kept) (v : Device) (lawful : La
           answered = λ told state at. sym (ap (λ (a : List ℕ × State). a.0) (after state at));
           reads = λ told state at nothing. reads_none tells v lawful;
           quiet = λ told state at no. reads_none tells v lawful;
-          unchanged = λ told state at nothing. absurd (never_nothing state command (ok_line, resting state.base) (run_rolled state at) (never_reads command RollsBack ends) nothing);
+          unchanged = λ told state at nothing. absurd (never_nothing state command (ok_line, resting state.base) (run_rolled state at) (never_reads command RollsBack ends refl) nothing);
           empty = λ err. absurd (cc);
         })
 
@@ -214,7 +215,7 @@ module _ (tells : Bool) (command : Command) (e : Kept) (v : Device) (lawful : La
     answer_committed state at = run_answers state command (line, resting (newest state)) (run_committed state at)
 
     something : (state : State) → IsAt tells e state v → ChangesNothing state command → ⊥
-    something state at nothing = never_nothing state command (line, resting (newest state)) (run_committed state at) (never_reads command Commits ends) nothing
+    something state at nothing = never_nothing state command (line, resting (newest state)) (run_committed state at) (never_reads command Commits ends refl) nothing
 
     commits : (state : State) → IsAt tells e state v → IsCommit state command
     commits state at = inr (is_some_of state.transaction (some_of e.saved state.transaction at.accepted one), ends)

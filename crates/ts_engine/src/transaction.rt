@@ -141,7 +141,7 @@ fn misplaced_outside(boundary: Option<Boundary>) -> Option<Refusal>
 {
     match boundary {
         Some(Boundary::Commits) | Some(Boundary::RollsBack) => Some(Refusal::NotOpen),
-        Some(Boundary::Opens) | None => None,
+        Some(Boundary::Opens) | Some(Boundary::Alone) | None => None,
     }
 }
 
@@ -150,7 +150,7 @@ fn misplaced_inside(boundary: Option<Boundary>, writes: bool, accepted: u8) -> O
     ensures { result ≡ misplaced_in boundary writes (Some accepted) }
 {
     match boundary {
-        Some(Boundary::Opens) => Some(Refusal::AlreadyOpen),
+        Some(Boundary::Opens) | Some(Boundary::Alone) => Some(Refusal::AlreadyOpen),
         Some(Boundary::Commits) | Some(Boundary::RollsBack) => None,
         None => {
             if writes && accepted >= MOST_ACCEPTED {

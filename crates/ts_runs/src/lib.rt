@@ -21,6 +21,8 @@ mod journal;
 #[cfg(test)]
 mod program;
 #[cfg(test)]
+mod rolling;
+#[cfg(test)]
 mod routines;
 #[cfg(test)]
 mod statuses;

@@ -1,0 +1,125 @@
+-- The control of a set in the catalogue of what is held, and what comes of it.
+use Rattle.std.proofs.Common.{◌≡◌, ℕ, ℤ, ◌<◌, ◌≤◌, Bool, true, false, T, cond, Option, Some, None, Ok, Err, List, [], ◌∷◌, slice_get, refl, ap, sym, ◌∙◌, subst, arith}
+use Rattle.std.specs.Ordering.{nat_cmp, is_eq, eq_by_cmp}
+use Rattle.std.specs.Cmp.{nat_cmp_total, tied_itself}
+use Rattle.std.specs.FinMap.{entries, entries_sorted, get, get-entries, find}
+use Rattle.ts_base.specs.declared.refusal.Refusal.{Refusal}
+use Rattle.ts_base.specs.declared.refusal.Refusal.TheVariants as refusals
+use Rattle.ts_base.specs.declared.fault.Trouble.{Trouble}
+use Rattle.ts_base.specs.declared.fault.Trouble.TheVariants.{Refused, Memory}
+use Rattle.ts_row.specs.declared.value.Literal.{Literal}
+use Rattle.ts_row.specs.Row.{Row}
+use Rattle.ts_offset.specs.Grid.{GridPlan}
+use Rattle.ts_offset.specs.declared.shape.Shape.{Shape}
+use Rattle.ts_offset.specs.declared.shape.Shape.TheVariants as shapes
+use Rattle.ts_model.specs.declared.kind.Kind.TheVariants as kinds
+use Rattle.ts_model.specs.Catalogue.{Series, Catalogue, name_cmp, columns_of, shape_of}
+use Rattle.ts_model.specs.Kinds.{without}
+use Rattle.ts_layout.specs.Meaning.{Layout, catalogue_of}
+use Rattle.ts_rolling.specs.Keys.{most_kept, control_key, read_control}
+use Rattle.ts_rolling.specs.Plan.{Planned, planned}
+use Rattle.ts_rolling.specs.Sets.{controls, control_of, windows, live}
+use Rattle.ts_rolling.proofs.KeyLemmas.{control_form, controls_cmp}
+use Rattle.ts_rolling.proofs.NumberedLemmas.{tested, find-picked}
+use Rattle.ts_answer.specs.Answer.{Tried, Answered, ◌>>=◌, known, wanted, a_row}
+use Rattle.ts_answer.specs.Rolling.{a_control, grid_in, control_grid, put_planned, roll_put, roll_drop, without_windows}
+use Rattle.ts_answer.specs.Reply.{count_line}
+use Rattle.ts_answer.specs.Tried.{IsRefusedAs}
+use Rattle.ts_answer.specs.View.{View, IsViewOf}
+use Rattle.ts_answer.proofs.CallerLemmas.{on_ok, on_err}
+use Rattle.ts_rolling_sets.specs.InMemory.{kept_in, gridded}
+use Rattle.ts_rolling_sets.proofs.OrderLemmas.{control_number, no_control, one_control}
+
+-- a control is the series with its key
+abbrev IsKept : ℕ → Type 0
+IsKept n = (1 ≤ n) × (n ≤ most_kept)
+
+any : (o : Option Series) → tested (λ s. true) o ≡ o
+any None = refl
+any (Some s) = refl
+
+by_key : (set : List ℕ) (cat : Catalogue) (n : ℕ) → 1 ≤ n → n ≤ most_kept → find nat_cmp n (controls set cat) ≡ get cat.series (control_key set n)
+unfolding controls
+by_key set cat n least most =
+    find-picked (λ k. read_control k set) (control_key set) IsKept (λ k n e. let h = (control_form k set n).0 e in ((h.0, h.1), h.2)) (λ n h. (control_form (control_key set n) set n).1 (h.0, h.1, refl)) (λ i j h g. controls_cmp set i j h.1 g.1)
+    (λ s. true) n (least, most) (entries cat.series) (entries_sorted cat.series)
+    ∙ any (find name_cmp (control_key set n) (entries cat.series))
+    ∙ sym (get-entries cat.series (control_key set n))
+
+first_found : (ws : List (ℕ × Series)) (n : ℕ) (s : Series) → slice_get ws 0 ≡ Some (n, s) → find nat_cmp n ws ≡ Some s
+first_found [] n s is = absurd (cc)
+first_found (w ∷ ws) n s is =
+    let number : w.0 ≡ n = cc in
+    let series : w.1 ≡ s = cc in
+    let ties : eq_by_cmp nat_cmp n w.0 ≡ true = ap (λ (k : ℕ). eq_by_cmp nat_cmp n k) number ∙ ap is_eq (tied_itself nat_cmp_total n) in
+    ap (λ (b : Bool). cond b (Some w.1) (find nat_cmp n ws)) ties ∙ ap Some series
+
+module _ (x : View) (l : Layout) (held : IsViewOf x l) (set : List ℕ) where
+  kept_of_layout : kept_in x.definitions set ≡ kept_in l.definitions set
+  kept_of_layout = ap (λ d. kept_in d set) held.definitions
+
+  pub control_there : (n : ℕ) → Some n ≡ slice_get (kept_in x.definitions set) 0 → 1 ≤ n → n ≤ 1000
+      → (s : Series) × (control_of set (catalogue_of l) ≡ Some (n, s)) × (get (catalogue_of l).series (control_key set n) ≡ Some s)
+  control_there n is least most =
+      let found = one_control (control_of set (catalogue_of l)) n (control_number l set (Some n) (is ∙ ap (λ (ns : List ℕ). slice_get ns 0) kept_of_layout)) in
+      (found.0, found.1, sym (by_key set (catalogue_of l) n least most) ∙ first_found (controls set (catalogue_of l)) n found.0 found.1)
+
+  pub control_missing : None ≡ slice_get (kept_in x.definitions set) 0 → control_of set (catalogue_of l) ≡ None
+  control_missing is = no_control (control_of set (catalogue_of l)) (control_number l set None (is ∙ ap (λ (ns : List ℕ). slice_get ns 0) kept_of_layout))
+
+-- its grid
+module _ (set : List ℕ) (cat : Catalogue) where
+  pub ungridded_none : control_of set cat ≡ None → gridded set cat ≡ Err refusals.UnknownName
+  ungridded_none none = on_err (a_control set cat) refusals.UnknownName _ (ap known none)
+
+  module _ (n : ℕ) (s : Series) (is : control_of set cat ≡ Some (n, s)) where
+    pub controlled : a_control set cat ≡ Ok (n, s)
+    controlled = ap known is
+
+    pub ungridded : (shape : shape_of cat s.kind ≡ Some shapes.Irregular) → gridded set cat ≡ Err refusals.NotRegular
+    unfolding control_grid
+    ungridded shape = on_ok (a_control set cat) (n, s) _ controlled ∙ on_ok (known (shape_of cat s.kind)) shapes.Irregular grid_in (ap known shape)
+
+    pub on_its_grid : (g : GridPlan) → shape_of cat s.kind ≡ Some (shapes.Regular g) → control_grid s cat ≡ Ok g
+    unfolding control_grid
+    on_its_grid g shape = on_ok (known (shape_of cat s.kind)) (shapes.Regular g) grid_in (ap known shape)
+
+-- what refuses the first two tests refuses what goes on with them
+first_two : {A B C : Type 0} (m : Tried A) (f : A → Tried B) (rest : A → B → Tried C) (refusal : Refusal) → (m >>= f) ≡ Err refusal → (m >>= λ a. f a >>= rest a) ≡ Err refusal
+unfolding ◌>>=◌
+first_two (Ok a) f rest refusal is = on_err (f a) refusal (rest a) is
+first_two (Err other) f rest refusal is = let same : other ≡ refusal = cc in ap Err same
+
+module _ (set : List ℕ) (stamp : ℤ) (literals : List Literal) (cat : Catalogue) where
+  pub put_ungridded : (trouble : Trouble) → IsRefusedAs trouble (gridded set cat) → IsRefusedAs trouble (roll_put set stamp literals cat)
+  unfolding roll_put
+  put_ungridded (Refused refusal) is =
+      first_two (a_control set cat) (λ control. control_grid control.1 cat) (λ control grid. a_row (columns_of cat control.1) literals >>= λ row. planned grid control.0 (live set control.1.container cat) stamp >>= λ plan. put_planned set control.1.container plan stamp literals cat) refusal is
+  put_ungridded (Memory error) is = tt
+
+  module _ (n : ℕ) (s : Series) (g : GridPlan) (is : control_of set cat ≡ Some (n, s)) (grid : control_grid s cat ≡ Ok g) where
+    abbrev with_row : Tried Answered
+    with_row = a_row (columns_of cat s) literals >>= λ row. planned g n (live set s.container cat) stamp >>= λ plan. put_planned set s.container plan stamp literals cat
+
+    put_goes : roll_put set stamp literals cat ≡ with_row
+    unfolding roll_put
+    put_goes = on_ok (a_control set cat) (n, s) _ (controlled set cat n s is) ∙ on_ok (control_grid s cat) g _ grid
+
+    pub put_misfits : (trouble : Trouble) → IsRefusedAs trouble (a_row (columns_of cat s) literals) → IsRefusedAs trouble (roll_put set stamp literals cat)
+    put_misfits (Refused refusal) no = put_goes ∙ on_err (a_row (columns_of cat s) literals) refusal _ no
+    put_misfits (Memory error) no = tt
+
+    module _ (row : Row) (fits : a_row (columns_of cat s) literals ≡ Ok row) where
+      pub put_unplanned : (trouble : Trouble) → IsRefusedAs trouble (planned g n (live set s.container cat) stamp) → IsRefusedAs trouble (roll_put set stamp literals cat)
+      put_unplanned (Refused refusal) no = put_goes ∙ on_ok (a_row (columns_of cat s) literals) row _ fits ∙ on_err (planned g n (live set s.container cat) stamp) refusal _ no
+      put_unplanned (Memory error) no = tt
+
+      pub put_as_planned : (plan : Planned) → planned g n (live set s.container cat) stamp ≡ Ok plan → roll_put set stamp literals cat ≡ put_planned set s.container plan stamp literals cat
+      put_as_planned plan yes = put_goes ∙ on_ok (a_row (columns_of cat s) literals) row _ fits ∙ on_ok (planned g n (live set s.container cat) stamp) plan _ yes
+
+-- a set that goes
+module _ (set : List ℕ) (cat : Catalogue) where
+  pub drop_ungridded : (trouble : Trouble) → IsRefusedAs trouble (gridded set cat) → IsRefusedAs trouble (roll_drop set cat)
+  unfolding roll_drop
+  drop_ungridded (Refused refusal) is = first_two (a_control set cat) (λ control. control_grid control.1 cat) _ refusal is
+  drop_ungridded (Memory error) is = tt

@@ -1,0 +1,94 @@
+-- The controls and windows of a set, by the slots of their keys and in the catalogue.
+use Rattle.std.proofs.Common.{◌≡◌, ℕ, ℤ, ◌+◌, ◌<◌, ◌≤◌, ◌==◌, ◌&&◌, Bool, true, false, not, cond, is_none, is_some, Option, Some, None, IsTrue, List, [], ◌∷◌, map, slice_get, refl, ap, sym, ◌∙◌, subst, arith}
+use Rattle.std.specs.Option.{option_map, option_and_then}
+use Rattle.std.specs.Prelude.{bytes_eq}
+use Rattle.std.specs.List.{filter_map, cons_option}
+use Rattle.std.specs.List.Sorted.{IsStrictlyIncreasing}
+use Rattle.std.specs.Ordering.{nat_cmp}
+use Rattle.std.specs.FinMap.{entries, get, find}
+use Rattle.ts_model.specs.declared.kind.Kind.TheVariants as kinds
+use Rattle.ts_model.specs.Catalogue.{Series, is_regular}
+use Rattle.ts_model.specs.Definitions.{Definitions, SeriesDef, at_slot, slots, slot_of}
+use Rattle.ts_layout.specs.Meaning.{Layout, IsSound, kind_in, series_of, catalogue_of}
+use Rattle.ts_rolling.specs.Keys.{control_key, read_control, read_window}
+use Rattle.ts_rolling.specs.Sets.{control_if_any, window_if_any, may_be_window, controls, windows, control_of, live}
+use Rattle.ts_tell.proofs.InOrderLemmas.{walk, Stands, AllStand, index_walk, series_walk, walk_stands, same_test, lies_as}
+use Rattle.ts_rolling_sets.specs.InMemory.{control_at, control_if, window_at, window_if, in_order, kept_in, live_in}
+
+-- an entry of the catalogue
+abbrev of_walk : Layout → List ℕ × (ℕ × SeriesDef) → List ℕ × Series
+of_walk l e = (e.0, series_of l e.1.0 e.1.1)
+
+-- what is numbered by slots is numbered so in the catalogue
+one_number : (o : Option (ℕ × Series)) (n : Option ℕ) (ws : List (ℕ × Series)) (ns : List ℕ) → option_map (λ (w : ℕ × Series). w.0) o ≡ n → map (λ (w : ℕ × Series). w.0) ws ≡ ns
+    → map (λ (w : ℕ × Series). w.0) (cons_option o ws) ≡ cons_option n ns
+one_number None n ws ns is rest = rest ∙ ap (λ (m : Option ℕ). cons_option m ns) is
+one_number (Some w) n ws ns is rest = ap (λ (ms : List ℕ). w.0 ∷ ms) rest ∙ ap (λ (m : Option ℕ). cons_option m ns) is
+
+module _ (l : Layout) (pick : List ℕ × Series → Option (ℕ × Series)) (number : ℕ → Option ℕ)
+    (same : (e : List ℕ × (ℕ × SeriesDef)) → Stands l.definitions.series e → option_map (λ (w : ℕ × Series). w.0) (pick (of_walk l e)) ≡ number e.1.0) where
+  all_numbers : (ws : List (List ℕ × (ℕ × SeriesDef))) → AllStand l.definitions.series ws → map (λ (w : ℕ × Series). w.0) (filter_map pick (map (of_walk l) ws)) ≡ filter_map number (map (λ (e : List ℕ × (ℕ × SeriesDef)). e.1.0) ws)
+  all_numbers [] all = refl
+  all_numbers (e ∷ ws) all = one_number (pick (of_walk l e)) (number e.1.0) (filter_map pick (map (of_walk l) ws)) (filter_map number (map (λ (e : List ℕ × (ℕ × SeriesDef)). e.1.0) ws)) (same e all.0) (all_numbers ws all.1)
+
+  numbered : map (λ (w : ℕ × Series). w.0) (filter_map pick (entries (catalogue_of l).series)) ≡ filter_map number (in_order l.definitions)
+  numbered =
+      ap (λ (es : List (List ℕ × Series)). map (λ (w : ℕ × Series). w.0) (filter_map pick es)) (series_walk l l.definitions.series)
+      ∙ all_numbers (walk l.definitions.series) (walk_stands l.definitions.series)
+      ∙ ap (filter_map number) (sym (index_walk l.definitions.series))
+
+-- the number of a pair that is made of one
+made_pair : (s : Series) (o : Option ℕ) → option_map (λ (w : ℕ × Series). w.0) (option_map (λ n. (n, s)) o) ≡ o
+made_pair s None = refl
+made_pair s (Some n) = refl
+
+-- controls
+control_same : (l : Layout) (set : List ℕ) (e : List ℕ × (ℕ × SeriesDef)) → Stands l.definitions.series e → option_map (λ (w : ℕ × Series). w.0) (control_if_any set (of_walk l e)) ≡ control_at l.definitions set e.1.0
+control_same l set e stands =
+    made_pair (series_of l e.1.0 e.1.1) (read_control e.0 set) ∙ ap (λ (k : List ℕ). read_control k set) stands.1 ∙ sym (ap (control_if set) stands.0)
+
+pub kept_same : (l : Layout) (set : List ℕ) → map (λ (w : ℕ × Series). w.0) (controls set (catalogue_of l)) ≡ kept_in l.definitions set
+unfolding controls
+kept_same l set = numbered l (control_if_any set) (control_at l.definitions set) (control_same l set)
+
+-- windows
+window_picked : (b c : Bool) (s : Series) (o : Option ℕ) → option_map (λ (w : ℕ × Series). w.0) (cond (b && c) (option_map (λ j. (j, s)) o) None) ≡ cond (b && c) o None
+window_picked b c s o = by (b && c)
+  where
+    by : (t : Bool) → option_map (λ (w : ℕ × Series). w.0) (cond t (option_map (λ j. (j, s)) o) None) ≡ cond t o None
+    by true = made_pair s o
+    by false = refl
+
+none_regular : (o : Option (ℕ × ℤ)) → not (is_some o) ≡ is_none o
+none_regular None = refl
+none_regular (Some r) = refl
+
+module _ (l : Layout) (set name : List ℕ) (holder : ℕ) (rules : IsSound l) (is : slot_of name (slots kinds.Container l.definitions) ≡ Some holder) where
+  window_same : (e : List ℕ × (ℕ × SeriesDef)) → Stands l.definitions.series e → option_map (λ (w : ℕ × Series). w.0) (window_if_any set name (of_walk l e)) ≡ window_at l.definitions set holder e.1.0
+  window_same e stands =
+      let s = series_of l e.1.0 e.1.1 in
+      let irregular : not (is_regular s.kind) ≡ is_none e.1.1.regular = ap not (sym (lies_as l.definitions e.1.1.regular)) ∙ none_regular e.1.1.regular in
+      window_picked (bytes_eq s.container name) (not (is_regular s.kind)) s (read_window e.0 set)
+      ∙ (λ i. cond (same_test l name holder rules is e.1.0 e.1.1 stands.0 i && irregular i) (read_window (stands.1 i) set) None)
+      ∙ sym (ap (window_if set holder) stands.0)
+
+  pub live_same : live set name (catalogue_of l) ≡ live_in l.definitions set holder
+  unfolding windows
+  live_same = numbered l (window_if_any set name) (window_at l.definitions set holder) window_same
+
+-- the first of some, by its number
+first_of : (ws : List (ℕ × Series)) (o : Option ℕ) → slice_get (map (λ (w : ℕ × Series). w.0) ws) 0 ≡ o → option_map (λ (w : ℕ × Series). w.0) (slice_get ws 0) ≡ o
+first_of [] o is = is
+first_of (w ∷ ws) o is = is
+
+pub control_number : (l : Layout) (set : List ℕ) (o : Option ℕ) → o ≡ slice_get (kept_in l.definitions set) 0 → option_map (λ (w : ℕ × Series). w.0) (control_of set (catalogue_of l)) ≡ o
+control_number l set o is = first_of (controls set (catalogue_of l)) o (ap (λ (ns : List ℕ). slice_get ns 0) (kept_same l set) ∙ sym is)
+
+-- no control, or the one of a number
+pub no_control : (o : Option (ℕ × Series)) → option_map (λ (w : ℕ × Series). w.0) o ≡ None → o ≡ None
+no_control None is = refl
+no_control (Some w) is = absurd (cc)
+
+pub one_control : (o : Option (ℕ × Series)) (n : ℕ) → option_map (λ (w : ℕ × Series). w.0) o ≡ Some n → (s : Series) × (o ≡ Some (n, s))
+one_control None n is = absurd (cc)
+one_control (Some w) n is = let same : w.0 ≡ n = cc in (w.1, λ i. Some (same i, w.1))

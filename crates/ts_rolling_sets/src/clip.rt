@@ -1,0 +1,136 @@
+// The routine that says what stands in the windows of a set.
+ghost use Rattle.std.specs.Prelude.{◌≡◌, ◌<◌, ◌≤◌, ℕ, [], EachIndex, IfOk, IfSome, IsTrue, List, None, Some, length};
+ghost use Rattle.std.specs.Prelude.{slice_index};
+ghost use Rattle.ts_row.specs.declared.kind.Column.{Column};
+ghost use Rattle.ts_command.specs.declared.command.Command.TheVariants.{RollingClip};
+ghost use Rattle.ts_irregular.specs.Call.{Reads};
+ghost use Rattle.ts_layout.specs.Meaning.{Layout, heading_at};
+ghost use Rattle.ts_rolling.specs.Keys.{is_set};
+ghost use Rattle.ts_answer.specs.View.{view, IsSeen, Shows};
+ghost use Rattle.ts_answer.specs.CarriedOut.{ReadOut};
+ghost use Rattle.ts_rolling_sets.specs.Windows.{seen_in, entries_in, IsWindowSlot, HasColumns};
+
+use crate::control::{control_of, home_of};
+use crate::live::window_slots;
+use std::alloc::Global;
+use ts_answer::Stop;
+use ts_base::{Key, Refusal, Reply, Stamp, StoreFault};
+use ts_clip::{clip, clip_len};
+use ts_entry::EntryVisitor;
+use ts_model::Defs;
+use ts_page::{Page, Pages};
+use ts_say::{EntryLines, say_count};
+use ts_shelf::shelf_at;
+use ts_space::Space;
+
+/// The most rows of a reply.
+const MOST_ROWS: u64 = 1_000_000;
+
+/// Windows, by their slots, from one stamp to another, both included.
+#[derive(Clone, Copy)]
+struct Range<'a> {
+    slots: &'a [u16],
+    from: Stamp,
+    to: Stamp,
+}
+
+/// Says the elements in the windows of a set from one stamp to another, both included, that aren't hidden: window by
+/// window, those of each in order, and how many they are; TooLarge where they are more than 1000000, and some lines
+/// stand in the reply by then. `page` is room to read one.
+pub fn clip_set<P: Pages>(
+    alloc: Global,
+    pages: &mut P,
+    page: &mut Page,
+    defs: &Defs,
+    space: &Space,
+    set: &Key,
+    from: Stamp,
+    to: Stamp,
+    out: &mut Reply,
+) -> Result<(), Stop>
+    requires seen { IsSeen P.tells (view defs.now.definitions space.now (P.contents pages.old)) }
+    requires set { IsTrue (is_set set.now) }
+    requires empty { out.old ≡ [] }
+    ensures read { ReadOut P.tells (RollingClip set.now from to) result out.new
+        (view defs.now.definitions space.now (P.contents pages.old)) (P.contents pages.new) }
+    ensures undisturbed { P.undisturbed pages.old pages.new }
+{
+    let control = control_of(alloc, pages, defs, space, set)?;
+    let (container, _) = home_of(defs, control.shelf.series);
+    let slots = window_slots(alloc, defs, set, container)?;
+    let range = Range {
+        slots: &slots,
+        from,
+        to,
+    };
+    let mut lines = EntryLines::behind(out);
+    let said = say_windows(pages, page, defs, space, range, &mut lines)?;
+    let Some(count) = said else {
+        let rows = count_windows(pages, page, defs, space, range)?;
+        return Err(Stop::Refused(Refusal::TooLarge { rows }));
+    };
+    say_count(out, count)?;
+    Ok(())
+}
+
+// Hands what is seen in windows to a visitor, and tells how many elements that are; none where they are more than a
+// reply may have, and then some were handed on. All pages stay; `page` is room to read one.
+fn say_windows<P: Pages, V: EntryVisitor>(
+    pages: &mut P,
+    page: &mut Page,
+    defs: &Defs,
+    space: &Space,
+    range: Range<'_>,
+    visitor: &mut V,
+) -> Result<Option<u64>, StoreFault>
+    requires seen { IsSeen P.tells (view defs.now.definitions space.now (P.contents pages.old)) }
+    requires windows { EachIndex range.slots.now (λ k. IsWindowSlot defs.now.definitions (slice_index range.slots.now k)) }
+    ensures taken { IfOk result (λ said. IfSome said (λ count. IsTrue P.tells → (columns : List Column) (l : Layout)
+        → EachIndex range.slots.now (λ k. HasColumns columns (heading_at defs.now.definitions (slice_index range.slots.now k)))
+        → Shows P.tells (view defs.now.definitions space.now (P.contents pages.old)) l
+        → V.took columns visitor.old (entries_in l range.from range.to range.slots.now) visitor.new
+        × (count ≡ length (seen_in l range.from range.to range.slots.now)))) }
+    ensures few { IfOk result (λ said. IfSome said (λ count. count ≤ 1_000_000)) }
+    ensures many { IfOk result (λ said. said ≡ None → IsTrue P.tells → (l : Layout)
+        → Shows P.tells (view defs.now.definitions space.now (P.contents pages.old)) l
+        → 1_000_000 < length (seen_in l range.from range.to range.slots.now)) }
+    ensures call { Reads P.tells result (P.contents pages.old) (P.contents pages.new) }
+    ensures undisturbed { P.undisturbed pages.old pages.new }
+{
+    let mut count = 0;
+    for slot in range.slots {
+        let (shelf, shape) = shelf_at(pages, defs, space, *slot);
+        let (from, to) = (range.from, range.to);
+        match clip(pages, page, space, &shelf, &shape, from, to, visitor)? {
+            Ok(more) if more <= MOST_ROWS - count => count += more,
+            _ => return Ok(None),
+        }
+    }
+    Ok(Some(count))
+}
+
+// How many elements are seen in windows. All pages stay; `page` is room to read one.
+fn count_windows<P: Pages>(
+    pages: &mut P,
+    page: &mut Page,
+    defs: &Defs,
+    space: &Space,
+    range: Range<'_>,
+) -> Result<u64, StoreFault>
+    requires seen { IsSeen P.tells (view defs.now.definitions space.now (P.contents pages.old)) }
+    requires windows { EachIndex range.slots.now (λ k. IsWindowSlot defs.now.definitions (slice_index range.slots.now k)) }
+    requires few { length range.slots.now ≤ 4096 }
+    ensures count { IfOk result (λ count. IsTrue P.tells → (l : Layout)
+        → Shows P.tells (view defs.now.definitions space.now (P.contents pages.old)) l
+        → count ≡ length (seen_in l range.from range.to range.slots.now)) }
+    ensures call { Reads P.tells result (P.contents pages.old) (P.contents pages.new) }
+    ensures undisturbed { P.undisturbed pages.old pages.new }
+{
+    let mut count: u64 = 0;
+    for slot in range.slots {
+        let (shelf, shape) = shelf_at(pages, defs, space, *slot);
+        let more = clip_len(pages, page, space, &shelf, &shape, range.from, range.to)?;
+        count = count.saturating_add(more);
+    }
+    Ok(count)
+}
