@@ -144,7 +144,7 @@ pub(crate) enum LoneRoutine {
     Rollback,
 }
 
-const ROUTINES: [Routine; 49] = [
+const ROUTINES: [Routine; 53] = [
     Routine::WithRow(RowRoutine::PutElem),
     Routine::WithRow(RowRoutine::InsElem),
     Routine::WithRow(RowRoutine::UpdElem),

@@ -26,7 +26,7 @@ use Rattle.ts_rolling.specs.Plan.{Planned, going, planned}
 use Rattle.ts_rolling.specs.Kept.{kept}
 use Rattle.ts_answer.specs.Answer.{Tried, Answered, settled, answer, known, a_row, a_calendar, wanted, create_regular, put_no_dups}
 use Rattle.ts_multi.specs.Touched.{object}
-use Rattle.ts_rolling_laws.specs.Rolling.{a_control, control_grid, grid_in, without_windows, with_window, roll_put, roll_create}
+use Rattle.ts_answer.specs.Rolling.{a_control, control_grid, grid_in, without_windows, with_window, roll_put, roll_create}
 use Rattle.ts_rolling_laws.specs.Content.{content, Deed, Put, Other, done, all_done, put_if_any, row_by, put_by, all_puts, IsOfSet, Avoids, IsMade, ContentIsKept}
 use Rattle.ts_rolling_laws.proofs.CameLemmas.{came, on_ok, same_Ok, known_is, wanted_is, not_refused, row_seen}
 use Rattle.ts_rolling_laws.proofs.NumberLemmas.{has}

@@ -21,7 +21,7 @@ use Rattle.ts_rolling.specs.Plan.{Planned, a_plan, later, greatest, is_old, is_g
 use Rattle.ts_rolling.specs.Sets.{live, windows}
 use Rattle.ts_rolling.specs.Kept.{last_puts, window_of}
 use Rattle.ts_answer.specs.Answer.{Answered, known, a_row, an_address, addressed, wanted, put_no_dups, create_irregular}
-use Rattle.ts_rolling_laws.specs.Rolling.{with_window}
+use Rattle.ts_answer.specs.Rolling.{with_window}
 use Rattle.ts_rolling_laws.proofs.CameLemmas.{came, on_ok, same_Ok, wanted_is}
 use Rattle.ts_rolling_laws.proofs.NumberLemmas.{has, stands, eq_refl, eq_same, eq_apart, same_newest, stands-other, stands-own, own_young, none_yet}
 use Rattle.ts_rolling_laws.proofs.OffsetLemmas.{offset_few}

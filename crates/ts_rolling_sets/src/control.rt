@@ -19,6 +19,7 @@ use ts_shelf::shelf_of;
 use ts_space::Space;
 
 /// The control of a set: how many windows are kept, its key, its series with its columns, and the grid of the windows.
+#[derive(Drop)]
 pub struct Control<'a> {
     pub kept: u16,
     pub key: Key,
