@@ -1,18 +1,17 @@
 -- What the routines of rolling sets leave of the series of a catalogue: none gets another kind.
-use Rattle.std.proofs.Common.{◌≡◌, ℕ, ◌==◌, Bool, true, false, ◌&&◌, not, cond, Option, Some, None, option_map, Ok, Err, Result, List, [], ◌∷◌, map, filter, filter_map, refl, sym, ap, subst, ◌∙◌, ℤ, inl, inr}
-use Rattle.std.specs.List.{AllByRecursion, fold, cons_option, list_any}
+use Rattle.std.proofs.Common.{◌≡◌, ℕ, Bool, true, false, ◌&&◌, not, cond, Option, Some, None, option_map, Ok, List, [], ◌∷◌, map, filter_map, refl, sym, ap, subst, ◌∙◌, ℤ, inl, inr}
+use Rattle.std.specs.List.{AllByRecursion, fold, cons_option}
 use Rattle.std.specs.FinMap.{empty, entries, entries_sorted, get, get-entries, get-insert, get-remove, insert, remove}
 use Rattle.std.specs.Ordering.{eq_by_cmp}
-use Rattle.ts_base.specs.declared.refusal.Refusal.{Refusal}
-use Rattle.ts_base.specs.declared.refusal.Refusal.TheVariants.{WindowGone}
-use Rattle.ts_offset.specs.Grid.{GridPlan, offset_of}
+use Rattle.ts_offset.specs.Grid.{GridPlan}
 use Rattle.ts_model.specs.declared.kind.Kind.TheVariants as kinds
 use Rattle.ts_model.specs.Kinds.{with_named}
 use Rattle.ts_model.specs.Catalogue.{name_cmp, Named, SeriesKind, Irregular, Regular, Elements, Series, Catalogue, is_regular}
 use Rattle.ts_model.proofs.OrderLemmas.{total, ties-same, both}
 use Rattle.ts_rolling.specs.Keys.{window_key, read_window}
 use Rattle.ts_rolling.specs.KeyLaws.{KeysAreReadExactly}
-use Rattle.ts_rolling.specs.Plan.{Planned, a_plan, later, greatest, is_old, is_gone, going, plan_for, plan_at, planned}
+use Rattle.ts_rolling.specs.Plan.{Planned, planned}
+use Rattle.ts_rolling.proofs.PlanLemmas.{all_going}
 use Rattle.ts_rolling.specs.Sets.{may_be_window, window_if_any, windows, live}
 use Rattle.ts_answer.specs.Rolling.{without_windows, with_window}
 use Rattle.ts_answer.specs.Answer.{Answered, Tried, ok_line, wanted, a_new_name, with_elements, create_irregular}
@@ -69,14 +68,6 @@ module _ (cat : Catalogue) (set : List ℕ) where
   loose_numbers [] all = tt
   loose_numbers (w ∷ ws) all = (all.0, loose_numbers ws all.1)
 
-  loose_kept : (p : ℕ → Bool) (js : List ℕ) → AllByRecursion (λ j. IsLoose (window_key set j)) js → AllByRecursion (λ j. IsLoose (window_key set j)) (filter p js)
-  loose_kept p [] all = tt
-  loose_kept p (j ∷ js) all = by (p j) (loose_kept p js all.1)
-    where
-      by : (b : Bool) → AllByRecursion (λ j. IsLoose (window_key set j)) (filter p js) → AllByRecursion (λ j. IsLoose (window_key set j)) (cond b (j ∷ filter p js) (filter p js))
-      by true rest = (all.0, rest)
-      by false rest = rest
-
   pub live_loose : (container : List ℕ) → KeysAreReadExactly → AllByRecursion (λ j. IsLoose (window_key set j)) (live set container cat)
   unfolding windows
   live_loose container read =
@@ -86,22 +77,8 @@ module _ (cat : Catalogue) (set : List ℕ) where
   -- those that a put lets go are among them
   pub purge_loose : KeysAreReadExactly → (grid : GridPlan) (n : ℕ) (container : List ℕ) (stamp : ℤ) (plan : Planned)
       → planned grid n (live set container cat) stamp ≡ Ok plan → AllByRecursion (λ j. IsLoose (window_key set j)) plan.purge
-  unfolding plan_for
-  purge_loose read grid n container stamp plan is = by (offset_of grid stamp) is
-    where
-      l : List ℕ
-      l = live set container cat
-
-      chosen : (window : ℕ) (b : Bool) → cond b (Err (WindowGone (greatest l))) (Ok (a_plan window (not (list_any (λ k. k == window) l)) (going n l window))) ≡ Ok plan
-          → AllByRecursion (λ j. IsLoose (window_key set j)) plan.purge
-      chosen window true e = absurd (cc)
-      chosen window false e =
-          let same : a_plan window (not (list_any (λ k. k == window) l)) (going n l window) ≡ plan = cc in
-          subst (λ (p : Planned). AllByRecursion (λ j. IsLoose (window_key set j)) p.purge) same (loose_kept (is_old n (later (greatest l) window)) l (live_loose container read))
-
-      by : (o : Result ℕ Refusal) → plan_at n l o ≡ Ok plan → AllByRecursion (λ j. IsLoose (window_key set j)) plan.purge
-      by (Err refusal) e = absurd (cc)
-      by (Ok window) e = chosen window (is_gone n l window) e
+  purge_loose read grid n container stamp plan is =
+      all_going (λ j. IsLoose (window_key set j)) grid n (live set container cat) stamp plan is (live_loose container read)
 
   -- what is left of the series stood there, and what went was irregular
   pub left_there : (js : List ℕ) (m : Named Series) (q : List ℕ) (s : Series) → get (less set js m) q ≡ Some s → get m q ≡ Some s

@@ -82,9 +82,9 @@ pub(crate) fn open_window<P: Pages>(
 ) -> Result<(), Stop>
     requires seen { IsSeen P.tells (seen_on copies.old (P.contents pages.old)) }
     requires charged { AreCharges copies.old.charges copies.old.defs.definitions copies.old.space }
-    ensures came { OnOk result
-        (Came P.tells (λ cat after. with_window attach key.now container.now cat ≡ Ok after)
-        (seen_on copies.old (P.contents pages.old)) (seen_on copies.new (P.contents pages.new))) }
+    ensures part { IsPart P.tells (λ cat after. with_window attach key.now container.now cat ≡ Ok after)
+        (λ refusal cat. with_window attach key.now container.now cat ≡ Err refusal) result copies.new.charges
+        (seen_on copies.old (P.contents pages.old)) (seen_on copies.new (P.contents pages.new)) }
     ensures grows { OnOk result (Grows 1 (P.contents pages.old) (P.contents pages.new)) }
     ensures undisturbed { P.undisturbed pages.old pages.new }
 {
@@ -104,9 +104,9 @@ fn make_window<P: Pages>(
 ) -> Result<(), Stop>
     requires seen { IsSeen P.tells (seen_on copies.old (P.contents pages.old)) }
     requires charged { AreCharges copies.old.charges copies.old.defs.definitions copies.old.space }
-    ensures came { OnOk result
-        (Came P.tells (λ cat after. with_window true key.now container.now cat ≡ Ok after)
-        (seen_on copies.old (P.contents pages.old)) (seen_on copies.new (P.contents pages.new))) }
+    ensures part { IsPart P.tells (λ cat after. with_window true key.now container.now cat ≡ Ok after)
+        (λ refusal cat. with_window true key.now container.now cat ≡ Err refusal) result copies.new.charges
+        (seen_on copies.old (P.contents pages.old)) (seen_on copies.new (P.contents pages.new)) }
     ensures grows { OnOk result (Grows 1 (P.contents pages.old) (P.contents pages.new)) }
     ensures undisturbed { P.undisturbed pages.old pages.new }
 {
@@ -131,8 +131,8 @@ pub(crate) fn put_in_window<P: Pages>(
     requires seen { IsSeen P.tells (seen_on copies.old (P.contents pages.old)) }
     requires charged { AreCharges copies.old.charges copies.old.defs.definitions copies.old.space }
     requires empty { out.old ≡ [] }
-    ensures part { IsPart P.tells (λ cat after. with_window attach key.now container.now cat ≡ Ok after)
-        (λ refusal cat. with_window attach key.now container.now cat ≡ Err refusal) result copies.new.charges
+    ensures part { IsPart P.tells (λ cat after. put_no_dups key.now stamp values.now cat ≡ Ok (out.new, after))
+        (λ refusal cat. put_no_dups key.now stamp values.now cat ≡ Err refusal) result copies.new.charges
         (seen_on copies.old (P.contents pages.old)) (seen_on copies.new (P.contents pages.new)) }
     ensures grows { OnOk result (Grows 1 (P.contents pages.old) (P.contents pages.new)) }
     ensures undisturbed { P.undisturbed pages.old pages.new }

@@ -1,6 +1,6 @@
 -- What a command of a rolling set leaves: all but series whose keys are of the set.
 use Rattle.std.proofs.Common.{◌≡◌, ℕ, ◌<◌, ◌≤◌, Bool, true, false, Option, Some, None, Ok, Err, List, [], ◌∷◌, slice_get, refl, sym, ap, subst, ◌∙◌, arith, inl, inr, ℤ, pos, ◌≤ℤ◌}
-use Rattle.std.specs.Prelude.{is_some, IsTrue}
+use Rattle.std.specs.Prelude.{is_some, IsTrue, unsigned_abs}
 use Rattle.std.specs.List.{AllByRecursion}
 use Rattle.std.specs.FinMap.{get, insert, remove}
 use Rattle.ts_base.specs.declared.refusal.Refusal.{Refusal}
@@ -162,3 +162,38 @@ module _ (read : KeysAreReadExactly) (set : List ℕ) where
     dropped : Tries (roll_drop set cat)
     unfolding Tries roll_drop
     dropped = tries _ _ (λ control is. tries _ _ (λ grid b. drop_leaves control (known_is (control_of set cat) control is)))
+
+true_is : (b : Bool) → IsTrue b → b ≡ true
+true_is true is = refl
+true_is false is = absurd is
+
+-- the key of a statement of a set is a set's
+pub named_well : (command : Command) (set : List ℕ) → HasForm command → set_of command ≡ Some set → is_set set ≡ true
+named_well (commands.RollingCreate own calendar origin container kept) set form is = let same : own ≡ set = cc in subst (λ (s : List ℕ). is_set s ≡ true) same (true_is (is_set own) form.0)
+named_well (commands.RollingPut own stamp literals) set form is = let same : own ≡ set = cc in subst (λ (s : List ℕ). is_set s ≡ true) same (true_is (is_set own) form)
+named_well (commands.RollingClip own from to) set form is = let same : own ≡ set = cc in subst (λ (s : List ℕ). is_set s ≡ true) same (true_is (is_set own) form)
+named_well (commands.RollingDrop own) set form is = let same : own ≡ set = cc in subst (λ (s : List ℕ). is_set s ≡ true) same (true_is (is_set own) form)
+named_well command set form is = absurd (cc)
+
+-- a number of windows of a statement
+nat_of : (kept : ℤ) → pos 1 ≤ℤ kept → kept ≤ℤ pos 1000 → (1 ≤ unsigned_abs kept) × (unsigned_abs kept ≤ most_kept)
+nat_of (pos n) low high = (low, high)
+nat_of kept low high = absurd (low)
+
+pub sets_stay : KeysAreReadExactly → SeriesAreFoundByKeys → SetsStay
+unfolding answer outcome carried_out
+sets_stay read found cat (commands.RollingCreate own calendar origin container kept) set form is =
+    let same : own ≡ set = cc in
+    let kept_in = nat_of kept form.2.2.2.0 form.2.2.2.1 in
+    subst (λ (s : List ℕ). Leaves (Ours read s) cat (settled cat (roll_create own calendar origin container (unsigned_abs kept) cat)).1) same
+    (settles read own found cat _ (created read own found cat calendar origin container (unsigned_abs kept) kept_in.0 kept_in.1))
+sets_stay read found cat (commands.RollingPut own stamp literals) set form is =
+    let same : own ≡ set = cc in
+    subst (λ (s : List ℕ). Leaves (Ours read s) cat (settled cat (roll_put own stamp literals cat)).1) same (settles read own found cat _ (put read own found cat stamp literals))
+sets_stay read found cat (commands.RollingClip own from to) set form is =
+    let same : own ≡ set = cc in
+    subst (λ (s : List ℕ). Leaves (Ours read s) cat (settled cat (roll_clip own from to cat)).1) same (settles read own found cat _ (read_only read own found cat from to))
+sets_stay read found cat (commands.RollingDrop own) set form is =
+    let same : own ≡ set = cc in
+    subst (λ (s : List ℕ). Leaves (Ours read s) cat (settled cat (roll_drop own cat)).1) same (settles read own found cat _ (dropped read own found cat))
+sets_stay read found cat command set form is = absurd (cc)

@@ -23,7 +23,7 @@ use Rattle.ts_rolling.specs.SetLaws.{SeriesAreFoundByKeys, window_in}
 use Rattle.ts_rolling.specs.Kept.{kept, last_puts, window_of, newest_put}
 use Rattle.ts_answer_laws.specs.Laws.{OthersStay}
 use Rattle.ts_answer_laws.specs.SeriesLaws.{SeriesKeepTheirShapes}
-use Rattle.ts_rolling_laws.specs.Content.{content, content_by}
+use Rattle.ts_rolling_laws.specs.Content.{content, content_by, SetsStay}
 use Rattle.ts_rolling_laws.proofs.NumberLemmas.{has, stands, eq_refl, eq_same}
 use Rattle.ts_rolling_laws.proofs.OffsetLemmas.{offset_few}
 use Rattle.ts_rolling_laws.proofs.PartLemmas.{in_window, in_window-yes, part, numbers, ArePuts, last-none, last-put, entries-part}
@@ -37,6 +37,7 @@ pub record Laws : Type 0 where
   pub share : SetsShareNoKeys
   pub found : SeriesAreFoundByKeys
   pub others : OthersStay
+  pub sets : SetsStay
   pub shapes : SeriesKeepTheirShapes
 
 -- a window of a set after some puts

@@ -1,17 +1,21 @@
 -- The controls and windows of a set, by the slots of their keys and in the catalogue.
-use Rattle.std.proofs.Common.{◌≡◌, ℕ, ℤ, ◌+◌, ◌<◌, ◌≤◌, ◌==◌, ◌&&◌, Bool, true, false, not, cond, is_none, is_some, Option, Some, None, IsTrue, List, [], ◌∷◌, map, slice_get, refl, ap, sym, ◌∙◌, subst, arith}
+use Rattle.std.proofs.Common.{◌≡◌, ℕ, ℤ, ◌+◌, ◌<◌, ◌≤◌, ◌==◌, ◌&&◌, Bool, true, false, not, cond, is_none, is_some, Option, Some, None, IsTrue, List, [], ◌∷◌, length, zero, suc, get_or, map, slice_get, refl, ap, sym, ◌∙◌, subst, arith}
 use Rattle.std.specs.Option.{option_map, option_and_then}
 use Rattle.std.specs.Prelude.{bytes_eq}
-use Rattle.std.specs.List.{filter_map, cons_option}
+use Rattle.std.specs.List.{AllByRecursion, filter_map, cons_option}
 use Rattle.std.specs.List.Sorted.{IsStrictlyIncreasing}
 use Rattle.std.specs.Ordering.{nat_cmp}
-use Rattle.std.specs.FinMap.{entries, get, find}
+use Rattle.std.specs.FinMap.{entries, entries_sorted, get, find}
 use Rattle.ts_model.specs.declared.kind.Kind.TheVariants as kinds
-use Rattle.ts_model.specs.Catalogue.{Series, is_regular}
+use Rattle.ts_model.specs.Catalogue.{Series, Catalogue, is_regular}
 use Rattle.ts_model.specs.Definitions.{Definitions, SeriesDef, at_slot, slots, slot_of}
 use Rattle.ts_layout.specs.Meaning.{Layout, IsSound, kind_in, series_of, catalogue_of}
-use Rattle.ts_rolling.specs.Keys.{control_key, read_control, read_window}
+use Rattle.ts_rolling.specs.Keys.{most_windows, window_key, control_key, read_control, read_window}
+use Rattle.ts_rolling.proofs.KeyLemmas.{window_form, windows_cmp}
+use Rattle.ts_rolling.proofs.NumberedLemmas.{good-picked, sorted-picked, numbers_rise}
 use Rattle.ts_rolling.specs.Sets.{control_if_any, window_if_any, may_be_window, controls, windows, control_of, live}
+use Rattle.ts_answer.specs.View.{View, KeepsRules}
+use Rattle.ts_shelf.proofs.MemoryLemmas.{bare_of, bare_rules}
 use Rattle.ts_tell.proofs.InOrderLemmas.{walk, Stands, AllStand, index_walk, series_walk, walk_stands, same_test, lies_as}
 use Rattle.ts_rolling_sets.specs.InMemory.{control_at, control_if, window_at, window_if, in_order, kept_in, live_in}
 
@@ -92,3 +96,40 @@ no_control (Some w) is = absurd (cc)
 pub one_control : (o : Option (ℕ × Series)) (n : ℕ) → option_map (λ (w : ℕ × Series). w.0) o ≡ Some n → (s : Series) × (o ≡ Some (n, s))
 one_control None n is = absurd (cc)
 one_control (Some w) n is = let same : w.0 ≡ n = cc in (w.1, λ i. Some (same i, w.1))
+
+-- windows stand in the order of their numbers, and these are below 10^12
+abbrev IsWindow : ℕ → Type 0
+IsWindow j = j < most_windows
+
+pub live_rises : (set container : List ℕ) (cat : Catalogue) → IsStrictlyIncreasing (live set container cat)
+unfolding windows
+live_rises set container cat =
+    numbers_rise (windows set container cat)
+    (sorted-picked (λ k. read_window k set) (window_key set) IsWindow (λ k j. (window_form k set j).0) (λ j h. (window_form (window_key set j) set j).1 (h, refl)) (λ i j. windows_cmp set i j)
+    (may_be_window container) (entries cat.series) (entries_sorted cat.series))
+
+pub windows_few : (set container : List ℕ) (cat : Catalogue) → AllByRecursion (λ (w : ℕ × Series). w.0 < most_windows) (windows set container cat)
+unfolding windows
+windows_few set container cat =
+    good-picked (λ k. read_window k set) (window_key set) IsWindow (λ k j. (window_form k set j).0) (λ j h. (window_form (window_key set j) set j).1 (h, refl)) (λ i j. windows_cmp set i j)
+    (may_be_window container) (entries cat.series)
+
+few_numbers : (ws : List (ℕ × Series)) → AllByRecursion (λ (w : ℕ × Series). w.0 < most_windows) ws → AllByRecursion IsWindow (map (λ (w : ℕ × Series). w.0) ws)
+few_numbers [] all = tt
+few_numbers (w ∷ ws) all = (all.0, few_numbers ws all.1)
+
+pub each_few : (js : List ℕ) → AllByRecursion IsWindow js → (k : ℕ) → k < length js → get_or js k 0 < 1_000_000_000_000
+each_few [] all k within = absurd (omega (arith, within))
+each_few (j ∷ js) all zero within = all.0
+each_few (j ∷ js) all (suc k) within = each_few js all.1 k (omega (arith, within))
+
+-- the same of what is in memory
+module _ (x : View) (kept : KeepsRules x) (set name : List ℕ) (holder : ℕ) (is : slot_of name (slots kinds.Container x.definitions) ≡ Some holder) where
+  live_bare : live set name (catalogue_of (bare_of x)) ≡ live_in x.definitions set holder
+  live_bare = live_same (bare_of x) set name holder (bare_rules x kept) is
+
+  pub live_in_rises : IsStrictlyIncreasing (live_in x.definitions set holder)
+  live_in_rises = subst IsStrictlyIncreasing live_bare (live_rises set name (catalogue_of (bare_of x)))
+
+  pub live_in_few : AllByRecursion IsWindow (live_in x.definitions set holder)
+  live_in_few = subst (AllByRecursion IsWindow) live_bare (few_numbers (windows set name (catalogue_of (bare_of x))) (windows_few set name (catalogue_of (bare_of x))))
