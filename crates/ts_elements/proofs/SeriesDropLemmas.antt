@@ -1,5 +1,5 @@
 -- A series that is dropped with its pages.
-use Rattle.std.proofs.Common.{◌≡◌, ◌≢◌, ℕ, ◌+◌, ◌*◌, ◌<◌, ◌≤◌, Bool, IsTrue, Some, None, Ok, IsPermutation, Contains, All, AllPairs, List, [], ◌++◌, length, get_or, length-append, refl, ap, sym, ◌∙◌, subst, arith}
+use Rattle.std.proofs.Common.{◌≡◌, ◌≢◌, ℕ, ◌+◌, ◌*◌, ◌<◌, ◌≤◌, Bool, IsTrue, IfErr, IsErrAnd, Some, None, Ok, Err, Result, IsPermutation, Contains, All, AllPairs, List, [], ◌++◌, length, get_or, length-append, refl, ap, sym, ◌∙◌, subst, arith}
 use Rattle.std.proofs.lemmas.List.{length-map}
 use Rattle.std.proofs.lemmas.List.Elements.{All-map, All-contains}
 use Rattle.std.proofs.lemmas.List.Sorted.{length_permutation}
@@ -27,6 +27,12 @@ use Rattle.ts_layout.specs.Held.{IsHeldOf}
 use Rattle.ts_layout.specs.Changed.{with_slot_bytes}
 use Rattle.ts_layout.proofs.CallerLemmas.{page_low, page_high, elsewhere, definitions_stay}
 use Rattle.ts_container.specs.Survey.{SlotWritten}
+use Rattle.ts_base.specs.declared.fault.StoreFault.{StoreFault}
+use Rattle.ts_base.specs.declared.fault.StoreFault.TheVariants as faults
+use Rattle.ts_answer.specs.declared.stop.Stop.{Stop}
+use Rattle.ts_answer.specs.declared.stop.Stop.TheVariants.{Refused, Failed, Memory}
+use Rattle.ts_answer.specs.Stop.{store_stop}
+use Rattle.ts_answer.specs.declared.effect.Effect.{Effect}
 use Rattle.ts_answer.specs.declared.effect.Effect.TheVariants.{Series}
 use Rattle.ts_answer.specs.Reply.{ok_line}
 use Rattle.ts_answer.specs.Answer.{drop_series, carried_out, outcome}
@@ -36,7 +42,7 @@ use Rattle.ts_answer.specs.Slots.{IsSlotNamed}
 use Rattle.ts_answer.proofs.CallerLemmas.{held_same, wanted-there, on_ok}
 use Rattle.ts_shelf.proofs.MemoryLemmas.{series_kept, places_seen}
 use Rattle.ts_shelf.proofs.SeenLemmas.{series_seen}
-use Rattle.ts_elements.specs.Drops.{IsDropped}
+use Rattle.ts_elements.specs.Drops.{IsDropped, LeavesRefused}
 use Rattle.ts_elements.specs.Stamps.{ArePlaces}
 use Rattle.ts_elements.proofs.LawLemmas.{dropped, kept_same, kept_without}
 use Rattle.ts_elements.proofs.MemoryLemmas.{with_places}
@@ -167,3 +173,22 @@ module _ (tells : Bool) (x : View) (key : List ℕ) (slot : ℕ) (named : IsSlot
         grows = omega (arith, bytes, freed);
         no_fault = no_fault;
       }
+
+-- what refuses a drop comes before any call on the pages
+left_same : (stop : Stop) (v : Contents) → LeavesRefused stop v v
+left_same (Refused refusal) v = refl
+left_same Failed v = tt
+left_same (Memory error) v = tt
+
+pub refused_first : (r : Result Effect Stop) (stop : Stop) (v : Contents) → IsErrAnd r (λ s. s ≡ stop) → IfErr r (λ s. LeavesRefused s v v)
+refused_first (Ok effect) stop v is = tt
+refused_first (Err other) stop v is = left_same other v
+
+-- what stops a call on them is no refusal
+never_left : (fault : StoreFault) (v w : Contents) → LeavesRefused (store_stop fault) v w
+never_left faults.Failed v w = tt
+never_left (faults.Memory error) v w = tt
+
+pub unrefused : (r : Result Effect Stop) (fault : StoreFault) (v w : Contents) → IsErrAnd r (λ s. s ≡ store_stop fault) → IfErr r (λ s. LeavesRefused s v w)
+unrefused (Ok effect) fault v w is = tt
+unrefused (Err other) fault v w is = subst (λ (s : Stop). LeavesRefused s v w) (sym is) (never_left fault v w)

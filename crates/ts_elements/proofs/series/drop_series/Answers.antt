@@ -8,7 +8,7 @@ use Rattle.ts_answer.specs.Answer.{outcome, carried_out, drop_series}
 use Rattle.ts_answer.specs.Reply.{ok_line}
 use Rattle.ts_answer.specs.View.{view}
 use Rattle.ts_answer.proofs.CallerLemmas.{stopped_first, tried_stopped, defined_by, refused_as, said_line}
-use Rattle.ts_elements.proofs.SeriesDropLemmas.{can_be_freed, drop_images, series_dropped}
+use Rattle.ts_elements.proofs.SeriesDropLemmas.{can_be_freed, drop_images, series_dropped, refused_first}
 use Rattle.ts_elements.proofs.series.drop_series.Goals as goal
 
 pub returns-in_err-slot-clause-carried : goal.returns-in_err-slot-clause-carried
@@ -61,3 +61,6 @@ returns-clause-images g c =
       drop_images tells x c.args.key.now slot c.in_ok-slot.ensures.found c.requires.seen.kept between w freed.call.count (subst (λ (ps : List Place). AreFreed tells ps v between) c.places.ensures.ok freed.freed)
           c.in_ok-write_slot.ensures.written (omega (arith, freed.change, few)) c.write_slot.ensures.bytes,
     )
+
+pub returns-in_err-slot-clause-refused : goal.returns-in_err-slot-clause-refused
+returns-in_err-slot-clause-refused g c = refused_first c.from_residual.result _ (g.P.Pages.contents c.args.pages.now) c.from_residual.ensures.1
