@@ -1,5 +1,5 @@
 // What a put into a rolling set asks for.
-ghost use Rattle.std.specs.Prelude.{◌≡◌, ◌≤◌, Ok, IfOk, IfErr, length, take, filter};
+ghost use Rattle.std.specs.Prelude.{◌≡◌, ◌<◌, ◌≤◌, Ok, IfOk, IfErr, length, take, filter};
 ghost use Rattle.std.specs.List.Sorted.{IsStrictlyIncreasing};
 ghost use Rattle.ts_base.specs.Answer.{Fails};
 ghost use Rattle.ts_rolling.specs.Plan.{a_plan, planned, plan_for, greatest, is_old, is_gone, later};

@@ -1,5 +1,8 @@
 -- The control of a set in the catalogue of what is held, and what comes of it.
-use Rattle.std.proofs.Common.{◌≡◌, ℕ, ℤ, ◌<◌, ◌≤◌, Bool, true, false, T, cond, Option, Some, None, Ok, Err, List, [], ◌∷◌, slice_get, refl, ap, sym, ◌∙◌, subst, arith}
+use Rattle.std.proofs.Common.{◌≡◌, ℕ, ℤ, ◌<◌, ◌≤◌, ◌==◌, ◌&&◌, Bool, true, false, not, nat_le, T, cond, length, Option, Some, None, Ok, Err, List, [], ◌∷◌, slice_get, refl, ap, sym, ◌∙◌, subst, arith}
+use Rattle.std.specs.List.{list_any}
+use Rattle.std.proofs.lemmas.Bool.Decides.{nat_tests}
+use Rattle.ts_base.specs.Name.{is_key}
 use Rattle.std.specs.Ordering.{nat_cmp, is_eq, eq_by_cmp}
 use Rattle.std.specs.Cmp.{nat_cmp_total, tied_itself}
 use Rattle.std.specs.FinMap.{entries, entries_sorted, get, get-entries, find}
@@ -16,7 +19,7 @@ use Rattle.ts_model.specs.declared.kind.Kind.TheVariants as kinds
 use Rattle.ts_model.specs.Catalogue.{Series, Catalogue, name_cmp, columns_of, shape_of}
 use Rattle.ts_model.specs.Kinds.{without}
 use Rattle.ts_layout.specs.Meaning.{Layout, catalogue_of}
-use Rattle.ts_rolling.specs.Keys.{most_kept, control_key, read_control}
+use Rattle.ts_rolling.specs.Keys.{most_kept, is_set, control_key, read_control}
 use Rattle.ts_rolling.specs.Plan.{Planned, planned}
 use Rattle.ts_rolling.specs.Sets.{controls, control_of, windows, live}
 use Rattle.ts_rolling.proofs.KeyLemmas.{control_form, controls_cmp}
@@ -26,7 +29,7 @@ use Rattle.ts_answer.specs.Rolling.{a_control, grid_in, control_grid, put_planne
 use Rattle.ts_answer.specs.Reply.{count_line}
 use Rattle.ts_answer.specs.Tried.{IsRefusedAs}
 use Rattle.ts_answer.specs.View.{View, IsViewOf}
-use Rattle.ts_answer.proofs.CallerLemmas.{on_ok, on_err}
+use Rattle.ts_answer.proofs.CallerLemmas.{on_ok, on_err, wanted-there}
 use Rattle.ts_rolling_sets.specs.InMemory.{kept_in, gridded}
 use Rattle.ts_rolling_sets.proofs.OrderLemmas.{control_number, no_control, one_control}
 
@@ -123,3 +126,20 @@ module _ (set : List ℕ) (cat : Catalogue) where
   unfolding roll_drop
   drop_ungridded (Refused refusal) is = first_two (a_control set cat) (λ control. control_grid control.1 cat) _ refusal is
   drop_ungridded (Memory error) is = tt
+
+-- the key of a set is short
+nat_small : (m : ℕ) → nat_le m 40 ≡ true → m ≤ 40
+nat_small m is = grind (arith, nat_tests)
+
+short_by : (a b c : Bool) → T (a && b && c) → b ≡ true
+short_by true true c is = refl
+short_by true false c is = absurd is
+short_by false b c is = absurd is
+
+pub short_set : (set : List ℕ) → T (is_set set) → length set ≤ 40
+short_set set is = nat_small (length set) (short_by (is_key set) (nat_le (length set) 40) (not (list_any (λ c. c == 35) set)) is)
+
+-- a series that is there is never unknown
+pub still_there : {A : Type 0} (trouble : Trouble) (key : List ℕ) (cat : Catalogue) (s : Series) (tried : Tried A) → get cat.series key ≡ Some s → IsRefusedAs trouble (wanted key cat.series) → IsRefusedAs trouble tried
+still_there (Refused refusal) key cat s tried there no = absurd (let never = sym (wanted-there key cat.series s there) ∙ no in cc)
+still_there (Memory error) key cat s tried there no = tt
