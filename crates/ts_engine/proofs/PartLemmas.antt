@@ -1,5 +1,5 @@
 -- Edits that are carried out one behind the other on copies of what is in memory.
-use Rattle.std.proofs.Common.{◌≡◌, ℕ, ◌+◌, ◌≤◌, Bool, true, false, IsTrue, Some, Ok, Err, Result, IsErrAnd, List, refl, ap, sym, ◌∙◌, subst, arith}
+use Rattle.std.proofs.Common.{◌≡◌, ℕ, ◌+◌, ◌≤◌, Bool, true, false, IsTrue, IfOk, IfErr, Some, Ok, Err, Result, IsErrAnd, List, refl, ap, sym, ◌∙◌, subst, arith}
 use Rattle.ts_base.specs.declared.refusal.Refusal.{Refusal}
 use Rattle.ts_disk.specs.Device.{Rose}
 use Rattle.ts_command.specs.declared.command.Command.{Command}
@@ -15,7 +15,7 @@ use Rattle.ts_answer.specs.declared.effect.Effect.{Effect}
 use Rattle.ts_answer.specs.declared.effect.Effect.TheVariants.{Whole}
 use Rattle.ts_answer.specs.declared.stop.Stop.{Stop}
 use Rattle.ts_answer.specs.declared.stop.Stop.TheVariants.{Refused, Failed, Memory}
-use Rattle.ts_answer.specs.Answer.{outcome}
+use Rattle.ts_answer.specs.Answer.{Tried, Answered, outcome}
 use Rattle.ts_answer.specs.View.{View, view, Shows, IsSeen, KeepsRules}
 use Rattle.ts_answer.specs.CarriedOut.{CarriedOut, Comes, IsStopped, Grows, growth_of, has_parts, definitions_after, lists_after}
 use Rattle.ts_answer.proofs.CallerLemmas.{held_same}
@@ -155,3 +155,83 @@ module _ (tells : Bool) where
   whole_stopped command (Refused refusal) x c parts stopped = (λ one. absurd (cc), λ one. absurd (cc), stopped.0, stopped.1)
   whole_stopped command Failed x c parts rose = rose
   whole_stopped command (Memory error) x c parts same = same
+
+  -- what becomes of a catalogue that is seen, in other words
+  pub came_as : (P Q : Change) (x y : View) → (IsTrue tells → (l : Layout) → Shows tells x l → (after : Catalogue) → P (catalogue_of l) after → Q (catalogue_of l) after) → Came tells P x y → Came tells Q x y
+  came_as P Q x y says came = record {
+    keeps = came.keeps;
+    done = λ told l shows.
+        let one = came.done told l shows in
+        (one.0, one.1, says told l shows (catalogue_of one.0) one.2);
+    count = came.count;
+    no_fault = came.no_fault;
+  }
+
+  -- and why nothing becomes of it
+  pub stopped_known : (S T : Reason) (stop : Stop) (x : View) (c : Contents) → (IsTrue tells → (l : Layout) → Shows tells x l → (refusal : Refusal) → S refusal (catalogue_of l) → T refusal (catalogue_of l))
+      → IsPartStopped tells S stop x c → IsPartStopped tells T stop x c
+  stopped_known S T (Refused refusal) x c says stopped = (stopped.0, λ told l shows. says told l shows refusal (stopped.1 told l shows))
+  stopped_known S T Failed x c says rose = rose
+  stopped_known S T (Memory error) x c says same = same
+
+  more : (v w : Contents) → Grows 1 v w → Grows 26 v w
+  more v w one = omega (arith, one)
+
+  module _ (command : Command) (out : List ℕ) (x : View) (c : Contents) (writes : is_writing command ≡ true) (parts : has_parts command ≡ true) (large : growth_of command ≡ 26) where
+    -- what another command of one edit does, where it answers the same
+    pub carried_as : (one : Command) (r : Result Effect Stop) → growth_of one ≡ 1 → (IsTrue tells → (l : Layout) → Shows tells x l → outcome (Ok command) (catalogue_of l) ≡ outcome (Ok one) (catalogue_of l))
+        → CarriedOut tells one r out x c → CarriedOut tells command r out x c
+    carried_as one (Ok effect) small same carried = record {
+      keeps = carried.keeps;
+      done = λ told l shows.
+          let comes = carried.done told l shows in
+          record { layout = comes.layout; shows = comes.shows; comes = λ again. same told l shows ∙ comes.comes again };
+      applies = carried.applies;
+      reads = λ reads. absurd (cc);
+      stays = carried.stays;
+      stopped = tt;
+      count = carried.count;
+      grows = subst (λ (n : ℕ). Grows n x.pages c) (sym large) (more x.pages c (subst (λ (n : ℕ). Grows n x.pages c) small carried.grows));
+      no_fault = carried.no_fault;
+    }
+    carried_as one (Err stop) small same carried = record {
+      keeps = tt;
+      done = tt;
+      applies = tt;
+      reads = tt;
+      stays = tt;
+      stopped = by stop carried.stopped;
+      count = carried.count;
+      grows = tt;
+      no_fault = tt;
+    }
+      where
+        by : (s : Stop) → IsStopped tells one s x c → IsStopped tells command s x c
+        by (Refused refusal) stopped = (λ none. absurd (cc), λ none. absurd (cc), stopped.2, λ told l shows. same told l shows ∙ stopped.3 told l shows)
+        by Failed rose = rose
+        by (Memory error) same = same
+
+    -- what edits on copies do
+    pub carried_whole : (tries : Catalogue → Tried Answered) (r : Result Effect Stop) → (IsTrue tells → (l : Layout) → Shows tells x l → outcome (Ok command) (catalogue_of l) ≡ tries (catalogue_of l))
+        → IfOk r (λ effect. IsWholeDone tells (λ cat after. tries cat ≡ Ok (out, after)) effect x c) → IfErr r (λ stop. IsPartStopped tells (λ refusal cat. tries cat ≡ Err refusal) stop x c)
+        → c.count ≡ x.pages.count → CarriedOut tells command r out x c
+    carried_whole tries (Ok effect) same done stopped count =
+        whole_carried command out x c effect writes large (record {
+          copies = done.copies;
+          whole = done.whole;
+          came = came_as (λ cat after. tries cat ≡ Ok (out, after)) (λ cat after. outcome (Ok command) cat ≡ Ok (out, after)) x (seen_on done.copies c) (λ told l shows after is. same told l shows ∙ is) done.came;
+          grows = done.grows;
+        })
+    carried_whole tries (Err stop) same done stopped count =
+        record {
+          keeps = tt;
+          done = tt;
+          applies = tt;
+          reads = tt;
+          stays = tt;
+          stopped = whole_stopped command stop x c parts
+              (stopped_known (λ refusal cat. tries cat ≡ Err refusal) (λ refusal cat. outcome (Ok command) cat ≡ Err refusal) stop x c (λ told l shows refusal is. same told l shows ∙ is) stopped);
+          count = count;
+          grows = tt;
+          no_fault = tt;
+        }

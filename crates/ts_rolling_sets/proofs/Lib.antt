@@ -1,2 +1,3 @@
+mod ClipLemmas
 mod ControlLemmas
 mod OrderLemmas

@@ -1,0 +1,78 @@
+-- What is read of a window, and of windows one behind the other.
+use Rattle.std.specs.Prelude.{nat_lt}
+use Rattle.std.proofs.lemmas.List.{append-nil}
+use Rattle.std.proofs.lemmas.Bool.Decides.{nat_tests}
+use Rattle.std.proofs.Common.{◌≡◌, ℕ, ℤ, ◌+◌, ◌<◌, ◌≤◌, Bool, true, false, cond, IsTrue, Some, Ok, Err, Result, List, [], ◌∷◌, ◌++◌, map, length, length-append, append_assoc, refl, ap, sym, ◌∙◌, subst, arith}
+use Rattle.std.specs.FinMap.{entries}
+use Rattle.ts_base.specs.declared.refusal.Refusal.{Refusal}
+use Rattle.ts_base.specs.declared.refusal.Refusal.TheVariants.{TooLarge}
+use Rattle.ts_row.specs.RowType.{Heading}
+use Rattle.ts_row.specs.Element.{Element, seen}
+use Rattle.ts_chain.specs.Range.{within_range}
+use Rattle.ts_space.specs.Directory.{places_of}
+use Rattle.ts_entry.specs.Entry.{Entry, filled, AreTaken}
+use Rattle.ts_entry.specs.Reading.{reading, clipped, within_rows, most_rows}
+use Rattle.ts_offset.specs.declared.shape.Shape.TheVariants.{Irregular}
+use Rattle.ts_layout.specs.Meaning.{Layout, elements_at, heading_at, shape_at}
+use Rattle.ts_clip.specs.Call.{IsRead}
+use Rattle.ts_clip.specs.Series.{IsTold}
+use Rattle.ts_clip.proofs.ChainReadingLemmas.{clipped_filled}
+use Rattle.ts_answer.specs.View.{View, Shows}
+use Rattle.ts_shelf.proofs.SeenLemmas.{elements_seen, entries_in as entries_there}
+use Rattle.ts_rolling_sets.specs.Windows.{seen_at, seen_in, entries_in}
+
+module _ (tells : Bool) (x : View) (l : Layout) (told : IsTrue tells) (shows : Shows tells x l) (slot : ℕ) (h : Heading) (columns : heading_at x.definitions slot ≡ Some h)
+    (lies : shape_at x.definitions slot ≡ Some Irregular) (within : slot < 4096) where
+  -- what holds of the elements that are told holds of those of the layout
+  pub told_here : (Q : List Element → Type 0) → IsTold tells Irregular slot h.columns (places_of slot x.space) x.pages Q → Q (entries (elements_at slot l.element_pages))
+  told_here Q holds =
+      let found = elements_seen tells x l Irregular tt slot h told shows columns lies within in
+      subst Q (sym (entries_there Irregular slot h.columns x.pages.page (places_of slot x.space) l found.0 found.1)) (holds told found.0 found.1.have)
+
+  -- the entries of a range are those of the elements that are seen in it
+  pub clipped_here : (from to : ℤ) → clipped from to (reading Irregular (entries (elements_at slot l.element_pages))) ≡ map filled (seen_at l from to slot)
+  clipped_here from to = clipped_filled from to (seen (entries (elements_at slot l.element_pages)))
+
+-- as many entries as elements
+filled_long : (es : List Element) → length (map filled es) ≡ length es
+filled_long [] = refl
+filled_long (e ∷ es) = ap (λ n. 1 + n) (filled_long es)
+
+-- what was read of a window was taken, where it is no more than a reply may have
+pub read_within : (took : List Entry → Type 0) (es : List Element) (count : ℕ) → IsRead took (within_rows (map filled es)) (Ok count) → took (map filled es) × (count ≡ length es)
+read_within took es count = by (nat_lt most_rows (length (map filled es)))
+  where
+    by : (b : Bool) → IsRead took (cond b (Err (TooLarge (length (map filled es)))) (Ok (map filled es))) (Ok count) → took (map filled es) × (count ≡ length es)
+    by true is = absurd is
+    by false is = (is.taken, is.number ∙ filled_long es)
+
+-- and else it is more
+pub read_beyond : (took : List Entry → Type 0) (es : List Element) (refusal : Refusal) → IsRead took (within_rows (map filled es)) (Err refusal) → 1_000_000 < length es
+read_beyond took es refusal = by (nat_lt most_rows (length (map filled es))) refl
+  where
+    by : (b : Bool) → nat_lt most_rows (length (map filled es)) ≡ b → IsRead took (cond b (Err (TooLarge (length (map filled es)))) (Ok (map filled es))) (Err refusal) → 1_000_000 < length es
+    by true is read = subst (λ (n : ℕ). 1_000_000 < n) (filled_long es) (beyond (length (map filled es)) is)
+      where
+        beyond : (n : ℕ) → nat_lt most_rows n ≡ true → 1_000_000 < n
+        beyond n is = grind (arith, nat_tests)
+    by false is read = absurd read
+
+-- windows and one more
+pub seen_push : (l : Layout) (from to : ℤ) (slots : List ℕ) (slot : ℕ) → seen_in l from to (slots ++ slot ∷ []) ≡ seen_in l from to slots ++ seen_at l from to slot
+seen_push l from to [] slot = append_none (seen_at l from to slot)
+  where
+    append_none : (es : List Element) → es ++ [] ≡ es
+    append_none es = append-nil es
+seen_push l from to (s ∷ slots) slot =
+    ap (λ (es : List Element). seen_at l from to s ++ es) (seen_push l from to slots slot)
+    ∙ sym (append_assoc (seen_at l from to s) (seen_in l from to slots) (seen_at l from to slot))
+
+filled_append : (a b : List Element) → map filled (a ++ b) ≡ map filled a ++ map filled b
+filled_append [] b = refl
+filled_append (e ∷ a) b = ap (λ (es : List Entry). filled e ∷ es) (filled_append a b)
+
+pub entries_push : (l : Layout) (from to : ℤ) (slots : List ℕ) (slot : ℕ) → entries_in l from to (slots ++ slot ∷ []) ≡ entries_in l from to slots ++ map filled (seen_at l from to slot)
+entries_push l from to slots slot = ap (map filled) (seen_push l from to slots slot) ∙ filled_append (seen_in l from to slots) (seen_at l from to slot)
+
+pub long_push : (l : Layout) (from to : ℤ) (slots : List ℕ) (slot : ℕ) → length (seen_in l from to (slots ++ slot ∷ [])) ≡ length (seen_in l from to slots) + length (seen_at l from to slot)
+long_push l from to slots slot = ap (λ (es : List Element). length es) (seen_push l from to slots slot) ∙ length-append (seen_in l from to slots) (seen_at l from to slot)
