@@ -1,18 +1,24 @@
 -- What a put into a set and a drop of one come to, of edits one behind the other.
-use Rattle.std.proofs.Common.{◌≡◌, ℕ, zero, suc, ◌+◌, ◌*◌, ◌≤◌, Bool, true, false, cond, Ok, Err, List, [], ◌∷◌, length, refl, ap, sym, ◌∙◌, subst, arith, ℤ}
+use Rattle.std.proofs.Common.{◌≡◌, ℕ, zero, suc, ◌+◌, ◌*◌, ◌≤◌, Bool, true, false, cond, Option, Some, None, Ok, Err, List, [], ◌∷◌, length, refl, ap, sym, ◌∙◌, subst, arith, ℤ}
+use Rattle.std.specs.FinMap.{get, remove, get-remove, same_map}
+use Rattle.std.specs.Ordering.{eq_by_cmp}
 use Rattle.ts_base.specs.declared.refusal.Refusal.{Refusal}
+use Rattle.ts_base.specs.declared.refusal.Refusal.TheVariants as refusals
+use Rattle.ts_command.specs.declared.command.Command.TheVariants.{DropSeries, TSCreateIrr, PutElemNoDups}
 use Rattle.ts_row.specs.declared.value.Literal.{Literal}
 use Rattle.ts_page.specs.Pages.{Contents}
 use Rattle.ts_layout.specs.Slot.{first_series_page}
-use Rattle.ts_model.specs.Catalogue.{Catalogue}
+use Rattle.ts_model.specs.Catalogue.{name_cmp, Named, Series, Catalogue}
+use Rattle.ts_model.proofs.OrderLemmas.{total, same_name, ties-same}
 use Rattle.ts_model.specs.declared.kind.Kind.TheVariants as kinds
 use Rattle.ts_model.specs.Kinds.{without}
 use Rattle.ts_rolling.specs.Keys.{window_key}
 use Rattle.ts_rolling.specs.Plan.{a_plan}
-use Rattle.ts_answer.specs.Answer.{Tried, Answered, ◌>>=◌, put_no_dups}
+use Rattle.ts_answer.specs.Reply.{ok_line}
+use Rattle.ts_answer.specs.Answer.{Tried, Answered, ◌>>=◌, known, wanted, outcome, carried_out, drop_series, create_irregular, put_no_dups}
 use Rattle.ts_answer.specs.Rolling.{with_window, without_windows, put_planned}
 use Rattle.ts_answer.specs.CarriedOut.{Grows}
-use Rattle.ts_answer.proofs.CallerLemmas.{on_ok, on_err}
+use Rattle.ts_answer.proofs.CallerLemmas.{on_ok, on_err, wanted-there}
 use Rattle.ts_engine.specs.Parts.{unimaged, GrowsByPages, IsWithout}
 
 -- so few pages have no image
@@ -65,3 +71,58 @@ module _ (set container : List ℕ) (w : ℕ) (stamp : ℤ) (values : List Liter
         → put_planned set container (a_plan w attach purge) stamp values cat ≡ Err refusal
     window_refused refusal cat is =
         on_err (with_window attach (window_key set w) container (without_windows set purge cat)) refusal (put_no_dups (window_key set w) stamp values) (ap (λ (k : List ℕ). with_window attach k container (without_windows set purge cat)) (sym same) ∙ is)
+
+-- what is taken out where nothing stands
+gone_already : {X : Type 0} (b : Bool) (there : Option X) → (b ≡ true → there ≡ None) → cond b None there ≡ there
+gone_already true there is = sym (is refl)
+gone_already false there is = refl
+
+series_gone : (m : Named Series) (key : List ℕ) → get m key ≡ None → remove m key ≡ m
+series_gone m key none =
+    same_map total same_name (remove m key) m (λ q. get-remove total m key q ∙ gone_already (eq_by_cmp name_cmp q key) (get m q) (λ tie. ap (get m) (ties-same q key tie) ∙ none))
+
+module _ (key : List ℕ) (a : Catalogue) where
+  drop_there : (s : Series) → get a.series key ≡ Some s → outcome (Ok (DropSeries key)) a ≡ Ok (ok_line, without kinds.Series key a)
+  unfolding outcome carried_out drop_series
+  drop_there s there = on_ok _ s _ (wanted-there key a.series s there)
+
+  drop_unknown : get a.series key ≡ None → outcome (Ok (DropSeries key)) a ≡ Err refusals.UnknownName
+  unfolding outcome carried_out drop_series wanted
+  drop_unknown none = on_err (wanted key a.series) refusals.UnknownName _ (ap known none)
+
+  -- a drop that was accepted
+  pub drop_came : (out : List ℕ) (b : Catalogue) → outcome (Ok (DropSeries key)) a ≡ Ok (out, b) → IsWithout key a b
+  drop_came out b is = by (get a.series key) refl
+    where
+      by : (o : Option Series) → get a.series key ≡ o → IsWithout key a b
+      by (Some s) there =
+          let both = sym is ∙ drop_there s there in
+          let same : (out, b) ≡ (ok_line, without kinds.Series key a) = cc in
+          ap (λ (e : Answered). e.1) same
+      by None none = absurd (let never = sym is ∙ drop_unknown none in cc)
+
+  -- one that was refused had nothing to drop
+  pub drop_missed : (refusal : Refusal) → outcome (Ok (DropSeries key)) a ≡ Err refusal → IsWithout key a a
+  drop_missed refusal is = by (get a.series key) refl
+    where
+      by : (o : Option Series) → get a.series key ≡ o → IsWithout key a a
+      by (Some s) there = absurd (let never = sym is ∙ drop_there s there in cc)
+      by None none = sym (ap (λ (m : Named Series). record a { series = m }) (series_gone a.series key none))
+
+  -- a window that was made
+  pub made_came : (container out : List ℕ) (b : Catalogue) → outcome (Ok (TSCreateIrr key container)) a ≡ Ok (out, b) → with_window true key container a ≡ Ok b
+  unfolding outcome carried_out with_window
+  made_came container out b is = on_ok (create_irregular key container a) (out, b) _ is
+
+  pub made_refused : (container : List ℕ) (refusal : Refusal) → outcome (Ok (TSCreateIrr key container)) a ≡ Err refusal → with_window true key container a ≡ Err refusal
+  unfolding outcome carried_out with_window
+  made_refused container refusal is = on_err (create_irregular key container a) refusal _ is
+
+  -- an element that was put
+  pub put_came : (stamp : ℤ) (values : List Literal) (out : List ℕ) (b : Catalogue) → outcome (Ok (PutElemNoDups key stamp values)) a ≡ Ok (out, b) → put_no_dups key stamp values a ≡ Ok (out, b)
+  unfolding outcome carried_out
+  put_came stamp values out b is = is
+
+  pub put_not : (stamp : ℤ) (values : List Literal) (refusal : Refusal) → outcome (Ok (PutElemNoDups key stamp values)) a ≡ Err refusal → put_no_dups key stamp values a ≡ Err refusal
+  unfolding outcome carried_out
+  put_not stamp values refusal is = is

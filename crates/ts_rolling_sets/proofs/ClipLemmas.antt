@@ -2,7 +2,7 @@
 use Rattle.std.specs.Prelude.{nat_lt}
 use Rattle.std.proofs.lemmas.List.{append-nil}
 use Rattle.std.proofs.lemmas.Bool.Decides.{nat_tests}
-use Rattle.std.proofs.Common.{◌≡◌, ℕ, ℤ, ◌+◌, ◌<◌, ◌≤◌, Bool, true, false, cond, IsTrue, Some, Ok, Err, Result, List, [], ◌∷◌, ◌++◌, map, length, length-append, append_assoc, refl, ap, sym, ◌∙◌, subst, arith}
+use Rattle.std.proofs.Common.{◌≡◌, ℕ, ℤ, ◌+◌, ◌<◌, ◌≤◌, Bool, true, false, cond, IsTrue, Some, Ok, Err, Result, List, [], ◌∷◌, ◌++◌, map, length, zero, suc, take, get_or, length-append, append_assoc, refl, ap, sym, ◌∙◌, subst, arith}
 use Rattle.std.specs.FinMap.{entries}
 use Rattle.ts_base.specs.declared.refusal.Refusal.{Refusal}
 use Rattle.ts_base.specs.declared.refusal.Refusal.TheVariants.{TooLarge}
@@ -20,18 +20,6 @@ use Rattle.ts_clip.proofs.ChainReadingLemmas.{clipped_filled}
 use Rattle.ts_answer.specs.View.{View, Shows}
 use Rattle.ts_shelf.proofs.SeenLemmas.{elements_seen, entries_in as entries_there}
 use Rattle.ts_rolling_sets.specs.Windows.{seen_at, seen_in, entries_in}
-
-module _ (tells : Bool) (x : View) (l : Layout) (told : IsTrue tells) (shows : Shows tells x l) (slot : ℕ) (h : Heading) (columns : heading_at x.definitions slot ≡ Some h)
-    (lies : shape_at x.definitions slot ≡ Some Irregular) (within : slot < 4096) where
-  -- what holds of the elements that are told holds of those of the layout
-  pub told_here : (Q : List Element → Type 0) → IsTold tells Irregular slot h.columns (places_of slot x.space) x.pages Q → Q (entries (elements_at slot l.element_pages))
-  told_here Q holds =
-      let found = elements_seen tells x l Irregular tt slot h told shows columns lies within in
-      subst Q (sym (entries_there Irregular slot h.columns x.pages.page (places_of slot x.space) l found.0 found.1)) (holds told found.0 found.1.have)
-
-  -- the entries of a range are those of the elements that are seen in it
-  pub clipped_here : (from to : ℤ) → clipped from to (reading Irregular (entries (elements_at slot l.element_pages))) ≡ map filled (seen_at l from to slot)
-  clipped_here from to = clipped_filled from to (seen (entries (elements_at slot l.element_pages)))
 
 -- as many entries as elements
 filled_long : (es : List Element) → length (map filled es) ≡ length es
@@ -57,6 +45,36 @@ read_beyond took es refusal = by (nat_lt most_rows (length (map filled es))) ref
         beyond n is = grind (arith, nat_tests)
     by false is read = absurd read
 
+module _ (tells : Bool) (x : View) (l : Layout) (told : IsTrue tells) (shows : Shows tells x l) (slot : ℕ) (h : Heading) (columns : heading_at x.definitions slot ≡ Some h)
+    (lies : shape_at x.definitions slot ≡ Some Irregular) (within : slot < 4096) where
+  -- what holds of the elements that are told holds of those of the layout
+  pub told_here : (Q : List Element → Type 0) → IsTold tells Irregular slot h.columns (places_of slot x.space) x.pages Q → Q (entries (elements_at slot l.element_pages))
+  told_here Q holds =
+      let found = elements_seen tells x l Irregular tt slot h told shows columns lies within in
+      subst Q (sym (entries_there Irregular slot h.columns x.pages.page (places_of slot x.space) l found.0 found.1)) (holds told found.0 found.1.have)
+
+  -- the entries of a range are those of the elements that are seen in it
+  pub clipped_here : (from to : ℤ) → clipped from to (reading Irregular (entries (elements_at slot l.element_pages))) ≡ map filled (seen_at l from to slot)
+  clipped_here from to = clipped_filled from to (seen (entries (elements_at slot l.element_pages)))
+
+  -- what was read of a window
+  pub one_said : (Took : List Entry → Type 0) (from to : ℤ) (count : ℕ) → IsTold tells Irregular slot h.columns (places_of slot x.space) x.pages (λ es. IsRead Took (within_rows (clipped from to (reading Irregular es))) (Ok count))
+      → Took (map filled (seen_at l from to slot)) × (count ≡ length (seen_at l from to slot))
+  one_said Took from to count read =
+      read_within Took (seen_at l from to slot) count
+      (subst (λ (es : List Entry). IsRead Took (within_rows es) (Ok count)) (clipped_here from to) (told_here (λ es. IsRead Took (within_rows (clipped from to (reading Irregular es))) (Ok count)) read))
+
+  pub one_beyond : (Took : List Entry → Type 0) (from to : ℤ) (refusal : Refusal) → IsTold tells Irregular slot h.columns (places_of slot x.space) x.pages (λ es. IsRead Took (within_rows (clipped from to (reading Irregular es))) (Err refusal))
+      → 1_000_000 < length (seen_at l from to slot)
+  one_beyond Took from to refusal read =
+      read_beyond Took (seen_at l from to slot) refusal
+      (subst (λ (es : List Entry). IsRead Took (within_rows es) (Err refusal)) (clipped_here from to) (told_here (λ es. IsRead Took (within_rows (clipped from to (reading Irregular es))) (Err refusal)) read))
+
+  pub one_counted : (from to : ℤ) (count : ℕ) → IsTold tells Irregular slot h.columns (places_of slot x.space) x.pages (λ es. count ≡ length (clipped from to (reading Irregular es))) → count ≡ length (seen_at l from to slot)
+  one_counted from to count read =
+      told_here (λ es. count ≡ length (clipped from to (reading Irregular es))) read
+      ∙ ap (λ (es : List Entry). length es) (clipped_here from to) ∙ filled_long (seen_at l from to slot)
+
 -- windows and one more
 pub seen_push : (l : Layout) (from to : ℤ) (slots : List ℕ) (slot : ℕ) → seen_in l from to (slots ++ slot ∷ []) ≡ seen_in l from to slots ++ seen_at l from to slot
 seen_push l from to [] slot = append_none (seen_at l from to slot)
@@ -76,3 +94,15 @@ entries_push l from to slots slot = ap (map filled) (seen_push l from to slots s
 
 pub long_push : (l : Layout) (from to : ℤ) (slots : List ℕ) (slot : ℕ) → length (seen_in l from to (slots ++ slot ∷ [])) ≡ length (seen_in l from to slots) + length (seen_at l from to slot)
 long_push l from to slots slot = ap (λ (es : List Element). length es) (seen_push l from to slots slot) ∙ length-append (seen_in l from to slots) (seen_at l from to slot)
+
+-- a window's part of what is seen in all
+pub long_part : (l : Layout) (from to : ℤ) (slots : List ℕ) (i : ℕ) → i < length slots → length (seen_in l from to (take i slots)) + length (seen_at l from to (get_or slots i 0)) ≤ length (seen_in l from to slots)
+long_part l from to [] i within = absurd (omega (arith, within))
+long_part l from to (s ∷ slots) zero within =
+    let long = length-append (seen_at l from to s) (seen_in l from to slots) in
+    omega (arith, long)
+long_part l from to (s ∷ slots) (suc i) within =
+    let rest = long_part l from to slots i (omega (arith, within)) in
+    let some = length-append (seen_at l from to s) (seen_in l from to (take i slots)) in
+    let all = length-append (seen_at l from to s) (seen_in l from to slots) in
+    omega (arith, rest, some, all)

@@ -1,5 +1,6 @@
 -- The controls and windows of a set, by the slots of their keys and in the catalogue.
-use Rattle.std.proofs.Common.{◌≡◌, ℕ, ℤ, ◌+◌, ◌<◌, ◌≤◌, ◌==◌, ◌&&◌, Bool, true, false, not, cond, is_none, is_some, Option, Some, None, IsTrue, List, [], ◌∷◌, length, zero, suc, get_or, map, slice_get, refl, ap, sym, ◌∙◌, subst, arith}
+use Rattle.std.proofs.Common.{◌≡◌, ℕ, ℤ, ◌+◌, ◌<◌, ◌≤◌, ◌==◌, ◌&&◌, Bool, true, false, not, cond, is_none, is_some, Option, Some, None, IsTrue, List, [], ◌∷◌, length, zero, suc, get_or, take, ◌++◌, filter, option_to_list, map, slice_get, refl, ap, sym, ◌∙◌, subst, arith}
+use Rattle.std.proofs.Math.Seq.{take-suc}
 use Rattle.std.specs.Option.{option_map, option_and_then}
 use Rattle.std.specs.Prelude.{bytes_eq}
 use Rattle.std.specs.List.{AllByRecursion, filter_map, cons_option}
@@ -133,3 +134,56 @@ module _ (x : View) (kept : KeepsRules x) (set name : List ℕ) (holder : ℕ) (
 
   pub live_in_few : AllByRecursion IsWindow (live_in x.definitions set holder)
   live_in_few = subst (AllByRecursion IsWindow) live_bare (few_numbers (windows set name (catalogue_of (bare_of x))) (windows_few set name (catalogue_of (bare_of x))))
+
+-- one more of a list
+pub next_of : (xs : List ℕ) (i : ℕ) → i < length xs → take (i + 1) xs ≡ take i xs ++ get_or xs i 0 ∷ []
+next_of xs i within = let e : i + 1 ≡ suc i = omega arith in ap (λ (n : ℕ). take n xs) e ∙ take-suc xs i 0 within
+
+-- what is picked of one more
+picked_push : (f : ℕ → Option ℕ) (xs : List ℕ) (x : ℕ) → filter_map f (xs ++ x ∷ []) ≡ filter_map f xs ++ option_to_list (f x)
+picked_push f [] x = by (f x)
+  where
+    by : (o : Option ℕ) → cons_option o [] ≡ option_to_list o
+    by None = refl
+    by (Some y) = refl
+picked_push f (y ∷ xs) x = by (f y) (picked_push f xs x)
+  where
+    by : (o : Option ℕ) → filter_map f (xs ++ x ∷ []) ≡ filter_map f xs ++ option_to_list (f x) → cons_option o (filter_map f (xs ++ x ∷ [])) ≡ cons_option o (filter_map f xs) ++ option_to_list (f x)
+    by None rest = rest
+    by (Some z) rest = ap (λ (ns : List ℕ). z ∷ ns) rest
+
+pub picked_next : (f : ℕ → Option ℕ) (xs : List ℕ) (i : ℕ) (old new : List ℕ) (o : Option ℕ) → i < length xs → old ≡ filter_map f (take i xs) → o ≡ f (get_or xs i 0) → new ≡ old ++ option_to_list o → new ≡ filter_map f (take (i + 1) xs)
+picked_next f xs i old new o within before is more =
+    more
+    ∙ (λ k. before k ++ option_to_list (is k))
+    ∙ sym (picked_push f (take i xs) (get_or xs i 0))
+    ∙ ap (filter_map f) (sym (next_of xs i within))
+
+kept_push : (p : ℕ → Bool) (xs : List ℕ) (x : ℕ) → filter p (xs ++ x ∷ []) ≡ filter p xs ++ cond (p x) (x ∷ []) []
+kept_push p [] x = refl
+kept_push p (y ∷ xs) x = by (p y) (kept_push p xs x)
+  where
+    by : (b : Bool) → filter p (xs ++ x ∷ []) ≡ filter p xs ++ cond (p x) (x ∷ []) [] → cond b (y ∷ filter p (xs ++ x ∷ [])) (filter p (xs ++ x ∷ [])) ≡ cond b (y ∷ filter p xs) (filter p xs) ++ cond (p x) (x ∷ []) []
+    by true rest = ap (λ (ns : List ℕ). y ∷ ns) rest
+    by false rest = rest
+
+pub kept_next : (p : ℕ → Bool) (xs : List ℕ) (i : ℕ) (old new : List ℕ) (b : Bool) → i < length xs → old ≡ filter p (take i xs) → b ≡ p (get_or xs i 0) → new ≡ old ++ cond b (get_or xs i 0 ∷ []) [] → new ≡ filter p (take (i + 1) xs)
+kept_next p xs i old new b within before is more =
+    more
+    ∙ (λ k. before k ++ cond (is k) (get_or xs i 0 ∷ []) [])
+    ∙ sym (kept_push p (take i xs) (get_or xs i 0))
+    ∙ ap (filter p) (sym (next_of xs i within))
+
+-- what is picked first, where nothing was before
+pub picked_first : (f : ℕ → Option ℕ) (xs : List ℕ) (i : ℕ) (n : ℕ) → i < length xs → filter_map f (take i xs) ≡ [] → f (get_or xs i 0) ≡ Some n → Some n ≡ slice_get (filter_map f xs) 0
+picked_first f [] i n within none is = absurd (omega (arith, within))
+picked_first f (x ∷ xs) zero n within none is = sym (ap (λ (o : Option ℕ). slice_get (cons_option o (filter_map f xs)) 0) is)
+picked_first f (x ∷ xs) (suc i) n within none is = by (f x) none (λ rest. picked_first f xs i n (omega (arith, within)) rest is)
+  where
+    by : (o : Option ℕ) → cons_option o (filter_map f (take i xs)) ≡ [] → (filter_map f (take i xs) ≡ [] → Some n ≡ slice_get (filter_map f xs) 0) → Some n ≡ slice_get (cons_option o (filter_map f xs)) 0
+    by None none rest = rest none
+    by (Some y) none rest = absurd (cc)
+
+-- and nothing is, where nothing is picked
+pub picked_none : (f : ℕ → Option ℕ) (xs : List ℕ) (i : ℕ) → i < length xs → filter_map f (take i xs) ≡ [] → f (get_or xs i 0) ≡ None → filter_map f (take (i + 1) xs) ≡ []
+picked_none f xs i within none is = sym (picked_next f xs i [] [] None within (sym none) (sym is) refl)

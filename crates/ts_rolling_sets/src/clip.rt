@@ -1,6 +1,6 @@
 // The routine that says what stands in the windows of a set.
 ghost use Rattle.std.specs.Prelude.{◌≡◌, ◌<◌, ◌≤◌, ℕ, [], EachIndex, IfOk, IfSome, IsTrue, List, None, Some, length};
-ghost use Rattle.std.specs.Prelude.{slice_index};
+ghost use Rattle.std.specs.Prelude.{slice_index, map};
 ghost use Rattle.ts_row.specs.declared.kind.Column.{Column};
 ghost use Rattle.ts_command.specs.declared.command.Command.TheVariants.{RollingClip};
 ghost use Rattle.ts_irregular.specs.Call.{Reads};
@@ -8,7 +8,8 @@ ghost use Rattle.ts_layout.specs.Meaning.{Layout, heading_at};
 ghost use Rattle.ts_rolling.specs.Keys.{is_set};
 ghost use Rattle.ts_answer.specs.View.{view, IsSeen, Shows};
 ghost use Rattle.ts_answer.specs.CarriedOut.{ReadOut};
-ghost use Rattle.ts_rolling_sets.specs.Windows.{seen_in, entries_in, IsWindowSlot, HasColumns};
+ghost use Rattle.ts_entry.specs.Entry.{filled};
+ghost use Rattle.ts_rolling_sets.specs.Windows.{seen_at, seen_in, entries_in, IsWindowSlot, HasColumns};
 
 use crate::control::{control_of, home_of};
 use crate::live::window_slots;
@@ -25,14 +26,6 @@ use ts_space::Space;
 
 /// The most rows of a reply.
 const MOST_ROWS: u64 = 1_000_000;
-
-/// Windows, by their slots, from one stamp to another, both included.
-#[derive(Clone, Copy)]
-struct Range<'a> {
-    slots: &'a [u16],
-    from: Stamp,
-    to: Stamp,
-}
 
 /// Says the elements in the windows of a set from one stamp to another, both included, that aren't hidden: window by
 /// window, those of each in order, and how many they are; TooLarge where they are more than 1000000, and some lines
@@ -58,15 +51,10 @@ pub fn clip_set<P: Pages>(
     let control = control_of(alloc, pages, defs, space, set)?;
     let (container, _) = home_of(defs, control.shelf.series);
     let slots = window_slots(alloc, defs, set, container)?;
-    let range = Range {
-        slots: &slots,
-        from,
-        to,
-    };
     let mut lines = EntryLines::behind(out);
-    let said = say_windows(pages, page, defs, space, range, &mut lines)?;
+    let said = say_windows(pages, page, defs, space, &slots, from, to, &mut lines)?;
     let Some(count) = said else {
-        let rows = count_windows(pages, page, defs, space, range)?;
+        let rows = count_windows(pages, page, defs, space, &slots, from, to)?;
         return Err(Stop::Refused(Refusal::TooLarge { rows }));
     };
     say_count(out, count)?;
@@ -80,33 +68,72 @@ fn say_windows<P: Pages, V: EntryVisitor>(
     page: &mut Page,
     defs: &Defs,
     space: &Space,
-    range: Range<'_>,
+    slots: &[u16],
+    from: Stamp,
+    to: Stamp,
     visitor: &mut V,
 ) -> Result<Option<u64>, StoreFault>
     requires seen { IsSeen P.tells (view defs.now.definitions space.now (P.contents pages.old)) }
-    requires windows { EachIndex range.slots.now (λ k. IsWindowSlot defs.now.definitions (slice_index range.slots.now k)) }
+    requires windows { EachIndex slots.now (λ k. IsWindowSlot defs.now.definitions (slice_index slots.now k)) }
     ensures taken { IfOk result (λ said. IfSome said (λ count. IsTrue P.tells → (columns : List Column) (l : Layout)
-        → EachIndex range.slots.now (λ k. HasColumns columns (heading_at defs.now.definitions (slice_index range.slots.now k)))
+        → EachIndex slots.now (λ k. HasColumns columns (heading_at defs.now.definitions (slice_index slots.now k)))
         → Shows P.tells (view defs.now.definitions space.now (P.contents pages.old)) l
-        → V.took columns visitor.old (entries_in l range.from range.to range.slots.now) visitor.new
-        × (count ≡ length (seen_in l range.from range.to range.slots.now)))) }
+        → V.took columns visitor.old (entries_in l from to slots.now) visitor.new)) }
+    ensures counted { IfOk result (λ said. IfSome said (λ count. IsTrue P.tells → (l : Layout)
+        → Shows P.tells (view defs.now.definitions space.now (P.contents pages.old)) l
+        → count ≡ length (seen_in l from to slots.now))) }
     ensures few { IfOk result (λ said. IfSome said (λ count. count ≤ 1_000_000)) }
     ensures many { IfOk result (λ said. said ≡ None → IsTrue P.tells → (l : Layout)
         → Shows P.tells (view defs.now.definitions space.now (P.contents pages.old)) l
-        → 1_000_000 < length (seen_in l range.from range.to range.slots.now)) }
+        → 1_000_000 < length (seen_in l from to slots.now)) }
     ensures call { Reads P.tells result (P.contents pages.old) (P.contents pages.new) }
     ensures undisturbed { P.undisturbed pages.old pages.new }
 {
     let mut count = 0;
-    for slot in range.slots {
-        let (shelf, shape) = shelf_at(pages, defs, space, *slot);
-        let (from, to) = (range.from, range.to);
-        match clip(pages, page, space, &shelf, &shape, from, to, visitor)? {
-            Ok(more) if more <= MOST_ROWS - count => count += more,
-            _ => return Ok(None),
-        }
+    for slot in slots {
+        let room = MOST_ROWS - count;
+        let Some(more) = say_window(pages, page, defs, space, *slot, from, to, room, visitor)? else {
+            return Ok(None);
+        };
+        count += more;
     }
     Ok(Some(count))
+}
+
+// The same of the window in a slot, where there is room for so many.
+fn say_window<P: Pages, V: EntryVisitor>(
+    pages: &mut P,
+    page: &mut Page,
+    defs: &Defs,
+    space: &Space,
+    slot: u16,
+    from: Stamp,
+    to: Stamp,
+    room: u64,
+    visitor: &mut V,
+) -> Result<Option<u64>, StoreFault>
+    requires seen { IsSeen P.tells (view defs.now.definitions space.now (P.contents pages.old)) }
+    requires window { IsWindowSlot defs.now.definitions slot }
+    requires room { room ≤ 1_000_000 }
+    ensures taken { IfOk result (λ said. IfSome said (λ count. IsTrue P.tells → (columns : List Column) (l : Layout)
+        → HasColumns columns (heading_at defs.now.definitions slot)
+        → Shows P.tells (view defs.now.definitions space.now (P.contents pages.old)) l
+        → V.took columns visitor.old (map filled (seen_at l from to slot)) visitor.new)) }
+    ensures counted { IfOk result (λ said. IfSome said (λ count. IsTrue P.tells → (l : Layout)
+        → Shows P.tells (view defs.now.definitions space.now (P.contents pages.old)) l
+        → count ≡ length (seen_at l from to slot))) }
+    ensures few { IfOk result (λ said. IfSome said (λ count. count ≤ room)) }
+    ensures many { IfOk result (λ said. said ≡ None → IsTrue P.tells → (l : Layout)
+        → Shows P.tells (view defs.now.definitions space.now (P.contents pages.old)) l
+        → room < length (seen_at l from to slot)) }
+    ensures call { Reads P.tells result (P.contents pages.old) (P.contents pages.new) }
+    ensures undisturbed { P.undisturbed pages.old pages.new }
+{
+    let (shelf, shape) = shelf_at(pages, defs, space, slot);
+    match clip(pages, page, space, &shelf, &shape, from, to, visitor)? {
+        Ok(count) if count <= room => Ok(Some(count)),
+        _ => Ok(None),
+    }
 }
 
 // How many elements are seen in windows. All pages stay; `page` is room to read one.
@@ -115,21 +142,23 @@ fn count_windows<P: Pages>(
     page: &mut Page,
     defs: &Defs,
     space: &Space,
-    range: Range<'_>,
+    slots: &[u16],
+    from: Stamp,
+    to: Stamp,
 ) -> Result<u64, StoreFault>
     requires seen { IsSeen P.tells (view defs.now.definitions space.now (P.contents pages.old)) }
-    requires windows { EachIndex range.slots.now (λ k. IsWindowSlot defs.now.definitions (slice_index range.slots.now k)) }
-    requires few { length range.slots.now ≤ 4096 }
+    requires windows { EachIndex slots.now (λ k. IsWindowSlot defs.now.definitions (slice_index slots.now k)) }
+    requires few { length slots.now ≤ 4096 }
     ensures count { IfOk result (λ count. IsTrue P.tells → (l : Layout)
         → Shows P.tells (view defs.now.definitions space.now (P.contents pages.old)) l
-        → count ≡ length (seen_in l range.from range.to range.slots.now)) }
+        → count ≡ length (seen_in l from to slots.now)) }
     ensures call { Reads P.tells result (P.contents pages.old) (P.contents pages.new) }
     ensures undisturbed { P.undisturbed pages.old pages.new }
 {
     let mut count: u64 = 0;
-    for slot in range.slots {
+    for slot in slots {
         let (shelf, shape) = shelf_at(pages, defs, space, *slot);
-        let more = clip_len(pages, page, space, &shelf, &shape, range.from, range.to)?;
+        let more = clip_len(pages, page, space, &shelf, &shape, from, to)?;
         count = count.saturating_add(more);
     }
     Ok(count)

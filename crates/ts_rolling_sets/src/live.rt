@@ -1,5 +1,6 @@
 // The controls and windows of a set among the definitions.
-ghost use Rattle.std.specs.Prelude.{◌≡◌, ◌≤◌, ◌<◌, IfOk, IfSome, slice_get};
+ghost use Rattle.std.specs.Prelude.{◌≡◌, ◌≤◌, ◌<◌, ◌++◌, ◌∷◌, [], IfOk, IfSome, OnOk, slice_get};
+ghost use Rattle.std.specs.Prelude.{if◌then◌else◌, option_to_list};
 ghost use Rattle.ts_model.specs.Definitions.{series_slots};
 ghost use Rattle.ts_rolling_sets.specs.InMemory.{control_at, window_at, kept_in, live_in};
 ghost use Rattle.ts_rolling_sets.specs.Windows.{window_slots_in};
@@ -45,9 +46,7 @@ pub fn live_windows(
 {
     let mut live = Vec::new(alloc);
     for slot in defs.in_order(Kind::Series) {
-        if let Some(window) = window_at(defs, set, container, *slot) {
-            live.push(window)?;
-        }
+        add_window(&mut live, window_at(defs, set, container, *slot))?;
     }
     Ok(live)
 }
@@ -69,6 +68,16 @@ fn window_at(defs: &Defs, set: &Key, container: u8, slot: u16) -> Option<u64>
     }
 }
 
+// One window more, if it is one.
+fn add_window(live: &mut Vec<u64>, window: Option<u64>) -> Result<(), AllocError>
+    ensures { OnOk result (live.new.items ≡ live.old.items ++ option_to_list window) }
+{
+    if let Some(window) = window {
+        live.push(window)?;
+    }
+    Ok(())
+}
+
 /// The slots of the windows of a set in the container in a slot, in the order of their keys.
 pub(crate) fn window_slots(
     alloc: Global,
@@ -80,9 +89,18 @@ pub(crate) fn window_slots(
 {
     let mut slots = Vec::new(alloc);
     for slot in defs.in_order(Kind::Series) {
-        if window_at(defs, set, container, *slot).is_some() {
-            slots.push(*slot)?;
-        }
+        let is = window_at(defs, set, container, *slot).is_some();
+        add_slot(&mut slots, is, *slot)?;
     }
     Ok(slots)
+}
+
+// One slot more, if a window stands in it.
+fn add_slot(slots: &mut Vec<u16>, is: bool, slot: u16) -> Result<(), AllocError>
+    ensures { OnOk result (slots.new.items ≡ slots.old.items ++ (if is then slot ∷ [] else [])) }
+{
+    if is {
+        slots.push(slot)?;
+    }
+    Ok(())
 }

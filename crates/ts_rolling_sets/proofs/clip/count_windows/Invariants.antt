@@ -12,5 +12,5 @@ invariant-loop-slot g l = record {
   undisturbed : g.P.Pages.undisturbed l.fn.pages l.pages;
   few : l.count ≤ l.slot-index * 2 ^ 32;
   counted : IsTrue g.P.Pages.tells → (layout : Layout) → Shows g.P.Pages.tells (view l.defs.definitions l.space (g.P.Pages.contents l.fn.pages)) layout
-      → l.count ≡ length (seen_in layout l.range.from l.range.to (take l.slot-index l.slot-items));
+      → l.count ≡ length (seen_in layout l.from l.to (take l.slot-index l.slots));
 }

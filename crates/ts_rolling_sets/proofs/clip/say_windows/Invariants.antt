@@ -14,8 +14,9 @@ invariant-loop-slot g l = record {
   undisturbed : g.P.Pages.undisturbed l.fn.pages l.pages;
   few : l.count ≤ 1_000_000;
   taken : IsTrue g.P.Pages.tells → (columns : List Column) (layout : Layout)
-      → EachIndex l.range.slots (λ k. HasColumns columns (heading_at l.defs.definitions (slice_index l.range.slots k)))
+      → EachIndex l.slots (λ k. HasColumns columns (heading_at l.defs.definitions (slice_index l.slots k)))
       → Shows g.P.Pages.tells (view l.defs.definitions l.space (g.P.Pages.contents l.fn.pages)) layout
-      → g.V.EntryVisitor.took columns l.fn.visitor (entries_in layout l.range.from l.range.to (take l.slot-index l.slot-items)) l.visitor
-      × (l.count ≡ length (seen_in layout l.range.from l.range.to (take l.slot-index l.slot-items)));
+      → g.V.EntryVisitor.took columns l.fn.visitor (entries_in layout l.from l.to (take l.slot-index l.slots)) l.visitor;
+  counted : IsTrue g.P.Pages.tells → (layout : Layout) → Shows g.P.Pages.tells (view l.defs.definitions l.space (g.P.Pages.contents l.fn.pages)) layout
+      → l.count ≡ length (seen_in layout l.from l.to (take l.slot-index l.slots));
 }
