@@ -1,5 +1,6 @@
 -- What a put into a set and a drop of one come to, of edits one behind the other.
-use Rattle.std.proofs.Common.{◌≡◌, ℕ, zero, suc, ◌+◌, ◌*◌, ◌≤◌, Bool, true, false, cond, Option, Some, None, Ok, Err, List, [], ◌∷◌, length, refl, ap, sym, ◌∙◌, subst, arith, ℤ}
+use Rattle.std.proofs.Common.{◌≡◌, ℕ, zero, suc, ◌+◌, ◌*◌, ◌≤◌, Bool, true, false, cond, Option, Some, None, Ok, Err, List, [], ◌∷◌, ◌++◌, ◌<◌, length, take, get_or, refl, ap, sym, ◌∙◌, subst, arith, ℤ}
+use Rattle.std.proofs.Math.Seq.{take-suc}
 use Rattle.std.specs.FinMap.{get, remove, get-remove, same_map}
 use Rattle.std.specs.Ordering.{eq_by_cmp}
 use Rattle.ts_base.specs.declared.refusal.Refusal.{Refusal}
@@ -19,7 +20,10 @@ use Rattle.ts_answer.specs.Answer.{Tried, Answered, ◌>>=◌, known, wanted, ou
 use Rattle.ts_answer.specs.Rolling.{with_window, without_windows, put_planned}
 use Rattle.ts_answer.specs.CarriedOut.{Grows}
 use Rattle.ts_answer.proofs.CallerLemmas.{on_ok, on_err, wanted-there}
-use Rattle.ts_engine.specs.Parts.{unimaged, GrowsByPages, IsWithout}
+use Rattle.ts_answer.specs.declared.stop.Stop.{Stop}
+use Rattle.ts_answer.specs.View.{View}
+use Rattle.ts_engine.specs.Parts.{Came, IsPartStopped, Never, unimaged, GrowsByPages, IsWithout}
+use Rattle.ts_engine.proofs.PartLemmas.{came_then, stopped_then}
 
 -- so few pages have no image
 few_images : (n : ℕ) (c : Contents) → unimaged n c ≤ n
@@ -126,3 +130,57 @@ module _ (key : List ℕ) (a : Catalogue) where
   pub put_not : (stamp : ℤ) (values : List Literal) (refusal : Refusal) → outcome (Ok (PutElemNoDups key stamp values)) a ≡ Err refusal → put_no_dups key stamp values a ≡ Err refusal
   unfolding outcome carried_out
   put_not stamp values refusal is = is
+
+-- windows that went, and one more
+without_push : (set js : List ℕ) (j : ℕ) (cat : Catalogue) → without_windows set (js ++ j ∷ []) cat ≡ without kinds.Series (window_key set j) (without_windows set js cat)
+without_push set [] j cat = refl
+without_push set (k ∷ js) j cat = without_push set js j (without kinds.Series (window_key set k) cat)
+
+pub windows_next : (set js : List ℕ) (i : ℕ) → i < length js → (key : List ℕ) → key ≡ window_key set (get_or js i 0) → (a b c : Catalogue) → b ≡ without_windows set (take i js) a → IsWithout key b c
+    → c ≡ without_windows set (take (i + 1) js) a
+windows_next set js i within key same a b c first second =
+    second
+    ∙ (λ k. without kinds.Series (same k) (first k))
+    ∙ sym (without_push set (take i js) (get_or js i 0) a)
+    ∙ ap (λ (ws : List ℕ). without_windows set ws a) (sym (ap (λ (n : ℕ). take n js) (let e : i + 1 ≡ suc i = omega arith in e) ∙ take-suc js i 0 within))
+
+-- the parts of a put, one behind the other
+module _ (tells : Bool) (set container : List ℕ) (w : ℕ) (stamp : ℤ) (values : List Literal) (attach : Bool) (purge key : List ℕ) (same : key ≡ window_key set w) where
+  abbrev Gone : Catalogue → Catalogue → Type 0
+  Gone a b = b ≡ without_windows set purge a
+
+  abbrev Opens : Catalogue → Catalogue → Type 0
+  Opens a b = with_window attach key container a ≡ Ok b
+
+  abbrev Opened : Catalogue → Catalogue → Type 0
+  Opened a b = with_window attach key container (without_windows set purge a) ≡ Ok b
+
+  abbrev Done : List ℕ → Catalogue → Catalogue → Type 0
+  Done out a b = put_planned set container (a_plan w attach purge) stamp values a ≡ Ok (out, b)
+
+  abbrev Not : Refusal → Catalogue → Type 0
+  Not refusal a = put_planned set container (a_plan w attach purge) stamp values a ≡ Err refusal
+
+  -- from the copies on
+  pub gone_first : (x y z : View) → Came tells (λ a b. b ≡ a) x y → Came tells Gone y z → Came tells Gone x z
+  gone_first x y z = came_then tells (λ a b. b ≡ a) Gone Gone x y z (λ a b c one two. two ∙ ap (without_windows set purge) one)
+
+  pub opened_then : (x y z : View) → Came tells Gone x y → Came tells Opens y z → Came tells Opened x z
+  opened_then x y z = came_then tells Gone Opens Opened x y z (λ a b c one two. ap (with_window attach key container) (sym one) ∙ two)
+
+  pub put_then : (out : List ℕ) (x y z : View) → Came tells Opened x y → Came tells (λ a b. put_no_dups key stamp values a ≡ Ok (out, b)) y z → Came tells (Done out) x z
+  put_then out x y z = came_then tells Opened (λ a b. put_no_dups key stamp values a ≡ Ok (out, b)) (Done out) x y z (λ a b c one two. put_joined set container w stamp values attach purge key same out a b c one two)
+
+  -- and where one is stopped
+  pub gone_stopped : (stop : Stop) (x y : View) (c : Contents) → Came tells (λ a b. b ≡ a) x y → IsPartStopped tells Never stop y c → IsPartStopped tells Not stop x c
+  gone_stopped stop x y c came why = stopped_then tells (λ a b. b ≡ a) Never Not stop x y c (λ refusal a b one never. absurd never) came why
+
+  pub opened_stopped : (stop : Stop) (x y : View) (c : Contents) → Came tells Gone x y → IsPartStopped tells (λ refusal a. with_window attach key container a ≡ Err refusal) stop y c → IsPartStopped tells Not stop x c
+  opened_stopped stop x y c came why =
+      stopped_then tells Gone (λ refusal a. with_window attach key container a ≡ Err refusal) Not stop x y c
+      (λ refusal a b one no. window_refused set container w stamp values attach purge key same refusal a (ap (with_window attach key container) (sym one) ∙ no)) came why
+
+  pub put_stopped : (stop : Stop) (x y : View) (c : Contents) → Came tells Opened x y → IsPartStopped tells (λ refusal a. put_no_dups key stamp values a ≡ Err refusal) stop y c → IsPartStopped tells Not stop x c
+  put_stopped stop x y c came why =
+      stopped_then tells Opened (λ refusal a. put_no_dups key stamp values a ≡ Err refusal) Not stop x y c
+      (λ refusal a b one no. put_refused set container w stamp values attach purge key same refusal a b one no) came why
