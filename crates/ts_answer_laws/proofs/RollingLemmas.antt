@@ -1,6 +1,7 @@
 -- What the routines of rolling sets leave of the series of a catalogue: none gets another kind.
 use Rattle.std.proofs.Common.{◌≡◌, ℕ, Bool, true, false, ◌&&◌, not, cond, Option, Some, None, option_map, Ok, List, [], ◌∷◌, map, filter_map, refl, sym, ap, subst, ◌∙◌, ℤ, inl, inr}
 use Rattle.std.specs.List.{AllByRecursion, fold, cons_option}
+use Rattle.std.specs.Prelude.{bytes_eq}
 use Rattle.std.specs.FinMap.{empty, entries, entries_sorted, get, get-entries, get-insert, get-remove, insert, remove}
 use Rattle.std.specs.Ordering.{eq_by_cmp}
 use Rattle.ts_offset.specs.Grid.{GridPlan}
@@ -14,7 +15,8 @@ use Rattle.ts_rolling.specs.Plan.{Planned, planned}
 use Rattle.ts_rolling.proofs.PlanLemmas.{all_going}
 use Rattle.ts_rolling.specs.Sets.{may_be_window, window_if_any, windows, live}
 use Rattle.ts_answer.specs.Rolling.{without_windows, with_window}
-use Rattle.ts_answer.specs.Answer.{Answered, Tried, ok_line, wanted, a_new_name, with_elements, create_irregular}
+use Rattle.ts_answer.specs.Reply.{ok_line}
+use Rattle.ts_answer.specs.Answer.{Answered, Tried, wanted, a_new_name, with_elements, create_irregular}
 use Rattle.ts_answer_laws.proofs.CameLemmas.{came}
 use Rattle.ts_answer_laws.proofs.ShapeLemmas.{Keeps, there_is, is_new}
 use Rattle.ts_answer_laws.proofs.ContainerLemmas.{name_found}
@@ -54,7 +56,7 @@ module _ (cat : Catalogue) (set : List ℕ) where
       own may j is s found =
           let key = ((read.window e.0 set j).0 is).1 in
           let same = same_found (get cat.series e.0) e.1 s (there e (inl refl)) (ap (get cat.series) key ∙ found) in
-          ap (λ (x : Series). x.kind) same ∙ kind_loose e.1.kind (second _ _ may)
+          ap (λ (x : Series). x.kind) same ∙ kind_loose e.1.kind (second (bytes_eq e.1.container container) (not (is_regular e.1.kind)) may)
 
       by : (b : Bool) → may_be_window container e.1 ≡ b → (o : Option ℕ) → read_window e.0 set ≡ o
           → AllByRecursion (λ (w : ℕ × Series). IsLoose (window_key set w.0)) (filter_map (window_if_any set container) es)
@@ -92,13 +94,13 @@ module _ (cat : Catalogue) (set : List ℕ) where
   pub gone_loose : (js : List ℕ) → AllByRecursion (λ j. IsLoose (window_key set j)) js → (m : Named Series) (q : List ℕ) (s : Series)
       → get m q ≡ Some s → get (less set js m) q ≡ None → IsLoose q
   gone_loose [] all m q s there none = absurd (let never = sym there ∙ none in cc)
-  gone_loose (j ∷ js) all m q s there none = by (eq_by_cmp name_cmp q (window_key set j)) refl
+  gone_loose (j ∷ js) all m q s there none =
+      by (eq_by_cmp name_cmp q (window_key set j)) refl
+      (λ apart. gone_loose js all.1 (remove m (window_key set j)) q s (get-remove total m (window_key set j) q ∙ ap (λ b. cond b None (get m q)) apart ∙ there) none)
     where
-      by : (b : Bool) → eq_by_cmp name_cmp q (window_key set j) ≡ b → IsLoose q
-      by true tie = subst IsLoose (sym (ties-same q (window_key set j) tie)) all.0
-      by false apart =
-          gone_loose js all.1 (remove m (window_key set j)) q s
-          (get-remove total m (window_key set j) q ∙ ap (λ b. cond b None (get m q)) apart ∙ there) none
+      by : (b : Bool) → eq_by_cmp name_cmp q (window_key set j) ≡ b → (eq_by_cmp name_cmp q (window_key set j) ≡ false → IsLoose q) → IsLoose q
+      by true tie rest = subst IsLoose (sym (ties-same q (window_key set j) tie)) all.0
+      by false apart rest = rest apart
 
   -- only series differ, and none has another kind
   series_keep : (m : Named Series) → ((q : List ℕ) (s t : Series) → get cat.series q ≡ Some s → get m q ≡ Some t → t.kind ≡ s.kind) → Keeps cat (record cat { series = m })

@@ -8,15 +8,18 @@ use Rattle.ts_model.specs.Kinds.{named}
 use Rattle.ts_multi.specs.declared.object.Object.{Object}
 
 -- the catalogue after has the same format and as many pages, and the same under the name of each object but these
+pub record StaysBut (wrote : List Object) (cat after : Catalogue) : Type 0 where
+  pub format : after.format ≡ cat.format
+  pub pages : after.pages ≡ cat.pages
+  pub others : (object : Object) → ¬ Contains wrote object → get (named object.kind after) object.name
+      ≡ get (named object.kind cat) object.name
+
+-- the same of all objects but such
 pub record Leaves (Written : Object → Type 0) (cat after : Catalogue) : Type 0 where
   pub format : after.format ≡ cat.format
   pub pages : after.pages ≡ cat.pages
   pub others : (object : Object) → ¬ Written object → get (named object.kind after) object.name
       ≡ get (named object.kind cat) object.name
-
--- the same of a list of objects
-abbrev pub StaysBut : List Object → Catalogue → Catalogue → Type 0
-StaysBut wrote = Leaves (Contains wrote)
 
 -- the rolling set that a command is of, if it is of one
 abbrev pub set_of : Command → Option (List ℕ)
