@@ -1,6 +1,7 @@
 -- What a command of a rolling set leaves: all but series whose keys are of the set.
 use Rattle.std.proofs.Common.{◌≡◌, ℕ, ◌<◌, ◌≤◌, Bool, true, false, Option, Some, None, Ok, Err, List, [], ◌∷◌, slice_get, refl, sym, ap, subst, ◌∙◌, arith, inl, inr, ℤ, pos, ◌≤ℤ◌}
-use Rattle.std.specs.Prelude.{is_some, IsTrue, unsigned_abs}
+use Rattle.std.specs.Prelude.{is_some, unsigned_abs}
+use Rattle.std.proofs.lemmas.Int.{ints}
 use Rattle.std.specs.List.{AllByRecursion}
 use Rattle.std.specs.FinMap.{get, insert, remove}
 use Rattle.ts_base.specs.declared.refusal.Refusal.{Refusal}
@@ -50,17 +51,17 @@ module _ (read : KeysAreReadExactly) (set : List ℕ) where
   of_one_set share other key good fine (inl a) (inr b) =
       let i = some_number (read_window key set) a in
       let j = some_number (read_control key other) b in
-      absurd (share.apart set other i.0 j.0 good fine (sym ((read.window key set i.0).0 i.1).1 ∙ ((read.control key other j.0).0 j.1).1.1))
+      absurd (share.apart set other i.0 j.0 good fine (sym ((read.window key set i.0).0 i.1).1 ∙ ((read.control key other j.0).0 j.1).2))
   of_one_set share other key good fine (inr a) (inl b) =
       let i = some_number (read_control key set) a in
       let j = some_number (read_window key other) b in
-      absurd (share.apart other set j.0 i.0 fine good (sym ((read.window key other j.0).0 j.1).1 ∙ ((read.control key set i.0).0 i.1).1.1))
+      absurd (share.apart other set j.0 i.0 fine good (sym ((read.window key other j.0).0 j.1).1 ∙ ((read.control key set i.0).0 i.1).2))
   of_one_set share other key good fine (inr a) (inr b) =
       let i = some_number (read_control key set) a in
       let j = some_number (read_control key other) b in
       let mine = (read.control key set i.0).0 i.1 in
       let theirs = (read.control key other j.0).0 j.1 in
-      (share.controls set other i.0 j.0 good fine mine.1.0 theirs.1.0 (sym mine.1.1 ∙ theirs.1.1)).0
+      (share.controls set other i.0 j.0 good fine mine.1 theirs.1 (sym mine.2 ∙ theirs.2)).0
 
   abbrev pub Ours : Object → Type 0
   Ours o = (o.kind ≡ kinds.Series) × IsOfSet set o.name
@@ -163,22 +164,18 @@ module _ (read : KeysAreReadExactly) (set : List ℕ) where
     unfolding Tries roll_drop
     dropped = tries _ _ (λ control is. tries _ _ (λ grid b. drop_leaves control (known_is (control_of set cat) control is)))
 
-true_is : (b : Bool) → IsTrue b → b ≡ true
-true_is true is = refl
-true_is false is = absurd is
-
 -- the key of a statement of a set is a set's
 pub named_well : (command : Command) (set : List ℕ) → HasForm command → set_of command ≡ Some set → is_set set ≡ true
-named_well (commands.RollingCreate own calendar origin container kept) set form is = let same : own ≡ set = cc in subst (λ (s : List ℕ). is_set s ≡ true) same (true_is (is_set own) form.0)
-named_well (commands.RollingPut own stamp literals) set form is = let same : own ≡ set = cc in subst (λ (s : List ℕ). is_set s ≡ true) same (true_is (is_set own) form)
-named_well (commands.RollingClip own from to) set form is = let same : own ≡ set = cc in subst (λ (s : List ℕ). is_set s ≡ true) same (true_is (is_set own) form)
-named_well (commands.RollingDrop own) set form is = let same : own ≡ set = cc in subst (λ (s : List ℕ). is_set s ≡ true) same (true_is (is_set own) form)
+named_well (commands.RollingCreate own calendar origin container kept) set form is = let same : own ≡ set = cc in subst (λ (s : List ℕ). is_set s ≡ true) same form.0
+named_well (commands.RollingPut own stamp literals) set form is = let same : own ≡ set = cc in subst (λ (s : List ℕ). is_set s ≡ true) same form
+named_well (commands.RollingClip own from to) set form is = let same : own ≡ set = cc in subst (λ (s : List ℕ). is_set s ≡ true) same form
+named_well (commands.RollingDrop own) set form is = let same : own ≡ set = cc in subst (λ (s : List ℕ). is_set s ≡ true) same form
 named_well command set form is = absurd (cc)
 
 -- a number of windows of a statement
 nat_of : (kept : ℤ) → pos 1 ≤ℤ kept → kept ≤ℤ pos 1000 → (1 ≤ unsigned_abs kept) × (unsigned_abs kept ≤ most_kept)
-nat_of (pos n) low high = (low, high)
-nat_of kept low high = absurd (low)
+nat_of (pos n) low high = (omega (arith, ints, low), omega (arith, ints, high))
+nat_of kept low high = absurd (omega (arith, ints, low))
 
 pub sets_stay : KeysAreReadExactly → SeriesAreFoundByKeys → SetsStay
 unfolding answer outcome carried_out

@@ -131,12 +131,12 @@ module _ (set : List ℕ) (cat : Catalogue) where
 nat_small : (m : ℕ) → nat_le m 40 ≡ true → m ≤ 40
 nat_small m is = grind (arith, nat_tests)
 
-short_by : (a b c : Bool) → T (a && b && c) → b ≡ true
+short_by : (a b c : Bool) → (a && b && c) ≡ true → b ≡ true
 short_by true true c is = refl
-short_by true false c is = absurd is
-short_by false b c is = absurd is
+short_by true false c is = absurd (cc)
+short_by false b c is = absurd (cc)
 
-pub short_set : (set : List ℕ) → T (is_set set) → length set ≤ 40
+pub short_set : (set : List ℕ) → is_set set ≡ true → length set ≤ 40
 short_set set is = nat_small (length set) (short_by (is_key set) (nat_le (length set) 40) (not (list_any (λ c. c == 35) set)) is)
 
 -- a series that is there is never unknown
