@@ -181,7 +181,7 @@ pub sets_stay : KeysAreReadExactly → SeriesAreFoundByKeys → SetsStay
 unfolding answer outcome carried_out
 sets_stay read found cat (commands.RollingCreate own calendar origin container kept) set form is =
     let same : own ≡ set = cc in
-    let kept_in = nat_of kept form.2.2.2.0 form.2.2.2.1 in
+    let kept_in = nat_of kept form.3 form.4 in
     subst (λ (s : List ℕ). Leaves (Ours read s) cat (settled cat (roll_create own calendar origin container (unsigned_abs kept) cat)).1) same
     (settles read own found cat _ (created read own found cat calendar origin container (unsigned_abs kept) kept_in.0 kept_in.1))
 sets_stay read found cat (commands.RollingPut own stamp literals) set form is =
