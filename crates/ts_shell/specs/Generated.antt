@@ -8,6 +8,7 @@ use Rattle.ts_command.specs.declared.command.Command.{Command}
 use Rattle.ts_command.specs.declared.command.Command.TheVariants.{CreateRowType, CreatePattern, CreateCalendar}
 use Rattle.ts_command.specs.declared.command.Command.TheVariants.{TSContainerCreate, TSCreate, TSCreateIrr, PutElem}
 use Rattle.ts_command.specs.declared.command.Command.TheVariants.{AggregateRange}
+pub use Rattle.ts_multi.specs.Picks.{drawn}
 
 -- 2011-01-03 00:00:00, where both series begin, and 2012-01-01 00:00:00, which lies behind their elements
 abbrev pub beginning : ℤ
@@ -34,11 +35,6 @@ opening =
     ∷ TSCreate regular_key (codes "genc") beginning (codes "genk")
     ∷ TSCreateIrr irregular_key (codes "genk")
     ∷ []
-
--- number i of the numbers that are drawn from a seed, each from the one before it
-unfoldable pub drawn : ℕ → ℕ → ℕ
-drawn seed zero = seed % 2_147_483_648
-drawn seed (suc i) = (1_103_515_245 * drawn seed i + 12_345) % 2_147_483_648
 
 -- a value goes into a series, so many units of time behind the beginning
 abbrev pub put_behind : List ℕ → ℕ → ℕ → Command

@@ -40,7 +40,7 @@ pub(crate) fn command_count(count: u32) -> u32
 }
 
 /// The number drawn first, of a seed.
-#[tactic(auto, unfolding(crate::specs::Generated::drawn))]
+#[tactic(auto, unfolding(ts_multi::specs::Picks::drawn))]
 pub(crate) fn first_drawn(seed: u32) -> u64
     ensures value { result ≡ drawn seed 0 }
     ensures bound { result < 2147483648 }
