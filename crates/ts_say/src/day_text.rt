@@ -1,7 +1,8 @@
 // The text of the day on which stamps lie.
-ghost use Rattle.std.specs.Prelude.{◌≡◌, ◌<◌, ◌∷◌, ◌++◌, [], take, OnOk};
+ghost use Rattle.std.specs.Prelude.{◌≡◌, ◌/◌, ◌%◌, ◌<◌, ◌∷◌, ◌++◌, [], take, OnOk};
 ghost use Rattle.ts_base.specs.Moment.{IsStamp, day_of, clock_of};
 ghost use Rattle.ts_base.specs.StampText.{stamp_text, two_digits};
+ghost use Rattle.ts_base.specs.StampText;
 ghost use Rattle.ts_say.specs.Day.{day_text, time_text, IsMidnight};
 
 use std::alloc::AllocError;
@@ -99,12 +100,11 @@ fn time(clock: u64) -> [u8; 15]
     requires { clock < 8_640_000_000 }
     ensures { result ≡ time_text clock ++ 32 ∷ [] }
 {
-    let [hour_tens, hour_ones] = two_digits((clock / 360_000_000) as u32);
-    let [minute_tens, minute_ones] = two_digits((clock / 6_000_000 % 60) as u32);
-    let [second_tens, second_ones] = two_digits((clock / 100_000 % 60) as u32);
-    let fraction = (clock % 100_000) as u32;
-    let [ten_thousands, thousands] = two_digits(fraction / 1000);
-    let [hundreds, tens] = two_digits(fraction % 1000 / 10);
+    let (hour, minute, second, fraction) = clock_parts(clock);
+    let [hour_tens, hour_ones] = two_digits(hour);
+    let [minute_tens, minute_ones] = two_digits(minute);
+    let [second_tens, second_ones] = two_digits(second);
+    let [ten_thousands, thousands, hundreds, tens, ones] = five_digits(fraction);
     [
         hour_tens,
         hour_ones,
@@ -119,8 +119,42 @@ fn time(clock: u64) -> [u8; 15]
         thousands,
         hundreds,
         tens,
-        b'0' + (fraction % 10) as u8,
+        ones,
         b' ',
+    ]
+}
+
+// The hour, the minute, the second and the fraction of a second, by numbers of 32 bits.
+#[inline(always)]
+fn clock_parts(clock: u64) -> (u32, u32, u32, u32)
+    requires { clock < 8_640_000_000 }
+    ensures hour { result.0 ≡ clock / 360_000_000 }
+    ensures minute { result.1 ≡ clock / 6_000_000 % 60 }
+    ensures second { result.2 ≡ clock / 100_000 % 60 }
+    ensures fraction { result.3 ≡ clock % 100_000 }
+{
+    let seconds = (clock / 100_000) as u32;
+    let fraction = (clock % 100_000) as u32;
+    (seconds / 3600, seconds / 60 % 60, seconds % 60, fraction)
+}
+
+// The digits of a fraction of a second, which is mostly none.
+#[inline(always)]
+fn five_digits(n: u32) -> [u8; 5]
+    requires { n < 100_000 }
+    ensures { result ≡ StampText.five_digits n }
+{
+    if n == 0 {
+        return [b'0'; 5];
+    }
+    let [ten_thousands, thousands] = two_digits(n / 1000);
+    let [hundreds, tens] = two_digits(n % 1000 / 10);
+    [
+        ten_thousands,
+        thousands,
+        hundreds,
+        tens,
+        b'0' + (n % 10) as u8,
     ]
 }
 
