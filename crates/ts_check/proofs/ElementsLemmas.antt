@@ -3,6 +3,7 @@ use Rattle.std.proofs.Common.{◌≡◌, ℕ, ◌+◌, ◌-◌, ◌≤◌, Bool,
 use Rattle.std.proofs.Math.ListN.{drop_of_length-le}
 use Rattle.std.proofs.Math.Seq.{take-append_seam}
 use Rattle.ts_page.specs.Pages.{Contents}
+use Rattle.ts_page.specs.Volume.{first_element_page}
 use Rattle.ts_model.specs.Definitions.{Definitions}
 use Rattle.ts_container.specs.declared.elements.Elements.{Elements}
 use Rattle.ts_container.specs.declared.fault.SurveyFault.{SurveyFault}
@@ -87,17 +88,17 @@ list_unread tells count first d list e u v w before read =
     }
 
 -- a list was read, and a page of it is bad, or there was no memory for its judging
-module _ (tells : Bool) (count number : ℕ) (low : 930 ≤ number) (d : Definitions) (list : List PageRead) (within : number + length list ≤ count) (u v w : Contents) (spans : List Span) (free : List ℕ)
-    (read : AllRead tells (number - 930) d u spans free) (before : Reads {T = Unit {0}} tells (Ok tt) u v) (got : ListRead tells number list (Ok tt) v w) where
+module _ (tells : Bool) (count number : ℕ) (low : first_element_page ≤ number) (d : Definitions) (list : List PageRead) (within : number + length list ≤ count) (u v w : Contents) (spans : List Span) (free : List ℕ)
+    (read : AllRead tells (number - first_element_page) d u spans free) (before : Reads {T = Unit {0}} tells (Ok tt) u v) (got : ListRead tells number list (Ok tt) v w) where
   its_bytes : AreBytesOf tells u list
   its_bytes = bytes_before tells u v list (λ told n. before.pages told n) got.bytes
 
-  refused_so : (e : SurveyFault) → IfRefused e (λ page. IsFirstBadIn d list page) → IfRefused e (λ page. IsTrue tells → IsLeast (IsBadElement (count - 930) d u.page) page)
+  refused_so : (e : SurveyFault) → IfRefused e (λ page. IsFirstBadIn d list page) → IfRefused e (λ page. IsTrue tells → IsLeast (IsBadElement (count - first_element_page) d u.page) page)
   refused_so (NotAStore page) bad = λ told. list_bad tells d u number low list got.numbers its_bytes spans free read count page within bad told
   refused_so Failed bad = tt
   refused_so (Memory error) bad = tt
 
-  pub list_refused : (e : SurveyFault) (old new : Elements) → ListAdded d list (Err e) old new → ElementsRead tells (count - 930) d (Err e) u w
+  pub list_refused : (e : SurveyFault) (old new : Elements) → ListAdded d list (Err e) old new → ElementsRead tells (count - first_element_page) d (Err e) u w
   list_refused e old new added = record {
     call = quiet_reads tells e u w (then_reads tells tt (Ok tt) u v w before got.call) added.cause;
     read = tt;

@@ -6,6 +6,7 @@ use Rattle.std.proofs.lemmas.List.{append-nil, get_or-set_other, get_or_append_l
 use Rattle.std.proofs.lemmas.Option.{slice_get_within, get_or_from_slice_get, slice_get-get_or, slice_get_cases}
 use Rattle.std.proofs.lemmas.Grind.{get_or-set_at}
 use Rattle.ts_page.specs.Pages.{Contents, EqualPages}
+use Rattle.ts_page.specs.Volume.{first_element_page}
 use Rattle.ts_model.specs.Definitions.{Definitions}
 use Rattle.ts_layout.specs.Meaning.{ElementPage, Free, element_page, HoldsElements}
 use Rattle.ts_layout.proofs.CallerLemmas.{before, at_end}
@@ -51,7 +52,7 @@ none_added d list old = record {
 -- one more was
 module _ (d : Definitions) (list : List PageRead) (place : ℕ) (old mid : Elements) (read : PageRead) (added : AllAdded d list place old mid) (there : slice_get list place ≡ Some read) where
   pub one_added : (new : Elements) (content : Content) → IsContentOf d read.number read.page.bytes (Some content)
-      → ((x : Definitions) (es : List ElementPage) (e : ElementPage) → read.number ≡ 930 + length es → Describes x read.number content e → Listed x mid.spans.items mid.free.items es → Listed x new.spans.items new.free.items (es ++ e ∷ []))
+      → ((x : Definitions) (es : List ElementPage) (e : ElementPage) → read.number ≡ first_element_page + length es → Describes x read.number content e → Listed x mid.spans.items mid.free.items es → Listed x new.spans.items new.free.items (es ++ e ∷ []))
       → AllAdded d list (place + 1) old new
   one_added new content found adds =
       let e : ElementPage = found.0 in
@@ -67,7 +68,7 @@ module _ (d : Definitions) (list : List PageRead) (place : ℕ) (old mid : Eleme
               (subst (λ (r : PageRead). HoldsElements d r.page.bytes e) (sym same) found.1)
         ];
         listed = λ es numbered is.
-            let at : read.number ≡ 930 + length (es ++ added.elements) = omega (arith, numbered place read there, length-append es added.elements, added.size) in
+            let at : read.number ≡ first_element_page + length (es ++ added.elements) = omega (arith, numbered place read there, length-append es added.elements, added.size) in
             subst (λ (x : List ElementPage). Listed d new.spans.items new.free.items x) (append_assoc es added.elements (e ∷ []))
             (adds d (es ++ added.elements) e at found.2 (added.listed es numbered is));
       }
@@ -84,31 +85,31 @@ module _ (d : Definitions) (list : List PageRead) (place : ℕ) (old mid : Eleme
   }
 
 -- a list of pages was read from a number on, behind those that were read before
-module _ (tells : Bool) (d : Definitions) (u : Contents) (number : ℕ) (low : 930 ≤ number) (list : List PageRead) (numbers : AreNumbered number list) (bytes : AreBytesOf tells u list) (spans : List Span) (free : List ℕ) (read : AllRead tells (number - 930) d u spans free) where
+module _ (tells : Bool) (d : Definitions) (u : Contents) (number : ℕ) (low : first_element_page ≤ number) (list : List PageRead) (numbers : AreNumbered number list) (bytes : AreBytesOf tells u list) (spans : List Span) (free : List ℕ) (read : AllRead tells (number - first_element_page) d u spans free) where
   module _ (old new : Elements) (same_spans : old.spans.items ≡ spans) (same_free : old.free.items ≡ free) (added : AllAdded d list (length list) old new) where
-    at_here : number ≡ 930 + length read.elements
+    at_here : number ≡ first_element_page + length read.elements
     at_here = omega (arith, read.size, low)
 
     is_listed : Listed d old.spans.items old.free.items read.elements
     is_listed = subst (λ (l : List ℕ). Listed d old.spans.items l read.elements) (sym same_free) (subst (λ (l : List Span). Listed d l free read.elements) (sym same_spans) read.listed)
 
-    behind : (j : ℕ) → number - 930 ≤ j → j < number + length list - 930 → IsReadAs tells u d (930 + j) (element_page j (read.elements ++ added.elements))
+    behind : (j : ℕ) → number - first_element_page ≤ j → j < number + length list - first_element_page → IsReadAs tells u d (first_element_page + j) (element_page j (read.elements ++ added.elements))
     behind j higher below =
-        let k : ℕ = j - (number - 930) in
+        let k : ℕ = j - (number - first_element_page) in
         let within : k < length list = omega (arith, below, higher, low) in
         let one = item_at list k within in
-        let its : one.0.number ≡ 930 + j = omega (arith, numbers k one.0 one.1, higher, low) in
-        let here : element_page j (read.elements ++ added.elements) ≡ element_page k added.elements = get_or-append_right read.elements added.elements (number - 930) j Free read.size higher in
-        subst (λ (x : ElementPage). IsReadAs tells u d (930 + j) x) (sym here)
+        let its : one.0.number ≡ first_element_page + j = omega (arith, numbers k one.0 one.1, higher, low) in
+        let here : element_page j (read.elements ++ added.elements) ≡ element_page k added.elements = get_or-append_right read.elements added.elements (number - first_element_page) j Free read.size higher in
+        subst (λ (x : ElementPage). IsReadAs tells u d (first_element_page + j) x) (sym here)
         (one.0.page.bytes, added.held k one.0 within one.1, λ told. ap u.page (sym its) ∙ sym (bytes k one.0 one.1 told))
 
-    pub list_added : AllRead tells (number + length list - 930) d u new.spans.items new.free.items
+    pub list_added : AllRead tells (number + length list - first_element_page) d u new.spans.items new.free.items
     list_added = record {
       elements = read.elements ++ added.elements;
       size = omega (arith, length-append read.elements added.elements, added.size, at_here);
       listed = added.listed read.elements (λ place one there. numbers place one there ∙ ap (λ (n : ℕ). n + place) at_here) is_listed;
-      seen = λ j below. elim (cases_lt j (number - 930)) [
-        | inl lower ↦ subst (λ (x : ElementPage). IsReadAs tells u d (930 + j) x) (sym (get_or_append_left read.elements added.elements Free j (omega (arith, lower, read.size)))) (read.seen j lower)
+      seen = λ j below. elim (cases_lt j (number - first_element_page)) [
+        | inl lower ↦ subst (λ (x : ElementPage). IsReadAs tells u d (first_element_page + j) x) (sym (get_or_append_left read.elements added.elements Free j (omega (arith, lower, read.size)))) (read.seen j lower)
         | inr higher ↦ behind j higher below
       ];
     }
@@ -122,13 +123,13 @@ module _ (tells : Bool) (d : Definitions) (u : Contents) (number : ℕ) (low : 9
     number_of = bad.number ∙ numbers bad.place bad.read bad.there
 
     -- a lower page is free or has a sheet
-    good_below : (other : ℕ) → 930 ≤ other → other < page → (e : ElementPage) × HoldsElements d (u.page other) e
+    good_below : (other : ℕ) → first_element_page ≤ other → other < page → (e : ElementPage) × HoldsElements d (u.page other) e
     good_below other from below = elim (cases_lt other number) [
       | inl lower ↦
-          let j : ℕ = other - 930 in
+          let j : ℕ = other - first_element_page in
           let one = read.seen j (omega (arith, lower, from)) in
           let e = element_page j read.elements in
-          (e, subst (λ (n : ℕ). HoldsElements d (u.page n) e) (let z : 930 + j ≡ other = omega (arith, from) in z) (subst (λ (l : List ℕ). HoldsElements d l e) (sym (one.2 told)) one.1))
+          (e, subst (λ (n : ℕ). HoldsElements d (u.page n) e) (let z : first_element_page + j ≡ other = omega (arith, from) in z) (subst (λ (l : List ℕ). HoldsElements d l e) (sym (one.2 told)) one.1))
       | inr higher ↦
           let k : ℕ = other - number in
           let inside : k < length list = omega (arith, below, number_of, place_of, higher) in
@@ -138,7 +139,7 @@ module _ (tells : Bool) (d : Definitions) (u : Contents) (number : ℕ) (low : 9
           (held.0, subst (λ (n : ℕ). HoldsElements d (u.page n) held.0) its (subst (λ (l : List ℕ). HoldsElements d l held.0) (bytes k one.0 one.1 told) held.1))
     ]
 
-    pub list_bad : IsLeast (IsBadElement (count - 930) d u.page) page
+    pub list_bad : IsLeast (IsBadElement (count - first_element_page) d u.page) page
     list_bad = record {
       has = (
         omega (arith, number_of, low),

@@ -11,9 +11,8 @@ use crate::page_list::{blank_list, judge_list, read_list};
 use std::alloc::Global;
 use std::thread::Threads;
 use ts_container::{Elements, SurveyFault, Surveyed, finish, survey_definitions};
-use ts_layout::ELEMENTS;
 use ts_model::Defs;
-use ts_page::{Page, Pages};
+use ts_page::{FIRST_ELEMENT_PAGE, Page, Pages};
 use ts_parallel::Gate;
 
 /// So many element pages are read into a list before they are judged; into the last one as many as are left.
@@ -66,8 +65,8 @@ fn judge_elements<P: Pages, G: Gate + Sync>(
         spans: Vec::new(alloc),
         free: Vec::new(alloc),
     };
-    let mut list = blank_list(alloc, LIST.min(count - ELEMENTS) as usize)?;
-    let mut number = ELEMENTS;
+    let mut list = blank_list(alloc, LIST.min(count - FIRST_ELEMENT_PAGE) as usize)?;
+    let mut number = FIRST_ELEMENT_PAGE;
     while number < count {
         list.truncate((count - number) as usize);
         read_list(pages, number, &mut list)?;

@@ -1,6 +1,7 @@
 -- The first bad page of a volume, by what its parts say: definitions that pass, element pages, and what spans them.
 use Rattle.std.proofs.Common.{◌≡◌, ℕ, ◌+◌, ◌-◌, ◌<◌, ◌≤◌, Bool, IsTrue, Result, Ok, Err, IfErr, IsErrOf, List, [], ◌∷◌, length, sym, ap, subst, ◌∙◌, arith, inl, inr}
 use Rattle.ts_page.specs.Pages.{Contents}
+use Rattle.ts_page.specs.Volume.{first_element_page}
 use Rattle.ts_model.specs.Definitions.{Definitions, IsDefinitions}
 use Rattle.ts_layout.specs.Slot.{header_bytes}
 use Rattle.ts_layout.specs.Meaning.{Layout, ElementPage, element_page, HoldsElements, HoldAll, KeepLimits, AreSound, IsSound, IsLaidOut}
@@ -20,7 +21,7 @@ module _ (count : ℕ) (pages : ℕ → List ℕ) (d : Definitions) (pass : Pass
   behind number rest = inr (pass.none.0, inr (pass.none.1.0, inr (pass.none.1.1.0, inr (pass.none.1.1.1.0, inr (pass.none.1.1.1.1.0, rest)))))
 
   -- the least bad element page
-  pub element_bad : 930 ≤ count → (page : ℕ) → IsLeast (IsBadElement (count - 930) d pages) page → IsFirstBad count pages page
+  pub element_bad : first_element_page ≤ count → (page : ℕ) → IsLeast (IsBadElement (count - first_element_page) d pages) page → IsFirstBad count pages page
   unfolding behind
   element_bad some page least = behind page (inl (record {
     has = (d, pass.said, record { low = least.has.0; high = (let high = least.has.1 in omega (arith, high, some)); bad = least.has.2 });
@@ -32,7 +33,7 @@ module _ (count : ℕ) (pages : ℕ → List ℕ) (d : Definitions) (pass : Pass
   }))
 
   -- element pages that hold something
-  module _ (es : List ElementPage) (size : count ≡ 930 + length es) (limits : KeepLimits d) (rules : IsDefinitions d) (holds : HoldAll d pages es) where
+  module _ (es : List ElementPage) (size : count ≡ first_element_page + length es) (limits : KeepLimits d) (rules : IsDefinitions d) (holds : HoldAll d pages es) where
     abbrev l : Layout
     l = record { definitions = d; element_pages = es }
 
@@ -40,9 +41,9 @@ module _ (count : ℕ) (pages : ℕ → List ℕ) (d : Definitions) (pass : Pass
     elements_none number (s, said, found) =
         let low = found.low in
         let high = found.high in
-        let at : 930 + (number - 930) ≡ number = omega (arith, low) in
-        let e = element_page (number - 930) es in
-        found.bad e (subst (λ (x : Definitions). HoldsElements x (pages number) e) (sym (pass.only s said)) (subst (λ (n : ℕ). HoldsElements d (pages n) e) at (holds (number - 930) (omega (arith, low, high, size)))))
+        let at : first_element_page + (number - first_element_page) ≡ number = omega (arith, low) in
+        let e = element_page (number - first_element_page) es in
+        found.bad e (subst (λ (x : Definitions). HoldsElements x (pages number) e) (sym (pass.only s said)) (subst (λ (n : ℕ). HoldsElements d (pages n) e) at (holds (number - first_element_page) (omega (arith, low, high, size)))))
 
     they_said : AllSaid count pages l
     they_said = record { definitions = pass.said; size = size; elements = holds }
@@ -53,8 +54,8 @@ module _ (count : ℕ) (pages : ℕ → List ℕ) (d : Definitions) (pass : Pass
         let first = said.size in
         let long : length k.element_pages ≡ length es = omega (arith, first, size) in
         let element_pages : k.element_pages ≡ es = same_pages k.element_pages es long (λ i within.
-        same_page d (pages (930 + i)) (element_page i k.element_pages) (element_page i es) limits rules
-        (subst (λ (x : Definitions). HoldsElements x (pages (930 + i)) (element_page i k.element_pages)) definitions (said.elements i within))
+        same_page d (pages (first_element_page + i)) (element_page i k.element_pages) (element_page i es) limits rules
+        (subst (λ (x : Definitions). HoldsElements x (pages (first_element_page + i)) (element_page i k.element_pages)) definitions (said.elements i within))
         (holds i (omega (arith, within, long)))) in
         λ i. record { definitions = definitions i; element_pages = element_pages i }
 
@@ -106,7 +107,7 @@ module _ (count : ℕ) (pages : ℕ → List ℕ) (d : Definitions) (pass : Pass
     laid_out sound = record {
       size = size;
       bytes = record {
-        header = pass.said.header.bytes ∙ ap (header_bytes d.format) (let z : count - 930 ≡ length es = omega (arith, size) in z);
+        header = pass.said.header.bytes ∙ ap (header_bytes d.format) (let z : count - first_element_page ≡ length es = omega (arith, size) in z);
         definitions = pass.said.bytes;
         elements = holds;
       };
@@ -114,7 +115,7 @@ module _ (count : ℕ) (pages : ℕ → List ℕ) (d : Definitions) (pass : Pass
     }
 
 -- what was seen of pages that are told, they hold
-pub told_pages : (tells : Bool) (count : ℕ) (d : Definitions) (v : Contents) (es : List ElementPage) → IsTrue tells → length es ≡ count → ((j : ℕ) → j < count → IsReadAs tells v d (930 + j) (element_page j es)) → HoldAll d v.page es
+pub told_pages : (tells : Bool) (count : ℕ) (d : Definitions) (v : Contents) (es : List ElementPage) → IsTrue tells → length es ≡ count → ((j : ℕ) → j < count → IsReadAs tells v d (first_element_page + j) (element_page j es)) → HoldAll d v.page es
 told_pages tells count d v es told size seen j within =
     let at : j < count = omega (arith, within, size) in
     let one = seen j at in
@@ -134,18 +135,18 @@ all_before tells count d u v spans spare first read = record {
   elements = read.elements;
   size = read.size;
   listed = read.listed;
-  seen = λ j within. let one = read.seen j within in (one.0, one.1, λ told. sym (first.pages told (930 + j)) ∙ one.2 told);
+  seen = λ j within. let one = read.seen j within in (one.0, one.1, λ told. sym (first.pages told (first_element_page + j)) ∙ one.2 told);
 }
 
 -- element pages that were read, and what is finished of them
-module _ (tells : Bool) (count : ℕ) (d : Definitions) (v : Contents) (some : 931 ≤ count) (pass : IsTrue tells → PassDefinitions count v.page d) (sound : AreSound (count - 930) d) where
-  its_size : (es : List ElementPage) → length es ≡ count - 930 → count ≡ 930 + length es
+module _ (tells : Bool) (count : ℕ) (d : Definitions) (v : Contents) (some : 931 ≤ count) (pass : IsTrue tells → PassDefinitions count v.page d) (sound : AreSound (count - first_element_page) d) where
+  its_size : (es : List ElementPage) → length es ≡ count - first_element_page → count ≡ first_element_page + length es
   its_size es size = omega (arith, size, some)
 
-  pub finished_found : (spans : List Span) (spare : List ℕ) (s : Surveyed) → AllRead tells (count - 930) d v spans spare → IsFinished count d spans spare s → IsFound tells count v s.defs.definitions s.space s.free.items
+  pub finished_found : (spans : List Span) (spare : List ℕ) (s : Surveyed) → AllRead tells (count - first_element_page) d v spans spare → IsFinished count d spans spare s → IsFound tells count v s.defs.definitions s.space s.free.items
   unfolding its_size
   finished_found spans spare s read finished =
-      let listed = all_listed tells (count - 930) d v spans spare read in
+      let listed = all_listed tells (count - first_element_page) d v spans spare read in
       let both = finished.2 read.elements listed in
       let l : Layout = record { definitions = d; element_pages = read.elements } in
       subst (λ (x : Definitions). IsFound tells count v x s.space s.free.items) (sym finished.0)
@@ -154,33 +155,33 @@ module _ (tells : Bool) (count : ℕ) (d : Definitions) (v : Contents) (some : 9
         layout = λ told. (
           l,
           both.0,
-          laid_out count v.page d (pass told) read.elements (its_size read.elements read.size) sound.limits sound.tables (told_pages tells (count - 930) d v read.elements told read.size read.seen) both.1,
+          laid_out count v.page d (pass told) read.elements (its_size read.elements read.size) sound.limits sound.tables (told_pages tells (count - first_element_page) d v read.elements told read.size read.seen) both.1,
         );
       })
 
-  pub late_refused : (spans : List Span) (spare : List ℕ) (e : SurveyFault) → AllRead tells (count - 930) d v spans spare → IfRefused e (IsLateBad count d spans spare) → IfRefused e (λ page. IsTrue tells → IsFirstBad count v.page page)
+  pub late_refused : (spans : List Span) (spare : List ℕ) (e : SurveyFault) → AllRead tells (count - first_element_page) d v spans spare → IfRefused e (IsLateBad count d spans spare) → IfRefused e (λ page. IsTrue tells → IsFirstBad count v.page page)
   unfolding its_size
   late_refused spans spare e read refused =
       refused_so e (IsLateBad count d spans spare) (λ page. IsTrue tells → IsFirstBad count v.page page)
       (λ page late told.
-      late_bad count v.page d (pass told) read.elements (its_size read.elements read.size) sound.limits sound.tables (told_pages tells (count - 930) d v read.elements told read.size read.seen) page
-      (late read.elements (all_listed tells (count - 930) d v spans spare read))) refused
+      late_bad count v.page d (pass told) read.elements (its_size read.elements read.size) sound.limits sound.tables (told_pages tells (count - first_element_page) d v read.elements told read.size read.seen) page
+      (late read.elements (all_listed tells (count - first_element_page) d v spans spare read))) refused
 
-  pub elements_refused : (e : SurveyFault) → IfRefused e (λ page. IsTrue tells → IsLeast (IsBadElement (count - 930) d v.page) page) → IfRefused e (λ page. IsTrue tells → IsFirstBad count v.page page)
+  pub elements_refused : (e : SurveyFault) → IfRefused e (λ page. IsTrue tells → IsLeast (IsBadElement (count - first_element_page) d v.page) page) → IfRefused e (λ page. IsTrue tells → IsFirstBad count v.page page)
   elements_refused e refused =
-      refused_so e (λ page. IsTrue tells → IsLeast (IsBadElement (count - 930) d v.page) page) (λ page. IsTrue tells → IsFirstBad count v.page page)
+      refused_so e (λ page. IsTrue tells → IsLeast (IsBadElement (count - first_element_page) d v.page) page) (λ page. IsTrue tells → IsFirstBad count v.page page)
       (λ page least told. element_bad count v.page d (pass told) (omega (arith, some)) page (least told)) refused
 
   -- whatever the answer is
-  pub refused_all : (spans : List Span) (spare : List ℕ) (r : Result Surveyed SurveyFault) → AllRead tells (count - 930) d v spans spare → IfErr r (λ e. IfRefused e (IsLateBad count d spans spare)) → IfErr r (λ e. IfRefused e (λ page. IsTrue tells → IsFirstBad count v.page page))
+  pub refused_all : (spans : List Span) (spare : List ℕ) (r : Result Surveyed SurveyFault) → AllRead tells (count - first_element_page) d v spans spare → IfErr r (λ e. IfRefused e (IsLateBad count d spans spare)) → IfErr r (λ e. IfRefused e (λ page. IsTrue tells → IsFirstBad count v.page page))
   refused_all spans spare (Ok s) read refused = tt
   refused_all spans spare (Err e) read refused = late_refused spans spare e read refused
 
 -- what was read of pages that stayed is bad of them as they were
-pub bad_before : (tells : Bool) (count : ℕ) (e : SurveyFault) (d : Definitions) (u v : Contents) → Reads tells (Ok (tt {0})) u v → IfRefused e (λ page. IsTrue tells → IsLeast (IsBadElement (count - 930) d v.page) page) → IfRefused e (λ page. IsTrue tells → IsLeast (IsBadElement (count - 930) d u.page) page)
+pub bad_before : (tells : Bool) (count : ℕ) (e : SurveyFault) (d : Definitions) (u v : Contents) → Reads tells (Ok (tt {0})) u v → IfRefused e (λ page. IsTrue tells → IsLeast (IsBadElement (count - first_element_page) d v.page) page) → IfRefused e (λ page. IsTrue tells → IsLeast (IsBadElement (count - first_element_page) d u.page) page)
 bad_before tells count e d u v first refused =
-    refused_so e (λ page. IsTrue tells → IsLeast (IsBadElement (count - 930) d v.page) page) (λ page. IsTrue tells → IsLeast (IsBadElement (count - 930) d u.page) page)
-    (λ page least told. subst (λ (p : ℕ → List ℕ). IsLeast (IsBadElement (count - 930) d p) page) (equal_pages u.page v.page (first.pages told)) (least told)) refused
+    refused_so e (λ page. IsTrue tells → IsLeast (IsBadElement (count - first_element_page) d v.page) page) (λ page. IsTrue tells → IsLeast (IsBadElement (count - first_element_page) d u.page) page)
+    (λ page least told. subst (λ (p : ℕ → List ℕ). IsLeast (IsBadElement (count - first_element_page) d p) page) (equal_pages u.page v.page (first.pages told)) (least told)) refused
 
 -- what reads nothing more only read
 pub finish_reads : (tells : Bool) (r : Result Surveyed SurveyFault) (v w : Contents) → Reads tells (Ok (tt {0})) v w → ¬ IsErrOf r Failed → Reads tells r v w

@@ -18,6 +18,7 @@ use Rattle.ts_container.specs.declared.found.Broken.{Broken}
 use Rattle.ts_container.specs.Reading.{AreFilledAmong, IsReadTo, IsBrokenIn, AreOfVolume, AreWritten}
 use Rattle.ts_container.specs.Survey.{Reads, DefinitionsRead, SoundRead, HoldAllSlots, AreKnown, IsBadDefinition, IsPageOfBroken, IsUngranted, AreGranted, AreRight, IsWrong, PassDefinitions}
 use Rattle.ts_page.specs.Pages.{Contents}
+use Rattle.ts_page.specs.Volume.{first_element_page}
 use Rattle.ts_model.specs.declared.defs.Defs.{Defs}
 use Rattle.ts_container.specs.declared.fault.SurveyFault.{SurveyFault}
 use Rattle.ts_container.specs.declared.fault.SurveyFault.TheVariants.{NotAStore}
@@ -46,7 +47,7 @@ same_in : (kind : Kind) (i : ℕ) (t u : List (Option (KindDef kind))) → at_sl
 same_in kind i t u same = same_one kind (at_slot i t) (at_slot i u) (sym (at_slot-map (to_def kind) i t) ∙ same ∙ at_slot-map (to_def kind) i u)
 
 -- another header
-pub no_header : (count : ℕ) (pages : ℕ → List ℕ) (bytes : List ℕ) → bytes ≡ pages 0 → ((format : ℕ) → IsFormat format → bytes ≡ header_bytes format (count - 930) → ⊥) → IsFirstBad count pages 0
+pub no_header : (count : ℕ) (pages : ℕ → List ℕ) (bytes : List ℕ) → bytes ≡ pages 0 → ((format : ℕ) → IsFormat format → bytes ≡ header_bytes format (count - first_element_page) → ⊥) → IsFirstBad count pages 0
 no_header count pages bytes same other = inl (record {
   has = (refl, λ format header. other format header.one (same ∙ header.bytes));
   least = λ number found. omega arith;
@@ -55,7 +56,7 @@ no_header count pages bytes same other = inl (record {
 -- the header of a format
 module _ (count format : ℕ) (pages : ℕ → List ℕ) (header : HasHeader count pages format) where
   own_format : (f : ℕ) → HasHeader count pages f → f ≡ format
-  own_format f h = header_format f format (count - 930) (count - 930) (sym h.bytes ∙ header.bytes)
+  own_format f h = header_format f format (count - first_element_page) (count - first_element_page) (sym h.bytes ∙ header.bytes)
 
   header_none : HasNone (Finds count pages Header)
   header_none number found = found.1 format header
@@ -229,7 +230,7 @@ module _ (count format : ℕ) (pages : ℕ → List ℕ) (header : HasHeader cou
     }
 
 -- quotas that fit, and origins
-pub granted : (count : ℕ) (d : Definitions) (r : Option ℕ) → sum_of_quotas d.containers ≤ count - 930 → MatchOption r (HaveOrigins d) (IsLeast (IsAstray d)) → MatchOption r (AreGranted count d) (IsLeast (IsUngranted count d))
+pub granted : (count : ℕ) (d : Definitions) (r : Option ℕ) → sum_of_quotas d.containers ≤ count - first_element_page → MatchOption r (HaveOrigins d) (IsLeast (IsAstray d)) → MatchOption r (AreGranted count d) (IsLeast (IsUngranted count d))
 granted count d None fits origins = record { quotas = fits; origins = origins }
 granted count d (Some page) fits least = record { has = inr least.has; least = λ other found. of_found other found } where
   of_found : (other : ℕ) → IsUngranted count d other → page ≤ other
@@ -237,7 +238,7 @@ granted count d (Some page) fits least = record { has = inr least.has; least = �
   of_found other (inr astray) = least.least other astray
 
 -- a header that was read
-pub header_read : (tells : Bool) (count own format : ℕ) (bytes : List ℕ) (pages : ℕ → List ℕ) → (IsTrue tells → bytes ≡ pages 0) → IsFormat format × (bytes ≡ header_bytes format (count - 930)) → own ≡ format → IsTrue tells → HasHeader count pages own
+pub header_read : (tells : Bool) (count own format : ℕ) (bytes : List ℕ) (pages : ℕ → List ℕ) → (IsTrue tells → bytes ≡ pages 0) → IsFormat format × (bytes ≡ header_bytes format (count - first_element_page)) → own ≡ format → IsTrue tells → HasHeader count pages own
 header_read tells count own format bytes pages read is same told = subst (HasHeader count pages) (sym same) (record { one = is.0; bytes = sym (read told) ∙ is.1 })
 
 pub sound_err : {A : Type 0} (tells : Bool) (format count : ℕ) (e : SurveyFault) (d : Definitions) (u v w : Contents) → (IsTrue tells → HasHeader count u.page format) → Reads tells (Ok (tt {0})) u v → DefinitionsRead {A = A} tells format (Err e) d v w → SoundRead tells count (Err e) u w

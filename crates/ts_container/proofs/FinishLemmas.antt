@@ -6,6 +6,7 @@ use Rattle.ts_space.specs.declared.place.Place.{Place}
 use Rattle.ts_space.specs.Place.{count_of, IsRising}
 use Rattle.ts_space.specs.Directory.{Directory}
 use Rattle.ts_row.specs.declared.kind.Column.{Column}
+use Rattle.ts_page.specs.Volume.{first_element_page}
 use Rattle.ts_offset.specs.declared.shape.Shape.{Shape}
 use Rattle.ts_offset.specs.declared.shape.Shape.TheVariants.{Irregular, Regular}
 use Rattle.ts_model.specs.Definitions.{Definitions}
@@ -32,7 +33,7 @@ use Rattle.ts_container.proofs.LateLemmas.{different_sorted, least_overlap, no_o
 abbrev pub IsSortOf : List Span → List Span → Type 0
 IsSortOf spans sorted = IsPermutation spans sorted × AreSorted sorted
 
-all_moved : (d : Definitions) (spans sorted : List Span) (es : List ElementPage) → spans ≡ spans_from d 930 es → IsPermutation spans sorted → IsPermutation (spans_from d 930 es) sorted
+all_moved : (d : Definitions) (spans sorted : List Span) (es : List ElementPage) → spans ≡ spans_from d first_element_page es → IsPermutation spans sorted → IsPermutation (spans_from d first_element_page es) sorted
 all_moved d spans sorted es found moved = subst (λ (l : List Span). IsPermutation l sorted) found moved
 
 -- a page has at most so many elements
@@ -59,8 +60,8 @@ few_of d slot (e ∷ es) held =
     (omega (arith, one.0, rest.0, length-append (elements_on slot e) (elements_of slot es)), omega (arith, one.1, rest.1, length-append (sheets_on slot e) (sheets_of slot es)))
 
 -- what was found of so many pages, in the order of a sort
-module _ (count : ℕ) (d : Definitions) (spans sorted : List Span) (spare : List ℕ) (es : List ElementPage) (read : AreListed (count - 930) d spans spare es) (moved : IsSortOf spans sorted) where
-  moved_all : IsPermutation (spans_from d 930 es) sorted
+module _ (count : ℕ) (d : Definitions) (spans sorted : List Span) (spare : List ℕ) (es : List ElementPage) (read : AreListed (count - first_element_page) d spans spare es) (moved : IsSortOf spans sorted) where
+  moved_all : IsPermutation (spans_from d first_element_page es) sorted
   moved_all = all_moved d spans sorted es read.listed.found moved.0
 
   pub ends_read : All IsSpan sorted
@@ -78,8 +79,8 @@ module _ (count : ℕ) (d : Definitions) (spans sorted : List Span) (spare : Lis
       let all = places_listed d slot es sorted moved_all in
       let is = lists.places slot within in
       record {
-        elements = ap count_of is ∙ sym (sum_by-IsPermutation (λ (p : Place). p.count) (places_in slot sorted) (places_from slot 930 es) all) ∙ count_places slot 930 es;
-        pages = ap (λ (ps : List Place). length ps) is ∙ sym (length_permutation (places_in slot sorted) (places_from slot 930 es) all) ∙ many_places slot 930 es;
+        elements = ap count_of is ∙ sym (sum_by-IsPermutation (λ (p : Place). p.count) (places_in slot sorted) (places_from slot first_element_page es) all) ∙ count_places slot first_element_page es;
+        pages = ap (λ (ps : List Place). length ps) is ∙ sym (length_permutation (places_in slot sorted) (places_from slot first_element_page es) all) ∙ many_places slot first_element_page es;
       }
 
   -- so they can be counted
@@ -112,11 +113,11 @@ module _ (count : ℕ) (d : Definitions) (spans sorted : List Span) (spare : Lis
       let is = lists.places slot within in
       record {
         rising = subst IsRising (sym is) (rising_in slot sorted moved.1 ends_read apart);
-        all = subst (λ (ps : List Place). IsPermutation ps (places_from slot 930 es)) (sym is) all;
+        all = subst (λ (ps : List Place). IsPermutation ps (places_from slot first_element_page es)) (sym is) all;
       }
 
   -- the layout that was read keeps the rules
-  pub finished_sound : (space : Directory) → 931 ≤ count → count ≤ 66466 → AreSound (count - 930) d → AreApart sorted → AreDense d sorted → Lists sorted space → KeepQuotas d space → IsSound (record { definitions = d; element_pages = es })
+  pub finished_sound : (space : Directory) → 931 ≤ count → count ≤ 66466 → AreSound (count - first_element_page) d → AreApart sorted → AreDense d sorted → Lists sorted space → KeepQuotas d space → IsSound (record { definitions = d; element_pages = es })
   unfolding moved_all counted
   finished_sound space low high sound apart dense lists kept = record {
     some = omega (arith, read.size, low);
@@ -130,10 +131,10 @@ module _ (count : ℕ) (d : Definitions) (spans sorted : List Span) (spare : Lis
   unfolding filled_read places_read
   finished_survey space apart lists = record { definitions = refl; places = places_read space apart lists; free = read.listed.spare; filled = filled_read }
 
-  pub finished_kept : (space : Directory) → 931 ≤ count → count ≤ 66466 → AreSound (count - 930) d → AreApart sorted → AreDense d sorted → Lists sorted space → KeepQuotas d space → AreKept d space spare count
+  pub finished_kept : (space : Directory) → 931 ≤ count → count ≤ 66466 → AreSound (count - first_element_page) d → AreApart sorted → AreDense d sorted → Lists sorted space → KeepQuotas d space → AreKept d space spare count
   unfolding finished_sound filled_read places_read
   finished_kept space low high sound apart dense lists kept =
-      let size : count ≡ 930 + length es = omega (arith, read.size, low) in
+      let size : count ≡ first_element_page + length es = omega (arith, read.size, low) in
       kept_in (record { definitions = d; element_pages = es }) space spare count (finished_sound space low high sound apart dense lists kept) filled_read (places_read space apart lists) lists.slots read.listed.spare size
 
   -- or the first bad page of the last steps
@@ -148,7 +149,7 @@ module _ (count : ℕ) (d : Definitions) (spans sorted : List Span) (spare : Lis
     inl (least_sparse d es sorted read.held moved_all moved.1 ends_read apart page least),
   )
 
-  pub late_charge : (space : Directory) → AreSound (count - 930) d → AreApart sorted → AreDense d sorted → Lists sorted space → IsOverQuota d space → IsFirstLate (record { definitions = d; element_pages = es }) 833
+  pub late_charge : (space : Directory) → AreSound (count - first_element_page) d → AreApart sorted → AreDense d sorted → Lists sorted space → IsOverQuota d space → IsFirstLate (record { definitions = d; element_pages = es }) 833
   unfolding moved_all ends_read counted
   late_charge space sound apart dense lists over = inr (
     no_overlap d es sorted read.held moved_all moved.1 ends_read (none_clash sorted moved.1 ends_read apart),

@@ -7,6 +7,7 @@ use Rattle.std.proofs.lemmas.Int.{ints}
 use Rattle.std.proofs.lemmas.List.Sorted.{Contains-permutation, IsPermutation-sym}
 use Rattle.ts_row.specs.RowType.{Heading}
 use Rattle.ts_cells.specs.Cell.{page_room}
+use Rattle.ts_page.specs.Volume.{first_element_page}
 use Rattle.ts_offset.specs.declared.shape.Shape.{Shape}
 use Rattle.ts_offset.specs.declared.shape.Shape.TheVariants.{Irregular, Regular}
 use Rattle.ts_space.specs.Directory.{Directory}
@@ -77,8 +78,8 @@ different_from d first (Cells slot sheet ∷ rest) i zero x before inside = absu
 different_from d first (Cells slot sheet ∷ rest) zero (suc j) x before inside = λ same. let low = low_from d (suc first) rest j x (omega (arith, inside)) in omega (arith, low, same)
 different_from d first (Cells slot sheet ∷ rest) (suc i) (suc j) x before inside = different_from d (suc first) rest i j x (omega (arith, before)) (omega (arith, inside))
 
-pub different_sorted : (d : Definitions) (es : List ElementPage) (sorted : List Span) → IsPermutation (spans_from d 930 es) sorted → AreDifferent sorted
-different_sorted d es sorted moved = pairs_permuted (λ (a b : Span). a.page ≢ b.page) (λ a b other same. other (sym same)) (spans_from d 930 es) sorted moved (different_from d 930 es)
+pub different_sorted : (d : Definitions) (es : List ElementPage) (sorted : List Span) → IsPermutation (spans_from d first_element_page es) sorted → AreDifferent sorted
+different_sorted d es sorted moved = pairs_permuted (λ (a b : Span). a.page ≢ b.page) (λ a b other same. other (sym same)) (spans_from d first_element_page es) sorted moved (different_from d first_element_page es)
 
 -- the ends of two sheets say whether they meet
 meet_of : (shape : Shape) (a b : Sheet) → a.0 ≤ℤ end_of shape b → b.0 ≤ℤ end_of shape a → Meet shape a b
@@ -90,18 +91,18 @@ ends_of Irregular a b meet = meet
 ends_of (Regular grid) a b meet = (omega (arith, ints, meet), omega (arith, ints, meet))
 
 -- the layout of pages that were read, and their spans
-module _ (d : Definitions) (es : List ElementPage) (sorted : List Span) (held : AllHeld d es) (moved : IsPermutation (spans_from d 930 es) sorted) (order : AreSorted sorted) (ends : All IsSpan sorted) where
+module _ (d : Definitions) (es : List ElementPage) (sorted : List Span) (held : AllHeld d es) (moved : IsPermutation (spans_from d first_element_page es) sorted) (order : AreSorted sorted) (ends : All IsSpan sorted) where
   abbrev layout : Layout
   layout = record { definitions = d; element_pages = es }
 
-  found : (a : Span) → Contains sorted a → IsOf d 930 es a
-  found a contained = span_found d 930 es a (Contains-permutation sorted (spans_from d 930 es) a (IsPermutation-sym (spans_from d 930 es) sorted moved) contained)
+  found : (a : Span) → Contains sorted a → IsOf d first_element_page es a
+  found a contained = span_found d first_element_page es a (Contains-permutation sorted (spans_from d first_element_page es) a (IsPermutation-sym (spans_from d first_element_page es) sorted moved) contained)
 
   abbrev the_span : ℕ → ℕ → Sheet → Span
-  the_span slot i sheet = span_of (shape_in d slot) slot (930 + i) sheet
+  the_span slot i sheet = span_of (shape_in d slot) slot (first_element_page + i) sheet
 
   there : (i slot : ℕ) (sheet : Sheet) → element_page i es ≡ Cells slot sheet → Contains sorted (the_span slot i sheet)
-  there i slot sheet is = Contains-permutation (spans_from d 930 es) sorted (the_span slot i sheet) moved (span_there d 930 es i slot sheet is)
+  there i slot sheet is = Contains-permutation (spans_from d first_element_page es) sorted (the_span slot i sheet) moved (span_there d first_element_page es i slot sheet is)
 
   -- the shape of a series that has a page
   shape_of_page : (i slot : ℕ) (sheet : Sheet) → element_page i es ≡ Cells slot sheet → (shape : Shape) × (shape_at d slot ≡ Some shape)
@@ -122,7 +123,7 @@ module _ (d : Definitions) (es : List ElementPage) (sorted : List Span) (held : 
       let in_b : shape_in d b.slot ≡ shape.0 = ap (shape_in d) (sym slots) ∙ in_a in
       let begins : a.sheet.0 ≤ℤ end_of shape.0 b.sheet = subst (λ (s : Shape). a.sheet.0 ≤ℤ end_of s b.sheet) in_b (subst (λ (p : Span × Span). p.0.first ≤ℤ p.1.last) (λ i. (a.is i, b.is i)) clash.begins) in
       let ends' : b.sheet.0 ≤ℤ end_of shape.0 a.sheet = subst (λ (s : Shape). b.sheet.0 ≤ℤ end_of s a.sheet) in_a (subst (λ (p : Span × Span). p.1.first ≤ℤ p.0.last) (λ i. (a.is i, b.is i)) clash.ends) in
-      let below : 930 + a.at < 930 + b.at = subst (λ (p : Span × Span). p.0.page < p.1.page) (λ i. (a.is i, b.is i)) clash.below in
+      let below : first_element_page + a.at < first_element_page + b.at = subst (λ (p : Span × Span). p.0.page < p.1.page) (λ i. (a.is i, b.is i)) clash.below in
       record {
         slot = a.slot;
         shape = shape.0;

@@ -4,6 +4,7 @@ use Rattle.std.proofs.lemmas.Bool.{cases_lt, cases_eq}
 use Rattle.std.proofs.lemmas.Bool.Decides.{nat_tests}
 use Rattle.std.proofs.lemmas.List.{take_all, length-replicate}
 use Rattle.ts_page.specs.Head.{bytes_at}
+use Rattle.ts_page.specs.Volume.{first_element_page}
 use Rattle.ts_model.specs.declared.kind.Kind.{Kind}
 use Rattle.ts_model.specs.declared.kind.Kind.TheVariants as kinds
 use Rattle.ts_model.specs.declared.def.Def.{Def}
@@ -38,12 +39,12 @@ zeros_from x y page same long zeros =
     (λ i. drop (same i) page) ∙ sym whole ∙ zeros ∙ ap (λ (n : ℕ). replicate n 0) (ap length whole ∙ size) ∙ (λ i. replicate (4096 - sym same i) 0)
 
 -- the slots of a page stand there
-pub stands_on : (number k : ℕ) (on : Slots) → on ≡ slots_in_page number → 257 ≤ number → number < 930 → k < on.count → Stands on number k
+pub stands_on : (number k : ℕ) (on : Slots) → on ≡ slots_in_page number → 257 ≤ number → number < first_element_page → k < on.count → Stands on number k
 stands_on number k on is low high within =
     subst (λ (s : Slots). Stands s number k) (sym is) (stands number k low high (omega (arith, within, ap (λ (s : Slots). s.count) is)))
 
 -- all slots of a page were read
-pub ended : (number k : ℕ) (on : Slots) → on ≡ slots_in_page number → 257 ≤ number → number < 930 → on.count ≤ k → k ≤ on.count → rank_of_page number + k ≡ rank_of_page (number + 1)
+pub ended : (number k : ℕ) (on : Slots) → on ≡ slots_in_page number → 257 ≤ number → number < first_element_page → on.count ≤ k → k ≤ on.count → rank_of_page number + k ≡ rank_of_page (number + 1)
 ended number k on is low high least most = omega (arith, rank_next number low high, ap (λ (s : Slots). s.count) is, least, most)
 
 -- slots of higher rank stand on higher pages, or on the same
@@ -102,7 +103,7 @@ record StandsIn (on : Slots) (kind : Kind) (slot : ℕ) : Type 0 where
   kinded : on.kind ≡ kind
   is : on.first + k ≡ slot
 
-stands_in : (number : ℕ) (kind : Kind) (slot : ℕ) → 257 ≤ number → number < 930 → slot < limit kind → page_of_slot kind slot ≡ number → StandsIn (slots_in_page number) kind slot
+stands_in : (number : ℕ) (kind : Kind) (slot : ℕ) → 257 ≤ number → number < first_element_page → slot < limit kind → page_of_slot kind slot ≡ number → StandsIn (slots_in_page number) kind slot
 stands_in number kind slot low high within is =
     let first : rank_of_page number ≤ rank kind slot = subst (λ (n : ℕ). rank_of_page n ≤ rank kind slot) is (rank_low kind slot within) in
     let last : rank kind slot < rank_of_page (number + 1) = subst (λ (n : ℕ). rank kind slot < rank_of_page (n + 1)) is (rank_high kind slot within) in
@@ -137,7 +138,7 @@ slots_more format number k page on is before here j below =
     ]
 
 -- a page whose slots are all such
-pub is_page : (format number k : ℕ) (page : List ℕ) (on : Slots) → on ≡ slots_in_page number → 257 ≤ number → number < 930 → on.count ≤ k → AreSlots format number k page → HasZerosBehind number page → IsPageOf format number page
+pub is_page : (format number k : ℕ) (page : List ℕ) (on : Slots) → on ≡ slots_in_page number → 257 ≤ number → number < first_element_page → on.count ≤ k → AreSlots format number k page → HasZerosBehind number page → IsPageOf format number page
 is_page format number k page on is low high all slots zeros = λ pages same. record {
   slots = λ kind slot within at.
       let in' = stands_in number kind slot low high within at in
@@ -149,7 +150,7 @@ is_page format number k page on is low high all slots zeros = λ pages same. rec
 }
 
 -- or one isn't
-pub no_page : (format number k : ℕ) (page : List ℕ) (on : Slots) → on ≡ slots_in_page number → 257 ≤ number → number < 930 → k < on.count → (IsSlot format on.kind (bytes_at (slot_size on.kind * k) (slot_size on.kind) page) → ⊥) → IsNoPageOf format number page
+pub no_page : (format number k : ℕ) (page : List ℕ) (on : Slots) → on ≡ slots_in_page number → 257 ≤ number → number < first_element_page → k < on.count → (IsSlot format on.kind (bytes_at (slot_size on.kind * k) (slot_size on.kind) page) → ⊥) → IsNoPageOf format number page
 no_page format number k page on is low high within none = λ pages same holds.
     let at = stands_on number k on is low high within in
     let held = holds.slots on.kind (on.first + k) at.within at.page in
@@ -174,7 +175,7 @@ so_far_none format number page old read =
       of_volume = λ pages s is written of. subst (λ (n : ℕ). AreOfVolume n old.0 old.1 s) same of;
     }
 
-module _ (format number k size : ℕ) (page : List ℕ) (on : Slots) (old now new : Definitions × List Broken) (is : on ≡ slots_in_page number) (low : 257 ≤ number) (high : number < 930) (within : k < on.count) (same : size ≡ slot_size on.kind) (so_far : SoFar format number k page old now) where
+module _ (format number k size : ℕ) (page : List ℕ) (on : Slots) (old now new : Definitions × List Broken) (is : on ≡ slots_in_page number) (low : 257 ≤ number) (high : number < first_element_page) (within : k < on.count) (same : size ≡ slot_size on.kind) (so_far : SoFar format number k page old now) where
   at : Stands on number k
   at = stands_on number k on is low high within
 
@@ -233,7 +234,7 @@ module _ (format number k size : ℕ) (page : List ℕ) (on : Slots) (old now ne
   page_bad read = no_page format number k page on is low high within (as_read found.Bad read)
 
 -- a page whose slots were all read
-pub page_read : (format number k : ℕ) (page : List ℕ) (on : Slots) (old new : Definitions × List Broken) → on ≡ slots_in_page number → 257 ≤ number → number < 930 → on.count ≤ k → k ≤ on.count → SoFar format number k page old new → HasZerosBehind number page
+pub page_read : (format number k : ℕ) (page : List ℕ) (on : Slots) (old new : Definitions × List Broken) → on ≡ slots_in_page number → 257 ≤ number → number < first_element_page → on.count ≤ k → k ≤ on.count → SoFar format number k page old new → HasZerosBehind number page
     → PageRead format number page old new found.Good
 page_read format number k page on old new is low high least most so_far zeros =
     let end : rank_of_page number + k ≡ rank_of_page (number + 1) = ended number k on is low high least most in (
@@ -243,7 +244,7 @@ page_read format number k page on old new is low high least most so_far zeros =
     )
 
 -- a page whose slots were all judged
-pub page_judged : (format number k size : ℕ) (page : List ℕ) (on : Slots) → on ≡ slots_in_page number → 257 ≤ number → number < 930 → on.count ≤ k → size ≡ slot_size on.kind → length page ≡ 4096 → AreSlots format number k page → (b : Bool)
+pub page_judged : (format number k size : ℕ) (page : List ℕ) (on : Slots) → on ≡ slots_in_page number → 257 ≤ number → number < first_element_page → on.count ≤ k → size ≡ slot_size on.kind → length page ≡ 4096 → AreSlots format number k page → (b : Bool)
     → (b ≡ true → take (4096 - size * on.count) (drop (size * on.count) page) ≡ replicate (length (take (4096 - size * on.count) (drop (size * on.count) page))) 0)
     → (take (4096 - size * on.count) (drop (size * on.count) page) ≡ replicate (length (take (4096 - size * on.count) (drop (size * on.count) page))) 0 → b ≡ true) → MatchBool b (IsPageOf format number page) (IsNoPageOf format number page)
 page_judged format number k size page on is low high all same long slots true to from =

@@ -10,6 +10,7 @@ use Rattle.std.proofs.lemmas.List.Sorted.{IsPermutation-map, IsPermutation-sym, 
 use Rattle.ts_row.specs.RowType.{Heading}
 use Rattle.ts_space.specs.declared.place.Place.{Place}
 use Rattle.ts_cells.specs.Cell.{page_room}
+use Rattle.ts_page.specs.Volume.{first_element_page}
 use Rattle.ts_offset.specs.declared.shape.Shape.{Shape}
 use Rattle.ts_offset.specs.declared.shape.Shape.TheVariants.{Irregular}
 use Rattle.ts_model.specs.Definitions.{Definitions}
@@ -52,11 +53,11 @@ places_found d slot first (e ∷ rest) =
     ∙ (λ i. places_found_on d slot first e i ++ places_found d slot (suc first) rest i)
 
 -- in any order
-pub places_listed : (d : Definitions) (slot : ℕ) (es : List ElementPage) (sorted : List Span) → IsPermutation (spans_from d 930 es) sorted → IsPermutation (places_in slot sorted) (places_from slot 930 es)
+pub places_listed : (d : Definitions) (slot : ℕ) (es : List ElementPage) (sorted : List Span) → IsPermutation (spans_from d first_element_page es) sorted → IsPermutation (places_in slot sorted) (places_from slot first_element_page es)
 places_listed d slot es sorted moved =
-    subst (IsPermutation (places_in slot sorted)) (places_found d slot 930 es)
-    (IsPermutation-sym (places_in slot (spans_from d 930 es)) (places_in slot sorted)
-    (IsPermutation-map place_in (spans_in slot (spans_from d 930 es)) (spans_in slot sorted) (filter_permuted (λ (a : Span). a.slot == slot) (spans_from d 930 es) sorted moved)))
+    subst (IsPermutation (places_in slot sorted)) (places_found d slot first_element_page es)
+    (IsPermutation-sym (places_in slot (spans_from d first_element_page es)) (places_in slot sorted)
+    (IsPermutation-map place_in (spans_in slot (spans_from d first_element_page es)) (spans_in slot sorted) (filter_permuted (λ (a : Span). a.slot == slot) (spans_from d first_element_page es) sorted moved)))
 
 -- the pages of one series
 in_slot : (slot : ℕ) (ps : List Seen) → All (λ p. p.0.slot ≡ slot) (seen_in slot ps)
@@ -85,12 +86,12 @@ in_order slot a b first second (inr behind, follows) =
     absurd (omega (arith, ints, low, own, behind))
 
 -- the pages that were read, and their spans in the order of a sort
-module _ (d : Definitions) (es : List ElementPage) (sorted : List Span) (held : AllHeld d es) (moved : IsPermutation (spans_from d 930 es) sorted) (order : AreSorted sorted) where
+module _ (d : Definitions) (es : List ElementPage) (sorted : List Span) (held : AllHeld d es) (moved : IsPermutation (spans_from d first_element_page es) sorted) (order : AreSorted sorted) where
   -- what holds of the pages holds of their spans in any order
   spans_have : (P : Span → Type 0) → ((p : Seen) → IsSeen d p → P p.0) → All P sorted
   spans_have P so =
-      All-permutation P (spans_from d 930 es) sorted moved
-      (subst (All P) (spans_seen d 930 es) (All-map P span (seen_from d 930 es) (All-weaker (IsSeen d) (λ p. P p.0) so (seen_from d 930 es) (all_seen d 930 es held))))
+      All-permutation P (spans_from d first_element_page es) sorted moved
+      (subst (All P) (spans_seen d first_element_page es) (All-map P span (seen_from d first_element_page es) (All-weaker (IsSeen d) (λ p. P p.0) so (seen_from d first_element_page es) (all_seen d first_element_page es held))))
 
   pub ends_found : All IsSpan sorted
   ends_found = spans_have IsSpan (λ p seen. spans_end seen.shape seen.heading.columns p seen.spanned)
@@ -98,9 +99,9 @@ module _ (d : Definitions) (es : List ElementPage) (sorted : List Span) (held : 
   -- where the spans are apart and dense, the pages of a series are in sequence
   pub in_sequence : AreApart sorted → AreDense d sorted → (slot : ℕ) (h : Heading) (shape : Shape) → heading_at d slot ≡ Some h → shape_at d slot ≡ Some shape → IsInSequence shape slot h.columns es
   in_sequence apart dense slot h shape there lies =
-      let found = lifted span (seen_from d 930 es) sorted (subst (λ (l : List Span). IsPermutation l sorted) (sym (spans_seen d 930 es)) moved) in
+      let found = lifted span (seen_from d first_element_page es) sorted (subst (λ (l : List Span). IsPermutation l sorted) (sym (spans_seen d first_element_page es)) moved) in
       let ps : List Seen = seen_in slot found.list in
-      let all = spanned_all d slot h shape found.list there lies (All-permutation (IsSeen d) (seen_from d 930 es) found.list found.moved (all_seen d 930 es held)) in
+      let all = spanned_all d slot h shape found.list there lies (All-permutation (IsSeen d) (seen_from d first_element_page es) found.list found.moved (all_seen d first_element_page es held)) in
       let own : spans_in slot sorted ≡ map span ps = ap (spans_in slot) (sym found.is) ∙ sym (spans_seen_in slot found.list) in
       let ends : Neighbours EndsBefore ps = neighbours_map span Ends ps (subst (Neighbours Ends) own (ends_in slot sorted order apart)) in
       let room : ℕ = page_room h.columns in
@@ -111,8 +112,8 @@ module _ (d : Definitions) (es : List ElementPage) (sorted : List Span) (held : 
       record {
         sheets = map sheet ps;
         is = sequence_of shape h.columns ps all ends (λ is. neighbours_map span (λ (a b : Span). room < a.count + b.count) ps (subst (Neighbours (λ (a b : Span). room < a.count + b.count)) own (more is)));
-        all = subst (IsPermutation (map sheet ps)) (sheets_seen d slot 930 es)
-            (IsPermutation-map sheet ps (seen_in slot (seen_from d 930 es)) (filter_permuted (λ (p : Seen). p.0.slot == slot) found.list (seen_from d 930 es) (IsPermutation-sym (seen_from d 930 es) found.list found.moved)));
+        all = subst (IsPermutation (map sheet ps)) (sheets_seen d slot first_element_page es)
+            (IsPermutation-map sheet ps (seen_in slot (seen_from d first_element_page es)) (filter_permuted (λ (p : Seen). p.0.slot == slot) found.list (seen_from d first_element_page es) (IsPermutation-sym (seen_from d first_element_page es) found.list found.moved)));
       }
 
   -- the pages of a series in sequence, with their spans
@@ -125,10 +126,10 @@ module _ (d : Definitions) (es : List ElementPage) (sorted : List Span) (held : 
 
   sequenced : (slot : ℕ) (h : Heading) (shape : Shape) → heading_at d slot ≡ Some h → shape_at d slot ≡ Some shape → IsInSequence shape slot h.columns es → Sequenced slot h shape
   sequenced slot h shape there lies sequence =
-      let own : List Seen = seen_in slot (seen_from d 930 es) in
-      let found = lifted sheet own sequence.sheets (IsPermutation-sym sequence.sheets (map sheet own) (subst (IsPermutation sequence.sheets) (sym (sheets_seen d slot 930 es)) sequence.all)) in
-      let all = All-permutation (IsSpanned shape h.columns) own found.list found.moved (spanned_all d slot h shape (seen_from d 930 es) there lies (all_seen d 930 es held)) in
-      let spans : map span own ≡ spans_in slot (spans_from d 930 es) = spans_seen_in slot (seen_from d 930 es) ∙ ap (spans_in slot) (spans_seen d 930 es) in
+      let own : List Seen = seen_in slot (seen_from d first_element_page es) in
+      let found = lifted sheet own sequence.sheets (IsPermutation-sym sequence.sheets (map sheet own) (subst (IsPermutation sequence.sheets) (sym (sheets_seen d slot first_element_page es)) sequence.all)) in
+      let all = All-permutation (IsSpanned shape h.columns) own found.list found.moved (spanned_all d slot h shape (seen_from d first_element_page es) there lies (all_seen d first_element_page es held)) in
+      let spans : map span own ≡ spans_in slot (spans_from d first_element_page es) = spans_seen_in slot (seen_from d first_element_page es) ∙ ap (spans_in slot) (spans_seen d first_element_page es) in
       let is = subst (AreInSequence shape h.columns) (sym found.is) sequence.is in
       record {
         list = found.list;
@@ -137,7 +138,7 @@ module _ (d : Definitions) (es : List ElementPage) (sorted : List Span) (held : 
         more = more_of shape h.columns found.list all is;
         spans = IsPermutation-trans (map span found.list) (map span own) (spans_in slot sorted)
             (IsPermutation-map span found.list own (IsPermutation-sym own found.list found.moved))
-            (subst (λ (l : List Span). IsPermutation l (spans_in slot sorted)) (sym spans) (filter_permuted (λ (a : Span). a.slot == slot) (spans_from d 930 es) sorted moved));
+            (subst (λ (l : List Span). IsPermutation l (spans_in slot sorted)) (sym spans) (filter_permuted (λ (a : Span). a.slot == slot) (spans_from d first_element_page es) sorted moved));
       }
 
   ends_of : (slot : ℕ) (h : Heading) (shape : Shape) → Sequenced slot h shape → Neighbours Ends (spans_in slot sorted)

@@ -10,6 +10,7 @@ use Rattle.ts_model.specs.declared.kind.Kind.TheVariants as kinds
 use Rattle.std.specs.Option.{option_map}
 use Rattle.ts_layout.proofs.CallerLemmas.{at_slot-map}
 use Rattle.std.proofs.lemmas.List.{length-map, length-replicate}
+use Rattle.ts_page.specs.Volume.{first_element_page}
 use Rattle.ts_model.specs.Definitions.{Definitions, KindDef, CalendarDef, of_calendar, at_slot, to_def, table_of, limit, slots, with_format, no_definitions}
 use Rattle.ts_model.proofs.PartsLemmas.{empty-table, nothing-defined, tables-stay}
 use Rattle.ts_layout.specs.Limits.{IsSlotOf}
@@ -77,7 +78,7 @@ known_more format number page pages old new same read known = record {
 
 -- a page that is the first of a definition that has the name of a lower slot or refers to an empty one
 pub known_unresolved : (format number : ℕ) (page : List ℕ) (pages : ℕ → List ℕ) (old new : Definitions × List Broken) → pages number ≡ page → PageRead format number page old new found.Unresolved → KnownTo format number pages old.0 old.1
-    → ((n : ℕ) → number ≤ n → n < 930 → HoldsSlots format pages n) → IsBadDefinition format pages number
+    → ((n : ℕ) → number ≤ n → n < first_element_page → HoldsSlots format pages n) → IsBadDefinition format pages number
 known_unresolved format number page pages old new same read known others = inr (
   λ n low high. elim (cases_lt n number) [ inl below ↦ known.slots n low below | inr past ↦ others n past high ],
   λ s written. read pages s same written (known.of_volume s written),
@@ -94,7 +95,7 @@ least_none format number page pages before least = inl (record {
 })
 
 -- a page that is none, behind those that are
-pub known_bad : (format number : ℕ) (page : List ℕ) (pages : ℕ → List ℕ) (d : Definitions) (broken : List Broken) → pages number ≡ page → 257 ≤ number → number < 930 → IsNoPageOf format number page → KnownTo format number pages d broken → IsBadDefinition format pages number
+pub known_bad : (format number : ℕ) (page : List ℕ) (pages : ℕ → List ℕ) (d : Definitions) (broken : List Broken) → pages number ≡ page → 257 ≤ number → number < first_element_page → IsNoPageOf format number page → KnownTo format number pages d broken → IsBadDefinition format pages number
 known_bad format number page pages d broken same low high none known =
     least_none format number number pages known.slots (record { has = ((let z : number ≤ number = omega arith in z), (low, high, none pages same)); least = λ other found. found.0 })
 
@@ -107,7 +108,7 @@ below_end kinds.Container slot within = omega arith
 below_end kinds.Series slot within = omega arith
 
 -- all definition pages were read
-pub known_all : (format : ℕ) (pages : ℕ → List ℕ) (d : Definitions) (broken : List Broken) → KnownTo format 930 pages d broken → AreKnown format pages d broken
+pub known_all : (format : ℕ) (pages : ℕ → List ℕ) (d : Definitions) (broken : List Broken) → KnownTo format first_element_page pages d broken → AreKnown format pages d broken
 known_all format pages d broken known = record { slots = known.slots; of_volume = known.of_volume }
 
 -- nothing stands below the first page
@@ -194,7 +195,7 @@ unresolved_read {A} tells format number own page old new u v w same read first h
   known = tt;
   refused = λ told.
       known_unresolved format number page u.page old new (here told) read (known told)
-      (subst (λ (p : ℕ × (ℕ → List ℕ)). (n : ℕ) → number ≤ n → n < 930 → HoldsSlots p.0 p.1 n) (λ i. (same i, equal_pages u.page v.page (first.pages told) i)) (judged.all told));
+      (subst (λ (p : ℕ × (ℕ → List ℕ)). (n : ℕ) → number ≤ n → n < first_element_page → HoldsSlots p.0 p.1 n) (λ i. (same i, equal_pages u.page v.page (first.pages told) i)) (judged.all told));
 }
 
 -- what an answer says

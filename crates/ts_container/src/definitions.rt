@@ -15,9 +15,9 @@ use crate::judge::{has_definition, judge_pages};
 use crate::read::read;
 use crate::rules::{is_resolved, is_taken};
 use std::alloc::{AllocError, Global};
-use ts_layout::{ELEMENTS, ROW_TYPES, slot_size, slots_in_page};
+use ts_layout::{ROW_TYPES, slot_size, slots_in_page};
 use ts_model::{Defs, Kind};
-use ts_page::{Page, Pages};
+use ts_page::{FIRST_ELEMENT_PAGE, Page, Pages};
 use ts_row::is_zero;
 use ts_slots::{Reading, Written, read_slot};
 
@@ -37,7 +37,7 @@ pub(crate) fn read_definitions<P: Pages>(
 {
     let format = defs.format();
     let mut broken = Vec::new(alloc);
-    for number in ROW_TYPES..ELEMENTS {
+    for number in ROW_TYPES..FIRST_ELEMENT_PAGE {
         read(pages, number, page)?;
         match read_page(alloc, number, page, defs, &mut broken)? {
             Found::Good => {}

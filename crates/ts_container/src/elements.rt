@@ -10,9 +10,8 @@ use crate::fault::SurveyFault;
 use crate::read::read;
 use crate::span::Span;
 use std::alloc::{AllocError, Global};
-use ts_layout::ELEMENTS;
 use ts_model::Defs;
-use ts_page::{Page, Pages};
+use ts_page::{FIRST_ELEMENT_PAGE, Page, Pages};
 
 /// What is found of the element pages.
 #[derive(Drop)]
@@ -44,7 +43,7 @@ pub(crate) fn read_elements<P: Pages>(
         spans: Vec::new(alloc),
         free: Vec::new(alloc),
     };
-    for number in ELEMENTS..count {
+    for number in FIRST_ELEMENT_PAGE..count {
         read(pages, number, page)?;
         let Some(content) = content_of(number, page, defs) else {
             return Err(SurveyFault::NotAStore { page: number });

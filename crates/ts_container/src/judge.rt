@@ -8,9 +8,9 @@ ghost use Rattle.ts_container.specs.Survey.{PagesJudged};
 use crate::fault::SurveyFault;
 use crate::read::read;
 use std::alloc::{AllocError, Global};
-use ts_layout::{ELEMENTS, slot_size, slots_in_page};
+use ts_layout::{slot_size, slots_in_page};
 use ts_model::Kind;
-use ts_page::{Page, Pages};
+use ts_page::{FIRST_ELEMENT_PAGE, Page, Pages};
 use ts_row::is_zero;
 use ts_slots::{CalendarForm, Part, Reading, Written, read_slot};
 
@@ -27,7 +27,7 @@ pub(crate) fn judge_pages<P: Pages>(
     ensures judged { PagesJudged P.tells format first result (P.contents pages.old) (P.contents pages.new) }
     ensures undisturbed { P.undisturbed pages.old pages.new }
 {
-    for number in first..ELEMENTS {
+    for number in first..FIRST_ELEMENT_PAGE {
         read(pages, number, page)?;
         if !is_page_of(alloc, format, number, page)? {
             return Err(SurveyFault::NotAStore { page: number });

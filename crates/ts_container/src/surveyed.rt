@@ -22,9 +22,9 @@ use crate::read::read;
 use crate::rules::sum_of_quotas;
 use crate::sorted::{overlapping, sort, sparse};
 use std::alloc::Global;
-use ts_layout::{CONTAINERS, ELEMENTS, page_of_slot};
+use ts_layout::{CONTAINERS, page_of_slot};
 use ts_model::{Defs, Kind};
-use ts_page::{Page, Pages};
+use ts_page::{FIRST_ELEMENT_PAGE, Page, Pages};
 use ts_slots::format_of;
 use ts_space::Space;
 
@@ -104,7 +104,7 @@ pub fn survey_definitions<P: Pages>(
     ensures undisturbed { P.undisturbed pages.old pages.new }
 {
     read(pages, 0, page)?;
-    let Some(format) = format_of(count - ELEMENTS, page) else {
+    let Some(format) = format_of(count - FIRST_ELEMENT_PAGE, page) else {
         return Err(SurveyFault::NotAStore { page: 0 });
     };
     let mut defs = Defs::new(alloc);
@@ -138,7 +138,7 @@ fn first_ungranted(defs: &Defs, count: u32) -> Option<u32>
     ensures { MatchOption result (AreGranted count defs.now.definitions)
         (IsLeast (IsUngranted count defs.now.definitions)) }
 {
-    if sum_of_quotas(defs) > (count - ELEMENTS) as u64 {
+    if sum_of_quotas(defs) > (count - FIRST_ELEMENT_PAGE) as u64 {
         return Some(CONTAINERS);
     }
     first_astray(defs)

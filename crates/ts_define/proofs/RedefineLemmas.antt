@@ -2,6 +2,7 @@
 use Rattle.std.proofs.Common.{◌≡◌, ℕ, ◌+◌, ◌-◌, ◌<◌, ◌≤◌, Bool, true, IsTrue, Option, Ok, IsPermutation, List, length, refl, ap, sym, ◌∙◌, subst, arith}
 use Rattle.ts_command.specs.declared.command.Command.{Command}
 use Rattle.ts_page.specs.Pages.{Contents}
+use Rattle.ts_page.specs.Volume.{first_element_page}
 use Rattle.ts_model.specs.declared.kind.Kind.{Kind}
 use Rattle.ts_model.specs.declared.def.Def.{Def}
 use Rattle.ts_model.specs.Definitions.{Definitions, limit, with_slot}
@@ -39,8 +40,8 @@ module _ (tells : Bool) (kind : Kind) (slot : ℕ) (def : Option Def) (command :
       let some = kept.some in
       let most = kept.most in
       let size = bare_size v.count d (omega (arith, some)) in
-      let by : IsDefinedBy d v.count (bare (v.count - 930) d) = record { definitions = refl; size = size; rules = bare_sound (v.count - 930) d (omega (arith, some)) (omega (arith, most)) kept.sound; filled = bare_filled (v.count - 930) d } in
-      let now = (decision (bare (v.count - 930) d) by).ok.2.kept space v.free v.count size kept in
+      let by : IsDefinedBy d v.count (bare (v.count - first_element_page) d) = record { definitions = refl; size = size; rules = bare_sound (v.count - first_element_page) d (omega (arith, some)) (omega (arith, most)) kept.sound; filled = bare_filled (v.count - first_element_page) d } in
+      let now = (decision (bare (v.count - first_element_page) d) by).ok.2.kept space v.free v.count size kept in
       subst (λ (n : ℕ). AreKept (with_slot kind slot def d) space w.free n) (sym written.count) (subst (λ (ns : List ℕ). AreKept (with_slot kind slot def d) space ns v.count) (sym written.free) now)
 
   comes : (l : Layout) → Shows tells (view d space v) l → Comes tells command (Slot kind slot def) (made_line def) (view d space v) w l

@@ -11,6 +11,7 @@ use Rattle.ts_space.specs.declared.place.Place.{Place}
 use Rattle.ts_space.specs.Place.{pages_of}
 use Rattle.ts_space.specs.Directory.{Directory, places_of}
 use Rattle.ts_row.specs.declared.kind.Column.{Column}
+use Rattle.ts_page.specs.Volume.{first_element_page}
 use Rattle.ts_irregular.specs.OnePage.{IsPlace}
 use Rattle.ts_regular.specs.Places as cells
 use Rattle.ts_offset.specs.declared.shape.Shape.{Shape}
@@ -66,7 +67,7 @@ can_be_freed x kept key slot named =
     let on = series_kept x kept slot named.within key named in
     freeable on.shape on.h.columns x.pages (places_of slot x.space) (places_seen x kept slot named.within on.h on.columns on.shape on.lies)
 
-above_slot : (slot n : ℕ) → slot < 4096 → 930 ≤ n → n ≢ page_of_slot kinds.Series slot
+above_slot : (slot n : ℕ) → slot < 4096 → first_element_page ≤ n → n ≢ page_of_slot kinds.Series slot
 above_slot slot n within high same = let top = page_high kinds.Series slot within in omega (arith, top, high, same)
 
 -- its pages are freed, and then its slot is emptied
@@ -89,7 +90,7 @@ module _ (tells : Bool) (x : View) (key : List ℕ) (slot : ℕ) (named : IsSlot
     first_page : 0 ≢ page_of_slot kinds.Series slot
     first_page same = let low = page_low kinds.Series slot in omega (arith, low, same)
 
-    none_below : (n : ℕ) → n < 930 → ¬ Contains (pages_of (places_of slot x.space)) n
+    none_below : (n : ℕ) → n < first_element_page → ¬ Contains (pages_of (places_of slot x.space)) n
     none_below n low there =
         let can = All-contains (CanBeFreed x.pages) (pages_of (places_of slot x.space)) n (can_be_freed x kept key slot named).0 there in
         let high = can.element in

@@ -3,6 +3,7 @@ use Rattle.std.proofs.Common.{◌≡◌, ◌-◌, ℕ, Bool, IsTrue, None, Resul
 use Rattle.ts_base.specs.declared.fault.StoreFault.{StoreFault}
 use Rattle.ts_disk.specs.Device.{Device, Lawful}
 use Rattle.ts_page.specs.Pages.{Contents, EqualPages, with_page}
+use Rattle.ts_page.specs.Volume.{first_element_page}
 use Rattle.ts_store.specs.OpenBatch.{read_pages, contents_over}
 use Rattle.ts_store.specs.Undisturbed.{Undisturbed}
 use Rattle.ts_model.specs.Catalogue.{Catalogue, in_newest_format, newest_format}
@@ -44,13 +45,13 @@ migrated_none tells e v lawful ready none newest_is = record {
 
 module _ (tells : Bool) (e : Kept) (v : Device) (lawful : Lawful tells v) (ready : IsReady tells e v) (none : e.saved ≡ None) where
   abbrev Work : Contents → Contents → Type 0
-  Work a c = HeaderWritten tells newest_format (e.store.pages - 930) (Ok tt) a c
+  Work a c = HeaderWritten tells newest_format (e.store.pages - first_element_page) (Ok tt) a c
 
   next : (told : IsTrue tells) (read : Contents) → Work (contents_over e.store v) read → Next tells state_renewed (ready.seen.layout told).0 read
   next told read work =
       let l = (ready.seen.layout told).0 in
       let size = (ready.seen.layout told).1.kept.size in
-      let number : e.store.pages - 930 ≡ length l.element_pages = omega (arith, size) in
+      let number : e.store.pages - first_element_page ≡ length l.element_pages = omega (arith, size) in
       record {
         layout = layout_in newest_format l;
         size = refl;
@@ -71,8 +72,8 @@ module _ (tells : Bool) (e : Kept) (v : Device) (lawful : Lawful tells v) (ready
   }
 
   module _ (g ended : Kept) (x w : Device) (later : Lawful tells w) (put : Result Unit StoreFault) (is : g ≡ record e { store = g.store }) (calls : Undisturbed tells e.store g.store v x)
-      (written : HeaderWritten tells newest_format (e.store.pages - 930) put (contents_over e.store v) (contents_over g.store x)) where
-    worked : (r : Result Unit StoreFault) (a c : Contents) → HeaderWritten tells newest_format (e.store.pages - 930) r a c → OnOk r (Work a c)
+      (written : HeaderWritten tells newest_format (e.store.pages - first_element_page) put (contents_over e.store v) (contents_over g.store x)) where
+    worked : (r : Result Unit StoreFault) (a c : Contents) → HeaderWritten tells newest_format (e.store.pages - first_element_page) r a c → OnOk r (Work a c)
     worked (Ok done) a c written = written
     worked (Err fault) a c written = tt
 

@@ -5,6 +5,7 @@ use Rattle.std.proofs.Common.{◌≡◌, inl, inr, ⊎_elim, ℕ, ◌+◌, Bool,
 use Rattle.ts_disk.specs.Device.{Device, Lawful, Rose, LeavesOnly}
 use Rattle.ts_disk.proofs.Moments.{leaves_map}
 use Rattle.ts_page.specs.Pages.{Contents}
+use Rattle.ts_page.specs.Volume.{first_element_page}
 use Rattle.ts_journal.specs.Moment.{OnlyReads}
 use Rattle.ts_store.specs.OpenBatch.{State as Store, IsClosed, read_pages, contents_over}
 use Rattle.ts_store.specs.OpenBatch.{rolled_back as store_rolled_back}
@@ -207,7 +208,7 @@ module _ (tells : Bool) (after : State → State) (Work : Contents → Contents 
             (λ new.
             let to = next told new.0 new.1 in
             inr (subst (λ (s : State). MeansCatalogue image s.base) (sym (goes told state at new.0 new.1))
-            (means_layout v.size new.0.page image to.layout ready.idle.over.read.volume new.2.size new.2.sound new.2.alike (counted v.size e.store.pages ready.idle.over.read.size ∙ (ready.seen.layout told).1.kept.size ∙ ap (λ (n : ℕ). 930 + n) (sym to.size)) (to.holds told) to.rules))) now.0,
+            (means_layout v.size new.0.page image to.layout ready.idle.over.read.volume new.2.size new.2.sound new.2.alike (counted v.size e.store.pages ready.idle.over.read.size ∙ (ready.seen.layout told).1.kept.size ∙ ap (λ (n : ℕ). first_element_page + n) (sym to.size)) (to.holds told) to.rules))) now.0,
         now.1,
       ))
       (changed.moments told)

@@ -4,6 +4,7 @@ use Rattle.std.proofs.lemmas.List.Sorted.{IsPermutation-refl}
 use Rattle.ts_disk.specs.Device.{Device, Lawful, Only, Rose, LeavesOnly}
 use Rattle.ts_disk.proofs.Moments.{then_on, leaves_map}
 use Rattle.ts_page.specs.Pages.{Contents, IsLawful}
+use Rattle.ts_page.specs.Volume.{first_element_page}
 use Rattle.ts_journal.specs.Entry.{AreAllowed}
 use Rattle.ts_journal.specs.Journal.{IsVolumeSize, page_count, pages, ReadsButFreed}
 use Rattle.ts_journal.specs.Moment.{Keeps, OnlyReads, SamePages}
@@ -90,9 +91,9 @@ admitted tells s t d x space free idle found is =
             below = one.1;
             free = λ told.
                 let known = found.layout told in
-                let at = free_at 930 known.0.element_pages k e (subst (λ (ns : List ℕ). k < length ns) known.1.free within) in
+                let at = free_at first_element_page known.0.element_pages k e (subst (λ (ns : List ℕ). k < length ns) known.1.free within) in
                 let P : ℕ → Type 0 = λ n. slice_index (read_pages s d.held n) 0 ≡ 0 in
-                subst P (sym (ap (λ (ns : List ℕ). get_or ns k e) known.1.free ∙ at.2)) (let Q : ElementPage → Type 0 = λ e. HoldsElements known.0.definitions (read_pages s d.held (930 + at.0)) e in
+                subst P (sym (ap (λ (ns : List ℕ). get_or ns k e) known.1.free ∙ at.2)) (let Q : ElementPage → Type 0 = λ e. HoldsElements known.0.definitions (read_pages s d.held (first_element_page + at.0)) e in
                 subst Q at.3 (known.2.bytes.elements at.0 at.1));
           };
     } in

@@ -17,6 +17,7 @@ use Rattle.ts_space.specs.Charge.{irregular_charge, irregular_places_charge}
 use Rattle.ts_space.specs.Directory.{Directory, places_of}
 use Rattle.ts_offset.specs.declared.shape.Shape.TheVariants.{Irregular}
 use Rattle.ts_cells.specs.Cell.{page_room}
+use Rattle.ts_page.specs.Volume.{first_element_page}
 use Rattle.ts_chain.specs.Chain.{all_in}
 use Rattle.ts_chain.proofs.OrderLemmas.{sized_pages}
 use Rattle.ts_chain.proofs.DenseLemmas.{within_charge}
@@ -76,10 +77,10 @@ places_each slot first (e ∷ pages) =
     All-append (IsPlaceAt slot first (e ∷ pages)) (places_on slot first e) (places_from slot (suc first) pages) (on_page slot first e pages)
     (All-weaker (IsPlaceAt slot (suc first) pages) (IsPlaceAt slot first (e ∷ pages)) (λ p at. further_on slot first e pages p at) (places_from slot (suc first) pages) (places_each slot (suc first) pages))
 
-pub its_places : (l : Layout) (space : Directory) (slot : ℕ) → ListsPlaces space l → slot < 4096 → All (IsPlaceAt slot 930 l.element_pages) (places_of slot space)
+pub its_places : (l : Layout) (space : Directory) (slot : ℕ) → ListsPlaces space l → slot < 4096 → All (IsPlaceAt slot first_element_page l.element_pages) (places_of slot space)
 its_places l space slot lists within =
     let all = (lists slot within).all in
-    All-permutation (IsPlaceAt slot 930 l.element_pages) (places_from slot 930 l.element_pages) (places_of slot space) (IsPermutation-sym (places_of slot space) (places_from slot 930 l.element_pages) all) (places_each slot 930 l.element_pages)
+    All-permutation (IsPlaceAt slot first_element_page l.element_pages) (places_from slot first_element_page l.element_pages) (places_of slot space) (IsPermutation-sym (places_of slot space) (places_from slot first_element_page l.element_pages) all) (places_each slot first_element_page l.element_pages)
 
 -- so a series has at most as many places as it is charged
 pub places_charged : (l : Layout) (space : Directory) (slot : ℕ) (h : Heading) → IsSound l → ListsPlaces space l → slot < 4096 → heading_at l.definitions slot ≡ Some h → shape_at l.definitions slot ≡ Some Irregular → 0 < page_room h.columns

@@ -7,6 +7,7 @@ use Rattle.std.proofs.lemmas.Bool.Decides.{nat_tests}
 use Rattle.ts_space.specs.declared.place.Place.{Place}
 use Rattle.ts_space.specs.Directory.{Directory, places_of}
 use Rattle.ts_cells.specs.Cell.{page_room}
+use Rattle.ts_page.specs.Volume.{first_element_page}
 use Rattle.ts_model.specs.declared.kind.Kind.{Kind}
 use Rattle.ts_model.specs.declared.kind.Kind.TheVariants as kinds
 use Rattle.ts_model.specs.declared.def.Def.{Def}
@@ -90,12 +91,12 @@ changed_less kinds.Container slot o d space k room rules none = omega arith
 changed_less kinds.Series slot o d space k room rules none = series_charges d space space slot (option_and_then (from_def kinds.Series) o) rules (none refl) (λ t low other. refl) k room
 
 -- how many pages a layout has
-pages_are : (count : ℕ) (l : Layout) → count ≡ 930 + length l.element_pages → length l.element_pages ≡ count - 930
+pages_are : (count : ℕ) (l : Layout) → count ≡ first_element_page + length l.element_pages → length l.element_pages ≡ count - first_element_page
 pages_are count l size = omega (arith, size)
 
 -- what is kept stays kept where a definition is made or dropped
-module _ (l : Layout) (sound : IsSound l) (space : Directory) (free : List ℕ) (count : ℕ) (size : count ≡ 930 + length l.element_pages) (kept : AreKept l.definitions space free count) where
-  rules_then : (d : Definitions) → AreSound (length l.element_pages) d → AreSound (count - 930) d
+module _ (l : Layout) (sound : IsSound l) (space : Directory) (free : List ℕ) (count : ℕ) (size : count ≡ first_element_page + length l.element_pages) (kept : AreKept l.definitions space free count) where
+  rules_then : (d : Definitions) → AreSound (length l.element_pages) d → AreSound (count - first_element_page) d
   rules_then d rules = subst (λ (n : ℕ). AreSound n d) (pages_are count l size) rules
 
   -- an empty slot has no places

@@ -5,6 +5,7 @@ use Rattle.std.specs.Option.{option_and_then}
 use Rattle.ts_row.specs.Element.{Element, has_hidden}
 use Rattle.ts_page.specs.Head.{bytes_at}
 use Rattle.ts_page.specs.Pages.{EqualPages, with_page}
+use Rattle.ts_page.specs.Volume.{first_element_page}
 use Rattle.ts_space.specs.Directory.{Directory}
 use Rattle.ts_offset.specs.declared.shape.Shape.{Shape}
 use Rattle.ts_model.specs.Catalogue.{old_format, newest_format}
@@ -191,6 +192,6 @@ layout_renewed l v w same holds =
         behind = λ n low high. ap (λ (p : List ℕ). drop (bytes_of_slots (slots_in_page n)) p) (stays n low) ∙ holds.definitions.behind n low high;
       };
       elements = λ i within.
-          subst (λ (p : List ℕ). HoldsElements (with_format newest_format l.definitions) p (element_page i l.element_pages)) (sym (stays (930 + i) (omega arith)))
-          (holds_renewed l.definitions (v (930 + i)) (element_page i l.element_pages) (holds.elements i within));
+          subst (λ (p : List ℕ). HoldsElements (with_format newest_format l.definitions) p (element_page i l.element_pages)) (sym (stays (first_element_page + i) (omega arith)))
+          (holds_renewed l.definitions (v (first_element_page + i)) (element_page i l.element_pages) (holds.elements i within));
     }

@@ -6,6 +6,7 @@ use Rattle.std.proofs.lemmas.Bool.{cases_eq, cases_lt}
 use Rattle.std.proofs.lemmas.List.Sums.{sum_by-cons}
 use Rattle.std.proofs.lemmas.List.Sorted.{IsPermutation-sym, length_permutation}
 use Rattle.ts_row.specs.RowType.{Heading}
+use Rattle.ts_page.specs.Volume.{first_element_page}
 use Rattle.ts_space.specs.declared.place.Place.{Place}
 use Rattle.ts_space.specs.Directory.{Directory, places_of, used_of}
 use Rattle.ts_model.specs.Definitions.{Definitions, IsDefinitions}
@@ -97,11 +98,11 @@ filled_within d slot h rules there = elim (cases_lt slot 4096) [
 -- each element page is free or the place of one series
 pub free_counted : (l : Layout) (space : Directory) → IsDefinitions l.definitions → AreFilled l → ListsPlaces space l → length space.lists ≡ 4096 → length (free_pages l) + used_of space ≡ length l.element_pages
 free_counted l space rules filled lists size =
-    let used : used_of space ≡ sum_to (λ k. length (places_from k 930 l.element_pages)) 0 (length space.lists) =
-    lists_sum (λ k. length (places_from k 930 l.element_pages)) 0 space.lists (λ j within.
+    let used : used_of space ≡ sum_to (λ k. length (places_from k first_element_page l.element_pages)) 0 (length space.lists) =
+    lists_sum (λ k. length (places_from k first_element_page l.element_pages)) 0 space.lists (λ j within.
     let at : j ≡ 0 + j = omega arith in
-    length_permutation (places_from j 930 l.element_pages) (places_of j space) (IsPermutation-sym (places_of j space) (places_from j 930 l.element_pages) (lists j (omega (arith, within, size))).all) ∙ ap (λ (k : ℕ). length (places_from k 930 l.element_pages)) at) in
-    let both = free_and_used (length space.lists) 930 l.element_pages (λ i s sheet is.
+    length_permutation (places_from j first_element_page l.element_pages) (places_of j space) (IsPermutation-sym (places_of j space) (places_from j first_element_page l.element_pages) (lists j (omega (arith, within, size))).all) ∙ ap (λ (k : ℕ). length (places_from k first_element_page l.element_pages)) at) in
+    let both = free_and_used (length space.lists) first_element_page l.element_pages (λ i s sheet is.
     let fill = filled i s sheet is in
     let z = filled_within l.definitions s fill.heading rules fill.columns in omega (arith, z, size)) in
     ap (λ (n : ℕ). length (free_pages l) + n) used ∙ both

@@ -2,6 +2,7 @@
 use Rattle.std.specs.Prelude.{IsPermutation}
 use Rattle.std.proofs.Common.{◌≡◌, ◌≢◌, ℕ, ◌+◌, ◌<◌, List, [], ◌++◌, map, length, get_or, refl, ap, ◌∙◌, arith, length-set, get_or-set_other}
 use Rattle.std.proofs.lemmas.List.Sorted.{IsPermutation-refl, IsPermutation-sym, IsPermutation-trans, IsPermutation-append, IsPermutation-append_comm, length_permutation}
+use Rattle.ts_page.specs.Volume.{first_element_page}
 use Rattle.ts_space.specs.declared.place.Place.{Place}
 use Rattle.ts_space.specs.Place.{pages_of}
 use Rattle.ts_space.specs.Directory.{Directory, places_of, used_of, ChangesOnly}
@@ -14,7 +15,7 @@ use Rattle.ts_layout.proofs.FreeLemmas.{free_counted}
 use Rattle.ts_layout.proofs.PairLemmas.{pairs_from, numbers_in, place_numbers, free_freed}
 
 -- what is surveyed is held
-pub held_layout : (l : Layout) (space : Directory) (count : ℕ) → IsSound l → AreFilled l → ListsPlaces space l → count ≡ 930 + length l.element_pages → IsHeldOf l.definitions space count (free_pages l) l
+pub held_layout : (l : Layout) (space : Directory) (count : ℕ) → IsSound l → AreFilled l → ListsPlaces space l → count ≡ first_element_page + length l.element_pages → IsHeldOf l.definitions space count (free_pages l) l
 held_layout l space count sound filled lists size = record {
   definitions = refl;
   size = size;
@@ -32,14 +33,14 @@ free_left l space count free held slots =
     omega (arith, all, many)
 
 -- the free pages and those of one series are free where it is freed
-pub free_and_own : (d : Definitions) (space : Directory) (count : ℕ) (free : List ℕ) (l : Layout) (slot : ℕ) → IsHeldOf d space count free l → slot < 4096 → IsPermutation (free ++ pages_of (places_of slot space)) (free_from 930 (map (freed slot) l.element_pages))
+pub free_and_own : (d : Definitions) (space : Directory) (count : ℕ) (free : List ℕ) (l : Layout) (slot : ℕ) → IsHeldOf d space count free l → slot < 4096 → IsPermutation (free ++ pages_of (places_of slot space)) (free_from first_element_page (map (freed slot) l.element_pages))
 free_and_own d space count free l slot held within =
-    let all : List ℕ = free_from 930 (map (freed slot) l.element_pages) in
-    let were : List ℕ = free_from 930 l.element_pages in
-    let own : List ℕ = numbers_in (pairs_from slot 930 l.element_pages) in
+    let all : List ℕ = free_from first_element_page (map (freed slot) l.element_pages) in
+    let were : List ℕ = free_from first_element_page l.element_pages in
+    let own : List ℕ = numbers_in (pairs_from slot first_element_page l.element_pages) in
     let numbers = place_numbers slot (places_of slot space) l.element_pages (held.places slot within) in
     IsPermutation-trans (free ++ pages_of (places_of slot space)) (were ++ own) all (IsPermutation-append free were (pages_of (places_of slot space)) own held.free numbers)
-    (IsPermutation-trans (were ++ own) (own ++ were) all (IsPermutation-append_comm were own) (IsPermutation-sym all (own ++ were) (free_freed slot 930 l.element_pages)))
+    (IsPermutation-trans (were ++ own) (own ++ were) all (IsPermutation-append_comm were own) (IsPermutation-sym all (own ++ were) (free_freed slot first_element_page l.element_pages)))
 
 -- a directory of which one list changes
 pub others_stay : (slot s : ℕ) (old new : Directory) → ChangesOnly slot old new → s ≢ slot → places_of s new ≡ places_of s old

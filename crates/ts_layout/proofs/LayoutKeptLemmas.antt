@@ -11,6 +11,7 @@ use Rattle.ts_space.specs.Place.{pages_of}
 use Rattle.ts_space.specs.Directory.{Directory, places_of}
 use Rattle.ts_cells.specs.Cell.{page_room}
 use Rattle.ts_row.specs.Element.{Element}
+use Rattle.ts_page.specs.Volume.{first_element_page}
 use Rattle.ts_regular.specs.Offsets.{elements_from}
 use Rattle.ts_regular.specs.RegularPage.{filled_count}
 use Rattle.ts_regular.proofs.CellsLemmas.{count_in, count_within}
@@ -89,49 +90,49 @@ abbrev IsOwned : ElementPage → Type 0
 IsOwned Free = ⊥
 IsOwned (Cells s sheet) = Unit {0}
 
-page_there : (slot : ℕ) (pages : List ElementPage) (p : Place) (at : IsPlaceAt slot 930 pages p) → element_page (p.page - 930) pages ≡ Cells slot at.sheet
-page_there slot pages p at = let number : p.page - 930 ≡ at.number = omega (arith, at.page) in ap (λ (n : ℕ). element_page n pages) number ∙ at.is
+page_there : (slot : ℕ) (pages : List ElementPage) (p : Place) (at : IsPlaceAt slot first_element_page pages p) → element_page (p.page - first_element_page) pages ≡ Cells slot at.sheet
+page_there slot pages p at = let number : p.page - first_element_page ≡ at.number = omega (arith, at.page) in ap (λ (n : ℕ). element_page n pages) number ∙ at.is
 
 -- the places and the free pages of a layout
 module _ (l : Layout) (space : Directory) (lists : ListsPlaces space l) (slots : length space.lists ≡ 4096) where
-  one_list : (slot : ℕ) → slot < 4096 → AllPairs (λ a b. a ≢ b) (pages_of (places_of slot space)) × All (λ n. owner_of (element_page (n - 930) l.element_pages) ≡ slot) (pages_of (places_of slot space))
+  one_list : (slot : ℕ) → slot < 4096 → AllPairs (λ a b. a ≢ b) (pages_of (places_of slot space)) × All (λ n. owner_of (element_page (n - first_element_page) l.element_pages) ≡ slot) (pages_of (places_of slot space))
   one_list slot within = (
-    pairs_permuted (λ (a b : ℕ). a ≢ b) different_turned (pages_of (places_from slot 930 l.element_pages)) (pages_of (places_of slot space))
-        (IsPermutation-map (λ (p : Place). p.page) _ _ (IsPermutation-sym (places_of slot space) (places_from slot 930 l.element_pages) (lists slot within).all)) (pages_differ slot 930 l.element_pages),
-    All-map (λ (n : ℕ). owner_of (element_page (n - 930) l.element_pages) ≡ slot) (λ (p : Place). p.page) (places_of slot space)
-        (All-weaker (IsPlaceAt slot 930 l.element_pages) (λ (p : Place). owner_of (element_page (p.page - 930) l.element_pages) ≡ slot) (λ p at. ap owner_of (page_there slot l.element_pages p at)) (places_of slot space) (its_places l space slot lists within)),
+    pairs_permuted (λ (a b : ℕ). a ≢ b) different_turned (pages_of (places_from slot first_element_page l.element_pages)) (pages_of (places_of slot space))
+        (IsPermutation-map (λ (p : Place). p.page) _ _ (IsPermutation-sym (places_of slot space) (places_from slot first_element_page l.element_pages) (lists slot within).all)) (pages_differ slot first_element_page l.element_pages),
+    All-map (λ (n : ℕ). owner_of (element_page (n - first_element_page) l.element_pages) ≡ slot) (λ (p : Place). p.page) (places_of slot space)
+        (All-weaker (IsPlaceAt slot first_element_page l.element_pages) (λ (p : Place). owner_of (element_page (p.page - first_element_page) l.element_pages) ≡ slot) (λ p at. ap owner_of (page_there slot l.element_pages p at)) (places_of slot space) (its_places l space slot lists within)),
   )
 
   pub used_different : AllPairs (λ a b. a ≢ b) (used_pages space)
   used_different =
-      (used_apart (λ n. owner_of (element_page (n - 930) l.element_pages)) 0 space.lists (λ j within.
+      (used_apart (λ n. owner_of (element_page (n - first_element_page) l.element_pages)) 0 space.lists (λ j within.
       let one = one_list j (omega (arith, within, slots)) in
       let at : j ≡ 0 + j = omega arith in
-      (one.0, subst (λ (k : ℕ). All (λ (n : ℕ). owner_of (element_page (n - 930) l.element_pages) ≡ k) (pages_of (places_of j space))) at one.1))).0
+      (one.0, subst (λ (k : ℕ). All (λ (n : ℕ). owner_of (element_page (n - first_element_page) l.element_pages) ≡ k) (pages_of (places_of j space))) at one.1))).0
 
-  owned_in : (first : ℕ) (ls : List (List Place)) → ((j : ℕ) → j < length ls → All (λ n. IsOwned (element_page (n - 930) l.element_pages)) (pages_of (get_or ls j []))) → All (λ n. IsOwned (element_page (n - 930) l.element_pages)) (flat_map pages_of ls)
-  owned_in first [] each = All-nil (λ (n : ℕ). IsOwned (element_page (n - 930) l.element_pages))
+  owned_in : (first : ℕ) (ls : List (List Place)) → ((j : ℕ) → j < length ls → All (λ n. IsOwned (element_page (n - first_element_page) l.element_pages)) (pages_of (get_or ls j []))) → All (λ n. IsOwned (element_page (n - first_element_page) l.element_pages)) (flat_map pages_of ls)
+  owned_in first [] each = All-nil (λ (n : ℕ). IsOwned (element_page (n - first_element_page) l.element_pages))
   owned_in first (ps ∷ ls) each =
-      All-append (λ (n : ℕ). IsOwned (element_page (n - 930) l.element_pages)) (pages_of ps) (flat_map pages_of ls) (each 0 (omega arith)) (owned_in (suc first) ls (λ j within. each (suc j) (omega (arith, within))))
+      All-append (λ (n : ℕ). IsOwned (element_page (n - first_element_page) l.element_pages)) (pages_of ps) (flat_map pages_of ls) (each 0 (omega arith)) (owned_in (suc first) ls (λ j within. each (suc j) (omega (arith, within))))
 
-  used_owned : All (λ n. IsOwned (element_page (n - 930) l.element_pages)) (used_pages space)
+  used_owned : All (λ n. IsOwned (element_page (n - first_element_page) l.element_pages)) (used_pages space)
   used_owned = owned_in 0 space.lists (λ j within.
       let small : j < 4096 = omega (arith, within, slots) in
-      All-map (λ (n : ℕ). IsOwned (element_page (n - 930) l.element_pages)) (λ (p : Place). p.page) (places_of j space)
-      (All-weaker (IsPlaceAt j 930 l.element_pages) (λ (p : Place). IsOwned (element_page (p.page - 930) l.element_pages)) (λ p at. subst IsOwned (sym (page_there j l.element_pages p at)) tt) (places_of j space) (its_places l space j lists small)))
+      All-map (λ (n : ℕ). IsOwned (element_page (n - first_element_page) l.element_pages)) (λ (p : Place). p.page) (places_of j space)
+      (All-weaker (IsPlaceAt j first_element_page l.element_pages) (λ (p : Place). IsOwned (element_page (p.page - first_element_page) l.element_pages)) (λ p at. subst IsOwned (sym (page_there j l.element_pages p at)) tt) (places_of j space) (its_places l space j lists small)))
 
-  free_unowned : All (λ n. element_page (n - 930) l.element_pages ≡ Free) (free_pages l)
+  free_unowned : All (λ n. element_page (n - first_element_page) l.element_pages ≡ Free) (free_pages l)
   free_unowned k e within =
-      let at = free_at 930 l.element_pages k e within in
-      let number : get_or (free_pages l) k e - 930 ≡ at.0 = let is = at.2 in omega (arith, is) in
+      let at = free_at first_element_page l.element_pages k e within in
+      let number : get_or (free_pages l) k e - first_element_page ≡ at.0 = let is = at.2 in omega (arith, is) in
       ap (λ (n : ℕ). element_page n l.element_pages) number ∙ at.3
 
   pub all_different : AllPairs (λ a b. a ≢ b) (free_pages l ++ used_pages space)
   all_different =
-      pairs_join (λ (a b : ℕ). a ≢ b) (free_pages l) (used_pages space) (free_different 930 l.element_pages) used_different (λ x y free used same.
-      let unowned = All-contains (λ (n : ℕ). element_page (n - 930) l.element_pages ≡ Free) (free_pages l) x free_unowned free in
-      let owned = All-contains (λ (n : ℕ). IsOwned (element_page (n - 930) l.element_pages)) (used_pages space) y used_owned used in
-      subst IsOwned (ap (λ (n : ℕ). element_page (n - 930) l.element_pages) (sym same) ∙ unowned) owned)
+      pairs_join (λ (a b : ℕ). a ≢ b) (free_pages l) (used_pages space) (free_different first_element_page l.element_pages) used_different (λ x y free used same.
+      let unowned = All-contains (λ (n : ℕ). element_page (n - first_element_page) l.element_pages ≡ Free) (free_pages l) x free_unowned free in
+      let owned = All-contains (λ (n : ℕ). IsOwned (element_page (n - first_element_page) l.element_pages)) (used_pages space) y used_owned used in
+      subst IsOwned (ap (λ (n : ℕ). element_page (n - first_element_page) l.element_pages) (sym same) ∙ unowned) owned)
 
 -- a sheet that fills a page has some elements, and no more than there is room for
 pub sheet_counted : (shape : Shape) (columns : List Column) (sheet : Sheet) → FillSheet shape columns sheet → (1 ≤ length sheet.1) × (length sheet.1 ≤ room_of shape columns)
@@ -141,7 +142,7 @@ sheet_counted (Regular grid) columns sheet fill =
     ap (λ (es : List Element). length es) fill.on.elements ∙ length-stamped grid (elements_from fill.base fill.cells) fill.on.starts ∙ count_in fill.base fill.cells in
     (omega (arith, count, fill.fill.some), omega (arith, count, count_within fill.cells, fill.fill.room))
 
-pub placed_in : (l : Layout) (space : Directory) (free : List ℕ) (count : ℕ) → IsSound l → AreFilled l → ListsPlaces space l → length space.lists ≡ 4096 → free ≡ free_pages l → count ≡ 930 + length l.element_pages → ArePlaced l.definitions space free count
+pub placed_in : (l : Layout) (space : Directory) (free : List ℕ) (count : ℕ) → IsSound l → AreFilled l → ListsPlaces space l → length space.lists ≡ 4096 → free ≡ free_pages l → count ≡ first_element_page + length l.element_pages → ArePlaced l.definitions space free count
 placed_in l space free count sound filled lists slots frees size = subst (λ (ns : List ℕ). ArePlaced l.definitions space ns count) (sym frees) (record {
   slots = slots;
   rising = λ slot within. (lists slot within).rising;
@@ -161,7 +162,7 @@ placed_in l space free count sound filled lists slots frees size = subst (λ (ns
         room = let most = counted.1 in omega (arith, many, most);
       };
   numbers = λ k e within.
-      let at = free_at 930 l.element_pages k e within in
+      let at = free_at first_element_page l.element_pages k e within in
       let below = at.1 in
       let number = at.2 in
       (omega (arith, number), omega (arith, number, below, size));
@@ -169,9 +170,9 @@ placed_in l space free count sound filled lists slots frees size = subst (λ (ns
   all = let counted = free_counted l space sound.definitions.tables filled lists slots in omega (arith, counted, size);
 })
 
-pub kept_in : (l : Layout) (space : Directory) (free : List ℕ) (count : ℕ) → IsSound l → AreFilled l → ListsPlaces space l → length space.lists ≡ 4096 → free ≡ free_pages l → count ≡ 930 + length l.element_pages → AreKept l.definitions space free count
+pub kept_in : (l : Layout) (space : Directory) (free : List ℕ) (count : ℕ) → IsSound l → AreFilled l → ListsPlaces space l → length space.lists ≡ 4096 → free ≡ free_pages l → count ≡ first_element_page + length l.element_pages → AreKept l.definitions space free count
 kept_in l space free count sound filled lists slots frees size =
-    let pages : length l.element_pages ≡ count - 930 = omega (arith, size) in
+    let pages : length l.element_pages ≡ count - first_element_page = omega (arith, size) in
     record {
       some = omega (arith, size, sound.some);
       most = omega (arith, size, sound.most);
@@ -200,8 +201,8 @@ no_charges pages container room first (Some s ∷ table) =
 pub bare_filled : (pages : ℕ) (d : Definitions) → AreFilled (bare pages d)
 bare_filled pages d i slot sheet is = absurd (no_cells pages i slot sheet is)
 
-pub bare_size : (count : ℕ) (d : Definitions) → 930 ≤ count → count ≡ 930 + length (bare (count - 930) d).element_pages
-bare_size count d some = let size : length (replicate (count - 930) Free) ≡ count - 930 = length-replicate (count - 930) Free in omega (arith, size, some)
+pub bare_size : (count : ℕ) (d : Definitions) → first_element_page ≤ count → count ≡ first_element_page + length (bare (count - first_element_page) d).element_pages
+bare_size count d some = let size : length (replicate (count - first_element_page) Free) ≡ count - first_element_page = length-replicate (count - first_element_page) Free in omega (arith, size, some)
 
 pub bare_sound : (pages : ℕ) (d : Definitions) → 1 ≤ pages → pages ≤ 65536 → AreSound pages d → IsSound (bare pages d)
 bare_sound pages d some most sound =

@@ -8,6 +8,7 @@ use Rattle.ts_row.proofs.RowBytesLemmas.{valid}
 use Rattle.ts_page.specs.Head.{bytes_at, head_of}
 use Rattle.ts_page.specs.Pages.{IsFreePage, IsElementPage, HasFreeHead, EqualPages, with_page}
 use Rattle.ts_page.proofs.PagesLemmas.{free_headed, with_other}
+use Rattle.ts_page.specs.Volume.{first_element_page}
 use Rattle.ts_offset.specs.declared.shape.Shape.{Shape}
 use Rattle.ts_model.specs.declared.kind.Kind.{Kind}
 use Rattle.ts_model.specs.declared.kind.Kind.TheVariants as kinds
@@ -104,9 +105,9 @@ same_element_pages count pages k l first second =
     let long : length k.element_pages ≡ length l.element_pages = omega (arith, first.size, second.size) in
     let same = same_definitions count pages k l first second in
     same_pages k.element_pages l.element_pages long (λ i within.
-    same_page k.definitions (pages (930 + i)) (element_page i k.element_pages) (element_page i l.element_pages) first.rules.definitions.limits first.rules.definitions.tables
+    same_page k.definitions (pages (first_element_page + i)) (element_page i k.element_pages) (element_page i l.element_pages) first.rules.definitions.limits first.rules.definitions.tables
     (first.bytes.elements i within)
-    (subst (λ (d : Definitions). HoldsElements d (pages (930 + i)) (element_page i l.element_pages)) (sym same) (second.bytes.elements i (omega (arith, within, long)))))
+    (subst (λ (d : Definitions). HoldsElements d (pages (first_element_page + i)) (element_page i l.element_pages)) (sym same) (second.bytes.elements i (omega (arith, within, long)))))
 
 pub same_layout : (count : ℕ) (pages : ℕ → List ℕ) (k l : Layout) → IsLaidOut count pages k → IsLaidOut count pages l → k ≡ l
 same_layout count pages k l first second =
@@ -129,13 +130,13 @@ element_stays d wanted page e number (inl same) holds = subst (λ (p : List ℕ)
 element_stays d wanted page e number (inr freed) holds =
     subst (HoldsElements d page) (sym (freed_is d wanted e freed.1 holds)) (free_headed page freed.2)
 
-below_elements : (number : ℕ) (wanted page : List ℕ) → number < 930 → (page ≡ wanted) ⊎ (IsElementPage number × HasFreeHead wanted × HasFreeHead page) → page ≡ wanted
+below_elements : (number : ℕ) (wanted page : List ℕ) → number < first_element_page → (page ≡ wanted) ⊎ (IsElementPage number × HasFreeHead wanted × HasFreeHead page) → page ≡ wanted
 below_elements number wanted page low (inl same) = same
 below_elements number wanted page low (inr freed) = absurd (omega (arith, freed.0))
 
 pub layout_stays : (wanted pages : ℕ → List ℕ) (l : Layout) → SameOutsideJournal wanted pages → HoldsLayout wanted l → HoldsLayout pages l
 layout_stays wanted pages l same holds =
-    let low : (number : ℕ) → 257 ≤ number → number < 930 → pages number ≡ wanted number =
+    let low : (number : ℕ) → 257 ≤ number → number < first_element_page → pages number ≡ wanted number =
     λ number above below. below_elements number (wanted number) (pages number) below (same number (inr (omega (arith, above)))) in
     record {
       header = below_elements 0 (wanted 0) (pages 0) (omega arith) (same 0 (inl refl)) ∙ holds.header;
@@ -145,7 +146,7 @@ layout_stays wanted pages l same holds =
         behind = λ number above below. ap (drop (bytes_of_slots (slots_in_page number))) (low number above below) ∙ holds.definitions.behind number above below;
       };
       elements = λ i within.
-          element_stays l.definitions (wanted (930 + i)) (pages (930 + i)) (element_page i l.element_pages) (930 + i) (same (930 + i) (inr (omega arith))) (holds.elements i within);
+          element_stays l.definitions (wanted (first_element_page + i)) (pages (first_element_page + i)) (element_page i l.element_pages) (first_element_page + i) (same (first_element_page + i) (inr (omega arith))) (holds.elements i within);
     }
 
 -- a page holds the same by definitions of the same format where the columns and the shape of its series are the same
@@ -173,15 +174,15 @@ layout_written kind slot bytes v w d l format within holds written definitions k
       header = stays 0 (λ same. absurd (omega (arith, low, same))) ∙ holds.header ∙ ap (λ (n : ℕ). header_bytes n (length l.element_pages)) (sym format);
       definitions = definitions;
       elements = λ i inside.
-          let page : w (930 + i) ≡ v (930 + i) = stays (930 + i) (λ same. absurd (omega (arith, high, same))) in
+          let page : w (first_element_page + i) ≡ v (first_element_page + i) = stays (first_element_page + i) (λ same. absurd (omega (arith, high, same))) in
           subst (λ (p : List ℕ). HoldsElements d p (element_page i l.element_pages)) (sym page)
-          (by_elements l.definitions d (v (930 + i)) (element_page i l.element_pages) format (keeps.headings i) (keeps.shapes i) (holds.elements i inside));
+          (by_elements l.definitions d (v (first_element_page + i)) (element_page i l.element_pages) format (keeps.headings i) (keeps.shapes i) (holds.elements i inside));
     }
 
 -- a slot without a series has no page
 pub no_page_held : (pages : ℕ → List ℕ) (slot : ℕ) (l : Layout) → HoldsLayout pages l → def_at kinds.Series slot l.definitions ≡ None → HasNoPage slot l.element_pages
 no_page_held pages slot l holds empty i sheet is =
     let within : i < length l.element_pages = within_list l.element_pages i slot sheet is in
-    let page : HoldsElements l.definitions (pages (930 + i)) (Cells slot sheet) = subst (HoldsElements l.definitions (pages (930 + i))) is (holds.elements i within) in
+    let page : HoldsElements l.definitions (pages (first_element_page + i)) (Cells slot sheet) = subst (HoldsElements l.definitions (pages (first_element_page + i))) is (holds.elements i within) in
     let row = row_type_of l.definitions slot page.heading page.columns in
     none≢some (def_at kinds.Series slot l.definitions) (of_series row.series) empty (at_slot-map of_series slot l.definitions.series ∙ ap (option_map of_series) row.series_there)

@@ -2,6 +2,7 @@
 use Rattle.std.proofs.Common.{◌≡◌, ◌≢◌, ℕ, zero, suc, ◌+◌, ◌<◌, ◌==◌, Bool, true, false, if◌then◌else◌, Option, Some, None, List, [], ◌∷◌, map, length, set, refl, sym, ap, subst, ◌∙◌, arith, get_or-set_same, get_or-set_other, inl, inr, ◌⊎◌}
 use Rattle.std.proofs.lemmas.Bool.Decides.{nat_tests}
 use Rattle.std.proofs.lemmas.Bool.{cases_eq}
+use Rattle.ts_page.specs.Volume.{first_element_page}
 use Rattle.ts_model.specs.Definitions.{SeriesDef, at_slot}
 use Rattle.ts_layout.specs.Meaning.{ElementPage, Free, Cells, Layout, element_page, HoldsElements, HoldsLayout, sum_filled}
 use Rattle.ts_layout.specs.Sheets.{Sheet}
@@ -89,12 +90,12 @@ its_container (Some s) container = elim (cases_eq s.container container) [
 -- pages that hold a layout have filled pages
 pub filled_pages : (pages : ℕ → List ℕ) (l : Layout) → HoldsLayout pages l → AreFilled l
 filled_pages pages l holds i slot sheet is =
-    let here = subst (HoldsElements l.definitions (pages (930 + i))) is (holds.elements i (within_list l.element_pages i slot sheet is)) in
+    let here = subst (HoldsElements l.definitions (pages (first_element_page + i))) is (holds.elements i (within_list l.element_pages i slot sheet is)) in
     record {
       heading = here.heading;
       shape = here.shape;
       columns = here.columns;
       lies = here.lies;
-      fill = fill_of here.shape slot here.heading.columns sheet (pages (930 + i)) here.bytes;
+      fill = fill_of here.shape slot here.heading.columns sheet (pages (first_element_page + i)) here.bytes;
       of_format = here.of_format;
     }

@@ -10,6 +10,7 @@ use Rattle.std.proofs.lemmas.List.Sorted.{IsPermutation-refl, IsPermutation-sym,
 use Rattle.ts_space.specs.declared.place.Place.{Place}
 use Rattle.ts_space.specs.Place.{pages_of}
 use Rattle.ts_row.specs.Element.{Element}
+use Rattle.ts_page.specs.Volume.{first_element_page}
 use Rattle.ts_layout.specs.Sheets.{Sheet, elements_in, place_of_sheet}
 use Rattle.ts_layout.specs.Meaning.{ElementPage, Free, Cells, element_page, elements_on, elements_of, sheets_on, sheets_of}
 use Rattle.ts_layout.specs.Surveyed.{places_on, places_from, free_from, IsListOf}
@@ -253,7 +254,7 @@ pair_only slot first number pages there =
     (pairs_each (λ p. (i : ℕ) × (sheet : Sheet) × (p.0 ≡ first + i) × (element_page i pages ≡ Cells slot sheet)) slot first pages (λ i sheet is. (i, sheet, refl, is)))) there
 
 -- the pages of the places of a series are these
-pub place_numbers : (slot : ℕ) (places : List Place) (pages : List ElementPage) → IsListOf slot places pages → IsPermutation (pages_of places) (numbers_in (pairs_from slot 930 pages))
+pub place_numbers : (slot : ℕ) (places : List Place) (pages : List ElementPage) → IsListOf slot places pages → IsPermutation (pages_of places) (numbers_in (pairs_from slot first_element_page pages))
 place_numbers slot places pages listed =
-    subst (IsPermutation (pages_of places)) (ap pages_of (places_from_in slot 930 pages) ∙ pages_in (pairs_from slot 930 pages))
-    (IsPermutation-map (λ (p : Place). p.page) places (places_from slot 930 pages) listed.all)
+    subst (IsPermutation (pages_of places)) (ap pages_of (places_from_in slot first_element_page pages) ∙ pages_in (pairs_from slot first_element_page pages))
+    (IsPermutation-map (λ (p : Place). p.page) places (places_from slot first_element_page pages) listed.all)

@@ -4,6 +4,7 @@ use Rattle.std.specs.Option.{option_map, option_and_then}
 use Rattle.std.proofs.lemmas.Bool.Decides.{nat_tests}
 use Rattle.std.proofs.lemmas.Bool.{cases_lt}
 use Rattle.std.proofs.lemmas.List.{length-map}
+use Rattle.ts_page.specs.Volume.{first_element_page}
 use Rattle.ts_model.specs.declared.kind.Kind.{Kind}
 use Rattle.ts_model.specs.declared.kind.Kind.TheVariants as kinds
 use Rattle.ts_model.specs.declared.def.Def.{Def}
@@ -132,8 +133,8 @@ by_range : (P : ℕ → Slots → Type 0) → ((n : ℕ) → 257 ≤ n → n < 3
     → ((n : ℕ) → 321 ≤ n → n < 577 → P n (record { kind = kinds.Pattern; first = n - 321; count = 1 }))
     → ((n : ℕ) → 577 ≤ n → n < 833 → P n (record { kind = kinds.Calendar; first = n - 577; count = 1 }))
     → P 833 (slots_in_page 833)
-    → ((n : ℕ) → 834 ≤ n → n < 930 → P n (record { kind = kinds.Series; first = 43 * (n - 834); count = min 43 (4096 - 43 * (n - 834)) }))
-    → (number : ℕ) → 257 ≤ number → number < 930 → P number (slots_in_page number)
+    → ((n : ℕ) → 834 ≤ n → n < first_element_page → P n (record { kind = kinds.Series; first = 43 * (n - 834); count = min 43 (4096 - 43 * (n - 834)) }))
+    → (number : ℕ) → 257 ≤ number → number < first_element_page → P number (slots_in_page number)
 by_range P rows patterns calendars middle series number low high =
     elim (cases_lt number 321) [
       | inl below ↦ subst (P number) (sym (row_types_in number below)) (rows number low below)
@@ -156,7 +157,7 @@ pub record Stands (on : Slots) (number k : ℕ) : Type 0 where
   pub byte : byte_of_slot on.kind (on.first + k) ≡ slot_size on.kind * k
   pub rank : rank on.kind (on.first + k) ≡ rank_of_page number + k
 
-pub stands : (number k : ℕ) → 257 ≤ number → number < 930 → k < (slots_in_page number).count → Stands (slots_in_page number) number k
+pub stands : (number k : ℕ) → 257 ≤ number → number < first_element_page → k < (slots_in_page number).count → Stands (slots_in_page number) number k
 stands number k low high =
     by_range (λ n on. k < on.count → Stands on n k)
     (λ n above below one. record { within = omega arith; page = omega arith; byte = omega arith; rank = omega (arith, rank_single n (omega arith)) })
@@ -167,7 +168,7 @@ stands number k low high =
     number low high
 
 -- the page after one goes on where that one ends
-pub rank_next : (number : ℕ) → 257 ≤ number → number < 930 → rank_of_page (number + 1) ≡ rank_of_page number + (slots_in_page number).count
+pub rank_next : (number : ℕ) → 257 ≤ number → number < first_element_page → rank_of_page (number + 1) ≡ rank_of_page number + (slots_in_page number).count
 rank_next number low high =
     by_range (λ n on. rank_of_page (n + 1) ≡ rank_of_page n + on.count)
     (λ n above below. next_single n above (omega arith))
@@ -180,7 +181,7 @@ rank_next number low high =
       next_single n above below = omega (arith, rank_single n (omega arith), rank_single (n + 1) (omega arith))
 
 -- the slots in a page fit it
-pub fits_page : (number : ℕ) → 257 ≤ number → number < 930 → slot_size (slots_in_page number).kind * (slots_in_page number).count ≤ 4096
+pub fits_page : (number : ℕ) → 257 ≤ number → number < first_element_page → slot_size (slots_in_page number).kind * (slots_in_page number).count ≤ 4096
 fits_page number low high =
     by_range (λ n on. slot_size on.kind * on.count ≤ 4096) (λ n above below. lit≤ tt) (λ n above below. lit≤ tt) (λ n above below. lit≤ tt) (lit≤ tt)
     (λ n above below. omega arith) number low high
@@ -193,7 +194,7 @@ page_low kinds.Calendar slot = omega arith
 page_low kinds.Container slot = lit≤ tt
 page_low kinds.Series slot = omega arith
 
-pub page_high : (kind : Kind) (slot : ℕ) → slot < limit kind → page_of_slot kind slot < 930
+pub page_high : (kind : Kind) (slot : ℕ) → slot < limit kind → page_of_slot kind slot < first_element_page
 page_high kinds.RowType slot within = omega arith
 page_high kinds.Pattern slot within = omega arith
 page_high kinds.Calendar slot within = omega arith

@@ -13,6 +13,7 @@ use Rattle.ts_space.specs.declared.place.Place.{Place}
 use Rattle.ts_space.specs.Place.{IsRising, pages_of}
 use Rattle.ts_space.specs.Directory.{Directory, places_of, used_of}
 use Rattle.ts_cells.specs.Cell.{page_room}
+use Rattle.ts_page.specs.Volume.{first_element_page}
 use Rattle.ts_irregular.specs.OnePage.{IsPlace}
 use Rattle.ts_chain.specs.Places as chain
 use Rattle.ts_regular.specs.Cell.{regular_room}
@@ -216,7 +217,7 @@ placed_without d space free count slot placed none =
     (λ t shape low some there. shape_stays d slot t (λ same. some (ap (λ (n : ℕ). places_of n space) same ∙ none)) ∙ there)
 
 -- other definitions that keep the rules, the columns and the shapes
-pub kept_defined : (d d' : Definitions) (space : Directory) (free : List ℕ) (count : ℕ) → AreKept d space free count → AreSound (count - 930) d' → KeepColumns d d' → KeepShapes d d' → KeepQuotas d' space → AreKept d' space free count
+pub kept_defined : (d d' : Definitions) (space : Directory) (free : List ℕ) (count : ℕ) → AreKept d space free count → AreSound (count - first_element_page) d' → KeepColumns d d' → KeepShapes d d' → KeepQuotas d' space → AreKept d' space free count
 kept_defined d d' space free count kept sound columns shapes quotas = record {
   some = kept.some;
   most = kept.most;

@@ -11,6 +11,7 @@ use Rattle.ts_space.specs.declared.place.Place.{Place}
 use Rattle.ts_space.specs.Place.{count_of}
 use Rattle.ts_space.specs.Directory.{Directory, places_of, used_of}
 use Rattle.ts_cells.specs.Cell.{page_room}
+use Rattle.ts_page.specs.Volume.{first_element_page}
 use Rattle.ts_offset.specs.declared.shape.Shape.{Shape}
 use Rattle.ts_offset.specs.declared.shape.Shape.TheVariants.{Irregular, Regular}
 use Rattle.ts_model.specs.Charge.{elements_charge}
@@ -66,7 +67,7 @@ quotas_put d space space' pages slot s c h sound kept there at heading others pa
 -- the series of a layout are charged for their places
 none_placed : (l : Layout) (space : Directory) (slot : ℕ) → AreFilled l → ListsPlaces space l → slot < 4096 → heading_at l.definitions slot ≡ None → places_of slot space ≡ []
 none_placed l space slot filled lists within none = of_list (places_of slot space) (its_places l space slot lists within) where
-  of_list : (ps : List Place) → All (IsPlaceAt slot 930 l.element_pages) ps → ps ≡ []
+  of_list : (ps : List Place) → All (IsPlaceAt slot first_element_page l.element_pages) ps → ps ≡ []
   of_list [] each = refl
   of_list (p ∷ ps) each =
       let one = each 0 p (omega arith) in

@@ -9,6 +9,7 @@ use Rattle.ts_page.specs.Pages.{Contents}
 use Rattle.ts_space.specs.Place.{pages_of}
 use Rattle.ts_space.specs.Directory.{Directory, places_of}
 use Rattle.ts_cells.specs.Cell.{page_room}
+use Rattle.ts_page.specs.Volume.{first_element_page}
 use Rattle.ts_offset.specs.declared.shape.Shape.{Shape}
 use Rattle.ts_model.specs.declared.kind.Kind.TheVariants as kinds
 use Rattle.ts_model.specs.Definitions.{Definitions, ContainerDef, SeriesDef, at_slot, with_slot, IsDefinitions}
@@ -33,7 +34,7 @@ pub places_kept : (d : Definitions) (space space' : Directory) (count slot : ℕ
     → heading_of_container d c ≡ Some h → shape_at d slot ≡ Some shape → space'.lists ≡ set space.lists slot new → AreMoved (room_of shape h.columns) (places_of slot space) new v w → container_charge d space' s.container (page_room h.columns) ≤ c.quota → AreKept d space' w.free count
 places_kept d space space' count slot s c h shape new v w kept within there at heading lies lists moved paid =
     edited_kept d space space' v.free w.free count kept (places_moved d space space' count slot h shape new v w kept.placed within (columns_there d slot s c h there at heading) lies lists moved)
-    (quotas_put d space space' (count - 930) slot s c h kept.sound kept.quotas there at heading (others_stay space space' slot new lists) paid)
+    (quotas_put d space space' (count - first_element_page) slot s c h kept.sound kept.quotas there at heading (others_stay space space' slot new lists) paid)
 
 pub series_gone_kept : (d : Definitions) (space space' : Directory) (free free' : List ℕ) (count slot : ℕ) → AreKept d space free count → slot < 4096 → space'.lists ≡ set space.lists slot [] → IsPermutation (free ++ pages_of (places_of slot space)) free' → AreKept (with_slot kinds.Series slot None d) space' free' count
 series_gone_kept d space space' free free' count slot kept within lists freed =
@@ -43,7 +44,7 @@ series_gone_kept d space space' free free' count slot kept within lists freed =
     record {
       some = kept.some;
       most = kept.most;
-      sound = sound_kept d slot (count - 930) within kept.sound;
+      sound = sound_kept d slot (count - first_element_page) within kept.sound;
       placed = placed_without d space' free' count slot placed none;
       quotas = series_quotas d space space' slot None kept.sound.tables kept.quotas none (others_stay space space' slot [] lists);
     }

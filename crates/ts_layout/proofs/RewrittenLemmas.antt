@@ -15,6 +15,7 @@ use Rattle.ts_space.specs.Place.{pages_of}
 use Rattle.ts_space.specs.Directory.{Directory, places_of}
 use Rattle.ts_space.specs.Charge.{irregular_charge}
 use Rattle.ts_cells.specs.Cell.{page_room}
+use Rattle.ts_page.specs.Volume.{first_element_page}
 use Rattle.ts_offset.specs.declared.shape.Shape.{Shape}
 use Rattle.ts_model.specs.Catalogue.{Series, old_format}
 use Rattle.ts_model.specs.Definitions.{SeriesDef, at_slot, by_name}
@@ -43,22 +44,22 @@ use Rattle.ts_layout.proofs.WrittenLemmas.{definitions_stay}
 -- each number is that of a free page, and stands there once
 abbrev pub AreFreeIn : List ElementPage → List ℕ → Type 0
 AreFreeIn pages [] = Unit {0}
-AreFreeIn pages (n ∷ ns) = ((i : ℕ) × (n ≡ 930 + i) × (i < length pages) × (element_page i pages ≡ Free)) × (Among n ns → ⊥) × AreFreeIn pages ns
+AreFreeIn pages (n ∷ ns) = ((i : ℕ) × (n ≡ first_element_page + i) × (i < length pages) × (element_page i pages ≡ Free)) × (Among n ns → ⊥) × AreFreeIn pages ns
 
-free_in : (pages : List ElementPage) (ns : List ℕ) → AreOnce ns → ((n : ℕ) → Among n ns → Among n (free_from 930 pages)) → AreFreeIn pages ns
+free_in : (pages : List ElementPage) (ns : List ℕ) → AreOnce ns → ((n : ℕ) → Among n ns → Among n (free_from first_element_page pages)) → AreFreeIn pages ns
 free_in pages [] once there = tt
-free_in pages (n ∷ ns) once there = (free_only 930 n pages (there n (inl refl)), once.0, free_in pages ns once.1 (λ m here. there m (inr here)))
+free_in pages (n ∷ ns) once there = (free_only first_element_page n pages (there n (inl refl)), once.0, free_in pages ns once.1 (λ m here. there m (inr here)))
 
-index_is : (n i : ℕ) → n ≡ 930 + i → n - 930 ≡ i
+index_is : (n i : ℕ) → n ≡ first_element_page + i → n - first_element_page ≡ i
 index_is n i is = omega (arith, is)
 
-number_is : (n i : ℕ) → n ≡ 930 + i → 930 + (n - 930) ≡ n
+number_is : (n i : ℕ) → n ≡ first_element_page + i → first_element_page + (n - first_element_page) ≡ n
 number_is n i is = omega (arith, is)
 
-same_number : (n i j : ℕ) → n ≡ 930 + i → j ≡ n - 930 → 930 + j ≡ n
+same_number : (n i j : ℕ) → n ≡ first_element_page + i → j ≡ n - first_element_page → first_element_page + j ≡ n
 same_number n i j is at = omega (arith, is, at)
 
-other_index : (n i j : ℕ) → n ≡ 930 + i → 930 + j ≡ n → j ≡ n - 930
+other_index : (n i j : ℕ) → n ≡ first_element_page + i → first_element_page + j ≡ n → j ≡ n - first_element_page
 other_index n i j is at = omega (arith, is, at)
 
 -- the numbers of pages beside their sheets
@@ -71,56 +72,56 @@ module _ (slot : ℕ) (pages : List ElementPage) where
   length_with : (ns : List ℕ) (sheets : List Sheet) → length (with_sheets slot ns sheets pages) ≡ length pages
   length_with [] sheets = refl
   length_with (n ∷ ns) [] = refl
-  length_with (n ∷ ns) (sheet ∷ sheets) = length-set (with_sheets slot ns sheets pages) (n - 930) (Cells slot sheet) ∙ length_with ns sheets
+  length_with (n ∷ ns) (sheet ∷ sheets) = length-set (with_sheets slot ns sheets pages) (n - first_element_page) (Cells slot sheet) ∙ length_with ns sheets
 
   -- a page that is none of them stays
-  with_other : (ns : List ℕ) (sheets : List Sheet) → AreFreeIn pages ns → (i : ℕ) → (Among (930 + i) ns → ⊥) → element_page i (with_sheets slot ns sheets pages) ≡ element_page i pages
+  with_other : (ns : List ℕ) (sheets : List Sheet) → AreFreeIn pages ns → (i : ℕ) → (Among (first_element_page + i) ns → ⊥) → element_page i (with_sheets slot ns sheets pages) ≡ element_page i pages
   with_other [] sheets free i other = refl
   with_other (n ∷ ns) [] free i other = refl
   with_other (n ∷ ns) (sheet ∷ sheets) free i other =
-      page_other (with_sheets slot ns sheets pages) (n - 930) i (Cells slot sheet) (λ same. other (inl (same_number n free.0.0 i free.0.1 same)))
+      page_other (with_sheets slot ns sheets pages) (n - first_element_page) i (Cells slot sheet) (λ same. other (inl (same_number n free.0.0 i free.0.1 same)))
       ∙ with_other ns sheets free.2 i (λ there. other (inr there))
 
   -- the page of the first of them, before it is written
-  first_free : (n : ℕ) (ns : List ℕ) (sheets : List Sheet) → AreFreeIn pages (n ∷ ns) → (n - 930 < length (with_sheets slot ns sheets pages)) × (element_page (n - 930) (with_sheets slot ns sheets pages) ≡ Free)
+  first_free : (n : ℕ) (ns : List ℕ) (sheets : List Sheet) → AreFreeIn pages (n ∷ ns) → (n - first_element_page < length (with_sheets slot ns sheets pages)) × (element_page (n - first_element_page) (with_sheets slot ns sheets pages) ≡ Free)
   first_free n ns sheets free =
-      let at : n - 930 ≡ free.0.0 = index_is n free.0.0 free.0.1 in
-      let again : 930 + (n - 930) ≡ n = number_is n free.0.0 free.0.1 in
+      let at : n - first_element_page ≡ free.0.0 = index_is n free.0.0 free.0.1 in
+      let again : first_element_page + (n - first_element_page) ≡ n = number_is n free.0.0 free.0.1 in
       let long = length_with ns sheets in
       let low = free.0.2 in
-      (omega (arith, at, long, low), with_other ns sheets free.2 (n - 930) (λ there. free.1 (subst (λ (m : ℕ). Among m ns) again there)) ∙ ap (λ (k : ℕ). element_page k pages) at ∙ free.0.3)
+      (omega (arith, at, long, low), with_other ns sheets free.2 (n - first_element_page) (λ there. free.1 (subst (λ (m : ℕ). Among m ns) again there)) ∙ ap (λ (k : ℕ). element_page k pages) at ∙ free.0.3)
 
   -- the pages of the series then
-  pairs_with : (ns : List ℕ) (sheets : List Sheet) → AreFreeIn pages ns → IsPermutation (pairs_from slot 930 (with_sheets slot ns sheets pages)) (zipped ns sheets ++ pairs_from slot 930 pages)
-  pairs_with [] sheets free = IsPermutation-refl (pairs_from slot 930 pages)
-  pairs_with (n ∷ ns) [] free = IsPermutation-refl (pairs_from slot 930 pages)
+  pairs_with : (ns : List ℕ) (sheets : List Sheet) → AreFreeIn pages ns → IsPermutation (pairs_from slot first_element_page (with_sheets slot ns sheets pages)) (zipped ns sheets ++ pairs_from slot first_element_page pages)
+  pairs_with [] sheets free = IsPermutation-refl (pairs_from slot first_element_page pages)
+  pairs_with (n ∷ ns) [] free = IsPermutation-refl (pairs_from slot first_element_page pages)
   pairs_with (n ∷ ns) (sheet ∷ sheets) free =
       let before : List ElementPage = with_sheets slot ns sheets pages in
       let here = first_free n ns sheets free in
-      let more : IsPermutation (pairs_from slot 930 (set before (n - 930) (Cells slot sheet))) ((n, sheet) ∷ pairs_from slot 930 before) =
-      subst (λ (m : ℕ). IsPermutation (pairs_from slot 930 (set before (n - 930) (Cells slot sheet))) ((m, sheet) ∷ pairs_from slot 930 before)) (number_is n free.0.0 free.0.1) (pairs_set_own slot 930 (n - 930) sheet before here.0 here.1) in
-      IsPermutation-trans (pairs_from slot 930 (set before (n - 930) (Cells slot sheet))) ((n, sheet) ∷ pairs_from slot 930 before) ((n, sheet) ∷ (zipped ns sheets ++ pairs_from slot 930 pages)) more
-      (IsPermutation-cons (n, sheet) (pairs_from slot 930 before) (zipped ns sheets ++ pairs_from slot 930 pages) (pairs_with ns sheets free.2))
+      let more : IsPermutation (pairs_from slot first_element_page (set before (n - first_element_page) (Cells slot sheet))) ((n, sheet) ∷ pairs_from slot first_element_page before) =
+      subst (λ (m : ℕ). IsPermutation (pairs_from slot first_element_page (set before (n - first_element_page) (Cells slot sheet))) ((m, sheet) ∷ pairs_from slot first_element_page before)) (number_is n free.0.0 free.0.1) (pairs_set_own slot first_element_page (n - first_element_page) sheet before here.0 here.1) in
+      IsPermutation-trans (pairs_from slot first_element_page (set before (n - first_element_page) (Cells slot sheet))) ((n, sheet) ∷ pairs_from slot first_element_page before) ((n, sheet) ∷ (zipped ns sheets ++ pairs_from slot first_element_page pages)) more
+      (IsPermutation-cons (n, sheet) (pairs_from slot first_element_page before) (zipped ns sheets ++ pairs_from slot first_element_page pages) (pairs_with ns sheets free.2))
 
   -- and of another one
-  pairs_with_other : (s : ℕ) (ns : List ℕ) (sheets : List Sheet) → s ≢ slot → AreFreeIn pages ns → pairs_from s 930 (with_sheets slot ns sheets pages) ≡ pairs_from s 930 pages
+  pairs_with_other : (s : ℕ) (ns : List ℕ) (sheets : List Sheet) → s ≢ slot → AreFreeIn pages ns → pairs_from s first_element_page (with_sheets slot ns sheets pages) ≡ pairs_from s first_element_page pages
   pairs_with_other s [] sheets other free = refl
   pairs_with_other s (n ∷ ns) [] other free = refl
   pairs_with_other s (n ∷ ns) (sheet ∷ sheets) other free =
-      pairs_set_other slot s 930 (n - 930) sheet (with_sheets slot ns sheets pages) other (first_free n ns sheets free).1 ∙ pairs_with_other s ns sheets other free.2
+      pairs_set_other slot s first_element_page (n - first_element_page) sheet (with_sheets slot ns sheets pages) other (first_free n ns sheets free).1 ∙ pairs_with_other s ns sheets other free.2
 
   -- and the free ones
-  free_with : (ns : List ℕ) (sheets : List Sheet) → length ns ≡ length sheets → AreFreeIn pages ns → IsPermutation (free_from 930 pages) (ns ++ free_from 930 (with_sheets slot ns sheets pages))
-  free_with [] sheets same free = IsPermutation-refl (free_from 930 pages)
+  free_with : (ns : List ℕ) (sheets : List Sheet) → length ns ≡ length sheets → AreFreeIn pages ns → IsPermutation (free_from first_element_page pages) (ns ++ free_from first_element_page (with_sheets slot ns sheets pages))
+  free_with [] sheets same free = IsPermutation-refl (free_from first_element_page pages)
   free_with (n ∷ ns) [] same free = absurd (omega (arith, same))
   free_with (n ∷ ns) (sheet ∷ sheets) same free =
       let before : List ElementPage = with_sheets slot ns sheets pages in
-      let left : List ℕ = free_from 930 (set before (n - 930) (Cells slot sheet)) in
+      let left : List ℕ = free_from first_element_page (set before (n - first_element_page) (Cells slot sheet)) in
       let here = first_free n ns sheets free in
-      let one : IsPermutation (free_from 930 before) (n ∷ left) =
-      subst (λ (m : ℕ). IsPermutation (free_from 930 before) (m ∷ left)) (number_is n free.0.0 free.0.1) (free_set slot 930 (n - 930) sheet before here.0 here.1) in
-      IsPermutation-trans (free_from 930 pages) (ns ++ free_from 930 before) (n ∷ (ns ++ left)) (free_with ns sheets (omega (arith, same)) free.2)
-      (IsPermutation-trans (ns ++ free_from 930 before) (ns ++ n ∷ left) (n ∷ (ns ++ left)) (IsPermutation-append_right ns (free_from 930 before) (n ∷ left) one) (IsPermutation-middle ns n left))
+      let one : IsPermutation (free_from first_element_page before) (n ∷ left) =
+      subst (λ (m : ℕ). IsPermutation (free_from first_element_page before) (m ∷ left)) (number_is n free.0.0 free.0.1) (free_set slot first_element_page (n - first_element_page) sheet before here.0 here.1) in
+      IsPermutation-trans (free_from first_element_page pages) (ns ++ free_from first_element_page before) (n ∷ (ns ++ left)) (free_with ns sheets (omega (arith, same)) free.2)
+      (IsPermutation-trans (ns ++ free_from first_element_page before) (ns ++ n ∷ left) (n ∷ (ns ++ left)) (IsPermutation-append_right ns (free_from first_element_page before) (n ∷ left) one) (IsPermutation-middle ns n left))
 
 -- elements of the format, side by side
 neither : (a b : Bool) → (a || b) ≡ false → (a ≡ false) × (b ≡ false)
@@ -154,8 +155,8 @@ places_zipped shape slot columns bytes (p ∷ new) (sheet ∷ sheets) on = λ i.
 -- a page then: one of the sheets, or as it was
 abbrev IsPageThen : Shape → ℕ → ℕ → List Column → (ℕ → List ℕ) → List ElementPage → List ℕ → List ElementPage → ℕ → Type 0
 IsPageThen shape slot format columns bytes pages ns after i =
-    ((sheet : Sheet) × (element_page i after ≡ Cells slot sheet) × HoldsSheet shape slot columns sheet (bytes (930 + i)) × AreOfFormat format sheet.1)
-    ⊎ ((Among (930 + i) ns → ⊥) × (element_page i after ≡ element_page i pages))
+    ((sheet : Sheet) × (element_page i after ≡ Cells slot sheet) × HoldsSheet shape slot columns sheet (bytes (first_element_page + i)) × AreOfFormat format sheet.1)
+    ⊎ ((Among (first_element_page + i) ns → ⊥) × (element_page i after ≡ element_page i pages))
 
 page_then : (shape : Shape) (slot format : ℕ) (columns : List Column) (bytes : ℕ → List ℕ) (pages : List ElementPage) (new : List Place) (sheets : List Sheet) → AreSheetsOn shape slot columns bytes new sheets → AreOfFormat format (elements_in sheets)
     → AreFreeIn pages (pages_of new) → (i : ℕ) → IsPageThen shape slot format columns bytes pages (pages_of new) (with_sheets slot (pages_of new) sheets pages) i
@@ -165,18 +166,18 @@ page_then shape slot format columns bytes pages (p ∷ new) [] on of_format free
 page_then shape slot format columns bytes pages (p ∷ new) (sheet ∷ sheets) on of_format free i =
     let parts = formats_apart format sheet.1 (elements_in sheets) of_format in
     let before : List ElementPage = with_sheets slot (pages_of new) sheets pages in
-    elim (cases_eq i (p.page - 930)) [
+    elim (cases_eq i (p.page - first_element_page)) [
       | inl same ↦
           let here = first_free slot pages p.page (pages_of new) sheets free in
-          let number : p.page ≡ 930 + i = sym (same_number p.page free.0.0 i free.0.1 same) in
+          let number : p.page ≡ first_element_page + i = sym (same_number p.page free.0.0 i free.0.1 same) in
           inl (
             sheet,
-            ap (λ (k : ℕ). element_page k (set before (p.page - 930) (Cells slot sheet))) same ∙ page_set before (p.page - 930) (Cells slot sheet) here.0,
+            ap (λ (k : ℕ). element_page k (set before (p.page - first_element_page) (Cells slot sheet))) same ∙ page_set before (p.page - first_element_page) (Cells slot sheet) here.0,
             subst (λ (n : ℕ). HoldsSheet shape slot columns sheet (bytes n)) number on.0.bytes,
             parts.0,
           )
       | inr other ↦
-          let stays = page_other before (p.page - 930) i (Cells slot sheet) other in
+          let stays = page_other before (p.page - first_element_page) i (Cells slot sheet) other in
           elim (page_then shape slot format columns bytes pages new sheets on.1 parts.1 free.2 i) [
             | inl there ↦ inl (there.0, stays ∙ there.1, there.2, there.3)
             | inr none ↦ inr (λ there. elim there [ inl is ↦ other (other_index p.page free.0.0 i free.0.1 is) | inr behind ↦ none.0 behind ], stays ∙ none.1)
@@ -187,7 +188,7 @@ free_or_cells : (e : ElementPage) → (e ≡ Free) ⊎ ((s : ℕ) × (sheet : Sh
 free_or_cells Free = inl refl
 free_or_cells (Cells s sheet) = inr (s, sheet, refl)
 
-none_below : (n i : ℕ) → n < 930 → n ≡ 930 + i → ⊥
+none_below : (n i : ℕ) → n < first_element_page → n ≡ first_element_page + i → ⊥
 none_below n i below is = omega (arith, below, is)
 
 module _ (l : Layout) (space : Directory) (shape : Shape) (slot : ℕ) (h : Heading) (new : List Place) (sheets : List Sheet) (v w : Contents) (r : IsRewrittenIn shape slot h space new sheets v w l) where
@@ -204,59 +205,59 @@ module _ (l : Layout) (space : Directory) (shape : Shape) (slot : ℕ) (h : Head
   within = filled_within l.definitions slot h r.held.rules.definitions.tables r.heading
 
   -- the pages of the series, and the free ones
-  base : IsPermutation (v.free ++ pages_of old) (free_from 930 emptied)
+  base : IsPermutation (v.free ++ pages_of old) (free_from first_element_page emptied)
   base = free_and_own l.definitions space v.count v.free l slot r.held within
 
-  taken : IsPermutation (w.free ++ pages_of new) (free_from 930 emptied)
-  taken = IsPermutation-trans (w.free ++ pages_of new) (v.free ++ pages_of old) (free_from 930 emptied) (IsPermutation-sym (v.free ++ pages_of old) (w.free ++ pages_of new) r.edit.pages) base
+  taken : IsPermutation (w.free ++ pages_of new) (free_from first_element_page emptied)
+  taken = IsPermutation-trans (w.free ++ pages_of new) (v.free ++ pages_of old) (free_from first_element_page emptied) (IsPermutation-sym (v.free ++ pages_of old) (w.free ++ pages_of new) r.edit.pages) base
 
   once : AreOnce (w.free ++ pages_of new)
   once = once_from (w.free ++ pages_of new)
-      (pairs_permuted (λ (a b : ℕ). a ≢ b) (λ a b other same. other (sym same)) (free_from 930 emptied) (w.free ++ pages_of new) (IsPermutation-sym (w.free ++ pages_of new) (free_from 930 emptied) taken) (free_different 930 emptied))
+      (pairs_permuted (λ (a b : ℕ). a ≢ b) (λ a b other same. other (sym same)) (free_from first_element_page emptied) (w.free ++ pages_of new) (IsPermutation-sym (w.free ++ pages_of new) (free_from first_element_page emptied) taken) (free_different first_element_page emptied))
 
   free_new : AreFreeIn emptied (pages_of new)
-  free_new = free_in emptied (pages_of new) (once_back w.free (pages_of new) once) (λ n there. among_permuted (w.free ++ pages_of new) (free_from 930 emptied) n taken (among_back w.free (pages_of new) n there))
+  free_new = free_in emptied (pages_of new) (once_back w.free (pages_of new) once) (λ n there. among_permuted (w.free ++ pages_of new) (free_from first_element_page emptied) n taken (among_back w.free (pages_of new) n there))
 
   as_long : length (pages_of new) ≡ length sheets
   as_long = sheets_length shape slot h.columns w.page new sheets r.edit.on
 
-  left : IsPermutation w.free (free_from 930 after)
-  left = rest_permuted w.free (free_from 930 after) (pages_of new) once
-      (IsPermutation-trans (w.free ++ pages_of new) (free_from 930 emptied) (pages_of new ++ free_from 930 after) taken (free_with slot emptied (pages_of new) sheets as_long free_new))
+  left : IsPermutation w.free (free_from first_element_page after)
+  left = rest_permuted w.free (free_from first_element_page after) (pages_of new) once
+      (IsPermutation-trans (w.free ++ pages_of new) (free_from first_element_page emptied) (pages_of new ++ free_from first_element_page after) taken (free_with slot emptied (pages_of new) sheets as_long free_new))
 
   long : length after ≡ length l.element_pages
   long = length_with slot emptied (pages_of new) sheets ∙ length-map l.element_pages (freed slot)
 
   -- a page that was neither free nor one of the series stays
-  page_stays : (n : ℕ) → (Among n (free_from 930 emptied) → ⊥) → w.page n ≡ v.page n
+  page_stays : (n : ℕ) → (Among n (free_from first_element_page emptied) → ⊥) → w.page n ≡ v.page n
   page_stays n other = r.edit.others n
-      (λ there. other (among_permuted (v.free ++ pages_of old) (free_from 930 emptied) n base (among_back v.free (pages_of old) n (among_from (pages_of old) n there))))
-      (λ there. other (among_permuted (v.free ++ pages_of old) (free_from 930 emptied) n base (among_front v.free (pages_of old) n (among_from v.free n there))))
+      (λ there. other (among_permuted (v.free ++ pages_of old) (free_from first_element_page emptied) n base (among_back v.free (pages_of old) n (among_from (pages_of old) n there))))
+      (λ there. other (among_permuted (v.free ++ pages_of old) (free_from first_element_page emptied) n base (among_front v.free (pages_of old) n (among_from v.free n there))))
 
-  low_stays : (n : ℕ) → n < 930 → w.page n ≡ v.page n
-  low_stays n below = page_stays n (λ there. let at = free_only 930 n emptied there in none_below n at.0 below at.1)
+  low_stays : (n : ℕ) → n < first_element_page → w.page n ≡ v.page n
+  low_stays n below = page_stays n (λ there. let at = free_only first_element_page n emptied there in none_below n at.0 below at.1)
 
   then_page : (i : ℕ) → IsPageThen shape slot l.definitions.format h.columns w.page emptied (pages_of new) after i
   then_page = page_then shape slot l.definitions.format h.columns w.page emptied new sheets r.edit.on r.of_format free_new
 
   -- what the pages hold
-  holds_free : (i : ℕ) → i < length l.element_pages → (Among (930 + i) (pages_of new) → ⊥) → element_page i emptied ≡ Free → IsFreePage (w.page (930 + i))
+  holds_free : (i : ℕ) → i < length l.element_pages → (Among (first_element_page + i) (pages_of new) → ⊥) → element_page i emptied ≡ Free → IsFreePage (w.page (first_element_page + i))
   holds_free i inside other free =
-      let there : Among (930 + i) (free_from 930 emptied) = free_among 930 i emptied (omega (arith, inside, length-map l.element_pages (freed slot))) free in
-      elim (among_either w.free (pages_of new) (930 + i) (among_permuted (free_from 930 emptied) (w.free ++ pages_of new) (930 + i) (IsPermutation-sym (w.free ++ pages_of new) (free_from 930 emptied) taken) there)) [
-        | inl in_free ↦ all_among (λ (n : ℕ). IsFreePage (w.page n)) w.free (930 + i) r.edit.freed in_free
+      let there : Among (first_element_page + i) (free_from first_element_page emptied) = free_among first_element_page i emptied (omega (arith, inside, length-map l.element_pages (freed slot))) free in
+      elim (among_either w.free (pages_of new) (first_element_page + i) (among_permuted (free_from first_element_page emptied) (w.free ++ pages_of new) (first_element_page + i) (IsPermutation-sym (w.free ++ pages_of new) (free_from first_element_page emptied) taken) there)) [
+        | inl in_free ↦ all_among (λ (n : ℕ). IsFreePage (w.page n)) w.free (first_element_page + i) r.edit.freed in_free
         | inr in_new ↦ absurd (other in_new)
       ]
 
-  holds_other : (i s : ℕ) (sheet : Sheet) → HoldsLayout v.page l → i < length l.element_pages → element_page i emptied ≡ Cells s sheet → HoldsElements l.definitions (w.page (930 + i)) (Cells s sheet)
+  holds_other : (i s : ℕ) (sheet : Sheet) → HoldsLayout v.page l → i < length l.element_pages → element_page i emptied ≡ Cells s sheet → HoldsElements l.definitions (w.page (first_element_page + i)) (Cells s sheet)
   holds_other i s sheet holds inside is =
       let before = cells_before slot i s sheet l.element_pages is in
-      let stays = page_stays (930 + i) (λ there.
-      let at = free_only 930 (930 + i) emptied there in
+      let stays = page_stays (first_element_page + i) (λ there.
+      let at = free_only first_element_page (first_element_page + i) emptied there in
       let same : at.0 ≡ i = same_index at.0 i at.1 in
       free_cells s sheet (sym at.3 ∙ ap (λ (k : ℕ). element_page k emptied) same ∙ is)) in
-      subst (λ (b : List ℕ). HoldsElements l.definitions b (Cells s sheet)) (sym stays) (subst (HoldsElements l.definitions (v.page (930 + i))) before.0 (holds.elements i inside)) where
-        same_index : (j i : ℕ) → 930 + i ≡ 930 + j → j ≡ i
+      subst (λ (b : List ℕ). HoldsElements l.definitions b (Cells s sheet)) (sym stays) (subst (HoldsElements l.definitions (v.page (first_element_page + i))) before.0 (holds.elements i inside)) where
+        same_index : (j i : ℕ) → first_element_page + i ≡ first_element_page + j → j ≡ i
         same_index j i is = omega (arith, is)
 
   bytes_after : HoldsLayout v.page l → HoldsLayout w.page (rewritten slot (pages_of new) sheets l)
@@ -266,41 +267,41 @@ module _ (l : Layout) (space : Directory) (shape : Shape) (slot : ℕ) (h : Head
     elements = λ i inside.
         let inside' : i < length l.element_pages = omega (arith, inside, long) in
         elim (then_page i) [
-          | inl on ↦ subst (HoldsElements l.definitions (w.page (930 + i))) (sym on.1) (record { heading = h; shape = shape; columns = r.heading; lies = r.lies; bytes = on.2; of_format = on.3 })
-          | inr none ↦ subst (HoldsElements l.definitions (w.page (930 + i))) (sym none.1) (elim (free_or_cells (element_page i emptied)) [
-            | inl free ↦ subst (HoldsElements l.definitions (w.page (930 + i))) (sym free) (holds_free i inside' none.0 free)
-            | inr cells ↦ subst (HoldsElements l.definitions (w.page (930 + i))) (sym cells.2) (holds_other i cells.0 cells.1 holds inside' cells.2)
+          | inl on ↦ subst (HoldsElements l.definitions (w.page (first_element_page + i))) (sym on.1) (record { heading = h; shape = shape; columns = r.heading; lies = r.lies; bytes = on.2; of_format = on.3 })
+          | inr none ↦ subst (HoldsElements l.definitions (w.page (first_element_page + i))) (sym none.1) (elim (free_or_cells (element_page i emptied)) [
+            | inl free ↦ subst (HoldsElements l.definitions (w.page (first_element_page + i))) (sym free) (holds_free i inside' none.0 free)
+            | inr cells ↦ subst (HoldsElements l.definitions (w.page (first_element_page + i))) (sym cells.2) (holds_other i cells.0 cells.1 holds inside' cells.2)
           ])
         ];
   }
 
   -- the pages of each series
-  own_pairs : IsPermutation (pairs_from slot 930 after) (zipped (pages_of new) sheets)
-  own_pairs = subst (IsPermutation (pairs_from slot 930 after)) (ap (λ (l' : List Numbered). zipped (pages_of new) sheets ++ l') (pairs_freed_own slot 930 l.element_pages) ∙ append-nil (zipped (pages_of new) sheets)) (pairs_with slot emptied (pages_of new) sheets free_new)
+  own_pairs : IsPermutation (pairs_from slot first_element_page after) (zipped (pages_of new) sheets)
+  own_pairs = subst (IsPermutation (pairs_from slot first_element_page after)) (ap (λ (l' : List Numbered). zipped (pages_of new) sheets ++ l') (pairs_freed_own slot first_element_page l.element_pages) ∙ append-nil (zipped (pages_of new) sheets)) (pairs_with slot emptied (pages_of new) sheets free_new)
 
-  other_pairs : (s : ℕ) → s ≢ slot → pairs_from s 930 after ≡ pairs_from s 930 l.element_pages
-  other_pairs s other = pairs_with_other slot emptied s (pages_of new) sheets other free_new ∙ pairs_freed_other slot s 930 l.element_pages other
+  other_pairs : (s : ℕ) → s ≢ slot → pairs_from s first_element_page after ≡ pairs_from s first_element_page l.element_pages
+  other_pairs s other = pairs_with_other slot emptied s (pages_of new) sheets other free_new ∙ pairs_freed_other slot s first_element_page l.element_pages other
 
   other_sheets : (s : ℕ) → s ≢ slot → sheets_of s after ≡ sheets_of s l.element_pages
-  other_sheets s other = sheets_of_in s 930 after ∙ ap sheets_in (other_pairs s other) ∙ sym (sheets_of_in s 930 l.element_pages)
+  other_sheets s other = sheets_of_in s first_element_page after ∙ ap sheets_in (other_pairs s other) ∙ sym (sheets_of_in s first_element_page l.element_pages)
 
   other_elements : (s : ℕ) → s ≢ slot → elements_of s after ≡ elements_of s l.element_pages
-  other_elements s other = elements_of_in s 930 after ∙ ap (λ (pairs : List Numbered). elements_in (sheets_in pairs)) (other_pairs s other) ∙ sym (elements_of_in s 930 l.element_pages)
+  other_elements s other = elements_of_in s first_element_page after ∙ ap (λ (pairs : List Numbered). elements_in (sheets_in pairs)) (other_pairs s other) ∙ sym (elements_of_in s first_element_page l.element_pages)
 
-  other_places : (s : ℕ) → s ≢ slot → places_from s 930 after ≡ places_from s 930 l.element_pages
-  other_places s other = places_from_in s 930 after ∙ ap places_in (other_pairs s other) ∙ sym (places_from_in s 930 l.element_pages)
+  other_places : (s : ℕ) → s ≢ slot → places_from s first_element_page after ≡ places_from s first_element_page l.element_pages
+  other_places s other = places_from_in s first_element_page after ∙ ap places_in (other_pairs s other) ∙ sym (places_from_in s first_element_page l.element_pages)
 
   own_sheets : IsPermutation sheets (sheets_of slot after)
   own_sheets =
       subst (λ (x : List Sheet). IsPermutation x (sheets_of slot after)) (sheets_zipped (pages_of new) sheets as_long)
-      (subst (IsPermutation (sheets_in (zipped (pages_of new) sheets))) (sym (sheets_of_in slot 930 after))
-      (IsPermutation-map (λ (p : Numbered). p.1) (zipped (pages_of new) sheets) (pairs_from slot 930 after) (IsPermutation-sym (pairs_from slot 930 after) (zipped (pages_of new) sheets) own_pairs)))
+      (subst (IsPermutation (sheets_in (zipped (pages_of new) sheets))) (sym (sheets_of_in slot first_element_page after))
+      (IsPermutation-map (λ (p : Numbered). p.1) (zipped (pages_of new) sheets) (pairs_from slot first_element_page after) (IsPermutation-sym (pairs_from slot first_element_page after) (zipped (pages_of new) sheets) own_pairs)))
 
-  own_places : IsPermutation new (places_from slot 930 after)
+  own_places : IsPermutation new (places_from slot first_element_page after)
   own_places =
-      subst (λ (x : List Place). IsPermutation x (places_from slot 930 after)) (places_zipped shape slot h.columns w.page new sheets r.edit.on)
-      (subst (IsPermutation (places_in (zipped (pages_of new) sheets))) (sym (places_from_in slot 930 after))
-      (IsPermutation-map (λ (p : Numbered). place_of_sheet p.0 p.1) (zipped (pages_of new) sheets) (pairs_from slot 930 after) (IsPermutation-sym (pairs_from slot 930 after) (zipped (pages_of new) sheets) own_pairs)))
+      subst (λ (x : List Place). IsPermutation x (places_from slot first_element_page after)) (places_zipped shape slot h.columns w.page new sheets r.edit.on)
+      (subst (IsPermutation (places_in (zipped (pages_of new) sheets))) (sym (places_from_in slot first_element_page after))
+      (IsPermutation-map (λ (p : Numbered). place_of_sheet p.0 p.1) (zipped (pages_of new) sheets) (pairs_from slot first_element_page after) (IsPermutation-sym (pairs_from slot first_element_page after) (zipped (pages_of new) sheets) own_pairs)))
 
   -- the directory
   lists_after : (space' : Directory) → space'.lists ≡ set space.lists slot new → ListsPlaces space' (rewritten slot (pages_of new) sheets l)
@@ -324,7 +325,7 @@ module _ (l : Layout) (space : Directory) (shape : Shape) (slot : ℕ) (h : Head
   rewritten_filled i s sheet is = elim (then_page i) [
     | inl on ↦
         let both = same_cells slot s on.0 sheet (sym on.1 ∙ is) in
-        let own : IsFilledFor l.definitions slot on.0 = record { heading = h; shape = shape; columns = r.heading; lies = r.lies; fill = fill_of shape slot h.columns on.0 (w.page (930 + i)) on.2; of_format = on.3 } in
+        let own : IsFilledFor l.definitions slot on.0 = record { heading = h; shape = shape; columns = r.heading; lies = r.lies; fill = fill_of shape slot h.columns on.0 (w.page (first_element_page + i)) on.2; of_format = on.3 } in
         subst (λ (n : ℕ). IsFilledFor l.definitions n sheet) both.0 (subst (IsFilledFor l.definitions slot) both.1 own)
     | inr none ↦ r.held.filled i s sheet (cells_before slot i s sheet l.element_pages (sym none.1 ∙ is)).0
   ]
@@ -372,7 +373,7 @@ module _ (l : Layout) (space : Directory) (shape : Shape) (slot : ℕ) (h : Head
   held_after : (space' : Directory) → space'.lists ≡ set space.lists slot new → KeepsQuotaOf slot (rewritten slot (pages_of new) sheets l) → IsHeldOf l.definitions space' w.count w.free (rewritten slot (pages_of new) sheets l)
   held_after space' lists kept = record {
     definitions = refl;
-    size = r.count ∙ r.held.size ∙ ap (λ (n : ℕ). 930 + n) (sym long);
+    size = r.count ∙ r.held.size ∙ ap (λ (n : ℕ). first_element_page + n) (sym long);
     places = lists_after space' lists;
     free = left;
     rules = rewritten_sound kept;

@@ -8,6 +8,7 @@ use Rattle.std.proofs.lemmas.List.Sorted.{IsPermutation-sym, IsPermutation-trans
 use Rattle.ts_row.specs.Element.{Element}
 use Rattle.ts_row.specs.RowType.{Heading}
 use Rattle.ts_row.specs.declared.kind.Column.{Column}
+use Rattle.ts_page.specs.Volume.{first_element_page}
 use Rattle.ts_space.specs.declared.place.Place.{Place}
 use Rattle.ts_space.specs.Place.{AreAbove, IsRising, count_of}
 use Rattle.ts_space.specs.Directory.{Directory, places_of}
@@ -58,11 +59,11 @@ module _ (shape : Shape) (slot format : ℕ) (columns : List Column) (pages : �
 
 -- what the pages hold of a series
 pub held_pairs : (pages : ℕ → List ℕ) (l : Layout) (slot : ℕ) (h : Heading) (shape : Shape) → heading_at l.definitions slot ≡ Some h → shape_at l.definitions slot ≡ Some shape → HoldsLayout pages l
-    → All (IsHeldAt shape slot l.definitions.format h.columns pages) (pairs_from slot 930 l.element_pages)
-held_pairs pages l slot h shape heading lies holds = pairs_each (IsHeldAt shape slot l.definitions.format h.columns pages) slot 930 l.element_pages (λ i sheet is.
-    let there : HoldsElements l.definitions (pages (930 + i)) (Cells slot sheet) = subst (HoldsElements l.definitions (pages (930 + i))) is (holds.elements i (within_list l.element_pages i slot sheet is)) in (
-      subst (λ (x : Shape). HoldsSheet x slot h.columns sheet (pages (930 + i))) (one_of (shape_at l.definitions slot) there.shape shape there.lies lies)
-          (subst (λ (x : Heading). HoldsSheet there.shape slot x.columns sheet (pages (930 + i))) (one_of (heading_at l.definitions slot) there.heading h there.columns heading) there.bytes),
+    → All (IsHeldAt shape slot l.definitions.format h.columns pages) (pairs_from slot first_element_page l.element_pages)
+held_pairs pages l slot h shape heading lies holds = pairs_each (IsHeldAt shape slot l.definitions.format h.columns pages) slot first_element_page l.element_pages (λ i sheet is.
+    let there : HoldsElements l.definitions (pages (first_element_page + i)) (Cells slot sheet) = subst (HoldsElements l.definitions (pages (first_element_page + i))) is (holds.elements i (within_list l.element_pages i slot sheet is)) in (
+      subst (λ (x : Shape). HoldsSheet x slot h.columns sheet (pages (first_element_page + i))) (one_of (shape_at l.definitions slot) there.shape shape there.lies lies)
+          (subst (λ (x : Heading). HoldsSheet there.shape slot x.columns sheet (pages (first_element_page + i))) (one_of (heading_at l.definitions slot) there.heading h there.columns heading) there.bytes),
       there.of_format,
     ))
 
@@ -84,9 +85,9 @@ pub series_sheets : (l : Layout) (space : Directory) (slot : ℕ) (h : Heading) 
     → (sheets : List Sheet) × AreSheetsOf shape slot h.columns pages (places_of slot space) l sheets
 series_sheets l space slot h shape pages sound lists within heading lies holds =
     let inside = sound.sequences slot h shape heading lies in
-    let pairs : List Numbered = pairs_from slot 930 l.element_pages in
+    let pairs : List Numbered = pairs_from slot first_element_page l.element_pages in
     let moved : IsPermutation (sheets_in pairs) inside.sheets =
-    subst (λ (x : List Sheet). IsPermutation x inside.sheets) (sheets_of_in slot 930 l.element_pages) (IsPermutation-sym inside.sheets (sheets_of slot l.element_pages) inside.all) in
+    subst (λ (x : List Sheet). IsPermutation x inside.sheets) (sheets_of_in slot first_element_page l.element_pages) (IsPermutation-sym inside.sheets (sheets_of slot l.element_pages) inside.all) in
     let order : Lifted (λ (p : Numbered). p.1) pairs inside.sheets = lifted (λ (p : Numbered). p.1) pairs inside.sheets moved in
     let held = All-permutation (IsHeldAt shape slot l.definitions.format h.columns pages) pairs order.list order.moved (held_pairs pages l slot h shape heading lies holds) in
     let there : AreSheetsOn shape slot h.columns pages (places_in order.list) inside.sheets =
@@ -95,7 +96,7 @@ series_sheets l space slot h shape pages sound lists within heading lies holds =
     let begins : BeginInOrder (sheets_in order.list) = subst BeginInOrder (sym order.is) (sequence_order shape h.columns inside.sheets inside.is fills) in
     let listed = lists slot within in
     let all : IsPermutation (places_of slot space) (places_in order.list) =
-    IsPermutation-trans (places_of slot space) (places_in pairs) (places_in order.list) (subst (IsPermutation (places_of slot space)) (places_from_in slot 930 l.element_pages) listed.all)
+    IsPermutation-trans (places_of slot space) (places_in pairs) (places_in order.list) (subst (IsPermutation (places_of slot space)) (places_from_in slot first_element_page l.element_pages) listed.all)
     (IsPermutation-map (λ (p : Numbered). place_of_sheet p.0 p.1) pairs order.list order.moved) in
     let same : places_of slot space ≡ places_in order.list = rising_once (places_of slot space) (places_in order.list) listed.rising (rising_places order.list begins) all in
     let on : AreSheetsOn shape slot h.columns pages (places_of slot space) inside.sheets = subst (λ (x : List Place). AreSheetsOn shape slot h.columns pages x inside.sheets) (sym same) there in

@@ -13,6 +13,7 @@ use Rattle.ts_space.specs.Place.{pages_of}
 use Rattle.ts_space.specs.Directory.{Directory, places_of}
 use Rattle.ts_space.specs.Charge.{irregular_charge}
 use Rattle.ts_cells.specs.Cell.{page_room}
+use Rattle.ts_page.specs.Volume.{first_element_page}
 use Rattle.ts_model.specs.declared.kind.Kind.TheVariants as kinds
 use Rattle.ts_model.specs.Definitions.{Definitions, SeriesDef, at_slot, with_slot, by_name}
 use Rattle.ts_model.proofs.SlotLemmas.{by_name-clear}
@@ -31,27 +32,27 @@ use Rattle.ts_layout.proofs.LayoutLemmas.{none≢some, within_table}
 use Rattle.ts_layout.proofs.FilledLemmas.{at_cleared, by_name_same}
 
 -- the pages and the places of every other series stay
-other_pairs : (slot s : ℕ) (pages : List ElementPage) → s ≢ slot → pairs_from s 930 (map (freed slot) pages) ≡ pairs_from s 930 pages
-other_pairs slot s pages other = pairs_freed_other slot s 930 pages other
+other_pairs : (slot s : ℕ) (pages : List ElementPage) → s ≢ slot → pairs_from s first_element_page (map (freed slot) pages) ≡ pairs_from s first_element_page pages
+other_pairs slot s pages other = pairs_freed_other slot s first_element_page pages other
 
 other_sheets : (slot s : ℕ) (pages : List ElementPage) → s ≢ slot → sheets_of s (map (freed slot) pages) ≡ sheets_of s pages
-other_sheets slot s pages other = sheets_of_in s 930 (map (freed slot) pages) ∙ ap sheets_in (other_pairs slot s pages other) ∙ sym (sheets_of_in s 930 pages)
+other_sheets slot s pages other = sheets_of_in s first_element_page (map (freed slot) pages) ∙ ap sheets_in (other_pairs slot s pages other) ∙ sym (sheets_of_in s first_element_page pages)
 
 other_elements : (slot s : ℕ) (pages : List ElementPage) → s ≢ slot → elements_of s (map (freed slot) pages) ≡ elements_of s pages
-other_elements slot s pages other = elements_of_in s 930 (map (freed slot) pages) ∙ ap (λ (pairs : List Numbered). elements_in (sheets_in pairs)) (other_pairs slot s pages other) ∙ sym (elements_of_in s 930 pages)
+other_elements slot s pages other = elements_of_in s first_element_page (map (freed slot) pages) ∙ ap (λ (pairs : List Numbered). elements_in (sheets_in pairs)) (other_pairs slot s pages other) ∙ sym (elements_of_in s first_element_page pages)
 
-other_places : (slot s : ℕ) (pages : List ElementPage) → s ≢ slot → places_from s 930 (map (freed slot) pages) ≡ places_from s 930 pages
-other_places slot s pages other = places_from_in s 930 (map (freed slot) pages) ∙ ap places_in (other_pairs slot s pages other) ∙ sym (places_from_in s 930 pages)
+other_places : (slot s : ℕ) (pages : List ElementPage) → s ≢ slot → places_from s first_element_page (map (freed slot) pages) ≡ places_from s first_element_page pages
+other_places slot s pages other = places_from_in s first_element_page (map (freed slot) pages) ∙ ap places_in (other_pairs slot s pages other) ∙ sym (places_from_in s first_element_page pages)
 
-own_places : (slot : ℕ) (pages : List ElementPage) → places_from slot 930 (map (freed slot) pages) ≡ []
-own_places slot pages = places_from_in slot 930 (map (freed slot) pages) ∙ ap places_in (pairs_freed_own slot 930 pages)
+own_places : (slot : ℕ) (pages : List ElementPage) → places_from slot first_element_page (map (freed slot) pages) ≡ []
+own_places slot pages = places_from_in slot first_element_page (map (freed slot) pages) ∙ ap places_in (pairs_freed_own slot first_element_page pages)
 
 -- the places after
 lists_dropped : (l : Layout) (space space' : Directory) (slot : ℕ) → slot < length space.lists → space'.lists ≡ set space.lists slot [] → ListsPlaces space l → ListsPlaces space' (without_series slot l)
 lists_dropped l space space' slot inside lists listed s within = elim (cases_eq s slot) [
   | inl same ↦
       let now : places_of slot space' ≡ [] = ap (λ (x : List (List Place)). get_or x slot []) lists ∙ get_or-set_same space.lists slot [] [] inside in
-      let none : IsPermutation [] (places_from slot 930 (map (freed slot) l.element_pages)) = subst (λ (x : List Place). IsPermutation [] x) (sym (own_places slot l.element_pages)) (IsPermutation-refl []) in
+      let none : IsPermutation [] (places_from slot first_element_page (map (freed slot) l.element_pages)) = subst (λ (x : List Place). IsPermutation [] x) (sym (own_places slot l.element_pages)) (IsPermutation-refl []) in
       let own : IsListOf slot (places_of slot space') (map (freed slot) l.element_pages) = subst (λ (x : List Place). IsListOf slot x (map (freed slot) l.element_pages)) (sym now) (record { rising = tt; all = none }) in
       subst (λ (n : ℕ). IsListOf n (places_of n space') (map (freed slot) l.element_pages)) (sym same) own
   | inr other ↦
@@ -90,22 +91,22 @@ holds_kept d slot page (Cells s sheet) none holds =
 
 -- the bytes after: the page of the series is free, and the others stay
 bytes_dropped : (l : Layout) (v w : ℕ → List ℕ) (slot : ℕ) → HoldsDefinitions w (with_slot kinds.Series slot None l.definitions) → w 0 ≡ v 0
-    → ((i : ℕ) (sheet : Sheet) → element_page i l.element_pages ≡ Cells slot sheet → IsFreePage (w (930 + i))) → ((i : ℕ) → i < length l.element_pages → HasNone slot (element_page i l.element_pages) → w (930 + i) ≡ v (930 + i)) → HoldsLayout v l → HoldsLayout w (without_series slot l)
+    → ((i : ℕ) (sheet : Sheet) → element_page i l.element_pages ≡ Cells slot sheet → IsFreePage (w (first_element_page + i))) → ((i : ℕ) → i < length l.element_pages → HasNone slot (element_page i l.element_pages) → w (first_element_page + i) ≡ v (first_element_page + i)) → HoldsLayout v l → HoldsLayout w (without_series slot l)
 bytes_dropped l v w slot defined header own others holds = record {
   header = header ∙ holds.header ∙ ap (header_bytes l.definitions.format) (sym (length-map l.element_pages (freed slot)));
   definitions = defined;
   elements = λ i within.
       let inside : i < length l.element_pages = omega (arith, within, length-map l.element_pages (freed slot)) in
-      subst (HoldsElements (with_slot kinds.Series slot None l.definitions) (w (930 + i))) (sym (page_freed slot i l.element_pages)) (here i inside);
+      subst (HoldsElements (with_slot kinds.Series slot None l.definitions) (w (first_element_page + i))) (sym (page_freed slot i l.element_pages)) (here i inside);
 } where
-  here : (i : ℕ) → i < length l.element_pages → HoldsElements (with_slot kinds.Series slot None l.definitions) (w (930 + i)) (freed slot (element_page i l.element_pages))
+  here : (i : ℕ) → i < length l.element_pages → HoldsElements (with_slot kinds.Series slot None l.definitions) (w (first_element_page + i)) (freed slot (element_page i l.element_pages))
   here i inside = elim (has_cells slot (element_page i l.element_pages)) [
     | inl cells ↦
         let now : freed slot (element_page i l.element_pages) ≡ Free = ap (freed slot) cells.1 ∙ freed_own slot cells.0 in
-        subst (HoldsElements (with_slot kinds.Series slot None l.definitions) (w (930 + i))) (sym now) (own i cells.0 cells.1)
+        subst (HoldsElements (with_slot kinds.Series slot None l.definitions) (w (first_element_page + i))) (sym now) (own i cells.0 cells.1)
     | inr none ↦
-        let kept = holds_kept l.definitions slot (v (930 + i)) (element_page i l.element_pages) none (holds.elements i inside) in
-        subst (HoldsElements (with_slot kinds.Series slot None l.definitions) (w (930 + i))) (sym (freed_other slot (element_page i l.element_pages) none))
+        let kept = holds_kept l.definitions slot (v (first_element_page + i)) (element_page i l.element_pages) none (holds.elements i inside) in
+        subst (HoldsElements (with_slot kinds.Series slot None l.definitions) (w (first_element_page + i))) (sym (freed_other slot (element_page i l.element_pages) none))
         (subst (λ (b : List ℕ). HoldsElements (with_slot kinds.Series slot None l.definitions) b (element_page i l.element_pages)) (sym (others i inside none)) kept)
   ]
 
@@ -202,35 +203,35 @@ series_gone_catalogue l slot s sound there =
     }
 
 -- where the series has a page, and where it has none
-apart_pages : (i j : ℕ) → j ≢ i → 930 + j ≢ 930 + i
+apart_pages : (i j : ℕ) → j ≢ i → first_element_page + j ≢ first_element_page + i
 apart_pages i j other is = other (omega (arith, is))
 
 -- a series is dropped with its pages
 pub series_gone_bytes : (l : Layout) (space : Directory) (slot : ℕ) (v w : ℕ → List ℕ) → IsSound l → ListsPlaces space l → slot < 4096 → HoldsDefinitions w (with_slot kinds.Series slot None l.definitions) → w 0 ≡ v 0
     → AreAllFreed (places_of slot space) v w → HoldsLayout v l → HoldsLayout w (without_series slot l)
 series_gone_bytes l space slot v w sound listed within defined header all holds = bytes_dropped l v w slot defined header
-    (λ i sheet is. all.freed (930 + i) (among_contains (pages_of (places_of slot space)) (930 + i) (among_permuted numbers (pages_of (places_of slot space)) (930 + i) (IsPermutation-sym (pages_of (places_of slot space)) numbers own) (pair_among slot 930 i sheet l.element_pages is))))
-    (λ i inside none. all.others (930 + i) (omega arith) (λ there.
-    let at = pair_only slot 930 (930 + i) l.element_pages (among_permuted (pages_of (places_of slot space)) numbers (930 + i) own (among_from (pages_of (places_of slot space)) (930 + i) there)) in
+    (λ i sheet is. all.freed (first_element_page + i) (among_contains (pages_of (places_of slot space)) (first_element_page + i) (among_permuted numbers (pages_of (places_of slot space)) (first_element_page + i) (IsPermutation-sym (pages_of (places_of slot space)) numbers own) (pair_among slot first_element_page i sheet l.element_pages is))))
+    (λ i inside none. all.others (first_element_page + i) (omega arith) (λ there.
+    let at = pair_only slot first_element_page (first_element_page + i) l.element_pages (among_permuted (pages_of (places_of slot space)) numbers (first_element_page + i) own (among_from (pages_of (places_of slot space)) (first_element_page + i) there)) in
     none at.1 (ap (λ (n : ℕ). element_page n l.element_pages) (same_index i at.0 at.2) ∙ at.3)))
     holds
   where
     numbers : List ℕ
-    numbers = numbers_in (pairs_from slot 930 l.element_pages)
+    numbers = numbers_in (pairs_from slot first_element_page l.element_pages)
 
     own : IsPermutation (pages_of (places_of slot space)) numbers
     own = place_numbers slot (places_of slot space) l.element_pages (listed slot within)
 
-    same_index : (i j : ℕ) → 930 + i ≡ 930 + j → i ≡ j
+    same_index : (i j : ℕ) → first_element_page + i ≡ first_element_page + j → i ≡ j
     same_index i j is = omega (arith, is)
 
 pub series_gone_held : (l : Layout) (space space' : Directory) (slot count : ℕ) (free free' : List ℕ) → IsHeldOf l.definitions space count free l → slot < 4096 → length space.lists ≡ 4096 → space'.lists ≡ set space.lists slot []
     → IsPermutation (free ++ pages_of (places_of slot space)) free' → IsHeldOf (with_slot kinds.Series slot None l.definitions) space' count free' (without_series slot l)
 series_gone_held l space space' slot count free free' held within slots lists moved = record {
   definitions = refl;
-  size = held.size ∙ ap (λ (n : ℕ). 930 + n) (sym (length-map l.element_pages (freed slot)));
+  size = held.size ∙ ap (λ (n : ℕ). first_element_page + n) (sym (length-map l.element_pages (freed slot)));
   places = lists_dropped l space space' slot (omega (arith, within, slots)) lists held.places;
-  free = IsPermutation-trans free' (free ++ pages_of (places_of slot space)) (free_from 930 (map (freed slot) l.element_pages)) (IsPermutation-sym (free ++ pages_of (places_of slot space)) free' moved)
+  free = IsPermutation-trans free' (free ++ pages_of (places_of slot space)) (free_from first_element_page (map (freed slot) l.element_pages)) (IsPermutation-sym (free ++ pages_of (places_of slot space)) free' moved)
       (free_and_own l.definitions space count free l slot held within);
   rules = rules_dropped l slot within held.rules;
   filled = filled_dropped l slot held.filled;

@@ -9,6 +9,7 @@ use Rattle.ts_space.specs.Place.{count_of}
 use Rattle.ts_space.specs.Directory.{Directory, places_of}
 use Rattle.ts_space.specs.Charge.{irregular_charge}
 use Rattle.ts_cells.specs.Cell.{page_room}
+use Rattle.ts_page.specs.Volume.{first_element_page}
 use Rattle.ts_model.specs.Definitions.{Definitions, ContainerDef, SeriesDef, IsDefinitions}
 use Rattle.ts_layout.specs.Sheets.{place_of_sheet}
 use Rattle.ts_layout.specs.Meaning.{ElementPage, Free, Cells, Layout, elements_on, elements_of, sheets_on, sheets_of, charge_on, sum_filled, charge_of_series, charge_of_container, KeepsQuotas}
@@ -51,8 +52,8 @@ pub lists_counted : (l : Layout) (space : Directory) (slot : ℕ) → ListsPlace
 lists_counted l space slot lists within =
     let all = (lists slot within).all in
     record {
-      elements = sym (sum_by-IsPermutation (λ (p : Place). p.count) (places_of slot space) (places_from slot 930 l.element_pages) all) ∙ count_places slot 930 l.element_pages;
-      pages = sym (length_permutation (places_of slot space) (places_from slot 930 l.element_pages) all) ∙ many_places slot 930 l.element_pages;
+      elements = sym (sum_by-IsPermutation (λ (p : Place). p.count) (places_of slot space) (places_from slot first_element_page l.element_pages) all) ∙ count_places slot first_element_page l.element_pages;
+      pages = sym (length_permutation (places_of slot space) (places_from slot first_element_page l.element_pages) all) ∙ many_places slot first_element_page l.element_pages;
     }
 
 -- the charge by the directory is the charge by the pages

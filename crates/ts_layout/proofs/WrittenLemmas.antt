@@ -3,6 +3,7 @@ use Rattle.std.proofs.Common.{◌≡◌, ◌≢◌, ℕ, ◌<◌, ◌==◌, true
 use Rattle.std.proofs.lemmas.Bool.Decides.{nat_tests}
 use Rattle.ts_page.specs.Head.{bytes_at}
 use Rattle.ts_page.specs.Pages.{EqualPages, with_page}
+use Rattle.ts_page.specs.Volume.{first_element_page}
 use Rattle.ts_model.specs.Definitions.{Definitions}
 use Rattle.ts_layout.specs.Slot.{slot_size, page_of_slot, byte_of_slot, slots_in_page, bytes_of_slots}
 use Rattle.ts_layout.specs.Meaning.{HoldsDefinitions}
@@ -16,7 +17,7 @@ pub elsewhere : (number n : ℕ) (bytes : List ℕ) (pages more : ℕ → List �
 elsewhere number n bytes pages more other same = let f : (number == n) ≡ false = grind (arith, nat_tests) in same n ∙ rw f refl
 
 -- definitions in pages that stay
-pub definitions_stay : (pages more : ℕ → List ℕ) (d : Definitions) → ((n : ℕ) → n < 930 → more n ≡ pages n) → HoldsDefinitions pages d → HoldsDefinitions more d
+pub definitions_stay : (pages more : ℕ → List ℕ) (d : Definitions) → ((n : ℕ) → n < first_element_page → more n ≡ pages n) → HoldsDefinitions pages d → HoldsDefinitions more d
 definitions_stay pages more d same holds = record {
   slots = λ kind slot within. ap (bytes_at (byte_of_slot kind slot) (slot_size kind)) (same (page_of_slot kind slot) (page_high kind slot within)) ∙ holds.slots kind slot within;
   behind = λ n low high. ap (drop (bytes_of_slots (slots_in_page n))) (same n high) ∙ holds.behind n low high;

@@ -38,5 +38,5 @@ pub use memory_laws::{
     sound_definitions_are_those_of_a_layout, the_same_lists_are_kept,
 };
 pub use place::{
-    CONTAINERS, ELEMENTS, ROW_TYPES, Slots, byte_of_slot, page_of_slot, slot_size, slots_in_page,
+    CONTAINERS, ROW_TYPES, Slots, byte_of_slot, page_of_slot, slot_size, slots_in_page,
 };

@@ -18,9 +18,6 @@ pub const CONTAINERS: u32 = 833;
 
 const SERIES: u32 = 834;
 
-/// The first element page.
-pub const ELEMENTS: u32 = 930;
-
 /// So many slots of series stand in one page.
 const SERIES_IN_PAGE: u32 = 43;
 

@@ -5,6 +5,7 @@ use Rattle.ts_row.specs.RowType.{Heading}
 use Rattle.ts_space.specs.Place.{count_of}
 use Rattle.ts_space.specs.Directory.{places_of}
 use Rattle.ts_cells.specs.Cell.{page_room}
+use Rattle.ts_page.specs.Volume.{first_element_page}
 use Rattle.ts_offset.specs.declared.shape.Shape.{Shape}
 use Rattle.ts_offset.specs.declared.shape.Shape.TheVariants.{Irregular, Regular}
 use Rattle.ts_clip.specs.Series.{ArePlaces}
@@ -22,11 +23,11 @@ use Rattle.ts_shelf.proofs.SeenLemmas.{SeriesIn, series_in_slot}
 
 -- a layout without elements that has the definitions
 abbrev pub bare_of : View → Layout
-bare_of x = bare (x.pages.count - 930) x.definitions
+bare_of x = bare (x.pages.count - first_element_page) x.definitions
 
 module _ (x : View) (kept : KeepsRules x) where
   pub bare_rules : IsSound (bare_of x)
-  bare_rules = let some = kept.some in let most = kept.most in bare_layouts.rules (x.pages.count - 930) x.definitions (omega (arith, some)) (omega (arith, most)) kept.sound
+  bare_rules = let some = kept.some in let most = kept.most in bare_layouts.rules (x.pages.count - first_element_page) x.definitions (omega (arith, some)) (omega (arith, most)) kept.sound
 
   -- so few places and elements that they can be counted
   pub countable_kept : (slot : ℕ) → slot < 4096 → IsCountable (places_of slot x.space)

@@ -6,6 +6,7 @@ use Rattle.ts_disk.specs.Device.{Device, Lawful, LeavesOnly, Torn, overwritten, 
 use Rattle.ts_disk.proofs.Moments.{started, calls_on}
 use Rattle.ts_disk.proofs.Ranges.{drop_further}
 use Rattle.ts_disk.proofs.Replays.{Torn-overwritten}
+use Rattle.ts_page.specs.Volume.{first_element_page}
 use Rattle.ts_journal.specs.Journal.{page_count, records, pages}
 use Rattle.ts_model.specs.Definitions.{IsFormat}
 use Rattle.ts_model.specs.Catalogue.{empty_catalogue}
@@ -27,7 +28,7 @@ page_behind n k old new torn behind = ap (take 4096) (drop_further (0 + k) (4096
 zero_page_at : (n size : ℕ) → 4096 * n + 4096 ≤ size → page_at n (replicate size 0) ≡ replicate 4096 0
 zero_page_at n size room = ap (take 4096) (drop-replicate (4096 * n) size 0) ∙ take-replicate {X = ℕ} 4096 (size - 4096 * n) 0 (omega arith)
 
-module _ (count size : ℕ) (some : 1 ≤ count) (limit : count ≤ 65536) (is : size ≡ 4096 * (930 + count)) where
+module _ (count size : ℕ) (some : 1 ≤ count) (limit : count ≤ 65536) (is : size ≡ 4096 * (first_element_page + count)) where
   -- zeros with any first page, if this is the header
   torn_new : (format : ℕ) (image : List ℕ) → Torn 0 4096 (replicate size 0) image → page_at 0 image ≡ header_bytes format count → IsNew format count image
   torn_new format image torn header = record {
@@ -50,7 +51,7 @@ module _ (count size : ℕ) (some : 1 ≤ count) (limit : count ≤ 65536) (is :
   pub torn_empty : (image : List ℕ) → Torn 0 4096 (replicate size 0) image → IsEmptyOrNone count image
   torn_empty image torn cat means =
       let none : records image ≡ Some [] = no_journal image (page_behind 1 4096 (replicate size 0) image torn (omega arith) ∙ zero_page_at 1 size (omega (arith, is))) in
-      let long : length image ≡ 4096 * (930 + count) = torn.len ∙ length-replicate size 0 ∙ is in
+      let long : length image ≡ 4096 * (first_element_page + count) = torn.len ∙ length-replicate size 0 ∙ is in
       let layout = means.pages.0 in
       let laid = means.pages.1 in
       let same : length layout.element_pages ≡ count = omega (arith, laid.size, long) in
@@ -75,7 +76,7 @@ abbrev pub EmptyMoment : ℕ → Device → List ℕ → List ℕ → Type 0
 EmptyMoment count v image said = IsEmptyOrNone count image × (said ≡ v.said)
 
 -- from the first sync on: the bytes were zeros then, and nothing was pending
-module _ {E F : Type 0} (tells : Bool) (told : IsTrue tells) (count size : ℕ) (some : 1 ≤ count) (limit : count ≤ 65536) (is : size ≡ 4096 * (930 + count)) (v a b : Device) (lawful : Lawful tells v) (later : Lawful tells b) (empty : v.size ≡ 0)
+module _ {E F : Type 0} (tells : Bool) (told : IsTrue tells) (count size : ℕ) (some : 1 ≤ count) (limit : count ≤ 65536) (is : size ≡ 4096 * (first_element_page + count)) (v a b : Device) (lawful : Lawful tells v) (later : Lawful tells b) (empty : v.size ≡ 0)
     (resize : Resized {E = E} tells size (Ok tt) v a) (sync : Synced {E = F} tells (Ok tt) a b) where
   pub zeros_held : a.held ≡ replicate size 0
   zeros_held = zeros_grown v.held a.held size v.size (lawful.size told) empty (resize.grown told)

@@ -5,6 +5,7 @@ use Rattle.std.specs.FinMap.{from_entries}
 use Rattle.std.proofs.lemmas.Bool.Decides.{nat_tests}
 use Rattle.std.proofs.lemmas.List.{drop-replicate, length-replicate, take-replicate, take-take}
 use Rattle.ts_page.specs.Head.{bytes_at}
+use Rattle.ts_page.specs.Volume.{first_element_page}
 use Rattle.ts_journal.specs.Gate.{is_open}
 use Rattle.ts_journal.specs.Entry.{is_region}
 use Rattle.ts_journal.specs.Journal.{region, records, own_page, pages, put_records}
@@ -26,9 +27,9 @@ page_at n bytes = bytes_at (4096 * n) 4096 bytes
 
 -- the bytes of a store in which nothing is: its header, and zeros behind it
 pub record IsNew (format count : ℕ) (image : List ℕ) : Type 0 where
-  pub size : length image ≡ 4096 * (930 + count)
+  pub size : length image ≡ 4096 * (first_element_page + count)
   pub header : page_at 0 image ≡ header_bytes format count
-  pub zeros : (n : ℕ) → 1 ≤ n → n < 930 + count → page_at n image ≡ replicate 4096 0
+  pub zeros : (n : ℕ) → 1 ≤ n → n < first_element_page + count → page_at n image ≡ replicate 4096 0
 
 -- eight zeros are no open gate
 zeros_closed : is_open (replicate 8 0) ≡ false
@@ -82,7 +83,7 @@ empty_at format kinds.Container slot = nothing-defined kinds.Container slot
 empty_at format kinds.Series slot = nothing-defined kinds.Series slot
 
 -- pages of zeros hold no definitions
-no_definitions_held : (format : ℕ) (at : ℕ → List ℕ) → ((n : ℕ) → 257 ≤ n → n < 930 → at n ≡ replicate 4096 0) → HoldsDefinitions at (nothing_in format)
+no_definitions_held : (format : ℕ) (at : ℕ → List ℕ) → ((n : ℕ) → 257 ≤ n → n < first_element_page → at n ≡ replicate 4096 0) → HoldsDefinitions at (nothing_in format)
 no_definitions_held format at zeros = record {
   slots = λ kind slot within.
       let low = page_low kind slot in
@@ -139,7 +140,7 @@ pub new_means : (format count : ℕ) (image : List ℕ) → IsFormat format → 
 new_means format count image known some limit new =
     let none : records image ≡ Some [] = no_journal image (new.zeros 1 (omega arith) (omega arith)) in
     let size : length (replicate count Free) ≡ count = length-replicate count Free in
-    let behind : (n : ℕ) → 257 ≤ n → n < 930 + count → pages image n ≡ replicate 4096 0 = λ n low high. pages_own image none n ∙ own n low ∙ new.zeros n (omega arith) high in
+    let behind : (n : ℕ) → 257 ≤ n → n < first_element_page + count → pages image n ≡ replicate 4096 0 = λ n low high. pages_own image none n ∙ own n low ∙ new.zeros n (omega arith) high in
     record {
       size = (count, some, limit, new.size);
       sound = ([], none);
@@ -151,8 +152,8 @@ new_means format count image known some limit new =
             header = pages_own image none 0 ∙ new.header ∙ ap (header_bytes format) (sym size);
             definitions = no_definitions_held format (pages image) (λ n low high. behind n low (omega arith));
             elements = λ i within.
-                subst (HoldsElements (nothing_in format) (pages image (930 + i))) (sym (each_is count i Free))
-                (ap (λ (l : List ℕ). slice_index l 0) (behind (930 + i) (omega arith) (omega (arith, within, size))));
+                subst (HoldsElements (nothing_in format) (pages image (first_element_page + i))) (sym (each_is count i Free))
+                (ap (λ (l : List ℕ). slice_index l 0) (behind (first_element_page + i) (omega arith) (omega (arith, within, size))));
           };
           rules = empty_is_sound format count known some limit;
         },

@@ -3,6 +3,7 @@ use Rattle.std.specs.Prelude.{◌≡◌, ◌⊎◌, ℕ, ◌+◌, ◌*◌, ◌<�
 use Rattle.std.specs.Prelude.{length, take, Result, Ok, Err, ◌≢◌}
 use Rattle.ts_disk.specs.Device.{Device, Within, Rose, FirstSync, LeavesOnly}
 use Rattle.ts_disk.specs.Input.{Input}
+use Rattle.ts_page.specs.Volume.{page_size, first_element_page}
 use Rattle.ts_command.specs.Script.{Request, requests, last_request}
 use Rattle.ts_replies.specs.Acknowledged.{Protocol, AllAnswered}
 use Rattle.ts_model.specs.Catalogue.{Catalogue, empty_catalogue, newest_format}
@@ -30,7 +31,7 @@ pub record Untouched (v w : Device) : Type 0 where
 -- What `init` with a number of pages does.
 pub record Made (tells : Bool) (pages status : ℕ) (v w : Device) : Type 0 where
   -- at 0 the only image has that length and means the empty catalogue in the newest format
-  pub done : status ≡ 0 → (w.size ≡ 4096 * (930 + pages)) × NothingIsPending w
+  pub done : status ≡ 0 → (w.size ≡ page_size * (first_element_page + pages)) × NothingIsPending w
       × (IsTrue tells → MeansCatalogue w.held (empty_catalogue newest_format pages))
   -- from the end of its first sync that answers Ok on, the second call that does, each image means the empty catalogue
   -- of either format or none

@@ -3,6 +3,7 @@ use Rattle.std.specs.Prelude.{All}
 use Rattle.std.proofs.Common.{◌≡◌, ℕ, ℤ, ◌+◌, ◌-◌, ◌<◌, ◌≤◌, Option, Some, None, List, length, refl, sym, ap, ◌∙◌, subst, arith, inl, inr}
 use Rattle.std.specs.Option.{IfSome}
 use Rattle.ts_row.specs.declared.kind.Column.{Column}
+use Rattle.ts_page.specs.Volume.{first_element_page}
 use Rattle.ts_offset.specs.declared.shape.Shape.{Shape}
 use Rattle.ts_offset.specs.declared.shape.Shape.TheVariants.{Irregular, Regular}
 use Rattle.ts_model.specs.Catalogue.{Catalogue}
@@ -70,21 +71,21 @@ module _ (count : ℕ) (pages : ℕ → List ℕ) (l : Layout) (laid : IsLaidOut
       let low = found.low in
       let high = found.high in
       let size = laid.size in
-      let at : 930 + (number - 930) ≡ number = omega (arith, low) in
-      let e = element_page (number - 930) l.element_pages in
-      found.bad e (subst (λ (n : ℕ). HoldsElements l.definitions (pages n) e) at (laid.bytes.elements (number - 930) (omega (arith, low, high, size))))
+      let at : first_element_page + (number - first_element_page) ≡ number = omega (arith, low) in
+      let e = element_page (number - first_element_page) l.element_pages in
+      found.bad e (subst (λ (n : ℕ). HoldsElements l.definitions (pages n) e) at (laid.bytes.elements (number - first_element_page) (omega (arith, low, high, size))))
 
   -- the page of a sheet of a series
-  page_held : (i slot : ℕ) (sheet : Sheet) → element_page i l.element_pages ≡ Cells slot sheet → HoldsSeries l.definitions (pages (930 + i)) slot sheet
+  page_held : (i slot : ℕ) (sheet : Sheet) → element_page i l.element_pages ≡ Cells slot sheet → HoldsSeries l.definitions (pages (first_element_page + i)) slot sheet
   page_held i slot sheet here =
-      subst (HoldsElements l.definitions (pages (930 + i))) here (laid.bytes.elements i (within_list l.element_pages i slot sheet here))
+      subst (HoldsElements l.definitions (pages (first_element_page + i))) here (laid.bytes.elements i (within_list l.element_pages i slot sheet here))
 
   all_begin : (slot : ℕ) (shape : Shape) → shape_at l.definitions slot ≡ Some shape → All (Begin shape) (sheets_of slot l.element_pages)
   all_begin slot shape lies =
       sheets_each (Begin shape) slot l.element_pages (λ i sheet here.
       let held = page_held i slot sheet here in
       let same : held.shape ≡ shape = one_of (shape_at l.definitions slot) held.shape shape held.lies lies in
-      begins shape slot held.heading.columns sheet (pages (930 + i)) (subst (λ (x : Shape). HoldsSheet x slot held.heading.columns sheet (pages (930 + i))) same held.bytes))
+      begins shape slot held.heading.columns sheet (pages (first_element_page + i)) (subst (λ (x : Shape). HoldsSheet x slot held.heading.columns sheet (pages (first_element_page + i))) same held.bytes))
 
   good_overlaps : (number : ℕ) → IsOverlap l number → ⊥
   good_overlaps number found =

@@ -2,6 +2,7 @@
 pub use Rattle.ts_volume.proofs.BadPageLemmas.{nothing_meant}
 use Rattle.std.proofs.Common.{◌≡◌, ℕ, ◌+◌, List, Some, None, length, refl, ap, sym, ◌∙◌, subst}
 use Rattle.ts_page.specs.Pages.{SameButFreed}
+use Rattle.ts_page.specs.Volume.{first_element_page}
 use Rattle.ts_journal.specs.Journal.{IsVolumeSize, page_count, pages, records}
 use Rattle.ts_model.specs.Catalogue.{Catalogue}
 use Rattle.ts_layout.specs.Meaning.{Layout, HoldsLayout, IsSound, IsLaidOut, catalogue_of}
@@ -15,7 +16,7 @@ holds_still wanted pages l same holds = layout_stays wanted pages l (λ k outsid
 
 -- bytes whose pages are those that hold a layout mean its catalogue
 pub means_layout : (size : ℕ) (wanted : ℕ → List ℕ) (image : List ℕ) (l : Layout) → IsVolumeSize size → length image ≡ size → HasWholeRecords image
-    → SameButFreed wanted (pages image) → page_count size ≡ 930 + length l.element_pages → HoldsLayout wanted l → IsSound l → MeansCatalogue image (catalogue_of l)
+    → SameButFreed wanted (pages image) → page_count size ≡ first_element_page + length l.element_pages → HoldsLayout wanted l → IsSound l → MeansCatalogue image (catalogue_of l)
 means_layout size wanted image l volume same sound alike count holds rules = record {
   size = subst IsVolumeSize (sym same) volume;
   sound = sound;

@@ -1,5 +1,6 @@
 -- There is one first bad page at most, and it is one of the pages.
 use Rattle.std.proofs.Common.{◌≡◌, ℕ, ◌+◌, ◌<◌, ◌≤◌, ◌⊎◌, None, Some, List, [], ◌∷◌, length, refl, sym, ap, ◌∙◌, arith, inl, inr, lit<, lit≤}
+use Rattle.ts_page.specs.Volume.{first_element_page}
 use Rattle.ts_model.specs.declared.kind.Kind.{Kind}
 use Rattle.ts_model.specs.declared.kind.Kind.TheVariants as kinds
 use Rattle.ts_model.specs.Definitions.{limit}
@@ -45,10 +46,10 @@ one_first_bad = record {
 }
 
 -- each step finds pages of the volume
-slot_within : (count number : ℕ) (kind : Kind) (slot : ℕ) → 930 ≤ count → slot < limit kind → number ≡ page_of_slot kind slot → number < count
+slot_within : (count number : ℕ) (kind : Kind) (slot : ℕ) → first_element_page ≤ count → slot < limit kind → number ≡ page_of_slot kind slot → number < count
 slot_within count number kind slot some within is = omega (arith, some, page_high kind slot within, is)
 
-found_within : (count : ℕ) (pages : ℕ → List ℕ) (step : Step) (number : ℕ) → 930 ≤ count → Finds count pages step number → number < count
+found_within : (count : ℕ) (pages : ℕ → List ℕ) (step : Step) (number : ℕ) → first_element_page ≤ count → Finds count pages step number → number < count
 found_within count pages Header number some found = let z = found.0 in omega (arith, some, z)
 found_within count pages Slots number some found = let z = found.high in omega (arith, some, z)
 found_within count pages Names number some found = slot_within count number found.2.kind found.2.slot some found.2.within found.2.page
@@ -68,7 +69,7 @@ found_within count pages Neighbours number some (l, said, found) =
     omega (arith, within, size, page)
 found_within count pages Charges number some found = let z = found.2.page in omega (arith, some, z)
 
-first_within : (count : ℕ) (pages : ℕ → List ℕ) (page : ℕ) → 930 ≤ count → IsFirstBad count pages page → page < count
+first_within : (count : ℕ) (pages : ℕ → List ℕ) (page : ℕ) → first_element_page ≤ count → IsFirstBad count pages page → page < count
 first_within count pages page some first = let found = found_by (Finds count pages) all_steps page first in found_within count pages found.0 page some found.1
 
 volume_count : (size : ℕ) → IsVolumeSize size → 931 ≤ page_count size

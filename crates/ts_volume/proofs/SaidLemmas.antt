@@ -4,6 +4,7 @@ use Rattle.std.proofs.Common.{◌≡◌, ℕ, zero, suc, ◌+◌, ◌-◌, ◌<�
 use Rattle.std.specs.Option.{option_map}
 use Rattle.std.proofs.lemmas.Bool.{cases_lt}
 use Rattle.std.proofs.lemmas.List.{get_or_past, length-map}
+use Rattle.ts_page.specs.Volume.{first_element_page}
 use Rattle.ts_model.specs.declared.kind.Kind.{Kind}
 use Rattle.ts_model.specs.declared.kind.Kind.TheVariants as kinds
 use Rattle.ts_model.specs.declared.def.Def.{Def}
@@ -42,11 +43,11 @@ refers_there d (t ∷ targets) target there (suc k, below, is) = refers_there d 
 
 module _ (count : ℕ) (pages : ℕ → List ℕ) (l : Layout) (laid : IsLaidOut count pages l) where
   -- the volume has so many element pages
-  pub element_count : count - 930 ≡ length l.element_pages
+  pub element_count : count - first_element_page ≡ length l.element_pages
   element_count = let size = laid.size in omega (arith, size)
 
   pub own_format : (format : ℕ) → HasHeader count pages format → format ≡ l.definitions.format
-  own_format format header = header_format format l.definitions.format (count - 930) (length l.element_pages) (sym header.bytes ∙ laid.bytes.header)
+  own_format format header = header_format format l.definitions.format (count - first_element_page) (length l.element_pages) (sym header.bytes ∙ laid.bytes.header)
 
   pub own_header : HasHeader count pages l.definitions.format
   own_header = record {
@@ -147,7 +148,7 @@ module _ (count : ℕ) (pages : ℕ → List ℕ) (l : Layout) (laid : IsLaidOut
       let second = laid.size in
       let long : length k.element_pages ≡ length l.element_pages = omega (arith, first, second) in
       let element_pages : k.element_pages ≡ l.element_pages = same_pages k.element_pages l.element_pages long (λ i within.
-      same_page l.definitions (pages (930 + i)) (element_page i k.element_pages) (element_page i l.element_pages) laid.rules.definitions.limits laid.rules.definitions.tables
-      (subst (λ (d : Definitions). HoldsElements d (pages (930 + i)) (element_page i k.element_pages)) definitions (said.elements i within))
+      same_page l.definitions (pages (first_element_page + i)) (element_page i k.element_pages) (element_page i l.element_pages) laid.rules.definitions.limits laid.rules.definitions.tables
+      (subst (λ (d : Definitions). HoldsElements d (pages (first_element_page + i)) (element_page i k.element_pages)) definitions (said.elements i within))
       (laid.bytes.elements i (omega (arith, within, long)))) in
       λ i. record { definitions = definitions i; element_pages = element_pages i }

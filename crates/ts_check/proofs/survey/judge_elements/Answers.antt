@@ -1,4 +1,5 @@
 use Rattle.std.proofs.Common.{◌≡◌, ◌+◌, ◌-◌, ◌≤◌, ℕ, List, Result, Ok, Err, length, refl, sym, ◌∙◌, subst, ap, arith}
+use Rattle.ts_page.specs.Volume.{first_element_page}
 use Rattle.ts_container.specs.declared.elements.Elements.{Elements}
 use Rattle.ts_container.specs.declared.fault.SurveyFault.{SurveyFault}
 use Rattle.ts_container.specs.Elements.{AllRead, ElementsRead}
@@ -24,7 +25,7 @@ returns-in_err-judge_list-clause-read g c =
     let same : c.deref.result.now ≡ list = c.deref.ensures.value ∙ kept_list c.truncate.new.self.len list c.truncate.new.self.items long all in
     let within : c.loop-number.number + length list ≤ c.args.count = omega (arith, c.truncate.ensures.len, all, inv.high, c.loop-number-test.true) in
     let added = subst (λ (l : List PageRead). ListAdded d l (Err e) c.loop-number.elements c.judge_list.new.elements) same c.in_err-judge_list.ensures in
-    subst (λ (r : Result Elements SurveyFault). ElementsRead tells (c.args.count - 930) d r u w)
+    subst (λ (r : Result Elements SurveyFault). ElementsRead tells (c.args.count - first_element_page) d r u w)
     (sym (err_is c.from_residual-in_err-judge_list.result e c.from_residual-in_err-judge_list.ensures.1))
     (list_refused tells c.args.count c.loop-number.number inv.low d list within u v w c.loop-number.elements.spans.items c.loop-number.elements.free.items inv.read inv.call c.in_ok-read_list.ensures.read e c.loop-number.elements c.judge_list.new.elements added)
 
@@ -45,7 +46,7 @@ loop-number-preserved g c =
     let kept = ap (λ (l : List PageRead). length l) whole in
     let added = subst (λ (l : List PageRead). ListAdded d l (Ok c.in_ok-judge_list.field-0) c.loop-number.elements c.judge_list.new.elements) (c.deref.ensures.value ∙ whole) c.in_ok-judge_list.ensures in
     let counted : c.len.result ≡ length list = c.len.ensures ∙ all in
-    let next : number + length list - 930 ≡ number + c.len.result - 930 = omega (arith, counted) in
+    let next : number + length list - first_element_page ≡ number + c.len.result - first_element_page = omega (arith, counted) in
     record {
       call = fine_reads tells _ (tt {0}) u w (then_reads tells (tt {0}) _ u v w inv.call got.call);
       undisturbed = g.met.P.Pages.«then» c.args.pages.now c.loop-number.pages c.read_list.new.pages inv.undisturbed c.in_ok-read_list.ensures.undisturbed;

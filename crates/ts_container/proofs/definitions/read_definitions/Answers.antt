@@ -1,4 +1,5 @@
 use Rattle.std.proofs.Common.{Ok, sym, subst, ◌∙◌, ◌≡◌, ℕ, arith}
+use Rattle.ts_page.specs.Volume.{first_element_page}
 use Rattle.ts_layout.specs.Rank.{rank_of_page}
 use Rattle.ts_container.specs.declared.found.Found.{Found}
 use Rattle.ts_container.specs.declared.found.Found.TheVariants as found
@@ -96,8 +97,8 @@ returns-in-Unresolved-clause-undisturbed g c =
 pub returns-clause-read : goal.returns-clause-read
 returns-clause-read g c = record {
   call = reads_ok g.P.Pages.tells (tt {0}) _ (g.P.Pages.contents c.args.pages.now) (g.P.Pages.contents c.loop-number.pages) c.loop-number.invariant.call;
-  read = subst (λ (n : ℕ). IsReadTo c.args.defs.now.definitions.format (rank_of_page n) c.loop-number.defs.definitions c.loop-number.broken.items) (let z : c.loop-number.number ≡ 930 = omega (arith, c.loop-number-test.false, c.loop-number.auto.number-end) in z) c.loop-number.invariant.read;
+  read = subst (λ (n : ℕ). IsReadTo c.args.defs.now.definitions.format (rank_of_page n) c.loop-number.defs.definitions c.loop-number.broken.items) (let z : c.loop-number.number ≡ first_element_page = omega (arith, c.loop-number-test.false, c.loop-number.auto.number-end) in z) c.loop-number.invariant.read;
   known = λ told. known_all c.args.defs.now.definitions.format (g.P.Pages.contents c.args.pages.now).page c.loop-number.defs.definitions c.loop-number.broken.items
-      (subst (λ (n : ℕ). KnownTo c.args.defs.now.definitions.format n (g.P.Pages.contents c.args.pages.now).page c.loop-number.defs.definitions c.loop-number.broken.items) (let z : c.loop-number.number ≡ 930 = omega (arith, c.loop-number-test.false, c.loop-number.auto.number-end) in z) (c.loop-number.invariant.known told));
+      (subst (λ (n : ℕ). KnownTo c.args.defs.now.definitions.format n (g.P.Pages.contents c.args.pages.now).page c.loop-number.defs.definitions c.loop-number.broken.items) (let z : c.loop-number.number ≡ first_element_page = omega (arith, c.loop-number-test.false, c.loop-number.auto.number-end) in z) (c.loop-number.invariant.known told));
   refused = tt;
 }

@@ -1,4 +1,5 @@
 use Rattle.std.proofs.Common.{◌-◌, Ok}
+use Rattle.ts_page.specs.Volume.{first_element_page}
 use Rattle.ts_container.specs.Elements.{AllRead}
 use Rattle.ts_container.specs.Survey.{Reads}
 use Rattle.ts_container.proofs.elements.read_elements.Given as goal
@@ -7,5 +8,5 @@ abbrev pub invariant-loop-number : goal.invariant-loop-number
 invariant-loop-number g l = record {
   call : Reads {T = Unit {0}} g.P.Pages.tells (Ok tt) (g.P.Pages.contents l.fn.pages) (g.P.Pages.contents l.pages);
   undisturbed : g.P.Pages.undisturbed l.fn.pages l.pages;
-  read : AllRead g.P.Pages.tells (l.number - 930) l.defs.definitions (g.P.Pages.contents l.fn.pages) l.elements.spans.items l.elements.free.items;
+  read : AllRead g.P.Pages.tells (l.number - first_element_page) l.defs.definitions (g.P.Pages.contents l.fn.pages) l.elements.spans.items l.elements.free.items;
 }

@@ -1,5 +1,6 @@
 use Rattle.std.proofs.Common.{◌-◌, Ok}
 use Rattle.std.proofs.lemmas.Result.{IfOk-weaker}
+use Rattle.ts_page.specs.Volume.{first_element_page}
 use Rattle.ts_container.proofs.SurveyLemmas.{reads_more, reads_ok, err_is}
 use Rattle.ts_container.proofs.ComposedLemmas.{all_before, all_listed, finished_found, elements_refused, refused_all, finish_reads, bad_before}
 use Rattle.ts_container.proofs.surveyed.survey.Goals as goal
@@ -9,7 +10,7 @@ finish-requires-clause-read g c =
     let x = c.in_ok-elements.elements in
     let v = g.P.Pages.contents c.survey_definitions.new.pages in
     let read = c.in_ok-elements.ensures.read.read in
-    (read.elements, all_listed g.P.Pages.tells (c.args.count - 930) c.in_ok-defs.defs.definitions v x.spans.items x.free.items read)
+    (read.elements, all_listed g.P.Pages.tells (c.args.count - first_element_page) c.in_ok-defs.defs.definitions v x.spans.items x.free.items read)
 
 pub returns-in_err-elements-clause-refused : goal.returns-in_err-elements-clause-refused
 returns-in_err-elements-clause-refused g c =
@@ -30,7 +31,7 @@ returns-clause-ok g c =
     let sound = c.in_ok-defs.ensures.read in
     let d = c.in_ok-defs.defs.definitions in
     let x = c.in_ok-elements.elements in
-    let all = all_before tells (c.args.count - 930) d u v x.spans.items x.free.items (reads_ok tells c.in_ok-defs.defs (tt {0}) u v sound.call) c.in_ok-elements.ensures.read.read in
+    let all = all_before tells (c.args.count - first_element_page) d u v x.spans.items x.free.items (reads_ok tells c.in_ok-defs.defs (tt {0}) u v sound.call) c.in_ok-elements.ensures.read.read in
     IfOk-weaker c.finish.result _ _ (λ s finished. finished_found tells c.args.count d u c.requires.some sound.known sound.read x.spans.items x.free.items s all finished) c.finish.ensures.ok
 
 pub returns-clause-refused : goal.returns-clause-refused
@@ -41,7 +42,7 @@ returns-clause-refused g c =
     let sound = c.in_ok-defs.ensures.read in
     let d = c.in_ok-defs.defs.definitions in
     let x = c.in_ok-elements.elements in
-    let all = all_before tells (c.args.count - 930) d u v x.spans.items x.free.items (reads_ok tells c.in_ok-defs.defs (tt {0}) u v sound.call) c.in_ok-elements.ensures.read.read in
+    let all = all_before tells (c.args.count - first_element_page) d u v x.spans.items x.free.items (reads_ok tells c.in_ok-defs.defs (tt {0}) u v sound.call) c.in_ok-elements.ensures.read.read in
     refused_all tells c.args.count d u c.requires.some sound.known sound.read x.spans.items x.free.items c.finish.result all c.finish.ensures.refused
 
 pub returns-clause-call : goal.returns-clause-call

@@ -1,5 +1,6 @@
 use Rattle.std.proofs.Common.{◌≡◌, ℕ, ◌+◌, ◌*◌, List, length, replicate, inr, refl, ◌∙◌, ap}
 use Rattle.ts_disk.specs.Device.{overwritten}
+use Rattle.ts_page.specs.Volume.{first_element_page}
 use Rattle.ts_model.specs.Catalogue.{newest_format}
 use Rattle.ts_shell.proofs.NewLemmas.{new_means}
 use Rattle.ts_shell.proofs.MakingLemmas.{header_length, written_new, zeros_held, written, written_synced, empty_from}
@@ -9,7 +10,7 @@ pub returns-clause-means : goal.returns-clause-means
 returns-clause-means g c = λ told.
     let tells = g.V.Volume.tells in
     let pages = c.args.pages in
-    let size : ℕ = 4096 * (930 + pages) in
+    let size : ℕ = 4096 * (first_element_page + pages) in
     let v = g.V.Volume.device c.args.vol.now in
     let a = g.V.Volume.device c.resize.new.self in
     let b = g.V.Volume.device c.sync.new.self in
@@ -24,7 +25,7 @@ pub returns-clause-moments : goal.returns-clause-moments
 returns-clause-moments g c = λ told more.
     let tells = g.V.Volume.tells in
     let pages = c.args.pages in
-    let size : ℕ = 4096 * (930 + pages) in
+    let size : ℕ = 4096 * (first_element_page + pages) in
     let v = g.V.Volume.device c.args.vol.now in
     let a = g.V.Volume.device c.resize.new.self in
     let b = g.V.Volume.device c.sync.new.self in
@@ -41,7 +42,7 @@ pub returns-in_err-sync-2-clause-moments : goal.returns-in_err-sync-2-clause-mom
 returns-in_err-sync-2-clause-moments g c = λ told more.
     let tells = g.V.Volume.tells in
     let pages = c.args.pages in
-    let size : ℕ = 4096 * (930 + pages) in
+    let size : ℕ = 4096 * (first_element_page + pages) in
     let v = g.V.Volume.device c.args.vol.now in
     let a = g.V.Volume.device c.resize.new.self in
     let b = g.V.Volume.device c.sync.new.self in
@@ -58,7 +59,7 @@ pub returns-in_err-write_at-clause-moments : goal.returns-in_err-write_at-clause
 returns-in_err-write_at-clause-moments g c = λ told more.
     let tells = g.V.Volume.tells in
     let pages = c.args.pages in
-    let size : ℕ = 4096 * (930 + pages) in
+    let size : ℕ = 4096 * (first_element_page + pages) in
     let v = g.V.Volume.device c.args.vol.now in
     let a = g.V.Volume.device c.resize.new.self in
     let b = g.V.Volume.device c.sync.new.self in
