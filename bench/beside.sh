@@ -1,11 +1,13 @@
-# What the scripts share that measure `ts` beside other programs. They work in a folder of their own and have `ts` for the program.
+# What the scripts share that measure `ts` beside other programs. They work in a folder of their own and have `ts` for
+# the program.
 
 # has TOOL WHAT: whether the tool is here; where it isn't, what is left out.
 has() {
   [ -x "$(command -v "$1")" ] || { echo "left out, since $1 isn't installed: $2"; return 1; }
 }
 
-# counted VOLUME SCRIPT: how many instructions the run of a script takes. It changes nothing, and its replies stand in `replies`.
+# counted VOLUME SCRIPT: how many instructions the run of a script takes. It changes nothing, and its replies stand in
+# `replies`.
 counted() {
   valgrind --tool=callgrind --callgrind-out-file=/dev/null "$ts" "$1" run < "$2" 2> valgrind.log > replies
   awk '/Collected : / { print $NF }' valgrind.log
@@ -21,9 +23,9 @@ timed() {
 }
 median() { sort -n "$1.times" | sed -n 3p; }
 
-# beside WHAT FEWER MORE COUNT PEER..: five runs of two scripts in turns, by ts and by each peer: `run_NAME SCRIPT` runs one, and `rows_of_NAME`
-# gives the rows that it said, which are the same for all. What one of COUNT takes is the difference of the two scripts, so that starts and
-# openings aren't counted.
+# beside WHAT FEWER MORE COUNT PEER..: five runs of two scripts in turns, by ts and by each peer: `run_NAME SCRIPT` runs
+# one, and `rows_of_NAME` gives the rows that it said, which are the same for all. What one of COUNT takes is the
+# difference of the two scripts, so that starts and openings aren't counted.
 beside() {
   local what=$1 fewer=$2 more=$3 count=$4 turn script name
   shift 4

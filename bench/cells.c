@@ -1,5 +1,5 @@
-// The largest volume, as a series of one integer fills it, and what an opening has to do at least: read each page, look at each cell once,
-// and keep a directory of 24 bytes a page.
+// The largest volume, as a series of one integer fills it, and what an opening has to do at least: read each page, look
+// at each cell once, and keep a directory of 24 bytes a page.
 #include "volume.h"
 
 enum { CELL = 14, ROOM = 290, PAGES = 65536, USED = 65000, QUOTA = 65536 };

@@ -1,5 +1,5 @@
-// A year of quarter hours of a thousand meters as regular series of one integer, and what an opening has to do at least: read each page, look
-// at each cell once, and keep a directory of 24 bytes a page.
+// A year of quarter hours of a thousand meters as regular series of one integer, and what an opening has to do at
+// least: read each page, look at each cell once, and keep a directory of 24 bytes a page.
 #include "volume.h"
 
 enum { CELL = 6, ROOM = 677, METERS = 1000, DAYS = 364, OFFSETS = DAYS * 96, EACH = (OFFSETS + ROOM - 1) / ROOM,

@@ -1,5 +1,6 @@
-// What a check of the largest volume has to do at least, with as many judges as there are processors: read each page, one thread alone, in
-// lists of 4096; look at each cell once, every judge at its part of a list; and keep a directory of 24 bytes a page.
+// What a check of the largest volume has to do at least, with as many judges as there are processors: read each page,
+// one thread alone, in lists of 4096; look at each cell once, every judge at its part of a list; and keep a directory
+// of 24 bytes a page.
 #include "volume.h"
 #include <pthread.h>
 

@@ -1,4 +1,5 @@
-// A volume of 65000 element pages that 4096 irregular series of one integer share, all in one container: 15 or 17 pages each.
+// A volume of 65000 element pages that 4096 irregular series of one integer share, all in one container: 15 or 17 pages
+// each.
 #include "volume.h"
 
 enum { CELL = 14, ROOM = 290, PAGES = 65536, USED = 65000, SERIES = 4096, SLOT = 94, IN_PAGE = 43, FIRST_SERIES_PAGE = 834,

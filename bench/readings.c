@@ -1,5 +1,5 @@
-// A volume with an irregular and a regular series of a million elements of one integer, both at the same quarter hours; and their rows as
-// text.
+// A volume with an irregular and a regular series of a million elements of one integer, both at the same quarter hours;
+// and their rows as text.
 #include "volume.h"
 
 // An irregular page has room for 290 cells; edits in any order leave it with some 200.
@@ -59,8 +59,8 @@ static void stamp(uint32_t n, char text[64]) {
   snprintf(text, 64, "%04d-%02d-%02d %02d:%02d:00", year, month + 1, day + 1, n % 96 / 4, n % 4 * 15);
 }
 
-// rows FROM TO STEP FORMAT: a line for each element of the numbers from one up to another, going on by so many round the million; in the
-// format %1$s stands for the stamp, %2$u for the number.
+// rows FROM TO STEP FORMAT: a line for each element of the numbers from one up to another, going on by so many round
+// the million; in the format %1$s stands for the stamp, %2$u for the number.
 static int rows(char **words) {
   uint32_t from = strtoul(words[0], 0, 10), to = strtoul(words[1], 0, 10), step = strtoul(words[2], 0, 10);
   for (uint32_t i = from; i < to; i++) {

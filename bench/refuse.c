@@ -1,5 +1,5 @@
-// Refuses one request for memory of a program that it is loaded under: the one whose number REFUSE has, counted from 1 from the start of
-// `main` on. At the end the file that REFUSED names gets a line with how many requests there were.
+// Refuses one request for memory of a program that it is loaded under: the one whose number REFUSE has, counted from 1
+// from the start of `main` on. At the end the file that REFUSED names gets a line with how many requests there were.
 #define _GNU_SOURCE
 #include <dlfcn.h>
 #include <errno.h>

@@ -1,4 +1,5 @@
-// Makes the writes and syncs on a file that a trace names, one a line: `w OFFSET LENGTH` and `s`; with zeros for the bytes.
+// Makes the writes and syncs on a file that a trace names, one a line: `w OFFSET LENGTH` and `s`; with zeros for the
+// bytes.
 #include <fcntl.h>
 #include <stdio.h>
 #include <stdlib.h>

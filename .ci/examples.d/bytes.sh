@@ -1,8 +1,8 @@
 # shellcheck shell=bash
 # What stands in the bytes of a volume, and which bytes are no store: elements, definitions, irregular series.
 
-# A volume that means no catalogue: the kind of an element page, the header, a row type, a container, and an open gate with a record
-# of four bytes.
+# A volume that means no catalogue: the kind of an element page, the header, a row type, a container, and an open gate
+# with a record of four bytes.
 echo "GetNelems('n');" > ask.script
 while read -r place bytes; do
   rm -f new.volume
@@ -38,7 +38,8 @@ input=hand.script wants "definitions by hand: a series of texts" 0 "$ts" hand.vo
 same "definitions by hand: a series of texts: reply" said wanted
 rm hand.volume
 
-# An element stands where the format has it, once an opening has settled the journal: the head of its page, and its cell.
+# An element stands where the format has it, once an opening has settled the journal: the head of its page, and its
+# cell.
 # stands NAME WANTED FROM COUNT: these bytes stand in the one element page, from a byte of it on.
 stands() {
   od -An -v -tx1 -j "$((930 * 4096 + $3))" -N "$4" one.volume | tr -d ' \n' > said
@@ -55,7 +56,8 @@ wants "one element: the journal is settled" 0 "$ts" one.volume run
 stands "the head of a page" 0200000001000000 0 8
 stands "a cell" 01000075b09553f0000100000005 32 14
 
-# after NAME SCRIPT CELL: the page after this script has that head and this cell alone, once an opening has settled the journal.
+# after NAME SCRIPT CELL: the page after this script has that head and this cell alone, once an opening has settled the
+# journal.
 after() {
   echo "$2" > one.script
   input=one.script wants "$1: run" 0 "$ts" one.volume run

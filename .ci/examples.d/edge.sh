@@ -7,14 +7,16 @@ cp first_readings.volume before
 [ $? -eq 11 ] && passed=$((passed + 1)) || { failed=$((failed + 1)); echo "FAILED: closed standard output"; }
 same "closed standard output leaves the volume" before first_readings.volume
 
-# The edge of the program: nothing that is said lands in a volume, what is no volume isn't opened, and each line says what to do.
+# The edge of the program: nothing that is said lands in a volume, what is no volume isn't opened, and each line says
+# what to do.
 mkdir path
 ln -s "$ts" path/ts
 # line TEXT: what a user types.
 line() {
   PATH="$folder/path:$PATH" bash -c "$1"
 }
-# types LINE STATUS [COMPLAINT]: the line ends with this status and just this complaint, or with none, and leaves the volume a.v.
+# types LINE STATUS [COMPLAINT]: the line ends with this status and just this complaint, or with none, and leaves the
+# volume a.v.
 types() {
   cp a.v untouched.v
   printf '%s' "${3:+ts: $3$'\n'}" > wanted
@@ -140,7 +142,8 @@ echo "ok 1" > wanted
 same "a limit on file sizes: what it holds" said wanted
 wants "a limit on file sizes: what is said" 0 line 'ulimit -f 3900; ts limited.v run < put.script'
 
-# A standard stream that doesn't block is waited for. `dd` sets that on the pipe, and fdinfo shows it (the flag is 4000).
+# A standard stream that doesn't block is waited for. `dd` sets that on the pipe, and fdinfo shows it (the flag is
+# 4000).
 for number in $(seq 10000); do echo "GetElem('x','2011-02-01 00:00:00');"; done > many.script
 is_set='grep -q "^flags:.*4...$" /proc/$BASHPID/fdinfo'
 types "set -o pipefail; { dd oflag=nonblock count=0 status=none < /dev/null && $is_set/1 && ts a.v run < many.script; } |
@@ -152,8 +155,8 @@ types "{ sleep 1; cat count.script; sleep 1; cat count.script; } |
 printf 'ok 1\nok 1\n' > wanted
 same "an input that doesn't block" said wanted
 
-# A check of a script needs no volume. A statement that is too long is told where the grammar refuses it, and else where it breaks
-# off; an output that doesn't block is waited for.
+# A check of a script needs no volume. A statement that is too long is told where the grammar refuses it, and else where
+# it breaks off; an output that doesn't block is waited for.
 many() {
   head -c 65536 /dev/zero | tr '\0' "$1"
 }

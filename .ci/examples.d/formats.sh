@@ -6,8 +6,8 @@ head -c 3813376 /dev/zero > zeros.volume
 wants "a volume of zeros" 6 "$ts" zeros.volume run
 wants "a volume of zeros: migrate" 6 "$ts" zeros.volume migrate
 
-# A volume of the old format, as `init` of an earlier version made it: readings leave it byte by byte, and `migrate` makes it take
-# what only the newest format has. Its second run changes nothing.
+# A volume of the old format, as `init` of an earlier version made it: readings leave it byte by byte, and `migrate`
+# makes it take what only the newest format has. Its second run changes nothing.
 wants "an old volume: init" 0 "$ts" old.volume init 8
 in_format 1 old.volume
 {
@@ -33,7 +33,8 @@ cp old.volume before
 wants "a migrated volume: migrate" 0 "$ts" old.volume migrate
 same "migrate leaves a volume of the newest format" before old.volume
 
-# Elements are hidden once a volume is migrated: a mark may be set twice, and what is hidden counts but for the readings.
+# Elements are hidden once a volume is migrated: a mark may be set twice, and what is hidden counts but for the
+# readings.
 series="CreateRowType(rd, t datetime, v integer);TSContainerCreate(c1, rd, 8);TSCreateIrr('x', c1);TSCreateIrr('y', c1);"
 wants "marks: init" 0 "$ts" marks.volume init 8
 in_format 1 marks.volume

@@ -1,7 +1,8 @@
 # shellcheck shell=bash
 # The generated script.
 
-# The generated script twice, each time on a new volume: the same bytes, which are the sums that awk makes of the same numbers.
+# The generated script twice, each time on a new volume: the same bytes, which are the sums that awk makes of the same
+# numbers.
 awk -v count=5000 -v seed=7 '
   function next_of(x) { return (1103515245 * int(x / 65536) % 2147483648 * 65536 + 1103515245 * (x % 65536) + 12345) % 2147483648 }
   function stamp(seconds,  day, month) {
@@ -32,7 +33,8 @@ for turn in first second; do
   same "the $turn generated script: replies" said generated.replies
   [ $turn = second ] || rm generated.volume
 done
-# What is there is refused, and the edits go on: the regular series has its element again, the irregular one has it beside itself.
+# What is there is refused, and the edits go on: the regular series has its element again, the irregular one has it
+# beside itself.
 wants "generated twice: init" 0 "$ts" twice.volume init 4096
 for turn in first second; do
   wants "generated twice: the $turn" 0 "$ts" twice.volume gen 2 1

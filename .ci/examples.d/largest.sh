@@ -1,8 +1,8 @@
 # shellcheck shell=bash
 # A million intervals, the largest volume, and as many series as there may be.
 
-# A million elements in as many intervals are a reply, which a Clip says as well, and sums over one element and expressions do; with one more
-# they are too many. The volume is made by hand.
+# A million elements in as many intervals are a reply, which a Clip says as well, and sums over one element and
+# expressions do; with one more they are too many. The volume is made by hand.
 if command -v cc > /dev/null; then
   cc -O2 -o readings "$top/bench/readings.c" && ./readings fill million.volume
   from=2011-01-03 to=2040-01-01

@@ -12,7 +12,8 @@ echo "CreateCalendar(s, 'startdate(2011-01-03 00:00:00), pattstart(2011-01-03 00
 input=large.script wants "a million rows: run" 0 "$ts" sound.volume run
 same "a million rows" said large.replies
 
-# So are a Clip of a regular series and a Union: by seconds, with elements at both ends; and with the weeks, whose elements stand at each second.
+# So are a Clip of a regular series and a Union: by seconds, with elements at both ends; and with the weeks, whose
+# elements stand at each second.
 wants "a million entries: init" 0 "$ts" large.volume init 4
 {
   echo "CreateRowType(rd, t datetime, v integer); TSContainerCreate(c1, rd, 4);"

@@ -54,7 +54,8 @@ printf '%s, pattern({%s},second)\nok\n{256 on},day\nok\nerror 33 TooMany\n' "$da
 input=many.script wants "256 patterns: the next run" 0 "$ts" many.volume run
 same "the next run has them" said many.replies
 
-# A calendar by the name of a pattern whose slot is emptied, one that breaks a rule, and patterns that break their form: no store.
+# A calendar by the name of a pattern whose slot is emptied, one that breaks a rule, and patterns that break their form:
+# no store.
 # broken NAME PAGE BYTE BYTES: a copy of the volume with these bytes at a byte of a page is refused.
 broken() {
   cp sound.volume broken.volume

@@ -1,8 +1,8 @@
 # shellcheck shell=bash
 # Series beside plain lists that awk keeps: irregular and regular ones, and two as one.
 
-# Readings of a plain list, for the two tests below: an entry's line by its number, nothing where the list has none; and how many numbers there are.
-# They want a function `line` of a number, `stamp_at` of a number, and `says`.
+# Readings of a plain list, for the two tests below: an entry's line by its number, nothing where the list has none; and
+# how many numbers there are. They want a function `line` of a number, `stamp_at` of a number, and `says`.
 readings='
   function clip(from, to,   k, n, text) {
     for (k = from; k <= to; k++) if (line(k) != "") { text = text line(k) "\n"; n++ }
@@ -53,8 +53,10 @@ readings='
     nth(room)
   }'
 
-# A series of many pages against a plain list, which awk keeps: filled in one order, read whole, run after run, and emptied in another one.
-# chain FILL EMPTY COUNT ROOM TYPES VALUES: so many elements, so many of which a page has room for. The volume has just the charged pages.
+# A series of many pages against a plain list, which awk keeps: filled in one order, read whole, run after run, and
+# emptied in another one.
+# chain FILL EMPTY COUNT ROOM TYPES VALUES: so many elements, so many of which a page has room for. The volume has just
+# the charged pages.
 chain() {
   local name="$3 elements of $4 a page, filled $1 and emptied $2" charge=$(($3 == 0 ? 0 : 2 * (($3 + $4 - 1) / $4) - 1))
   wants "$name: init" 0 "$ts" chain.volume init "$charge"
@@ -119,8 +121,8 @@ done
 chain mixed mixed 2000 290 "" ""
 chain rising falling 2000 290 "" ""
 
-# A regular series against a plain list, which awk keeps: each fifteenth minute is on, and every element is put somewhere in its interval. A page
-# has cells for so many offsets.
+# A regular series against a plain list, which awk keeps: each fifteenth minute is on, and every element is put
+# somewhere in its interval. A page has cells for so many offsets.
 # grid FILL EMPTY COUNT ROOM TYPES VALUES: so many elements.
 grid() {
   local name="$3 offsets, $4 a page, filled $1 and emptied $2" charge=$((($3 + $4 - 1) / $4))
@@ -194,10 +196,10 @@ for fill in rising falling mixed; do
 done
 grid mixed mixed 2000 677 "" ""
 
-# Two series as one, and a series against itself, beside plain lists that awk keeps: quarter hours, every other day, and minutes that are
-# multiples of 5 and of 7; five elements a page. Whether an element is there goes by its number.
-# Where both are regular, what stands in an interval stands at each minute of it, or where both go by days at each day; else an element stands
-# where its interval begins.
+# Two series as one, and a series against itself, beside plain lists that awk keeps: quarter hours, every other day, and
+# minutes that are multiples of 5 and of 7; five elements a page. Whether an element is there goes by its number.
+# Where both are regular, what stands in an interval stands at each minute of it, or where both go by days at each day;
+# else an element stands where its interval begins.
 wants "joined series: init" 0 "$ts" joined.volume init 500
 awk -v types="$wide" -v values=",'p','','u'" '
   function says(statement, reply) { print statement > "joined.script"; print reply > "joined.replies" }

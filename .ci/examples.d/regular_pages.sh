@@ -1,7 +1,8 @@
 # shellcheck shell=bash
 # Pages of regular series in bytes, and those that break a rule.
 
-# A page of a regular series stands where the format has it: its head, and its first three cells. The first offset of the page is 677.
+# A page of a regular series stands where the format has it: its head, and its first three cells. The first offset of
+# the page is 677.
 rm -f one.volume
 wants "a regular page: init" 0 "$ts" one.volume init 1
 {

@@ -1,7 +1,8 @@
 # shellcheck shell=bash
 # Each example of a script, and of words, with its replies.
 
-# Each example on a volume of its own, of as many pages as it says, or else 8, and of the format that it says, or else the newest.
+# Each example on a volume of its own, of as many pages as it says, or else 8, and of the format that it says, or else
+# the newest.
 for script in "$top"/examples/*.script; do
   name=$(basename "$script" .script)
   pages=8

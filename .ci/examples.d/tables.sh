@@ -1,8 +1,8 @@
 # shellcheck shell=bash
 # Tables in and out: from_csv and to_csv.
 
-# A table goes in: a file with quotes, empty fields and bad lines, each of which is named, and all others are there. What a Clip of them says
-# comes out as a table again, and that one goes in and comes out as it is.
+# A table goes in: a file with quotes, empty fields and bad lines, each of which is named, and all others are there.
+# What a Clip of them says comes out as a table again, and that one goes in and comes out as it is.
 
 # taken VOLUME STATEMENTS KEY: a new volume takes the statements, and a Clip of the series is said.
 taken() {
@@ -38,7 +38,8 @@ same "a table out again: the same records" said back.csv
 input=dos.csv tells "a table of DOS" 1 "$examples/readings.complaints" "$examples/from_csv" --key 'meter 7' --stamp time --number kwh --text note
 same "a table of DOS: statements" said "$examples/readings.statements"
 
-# A regular series has entries without an element: they come out as records without values, and such records can be left out.
+# A regular series has entries without an element: they come out as records without values, and such records can be left
+# out.
 cat > keys.csv << 'CSV'
 "the key, of the meter",when,kwh,"a ""note"""
 meter '8',2011-01-03 04:00:00,4,"; DropSeries('meter 7');"

@@ -28,7 +28,8 @@ same() {
   fi
 }
 
-# tells NAME STATUS COMPLAINTS COMMAND..: the command ends with this status, and says just these lines on standard error.
+# tells NAME STATUS COMPLAINTS COMMAND..: the command ends with this status, and says just these lines on standard
+# error.
 tells() {
   local name=$1 status=$2 complaints=$3
   shift 3
