@@ -14,6 +14,7 @@ use Rattle.ts_row.specs.Row.{Row}
 use Rattle.ts_row.specs.Element.{Element}
 use Rattle.ts_cells.specs.Cell.{IsElement, page_room}
 use Rattle.ts_cells.specs.IrregularPage.{AreElements, irregular_page, first_stamp}
+use Rattle.ts_page.specs.Volume.{first_element_page}
 use Rattle.ts_irregular.specs.OnePage.{IsPlace}
 use Rattle.ts_chain.specs.Chain.{all_in, IsDense}
 use Rattle.ts_chain.specs.Places.{AreChained, ArePlaces, FitsFirst, FitsLast, IsTarget}
@@ -83,7 +84,7 @@ module _ (at : ℤ) (places : List Place) (index : ℕ) (columns : List Column) 
       let is = are.each index first (target_within at places index t) in
       let same : (get_or places index first).page ≡ first.page = ap (λ (p : Place). p.page) (target_get at places index first t) ∙ sym own in
       record {
-        element = subst (λ (n : ℕ). 930 ≤ n) same is.element;
+        element = subst (λ (n : ℕ). first_element_page ≤ n) same is.element;
         below = subst (λ (n : ℕ). n < v.count) same is.below;
         used = subst (λ (n : ℕ). ¬ Contains v.free n) same is.used;
         some = some;

@@ -7,6 +7,7 @@ use Rattle.ts_page.specs.Pages.{Contents, EqualPages, with_page, Taken, IsLawful
 use Rattle.ts_row.specs.declared.kind.Column.{Column}
 use Rattle.ts_cells.specs.Cell.{Element}
 use Rattle.ts_cells.specs.IrregularPage.{irregular_page}
+use Rattle.ts_page.specs.Volume.{first_element_page}
 use Rattle.ts_irregular.specs.OnePage.{place_of}
 use Rattle.ts_irregular.specs.Call.{IsPagePut, AreKept}
 
@@ -39,7 +40,7 @@ pub some_same : {a b : ℤ} → ◌≡◌ {A = Option ℤ} (Some a) (Some b) →
 some_same e = cc
 
 -- a page that is taken can be put
-pub taken_element : (tells : Bool) (number : ℕ) (v w : Contents) → IsLawful tells v → Taken tells number v w → (930 ≤ number) × (number < w.count) × (Contains w.free number → ⊥)
+pub taken_element : (tells : Bool) (number : ℕ) (v w : Contents) → IsLawful tells v → Taken tells number v w → (first_element_page ≤ number) × (number < w.count) × (Contains w.free number → ⊥)
 taken_element tells number v w lawful taken =
     let listed = subst (λ (l : List ℕ). All (IsListed tells v) l) taken.listed lawful.listed in
     let different = subst (λ (l : List ℕ). AllPairs (λ a b. a ≢ b) l) taken.listed lawful.different in

@@ -5,6 +5,7 @@ use Rattle.std.specs.Int.{to_be_bytes, w32}
 use Rattle.std.proofs.lemmas.Nat.{from_be_bytes-to_be_bytes_4}
 use Rattle.std.proofs.lemmas.Bool.{cond-true, and_from, and_right, not_from_false, le-leb, lt-leb, lt-ltb}
 use Rattle.std.proofs.lemmas.List.{take_at, drop_at}
+use Rattle.ts_page.specs.Volume.{first_element_page}
 use Rattle.ts_journal.specs.declared.batch.Change.TheVariants.{Image, Free}
 use Rattle.ts_journal.specs.Entry.{Entry, IsRising, IsWhole, AreWhole, IsAllowed, AreAllowed, is_region, entry_bytes, entries_bytes}
 use Rattle.ts_journal.specs.Record.{entry_if_any, first_entry, entries_in}
@@ -34,7 +35,7 @@ entry_read count least (number, Free) rest small from allowed whole =
     cond-true _ _ _ (le-leb 5 (length (entry_bytes (number, Free) ++ rest)) (omega (arith, long)))
     ∙ ap (λ (n : ℕ). entry_if_any count least 2 n rest) (from_be_bytes-to_be_bytes_4 number (omega (arith, small, allowed.below)))
     ∙ cond-true _ _ _ (numbered count least number from allowed.below allowed.outside)
-    ∙ cond-true _ _ _ (le-leb 930 number allowed.freeable)
+    ∙ cond-true _ _ _ (le-leb first_element_page number allowed.freeable)
 
 -- one entry more is read, or none
 pub entries_step : (most count least byte : ℕ) (bytes : List ℕ) (e : Entry) → first_entry count least (byte ∷ bytes) ≡ Some e

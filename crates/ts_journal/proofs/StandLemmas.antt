@@ -10,6 +10,7 @@ use Rattle.std.proofs.lemmas.List.{get_or-take, get_or-drop, get_or_past, length
 use Rattle.std.proofs.Math.Seq.{take-add}
 use Rattle.ts_page.specs.Head.{bytes_at}
 use Rattle.ts_page.specs.Pages.{is_region}
+use Rattle.ts_page.specs.Volume.{first_element_page}
 use Rattle.ts_journal.specs.declared.batch.Change.TheVariants.{Image, Free}
 use Rattle.ts_journal.specs.Gate.{is_open}
 use Rattle.ts_journal.specs.Entry.{Entry, IsRising, IsWhole, AreWhole, IsAllowed, AreAllowed, entry_bytes, entries_bytes}
@@ -86,7 +87,7 @@ module _ (count least : ℕ) (bytes : List ℕ) (small : AreBytes bytes) where
         same = ap (λ (n : ℕ). take n bytes) own ∙ take-add 5 4096 bytes ∙ ap (λ (l : List ℕ). l ++ page) (front_is 1 long is);
       }
 
-  freed_parts : 5 ≤ length bytes → tests ≡ true → kind ≡ 2 → 930 ≤ number → EntryParts count least bytes (number, Free)
+  freed_parts : 5 ≤ length bytes → tests ≡ true → kind ≡ 2 → first_element_page ≤ number → EntryParts count least bytes (number, Free)
   freed_parts long passes is element = record {
     allowed = record { below = (below_from passes).0; outside = outside passes; freeable = element };
     from = (below_from passes).1;
@@ -95,7 +96,7 @@ module _ (count least : ℕ) (bytes : List ℕ) (small : AreBytes bytes) where
   }
 
   abbrev freed_only : Option Entry
-  freed_only = cond ((kind == 2) && leb 930 number) (Some (number, Free)) None
+  freed_only = cond ((kind == 2) && leb first_element_page number) (Some (number, Free)) None
 
   abbrev image_or_freed : Option Entry
   image_or_freed = cond ((kind == 1) && leb 4096 (length (drop 5 bytes))) (Some image) freed_only
@@ -111,9 +112,9 @@ module _ (count least : ℕ) (bytes : List ℕ) (small : AreBytes bytes) where
       let both = and_parts (kind == 1) (leb 4096 (length (drop 5 bytes))) found.0 in
       subst (EntryParts count least bytes) (same_Some image e found.1) (image_parts long passed.0 (eqb-true kind 1 both.0) (leb-true 4096 (length (drop 5 bytes)) both.1)))
       (λ last.
-      let found = tested ((kind == 2) && leb 930 number) (Some (number, Free)) e last in
-      let both = and_parts (kind == 2) (leb 930 number) found.0 in
-      subst (EntryParts count least bytes) (same_Some (number, Free) e found.1) (freed_parts long passed.0 (eqb-true kind 2 both.0) (leb-true 930 number both.1)))
+      let found = tested ((kind == 2) && leb first_element_page number) (Some (number, Free)) e last in
+      let both = and_parts (kind == 2) (leb first_element_page number) found.0 in
+      subst (EntryParts count least bytes) (same_Some (number, Free) e found.1) (freed_parts long passed.0 (eqb-true kind 2 both.0) (leb-true first_element_page number both.1)))
       (either ((kind == 1) && leb 4096 (length (drop 5 bytes))) (Some image) freed_only e passed.1)
 
 -- so do entries

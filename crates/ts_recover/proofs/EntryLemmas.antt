@@ -4,6 +4,7 @@ use Rattle.std.specs.Int.{from_be_bytes, w32}
 use Rattle.std.proofs.lemmas.Bool.{cond-true, cond-false, le-leb, lt-leb}
 use Rattle.std.proofs.lemmas.List.{take-take, drop-take, drop-drop, get_or-take, length-replicate, length-take-le}
 use Rattle.ts_page.specs.Head.{bytes_at, zero_page}
+use Rattle.ts_page.specs.Volume.{first_element_page}
 use Rattle.ts_journal.specs.declared.batch.Change.TheVariants.{Image, Free}
 use Rattle.ts_journal.specs.Entry.{is_region}
 use Rattle.ts_journal.specs.Record.{entry_if_any, first_entry}
@@ -36,11 +37,11 @@ module _ (bytes : List ℕ) (count least left kind no : ℕ) (len : length bytes
   unfolding entry_if_any
   an_image good image = front ∙ cond-true _ _ _ good ∙ cond-true _ _ _ (ap (λ (n : ℕ). eqb kind 1 && leb 4096 n) behind ∙ image)
 
-  pub a_freed : tests ≡ true → (eqb kind 1 && leb 4096 (left - 5)) ≡ false → (eqb kind 2 && leb 930 no) ≡ true → first_entry count least bytes ≡ Some (no, Free)
+  pub a_freed : tests ≡ true → (eqb kind 1 && leb 4096 (left - 5)) ≡ false → (eqb kind 2 && leb first_element_page no) ≡ true → first_entry count least bytes ≡ Some (no, Free)
   unfolding entry_if_any
   a_freed good image freed = front ∙ cond-true _ _ _ good ∙ cond-false _ _ _ (ap (λ (n : ℕ). eqb kind 1 && leb 4096 n) behind ∙ image) ∙ cond-true _ _ _ freed
 
-  pub neither : tests ≡ true → (eqb kind 1 && leb 4096 (left - 5)) ≡ false → (eqb kind 2 && leb 930 no) ≡ false → first_entry count least bytes ≡ None
+  pub neither : tests ≡ true → (eqb kind 1 && leb 4096 (left - 5)) ≡ false → (eqb kind 2 && leb first_element_page no) ≡ false → first_entry count least bytes ≡ None
   unfolding entry_if_any
   neither good image freed = front ∙ cond-true _ _ _ good ∙ cond-false _ _ _ (ap (λ (n : ℕ). eqb kind 1 && leb 4096 n) behind ∙ image) ∙ cond-false _ _ _ freed
 
@@ -89,8 +90,8 @@ module _ (held : List ℕ) (at left : ℕ) (fits : at + left ≤ length held) (e
       ap (λ (l : List ℕ). Some (no, Image (record { bytes = l }))) (is ∙ sym (image_is held at left enough into five read more))
       ∙ sym (an_image part count least left (get_or into 0 0) no part_length enough kind_at number_at good image)
 
-  pub found_freed : passes ≡ true → (eqb (get_or into 0 0) 1 && leb 4096 (left - 5)) ≡ false → (eqb (get_or into 0 0) 2 && leb 930 no) ≡ true → Some (no, Free) ≡ first_entry count least part
+  pub found_freed : passes ≡ true → (eqb (get_or into 0 0) 1 && leb 4096 (left - 5)) ≡ false → (eqb (get_or into 0 0) 2 && leb first_element_page no) ≡ true → Some (no, Free) ≡ first_entry count least part
   found_freed good image freed = sym (a_freed part count least left (get_or into 0 0) no part_length enough kind_at number_at good image freed)
 
-  pub found_neither : passes ≡ true → (eqb (get_or into 0 0) 1 && leb 4096 (left - 5)) ≡ false → (eqb (get_or into 0 0) 2 && leb 930 no) ≡ false → None ≡ first_entry count least part
+  pub found_neither : passes ≡ true → (eqb (get_or into 0 0) 1 && leb 4096 (left - 5)) ≡ false → (eqb (get_or into 0 0) 2 && leb first_element_page no) ≡ false → None ≡ first_entry count least part
   found_neither good image freed = sym (neither part count least left (get_or into 0 0) no part_length enough kind_at number_at good image freed)

@@ -14,6 +14,7 @@ use Rattle.ts_page.specs.Pages.{Contents, EqualPages, with_page, Got, Put, Taken
 use Rattle.ts_row.specs.declared.kind.Column.{Column}
 use Rattle.ts_row.specs.RowType.{width_of}
 use Rattle.ts_row.specs.Row.{Row, fits, marked}
+use Rattle.ts_page.specs.Volume.{first_element_page}
 use Rattle.ts_regular.specs.Cell.{Cell, FitsCell, cell_bytes, cell_size, regular_room}
 use Rattle.ts_regular.specs.RegularPage.{AreCells, IsRegularPage, cells_bytes, behind_head, filled_count, regular_page}
 use Rattle.ts_regular.specs.Places.{OffsetPage, IsOn, IsCounted, IsPlace, ArePlaces}
@@ -117,7 +118,7 @@ behind_zeros columns =
     ∙ ap (λ (l : List ℕ). l ++ replicate (4064 - cell_size columns * length (no_cells columns)) 0) (sym (no_bytes columns n))
 
 -- a page that is taken can be put
-pub taken_element : (tells : Bool) (number : ℕ) (v w : Contents) → IsLawful tells v → Taken tells number v w → (930 ≤ number) × (number < w.count) × (Contains w.free number → ⊥)
+pub taken_element : (tells : Bool) (number : ℕ) (v w : Contents) → IsLawful tells v → Taken tells number v w → (first_element_page ≤ number) × (number < w.count) × (Contains w.free number → ⊥)
 taken_element tells number v w lawful taken =
     let listed = subst (λ (l : List ℕ). All (IsListed tells v) l) taken.listed lawful.listed in
     let different = subst (λ (l : List ℕ). AllPairs (λ a b. a ≢ b) l) taken.listed lawful.different in
@@ -169,7 +170,7 @@ alone_on tells slot columns base index number count row at bytes v u w small beg
 }
 
 -- a page that is the only one of a series, where `take` can give none
-pub one_place : (columns : List Column) (c : Contents) (place : Place) → 930 ≤ place.page → place.page < c.count → length c.free ≡ 0 → 1 ≤ place.count → place.count ≤ regular_room columns → ArePlaces columns c (place ∷ [])
+pub one_place : (columns : List Column) (c : Contents) (place : Place) → first_element_page ≤ place.page → place.page < c.count → length c.free ≡ 0 → 1 ≤ place.count → place.count ≤ regular_room columns → ArePlaces columns c (place ∷ [])
 one_place columns c place element below free some room = record {
   each = All-cons (IsPlace columns c) place [] (record {
     readable = record { element = element; below = below };

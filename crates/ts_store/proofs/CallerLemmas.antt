@@ -3,6 +3,7 @@ use Rattle.std.proofs.Common.{◌≡◌, ℕ, ◌*◌, ◌<◌, ◌≤◌, Bool,
 use Rattle.ts_disk.specs.Device.{Device, Only}
 use Rattle.ts_page.specs.Pages.{IsLawful, SameButFreed}
 use Rattle.ts_page.proofs.PagesLemmas.{lawful_same, same_trans, same_from_equal}
+use Rattle.ts_page.specs.Volume.{first_element_page}
 use Rattle.ts_journal.specs.Entry.{Entry, AreAllowed, entries_bytes, over, put_all}
 use Rattle.ts_journal.specs.Journal.{IsVolumeSize, page_count, own_page, records, pages, StandsOver, ReadsButFreed}
 use Rattle.ts_journal.specs.Moment.{OnlyReads}
@@ -74,7 +75,7 @@ over_prepared tells s t d is over =
     })
 
 -- each volume has an element page
-pub first_element : (tells : Bool) (s : State) (d : Device) → IsOver tells s d → 930 < s.pages
+pub first_element : (tells : Bool) (s : State) (d : Device) → IsOver tells s d → first_element_page < s.pages
 first_element tells s d over = omega (arith, over.read.size, over.read.volume.1, over.read.volume.3)
 
 -- once their batch is dropped, the pages and those that can be taken are as they were
