@@ -21,7 +21,8 @@ use ts_expr::Tally;
 use ts_row::{ColumnKind, Value};
 
 /// Takes the values of a column, as long as there are no more than 2^32 that are counted. What is known of its numbers
-/// may be known before, and is told; the least and the greatest are sought if they are wanted, or where they are needed.
+/// may be known before, and is told; the least and the greatest are sought if they are wanted, or where they are
+/// needed.
 pub(crate) fn take_column(
     alloc: Global,
     tally: &mut Tally,

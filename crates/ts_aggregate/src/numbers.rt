@@ -92,7 +92,8 @@ pub(crate) fn totals_of(cells: Cells<'_>, kind: ColumnKind, sought: bool) -> Tot
     sized_totals(cells, size_of(kind), sought)
 }
 
-// The same of numbers of a size.
+// The same of numbers of a size. It stands by itself, so that its loops have all registers.
+#[inline(never)]
 fn sized_totals(cells: Cells<'_>, size: NumberSize, sought: bool) -> Totals
     requires few { cells.left ≤ 4064 }
     requires whole { AreWhole cells }
@@ -155,9 +156,9 @@ fn short_totals(cells: Cells<'_>, size: NumberSize, sought: bool) -> Totals
         greatest: i64::MIN,
     };
     while left > 0 {
-        left -= 1;
         let (cell, rest) = bytes.split_at(position.size);
         bytes = rest;
+        left -= 1;
         if has_value(position, cell) {
             let number = short_number_of_size(size, bytes_of(position, cell));
             so_far = with_short_number(so_far, number, sought);
@@ -239,9 +240,9 @@ fn long_totals(cells: Cells<'_>, size: NumberSize, sought: bool) -> Totals
         greatest: i128::MIN,
     };
     while left > 0 {
-        left -= 1;
         let (cell, rest) = bytes.split_at(position.size);
         bytes = rest;
+        left -= 1;
         if has_value(position, cell) {
             let number = number_of_size(size, bytes_of(position, cell));
             so_far = with_number(so_far, number, sought);
