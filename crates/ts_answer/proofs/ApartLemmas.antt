@@ -11,7 +11,7 @@ use Rattle.ts_model.specs.declared.kind.Kind.{Kind}
 use Rattle.ts_model.specs.declared.kind.Kind.TheVariants as kinds
 use Rattle.ts_model.specs.Catalogue.{Catalogue}
 use Rattle.ts_command.specs.Script.{Request}
-use Rattle.ts_answer.specs.Answer.{Tried, Answered, ◌>>=◌, settled, outcome, carried_out, create_row_type, drop_definition, create_pattern, turn_pattern, join_patterns, show_pattern, create_calendar, join_calendars, show_calendar, count_starts, find_start, list_starts, create_container, container_usage, create_irregular, create_regular, drop_series, list_series, put_element, put_no_dups, insert_element, update_element, delete_element, delete_range, mark_element, get_element, get_last_element, count_elements, get_first_element, get_nth_element, clip_series, count_clip, clip_counted, join_series, lag_series, aggregate_by, aggregate_range, aggregate_all, running_values, apply_exprs}
+use Rattle.ts_answer.specs.Answer.{Tried, Answered, ◌>>=◌, settled, outcome, carried_out, create_row_type, drop_definition, create_pattern, turn_pattern, join_patterns, show_pattern, create_calendar, join_calendars, show_calendar, count_starts, find_start, list_starts, create_container, container_usage, create_irregular, create_regular, drop_series, list_series, put_element, put_no_dups, insert_element, update_element, delete_element, delete_range, mark_element, get_element, get_last_element, count_elements, get_first_element, get_nth_element, clip_series, count_clip, clip_counted, join_series, lag_series, aggregate_by, aggregate_range, aggregate_all, running_values, apply_exprs, roll_create, roll_put, roll_clip, roll_drop}
 use Rattle.ts_answer.specs.State.{State, run_outcome, run_answer}
 use Rattle.ts_answer.proofs.StateLemmas.{IsSaidSo, run_said}
 use Rattle.ts_answer.proofs.ReplyLemmas.{IsApart, Begins, apart-begins, ok-begins, count-begins, counts-begins, number-begins, stamp-begins, pattern-begins, calendar-begins, stamps-begin, elements-begin, entries-begin, series_text-begins, folded-begin, series_folded-begin, refusal-apart}
@@ -185,6 +185,23 @@ apply_exprs-differs : (text key : List ℕ) (from to : ℤ) (cat : Catalogue) �
 unfolding apply_exprs
 apply_exprs-differs text key from to cat = then _ _ (λ exprs. then _ _ (λ series. then _ _ (λ b. then _ _ (λ es. then _ _ (λ rows. folded-begin _ rows)))))
 
+roll_create-differs : (set calendar : List ℕ) (origin : ℤ) (container : List ℕ) (n : ℕ) (cat : Catalogue) → Differs (roll_create set calendar origin container n cat)
+unfolding roll_create
+roll_create-differs set calendar origin container n cat = then _ _ (λ a. then _ _ (λ b. then _ _ (λ c. create_regular-differs _ calendar origin container cat)))
+
+roll_put-differs : (set : List ℕ) (stamp : ℤ) (literals : List Literal) (cat : Catalogue) → Differs (roll_put set stamp literals cat)
+unfolding roll_put
+roll_put-differs set stamp literals cat =
+    then _ _ (λ a. then _ _ (λ b. then _ _ (λ c. then _ _ (λ d. then _ _ (λ made. put_no_dups-differs _ stamp literals made)))))
+
+roll_clip-differs : (set : List ℕ) (from to : ℤ) (cat : Catalogue) → Differs (roll_clip set from to cat)
+unfolding roll_clip
+roll_clip-differs set from to cat = then _ _ (λ a. then _ _ (λ b. then _ _ (λ rows. elements-begin _ rows)))
+
+roll_drop-differs : (set : List ℕ) (cat : Catalogue) → Differs (roll_drop set cat)
+unfolding roll_drop
+roll_drop-differs set cat = then _ _ (λ a. then _ _ (λ b. count-begins _))
+
 carried_out-differs : (command : Command) (cat : Catalogue) → Differs (carried_out command cat)
 unfolding carried_out
 carried_out-differs (commands.CreateRowType name stamp columns) cat = create_row_type-differs name stamp columns cat
@@ -235,6 +252,10 @@ carried_out-differs (commands.AggregateAll text container from to) cat = aggrega
 carried_out-differs (commands.TSRunningSum text key span from to) cat = running_values-differs _ text key _ from to cat
 carried_out-differs (commands.TSRunningAvg text key span from to) cat = running_values-differs _ text key _ from to cat
 carried_out-differs (commands.Apply text key from to) cat = apply_exprs-differs text key from to cat
+carried_out-differs (commands.RollingCreate set calendar origin container kept) cat = roll_create-differs set calendar origin container _ cat
+carried_out-differs (commands.RollingPut set stamp literals) cat = roll_put-differs set stamp literals cat
+carried_out-differs (commands.RollingClip set from to) cat = roll_clip-differs set from to cat
+carried_out-differs (commands.RollingDrop set) cat = roll_drop-differs set cat
 carried_out-differs commands.Begin cat = ok-begins
 carried_out-differs commands.Commit cat = tt
 carried_out-differs commands.Rollback cat = tt

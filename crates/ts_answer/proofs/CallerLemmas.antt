@@ -5,6 +5,6 @@ pub use Rattle.ts_answer.proofs.GridLemmas.{grid-made, grid-start}
 pub use Rattle.ts_answer.proofs.NameLemmas.{defined_by, name_wanted, name_unknown, name_new, name_taken, name_beyond, calendar_tried}
 pub use Rattle.ts_answer.proofs.ViewLemmas.{held_same}
 pub use Rattle.ts_answer.proofs.DeletedLemmas.{element_not_there, range_not_there}
-pub use Rattle.ts_answer.proofs.CarriedLemmas.{shows_still, kept_still, refuses_still, stopped, stopped_first, read_stopped_first, tried_stopped, read_carried, said_carried, said_not_carried, said_line}
-pub use Rattle.ts_answer.proofs.StateLemmas.{after_more, replies_more, length-replies, run_refused, run_came, misread_refused, outside_refused, outside_came, plain_answer, opened_outside, committed_outside, rolled_back_outside, opened_inside, committed_inside, rolled_back_inside, full_inside, refused_inside, came_inside}
+pub use Rattle.ts_answer.proofs.CarriedLemmas.{shows_still, kept_still, grows_one, refuses_still, stopped, stopped_first, read_stopped_first, tried_stopped, read_carried, said_carried, said_not_carried, said_line}
+pub use Rattle.ts_answer.proofs.StateLemmas.{after_more, replies_more, length-replies, run_refused, run_came, misread_refused, outside_refused, outside_came, plain_answer, opened_outside, alone_outside, alone_inside, committed_outside, rolled_back_outside, opened_inside, committed_inside, rolled_back_inside, full_inside, refused_inside, came_inside}
 pub use Rattle.ts_answer.proofs.OutcomeLemmas.{ok_lines_are_answers}

@@ -1,5 +1,5 @@
 -- How a command on pages ends: it is stopped, or only read.
-use Rattle.std.proofs.Common.{◌≡◌, ℕ, ◌+◌, ◌≤◌, Bool, IsTrue, Result, Ok, Err, IsErrAnd, List, [], ◌++◌, length, refl, ap, sym, ◌∙◌, subst, arith}
+use Rattle.std.proofs.Common.{◌≡◌, ℕ, ◌+◌, ◌≤◌, Bool, true, false, cond, IsTrue, Result, Ok, Err, IsErrAnd, List, [], ◌++◌, length, refl, ap, sym, ◌∙◌, subst, arith}
 use Rattle.ts_base.specs.declared.refusal.Refusal.{Refusal}
 use Rattle.ts_base.specs.declared.fault.Trouble.{Trouble}
 use Rattle.ts_base.specs.declared.fault.Trouble.TheVariants as troubles
@@ -17,7 +17,7 @@ use Rattle.ts_answer.specs.declared.stop.Stop.TheVariants as stops
 use Rattle.ts_answer.specs.Stop.{trouble_stop}
 use Rattle.ts_answer.specs.View.{View, view, IsViewOf, Shows, KeepsRules}
 use Rattle.ts_answer.specs.Tried.{IsRefusedAs}
-use Rattle.ts_answer.specs.CarriedOut.{CarriedOut, ReadOut, IsStopped, Stays, Grows, most_growth}
+use Rattle.ts_answer.specs.CarriedOut.{CarriedOut, ReadOut, IsStopped, Stays, Grows, most_growth, has_parts, growth_of}
 use Rattle.ts_answer.specs.Reading.{IsSaid}
 use Rattle.ts_answer.proofs.ViewLemmas.{held_same}
 
@@ -40,6 +40,14 @@ kept_still d space tells v w kept count stays =
 pub grows_still : (tells : Bool) (v w : Contents) → Stays tells v w → w.change_bytes ≤ v.change_bytes + most_growth → Grows 1 v w
 grows_still tells v w stays bytes = let free = ap (λ (ns : List ℕ). length ns) stays.free in omega (arith, free, bytes)
 
+-- one edit is no more than a command adds
+pub grows_one : (command : Command) (v w : Contents) → Grows 1 v w → Grows (growth_of command) v w
+grows_one command v w one = by_parts (has_parts command)
+  where
+    by_parts : (parts : Bool) → Grows (cond parts 26 1) v w
+    by_parts true = omega (arith, one)
+    by_parts false = one
+
 pub grows_none : (v : Contents) → Grows 1 v v
 grows_none v = omega arith
 
@@ -47,12 +55,12 @@ module _ (tells : Bool) (command : Command) (out : List ℕ) (x : View) where
   -- a refusal, where the pages stay
   pub refuses_still : (refusal : Refusal) (c : Contents) → Stays tells x.pages c → c.change_bytes ≤ x.pages.change_bytes + most_growth → c.faults ≡ x.pages.faults
       → (IsTrue tells → (l : Layout) → Shows tells x l → outcome (Ok command) (catalogue_of l) ≡ Err refusal) → IsStopped tells command (stops.Refused refusal) x c
-  refuses_still refusal c stays bytes no_fault refused = (stays, grows_still tells x.pages c stays bytes, no_fault, refused)
+  refuses_still refusal c stays bytes no_fault refused = (λ one. stays, λ one. grows_still tells x.pages c stays bytes, no_fault, refused)
 
   -- it is stopped, by another call's error
-  pub stopped : (r : Result Effect Stop) (stop : Stop) (c : Contents) → IsErrAnd r (λ s. s ≡ stop) → IsStopped tells command stop x c → c.count ≡ x.pages.count → c.change_bytes ≤ x.pages.change_bytes + most_growth → CarriedOut tells command r out x c
-  stopped (Ok effect) stop c is why count bytes = absurd is
-  stopped (Err other) stop c is why count bytes = record {
+  pub stopped : (r : Result Effect Stop) (stop : Stop) (c : Contents) → IsErrAnd r (λ s. s ≡ stop) → IsStopped tells command stop x c → c.count ≡ x.pages.count → CarriedOut tells command r out x c
+  stopped (Ok effect) stop c is why count = absurd is
+  stopped (Err other) stop c is why count = record {
     keeps = tt;
     done = tt;
     applies = tt;
@@ -60,14 +68,13 @@ module _ (tells : Bool) (command : Command) (out : List ℕ) (x : View) where
     stays = tt;
     stopped = subst (λ (s : Stop). IsStopped tells command s x c) (sym is) why;
     count = count;
-    bytes = omega (arith, bytes);
     grows = tt;
     no_fault = tt;
   }
 
   -- before any call on the pages
   pub stopped_first : (r : Result Effect Stop) (stop : Stop) → IsErrAnd r (λ s. s ≡ stop) → IsStopped tells command stop x x.pages → CarriedOut tells command r out x x.pages
-  stopped_first r stop is why = stopped r stop x.pages is why refl (omega arith)
+  stopped_first r stop is why = stopped r stop x.pages is why refl
 
   pub read_stopped : (r : Result Unit Stop) (stop : Stop) (c : Contents) → IsErrAnd r (λ s. s ≡ stop) → IsStopped tells command stop x c → Stays tells x.pages c → c.count ≡ x.pages.count → c.change_bytes ≡ x.pages.change_bytes → ReadOut tells command r out x c
   read_stopped (Ok done) stop c is why stays count bytes = absurd is
@@ -85,7 +92,7 @@ module _ (tells : Bool) (command : Command) (out : List ℕ) (x : View) where
 
   -- a test that isn't passed stops the command
   pub tried_stopped : (trouble : Trouble) → ((l : Layout) → IsViewOf x l → IsRefusedAs trouble (outcome (Ok command) (catalogue_of l))) → IsStopped tells command (trouble_stop trouble) x x.pages
-  tried_stopped (troubles.Refused refusal) refused = (stays_none tells x.pages, grows_none x.pages, refl, λ told l shows. refused l shows.kept)
+  tried_stopped (troubles.Refused refusal) refused = (λ one. stays_none tells x.pages, λ one. grows_none x.pages, refl, λ told l shows. refused l shows.kept)
   tried_stopped (troubles.Memory error) refused = refl
 
 -- a command that only read
@@ -103,8 +110,7 @@ module _ (tells : Bool) (command : Command) (d : Definitions) (space : Directory
     stays = λ none. read.stays;
     stopped = tt;
     count = read.count;
-    bytes = let bytes = read.bytes in omega arith;
-    grows = let bytes = read.bytes in grows_still tells v w read.stays (omega arith);
+    grows = let bytes = read.bytes in grows_one command v w (grows_still tells v w read.stays (omega arith));
     no_fault = read.no_fault;
   }
 

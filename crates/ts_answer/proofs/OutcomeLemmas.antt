@@ -8,7 +8,7 @@ use Rattle.ts_command.specs.declared.command.Command.TheVariants as commands
 use Rattle.ts_model.specs.declared.kind.Kind.{Kind}
 use Rattle.ts_model.specs.declared.kind.Kind.TheVariants as kinds
 use Rattle.ts_model.specs.Catalogue.{Catalogue}
-use Rattle.ts_answer.specs.Answer.{Tried, Answered, ◌>>=◌, settled, outcome, carried_out, create_row_type, drop_definition, create_pattern, turn_pattern, join_patterns, show_pattern, create_calendar, join_calendars, show_calendar, count_starts, find_start, list_starts, create_container, container_usage, create_irregular, create_regular, drop_series, list_series, put_element, put_no_dups, insert_element, update_element, delete_element, delete_range, mark_element, get_element, get_last_element, count_elements, get_first_element, get_nth_element, clip_series, count_clip, clip_counted, join_series, lag_series, aggregate_by, aggregate_range, aggregate_all, running_values, apply_exprs}
+use Rattle.ts_answer.specs.Answer.{Tried, Answered, ◌>>=◌, settled, outcome, carried_out, create_row_type, drop_definition, create_pattern, turn_pattern, join_patterns, show_pattern, create_calendar, join_calendars, show_calendar, count_starts, find_start, list_starts, create_container, container_usage, create_irregular, create_regular, drop_series, list_series, put_element, put_no_dups, insert_element, update_element, delete_element, delete_range, mark_element, get_element, get_last_element, count_elements, get_first_element, get_nth_element, clip_series, count_clip, clip_counted, join_series, lag_series, aggregate_by, aggregate_range, aggregate_all, running_values, apply_exprs, roll_create, roll_put, roll_clip, roll_drop}
 use Rattle.ts_answer.specs.Reply.{pattern_lines, calendar_lines}
 use Rattle.ts_answer.proofs.LineLemmas.{EndsOk, ok-ends, count-ends, counts-ends, number-ends, stamp-ends, above-ends, stamps-end, elements-end, entries-end, series_text-ends, folded-end, series_folded-end, refusal-not}
 use Rattle.ts_answer.specs.State.{State, run_outcome, run_answer, replies}
@@ -192,6 +192,23 @@ unfolding apply_exprs
 apply_exprs-ends text key from to cat =
     then _ _ (λ exprs. then _ _ (λ series. then _ _ (λ b. then _ _ (λ es. then _ _ (λ rows. folded-end _ rows)))))
 
+roll_create-ends : (set calendar : List ℕ) (origin : ℤ) (container : List ℕ) (n : ℕ) (cat : Catalogue) → Ends (roll_create set calendar origin container n cat)
+unfolding roll_create
+roll_create-ends set calendar origin container n cat = then _ _ (λ a. then _ _ (λ b. then _ _ (λ c. create_regular-ends _ calendar origin container cat)))
+
+roll_put-ends : (set : List ℕ) (stamp : ℤ) (literals : List Literal) (cat : Catalogue) → Ends (roll_put set stamp literals cat)
+unfolding roll_put
+roll_put-ends set stamp literals cat =
+    then _ _ (λ a. then _ _ (λ b. then _ _ (λ c. then _ _ (λ d. then _ _ (λ made. put_no_dups-ends _ stamp literals made)))))
+
+roll_clip-ends : (set : List ℕ) (from to : ℤ) (cat : Catalogue) → Ends (roll_clip set from to cat)
+unfolding roll_clip
+roll_clip-ends set from to cat = then _ _ (λ a. then _ _ (λ b. then _ _ (λ rows. elements-end _ rows)))
+
+roll_drop-ends : (set : List ℕ) (cat : Catalogue) → Ends (roll_drop set cat)
+unfolding roll_drop
+roll_drop-ends set cat = then _ _ (λ a. then _ _ (λ b. count-ends _))
+
 carried_out-ends : (command : Command) (cat : Catalogue) → Ends (carried_out command cat)
 unfolding carried_out
 carried_out-ends (commands.CreateRowType name stamp columns) cat = create_row_type-ends name stamp columns cat
@@ -242,6 +259,10 @@ carried_out-ends (commands.AggregateAll text container from to) cat = aggregate_
 carried_out-ends (commands.TSRunningSum text key span from to) cat = running_values-ends _ text key _ from to cat
 carried_out-ends (commands.TSRunningAvg text key span from to) cat = running_values-ends _ text key _ from to cat
 carried_out-ends (commands.Apply text key from to) cat = apply_exprs-ends text key from to cat
+carried_out-ends (commands.RollingCreate set calendar origin container kept) cat = roll_create-ends set calendar origin container _ cat
+carried_out-ends (commands.RollingPut set stamp literals) cat = roll_put-ends set stamp literals cat
+carried_out-ends (commands.RollingClip set from to) cat = roll_clip-ends set from to cat
+carried_out-ends (commands.RollingDrop set) cat = roll_drop-ends set cat
 carried_out-ends commands.Begin cat = ok-ends
 carried_out-ends commands.Commit cat = tt
 carried_out-ends commands.Rollback cat = tt

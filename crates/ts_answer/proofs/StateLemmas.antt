@@ -6,7 +6,7 @@ use Rattle.ts_base.specs.declared.refusal.Refusal.TheVariants as refusals
 use Rattle.ts_command.specs.declared.command.Command.{Command}
 use Rattle.ts_command.specs.declared.command.Command.TheVariants as commands
 use Rattle.ts_command.specs.declared.boundary.Boundary.{Boundary}
-use Rattle.ts_command.specs.declared.boundary.Boundary.TheVariants.{Opens, Commits, RollsBack}
+use Rattle.ts_command.specs.declared.boundary.Boundary.TheVariants.{Opens, Commits, RollsBack, Alone}
 use Rattle.ts_command.specs.Boundary.{boundary_of}
 use Rattle.ts_command.specs.Writing.{is_writing}
 use Rattle.ts_command.specs.Script.{Request}
@@ -54,6 +54,7 @@ module _ (P : List ℕ → Type 0) (one : P ok_line) (many : (n : ℤ) → P (nu
   inside_said (Some Opens) command base work accepted said = tt
   inside_said (Some Commits) command base work accepted said = many (pos accepted)
   inside_said (Some RollsBack) command base work accepted said = one
+  inside_said (Some Alone) command base work accepted said = tt
   inside_said None command base work accepted said = plain_said base accepted command (within_transaction command accepted) (outcome (Ok command) work) said
 
   command_said : (command : Command) (base : Catalogue) (transaction : Option _) → ((cat : Catalogue) → IsSaidSo P (outcome (Ok command) cat))
@@ -109,6 +110,7 @@ ComesAs None cat came = Unit {0}
 ComesAs (Some Opens) cat came = came ≡ Ok (ok_line, cat)
 ComesAs (Some Commits) cat came = came ≡ Err refusals.NotOpen
 ComesAs (Some RollsBack) cat came = came ≡ Err refusals.NotOpen
+ComesAs (Some Alone) cat came = Unit {0}
 
 boundary_comes : (command : Command) (cat : Catalogue) → ComesAs (boundary_of command) cat (outcome (Ok command) cat)
 unfolding outcome carried_out
@@ -134,6 +136,12 @@ committed_outside command base commits = outside_refused command base refusals.N
 pub rolled_back_outside : (command : Command) (base : Catalogue) → boundary_of command ≡ Some RollsBack → run_outcome (Ok command) (resting base) ≡ Err refusals.NotOpen
 rolled_back_outside command base rolls = outside_refused command base refusals.NotOpen (comes_as command base (Some RollsBack) rolls)
 
+-- one that stands in no transaction leaves none open, with what the catalogue answers
+pub alone_outside : (command : Command) (base : Catalogue) (reply : List ℕ) (next : Catalogue) → boundary_of command ≡ Some Alone → outcome (Ok command) base ≡ Ok (reply, next)
+    → run_outcome (Ok command) (resting base) ≡ Ok (reply, resting next)
+unfolding run_outcome outside ◌>>=◌
+alone_outside command base reply next alone is = λ i. is i >>= λ a. Ok (a.0, record { base = a.1; transaction = begun (alone i) a.1 })
+
 -- Where one is open, what a boundary comes to.
 module _ (command : Command) (base work : Catalogue) (accepted : ℕ) where
   pub opened_inside : boundary_of command ≡ Some Opens → run_outcome (Ok command) (opened base work accepted) ≡ Err refusals.AlreadyOpen
@@ -147,6 +155,10 @@ module _ (command : Command) (base work : Catalogue) (accepted : ℕ) where
   pub rolled_back_inside : boundary_of command ≡ Some RollsBack → run_outcome (Ok command) (opened base work accepted) ≡ Ok (ok_line, resting base)
   unfolding run_outcome inside
   rolled_back_inside rolls = λ i. inside (rolls i) command base work accepted
+
+  pub alone_inside : boundary_of command ≡ Some Alone → run_outcome (Ok command) (opened base work accepted) ≡ Err refusals.AlreadyOpen
+  unfolding run_outcome inside
+  alone_inside alone = λ i. inside (alone i) command base work accepted
 
 -- a command that writes has a place while fewer than 32 were accepted, and every other has one
 has_room : (writes : Bool) (accepted : ℕ) → (writes ≡ true → accepted < 32) → (writes && nat_le 32 accepted) ≡ false

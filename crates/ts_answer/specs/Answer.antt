@@ -1,7 +1,7 @@
 -- What a catalogue answers to a request of a script: a reply, and the catalogue after it. Each routine tries its
 -- refusals in order; the first that holds is said, and the catalogue stays.
 use Rattle.std.specs.Prelude.{ℕ, ◌+◌, Bool, true, false, ℤ, pos, unsigned_abs, List, map, Ok, Err}
-use Rattle.std.specs.FinMap.{empty, len}
+use Rattle.std.specs.FinMap.{len}
 use Rattle.ts_base.specs.declared.refusal.Refusal.TheVariants as refusals
 use Rattle.ts_row.specs.declared.kind.Column.{Column}
 use Rattle.ts_row.specs.RowType.{bad_column, has_long_decimal}
@@ -14,14 +14,13 @@ use Rattle.ts_calendar.specs.Calendar.{valid_calendar, joined_calendar}
 use Rattle.ts_calendar.specs.declared.text.PatternPart.TheVariants.{Own}
 use Rattle.ts_calendar.specs.Text.{read_calendar, calendar_text}
 use Rattle.ts_offset.specs.Counting.{cal_index, cal_stamp, cal_range}
-use Rattle.ts_offset.specs.Grid.{grid_of}
 use Rattle.ts_expr.specs.declared.function.Function.TheVariants as functions
 use Rattle.ts_command.specs.declared.command.Command.{Command}
 use Rattle.ts_command.specs.declared.command.Command.TheVariants as commands
 use Rattle.ts_command.specs.Script.{Request}
 use Rattle.ts_model.specs.declared.kind.Kind.{Kind}
 use Rattle.ts_model.specs.declared.kind.Kind.TheVariants as kinds
-use Rattle.ts_model.specs.Catalogue.{Irregular, Regular, is_regular, Catalogue, with_plan, series_in, quotas}
+use Rattle.ts_model.specs.Catalogue.{is_regular, Catalogue, with_plan, series_in, quotas}
 use Rattle.ts_model.specs.Charge.{container_charge}
 use Rattle.ts_model.specs.Kinds.{named, with_named, without, is_used}
 use Rattle.ts_answer.specs.Reply.{ok_line, counts_line, number_line, stamp_line, refusal_line, pattern_lines}
@@ -42,6 +41,8 @@ unfoldable pub use Rattle.ts_answer.specs.Elements.{a_reading}
 pub use Rattle.ts_answer.specs.Aggregates.{scales_of, folded_range, columns_in}
 unfoldable pub use Rattle.ts_answer.specs.Aggregates.{aggregate_by, aggregate_range, aggregate_all}
 unfoldable pub use Rattle.ts_answer.specs.RunningValues.{running_values, apply_exprs}
+unfoldable pub use Rattle.ts_answer.specs.Series.{create_irregular, create_regular}
+unfoldable pub use Rattle.ts_answer.specs.Rolling.{roll_create, roll_put, roll_clip, roll_drop}
 
 unfoldable pub create_row_type : List ℕ → List ℕ → List Column → Catalogue → Tried Answered
 create_row_type name stamp columns cat = do
@@ -138,29 +139,6 @@ container_usage name cat = do
   container ← wanted name cat.containers
   Ok (counts_line (container_charge name cat) container.quota, cat)
 
-unfoldable pub create_irregular : List ℕ → List ℕ → Catalogue → Tried Answered
-create_irregular key container cat = do
-  there ← wanted container cat.containers
-  new ← a_new_name kinds.Series key cat
-  Ok (ok_line, with_named kinds.Series key (record { container = container; kind = Irregular; elements = empty }) cat)
-
--- a series on the grid of a calendar, whose origin is moved to an on start
-unfoldable pub create_regular : List ℕ → List ℕ → ℤ → List ℕ → Catalogue → Tried Answered
-create_regular key calendar origin container cat = do
-  plan ← a_calendar calendar cat
-  there ← wanted container cat.containers
-  new ← a_new_name kinds.Series key cat
-  grid ← grid_of plan origin
-  Ok (
-    stamp_line grid.origin,
-    with_named kinds.Series key (record {
-      container = container;
-      kind = Regular calendar grid.origin;
-      elements =
-          empty;
-    }) cat,
-  )
-
 unfoldable pub drop_series : List ℕ → Catalogue → Tried Answered
 drop_series key cat = do
   series ← wanted key cat.series
@@ -224,6 +202,11 @@ carried_out (commands.TSRunningSum text key span from to) cat =
 carried_out (commands.TSRunningAvg text key span from to) cat =
     running_values functions.Avg text key (unsigned_abs span) from to cat
 carried_out (commands.Apply text key from to) cat = apply_exprs text key from to cat
+carried_out (commands.RollingCreate set calendar origin container kept) cat =
+    roll_create set calendar origin container (unsigned_abs kept) cat
+carried_out (commands.RollingPut set stamp literals) cat = roll_put set stamp literals cat
+carried_out (commands.RollingClip set from to) cat = roll_clip set from to cat
+carried_out (commands.RollingDrop set) cat = roll_drop set cat
 -- where no transaction is open: one is begun, and none can be ended
 carried_out commands.Begin cat = Ok (ok_line, cat)
 carried_out commands.Commit cat = Err refusals.NotOpen

@@ -1,9 +1,10 @@
 -- What it is to carry out a command on pages. Nothing here speaks of a device, a journal or a commit.
 pub use Rattle.ts_page.specs.Unchanged.{Stays}
 use Rattle.std.specs.Prelude.{◌≡◌, ℕ, ◌<◌, ◌≤◌, ◌+◌, ◌*◌, Bool, true, false, IsTrue, None, Result, Ok, Err, IfOk, OnOk}
-use Rattle.std.specs.Prelude.{IfErr, List, [], length, slice_set, slice_index_or}
+use Rattle.std.specs.Prelude.{IfErr, List, [], length, slice_set, slice_index_or, if◌then◌else◌}
 use Rattle.ts_disk.specs.Device.{Rose}
 use Rattle.ts_command.specs.declared.command.Command.{Command}
+use Rattle.ts_command.specs.declared.command.Command.TheVariants as commands
 use Rattle.ts_page.specs.Pages.{Contents}
 use Rattle.ts_space.specs.declared.place.Place.{Place}
 use Rattle.ts_space.specs.Moved.{moved_to}
@@ -12,7 +13,7 @@ use Rattle.ts_model.specs.declared.kind.Kind.TheVariants as kinds
 use Rattle.ts_model.specs.Definitions.{Definitions, Room, has_room, with_slot, series_slots}
 use Rattle.ts_layout.specs.Meaning.{Layout, catalogue_of}
 use Rattle.ts_answer.specs.declared.effect.Effect.{Effect}
-use Rattle.ts_answer.specs.declared.effect.Effect.TheVariants.{Nothing, Pages, Slot, Places, Series}
+use Rattle.ts_answer.specs.declared.effect.Effect.TheVariants.{Nothing, Pages, Slot, Places, Series, Whole}
 use Rattle.ts_answer.specs.declared.stop.Stop.{Stop}
 use Rattle.ts_answer.specs.declared.stop.Stop.TheVariants.{Refused, Failed, Memory}
 use Rattle.ts_answer.specs.Answer.{outcome}
@@ -27,6 +28,7 @@ definitions_after Pages d = d
 definitions_after (Slot kind slot def) d = with_slot kind slot def d
 definitions_after (Places slot moved) d = d
 definitions_after (Series slot) d = with_slot kinds.Series slot None d
+definitions_after (Whole tables space) d = tables.definitions
 
 abbrev pub lists_after : Effect → List (List Place) → List (List Place)
 lists_after Nothing lists = lists
@@ -34,6 +36,7 @@ lists_after Pages lists = lists
 lists_after (Slot kind slot def) lists = lists
 lists_after (Places slot moved) lists = slice_set lists slot (moved_to moved (slice_index_or lists slot []))
 lists_after (Series slot) lists = slice_set lists slot []
+lists_after (Whole tables space) lists = space.lists
 
 -- what is seen then, on these pages
 abbrev pub view_after : Effect → View → Contents → View
@@ -50,6 +53,7 @@ CanApply Pages d = Unit {0}
 CanApply (Slot kind slot def) d = FitsSlot kind slot def d
 CanApply (Places slot moved) d = slot < series_slots
 CanApply (Series slot) d = slot < series_slots
+CanApply (Whole tables space) d = Unit {0}
 
 -- there is no effect
 abbrev pub is_nothing : Effect → Bool
@@ -58,6 +62,7 @@ is_nothing Pages = false
 is_nothing (Slot kind slot def) = false
 is_nothing (Places slot moved) = false
 is_nothing (Series slot) = false
+is_nothing (Whole tables space) = false
 
 -- all that applying it asks for
 abbrev pub HasRoom : Effect → Room → Directory → Type 0
@@ -66,6 +71,7 @@ HasRoom Pages room space = Unit {0}
 HasRoom (Slot kind slot def) room space = has_room kind room ≡ true
 HasRoom (Places slot moved) room space = 2 ≤ spare_of slot space
 HasRoom (Series slot) room space = Unit {0}
+HasRoom (Whole tables whole) room space = Unit {0}
 
 -- A layout was seen, and by the catalogue of the one that is seen with the effect this is the answer.
 pub record Comes (tells : Bool) (command : Command) (effect : Effect) (out : List ℕ) (x : View) (c : Contents)
@@ -74,23 +80,32 @@ pub record Comes (tells : Bool) (command : Command) (effect : Effect) (out : Lis
   pub shows : Shows tells (view_after effect x c) layout
   pub comes : IsTrue tells → outcome (Ok command) (catalogue_of l) ≡ Ok (out, catalogue_of layout)
 
--- how many bytes of a record one command's changes need at most: four pages, and the numbers of all that it frees
-abbrev pub most_bytes : ℕ
-most_bytes = 344084
+-- the command is carried out by several edits, one behind the other: where one of them is refused, those before it have
+-- changed pages
+abbrev pub has_parts : Command → Bool
+has_parts (commands.RollingPut set stamp literals) = true
+has_parts (commands.RollingDrop set) = true
+has_parts command = false
 
--- so much at most a command adds to the bytes of a record and five for each page in use: four pages, and the numbers of
--- four
+-- so much at most a command of one edit adds to the bytes of a record and five for each page in use: four pages, and
+-- the numbers of four
 abbrev pub most_growth : ℕ
 most_growth = 16424
 
--- So many commands add no more than that each. The pages in use are those that aren't free.
+-- So many edits add no more than that each. The pages in use are those that aren't free.
 abbrev pub Grows : ℕ → Contents → Contents → Type 0
-Grows commands v w = w.change_bytes + 5 * length v.free ≤ v.change_bytes + 5 * length w.free + commands * most_growth
+Grows edits v w = w.change_bytes + 5 * length v.free ≤ v.change_bytes + 5 * length w.free + edits * most_growth
+
+-- what a command adds at most, in such edits: one that drops any number of series writes no more than the 96 pages that
+-- slots of series stand on
+abbrev pub growth_of : Command → ℕ
+growth_of command = if has_parts command then 26 else 1
 
 -- why a command isn't carried out
 abbrev pub IsStopped : Bool → Command → Stop → View → Contents → Type 0
 IsStopped tells command (Refused refusal) x c =
-    Stays tells x.pages c × Grows 1 x.pages c × (c.faults ≡ x.pages.faults)
+    (has_parts command ≡ false → Stays tells x.pages c) × (has_parts command ≡ false → Grows 1 x.pages c)
+    × (c.faults ≡ x.pages.faults)
     × (IsTrue tells → (l : Layout) → Shows tells x l → outcome (Ok command) (catalogue_of l) ≡ Err refusal)
 IsStopped tells command Failed x c = Rose x.pages.faults c.faults
 IsStopped tells command (Memory error) x c = c.faults ≡ x.pages.faults
@@ -110,8 +125,7 @@ pub record CarriedOut (tells : Bool) (command : Command) (result : Result Effect
   pub stays : IfOk result (λ effect. is_nothing effect ≡ true → Stays tells x.pages c)
   pub stopped : IfErr result (λ stop. IsStopped tells command stop x c)
   pub count : c.count ≡ x.pages.count
-  pub bytes : c.change_bytes ≤ x.pages.change_bytes + most_bytes
-  pub grows : IfOk result (λ effect. Grows 1 x.pages c)
+  pub grows : IfOk result (λ effect. Grows (growth_of command) x.pages c)
   -- only a failed call of the disk raises the count
   pub no_fault : IfOk result (λ effect. c.faults ≡ x.pages.faults)
 

@@ -7,7 +7,9 @@ pub mod Outcomes
 pub mod Reading
 pub mod Refusals
 pub mod Reply
+pub mod Rolling
 pub mod RunningValues
+pub mod Series
 pub mod Slots
 pub mod State
 pub mod Stop

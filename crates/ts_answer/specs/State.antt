@@ -6,7 +6,7 @@ use Rattle.ts_base.specs.declared.refusal.Refusal.TheVariants as refusals
 use Rattle.ts_replies.specs.Acknowledged.{memory_line}
 use Rattle.ts_command.specs.declared.command.Command.{Command}
 use Rattle.ts_command.specs.declared.boundary.Boundary.{Boundary}
-use Rattle.ts_command.specs.declared.boundary.Boundary.TheVariants.{Opens, Commits, RollsBack}
+use Rattle.ts_command.specs.declared.boundary.Boundary.TheVariants.{Opens, Commits, RollsBack, Alone}
 use Rattle.ts_command.specs.Boundary.{boundary_of}
 use Rattle.ts_command.specs.Writing.{is_writing}
 use Rattle.ts_command.specs.Script.{Request}
@@ -65,6 +65,7 @@ abbrev pub begun : Option Boundary → Catalogue → Option Transaction
 begun (Some Opens) cat = Some (record { work = cat; accepted = 0 })
 begun (Some Commits) cat = None
 begun (Some RollsBack) cat = None
+begun (Some Alone) cat = None
 begun None cat = None
 
 -- what a command comes to where no transaction is open: its answer is that of the catalogue, and so is the catalogue
@@ -74,11 +75,13 @@ outside command base = do
   answered ← outcome (Ok command) base
   Ok (answered.0, record { base = answered.1; transaction = begun (boundary_of command) answered.1 })
 
--- What it comes to where one is open. Only its end moves the base.
+-- What it comes to where one is open. Only its end moves the base, and what stands in no transaction is refused before
+-- all else.
 unfoldable pub inside : Option Boundary → Command → Catalogue → Catalogue → ℕ → Tried (List ℕ × State)
 inside (Some Opens) command base work accepted = Err refusals.AlreadyOpen
 inside (Some Commits) command base work accepted = Ok (number_line (pos accepted), resting work)
 inside (Some RollsBack) command base work accepted = Ok (ok_line, resting base)
+inside (Some Alone) command base work accepted = Err refusals.AlreadyOpen
 inside None command base work accepted = do
   room ← within_transaction command accepted
   answered ← outcome (Ok command) work

@@ -2,8 +2,8 @@
 ghost use Rattle.std.specs.Prelude.{◌≡◌};
 ghost use Rattle.ts_answer.specs.CarriedOut.{is_nothing};
 
-use ts_model::{Def, Kind};
-use ts_space::Moved;
+use ts_model::{Def, Defs, Kind};
+use ts_space::{Moved, Space};
 
 /// What a command that was carried out on pages changes in memory, once the pages are kept.
 #[derive(Drop)]
@@ -26,6 +26,11 @@ pub enum Effect {
     /// A series goes, with all its places.
     Series {
         slot: u16,
+    },
+    /// All that is in memory becomes this.
+    Whole {
+        defs: Defs,
+        space: Space,
     },
 }
 

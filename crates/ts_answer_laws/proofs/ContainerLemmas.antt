@@ -44,7 +44,7 @@ module _ {X : Type 0} where
   behind q (f ∷ es) e below (inr there) = behind q es e (both _ _ below).1 there
 
   -- each is found under its name, and what is found stands among them
-  name_found : (es : List (List ℕ × X)) (e : List ℕ × X) → T (is_sorted name_cmp es) → Among e es → find name_cmp e.0 es ≡ Some e.1
+  pub name_found : (es : List (List ℕ × X)) (e : List ℕ × X) → T (is_sorted name_cmp es) → Among e es → find name_cmp e.0 es ≡ Some e.1
   name_found [] e sorted there = absurd there
   name_found (f ∷ es) e sorted (inl is) =
       ap (λ (g : List ℕ × X). find name_cmp g.0 (f ∷ es)) is

@@ -16,6 +16,7 @@ mod PartLemmas
 mod PlacedLemmas
 mod RangeLemmas
 pub mod ReadingLemmas
+mod RollingLemmas
 mod RowLemmas
 mod SeenLemmas
 mod ShapeLemmas

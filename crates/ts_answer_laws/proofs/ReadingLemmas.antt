@@ -7,6 +7,7 @@ use Rattle.ts_model.specs.Catalogue.{Catalogue}
 use Rattle.ts_command.specs.Script.{Request}
 use Rattle.ts_command.specs.Writing.{is_writing}
 use Rattle.ts_answer.specs.Reply.{refusal_line}
+use Rattle.ts_answer.specs.Rolling.{roll_clip}
 use Rattle.ts_answer.specs.Answer.{Tried, Answered, ◌>>=◌, settled, outcome, answer, carried_out, show_pattern, show_calendar, count_starts, find_start, list_starts, container_usage, list_series, get_element, get_last_element, count_elements, get_first_element, get_nth_element, clip_series, count_clip, clip_counted, join_series, lag_series, aggregate_by, aggregate_range, aggregate_all, running_values, apply_exprs}
 
 pub refused : (cat : Catalogue) (request : Request) (refusal : Refusal) → outcome request cat ≡ Err refusal → answer cat request ≡ (refusal_line refusal, cat)
@@ -30,7 +31,7 @@ settles cat (Err refusal) same = refl
 
 -- each routine that only reads
 each : (cat : Catalogue) (command : Command) → is_writing command ≡ false → Leaves cat (carried_out command cat)
-unfolding Leaves carried_out show_pattern show_calendar count_starts find_start list_starts container_usage list_series get_element get_last_element count_elements get_first_element get_nth_element clip_series count_clip clip_counted join_series lag_series aggregate_by aggregate_range aggregate_all running_values apply_exprs
+unfolding Leaves carried_out roll_clip show_pattern show_calendar count_starts find_start list_starts container_usage list_series get_element get_last_element count_elements get_first_element get_nth_element clip_series count_clip clip_counted join_series lag_series aggregate_by aggregate_range aggregate_all running_values apply_exprs
 each cat (commands.CreateRowType name stamp columns) reading = absurd (cc)
 each cat (commands.DropRowType name) reading = absurd (cc)
 each cat (commands.CreatePattern name text) reading = absurd (cc)
@@ -79,6 +80,10 @@ each cat (commands.AggregateAll text container from to) reading = tries cat _ _ 
 each cat (commands.TSRunningSum text key span from to) reading = tries cat _ _ (λ column. tries cat _ _ (λ series. tries cat _ _ (λ b. tries cat _ _ (λ es. refl))))
 each cat (commands.TSRunningAvg text key span from to) reading = tries cat _ _ (λ column. tries cat _ _ (λ series. tries cat _ _ (λ b. tries cat _ _ (λ es. refl))))
 each cat (commands.Apply text key from to) reading = tries cat _ _ (λ exprs. tries cat _ _ (λ series. tries cat _ _ (λ b. tries cat _ _ (λ es. tries cat _ _ (λ rows. refl)))))
+each cat (commands.RollingCreate set calendar origin container kept) reading = absurd (cc)
+each cat (commands.RollingPut set stamp literals) reading = absurd (cc)
+each cat (commands.RollingClip set from to) reading = tries cat _ _ (λ control. tries cat _ _ (λ grid. tries cat _ _ (λ rows. refl)))
+each cat (commands.RollingDrop set) reading = absurd (cc)
 each cat commands.Begin reading = refl
 each cat commands.Commit reading = tt
 each cat commands.Rollback reading = tt

@@ -27,7 +27,7 @@ known_is : {X : Type 0} (o : Option X) (x : X) → known o ≡ Ok x → o ≡ So
 known_is (Some y) x is = let same : y ≡ x = cc in ap Some same
 known_is None x is = absurd (cc)
 
-there_is : {X : Type 0} (name : List ℕ) (named : Named X) (x : X) → wanted name named ≡ Ok x → get named name ≡ Some x
+pub there_is : {X : Type 0} (name : List ℕ) (named : Named X) (x : X) → wanted name named ≡ Ok x → get named name ≡ Some x
 unfolding wanted
 there_is name named x is = known_is (get named name) x is
 
@@ -40,7 +40,7 @@ none_there : {X : Type 0} (o : Option X) → is_some o ≡ false → o ≡ None
 none_there None is = refl
 none_there (Some x) is = absurd (cc)
 
-is_new : (kind : Kind) (name : List ℕ) (cat : Catalogue) (done : Unit {0}) → a_new_name kind name cat ≡ Ok done → get (named kind cat) name ≡ None
+pub is_new : (kind : Kind) (name : List ℕ) (cat : Catalogue) (done : Unit {0}) → a_new_name kind name cat ≡ Ok done → get (named kind cat) name ≡ None
 unfolding a_new_name unused
 is_new kind name cat done is =
     let free = came (unused name (named kind cat)) _ done is in

@@ -5,7 +5,7 @@ use Rattle.ts_base.specs.declared.refusal.Refusal.TheVariants.{TransactionFull}
 use Rattle.ts_command.specs.declared.command.Command.{Command}
 use Rattle.ts_command.specs.declared.command.Command.TheVariants as commands
 use Rattle.ts_command.specs.declared.boundary.Boundary.{Boundary}
-use Rattle.ts_command.specs.declared.boundary.Boundary.TheVariants.{Opens, Commits, RollsBack}
+use Rattle.ts_command.specs.declared.boundary.Boundary.TheVariants.{Opens, Commits, RollsBack, Alone}
 use Rattle.ts_command.specs.Boundary.{boundary_of}
 use Rattle.ts_command.specs.Writing.{is_writing}
 use Rattle.ts_command.specs.Script.{Request}
@@ -47,6 +47,7 @@ unfolding inside
 inside_moves base work count command (Some Opens) is = inl refl
 inside_moves base work count command (Some Commits) is = inr (record { stepped = (number_line (pos count), resting work); accepted = committed_inside command base work count is; is = inr (refl, is) })
 inside_moves base work count command (Some RollsBack) is = inl refl
+inside_moves base work count command (Some Alone) is = inl refl
 inside_moves base work count command None is = inl (plain_moves base work count command (within_transaction command count) (outcome (Ok command) work))
 
 moves_at : (base : Catalogue) (transaction : Option Transaction) (command : Command)
@@ -208,12 +209,14 @@ unfolding inside within_transaction
 few_inside base work count command (Some Opens) few = few
 few_inside base work count command (Some Commits) few = tt
 few_inside base work count command (Some RollsBack) few = tt
+few_inside base work count command (Some Alone) few = few
 few_inside base work count command None few = few_plain base work count command few (is_writing command && nat_le 32 count) refl (outcome (Ok command) work)
 
 few_begun : (boundary : Option Boundary) (cat : Catalogue) → IfSome (begun boundary cat) (λ t. t.accepted ≤ 32)
 few_begun (Some Opens) cat = omega arith
 few_begun (Some Commits) cat = tt
 few_begun (Some RollsBack) cat = tt
+few_begun (Some Alone) cat = tt
 few_begun None cat = tt
 
 few_outside : (base : Catalogue) (command : Command) (came : Tried Answered) → IsFew (settled (resting base) (came >>= λ a. Ok (leaving command a))).1

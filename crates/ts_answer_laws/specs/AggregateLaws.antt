@@ -129,7 +129,8 @@ pub record ListsIntervals (text key : List ℕ) (plan : CalendarPlan) (from to :
   pub rising : AllPairs (λ a c. a.0 <ℤ c.0) rows
   pub starts : (start : ℤ) (row : Row) → Contains rows (start, row) → IsOnStart plan start × IsFromTo from to start
       × HoldsSeen plan s start
-  pub folded : (start : ℤ) (row : Row) → Contains rows (start, row) → AreFolded (λ stamp. IsHeldFrom plan stamp start) b.items s row.values
+  pub folded : (start : ℤ) (row : Row) → Contains rows (start, row)
+      → AreFolded (λ stamp. IsHeldFrom plan stamp start) b.items s row.values
   pub ranges : (start : ℤ) (row : Row) → Contains rows (start, row)
       → SaysAsRange text key plan (scales_of b) start row cat
   pub each : (start : ℤ) → IsOnStart plan start → IsFromTo from to start → HoldsSeen plan s start → (row : Row)

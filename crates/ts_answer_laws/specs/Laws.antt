@@ -1,5 +1,6 @@
 -- What the laws of answers say.
-use Rattle.std.specs.Prelude.{◌≡◌, ◌↔◌, ◌+◌, ◌≤◌, [], ◌∷◌, Err, List, ℕ, neg_ℤ, pos, Ok, Some, false, true, length}
+use Rattle.std.specs.Prelude.{◌≡◌, ◌↔◌, ◌+◌, ◌≤◌, [], ◌∷◌, Err, List, ℕ, neg_ℤ, pos, Ok, Some, false, true}
+use Rattle.std.specs.Prelude.{length, None}
 use Rattle.std.specs.Prelude.{codes}
 use Rattle.std.specs.FinMap.{get}
 use Rattle.ts_base.specs.declared.refusal.Refusal.{Refusal}
@@ -24,7 +25,7 @@ use Rattle.ts_command.specs.Writing.{is_writing}
 use Rattle.ts_answer.specs.Reply.{refusal_line, count_line, counts_line, number_line, pattern_lines, calendar_lines}
 use Rattle.ts_answer.specs.Reply.{stamps_text, series_text}
 use Rattle.ts_multi.specs.Touched.{objects}
-use Rattle.ts_answer_laws.specs.Objects.{StaysBut}
+use Rattle.ts_answer_laws.specs.Objects.{StaysBut, set_of}
 
 -- a request that is refused is answered by the line of its refusal, and changes nothing
 abbrev pub RefusalsChangeNothing : Type 0
@@ -37,9 +38,12 @@ abbrev pub ReadingsChangeNothing : Type 0
 ReadingsChangeNothing = (cat : Catalogue) (command : Command) → is_writing command ≡ false → (answer cat (Ok command)).1
     ≡ cat
 
--- what a command doesn't write stands in the catalogue as before
+-- What a command doesn't write stands in the catalogue as before. One of a rolling set writes series that the catalogue
+-- tells, and not the command alone.
 abbrev pub OthersStay : Type 0
-OthersStay = (cat : Catalogue) (command : Command) → StaysBut (objects command).wrote cat (answer cat (Ok command)).1
+OthersStay =
+    (cat : Catalogue) (command : Command) → set_of command ≡ None
+    → StaysBut (objects command).wrote cat (answer cat (Ok command)).1
 
 -- the text that a catalogue has under this name stands for a calendar that keeps the rules
 pub record HasValidCalendar (name : List ℕ) (cat : Catalogue) : Type 0 where

@@ -25,7 +25,8 @@ behind state (request ∷ requests) = behind (run_answer state request).1 reques
 pub record IsCommit (state : State) (command : Command) : Type 0 where
   pub stepped : List ℕ × State
   pub accepted : run_outcome (Ok command) state ≡ Ok stepped
-  pub is : ((state.transaction ≡ None) × (is_writing command ≡ true)) ⊎ (IsSome state.transaction × (boundary_of command ≡ Some Commits))
+  pub is : ((state.transaction ≡ None) × (is_writing command ≡ true))
+      ⊎ (IsSome state.transaction × (boundary_of command ≡ Some Commits))
 
 abbrev pub AsksForCommit : State → Request → Type 0
 AsksForCommit state (Ok command) = IsCommit state command
@@ -53,7 +54,8 @@ within requests end = Ok commands.Begin ∷ requests ++ Ok end ∷ []
 -- Begin, such requests and Rollback lead back to the state before them
 abbrev pub WhatIsRolledBackLeavesNothing : Type 0
 WhatIsRolledBackLeavesNothing =
-    (cat : Catalogue) (requests : List Request) → ArePlain requests → behind (resting cat) (within requests commands.Rollback) ≡ resting cat
+    (cat : Catalogue) (requests : List Request) → ArePlain requests
+    → behind (resting cat) (within requests commands.Rollback) ≡ resting cat
 
 -- one where the catalogue accepts a command that writes
 abbrev pub counted_at : Catalogue → Request → ℕ

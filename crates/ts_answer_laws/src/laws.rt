@@ -7,6 +7,8 @@ ghost use Rattle.ts_answer_laws.specs.SeriesLaws.{PutsAdd, PutsStandAtAddresses,
 ghost use Rattle.ts_answer_laws.specs.SeriesLaws.{StampsAddressIntervals, OriginsAreOnStarts, UsedCalendarsStay};
 ghost use Rattle.ts_answer_laws.specs.SeriesLaws.{SeriesKeepTheirShapes};
 
+use ts_rolling::keys_are_read_exactly;
+
 /// At no state does a reply begin with the memory line, nor the memory line with a reply, and no reply is empty: so
 /// what was said determines the state.
 pub fn replies_and_the_memory_line_are_apart()
@@ -75,7 +77,9 @@ pub fn an_origin_is_an_on_start()
 /// No command changes where the elements of a series can stand: none is ever at another stamp than where it was put.
 pub fn a_series_keeps_its_shape()
     ensures { SeriesKeepTheirShapes }
-{}
+{
+    keys_are_read_exactly();
+}
 
 /// Commands after one another grow a record by no more than each of them, and those of a whole transaction fit one: it
 /// has at most 65536 element pages and room for 1048556 bytes.

@@ -6,9 +6,9 @@ use Rattle.ts_text.specs.Phrase.{Phrase, a_sign, closed}
 use Rattle.ts_text.proofs.CallerLemmas.{IsSign, Yields, chain, given, Any, sign_yields, closed_yields}
 use Rattle.ts_tokens.specs.Tokens.{front}
 use Rattle.ts_tokens.proofs.CallerLemmas.{front_laws, close_sign, comma_sign}
-use Rattle.ts_arguments.specs.Arguments.{a_literal, a_column, a_name, a_key, a_stamp, a_text, a_joined, a_whole, a_stamp_column}
-use Rattle.ts_arguments.specs.Calls.{before, two, name_before, key_before, text_before, stamp_before, whole_before, two_names, three_names, joined_names, name_and_text, name_and_whole, two_names_and_whole, key_and_name, key_and_whole, key_and_stamp, two_stamps, name_range, key_range, two_keys_range, name_key_range, text_key_range, text_name_range, text_name_key_range, whole_range, key_whole_range, text_key_whole_range, stamp_and_name, name_stamp_and_name, key_name_stamp_and_name, stamp_and_whole, name_stamp_and_whole, key_stamp_and_whole, stamp_and_values, key_stamp_and_values, some_columns, stamp_and_columns, name_and_columns}
-use Rattle.ts_arguments.proofs.FormLemmas.{IsName, IsKey, IsWithin, HasName, name_yields, key_yields, stamp_yields, literal_yields, text_yields, joined_yields, whole_yields, column_yields, stamp_column_yields}
+use Rattle.ts_arguments.specs.Arguments.{a_literal, a_column, a_name, a_key, a_stamp, a_text, a_joined, a_whole, a_stamp_column, a_set}
+use Rattle.ts_arguments.specs.Calls.{before, two, name_before, key_before, text_before, stamp_before, whole_before, two_names, three_names, joined_names, name_and_text, name_and_whole, two_names_and_whole, key_and_name, key_and_whole, key_and_stamp, two_stamps, name_range, key_range, two_keys_range, name_key_range, text_key_range, text_name_range, text_name_key_range, whole_range, key_whole_range, text_key_whole_range, stamp_and_name, name_stamp_and_name, key_name_stamp_and_name, stamp_and_whole, name_stamp_and_whole, key_stamp_and_whole, stamp_and_values, key_stamp_and_values, some_columns, stamp_and_columns, name_and_columns, set_before, set_range, set_stamp_and_values, stamp_name_and_whole, name_stamp_name_and_whole, set_name_stamp_name_and_whole}
+use Rattle.ts_arguments.proofs.FormLemmas.{IsName, IsKey, IsWithin, HasName, name_yields, key_yields, stamp_yields, literal_yields, text_yields, joined_yields, whole_yields, column_yields, stamp_column_yields, IsSet, set_yields}
 
 -- a phrase, and a sign behind it
 signed : {A : Type 0} (P : A → Type 0) (sign : ℕ) → IsSign front sign → (phrase : Phrase A) → Yields front P phrase → Yields front P (before sign phrase)
@@ -209,3 +209,31 @@ stamp_and_columns_yields = both IsName AreColumns (before 44 a_stamp_column) som
 pub name_and_columns_yields : Yields front (Both IsName (Both IsName AreColumns)) name_and_columns
 unfolding name_and_columns
 name_and_columns_yields = both IsName (Both IsName AreColumns) (name_before 44) stamp_and_columns (name_before_yields 44 comma_sign) stamp_and_columns_yields
+
+-- what begins with the key of a set
+pub set_before_yields : (sign : ℕ) → IsSign front sign → Yields front IsSet (set_before sign)
+unfolding set_before
+set_before_yields sign is = signed IsSet sign is a_set set_yields
+
+pub set_range_yields : Yields front (Both IsSet (Both Any Any)) set_range
+unfolding set_range
+set_range_yields = both IsSet (Both Any Any) (set_before 44) two_stamps (set_before_yields 44 comma_sign) two_stamps_yields
+
+pub set_stamp_and_values_yields : Yields front (Both IsSet Any) set_stamp_and_values
+unfolding set_stamp_and_values
+set_stamp_and_values_yields = both IsSet Any (set_before 44) stamp_and_values (set_before_yields 44 comma_sign) stamp_and_values_yields
+
+stamp_name_and_whole_yields : (least most : ℤ) → int_le least (pos 1) ≡ true → int_le (pos 1) most ≡ true → Yields front (Both Any (Both IsName (IsWithin least most))) (stamp_name_and_whole least most)
+unfolding stamp_name_and_whole
+stamp_name_and_whole_yields least most below above =
+    both Any (Both IsName (IsWithin least most)) (stamp_before 44) (name_and_whole least most) (stamp_before_yields 44 comma_sign) (name_and_whole_yields least most below above)
+
+name_stamp_name_and_whole_yields : (least most : ℤ) → int_le least (pos 1) ≡ true → int_le (pos 1) most ≡ true → Yields front (Both IsName (Both Any (Both IsName (IsWithin least most)))) (name_stamp_name_and_whole least most)
+unfolding name_stamp_name_and_whole
+name_stamp_name_and_whole_yields least most below above =
+    both IsName (Both Any (Both IsName (IsWithin least most))) (name_before 44) (stamp_name_and_whole least most) (name_before_yields 44 comma_sign) (stamp_name_and_whole_yields least most below above)
+
+pub set_name_stamp_name_and_whole_yields : (least most : ℤ) → int_le least (pos 1) ≡ true → int_le (pos 1) most ≡ true → Yields front (Both IsSet (Both IsName (Both Any (Both IsName (IsWithin least most))))) (set_name_stamp_name_and_whole least most)
+unfolding set_name_stamp_name_and_whole
+set_name_stamp_name_and_whole_yields least most below above =
+    both IsSet (Both IsName (Both Any (Both IsName (IsWithin least most)))) (set_before 44) (name_stamp_name_and_whole least most) (set_before_yields 44 comma_sign) (name_stamp_name_and_whole_yields least most below above)

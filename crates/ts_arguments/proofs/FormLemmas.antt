@@ -14,7 +14,8 @@ use Rattle.ts_text.proofs.CallerLemmas.{Yields, Shrinks, shrinks_of, chain, give
 use Rattle.ts_tokens.specs.Tokens.{front, number_length, magnitude_length, fraction_length, closing}
 use Rattle.ts_tokens.specs.Text.{undoubled, said}
 use Rattle.ts_tokens.specs.Number.{units_of, scale_of}
-use Rattle.ts_arguments.specs.Arguments.{a_literal, literal_in, a_column, a_name, a_key, key_in, a_stamp, stamp_in, a_text, text_in, a_joined, joined_in, a_type, type_in, kind_behind, a_small, small_in, a_word, a_whole, whole_in, within, a_stamp_column}
+use Rattle.ts_arguments.specs.Arguments.{a_literal, literal_in, a_column, a_name, a_key, key_in, a_set, set_in, set_if_any, a_stamp, stamp_in, a_text, text_in, a_joined, joined_in, a_type, type_in, kind_behind, a_small, small_in, a_word, a_whole, whole_in, within, a_stamp_column}
+use Rattle.ts_rolling.specs.Keys.{is_set}
 use Rattle.ts_arguments.specs.Words.{joined_of, type_of}
 use Rattle.ts_arguments.specs.declared.word.Joined.TheVariants.{Patterns}
 use Rattle.ts_arguments.specs.declared.word.TypeName.{TypeName}
@@ -40,6 +41,9 @@ IsName name = IsTrue (is_name name)
 abbrev pub IsKey : List ℕ → Type 0
 IsKey key = IsTrue (is_key key)
 
+abbrev pub IsSet : List ℕ → Type 0
+IsSet set = IsTrue (is_set set)
+
 name_of : (kind : TokenKind) (word a : List ℕ) → name_as kind word ≡ Some a → IsName a
 name_of Word word a is = name_is word a is
 name_of Number word a is = absurd (cc)
@@ -52,6 +56,18 @@ key_of Number text a is = absurd (cc)
 key_of Text text a is = key_is (said text) a is
 key_of Sign text a is = absurd (cc)
 
+set_is : (text a : List ℕ) → set_if_any text ≡ Some a → IsSet a
+set_is text a is = elim (cases_Bool (is_set text)) [
+  | inl t ↦ let at : Some text ≡ Some a = rw t at is in let same : text ≡ a = cc in rw (← same) t
+  | inr f ↦ absurd (let no = rw f at is in cc)
+]
+
+set_of : (kind : TokenKind) (text a : List ℕ) → set_in kind text ≡ Some a → IsSet a
+set_of Word text a is = absurd (cc)
+set_of Number text a is = absurd (cc)
+set_of Text text a is = set_is (said text) a is
+set_of Sign text a is = absurd (cc)
+
 -- the tokens, each with one that may stand there
 pub name_yields : Yields front IsName a_name
 unfolding a_name front
@@ -60,6 +76,10 @@ name_yields = of_token front front_laws IsName name_as (record { first = 97; mor
 pub key_yields : Yields front IsKey a_key
 unfolding a_key front closing undoubled
 key_yields = of_token front front_laws IsKey key_in (record { first = 39; more = 97 ∷ 39 ∷ []; kind = Text; found = 97 ∷ []; holds = refl; stands = refl; accepted = refl }) key_of
+
+pub set_yields : Yields front IsSet a_set
+unfolding a_set front closing undoubled
+set_yields = of_token front front_laws IsSet set_in (record { first = 39; more = 97 ∷ 39 ∷ []; kind = Text; found = 97 ∷ []; holds = refl; stands = refl; accepted = refl }) set_of
 
 pub stamp_yields : Yields front Any a_stamp
 unfolding a_stamp front closing undoubled read_stamp

@@ -17,6 +17,7 @@ use Rattle.ts_text.specs.declared.token.TokenKind.TheVariants.{Word, Number, Tex
 use Rattle.ts_tokens.specs.Tokens.{front}
 use Rattle.ts_tokens.specs.Number.{units_of, scale_of}
 use Rattle.ts_tokens.specs.Text.{said}
+use Rattle.ts_rolling.specs.Keys.{is_set}
 use Rattle.ts_arguments.specs.declared.word.Joined.{Joined}
 use Rattle.ts_arguments.specs.Words.{joined_of, type_of}
 use Rattle.ts_arguments.specs.declared.word.TypeName.{TypeName}
@@ -34,6 +35,19 @@ key_in kind token = None
 -- a key
 unfoldable pub a_key : Phrase (List ℕ)
 a_key = token front key_in
+
+-- the key of a rolling set with these bytes, if they are one's
+abbrev pub set_if_any : List ℕ → Option (List ℕ)
+set_if_any text = if is_set text then Some text else None
+
+-- a text of 1 to 40 bytes without `#`
+abbrev pub set_in : TokenKind → List ℕ → Option (List ℕ)
+set_in Text text = set_if_any (said text)
+set_in kind token = None
+
+-- the key of a rolling set
+unfoldable pub a_set : Phrase (List ℕ)
+a_set = token front set_in
 
 -- a text that names a stamp
 abbrev pub stamp_in : TokenKind → List ℕ → Option ℤ

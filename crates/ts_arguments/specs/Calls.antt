@@ -5,7 +5,7 @@ use Rattle.ts_row.specs.declared.value.Literal.{Literal}
 use Rattle.ts_text.specs.Phrase.{Phrase, ◌>>=◌, give, a_sign, closed}
 use Rattle.ts_arguments.specs.declared.word.Joined.{Joined}
 use Rattle.ts_arguments.specs.Arguments.{a_name, a_key, a_stamp, a_text, a_literal, a_whole, a_stamp_column, a_column}
-use Rattle.ts_arguments.specs.Arguments.{a_joined}
+use Rattle.ts_arguments.specs.Arguments.{a_joined, a_set}
 
 -- a phrase, and this sign behind it
 abbrev pub before : {A : Type 0} → ℕ → Phrase A → Phrase A
@@ -170,3 +170,27 @@ stamp_and_columns = two (before 44 a_stamp_column) some_columns
 -- a name, the stamp's column and one value column at least
 unfoldable pub name_and_columns : Phrase (List ℕ × (List ℕ × List Column))
 name_and_columns = two (name_before 44) stamp_and_columns
+
+-- the key of a rolling set, and this sign behind it
+unfoldable pub set_before : ℕ → Phrase (List ℕ)
+set_before sign = before sign a_set
+
+-- a set and two stamps
+unfoldable pub set_range : Phrase (List ℕ × (ℤ × ℤ))
+set_range = two (set_before 44) two_stamps
+
+-- a set, a stamp and any number of values
+unfoldable pub set_stamp_and_values : Phrase (List ℕ × (ℤ × List Literal))
+set_stamp_and_values = two (set_before 44) stamp_and_values
+
+-- a stamp, a name and a whole number between the two
+unfoldable pub stamp_name_and_whole : ℤ → ℤ → Phrase (ℤ × (List ℕ × ℤ))
+stamp_name_and_whole least most = two (stamp_before 44) (name_and_whole least most)
+
+-- a name, a stamp, a name and a whole number between the two
+unfoldable pub name_stamp_name_and_whole : ℤ → ℤ → Phrase (List ℕ × (ℤ × (List ℕ × ℤ)))
+name_stamp_name_and_whole least most = two (name_before 44) (stamp_name_and_whole least most)
+
+-- a set, a name, a stamp, a name and a whole number between the two
+unfoldable pub set_name_stamp_name_and_whole : ℤ → ℤ → Phrase (List ℕ × (List ℕ × (ℤ × (List ℕ × ℤ))))
+set_name_stamp_name_and_whole least most = two (set_before 44) (name_stamp_name_and_whole least most)

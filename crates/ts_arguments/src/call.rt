@@ -139,7 +139,7 @@ pub fn read_name_and_text(alloc: Global, bytes: &[u8]) -> Result<((Name, Bytes),
 
 // A name and a whole number between the two.
 #[tactic(auto, unfolding(crate::specs::Calls::name_and_whole))]
-fn read_name_and_whole(
+pub(crate) fn read_name_and_whole(
     alloc: Global,
     bytes: &[u8],
     least: i64,
@@ -314,7 +314,10 @@ pub fn read_key_stamp_and_whole(
 
 // A stamp and any number of values.
 #[tactic(auto, unfolding(crate::specs::Calls::stamp_and_values))]
-fn read_stamp_and_values(alloc: Global, bytes: &[u8]) -> Result<((Stamp, Literals), &[u8]), Misfit>
+pub(crate) fn read_stamp_and_values(
+    alloc: Global,
+    bytes: &[u8],
+) -> Result<((Stamp, Literals), &[u8]), Misfit>
     ensures ok { IfOk result (λ found. stamp_and_values bytes.now ≡ Ok (found.0, found.1.now)) }
     ensures cause { IfErr result (λ misfit. Refuses misfit (stamp_and_values bytes.now)) }
 {

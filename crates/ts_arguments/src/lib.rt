@@ -2,7 +2,8 @@
 //! (`specs/Calls`): it gives what they say and the bytes behind them exactly by the grammar, else the first place that
 //! can't stand there. Shapes are made of names, keys, stamps, texts, numbers, values and columns (`specs/Arguments`,
 //! over the tokens of ts_tokens). What they say has its form (`proofs/CallerLemmas`), and a value that ts_row prints is
-//! read again as the same value (`specs/Printed`). Stands on ts_tokens, ts_row, ts_text and ts_base; knows no routine
+//! read again as the same value (`specs/Printed`). Stands on ts_tokens, ts_row, ts_text and ts_base, and on ts_rolling
+//! for the form of a set's key; knows no routine
 //! and no command. Read `specs/Arguments.antt` and `specs/Calls.antt`, then `phrase.rt` and `call.rt`.
 #![tactic(auto)]
 
@@ -12,6 +13,7 @@ mod laws;
 mod list;
 mod phrase;
 mod range;
+mod set;
 mod word;
 
 pub use call::{
@@ -25,5 +27,8 @@ pub use list::{Columns, Literals};
 pub use range::{
     read_key_range, read_name_range, read_text_key_range, read_text_key_whole_range,
     read_text_name_key_range, read_text_name_range, read_two_keys_range,
+};
+pub use set::{
+    read_set_before, read_set_name_stamp_name_and_whole, read_set_range, read_set_stamp_and_values,
 };
 pub use word::{Joined, are_same};

@@ -14,7 +14,10 @@ use ts_text::Misfit;
 
 // Two stamps.
 #[tactic(auto, unfolding(crate::specs::Calls::two_stamps))]
-fn read_two_stamps(alloc: Global, bytes: &[u8]) -> Result<((Stamp, Stamp), &[u8]), Misfit>
+pub(crate) fn read_two_stamps(
+    alloc: Global,
+    bytes: &[u8],
+) -> Result<((Stamp, Stamp), &[u8]), Misfit>
     ensures ok { IfOk result (λ found. two_stamps bytes.now ≡ Ok (found.0, found.1.now)) }
     ensures cause { IfErr result (λ misfit. Refuses misfit (two_stamps bytes.now)) }
 {

@@ -49,15 +49,19 @@ use Rattle.ts_model.specs.declared.kind.Kind.{Kind}
 use Rattle.ts_model.specs.declared.kind.Kind.TheVariants as kinds
 use Rattle.ts_model.specs.Catalogue.{Named, Elements, SeriesKind, Irregular, Regular, Series, Catalogue, old_format, pattern_of, with_plan, calendar_of, calendar_named, shape_of, columns_of, quotas}
 use Rattle.ts_model.specs.Definitions.{limit}
-use Rattle.ts_model.specs.Kinds.{named, with_named, is_used}
+use Rattle.ts_model.specs.Kinds.{named, with_named, without, is_used}
 use Rattle.ts_answer.specs.Answer.{Answered, Tried, ◌>>=◌, settled, outcome, answer, carried_out, known, wanted, refused_if, unused, within_limit, a_new_name, no_bad_column, beyond_old_format, row_or_mismatch, a_row, row_at, a_place, addressed, on_grid, an_address, reached, within_quota, within_pages, given, a_calendar, with_elements, without_one, create_row_type, drop_definition, create_pattern, turn_pattern, join_patterns, show_pattern, create_calendar, join_calendars, show_calendar, count_starts, find_start, list_starts, create_container, container_usage, create_irregular, create_regular, drop_series, list_series, put_element, put_no_dups, insert_element, update_element, delete_element, delete_range, mark_element, get_element, get_last_element, count_elements, get_first_element, get_nth_element, clip_series, count_clip, clip_counted, join_series, lag_series, aggregate_by, aggregate_range, aggregate_all, running_values, apply_exprs}
 use Rattle.ts_answer.specs.Refusals.{present}
+use Rattle.ts_answer.specs.Rolling.{roll_create, roll_put, roll_clip, roll_drop, without_windows, with_window}
+use Rattle.ts_rolling.specs.Keys.{is_set, window_key, control_key}
+use Rattle.ts_rolling.specs.Sets.{live}
 use Rattle.ts_answer_laws.specs.ReadingLaws.{CanStand, HasLaidCalendar}
 use Rattle.ts_answer_laws.specs.SeriesLaws.{OriginsAreOnStarts}
 use Rattle.ts_catalogue_laws.specs.Catalogue.{IsCatalogue}
 use Rattle.ts_catalogue_laws.specs.Commands.{NamesStamps}
 use Rattle.ts_catalogue_laws.proofs.ListLemmas.{one_of, mapped, entry_found, among_filtered, among_place}
 use Rattle.ts_catalogue_laws.proofs.StampLemmas.{valid_laid, start_stamp}
+use Rattle.ts_catalogue_laws.proofs.SetLemmas.{window_few, window_is_key, control_is_key}
 use Rattle.ts_catalogue_laws.proofs.PatternLemmas.{pattern_read, pattern_turned, pattern_joined, IsText, text_read, calendar_joined}
 use Rattle.ts_catalogue_laws.proofs.DefineLemmas.{row_type_made, pattern_made, calendar_made, container_made, dropped}
 use Rattle.ts_catalogue_laws.proofs.EditLemmas.{element_put, row_put, elements_gone, elements_same, series_made}
@@ -218,6 +222,16 @@ address_stands : (shape : Shape) (stamp at : ℤ) → HasLaidCalendar shape → 
 address_stands shapes.Irregular stamp at laid is given = let same : stamp ≡ at = cc in (subst IsStamp same is, tt)
 address_stands (shapes.Regular grid) stamp at laid is given = grid_stands grid stamp at laid given
 
+-- what is tried leaves a catalogue
+Tries : Tried Answered → Type 0
+Tries (Ok answered) = IsCatalogue answered.1
+Tries (Err refusal) = Unit {0}
+
+tries : {A : Type 0} (m : Tried A) (f : A → Tried Answered) → ((a : A) → m ≡ Ok a → Tries (f a)) → Tries (m >>= f)
+unfolding ◌>>=◌ Tries
+tries (Ok a) f each = each a refl
+tries (Err refusal) f each = tt
+
 module _ (cat : Catalogue) (good : IsCatalogue cat) where
   -- the calendar of a name
   pub record IsPlan (plan : CalendarPlan) : Type 0 where
@@ -292,21 +306,6 @@ module _ (cat : Catalogue) (good : IsCatalogue cat) where
         get-from_entries int_cmp_total (without_range from to (entries s.elements)) q
         ∙ find-where_key int_cmp p q (λ x tie. ap p (sym (int_cmp-IsAntisymmetric q x tie))) (entries s.elements)
         ∙ ap (λ (o : Option Row). cond (p q) o None) (sym (get-entries s.elements q)))
-
-  -- what is tried leaves a catalogue
-  Tries : Tried Answered → Type 0
-  Tries (Ok answered) = IsCatalogue answered.1
-  Tries (Err refusal) = Unit {0}
-
-  tries : {A : Type 0} (m : Tried A) (f : A → Tried Answered) → ((a : A) → m ≡ Ok a → Tries (f a)) → Tries (m >>= f)
-  unfolding ◌>>=◌ Tries
-  tries (Ok a) f each = each a refl
-  tries (Err refusal) f each = tt
-
-  settles : (m : Tried Answered) → Tries m → IsCatalogue (settled cat m).1
-  unfolding Tries
-  settles (Ok answered) keeps = keeps
-  settles (Err refusal) keeps = good
 
   -- row types
   row_types_kept : (name stamp : List ℕ) (columns : List Column) → HasForm (commands.CreateRowType name stamp columns) → Tries (create_row_type name stamp columns cat)
@@ -475,39 +474,95 @@ module _ (cat : Catalogue) (good : IsCatalogue cat) where
   unfolding Tries delete_range
   range_kept key from to = tries _ _ (λ s a. out_of_range key s (wanted_is key cat.series s a) from to)
 
+-- what answered left a catalogue
+left : (m : Tried Answered) (answered : Answered) → Tries m → m ≡ Ok answered → IsCatalogue answered.1
+unfolding Tries
+left (Ok other) answered kept is = let same : other ≡ answered = cc in subst (λ (a : Answered). IsCatalogue a.1) same kept
+left (Err refusal) answered kept is = absurd (let never : ⊥ = cc in never)
+
+-- windows go
+windows_gone : (set js : List ℕ) (cat : Catalogue) → IsCatalogue cat → IsCatalogue (without_windows set js cat)
+windows_gone set [] cat good = good
+windows_gone set (j ∷ js) cat good = windows_gone set js (without kinds.Series (window_key set j) cat) (dropped cat good (window_key set j) kinds.Series refl)
+
+-- one comes, if it is to be made
+window_comes : (attach : Bool) (key container : List ℕ) (cat made : Catalogue) → IsCatalogue cat → IsTrue (is_key key) → with_window attach key container cat ≡ Ok made → IsCatalogue made
+unfolding with_window
+window_comes false key container cat made good text is = let same : cat ≡ made = cc in subst IsCatalogue same good
+window_comes true key container cat made good text is =
+    let answered = came (create_irregular key container cat) (λ (a : Answered). Ok a.1) made is in
+    let same : answered.0.1 ≡ made = given_back answered.0.1 made answered.2 in
+    subst IsCatalogue same (left (create_irregular key container cat) answered.0 (irregular_kept cat good key container text) answered.1) where
+      given_back : (a b : Catalogue) → ◌≡◌ {A = Tried Catalogue} (Ok a) (Ok b) → a ≡ b
+      given_back a b is = cc
+
+module _ (cat : Catalogue) (good : IsCatalogue cat) where
+  set_created : OriginsAreOnStarts → (set calendar container : List ℕ) (origin kept : ℤ) → IsTrue (is_set set) → pos 1 ≤ℤ kept → kept ≤ℤ pos 1000 → IsStamp origin
+      → Tries (roll_create set calendar origin container (unsigned_abs kept) cat)
+  unfolding Tries roll_create
+  set_created origins set calendar container origin kept is some most stamp =
+      tries _ _ (λ plan a. tries _ _ (λ there b. tries _ _ (λ free c.
+      regular_kept cat good origins (control_key set (unsigned_abs kept)) calendar container origin (control_is_key set kept is some most) stamp)))
+
+  set_put : (set : List ℕ) (stamp : ℤ) (literals : List Literal) → IsTrue (is_set set) → IsStamp stamp → Tries (roll_put set stamp literals cat)
+  unfolding Tries roll_put
+  set_put set stamp literals is at =
+      tries _ _ (λ control a. tries _ _ (λ grid b. tries _ _ (λ row c. tries _ _ (λ plan d. tries _ _ (λ made e.
+      let key = window_is_key set plan.window is (window_few grid control.0 (live set control.1.container cat) stamp plan d) in
+      put_no_dups_kept made
+      (window_comes plan.attach (window_key set plan.window) control.1.container (without_windows set plan.purge cat) made (windows_gone set plan.purge cat good) key e)
+      (window_key set plan.window) stamp literals at)))))
+
+  set_clipped : (set : List ℕ) (from to : ℤ) → Tries (roll_clip set from to cat)
+  unfolding Tries roll_clip
+  set_clipped set from to = tries _ _ (λ control a. tries _ _ (λ grid b. tries _ _ (λ rows c. good)))
+
+  set_dropped : (set : List ℕ) → Tries (roll_drop set cat)
+  unfolding Tries roll_drop
+  set_dropped set =
+      tries _ _ (λ control a. tries _ _ (λ grid b.
+      let gone = live set control.1.container cat in
+      dropped (without_windows set gone cat) (windows_gone set gone cat good) (control_key set control.0) kinds.Series refl))
+
+module _ (cat : Catalogue) (good : IsCatalogue cat) where
+  settles : (m : Tried Answered) → Tries m → IsCatalogue (settled cat m).1
+  unfolding Tries
+  settles (Ok answered) keeps = keeps
+  settles (Err refusal) keeps = good
+
   each : OriginsAreOnStarts → (command : Command) → HasForm command → NamesStamps command → Tries (carried_out command cat)
   unfolding Tries carried_out show_pattern show_calendar count_starts find_start list_starts container_usage drop_series list_series get_element get_last_element count_elements get_first_element get_nth_element clip_series count_clip clip_counted join_series lag_series aggregate_by aggregate_range aggregate_all running_values apply_exprs
-  each origins (commands.CreateRowType name stamp columns) form stamps = row_types_kept name stamp columns form
-  each origins (commands.DropRowType name) form stamps = definitions_go kinds.RowType name
-  each origins (commands.CreatePattern name text) form stamps = patterns_kept name text form.0
-  each origins (commands.NotOp name pattern) form stamps = turned_kept name pattern form.0
-  each origins (commands.AndPatterns name first second) form stamps = joined_kept And name first second form.0
-  each origins (commands.OrPatterns name first second) form stamps = joined_kept Or name first second form.0
-  each origins (commands.AndCalendars name first second) form stamps = joins_kept And name first second form.0
-  each origins (commands.OrCalendars name first second) form stamps = joins_kept Or name first second form.0
+  each origins (commands.CreateRowType name stamp columns) form stamps = row_types_kept cat good name stamp columns form
+  each origins (commands.DropRowType name) form stamps = definitions_go cat good kinds.RowType name
+  each origins (commands.CreatePattern name text) form stamps = patterns_kept cat good name text form.0
+  each origins (commands.NotOp name pattern) form stamps = turned_kept cat good name pattern form.0
+  each origins (commands.AndPatterns name first second) form stamps = joined_kept cat good And name first second form.0
+  each origins (commands.OrPatterns name first second) form stamps = joined_kept cat good Or name first second form.0
+  each origins (commands.AndCalendars name first second) form stamps = joins_kept cat good And name first second form.0
+  each origins (commands.OrCalendars name first second) form stamps = joins_kept cat good Or name first second form.0
   each origins (commands.ShowPattern name) form stamps = tries _ _ (λ pattern a. good)
-  each origins (commands.DropPattern name) form stamps = definitions_go kinds.Pattern name
-  each origins (commands.CreateCalendar name text) form stamps = calendars_kept name text form.0
+  each origins (commands.DropPattern name) form stamps = definitions_go cat good kinds.Pattern name
+  each origins (commands.CreateCalendar name text) form stamps = calendars_kept cat good name text form.0
   each origins (commands.ShowCalendar name) form stamps = tries _ _ (λ text a. good)
-  each origins (commands.DropCalendar name) form stamps = definitions_go kinds.Calendar name
+  each origins (commands.DropCalendar name) form stamps = definitions_go cat good kinds.Calendar name
   each origins (commands.CalIndex calendar from to) form stamps = tries _ _ (λ plan a. good)
   each origins (commands.CalStamp calendar after count) form stamps = tries _ _ (λ plan a. tries _ _ (λ stamp b. good))
   each origins (commands.CalRange calendar from to) form stamps = tries _ _ (λ plan a. tries _ _ (λ starts b. good))
-  each origins (commands.TSContainerCreate name row_type quota) form stamps = containers_kept name row_type quota form
-  each origins (commands.TSContainerDestroy name) form stamps = definitions_go kinds.Container name
+  each origins (commands.TSContainerCreate name row_type quota) form stamps = containers_kept cat good name row_type quota form
+  each origins (commands.TSContainerDestroy name) form stamps = definitions_go cat good kinds.Container name
   each origins (commands.TSContainerUsage name) form stamps = tries _ _ (λ container a. good)
-  each origins (commands.TSCreate key calendar origin container) form stamps = regular_kept origins key calendar container origin form.0 stamps
-  each origins (commands.TSCreateIrr key container) form stamps = irregular_kept key container form.0
+  each origins (commands.TSCreate key calendar origin container) form stamps = regular_kept cat good origins key calendar container origin form.0 stamps
+  each origins (commands.TSCreateIrr key container) form stamps = irregular_kept cat good key container form.0
   each origins (commands.DropSeries key) form stamps = tries _ _ (λ series a. dropped cat good key kinds.Series refl)
   each origins (commands.ListSeries container) form stamps = tries _ _ (λ there a. good)
-  each origins (commands.PutElem key stamp literals) form stamps = put_kept key stamp literals stamps
-  each origins (commands.PutElemNoDups key stamp literals) form stamps = put_no_dups_kept key stamp literals stamps
-  each origins (commands.InsElem key stamp literals) form stamps = insert_kept key stamp literals stamps
-  each origins (commands.UpdElem key stamp literals) form stamps = update_kept key stamp literals
-  each origins (commands.DelElem key stamp) form stamps = delete_kept key stamp
-  each origins (commands.DelClip key from to) form stamps = range_kept key from to
-  each origins (commands.HideElem key stamp) form stamps = mark_kept true key stamp
-  each origins (commands.RevealElem key stamp) form stamps = mark_kept false key stamp
+  each origins (commands.PutElem key stamp literals) form stamps = put_kept cat good key stamp literals stamps
+  each origins (commands.PutElemNoDups key stamp literals) form stamps = put_no_dups_kept cat good key stamp literals stamps
+  each origins (commands.InsElem key stamp literals) form stamps = insert_kept cat good key stamp literals stamps
+  each origins (commands.UpdElem key stamp literals) form stamps = update_kept cat good key stamp literals
+  each origins (commands.DelElem key stamp) form stamps = delete_kept cat good key stamp
+  each origins (commands.DelClip key from to) form stamps = range_kept cat good key from to
+  each origins (commands.HideElem key stamp) form stamps = mark_kept cat good true key stamp
+  each origins (commands.RevealElem key stamp) form stamps = mark_kept cat good false key stamp
   each origins (commands.GetElem key stamp) form stamps = tries _ _ (λ series a. good)
   each origins (commands.GetLastElem key) form stamps = tries _ _ (λ series a. good)
   each origins (commands.GetNelems key) form stamps = tries _ _ (λ series a. good)
@@ -525,6 +580,10 @@ module _ (cat : Catalogue) (good : IsCatalogue cat) where
   each origins (commands.TSRunningSum text key span from to) form stamps = tries _ _ (λ column a. tries _ _ (λ series b. tries _ _ (λ bound c. tries _ _ (λ es d. good))))
   each origins (commands.TSRunningAvg text key span from to) form stamps = tries _ _ (λ column a. tries _ _ (λ series b. tries _ _ (λ bound c. tries _ _ (λ es d. good))))
   each origins (commands.Apply text key from to) form stamps = tries _ _ (λ exprs a. tries _ _ (λ series b. tries _ _ (λ bound c. tries _ _ (λ es d. tries _ _ (λ rows e. good)))))
+  each origins (commands.RollingCreate set calendar origin container kept) form stamps = set_created cat good origins set calendar container origin kept form.0 form.3 form.4 stamps
+  each origins (commands.RollingPut set stamp literals) form stamps = set_put cat good set stamp literals form stamps
+  each origins (commands.RollingClip set from to) form stamps = set_clipped cat good set from to
+  each origins (commands.RollingDrop set) form stamps = set_dropped cat good set
   each origins commands.Begin form stamps = good
   each origins commands.Commit form stamps = tt
   each origins commands.Rollback form stamps = tt

@@ -30,7 +30,7 @@ use Rattle.ts_answer.specs.Answer.{Answered, Tried, settled, outcome, answer, ca
 use Rattle.ts_answer.specs.Reply.{stamp_line}
 use Rattle.ts_answer.proofs.CallerLemmas.{on_ok, wanted-there}
 use Rattle.ts_answer_laws.specs.Laws.{OthersStay}
-use Rattle.ts_answer_laws.specs.Objects.{StaysBut}
+use Rattle.ts_answer_laws.specs.Objects.{StaysBut, set_of}
 use Rattle.ts_catalogue_laws.specs.OfCatalogues.{Lies}
 use Rattle.ts_catalogue_laws.specs.EditLaws.{Addresses, Stands, PutsAt, IsFree, IsTaken, IsBehind, IsPlace, RowsArePut, Marks, ElementsAreMarked}
 use Rattle.ts_catalogue_laws.proofs.MapLemmas.{there_inserted, others_inserted}
@@ -178,9 +178,9 @@ a_place_is cat s (Regular calendar origin) shape stamp at place lies here given 
     subst (λ (z : ℤ). IsPlace s shape stamp z) same (on_shape cat s calendar origin (Regular calendar origin) shape stamp at refl lies here)
 
 module _ (others : OthersStay) where
-  rest_stays : (cat : Catalogue) (command : Command) (answered : Answered) → outcome (Ok command) cat ≡ Ok answered → StaysBut (objects command).wrote cat answered.1
+  rest_stays : (cat : Catalogue) (command : Command) (answered : Answered) → set_of command ≡ None → outcome (Ok command) cat ≡ Ok answered → StaysBut (objects command).wrote cat answered.1
   unfolding answer
-  rest_stays cat command answered is = subst (λ (a : Catalogue). StaysBut (objects command).wrote cat a) (ap (λ (m : Tried Answered). (settled cat m).1) is) (others cat command)
+  rest_stays cat command answered single is = subst (λ (a : Catalogue). StaysBut (objects command).wrote cat a) (ap (λ (m : Tried Answered). (settled cat m).1) is) (others cat command single)
 
   stands : (cat : Catalogue) (answered : Answered) (key : List ℕ) (s : Series) (at : ℤ) (row : Row) → StaysBut (one kinds.Series key) cat answered.1 → answered ≡ (stamp_line at, with_element key s at row cat) → Stands at row key s cat answered
   stands cat answered key s at row rest is = record {
@@ -215,7 +215,7 @@ module _ (others : OthersStay) where
           place = (address.addressed, none_there (get s.elements at.0) (not_so (is_some (get s.elements at.0)) refusals.Duplicate free.0 free.1));
           row = row.0;
           given = row_is (columns_of cat s) literals row.0 row.1;
-          stands = stands cat answered key s at.0 row.0 (rest_stays cat (commands.InsElem key stamp literals) answered is) (same_answer (stamp_line at.0, with_element key s at.0 row.0 cat) answered fits.2);
+          stands = stands cat answered key s at.0 row.0 (rest_stays cat (commands.InsElem key stamp literals) answered refl is) (same_answer (stamp_line at.0, with_element key s at.0 row.0 cat) answered fits.2);
         };
       }
 
@@ -236,7 +236,7 @@ module _ (others : OthersStay) where
           place = (address.addressed, (old.0, row_there at.0 s.elements old.0 old.1));
           row = row.0;
           given = row_is (columns_of cat s) literals row.0 row.1;
-          stands = stands cat answered key s at.0 row.0 (rest_stays cat (commands.UpdElem key stamp literals) answered is) (same_answer (stamp_line at.0, with_element key s at.0 row.0 cat) answered old.2);
+          stands = stands cat answered key s at.0 row.0 (rest_stays cat (commands.UpdElem key stamp literals) answered refl is) (same_answer (stamp_line at.0, with_element key s at.0 row.0 cat) answered old.2);
         };
       }
 
@@ -257,7 +257,7 @@ module _ (others : OthersStay) where
           place = address.addressed;
           row = row.0;
           given = row_is (columns_of cat s) literals row.0 row.1;
-          stands = stands cat answered key s at.0 row.0 (rest_stays cat (commands.PutElemNoDups key stamp literals) answered is) (same_answer (stamp_line at.0, with_element key s at.0 row.0 cat) answered fits.2);
+          stands = stands cat answered key s at.0 row.0 (rest_stays cat (commands.PutElemNoDups key stamp literals) answered refl is) (same_answer (stamp_line at.0, with_element key s at.0 row.0 cat) answered fits.2);
         };
       }
 
@@ -279,7 +279,7 @@ module _ (others : OthersStay) where
           place = a_place_is cat s s.kind address.shape stamp at.0 place.0 address.is address.addressed place.1;
           row = row.0;
           given = row_is (columns_of cat s) literals row.0 row.1;
-          stands = stands cat answered key s place.0 row.0 (rest_stays cat (commands.PutElem key stamp literals) answered is) (same_answer (stamp_line place.0, with_element key s place.0 row.0 cat) answered fits.2);
+          stands = stands cat answered key s place.0 row.0 (rest_stays cat (commands.PutElem key stamp literals) answered refl is) (same_answer (stamp_line place.0, with_element key s place.0 row.0 cat) answered fits.2);
         };
       }
 
@@ -313,6 +313,6 @@ module _ (others : OthersStay) where
   pub elements_marked : ElementsAreMarked
   unfolding outcome carried_out
   elements_marked = record {
-    hide = λ cat answered key stamp s listed is. marked_so true cat answered key stamp s listed is (rest_stays cat (commands.HideElem key stamp) answered is);
-    reveal = λ cat answered key stamp s listed is. marked_so false cat answered key stamp s listed is (rest_stays cat (commands.RevealElem key stamp) answered is);
+    hide = λ cat answered key stamp s listed is. marked_so true cat answered key stamp s listed is (rest_stays cat (commands.HideElem key stamp) answered refl is);
+    reveal = λ cat answered key stamp s listed is. marked_so false cat answered key stamp s listed is (rest_stays cat (commands.RevealElem key stamp) answered refl is);
   }

@@ -1,6 +1,7 @@
 mod MapLemmas
 mod ListLemmas
 mod OnceLemmas
+mod SetLemmas
 mod StampLemmas
 mod ChargeLemmas
 mod PatternLemmas

@@ -4,7 +4,7 @@ use Rattle.std.specs.Prelude.{IfSome}
 use Rattle.std.specs.FinMap.{empty, entries, get, get-empty, len, len-empty, len-entries}
 use Rattle.ts_command.specs.Boundary.{boundary_of}
 use Rattle.ts_command.specs.declared.boundary.Boundary.{Boundary}
-use Rattle.ts_command.specs.declared.boundary.Boundary.TheVariants.{Opens, Commits, RollsBack}
+use Rattle.ts_command.specs.declared.boundary.Boundary.TheVariants.{Opens, Commits, RollsBack, Alone}
 use Rattle.ts_command.specs.declared.command.Command.{Command}
 use Rattle.ts_model.specs.declared.kind.Kind.{Kind}
 use Rattle.ts_model.specs.declared.kind.Kind.TheVariants as kinds
@@ -37,6 +37,7 @@ module _ (keeps : AnswersKeepCatalogues) (command : Command) (formed : IsFormed 
   begun_work (Some Opens) cat good = good
   begun_work (Some Commits) cat good = tt
   begun_work (Some RollsBack) cat good = tt
+  begun_work (Some Alone) cat good = tt
   begun_work None cat good = tt
 
   from_outside : (base : Catalogue) → IsCatalogue base → Comes (outside command base)
@@ -48,6 +49,7 @@ module _ (keeps : AnswersKeepCatalogues) (command : Command) (formed : IsFormed 
   from_inside (Some Opens) base work accepted good done = tt
   from_inside (Some Commits) base work accepted good done = record { base = done; work = tt }
   from_inside (Some RollsBack) base work accepted good done = record { base = good; work = tt }
+  from_inside (Some Alone) base work accepted good done = tt
   from_inside None base work accepted good done = comes _ _ (λ room a. comes _ _ (λ answered is. record { base = good; work = came work answered done is }))
 
   from_each : (base : Catalogue) (transaction : Option Transaction) → IsCatalogue base → IfSome transaction (λ t. IsCatalogue t.work) → Comes (carried_out_in command base transaction)

@@ -15,7 +15,7 @@ use Rattle.ts_command.specs.Script.{Request, or_syntax, request_of, requests, la
 use Rattle.ts_command.proofs.CommandLemmas.{command-form}
 use Rattle.ts_answer.specs.State.{State, run_answer}
 use Rattle.ts_answer_laws.specs.TransactionLaws.{behind}
-use Rattle.ts_statement_laws.specs.Statements.{Argument, NameOf, KeyOf, StampOf, TextOf, WholeOf, WordOf, StampColumnOf, ColumnOf, ValueOf, Call, statement_of, IsArgument, AreArguments, AreStatement}
+use Rattle.ts_statement_laws.specs.Statements.{Argument, NameOf, KeyOf, SetOf, StampOf, TextOf, WholeOf, WordOf, StampColumnOf, ColumnOf, ValueOf, Call, statement_of, IsArgument, AreArguments, AreStatement}
 use Rattle.ts_statement_laws.specs.Laws.{StatementsAreTokens}
 use Rattle.ts_catalogue_laws.specs.Commands.{NamesStamps, IsFormed}
 use Rattle.ts_catalogue_laws.specs.Laws.{HasCatalogues, RunsKeepCatalogues}
@@ -28,6 +28,7 @@ StampsIn [] = Unit {0}
 StampsIn (StampOf stamp ∷ arguments) = IsStamp stamp × StampsIn arguments
 StampsIn (NameOf name ∷ arguments) = StampsIn arguments
 StampsIn (KeyOf key ∷ arguments) = StampsIn arguments
+StampsIn (SetOf set ∷ arguments) = StampsIn arguments
 StampsIn (TextOf text ∷ arguments) = StampsIn arguments
 StampsIn (WholeOf least most n ∷ arguments) = StampsIn arguments
 StampsIn (WordOf word ∷ arguments) = StampsIn arguments
@@ -39,6 +40,7 @@ one_more : (a : Argument) (ls : List Lexeme) → IsArgument a ls → (arguments 
 one_more (StampOf stamp) ls (l, lone, (quoted, read)) arguments others = (stamp_read (said l.token) stamp read, others)
 one_more (NameOf name) ls is arguments others = others
 one_more (KeyOf key) ls is arguments others = others
+one_more (SetOf set) ls is arguments others = others
 one_more (TextOf text) ls is arguments others = others
 one_more (WholeOf least most n) ls is arguments others = others
 one_more (WordOf word) ls is arguments others = others
@@ -104,6 +106,12 @@ names (commands.AggregateAll text container from to) ls are = let s = in_call (c
 names (commands.TSRunningSum text key span from to) ls are = let s = in_call (codes "TSRunningSum") (TextOf text ∷ KeyOf key ∷ WholeOf (pos 1) (pos 65536) span ∷ StampOf from ∷ StampOf to ∷ []) ls are in (s.0, s.1.0)
 names (commands.TSRunningAvg text key span from to) ls are = let s = in_call (codes "TSRunningAvg") (TextOf text ∷ KeyOf key ∷ WholeOf (pos 1) (pos 65536) span ∷ StampOf from ∷ StampOf to ∷ []) ls are in (s.0, s.1.0)
 names (commands.Apply text key from to) ls are = let s = in_call (codes "Apply") (TextOf text ∷ KeyOf key ∷ StampOf from ∷ StampOf to ∷ []) ls are in (s.0, s.1.0)
+names (commands.RollingCreate set calendar origin container kept) ls are =
+    let s = in_call (codes "RollingCreate") (SetOf set ∷ NameOf calendar ∷ StampOf origin ∷ NameOf container ∷ WholeOf (pos 1) (pos 1000) kept ∷ []) ls are in
+    s.0
+names (commands.RollingPut set stamp values) ls are = let s = in_call (codes "RollingPut") (SetOf set ∷ StampOf stamp ∷ map ValueOf values) ls are in s.0
+names (commands.RollingClip set from to) ls are = let s = in_call (codes "RollingClip") (SetOf set ∷ StampOf from ∷ StampOf to ∷ []) ls are in (s.0, s.1.0)
+names (commands.RollingDrop set) ls are = tt
 names commands.Begin ls are = tt
 names commands.Commit ls are = tt
 names commands.Rollback ls are = tt

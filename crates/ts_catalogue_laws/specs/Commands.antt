@@ -32,6 +32,9 @@ NamesStamps (commands.AggregateAll text container from to) = IsStamp from × IsS
 NamesStamps (commands.TSRunningSum text key span from to) = IsStamp from × IsStamp to
 NamesStamps (commands.TSRunningAvg text key span from to) = IsStamp from × IsStamp to
 NamesStamps (commands.Apply text key from to) = IsStamp from × IsStamp to
+NamesStamps (commands.RollingCreate set calendar origin container kept) = IsStamp origin
+NamesStamps (commands.RollingPut set stamp values) = IsStamp stamp
+NamesStamps (commands.RollingClip set from to) = IsStamp from × IsStamp to
 NamesStamps command = Unit {0}
 
 -- the command of a request has its form and names stamps, as each does that a statement is read as

@@ -1,5 +1,6 @@
 -- What edits put and mark, and where, in the words of one who asks for them.
-use Rattle.std.specs.Prelude.{◌≡◌, ◌⊎◌, ℕ, ℤ, pos, ◌+ℤ◌, ◌-ℤ◌, ◌*ℤ◌, ◌≤ℤ◌, ◌<ℤ◌, Bool, true, false, None, Some, Ok, List}
+use Rattle.std.specs.Prelude.{◌≡◌, ◌⊎◌, ℕ, ℤ, pos, ◌+ℤ◌, ◌-ℤ◌, ◌*ℤ◌, ◌≤ℤ◌, ◌<ℤ◌, Bool, true, false, None, Some}
+use Rattle.std.specs.Prelude.{Ok, List}
 use Rattle.std.specs.FinMap.{get}
 use Rattle.ts_row.specs.declared.value.Literal.{Literal}
 use Rattle.ts_row.specs.Row.{Row, row_of}
@@ -23,7 +24,8 @@ Addresses (shapes.Regular grid) stamp at = IsHeldFrom grid.calendar stamp at × 
 
 -- A row stands at a stamp of a series, in place of one that stood there, and this stamp is said. Everything else is as
 -- it was: the other elements of the series, where they can stand and in which container, and all other objects.
-pub record Stands (at : ℤ) (row : Row) (key : List ℕ) (s : Series) (cat : Catalogue) (answered : Answered) : Type 0 where
+pub record Stands (at : ℤ) (row : Row) (key : List ℕ) (s : Series) (cat : Catalogue)
+    (answered : Answered) : Type 0 where
   pub line : answered.0 ≡ stamp_line at
   pub series : Series
   pub listed : get answered.1.series key ≡ Some series

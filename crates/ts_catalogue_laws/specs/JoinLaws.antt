@@ -1,5 +1,6 @@
 -- What Union and Intersect list of two series of a catalogue: at which stamps, and with which values.
-use Rattle.std.specs.Prelude.{◌≡◌, ℕ, ℤ, ◌≤ℤ◌, ◌<ℤ◌, true, Option, Some, None, Ok, List, ◌++◌, length, AllPairs, Contains}
+use Rattle.std.specs.Prelude.{◌≡◌, ℕ, ℤ, ◌≤ℤ◌, ◌<ℤ◌, true, Option, Some, None, Ok, List, ◌++◌, length, AllPairs}
+use Rattle.std.specs.Prelude.{Contains}
 use Rattle.std.specs.FinMap.{get}
 use Rattle.ts_base.specs.declared.unit.Unit as unit
 use Rattle.ts_row.specs.Row.{Row, visible}

@@ -1,5 +1,6 @@
 -- What the laws of answers say of catalogues: that one is a catalogue is all that they ask of it.
-use Rattle.std.specs.Prelude.{◌≡◌, ◌↔◌, ℕ, ℤ, pos, ◌-◌, ◌≤ℤ◌, ◌<ℤ◌, Some, Ok, Err, List, length, take, drop, unsigned_abs}
+use Rattle.std.specs.Prelude.{◌≡◌, ◌↔◌, ℕ, ℤ, pos, ◌-◌, ◌≤ℤ◌, ◌<ℤ◌, Some, Ok, Err, List, length, take, drop}
+use Rattle.std.specs.Prelude.{unsigned_abs}
 use Rattle.std.specs.FinMap.{get}
 use Rattle.ts_base.specs.Moment.{IsStamp}
 use Rattle.ts_base.specs.declared.refusal.Refusal.TheVariants as refusals
@@ -15,7 +16,8 @@ use Rattle.ts_model.specs.Catalogue.{Container, Irregular, Regular, Series, Cata
 use Rattle.ts_model.specs.Catalogue.{quota_of}
 use Rattle.ts_answer.specs.Answer.{Answered, answer, outcome, a_calendar, an_address}
 use Rattle.ts_answer_laws.specs.Laws.{HasValidCalendar}
-use Rattle.ts_answer_laws.specs.ReadingLaws.{ListsEntries, ListsOffset, ListsLagged, ListsPicked, NoneBehind, NoneBefore}
+use Rattle.ts_answer_laws.specs.ReadingLaws.{ListsEntries, ListsOffset, ListsLagged, ListsPicked, NoneBehind}
+use Rattle.ts_answer_laws.specs.ReadingLaws.{NoneBefore}
 use Rattle.ts_answer_laws.specs.SeriesLaws.{MakesRegular}
 use Rattle.ts_answer_laws.specs.AggregateLaws.{ListsIntervals}
 use Rattle.ts_catalogue_laws.specs.Catalogue.{IsCatalogue}

@@ -7,7 +7,7 @@ use Rattle.ts_text.proofs.CallerLemmas.{Yields, Goes, Any, chain, given, shrinks
 use Rattle.ts_tokens.specs.Tokens.{front}
 use Rattle.ts_arguments.specs.declared.word.Joined.{Joined}
 use Rattle.ts_arguments.specs.declared.word.Joined.TheVariants.{Patterns, Calendars}
-use Rattle.ts_arguments.specs.Calls.{before, two, name_before, key_before, text_before, two_names, joined_names, name_and_text, two_names_and_whole, key_and_name, key_and_whole, key_and_stamp, name_range, key_range, two_keys_range, name_key_range, text_key_range, text_name_range, text_name_key_range, key_whole_range, text_key_whole_range, key_name_stamp_and_name, name_stamp_and_whole, key_stamp_and_whole, key_stamp_and_values, name_and_columns}
+use Rattle.ts_arguments.specs.Calls.{before, two, name_before, key_before, text_before, two_names, joined_names, name_and_text, two_names_and_whole, key_and_name, key_and_whole, key_and_stamp, name_range, key_range, two_keys_range, name_key_range, text_key_range, text_name_range, text_name_key_range, key_whole_range, text_key_whole_range, key_name_stamp_and_name, name_stamp_and_whole, key_stamp_and_whole, key_stamp_and_values, name_and_columns, set_before, set_range, set_stamp_and_values, set_name_stamp_name_and_whole}
 use Rattle.ts_command.specs.Form.{HasForm}
 use Rattle.ts_command.specs.Routines.{routine_of, least_number, most_number}
 use Rattle.ts_command.specs.Grammar.{a_routine, routine_in, of_name, of_key, of_stamp, of_row, of_text, of_join, of_range, of_clip, of_number, of_keys, of_series, of_running, of_lone, opening, arguments, a_call, a_command}
@@ -41,7 +41,7 @@ use Rattle.ts_command.specs.declared.routine.LoneRoutine.{LoneRoutine}
 use Rattle.ts_command.specs.declared.routine.LoneRoutine.TheVariants as alone
 use Rattle.ts_command.specs.declared.command.Command.{Command}
 use Rattle.ts_tokens.proofs.CallerLemmas.{front_laws, open_sign, close_sign}
-use Rattle.ts_arguments.proofs.CallerLemmas.{IsName, IsKey, IsWithin, AreNames, IsKeyRange, IsNameRange, IsNameAndKey, IsKeyAndWhole, key_range_yields, name_range_yields, name_key_range_yields, with_text_yields, name_before_yields, two_names_yields, name_and_text_yields, joined_names_yields, name_stamp_and_whole_yields, key_before_yields, key_and_name_yields, key_name_stamp_and_name_yields, key_and_stamp_yields, two_names_and_whole_yields, key_stamp_and_values_yields, name_and_columns_yields, key_stamp_and_whole_yields, key_and_whole_yields, two_keys_range_yields, text_key_range_yields, text_name_range_yields, text_name_key_range_yields, key_whole_range_yields, text_key_whole_range_yields, name_text-le, first_text-le}
+use Rattle.ts_arguments.proofs.CallerLemmas.{IsName, IsKey, IsWithin, AreNames, IsKeyRange, IsNameRange, IsNameAndKey, IsKeyAndWhole, key_range_yields, name_range_yields, name_key_range_yields, with_text_yields, name_before_yields, two_names_yields, name_and_text_yields, joined_names_yields, name_stamp_and_whole_yields, key_before_yields, key_and_name_yields, key_name_stamp_and_name_yields, key_and_stamp_yields, two_names_and_whole_yields, key_stamp_and_values_yields, name_and_columns_yields, key_stamp_and_whole_yields, key_and_whole_yields, two_keys_range_yields, text_key_range_yields, text_name_range_yields, text_name_key_range_yields, key_whole_range_yields, text_key_whole_range_yields, set_before_yields, set_range_yields, set_stamp_and_values_yields, set_name_stamp_name_and_whole_yields, name_text-le, first_text-le}
 
 -- the commands of each group have their form
 of_name-form : (routine : NameRoutine) (name : List ℕ) → IsName name → HasForm (of_name routine name)
@@ -142,6 +142,10 @@ arguments_yield calls.CalStamp = made_yields front front_laws _ HasForm (name_st
 arguments_yield calls.ClipCount = made_yields front front_laws _ HasForm (key_stamp_and_whole (neg_ℤ (pos 1000000)) (pos 1000000)) _ (key_stamp_and_whole_yields (neg_ℤ (pos 1000000)) (pos 1000000) refl refl) (λ a form. (form.0, form.1.1.0, form.1.1.1))
 arguments_yield calls.AggregateBy = made_yields front front_laws _ Any text_name_key_range _ text_name_key_range_yields (λ a form. tt)
 arguments_yield calls.AggregateAll = made_yields front front_laws _ Any text_name_range _ text_name_range_yields (λ a form. tt)
+arguments_yield calls.RollingCreate = made_yields front front_laws _ HasForm (set_name_stamp_name_and_whole (pos 1) (pos 1000)) _ (set_name_stamp_name_and_whole_yields (pos 1) (pos 1000) refl refl) (λ a form. (form.0, form.1.0, form.1.1.1.0, form.1.1.1.1.0, form.1.1.1.1.1))
+arguments_yield calls.RollingPut = made_yields front front_laws _ HasForm set_stamp_and_values _ set_stamp_and_values_yields (λ a form. form.0)
+arguments_yield calls.RollingClip = made_yields front front_laws _ HasForm set_range _ set_range_yields (λ a form. form.0)
+arguments_yield calls.RollingDrop = made_yields front front_laws _ HasForm (set_before 41) _ (set_before_yields 41 close_sign) (λ a form. form)
 arguments_yield (calls.ByName routine) = made_yields front front_laws _ HasForm (name_before 41) _ (name_before_yields 41 close_sign) (of_name-form routine)
 arguments_yield (calls.ByKey routine) = made_yields front front_laws _ HasForm (key_before 41) _ (key_before_yields 41 close_sign) (of_key-form routine)
 arguments_yield (calls.AtStamp routine) = made_yields front front_laws _ HasForm key_and_stamp _ key_and_stamp_yields (λ a form. of_stamp-form routine a.0 a.1 form.0)

@@ -1,12 +1,12 @@
 -- What a command does to a transaction. Every command has its case.
-use Rattle.std.specs.Prelude.{Bool, ◌&&◌, not, Option, Some, None, is_none}
+use Rattle.std.specs.Prelude.{Bool, true, false, ◌&&◌, not, Option, Some, None}
 use Rattle.ts_command.specs.declared.command.Command.{Command}
 use Rattle.ts_command.specs.declared.command.Command.TheVariants as commands
 use Rattle.ts_command.specs.declared.boundary.Boundary.{Boundary}
-use Rattle.ts_command.specs.declared.boundary.Boundary.TheVariants.{Opens, Commits, RollsBack}
+use Rattle.ts_command.specs.declared.boundary.Boundary.TheVariants.{Opens, Commits, RollsBack, Alone}
 use Rattle.ts_command.specs.Writing.{is_writing}
 
--- whether the command opens a transaction or ends one, and how
+-- whether the command opens a transaction or ends one, and how, or stands in none
 abbrev pub boundary_of : Command → Option Boundary
 boundary_of (commands.CreateRowType name stamp columns) = None
 boundary_of (commands.DropRowType name) = None
@@ -56,10 +56,22 @@ boundary_of (commands.AggregateAll text container from to) = None
 boundary_of (commands.TSRunningSum text key span from to) = None
 boundary_of (commands.TSRunningAvg text key span from to) = None
 boundary_of (commands.Apply text key from to) = None
+boundary_of (commands.RollingCreate set calendar origin container kept) = Some Alone
+boundary_of (commands.RollingPut set stamp literals) = Some Alone
+boundary_of (commands.RollingClip set from to) = Some Alone
+boundary_of (commands.RollingDrop set) = Some Alone
 boundary_of commands.Begin = Some Opens
 boundary_of commands.Commit = Some Commits
 boundary_of commands.Rollback = Some RollsBack
 
--- the command neither writes nor is one of these: it only reads
+-- it neither opens nor ends one
+abbrev pub is_between : Option Boundary → Bool
+is_between None = true
+is_between (Some Opens) = false
+is_between (Some Commits) = false
+is_between (Some RollsBack) = false
+is_between (Some Alone) = true
+
+-- the command neither writes nor opens or ends a transaction: it only reads
 abbrev pub is_reading : Command → Bool
-is_reading command = not (is_writing command) && is_none (boundary_of command)
+is_reading command = not (is_writing command) && is_between (boundary_of command)

@@ -4,6 +4,7 @@ use Rattle.std.specs.Prelude.{◌<◌, ◌^◌, IsTrue, ⊤, length, pos, neg_�
 use Rattle.std.specs.List.{AllByRecursion}
 use Rattle.ts_base.specs.Name.{is_name, is_key}
 use Rattle.ts_row.specs.declared.kind.Column.{Column}
+use Rattle.ts_rolling.specs.Keys.{is_set}
 use Rattle.ts_command.specs.declared.command.Command.{Command}
 use Rattle.ts_command.specs.declared.command.Command.TheVariants as commands
 
@@ -72,6 +73,11 @@ HasForm (commands.TSRunningSum text key span from to) = (length text < 2 ^ 32) �
 HasForm (commands.TSRunningAvg text key span from to) = (length text < 2 ^ 32) × IsTrue (is_key key) × (pos 1 ≤ℤ span)
     × (span ≤ℤ pos 65536)
 HasForm (commands.Apply text key from to) = (length text < 2 ^ 32) × IsTrue (is_key key)
+HasForm (commands.RollingCreate set calendar origin container kept) = IsTrue (is_set set) × IsTrue (is_name calendar)
+    × IsTrue (is_name container) × (pos 1 ≤ℤ kept) × (kept ≤ℤ pos 1000)
+HasForm (commands.RollingPut set stamp values) = IsTrue (is_set set)
+HasForm (commands.RollingClip set from to) = IsTrue (is_set set)
+HasForm (commands.RollingDrop set) = IsTrue (is_set set)
 HasForm commands.Begin = ⊤
 HasForm commands.Commit = ⊤
 HasForm commands.Rollback = ⊤

@@ -11,7 +11,8 @@ use Rattle.ts_arguments.specs.Calls.{name_before, key_before, two_names, joined_
 use Rattle.ts_arguments.specs.Calls.{two_names_and_whole, key_and_name, key_and_whole, key_and_stamp, name_range}
 use Rattle.ts_arguments.specs.Calls.{key_range, two_keys_range, text_key_range, text_name_range, text_name_key_range}
 use Rattle.ts_arguments.specs.Calls.{text_key_whole_range, key_name_stamp_and_name, name_stamp_and_whole}
-use Rattle.ts_arguments.specs.Calls.{key_stamp_and_whole, key_stamp_and_values, name_and_columns}
+use Rattle.ts_arguments.specs.Calls.{key_stamp_and_whole, key_stamp_and_values, name_and_columns, set_before, set_range}
+use Rattle.ts_arguments.specs.Calls.{set_stamp_and_values, set_name_stamp_name_and_whole}
 use Rattle.ts_command.specs.declared.routine.Routine.{Routine}
 use Rattle.ts_command.specs.declared.routine.Routine.TheVariants as calls
 use Rattle.ts_command.specs.declared.routine.NameRoutine.{NameRoutine}
@@ -142,6 +143,11 @@ arguments calls.ClipCount = made (key_stamp_and_whole (neg_ℤ (pos 1000000)) (p
     (λ a. commands.ClipCount a.0 a.1.0 a.1.1)
 arguments calls.AggregateBy = made text_name_key_range (λ a. commands.AggregateBy a.0 a.1.0 a.1.1.0 a.1.1.1.0 a.1.1.1.1)
 arguments calls.AggregateAll = made text_name_range (λ a. commands.AggregateAll a.0 a.1.0 a.1.1.0 a.1.1.1)
+arguments calls.RollingCreate = made (set_name_stamp_name_and_whole (pos 1) (pos 1000))
+    (λ a. commands.RollingCreate a.0 a.1.0 a.1.1.0 a.1.1.1.0 a.1.1.1.1)
+arguments calls.RollingPut = made set_stamp_and_values (λ a. commands.RollingPut a.0 a.1.0 a.1.1)
+arguments calls.RollingClip = made set_range (λ a. commands.RollingClip a.0 a.1.0 a.1.1)
+arguments calls.RollingDrop = made (set_before 41) commands.RollingDrop
 arguments (calls.ByName routine) = made (name_before 41) (of_name routine)
 arguments (calls.ByKey routine) = made (key_before 41) (of_key routine)
 arguments (calls.AtStamp routine) = made key_and_stamp (λ a. of_stamp routine a.0 a.1)

@@ -129,6 +129,10 @@ spelling calls.CalStamp = codes "CalStamp"
 spelling calls.ClipCount = codes "ClipCount"
 spelling calls.AggregateBy = codes "AggregateBy"
 spelling calls.AggregateAll = codes "AggregateAll"
+spelling calls.RollingCreate = codes "RollingCreate"
+spelling calls.RollingPut = codes "RollingPut"
+spelling calls.RollingClip = codes "RollingClip"
+spelling calls.RollingDrop = codes "RollingDrop"
 spelling (calls.ByName routine) = name_spelling routine
 spelling (calls.ByKey routine) = key_spelling routine
 spelling (calls.AtStamp routine) = stamp_spelling routine
@@ -192,6 +196,10 @@ routines =
     calls.ByName by_name.DropPattern ∷
     calls.ByName by_name.ShowCalendar ∷
     calls.ByName by_name.DropCalendar ∷
+    calls.RollingPut ∷
+    calls.RollingClip ∷
+    calls.RollingCreate ∷
+    calls.RollingDrop ∷
     calls.Alone alone.Begin ∷
     calls.Alone alone.Commit ∷
     calls.Alone alone.Rollback ∷

@@ -13,10 +13,12 @@ pub enum Boundary {
     Commits,
     /// It takes back what was done in it, and ends it.
     RollsBack,
+    /// It stands in none: it is a commit of its own, or reads what was committed.
+    Alone,
 }
 
 impl Command {
-    /// Whether the command opens a transaction or ends one, and how.
+    /// Whether the command opens a transaction or ends one, and how, or stands in none.
     pub fn boundary(&self) -> Option<Boundary>
         ensures { result ≡ boundary_of self.now }
     {
@@ -69,6 +71,10 @@ impl Command {
             Command::TSRunningSum { .. } => None,
             Command::TSRunningAvg { .. } => None,
             Command::Apply { .. } => None,
+            Command::RollingCreate { .. } => Some(Boundary::Alone),
+            Command::RollingPut { .. } => Some(Boundary::Alone),
+            Command::RollingClip { .. } => Some(Boundary::Alone),
+            Command::RollingDrop { .. } => Some(Boundary::Alone),
             Command::Begin => Some(Boundary::Opens),
             Command::Commit => Some(Boundary::Commits),
             Command::Rollback => Some(Boundary::RollsBack),

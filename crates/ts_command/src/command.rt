@@ -222,6 +222,27 @@ pub enum Command {
         from: Stamp,
         to: Stamp,
     },
+    /// A rolling set is made, which keeps the last windows of a calendar, so many.
+    RollingCreate {
+        set: Key,
+        calendar: Name,
+        origin: Stamp,
+        container: Name,
+        kept: i64,
+    },
+    RollingPut {
+        set: Key,
+        stamp: Stamp,
+        values: Literals,
+    },
+    RollingClip {
+        set: Key,
+        from: Stamp,
+        to: Stamp,
+    },
+    RollingDrop {
+        set: Key,
+    },
     Begin,
     Commit,
     Rollback,

@@ -8,6 +8,7 @@ use crate::range::{
     copy_aggregate_all, copy_aggregate_by, copy_of_clip, copy_of_pair, copy_of_range,
     copy_of_running, copy_of_series,
 };
+use crate::rolling::{copy_rolling_clip, copy_rolling_create, copy_rolling_drop, copy_rolling_put};
 use crate::routine::{
     ClipRoutine, JoinRoutine, KeyRoutine, NameRoutine, NumberRoutine, PairRoutine, RangeRoutine,
     RowRoutine, RunningRoutine, SeriesRoutine, StampRoutine, TextRoutine,
@@ -204,6 +205,16 @@ impl Command {
                 from,
                 to,
             } => copy_of_series(SeriesRoutine::Apply, text, key, (*from, *to)),
+            Command::RollingCreate {
+                set,
+                calendar,
+                origin,
+                container,
+                kept,
+            } => copy_rolling_create(set, calendar, *origin, container, *kept),
+            Command::RollingPut { set, stamp, values } => copy_rolling_put(set, *stamp, values),
+            Command::RollingClip { set, from, to } => copy_rolling_clip(set, *from, *to),
+            Command::RollingDrop { set } => copy_rolling_drop(set),
             Command::Begin => Ok(Command::Begin),
             Command::Commit => Ok(Command::Commit),
             Command::Rollback => Ok(Command::Rollback),

@@ -3,7 +3,8 @@
 //! is what a script asks for (`specs/Script`). Routines stand in groups by what they are called with, each with one
 //! reader. A further routine is a variant of its group and of `Command`, a line of the list of routines, its name, its
 //! command by its arguments, its copy, its case of form, whether it writes (`specs/Writing`), and what it does to a
-//! transaction (`specs/Boundary`). Stands on ts_arguments, ts_items, ts_tokens, ts_row, ts_text and ts_base; knows
+//! transaction (`specs/Boundary`). Stands on ts_arguments, ts_items, ts_tokens, ts_row, ts_text and ts_base, and on
+//! ts_rolling for the form of a set's key; knows
 //! nothing of the store. Read `specs/Grammar.antt`, then `routine.rt`, `group.rt`, `range.rt` and `read.rt`.
 #![tactic(auto)]
 
@@ -14,6 +15,7 @@ mod group;
 mod laws;
 mod range;
 mod read;
+mod rolling;
 mod routine;
 mod spelling;
 mod writing;

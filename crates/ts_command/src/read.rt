@@ -14,6 +14,7 @@ use crate::range::{
     read_aggregate_all, read_aggregate_by, read_of_clip, read_of_pair, read_of_range,
     read_of_running, read_of_series,
 };
+use crate::rolling::{read_rolling_clip, read_rolling_create, read_rolling_drop, read_rolling_put};
 use crate::routine::{Routine, read_routine};
 use std::alloc::Global;
 use ts_arguments::{
@@ -38,6 +39,10 @@ fn read_arguments(alloc: Global, routine: Routine, bytes: &[u8]) -> Result<Comma
         Routine::ClipCount => read_clip_count(alloc, bytes),
         Routine::AggregateBy => read_aggregate_by(alloc, bytes),
         Routine::AggregateAll => read_aggregate_all(alloc, bytes),
+        Routine::RollingCreate => read_rolling_create(alloc, bytes),
+        Routine::RollingPut => read_rolling_put(alloc, bytes),
+        Routine::RollingClip => read_rolling_clip(alloc, bytes),
+        Routine::RollingDrop => read_rolling_drop(alloc, bytes),
         Routine::ByName(routine) => read_of_name(alloc, routine, bytes),
         Routine::ByKey(routine) => read_of_key(alloc, routine, bytes),
         Routine::AtStamp(routine) => read_of_stamp(alloc, routine, bytes),

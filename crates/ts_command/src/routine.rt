@@ -20,6 +20,10 @@ pub(crate) enum Routine {
     ClipCount,
     AggregateBy,
     AggregateAll,
+    RollingCreate,
+    RollingPut,
+    RollingClip,
+    RollingDrop,
     ByName(NameRoutine),
     ByKey(KeyRoutine),
     AtStamp(StampRoutine),
@@ -140,7 +144,7 @@ pub(crate) enum LoneRoutine {
     Rollback,
 }
 
-const ROUTINES: [Routine; 49] = [
+const ROUTINES: [Routine; 53] = [
     Routine::WithRow(RowRoutine::PutElem),
     Routine::WithRow(RowRoutine::InsElem),
     Routine::WithRow(RowRoutine::UpdElem),
@@ -187,6 +191,10 @@ const ROUTINES: [Routine; 49] = [
     Routine::ByName(NameRoutine::DropPattern),
     Routine::ByName(NameRoutine::ShowCalendar),
     Routine::ByName(NameRoutine::DropCalendar),
+    Routine::RollingPut,
+    Routine::RollingClip,
+    Routine::RollingCreate,
+    Routine::RollingDrop,
     Routine::Alone(LoneRoutine::Begin),
     Routine::Alone(LoneRoutine::Commit),
     Routine::Alone(LoneRoutine::Rollback),

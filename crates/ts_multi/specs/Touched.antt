@@ -44,8 +44,8 @@ abbrev pub pattern_named : Result CalendarText Refusal → List Object
 pattern_named (Ok text) = named_part text.part
 pattern_named (Err refusal) = []
 
--- the object that a command makes, drops or edits, and every other object among its arguments; an element edit names
--- nothing
+-- The object that a command makes, drops or edits, and every other object among its arguments; an element edit names
+-- nothing. A rolling set is told by its key, which stands for all its series.
 abbrev pub objects : Command → Touched
 objects (commands.CreateRowType name stamp columns) = writes kinds.RowType name []
 objects (commands.DropRowType name) = writes kinds.RowType name []
@@ -100,6 +100,11 @@ objects (commands.AggregateAll text container from to) = reads (one kinds.Contai
 objects (commands.TSRunningSum text key span from to) = reads (one kinds.Series key)
 objects (commands.TSRunningAvg text key span from to) = reads (one kinds.Series key)
 objects (commands.Apply text key from to) = reads (one kinds.Series key)
+objects (commands.RollingCreate set calendar origin container kept) =
+    writes kinds.Series set (two kinds.Calendar calendar kinds.Container container)
+objects (commands.RollingPut set stamp literals) = writes kinds.Series set []
+objects (commands.RollingClip set from to) = reads (one kinds.Series set)
+objects (commands.RollingDrop set) = writes kinds.Series set []
 objects commands.Begin = nothing
 objects commands.Commit = nothing
 objects commands.Rollback = nothing

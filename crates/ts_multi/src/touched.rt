@@ -52,7 +52,10 @@ fn written(alloc: Global, command: &Command) -> Result<ObjectList, AllocError>
         | Command::DelElem { key, .. }
         | Command::DelClip { key, .. }
         | Command::HideElem { key, .. }
-        | Command::RevealElem { key, .. } => one(alloc, Kind::Series, key.as_slice()),
+        | Command::RevealElem { key, .. }
+        | Command::RollingCreate { set: key, .. }
+        | Command::RollingPut { set: key, .. }
+        | Command::RollingDrop { set: key } => one(alloc, Kind::Series, key.as_slice()),
         Command::ShowPattern { .. }
         | Command::ShowCalendar { .. }
         | Command::TSContainerUsage { .. }
@@ -77,6 +80,7 @@ fn written(alloc: Global, command: &Command) -> Result<ObjectList, AllocError>
         | Command::TSRunningSum { .. }
         | Command::TSRunningAvg { .. }
         | Command::Apply { .. }
+        | Command::RollingClip { .. }
         | Command::Begin
         | Command::Commit
         | Command::Rollback => Ok(ObjectList::new(alloc)),
@@ -123,6 +127,11 @@ fn named(alloc: Global, command: &Command) -> Result<ObjectList, AllocError>
             calendar,
             container,
             ..
+        }
+        | Command::RollingCreate {
+            calendar,
+            container,
+            ..
         } => two(
             alloc,
             Kind::Calendar,
@@ -166,7 +175,8 @@ fn named(alloc: Global, command: &Command) -> Result<ObjectList, AllocError>
         | Command::AggregateRange { key, .. }
         | Command::TSRunningSum { key, .. }
         | Command::TSRunningAvg { key, .. }
-        | Command::Apply { key, .. } => one(alloc, Kind::Series, key.as_slice()),
+        | Command::Apply { key, .. }
+        | Command::RollingClip { set: key, .. } => one(alloc, Kind::Series, key.as_slice()),
         Command::CreateRowType { .. }
         | Command::DropRowType { .. }
         | Command::CreatePattern { .. }
@@ -182,6 +192,8 @@ fn named(alloc: Global, command: &Command) -> Result<ObjectList, AllocError>
         | Command::DelClip { .. }
         | Command::HideElem { .. }
         | Command::RevealElem { .. }
+        | Command::RollingPut { .. }
+        | Command::RollingDrop { .. }
         | Command::Begin
         | Command::Commit
         | Command::Rollback => Ok(ObjectList::new(alloc)),

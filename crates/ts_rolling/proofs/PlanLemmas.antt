@@ -1,12 +1,15 @@
 -- Rising windows, and those of them that are old.
-use Rattle.std.proofs.Common.{◌≡◌, ℕ, zero, suc, ◌+◌, ◌-◌, ◌<◌, ◌≤◌, Bool, true, false, cond, not, ◌&&◌, ◌||◌, ◌==◌, inl, inr, nat_le, List, [], ◌∷◌, length, take, get_or, refl, sym, ap, subst, ◌∙◌, arith}
-use Rattle.std.specs.Prelude.{filter}
-use Rattle.std.specs.List.{list_any}
+use Rattle.std.proofs.Common.{◌≡◌, ℕ, zero, suc, ◌+◌, ◌-◌, ◌<◌, ◌≤◌, Bool, true, false, cond, not, ◌&&◌, ◌||◌, ◌==◌, inl, inr, nat_le, Ok, Err, Result, ℤ, List, [], ◌∷◌, length, take, get_or, refl, sym, ap, subst, ◌∙◌, arith}
+use Rattle.std.specs.Prelude.{filter, nat_eq}
+use Rattle.std.specs.List.{AllByRecursion, list_any}
 use Rattle.std.specs.List.Sorted.{IsStrictlyIncreasing}
 use Rattle.std.proofs.lemmas.List.Kept.{AllPairs-from_increasing}
 use Rattle.std.proofs.lemmas.Bool.{false≢true, cases_lt}
 use Rattle.std.proofs.lemmas.Bool.Decides.{nat_tests}
-use Rattle.ts_rolling.specs.Plan.{later, greatest, is_old}
+use Rattle.ts_base.specs.declared.refusal.Refusal.{Refusal}
+use Rattle.ts_base.specs.declared.refusal.Refusal.TheVariants.{WindowGone}
+use Rattle.ts_offset.specs.Grid.{GridPlan, offset_of}
+use Rattle.ts_rolling.specs.Plan.{Planned, a_plan, later, greatest, is_old, is_gone, going, plan_for, plan_at, planned}
 
 -- what passes is in front
 pub filter-front : (p : ℕ → Bool) (xs : List ℕ) (i : ℕ) → ((k : ℕ) → k < i → p (get_or xs k 0) ≡ true) → ((k : ℕ) → i ≤ k → k < length xs → p (get_or xs k 0) ≡ false) → take i xs ≡ filter p xs
@@ -129,3 +132,26 @@ gone_is n (k ∷ ks) w = elim (cases_lt (greatest (k ∷ ks)) (w + n)) [
 
     some : (l : ℕ) (a b : Bool) → a ≡ true → b ≡ true → (not (suc l == 0) && a) ≡ b
     some l a b h g = grind (arith, nat_tests)
+
+-- what holds of all live windows holds of those that go
+kept_of : (P : ℕ → Type 0) (p : ℕ → Bool) (ks : List ℕ) → AllByRecursion P ks → AllByRecursion P (filter p ks)
+kept_of P p [] all = tt
+kept_of P p (k ∷ ks) all = by (p k) (kept_of P p ks all.1)
+  where
+    by : (b : Bool) → AllByRecursion P (filter p ks) → AllByRecursion P (cond b (k ∷ filter p ks) (filter p ks))
+    by true rest = (all.0, rest)
+    by false rest = rest
+
+pub all_going : (P : ℕ → Type 0) (g : GridPlan) (n : ℕ) (live : List ℕ) (stamp : ℤ) (plan : Planned) → planned g n live stamp ≡ Ok plan → AllByRecursion P live → AllByRecursion P plan.purge
+unfolding plan_for
+all_going P g n live stamp plan is all = by (offset_of g stamp) is
+  where
+    chosen : (w : ℕ) (b : Bool) → cond b (Err (WindowGone (greatest live))) (Ok (a_plan w (not (list_any (λ k. nat_eq k w) live)) (going n live w))) ≡ Ok plan → AllByRecursion P plan.purge
+    chosen w true e = absurd (cc)
+    chosen w false e =
+        let same : a_plan w (not (list_any (λ k. nat_eq k w) live)) (going n live w) ≡ plan = cc in
+        subst (λ (p : Planned). AllByRecursion P p.purge) same (kept_of P (is_old n (later (greatest live) w)) live all)
+
+    by : (o : Result ℕ Refusal) → plan_at n live o ≡ Ok plan → AllByRecursion P plan.purge
+    by (Err refusal) e = absurd (cc)
+    by (Ok w) e = chosen w (is_gone n live w) e

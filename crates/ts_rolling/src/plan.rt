@@ -1,5 +1,5 @@
 // What a put into a rolling set asks for.
-ghost use Rattle.std.specs.Prelude.{◌≡◌, ◌≤◌, Ok, IfOk, IfErr, length, take, filter};
+ghost use Rattle.std.specs.Prelude.{◌≡◌, ◌<◌, ◌≤◌, Ok, IfOk, IfErr, length, take, filter};
 ghost use Rattle.std.specs.List.Sorted.{IsStrictlyIncreasing};
 ghost use Rattle.ts_base.specs.Answer.{Fails};
 ghost use Rattle.ts_rolling.specs.Plan.{a_plan, planned, plan_for, greatest, is_old, is_gone, later};
@@ -29,6 +29,7 @@ pub fn plan_put(
 ) -> Result<Plan, Trouble>
     requires rising { IsStrictlyIncreasing live.now }
     ensures ok { IfOk result (λ p. planned grid.now n live.now stamp ≡ Ok (a_plan p.window p.attach p.purge.items)) }
+    ensures few { IfOk result (λ p. p.window < 1_000_000_000_000) }
     ensures cause { IfErr result (Fails (planned grid.now n live.now stamp)) }
 {
     match grid.offset_of(stamp) {
@@ -41,6 +42,7 @@ pub fn plan_put(
 fn plan_for(alloc: Global, n: u64, live: &[u64], window: u64) -> Result<Plan, Trouble>
     requires { IsStrictlyIncreasing live.now }
     ensures ok { IfOk result (λ p. plan_for n live.now window ≡ Ok (a_plan p.window p.attach p.purge.items)) }
+    ensures window { IfOk result (λ p. p.window ≡ window) }
     ensures cause { IfErr result (Fails (plan_for n live.now window)) }
 {
     let newest = newest_of(live);

@@ -6,4 +6,5 @@ pub mod CameLemmas
 pub mod SetLemmas
 pub mod RemovedLemmas
 pub mod StepLemmas
+pub mod LeaveLemmas
 pub mod RunLemmas

@@ -12,7 +12,7 @@ use Rattle.std.proofs.lemmas.Bool.Decides.{nat_tests}
 use Rattle.ts_model.specs.Catalogue.{Named, Series, Catalogue, name_cmp}
 use Rattle.ts_rolling.specs.Keys.{most_windows, window_key}
 use Rattle.ts_rolling.specs.KeyLaws.{WindowKeysRise}
-use Rattle.ts_rolling_laws.specs.Rolling.{without_windows}
+use Rattle.ts_answer.specs.Rolling.{without_windows}
 use Rattle.ts_rolling_laws.proofs.NumberLemmas.{has, eq_same}
 
 same_key : (a b : List ℕ) → eq_by_cmp name_cmp a b ≡ true → a ≡ b
@@ -32,7 +32,7 @@ pub inserted-other : {X : Type 0} (m : Named X) (name q : List ℕ) (v : X) → 
 inserted-other m name q v other =
     get-insert nat_list_cmp_total m name v q ∙ ap (λ b. cond b (Some v) (get m q)) (apart (eq_by_cmp name_cmp q name) (λ tie. other (same_key q name tie)))
 
-removed-other : {X : Type 0} (m : Named X) (name q : List ℕ) → (q ≡ name → ⊥) → get (remove m name) q ≡ get m q
+pub removed-other : {X : Type 0} (m : Named X) (name q : List ℕ) → (q ≡ name → ⊥) → get (remove m name) q ≡ get m q
 removed-other m name q other =
     get-remove nat_list_cmp_total m name q ∙ ap (λ b. cond b None (get m q)) (apart (eq_by_cmp name_cmp q name) (λ tie. other (same_key q name tie)))
 

@@ -1,6 +1,6 @@
 -- Whatever comes, what stands of a set stays what the puts make it.
 use Rattle.std.specs.Prelude.{is_some, slice_get, option_and_then}
-use Rattle.std.proofs.Common.{◌≡◌, ℕ, ◌<◌, ◌≤◌, false, not, cond, Option, Some, None, option_map, ok_or, Ok, Err, List, [], ◌∷◌, ◌++◌, append_assoc, refl, sym, ap, subst, ◌∙◌, inl, inr, ℤ}
+use Rattle.std.proofs.Common.{◌≡◌, ℕ, ◌<◌, ◌≤◌, true, false, not, cond, Option, Some, None, option_map, ok_or, Ok, Err, List, [], ◌∷◌, ◌++◌, append_assoc, refl, sym, ap, subst, ◌∙◌, inl, inr, ℤ}
 use Rattle.std.proofs.lemmas.List.{append-nil}
 use Rattle.std.specs.List.{AllByRecursion}
 use Rattle.std.specs.FinMap.{empty, get, get-insert, insert, find}
@@ -20,14 +20,17 @@ use Rattle.ts_offset.specs.Grid.{GridPlan, grid_of, start_or_next, held_start}
 use Rattle.ts_command.specs.declared.command.Command.{Command}
 use Rattle.ts_model.specs.declared.kind.Kind.TheVariants as kinds
 use Rattle.ts_model.specs.Catalogue.{Catalogue, Series, Regular, columns_of, shape_of, calendar_of}
-use Rattle.ts_rolling.specs.Keys.{most_windows, most_kept, window_key, control_key, read_control}
+use Rattle.ts_rolling.specs.Keys.{is_set, most_windows, most_kept, window_key, control_key, read_control}
 use Rattle.ts_rolling.specs.Sets.{control_of, controls, live}
+use Rattle.ts_rolling.specs.SetLaws.{window_in}
 use Rattle.ts_rolling.specs.Plan.{Planned, going, planned}
 use Rattle.ts_rolling.specs.Kept.{kept}
-use Rattle.ts_answer.specs.Answer.{Tried, Answered, settled, answer, known, a_row, a_calendar, wanted, create_regular, put_no_dups}
+use Rattle.ts_answer.specs.Answer.{Tried, Answered, settled, answer, outcome, carried_out, known, a_row, a_calendar, wanted, create_regular, put_no_dups}
 use Rattle.ts_multi.specs.Touched.{object}
-use Rattle.ts_rolling_laws.specs.Rolling.{a_control, control_grid, grid_in, without_windows, with_window, roll_put, roll_create}
-use Rattle.ts_rolling_laws.specs.Content.{content, Deed, Put, Other, done, all_done, put_if_any, row_by, put_by, all_puts, IsOfSet, Avoids, IsMade, ContentIsKept}
+use Rattle.ts_answer.specs.Rolling.{a_control, control_grid, grid_in, without_windows, with_window, roll_put, roll_create}
+use Rattle.ts_rolling_laws.specs.Content.{content, Deed, Put, Other, done, all_done, put_if_any, row_by, put_by, all_puts, IsOfSet, IsAside, Avoids, IsMade, ContentIsKept}
+use Rattle.ts_answer_laws.specs.Objects.{set_of}
+use Rattle.ts_rolling_laws.proofs.LeaveLemmas.{window_of_set, control_of_set, of_one_set, named_well}
 use Rattle.ts_rolling_laws.proofs.CameLemmas.{came, on_ok, same_Ok, known_is, wanted_is, not_refused, row_seen}
 use Rattle.ts_rolling_laws.proofs.NumberLemmas.{has}
 use Rattle.ts_rolling_laws.proofs.RemovedLemmas.{inserted-other, without-is}
@@ -85,30 +88,34 @@ module _ (laws : Laws) (set : List ℕ) (n : ℕ) (g : GridPlan) (laid : IsLaid 
       put_taken ps cat after stamp literals answered row.0 row.1 plan.0 (planned_is n (live set after.control.container cat) g stamp plan.0 plan.1) made.0 made.1 made.2
 
   -- another command
-  window_of_set : (j : ℕ) → j < most_windows → IsOfSet set (window_key set j)
-  window_of_set j few = inl (ap is_some ((laws.read.window (window_key set j) set j).1 (few, refl)))
+  same_series : is_set set ≡ true → (cat : Catalogue) (command : Command) → Avoids set (Other command) → (key : List ℕ) → IsOfSet set key → get (answer cat (Ok command)).1.series key ≡ get cat.series key
+  same_series good cat command avoids key of_set = by (set_of command) refl avoids
+    where
+      by : (o : Option (List ℕ)) → set_of command ≡ o → IsAside set o command → get (answer cat (Ok command)).1.series key ≡ get cat.series key
+      by None is aside = (laws.others cat command is).others (object kinds.Series key) (aside key of_set)
+      by (Some other) is aside =
+          (laws.sets cat command other aside.0 is).others (object kinds.Series key)
+          (λ theirs. aside.1 (sym (of_one_set laws.read set laws.share other key good (named_well command other aside.0 is) of_set theirs.1)))
 
-  control_of_set : (m : ℕ) → 1 ≤ m → m ≤ most_kept → IsOfSet set (control_key set m)
-  control_of_set m low high = inr (ap is_some ((laws.read.control (control_key set m) set m).1 (low, high, refl)))
-
-  passed_by : (ps : List Element) (cat : Catalogue) → IsAfter set n g ps cat → (command : Command) → Avoids set (Other command) → IsAfter set n g ps (answer cat (Ok command)).1
-  passed_by ps cat after command avoids =
-      let next = (answer cat (Ok command)).1 in
-      let same = λ (key : List ℕ) (of_set : IsOfSet set key). (laws.others cat command).others (object kinds.Series key) (avoids key of_set) in
-      let there = same (control_key set n) (control_of_set n least most) ∙ after.there in
+  passed_by : is_set set ≡ true → (ps : List Element) (cat : Catalogue) → IsAfter set n g ps cat → (command : Command) → Avoids set (Other command) → IsAfter set n g ps (answer cat (Ok command)).1
+  passed_by good ps cat after command avoids =
+      let same = same_series good cat command avoids in
+      let there = same (control_key set n) (control_of_set laws.read set n least most) ∙ after.there in
       record {
         control = after.control;
         there = there;
         shaped = (laws.shapes cat command (control_key set n) after.control after.control (shapes.Regular g) after.there there after.shaped).1;
-        alone = λ m low high other. same (control_key set m) (control_of_set m low high) ∙ after.alone m low high other;
-        windows = λ j few. same (window_key set j) (window_of_set j few) ∙ after.windows j few;
+        alone = λ m low high other. same (control_key set m) (control_of_set laws.read set m low high) ∙ after.alone m low high other;
+        windows = λ j few.
+            ap (window_in after.control.container) (same (window_key set j) (window_of_set laws.read set j few)) ∙ after.windows j few;
         puts = after.puts;
       }
 
   -- one after the other
-  goes_on : (ps : List Element) (cat : Catalogue) → IsAfter set n g ps cat → (deed : Deed) → Avoids set deed → IsAfter set n g (ps ++ put_by set deed cat) (done set deed cat)
-  goes_on ps cat after (Other command) avoids = subst (λ l. IsAfter set n g l (answer cat (Ok command)).1) (sym (append-nil ps)) (passed_by ps cat after command avoids)
-  goes_on ps cat after (Put stamp literals) avoids = by (roll_put set stamp literals cat) refl
+  goes_on : is_set set ≡ true → (ps : List Element) (cat : Catalogue) → IsAfter set n g ps cat → (deed : Deed) → Avoids set deed → IsAfter set n g (ps ++ put_by set deed cat) (done set deed cat)
+  unfolding answer outcome carried_out
+  goes_on good ps cat after (Other command) avoids = subst (λ l. IsAfter set n g l (answer cat (Ok command)).1) (sym (append-nil ps)) (passed_by good ps cat after command avoids)
+  goes_on good ps cat after (Put stamp literals) avoids = by (roll_put set stamp literals cat) refl
     where
       none : (row : Tried Row) (why : Refusal) → put_if_any stamp row (Err why) ≡ []
       none (Ok row) why = refl
@@ -122,11 +129,11 @@ module _ (laws : Laws) (set : List ℕ) (n : ℕ) (g : GridPlan) (laid : IsLaid 
       by (Err why) is =
           subst (λ l. IsAfter set n g l cat) (sym (append-nil ps) ∙ ap (λ l. ps ++ l) (sym (none (row_by (control_of set cat) literals cat) why))) after
 
-  all_kept : (deeds : List Deed) (ps : List Element) (cat : Catalogue) → IsAfter set n g ps cat → AllByRecursion (Avoids set) deeds
+  all_kept : is_set set ≡ true → (deeds : List Deed) (ps : List Element) (cat : Catalogue) → IsAfter set n g ps cat → AllByRecursion (Avoids set) deeds
       → content set (all_done set deeds cat) ≡ kept g n (ps ++ all_puts set deeds cat)
-  all_kept [] ps cat after avoid = content_kept laws set n g laid least most ps cat after ∙ ap (kept g n) (sym (append-nil ps))
-  all_kept (deed ∷ deeds) ps cat after avoid =
-      all_kept deeds (ps ++ put_by set deed cat) (done set deed cat) (goes_on ps cat after deed avoid.0) avoid.1
+  all_kept good [] ps cat after avoid = content_kept laws set n g laid least most ps cat after ∙ ap (kept g n) (sym (append-nil ps))
+  all_kept good (deed ∷ deeds) ps cat after avoid =
+      all_kept good deeds (ps ++ put_by set deed cat) (done set deed cat) (goes_on good ps cat after deed avoid.0) avoid.1
       ∙ ap (kept g n) (append_assoc ps (put_by set deed cat) (all_puts set deeds (done set deed cat)))
 
 -- the control of a set that was just made stands on its grid, alone
@@ -160,7 +167,7 @@ module _ (laws : Laws) (set : List ℕ) (n : ℕ) (g : GridPlan) (cat made : Cat
     is : made ≡ record cat { series = insert cat.series (control_key set n) control }
 
   created : Created
-  unfolding roll_create create_regular
+  unfolding outcome carried_out roll_create create_regular
   created =
       let plan = came (a_calendar m.calendar cat) _ (m.line, made) m.created in
       let there = came _ _ (m.line, made) plan.2 in
@@ -195,7 +202,8 @@ module _ (laws : Laws) (set : List ℕ) (n : ℕ) (g : GridPlan) (cat made : Cat
     alone = λ k low high other.
         inserted-other cat.series (control_key set n) (control_key set k) control (λ e. other (one_control k low high e))
         ∙ no_control created.none k low high;
-    windows = λ j few. inserted-other cat.series (control_key set n) (window_key set j) control (laws.share.own set j n) ∙ m.none j few;
+    windows = λ j few.
+        ap (window_in m.container) (inserted-other cat.series (control_key set n) (window_key set j) control (laws.share.own set j n)) ∙ m.none j few;
     puts = tt;
   })
     where
@@ -207,4 +215,4 @@ module _ (laws : Laws) (set : List ℕ) (n : ℕ) (g : GridPlan) (cat made : Cat
 
 pub content_is_kept : Laws → ContentIsKept
 content_is_kept laws set n g cat made deeds m avoid =
-    all_kept laws set n g (made_laid laws set n g cat made m) m.least m.most deeds [] made (made_after laws set n g cat made m) avoid
+    all_kept laws set n g (made_laid laws set n g cat made m) m.least m.most m.named deeds [] made (made_after laws set n g cat made m) avoid

@@ -14,16 +14,16 @@ use Rattle.ts_row.specs.Element.{Element, seen}
 use Rattle.ts_calendar.specs.Intervals.{IsLaid}
 use Rattle.ts_offset.specs.declared.shape.Shape.TheVariants as shapes
 use Rattle.ts_offset.specs.Grid.{GridPlan, offset_of}
-use Rattle.ts_model.specs.Catalogue.{Catalogue, Series, Irregular, shape_of}
+use Rattle.ts_model.specs.Catalogue.{Catalogue, Elements, Series, Irregular, shape_of}
 use Rattle.ts_rolling.specs.Keys.{most_windows, most_kept, window_key, control_key}
 use Rattle.ts_rolling.specs.KeyLaws.{WindowKeysRise, ControlKeysRise, KeysAreReadExactly, SetsShareNoKeys}
 use Rattle.ts_rolling.specs.Plan.{greatest, is_old}
-use Rattle.ts_rolling.specs.Sets.{controls, control_of, windows, live}
+use Rattle.ts_rolling.specs.Sets.{controls, control_of, may_be_window, windows, live}
 use Rattle.ts_rolling.specs.SetLaws.{SeriesAreFoundByKeys, window_in}
 use Rattle.ts_rolling.specs.Kept.{kept, last_puts, window_of, newest_put}
 use Rattle.ts_answer_laws.specs.Laws.{OthersStay}
 use Rattle.ts_answer_laws.specs.SeriesLaws.{SeriesKeepTheirShapes}
-use Rattle.ts_rolling_laws.specs.Content.{content, content_by}
+use Rattle.ts_rolling_laws.specs.Content.{content, content_by, SetsStay}
 use Rattle.ts_rolling_laws.proofs.NumberLemmas.{has, stands, eq_refl, eq_same}
 use Rattle.ts_rolling_laws.proofs.OffsetLemmas.{offset_few}
 use Rattle.ts_rolling_laws.proofs.PartLemmas.{in_window, in_window-yes, part, numbers, ArePuts, last-none, last-put, entries-part}
@@ -37,21 +37,46 @@ pub record Laws : Type 0 where
   pub share : SetsShareNoKeys
   pub found : SeriesAreFoundByKeys
   pub others : OthersStay
+  pub sets : SetsStay
   pub shapes : SeriesKeepTheirShapes
 
 -- a window of a set after some puts
 abbrev pub a_window : List ℕ → GridPlan → List Element → ℕ → Series
 a_window container g ps j = record { container = container; kind = Irregular; elements = part g (last_puts ps) j }
 
--- The control stands alone with its number and its grid; the windows that stand have the last puts, and no others are there.
+-- The control stands alone with its number and its grid; the windows that stand have the last puts, and no other series
+-- is a window.
 pub record IsAfter (set : List ℕ) (n : ℕ) (g : GridPlan) (ps : List Element) (cat : Catalogue) : Type 0 where
   pub control : Series
   pub there : get cat.series (control_key set n) ≡ Some control
   pub shaped : shape_of cat control.kind ≡ Some (shapes.Regular g)
   pub alone : (m : ℕ) → 1 ≤ m → m ≤ most_kept → (m ≡ n → ⊥) → get cat.series (control_key set m) ≡ None
   pub windows : (j : ℕ) → j < most_windows
-      → get cat.series (window_key set j) ≡ cond (stands n (numbers g ps) j) (Some (a_window control.container g ps j)) None
+      → window_in control.container (get cat.series (window_key set j))
+      ≡ cond (stands n (numbers g ps) j) (Some (a_window control.container g ps j)) None
   pub puts : ArePuts g ps
+
+-- an irregular series of a container may be a window's there
+pub window_own : (container : List ℕ) (es : Elements)
+    → window_in container (Some (record { container = container; kind = Irregular; elements = es }))
+    ≡ Some (record { container = container; kind = Irregular; elements = es })
+window_own container es =
+    ap (λ b. cond (b && true) (Some (record { container = container; kind = Irregular; elements = es })) None)
+    ((bytes_eq-Decides container container).1 refl)
+
+-- what may be a window's is there
+pub window_in-some : (container : List ℕ) (o : Option Series) (w : Series) → window_in container o ≡ Some w → o ≡ Some w
+window_in-some container None w e = absurd (cc)
+window_in-some container (Some s) w e = by (may_be_window container s) e
+  where
+    by : (b : Bool) → cond b (Some s) None ≡ Some w → Some s ≡ Some w
+    by true is = is
+    by false is = absurd (cc)
+
+pub window_in-cut : (container : List ℕ) (b : Bool) (o : Option Series)
+    → window_in container (cond b None o) ≡ cond b None (window_in container o)
+window_in-cut container true o = refl
+window_in-cut container false o = refl
 
 find_outside : {X : Type 0} (Good : ℕ → Type 0) (q : ℕ) → (Good q → ⊥) → (es : List (ℕ × X)) → AllByRecursion (λ e. Good e.0) es → find nat_cmp q es ≡ None
 find_outside Good q bad [] all = refl
@@ -128,14 +153,9 @@ module _ (laws : Laws) (set : List ℕ) (n : ℕ) (g : GridPlan) (laid : IsLaid 
     control_found = ap (λ l. slice_get l 0)
         (same_entries nat_cmp nat_cmp_total nat_cmp-IsAntisymmetric (controls set cat) ((n, after.control) ∷ []) (told _ (laws.found.controls_rise set cat)) tt only_control)
 
-    own_window : (j : ℕ) (b : Bool) → window_in after.control.container (cond b (Some (a_window after.control.container g ps j)) None)
-        ≡ cond b (Some (a_window after.control.container g ps j)) None
-    own_window j true = ap (λ b. cond (b && true) (Some (a_window after.control.container g ps j)) None) ((bytes_eq-Decides after.control.container after.control.container).1 refl)
-    own_window j false = refl
-
     -- a window is found where it stands
     pub window_found : (j : ℕ) → j < most_windows → find nat_cmp j ws ≡ cond (stands n ks j) (Some (a_window after.control.container g ps j)) None
-    window_found j few = laws.found.window set after.control.container cat j few ∙ ap (window_in after.control.container) (after.windows j few) ∙ own_window j (stands n ks j)
+    window_found j few = laws.found.window set after.control.container cat j few ∙ after.windows j few
 
     put_few : (qs : List Element) → ArePuts g qs → (j : ℕ) → has (numbers g qs) j ≡ true → j < most_windows
     put_few [] puts j h = absurd (false≢true h)

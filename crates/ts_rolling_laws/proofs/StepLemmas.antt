@@ -21,13 +21,14 @@ use Rattle.ts_rolling.specs.Plan.{Planned, a_plan, later, greatest, is_old, is_g
 use Rattle.ts_rolling.specs.Sets.{live, windows}
 use Rattle.ts_rolling.specs.Kept.{last_puts, window_of}
 use Rattle.ts_answer.specs.Answer.{Answered, known, a_row, an_address, addressed, wanted, put_no_dups, create_irregular}
-use Rattle.ts_rolling_laws.specs.Rolling.{with_window}
+use Rattle.ts_answer.specs.Rolling.{with_window}
 use Rattle.ts_rolling_laws.proofs.CameLemmas.{came, on_ok, same_Ok, wanted_is}
 use Rattle.ts_rolling_laws.proofs.NumberLemmas.{has, stands, eq_refl, eq_same, eq_apart, same_newest, stands-other, stands-own, own_young, none_yet}
 use Rattle.ts_rolling_laws.proofs.OffsetLemmas.{offset_few}
 use Rattle.ts_rolling_laws.proofs.PartLemmas.{is_window, in_window, in_window-yes, part, numbers, ArePuts, part-put, part-other, part-none, last-push, last-none}
 use Rattle.ts_rolling_laws.proofs.RemovedLemmas.{key_tie, inserted-other, removed, removed-none, inserted-window, removed-window, has-filter, all-filter, all-numbers}
-use Rattle.ts_rolling_laws.proofs.SetLemmas.{Laws, a_window, IsAfter, live_stands}
+use Rattle.ts_rolling.specs.SetLaws.{window_in}
+use Rattle.ts_rolling_laws.proofs.SetLemmas.{Laws, a_window, IsAfter, live_stands, window_own, window_in-some, window_in-cut}
 
 -- a plan that was made, of a window that isn't gone
 pub record IsPlanned (n : ℕ) (l : List ℕ) (g : GridPlan) (stamp : ℤ) (plan : Planned) : Type 0 where
@@ -154,9 +155,12 @@ module _ (laws : Laws) (set : List ℕ) (n : ℕ) (g : GridPlan) (laid : IsLaid 
       purged_few = all-filter (λ k. k < most_windows) (is_old n (later (greatest l) j)) l (all-numbers (λ k. k < most_windows) (windows set container cat) (laws.found.windows_few set container cat))
 
       -- what is left of the windows
-      less_is : (k : ℕ) → k < most_windows → get less (window_key set k) ≡ cond (stands n ks k && not (is_old n (later (greatest ks) j) k)) (Some (a_window container g ps k)) None
+      less_is : (k : ℕ) → k < most_windows
+          → window_in container (get less (window_key set k))
+          ≡ cond (stands n ks k && not (is_old n (later (greatest ks) j) k)) (Some (a_window container g ps k)) None
       less_is k low =
-          removed-window laws.windows_rise set (going n l j) purged_few cat.series k low
+          ap (window_in container) (removed-window laws.windows_rise set (going n l j) purged_few cat.series k low)
+          ∙ window_in-cut container (has (going n l j) k) (get cat.series (window_key set k))
           ∙ (λ i. cond (goes k i) None (after.windows k low i))
           ∙ left (stands n ks k) (is_old n (later (greatest ks) j) k) (a_window container g ps k)
 
@@ -176,7 +180,8 @@ module _ (laws : Laws) (set : List ℕ) (n : ℕ) (g : GridPlan) (laid : IsLaid 
         where
           here : (b : Bool) → stands n ks j ≡ b → get (with_made (not b) (window_key set j) container less) (window_key set j) ≡ Some (a_window container g ps j)
           here true is =
-              less_is j few ∙ (λ i. cond (is i && not (own_young n least ks l alike j there i)) (Some (a_window container g ps j)) None)
+              window_in-some container (get less (window_key set j)) (a_window container g ps j)
+              (less_is j few ∙ (λ i. cond (is i && not (own_young n least ks l alike j there i)) (Some (a_window container g ps j)) None))
           here false is =
               inserted-window laws.windows_rise set less j j (new_window container) few few
               ∙ ap (λ b. cond b (Some (new_window container)) (get less (window_key set j))) (eq_refl j)
@@ -210,16 +215,21 @@ module _ (laws : Laws) (set : List ℕ) (n : ℕ) (g : GridPlan) (laid : IsLaid 
               turned : (j == k) ≡ false
               turned = eq_apart j k (λ e. false≢true (sym other ∙ ap (λ x. x == j) (sym e) ∙ eq_refl j))
 
-      final_is : (k : ℕ) → k < most_windows → get final (window_key set k) ≡ cond (stands n (numbers g next) k) (Some (a_window container g next k)) None
+      final_is : (k : ℕ) → k < most_windows
+          → window_in container (get final (window_key set k))
+          ≡ cond (stands n (numbers g next) k) (Some (a_window container g next k)) None
       final_is k low =
-          inserted-window laws.windows_rise set more j k put few low ∙ by (k == j) refl
+          ap (window_in container) (inserted-window laws.windows_rise set more j k put few low) ∙ by (k == j) refl
         where
-          by : (b : Bool) → (k == j) ≡ b → cond b (Some put) (get more (window_key set k)) ≡ cond (stands n (numbers g next) k) (Some (a_window container g next k)) None
+          by : (b : Bool) → (k == j) ≡ b
+              → window_in container (cond b (Some put) (get more (window_key set k)))
+              ≡ cond (stands n (numbers g next) k) (Some (a_window container g next k)) None
           by true same =
-              ap Some (put_window ∙ ap (λ x. a_window container g next x) (sym (eq_same k j same)))
+              window_own container (insert (part g (last_puts ps) j) stamp row)
+              ∙ ap Some (put_window ∙ ap (λ x. a_window container g next x) (sym (eq_same k j same)))
               ∙ sym (ap (λ b. cond b (Some (a_window container g next k)) None) (stands_next k true same))
           by false other =
-              more_other (window_key set k) (λ e. false≢true (sym other ∙ same_number e))
+              ap (window_in container) (more_other (window_key set k) (λ e. false≢true (sym other ∙ same_number e)))
               ∙ less_is k low
               ∙ (λ i. cond (sym (stands_next k false other) i) (Some (window_next k other i)) None)
             where

@@ -1,12 +1,13 @@
 -- Where one session alone has turns, it is answered as a run is.
-use Rattle.std.proofs.Common.{◌≡◌, ℕ, ◌+◌, ◌-◌, ◌<◌, ◌≤◌, Bool, true, false, cond, pos, Option, Some, None, option_map, Ok, Err, List, [], ◌∷◌, ◌++◌, length, map, take, drop, get_or, set, replicate, refl, ap, sym, ◌∙◌, subst, arith}
+use Rattle.std.proofs.Common.{◌≡◌, ◌≢◌, ℕ, ◌+◌, ◌-◌, ◌<◌, ◌≤◌, Bool, true, false, cond, pos, Option, Some, None, option_map, Ok, Err, List, [], ◌∷◌, ◌++◌, length, map, take, drop, get_or, set, replicate, refl, ap, sym, ◌∙◌, subst, arith}
 use Rattle.std.specs.Prelude.{position}
+use Rattle.std.specs.List.{AllByRecursion}
 use Rattle.std.proofs.lemmas.List.{get_or-set_same, length-set, length-map, length-replicate, take_all, drop_all}
 use Rattle.ts_base.specs.declared.refusal.Refusal.{Refusal}
 use Rattle.ts_base.specs.declared.refusal.Refusal.TheVariants as refusals
 use Rattle.ts_command.specs.declared.command.Command.{Command}
 use Rattle.ts_command.specs.declared.boundary.Boundary.{Boundary}
-use Rattle.ts_command.specs.declared.boundary.Boundary.TheVariants.{Opens, Commits, RollsBack}
+use Rattle.ts_command.specs.declared.boundary.Boundary.TheVariants.{Opens, Commits, RollsBack, Alone}
 use Rattle.ts_command.specs.Boundary.{boundary_of}
 use Rattle.ts_command.specs.Writing.{is_writing}
 use Rattle.ts_command.specs.Script.{Request}
@@ -24,7 +25,7 @@ use Rattle.ts_sessions.specs.Steps.{Turn, Stepped, with_snapshot, with_commit, f
 use Rattle.ts_sessions.specs.Turns.{replies_by, behind_all}
 use Rattle.ts_sessions.specs.Laws.{IsSound}
 use Rattle.ts_sessions.proofs.CallerLemmas.{behind_commits_more, cleared, no_snapshot, sound_start, sound_step, count_step}
-use Rattle.ts_session_laws.specs.Laws.{OneSessionIsARun}
+use Rattle.ts_session_laws.specs.Laws.{IsOfSessions, OneSessionIsARun}
 use Rattle.ts_session_laws.proofs.InsideLemmas.{Inside, inside_step, reads_only}
 use Rattle.ts_session_laws.proofs.SnapshotLemmas.{fresh_seen}
 
@@ -144,22 +145,23 @@ module _ (who : ℕ) (m : Machine) (within : who < length m.sessions) where
         let begun : x.next.begun ≡ t.begun = ap (λ (y : Snapshot). y.begun) same in
         omega (arith, begun, x.begun, newest s refl, commits))
 
-    boundary_goes : (command : Command) (boundary : Option Boundary) → boundary_of command ≡ boundary → (pending : Option Snapshot) → snapshot_at who m ≡ pending → IsNewest m pending
+    boundary_goes : (command : Command) (boundary : Option Boundary) → boundary_of command ≡ boundary → boundary ≢ Some Alone → (pending : Option Snapshot) → snapshot_at who m ≡ pending → IsNewest m pending
         → Goes who (in_session who command boundary pending m) (run_answer (state_of m pending) (Ok command))
-    boundary_goes command (Some Opens) is None at newest = begins_goes command is
-    boundary_goes command (Some Opens) is (Some s) at newest =
+    boundary_goes command (Some Opens) is other None at newest = begins_goes command is
+    boundary_goes command (Some Opens) is other (Some s) at newest =
         refused_alone command (Some Opens) (Some s) at newest refusals.AlreadyOpen (opened_inside command (latest m) (seen m s) (length s.commands) is)
-    boundary_goes command (Some Commits) is None at newest = refused_alone command (Some Commits) None at newest refusals.NotOpen (committed_outside command (latest m) is)
-    boundary_goes command (Some Commits) is (Some s) at newest = commit_goes command s (newest s refl) (sound who s at).accepted is
-    boundary_goes command (Some RollsBack) is None at newest = refused_alone command (Some RollsBack) None at newest refusals.NotOpen (rolled_back_outside command (latest m) is)
-    boundary_goes command (Some RollsBack) is (Some s) at newest = rolls_goes command s is
-    boundary_goes command None is None at newest = outside_goes command at is (is_writing command) refl (outcome (Ok command) (latest m)) refl
-    boundary_goes command None is (Some s) at newest =
+    boundary_goes command (Some Commits) is other None at newest = refused_alone command (Some Commits) None at newest refusals.NotOpen (committed_outside command (latest m) is)
+    boundary_goes command (Some Commits) is other (Some s) at newest = commit_goes command s (newest s refl) (sound who s at).accepted is
+    boundary_goes command (Some RollsBack) is other None at newest = refused_alone command (Some RollsBack) None at newest refusals.NotOpen (rolled_back_outside command (latest m) is)
+    boundary_goes command (Some RollsBack) is other (Some s) at newest = rolls_goes command s is
+    boundary_goes command (Some Alone) is other pending at newest = absurd (other refl)
+    boundary_goes command None is other None at newest = outside_goes command at is (is_writing command) refl (outcome (Ok command) (latest m)) refl
+    boundary_goes command None is other (Some s) at newest =
         subst (λ (x : Stepped). Goes who x (run_answer (state_of m (Some s)) (Ok command))) (λ i. in_session who command (is i) (at i) m) (inside_goes command s at is newest)
 
-    turn_goes : (request : Request) → IsNewest m (snapshot_at who m) → Goes who (step_of who request m) (run_answer (state_of m (snapshot_at who m)) request)
-    turn_goes (Ok command) newest = boundary_goes command (boundary_of command) refl (snapshot_at who m) refl newest
-    turn_goes (Err refusal) newest = refused_goes (Err refusal) (snapshot_at who m) refl newest refusal (misread_refused refusal (state_of m (snapshot_at who m)))
+    turn_goes : (request : Request) → IsOfSessions request → IsNewest m (snapshot_at who m) → Goes who (step_of who request m) (run_answer (state_of m (snapshot_at who m)) request)
+    turn_goes (Ok command) other newest = boundary_goes command (boundary_of command) refl other (snapshot_at who m) refl newest
+    turn_goes (Err refusal) other newest = refused_goes (Err refusal) (snapshot_at who m) refl newest refusal (misread_refused refusal (state_of m (snapshot_at who m)))
 
 base_is : (m : Machine) (pending : Option Snapshot) → (state_of m pending).base ≡ latest m
 base_is m None = refl
@@ -179,11 +181,11 @@ record Ran (who : ℕ) (m : Machine) (state : State) (requests : List Request) :
   said : replies_by machine_answer m (turns_of who requests) ≡ map (λ reply. session_line who ++ reply) (said_to state requests)
   left : latest (behind_all machine_answer m (turns_of who requests)) ≡ committed (behind state requests)
 
-alike_ran : (who : ℕ) (requests : List Request) (m : Machine) (state : State) → Alike who m state → Ran who m state requests
-alike_ran who [] m state x = record { said = refl; left = sym (ap (λ (y : State). y.base) x.is ∙ base_is m (snapshot_at (who - 1) m)) }
-alike_ran who (request ∷ requests) m state x =
+alike_ran : (who : ℕ) (requests : List Request) → AllByRecursion IsOfSessions requests → (m : Machine) (state : State) → Alike who m state → Ran who m state requests
+alike_ran who [] all m state x = record { said = refl; left = sym (ap (λ (y : State). y.base) x.is ∙ base_is m (snapshot_at (who - 1) m)) }
+alike_ran who (request ∷ requests) all m state x =
     let w : ℕ = who - 1 in
-    let goes = turn_goes w m x.within x.sound request x.newest in
+    let goes = turn_goes w m x.within x.sound request all.0 x.newest in
     let after : Machine = (step_of w request m).1 in
     let next : State = (run_answer state request).1 in
     let same : run_answer (state_of m (snapshot_at w m)) request ≡ run_answer state request = λ i. run_answer (sym x.is i) request in
@@ -195,7 +197,7 @@ alike_ran who (request ∷ requests) m state x =
       newest = goes.newest;
       sound = sound_step m (who, request) x.sound;
     } in
-    let rest = alike_ran who requests after next y in
+    let rest = alike_ran who requests all.1 after next y in
     record {
       said =
           (λ i. (session_line who ++ (goes.reply ∙ (λ j. (same j).0)) i) ∷ replies_by machine_answer after (turns_of who requests))
@@ -203,8 +205,8 @@ alike_ran who (request ∷ requests) m state x =
       left = rest.left;
     }
 
-pub one_session : (count : ℕ) (cat : Catalogue) (who : ℕ) (requests : List Request) → 0 < who → who ≤ count → OneSessionIsARun count cat who requests
-one_session count cat who requests some within =
+pub one_session : (count : ℕ) (cat : Catalogue) (who : ℕ) (requests : List Request) → 0 < who → who ≤ count → AllByRecursion IsOfSessions requests → OneSessionIsARun count cat who requests
+one_session count cat who requests some within all =
     let w : ℕ = who - 1 in
     let none : snapshot_at w (start count cat) ≡ None = no_snapshot cat count w in
     let x : Alike who (start count cat) (resting cat) = record {
@@ -213,5 +215,5 @@ one_session count cat who requests some within =
       newest = λ s is. let no : None ≡ Some s = sym none ∙ is in absurd (cc);
       sound = sound_start count cat;
     } in
-    let ran = alike_ran who requests (start count cat) (resting cat) x in
+    let ran = alike_ran who requests all (start count cat) (resting cat) x in
     record { said = ran.said; left = ran.left }

@@ -1,6 +1,7 @@
 -- What the laws say of sessions and of runs that are alone.
-use Rattle.std.specs.Prelude.{◌≡◌, ◌-◌, ◌<◌, ◌≤◌, ℕ, None, List, [], ◌∷◌, ◌++◌, length, map, All, Ok, Err}
+use Rattle.std.specs.Prelude.{◌≡◌, ◌≢◌, ◌-◌, ◌<◌, ◌≤◌, ℕ, None, Some, List, [], ◌∷◌, ◌++◌, length, map, All, Ok, Err}
 use Rattle.ts_command.specs.declared.command.Command.TheVariants as commands
+use Rattle.ts_command.specs.declared.boundary.Boundary.TheVariants.{Alone}
 use Rattle.ts_command.specs.Boundary.{boundary_of}
 use Rattle.ts_command.specs.Script.{Request}
 use Rattle.ts_model.specs.Catalogue.{Catalogue}
@@ -19,6 +20,11 @@ SnapshotsAreRuns =
     → All (λ turn. 0 < turn.0) turns → All IsPlain (items_of who turns)
     → replies_to who m ((who, Ok commands.Begin) ∷ turns)
     ≡ said_to (resting (latest m)) (Ok commands.Begin ∷ items_of who turns)
+
+-- a request that a session may make: none of a rolling routine
+abbrev pub IsOfSessions : Request → Type 0
+IsOfSessions (Ok command) = boundary_of command ≢ Some Alone
+IsOfSessions (Err refusal) = Unit {0}
 
 -- A session whose turns alone there are is answered as a run of its requests is, each reply behind the session's line,
 -- and leaves the same catalogue.

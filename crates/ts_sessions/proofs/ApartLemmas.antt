@@ -7,7 +7,7 @@ use Rattle.ts_base.specs.declared.refusal.Refusal.{Refusal}
 use Rattle.ts_base.specs.declared.refusal.Refusal.TheVariants as refusals
 use Rattle.ts_command.specs.declared.command.Command.{Command}
 use Rattle.ts_command.specs.declared.boundary.Boundary.{Boundary}
-use Rattle.ts_command.specs.declared.boundary.Boundary.TheVariants.{Opens, Commits, RollsBack}
+use Rattle.ts_command.specs.declared.boundary.Boundary.TheVariants.{Opens, Commits, RollsBack, Alone}
 use Rattle.ts_command.specs.Boundary.{boundary_of}
 use Rattle.ts_command.specs.Script.{Request}
 use Rattle.ts_model.specs.Catalogue.{Catalogue}
@@ -72,6 +72,7 @@ module _ (who : ℕ) (command : Command) (m : Machine) where
   session_apart (Some Commits) is pending = committed_apart is pending
   session_apart (Some Opens) is pending = alone_apart (Some Opens) pending
   session_apart (Some RollsBack) is pending = alone_apart (Some RollsBack) pending
+  session_apart (Some Alone) is pending = refusal_apart (refusals.Syntax 0) (state_of m None)
   session_apart None is pending = alone_apart None pending
 
 step_apart : (who : ℕ) (request : Request) (m : Machine) → IsApart (step_of who request m).0

@@ -6,7 +6,7 @@ use Rattle.std.proofs.lemmas.List.{get_or-set_other, get_or-set_same, set_past}
 use Rattle.ts_base.specs.declared.refusal.Refusal.TheVariants as refusals
 use Rattle.ts_command.specs.declared.command.Command.{Command}
 use Rattle.ts_command.specs.declared.boundary.Boundary.{Boundary}
-use Rattle.ts_command.specs.declared.boundary.Boundary.TheVariants.{Opens, Commits, RollsBack}
+use Rattle.ts_command.specs.declared.boundary.Boundary.TheVariants.{Opens, Commits, RollsBack, Alone}
 use Rattle.ts_command.specs.Boundary.{boundary_of}
 use Rattle.ts_command.specs.Writing.{is_writing}
 use Rattle.ts_command.specs.Script.{Request}
@@ -18,6 +18,7 @@ use Rattle.ts_answer.specs.Answer.{Tried, Answered, outcome}
 use Rattle.ts_answer.specs.State.{State, resting, opened, counted, run_outcome}
 use Rattle.ts_answer.proofs.CallerLemmas.{outside_refused, outside_came, opened_outside, committed_outside, rolled_back_outside, opened_inside, rolled_back_inside, full_inside, refused_inside, came_inside}
 use Rattle.ts_sessions.specs.Machine.{Snapshot, Machine, latest, snapshot_at, replayed, seen, conflict, state_of}
+use Rattle.ts_sessions.specs.Laws.{CanBeNoted}
 use Rattle.ts_sessions.specs.Steps.{with_snapshot, with_commit, fresh, with_command, replied, unless_conflict, noted, accepted_or, as_alone, in_session, step_of}
 
 -- a place that is set, and every other
@@ -48,10 +49,10 @@ pub data Moves (who : ℕ) (pending : Option Snapshot) (request : Request) (m af
   -- a transaction ends without a commit
   ends : after ≡ with_snapshot who None m → Moves who pending request m after
   -- it has a command more
-  notes : (s : Snapshot) (command : Command) (a : Answered) → pending ≡ Some s → is_writing command ≡ true → length s.commands < 32
+  notes : (s : Snapshot) (command : Command) (a : Answered) → pending ≡ Some s → CanBeNoted command → length s.commands < 32
       → outcome (Ok command) (seen m s) ≡ Ok a → after ≡ with_snapshot who (Some (with_command command s)) m → Moves who pending request m after
   -- a command outside is a commit
-  commits_alone : (command : Command) (a : Answered) → pending ≡ None → request ≡ Ok command → is_writing command ≡ true
+  commits_alone : (command : Command) (a : Answered) → pending ≡ None → request ≡ Ok command → CanBeNoted command
       → outcome (Ok command) (latest m) ≡ Ok a → after ≡ with_commit a.1 (objects command).wrote m → Moves who pending request m after
   -- a whole transaction is one
   commits_all : (s : Snapshot) (command : Command) (next : Catalogue) → pending ≡ Some s → request ≡ Ok command → boundary_of command ≡ Some Commits
@@ -70,7 +71,7 @@ module _ (who : ℕ) (command : Command) (m : Machine) where
       → Comes None (as_alone who command None None m).1
   plain_outside plain true w (Ok a) is =
       by_outcome None None (Ok (a.0, resting a.1)) (outside_came command (latest m) a.0 a.1 plain is)
-      (commits_alone command a refl refl w is (λ i. cond (w i) (noted who command None a.1 m) m))
+      (commits_alone command a refl refl (w, plain) is (λ i. cond (w i) (noted who command None a.1 m) m))
   plain_outside plain false w (Ok a) is =
       by_outcome None None (Ok (a.0, resting a.1)) (outside_came command (latest m) a.0 a.1 plain is) (stays (λ i. cond (w i) (noted who command None a.1 m) m))
   plain_outside plain w is_w (Err refusal) is = by_outcome None None (Err refusal) (outside_refused command (latest m) refusal is) (stays refl)
@@ -80,7 +81,7 @@ module _ (who : ℕ) (command : Command) (m : Machine) where
         → (came : Tried Answered) → outcome (Ok command) (seen m s) ≡ came → Comes (Some s) (as_alone who command None (Some s) m).1
     few_inside plain true w few (Ok a) is =
         by_outcome None (Some s) (Ok (a.0, opened (latest m) a.1 (counted command (length s.commands)))) (came_inside command (latest m) (seen m s) (length s.commands) plain few a.0 a.1 is)
-        (notes s command a refl w (few w) is (λ i. cond (w i) (noted who command (Some s) (latest m) m) m))
+        (notes s command a refl (w, plain) (few w) is (λ i. cond (w i) (noted who command (Some s) (latest m) m) m))
     few_inside plain false w few (Ok a) is =
         by_outcome None (Some s) (Ok (a.0, opened (latest m) a.1 (counted command (length s.commands)))) (came_inside command (latest m) (seen m s) (length s.commands) plain few a.0 a.1 is)
         (stays (λ i. cond (w i) (noted who command (Some s) (latest m) m) m))
@@ -116,6 +117,7 @@ module _ (who : ℕ) (command : Command) (m : Machine) where
   by_boundary (Some RollsBack) rolls None = by_outcome (Some RollsBack) None (Err refusals.NotOpen) (rolled_back_outside command (latest m) rolls) (stays refl)
   by_boundary (Some RollsBack) rolls (Some s) =
       by_outcome (Some RollsBack) (Some s) (Ok (ok_line, resting (latest m))) (rolled_back_inside command (latest m) (seen m s) (length s.commands) rolls) (ends refl)
+  by_boundary (Some Alone) alone pending = stays refl
   by_boundary None plain None = plain_outside plain (is_writing command) refl (outcome (Ok command) (latest m)) refl
   by_boundary None plain (Some s) = plain_inside s plain (is_writing command) refl (nat_lt (length s.commands) 32) refl
 

@@ -6,7 +6,6 @@ use Rattle.std.proofs.lemmas.List.Elements.{All-append}
 use Rattle.ts_command.specs.declared.command.Command.{Command}
 use Rattle.ts_command.specs.declared.command.Command.TheVariants as commands
 use Rattle.ts_command.specs.declared.boundary.Boundary.TheVariants.{Commits}
-use Rattle.ts_command.specs.Boundary.{boundary_of}
 use Rattle.ts_command.specs.Writing.{is_writing}
 use Rattle.ts_command.specs.Script.{Request}
 use Rattle.ts_model.specs.Catalogue.{Catalogue}
@@ -19,7 +18,7 @@ use Rattle.ts_answer.proofs.CallerLemmas.{run_came, opened_outside, committed_ou
 use Rattle.ts_sessions.specs.Machine.{Commit, Snapshot, Machine, start, latest, snapshot_at, behind_commits, replayed, conflict}
 use Rattle.ts_sessions.specs.Steps.{Turn, with_snapshot, with_commit, replied, unless_conflict, accepted_or, committed, step_of, machine_step, machine_answer}
 use Rattle.ts_sessions.specs.Turns.{behind_all}
-use Rattle.ts_sessions.specs.Laws.{MayCommit, Appends, OnlyCommitsAppend, AreMade, in_transaction, CommitsAreOneList, IsSound}
+use Rattle.ts_sessions.specs.Laws.{CanBeNoted, MayCommit, Appends, OnlyCommitsAppend, AreMade, in_transaction, CommitsAreOneList, IsSound}
 use Rattle.ts_sessions.proofs.CarriedLemmas.{replayed_one, behind_commits_more}
 use Rattle.ts_sessions.proofs.MoveLemmas.{cleared, Moves, stays, begins, ends, notes, commits_alone, commits_all, moves}
 use Rattle.ts_sessions.proofs.SoundLemmas.{sound_start, sound_step}
@@ -92,7 +91,7 @@ only_commits m turn =
 -- what is committed together
 record Fits (block : List Command) : Type 0 where
   few : length block ≤ 32
-  writing : All (λ command. is_writing command ≡ true) block
+  writing : All CanBeNoted block
 
 -- the commits so far
 record Kept (cat : Catalogue) (m : Machine) : Type 0 where
@@ -109,9 +108,9 @@ made_more cat [] (other ∷ blocks) commit block made is wrote = absurd made
 made_more cat (first ∷ commits) [] commit block made is wrote = absurd made
 made_more cat (first ∷ commits) (other ∷ blocks) commit block made is wrote = (made.0, made.1, made_more first.catalogue commits blocks commit block made.2 is wrote)
 
-one_fits : (command : Command) → is_writing command ≡ true → Fits (command ∷ [])
+one_fits : (command : Command) → CanBeNoted command → Fits (command ∷ [])
 one_fits command writes = record { few = omega arith; writing = one } where
-  one : All (λ c. is_writing c ≡ true) (command ∷ [])
+  one : All CanBeNoted (command ∷ [])
   one zero d within = writes
   one (suc k) d within = absurd (omega (arith, within))
 
@@ -162,28 +161,22 @@ kept_all cat m (turn ∷ turns) kept =
     let after : Machine = (machine_step m turn).1 in
     kept_all cat after turns (kept_moved cat m after kept (sound_step m turn kept.sound) (turn.0 - 1) turn.1 (moves (turn.0 - 1) turn.1 m))
 
--- a command that writes is none of Begin, Commit and Rollback
-writes_between : (command : Command) → is_writing command ≡ true → boundary_of command ≡ None
-writes_between commands.Begin writes = absurd (cc)
-writes_between commands.Commit writes = absurd (cc)
-writes_between commands.Rollback writes = absurd (cc)
-writes_between command writes = refl
-
 -- a transaction of one session, from a place within it
 abbrev RestAlone : List Command → Type 0
 RestAlone block =
-    (base work : Catalogue) (n : ℕ) (next : Catalogue) (more : List Request) → n + length block ≤ 32 → All (λ command. is_writing command ≡ true) block → replayed work block ≡ Ok next
+    (base work : Catalogue) (n : ℕ) (next : Catalogue) (more : List Request) → n + length block ≤ 32 → All CanBeNoted block → replayed work block ≡ Ok next
     → behind_all run_answer (opened base work n) ((map Ok block ++ Ok commands.Commit ∷ []) ++ more) ≡ behind_all run_answer (resting next) more
 
 one_alone_then : (command : Command) (block : List Command) → RestAlone block → (base work : Catalogue) (n : ℕ) (next : Catalogue) (more : List Request) → n + length (command ∷ block) ≤ 32
-    → All (λ c. is_writing c ≡ true) (command ∷ block) → replayed work (command ∷ block) ≡ Ok next → (came : Tried Answered) → outcome (Ok command) work ≡ came
+    → All CanBeNoted (command ∷ block) → replayed work (command ∷ block) ≡ Ok next → (came : Tried Answered) → outcome (Ok command) work ≡ came
     → behind_all run_answer (opened base work n) ((map Ok (command ∷ block) ++ Ok commands.Commit ∷ []) ++ more) ≡ behind_all run_answer (resting next) more
 unfolding ◌>>=◌
 one_alone_then command block others base work n next more few writes is (Ok a) came =
-    let wrote : is_writing command ≡ true = writes 0 command (omega arith) in
+    let noted : CanBeNoted command = writes 0 command (omega arith) in
+    let wrote : is_writing command ≡ true = noted.0 in
     let one : counted command n ≡ n + 1 = λ i. n + cond (wrote i) 1 0 in
     let step = run_came (Ok command) (opened base work n) a.0 (opened base a.1 (counted command n))
-    (came_inside command base work n (writes_between command wrote) (λ w. omega (arith, few)) a.0 a.1 came) in
+    (came_inside command base work n noted.1 (λ w. omega (arith, few)) a.0 a.1 came) in
     (λ i. behind_all run_answer (step i).1 ((map Ok block ++ Ok commands.Commit ∷ []) ++ more))
     ∙ (λ i. behind_all run_answer (opened base a.1 (one i)) ((map Ok block ++ Ok commands.Commit ∷ []) ++ more))
     ∙ others base a.1 (n + 1) next more (omega (arith, few)) (λ k d less. writes (suc k) d (omega (arith, less))) (sym (λ i. came i >>= λ x. replayed x.1 block) ∙ is)

@@ -3,7 +3,6 @@ use Rattle.std.proofs.Common.{◌≡◌, ◌⊎◌, inl, inr, ℕ, zero, suc, �
 use Rattle.std.proofs.lemmas.List.{length-append, length-set, take-append-le}
 use Rattle.std.proofs.lemmas.List.Elements.{All-append}
 use Rattle.ts_command.specs.declared.command.Command.{Command}
-use Rattle.ts_command.specs.Writing.{is_writing}
 use Rattle.ts_command.specs.Script.{Request}
 use Rattle.ts_model.specs.Catalogue.{Catalogue}
 use Rattle.ts_multi.specs.declared.object.Object.{Object}
@@ -12,7 +11,7 @@ use Rattle.ts_multi.specs.Touched.{objects}
 use Rattle.ts_answer.specs.Answer.{Answered, outcome}
 use Rattle.ts_sessions.specs.Machine.{Commit, Snapshot, Machine, start, snapshot_at, behind_commits, replayed, begun_at, carried, seen}
 use Rattle.ts_sessions.specs.Steps.{Turn, with_snapshot, with_commit, fresh, with_command, machine_step}
-use Rattle.ts_sessions.specs.Laws.{IsSoundAt, IsSound, MachinesStaySound}
+use Rattle.ts_sessions.specs.Laws.{CanBeNoted, IsSoundAt, IsSound, MachinesStaySound}
 use Rattle.ts_sessions.proofs.CarriedLemmas.{accepted_answer, carried_more, replayed_more}
 use Rattle.ts_sessions.proofs.MoveLemmas.{set_cases, Moves, stays, begins, ends, notes, commits_alone, commits_all, moves}
 
@@ -44,16 +43,16 @@ module _ (m : Machine) where
   sound_fresh : IsSoundAt m (fresh m)
   sound_fresh = record { begun = omega arith; few = omega arith; writing = λ k d within. absurd (omega (arith, within)); accepted = refl }
 
-  sound_more : (s : Snapshot) (command : Command) (a : Answered) → IsSoundAt m s → is_writing command ≡ true → length s.commands < 32 → outcome (Ok command) (seen m s) ≡ Ok a → IsSoundAt m (with_command command s)
+  sound_more : (s : Snapshot) (command : Command) (a : Answered) → IsSoundAt m s → CanBeNoted command → length s.commands < 32 → outcome (Ok command) (seen m s) ≡ Ok a → IsSoundAt m (with_command command s)
   sound_more s command a x writes few is = record {
     begun = x.begun;
     few = omega (arith, few, length-append s.commands (command ∷ []));
-    writing = All-append (λ c. is_writing c ≡ true) s.commands (command ∷ []) x.writing (one writes);
+    writing = All-append CanBeNoted s.commands (command ∷ []) x.writing (one writes);
     accepted =
         replayed_more (begun_at m s) s.commands command (seen m s) a x.accepted is
         ∙ (λ i. Ok (sym (carried_more (begun_at m s) s.commands command ∙ (λ j. (accepted_answer (seen m s) command a is j).1)) i));
   } where
-    one : is_writing command ≡ true → All (λ c. is_writing c ≡ true) (command ∷ [])
+    one : CanBeNoted command → All CanBeNoted (command ∷ [])
     one w zero d within = w
     one w (suc k) d within = absurd (omega (arith, within))
 

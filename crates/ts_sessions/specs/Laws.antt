@@ -43,10 +43,14 @@ pub record ConflictsAreFirst : Type 0 where
   pub none : (m : Machine) (s : Snapshot) → conflict m s ≡ None → (number : ℕ) → s.begun < number
       → number ≤ length m.commits → ¬ StandsInWay m s number
 
+-- a command that writes and may stand in a transaction
+abbrev pub CanBeNoted : Command → Type 0
+CanBeNoted command = (is_writing command ≡ true) × (boundary_of command ≡ None)
+
 -- What may be a commit: one accepted command that writes and stands in no transaction, or what was accepted in a whole
 -- transaction that has no conflict, at its Commit.
 abbrev pub MayCommit : Machine → Option Snapshot → Request → List Command → Type 0
-MayCommit m None request block = (command : Command) × (request ≡ Ok command) × (is_writing command ≡ true)
+MayCommit m None request block = (command : Command) × (request ≡ Ok command) × CanBeNoted command
     × (block ≡ command ∷ [])
 MayCommit m (Some s) request block =
     (command : Command) × (request ≡ Ok command) × (boundary_of command ≡ Some Commits) × (block ≡ s.commands)
@@ -106,7 +110,7 @@ pub record CommitsAreOneList (cat : Catalogue) (m : Machine) : Type 0 where
 pub record IsSoundAt (m : Machine) (s : Snapshot) : Type 0 where
   pub begun : s.begun ≤ length m.commits
   pub few : length s.commands ≤ 32
-  pub writing : All (λ command. is_writing command ≡ true) s.commands
+  pub writing : All CanBeNoted s.commands
   pub accepted : replayed (begun_at m s) s.commands ≡ Ok (seen m s)
 
 abbrev pub IsSound : Machine → Type 0

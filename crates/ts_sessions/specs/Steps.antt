@@ -4,7 +4,7 @@ use Rattle.std.specs.Prelude.{slice_set, Ok, Err, codes, decimal}
 use Rattle.ts_base.specs.declared.refusal.Refusal.TheVariants as refusals
 use Rattle.ts_command.specs.declared.command.Command.{Command}
 use Rattle.ts_command.specs.declared.boundary.Boundary.{Boundary}
-use Rattle.ts_command.specs.declared.boundary.Boundary.TheVariants.{Opens, Commits, RollsBack}
+use Rattle.ts_command.specs.declared.boundary.Boundary.TheVariants.{Opens, Commits, RollsBack, Alone}
 use Rattle.ts_command.specs.Boundary.{boundary_of}
 use Rattle.ts_command.specs.Writing.{is_writing}
 use Rattle.ts_command.specs.Script.{Request}
@@ -67,6 +67,7 @@ abbrev pub moved : ℕ → Command → Option Boundary → Option Snapshot → C
 moved who command (Some Opens) pending base m = with_snapshot who (Some (fresh m)) m
 moved who command (Some Commits) pending base m = m
 moved who command (Some RollsBack) pending base m = with_snapshot who None m
+moved who command (Some Alone) pending base m = m
 moved who command None pending base m = if is_writing command then noted who command pending base m else m
 
 abbrev pub accepted_or : ℕ → Command → Option Boundary → Option Snapshot → Machine → Tried (List ℕ × State) → Stepped
@@ -83,10 +84,12 @@ abbrev pub committed : ℕ → Command → Option Snapshot → Machine → Stepp
 committed who command (Some s) m = unless_conflict who s m (conflict m s)
 committed who command None m = as_alone who command (Some Commits) None m
 
+-- a rolling routine is no command of sessions
 abbrev pub in_session : ℕ → Command → Option Boundary → Option Snapshot → Machine → Stepped
 in_session who command (Some Commits) pending m = committed who command pending m
 in_session who command (Some Opens) pending m = as_alone who command (Some Opens) pending m
 in_session who command (Some RollsBack) pending m = as_alone who command (Some RollsBack) pending m
+in_session who command (Some Alone) pending m = (refusal_line (refusals.Syntax 0), m)
 in_session who command None pending m = as_alone who command None pending m
 
 -- of a session, counted from 0

@@ -9,6 +9,7 @@ use Rattle.std.proofs.lemmas.Bool.{and_parts}
 use Rattle.std.proofs.lemmas.Bool.Decides.{nat_tests}
 use Rattle.std.proofs.lemmas.Int.{ints}
 use Rattle.ts_base.specs.Name.{is_name, is_key}
+use Rattle.ts_rolling.specs.Keys.{is_set}
 use Rattle.ts_base.specs.StampText.{read_stamp}
 use Rattle.ts_row.specs.declared.kind.ColumnKind.{ColumnKind}
 use Rattle.ts_row.specs.declared.kind.ColumnKind.TheVariants as kinds
@@ -27,8 +28,8 @@ use Rattle.ts_tokens.proofs.CallerLemmas.{open_sign, close_sign, comma_sign}
 use Rattle.ts_arguments.specs.declared.word.Joined.{Joined}
 use Rattle.ts_arguments.specs.declared.word.Joined.TheVariants.{Patterns, Calendars}
 use Rattle.ts_arguments.specs.Words.{joined_spelling, joined_of, type_spelling, type_of, types}
-use Rattle.ts_arguments.specs.Arguments.{a_name, key_in, a_key, stamp_in, a_stamp, text_in, a_text, literal_in, a_literal, within, whole_in, a_whole, small_in, a_small, a_word, a_stamp_column, type_in, a_type, kind_behind, a_column, joined_in, a_joined}
-use Rattle.ts_statement_laws.specs.Statements.{NameOf, KeyOf, StampOf, TextOf, WholeOf, WordOf, StampColumnOf, ColumnOf, ValueOf, One, Nothing, Then, IsWord, IsSign, IsText, IsName, IsSmall, IsWhole, IsValue, IsType, IsArgument}
+use Rattle.ts_arguments.specs.Arguments.{a_name, key_in, a_key, set_in, a_set, stamp_in, a_stamp, text_in, a_text, literal_in, a_literal, within, whole_in, a_whole, small_in, a_small, a_word, a_stamp_column, type_in, a_type, kind_behind, a_column, joined_in, a_joined}
+use Rattle.ts_statement_laws.specs.Statements.{NameOf, KeyOf, SetOf, StampOf, TextOf, WholeOf, WordOf, StampColumnOf, ColumnOf, ValueOf, One, Nothing, Then, IsWord, IsSign, IsText, IsName, IsSmall, IsWhole, IsValue, IsType, IsArgument}
 use Rattle.ts_statement_laws.proofs.ExactLemmas.{Exact, exact_same, exact_token, exact_sign, exact_give, exact_bind, exact_bind_of, exact_parts, exact_behind, then_nothing}
 
 -- one token, by what it is taken as
@@ -83,6 +84,19 @@ key_from kind text key ((quoted, same), good) = ap (λ (k : TokenKind). key_in k
 pub exact_key : Exact a_key (λ key. IsArgument (KeyOf key))
 unfolding a_key
 exact_key = exact_one key_in (λ key l. IsText key l × IsTrue (is_key key)) (λ l key is. key_to l.kind l.token key is) (λ l key is. key_from l.kind l.token key is)
+
+set_to : (kind : TokenKind) (text set : List ℕ) → set_in kind text ≡ Some set → ((kind ≡ Text) × (said text ≡ set)) × IsTrue (is_set set)
+set_to Text text set is = let g = given_if (is_set (said text)) (said text) set is in ((refl, g.1), ap is_set (sym g.1) ∙ g.0)
+set_to Word text set is = absurd (let never : ⊥ = cc in never)
+set_to Number text set is = absurd (let never : ⊥ = cc in never)
+set_to Sign text set is = absurd (let never : ⊥ = cc in never)
+
+set_from : (kind : TokenKind) (text set : List ℕ) → ((kind ≡ Text) × (said text ≡ set)) × IsTrue (is_set set) → set_in kind text ≡ Some set
+set_from kind text set ((quoted, same), good) = ap (λ (k : TokenKind). set_in k text) quoted ∙ if_given (is_set (said text)) (said text) set (ap is_set same ∙ good) same
+
+pub exact_set : Exact a_set (λ set. IsArgument (SetOf set))
+unfolding a_set
+exact_set = exact_one set_in (λ set l. IsText set l × IsTrue (is_set set)) (λ l set is. set_to l.kind l.token set is) (λ l set is. set_from l.kind l.token set is)
 
 stamp_to : (kind : TokenKind) (text : List ℕ) (stamp : ℤ) → stamp_in kind text ≡ Some stamp → (kind ≡ Text) × (read_stamp (said text) ≡ Some stamp)
 stamp_to Text text stamp is = (refl, is)

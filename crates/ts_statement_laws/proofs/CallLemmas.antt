@@ -4,11 +4,11 @@ use Rattle.ts_row.specs.declared.kind.Column.{Column}
 use Rattle.ts_text.specs.Spelling.{Lexeme}
 use Rattle.ts_text.specs.Phrase.{Phrase, ◌>>=◌, give, closed}
 use Rattle.ts_arguments.specs.Words.{joined_spelling}
-use Rattle.ts_arguments.specs.Arguments.{a_name, a_key, a_stamp, a_text, a_literal, a_whole, a_stamp_column, a_column, a_joined}
-use Rattle.ts_arguments.specs.Calls.{before, two, name_before, key_before, text_before, stamp_before, whole_before, two_names, three_names, joined_names, name_and_text, name_and_whole, two_names_and_whole, key_and_name, key_and_whole, key_and_stamp, two_stamps, name_range, key_range, two_keys_range, name_key_range, text_key_range, text_name_range, text_name_key_range, whole_range, key_whole_range, text_key_whole_range, stamp_and_name, name_stamp_and_name, key_name_stamp_and_name, stamp_and_whole, name_stamp_and_whole, key_stamp_and_whole, stamp_and_values, key_stamp_and_values, some_columns, stamp_and_columns, name_and_columns}
-use Rattle.ts_statement_laws.specs.Statements.{Argument, NameOf, KeyOf, StampOf, TextOf, WholeOf, WordOf, StampColumnOf, ColumnOf, ValueOf, One, Nothing, Then, IsSign, IsArgument, AreArguments}
+use Rattle.ts_arguments.specs.Arguments.{a_name, a_key, a_set, a_stamp, a_text, a_literal, a_whole, a_stamp_column, a_column, a_joined}
+use Rattle.ts_arguments.specs.Calls.{before, two, name_before, key_before, set_before, text_before, stamp_before, whole_before, two_names, three_names, joined_names, name_and_text, name_and_whole, two_names_and_whole, key_and_name, key_and_whole, key_and_stamp, two_stamps, name_range, key_range, two_keys_range, name_key_range, text_key_range, text_name_range, text_name_key_range, whole_range, key_whole_range, text_key_whole_range, stamp_and_name, name_stamp_and_name, key_name_stamp_and_name, stamp_and_whole, name_stamp_and_whole, key_stamp_and_whole, stamp_and_values, key_stamp_and_values, some_columns, stamp_and_columns, name_and_columns, set_range, set_stamp_and_values, stamp_name_and_whole, name_stamp_name_and_whole, set_name_stamp_name_and_whole}
+use Rattle.ts_statement_laws.specs.Statements.{Argument, NameOf, KeyOf, SetOf, StampOf, TextOf, WholeOf, WordOf, StampColumnOf, ColumnOf, ValueOf, One, Nothing, Then, IsSign, IsArgument, AreArguments}
 use Rattle.ts_statement_laws.proofs.ExactLemmas.{Exact, exact_same, exact_give, exact_bind, exact_before, exact_two, AreListed, exact_closed, then_nothing, shrinks}
-use Rattle.ts_statement_laws.proofs.ArgumentLemmas.{commas, closes, exact_name, exact_key, exact_stamp, exact_text, exact_whole, exact_joined, exact_value, exact_stamp_column, exact_column}
+use Rattle.ts_statement_laws.proofs.ArgumentLemmas.{commas, closes, exact_name, exact_key, exact_set, exact_stamp, exact_text, exact_whole, exact_joined, exact_value, exact_stamp_column, exact_column}
 
 -- the last argument, and one before others
 last : {A : Type 0} (phrase : Phrase A) (f : A → Argument) → Exact phrase (λ a. IsArgument (f a)) → Exact (before 41 phrase) (λ a. AreArguments (f a ∷ []))
@@ -47,6 +47,10 @@ pub exact_key_last : Exact (key_before 41) (λ a. AreArguments (KeyOf a ∷ []))
 unfolding key_before
 exact_key_last = last a_key KeyOf exact_key
 
+pub exact_set_last : Exact (set_before 41) (λ a. AreArguments (SetOf a ∷ []))
+unfolding set_before
+exact_set_last = last a_set SetOf exact_set
+
 exact_text_last : Exact (text_before 41) (λ a. AreArguments (TextOf a ∷ []))
 unfolding text_before
 exact_text_last = last a_text TextOf exact_text
@@ -68,6 +72,10 @@ module _ {B : Type 0} (others : Phrase B) (g : B → Argument) (h : B → List A
   key_more : Exact (two (key_before 44) others) (λ p. AreArguments (KeyOf p.0 ∷ g p.1 ∷ h p.1))
   unfolding key_before
   key_more = more a_key others KeyOf g h exact_key rest
+
+  set_more : Exact (two (set_before 44) others) (λ p. AreArguments (SetOf p.0 ∷ g p.1 ∷ h p.1))
+  unfolding set_before
+  set_more = more a_set others SetOf g h exact_set rest
 
   text_more : Exact (two (text_before 44) others) (λ p. AreArguments (TextOf p.0 ∷ g p.1 ∷ h p.1))
   unfolding text_before
@@ -197,6 +205,29 @@ exact_stamp_and_values =
 pub exact_key_stamp_and_values : Exact key_stamp_and_values (λ p. AreArguments (KeyOf p.0 ∷ StampOf p.1.0 ∷ map ValueOf p.1.1))
 unfolding key_stamp_and_values
 exact_key_stamp_and_values = key_more stamp_and_values (λ b. StampOf b.0) (λ b. map ValueOf b.1) exact_stamp_and_values
+
+-- rolling sets
+pub exact_set_stamp_and_values : Exact set_stamp_and_values (λ p. AreArguments (SetOf p.0 ∷ StampOf p.1.0 ∷ map ValueOf p.1.1))
+unfolding set_stamp_and_values
+exact_set_stamp_and_values = set_more stamp_and_values (λ b. StampOf b.0) (λ b. map ValueOf b.1) exact_stamp_and_values
+
+pub exact_set_range : Exact set_range (λ p. AreArguments (SetOf p.0 ∷ StampOf p.1.0 ∷ StampOf p.1.1 ∷ []))
+unfolding set_range
+exact_set_range = set_more two_stamps (λ b. StampOf b.0) (λ b. StampOf b.1 ∷ []) exact_two_stamps
+
+exact_stamp_name_and_whole : (least most : ℤ) → Exact (stamp_name_and_whole least most) (λ p. AreArguments (StampOf p.0 ∷ NameOf p.1.0 ∷ WholeOf least most p.1.1 ∷ []))
+unfolding stamp_name_and_whole
+exact_stamp_name_and_whole least most = stamp_more (name_and_whole least most) (λ b. NameOf b.0) (λ b. WholeOf least most b.1 ∷ []) (exact_name_and_whole least most)
+
+exact_name_stamp_name_and_whole : (least most : ℤ) → Exact (name_stamp_name_and_whole least most) (λ p. AreArguments (NameOf p.0 ∷ StampOf p.1.0 ∷ NameOf p.1.1.0 ∷ WholeOf least most p.1.1.1 ∷ []))
+unfolding name_stamp_name_and_whole
+exact_name_stamp_name_and_whole least most = name_more (stamp_name_and_whole least most) (λ b. StampOf b.0) (λ b. NameOf b.1.0 ∷ WholeOf least most b.1.1 ∷ []) (exact_stamp_name_and_whole least most)
+
+pub exact_set_name_stamp_name_and_whole : (least most : ℤ)
+    → Exact (set_name_stamp_name_and_whole least most) (λ p. AreArguments (SetOf p.0 ∷ NameOf p.1.0 ∷ StampOf p.1.1.0 ∷ NameOf p.1.1.1.0 ∷ WholeOf least most p.1.1.1.1 ∷ []))
+unfolding set_name_stamp_name_and_whole
+exact_set_name_stamp_name_and_whole least most =
+    set_more (name_stamp_name_and_whole least most) (λ b. NameOf b.0) (λ b. StampOf b.1.0 ∷ NameOf b.1.1.0 ∷ WholeOf least most b.1.1.1 ∷ []) (exact_name_stamp_name_and_whole least most)
 
 -- columns
 abbrev ColumnsRead : List Column → List Lexeme → Type 0

@@ -10,7 +10,7 @@ use Rattle.ts_text.specs.declared.token.TokenKind.{TokenKind}
 use Rattle.ts_text.specs.declared.token.TokenKind.TheVariants.{Word, Number, Text, Sign}
 use Rattle.ts_text.proofs.CallerLemmas.{bind-ok, pair-parts}
 use Rattle.ts_tokens.specs.Tokens.{front}
-use Rattle.ts_arguments.specs.Calls.{name_before, key_before, two_names, joined_names, name_and_text, two_names_and_whole, key_and_name, key_and_whole, key_and_stamp, name_range, key_range, two_keys_range, text_key_range, text_name_range, text_name_key_range, text_key_whole_range, key_name_stamp_and_name, name_stamp_and_whole, key_stamp_and_whole, key_stamp_and_values, name_and_columns}
+use Rattle.ts_arguments.specs.Calls.{name_before, key_before, set_before, two_names, joined_names, name_and_text, two_names_and_whole, key_and_name, key_and_whole, key_and_stamp, name_range, key_range, two_keys_range, text_key_range, text_name_range, text_name_key_range, text_key_whole_range, key_name_stamp_and_name, name_stamp_and_whole, key_stamp_and_whole, key_stamp_and_values, name_and_columns, set_range, set_stamp_and_values, set_name_stamp_name_and_whole}
 use Rattle.ts_arguments.specs.declared.word.Joined.{Joined}
 use Rattle.ts_arguments.specs.declared.word.Joined.TheVariants.{Patterns, Calendars}
 use Rattle.ts_arguments.specs.Words.{joined_spelling}
@@ -18,11 +18,11 @@ use Rattle.ts_command.specs.Routines.{spelling, routines, routine_of}
 use Rattle.ts_command.specs.Grammar.{routine_in, a_routine, opening, arguments, a_call, a_command, command_of}
 use Rattle.ts_command.specs.declared.command.Command.{Command}
 use Rattle.ts_command.specs.declared.command.Command.TheVariants as commands
-use Rattle.ts_statement_laws.specs.Statements.{Argument, NameOf, KeyOf, StampOf, TextOf, WholeOf, WordOf, StampColumnOf, ColumnOf, ValueOf, Statement, Alone, Call, statement_of, One, Nothing, Then, IsWord, IsSign, AreArguments, AreStatement, IsStatementOf}
+use Rattle.ts_statement_laws.specs.Statements.{Argument, NameOf, KeyOf, SetOf, StampOf, TextOf, WholeOf, WordOf, StampColumnOf, ColumnOf, ValueOf, Statement, Alone, Call, statement_of, One, Nothing, Then, IsWord, IsSign, AreArguments, AreStatement, IsStatementOf}
 use Rattle.ts_statement_laws.specs.Laws.{StatementsAreTokens}
 use Rattle.ts_statement_laws.proofs.ExactLemmas.{Exact, exact_same, exact_token, exact_bind, exact_made, spells_both, spells_first, spells_last}
 use Rattle.ts_statement_laws.proofs.ArgumentLemmas.{opens, found_passes, same_bytes, bytes_same, TypeIn, Each, found_each}
-use Rattle.ts_statement_laws.proofs.CallLemmas.{exact_name_last, exact_key_last, exact_two_names, exact_joined_names, exact_name_and_text, exact_two_names_and_whole, exact_key_and_name, exact_key_and_whole, exact_key_and_stamp, exact_name_range, exact_key_range, exact_two_keys_range, exact_text_key_range, exact_text_name_range, exact_text_name_key_range, exact_text_key_whole_range, exact_key_name_stamp_and_name, exact_name_stamp_and_whole, exact_key_stamp_and_whole, exact_key_stamp_and_values, AreColumns, exact_name_and_columns}
+use Rattle.ts_statement_laws.proofs.CallLemmas.{exact_name_last, exact_key_last, exact_two_names, exact_joined_names, exact_name_and_text, exact_two_names_and_whole, exact_key_and_name, exact_key_and_whole, exact_key_and_stamp, exact_name_range, exact_key_range, exact_two_keys_range, exact_text_key_range, exact_text_name_range, exact_text_name_key_range, exact_text_key_whole_range, exact_key_name_stamp_and_name, exact_name_stamp_and_whole, exact_key_stamp_and_whole, exact_key_stamp_and_values, exact_set_last, exact_set_range, exact_set_stamp_and_values, exact_set_name_stamp_name_and_whole, AreColumns, exact_name_and_columns}
 
 -- the type of the routines, which has no name out of its crate
 abbrev Called : Type 0
@@ -214,12 +214,24 @@ each_finds = (
                                                                                           (
                                                                                             finds (name_before 41) (λ a. NameOf a ∷ []) exact_name_last (λ a. commands.DropCalendar a) (codes "DropCalendar") (λ a. refl),
                                                                                             (
-                                                                                              lone_finds (codes "Begin") commands.Begin refl,
+                                                                                              finds set_stamp_and_values (λ a. SetOf a.0 ∷ StampOf a.1.0 ∷ map ValueOf a.1.1) exact_set_stamp_and_values (λ a. commands.RollingPut a.0 a.1.0 a.1.1) (codes "RollingPut") (λ a. refl),
                                                                                               (
-                                                                                                lone_finds (codes "Commit") commands.Commit refl,
+                                                                                                finds set_range (λ a. SetOf a.0 ∷ StampOf a.1.0 ∷ StampOf a.1.1 ∷ []) exact_set_range (λ a. commands.RollingClip a.0 a.1.0 a.1.1) (codes "RollingClip") (λ a. refl),
                                                                                                 (
-                                                                                                  lone_finds (codes "Rollback") commands.Rollback refl,
-                                                                                                  tt,
+                                                                                                  finds (set_name_stamp_name_and_whole (pos 1) (pos 1000)) (λ a. SetOf a.0 ∷ NameOf a.1.0 ∷ StampOf a.1.1.0 ∷ NameOf a.1.1.1.0 ∷ WholeOf (pos 1) (pos 1000) a.1.1.1.1 ∷ []) (exact_set_name_stamp_name_and_whole (pos 1) (pos 1000)) (λ a. commands.RollingCreate a.0 a.1.0 a.1.1.0 a.1.1.1.0 a.1.1.1.1) (codes "RollingCreate") (λ a. refl),
+                                                                                                  (
+                                                                                                    finds (set_before 41) (λ a. SetOf a ∷ []) exact_set_last (λ a. commands.RollingDrop a) (codes "RollingDrop") (λ a. refl),
+                                                                                                    (
+                                                                                                      lone_finds (codes "Begin") commands.Begin refl,
+                                                                                                      (
+                                                                                                        lone_finds (codes "Commit") commands.Commit refl,
+                                                                                                        (
+                                                                                                          lone_finds (codes "Rollback") commands.Rollback refl,
+                                                                                                          tt,
+                                                                                                        ),
+                                                                                                      ),
+                                                                                                    ),
+                                                                                                  ),
                                                                                                 ),
                                                                                               ),
                                                                                             ),
@@ -325,6 +337,10 @@ reading (commands.ShowPattern v0) = (_, refl, reads (name_before 41) (λ a. Name
 reading (commands.DropPattern v0) = (_, refl, reads (name_before 41) (λ a. NameOf a ∷ []) exact_name_last (λ a. commands.DropPattern a) (codes "DropPattern") (λ a. refl) v0)
 reading (commands.ShowCalendar v0) = (_, refl, reads (name_before 41) (λ a. NameOf a ∷ []) exact_name_last (λ a. commands.ShowCalendar a) (codes "ShowCalendar") (λ a. refl) v0)
 reading (commands.DropCalendar v0) = (_, refl, reads (name_before 41) (λ a. NameOf a ∷ []) exact_name_last (λ a. commands.DropCalendar a) (codes "DropCalendar") (λ a. refl) v0)
+reading (commands.RollingPut v0 v1 v2) = (_, refl, reads set_stamp_and_values (λ a. SetOf a.0 ∷ StampOf a.1.0 ∷ map ValueOf a.1.1) exact_set_stamp_and_values (λ a. commands.RollingPut a.0 a.1.0 a.1.1) (codes "RollingPut") (λ a. refl) (v0, (v1, v2)))
+reading (commands.RollingClip v0 v1 v2) = (_, refl, reads set_range (λ a. SetOf a.0 ∷ StampOf a.1.0 ∷ StampOf a.1.1 ∷ []) exact_set_range (λ a. commands.RollingClip a.0 a.1.0 a.1.1) (codes "RollingClip") (λ a. refl) (v0, (v1, v2)))
+reading (commands.RollingCreate v0 v1 v2 v3 v4) = (_, refl, reads (set_name_stamp_name_and_whole (pos 1) (pos 1000)) (λ a. SetOf a.0 ∷ NameOf a.1.0 ∷ StampOf a.1.1.0 ∷ NameOf a.1.1.1.0 ∷ WholeOf (pos 1) (pos 1000) a.1.1.1.1 ∷ []) (exact_set_name_stamp_name_and_whole (pos 1) (pos 1000)) (λ a. commands.RollingCreate a.0 a.1.0 a.1.1.0 a.1.1.1.0 a.1.1.1.1) (codes "RollingCreate") (λ a. refl) (v0, (v1, (v2, (v3, v4)))))
+reading (commands.RollingDrop v0) = (_, refl, reads (set_before 41) (λ a. SetOf a ∷ []) exact_set_last (λ a. commands.RollingDrop a) (codes "RollingDrop") (λ a. refl) v0)
 reading commands.Begin = (_, refl, lone_reads (codes "Begin") commands.Begin refl)
 reading commands.Commit = (_, refl, lone_reads (codes "Commit") commands.Commit refl)
 reading commands.Rollback = (_, refl, lone_reads (codes "Rollback") commands.Rollback refl)

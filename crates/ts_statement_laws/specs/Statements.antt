@@ -9,6 +9,7 @@ use Rattle.ts_row.specs.declared.kind.ColumnKind.TheVariants.{SmallInt, Integer,
 use Rattle.ts_row.specs.declared.kind.Column.{Column}
 use Rattle.ts_row.specs.declared.value.Literal.{Literal}
 use Rattle.ts_row.specs.declared.value.Literal.TheVariants as literals
+use Rattle.ts_rolling.specs.Keys.{is_set}
 use Rattle.ts_text.specs.Blanks.{unblanked}
 use Rattle.ts_text.specs.Digits.{magnitude_of}
 use Rattle.ts_text.specs.Spelling.{Lexeme, Spells}
@@ -19,11 +20,12 @@ use Rattle.ts_tokens.specs.Text.{said}
 use Rattle.ts_command.specs.declared.command.Command.{Command}
 use Rattle.ts_command.specs.declared.command.Command.TheVariants as commands
 
--- An argument of a call: a name, a key, a stamp, a text, a whole number between two others, a word, the column of the
--- stamps, a value column, or a value.
+-- An argument of a call: a name, a key, the key of a rolling set, a stamp, a text, a whole number between two others, a
+-- word, the column of the stamps, a value column, or a value.
 pub data Argument : Type 0 where
   NameOf : List ℕ → Argument
   KeyOf : List ℕ → Argument
+  SetOf : List ℕ → Argument
   StampOf : ℤ → Argument
   TextOf : List ℕ → Argument
   WholeOf : ℤ → ℤ → ℤ → Argument
@@ -116,6 +118,14 @@ statement_of (commands.TSRunningAvg text key span from to) =
     (TextOf text ∷ KeyOf key ∷ WholeOf (pos 1) (pos 65536) span ∷ StampOf from ∷ StampOf to ∷ [])
 statement_of (commands.Apply text key from to) =
     Call (codes "Apply") (TextOf text ∷ KeyOf key ∷ StampOf from ∷ StampOf to ∷ [])
+statement_of (commands.RollingCreate set calendar origin container kept) =
+    Call (codes "RollingCreate")
+    (SetOf set ∷ NameOf calendar ∷ StampOf origin ∷ NameOf container ∷ WholeOf (pos 1) (pos 1000) kept ∷ [])
+statement_of (commands.RollingPut set stamp values) =
+    Call (codes "RollingPut") (SetOf set ∷ StampOf stamp ∷ map ValueOf values)
+statement_of (commands.RollingClip set from to) =
+    Call (codes "RollingClip") (SetOf set ∷ StampOf from ∷ StampOf to ∷ [])
+statement_of (commands.RollingDrop set) = Call (codes "RollingDrop") (SetOf set ∷ [])
 statement_of commands.Begin = Alone (codes "Begin")
 statement_of commands.Commit = Alone (codes "Commit")
 statement_of commands.Rollback = Alone (codes "Rollback")
@@ -178,6 +188,7 @@ IsType (VarChar most) =
 abbrev pub IsArgument : Argument → List Lexeme → Type 0
 IsArgument (NameOf name) = One (IsName name)
 IsArgument (KeyOf key) = One (λ l. IsText key l × IsTrue (is_key key))
+IsArgument (SetOf set) = One (λ l. IsText set l × IsTrue (is_set set))
 IsArgument (StampOf stamp) = One (λ l. (l.kind ≡ Text) × (read_stamp (said l.token) ≡ Some stamp))
 IsArgument (TextOf text) = One (IsText text)
 IsArgument (WholeOf least most n) = One (IsWhole least most n)

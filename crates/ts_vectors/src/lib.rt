@@ -18,6 +18,8 @@ mod places;
 #[cfg(test)]
 mod readings;
 #[cfg(test)]
+mod rolling;
+#[cfg(test)]
 mod transactions;
 #[cfg(test)]
 mod values;

@@ -9,5 +9,6 @@ returns c = content_is_kept (record {
   share = c.sets_share_no_keys.ensures;
   found = c.series_are_found_by_keys.ensures;
   others = c.what_is_not_written_stays.ensures;
+  sets = c.a_set_writes_its_own_series.ensures;
   shapes = c.a_series_keeps_its_shape.ensures;
 })

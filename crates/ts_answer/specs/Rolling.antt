@@ -12,10 +12,12 @@ use Rattle.ts_model.specs.declared.kind.Kind.TheVariants as kinds
 use Rattle.ts_model.specs.Catalogue.{Series, Catalogue, columns_of, shape_of}
 use Rattle.ts_model.specs.Kinds.{without}
 use Rattle.ts_rolling.specs.Keys.{window_key, control_key}
-use Rattle.ts_rolling.specs.Plan.{planned}
+use Rattle.ts_rolling.specs.Plan.{Planned, planned}
 use Rattle.ts_rolling.specs.Sets.{control_of, windows, live, window_elements}
-use Rattle.ts_answer.specs.Answer.{Tried, Answered, ◌>>=◌, refused_if, wanted, known, a_row, a_calendar, put_no_dups}
-use Rattle.ts_answer.specs.Answer.{create_regular, create_irregular}
+use Rattle.ts_answer.specs.Refusals.{Tried, Answered, refused_if, wanted, known, a_row, a_calendar}
+unfoldable use Rattle.ts_answer.specs.Refusals.{◌>>=◌}
+use Rattle.ts_answer.specs.Elements.{put_no_dups}
+use Rattle.ts_answer.specs.Series.{create_regular, create_irregular}
 use Rattle.ts_answer.specs.Reply.{count_line, elements_text}
 
 -- the number of windows that a set keeps, and its control; without a control the set is unknown
@@ -52,6 +54,12 @@ roll_create set calendar origin container n cat = do
   free ← refused_if (is_some (control_of set cat)) refusals.NameTaken
   create_regular (control_key set n) calendar origin container cat
 
+-- what is too old goes, and the element is put into its window
+abbrev pub put_planned : List ℕ → List ℕ → Planned → ℤ → List Literal → Catalogue → Tried Answered
+put_planned set container plan stamp literals cat = do
+  made ← with_window plan.attach (window_key set plan.window) container (without_windows set plan.purge cat)
+  put_no_dups (window_key set plan.window) stamp literals made
+
 -- An element stands at its stamp in the window that holds it. What is too old goes first; all else is judged without
 -- it.
 unfoldable pub roll_put : List ℕ → ℤ → List Literal → Catalogue → Tried Answered
@@ -60,8 +68,7 @@ roll_put set stamp literals cat = do
   grid ← control_grid control.1 cat
   row ← a_row (columns_of cat control.1) literals
   plan ← planned grid control.0 (live set control.1.container cat) stamp
-  made ← with_window plan.attach (window_key set plan.window) control.1.container (without_windows set plan.purge cat)
-  put_no_dups (window_key set plan.window) stamp literals made
+  put_planned set control.1.container plan stamp literals cat
 
 -- what is seen in the windows from one stamp to another
 unfoldable pub roll_clip : List ℕ → ℤ → ℤ → Catalogue → Tried Answered
