@@ -22,7 +22,7 @@ use Rattle.ts_answer.specs.View.{view, IsDefinedBy, Shows, KeepsRules}
 use Rattle.ts_answer.specs.CarriedOut.{CarriedOut, Comes}
 use Rattle.ts_command.specs.Writing.{is_writing}
 use Rattle.ts_answer.specs.Decided.{IsDecision, FitsSlot, made_line}
-use Rattle.ts_answer.proofs.CallerLemmas.{defined_by}
+use Rattle.ts_answer.proofs.CallerLemmas.{defined_by, grows_one}
 
 -- pages with a slot written hold the layout with that definition
 slot_work : (tells : Bool) (told : IsTrue tells) (kind : Kind) (slot : ℕ) (def : Option Def) (l : Layout) (v w : Contents) → slot < limit kind → IsSound l → KeepsElements (with_slot kind slot def l.definitions) l → HoldsLayout v.page l
@@ -83,7 +83,6 @@ module _ (tells : Bool) (kind : Kind) (slot : ℕ) (def : Option Def) (command :
     stays = λ none. absurd (cc);
     stopped = tt;
     count = written.count;
-    bytes = omega (arith, bytes);
-    grows = let free = ap (λ (ns : List ℕ). length ns) written.free in omega (arith, bytes, free);
+    grows = let free = ap (λ (ns : List ℕ). length ns) written.free in grows_one command v w (omega (arith, bytes, free));
     no_fault = written.no_fault (λ failed. cc);
   }

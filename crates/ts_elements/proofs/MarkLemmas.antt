@@ -122,7 +122,7 @@ module _ (tells : Bool) (hidden : Bool) (key : List ℕ) (shape : Shape) (laid :
           moved = stays_moved shape slot h x w kept shelf.named.within shelf.columns shelf.lies put.free;
           pays = λ s c is. pays_less x kept slot shelf.named.within h shelf.columns shape shelf.lies s c is (places_of slot x.space) (omega arith);
           told = becomes_marked;
-        }) kept lawful count Pages refl (sym (set-get_or x.space.lists slot [])) tt refl (writes_mark hidden key stamp) no_fault (omega (arith, bytes)) (omega (arith, bytes, free)) out said
+        }) kept lawful count Pages refl (sym (set-get_or x.space.lists slot [])) tt refl (writes_mark hidden key stamp) no_fault (omega (arith, bytes, free)) out said
 
   -- it is refused
   unmarked : (refusal : Refusal) (l : Layout) (shows : Shows tells x l) (on : SeriesIn l key slot) (es : List Element) → HasSeen shape slot h.columns x.pages.page (places_of slot x.space) l es → IsUnmarked shape stamp es refusal
@@ -139,4 +139,4 @@ module _ (tells : Bool) (hidden : Bool) (key : List ℕ) (shape : Shape) (laid :
       (refuses_still tells (mark_of hidden key stamp) out x refusal w none.0 (omega (arith, bytes)) no_fault
       (λ told l shows.
       let seen = elements_seen tells x l shape laid slot h told shows shelf.columns shelf.lies shelf.named.within in
-      unmarked refusal l shows (series_seen x l shows.kept slot key shelf.named) seen.0 seen.1 (none.1 told seen.0 seen.1.have))) count (omega (arith, bytes))
+      unmarked refusal l shows (series_seen x l shows.kept slot key shelf.named) seen.0 seen.1 (none.1 told seen.0 seen.1.have))) count

@@ -135,7 +135,7 @@ module _ (tells : Bool) (how : EditKind) (key : List ℕ) (literals : List Liter
             | inr less ↦ pays_less x kept slot within h has.shelf.columns shape has.shelf.lies s c is new less
           ];
           told = becomes_put;
-        }) kept lawful count (Places slot moved) refl refl within refl (writes_edit how key stamp literals) no_fault (omega (arith, bytes)) grows out said
+        }) kept lawful count (Places slot moved) refl refl within refl (writes_edit how key stamp literals) no_fault grows out said
 
   -- the element at the stamp gets the row
   module _ (w : Contents) (given : IsGivenRow tells shape slot h.columns how stamp row (places_of slot x.space) x.pages w) where
@@ -168,7 +168,7 @@ module _ (tells : Bool) (how : EditKind) (key : List ℕ) (literals : List Liter
           moved = stays_moved shape slot h x w kept within has.shelf.columns has.shelf.lies given.free;
           pays = λ s c is. pays_less x kept slot within h has.shelf.columns shape has.shelf.lies s c is (places_of slot x.space) (omega arith);
           told = becomes_given;
-        }) kept lawful count Pages refl (sym (set-get_or x.space.lists slot [])) tt refl (writes_edit how key stamp literals) no_fault (omega (arith, bytes)) grows out said
+        }) kept lawful count Pages refl (sym (set-get_or x.space.lists slot [])) tt refl (writes_edit how key stamp literals) no_fault grows out said
 
   -- it is refused, and everything stays
   module _ (w : Contents) (count : w.count ≡ x.pages.count) (no_fault : w.faults ≡ x.pages.faults) (bytes : w.change_bytes ≤ x.pages.change_bytes + 16424) (out : List ℕ) where
@@ -176,7 +176,7 @@ module _ (tells : Bool) (how : EditKind) (key : List ℕ) (literals : List Liter
         → CarriedOut tells (edit_of how key stamp literals) (Err (stops.Refused refusal)) out x w
     refused_with refusal same why =
         stopped tells (edit_of how key stamp literals) out x (Err (stops.Refused refusal)) (stops.Refused refusal) w refl
-        (refuses_still tells (edit_of how key stamp literals) out x refusal w same bytes no_fault why) count bytes
+        (refuses_still tells (edit_of how key stamp literals) out x refusal w same bytes no_fault why) count
 
     pub refused_carried : (refusal : Refusal) → IsRefused tells shape slot h.columns how stamp refusal (places_of slot x.space) x.pages w → CarriedOut tells (edit_of how key stamp literals) (Err (stops.Refused refusal)) out x w
     refused_carried refusal refused = refused_with refusal refused.same (λ told l shows.

@@ -28,7 +28,7 @@ use Rattle.ts_answer.specs.Answer.{Tried, Answered, outcome, carried_out, an_add
 use Rattle.ts_answer.specs.Reply.{count_line}
 use Rattle.ts_answer.specs.View.{View, Shows, KeepsRules}
 use Rattle.ts_answer.specs.CarriedOut.{CarriedOut, Grows, Stays}
-use Rattle.ts_answer.proofs.CallerLemmas.{wanted-there, on_ok, shows_still, kept_still, element_not_there, range_not_there}
+use Rattle.ts_answer.proofs.CallerLemmas.{wanted-there, on_ok, shows_still, kept_still, grows_one, element_not_there, range_not_there}
 use Rattle.ts_shelf.specs.Shelf.{IsShelf}
 use Rattle.ts_shelf.proofs.SeenLemmas.{SeriesIn, HasSeen, entries_in, series_seen, shape_same, elements_seen}
 use Rattle.ts_elements.specs.Stamps.{IsLaidOut, IsTold}
@@ -55,8 +55,7 @@ module _ (tells : Bool) (command : Command) (x : View) (w : Contents) (stay : St
     stays = λ none. stay;
     stopped = tt;
     count = count;
-    bytes = omega (arith, bytes);
-    grows = let free = ap (λ (ns : List ℕ). length ns) stay.free in omega (arith, bytes, free);
+    grows = let free = ap (λ (ns : List ℕ). length ns) stay.free in grows_one command x.pages w (omega (arith, bytes, free));
     no_fault = no_fault;
   }
 
@@ -150,7 +149,7 @@ module _ (tells : Bool) (key : List ℕ) (shape : Shape) (laid : IsLaidOut shape
             moved = taken.places;
             pays = λ s c is. pays_less x kept slot shelf.named.within h shelf.columns shape shelf.lies s c is (moved_to moved (places_of slot x.space)) taken.pays;
             told = becomes_less;
-          }) kept lawful count (Places slot moved) refl refl shelf.named.within refl refl no_fault (omega (arith, bytes)) (moved_grows _ moved (places_of slot x.space) x.pages w taken.places bytes) out said
+          }) kept lawful count (Places slot moved) refl refl shelf.named.within refl refl no_fault (moved_grows _ moved (places_of slot x.space) x.pages w taken.places bytes) out said
 
     -- none is there
     pub none_carried : Stays tells x.pages w → IsTold tells shape slot h.columns (places_of slot x.space) x.pages (λ es. (at : ℤ) → addressed shape stamp ≡ Ok at → element_at at es ≡ None) → w.change_bytes ≤ x.pages.change_bytes + 4106
@@ -194,7 +193,7 @@ module _ (tells : Bool) (key : List ℕ) (shape : Shape) (laid : IsLaidOut shape
             moved = cleared.places;
             pays = λ s c is. pays_less x kept slot shelf.named.within h shelf.columns shape shelf.lies s c is (moved_to moved (places_of slot x.space)) cleared.pays;
             told = becomes_clipped;
-          }) kept lawful count (Places slot moved) refl refl shelf.named.within refl refl no_fault bytes grows out said
+          }) kept lawful count (Places slot moved) refl refl shelf.named.within refl refl no_fault grows out said
 
     -- none is there
     pub none_cleared : Stays tells x.pages w → removed ≡ 0 → IsTold tells shape slot h.columns (places_of slot x.space) x.pages (λ es. within_range from to es ≡ []) → Grows 1 x.pages w → (out : List ℕ) → out ≡ count_line removed

@@ -26,7 +26,7 @@ use Rattle.ts_answer.specs.Answer.{outcome, with_elements}
 use Rattle.ts_command.specs.Writing.{is_writing}
 use Rattle.ts_answer.specs.View.{View, Shows, KeepsRules}
 use Rattle.ts_answer.specs.CarriedOut.{CarriedOut, CanApply, Comes, Grows, is_nothing, definitions_after, lists_after}
-use Rattle.ts_answer.proofs.CallerLemmas.{held_same}
+use Rattle.ts_answer.proofs.CallerLemmas.{held_same, grows_one}
 use Rattle.ts_shelf.specs.Shelf.{IsShelf, IsSeries}
 use Rattle.ts_shelf.proofs.LawLemmas.{charges}
 use Rattle.ts_shelf.proofs.SeenLemmas.{SeriesIn, HasSeen, heading_there, series_seen, columns_in, shape_in_layout, elements_seen}
@@ -141,8 +141,8 @@ module _ (tells : Bool) (command : Command) (key : List ℕ) (shape : Shape) (sl
     }
 
   pub rewritten_carried : (effect : Effect) → definitions_after effect x.definitions ≡ x.definitions → lists_after effect x.space.lists ≡ space_after.lists → CanApply effect x.definitions → is_nothing effect ≡ false → is_writing command ≡ true
-      → w.faults ≡ x.pages.faults → w.change_bytes ≤ x.pages.change_bytes + 344084 → Grows 1 x.pages w → (said : List ℕ) → said ≡ out → CarriedOut tells command (Ok effect) said x w
-  rewritten_carried effect definitions places applies some writes no_fault bytes grows said is = record {
+      → w.faults ≡ x.pages.faults → Grows 1 x.pages w → (said : List ℕ) → said ≡ out → CarriedOut tells command (Ok effect) said x w
+  rewritten_carried effect definitions places applies some writes no_fault grows said is = record {
     keeps = λ rules.
         kept_same x.definitions (definitions_after effect x.definitions) space_after (record x.space { lists = lists_after effect x.space.lists }) w.free w.free w.count w.count
         (rules_after x kept slot within h rewrites.shelf.columns shape rewrites.shelf.lies key rewrites.shelf.named new w rewrites.moved count rewrites.pays) definitions places refl refl;
@@ -152,7 +152,6 @@ module _ (tells : Bool) (command : Command) (key : List ℕ) (shape : Shape) (sl
     stays = λ none. absurd (cc);
     stopped = tt;
     count = count;
-    bytes = bytes;
-    grows = grows;
+    grows = grows_one command x.pages w grows;
     no_fault = no_fault;
   }

@@ -1,5 +1,5 @@
 -- A series that is dropped with its pages.
-use Rattle.std.proofs.Common.{◌≡◌, ◌≢◌, ℕ, ◌+◌, ◌*◌, ◌<◌, ◌≤◌, Bool, IsTrue, Some, None, Ok, IsPermutation, Contains, All, AllPairs, List, [], ◌++◌, length, get_or, length-append, refl, ap, sym, ◌∙◌, subst, arith}
+use Rattle.std.proofs.Common.{◌≡◌, ◌≢◌, ℕ, ◌+◌, ◌*◌, ◌<◌, ◌≤◌, Bool, IsTrue, IfErr, IsErrAnd, Some, None, Ok, Err, Result, IsPermutation, Contains, All, AllPairs, List, [], ◌++◌, length, get_or, length-append, refl, ap, sym, ◌∙◌, subst, arith}
 use Rattle.std.proofs.lemmas.List.{length-map}
 use Rattle.std.proofs.lemmas.List.Elements.{All-map, All-contains}
 use Rattle.std.proofs.lemmas.List.Sorted.{length_permutation}
@@ -28,6 +28,12 @@ use Rattle.ts_layout.specs.Held.{IsHeldOf}
 use Rattle.ts_layout.specs.Changed.{with_slot_bytes}
 use Rattle.ts_layout.proofs.CallerLemmas.{page_low, page_high, elsewhere, definitions_stay}
 use Rattle.ts_container.specs.Survey.{SlotWritten}
+use Rattle.ts_base.specs.declared.fault.StoreFault.{StoreFault}
+use Rattle.ts_base.specs.declared.fault.StoreFault.TheVariants as faults
+use Rattle.ts_answer.specs.declared.stop.Stop.{Stop}
+use Rattle.ts_answer.specs.declared.stop.Stop.TheVariants.{Refused, Failed, Memory}
+use Rattle.ts_answer.specs.Stop.{store_stop}
+use Rattle.ts_answer.specs.declared.effect.Effect.{Effect}
 use Rattle.ts_answer.specs.declared.effect.Effect.TheVariants.{Series}
 use Rattle.ts_answer.specs.Reply.{ok_line}
 use Rattle.ts_answer.specs.Answer.{drop_series, carried_out, outcome}
@@ -37,9 +43,10 @@ use Rattle.ts_answer.specs.Slots.{IsSlotNamed}
 use Rattle.ts_answer.proofs.CallerLemmas.{held_same, wanted-there, on_ok}
 use Rattle.ts_shelf.proofs.MemoryLemmas.{series_kept, places_seen}
 use Rattle.ts_shelf.proofs.SeenLemmas.{series_seen}
+use Rattle.ts_elements.specs.Drops.{IsDropped, LeavesRefused}
 use Rattle.ts_elements.specs.Stamps.{ArePlaces}
 use Rattle.ts_elements.proofs.LawLemmas.{dropped, kept_same, kept_without}
-use Rattle.ts_elements.proofs.MemoryLemmas.{with_places, few_places}
+use Rattle.ts_elements.proofs.MemoryLemmas.{with_places}
 
 -- what the command comes to
 drops : (key : List ℕ) (cat : Catalogue) (s : SomeSeries) → get cat.series key ≡ Some s → outcome (Ok (DropSeries key)) cat ≡ Ok (ok_line, record cat { series = remove cat.series key })
@@ -82,6 +89,12 @@ module _ (tells : Bool) (x : View) (key : List ℕ) (slot : ℕ) (named : IsSlot
   free_after : IsPermutation (x.pages.free ++ pages_of (places_of slot x.space)) w.free
   free_after = subst (λ (ns : List ℕ). IsPermutation (x.pages.free ++ pages_of (places_of slot x.space)) ns) (sym emptied.free) gone.free
 
+  none_below : (n : ℕ) → n < first_element_page → ¬ Contains (pages_of (places_of slot x.space)) n
+  none_below n low there =
+      let can = All-contains (CanBeFreed x.pages) (pages_of (places_of slot x.space)) n (can_be_freed x kept key slot named).0 there in
+      let high = can.element in
+      omega (arith, low, high)
+
   module _ (told : IsTrue tells) (l : Layout) (shows : Shows tells x l) where
     -- an element page isn't that of the slot, nor is the first page
     slot_stays : (n : ℕ) → n ≢ page_of_slot kinds.Series slot → w.page n ≡ between.page n
@@ -89,12 +102,6 @@ module _ (tells : Bool) (x : View) (key : List ℕ) (slot : ℕ) (named : IsSlot
 
     first_page : 0 ≢ page_of_slot kinds.Series slot
     first_page same = let low = page_low kinds.Series slot in omega (arith, low, same)
-
-    none_below : (n : ℕ) → n < first_element_page → ¬ Contains (pages_of (places_of slot x.space)) n
-    none_below n low there =
-        let can = All-contains (CanBeFreed x.pages) (pages_of (places_of slot x.space)) n (can_be_freed x kept key slot named).0 there in
-        let high = can.element in
-        omega (arith, low, high)
 
     bytes_after : HoldsLayout w.page (without_series slot l)
     bytes_after =
@@ -129,11 +136,31 @@ module _ (tells : Bool) (x : View) (key : List ℕ) (slot : ℕ) (named : IsSlot
               ∙ ap (λ (cat : Catalogue). Ok (ok_line, cat)) (sym (dropped.catalogue l slot on.s shows.kept.rules on.is.there));
         }
 
-  pub series_dropped : (out : List ℕ) → out ≡ ok_line → w.faults ≡ x.pages.faults → w.change_bytes ≤ x.pages.change_bytes + 5 * length (places_of slot x.space) + 4101 → CarriedOut tells (DropSeries key) (Ok (Series slot)) out x w
-  series_dropped out said no_fault bytes =
-      let few = few_places x kept slot in
+  -- what was freed
+  freed_many : length w.free ≡ length x.pages.free + length (places_of slot x.space)
+  freed_many =
       let freed = length_permutation (x.pages.free ++ pages_of (places_of slot x.space)) w.free free_after in
       let parts = length-append x.pages.free (pages_of (places_of slot x.space)) ∙ ap (λ (n : ℕ). length x.pages.free + n) (length-map (places_of slot x.space) (λ place. place.page)) in
+      omega (arith, freed, parts)
+
+  -- its slot's page is written, and no page below those of elements loses its image
+  pub drop_images : between.change_bytes ≤ x.pages.change_bytes + 5 * length (places_of slot x.space) → w.change_bytes ≤ between.change_bytes + 4101 → IsDropped slot x.pages w
+  drop_images freed_bytes bytes =
+      let freed = freed_many in
+      let stays : (n : ℕ) → n < first_element_page → IsTrue (x.pages.imaged n) → IsTrue (between.imaged n) = λ n low there. gone.images n (none_below n low) there in
+      record {
+        within = within;
+        grows = omega (arith, freed_bytes, bytes, freed);
+        again = λ there.
+            let less = emptied.again (stays (page_of_slot kinds.Series slot) (page_high kinds.Series slot within) there) in
+            omega (arith, freed_bytes, less, freed);
+        images = λ n low there. emptied.images n (stays n low there);
+        imaged = emptied.imaged;
+      }
+
+  pub series_dropped : (out : List ℕ) → out ≡ ok_line → w.faults ≡ x.pages.faults → w.change_bytes ≤ x.pages.change_bytes + 5 * length (places_of slot x.space) + 4101 → CarriedOut tells (DropSeries key) (Ok (Series slot)) out x w
+  series_dropped out said no_fault bytes =
+      let freed = freed_many in
       record {
         keeps = λ rules.
             kept_same (with_slot kinds.Series slot None x.definitions) (with_slot kinds.Series slot None x.definitions) space_after space_after w.free w.free x.pages.count w.count
@@ -144,7 +171,25 @@ module _ (tells : Bool) (x : View) (key : List ℕ) (slot : ℕ) (named : IsSlot
         stays = λ none. absurd (cc);
         stopped = tt;
         count = emptied.count ∙ count;
-        bytes = omega (arith, bytes, few);
-        grows = omega (arith, bytes, freed, parts);
+        grows = omega (arith, bytes, freed);
         no_fault = no_fault;
       }
+
+-- what refuses a drop comes before any call on the pages
+left_same : (stop : Stop) (v : Contents) → LeavesRefused stop v v
+left_same (Refused refusal) v = refl
+left_same Failed v = tt
+left_same (Memory error) v = tt
+
+pub refused_first : (r : Result Effect Stop) (stop : Stop) (v : Contents) → IsErrAnd r (λ s. s ≡ stop) → IfErr r (λ s. LeavesRefused s v v)
+refused_first (Ok effect) stop v is = tt
+refused_first (Err other) stop v is = left_same other v
+
+-- what stops a call on them is no refusal
+never_left : (fault : StoreFault) (v w : Contents) → LeavesRefused (store_stop fault) v w
+never_left faults.Failed v w = tt
+never_left (faults.Memory error) v w = tt
+
+pub unrefused : (r : Result Effect Stop) (fault : StoreFault) (v w : Contents) → IsErrAnd r (λ s. s ≡ store_stop fault) → IfErr r (λ s. LeavesRefused s v w)
+unrefused (Ok effect) fault v w is = tt
+unrefused (Err other) fault v w is = subst (λ (s : Stop). LeavesRefused s v w) (sym is) (never_left fault v w)

@@ -1,8 +1,9 @@
 // The routine that drops a series.
-ghost use Rattle.std.specs.Prelude.{◌≡◌, []};
+ghost use Rattle.std.specs.Prelude.{◌≡◌, ℕ, [], IfOk, IfErr};
 ghost use Rattle.ts_command.specs.declared.command.Command.TheVariants.{DropSeries};
 ghost use Rattle.ts_answer.specs.View.{view, IsSeen};
 ghost use Rattle.ts_answer.specs.CarriedOut.{CarriedOut};
+ghost use Rattle.ts_elements.specs.Drops.{IsDropped, LeavesRefused};
 
 use std::alloc::Global;
 use ts_answer::{Effect, Stop};
@@ -28,6 +29,8 @@ pub fn drop_series<P: Pages>(
     requires empty { out.old ≡ [] }
     ensures carried { CarriedOut P.tells (DropSeries key.now) result out.new
         (view defs.now.definitions space.now (P.contents pages.old)) (P.contents pages.new) }
+    ensures images { IfOk result (λ effect. (slot : ℕ) × IsDropped slot (P.contents pages.old) (P.contents pages.new)) }
+    ensures refused { IfErr result (λ stop. LeavesRefused stop (P.contents pages.old) (P.contents pages.new)) }
     ensures undisturbed { P.undisturbed pages.old pages.new }
 {
     let slot = series_named(defs, key)?;

@@ -1,15 +1,17 @@
 -- The commands that begin and end a transaction.
-use Rattle.std.proofs.Common.{◌≡◌, ◌≢◌, Bool, true, not, ◌&&◌, Option, Some, None, is_none, Ok, Err, refl, ap, sym, ◌∙◌}
+use Rattle.std.proofs.Common.{◌≡◌, ◌≢◌, ℕ, Bool, true, Option, Some, None, Ok, Err, refl}
 use Rattle.ts_base.specs.declared.refusal.Refusal.TheVariants.{NotOpen}
 use Rattle.ts_command.specs.declared.command.Command.{Command}
 use Rattle.ts_command.specs.declared.command.Command.TheVariants as commands
 use Rattle.ts_command.specs.declared.boundary.Boundary.{Boundary}
-use Rattle.ts_command.specs.declared.boundary.Boundary.TheVariants.{Opens, Commits, RollsBack}
-use Rattle.ts_command.specs.Boundary.{boundary_of, is_reading}
-use Rattle.ts_command.specs.Writing.{is_writing}
+use Rattle.ts_command.specs.declared.boundary.Boundary.TheVariants.{Opens, Commits, RollsBack, Alone}
+use Rattle.ts_command.specs.Boundary.{boundary_of, is_between}
 use Rattle.ts_model.specs.Catalogue.{Catalogue}
 use Rattle.ts_answer.specs.Answer.{outcome, carried_out}
 use Rattle.ts_answer.specs.Reply.{ok_line}
+use Rattle.ts_answer.specs.State.{begun}
+use Rattle.ts_answer.specs.CarriedOut.{growth_of}
+use Rattle.ts_engine.specs.Transaction.{misplaced_in}
 use Rattle.ts_engine.specs.Work.{Boundaries, work_of}
 
 -- one is begun where none is open
@@ -30,8 +32,38 @@ none_to_roll_back commands.Rollback is cat = refl
 none_to_roll_back other is cat = absurd (cc)
 
 -- all others are carried out on pages or in memory
-pub works_between : (command : Command) → boundary_of command ≡ None → work_of command ≢ Boundaries
+pub works_between : (command : Command) → is_between (boundary_of command) ≡ true → work_of command ≢ Boundaries
 works_between commands.Begin between is = absurd (cc)
 works_between commands.Commit between is = absurd (cc)
 works_between commands.Rollback between is = absurd (cc)
 works_between other between is = absurd (cc)
+
+-- such a command leaves no transaction open where none is
+pub begun_between : (b : Option Boundary) → is_between b ≡ true → (cat : Catalogue) → begun b cat ≡ None
+begun_between None between cat = refl
+begun_between (Some Opens) between cat = absurd (cc)
+begun_between (Some Commits) between cat = refl
+begun_between (Some RollsBack) between cat = refl
+begun_between (Some Alone) between cat = refl
+
+-- there it has its place
+pub placed_outside : (b : Option Boundary) → is_between b ≡ true → (writes : Bool) → misplaced_in b writes None ≡ None
+placed_outside None between writes = refl
+placed_outside (Some Opens) between writes = refl
+placed_outside (Some Commits) between writes = absurd (cc)
+placed_outside (Some RollsBack) between writes = absurd (cc)
+placed_outside (Some Alone) between writes = refl
+
+-- and where one is open, if it can stand in one
+pub none_inside : (b : Option Boundary) → is_between b ≡ true → (writes : Bool) (n : ℕ) → misplaced_in b writes (Some n) ≡ None → b ≡ None
+none_inside None between writes n placed = refl
+none_inside (Some Opens) between writes n placed = absurd (cc)
+none_inside (Some Commits) between writes n placed = absurd (cc)
+none_inside (Some RollsBack) between writes n placed = absurd (cc)
+none_inside (Some Alone) between writes n placed = absurd (cc)
+
+-- what can stand in one is one edit
+pub one_edit : (command : Command) → boundary_of command ≡ None → growth_of command ≡ 1
+one_edit (commands.RollingPut set stamp literals) none = absurd (cc)
+one_edit (commands.RollingDrop set) none = absurd (cc)
+one_edit command none = refl

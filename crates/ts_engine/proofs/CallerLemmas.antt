@@ -1,5 +1,4 @@
 -- What the crates above cite of the proofs here.
-pub use Rattle.ts_engine.proofs.ChargedLemmas.{can_charge_then, can_count, charges_same}
 pub use Rattle.ts_engine.proofs.EndLemmas.{few_then, none_open, saved_none, saved_some, short_all, short_one}
 pub use Rattle.ts_engine.proofs.JoinLemmas.{can_charge, changed_step, failed_step, joined_step, memory_step, refused_step, unchanged_step, unjoined_step}
 pub use Rattle.ts_engine.proofs.MovesLemmas.{Follows, at_resting, moves_disk, moves_memory, moves_still, read_moments, ready_still, rests, stands, stands_resting}

@@ -1,6 +1,6 @@
 -- How a batch ends in a transaction: it is joined, or dropped, after memory was taken.
 use Rattle.std.specs.Prelude.{is_some}
-use Rattle.std.proofs.Common.{◌≡◌, ℕ, ◌+◌, ◌*◌, ◌≤◌, Bool, true, false, Option, Some, None, IfSome, Ok, List, [], length, refl, ap, sym, ◌∙◌, arith}
+use Rattle.std.proofs.Common.{◌≡◌, ℕ, ◌≤◌, Bool, true, false, if◌then◌else◌, Option, Some, None, IfSome, Ok, List, [], length, refl, ap, sym, ◌∙◌, arith}
 use Rattle.ts_command.specs.declared.command.Command.{Command}
 use Rattle.ts_disk.specs.Device.{Device}
 use Rattle.ts_page.specs.Pages.{Contents}
@@ -12,7 +12,7 @@ use Rattle.ts_space.specs.Directory.{Directory}
 use Rattle.ts_model.specs.Definitions.{Definitions}
 use Rattle.ts_layout.specs.Placed.{AreKept}
 use Rattle.ts_answer.specs.declared.effect.Effect.{Effect}
-use Rattle.ts_answer.specs.CarriedOut.{CarriedOut}
+use Rattle.ts_answer.specs.CarriedOut.{CarriedOut, Grows, growth_of, has_parts, definitions_after, lists_after}
 use Rattle.ts_answer.specs.View.{view}
 use Rattle.ts_engine.specs.declared.transaction.Saved.{Saved}
 use Rattle.ts_engine.specs.Engine.{Kept, IsSmall, IsReady}
@@ -59,12 +59,23 @@ short_all tells e v ready =
     let all = short_of e.saved (contents_over (store_rolled_back e.store) v) (contents_over e.store v) ready.small (λ none. none_open e.store v (ready.closed none) ready.idle.batch) refl few in
     omega (arith, all, commit_bytes e.store v)
 
+-- no command adds more than that of the most edits
+most_edits : (command : Command) (v w : Contents) → Grows (growth_of command) v w → Grows 26 v w
+most_edits command v w grows = by_parts (has_parts command) grows
+  where
+    by_parts : (parts : Bool) → Grows (if parts then 26 else 1) v w → Grows 26 v w
+    by_parts true grown = grown
+    by_parts false grown = omega (arith, grown)
+
 -- and so have those of one command where none is open
 pub short_one : (tells : Bool) (command : Command) (e g : Kept) (v x : Device) (effect : Effect) (out : List ℕ) → IsReady tells e v → e.saved ≡ None
     → CarriedOut tells command (Ok effect) out (view e.tables.definitions e.space (contents_over e.store v)) (contents_over g.store x) → length (entries_bytes (to_commit g.store)) ≤ 1048556
 short_one tells command e g v x effect out ready none carried =
     let before = none_open e.store v (ready.closed none) ready.idle.batch in
-    omega (arith, before, carried.bytes, commit_bytes g.store x)
+    let now = contents_over g.store x in
+    let few = few_free (definitions_after effect e.tables.definitions) (record e.space { lists = lists_after effect e.space.lists }) now.free now.count (carried.keeps ready.seen.kept) in
+    let grown = most_edits command (contents_over e.store v) now carried.grows in
+    omega (arith, before, grown, few, commit_bytes g.store x)
 
 -- whether a transaction is open
 pub saved_none : (o : Option Saved) → is_some o ≡ false → o ≡ None

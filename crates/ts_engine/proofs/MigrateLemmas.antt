@@ -22,7 +22,7 @@ use Rattle.ts_engine.specs.Engine.{Kept, IsKeptOf, IsReady}
 use Rattle.ts_engine.specs.Migrate.{Migrated, state_renewed}
 use Rattle.ts_engine.specs.Change.{Finished, Changed}
 use Rattle.ts_engine.proofs.ChangeLemmas.{changed}
-use Rattle.ts_engine.proofs.ChargedLemmas.{charges_same}
+use Rattle.ts_effects.proofs.CallerLemmas.{charges_same}
 use Rattle.ts_engine.proofs.StandLemmas.{same_copies, still_none}
 use Rattle.ts_engine.proofs.MovesLemmas.{Next, Follows, moves_ok, moves_fault, moves_still, stands_resting}
 

@@ -7,7 +7,7 @@ use Rattle.ts_disk.proofs.Moments.{leaves_map}
 use Rattle.ts_page.specs.Pages.{Contents}
 use Rattle.ts_page.specs.Volume.{first_element_page}
 use Rattle.ts_journal.specs.Moment.{OnlyReads}
-use Rattle.ts_store.specs.OpenBatch.{State as Store, IsClosed, read_pages, contents_over}
+use Rattle.ts_store.specs.OpenBatch.{IsClosed, read_pages, contents_over}
 use Rattle.ts_store.specs.OpenBatch.{rolled_back as store_rolled_back}
 use Rattle.ts_store.proofs.CallerLemmas.{counted}
 use Rattle.ts_model.specs.Catalogue.{Catalogue}
@@ -19,10 +19,10 @@ use Rattle.ts_engine.specs.declared.fault.StepFault.{StepFault}
 use Rattle.ts_engine.specs.declared.fault.StepFault.TheVariants.{Disk, Memory, Closed}
 use Rattle.ts_engine.specs.declared.transaction.Saved.{Saved}
 use Rattle.ts_volume.specs.Volume.{MeansCatalogue}
-use Rattle.ts_engine.specs.Engine.{Kept, IsKeptOf, IsSmall, IsStanding, IsReady, IsAt, IsSame, back_to}
+use Rattle.ts_engine.specs.Engine.{Kept, IsKeptOf, IsSmall, IsStanding, IsReady, IsAt, back_to}
 use Rattle.ts_engine.specs.Moves.{BeforeOrAfter, IsUntouched, Moves}
 use Rattle.ts_engine.specs.Change.{IsStill, ChangeLeaves, Changed}
-use Rattle.ts_engine.proofs.ChargedLemmas.{charges_same}
+use Rattle.ts_effects.proofs.CallerLemmas.{charges_same}
 use Rattle.ts_engine.proofs.StateLemmas.{accepted_of, accepted_by}
 use Rattle.ts_volume.proofs.CallerLemmas.{holds_still, means_layout}
 use Rattle.ts_engine.proofs.StandLemmas.{SameCopies, same_copies, seen_same, still_reads, still_idle, still_closed, still_small, still_back, base_still, one_layout, read_means, means_alike, means_held}

@@ -29,8 +29,8 @@ use Rattle.ts_engine.specs.declared.engine.Engine.{Engine}
 use Rattle.ts_volume.specs.Volume.{MeansCatalogue, MeansNothing}
 use Rattle.ts_container.specs.KeptCharges.{AreCharges}
 use Rattle.ts_layout.specs.Placed.{AreKept, used_pages}
-use Rattle.ts_engine.specs.Charged.{CanCount}
-use Rattle.ts_engine.proofs.ChargedLemmas.{can_count}
+use Rattle.ts_effects.specs.Charged.{CanCount}
+use Rattle.ts_effects.proofs.CallerLemmas.{can_count}
 use Rattle.ts_engine.specs.Engine.{Kept, IsKeptOf, IsReady}
 use Rattle.ts_engine.specs.Start.{StillMeans, StartFault, ReadFault, Opened, read_as}
 use Rattle.ts_volume.proofs.CallerLemmas.{holds_still, means_layout}

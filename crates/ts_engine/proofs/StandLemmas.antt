@@ -1,5 +1,5 @@
 -- What an engine keeps, and what its volume means.
-use Rattle.std.proofs.Common.{◌≡◌, inl, ℕ, ◌+◌, ◌≤◌, ◌*◌, Bool, IsTrue, Option, Some, None, IfSome, List, [], length, refl, ap, sym, ◌∙◌, subst, arith}
+use Rattle.std.proofs.Common.{◌≡◌, inl, ℕ, Bool, IsTrue, Option, Some, None, List, [], length, refl, ap, sym, ◌∙◌, subst, arith}
 use Rattle.ts_disk.specs.Device.{Device, Lawful}
 use Rattle.ts_page.proofs.PagesLemmas.{lawful_same}
 use Rattle.ts_journal.specs.Entry.{Entry, entries_bytes, over}
@@ -10,7 +10,7 @@ use Rattle.ts_store.specs.OpenBatch.{State as Store, AreInPlace, IsIdle, IsClose
 use Rattle.ts_store.specs.OpenBatch.{rolled_back as store_rolled_back}
 use Rattle.ts_store.specs.Undisturbed.{Undisturbed}
 use Rattle.ts_model.specs.Catalogue.{Catalogue}
-use Rattle.ts_layout.specs.Meaning.{Layout, HoldsLayout, IsLaidOut, Means, catalogue_of}
+use Rattle.ts_layout.specs.Meaning.{Layout, HoldsLayout, Means, catalogue_of}
 use Rattle.ts_layout.specs.Placed.{AreKept}
 use Rattle.ts_layout.proofs.CallerLemmas.{kept_alike, same_catalogue}
 use Rattle.ts_answer.proofs.CallerLemmas.{held_same}

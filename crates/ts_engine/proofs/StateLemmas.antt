@@ -1,13 +1,13 @@
 -- What a state makes of a command, by what is answered to it at the newest catalogue, and by what an engine counts.
-use Rattle.std.proofs.Common.{◌≡◌, ◌⊎◌, inl, inr, ℕ, ◌+◌, ◌≤◌, ◌<◌, ◌*◌, Bool, true, false, ◌&&◌, nat_le, if◌then◌else◌, Option, Some, None, IfSome, Result, Ok, Err, List, length, refl, ap, sym, ◌∙◌, subst, arith}
+use Rattle.std.proofs.Common.{◌≡◌, ℕ, ◌+◌, ◌≤◌, ◌<◌, ◌*◌, Bool, true, false, ◌&&◌, nat_le, if◌then◌else◌, Option, Some, None, IfSome, Ok, Err, List, length, refl, ap, sym, ◌∙◌, subst, arith}
 use Rattle.std.specs.Option.{option_map}
 use Rattle.std.proofs.lemmas.Bool.{leb-false}
 use Rattle.ts_base.specs.declared.refusal.Refusal.{Refusal}
 use Rattle.ts_base.specs.declared.refusal.Refusal.TheVariants.{NotOpen, AlreadyOpen, TransactionFull}
 use Rattle.ts_command.specs.declared.command.Command.{Command}
 use Rattle.ts_command.specs.declared.boundary.Boundary.{Boundary}
-use Rattle.ts_command.specs.declared.boundary.Boundary.TheVariants.{Opens, Commits, RollsBack}
-use Rattle.ts_command.specs.Boundary.{boundary_of}
+use Rattle.ts_command.specs.declared.boundary.Boundary.TheVariants.{Opens, Commits, RollsBack, Alone}
+use Rattle.ts_command.specs.Boundary.{boundary_of, is_between}
 use Rattle.ts_command.specs.Writing.{is_writing}
 use Rattle.ts_page.specs.Pages.{Contents}
 use Rattle.ts_model.specs.Catalogue.{Catalogue}
@@ -17,7 +17,7 @@ use Rattle.ts_answer.specs.State.{State, Transaction, resting, opened, newest_of
 use Rattle.ts_engine.specs.declared.transaction.Saved.{Saved}
 use Rattle.ts_engine.specs.Engine.{IsSmall}
 use Rattle.ts_engine.specs.Transaction.{misplaced_in, counted_in}
-use Rattle.ts_engine.proofs.BoundaryLemmas.{none_to_commit, none_to_roll_back}
+use Rattle.ts_engine.proofs.BoundaryLemmas.{none_to_commit, none_to_roll_back, begun_between, none_inside}
 
 -- the state after a command that neither begins nor ends a transaction, where this is the newest catalogue then
 abbrev pub plain_next : Command → Catalogue → Option Transaction → Catalogue → State
@@ -39,28 +39,37 @@ test_some : (b : Bool) (r q : Refusal) → ◌≡◌ {A = Option Refusal} (if b 
 test_some true r q is = (refl, cc)
 test_some false r q is = absurd (cc)
 
--- a command that neither begins nor ends a transaction, where there is place for it
-module _ (command : Command) (base : Catalogue) (between : boundary_of command ≡ None) where
-  room : (accepted : ℕ) → misplaced_in None (is_writing command) (Some accepted) ≡ None → within_transaction command accepted ≡ Ok tt
-  unfolding within_transaction refused_if
-  room accepted placed = λ i. if test_none (is_writing command && nat_le 32 accepted) TransactionFull placed i then Err TransactionFull else Ok tt
+-- there is room for a command in a transaction where it has its place there
+room_none : (command : Command) (accepted : ℕ) → is_between (boundary_of command) ≡ true → misplaced_in (boundary_of command) (is_writing command) (Some accepted) ≡ None → (is_writing command && nat_le 32 accepted) ≡ false
+room_none command accepted between placed =
+    let none = none_inside (boundary_of command) between (is_writing command) accepted placed in
+    test_none (is_writing command && nat_le 32 accepted) TransactionFull (subst (λ (b : Option Boundary). misplaced_in b (is_writing command) (Some accepted) ≡ None) none placed)
 
-  pub plain_ok : (o : Option Transaction) (out : List ℕ) (cat : Catalogue) → misplaced_in None (is_writing command) (accepted_of o) ≡ None → outcome (Ok command) (newest_of base o) ≡ Ok (out, cat)
+-- a command that neither begins nor ends a transaction, where there is place for it
+module _ (command : Command) (base : Catalogue) (between : is_between (boundary_of command) ≡ true) where
+  in_none : (accepted : ℕ) → misplaced_in (boundary_of command) (is_writing command) (Some accepted) ≡ None → boundary_of command ≡ None
+  in_none accepted placed = none_inside (boundary_of command) between (is_writing command) accepted placed
+
+  room : (accepted : ℕ) → misplaced_in (boundary_of command) (is_writing command) (Some accepted) ≡ None → within_transaction command accepted ≡ Ok tt
+  unfolding within_transaction refused_if
+  room accepted placed = λ i. if room_none command accepted between placed i then Err TransactionFull else Ok tt
+
+  pub plain_ok : (o : Option Transaction) (out : List ℕ) (cat : Catalogue) → misplaced_in (boundary_of command) (is_writing command) (accepted_of o) ≡ None → outcome (Ok command) (newest_of base o) ≡ Ok (out, cat)
       → carried_out_in command base o ≡ Ok (out, plain_next command base o cat)
   unfolding room outside inside ◌>>=◌
   plain_ok None out cat placed is =
       (λ i. is i >>= λ (a : Answered). Ok (a.0, record { base = a.1; transaction = begun (boundary_of command) a.1 }))
-      ∙ (λ i. Ok (out, record { base = cat; transaction = begun (between i) cat }))
+      ∙ (λ i. Ok (out, record { base = cat; transaction = begun_between (boundary_of command) between cat i }))
   plain_ok (Some t) out cat placed is =
-      (λ i. inside (between i) command base t.work t.accepted)
+      (λ i. inside (in_none t.accepted placed i) command base t.work t.accepted)
       ∙ (λ i. room t.accepted placed i >>= λ r. is i >>= λ (a : Answered). Ok (a.0, opened base a.1 (counted command t.accepted)))
 
-  pub plain_err : (o : Option Transaction) (refusal : Refusal) → misplaced_in None (is_writing command) (accepted_of o) ≡ None → outcome (Ok command) (newest_of base o) ≡ Err refusal
+  pub plain_err : (o : Option Transaction) (refusal : Refusal) → misplaced_in (boundary_of command) (is_writing command) (accepted_of o) ≡ None → outcome (Ok command) (newest_of base o) ≡ Err refusal
       → carried_out_in command base o ≡ Err refusal
   unfolding room outside inside ◌>>=◌
   plain_err None refusal placed is = λ i. is i >>= λ (a : Answered). Ok (a.0, record { base = a.1; transaction = begun (boundary_of command) a.1 })
   plain_err (Some t) refusal placed is =
-      (λ i. inside (between i) command base t.work t.accepted)
+      (λ i. inside (in_none t.accepted placed i) command base t.work t.accepted)
       ∙ (λ i. room t.accepted placed i >>= λ r. is i >>= λ (a : Answered). Ok (a.0, opened base a.1 (counted command t.accepted)))
 
 -- the catalogue then, and the count
@@ -95,6 +104,9 @@ misplaced_refused command base (Some RollsBack) is None refusal misplaced =
     let why : NotOpen ≡ refusal = cc in
     (λ i. none_to_roll_back command is base i >>= λ (a : Answered). Ok (a.0, record { base = a.1; transaction = begun (boundary_of command) a.1 })) ∙ ap Err why
 misplaced_refused command base (Some RollsBack) is (Some t) refusal misplaced = absurd (cc)
+misplaced_refused command base (Some Alone) is None refusal misplaced = absurd (cc)
+misplaced_refused command base (Some Alone) is (Some t) refusal misplaced =
+    let why : AlreadyOpen ≡ refusal = cc in (λ i. inside (is i) command base t.work t.accepted) ∙ ap Err why
 misplaced_refused command base None is None refusal misplaced = absurd (cc)
 misplaced_refused command base None is (Some t) refusal misplaced =
     let full = test_some (is_writing command && nat_le 32 t.accepted) TransactionFull refusal misplaced in
@@ -116,28 +128,28 @@ unfolding run_outcome
 run_by state command = refl
 
 -- a command that writes, for which there was place, is within what a transaction may have
-pub placed_few : (command : Command) (n : ℕ) → is_writing command ≡ true → misplaced_in None (is_writing command) (Some n) ≡ None → n + 1 ≤ 32
-placed_few command n writes placed =
-    let free : nat_le 32 n ≡ false = sym (ap (λ (w : Bool). w && nat_le 32 n) writes) ∙ test_none (is_writing command && nat_le 32 n) TransactionFull placed in
+pub placed_few : (command : Command) (n : ℕ) → is_between (boundary_of command) ≡ true → is_writing command ≡ true → misplaced_in (boundary_of command) (is_writing command) (Some n) ≡ None → n + 1 ≤ 32
+placed_few command n between writes placed =
+    let free : nat_le 32 n ≡ false = sym (ap (λ (w : Bool). w && nat_le 32 n) writes) ∙ room_none command n between placed in
     let below : n < 32 = leb-false 32 n free in
     omega arith
 
 -- a command that was accepted is one more at most, and there was place for it
-one_more : (command : Command) (n : ℕ) → misplaced_in None (is_writing command) (Some n) ≡ None → n ≤ 32 → counted command n ≤ 32
-one_more command n placed few = by (is_writing command) refl
+one_more : (command : Command) (n : ℕ) → is_between (boundary_of command) ≡ true → misplaced_in (boundary_of command) (is_writing command) (Some n) ≡ None → n ≤ 32 → counted command n ≤ 32
+one_more command n between placed few = by (is_writing command) refl
   where
     by : (b : Bool) → is_writing command ≡ b → counted command n ≤ 32
     by true writes =
-        let open_ : nat_le 32 n ≡ false = sym (ap (λ (w : Bool). w && nat_le 32 n) writes) ∙ test_none (is_writing command && nat_le 32 n) TransactionFull placed in
+        let open_ : nat_le 32 n ≡ false = sym (ap (λ (w : Bool). w && nat_le 32 n) writes) ∙ room_none command n between placed in
         let below : n < 32 = leb-false 32 n open_ in
         subst (λ (w : Bool). n + (if w then 1 else 0) ≤ 32) (sym writes) (omega arith)
     by false reads = subst (λ (w : Bool). n + (if w then 1 else 0) ≤ 32) (sym reads) (omega arith)
 
 -- so the changes stay small where they stay
-pub small_counted : (command : Command) (o : Option Saved) (base now : Contents) → misplaced_in None (is_writing command) (accepted_by o) ≡ None → IfSome o (λ s. IsSmall s.accepted base now) → IfSome (counted_in command o) (λ s. IsSmall s.accepted base now)
-small_counted command None base now placed small = tt
-small_counted command (Some s) base now placed small = record {
-  few = one_more command s.accepted placed small.few;
+pub small_counted : (command : Command) (o : Option Saved) (base now : Contents) → is_between (boundary_of command) ≡ true → misplaced_in (boundary_of command) (is_writing command) (accepted_by o) ≡ None → IfSome o (λ s. IsSmall s.accepted base now) → IfSome (counted_in command o) (λ s. IsSmall s.accepted base now)
+small_counted command None base now between placed small = tt
+small_counted command (Some s) base now between placed small = record {
+  few = one_more command s.accepted between placed small.few;
   grown = more small.grown;
 }
   where

@@ -1,26 +1,25 @@
 -- The steps that begin and end a transaction, and those that it refuses before all else.
 use Rattle.std.specs.declared.alloc.AllocError.{AllocError}
-use Rattle.std.proofs.Common.{◌≡◌, ◌⊎◌, inl, inr, ⊎_elim, ℕ, ◌+◌, ◌≤◌, pos, Bool, true, IsTrue, Option, Some, None, IsSome, IfSome, Result, Ok, Err, OnOk, IfErr, IsErrAnd, List, [], length, refl, ap, sym, ◌∙◌, subst, arith}
+use Rattle.std.proofs.Common.{◌≡◌, ◌⊎◌, inl, inr, ⊎_elim, ℕ, pos, Bool, true, false, IsTrue, Option, Some, None, IsSome, IfSome, Result, Ok, Err, OnOk, IfErr, IsErrAnd, List, [], length, refl, ap, sym, ◌∙◌, subst, arith}
 use Rattle.ts_base.specs.declared.fault.StoreFault.{StoreFault}
-use Rattle.ts_base.specs.declared.fault.StoreFault.TheVariants.{Failed as StoreFailed}
 use Rattle.ts_base.specs.declared.refusal.Refusal.{Refusal}
 use Rattle.ts_command.specs.declared.command.Command.{Command}
 use Rattle.ts_command.specs.declared.boundary.Boundary.{Boundary}
 use Rattle.ts_command.specs.declared.boundary.Boundary.TheVariants.{Opens, Commits, RollsBack}
-use Rattle.ts_command.specs.Boundary.{boundary_of, is_reading}
+use Rattle.ts_command.specs.Boundary.{boundary_of, is_reading, is_between}
 use Rattle.ts_command.specs.Writing.{is_writing}
 use Rattle.ts_disk.specs.Device.{Device, Lawful, LeavesOnly}
 use Rattle.ts_disk.proofs.Moments.{leaves_map}
 use Rattle.ts_journal.specs.Entry.{Entry, entries_bytes}
 use Rattle.ts_journal.specs.Journal.{pages}
-use Rattle.ts_store.specs.OpenBatch.{State as Store, AreInPlace, read_pages, contents_over}
+use Rattle.ts_store.specs.OpenBatch.{AreInPlace, read_pages}
 use Rattle.ts_store.specs.OpenBatch.{rolled_back as store_rolled_back}
 use Rattle.ts_store.proofs.CallerLemmas.{reads_none}
 use Rattle.ts_model.specs.Catalogue.{Catalogue}
 use Rattle.ts_model.specs.Definitions.{Tables}
 use Rattle.ts_space.specs.Directory.{Directory}
-use Rattle.ts_layout.specs.Meaning.{Means, catalogue_of}
-use Rattle.ts_answer.specs.Answer.{Answered, outcome, ◌>>=◌}
+use Rattle.ts_layout.specs.Meaning.{Means}
+use Rattle.ts_answer.specs.Answer.{Answered, ◌>>=◌}
 use Rattle.ts_answer.specs.Reply.{ok_line, number_line, refusal_line}
 use Rattle.ts_answer.specs.State.{State, Transaction, resting, opened, newest, newest_of, begun, outside, inside, carried_out_in, run_outcome, run_answer}
 use Rattle.ts_engine.specs.declared.fault.StepFault.{StepFault}
@@ -29,18 +28,18 @@ use Rattle.ts_engine.specs.declared.transaction.Saved.{Saved}
 use Rattle.ts_volume.specs.Volume.{MeansCatalogue}
 use Rattle.ts_volume.proofs.CallerLemmas.{holds_still, same_means}
 use Rattle.ts_engine.specs.Engine.{Kept, IsStanding, IsReady, IsAt, back_to}
-use Rattle.ts_engine.specs.Moves.{BeforeOrAfter, Moves}
+use Rattle.ts_engine.specs.Moves.{BeforeOrAfter}
 use Rattle.ts_engine.specs.Step.{state_after, ChangesNothing, IsCommit, Stepped}
 use Rattle.ts_engine.specs.Change.{reply_of, IsStill, FinishLeaves, Finished, Dropped}
 use Rattle.ts_engine.specs.Ended.{IsWant}
 use Rattle.ts_engine.specs.Transaction.{misplaced_in, accepted_in, Begins, CommitsAll, RollsBackTo}
 use Rattle.ts_engine.proofs.BoundaryLemmas.{begins_anew}
-use Rattle.ts_engine.specs.Charged.{CanCount}
-use Rattle.ts_engine.proofs.ChargedLemmas.{charges_same, can_count}
+use Rattle.ts_effects.specs.Charged.{CanCount}
+use Rattle.ts_effects.proofs.CallerLemmas.{charges_same, can_count}
 use Rattle.ts_engine.proofs.StateLemmas.{accepted_of, accepted_by, misplaced_refused, run_answers, run_by, some_of}
 use Rattle.ts_engine.proofs.StandLemmas.{kept_same, rules_same, still_none, standing_still, seen_means, means_alike}
-use Rattle.ts_engine.proofs.StepLemmas.{reads_between, never_nothing, stepped_refused, stepped_memory, stepped_disk}
-use Rattle.ts_engine.proofs.MovesLemmas.{read_moments, stands, rests, ready_resting, at_resting, at_meant, moves_memory}
+use Rattle.ts_engine.proofs.StepLemmas.{reads_between, never_nothing, stepped_refused, stepped_memory}
+use Rattle.ts_engine.proofs.MovesLemmas.{read_moments, stands, rests, ready_resting, at_resting, at_meant}
 
 -- What each comes to. One is begun where none is open.
 begins_run : (command : Command) (base : Catalogue) (o : Option Transaction) → boundary_of command ≡ Some Opens → o ≡ None → carried_out_in command base o ≡ Ok (ok_line, opened base base 0)
@@ -69,8 +68,9 @@ is_some_of None one = absurd (one refl)
 is_some_of (Some t) one = refl
 
 -- what begins or ends a transaction doesn't only read
-never_reads : (command : Command) (b : Boundary) → boundary_of command ≡ Some b → is_reading command ≡ true → ⊥
-never_reads command b is reads = let none = reads_between command reads in cc
+never_reads : (command : Command) (b : Boundary) → boundary_of command ≡ Some b → is_between (Some b) ≡ false → is_reading command ≡ true → ⊥
+never_reads command b is not reads =
+    let between = sym (ap is_between is) ∙ reads_between command reads in cc
 
 module _ (tells : Bool) (command : Command) (e : Kept) (v : Device) (lawful : Lawful tells v) (ready : IsReady tells e v) where
   -- it is refused before all else, and nothing changes
@@ -149,7 +149,7 @@ module _ (tells : Bool) (command : Command) (e : Kept) (v : Device) (lawful : La
           answered = λ told state at. sym (ap (λ (a : List ℕ × State). a.0) (after state at));
           reads = λ told state at nothing. reads_none tells v lawful;
           quiet = λ told state at no. reads_none tells v lawful;
-          unchanged = λ told state at nothing. absurd (never_nothing state command (ok_line, opened state.base state.base 0) (run_begun state at) (never_reads command Opens opens) nothing);
+          unchanged = λ told state at nothing. absurd (never_nothing state command (ok_line, opened state.base state.base 0) (run_begun state at) (never_reads command Opens opens refl) nothing);
           empty = λ err. absurd (cc);
         })
 
@@ -198,7 +198,7 @@ module _ (tells : Bool) (command : Command) (e : Kept) (v : Device) (lawful : La
           answered = λ told state at. sym (ap (λ (a : List ℕ × State). a.0) (after state at));
           reads = λ told state at nothing. reads_none tells v lawful;
           quiet = λ told state at no. reads_none tells v lawful;
-          unchanged = λ told state at nothing. absurd (never_nothing state command (ok_line, resting state.base) (run_rolled state at) (never_reads command RollsBack ends) nothing);
+          unchanged = λ told state at nothing. absurd (never_nothing state command (ok_line, resting state.base) (run_rolled state at) (never_reads command RollsBack ends refl) nothing);
           empty = λ err. absurd (cc);
         })
 
@@ -214,7 +214,7 @@ module _ (tells : Bool) (command : Command) (e : Kept) (v : Device) (lawful : La
     answer_committed state at = run_answers state command (line, resting (newest state)) (run_committed state at)
 
     something : (state : State) → IsAt tells e state v → ChangesNothing state command → ⊥
-    something state at nothing = never_nothing state command (line, resting (newest state)) (run_committed state at) (never_reads command Commits ends) nothing
+    something state at nothing = never_nothing state command (line, resting (newest state)) (run_committed state at) (never_reads command Commits ends refl) nothing
 
     commits : (state : State) → IsAt tells e state v → IsCommit state command
     commits state at = inr (is_some_of state.transaction (some_of e.saved state.transaction at.accepted one), ends)

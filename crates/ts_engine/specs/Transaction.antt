@@ -1,13 +1,13 @@
 -- A transaction of an engine: which commands it refuses, and what its beginning, its commit and its rollback do.
-use Rattle.std.specs.Prelude.{◌≡◌, ◌&&◌, nat_le, if◌then◌else◌, ℕ, Bool, Option, Some, None, IfSome, Result, Err, OnOk}
-use Rattle.std.specs.Prelude.{OnErr, List}
+use Rattle.std.specs.Prelude.{◌≡◌, ◌&&◌, nat_le, if◌then◌else◌, ℕ, Bool, Option, Some, None, Result, Err, OnOk}
+use Rattle.std.specs.Prelude.{OnErr}
 use Rattle.ts_base.specs.declared.fault.StoreFault.{StoreFault}
 use Rattle.ts_base.specs.declared.fault.StoreFault.TheVariants.{Failed as StoreFailed}
 use Rattle.ts_base.specs.declared.refusal.Refusal.{Refusal}
 use Rattle.ts_base.specs.declared.refusal.Refusal.TheVariants.{NotOpen, AlreadyOpen, TransactionFull}
 use Rattle.ts_command.specs.declared.command.Command.{Command}
 use Rattle.ts_command.specs.declared.boundary.Boundary.{Boundary}
-use Rattle.ts_command.specs.declared.boundary.Boundary.TheVariants.{Opens, Commits, RollsBack}
+use Rattle.ts_command.specs.declared.boundary.Boundary.TheVariants.{Opens, Commits, RollsBack, Alone}
 use Rattle.ts_disk.specs.Device.{Device}
 use Rattle.ts_store.specs.OpenBatch.{rolled_back as store_rolled_back}
 use Rattle.ts_answer.specs.State.{most_accepted, counted}
@@ -17,8 +17,8 @@ use Rattle.ts_engine.specs.declared.transaction.Saved.{Saved}
 use Rattle.ts_engine.specs.Change.{Finished}
 use Rattle.ts_engine.specs.Engine.{Kept}
 
--- Why a command is refused before all else: it can't begin or end a transaction there, or writes in one that has all
--- that it may have.
+-- Why a command is refused before all else: it can't begin or end a transaction there, or stands in none, or writes in
+-- one that has all that it may have.
 abbrev pub misplaced_in : Option Boundary → Bool → Option ℕ → Option Refusal
 misplaced_in (Some Opens) writes None = None
 misplaced_in (Some Opens) writes (Some accepted) = Some AlreadyOpen
@@ -26,6 +26,8 @@ misplaced_in (Some Commits) writes None = Some NotOpen
 misplaced_in (Some Commits) writes (Some accepted) = None
 misplaced_in (Some RollsBack) writes None = Some NotOpen
 misplaced_in (Some RollsBack) writes (Some accepted) = None
+misplaced_in (Some Alone) writes None = None
+misplaced_in (Some Alone) writes (Some accepted) = Some AlreadyOpen
 misplaced_in None writes None = None
 misplaced_in None writes (Some accepted) = if writes && nat_le most_accepted accepted then Some TransactionFull
     else None

@@ -30,6 +30,8 @@ use ts_elements::{
 use ts_model::{Def, Defs, Kind};
 use ts_page::{Page, Pages};
 use ts_pattern::Junction;
+use ts_rolling_edits::{rolling_drop, rolling_put};
+use ts_rolling_sets::{clip_set, new_set};
 use ts_series::EditKind;
 use ts_series_rows::{
     Choice, aggregate_by, aggregate_range, apply_list, count_clip, read_entries, running_avg,
@@ -53,6 +55,7 @@ pub(crate) fn edit<P: Pages>(
     out: &mut Reply,
 ) -> Option<Result<Effect, Stop>>
     requires given { IsGiven P.tells (view defs.now.definitions space.now (P.contents pages.old)) charges.now out.old }
+    requires form { HasForm command.now }
     ensures carried { IfSome result (λ came. CarriedOut P.tells command.now came out.new
         (view defs.now.definitions space.now (P.contents pages.old)) (P.contents pages.new)) }
     ensures none { IsNone result → (work_of command.now ≢ Elements) × (pages.new ≡ pages.old) × (out.new ≡ []) }
@@ -90,6 +93,12 @@ pub(crate) fn edit<P: Pages>(
         Command::DelClip { key, from, to } => {
             delete_range(alloc, pages, page, defs, space, key, *from, *to, out)
         }
+        Command::RollingPut { set, stamp, values } => {
+            rolling_put(
+                alloc, pages, page, defs, space, charges, set, *stamp, values, out,
+            )
+        }
+        Command::RollingDrop { set } => rolling_drop(alloc, pages, defs, space, set, out),
         Command::HideElem { key, stamp } => {
             mark_element(pages, page, defs, space, true, key, *stamp, out)
         }
@@ -137,6 +146,9 @@ pub(crate) fn read<P: Pages>(
         Command::Clip { key, from, to } => {
             let range = Choice::Range(*from, *to);
             read_entries(pages, page, defs, space, key, range, out)
+        }
+        Command::RollingClip { set, from, to } => {
+            clip_set(alloc, pages, page, defs, space, set, *from, *to, out)
         }
         Command::ClipCount { key, stamp, count } => {
             let some = Choice::Count(*stamp, *count);
@@ -363,6 +375,16 @@ pub(crate) fn decide(
         Command::TSCreateIrr { key, container } => {
             (Kind::Series, new_irregular(defs, key, container))
         }
+        Command::RollingCreate {
+            set,
+            calendar,
+            origin,
+            container,
+            kept,
+        } => (
+            Kind::Series,
+            new_set(alloc, defs, set, calendar, *origin, container, *kept),
+        ),
         _ => unreachable!(),
     }
 }

@@ -8,7 +8,7 @@ ghost use Rattle.ts_command.specs.Boundary.{boundary_of};
 ghost use Rattle.ts_command.specs.Writing.{is_writing};
 ghost use Rattle.ts_answer.specs.Reply.{ok_line, number_line};
 ghost use Rattle.ts_answer.specs.State.{most_accepted};
-ghost use Rattle.ts_engine.specs.Charged.{CanCount};
+ghost use Rattle.ts_effects.specs.Charged.{CanCount};
 ghost use Rattle.ts_engine.specs.Ended.{IsWant};
 ghost use Rattle.ts_engine.specs.Transaction.{misplaced_in, accepted_in, counted_in, Begins, CommitsAll, RollsBackTo};
 
@@ -146,7 +146,7 @@ fn misplaced_outside(boundary: Option<Boundary>) -> Option<Refusal>
 {
     match boundary {
         Some(Boundary::Commits) | Some(Boundary::RollsBack) => Some(Refusal::NotOpen),
-        Some(Boundary::Opens) | None => None,
+        Some(Boundary::Opens) | Some(Boundary::Alone) | None => None,
     }
 }
 
@@ -155,7 +155,7 @@ fn misplaced_inside(boundary: Option<Boundary>, writes: bool, accepted: u8) -> O
     ensures { result ≡ misplaced_in boundary writes (Some accepted) }
 {
     match boundary {
-        Some(Boundary::Opens) => Some(Refusal::AlreadyOpen),
+        Some(Boundary::Opens) | Some(Boundary::Alone) => Some(Refusal::AlreadyOpen),
         Some(Boundary::Commits) | Some(Boundary::RollsBack) => None,
         None => {
             if writes && accepted >= MOST_ACCEPTED {

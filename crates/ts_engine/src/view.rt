@@ -1,7 +1,7 @@
 // A command is carried out on the pages of a view, which stand over those of the engine's volume.
-ghost use Rattle.std.specs.Prelude.{◌≡◌, ◌<◌, ◌^◌, None, IsTrue, reverse};
+ghost use Rattle.std.specs.Prelude.{◌≡◌, ◌<◌, ◌^◌, true, IsTrue, reverse};
 ghost use Rattle.ts_page.specs.Pages.{EqualPages, IsLawful};
-ghost use Rattle.ts_command.specs.Boundary.{boundary_of};
+ghost use Rattle.ts_command.specs.Boundary.{boundary_of, is_between};
 ghost use Rattle.ts_command.specs.Form.{HasForm};
 ghost use Rattle.ts_store.specs.OpenBatch.{IsOver, contents_over, read_pages};
 ghost use Rattle.ts_store.specs.Undisturbed.{Undisturbed};
@@ -48,7 +48,7 @@ impl Engine {
             (view_contents view.now.old.entries view.now.own.entries changes.old.entries (reverse free.old.items)
             (contents_over self.old.store (V.device vol.old))) }
         requires form { HasForm command.now }
-        requires between { boundary_of command.now ≡ None }
+        requires between { is_between (boundary_of command.now) ≡ true }
         ensures carried { CarriedOut V.tells command.now result out.new
             (sees view.now.defs.definitions view.now.space
             (view_contents view.now.old.entries view.now.own.entries changes.old.entries (reverse free.old.items)
@@ -99,7 +99,7 @@ fn carry_out_in_view_over<V: Volume>(
         (view_contents view.now.old.entries view.now.own.entries changes.old.entries (reverse free.old.items)
         (contents_over store.old (V.device vol.old))) }
     requires form { HasForm command.now }
-    requires between { boundary_of command.now ≡ None }
+    requires between { is_between (boundary_of command.now) ≡ true }
     ensures carried { CarriedOut V.tells command.now result out.new
         (sees view.now.defs.definitions view.now.space
         (view_contents view.now.old.entries view.now.own.entries changes.old.entries (reverse free.old.items)
@@ -142,7 +142,7 @@ fn carry_out_in_pages<'x, P: Pages>(
         (view_contents view.now.old.entries view.now.own.entries changes.old.entries (reverse free.old.items)
         (P.contents newest.old)) }
     requires form { HasForm command.now }
-    requires between { boundary_of command.now ≡ None }
+    requires between { is_between (boundary_of command.now) ≡ true }
     ensures carried { CarriedOut P.tells command.now result out.new
         (sees view.now.defs.definitions view.now.space
         (view_contents view.now.old.entries view.now.own.entries changes.old.entries (reverse free.old.items)

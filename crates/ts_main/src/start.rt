@@ -66,8 +66,8 @@ pub(crate) fn read_words(rt: &HostRuntime) -> io::Result<Vec<String>> {
 }
 
 /// Says that the words can't be read, and answers with the status of that: there is no memory for them, or the command
-/// line is faulty. Standard error may be the file that the first word names, whatever the others are: then the line goes
-/// nowhere.
+/// line is faulty. Standard error may be the file that the first word names, whatever the others are: then the line
+/// goes nowhere.
 pub(crate) fn refuse_words(rt: &HostRuntime, error: &io::Error) -> u8 {
     let mut room = [0; LONGEST_PATH];
     let first = rt.arg(1, &mut room).ok();

@@ -46,7 +46,7 @@ module _ (tells : Bool) (command : Command) (out : List ℕ) (x : View) (c : Con
       let stays : Stays tells x.pages c = record { free = reads.free; pages = reads.pages } in
       let bytes = reads.change_bytes in
       let free = ap (λ (ns : List ℕ). length ns) reads.free in
-      (stays, omega (arith, bytes, free), reads.call.no_fault (λ failed. cc), refused)
+      (λ one. stays, λ one. omega (arith, bytes, free), reads.call.no_fault (λ failed. cc), refused)
   trouble_stops t (troubles.Memory error) reads refused = reads.call.no_fault (λ failed. cc)
 
   -- they can, and the command is refused, or there is no memory

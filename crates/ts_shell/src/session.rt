@@ -68,6 +68,22 @@ impl Session {
         }
     }
 
+    // Carries out a command that was read, and drops it.
+    fn carry_out_read<S: Site>(
+        &mut self,
+        rt: &(impl Threads + Sync),
+        site: &mut S,
+        command: Command,
+    ) -> Result<(), RunFault>
+        requires ready { IsReady S.tells self.old.engine (S.device site.old) }
+        requires form { HasForm command }
+        ensures ran { Ran (by_engine S.tells) script (Ok command ∷ [])
+            result self.old.engine self.new.engine (S.device site.old) (S.device site.new) }
+        ensures reader { self.new.reader ≡ self.old.reader }
+    {
+        self.carry_out_command(rt, site, &command)
+    }
+
     // Carries out the statement that was read.
     fn carry_out_statement<S: Site>(
         &mut self,
@@ -80,7 +96,7 @@ impl Session {
         ensures reader { self.new.reader ≡ self.old.reader }
     {
         match read_command(self.alloc, self.reader.text()) {
-            Ok(command) => self.carry_out_command(rt, site, &command),
+            Ok(command) => self.carry_out_read(rt, site, command),
             Err(Trouble::Refused(_)) => say(site, SYNTAX_LINE),
             Err(Trouble::Memory(_)) => say(site, MEMORY_LINE),
         }

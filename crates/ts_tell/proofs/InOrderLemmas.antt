@@ -27,7 +27,7 @@ use Rattle.ts_answer.specs.Reply.{series_line}
 use Rattle.ts_tell.specs.Listed.{listed_if, listed_at}
 
 -- an entry with another value
-abbrev with_value : {X Y : Type 0} → (X → Y) → List ℕ × X → List ℕ × Y
+abbrev pub with_value : {X Y : Type 0} → (X → Y) → List ℕ × X → List ℕ × Y
 with_value f e = (e.0, f e.1)
 
 put_map : {X Y : Type 0} (f : X → Y) (k : List ℕ) (v : X) (es : List (List ℕ × X)) → put name_cmp k (f v) (map (with_value f) es) ≡ map (with_value f) (put name_cmp k v es)
@@ -51,11 +51,11 @@ entries_map {X} {Y} f (e ∷ es) =
     ∙ sym (ap (map (with_value f)) (entries-insert total (from_entries {R = name_cmp} es) e.0 e.1))
 
 -- the filled slots, with their numbers and definitions
-abbrev slotted : ℕ → List (Option SeriesDef) → List (List ℕ × (ℕ × SeriesDef))
+abbrev pub slotted : ℕ → List (Option SeriesDef) → List (List ℕ × (ℕ × SeriesDef))
 slotted first table = filled_from (λ s. s.key) (λ n s. (n, s)) first table
 
 -- the same in the order of the keys
-abbrev walk : List (Option SeriesDef) → List (List ℕ × (ℕ × SeriesDef))
+abbrev pub walk : List (Option SeriesDef) → List (List ℕ × (ℕ × SeriesDef))
 walk table = entries (from_entries {R = name_cmp} (slotted 0 table))
 
 filled_values : {X : Type 0} (value : ℕ → SeriesDef → X) (first : ℕ) (table : List (Option SeriesDef)) → filled_from (λ s. s.key) value first table ≡ map (with_value (λ p. value p.0 p.1)) (slotted first table)
@@ -73,22 +73,22 @@ numbers [] = refl
 numbers (w ∷ ws) = ap (λ (rest : List ℕ). w.1.0 ∷ rest) (numbers ws)
 
 -- the index is the walk by numbers
-index_walk : (table : List (Option SeriesDef)) → values (slots_by_name (map (option_map of_series) table)) ≡ map (λ e. e.1.0) (walk table)
+pub index_walk : (table : List (Option SeriesDef)) → values (slots_by_name (map (option_map of_series) table)) ≡ map (λ e. e.1.0) (walk table)
 index_walk table =
     ap (λ (es : List (List ℕ × ℕ)). map (λ (e : List ℕ × ℕ). e.1) (entries (from_entries {R = name_cmp} es))) (filled_as_defs 0 table ∙ filled_values (λ slot s. slot) 0 table)
     ∙ ap (map (λ (e : List ℕ × ℕ). e.1)) (entries_map (λ (p : ℕ × SeriesDef). p.0) (slotted 0 table)) ∙ numbers (walk table)
 
 -- the catalogue's entries are the walk by series
-series_walk : (l : Layout) (table : List (Option SeriesDef)) → entries (by_name (λ s. s.key) (series_of l) table) ≡ map (with_value (λ p. series_of l p.0 p.1)) (walk table)
+pub series_walk : (l : Layout) (table : List (Option SeriesDef)) → entries (by_name (λ s. s.key) (series_of l) table) ≡ map (with_value (λ p. series_of l p.0 p.1)) (walk table)
 series_walk l table =
     ap (λ (es : List (List ℕ × Series)). entries (from_entries {R = name_cmp} es)) (filled_values (series_of l) 0 table)
     ∙ entries_map (λ (p : ℕ × SeriesDef). series_of l p.0 p.1) (slotted 0 table)
 
 -- what is walked stands in the slots, under its key
-abbrev Stands : List (Option SeriesDef) → List ℕ × (ℕ × SeriesDef) → Type 0
+abbrev pub Stands : List (Option SeriesDef) → List ℕ × (ℕ × SeriesDef) → Type 0
 Stands table e = (at_slot e.1.0 table ≡ Some e.1.1) × (e.0 ≡ e.1.1.key)
 
-abbrev AllStand : List (Option SeriesDef) → List (List ℕ × (ℕ × SeriesDef)) → Type 0
+abbrev pub AllStand : List (Option SeriesDef) → List (List ℕ × (ℕ × SeriesDef)) → Type 0
 AllStand table [] = Unit {0}
 AllStand table (e ∷ es) = Stands table e × AllStand table es
 
@@ -115,7 +115,7 @@ filled_stand whole first (Some s ∷ table) part =
     subst (AllStand whole) (sym (entries-insert total (from_entries {R = name_cmp} (slotted (first + 1) table)) s.key (first, s)))
     (put_stands whole s.key (first, s) (entries (from_entries {R = name_cmp} (slotted (first + 1) table))) (here, refl) rest)
 
-walk_stands : (table : List (Option SeriesDef)) → AllStand table (walk table)
+pub walk_stands : (table : List (Option SeriesDef)) → AllStand table (walk table)
 walk_stands table = filled_stand table 0 table (λ i s here. subst (λ (n : ℕ). at_slot n table ≡ Some s) (sym (zero-add i)) here)
 
 within_table : (table : List (Option SeriesDef)) (n : ℕ) (s : SeriesDef) → at_slot n table ≡ Some s → n < length table
@@ -137,7 +137,7 @@ one_slot : (i j : ℕ) → Some i ≡ Some j → i ≡ j
 one_slot i j same = cc
 
 -- whether a series is regular, by its slot and by its kind
-lies_as : (d : Definitions) (regular : Option (ℕ × ℤ)) → is_some regular ≡ is_regular (kind_in d regular)
+pub lies_as : (d : Definitions) (regular : Option (ℕ × ℤ)) → is_some regular ≡ is_regular (kind_in d regular)
 lies_as d None = refl
 lies_as d (Some regular) = refl
 
@@ -156,7 +156,7 @@ module _ (l : Layout) (name : List ℕ) (holder : ℕ) (rules : IsSound l) (is :
       let own = container_of_series l slot s rules here in
       one_slot s.container holder (sym own.1.named ∙ ap (λ (n : List ℕ). slot_of n (slots kinds.Container l.definitions)) same ∙ is)
 
-  same_test : bytes_eq (series_of l slot s).container name ≡ (s.container == holder)
+  pub same_test : bytes_eq (series_of l slot s).container name ≡ (s.container == holder)
   same_test = elim (cases_eq s.container holder) [
     | inl same ↦
         let t : (s.container == holder) ≡ true = grind (arith, nat_tests) in

@@ -30,3 +30,6 @@ returns-in-ClipCount-clause-read g c =
     let result = c.read_entries-came-in-ClipCount.result in
     let out = c.read_entries-came-in-ClipCount.new.out in
     read_case tells c.args.command.now _ result out x w at.is (subst (λ (n : ℤ). ReadOut tells (ClipCount at.key at.stamp n) result out x w) count c.read_entries-came-in-ClipCount.ensures.read)
+
+pub clip_set-came-requires-clause-set : goal.clip_set-came-requires-clause-set
+clip_set-came-requires-clause-set g c = subst HasForm c.in-RollingClip.is c.requires.form

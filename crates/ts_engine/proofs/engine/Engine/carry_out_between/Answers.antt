@@ -1,4 +1,4 @@
-use Rattle.std.proofs.Common.{◌≡◌, List, ◌++◌, None, Ok, ap, sym, ◌∙◌, subst, ℕ, length, arith}
+use Rattle.std.proofs.Common.{◌≡◌, List, ◌++◌, None, Ok, ap, sym, ◌∙◌, subst, ℕ}
 use Rattle.ts_store.specs.OpenBatch.{contents_over}
 use Rattle.ts_answer.specs.declared.stop.Stop.{Stop}
 use Rattle.ts_answer.specs.Reply.{refusal_line}
@@ -6,7 +6,7 @@ use Rattle.ts_answer.specs.View.{view}
 use Rattle.ts_answer.specs.CarriedOut.{IsStopped}
 use Rattle.ts_engine.specs.Engine.{Kept, seen_by}
 use Rattle.ts_engine.specs.Step.{Stepped}
-use Rattle.ts_engine.proofs.ChargedLemmas.{can_charge_then}
+use Rattle.ts_effects.proofs.CallerLemmas.{can_charge_then}
 use Rattle.ts_engine.proofs.StepLemmas.{by_memory}
 use Rattle.ts_engine.proofs.JoinLemmas.{can_charge, unchanged_step, changed_step, joined_step, unjoined_step, refused_step, memory_step, failed_step}
 use Rattle.ts_engine.proofs.TransactionLemmas.{by_fault}

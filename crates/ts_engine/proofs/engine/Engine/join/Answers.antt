@@ -1,9 +1,8 @@
-use Rattle.std.proofs.Common.{◌≡◌, List, [], ℕ, refl, ap, sym, ◌∙◌, subst}
-use Rattle.ts_model.specs.Definitions.{Tables}
-use Rattle.ts_store.specs.OpenBatch.{State as Store, CanJoin, to_commit, read_pages}
+use Rattle.std.proofs.Common.{◌≡◌, [], refl, ap, sym, ◌∙◌, subst}
+use Rattle.ts_store.specs.OpenBatch.{CanJoin, to_commit, read_pages}
 use Rattle.ts_answer.specs.CarriedOut.{definitions_after, lists_after}
 use Rattle.ts_engine.specs.Engine.{Kept}
-use Rattle.ts_engine.proofs.ChargedLemmas.{can_charge_then}
+use Rattle.ts_effects.proofs.CallerLemmas.{can_charge_then}
 use Rattle.ts_engine.proofs.EndLemmas.{joined_then, dropped_then}
 use Rattle.ts_engine.proofs.engine.Engine.join.Goals as goal
 

@@ -11,8 +11,8 @@ use Rattle.ts_shell.proofs.session.Session.carry_out_statement.Goals as goal
 pub returns-in-Ok-clause-ran : goal.returns-in-Ok-clause-ran
 returns-in-Ok-clause-ran g c =
     let same : or_syntax (command_of c.args.self.now.reader.text) ≡ Ok c.in-Ok.command = ap (λ (l : List ℕ). or_syntax (command_of l)) (sym c.text.ensures.text) ∙ ap or_syntax c.in-Ok.ensures.ok in
-    ran_of g.S.Volume.tells (Ok c.in-Ok.command ∷ []) (or_syntax (command_of c.args.self.now.reader.text) ∷ []) c.carry_out_command.result c.args.self.now.engine c.carry_out_command.new.self.engine (g.S.Volume.device c.args.site.now) (g.S.Volume.device c.carry_out_command.new.site)
-    (ap (λ (r : Request). r ∷ []) (sym same)) c.carry_out_command.ensures.ran
+    ran_of g.S.Volume.tells (Ok c.in-Ok.command ∷ []) (or_syntax (command_of c.args.self.now.reader.text) ∷ []) c.carry_out_read.result c.args.self.now.engine c.carry_out_read.new.self.engine (g.S.Volume.device c.args.site.now) (g.S.Volume.device c.carry_out_read.new.site)
+    (ap (λ (r : Request). r ∷ []) (sym same)) c.carry_out_read.ensures.ran
 
 pub returns-in-Err-Refused-clause-ran : goal.returns-in-Err-Refused-clause-ran
 returns-in-Err-Refused-clause-ran g c =

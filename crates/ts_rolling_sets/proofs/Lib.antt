@@ -1,0 +1,9 @@
+mod ClipLemmas
+mod ControlLemmas
+mod HomeLemmas
+mod NearLemmas
+mod OrderLemmas
+mod PickedLemmas
+mod SaidLemmas
+mod SearchLemmas
+mod WindowLemmas

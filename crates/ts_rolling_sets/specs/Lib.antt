@@ -1,0 +1,4 @@
+pub mod InMemory
+pub mod Near
+pub mod Order
+pub mod Windows
