@@ -1,9 +1,9 @@
 // How many calls on the volume a reading makes.
-use crate::program::{bytes_of, run, volume};
 use std::alloc::Global;
 use std::test::Fail;
 use std::thread::Threads;
 use ts_disk::MemorySite;
+use ts_programs::{bytes_of, run, volume};
 
 /// A regular series by minutes, whose pages have room for five elements.
 const MINUTES: &[u8] =

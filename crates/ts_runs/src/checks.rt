@@ -1,9 +1,9 @@
 // The word `check`: its statuses, what it says, and what it leaves of a volume.
-use crate::program::{bytes_of, damage, run, status, volume};
 use std::alloc::Global;
 use std::test::Fail;
 use std::thread::Threads;
 use ts_disk::{MemorySite, MemorySource};
+use ts_programs::{bytes_of, damage, run, status, volume};
 
 /// A regular series with two elements.
 const WEEKS: &[u8] =

@@ -1,9 +1,9 @@
 // Volumes of the old format, and what brings them to the newest.
-use crate::program::{PICKS, answers, bytes_of, damage, migrate, reads, run, volume};
 use std::alloc::Global;
 use std::test::Fail;
 use std::thread::Threads;
 use ts_disk::MemorySite;
+use ts_programs::{PICKS, answers, bytes_of, damage, migrate, reads, run, volume};
 
 /// The byte of a volume that tells its format.
 const FORMAT_BYTE: u64 = 8;

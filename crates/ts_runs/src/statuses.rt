@@ -1,7 +1,7 @@
 // The status of runs whose script or volume fails, and what they say.
-use crate::program::{reads, run, status, volume};
 use std::test::Fail;
 use ts_disk::MemorySource;
+use ts_programs::{reads, run, status, volume};
 
 #[test]
 fn a_pull_that_fails_has_its_status(rt: HostRuntime) -> Result<(), Fail> {

@@ -6,7 +6,7 @@ use ts_disk::{MemorySite, MemorySource, Pick, Source, Volume};
 use ts_shell::run_ts;
 
 /// All that a stop may leave of what is pending.
-pub(crate) const PICKS: [Pick; 5] = [
+pub const PICKS: [Pick; 5] = [
     Pick::Old,
     Pick::New,
     Pick::Half,
@@ -15,7 +15,7 @@ pub(crate) const PICKS: [Pick; 5] = [
 ];
 
 /// The status of the program with these words.
-pub(crate) fn status<R: Source>(
+pub fn status<R: Source>(
     rt: &(impl Threads + Sync),
     alloc: Global,
     texts: &[&str],
@@ -30,11 +30,7 @@ pub(crate) fn status<R: Source>(
 }
 
 /// A volume that `init` made with so many element pages.
-pub(crate) fn volume(
-    rt: &(impl Threads + Sync),
-    alloc: Global,
-    pages: &str,
-) -> Result<MemorySite, Fail> {
+pub fn volume(rt: &(impl Threads + Sync), alloc: Global, pages: &str) -> Result<MemorySite, Fail> {
     let mut site = MemorySite::new(Vec::new(alloc))?;
     let mut source = MemorySource::new(Vec::new(alloc), 1);
     if status(rt, alloc, &["init", pages], &mut site, &mut source)? == 0 {
@@ -45,7 +41,7 @@ pub(crate) fn volume(
 }
 
 /// The status of a run of a script that comes in pieces of 7 bytes.
-pub(crate) fn run(
+pub fn run(
     rt: &(impl Threads + Sync),
     alloc: Global,
     site: &mut MemorySite,
@@ -56,7 +52,7 @@ pub(crate) fn run(
 }
 
 /// The status of `migrate`, which pulls nothing of the script.
-pub(crate) fn migrate(
+pub fn migrate(
     rt: &(impl Threads + Sync),
     alloc: Global,
     site: &mut MemorySite,
@@ -66,7 +62,7 @@ pub(crate) fn migrate(
 }
 
 /// Whether a run answers each of these statements with the reply beside it.
-pub(crate) fn answers(
+pub fn answers(
     rt: &(impl Threads + Sync),
     alloc: Global,
     site: &mut MemorySite,
@@ -83,7 +79,7 @@ pub(crate) fn answers(
 }
 
 /// The bytes that a volume holds.
-pub(crate) fn bytes_of(alloc: Global, site: &mut MemorySite) -> Result<Vec<u8>, Fail> {
+pub fn bytes_of(alloc: Global, site: &mut MemorySite) -> Result<Vec<u8>, Fail> {
     let mut bytes = vec![in alloc; 0u8; site.len() as usize]?;
     if site.read_at(0, &mut bytes).is_err() {
         return Err(Fail::from("the read failed"));
@@ -92,7 +88,7 @@ pub(crate) fn bytes_of(alloc: Global, site: &mut MemorySite) -> Result<Vec<u8>, 
 }
 
 /// The bytes of a volume of 8 element pages after a script.
-pub(crate) fn bytes_after(
+pub fn bytes_after(
     rt: &(impl Threads + Sync),
     alloc: Global,
     script: &[u8],
@@ -103,13 +99,13 @@ pub(crate) fn bytes_after(
 }
 
 /// Writes bytes into a volume behind the store's back.
-pub(crate) fn damage(site: &mut MemorySite, at: u64, bytes: &[u8]) -> bool {
+pub fn damage(site: &mut MemorySite, at: u64, bytes: &[u8]) -> bool {
     let size = site.len();
     size >= at && size - at >= bytes.len() as u64 && site.write_at(at, bytes).is_ok()
 }
 
 /// How many calls of an opening only read, where the journal is empty: all but its sync.
-pub(crate) fn reads(rt: &(impl Threads + Sync), alloc: Global, pages: &str) -> Result<u64, Fail> {
+pub fn reads(rt: &(impl Threads + Sync), alloc: Global, pages: &str) -> Result<u64, Fail> {
     let mut site = volume(rt, alloc, pages)?;
     let before = site.calls();
     run(rt, alloc, &mut site, b"")?;

@@ -3,11 +3,11 @@
 ghost use Rattle.std.specs.Prelude.{◌<◌};
 ghost use Rattle.ts_disk.specs.Memory.{site_calls};
 
-use crate::program::{PICKS, bytes_after, bytes_of, run};
 use std::alloc::Global;
 use std::test::Fail;
 use std::thread::Threads;
 use ts_disk::{MemorySite, Pick};
+use ts_programs::{PICKS, bytes_after, bytes_of, run};
 
 /// Makes one element. What it leaves in the journal goes to its place at the next opening.
 const ELEMENT: &[u8] = b"CreateRowType(rd, t datetime, v integer);TSContainerCreate(c1, rd, 8);\

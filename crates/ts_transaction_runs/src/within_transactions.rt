@@ -3,11 +3,11 @@
 ghost use Rattle.std.specs.Prelude.{◌<◌};
 ghost use Rattle.ts_disk.specs.Memory.{site_calls};
 
-use crate::program::{PICKS, bytes_after, bytes_of, reads, run, status};
 use std::alloc::Global;
 use std::test::Fail;
 use std::thread::Threads;
 use ts_disk::{MemorySite, MemorySource, Pick};
+use ts_programs::{PICKS, bytes_after, bytes_of, reads, run, status};
 
 /// Makes two series, of which one has an element.
 const SERIES: &[u8] = b"CreateRowType(rd, t datetime, v integer);TSContainerCreate(c1, rd, 8);\

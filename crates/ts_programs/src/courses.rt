@@ -8,13 +8,13 @@ use ts_disk::MemorySite;
 
 /// Statements and what is said to each, one line; and a reading that tells apart what they leave.
 #[derive(Clone, Copy)]
-pub(crate) struct Course<'a> {
-    pub(crate) statements: &'a [(&'a [u8], &'a [u8])],
-    pub(crate) reading: &'a [u8],
+pub struct Course<'a> {
+    pub statements: &'a [(&'a [u8], &'a [u8])],
+    pub reading: &'a [u8],
 }
 
 /// The first statements, so many.
-pub(crate) fn script_of(alloc: Global, course: &Course, count: usize) -> Result<Vec<u8>, Fail> {
+pub fn script_of(alloc: Global, course: &Course, count: usize) -> Result<Vec<u8>, Fail> {
     let mut script = Vec::new(alloc);
     for (statement, _) in course.statements.iter().take(count) {
         script.extend_from_slice(statement)?;
@@ -23,7 +23,7 @@ pub(crate) fn script_of(alloc: Global, course: &Course, count: usize) -> Result<
 }
 
 /// What is said to the first statements, so many.
-pub(crate) fn said_of(alloc: Global, course: &Course, count: usize) -> Result<Vec<u8>, Fail> {
+pub fn said_of(alloc: Global, course: &Course, count: usize) -> Result<Vec<u8>, Fail> {
     let mut said = Vec::new(alloc);
     for (_, reply) in course.statements.iter().take(count) {
         said.extend_from_slice(reply)?;
@@ -32,7 +32,7 @@ pub(crate) fn said_of(alloc: Global, course: &Course, count: usize) -> Result<Ve
 }
 
 /// A site over these bytes, on which the first statements were carried out, so many.
-pub(crate) fn carried_out(
+pub fn carried_out(
     rt: &(impl Threads + Sync),
     alloc: Global,
     course: &Course,
@@ -51,7 +51,7 @@ pub(crate) fn carried_out(
 }
 
 /// What the reading says of a volume of these bytes; nothing where it isn't opened.
-pub(crate) fn reading_of(
+pub fn reading_of(
     rt: &(impl Threads + Sync),
     alloc: Global,
     course: &Course,
@@ -65,7 +65,7 @@ pub(crate) fn reading_of(
 }
 
 /// What the reading says after each number of statements, from none on, over a volume of these bytes.
-pub(crate) fn states_of(
+pub fn states_of(
     rt: &(impl Threads + Sync),
     alloc: Global,
     course: &Course,
@@ -80,12 +80,12 @@ pub(crate) fn states_of(
 }
 
 /// How many replies were said in whole: each has one line.
-pub(crate) fn whole_replies(said: &[u8]) -> usize {
+pub fn whole_replies(said: &[u8]) -> usize {
     said.iter().filter(|byte| **byte == b'\n').count()
 }
 
 /// Whether a volume of these bytes is as after so many statements, or after one more.
-pub(crate) fn is_after(
+pub fn is_after(
     rt: &(impl Threads + Sync),
     alloc: Global,
     course: &Course,

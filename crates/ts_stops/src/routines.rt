@@ -4,14 +4,14 @@
 ghost use Rattle.std.specs.Prelude.{◌<◌};
 ghost use Rattle.ts_disk.specs.Memory.{site_calls};
 
-use crate::courses::{
-    Course, carried_out, is_after, reading_of, script_of, states_of, whole_replies,
-};
-use crate::program::{PICKS, bytes_after, bytes_of, reads, run};
 use std::alloc::Global;
 use std::test::Fail;
 use std::thread::Threads;
 use ts_disk::{MemorySite, Pick};
+use ts_programs::{
+    Course, PICKS, bytes_after, bytes_of, carried_out, is_after, reading_of, reads, run, script_of,
+    states_of, whole_replies,
+};
 
 /// A series whose page is full, since a page has room for five of these rows; and a row type and a container that
 /// nothing uses.

@@ -3,11 +3,11 @@
 ghost use Rattle.std.specs.Prelude.{◌<◌};
 ghost use Rattle.ts_disk.specs.Memory.{site_calls};
 
-use crate::program::{PICKS, bytes_after, reads, run};
 use std::alloc::Global;
 use std::test::Fail;
 use std::thread::Threads;
 use ts_disk::{MemorySite, Pick};
+use ts_programs::{PICKS, bytes_after, reads, run};
 
 /// Statements that a run carries out, of which each tells whether it was carried out before, and a reading of all that
 /// they make.

@@ -3,12 +3,14 @@
 ghost use Rattle.std.specs.Prelude.{◌<◌};
 ghost use Rattle.ts_disk.specs.Memory.{site_calls};
 
-use crate::courses::{Course, carried_out, is_after, said_of, script_of, states_of, whole_replies};
-use crate::program::{bytes_of, reads, run, status, volume};
 use std::alloc::Global;
 use std::test::Fail;
 use std::thread::Threads;
 use ts_disk::{MemorySite, MemorySource, Pick};
+use ts_programs::{
+    Course, bytes_of, carried_out, is_after, reads, run, said_of, script_of, states_of, status,
+    volume, whole_replies,
+};
 
 const SIX: Course = Course {
     statements: &[
