@@ -1,0 +1,70 @@
+-- Cells that are taken one after the other.
+use Rattle.std.proofs.Common.{◌≡◌, ℕ, ◌+◌, ◌<◌, Option, Some, None, List, [], ◌∷◌, ◌++◌, length, map, take, drop, refl, sym, ap, subst, ◌∙◌, arith, append_assoc, append-nil, length-take}
+use Rattle.std.specs.Prelude.{IfSome}
+use Rattle.ts_row.specs.declared.kind.Column.{Column}
+use Rattle.ts_row.specs.RowType.{width_of}
+use Rattle.ts_row.specs.Element.{Element}
+use Rattle.ts_entry.specs.declared.stamps.Stamps.{Stamps}
+use Rattle.ts_entry.specs.Stamps.{HasStamp}
+use Rattle.ts_entry.specs.Rows.{IsCellWith, AreCellsWith, AreStamped, AreCellsOf, elements_in, row_if_any}
+use Rattle.ts_aggregate.proofs.RowLemmas.{no_cell}
+use Rattle.ts_dump.specs.Elements.{lines_of_elements, one_of, lines_then}
+
+-- the elements of a cell and of those behind it
+elements_cons : (f : Option Element) (fs : List (Option Element)) → elements_in (f ∷ fs) ≡ one_of f ++ elements_in fs
+elements_cons None fs = refl
+elements_cons (Some e) fs = refl
+
+-- Some of the cells were taken, those of these elements, and the others not yet.
+pub record Turn (key : List ℕ) (columns : List Column) (front number : ℕ) (stamps : Stamps) (rest : List ℕ)
+    (found : List (Option Element)) (old now : List ℕ) : Type 0 where
+  pub done : List Element
+  pub others : List (Option Element)
+  pub parts : elements_in found ≡ done ++ elements_in others
+  pub rows : AreCellsWith columns front rest (map row_if_any others)
+  pub stamped : AreStamped stamps (front + width_of columns) number rest others
+  pub lines : now ≡ old ++ lines_of_elements key columns done
+
+module _ (key : List ℕ) (columns : List Column) (front : ℕ) (stamps : Stamps) (found : List (Option Element)) (old : List ℕ) where
+  pub turn_first : (cells : List ℕ) → AreCellsOf columns front stamps cells found → Turn key columns front 0 stamps cells found old old
+  turn_first cells are = record {
+    done = [];
+    others = found;
+    parts = refl;
+    rows = are.rows;
+    stamped = are.stamped;
+    lines = sym (append-nil old);
+  }
+
+  -- no cell is left of no bytes
+  none_left : (rest : List ℕ) (others : List (Option Element)) → length rest ≡ 0 → AreCellsWith columns front rest (map row_if_any others) → others ≡ []
+  none_left rest [] none are = refl
+  none_left rest (f ∷ fs) none are = absurd (no_cell columns front (take (front + width_of columns) rest) (row_if_any f)
+      (omega (arith, none, length-take (front + width_of columns) rest)) are.0)
+
+  pub turn_last : (number : ℕ) (rest now : List ℕ) → length rest ≡ 0 → Turn key columns front number stamps rest found old now
+      → now ≡ old ++ lines_of_elements key columns (elements_in found)
+  turn_last number rest now over t =
+      t.lines ∙ ap (λ (es : List Element). old ++ lines_of_elements key columns es)
+      (sym (t.parts ∙ ap (λ (fs : List (Option Element)). t.done ++ elements_in fs) (none_left rest t.others over t.rows) ∙ append-nil t.done))
+
+  module _ (number : ℕ) (rest cell behind now next : List ℕ) (cut : cell ≡ take (front + width_of columns) rest) (drops : behind ≡ drop (front + width_of columns) rest)
+      (some : 0 < length rest)
+      (takes : (f : Option Element) → IsCellWith columns front cell (row_if_any f) → IfSome f (λ e. HasStamp stamps number cell e.0)
+      → next ≡ now ++ lines_of_elements key columns (one_of f)) where
+    pub turn_next : Turn key columns front number stamps rest found old now → Turn key columns front (number + 1) stamps behind found old next
+    turn_next t = by t.others t.parts t.rows t.stamped where
+      by : (others : List (Option Element)) → elements_in found ≡ t.done ++ elements_in others → AreCellsWith columns front rest (map row_if_any others)
+          → AreStamped stamps (front + width_of columns) number rest others → Turn key columns front (number + 1) stamps behind found old next
+      by [] parts rows stamped = absurd (let none : length rest ≡ 0 = ap length rows in omega (arith, none, some))
+      by (f ∷ fs) parts rows stamped =
+          let taken = takes f (subst (λ (l : List ℕ). IsCellWith columns front l (row_if_any f)) (sym cut) rows.0)
+          (subst (λ (l : List ℕ). IfSome f (λ e. HasStamp stamps number l e.0)) (sym cut) stamped.0) in
+          record {
+            done = t.done ++ one_of f;
+            others = fs;
+            parts = parts ∙ ap (λ (es : List Element). t.done ++ es) (elements_cons f fs) ∙ sym (append_assoc t.done (one_of f) (elements_in fs));
+            rows = subst (λ (l : List ℕ). AreCellsWith columns front l (map row_if_any fs)) (sym drops) rows.1;
+            stamped = subst (λ (l : List ℕ). AreStamped stamps (front + width_of columns) (number + 1) l fs) (sym drops) stamped.1;
+            lines = lines_then columns key key old now next t.done (one_of f) refl t.lines taken;
+          }

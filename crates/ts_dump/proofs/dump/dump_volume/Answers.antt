@@ -1,0 +1,26 @@
+use Rattle.std.proofs.Common.{refl, sym, subst}
+use Rattle.ts_dump.specs.declared.ended.Ended.{Ended}
+use Rattle.ts_dump.specs.Dumped.{DumpRan}
+use Rattle.ts_dump.proofs.RanLemmas.{ran_unread, ran_said}
+use Rattle.ts_dump.proofs.dump.dump_volume.Goals as goal
+
+pub returns-in-Ok : goal.returns-in-Ok
+returns-in-Ok g c =
+    let tells = g.S.Volume.tells in
+    let v = g.S.Volume.device c.args.site.now in
+    let x = g.S.Volume.device c.open.new.vol in
+    let w = g.S.Volume.device c.say_script.new.site in
+    record {
+      ran = subst (λ (ended : Ended). DumpRan tells c.args.wish ended v w) (sym c.ended_of.ensures)
+          (ran_said tells c.args.wish v w x c.in-Ok.opened.found c.in-Ok.ensures.surveyed c.scripts_make_what_a_volume_means.ensures c.say_script.result c.say_script.ensures.caused c.say_script.ensures.said
+          c.say_script.result refl);
+    }
+
+pub returns-in-Err : goal.returns-in-Err
+returns-in-Err g c =
+    let tells = g.S.Volume.tells in
+    let v = g.S.Volume.device c.args.site.now in
+    let w = g.S.Volume.device c.open.new.vol in
+    record {
+      ran = subst (λ (ended : Ended). DumpRan tells c.args.wish ended v w) (sym c.unread.ensures) (ran_unread tells c.args.wish v w c.in-Err.fault c.in-Err.ensures.surveyed);
+    }

@@ -1,0 +1,186 @@
+// The statements of the elements of all series, said page by page.
+ghost use Rattle.std.specs.Prelude.{◌≡◌, ◌<◌, ◌∷◌, [], pos, negsuc, IsTrue, List, Some};
+ghost use Rattle.std.specs.List.{flat_map};
+ghost use Rattle.ts_page.specs.Pages.{IsElementPage};
+ghost use Rattle.ts_journal.specs.Journal.{pages};
+ghost use Rattle.ts_row.specs.Element.{Element};
+ghost use Rattle.ts_space.specs.Directory.{places_of};
+ghost use Rattle.ts_clip.specs.Series.{HaveOnPlaces, IsLaidOut};
+ghost use Rattle.ts_model.specs.Definitions.{SeriesDef, at_slot, series_slots};
+ghost use Rattle.ts_layout.specs.Meaning.{Layout};
+ghost use Rattle.ts_dump.specs.Elements.{all_series_lines, lines_of_elements, series_lines};
+ghost use Rattle.ts_dump.specs.Held.{HaveParts, IsLayoutOf, IsOpen, IsStoreOf};
+ghost use Rattle.ts_dump.specs.Saying.{Caused, SaysText};
+
+use crate::element_texts::ElementTexts;
+use crate::ended::Fault;
+use crate::opened::Opened;
+use std::alloc::Global;
+use std::slice;
+use ts_base::Stamp;
+use ts_clip::rows_of_pages;
+use ts_container::{row_type_of, shape_of};
+use ts_disk::Site;
+use ts_model::Kind;
+use ts_offset::Shape;
+use ts_page::Page;
+use ts_row::Shelf;
+use ts_space::Place;
+use ts_store::Store;
+
+/// The least stamp's number of units, and the greatest one's.
+const LEAST: i64 = -6_213_559_680_000_000;
+
+const GREATEST: i64 = 25_340_230_079_999_999;
+
+/// Says the statements of all elements, series after series in the order of their keys.
+pub(crate) fn say_elements<S: Site>(
+    alloc: Global,
+    opened: &Opened,
+    site: &mut S,
+) -> Result<(), Fault>
+    requires open { IsOpen S.tells opened.now (S.device site.old) }
+    ensures caused { Caused result (S.device site.old) (S.device site.new) }
+    ensures said { IsTrue S.tells → (l : Layout)
+        → IsLayoutOf opened.now.found.defs.definitions opened.now.found.space (S.device site.old).held l
+        → SaysText (all_series_lines l) result (S.device site.old) (S.device site.new) }
+{
+    let mut page = Page::zero();
+    for slot in opened.found.defs.in_order(Kind::Series) {
+        say_slot(alloc, opened, *slot, &mut page, site)?;
+    }
+    Ok(())
+}
+
+// Says those of the series in a slot, if one stands there.
+fn say_slot<S: Site>(
+    alloc: Global,
+    opened: &Opened,
+    slot: u16,
+    page: &mut Page,
+    site: &mut S,
+) -> Result<(), Fault>
+    requires slot { slot < series_slots }
+    requires open { IsOpen S.tells opened.now (S.device site.old) }
+    ensures caused { Caused result (S.device site.old) (S.device site.new) }
+    ensures said { IsTrue S.tells → (l : Layout)
+        → IsLayoutOf opened.now.found.defs.definitions opened.now.found.space (S.device site.old).held l
+        → SaysText (series_lines l slot) result (S.device site.old) (S.device site.new) }
+{
+    match opened.found.defs.get(Kind::Series, slot) {
+        Some(def) => say_series(alloc, opened, slot, def.name(), page, site),
+        None => Ok(()),
+    }
+}
+
+// Says those of the series in a slot, which has this key.
+fn say_series<S: Site>(
+    alloc: Global,
+    opened: &Opened,
+    slot: u16,
+    key: &[u8],
+    page: &mut Page,
+    site: &mut S,
+) -> Result<(), Fault>
+    requires slot { slot < series_slots }
+    requires there { (s : SeriesDef) × (at_slot slot opened.now.found.defs.definitions.series ≡ Some s)
+        × (s.key ≡ key.now) }
+    requires open { IsOpen S.tells opened.now (S.device site.old) }
+    ensures caused { Caused result (S.device site.old) (S.device site.new) }
+    ensures said { IsTrue S.tells → (l : Layout)
+        → IsLayoutOf opened.now.found.defs.definitions opened.now.found.space (S.device site.old).held l
+        → SaysText (series_lines l slot) result (S.device site.old) (S.device site.new) }
+{
+    let defs = &opened.found.defs;
+    let Some(kind) = row_type_of(defs, slot) else {
+        return Ok(());
+    };
+    let Some(shape) = shape_of(defs, slot) else {
+        return Ok(());
+    };
+    let shelf = Shelf { series: slot, kind };
+    say_places(alloc, opened, &shelf, &shape, key, page, site)
+}
+
+// Says those on the pages of a series, one page after the other.
+fn say_places<S: Site>(
+    alloc: Global,
+    opened: &Opened,
+    shelf: &Shelf,
+    shape: &Shape<'_>,
+    key: &[u8],
+    page: &mut Page,
+    site: &mut S,
+) -> Result<(), Fault>
+    requires slot { shelf.now.series < series_slots }
+    requires open { IsOpen S.tells opened.now (S.device site.old) }
+    requires laid { IsLaidOut shape.now }
+    ensures laid { IsLaidOut shape.now }
+    ensures caused { Caused result (S.device site.old) (S.device site.new) }
+    ensures said { IsTrue S.tells → (parts : List (List Element))
+        → HaveParts shape.now shelf.now.series shelf.now.kind.now.columns (pages (S.device site.old).held)
+        (places_of shelf.now.series opened.now.found.space) parts
+        → SaysText (flat_map (lines_of_elements key.now shelf.now.kind.now.columns) parts) result
+        (S.device site.old) (S.device site.new) }
+{
+    for place in opened.found.space.places(shelf.series) {
+        say_page(alloc, &opened.store, place, shelf, shape, key, page, site)?;
+    }
+    Ok(())
+}
+
+// Says those on a page, in one piece.
+fn say_page<S: Site>(
+    alloc: Global,
+    store: &Store,
+    place: &Place,
+    shelf: &Shelf,
+    shape: &Shape<'_>,
+    key: &[u8],
+    page: &mut Page,
+    site: &mut S,
+) -> Result<(), Fault>
+    requires store { IsStoreOf S.tells store.now (S.device site.old) }
+    requires element { IsElementPage place.now.page }
+    requires below { place.now.page < store.now.pages }
+    requires laid { IsLaidOut shape.now }
+    ensures caused { Caused result (S.device site.old) (S.device site.new) }
+    ensures said { IsTrue S.tells → (es : List Element)
+        → HaveOnPlaces shape.now shelf.now.series shelf.now.kind.now.columns (pages (S.device site.old).held)
+        (place.now ∷ []) es
+        → SaysText (lines_of_elements key.now shelf.now.kind.now.columns es) result
+        (S.device site.old) (S.device site.new) }
+{
+    store.committed(site, place.page, page)?;
+    let mut texts = ElementTexts::of(alloc, key);
+    let read: &Page = page;
+    rows_of_pages(
+        slice::from_ref(read),
+        slice::from_ref(place),
+        shelf,
+        shape,
+        least_stamp(),
+        greatest_stamp(),
+        &mut texts,
+    )?;
+    site.say(texts.as_slice())?;
+    Ok(())
+}
+
+fn least_stamp() -> Stamp
+    ensures { result ≡ negsuc 6_213_559_679_999_999 }
+{
+    let Some(stamp) = Stamp::of(LEAST) else {
+        unreachable!()
+    };
+    stamp
+}
+
+fn greatest_stamp() -> Stamp
+    ensures { result ≡ pos 25_340_230_079_999_999 }
+{
+    let Some(stamp) = Stamp::of(GREATEST) else {
+        unreachable!()
+    };
+    stamp
+}

@@ -1,0 +1,9 @@
+//! Worked stores that are dumped: the script that is said is written by hand, makes the store again, and a dump of that
+//! says it once more; what a failing call leaves of it; volumes that are none. There are only tests: they stand on
+//! ts_shell, which makes the stores, and on ts_disk's volume in memory. Read `stores.rt`, then `dumps.rt`.
+#![tactic(auto)]
+
+#[cfg(test)]
+mod dumps;
+#[cfg(test)]
+mod stores;
