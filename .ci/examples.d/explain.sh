@@ -52,6 +52,17 @@ explained "a byte order mark" 1 "\xef\xbb\xbfGetNelems('a');" "error 1 Syntax\n"
   "line 1: \xef\xbb\xbfGetNelems('a')\n    error 1 Syntax: the file begins with a byte order mark: take it off\n$one"
 explained "no end" 1 "GetNelems('a');\nGetNelems('b')" "ok 0\nerror 3 Unended\n" \
   "line 2: GetNelems('b')\n    error 3 Unended: it has no \`;\` at its end\n2 replies, 1 told above\n"
+explained "rolling sets" 1 "RollingDrop('a#b');\nRollingCreate('k', days, '2011-01-01 00:00:00', c1, 1001);
+RollingPut('a key of more than forty bytes is no key of a set','2011-01-01 00:00:00',1);\nRollingDrop('k');" \
+  "error 1 Syntax\nerror 1 Syntax\nerror 1 Syntax\nerror 40 NotRegular\n" \
+  "line 1: RollingDrop('a#b')
+    error 1 Syntax: the key of a rolling set has 1 to 40 bytes and no #, and this one has a #
+line 2: RollingCreate('k', days, '2011-01-01 00:00:00', c1, 1001)\n    error 1 Syntax: its number is from 1 to 1000
+line 3: RollingPut('a key of more than forty bytes is no key of a set','201...
+    error 1 Syntax: the key of a rolling set has 1 to 40 bytes and no #, and this one 49
+line 4: RollingDrop('k')
+    error 40 NotRegular: the set's control is an irregular series, which another statement made: DropSeries drops that one
+4 replies, 4 told above\n"
 # 65536 bytes and their cuts, beside those of `ts`: the longest statement, one byte more, blanks, and an open quote.
 {
   printf "%0$((65536 - 15))d;" 0 | tr 0 ' ' | sed "s/;/GetNelems('n');/"

@@ -1,0 +1,113 @@
+# shellcheck shell=bash
+# Volumes are dumped, and made again of their scripts on new ones with as many pages: a dump of these says the same, byte
+# for byte. A dump changes nothing, and takes no volume for its output.
+
+# dumps NAME VOLUME SCRIPT: a dump of the volume ends well and says this script, and the volume stays.
+dumps() {
+  cp "$2" before
+  wants "$1: a dump" 0 "$dump" "$2"
+  mv said "$3"
+  same "$1: the volume" before "$2"
+}
+# restores NAME VOLUME SCRIPT..: the scripts are run on a new volume, each statement is answered by ok, and a dump says
+# them again.
+restores() {
+  local name=$1 volume=$2
+  shift 2
+  rm -f restored.volume
+  wants "$name: init" 0 "$ts" restored.volume init $(($(stat -c %s "$volume") / 4096 - 930))
+  for piece in "$@"; do
+    input=$piece wants "$name: run" 0 "$ts" restored.volume run
+    holds "$name: each statement is answered by ok" [ "$(grep -c -v '^ok' said)" -eq 0 ]
+    holds "$name: each statement has its reply" [ "$(wc -l < said)" -eq "$(wc -l < "$piece")" ]
+  done
+  wants "$name: check" 0 "$ts" restored.volume check
+  cat "$@" > whole.script
+  wants "$name: a dump of what was restored" 0 "$dump" restored.volume
+  same "$name: it says the same" said whole.script
+}
+for volume in *.volume; do
+  "$ts" "$volume" check > /dev/null 2>&1 || continue
+  dumps "$volume" "$volume" dumped.script
+  restores "$volume" "$volume" dumped.script
+done
+
+# What has to be written with care: quotes in texts and in a key, 28 digits, NULL, a hidden element, a calendar with the
+# pattern inside and one by its name, a regular series with one hidden.
+wants "with care: init" 0 "$ts" care.volume init 8
+cat > care.script << 'SCRIPT'
+CreateRowType(note, t datetime, words varchar(40), size decimal(28,9), small smallint);
+CreatePattern(workday, '{1 off,5 on,1 off},day');
+CreateCalendar(named, 'startdate(2011-01-02 00:00:00), pattstart(2011-01-02 00:00:00), pattname(workday)');
+CreateCalendar(inside, 'startdate(2011-01-01 00:00:00), pattstart(2011-01-01 00:00:00), pattern({1 on},hour)');
+TSContainerCreate(notes, note, 8);
+TSCreateIrr('it''s', notes);
+TSCreate('days', named, '2011-01-03 00:00:00.00000', notes);
+TSCreate('hours', inside, '2011-01-01 05:00:00.00000', notes);
+InsElem('it''s', '2011-01-01 00:00:00.00001','said ''no'', twice',-1234567890123456789.012345678,null);
+InsElem('it''s', '2011-01-01 00:00:00.00002','',0.000000001,-32767);
+HideElem('it''s', '2011-01-01 00:00:00.00002');
+InsElem('days', '2011-01-03 00:00:00',null,null,null);
+InsElem('days', '2011-01-05 00:00:00',';',9999999999999999999.999999999,32767);
+HideElem('days', '2011-01-03 00:00:00');
+InsElem('hours', '2011-01-01 06:00:00','b',2,1);
+SCRIPT
+input=care.script wants "with care: run" 0 "$ts" care.volume run
+holds "with care: each statement is answered by ok" [ "$(grep -c -v '^ok' said)" -eq 0 ]
+cat > wanted << 'SCRIPT'
+CreateRowType(note, t datetime, words varchar(40), size decimal(28,9), small smallint);
+CreatePattern(workday, '{1 off,5 on,1 off},day');
+CreateCalendar(inside, 'startdate(2011-01-01 00:00:00.00000), pattstart(2011-01-01 00:00:00.00000), pattern({1 on},hour)');
+CreateCalendar(named, 'startdate(2011-01-02 00:00:00.00000), pattstart(2011-01-02 00:00:00.00000), pattname(workday)');
+TSContainerCreate(notes, note, 8);
+TSCreate('days', named, '2011-01-03 00:00:00.00000', notes);
+TSCreate('hours', inside, '2011-01-01 05:00:00.00000', notes);
+TSCreateIrr('it''s', notes);
+InsElem('days', '2011-01-03 00:00:00.00000',null,null,null);
+HideElem('days', '2011-01-03 00:00:00.00000');
+InsElem('days', '2011-01-05 00:00:00.00000',';',9999999999999999999.999999999,32767);
+InsElem('hours', '2011-01-01 06:00:00.00000','b',2.000000000,1);
+InsElem('it''s', '2011-01-01 00:00:00.00001','said ''no'', twice',-1234567890123456789.012345678,null);
+InsElem('it''s', '2011-01-01 00:00:00.00002','',0.000000001,-32767);
+HideElem('it''s', '2011-01-01 00:00:00.00002');
+SCRIPT
+dumps "with care" care.volume care.script
+same "with care: what is said" care.script wanted
+restores "with care" care.volume care.script
+
+# The definitions alone are a front of it.
+wants "definitions alone" 0 "$dump" care.volume --definitions
+head -n 8 care.script > wanted
+same "definitions alone: what is said" said wanted
+
+# Pieces that are cut between lines are scripts, each of them.
+rm -f piece.*
+split -C 400 care.script piece.
+restores "in pieces" care.volume piece.*
+rm -f piece.*
+
+# What is no store, and what can't be opened. Each line says what to do.
+head -c 4096 /dev/zero > zeros.volume
+wants "a dump of no store" 6 "$dump" zeros.volume
+holds "a dump of no store: the page" grep -q 'bad page 0' complained
+holds "a dump of no store: nothing is said" [ ! -s said ]
+wants "a dump of no file" 11 "$dump" none.volume
+wants "a dump of a folder" 11 "$dump" .
+for words in "" "care.volume more" "-x" "--help more" "--definitions" "--definitions care.volume"; do
+  # shellcheck disable=SC2086
+  wants "a dump with the words '$words'" 2 "$dump" $words
+done
+wants "a dump: help" 0 "$dump" --help
+wants "a dump: version" 0 "$dump" --version
+cp care.volume before
+"$dump" care.volume >> care.volume 2> complained
+holds "a dump into its own volume is refused" [ $? -eq 11 ]
+same "a dump into its own volume" before care.volume
+if [ -w /dev/full ]; then
+  "$dump" care.volume > /dev/full 2> complained
+  holds "a dump that isn't taken" [ $? -eq 4 ]
+fi
+chmod a-w care.volume
+dumps "a volume that can't be written" care.volume again.script
+same "a volume that can't be written: what is said" again.script care.script
+rm -f care.volume restored.volume zeros.volume care.script dumped.script again.script whole.script
