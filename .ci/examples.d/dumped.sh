@@ -26,11 +26,24 @@ restores() {
   wants "$name: a dump of what was restored" 0 "$dump" restored.volume
   same "$name: it says the same" said whole.script
 }
+# Those that are there, among them windows of rolling sets, and over four thousand series.
 for volume in *.volume; do
   "$ts" "$volume" check > /dev/null 2>&1 || continue
   dumps "$volume" "$volume" dumped.script
   restores "$volume" "$volume" dumped.script
 done
+
+# A volume of the old format comes out as one of the newest.
+wants "the old format: init" 0 "$ts" first.volume init 8
+in_format 1 first.volume
+echo "CreateRowType(rd, t datetime, v decimal(18,2));TSContainerCreate(c1, rd, 8);TSCreateIrr('x', c1);
+  InsElem('x','2011-01-03 00:00:00',-1.5);" > first.script
+input=first.script wants "the old format: run" 0 "$ts" first.volume run
+dumps "the old format" first.volume dumped.script
+restores "the old format" first.volume dumped.script
+holds "the old format: the new volume has the newest" [ "$(od -An -tu1 -j8 -N1 restored.volume)" -eq 2 ]
+holds "the old format: the old one stays" [ "$(od -An -tu1 -j8 -N1 first.volume)" -eq 1 ]
+rm first.volume first.script
 
 # What has to be written with care: quotes in texts and in a key, 28 digits, NULL, a hidden element, a calendar with the
 # pattern inside and one by its name, a regular series with one hidden.
@@ -110,4 +123,4 @@ fi
 chmod a-w care.volume
 dumps "a volume that can't be written" care.volume again.script
 same "a volume that can't be written: what is said" again.script care.script
-rm -f care.volume restored.volume zeros.volume care.script dumped.script again.script whole.script
+rm -f care.volume restored.volume many_series.volume zeros.volume care.script dumped.script again.script whole.script

@@ -46,7 +46,7 @@ rolls "two windows go and one comes" "RollingPut('k','2011-01-31 00:00:00',9);Ro
 rolls "both sets are dropped" "RollingDrop('k');RollingDrop('m');TSCreateIrr('y', c1);TSContainerUsage(c1);" \
   'ok 1\nok 1\nok\nok 0 8\n'
 wants "rolling sets: check" 0 "$ts" rolled.volume check
-rm rolled.volume
+mv rolled.volume many_series.volume
 
 # One page is enough for one window: the old one goes before the new one is charged.
 wants "a set of one page: init" 0 "$ts" rolled.volume init 8
