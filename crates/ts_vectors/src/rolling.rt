@@ -37,7 +37,7 @@ fn is_number(literal: Option<&Literal>, number: i128) -> bool {
 
 // Whether a statement makes the set `k` of 1000 windows.
 fn makes_k(alloc: Global, text: &[u8]) -> bool {
-    match read_command(alloc, text) {
+    match read_command(alloc, &text[..text.len().min(65536)]) {
         Ok(
             Command::RollingCreate {
                 set,
@@ -58,7 +58,7 @@ fn makes_k(alloc: Global, text: &[u8]) -> bool {
 
 // Whether a statement puts 1 and null at the stamp 0 into a set of a key of 40 bytes.
 fn puts_one(alloc: Global, text: &[u8]) -> bool {
-    match read_command(alloc, text) {
+    match read_command(alloc, &text[..text.len().min(65536)]) {
         Ok(Command::RollingPut { set, stamp, values }) => {
             set.as_slice() == b"0123456789012345678901234567890123456789".as_slice()
                 && stamp.units() == 0
@@ -71,7 +71,7 @@ fn puts_one(alloc: Global, text: &[u8]) -> bool {
 
 // Whether a statement reads `it's` between these stamps.
 fn clips(alloc: Global, text: &[u8], first: i64, last: i64) -> bool {
-    match read_command(alloc, text) {
+    match read_command(alloc, &text[..text.len().min(65536)]) {
         Ok(Command::RollingClip { set, from, to }) => {
             set.as_slice() == b"it's".as_slice() && from.units() == first && to.units() == last
         }
@@ -81,7 +81,7 @@ fn clips(alloc: Global, text: &[u8], first: i64, last: i64) -> bool {
 
 // Whether a statement drops the set `k`.
 fn drops_k(alloc: Global, text: &[u8]) -> bool {
-    match read_command(alloc, text) {
+    match read_command(alloc, &text[..text.len().min(65536)]) {
         Ok(Command::RollingDrop { set }) => set.as_slice() == b"k".as_slice(),
         _ => false,
     }
