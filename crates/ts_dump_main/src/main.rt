@@ -23,7 +23,7 @@ fn main(rt: HostRuntime) -> ExitCode {
         Start::Ended(status) => status,
         Start::Opened(mut opened) => {
             let ended = dump_volume(rt.alloc(), opened.wish, &mut opened.site);
-            advise(&rt, opened.path, ended)
+            advise(&rt, opened.path, opened.wish.part, ended)
         }
     })
 }

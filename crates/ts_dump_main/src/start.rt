@@ -4,11 +4,17 @@ use crate::streams::may_complain;
 use crate::volume_file::open_volume;
 use std::rt::Env;
 use std::{env, io, str};
-use ts_dump::Wish;
+use ts_dump::{Part, Wish};
 use ts_file::FileSite;
 
 /// The system opens no longer path.
 const LONGEST_PATH: usize = 4096;
+
+/// What is wished where no option says anything.
+const ALL: Wish<'static> = Wish {
+    part: Part::All,
+    in_transactions: false,
+};
 
 /// Whether there is work to do.
 #[derive(Drop)]
@@ -21,7 +27,7 @@ pub(crate) enum Start<'a> {
 /// What is wished of a volume, its path, and the open volume.
 #[derive(Drop)]
 pub(crate) struct Opened<'a> {
-    pub wish: Wish,
+    pub wish: Wish<'a>,
     pub path: &'a str,
     pub site: FileSite,
 }
@@ -60,23 +66,23 @@ pub(crate) fn refuse_words(rt: &HostRuntime, error: &io::Error) -> u8 {
     if wants { 7 } else { 2 }
 }
 
-/// Opens the volume that the word names.
+/// Opens the volume that the first word names.
 pub(crate) fn prepare<'a>(rt: &HostRuntime, words: &'a [String]) -> Start<'a> {
-    let (wish, path) = match words {
-        [path] => (Wish::All, path.as_str()),
-        [path, word] if word.as_str() == "--definitions" => {
-            (Wish::DefinitionsAlone, path.as_str())
-        }
-        _ => return Start::Ended(refuse_usage(rt, words)),
+    let [path, options @ ..] = words else {
+        return Start::Ended(refuse_usage(rt, words));
     };
+    let path = path.as_str();
     match path {
-        "--help" if words.len() == 1 => return Start::Ended(show(rt, HELP)),
-        "--version" if words.len() == 1 => return Start::Ended(show(rt, VERSION)),
+        "--help" if options.is_empty() => return Start::Ended(show(rt, HELP)),
+        "--version" if options.is_empty() => return Start::Ended(show(rt, VERSION)),
         _ => {}
     }
     if path.starts_with('-') {
         return Start::Ended(refuse_usage(rt, words));
     }
+    let Some(wish) = read_options(options, ALL) else {
+        return Start::Ended(refuse_usage(rt, words));
+    };
     match open_volume(rt, path) {
         Ok((file, len)) => Start::Opened(Opened {
             wish,
@@ -89,6 +95,41 @@ pub(crate) fn prepare<'a>(rt: &HostRuntime, words: &'a [String]) -> Start<'a> {
             }
             Start::Ended(11)
         }
+    }
+}
+
+// A wish with what options say of it, each of them once at most.
+fn read_options<'a>(options: &'a [String], wish: Wish<'a>) -> Option<Wish<'a>> {
+    let Some((option, options)) = options.split_first() else {
+        return Some(wish);
+    };
+    let is_all = matches!(wish.part, Part::All);
+    match option.as_str() {
+        "--transactions" if !wish.in_transactions => read_options(
+            options,
+            Wish {
+                part: wish.part,
+                in_transactions: true,
+            },
+        ),
+        "--definitions" if is_all => read_options(
+            options,
+            Wish {
+                part: Part::DefinitionsAlone,
+                in_transactions: wish.in_transactions,
+            },
+        ),
+        "--series" if is_all => {
+            let (key, options) = options.split_first()?;
+            read_options(
+                options,
+                Wish {
+                    part: Part::Series(key.as_bytes()),
+                    in_transactions: wish.in_transactions,
+                },
+            )
+        }
+        _ => None,
     }
 }
 
