@@ -51,7 +51,7 @@ pub(crate) fn bytes_of(alloc: Global, site: &mut MemorySite) -> Result<Vec<u8>, 
 /// said. The bytes stay.
 pub(crate) fn dumped(
     alloc: Global,
-    wish: Wish,
+    wish: Wish<'_>,
     bytes: &[u8],
     failing: Option<u64>,
 ) -> Result<(Ended, Vec<u8>), Fail> {
