@@ -1,13 +1,15 @@
 # shellcheck shell=bash
 # Volumes are dumped, and made again of their scripts on new ones with as many pages: a dump of these says the same, byte
-# for byte. A dump changes nothing, and takes no volume for its output.
+# for byte, also of a script in transactions. A dump changes nothing, and takes no volume for its output.
 
-# dumps NAME VOLUME SCRIPT: a dump of the volume ends well and says this script, and the volume stays.
+# dumps NAME VOLUME SCRIPT [OPTION..]: a dump of the volume ends well and says this script, and the volume stays.
 dumps() {
-  cp "$2" before
-  wants "$1: a dump" 0 "$dump" "$2"
-  mv said "$3"
-  same "$1: the volume" before "$2"
+  local name=$1 volume=$2 script=$3
+  shift 3
+  cp "$volume" before
+  wants "$name: a dump $*" 0 "$dump" "$volume" "$@"
+  mv said "$script"
+  same "$name: the volume" before "$volume"
 }
 # restores NAME VOLUME SCRIPT..: the scripts are run on a new volume, each statement is answered by ok, and a dump says
 # them again.
@@ -22,7 +24,7 @@ restores() {
     holds "$name: each statement has its reply" [ "$(wc -l < said)" -eq "$(wc -l < "$piece")" ]
   done
   wants "$name: check" 0 "$ts" restored.volume check
-  cat "$@" > whole.script
+  cat "$@" | grep -v -e '^Begin;$' -e '^Commit;$' > whole.script
   wants "$name: a dump of what was restored" 0 "$dump" restored.volume
   same "$name: it says the same" said whole.script
 }
@@ -31,6 +33,9 @@ for volume in *.volume; do
   "$ts" "$volume" check > /dev/null 2>&1 || continue
   dumps "$volume" "$volume" dumped.script
   restores "$volume" "$volume" dumped.script
+  dumps "$volume in transactions" "$volume" grouped.script --transactions
+  restores "$volume in transactions" "$volume" grouped.script
+  same "$volume in transactions: the same statements" whole.script dumped.script
 done
 
 # A volume of the old format comes out as one of the newest.
@@ -93,6 +98,69 @@ wants "definitions alone" 0 "$dump" care.volume --definitions
 head -n 8 care.script > wanted
 same "definitions alone: what is said" said wanted
 
+# In transactions of 32; there are two of them where there are 33 statements.
+dumps "in transactions" care.volume grouped.script --transactions
+{
+  echo "Begin;"
+  cat care.script
+  echo "Commit;"
+} > wanted
+same "in transactions: what is said" grouped.script wanted
+wants "definitions in transactions" 0 "$dump" care.volume --transactions --definitions
+{
+  echo "Begin;"
+  head -n 8 care.script
+  echo "Commit;"
+} > wanted
+same "definitions in transactions: what is said" said wanted
+wants "33 statements: init" 0 "$ts" many.volume init 8
+{
+  echo "CreateRowType(n, t datetime, v smallint);"
+  echo "TSContainerCreate(c, n, 8);"
+  echo "TSCreateIrr('a', c);"
+  for n in $(seq 10 39); do
+    echo "InsElem('a', '2011-01-01 00:00:00.000$n',$n);"
+  done
+} > many.script
+input=many.script wants "33 statements: run" 0 "$ts" many.volume run
+dumps "33 statements" many.volume grouped.script --transactions
+{
+  echo "Begin;"
+  head -n 32 many.script
+  printf 'Commit;\nBegin;\n'
+  tail -n 1 many.script
+  echo "Commit;"
+} > wanted
+same "33 statements: what is said" grouped.script wanted
+restores "33 statements" many.volume grouped.script
+# A whole transaction has 34 lines: what is cut behind a multiple of them is scripts.
+rm -f piece.*
+split -l 34 grouped.script piece.
+restores "33 statements in two pieces" many.volume piece.*
+rm -f many.volume many.script piece.*
+
+# One series with what it stands on: a regular one has a calendar, and this the pattern by whose name it was made.
+dumps "a series" care.volume one.script --series days
+grep -e '^CreateRowType(' -e '^CreatePattern(' -e '^CreateCalendar(named' -e '^TSContainerCreate(' -e "'days'" care.script > wanted
+same "a series: what is said" one.script wanted
+restores "a series" care.volume one.script
+dumps "a series with the pattern inside" care.volume one.script --series hours
+grep -e '^CreateRowType(' -e '^CreateCalendar(inside' -e '^TSContainerCreate(' -e "'hours'" care.script > wanted
+same "a series with the pattern inside: what is said" one.script wanted
+dumps "an irregular series in transactions" care.volume one.script --series "it's" --transactions
+{
+  echo "Begin;"
+  grep -e '^CreateRowType(' -e '^TSContainerCreate(' -e "'it''s'" care.script
+  echo "Commit;"
+} > wanted
+same "an irregular series in transactions: what is said" one.script wanted
+restores "an irregular series in transactions" care.volume one.script
+for key in none "its" "it''s" "'it''s'" "days " ""; do
+  wants "no series '$key'" 1 "$dump" care.volume --series "$key"
+  holds "no series '$key': it is told" grep -q "no series has the key '$key'" complained
+  holds "no series '$key': nothing is said" [ ! -s said ]
+done
+
 # Pieces that are cut between lines are scripts, each of them.
 rm -f piece.*
 split -C 400 care.script piece.
@@ -106,7 +174,10 @@ holds "a dump of no store: the page" grep -q 'bad page 0' complained
 holds "a dump of no store: nothing is said" [ ! -s said ]
 wants "a dump of no file" 11 "$dump" none.volume
 wants "a dump of a folder" 11 "$dump" .
-for words in "" "care.volume more" "-x" "--help more" "--definitions" "--definitions care.volume"; do
+for words in "" "care.volume more" "-x" "--help more" "--definitions" "--definitions care.volume" \
+  "care.volume --series" "care.volume --definitions --series days" "care.volume --series days --definitions" \
+  "care.volume --series days --series hours" "care.volume --definitions --definitions" \
+  "care.volume --transactions --transactions" "--transactions care.volume"; do
   # shellcheck disable=SC2086
   wants "a dump with the words '$words'" 2 "$dump" $words
 done
@@ -123,4 +194,4 @@ fi
 chmod a-w care.volume
 dumps "a volume that can't be written" care.volume again.script
 same "a volume that can't be written: what is said" again.script care.script
-rm -f care.volume restored.volume many_series.volume zeros.volume care.script dumped.script again.script whole.script
+rm -f care.volume one.script grouped.script restored.volume many_series.volume zeros.volume care.script dumped.script again.script whole.script
