@@ -26,7 +26,8 @@ pub(crate) const VERSION: &str = "ts_dump 0.1.0";
 
 /// What the words may be.
 pub(crate) const USAGE: &str =
-    "say `ts_dump VOLUME [--definitions | --series KEY] [--transactions] > SCRIPT`, `ts_dump --help` or `ts_dump --version`";
+    "say `ts_dump VOLUME [--definitions | --series KEY] [--transactions] > SCRIPT`, `ts_dump --help` or \
+     `ts_dump --version`";
 
 /// Prints a text, and answers with the status.
 pub(crate) fn show(rt: &HostRuntime, text: &str) -> u8 {
@@ -47,8 +48,8 @@ pub(crate) fn advise(rt: &HostRuntime, path: &str, part: Part<'_>, ended: Ended)
             rt,
             path,
             format_args!(
-                "UnknownName: no series has the key '{}'; nothing was said: `ts_dump VOLUME --definitions` says all that \
-                 there are",
+                "UnknownName: no series has the key '{}'; nothing was said: `ts_dump VOLUME --definitions` says all \
+                 that there are",
                 key_of(part)
             ),
         ),
