@@ -12,7 +12,7 @@ options, behind the volume:
        --definitions             says what makes its row types, patterns, calendars, containers and series alone
        --series KEY              says what makes the series of this key, with what it stands on: its container, the row
                                  type of that, its calendar and the pattern by whose name that was made
-       --transactions            puts the statements into transactions of 32: the script runs many times as fast
+       --transactions            puts the statements into transactions of 32: the script runs faster
 
 The volume is read alone: nothing of it changes. The script makes the same on a new store with as many pages:
 
