@@ -1,7 +1,8 @@
 // The text of the day on which stamps lie.
-ghost use Rattle.std.specs.Prelude.{◌≡◌, ◌<◌, ◌∷◌, ◌++◌, [], take, OnOk};
+ghost use Rattle.std.specs.Prelude.{◌≡◌, ◌/◌, ◌%◌, ◌<◌, ◌∷◌, ◌++◌, [], take, OnOk};
 ghost use Rattle.ts_base.specs.Moment.{IsStamp, day_of, clock_of};
 ghost use Rattle.ts_base.specs.StampText.{stamp_text, two_digits};
+ghost use Rattle.ts_base.specs.StampText;
 ghost use Rattle.ts_say.specs.Day.{day_text, time_text, IsMidnight};
 
 use std::alloc::AllocError;
@@ -62,9 +63,20 @@ impl DayText {
         ensures { OnOk result (out.new ≡ out.old ++ stamp_text stamp ++ 32 ∷ []) }
     {
         let clock = self.turn(stamp);
-        out.extend_from_slice(&self.text)?;
-        out.extend_from_slice(&time(clock))
+        out.extend_from_slice(&day_and_time(&self.text, &time(clock)))
     }
+}
+
+// The bytes of a day, and behind them those of a time.
+#[inline(always)]
+fn day_and_time(day: &[u8; 11], time: &[u8; 15]) -> [u8; 26]
+    ensures { result ≡ take 11 day.now ++ take 15 time.now }
+{
+    [
+        day[0], day[1], day[2], day[3], day[4], day[5], day[6], day[7], day[8], day[9], day[10],
+        time[0], time[1], time[2], time[3], time[4], time[5], time[6], time[7], time[8], time[9],
+        time[10], time[11], time[12], time[13], time[14],
+    ]
 }
 
 // The bytes of the day in the text of a stamp.
@@ -99,12 +111,11 @@ fn time(clock: u64) -> [u8; 15]
     requires { clock < 8_640_000_000 }
     ensures { result ≡ time_text clock ++ 32 ∷ [] }
 {
-    let [hour_tens, hour_ones] = two_digits((clock / 360_000_000) as u32);
-    let [minute_tens, minute_ones] = two_digits((clock / 6_000_000 % 60) as u32);
-    let [second_tens, second_ones] = two_digits((clock / 100_000 % 60) as u32);
-    let fraction = (clock % 100_000) as u32;
-    let [ten_thousands, thousands] = two_digits(fraction / 1000);
-    let [hundreds, tens] = two_digits(fraction % 1000 / 10);
+    let (hour, minute, second, fraction) = clock_parts(clock);
+    let [hour_tens, hour_ones] = two_digits(hour);
+    let [minute_tens, minute_ones] = two_digits(minute);
+    let [second_tens, second_ones] = two_digits(second);
+    let [ten_thousands, thousands, hundreds, tens, ones] = five_digits(fraction);
     [
         hour_tens,
         hour_ones,
@@ -119,8 +130,42 @@ fn time(clock: u64) -> [u8; 15]
         thousands,
         hundreds,
         tens,
-        b'0' + (fraction % 10) as u8,
+        ones,
         b' ',
+    ]
+}
+
+// The hour, the minute, the second and the fraction of a second, by numbers of 32 bits.
+#[inline(always)]
+fn clock_parts(clock: u64) -> (u32, u32, u32, u32)
+    requires { clock < 8_640_000_000 }
+    ensures hour { result.0 ≡ clock / 360_000_000 }
+    ensures minute { result.1 ≡ clock / 6_000_000 % 60 }
+    ensures second { result.2 ≡ clock / 100_000 % 60 }
+    ensures fraction { result.3 ≡ clock % 100_000 }
+{
+    let seconds = (clock / 100_000) as u32;
+    let fraction = (clock % 100_000) as u32;
+    (seconds / 3600, seconds / 60 % 60, seconds % 60, fraction)
+}
+
+// The digits of a fraction of a second, which is mostly none.
+#[inline(always)]
+fn five_digits(n: u32) -> [u8; 5]
+    requires { n < 100_000 }
+    ensures { result ≡ StampText.five_digits n }
+{
+    if n == 0 {
+        return [b'0'; 5];
+    }
+    let [ten_thousands, thousands] = two_digits(n / 1000);
+    let [hundreds, tens] = two_digits(n % 1000 / 10);
+    [
+        ten_thousands,
+        thousands,
+        hundreds,
+        tens,
+        b'0' + (n % 10) as u8,
     ]
 }
 
