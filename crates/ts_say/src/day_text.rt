@@ -16,11 +16,11 @@ const DAY: i64 = 8_640_000_000;
 pub struct DayText {
     /// In units since 1970.
     midnight: i64,
-    /// The date and a blank.
-    text: [u8; 11],
+    /// The date, a blank, and behind them the time that was said last.
+    text: [u8; 26],
     ghost is_midnight: { IsMidnight midnight },
     ghost bounds: { IsStamp midnight },
-    ghost is_text: { text ≡ day_text (day_of midnight) },
+    ghost is_text: { take 11 text ≡ day_text (day_of midnight) },
 }
 
 impl DayText {
@@ -40,7 +40,7 @@ impl DayText {
         stamp.write_into(&mut whole);
         DayText {
             midnight: midnight_before(stamp),
-            text: first_bytes(&whole),
+            text: with_blank(&whole),
         }
     }
 
@@ -63,29 +63,44 @@ impl DayText {
         ensures { OnOk result (out.new ≡ out.old ++ stamp_text stamp ++ 32 ∷ []) }
     {
         let clock = self.turn(stamp);
-        out.extend_from_slice(&day_and_time(&self.text, &time(clock)))
+        *self = self.with_time(clock);
+        out.extend_from_slice(&self.text)
+    }
+
+    // The same day, with so many units since its midnight behind it.
+    #[inline(always)]
+    fn with_time(&self, clock: u64) -> DayText
+        requires { clock < 8_640_000_000 }
+        ensures { result.text ≡ day_text (day_of self.now.midnight) ++ (time_text clock ++ 32 ∷ []) }
+    {
+        DayText {
+            midnight: self.midnight,
+            text: day_and_time(&self.text, &time(clock)),
+        }
     }
 }
 
-// The bytes of a day, and behind them those of a time.
+// The bytes of a day in a text, and behind them those of a time.
 #[inline(always)]
-fn day_and_time(day: &[u8; 11], time: &[u8; 15]) -> [u8; 26]
-    ensures { result ≡ take 11 day.now ++ take 15 time.now }
+fn day_and_time(text: &[u8; 26], time: &[u8; 15]) -> [u8; 26]
+    ensures { result ≡ take 11 text.now ++ take 15 time.now }
 {
     [
-        day[0], day[1], day[2], day[3], day[4], day[5], day[6], day[7], day[8], day[9], day[10],
-        time[0], time[1], time[2], time[3], time[4], time[5], time[6], time[7], time[8], time[9],
-        time[10], time[11], time[12], time[13], time[14],
+        text[0], text[1], text[2], text[3], text[4], text[5], text[6], text[7], text[8], text[9],
+        text[10], time[0], time[1], time[2], time[3], time[4], time[5], time[6], time[7], time[8],
+        time[9], time[10], time[11], time[12], time[13], time[14],
     ]
 }
 
-// The bytes of the day in the text of a stamp.
-fn first_bytes(whole: &[u8; 25]) -> [u8; 11]
-    ensures { result ≡ take 11 whole.now }
+// A text with a blank behind it.
+fn with_blank(whole: &[u8; 25]) -> [u8; 26]
+    ensures { take 11 result ≡ take 11 whole.now }
 {
     [
         whole[0], whole[1], whole[2], whole[3], whole[4], whole[5], whole[6], whole[7], whole[8],
-        whole[9], whole[10],
+        whole[9], whole[10], whole[11], whole[12], whole[13], whole[14], whole[15], whole[16],
+        whole[17], whole[18], whole[19], whole[20], whole[21], whole[22], whole[23], whole[24],
+        b' ',
     ]
 }
 

@@ -9,4 +9,4 @@ invariant_of-result-clause-is_text c =
     let fits : FitsSigned w64 c.midnight_before.result = search rules in
     let midnight : ℤ = to_z w64 (of_z w64 c.midnight_before.result) in
     let same : midnight ≡ c.midnight_before.result = to_z-of_z fits in
-    c.first_bytes.ensures ∙ day_part c.args.stamp midnight c.write_into.new.into c.write_into.ensures.text (ap day_of same ∙ c.midnight_before.ensures.day)
+    c.with_blank.ensures ∙ day_part c.args.stamp midnight c.write_into.new.into c.write_into.ensures.text (ap day_of same ∙ c.midnight_before.ensures.day)
