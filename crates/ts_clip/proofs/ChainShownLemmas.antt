@@ -1,5 +1,5 @@
 -- Elements none of which is hidden: what is counted of them is what their places tell.
-use Rattle.std.proofs.Common.{◌≡◌, ℕ, ◌+◌, ◌-◌, ◌<◌, ◌≤◌, ◌^◌, ℤ, ◌<ℤ◌, ◌≤ℤ◌, min, Bool, true, false, ◌||◌, not, cond, List, [], ◌∷◌, ◌++◌, length, map, take, drop, refl, sym, ap, subst, ◌∙◌, arith, append-nil, length-append}
+use Rattle.std.proofs.Common.{◌≡◌, ℕ, ◌+◌, ◌-◌, ◌^◌, ℤ, ◌<ℤ◌, ◌≤ℤ◌, min, Bool, true, false, ◌||◌, not, cond, List, [], ◌∷◌, ◌++◌, length, take, drop, refl, sym, ap, subst, ◌∙◌, arith, append-nil, length-append}
 use Rattle.std.proofs.lemmas.Int.{ints}
 use Rattle.std.proofs.lemmas.List.{take-append-drop, take_at, drop_at}
 use Rattle.std.specs.Prelude.{All}
@@ -10,14 +10,14 @@ use Rattle.ts_space.specs.declared.place.Place.{Place}
 use Rattle.ts_space.specs.Place.{AreAbove, count_of}
 use Rattle.ts_row.specs.declared.kind.Column.{Column}
 use Rattle.ts_row.specs.Element.{Element, seen, has_hidden}
-use Rattle.ts_cells.specs.IrregularPage.{AreInOrder, AreElements}
+use Rattle.ts_cells.specs.IrregularPage.{AreInOrder}
 use Rattle.ts_irregular.specs.OnePage.{IsOn}
 use Rattle.ts_chain.specs.Chain.{all_in, AreEarlier, AreLater, ArePages}
 use Rattle.ts_chain.specs.Places.{AreChained}
 use Rattle.ts_chain.specs.Range.{is_within, within_range}
 use Rattle.ts_chain.proofs.OrderLemmas.{all_in-append, elements_back, elements_front, rising_back, rising_front, pages_in_order, pages_made}
 use Rattle.ts_chain.proofs.PlaceLemmas.{chain_later}
-use Rattle.ts_series.specs.Ends.{EndsAt, OthersAreAbove, IsRange}
+use Rattle.ts_series.specs.Ends.{EndsAt, IsRange}
 use Rattle.ts_series.proofs.ChainLemmas.{part_in, counted, sized_on, before_range}
 use Rattle.ts_clip.specs.Series.{HaveChain}
 use Rattle.ts_clip.specs.Chain.{AreBounded, HaveRange}
@@ -136,7 +136,7 @@ module _ (from to : ℤ) (slot : ℕ) (columns : List Column) (pages : ℕ → L
   ends_counted [] on are bounded none = absurd on
   ends_counted (front ∷ rest) on are bounded none =
       let p = part_in slot columns pages middle (last ∷ []) rest on.1 in
-      parted front rest p.before p.behind p.parts on.0 p.front_on p.back_on are.1.1 bounded.others (ends_behind to first middle last bounded.ends) none
+      parted front rest p.before p.behind p.parts on.0 p.front_on p.back_on are.2 bounded.others (ends_behind to first middle last bounded.ends) none
 
 -- of both ends together
 pub two_ends : (from to : ℤ) (front back : List Element) → length (seen (within_range from to (front ++ (back ++ [])))) ≡ length (seen (within_range from to front)) + length (seen (within_range from to back))
