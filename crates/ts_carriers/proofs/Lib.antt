@@ -1,0 +1,4 @@
+pub mod CallerLemmas
+mod RanLemmas
+mod SayingLemmas
+mod TwiceLemmas
