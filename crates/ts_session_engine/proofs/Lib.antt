@@ -1,0 +1,4 @@
+pub mod CallerLemmas
+mod ProceedLemmas
+mod StayLemmas
+mod TurnLemmas

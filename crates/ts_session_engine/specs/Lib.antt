@@ -1,0 +1,5 @@
+pub mod Beside
+pub mod Committed
+pub mod Opened
+pub mod Proceeds
+pub mod Stepped
