@@ -1,0 +1,10 @@
+mod AnswerLemmas
+mod BeginLemmas
+mod CommitLemmas
+mod InsideLemmas
+mod MachineLemmas
+mod OpenLemmas
+mod OutsideLemmas
+mod ReadyLemmas
+mod StandLemmas
+mod TurnedLemmas
