@@ -1,0 +1,4 @@
+pub mod Carrier
+pub mod Hall
+pub mod Piece
+pub mod Ran
