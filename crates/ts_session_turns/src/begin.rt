@@ -11,11 +11,11 @@ use ts_disk::Volume;
 use ts_engine::{Engine, StepFault};
 use ts_multi::Sessions;
 use ts_say::{say_ok, say_refusal};
-use ts_session_engine::Calls;
+use ts_session_engine::open_view;
 use ts_views::Views;
 
 /// Begins the transaction of a session: its view is the newest catalogue.
-pub(crate) fn begin<C: Calls, V: Volume>(
+pub(crate) fn begin<V: Volume>(
     engine: &Engine,
     vol: &V,
     views: &mut Views,
@@ -36,7 +36,7 @@ pub(crate) fn begin<C: Calls, V: Volume>(
         return Ok(());
     }
     say_ok(out)?;
-    C::open_view(engine, views, who)?;
+    open_view(engine, views, who)?;
     log.begin(who);
     Ok(())
 }

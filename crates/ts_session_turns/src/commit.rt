@@ -15,12 +15,12 @@ use ts_disk::Volume;
 use ts_engine::{Engine, StepFault};
 use ts_multi::Sessions;
 use ts_say::say_refusal;
-use ts_session_engine::Calls;
+use ts_session_engine::commit_view;
 use ts_views::Views;
 
 /// Commits the transaction of a session, unless a commit stands in its way, or the newest catalogue refuses one of its
 /// commands. It ends in any case, but for want of memory.
-pub(crate) fn commit<C: Calls, V: Volume>(
+pub(crate) fn commit<V: Volume>(
     rt: &(impl Threads + Sync),
     engine: &mut Engine,
     vol: &mut V,
@@ -49,7 +49,7 @@ pub(crate) fn commit<C: Calls, V: Volume>(
         log.end(who);
         return Ok(());
     }
-    let done = C::commit_view(rt, engine, vol, views, who, out)?;
+    let done = commit_view(rt, engine, vol, views, who, out)?;
     if done {
         log.commit(who);
         return Ok(());

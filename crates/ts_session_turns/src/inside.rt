@@ -18,14 +18,14 @@ use ts_disk::Volume;
 use ts_engine::{Engine, StepFault};
 use ts_multi::{Sessions, objects};
 use ts_say::say_refusal;
-use ts_session_engine::Calls;
+use ts_session_engine::step_view;
 use ts_views::Views;
 
 /// So many commands that write a transaction has at most.
 const MOST_ACCEPTED: usize = 32;
 
 /// Carries a command out on the view of a session.
-pub(crate) fn inside<C: Calls, V: Volume>(
+pub(crate) fn inside<V: Volume>(
     rt: &(impl Threads + Sync),
     engine: &mut Engine,
     vol: &mut V,
@@ -46,17 +46,17 @@ pub(crate) fn inside<C: Calls, V: Volume>(
         (hand engine.new views.new log.new) (V.device vol.old) (V.device vol.new) }
 {
     if !command.is_writing() {
-        return C::step_view(rt, engine, vol, views, who, command, out);
+        return step_view(rt, engine, vol, views, who, command, out);
     }
     if commands_in(views, who) >= MOST_ACCEPTED {
         say_refusal(out, &Refusal::TransactionFull)?;
         return Ok(());
     }
-    inside_writing::<C, V>(rt, engine, vol, views, log, who, command, out)
+    inside_writing(rt, engine, vol, views, log, who, command, out)
 }
 
 // Carries a command that writes out on the view of a session that has room for it, and notes it where it is accepted.
-fn inside_writing<C: Calls, V: Volume>(
+fn inside_writing<V: Volume>(
     rt: &(impl Threads + Sync),
     engine: &mut Engine,
     vol: &mut V,
@@ -78,7 +78,7 @@ fn inside_writing<C: Calls, V: Volume>(
         (hand engine.new views.new log.new) (V.device vol.old) (V.device vol.new) }
 {
     let touched = objects(engine.allocator(), command)?;
-    C::step_view(rt, engine, vol, views, who, command, out)?;
+    step_view(rt, engine, vol, views, who, command, out)?;
     if !ends_with_ok(out.as_slice()) {
         return Ok(());
     }

@@ -14,11 +14,11 @@ use ts_command::Command;
 use ts_disk::Volume;
 use ts_engine::{Engine, StepFault};
 use ts_multi::{Sessions, objects};
-use ts_session_engine::Calls;
+use ts_session_engine::step_beside;
 use ts_views::Views;
 
 /// Carries a command out on the newest catalogue. One that writes and is accepted is a commit of its own.
-pub(crate) fn outside<C: Calls, V: Volume>(
+pub(crate) fn outside<V: Volume>(
     rt: &(impl Threads + Sync),
     engine: &mut Engine,
     vol: &mut V,
@@ -39,10 +39,10 @@ pub(crate) fn outside<C: Calls, V: Volume>(
         (hand engine.new views.new log.new) (V.device vol.old) (V.device vol.new) }
 {
     if !command.is_writing() {
-        return C::step_beside(rt, engine, vol, views, command, out);
+        return step_beside(rt, engine, vol, views, command, out);
     }
     let touched = objects(engine.allocator(), command)?;
-    C::step_beside(rt, engine, vol, views, command, out)?;
+    step_beside(rt, engine, vol, views, command, out)?;
     if !ends_with_ok(out.as_slice()) {
         return Ok(());
     }

@@ -17,13 +17,12 @@ use ts_disk::Volume;
 use ts_engine::{Engine, StepFault};
 use ts_multi::Sessions;
 use ts_say::say_refusal;
-use ts_session_engine::Calls;
 use ts_views::Views;
 
 /// Carries out a command of a session, counted from 0, and gives its reply: one that begins, commits or rolls back its
 /// transaction, or any other, inside its transaction or outside. A rolling routine is none: it is refused as a syntax
 /// error. After an error there is no reply.
-pub fn answer<C: Calls, V: Volume>(
+pub fn answer<V: Volume>(
     rt: &(impl Threads + Sync),
     engine: &mut Engine,
     vol: &mut V,
@@ -43,15 +42,15 @@ pub fn answer<C: Calls, V: Volume>(
     out.clear();
     log.reserve()?;
     match command.boundary() {
-        Some(Boundary::Opens) => begin::<C, V>(engine, vol, views, log, who, command, out),
-        Some(Boundary::Commits) => commit::<C, V>(rt, engine, vol, views, log, who, command, out),
+        Some(Boundary::Opens) => begin(engine, vol, views, log, who, command, out),
+        Some(Boundary::Commits) => commit(rt, engine, vol, views, log, who, command, out),
         Some(Boundary::RollsBack) => roll_back(engine, vol, views, log, who, command, out),
         Some(Boundary::Alone) => refuse(engine, vol, views, log, who, command, out),
         None => {
             if log.is_open(who) {
-                inside::<C, V>(rt, engine, vol, views, log, who, command, out)
+                inside(rt, engine, vol, views, log, who, command, out)
             } else {
-                outside::<C, V>(rt, engine, vol, views, log, who, command, out)
+                outside(rt, engine, vol, views, log, who, command, out)
             }
         }
     }

@@ -1,4 +1,0 @@
-pub mod CallerLemmas
-mod ProceedLemmas
-mod StayLemmas
-mod TurnLemmas
