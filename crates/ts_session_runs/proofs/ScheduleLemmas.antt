@@ -15,8 +15,8 @@ use Rattle.ts_multi.specs.Schedule.{chosen, next_session, waiting}
 pub waiting_append : (n : ℕ) (xs ys : List ℕ) → waiting n (xs ++ ys) ≡ waiting n xs ++ waiting (n + length xs) ys
 waiting_append n [] ys = let same : n ≡ n + 0 = omega arith in ap (λ (k : ℕ). waiting k ys) same
 waiting_append n (x ∷ xs) ys = elim (cases_Bool (x == 0)) [
-  | inl t ↦ let rest = waiting_append (n + 1) xs ys in let place : n + 1 + length xs ≡ n + length (x ∷ xs) = omega arith in rw (t, t) (rest ∙ ap (λ (k : ℕ). waiting (n + 1) xs ++ waiting k ys) place)
-  | inr f ↦ let rest = waiting_append (n + 1) xs ys in let place : n + 1 + length xs ≡ n + length (x ∷ xs) = omega arith in rw (f, f) (ap (λ (l : List ℕ). n ∷ l) (rest ∙ ap (λ (k : ℕ). waiting (n + 1) xs ++ waiting k ys) place))
+  | inl t ↦ let rest = waiting_append (n + 1) xs ys in let place : n + 1 + length xs ≡ n + length (x ∷ xs) = omega arith in rw t (rest ∙ ap (λ (k : ℕ). waiting (n + 1) xs ++ waiting k ys) place)
+  | inr f ↦ let rest = waiting_append (n + 1) xs ys in let place : n + 1 + length xs ≡ n + length (x ∷ xs) = omega arith in rw f (ap (λ (l : List ℕ). n ∷ l) (rest ∙ ap (λ (k : ℕ). waiting (n + 1) xs ++ waiting k ys) place))
 ]
 
 -- whether a session has an item left
@@ -27,21 +27,20 @@ has_left items = not (length items == 0)
 abbrev left_one : List Item → ℕ
 left_one items = cond (has_left items) 1 0
 
+counts_more : (n : ℕ) (items : List Item) (rest : List (List Item)) → sum_by left_one rest ≡ length (waiting (n + 1) (map length rest)) → (b : Bool) → (length items == 0) ≡ b
+    → sum_by left_one (items ∷ rest) ≡ length (waiting n (map length (items ∷ rest)))
+counts_more n items rest more true t =
+    let total : 0 + sum_by left_one rest ≡ length (waiting (n + 1) (map length rest)) = omega (arith, more) in
+    sum_by-cons left_one items rest ∙ ap (λ (b : Bool). cond (not b) 1 0 + sum_by left_one rest) t ∙ total
+    ∙ sym (ap (λ (b : Bool). length (cond b (waiting (n + 1) (map length rest)) (n ∷ waiting (n + 1) (map length rest)))) t)
+counts_more n items rest more false f =
+    let total : 1 + sum_by left_one rest ≡ length (n ∷ waiting (n + 1) (map length rest)) = omega (arith, more) in
+    sum_by-cons left_one items rest ∙ ap (λ (b : Bool). cond (not b) 1 0 + sum_by left_one rest) f ∙ total
+    ∙ sym (ap (λ (b : Bool). length (cond b (waiting (n + 1) (map length rest)) (n ∷ waiting (n + 1) (map length rest)))) f)
+
 pub counts_waiting : (n : ℕ) (left : List (List Item)) → count_by has_left left ≡ length (waiting n (map length left))
 counts_waiting n [] = refl
-counts_waiting n (items ∷ rest) = by (length items == 0) refl where
-  more : sum_by left_one rest ≡ length (waiting (n + 1) (map length rest))
-  more = counts_waiting (n + 1) rest
-
-  by : (b : Bool) → (length items == 0) ≡ b → sum_by left_one (items ∷ rest) ≡ length (waiting n (map length (items ∷ rest)))
-  by true t =
-      let total : 0 + sum_by left_one rest ≡ length (waiting (n + 1) (map length rest)) = omega (arith, more) in
-      sum_by-cons left_one items rest ∙ ap (λ (b : Bool). cond (not b) 1 0 + sum_by left_one rest) t ∙ total
-      ∙ sym (ap (λ (b : Bool). length (cond b (waiting (n + 1) (map length rest)) (n ∷ waiting (n + 1) (map length rest)))) t)
-  by false f =
-      let total : 1 + sum_by left_one rest ≡ length (n ∷ waiting (n + 1) (map length rest)) = omega (arith, more) in
-      sum_by-cons left_one items rest ∙ ap (λ (b : Bool). cond (not b) 1 0 + sum_by left_one rest) f ∙ total
-      ∙ sym (ap (λ (b : Bool). length (cond b (waiting (n + 1) (map length rest)) (n ∷ waiting (n + 1) (map length rest)))) f)
+counts_waiting n (items ∷ rest) = counts_more n items rest (counts_waiting (n + 1) rest) (length items == 0) refl
 
 -- the first of what stands behind a list
 get_behind : (front : List ℕ) (n : ℕ) (rest : List ℕ) → slice_get (front ++ n ∷ rest) (length front) ≡ Some n
@@ -97,8 +96,20 @@ chosen_none pick [] none = refl
 chosen_none pick (n ∷ ns) none = absurd (let zero : suc (length ns) ≡ 0 = grind (arith, nat_tests) in omega (arith, zero))
 
 pub chosen_some : (pick : ℕ) (ns : List ℕ) → (length ns == 0) ≡ false → chosen pick ns ≡ slice_get ns (pick % length ns)
-chosen_some pick [] some = absurd (let zero : 0 ≢ 0 = grind (arith, nat_tests) in zero refl)
+chosen_some pick [] some = absurd (cc)
 chosen_some pick (n ∷ ns) some = refl
 
 pub some_left : (items : List Item) → (length items == 0) ≡ false → 0 < length items
 some_left items some = grind (arith, nat_tests)
+
+-- an item of a list, whatever stands in for one past its end
+pub same_here : (left : List (List Item)) (index : ℕ) (x : List Item) → x ≡ get_or left index x → index < length left → get_or left index [] ≡ x
+same_here [] index x is within = absurd (omega (arith, within))
+same_here (items ∷ rest) zero x is within = sym is
+same_here (items ∷ rest) (suc index) x is within = same_here rest index x is (omega (arith, within))
+
+pub is_none : (n m : ℕ) → n ≡ m → n ≡ 0 → (m == 0) ≡ true
+is_none n m same none = let zero : m ≡ 0 = omega (arith, same, none) in grind (arith, nat_tests)
+
+pub is_some_of : (n m : ℕ) → n ≡ m → (n ≡ 0 → ⊥) → (m == 0) ≡ false
+is_some_of n m same some = let positive : 0 < m = omega (arith, same, some) in grind (arith, nat_tests)

@@ -9,6 +9,11 @@ use Rattle.ts_sessions.specs.LogOf.{pending_of, log_of}
 use Rattle.ts_sessions.proofs.CallerLemmas.{follows}
 use Rattle.ts_session_turns.specs.Hand.{Hand, IsAtMachine}
 
+-- what isn't there is none
+pub gone : {A : Type 0} (o : Option A) → is_some o ≡ false → o ≡ None
+gone None is = refl
+gone (Some x) is = absurd (cc)
+
 -- the transaction of the machine, by that of the log
 some_there : (o : Option Snapshot) → is_some (option_map pending_of o) ≡ true → (s : Snapshot) × (o ≡ Some s)
 some_there None is = absurd (cc)

@@ -2,11 +2,12 @@ use Rattle.std.proofs.Common.{◌≡◌, List, ◌++◌, ℕ, Ok, Err, refl, ap,
 use Rattle.ts_base.specs.declared.refusal.Refusal.TheVariants as refusals
 use Rattle.ts_engine.specs.declared.fault.StepFault.TheVariants.{Memory}
 use Rattle.ts_answer.specs.Reply.{ok_line, refusal_line}
-use Rattle.ts_multi.specs.Log.{after_begin}
+use Rattle.ts_multi.specs.Log.{after_begin, pending_at}
+use Rattle.ts_views.specs.View.{view_of}
 use Rattle.ts_session_turns.specs.Hand.{hand}
 use Rattle.ts_session_turns.proofs.BeginLemmas.{opened_turned}
 use Rattle.ts_session_turns.proofs.MachineLemmas.{begins_again}
-use Rattle.ts_session_turns.proofs.OpenLemmas.{open_there}
+use Rattle.ts_session_turns.proofs.OpenLemmas.{gone, open_there}
 use Rattle.ts_session_turns.proofs.TurnedLemmas.{turned_by, turned_none, turned_said, turned_to}
 use Rattle.ts_session_turns.proofs.begin.begin.Goals as goal
 
@@ -45,6 +46,12 @@ returns-in_err-open_view g c =
     turned_to g.V.Volume.tells c.args.who (Ok c.args.command.now) c.from_residual-in_err-open_view.result c.say_ok.new.out h c.args.engine.now c.args.views.now c.open_view.new.views c.args.log.now c.args.log.now v v c.in_err-open_view.ensures.err refl
     (turned_by g.V.Volume.tells c.args.who (Ok c.args.command.now) c.from_residual-in_err-open_view.result (Memory error) c.say_ok.new.out h h v v c.from_residual-in_err-open_view.ensures.1
     (turned_none g.V.Volume.tells c.args.who (Ok c.args.command.now) h v (g.met.V.Volume.lawful c.args.vol.now) c.requires.ready error c.say_ok.new.out))
+
+pub open_view-requires-clause-closed : goal.open_view-requires-clause-closed
+open_view-requires-clause-closed g c = gone (view_of c.args.who c.args.views.now) (sym (c.requires.ready.alike c.args.who) ∙ sym c.is_open.ensures ∙ c.if-is_open.false)
+
+pub begin-requires-clause-closed : goal.begin-requires-clause-closed
+begin-requires-clause-closed g c = gone (pending_at c.args.who c.args.log.now) (sym c.is_open.ensures ∙ c.if-is_open.false)
 
 pub returns : goal.returns
 returns g c =

@@ -38,6 +38,9 @@ returns-in_err-say_ok g c =
 pub close-requires-clause-open : goal.close-requires-clause-open
 close-requires-clause-open g c = sym (c.requires.ready.alike c.args.who) ∙ sym c.is_open.ensures ∙ c.if-not-is_open.false
 
+pub end-requires-clause-open : goal.end-requires-clause-open
+end-requires-clause-open g c = sym c.is_open.ensures ∙ c.if-not-is_open.false
+
 pub returns : goal.returns
 returns g c =
     let v = g.V.Volume.device c.args.vol.now in

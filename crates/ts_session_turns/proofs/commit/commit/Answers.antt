@@ -54,6 +54,18 @@ returns-in-Some g c =
     let found = open_there g.V.Volume.tells h m v at c.args.who (sym c.is_open.ensures ∙ c.if-not-is_open.false) in
     commits_conflict c.args.who c.args.command.now m found.0 c.requires.commits found.1 c.in-Some.number (sym (conflict_there g.V.Volume.tells h m v at c.args.who found.0 found.1) ∙ sym c.conflict.ensures ∙ c.in-Some.is)))
 
+pub conflict-requires-clause-open : goal.conflict-requires-clause-open
+conflict-requires-clause-open g c = sym c.is_open.ensures ∙ c.if-not-is_open.false
+
+pub end-requires-clause-open : goal.end-requires-clause-open
+end-requires-clause-open g c = sym c.is_open.ensures ∙ c.if-not-is_open.false
+
+pub commit-requires-clause-open : goal.commit-requires-clause-open
+commit-requires-clause-open g c = sym c.is_open.ensures ∙ c.if-not-is_open.false
+
+pub end-requires-2-clause-open : goal.end-requires-2-clause-open
+end-requires-2-clause-open g c = sym c.is_open.ensures ∙ c.if-not-is_open.false
+
 pub commit_view-requires-clause-opened : goal.commit_view-requires-clause-opened
 commit_view-requires-clause-opened g c = sym (c.requires.ready.alike c.args.who) ∙ sym c.is_open.ensures ∙ c.if-not-is_open.false
 
