@@ -1,5 +1,5 @@
 -- What a command works on. Every command has its case.
-use Rattle.std.specs.Prelude.{◌≡◌, Bool, true, List, ℕ, ◌+◌, [], Option, Result, IfOk}
+use Rattle.std.specs.Prelude.{◌≡◌, Bool, true, false, List, ℕ, ◌+◌, [], Option, Result, IfOk}
 use Rattle.ts_base.specs.declared.fault.Trouble.{Trouble}
 use Rattle.ts_command.specs.declared.command.Command.{Command}
 use Rattle.ts_command.specs.declared.command.Command.TheVariants as commands
@@ -28,6 +28,16 @@ pub data Work : Type 0 where
   Memory : Work
   -- it begins or ends a transaction
   Boundaries : Work
+
+-- it reads elements of series, and does nothing else
+abbrev pub reads_elements : Work → Bool
+reads_elements (Defines kind) = false
+reads_elements Elements = false
+reads_elements Readings = true
+reads_elements Combinations = true
+reads_elements Aggregates = true
+reads_elements Memory = false
+reads_elements Boundaries = false
 
 abbrev pub work_of : Command → Work
 work_of (commands.CreateRowType name stamp columns) = Defines kinds.RowType

@@ -20,7 +20,7 @@ use Rattle.ts_answer.specs.declared.stop.Stop.{Stop}
 use Rattle.ts_answer.specs.Answer.{answer, outcome}
 use Rattle.ts_answer.specs.Reply.{refusal_line}
 use Rattle.ts_answer.specs.State.{State}
-use Rattle.ts_answer.specs.CarriedOut.{CarriedOut, definitions_after, lists_after, is_nothing}
+use Rattle.ts_answer.specs.CarriedOut.{CarriedOut, ReadOut, definitions_after, lists_after, is_nothing}
 use Rattle.ts_answer.specs.View.{View as Seen, view, IsSeen, Shows}
 use Rattle.ts_views.specs.declared.view.View.{View}
 use Rattle.ts_views.specs.View.{pages_of}
@@ -225,6 +225,9 @@ module _ (tells : Bool) (e : Kept) (v : Device) (ready : IsReady tells e v) (res
   pub seen_given : IsViewReady tells x (newest e v) → IsSeen tells (At (changes, free, contents_over e.store v))
   seen_given xready = subst (λ (p : List Entry × List ℕ × Contents). IsSeen tells (At p)) there xready
 
+  pub read_given : (command : Command) (r : Result Unit Stop) (out : List ℕ) (c : Contents) → ReadOut tells command r out (At (changes, free, contents_over e.store v)) c → ReadOut tells command r out (At ([], x.free.items, newest e v)) c
+  read_given command r out c read = subst (λ (p : List Entry × List ℕ × Contents). ReadOut tells command r out (At p) c) (sym there) read
+
   pub carried_given : (command : Command) (r : Result Effect Stop) (out : List ℕ) (c : Contents) → CarriedOut tells command r out (At (changes, free, contents_over e.store v)) c → CarriedOut tells command r out (At ([], x.free.items, newest e v)) c
   carried_given command r out c carried = subst (λ (p : List Entry × List ℕ × Contents). CarriedOut tells command r out (At p) c) (sym there) carried
 
@@ -246,11 +249,11 @@ of_writing command effect (Ok done) changes free x y writes keeps = record {
 }
 of_writing command effect (Err error) changes free x y writes keeps = record { noted = tt; taken = tt; nothing = tt; unnoted = keeps.unnoted; err = keeps.err }
 
-pub of_reading : (E : Type 0) (command : Command) (effect : Effect) (changes : List Entry) (free : List ℕ) (x : View) → is_writing command ≡ false → KeepsEffect {E} command effect (Ok tt) changes free x x
-of_reading E command effect changes free x reads = record {
-  noted = subst (λ (b : Bool). x.commands.items ≡ (if b then x.commands.items ++ command ∷ [] else x.commands.items)) (sym reads) refl;
+pub of_reading : (E : Type 0) (command : Command) (effect : Effect) (changes : List Entry) (free : List ℕ) (x y : View) → is_writing command ≡ false → IsSameView x y → y.commands.items ≡ x.commands.items → KeepsEffect {E} command effect (Ok tt) changes free x y
+of_reading E command effect changes free x y reads same unnoted = record {
+  noted = unnoted ∙ subst (λ (b : Bool). x.commands.items ≡ (if b then x.commands.items ++ command ∷ [] else x.commands.items)) (sym reads) refl;
   taken = λ writes. absurd (cc);
-  nothing = λ is. is_itself x;
+  nothing = λ is. same;
   unnoted = tt;
   err = tt;
 }

@@ -9,7 +9,7 @@ use Rattle.ts_journal.specs.Entry.{Entry, over}
 use Rattle.ts_journal.specs.Moment.{OnlyReads}
 use Rattle.ts_answer.specs.declared.effect.Effect.{Effect}
 use Rattle.ts_answer.specs.declared.stop.Stop.{Stop}
-use Rattle.ts_answer.specs.CarriedOut.{CarriedOut, definitions_after, lists_after, is_nothing}
+use Rattle.ts_answer.specs.CarriedOut.{CarriedOut, ReadOut, definitions_after, lists_after, is_nothing}
 use Rattle.ts_store.specs.OpenBatch.{read_pages, contents_over}
 use Rattle.ts_store.specs.Undisturbed.{Undisturbed}
 use Rattle.ts_views.specs.Pages.{view_contents}
@@ -78,4 +78,20 @@ pub record WorksInView (tells : Bool) (command : Command) (result : Result Effec
   pub calls : Undisturbed tells e.store middle.store v w
   pub reads : IsTrue tells → EqualPages (read_pages e.store v.held) (read_pages middle.store w.held)
   pub carried : CarriedOut tells command result out (seen_through x (newest e v))
+      (view_contents x.old.entries x.own.entries changes (reverse free) (contents_over middle.store w))
+
+-- A command that reads elements was answered so, or not. The view keeps all that it has.
+pub record ReadsInView (tells : Bool) (command : Command) (result : Result Unit Stop) (out : List ℕ) (e f : Kept)
+    (x y : View) (v w : Device) : Type 0 where
+  pub middle : Kept
+  pub is : middle ≡ record e { store = middle.store }
+  pub drop : f ≡ with_dropped middle
+  pub calls : Undisturbed tells e.store middle.store v w
+  pub reads : IsTrue tells → EqualPages (read_pages e.store v.held) (read_pages middle.store w.held)
+  pub same : IsSameView x y
+  pub unnoted : y.commands.items ≡ x.commands.items
+  -- what the command would have changed, and the free pages that it left
+  pub changes : List Entry
+  pub free : List ℕ
+  pub read : ReadOut tells command result out (seen_through x (newest e v))
       (view_contents x.old.entries x.own.entries changes (reverse free) (contents_over middle.store w))
