@@ -1,0 +1,7 @@
+pub mod Beside
+pub mod Committed
+pub mod Opened
+pub mod Proceeds
+pub mod Replayed
+pub mod Stepped
+pub mod Viewed
