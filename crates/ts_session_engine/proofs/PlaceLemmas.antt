@@ -55,6 +55,7 @@ pub closes_view : (tells : Bool) (who : ℕ) (list : List Command) (done : Bool)
 closes_view tells who list done out e f old new v w within commits = record {
   proceeds = commits.proceeds;
   rests = commits.rests;
+  quiet = commits.quiet;
   others = others_set tells who (newest e v) (newest f w) old new None commits.views;
   closed = get_or-set_same new who None None (subst (λ (n : ℕ). who < n) (sym commits.views.count) within);
   kept = tt;
@@ -64,10 +65,11 @@ closes_view tells who list done out e f old new v w within commits = record {
 
 -- for a fault it stays
 pub keeps_view : (tells : Bool) (who : ℕ) (list : List Command) (fault : StepFault) (out : List ℕ) (e f : Kept) (old new : List (Option View)) (v w : Device) → CommitsBeside tells list (Err fault) out e f old new v w → CommitsView tells who list (Err fault) [] e f old new v w
-keeps_view tells who list Disk out e f old new v w commits = record { proceeds = commits.proceeds; rests = tt; others = tt; closed = tt; kept = tt; answered = tt; empty = λ err. refl }
+keeps_view tells who list Disk out e f old new v w commits = record { proceeds = commits.proceeds; rests = tt; quiet = tt; others = tt; closed = tt; kept = tt; answered = tt; empty = λ err. refl }
 keeps_view tells who list (Memory error) out e f old new v w commits = record {
   proceeds = commits.proceeds;
   rests = commits.rests;
+  quiet = commits.quiet;
   others = others_of tells who (newest e v) (newest f w) old new commits.views;
   closed = tt;
   kept = commits.views.each who;

@@ -192,6 +192,13 @@ goes_both (Err Disk) P Q f p = tt
 goes_both (Err (Memory error)) P Q f p = f p
 goes_both (Err (Closed faults)) P Q f p = tt
 
+-- what holds always
+pub goes_all : {T : Type 0} (r : Result T StepFault) (P : Type 0) → P → GoesOn r P
+goes_all (Ok y) P p = p
+goes_all (Err Disk) P p = tt
+goes_all (Err (Memory error)) P p = p
+goes_all (Err (Closed faults)) P p = tt
+
 pages_then : (a b c : Contents) → SamePages a b → SamePages b c → SamePages a c
 pages_then a b c p q = record { count = q.count ∙ p.count; pages = λ k. q.pages k ∙ p.pages k }
 
