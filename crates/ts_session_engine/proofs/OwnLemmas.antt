@@ -128,24 +128,23 @@ module _ (tells : Bool) (command : Command) (e g h : Kept) (v d : Device) (ready
     }
 
     -- the command was refused
-    pub refused_own : (refusal : Refusal) → (IsTrue tells → (l : Layout) → Shows tells (view x.defs.definitions x.space (view_contents x.old.entries x.own.entries [] (reverse x.free.items) before)) l → outcome (Ok command) (catalogue_of l) ≡ Err refusal)
-        → StepsOwn tells command (Ok tt) (refusal_line refusal) e h x x v d
+    pub refused_own : (y : View) → IsSameView x y → y.commands.items ≡ x.commands.items → (refusal : Refusal)
+        → (IsTrue tells → (l : Layout) → Shows tells (view x.defs.definitions x.space (view_contents x.old.entries x.own.entries [] (reverse x.free.items) before)) l → outcome (Ok command) (catalogue_of l) ≡ Err refusal)
+        → StepsOwn tells command (Ok tt) (refusal_line refusal) e h x y v d
     unfolding still
-    refused_own refusal refused =
-        let itself = is_itself x in
-        record {
-          proceeds = proceeds_ok;
-          rests = same_saved;
-          reads = calls.reads;
-          still = still;
-          own = record {
-            ready = same_ready tells x x itself before after same_pages xready;
-            answered = refused_in tells command x before after xready x refusal refl refused (same_means tells x x itself before after same_pages);
-            means = tt;
-            unnoted = tt;
-            one_more = inl refl;
-          };
-        }
+    refused_own y same unnoted refusal refused = record {
+      proceeds = proceeds_ok;
+      rests = same_saved;
+      reads = calls.reads;
+      still = still;
+      own = record {
+        ready = same_ready tells x y same before after same_pages xready;
+        answered = refused_in tells command x before after xready y refusal unnoted refused (same_means tells x y same before after same_pages);
+        means = tt;
+        unnoted = tt;
+        one_more = inl unnoted;
+      };
+    }
 
     -- it was answered
     module _ (effect : Effect) (out : List ℕ) (changes : List Entry) (free : List ℕ) (y : View)

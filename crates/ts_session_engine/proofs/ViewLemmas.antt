@@ -20,7 +20,7 @@ use Rattle.ts_layout.specs.Surveyed.{free_pages}
 use Rattle.ts_layout.proofs.CallerLemmas.{free_at, kept_alike, pairs_front, same_catalogue}
 use Rattle.ts_volume.proofs.CallerLemmas.{holds_still}
 use Rattle.ts_answer.specs.declared.effect.Effect.{Effect}
-use Rattle.ts_answer.specs.declared.effect.Effect.TheVariants.{Nothing, Pages, Slot, Places, Series}
+use Rattle.ts_answer.specs.declared.effect.Effect.TheVariants.{Nothing, Pages, Slot, Places, Series, Whole}
 use Rattle.ts_answer.specs.Refusals.{Answered, Tried}
 use Rattle.ts_answer.specs.Answer.{answer, outcome, settled}
 use Rattle.ts_answer.specs.Reply.{refusal_line}
@@ -64,6 +64,7 @@ none_defined Pages d is = absurd (cc)
 none_defined (Slot kind slot def) d is = absurd (cc)
 none_defined (Places slot moved) d is = absurd (cc)
 none_defined (Series slot) d is = absurd (cc)
+none_defined (Whole tables space) d is = absurd (cc)
 
 pub none_listed : (effect : Effect) (ls : List (List Place)) → is_nothing effect ≡ true → lists_after effect ls ≡ ls
 none_listed Nothing ls is = refl
@@ -71,6 +72,7 @@ none_listed Pages ls is = absurd (cc)
 none_listed (Slot kind slot def) ls is = absurd (cc)
 none_listed (Places slot moved) ls is = absurd (cc)
 none_listed (Series slot) ls is = absurd (cc)
+none_listed (Whole tables space) ls is = absurd (cc)
 
 -- what is answered, and what is refused
 pub answered_as : (command : Command) (cat : Catalogue) (a : Answered) → outcome (Ok command) cat ≡ Ok a → answer cat (Ok command) ≡ a

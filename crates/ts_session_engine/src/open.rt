@@ -27,10 +27,13 @@ pub fn open_view(engine: &Engine, views: &mut Views, who: usize) -> Result<(), A
 fn newest(alloc: Global, engine: &Engine) -> Result<View, AllocError>
     ensures { IfOk result (IsNewest engine.now) }
 {
+    let defs = engine.defs().copy()?;
+    let space = engine.space().copy()?;
+    let free = engine.store().copy_free(alloc)?;
     Ok(View {
-        defs: engine.defs().copy()?,
-        space: engine.space().copy()?,
-        free: engine.store().copy_free(alloc)?,
+        defs,
+        space,
+        free,
         old: Batch::new(alloc),
         own: Batch::new(alloc),
         commands: Vec::new(alloc),

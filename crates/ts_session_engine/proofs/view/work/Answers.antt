@@ -1,4 +1,5 @@
-use Rattle.std.proofs.Common.{refl, reverse}
+use Rattle.std.proofs.Common.{refl, ap, reverse}
+use Rattle.ts_command.specs.Boundary.{is_between}
 use Rattle.ts_store.specs.OpenBatch.{contents_over}
 use Rattle.ts_views.specs.Pages.{view_contents}
 use Rattle.ts_answer.specs.View.{view}
@@ -13,6 +14,9 @@ carry_out_in_view-requires-clause-given g c =
       charged = c.requires.charges;
       empty = c.requires.empty;
     }
+
+pub carry_out_in_view-requires-clause-between : goal.carry_out_in_view-requires-clause-between
+carry_out_in_view-requires-clause-between g c = ap is_between c.requires.between
 
 pub carry_out_in_view-requires-clause-lawful : goal.carry_out_in_view-requires-clause-lawful
 carry_out_in_view-requires-clause-lawful g c =
