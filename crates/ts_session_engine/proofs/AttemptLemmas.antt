@@ -45,7 +45,9 @@ module _ (tells : Bool) (list : List Command) (out : List ℕ) (e f : Kept) (v w
   accepted_all p = by (replayed cat list) refl (p.comes told cat cat at)
     where
       by : (t : Tried Catalogue) → replayed cat list ≡ t → ComesTo tells t cat 0 (length list) true out f w → (next : Catalogue) × (replayed cat list ≡ Ok next) × IsAt tells f (opened cat next (length list)) w
-      by (Ok next) is comes = (next, is, subst (λ (k : ℕ). IsAt tells f (opened cat next k) w) (omega arith) comes.1)
+      by (Ok next) is comes =
+          let same : 0 + length list ≡ length list = omega arith in
+          (next, is, subst (λ (k : ℕ). IsAt tells f (opened cat next k) w) same comes.1)
       by (Err refusal) is comes = let wrong = comes.0 in absurd (cc)
 
   refused_some : Replays tells 0 list (Ok false) out e f v w → EndsAt tells list (Ok false) out cat f w

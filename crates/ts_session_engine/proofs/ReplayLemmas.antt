@@ -172,18 +172,20 @@ module _ (tells : Bool) (command : Command) (n : ℕ) (e f : Kept) (v x : Device
 
 -- No command is carried out.
 pub replays_none : (tells : Bool) (n : ℕ) (out : List ℕ) (e : Kept) (v : Device) → Lawful tells v → IsReady tells e v → IsOpenWith n e → Replays tells n [] (Ok true) out e e v v
-replays_none tells n out e v lawful ready open_e = record {
-  ready = ready;
-  reads = reads_none tells v lawful;
-  no_fault = refl;
-  newest = record { count = refl; pages = λ k. refl };
-  transaction = (n, open_e);
-  all = λ done. subst (λ (k : ℕ). IsOpenWith k e) (omega arith) open_e;
-  base = λ told base work at. (work, n, at);
-  comes = λ told base work at. (refl, subst (λ (k : ℕ). IsAt tells e (opened base work k) v) (omega arith) at);
-  disk = λ is. absurd (cc);
-  closed = λ faults is. absurd (cc);
-}
+replays_none tells n out e v lawful ready open_e =
+    let same : n ≡ n + 0 = omega arith in
+    record {
+      ready = ready;
+      reads = reads_none tells v lawful;
+      no_fault = refl;
+      newest = record { count = refl; pages = λ k. refl };
+      transaction = (n, open_e);
+      all = λ done. subst (λ (k : ℕ). IsOpenWith k e) same open_e;
+      base = λ told base work at. (work, n, at);
+      comes = λ told base work at. (refl, subst (λ (k : ℕ). IsAt tells e (opened base work k) v) same at);
+      disk = λ is. absurd (cc);
+      closed = λ faults is. absurd (cc);
+    }
 
 -- what holds where the engine goes on
 pub goes_both : {T : Type 0} (r : Result T StepFault) (P Q : Type 0) → (P → Q) → GoesOn r P → GoesOn r Q
