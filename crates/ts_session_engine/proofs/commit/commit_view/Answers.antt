@@ -6,17 +6,16 @@ use Rattle.ts_session_engine.specs.Committed.{CommitsView, commands_of}
 use Rattle.ts_session_engine.proofs.PlaceLemmas.{closes_view, keeps_view, open_still}
 use Rattle.ts_session_engine.proofs.commit.commit_view.Goals as goal
 
-pub close-requires : goal.close-requires
-close-requires g c =
+pub close-requires-clause-within : goal.close-requires-clause-within
+close-requires-clause-within g c = subst (λ (n : ℕ). c.args.who < n) (sym c.in-Ok.ensures.views.count) c.requires.within
+
+pub close-requires-clause-open : goal.close-requires-clause-open
+close-requires-clause-open g c =
     let e = c.args.engine.now in
     let f = c.commit.new.engine in
     let v = g.V.Volume.device c.args.vol.now in
     let w = g.V.Volume.device c.commit.new.vol in
-    let stay = c.in-Ok.ensures.views in
-    record {
-      within = subst (λ (n : ℕ). c.args.who < n) (sym stay.count) c.requires.within;
-      open = open_still (Stays g.V.Volume.tells (newest e v) (newest f w)) (view_of c.args.who c.args.views.now) (view_of c.args.who c.commit.new.views) (stay.each c.args.who) c.requires.opened;
-    }
+    open_still (Stays g.V.Volume.tells (newest e v) (newest f w)) (view_of c.args.who c.args.views.now) (view_of c.args.who c.commit.new.views) (c.in-Ok.ensures.views.each c.args.who) c.requires.opened
 
 pub returns-in-Ok-clause-committed : goal.returns-in-Ok-clause-committed
 returns-in-Ok-clause-committed g c none =
