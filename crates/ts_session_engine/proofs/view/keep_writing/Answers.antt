@@ -1,5 +1,5 @@
 use Rattle.std.specs.declared.alloc.AllocError.{AllocError}
-use Rattle.std.proofs.Common.{List, length, refl, ap, ◌∙◌}
+use Rattle.std.proofs.Common.{List, length, refl, ap}
 use Rattle.ts_command.specs.declared.command.Command.{Command}
 use Rattle.ts_session_engine.proofs.OwnLemmas.{no_copy, no_effect, noted_now}
 use Rattle.ts_session_engine.proofs.view.keep_writing.Goals as goal
@@ -15,5 +15,5 @@ returns-in-Ok c =
 pub returns-in-Err : goal.returns-in-Err
 returns-in-Err c =
     let y = c.take_effect.new.view in
-    no_effect c.args.command.now c.args.effect c.in-Err.error c.args.changes.entries c.args.free.items c.args.view.now c.note.new.view y (record y { commands = c.truncate.new.self }) c.len-count.result
-    c.in_ok-note.ensures.others c.in_ok-note.ensures.noted c.in-Err.ensures.err c.in-Err.ensures.commands refl c.truncate.ensures.items (c.len-count.ensures ∙ ap (λ (l : List Command). length l) c.as_slice.ensures.value)
+    no_effect c.args.command.now c.args.effect c.in-Err.error c.args.changes.entries c.args.free.items c.args.view.now c.note.new.view y (record y { commands = c.truncate.new.self }) (length c.as_slice-count.result.now)
+    c.in_ok-note.ensures.others c.in_ok-note.ensures.noted c.in-Err.ensures.err c.in-Err.ensures.commands refl c.truncate.ensures.items (ap (λ (l : List Command). length l) c.as_slice-count.ensures.value)
