@@ -1,6 +1,7 @@
 -- A step on a view: what becomes of it and of the engine.
 use Rattle.std.specs.declared.alloc.AllocError.{AllocError}
-use Rattle.std.proofs.Common.{◌≡◌, ◌⊎◌, inl, inr, ℕ, Bool, true, false, if◌then◌else◌, IsTrue, Option, Some, None, Result, Ok, Err, IsErrAnd, List, [], ◌∷◌, ◌++◌, reverse, Vec, Global, refl, ap, sym, ◌∙◌, subst}
+use Rattle.std.proofs.Common.{◌≡◌, ◌⊎◌, inl, inr, ℕ, Bool, true, false, if◌then◌else◌, IsTrue, Option, Some, None, Result, Ok, Err, IsErrAnd, List, [], ◌∷◌, ◌++◌, length, take, reverse, Vec, Global, refl, ap, sym, ◌∙◌, subst, arith}
+use Rattle.std.proofs.lemmas.List.{take-append-le, take_all}
 use Rattle.ts_base.specs.declared.refusal.Refusal.{Refusal}
 use Rattle.ts_command.specs.declared.command.Command.{Command}
 use Rattle.ts_command.specs.Writing.{is_writing}
@@ -249,7 +250,7 @@ of_writing command effect (Ok done) changes free x y writes keeps = record {
 }
 of_writing command effect (Err error) changes free x y writes keeps = record { noted = tt; taken = tt; nothing = tt; unnoted = keeps.unnoted; err = keeps.err }
 
-pub of_reading : (E : Type 0) (command : Command) (effect : Effect) (changes : List Entry) (free : List ℕ) (x y : View) → is_writing command ≡ false → IsSameView x y → y.commands.items ≡ x.commands.items → KeepsEffect {E} command effect (Ok tt) changes free x y
+pub of_reading : (E : Type 0) (command : Command) (effect : Effect) (changes : List Entry) (free : List ℕ) (x y : View) → is_writing command ≡ false → IsSameView x y → y.commands.items ≡ x.commands.items → KeepsEffect {E = E} command effect (Ok tt) changes free x y
 of_reading E command effect changes free x y reads same unnoted = record {
   noted = unnoted ∙ subst (λ (b : Bool). x.commands.items ≡ (if b then x.commands.items ++ command ∷ [] else x.commands.items)) (sym reads) refl;
   taken = λ writes. absurd (cc);
@@ -277,13 +278,13 @@ same_then x m y one two = record {
   free = two.free ∙ one.free;
 }
 
-takes_between : (effect : Effect) (changes : List Entry) (free : List ℕ) (x m y z : View) → IsSameView x m → TakesEffect effect changes free m y → IsSameView y z → TakesEffect effect changes free x z
-takes_between effect changes free x m y z one takes two = record {
-  definitions = two.definitions ∙ takes.definitions ∙ ap (definitions_after effect) one.definitions;
-  lists = two.lists ∙ takes.lists ∙ ap (lists_after effect) one.lists;
-  own = λ pages number. ap (λ (es : List Entry). over es pages number) two.own ∙ takes.own pages number ∙ ap (λ (es : List Entry). over changes (over es pages) number) one.own;
-  old = two.old ∙ takes.old ∙ one.old;
-  free = two.free ∙ takes.free;
+takes_between : (effect : Effect) (changes : List Entry) (free : List ℕ) (x m y : View) → IsSameView x m → TakesEffect effect changes free m y → TakesEffect effect changes free x y
+takes_between effect changes free x m y one takes = record {
+  definitions = takes.definitions ∙ ap (definitions_after effect) one.definitions;
+  lists = takes.lists ∙ ap (lists_after effect) one.lists;
+  own = λ pages number. takes.own pages number ∙ ap (λ (es : List Entry). over changes (over es pages) number) one.own;
+  old = takes.old ∙ one.old;
+  free = takes.free;
 }
 
 -- there is no memory for a copy of the command
@@ -292,28 +293,26 @@ pub no_copy : (command : Command) (effect : Effect) (r : Result Unit AllocError)
 no_copy command effect (Ok done) error changes free x m err others items = absurd err
 no_copy command effect (Err e) error changes free x m err others items = record { noted = tt; taken = tt; nothing = tt; unnoted = items; err = same_but_noted x m others }
 
--- there is none for its changes
-pub no_effect : (command : Command) (effect : Effect) (r : Result Unit AllocError) (error : AllocError) (changes : List Entry) (free : List ℕ) (x m y : View) → IsErrAnd r (λ k. k ≡ error) → m ≡ record x { commands = m.commands } → m.commands.items ≡ x.commands.items
-    → IsSameView m y → y.commands ≡ m.commands → KeepsWriting command effect r changes free x y
-no_effect command effect (Ok done) error changes free x m y err others items same commands = absurd err
-no_effect command effect (Err e) error changes free x m y err others items same commands = record {
-  noted = tt;
-  taken = tt;
-  nothing = tt;
-  unnoted = ap (λ (c : Vec Command Global). c.items) commands ∙ items;
-  err = same_then x m y (same_but_noted x m others) same;
-}
+-- there is none for its changes, and it is forgotten
+pub no_effect : (command : Command) (effect : Effect) (error : AllocError) (changes : List Entry) (free : List ℕ) (x m y z : View) (count : ℕ) → m ≡ record x { commands = m.commands } → m.commands.items ≡ x.commands.items ++ command ∷ []
+    → IsSameView m y → y.commands ≡ m.commands → z ≡ record y { commands = z.commands } → z.commands.items ≡ take count y.commands.items → count ≡ length x.commands.items → KeepsWriting command effect (Err error) changes free x z
+no_effect command effect error changes free x m y z count others items same commands only cut is =
+    let xs = x.commands.items in
+    record {
+      noted = tt;
+      taken = tt;
+      nothing = tt;
+      unnoted = cut ∙ (λ i. take (is i) (commands i).items) ∙ ap (take (length xs)) items ∙ take-append-le (length xs) xs (command ∷ []) (omega arith) ∙ take_all (length xs) xs (omega arith);
+      err = same_then x y z (same_then x m y (same_but_noted x m others) same) (same_but_noted y z only);
+    }
 
 -- the command is noted
-pub noted_now : (E : Type 0) (command : Command) (effect : Effect) (changes : List Entry) (free : List ℕ) (x m y z : View) → m ≡ record x { commands = m.commands } → m.commands.items ≡ x.commands.items
-    → (is_nothing effect ≡ false → TakesEffect effect changes free m y) → (is_nothing effect ≡ true → y ≡ m) → y.commands ≡ m.commands → z ≡ record y { commands = z.commands } → z.commands.items ≡ y.commands.items ++ command ∷ []
-    → KeepsWriting {E} command effect (Ok tt) changes free x z
-noted_now E command effect changes free x m y z others items taken nothing commands only noted =
-    let before : y.commands.items ≡ x.commands.items = ap (λ (c : Vec Command Global). c.items) commands ∙ items in
-    record {
-      noted = noted ∙ ap (λ (l : List Command). l ++ command ∷ []) before;
-      taken = λ is. takes_between effect changes free x m y z (same_but_noted x m others) (taken is) (same_but_noted y z only);
-      nothing = λ is. same_then x y z (subst (λ (v : View). IsSameView x v) (sym (nothing is)) (same_but_noted x m others)) (same_but_noted y z only);
-      unnoted = tt;
-      err = tt;
-    }
+pub noted_now : (E : Type 0) (command : Command) (effect : Effect) (changes : List Entry) (free : List ℕ) (x m y : View) → m ≡ record x { commands = m.commands } → m.commands.items ≡ x.commands.items ++ command ∷ []
+    → (is_nothing effect ≡ false → TakesEffect effect changes free m y) → (is_nothing effect ≡ true → y ≡ m) → y.commands ≡ m.commands → KeepsWriting {E = E} command effect (Ok tt) changes free x y
+noted_now E command effect changes free x m y others items taken nothing commands = record {
+  noted = ap (λ (c : Vec Command Global). c.items) commands ∙ items;
+  taken = λ is. takes_between effect changes free x m y (same_but_noted x m others) (taken is);
+  nothing = λ is. subst (λ (v : View). IsSameView x v) (sym (nothing is)) (same_but_noted x m others);
+  unnoted = tt;
+  err = tt;
+}

@@ -30,12 +30,15 @@ fn newest(alloc: Global, engine: &Engine) -> Result<View, AllocError>
     let defs = engine.defs().copy()?;
     let space = engine.space().copy()?;
     let free = engine.store().copy_free(alloc)?;
+    let old = Batch::new(alloc);
+    let own = Batch::new(alloc);
+    let commands = Vec::new(alloc);
     Ok(View {
         defs,
         space,
         free,
-        old: Batch::new(alloc),
-        own: Batch::new(alloc),
-        commands: Vec::new(alloc),
+        old,
+        own,
+        commands,
     })
 }

@@ -1,6 +1,6 @@
 // A command is carried out on a view.
 ghost use Rattle.std.specs.Prelude.{◌≡◌, ◌<◌, ℕ, [], None, Some, true, false, Err, OnOk, OnErr, IfSome, IfOk, length};
-ghost use Rattle.std.specs.Prelude.{vec_len, vec_capacity};
+ghost use Rattle.std.specs.Prelude.{◌∷◌, ◌++◌};
 ghost use Rattle.std.specs.Option.{IsSome};
 ghost use Rattle.ts_command.specs.Boundary.{boundary_of};
 ghost use Rattle.ts_command.specs.Form.{HasForm};
@@ -232,22 +232,27 @@ fn keep_writing(
     requires charge { CanCharge effect charges view.now.defs.definitions view.now.space }
     ensures { KeepsWriting command.now effect result changes.entries free.items view.entry.now view.exit.now }
 {
-    let copy = copy_with_room(view, command)?;
-    take_effect(alloc, view, effect, changes, free, charges)?;
-    view.commands.push_reserved(copy);
-    Ok(())
+    let count = view.commands.as_slice().len();
+    note(view, command)?;
+    match take_effect(alloc, view, effect, changes, free, charges) {
+        Ok(()) => Ok(()),
+        Err(error) => {
+            view.commands.truncate(count);
+            Err(error)
+        }
+    }
 }
 
-// A copy of a command, and room to note it.
-fn copy_with_room(view: &mut View, command: &Command) -> Result<Command, AllocError>
-    ensures copy { IfOk result (λ copy. copy ≡ command.now) }
-    ensures room { OnOk result (vec_len view.exit.now.commands < vec_capacity view.exit.now.commands) }
-    ensures items { view.exit.now.commands.items ≡ view.entry.now.commands.items }
+// Notes a command.
+fn note(view: &mut View, command: &Command) -> Result<(), AllocError>
+    ensures noted { OnOk result (view.exit.now.commands.items ≡ view.entry.now.commands.items ++ command.now ∷ []) }
+    ensures unnoted { OnErr result (view.exit.now.commands.items ≡ view.entry.now.commands.items) }
     ensures others { view.exit.now ≡ record view.entry.now { commands = view.exit.now.commands } }
 {
-    let copy = command.copy()?;
     view.commands.reserve(1)?;
-    Ok(copy)
+    let copy = command.copy()?;
+    view.commands.push_reserved(copy);
+    Ok(())
 }
 
 // Takes the changes, where the effect isn't none.

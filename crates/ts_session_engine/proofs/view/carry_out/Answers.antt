@@ -5,8 +5,8 @@ use Rattle.std.specs.Prelude.{reverse}
 use Rattle.ts_session_engine.proofs.OwnLemmas.{own_by_want, unstepped}
 use Rattle.ts_session_engine.proofs.view.carry_out.Goals as goal
 
-pub charges_of-charges-requires : goal.charges_of-charges-requires
-charges_of-charges-requires g c =
+pub charges_of-requires : goal.charges_of-requires
+charges_of-requires g c =
     let x = c.args.view.now in
     record { can = can_count x.defs.definitions x.space (reverse x.free.items) (newest c.args.engine.now (g.V.Volume.device c.args.vol.now)).count c.requires.view.kept }
 

@@ -20,8 +20,8 @@ keep-requires-clause-charge g c =
     can_charge g.V.Volume.tells c.args.command.now (seen_through x (newest e (g.V.Volume.device c.args.vol.now))) c.args.charges c.requires.view.kept c.requires.charges c.in-Ok.effect c.work.new.out
     (view_contents x.old.entries x.own.entries c.work.new.changes.entries (reverse c.work.new.free.items) (contents_over does.middle.store (g.V.Volume.device c.work.new.vol))) does.carried
 
-pub returns-in_ok-keep-in-Ok : goal.returns-in_ok-keep-in-Ok
-returns-in_ok-keep-in-Ok g c =
+pub returns-in-Ok : goal.returns-in-Ok
+returns-in-Ok g c =
     let does = c.in-Ok.ensures in
     answered_own g.V.Volume.tells c.args.command.now c.args.engine.now does.middle c.work.new.engine (g.V.Volume.device c.args.vol.now) (g.V.Volume.device c.work.new.vol) c.requires.ready c.requires.rests c.args.view.now c.requires.view does.calls does.reads does.is does.drop
     does.carried.no_fault c.in-Ok.effect c.work.new.out c.work.new.changes.entries c.work.new.free.items c.keep.new.view does.carried c.in_ok-keep-in-Ok.ensures
@@ -45,14 +45,15 @@ returns-in_err-say_refusal-in-Err-Refused g c =
     (wanting_own g.V.Volume.tells c.args.command.now e does.middle c.work.new.engine (g.V.Volume.device c.args.vol.now) (g.V.Volume.device c.work.new.vol) c.requires.ready c.requires.rests x c.requires.view does.calls does.reads does.is does.drop
     stopped.2 x (is_itself x) refl error [])
 
-pub returns-in_ok-say_refusal-in-Err-Refused : goal.returns-in_ok-say_refusal-in-Err-Refused
-returns-in_ok-say_refusal-in-Err-Refused g c =
+pub returns-in-Err-Refused : goal.returns-in-Err-Refused
+returns-in-Err-Refused g c =
     let x = c.args.view.now in
     let e = c.args.engine.now in
     let does = c.in-Err-Refused.ensures in
     let refusal = c.in-Err-Refused.refusal in
     let stopped = subst (λ (s : Stop). IsStopped g.V.Volume.tells c.args.command.now s (seen_through x (newest e (g.V.Volume.device c.args.vol.now))) (view_contents x.old.entries x.own.entries c.work.new.changes.entries (reverse c.work.new.free.items) (contents_over does.middle.store (g.V.Volume.device c.work.new.vol)))) c.in-Err-Refused.field-0-is does.carried.stopped in
-    let said : c.say_refusal.new.out ≡ refusal_line refusal = c.in_ok-say_refusal-in-Err-Refused.ensures ∙ ap (λ (l : List ℕ). l ++ refusal_line refusal) c.clear.ensures in
+    let told = rw c.in-Err-Refused.field-0-is at c.in_ok-say_refusal-in-Err-Refused.ensures in
+    let said : c.say_refusal.new.out ≡ refusal_line refusal = told ∙ ap (λ (l : List ℕ). l ++ refusal_line refusal) c.clear.ensures in
     subst (λ (out : List ℕ). StepsOwn g.V.Volume.tells c.args.command.now (Ok tt) out e c.work.new.engine x x (g.V.Volume.device c.args.vol.now) (g.V.Volume.device c.work.new.vol)) (sym said)
     (refused_own g.V.Volume.tells c.args.command.now e does.middle c.work.new.engine (g.V.Volume.device c.args.vol.now) (g.V.Volume.device c.work.new.vol) c.requires.ready c.requires.rests x c.requires.view does.calls does.reads does.is does.drop stopped.2 x (is_itself x) refl refusal stopped.3)
 
@@ -64,8 +65,8 @@ returns-in-Err-Failed g c =
     let rose = subst (λ (s : Stop). IsStopped g.V.Volume.tells c.args.command.now s (seen_through x (newest e (g.V.Volume.device c.args.vol.now))) (view_contents x.old.entries x.own.entries c.work.new.changes.entries (reverse c.work.new.free.items) (contents_over does.middle.store (g.V.Volume.device c.work.new.vol)))) c.in-Err-Failed.field-0-is does.carried.stopped in
     failed_own g.V.Volume.tells c.args.command.now e does.middle c.work.new.engine (g.V.Volume.device c.args.vol.now) (g.V.Volume.device c.work.new.vol) c.requires.ready c.requires.rests x c.requires.view does.calls does.reads does.is does.drop c.spend.new.self x [] rose c.spend.ensures
 
-pub returns-in-Err-Memory : goal.returns-in-Err-Memory
-returns-in-Err-Memory g c =
+pub returns : goal.returns
+returns g c =
     let x = c.args.view.now in
     let e = c.args.engine.now in
     let does = c.in-Err-Memory.ensures in

@@ -7,19 +7,19 @@ use Rattle.ts_session_engine.proofs.OwnLemmas.{carried_given, seen_given}
 use Rattle.ts_session_engine.proofs.ViewLemmas.{seen_lawful}
 use Rattle.ts_session_engine.proofs.view.work.Goals as goal
 
-pub carry_out_in_view-requires-clause-given : goal.carry_out_in_view-requires-clause-given
-carry_out_in_view-requires-clause-given g c =
+pub carry_out_in_view-came-requires-clause-given : goal.carry_out_in_view-came-requires-clause-given
+carry_out_in_view-came-requires-clause-given g c κs _ =
     record {
       seen = seen_given g.V.Volume.tells c.args.engine.now (g.V.Volume.device c.args.vol.now) c.requires.ready c.requires.rests c.args.view.now c.args.changes.now.entries c.args.free.now.items c.requires.fresh.0 c.requires.fresh.1 c.requires.view;
       charged = c.requires.charges;
       empty = c.requires.empty;
     }
 
-pub carry_out_in_view-requires-clause-between : goal.carry_out_in_view-requires-clause-between
-carry_out_in_view-requires-clause-between g c = ap is_between c.requires.between
+pub carry_out_in_view-came-requires-clause-between : goal.carry_out_in_view-came-requires-clause-between
+carry_out_in_view-came-requires-clause-between g c κs _ = ap is_between c.requires.between
 
-pub carry_out_in_view-requires-clause-lawful : goal.carry_out_in_view-requires-clause-lawful
-carry_out_in_view-requires-clause-lawful g c =
+pub carry_out_in_view-came-requires-clause-lawful : goal.carry_out_in_view-came-requires-clause-lawful
+carry_out_in_view-came-requires-clause-lawful g c κs _ =
     let x = c.args.view.now in
     seen_lawful g.V.Volume.tells (view x.defs.definitions x.space (view_contents x.old.entries x.own.entries c.args.changes.now.entries (reverse c.args.free.now.items) (contents_over c.args.engine.now.store (g.V.Volume.device c.args.vol.now))))
     (seen_given g.V.Volume.tells c.args.engine.now (g.V.Volume.device c.args.vol.now) c.requires.ready c.requires.rests x c.args.changes.now.entries c.args.free.now.items c.requires.fresh.0 c.requires.fresh.1 c.requires.view)
