@@ -8,11 +8,11 @@ use Rattle.ts_session_engine.proofs.ViewLemmas.{seen_lawful}
 use Rattle.ts_session_engine.proofs.read.read_own.Goals as goal
 
 pub read_in_view-came-requires-clause-seen : goal.read_in_view-came-requires-clause-seen
-read_in_view-came-requires-clause-seen g c =
+read_in_view-came-requires-clause-seen g c κs _ =
     seen_given g.V.Volume.tells c.args.engine.now (g.V.Volume.device c.args.vol.now) c.requires.ready c.requires.rests c.args.view.now c.new-changes.result.entries c.replace-free.result.items c.new-changes.ensures (ap (λ (n : Vec ℕ Global). n.items) c.replace-free.ensures.value) c.requires.view
 
 pub read_in_view-came-requires-clause-lawful : goal.read_in_view-came-requires-clause-lawful
-read_in_view-came-requires-clause-lawful g c =
+read_in_view-came-requires-clause-lawful g c κs _ =
     let x = c.args.view.now in
     seen_lawful g.V.Volume.tells (view x.defs.definitions x.space (view_contents x.old.entries x.own.entries c.new-changes.result.entries (reverse c.replace-free.result.items) (contents_over c.args.engine.now.store (g.V.Volume.device c.args.vol.now))))
     (seen_given g.V.Volume.tells c.args.engine.now (g.V.Volume.device c.args.vol.now) c.requires.ready c.requires.rests x c.new-changes.result.entries c.replace-free.result.items c.new-changes.ensures (ap (λ (n : Vec ℕ Global). n.items) c.replace-free.ensures.value) c.requires.view)
