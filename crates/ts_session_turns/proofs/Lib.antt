@@ -1,0 +1,5 @@
+mod BeginLemmas
+mod MachineLemmas
+mod ReadyLemmas
+mod StandLemmas
+mod TurnedLemmas
