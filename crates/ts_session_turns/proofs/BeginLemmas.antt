@@ -26,10 +26,11 @@ use Rattle.ts_session_engine.specs.Committed.{AreCommands}
 use Rattle.ts_session_engine.specs.Opened.{IsNewest}
 use Rattle.ts_session_engine.proofs.CallerLemmas.{newest_is, others_set, same_stay}
 use Rattle.ts_session_turns.specs.Hand.{Hand, hand, IsHandReady, IsAtMachine, ShowsSnapshot}
+use Rattle.ts_session_turns.specs.Turned.{Turned}
 use Rattle.ts_session_turns.proofs.MachineLemmas.{begins_again, begins_new, rolls_back, rolls_none}
 use Rattle.ts_session_turns.proofs.ReadyLemmas.{alike_set, each_set}
 use Rattle.ts_session_turns.proofs.StandLemmas.{at_with}
-use Rattle.ts_session_turns.proofs.TurnedLemmas.{sound_then}
+use Rattle.ts_session_turns.proofs.TurnedLemmas.{sound_then, turned_quiet}
 
 -- the transaction of the machine, by that of the log
 some_there : (o : Option Snapshot) → is_some (option_map pending_of o) ≡ true → (s : Snapshot) × (o ≡ Some s)
@@ -124,3 +125,34 @@ module _ (tells : Bool) (e : Kept) (views : List (Option View)) (log : Log) (v :
         (subst (λ (o : Option View). ShowsSnapshot m (newest e v) o None) (sym (get_or-set_same views who None None within)) tt)
         (sound_then who (Ok command) m (with_snapshot who None m) reply step at.sound)),
   )
+
+-- what is open, and what isn't
+pub none_of : {T : Type 0} (o : Option T) → is_some o ≡ false → o ≡ None
+none_of None is = refl
+none_of (Some x) is = absurd (cc)
+
+-- the transaction was begun, and its view was opened
+pub begun_turn : (tells : Bool) (e : Kept) (views next : List (Option View)) (log later : Log) (v : Device) (who : ℕ) (command : Command) (out : List ℕ) → Lawful tells v → who < length views → IsHandReady tells (hand e views log) v → boundary_of command ≡ Some Opens
+    → is_some (pending_at who log) ≡ false → ((x : View) × (next ≡ set views who (Some x)) × IsNewest e x) → later ≡ after_begin who log → out ≡ ok_line → Turned tells who (Ok command) (Ok tt) out (hand e views log) (hand e next later) v v
+begun_turn tells e views next log later v who command out lawful within ready opens closed opened begun said =
+    let x = opened.0 in
+    let h = hand e views log in
+    let k = hand e (set views who (Some x)) (after_begin who log) in
+    subst (λ (z : Hand). Turned tells who (Ok command) (Ok tt) out h z v v) (λ i. hand e (sym opened.1 i) (sym begun i))
+    (turned_quiet tells who (Ok command) h k v lawful out (opened_ready tells e views log v who within ready x opened.2)
+    (λ told m at.
+    let came = opened_at tells e views log v who within ready x opened.2 told m at command opens (closed_there tells h m v at who closed) in
+    (said ∙ came.0, came.1)))
+
+-- it was ended, and its view was closed
+pub ended_turn : (tells : Bool) (e : Kept) (views next : List (Option View)) (log later : Log) (v : Device) (who : ℕ) (command : Command) (out reply : List ℕ) → Lawful tells v → who < length views → IsHandReady tells (hand e views log) v
+    → next ≡ set views who None → later ≡ after_end who log → out ≡ reply → (IsTrue tells → (m : Machine) → IsAtMachine tells (hand e views log) m v → step_of who (Ok command) m ≡ (reply, with_snapshot who None m))
+    → Turned tells who (Ok command) (Ok tt) out (hand e views log) (hand e next later) v v
+ended_turn tells e views next log later v who command out reply lawful within ready closed ended said step =
+    let h = hand e views log in
+    let k = hand e (set views who None) (after_end who log) in
+    subst (λ (z : Hand). Turned tells who (Ok command) (Ok tt) out h z v v) (λ i. hand e (sym closed i) (sym ended i))
+    (turned_quiet tells who (Ok command) h k v lawful out (closed_ready tells e views log v who within ready)
+    (λ told m at.
+    let came = closed_at tells e views log v who within ready told m at command reply (step told m at) in
+    (said ∙ came.0, came.1)))

@@ -1,8 +1,8 @@
 -- A command of a session inside its transaction.
-use Rattle.std.proofs.Common.{◌≡◌, ◌≢◌, ◌⊎◌, inl, inr, ⊎_elim, ℕ, zero, suc, ◌+◌, ◌<◌, ◌≤◌, Bool, true, false, if◌then◌else◌, IsTrue, Option, Some, None, is_some, IsSome, IfSome, Result, Ok, Err, OnOk, OnErr, List, [], ◌∷◌, ◌++◌, length, set, map, get_or, refl, ap, sym, ◌∙◌, subst, length-set, length-append, arith}
-use Rattle.std.specs.Option.{option_map}
+use Rattle.std.proofs.Common.{◌≡◌, ◌≢◌, ◌⊎◌, inl, inr, ℕ, zero, suc, ◌+◌, ◌<◌, ◌≤◌, Bool, true, false, if◌then◌else◌, IsTrue, Option, Some, None, is_some, IfSome, Result, Ok, Err, OnOk, OnErr, List, [], ◌∷◌, ◌++◌, length, set, map, refl, ap, sym, ◌∙◌, subst, length-set, arith}
 use Rattle.std.specs.List.{All}
-use Rattle.std.proofs.lemmas.List.{get_or-set_same, get_or-set_other}
+use Rattle.std.proofs.lemmas.Bool.{cases_Bool, cases_eq}
+use Rattle.std.proofs.lemmas.List.{get_or-set_same, get_or-set_other, length-append}
 use Rattle.ts_base.specs.declared.refusal.Refusal.{Refusal}
 use Rattle.ts_disk.specs.Device.{Device, LeavesOnly}
 use Rattle.ts_page.specs.Pages.{Contents}
@@ -11,14 +11,33 @@ use Rattle.ts_command.specs.Boundary.{boundary_of}
 use Rattle.ts_command.specs.Form.{HasForm}
 use Rattle.ts_command.specs.Writing.{is_writing}
 use Rattle.ts_model.specs.Catalogue.{Catalogue}
-use Rattle.ts_answer.specs.Answer.{Answered, Tried, answer, outcome}
+use Rattle.ts_answer.specs.Answer.{Answered, Tried, answer, outcome, settled}
 use Rattle.ts_answer.specs.Outcomes.{ends_with_ok, is_answered}
 use Rattle.ts_answer.specs.Reply.{refusal_line}
 use Rattle.ts_answer.specs.State.{State, resting, run_outcome, run_answer}
 use Rattle.ts_answer.proofs.CallerLemmas.{ok_lines_are_answers, outside_came, outside_refused, plain_answer}
+use Rattle.ts_multi.specs.Touched.{objects}
+use Rattle.ts_multi.specs.Log.{Log, Pending, pending_at, after_note, with_noted}
 use Rattle.ts_sessions.specs.Machine.{Snapshot, Machine, latest, seen, snapshot_at, begun_at}
-use Rattle.ts_sessions.specs.Steps.{with_command}
-use Rattle.ts_sessions.proofs.CallerLemmas.{accepted_answer, carried_more}
+use Rattle.ts_sessions.specs.Steps.{Stepped, with_command, with_snapshot, step_of}
+use Rattle.ts_sessions.specs.LogOf.{log_of}
+use Rattle.ts_sessions.proofs.CallerLemmas.{accepted_answer, carried_more, follows}
+use Rattle.ts_views.specs.declared.view.View.{View}
+use Rattle.ts_views.specs.View.{view_of, OfEachOpen, Turns}
+use Rattle.ts_view_catalogues.specs.Catalogues.{IsViewReady, ViewMeans}
+use Rattle.ts_volume.specs.Volume.{MeansCatalogue}
+use Rattle.ts_engine.specs.declared.fault.StepFault.{StepFault}
+use Rattle.ts_engine.specs.declared.fault.StepFault.TheVariants.{Disk, Memory, Closed}
+use Rattle.ts_engine.specs.Engine.{Kept, IsReady, IsAt}
+use Rattle.ts_session_engine.specs.Beside.{newest, Stays, OthersStay}
+use Rattle.ts_session_engine.specs.Committed.{AreCommands}
+use Rattle.ts_session_engine.specs.Stepped.{AnsweredIn, StepsView, ViewTurns, noted_in}
+use Rattle.ts_session_turns.specs.Hand.{Hand, hand, IsHandReady, IsAtMachine, ShowsSnapshot}
+use Rattle.ts_session_turns.specs.Turned.{BeforeOrBehind, Turned}
+use Rattle.ts_session_turns.proofs.MachineLemmas.{inside_came, inside_refused}
+use Rattle.ts_session_turns.proofs.BeginLemmas.{within_there}
+use Rattle.ts_session_turns.proofs.StandLemmas.{at_with}
+use Rattle.ts_session_turns.proofs.TurnedLemmas.{sound_then}
 
 -- a reply of a catalogue ends with an `ok` line exactly where the command isn't refused
 ends_as : (cat : Catalogue) (command : Command) → boundary_of command ≡ None → ends_with_ok (answer cat (Ok command)).0 ≡ is_answered (resting cat) command
@@ -34,6 +53,11 @@ ends_no cat command out refusal plain said refused =
     ap ends_with_ok said ∙ ends_as cat command plain
     ∙ ap (λ (t : Tried (List ℕ × State)). elim t [ Ok answered ↦ true | Err refusal ↦ false ]) (outside_refused command cat refusal refused)
 
+-- a refused command leaves the catalogue
+refused_answer : (cat : Catalogue) (command : Command) (refusal : Refusal) → outcome (Ok command) cat ≡ Err refusal → answer cat (Ok command) ≡ (refusal_line refusal, cat)
+unfolding answer
+refused_answer cat command refusal is = ap (settled cat) is
+
 -- a command more keeps them such as a transaction may have
 all_more : (P : Command → Type 0) (list : List Command) (command : Command) → All P list → P command → All P (list ++ command ∷ [])
 all_more P [] command all here zero d within = here
@@ -41,6 +65,81 @@ all_more P [] command all here (suc k) d within = absurd (omega (arith, within))
 all_more P (c ∷ list) command all here zero d within = all zero d (omega arith)
 all_more P (c ∷ list) command all here (suc k) d within = all_more P list command (λ j e inside. all (suc j) e (omega (arith, inside))) here k d (omega (arith, within))
 
+commands_more : (list : List Command) (command : Command) → AreCommands list → length list < 32 → is_writing command ≡ true → boundary_of command ≡ None → HasForm command → AreCommands (list ++ command ∷ [])
+commands_more list command are few writes plain form = record {
+  few = omega (arith, few, length-append list (command ∷ []));
+  writing = all_more (λ c. is_writing c ≡ true) list command are.writing writes;
+  between = all_more (λ c. boundary_of c ≡ None) list command are.between plain;
+  form = all_more HasForm list command are.form form;
+}
+
 -- the machine with a command more
 pub one_more : (m : Machine) (s : Snapshot) (command : Command) → seen m (with_command command s) ≡ (answer (seen m s) (Ok command)).1
 one_more m s command = carried_more (begun_at m s) s.commands command
+
+-- what holds of an open view, and of what it turns into
+turns_to : (R : View → View → Type 0) (P Q : View → Type 0) → ((v w : View) → R v w → P v → Q w) → (o next : Option View) → Turns R o next → IfSome o P → IfSome next Q
+turns_to R P Q more None None turned holds = tt
+turns_to R P Q more None (Some w) turned holds = absurd turned
+turns_to R P Q more (Some v) None turned holds = absurd turned
+turns_to R P Q more (Some v) (Some w) turned holds = more v w turned holds
+
+-- a view is open where it was
+open_turned : (R : View → View → Type 0) (o next : Option View) → Turns R o next → is_some next ≡ is_some o
+open_turned R None None turned = refl
+open_turned R None (Some w) turned = absurd turned
+open_turned R (Some v) None turned = absurd turned
+open_turned R (Some v) (Some w) turned = refl
+
+both_hold : (P Q : View → Type 0) (o : Option View) → IfSome o P → IfSome o Q → IfSome o (λ v. P v × Q v)
+both_hold P Q None p q = tt
+both_hold P Q (Some v) p q = (p, q)
+
+under : (A : Type 0) (P : View → Type 0) (o : Option View) → (A → IfSome o P) → IfSome o (λ v. A → P v)
+under A P None holds = tt
+under A P (Some v) holds = holds
+
+-- a step on the view of a session, that of the others stays
+module _ (tells : Bool) (who : ℕ) (command : Command) (r : Result Unit StepFault) (out : List ℕ) (e f : Kept) (views next : List (Option View)) (log : Log) (v w : Device) (ready : IsHandReady tells (hand e views log) v)
+    (plain : boundary_of command ≡ None) (form : HasForm command) (room : is_writing command ≡ true → IfSome (view_of who views) (λ x. length x.commands.items < 32))
+    (others : OthersStay tells who (newest e v) (newest f w) views next) (own : Turns (ViewTurns tells command r out (newest e v) (newest f w)) (view_of who views) (view_of who next)) where
+  each : (P Q : View → Type 0) → ((x y : View) → Stays tells (newest e v) (newest f w) x y → P x → Q y) → OfEachOpen P views → IfSome (view_of who next) Q → OfEachOpen Q next
+  each P Q stays all here other = elim (cases_eq other who) [
+    | inl same ↦ subst (λ (n : ℕ). IfSome (view_of n next) Q) (sym same) here
+    | inr off ↦ turns_to (Stays tells (newest e v) (newest f w)) P Q stays (view_of other views) (view_of other next) (others.each other off) (all other)
+  ]
+
+  own_ready : IfSome (view_of who next) (λ y. IsViewReady tells y (newest f w))
+  own_ready = turns_to (ViewTurns tells command r out (newest e v) (newest f w)) (λ x. IsViewReady tells x (newest e v)) (λ y. IsViewReady tells y (newest f w)) (λ x y turned ready. turned.ready) (view_of who views) (view_of who next) own (ready.beside.views who)
+
+  abbrev HasRoomIn : View → Type 0
+  HasRoomIn x = AreCommands x.commands.items × (is_writing command ≡ true → length x.commands.items < 32)
+
+  own_commands : IfSome (view_of who next) (λ y. AreCommands y.commands.items)
+  own_commands =
+      turns_to (ViewTurns tells command r out (newest e v) (newest f w)) HasRoomIn (λ y. AreCommands y.commands.items)
+      (λ x y turned are. elim turned.one_more [
+        | inl same ↦ subst AreCommands (sym same) are.0
+        | inr more ↦ subst AreCommands (sym more.0) (commands_more x.commands.items command are.0 (are.1 more.1) more.1 plain form)
+      ]) (view_of who views) (view_of who next) own
+      (both_hold (λ x. AreCommands x.commands.items) (λ x. is_writing command ≡ true → length x.commands.items < 32) (view_of who views) (ready.commands who)
+      (under (is_writing command ≡ true) (λ x. length x.commands.items < 32) (view_of who views) room))
+
+  open_same : (k : ℕ) → is_some (view_of k next) ≡ is_some (view_of k views)
+  open_same k = elim (cases_eq k who) [
+    | inl same ↦
+        subst (λ (n : ℕ). is_some (view_of n next) ≡ is_some (view_of n views)) (sym same) (open_turned (ViewTurns tells command r out (newest e v) (newest f w)) (view_of who views) (view_of who next) own)
+    | inr off ↦ open_turned (Stays tells (newest e v) (newest f w)) (view_of k views) (view_of k next) (others.each k off)
+  ]
+
+  pub stepped_ready : (later : Log) → IsReady tells f w → f.saved ≡ None → length later.sessions ≡ length log.sessions → ((k : ℕ) → is_some (pending_at k later) ≡ is_some (pending_at k log)) → IsHandReady tells (hand f next later) w
+  stepped_ready later engine rests count pending = record {
+    beside = record {
+      ready = engine;
+      rests = rests;
+      views = each (λ x. IsViewReady tells x (newest e v)) (λ y. IsViewReady tells y (newest f w)) (λ x y stays. stays.catalogue.ready) ready.beside.views own_ready;
+    };
+    count = count ∙ ready.count ∙ sym others.count;
+    alike = λ k. pending k ∙ ready.alike k ∙ sym (open_same k);
+    commands = each (λ x. AreCommands x.commands.items) (λ y. AreCommands y.commands.items) (λ x y stays are. subst AreCommands (sym (ap (λ l. l.items) stays.same.commands)) are) ready.commands own_commands;
+  }

@@ -1,4 +1,5 @@
 mod BeginLemmas
+mod InsideLemmas
 mod MachineLemmas
 mod ReadyLemmas
 mod StandLemmas

@@ -4,10 +4,13 @@ use Rattle.std.proofs.Common.{◌≡◌, ◌⊎◌, inl, ℕ, ◌+◌, ◌-◌, 
 use Rattle.ts_disk.specs.Device.{Device, Lawful, LeavesOnly}
 use Rattle.ts_disk.proofs.Moments.{started}
 use Rattle.ts_store.proofs.CallerLemmas.{reads_none}
+use Rattle.ts_base.specs.declared.refusal.Refusal.{Refusal}
+use Rattle.ts_command.specs.declared.command.Command.{Command}
+use Rattle.ts_answer.specs.Reply.{refusal_line}
 use Rattle.ts_command.specs.Script.{Request}
 use Rattle.ts_volume.specs.Volume.{MeansCatalogue}
 use Rattle.ts_sessions.specs.Machine.{Machine, latest}
-use Rattle.ts_sessions.specs.Steps.{Turn, machine_step, step_of}
+use Rattle.ts_sessions.specs.Steps.{Stepped, Turn, machine_step, step_of}
 use Rattle.ts_sessions.specs.Laws.{IsSound}
 use Rattle.ts_sessions.proofs.CallerLemmas.{sound_step}
 use Rattle.ts_engine.specs.declared.fault.StepFault.{StepFault}
@@ -61,3 +64,16 @@ sound_then who request m next reply is sound =
     let turn : Turn = (who + 1, request) in
     let there : who + 1 - 1 ≡ who = omega arith in
     subst IsSound (ap (λ (n : ℕ). (step_of n request m).1) there ∙ (λ i. (is i).1)) (sound_step m turn sound)
+
+-- a command is refused, and nothing is done
+pub turned_refused : (tells : Bool) (who : ℕ) (command : Command) (h : Hand) (v : Device) → Lawful tells v → (refusal : Refusal) (out : List ℕ) → out ≡ refusal_line refusal → IsHandReady tells h v
+    → (IsTrue tells → (m : Machine) → IsAtMachine tells h m v → step_of who (Ok command) m ≡ (refusal_line refusal, m)) → Turned tells who (Ok command) (Ok tt) out h h v v
+turned_refused tells who command h v lawful refusal out said ready step =
+    turned_quiet tells who (Ok command) h h v lawful out ready
+    (λ told m at.
+    let is = step told m at in
+    (said ∙ sym (ap (λ (s : Stepped). s.0) is), subst (λ (n : Machine). IsAtMachine tells h n v) (sym (ap (λ (s : Stepped). s.1) is)) at))
+
+-- there is no memory for its reply, or for what it needs first
+pub turned_unsaid : (tells : Bool) (who : ℕ) (request : Request) (r : Result Unit StepFault) (error : AllocError) (out : List ℕ) (h : Hand) (v : Device) → Lawful tells v → IsErrAnd r (λ z. z ≡ Memory error) → IsHandReady tells h v → Turned tells who request r out h h v v
+turned_unsaid tells who request r error out h v lawful is ready = turned_by tells who request r (Memory error) out h h v v is (turned_wanting tells who request h h v lawful error out ready (λ told m at. at))
