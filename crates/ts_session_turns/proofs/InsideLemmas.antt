@@ -15,6 +15,7 @@ use Rattle.ts_answer.specs.Answer.{Answered, Tried, answer, outcome, settled}
 use Rattle.ts_answer.specs.Outcomes.{ends_with_ok, is_answered}
 use Rattle.ts_answer.specs.Reply.{refusal_line}
 use Rattle.ts_answer.specs.State.{State, resting, run_outcome, run_answer}
+use Rattle.ts_answer_laws.proofs.ReadingLemmas.{leaves}
 use Rattle.ts_answer.proofs.CallerLemmas.{ok_lines_are_answers, outside_came, outside_refused, plain_answer}
 use Rattle.ts_multi.specs.Touched.{objects}
 use Rattle.ts_multi.specs.Log.{Log, Pending, pending_at, after_note, with_noted}
@@ -29,6 +30,7 @@ use Rattle.ts_volume.specs.Volume.{MeansCatalogue}
 use Rattle.ts_engine.specs.declared.fault.StepFault.{StepFault}
 use Rattle.ts_engine.specs.declared.fault.StepFault.TheVariants.{Disk, Memory, Closed}
 use Rattle.ts_engine.specs.Engine.{Kept, IsReady, IsAt}
+use Rattle.ts_engine.proofs.CallerLemmas.{read_moments}
 use Rattle.ts_session_engine.specs.Beside.{newest, Stays, OthersStay}
 use Rattle.ts_session_engine.specs.Committed.{AreCommands}
 use Rattle.ts_session_engine.specs.Stepped.{AnsweredIn, StepsView, ViewTurns, noted_in}
@@ -36,7 +38,7 @@ use Rattle.ts_session_turns.specs.Hand.{Hand, hand, IsHandReady, IsAtMachine, Sh
 use Rattle.ts_session_turns.specs.Turned.{BeforeOrBehind, Turned}
 use Rattle.ts_session_turns.proofs.MachineLemmas.{inside_came, inside_refused}
 use Rattle.ts_session_turns.proofs.BeginLemmas.{within_there}
-use Rattle.ts_session_turns.proofs.StandLemmas.{at_with}
+use Rattle.ts_session_turns.proofs.StandLemmas.{at_own, at_with}
 use Rattle.ts_session_turns.proofs.TurnedLemmas.{sound_then}
 
 -- a reply of a catalogue ends with an `ok` line exactly where the command isn't refused
@@ -143,3 +145,78 @@ module _ (tells : Bool) (who : ℕ) (command : Command) (r : Result Unit StepFau
     alike = λ k. pending k ∙ ready.alike k ∙ sym (open_same k);
     commands = each (λ x. AreCommands x.commands.items) (λ y. AreCommands y.commands.items) (λ x y stays are. subst AreCommands (sym (ap (λ l. l.items) stays.same.commands)) are) ready.commands own_commands;
   }
+
+-- The step was answered: what the view of the session shows then, by what its transaction sees.
+module _ (tells : Bool) (who : ℕ) (command : Command) (out : List ℕ) (e f : Kept) (views next : List (Option View)) (log later : Log) (v w : Device) (plain : boundary_of command ≡ None) (others : OthersStay tells who (newest e v) (newest f w) views next)
+    (own : Turns (ViewTurns tells command (Ok tt) out (newest e v) (newest f w)) (view_of who views) (view_of who next)) (told : IsTrue tells) (m : Machine) (at : IsAtMachine tells (hand e views log) m v) (engine : IsAt tells f (resting (latest m)) w)
+    (s : Snapshot) (there : snapshot_at who m ≡ Some s) (few : is_writing command ≡ true → length s.commands < 32) where
+  abbrev cat : Catalogue
+  cat = seen m s
+
+  -- the view, and what it has of the command
+  record Shown (o : Option View) : Type 0 where
+    view : View
+    is : o ≡ Some view
+    means : ViewMeans view (newest f w) (answer cat (Ok command)).1
+    said : out ≡ (answer cat (Ok command)).0
+    noted : view.commands.items ≡ noted_in command (outcome (Ok command) cat) s.commands
+
+  shown_by : (o q : Option View) (p : Option Snapshot) → p ≡ Some s → ShowsSnapshot m (newest e v) o p → Turns (ViewTurns tells command (Ok tt) out (newest e v) (newest f w)) o q → Shown q
+  shown_by o q None is shows turned = absurd (cc)
+  shown_by None q (Some t) is shows turned = absurd shows
+  shown_by (Some x) None (Some t) is shows turned = absurd turned
+  shown_by (Some x) (Some y) (Some t) is shows turned =
+      let same : t ≡ s = cc in
+      let here = subst (λ (u : Snapshot). (x.commands.items ≡ u.commands) × ViewMeans x (newest e v) (seen m u)) same shows in
+      let answered = turned.answered told cat here.1 in
+      record { view = y; is = refl; means = answered.means; said = answered.said; noted = answered.noted ∙ ap (noted_in command (outcome (Ok command) cat)) here.0 }
+
+  shown : Shown (view_of who next)
+  shown = shown_by (view_of who views) (view_of who next) (snapshot_at who m) there (at.views who) own
+
+  abbrev k : Hand
+  k = hand f next later
+
+  -- the machine stays
+  stays_at : (reply : List ℕ) → out ≡ reply → step_of who (Ok command) m ≡ (reply, m) → ((room : Bool) × (later ≡ log_of room m)) → noted_in command (outcome (Ok command) cat) s.commands ≡ s.commands → (answer cat (Ok command)).1 ≡ cat
+      → (out ≡ (step_of who (Ok command) m).0) × IsAtMachine tells k (step_of who (Ok command) m).1 w
+  unfolding shown
+  stays_at reply said step log noted same = (
+    said ∙ sym (ap (λ (x : Stepped). x.0) step),
+    subst (λ (n : Machine). IsAtMachine tells k n w) (sym (ap (λ (x : Stepped). x.1) step))
+        (at_own tells told (hand e views log) k m v w at who engine log others
+        (subst (λ (p : Option Snapshot). ShowsSnapshot m (newest f w) (view_of who next) p) (sym there)
+        (subst (λ (o : Option View). ShowsSnapshot m (newest f w) o (Some s)) (sym shown.is) (shown.noted ∙ noted, subst (ViewMeans shown.view (newest f w)) same shown.means)))),
+  )
+
+  pub inside_refused_at : (refusal : Refusal) → outcome (Ok command) cat ≡ Err refusal → ((room : Bool) × (later ≡ log_of room m)) → (out ≡ (step_of who (Ok command) m).0) × IsAtMachine tells k (step_of who (Ok command) m).1 w
+  unfolding shown
+  inside_refused_at refusal is log =
+      let refused = refused_answer cat command refusal is in
+      stays_at (refusal_line refusal) (shown.said ∙ ap (λ (a : Answered). a.0) refused) (inside_refused who command m plain s there few refusal is) log (ap (λ (t : Tried Answered). noted_in command t s.commands) is) (ap (λ (a : Answered). a.1) refused)
+
+  module _ (a : Answered) (is : outcome (Ok command) cat ≡ Ok a) where
+    answered : answer cat (Ok command) ≡ a
+    answered = accepted_answer cat command a is
+
+    step : step_of who (Ok command) m ≡ (a.0, if is_writing command then with_snapshot who (Some (with_command command s)) m else m)
+    step = inside_came who command m plain s there few a is
+
+    pub inside_read_at : is_writing command ≡ false → ((room : Bool) × (later ≡ log_of room m)) → (out ≡ (step_of who (Ok command) m).0) × IsAtMachine tells k (step_of who (Ok command) m).1 w
+    unfolding shown
+    inside_read_at reads log =
+        stays_at a.0 (shown.said ∙ ap (λ (b : Answered). b.0) answered) (step ∙ (λ i. (a.0, if (reads i) then with_snapshot who (Some (with_command command s)) m else m))) log
+        (ap (λ (t : Tried Answered). noted_in command t s.commands) is ∙ (λ i. if (reads i) then s.commands ++ command ∷ [] else s.commands)) (leaves cat command reads)
+
+    pub inside_noted_at : is_writing command ≡ true → later ≡ after_note who (objects command) log → who < length m.sessions → (out ≡ (step_of who (Ok command) m).0) × IsAtMachine tells k (step_of who (Ok command) m).1 w
+    unfolding shown
+    inside_noted_at writes noted within =
+        let now = step ∙ (λ i. (a.0, if (writes i) then with_snapshot who (Some (with_command command s)) m else m)) in
+        let commands : shown.view.commands.items ≡ s.commands ++ command ∷ [] = shown.noted ∙ ap (λ (t : Tried Answered). noted_in command t s.commands) is ∙ (λ i. if (writes i) then s.commands ++ command ∷ [] else s.commands) in (
+          shown.said ∙ ap (λ (b : Answered). b.0) answered ∙ sym (ap (λ (x : Stepped). x.0) now),
+          subst (λ (n : Machine). IsAtMachine tells k n w) (sym (ap (λ (x : Stepped). x.1) now))
+              (at_with tells told (hand e views log) k m v w at who (Some (with_command command s)) within engine
+              (false, noted ∙ ap (after_note who (objects command)) at.log.1 ∙ sym ((follows who m at.log.0).notes s command there)) others
+              (subst (λ (o : Option View). ShowsSnapshot m (newest f w) o (Some (with_command command s))) (sym shown.is) (commands, subst (ViewMeans shown.view (newest f w)) (sym (one_more m s command)) shown.means))
+              (sound_then who (Ok command) m (with_snapshot who (Some (with_command command s)) m) a.0 now at.sound)),
+        )

@@ -58,6 +58,20 @@ module _ (tells : Bool) (told : IsTrue tells) (h k : Hand) (m : Machine) (v w : 
     sound = at.sound;
   }
 
+  -- so does each view but that of one session, which shows what its transaction sees
+  pub at_own : (who : ℕ) → IsAt tells k.engine (resting (latest m)) w → ((room : Bool) × (k.log ≡ log_of room m)) → OthersStay tells who (newest h.engine v) (newest k.engine w) h.views k.views
+      → ShowsSnapshot m (newest k.engine w) (view_of who k.views) (snapshot_at who m) → IsAtMachine tells k m w
+  at_own who engine log others own = record {
+    at = engine;
+    log = log;
+    views = λ other. elim (cases_eq other who) [
+      | inl same ↦ subst (λ (n : ℕ). ShowsSnapshot m (newest k.engine w) (view_of n k.views) (snapshot_at n m)) (sym same) own
+      | inr off ↦
+          shows_turned tells told m (newest h.engine v) (newest k.engine w) (view_of other h.views) (view_of other k.views) (snapshot_at other m) (others.each other off) (at.views other)
+    ];
+    sound = at.sound;
+  }
+
   -- the transaction of one session is another one
   pub at_with : (who : ℕ) (p : Option Snapshot) → who < length m.sessions → IsAt tells k.engine (resting (latest m)) w → ((room : Bool) × (k.log ≡ log_of room (with_snapshot who p m)))
       → OthersStay tells who (newest h.engine v) (newest k.engine w) h.views k.views → ShowsSnapshot m (newest k.engine w) (view_of who k.views) p → IsSound (with_snapshot who p m) → IsAtMachine tells k (with_snapshot who p m) w
