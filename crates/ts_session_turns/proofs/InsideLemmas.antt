@@ -1,8 +1,9 @@
 -- A command of a session inside its transaction.
-use Rattle.std.proofs.Common.{◌≡◌, ◌≢◌, ◌⊎◌, inl, inr, ℕ, zero, suc, ◌+◌, ◌<◌, ◌≤◌, Bool, true, false, if◌then◌else◌, IsTrue, Option, Some, None, is_some, IfSome, Result, Ok, Err, OnOk, OnErr, List, [], ◌∷◌, ◌++◌, length, set, map, refl, ap, sym, ◌∙◌, subst, length-set, arith}
+use Rattle.std.specs.declared.alloc.AllocError.{AllocError}
+use Rattle.std.proofs.Common.{◌≡◌, ◌≢◌, ◌⊎◌, inl, inr, ℕ, zero, suc, ◌+◌, ◌<◌, ◌≤◌, Bool, true, false, if◌then◌else◌, IsTrue, Option, Some, None, is_some, IfSome, Result, Ok, Err, OnOk, OnErr, List, [], ◌∷◌, ◌++◌, length, set, map, slice_index_or, refl, ap, sym, ◌∙◌, subst, length-set, arith}
 use Rattle.std.specs.List.{All}
-use Rattle.std.proofs.lemmas.Bool.{cases_Bool, cases_eq}
-use Rattle.std.proofs.lemmas.List.{get_or-set_same, get_or-set_other, length-append}
+use Rattle.std.proofs.lemmas.Bool.{cases_eq, cases_lt}
+use Rattle.std.proofs.lemmas.List.{get_or-set_same, get_or-set_other, set_past, length-append}
 use Rattle.ts_base.specs.declared.refusal.Refusal.{Refusal}
 use Rattle.ts_disk.specs.Device.{Device, LeavesOnly}
 use Rattle.ts_page.specs.Pages.{Contents}
@@ -18,6 +19,7 @@ use Rattle.ts_answer.specs.State.{State, resting, run_outcome, run_answer}
 use Rattle.ts_answer_laws.proofs.ReadingLemmas.{leaves}
 use Rattle.ts_answer.proofs.CallerLemmas.{ok_lines_are_answers, outside_came, outside_refused, plain_answer}
 use Rattle.ts_multi.specs.Touched.{objects}
+use Rattle.ts_multi.specs.declared.object.Touched.{Touched}
 use Rattle.ts_multi.specs.Log.{Log, Pending, pending_at, after_note, with_noted}
 use Rattle.ts_sessions.specs.Machine.{Snapshot, Machine, latest, seen, snapshot_at, begun_at}
 use Rattle.ts_sessions.specs.Steps.{Stepped, with_command, with_snapshot, step_of}
@@ -32,12 +34,12 @@ use Rattle.ts_engine.specs.declared.fault.StepFault.TheVariants.{Disk, Memory, C
 use Rattle.ts_engine.specs.Engine.{Kept, IsReady, IsAt}
 use Rattle.ts_engine.proofs.CallerLemmas.{read_moments}
 use Rattle.ts_session_engine.specs.Beside.{newest, Stays, OthersStay}
-use Rattle.ts_session_engine.specs.Committed.{AreCommands}
+use Rattle.ts_session_engine.specs.Committed.{AreCommands, commands_of, listed}
 use Rattle.ts_session_engine.specs.Stepped.{AnsweredIn, StepsView, ViewTurns, noted_in}
 use Rattle.ts_session_turns.specs.Hand.{Hand, hand, IsHandReady, IsAtMachine, ShowsSnapshot}
 use Rattle.ts_session_turns.specs.Turned.{BeforeOrBehind, Turned}
 use Rattle.ts_session_turns.proofs.MachineLemmas.{inside_came, inside_refused}
-use Rattle.ts_session_turns.proofs.BeginLemmas.{within_there}
+use Rattle.ts_session_turns.proofs.BeginLemmas.{open_there, within_there}
 use Rattle.ts_session_turns.proofs.StandLemmas.{at_own, at_with}
 use Rattle.ts_session_turns.proofs.TurnedLemmas.{sound_then}
 
@@ -100,6 +102,27 @@ both_hold P Q (Some v) p q = (p, q)
 under : (A : Type 0) (P : View → Type 0) (o : Option View) → (A → IfSome o P) → IfSome o (λ v. A → P v)
 under A P None holds = tt
 under A P (Some v) holds = holds
+
+-- a place that is set, and every other
+set_cases : (xs : List (Option Pending)) (who k : ℕ) (p : Option Pending) → (slice_index_or (set xs who p) k None ≡ slice_index_or xs k None) ⊎ ((k ≡ who) × (slice_index_or (set xs who p) k None ≡ p))
+set_cases xs who k p = elim (cases_eq k who) [
+  | inl same ↦ elim (cases_lt who (length xs)) [
+    | inr past ↦ inl (ap (λ (l : List (Option Pending)). slice_index_or l k None) (set_past xs who p past))
+    | inl within ↦ inr (same, ap (λ (n : ℕ). slice_index_or (set xs who p) n None) same ∙ get_or-set_same xs who p None within)
+  ]
+  | inr off ↦ inl (get_or-set_other xs who k p None off)
+]
+
+-- a transaction that has a command noted is open still
+noted_some : (touched : Touched) (p : Option Pending) → is_some p ≡ true → is_some (with_noted touched p) ≡ is_some p
+noted_some touched None open = absurd (cc)
+noted_some touched (Some p) open = refl
+
+noted_open : (touched : Touched) (who n : ℕ) (log : Log) → is_some (pending_at who log) ≡ true → is_some (pending_at n (after_note who touched log)) ≡ is_some (pending_at n log)
+noted_open touched who n log open = elim (set_cases log.sessions who n (with_noted touched (pending_at who log))) [
+  | inl same ↦ ap is_some same
+  | inr here ↦ ap is_some here.1 ∙ noted_some touched (pending_at who log) open ∙ ap (λ (j : ℕ). is_some (pending_at j log)) (sym here.0)
+]
 
 -- a step on the view of a session, that of the others stays
 module _ (tells : Bool) (who : ℕ) (command : Command) (r : Result Unit StepFault) (out : List ℕ) (e f : Kept) (views next : List (Option View)) (log : Log) (v w : Device) (ready : IsHandReady tells (hand e views log) v)
@@ -220,3 +243,124 @@ module _ (tells : Bool) (who : ℕ) (command : Command) (out : List ℕ) (e f : 
               (subst (λ (o : Option View). ShowsSnapshot m (newest f w) o (Some (with_command command s))) (sym shown.is) (commands, subst (ViewMeans shown.view (newest f w)) (sym (one_more m s command)) shown.means))
               (sound_then who (Ok command) m (with_snapshot who (Some (with_command command s)) m) a.0 now at.sound)),
         )
+
+  -- by what the command comes to
+  pub read_at : (t : Tried Answered) → outcome (Ok command) cat ≡ t → is_writing command ≡ false → ((room : Bool) × (later ≡ log_of room m)) → (out ≡ (step_of who (Ok command) m).0) × IsAtMachine tells k (step_of who (Ok command) m).1 w
+  read_at (Ok a) is reads log = inside_read_at a is reads log
+  read_at (Err refusal) is reads log = inside_refused_at refusal is log
+
+  pub noted_at : (t : Tried Answered) → outcome (Ok command) cat ≡ t → is_writing command ≡ true → ends_with_ok out ≡ true → later ≡ after_note who (objects command) log → who < length m.sessions
+      → (out ≡ (step_of who (Ok command) m).0) × IsAtMachine tells k (step_of who (Ok command) m).1 w
+  noted_at (Ok a) is writes ends noted within = inside_noted_at a is writes noted within
+  noted_at (Err refusal) is writes ends noted within = let no = ends_no cat command out refusal plain shown.said is in absurd (cc)
+
+  pub unnoted_at : (t : Tried Answered) → outcome (Ok command) cat ≡ t → ends_with_ok out ≡ false → ((room : Bool) × (later ≡ log_of room m)) → (out ≡ (step_of who (Ok command) m).0) × IsAtMachine tells k (step_of who (Ok command) m).1 w
+  unnoted_at (Ok a) is ends log = let yes = ends_yes cat command out a plain shown.said is in absurd (cc)
+  unnoted_at (Err refusal) is ends log = inside_refused_at refusal is log
+
+-- a transaction that writes once more has few commands, as its view has
+few_of : (m : Machine) (pages : Contents) (s : Snapshot) (o : Option View) (p : Option Snapshot) → p ≡ Some s → ShowsSnapshot m pages o p → IfSome o (λ x. length x.commands.items < 32) → length s.commands < 32
+few_of m pages s o None is shows room = absurd (cc)
+few_of m pages s None (Some t) is shows room = absurd shows
+few_of m pages s (Some x) (Some t) is shows room =
+    let same : t ≡ s = cc in
+    subst (λ (u : Snapshot). length u.commands < 32) same (subst (λ (l : List Command). length l < 32) shows.0 room)
+
+-- what the view of a session shows where the command wasn't carried out for want of memory
+wanting_shows : (tells : Bool) (command : Command) (error : AllocError) (out : List ℕ) (m : Machine) (before after : Contents) → IsTrue tells → (o q : Option View) (p : Option Snapshot) → Turns (ViewTurns tells command (Err (Memory error)) out before after) o q → ShowsSnapshot m before o p → ShowsSnapshot m after q p
+wanting_shows tells command error out m before after told None None None turned shows = tt
+wanting_shows tells command error out m before after told None None (Some s) turned shows = absurd shows
+wanting_shows tells command error out m before after told None (Some y) p turned shows = absurd turned
+wanting_shows tells command error out m before after told (Some x) None p turned shows = absurd turned
+wanting_shows tells command error out m before after told (Some x) (Some y) None turned shows = absurd shows
+wanting_shows tells command error out m before after told (Some x) (Some y) (Some s) turned shows = (turned.unnoted ∙ shows.0, turned.means told (seen m s) shows.1)
+
+module _ (tells : Bool) (who : ℕ) (command : Command) (out : List ℕ) (e f : Kept) (views next : List (Option View)) (log : Log) (v w : Device) (ready : IsHandReady tells (hand e views log) v) (plain : boundary_of command ≡ None) (form : HasForm command)
+    (room : is_writing command ≡ true → IfSome (view_of who views) (λ x. length x.commands.items < 32)) where
+  abbrev h : Hand
+  h = hand e views log
+
+  abbrev after_turn : Machine → Machine
+  after_turn m = (step_of who (Ok command) m).1
+
+  -- the volume was only read
+  read_in_turn : (r : Result Unit StepFault) → StepsView tells who command r out e f views next v w → IsTrue tells → (m : Machine) → IsAtMachine tells h m v → LeavesOnly v w (BeforeOrBehind m (after_turn m) v)
+  read_in_turn r steps told m at = read_moments tells (λ (z : State). resting (latest (after_turn m))) e v w ready.beside.ready steps.reads (resting (latest m)) at.at
+
+  -- it was answered
+  pub inside_done : (later : Log) → StepsView tells who command (Ok tt) out e f views next v w → length later.sessions ≡ length log.sessions → ((n : ℕ) → is_some (pending_at n later) ≡ is_some (pending_at n log)) → is_some (pending_at who log) ≡ true
+      → ((told : IsTrue tells) (m : Machine) (at : IsAtMachine tells h m v) (engine : IsAt tells f (resting (latest m)) w) (s : Snapshot) (there : snapshot_at who m ≡ Some s) (few : is_writing command ≡ true → length s.commands < 32)
+      → (out ≡ (step_of who (Ok command) m).0) × IsAtMachine tells (hand f next later) (after_turn m) w)
+      → Turned tells who (Ok command) (Ok tt) out h (hand f next later) v w
+  unfolding read_in_turn
+  inside_done later steps count pending open answered = record {
+    ready = stepped_ready tells who command (Ok tt) out e f views next log v w ready plain form room steps.others steps.own later steps.proceeds.ready (steps.rests ∙ ready.beside.rests) count pending;
+    answered = λ told m at.
+        let there = open_there tells h m v at who open in
+        answered told m at (steps.proceeds.at told (resting (latest m)) at.at) there.0 there.1 (λ writes. few_of m (newest e v) there.0 (view_of who views) (snapshot_at who m) there.1 (at.views who) (room writes));
+    stays = tt;
+    disk = λ is. absurd (cc);
+    closed = λ faults is. absurd (cc);
+    moments = read_in_turn (Ok tt) steps;
+    others = steps.reads.keeps;
+    no_fault = steps.proceeds.no_fault;
+  }
+
+  -- it wasn't
+  pub inside_fault : (fault : StepFault) → StepsView tells who command (Err fault) out e f views next v w → Turned tells who (Ok command) (Err fault) out h (hand f next log) v w
+  unfolding read_in_turn
+  inside_fault Disk steps = record {
+    ready = tt;
+    answered = tt;
+    stays = tt;
+    disk = λ is. steps.proceeds.fault.0;
+    closed = λ faults is. absurd (cc);
+    moments = read_in_turn (Err Disk) steps;
+    others = steps.reads.keeps;
+    no_fault = tt;
+  }
+  inside_fault (Memory error) steps = record {
+    ready = stepped_ready tells who command (Err (Memory error)) out e f views next log v w ready plain form room steps.others steps.own log steps.proceeds.fault.0 (steps.rests ∙ ready.beside.rests) refl (λ n. refl);
+    answered = tt;
+    stays = λ told m at.
+        at_own tells told h (hand f next log) m v w at who (steps.proceeds.fault.1 told (resting (latest m)) at.at) at.log steps.others
+        (wanting_shows tells command error out m (newest e v) (newest f w) told (view_of who views) (view_of who next) (snapshot_at who m) steps.own (at.views who));
+    disk = λ is. absurd (cc);
+    closed = λ faults is. absurd (cc);
+    moments = read_in_turn (Err (Memory error)) steps;
+    others = steps.reads.keeps;
+    no_fault = steps.proceeds.fault.2;
+  }
+  inside_fault (Closed faults) steps = absurd steps.proceeds.fault
+
+  -- a reading, whatever it is answered
+  pub inside_read : (r : Result Unit StepFault) → StepsView tells who command r out e f views next v w → is_some (pending_at who log) ≡ true → is_writing command ≡ false → Turned tells who (Ok command) r out h (hand f next log) v w
+  inside_read (Ok done) steps open reads =
+      inside_done log steps refl (λ n. refl) open (λ told m at engine s there few. read_at tells who command out e f views next log log v w plain steps.others steps.own told m at engine s there few (outcome (Ok command) (seen m s)) refl reads at.log)
+  inside_read (Err fault) steps open reads = inside_fault fault steps
+
+  -- a command that writes, and is noted where it was accepted
+  pub inside_noted : (later : Log) → StepsView tells who command (Ok tt) out e f views next v w → who < length views → is_some (pending_at who log) ≡ true → is_writing command ≡ true → ends_with_ok out ≡ true → later ≡ after_note who (objects command) log
+      → Turned tells who (Ok command) (Ok tt) out h (hand f next later) v w
+  inside_noted later steps within open writes ends noted =
+      inside_done later steps (ap (λ (l : Log). length l.sessions) noted ∙ length-set log.sessions who (with_noted (objects command) (pending_at who log))) (λ n. ap (λ (l : Log). is_some (pending_at n l)) noted ∙ noted_open (objects command) who n log open) open
+      (λ told m at engine s there few.
+      noted_at tells who command out e f views next log later v w plain steps.others steps.own told m at engine s there few (outcome (Ok command) (seen m s)) refl writes ends noted (within_there tells h m v at who ready.count within))
+
+  pub inside_unnoted : StepsView tells who command (Ok tt) out e f views next v w → is_some (pending_at who log) ≡ true → ends_with_ok out ≡ false → Turned tells who (Ok command) (Ok tt) out h (hand f next log) v w
+  inside_unnoted steps open ends =
+      inside_done log steps refl (λ n. refl) open (λ told m at engine s there few. unnoted_at tells who command out e f views next log log v w plain steps.others steps.own told m at engine s there few (outcome (Ok command) (seen m s)) refl ends at.log)
+
+-- so many commands has the view of a session whose transaction is full
+commands_there : (m : Machine) (pages : Contents) (s : Snapshot) (o : Option View) (p : Option Snapshot) → p ≡ Some s → ShowsSnapshot m pages o p → listed o ≡ s.commands
+commands_there m pages s o None is shows = absurd (cc)
+commands_there m pages s None (Some t) is shows = absurd shows
+commands_there m pages s (Some x) (Some t) is shows = let same : t ≡ s = cc in shows.0 ∙ ap (λ (u : Snapshot). u.commands) same
+
+pub full_there : (tells : Bool) (h : Hand) (m : Machine) (v : Device) → IsAtMachine tells h m v → (who : ℕ) (s : Snapshot) → snapshot_at who m ≡ Some s → 32 ≤ length (commands_of who h.views) → 32 ≤ length s.commands
+full_there tells h m v at who s there full = subst (λ (l : List Command). 32 ≤ length l) (commands_there m (newest h.engine v) s (view_of who h.views) (snapshot_at who m) there (at.views who)) full
+
+-- and one that isn't full has room for a command more
+pub room_in : (o : Option View) → length (listed o) < 32 → IfSome o (λ x. length x.commands.items < 32)
+room_in None few = tt
+room_in (Some x) few = few
