@@ -11,7 +11,7 @@ use Rattle.ts_page.specs.Pages.{Contents}
 use Rattle.ts_journal.specs.Moment.{Keeps, OnlyReads}
 use Rattle.ts_journal.proofs.CallerLemmas.{keeps_refl, keeps_then}
 use Rattle.ts_store.specs.OpenBatch.{State as Store}
-use Rattle.ts_store.proofs.CallerLemmas.{reads_none}
+use Rattle.ts_store.proofs.CallerLemmas.{reads_none, reads_then}
 use Rattle.ts_model.specs.Catalogue.{Catalogue}
 use Rattle.ts_volume.specs.Volume.{MeansCatalogue}
 use Rattle.ts_answer.specs.Refusals.{Tried}
@@ -35,7 +35,7 @@ use Rattle.ts_view_catalogues.specs.Catalogues.{IsViewReady}
 use Rattle.ts_session_engine.specs.Beside.{newest, GoesOn, Stays, AllStay, AreViewsReady, SamePages}
 use Rattle.ts_session_engine.specs.Committed.{CommitsBeside, IsCommitReply, come_to, state_behind, without_value}
 use Rattle.ts_session_engine.specs.Replayed.{IsOpenWith, ComesTo, Replays, EndsAt, Ends, CommitsKept}
-use Rattle.ts_session_engine.proofs.ReplayLemmas.{goes_both}
+use Rattle.ts_session_engine.proofs.ReplayLemmas.{goes_all, goes_both}
 use Rattle.ts_session_engine.proofs.TurnLemmas.{each_has}
 use Rattle.ts_session_engine.proofs.StayLemmas.{same_stay, same_newest, stay_then}
 
@@ -45,7 +45,9 @@ module _ (tells : Bool) (list : List Command) (out : List ℕ) (e f : Kept) (v w
   accepted_all p = by (replayed cat list) refl (p.comes told cat cat at)
     where
       by : (t : Tried Catalogue) → replayed cat list ≡ t → ComesTo tells t cat 0 (length list) true out f w → (next : Catalogue) × (replayed cat list ≡ Ok next) × IsAt tells f (opened cat next (length list)) w
-      by (Ok next) is comes = (next, is, subst (λ (k : ℕ). IsAt tells f (opened cat next k) w) (omega arith) comes.1)
+      by (Ok next) is comes =
+          let same : 0 + length list ≡ length list = omega arith in
+          (next, is, subst (λ (k : ℕ). IsAt tells f (opened cat next k) w) same comes.1)
       by (Err refusal) is comes = let wrong = comes.0 in absurd (cc)
 
   refused_some : Replays tells 0 list (Ok false) out e f v w → EndsAt tells list (Ok false) out cat f w
@@ -75,6 +77,7 @@ module _ (tells : Bool) (list : List Command) (e f : Kept) (v w : Device) (ready
     disk = λ is. absurd (cc);
     closed = p.closed;
     moments = quiet p.reads;
+    quiet = λ not. p.reads;
     others = p.reads.keeps;
     no_fault = p.no_fault;
     views = same_stay tells (newest e v) (newest f w) views p.newest;
@@ -89,6 +92,7 @@ module _ (tells : Bool) (list : List Command) (e f : Kept) (v w : Device) (ready
     disk = p.disk;
     closed = p.closed;
     moments = quiet p.reads;
+    quiet = goes_all {T = Bool} (Err fault) ((◌≡◌ {A = Result Bool StepFault} (Err fault) (Ok true) → ⊥) → OnlyReads tells v w) (λ not. p.reads);
     others = p.reads.keeps;
     no_fault = p.no_fault;
     views = goes_both {T = Bool} (Err fault) (SamePages (newest e v) (newest f w)) (AllStay tells (newest e v) (newest f w) views views) (λ same. same_stay tells (newest e v) (newest f w) views same) p.newest;
@@ -124,6 +128,7 @@ module _ (tells : Bool) (list : List Command) (e f : Kept) (v w : Device) (ready
       disk = λ is. absurd (cc);
       closed = λ faults is. absurd (cc);
       moments = moments_then (Ok tt) kept;
+      quiet = λ not. absurd (not refl);
       others = keeps_then tells v w z p.reads.keeps kept.others;
       no_fault = kept.no_fault ∙ p.no_fault;
       views = views_then kept.views;
@@ -137,6 +142,7 @@ module _ (tells : Bool) (list : List Command) (e f : Kept) (v w : Device) (ready
       disk = λ is. let now = kept.disk refl in (subst (λ (n : ℕ). Rose n z.faults) p.no_fault now.0, now.1);
       closed = λ faults is. absurd (cc);
       moments = moments_then (Err Disk) kept;
+      quiet = tt;
       others = keeps_then tells v w z p.reads.keeps kept.others;
       no_fault = tt;
       views = tt;
@@ -150,6 +156,7 @@ module _ (tells : Bool) (list : List Command) (e f : Kept) (v w : Device) (ready
       disk = λ is. absurd (cc);
       closed = λ faults is. absurd (cc);
       moments = moments_then (Err (Memory error)) kept;
+      quiet = λ not. reads_then tells v w z p.reads kept.quiet;
       others = keeps_then tells v w z p.reads.keeps kept.others;
       no_fault = kept.no_fault ∙ p.no_fault;
       views = views_then kept.views;
@@ -238,6 +245,7 @@ module _ (tells : Bool) (list : List Command) (e0 e : Kept) (v : Device) (lawful
           others = (reads_none tells v lawful).keeps;
           no_fault = tt;
         };
+        quiet = λ not. reads_none tells v lawful;
         rests = none;
         views = same_stay tells (newest e0 v) (newest e0 v) views (record { count = refl; pages = λ k. refl });
         answered = tt;
@@ -268,6 +276,7 @@ module _ (tells : Bool) (list : List Command) (e0 e : Kept) (v : Device) (lawful
         others = ends.others;
         no_fault = ends.no_fault;
       };
+      quiet = λ not. absurd (not refl);
       rests = ends.rests refl;
       views = views_of f (record { count = refl; pages = λ k. refl }) ends.views;
       answered = λ told cat at.
@@ -279,6 +288,7 @@ module _ (tells : Bool) (list : List Command) (e0 e : Kept) (v : Device) (lawful
     pub commits_failed : Ends tells list (Err Disk) out e f old new v w → CommitsBeside tells list (Err Disk) out e0 f old new v w
     commits_failed ends = record {
       proceeds = record { ready = tt; at = tt; fault = ends.disk refl; moments = moments_of (Err Disk) ends; others = ends.others; no_fault = tt };
+      quiet = tt;
       rests = tt;
       views = tt;
       answered = tt;
@@ -298,6 +308,7 @@ module _ (tells : Bool) (list : List Command) (e0 e : Kept) (v : Device) (lawful
           others = ends.others;
           no_fault = ends.no_fault;
         };
+        quiet = ends.quiet;
         rests = given_none tells f h w later ends.ready rolls same;
         views = views_of h (given_newest tells f h w later ends.ready rolls same) ends.views;
         answered = λ told cat at.
@@ -321,6 +332,7 @@ module _ (tells : Bool) (list : List Command) (e0 e : Kept) (v : Device) (lawful
           others = ends.others;
           no_fault = tt;
         };
+        quiet = ends.quiet;
         rests = given_none tells f h w later ends.ready rolls same;
         views = views_of h (given_newest tells f h w later ends.ready rolls same) ends.views;
         answered = tt;

@@ -3,7 +3,7 @@ use Rattle.std.specs.declared.alloc.AllocError.{AllocError}
 use Rattle.std.proofs.Common.{◌≡◌, inl, inr, ℕ, Bool, true, false, IsTrue, Option, Some, None, Result, Ok, Err, OnOk, IsErrAnd, List, [], refl, ap, sym, ◌∙◌, subst}
 use Rattle.ts_base.specs.declared.refusal.Refusal.{Refusal}
 use Rattle.ts_command.specs.declared.command.Command.{Command}
-use Rattle.ts_command.specs.Boundary.{boundary_of}
+use Rattle.ts_command.specs.Boundary.{boundary_of, is_between}
 use Rattle.ts_command.specs.Writing.{is_writing}
 use Rattle.ts_disk.specs.Device.{Device, Lawful}
 use Rattle.ts_page.specs.Pages.{Contents, SameButFreed}
@@ -51,8 +51,11 @@ module _ (tells : Bool) (command : Command) (e g : Kept) (v x : Device) (lawful 
   abbrev left : Contents
   left = contents_over g.store x
 
-  placed : misplaced_in None (is_writing command) (accepted_by e.saved) ≡ None
-  placed = placed_alone (is_writing command) e rests
+  plain : is_between (boundary_of command) ≡ true
+  plain = ap is_between between
+
+  placed : misplaced_in (boundary_of command) (is_writing command) (accepted_by e.saved) ≡ None
+  placed = (λ i. misplaced_in (between i) (is_writing command) (accepted_by e.saved)) ∙ placed_alone (is_writing command) e rests
 
   -- the views stay where the engine has what was committed before
   views_still : (f : Kept) → f.store.pages ≡ e.store.pages → f.store.overlay ≡ e.store.overlay → AllStay tells (newest e v) (newest f x) old new
@@ -69,17 +72,17 @@ module _ (tells : Bool) (command : Command) (e g : Kept) (v x : Device) (lawful 
   pub refused_beside : (f : Kept) → f ≡ with_dropped g → x.faults ≡ v.faults → (refusal : Refusal) → IsStopped tells command (stops.Refused refusal) seen left → StepsBeside tells command (Ok tt) (refusal_line refusal) e f old new v x
   refused_beside f drop no_fault refusal stopped =
       steps_beside tells command (Ok tt) (refusal_line refusal) e f old new v x
-      (refused_step tells command e g v x lawful ready calls between placed definitions lists charges saved spent f drop no_fault refusal stopped) (saved_dropped f drop) (views_dropped f drop)
+      (refused_step tells command e g v x lawful ready calls plain placed definitions lists charges saved spent f drop no_fault refusal stopped) (saved_dropped f drop) (views_dropped f drop)
 
   pub memory_beside : (f : Kept) → f ≡ with_dropped g → x.faults ≡ v.faults → (error : AllocError) → StepsBeside tells command (Err (Memory error)) [] e f old new v x
   memory_beside f drop no_fault error =
       steps_beside tells command (Err (Memory error)) [] e f old new v x
-      (memory_step tells command e g v x lawful ready calls between placed definitions lists charges saved spent f drop no_fault error) (saved_dropped f drop) (views_dropped f drop)
+      (memory_step tells command e g v x lawful ready calls plain placed definitions lists charges saved spent f drop no_fault error) (saved_dropped f drop) (views_dropped f drop)
 
   pub failed_beside : (f : Kept) → IsStopped tells command stops.Failed seen left → f ≡ record g { spent = Some x.faults } → StepsBeside tells command (Err Disk) [] e f old new v x
   failed_beside f rose is =
       steps_beside tells command (Err Disk) [] e f old new v x
-      (failed_step tells command e g v x lawful ready calls between placed definitions lists charges saved spent f rose (ap (λ (k : Kept). k.spent) is)) (ap (λ (k : Kept). k.saved) is ∙ saved) tt
+      (failed_step tells command e g v x lawful ready calls plain placed definitions lists charges saved spent f rose (ap (λ (k : Kept). k.spent) is)) (ap (λ (k : Kept). k.saved) is ∙ saved) tt
 
   -- without a transaction nothing is counted
   uncounted : (f : Kept) → f.saved ≡ e.saved → f ≡ record f { saved = counted_in command f.saved }
@@ -91,7 +94,7 @@ module _ (tells : Bool) (command : Command) (e g : Kept) (v x : Device) (lawful 
   pub nothing_beside : (f : Kept) → f ≡ with_dropped g → x.faults ≡ v.faults → (effect : Effect) (out : List ℕ) → is_nothing effect ≡ true → CarriedOut tells command (Ok effect) out seen left → StepsBeside tells command (Ok tt) out e f old new v x
   nothing_beside f drop no_fault effect out is carried =
       steps_beside tells command (Ok tt) out e f old new v x
-      (unchanged_step tells command e g v x lawful ready calls between placed definitions lists charges saved spent f drop no_fault f (uncounted f (saved_dropped f drop)) effect out is carried) (saved_dropped f drop) (views_dropped f drop)
+      (unchanged_step tells command e g v x lawful ready calls plain placed definitions lists charges saved spent f drop no_fault f (uncounted f (saved_dropped f drop)) effect out is carried) (saved_dropped f drop) (views_dropped f drop)
 
   -- the batch is committed, or dropped
   module _ (covered : AreCovered g.store new) (effect : Effect) (f : Kept) (w : Device) where
@@ -128,7 +131,7 @@ module _ (tells : Bool) (command : Command) (e g : Kept) (v x : Device) (lawful 
     pub changed_beside : Lawful tells w → (out : List ℕ) → CarriedOut tells command (Ok effect) out seen left → is_nothing effect ≡ false → (r : Result Unit StepFault) → Commits tells effect r g f x w → StepsBeside tells command r (reply_of r out) e f old new v w
     changed_beside later out carried some r commits =
         steps_beside tells command r (reply_of r out) e f old new v w
-        (changed_step tells command e g v x lawful ready calls between placed definitions lists charges saved spent effect out carried f w later rests some r commits)
+        (changed_step tells command e g v x lawful ready calls plain placed definitions lists charges saved spent effect out carried f w later rests some r commits)
         (commits.saved ∙ saved) (views_then r commits)
 
 -- the same, where want of memory is passed on

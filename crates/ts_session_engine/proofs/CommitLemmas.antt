@@ -12,6 +12,7 @@ use Rattle.ts_journal.specs.Journal.{own_page}
 use Rattle.ts_journal.specs.Moment.{Keeps, OnlyReads}
 use Rattle.ts_journal.proofs.CallerLemmas.{keeps_then}
 use Rattle.ts_store.specs.OpenBatch.{State as Store, committed_pages, read_pages}
+use Rattle.ts_store.proofs.CallerLemmas.{reads_then}
 use Rattle.ts_model.specs.Catalogue.{Catalogue}
 use Rattle.ts_volume.specs.Volume.{MeansCatalogue}
 use Rattle.ts_answer.specs.Reply.{number_line}
@@ -66,6 +67,7 @@ module _ (tells : Bool) (e : Kept) (v x : Device) (ready : IsReady tells e v) (r
     disk = λ is. absurd (cc);
     closed = λ faults is. absurd (cc);
     moments = λ told base work count at. leaves_map v x (BeforeOrAfter (opened base work count) (resting work) v) (BeforeOrAfter (resting base) (resting work) v) (λ image said now. now) (read_only (opened base work count) (resting work) at);
+    quiet = reads;
     others = reads.keeps;
     no_fault = no_fault;
     views = views_kept e x refl refl reads.held;
@@ -81,6 +83,7 @@ module _ (tells : Bool) (e : Kept) (v x : Device) (ready : IsReady tells e v) (r
     disk = λ is. (rose, spent);
     closed = λ faults is. absurd (cc);
     moments = λ told base work count at. leaves_map v x (BeforeOrAfter (opened base work count) (resting work) v) (BeforeOrAfter (resting base) (resting work) v) (λ image said now. now) (read_only (opened base work count) (resting work) at);
+    quiet = tt;
     others = reads.keeps;
     no_fault = tt;
     views = tt;
@@ -126,6 +129,7 @@ module _ (tells : Bool) (e : Kept) (v x : Device) (ready : IsReady tells e v) (r
           disk = λ is. absurd (cc);
           closed = λ faults is. absurd (cc);
           moments = moments_then (Ok tt) out step;
+          quiet = tt;
           others = keeps_then tells v x w reads.keeps step.moves.others;
           no_fault = faults_stay step.moves.no_fault;
           views = stay_then tells (newest e v) (newest e x) (newest f w) old old new (same_stay tells (newest e v) (newest e x) old (same_newest e.store e.store v x refl refl reads.held))
@@ -144,6 +148,7 @@ module _ (tells : Bool) (e : Kept) (v x : Device) (ready : IsReady tells e v) (r
           disk = λ is. (rose_then step.moves.fault.0, step.moves.fault.1);
           closed = λ faults is. absurd (cc);
           moments = moments_then (Err Disk) [] step;
+          quiet = tt;
           others = keeps_then tells v x w reads.keeps step.moves.others;
           no_fault = tt;
           views = tt;
@@ -160,6 +165,7 @@ module _ (tells : Bool) (e : Kept) (v x : Device) (ready : IsReady tells e v) (r
           disk = λ is. absurd (cc);
           closed = λ faults is. absurd (cc);
           moments = moments_then (Err (Memory error)) [] step;
+          quiet = reads_then tells v x w reads drop.reads;
           others = keeps_then tells v x w reads.keeps step.moves.others;
           no_fault = faults_stay step.moves.fault.2;
           views = views_kept f w (ap (λ (s : Store). s.pages) now ∙ drop.pages) (ap (λ (s : Store). s.overlay) now ∙ drop.overlay) (drop.reads.held ∙ reads.held);

@@ -63,10 +63,10 @@ none_ok (Err k) P Q is = tt
 -- there was no memory for old images, or the disk failed
 module _ (tells : Bool) (command : Command) (effect : Effect) (out : List ℕ) (x : Seen) (s : Store) (v w : Device) (before : CarriedOut tells command (Ok effect) out x (contents_over s v)) where
   pub failed_then : Rose v.faults w.faults → CarriedOut tells command (Err stops.Failed) out x (contents_over s w)
-  failed_then rose = record { keeps = tt; done = tt; applies = tt; reads = tt; stays = tt; stopped = subst (λ (n : ℕ). Rose n w.faults) before.no_fault rose; count = before.count; bytes = before.bytes; grows = tt; no_fault = tt }
+  failed_then rose = record { keeps = tt; done = tt; applies = tt; reads = tt; stays = tt; stopped = subst (λ (n : ℕ). Rose n w.faults) before.no_fault rose; count = before.count; grows = tt; no_fault = tt }
 
   pub wanting_then : (error : AllocError) → w.faults ≡ v.faults → CarriedOut tells command (Err (stops.Memory error)) out x (contents_over s w)
-  wanting_then error faults = record { keeps = tt; done = tt; applies = tt; reads = tt; stays = tt; stopped = faults ∙ before.no_fault; count = before.count; bytes = before.bytes; grows = tt; no_fault = tt }
+  wanting_then error faults = record { keeps = tt; done = tt; applies = tt; reads = tt; stays = tt; stopped = faults ∙ before.no_fault; count = before.count; grows = tt; no_fault = tt }
 
   pub stopped_then : (fault : StoreFault) → (◌≡◌ {A = Result Unit StoreFault} (Err fault) (Err StoreFailed) → Rose v.faults w.faults) → (¬ (◌≡◌ {A = Result Unit StoreFault} (Err fault) (Err StoreFailed)) → w.faults ≡ v.faults)
       → CarriedOut tells command (Err (store_stop fault)) out x (contents_over s w)

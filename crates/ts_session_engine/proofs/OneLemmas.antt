@@ -4,7 +4,7 @@ use Rattle.std.proofs.Common.{◌≡◌, ℕ, ◌<◌, Bool, true, false, IsTrue
 use Rattle.std.specs.Option.{option_map}
 use Rattle.ts_base.specs.declared.refusal.Refusal.{Refusal}
 use Rattle.ts_command.specs.declared.command.Command.{Command}
-use Rattle.ts_command.specs.Boundary.{boundary_of}
+use Rattle.ts_command.specs.Boundary.{boundary_of, is_between}
 use Rattle.ts_command.specs.Writing.{is_writing}
 use Rattle.ts_disk.specs.Device.{Device, Lawful}
 use Rattle.ts_page.specs.Pages.{Contents}
@@ -35,8 +35,11 @@ module _ (tells : Bool) (command : Command) (e g : Kept) (v x : Device) (lawful 
   abbrev left : Contents
   left = contents_over g.store x
 
-  placed : misplaced_in None (is_writing command) (accepted_by e.saved) ≡ None
-  placed = placed_open command e.saved room
+  plain : is_between (boundary_of command) ≡ true
+  plain = ap is_between between
+
+  placed : misplaced_in (boundary_of command) (is_writing command) (accepted_by e.saved) ≡ None
+  placed = (λ i. misplaced_in (between i) (is_writing command) (accepted_by e.saved)) ∙ placed_open command e.saved room
 
   definitions : g.tables.definitions ≡ e.tables.definitions
   definitions = ap (λ (k : Kept). k.tables.definitions) others
@@ -66,33 +69,33 @@ module _ (tells : Bool) (command : Command) (e g : Kept) (v x : Device) (lawful 
 
     pub refused_of : (refusal : Refusal) → IsStopped tells command (stops.Refused refusal) seen left → Replays tells n (command ∷ []) (Ok false) (refusal_line refusal) e f v x
     refused_of refusal stopped =
-        refused_one tells command n e f v x open_n pages overlay calls.reads ready between placed refusal (λ told. stopped.3 told (ready.seen.layout told).0 (ready.seen.layout told).1) no_fault kept
-        (refused_step tells command e g v x lawful ready calls between placed definitions lists charges saved spent f drop no_fault refusal stopped)
+        refused_one tells command n e f v x open_n pages overlay calls.reads ready plain placed refusal (λ told. stopped.3 told (ready.seen.layout told).0 (ready.seen.layout told).1) no_fault kept
+        (refused_step tells command e g v x lawful ready calls plain placed definitions lists charges saved spent f drop no_fault refusal stopped)
 
     pub wanting_of : (error : AllocError) (out : List ℕ) → Replays tells n (command ∷ []) (Err (Memory error)) out e f v x
     wanting_of error out =
         wanting_one tells command n e f v x open_n pages overlay calls.reads error no_fault kept
-        (memory_step tells command e g v x lawful ready calls between placed definitions lists charges saved spent f drop no_fault error) out
+        (memory_step tells command e g v x lawful ready calls plain placed definitions lists charges saved spent f drop no_fault error) out
 
     pub nothing_of : (effect : Effect) (out : List ℕ) → is_nothing effect ≡ true → CarriedOut tells command (Ok effect) out seen left → (h : Kept) → h ≡ record f { saved = counted_in command f.saved } → Replays tells n (command ∷ []) (Ok true) out e h v x
     nothing_of effect out is carried h counts =
-        accepted_one tells command n e h v x open_n (ap (λ (k : Kept). k.store.pages) counts ∙ pages) (ap (λ (k : Kept). k.store.overlay) counts ∙ overlay) calls.reads ready between placed writes effect out left carried no_fault
+        accepted_one tells command n e h v x open_n (ap (λ (k : Kept). k.store.pages) counts ∙ pages) (ap (λ (k : Kept). k.store.overlay) counts ∙ overlay) calls.reads ready plain placed writes effect out left carried no_fault
         (ap (λ (k : Kept). k.saved) counts ∙ ap (counted_in command) kept)
-        (unchanged_step tells command e g v x lawful ready calls between placed definitions lists charges saved spent f drop no_fault h counts effect out is carried)
+        (unchanged_step tells command e g v x lawful ready calls plain placed definitions lists charges saved spent f drop no_fault h counts effect out is carried)
 
   -- the disk failed
   pub failed_of : (f : Kept) → f ≡ record g { spent = Some x.faults } → IsStopped tells command stops.Failed seen left → (out : List ℕ) → Replays tells n (command ∷ []) (Err Disk) out e f v x
   failed_of f spends rose out =
       failed_one tells command n e f v x open_n (ap (λ (k : Kept). k.store.pages) spends ∙ calls.pages) (ap (λ (k : Kept). k.store.overlay) spends ∙ calls.overlay) calls.reads
-      (failed_step tells command e g v x lawful ready calls between placed definitions lists charges saved spent f rose (ap (λ (k : Kept). k.spent) spends)) out
+      (failed_step tells command e g v x lawful ready calls plain placed definitions lists charges saved spent f rose (ap (λ (k : Kept). k.spent) spends)) out
 
   -- the batch is joined to the transaction's, or there is no memory for that
   module _ (effect : Effect) (out : List ℕ) (carried : CarriedOut tells command (Ok effect) out seen left) where
     pub joined_of : IsOver tells g.store x → is_nothing effect ≡ false → (h : Kept) → Joins effect (Ok tt) g h → (f : Kept) → f ≡ record h { saved = counted_in command h.saved } → Replays tells n (command ∷ []) (Ok true) out e f v x
     joined_of over some h joins f counts =
         accepted_one tells command n e f v x open_n (ap (λ (k : Kept). k.store.pages) counts ∙ ap (λ (s : Store). s.pages) joins.joined.store ∙ calls.pages) (ap (λ (k : Kept). k.store.overlay) counts ∙ ap (λ (s : Store). s.overlay) joins.joined.store ∙ calls.overlay) calls.reads
-        ready between placed writes effect out left carried carried.no_fault (ap (λ (k : Kept). k.saved) counts ∙ ap (counted_in command) (joins.saved ∙ saved))
-        (joined_step tells command e g v x lawful ready calls between placed definitions lists charges saved spent effect out carried over some one h joins f counts)
+        ready plain placed writes effect out left carried carried.no_fault (ap (λ (k : Kept). k.saved) counts ∙ ap (counted_in command) (joins.saved ∙ saved))
+        (joined_step tells command e g v x lawful ready calls plain placed definitions lists charges saved spent effect out carried over some one h joins f counts)
 
     pub unjoined_of : (fault : StepFault) (f : Kept) → Joins effect (Err fault) g f → (r : Result Bool StepFault) (said : List ℕ) → IsErrAnd r (λ k. k ≡ fault) → Replays tells n (command ∷ []) r said e f v x
     unjoined_of fault f joins (Ok done) said is = absurd is
@@ -103,7 +106,7 @@ module _ (tells : Bool) (command : Command) (e g : Kept) (v x : Device) (lawful 
         by (Closed faults) joins = let is = joins.fault.1 in absurd (cc)
         by (Memory error) joins =
             wanting_one tells command n e f v x open_n (ap (λ (s : Store). s.pages) joins.dropped ∙ calls.pages) (ap (λ (s : Store). s.overlay) joins.dropped ∙ calls.overlay) calls.reads error carried.no_fault (joins.saved ∙ saved)
-            (unjoined_step tells command e g v x lawful ready calls between placed definitions lists charges saved spent effect out carried (Memory error) f joins) said
+            (unjoined_step tells command e g v x lawful ready calls plain placed definitions lists charges saved spent effect out carried (Memory error) f joins) said
 
 -- want of memory is passed on
 pub wanting_by : (tells : Bool) (command : Command) (n : ℕ) (r : Result Bool StepFault) (out : List ℕ) (e f : Kept) (v x : Device) (error : AllocError) → IsErrAnd r (λ k. k ≡ Memory error) → Replays tells n (command ∷ []) (Err (Memory error)) out e f v x → Replays tells n (command ∷ []) r out e f v x

@@ -1,5 +1,5 @@
 -- The views of all sessions, where that of one is another one.
-use Rattle.std.proofs.Common.{◌≡◌, ◌≢◌, ℕ, ◌<◌, Bool, IsTrue, Option, Some, None, IfSome, Result, Ok, Err, IsErr, OnOk, OnErr, List, [], length, set, length-set, refl, ap, sym, ◌∙◌, subst}
+use Rattle.std.proofs.Common.{◌≡◌, ◌≢◌, ℕ, ◌<◌, Bool, IsTrue, Option, Some, None, IsSome, IfSome, Result, Ok, Err, IsErr, OnOk, OnErr, List, [], length, set, length-set, refl, ap, sym, ◌∙◌, subst}
 use Rattle.std.proofs.lemmas.List.{get_or-set_same, get_or-set_other}
 use Rattle.ts_command.specs.declared.command.Command.{Command}
 use Rattle.ts_disk.specs.Device.{Device}
@@ -49,12 +49,19 @@ steps_view tells who command r out e f x y old v w there within steps empty = re
 pub open_ready : (tells : Bool) (a : Contents) (who : ℕ) (views : List (Option View)) (x : View) → view_of who views ≡ Some x → OfEachOpen (λ v. IsViewReady tells v a) views → IsViewReady tells x a
 open_ready tells a who views x there ready = subst (λ (o : Option View). IfSome o (λ v. IsViewReady tells v a)) there (ready who)
 
+-- a view that turns into another is open still
+pub open_still : (R : View → View → Type 0) (a b : Option View) → Turns R a b → IsSome a → IsSome b
+open_still R None b turns some = absurd (cc)
+open_still R (Some v) None turns some = absurd turns
+open_still R (Some v) (Some w) turns some = refl
+
 -- a commit of the view of a session: it is closed then
 pub closes_view : (tells : Bool) (who : ℕ) (list : List Command) (done : Bool) (out : List ℕ) (e f : Kept) (old new : List (Option View)) (v w : Device) → who < length old → CommitsBeside tells list (Ok done) out e f old new v w
     → CommitsView tells who list (Ok done) out e f old (set new who None) v w
 closes_view tells who list done out e f old new v w within commits = record {
   proceeds = commits.proceeds;
   rests = commits.rests;
+  quiet = commits.quiet;
   others = others_set tells who (newest e v) (newest f w) old new None commits.views;
   closed = get_or-set_same new who None None (subst (λ (n : ℕ). who < n) (sym commits.views.count) within);
   kept = tt;
@@ -64,10 +71,11 @@ closes_view tells who list done out e f old new v w within commits = record {
 
 -- for a fault it stays
 pub keeps_view : (tells : Bool) (who : ℕ) (list : List Command) (fault : StepFault) (out : List ℕ) (e f : Kept) (old new : List (Option View)) (v w : Device) → CommitsBeside tells list (Err fault) out e f old new v w → CommitsView tells who list (Err fault) [] e f old new v w
-keeps_view tells who list Disk out e f old new v w commits = record { proceeds = commits.proceeds; rests = tt; others = tt; closed = tt; kept = tt; answered = tt; empty = λ err. refl }
+keeps_view tells who list Disk out e f old new v w commits = record { proceeds = commits.proceeds; rests = tt; quiet = tt; others = tt; closed = tt; kept = tt; answered = tt; empty = λ err. refl }
 keeps_view tells who list (Memory error) out e f old new v w commits = record {
   proceeds = commits.proceeds;
   rests = commits.rests;
+  quiet = commits.quiet;
   others = others_of tells who (newest e v) (newest f w) old new commits.views;
   closed = tt;
   kept = commits.views.each who;

@@ -6,7 +6,7 @@ use Rattle.std.proofs.lemmas.Bool.{lt-leb}
 use Rattle.ts_base.specs.declared.refusal.Refusal.{Refusal}
 use Rattle.ts_base.specs.declared.refusal.Refusal.TheVariants.{TransactionFull}
 use Rattle.ts_command.specs.declared.command.Command.{Command}
-use Rattle.ts_command.specs.Boundary.{boundary_of}
+use Rattle.ts_command.specs.Boundary.{boundary_of, is_between}
 use Rattle.ts_command.specs.Writing.{is_writing}
 use Rattle.ts_disk.specs.Device.{Device, Lawful, Rose}
 use Rattle.ts_page.specs.Pages.{Contents}
@@ -88,7 +88,7 @@ module _ (tells : Bool) (command : Command) (n : ℕ) (e f : Kept) (v x : Device
   same = same_newest e.store f.store v x pages overlay reads.held
 
   -- it is accepted
-  pub accepted_one : (ready : IsReady tells e v) (between : boundary_of command ≡ None) (placed : misplaced_in None (is_writing command) (accepted_by e.saved) ≡ None) (writes : is_writing command ≡ true) (effect : Effect) (out : List ℕ) (c : Contents)
+  pub accepted_one : (ready : IsReady tells e v) (between : is_between (boundary_of command) ≡ true) (placed : misplaced_in (boundary_of command) (is_writing command) (accepted_by e.saved) ≡ None) (writes : is_writing command ≡ true) (effect : Effect) (out : List ℕ) (c : Contents)
       → CarriedOut tells command (Ok effect) out (view e.tables.definitions e.space (contents_over e.store v)) c → x.faults ≡ v.faults → f.saved ≡ counted_in command e.saved → Stepped tells command (Ok tt) out e f v x
       → Replays tells n (command ∷ []) (Ok true) out e f v x
   accepted_one ready between placed writes effect out c carried no_fault counts stepped =
@@ -116,7 +116,7 @@ module _ (tells : Bool) (command : Command) (n : ℕ) (e f : Kept) (v x : Device
       }
 
   -- it is refused
-  pub refused_one : (ready : IsReady tells e v) (between : boundary_of command ≡ None) (placed : misplaced_in None (is_writing command) (accepted_by e.saved) ≡ None) (refusal : Refusal)
+  pub refused_one : (ready : IsReady tells e v) (between : is_between (boundary_of command) ≡ true) (placed : misplaced_in (boundary_of command) (is_writing command) (accepted_by e.saved) ≡ None) (refusal : Refusal)
       → ((told : IsTrue tells) → outcome (Ok command) (catalogue_of (ready.seen.layout told).0) ≡ Err refusal) → x.faults ≡ v.faults → f.saved ≡ e.saved → Stepped tells command (Ok tt) (refusal_line refusal) e f v x
       → Replays tells n (command ∷ []) (Ok false) (refusal_line refusal) e f v x
   refused_one ready between placed refusal stopped no_fault saved stepped =
@@ -172,18 +172,20 @@ module _ (tells : Bool) (command : Command) (n : ℕ) (e f : Kept) (v x : Device
 
 -- No command is carried out.
 pub replays_none : (tells : Bool) (n : ℕ) (out : List ℕ) (e : Kept) (v : Device) → Lawful tells v → IsReady tells e v → IsOpenWith n e → Replays tells n [] (Ok true) out e e v v
-replays_none tells n out e v lawful ready open_e = record {
-  ready = ready;
-  reads = reads_none tells v lawful;
-  no_fault = refl;
-  newest = record { count = refl; pages = λ k. refl };
-  transaction = (n, open_e);
-  all = λ done. subst (λ (k : ℕ). IsOpenWith k e) (omega arith) open_e;
-  base = λ told base work at. (work, n, at);
-  comes = λ told base work at. (refl, subst (λ (k : ℕ). IsAt tells e (opened base work k) v) (omega arith) at);
-  disk = λ is. absurd (cc);
-  closed = λ faults is. absurd (cc);
-}
+replays_none tells n out e v lawful ready open_e =
+    let same : n ≡ n + 0 = omega arith in
+    record {
+      ready = ready;
+      reads = reads_none tells v lawful;
+      no_fault = refl;
+      newest = record { count = refl; pages = λ k. refl };
+      transaction = (n, open_e);
+      all = λ done. subst (λ (k : ℕ). IsOpenWith k e) same open_e;
+      base = λ told base work at. (work, n, at);
+      comes = λ told base work at. (refl, subst (λ (k : ℕ). IsAt tells e (opened base work k) v) same at);
+      disk = λ is. absurd (cc);
+      closed = λ faults is. absurd (cc);
+    }
 
 -- what holds where the engine goes on
 pub goes_both : {T : Type 0} (r : Result T StepFault) (P Q : Type 0) → (P → Q) → GoesOn r P → GoesOn r Q
@@ -191,6 +193,13 @@ goes_both (Ok y) P Q f p = f p
 goes_both (Err Disk) P Q f p = tt
 goes_both (Err (Memory error)) P Q f p = f p
 goes_both (Err (Closed faults)) P Q f p = tt
+
+-- what holds always
+pub goes_all : {T : Type 0} (r : Result T StepFault) (P : Type 0) → P → GoesOn r P
+goes_all (Ok y) P p = p
+goes_all (Err Disk) P p = tt
+goes_all (Err (Memory error)) P p = p
+goes_all (Err (Closed faults)) P p = tt
 
 pages_then : (a b c : Contents) → SamePages a b → SamePages b c → SamePages a c
 pages_then a b c p q = record { count = q.count ∙ p.count; pages = λ k. q.pages k ∙ p.pages k }

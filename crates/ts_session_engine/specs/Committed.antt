@@ -7,6 +7,7 @@ use Rattle.ts_command.specs.Form.{HasForm}
 use Rattle.ts_command.specs.Boundary.{boundary_of}
 use Rattle.ts_command.specs.Writing.{is_writing}
 use Rattle.ts_disk.specs.Device.{Device}
+use Rattle.ts_journal.specs.Moment.{OnlyReads}
 use Rattle.ts_model.specs.Catalogue.{Catalogue}
 use Rattle.ts_answer.specs.Refusals.{Tried}
 use Rattle.ts_answer.specs.Reply.{number_line, refusal_line}
@@ -58,6 +59,8 @@ pub record CommitsBeside (tells : Bool) (commands : List Command) (result : Resu
     (e f : Kept) (old new : List (Option View)) (v w : Device) : Type 0 where
   pub proceeds : Proceeds tells (state_behind commands) (without_value result) e f v w
   pub rests : GoesOn result (f.saved ≡ None)
+  -- nothing is written where it isn't committed
+  pub quiet : GoesOn result ((result ≡ Ok true → ⊥) → OnlyReads tells v w)
   pub views : GoesOn result (AllStay tells (newest e v) (newest f w) old new)
   pub answered : IfOk result (λ done. IsTrue tells → (cat : Catalogue) → IsAt tells e (resting cat) v
       → IsCommitReply (length commands) (replayed cat commands) done out)
@@ -67,6 +70,8 @@ pub record CommitsView (tells : Bool) (who : ℕ) (commands : List Command) (res
     (out : List ℕ) (e f : Kept) (old new : List (Option View)) (v w : Device) : Type 0 where
   pub proceeds : Proceeds tells (state_behind commands) (without_value result) e f v w
   pub rests : GoesOn result (f.saved ≡ None)
+  -- nothing is written where it isn't committed
+  pub quiet : GoesOn result ((result ≡ Ok true → ⊥) → OnlyReads tells v w)
   pub others : GoesOn result (OthersStay tells who (newest e v) (newest f w) old new)
   pub closed : OnOk result (view_of who new ≡ None)
   pub kept : GoesOn result (OnErr result (Turns (Stays tells (newest e v) (newest f w)) (view_of who old)

@@ -71,6 +71,8 @@ pub record Ends (tells : Bool) (commands : List Command) (result : Result Bool S
   pub closed : (faults : ℕ) → result ≡ Err (Closed faults) → ⊥
   pub moments : IsTrue tells → (cat : Catalogue) → IsAt tells e (opened cat cat 0) v
       → LeavesOnly v w (BeforeOrAfter (resting cat) (state_behind commands (resting cat)) v)
+  -- nothing is written where it isn't committed
+  pub quiet : GoesOn result ((result ≡ Ok true → ⊥) → OnlyReads tells v w)
   pub others : Keeps tells v w
   pub no_fault : GoesOn result (w.faults ≡ v.faults)
   pub views : GoesOn result (AllStay tells (newest_of e v) (newest_of f w) old new)
@@ -89,6 +91,7 @@ pub record CommitsKept (tells : Bool) (result : Result Unit StepFault) (out : Li
   pub closed : (faults : ℕ) → result ≡ Err (Closed faults) → ⊥
   pub moments : IsTrue tells → (base work : Catalogue) (count : ℕ) → IsAt tells e (opened base work count) v
       → LeavesOnly v w (BeforeOrAfter (resting base) (resting work) v)
+  pub quiet : GoesOn result (OnErr result (OnlyReads tells v w))
   pub others : Keeps tells v w
   pub no_fault : GoesOn result (w.faults ≡ v.faults)
   pub views : GoesOn result (AllStay tells (newest_of e v) (newest_of f w) old new)

@@ -5,7 +5,8 @@ use Rattle.ts_answer.specs.Reply.{refusal_line}
 use Rattle.ts_answer.specs.View.{view}
 use Rattle.ts_answer.specs.CarriedOut.{IsStopped}
 use Rattle.ts_engine.specs.Engine.{Kept, seen_by}
-use Rattle.ts_engine.proofs.CallerLemmas.{can_charge, can_charge_then, short_one}
+use Rattle.ts_effects.proofs.CallerLemmas.{can_charge_then}
+use Rattle.ts_engine.proofs.CallerLemmas.{can_charge, short_one}
 use Rattle.ts_session_engine.specs.Stepped.{StepsBeside}
 use Rattle.ts_session_engine.proofs.BesideLemmas.{changed_beside, failed_beside, memory_beside, nothing_beside, refused_beside, by_want}
 use Rattle.ts_session_engine.proofs.beside.carry_out.Goals as goal

@@ -6,7 +6,8 @@ use Rattle.ts_answer.specs.View.{view}
 use Rattle.ts_answer.specs.CarriedOut.{IsStopped}
 use Rattle.ts_engine.specs.Engine.{Kept, seen_by}
 use Rattle.ts_engine.specs.Transaction.{counted_in}
-use Rattle.ts_engine.proofs.CallerLemmas.{can_charge, can_charge_then, few_then}
+use Rattle.ts_effects.proofs.CallerLemmas.{can_charge_then}
+use Rattle.ts_engine.proofs.CallerLemmas.{can_charge, few_then}
 use Rattle.ts_session_engine.specs.Replayed.{Replays}
 use Rattle.ts_session_engine.proofs.OneLemmas.{failed_of, joined_of, nothing_of, refused_of, unjoined_of, wanting_by, wanting_of}
 use Rattle.ts_session_engine.proofs.replay.replay_one.Goals as goal
