@@ -3,7 +3,7 @@ use Rattle.std.proofs.Common.{◌≡◌, ℕ, ◌<◌, ◌≤◌, Bool, true, fa
 use Rattle.ts_base.specs.declared.refusal.Refusal.{Refusal}
 use Rattle.ts_base.specs.declared.refusal.Refusal.TheVariants as refusals
 use Rattle.ts_command.specs.declared.command.Command.{Command}
-use Rattle.ts_command.specs.declared.boundary.Boundary.TheVariants.{Opens, Commits, RollsBack}
+use Rattle.ts_command.specs.declared.boundary.Boundary.TheVariants.{Opens, Commits, RollsBack, Alone}
 use Rattle.ts_command.specs.Boundary.{boundary_of}
 use Rattle.ts_command.specs.Writing.{is_writing}
 use Rattle.ts_model.specs.Catalogue.{Catalogue}
@@ -17,6 +17,10 @@ use Rattle.ts_sessions.specs.Machine.{Snapshot, Machine, latest, snapshot_at, se
 use Rattle.ts_sessions.specs.Steps.{Stepped, with_snapshot, with_commit, fresh, with_command, conflict_lines, accepted_or, unless_conflict, replied, in_session, step_of}
 
 module _ (who : ℕ) (command : Command) (m : Machine) where
+  -- a rolling routine is no command of sessions
+  pub stands_alone : boundary_of command ≡ Some Alone → step_of who (Ok command) m ≡ (refusal_line (refusals.Syntax 0), m)
+  stands_alone alone = λ i. in_session who command (alone i) (snapshot_at who m) m
+
   -- where it begins a transaction
   pub begins_again : (s : Snapshot) → boundary_of command ≡ Some Opens → snapshot_at who m ≡ Some s → step_of who (Ok command) m ≡ (refusal_line refusals.AlreadyOpen, m)
   begins_again s opens at =

@@ -38,3 +38,10 @@ alike_set sessions views who p o count within same alike k = elim (cases_eq k wh
       ∙ sym (ap is_some (get_or-set_same views who o None within)) ∙ ap (λ (n : ℕ). is_some (view_of n (set views who o))) (sym here)
   | inr off ↦ ap is_some (get_or-set_other sessions who k p None off) ∙ alike k ∙ sym (ap is_some (get_or-set_other views who k o None off))
 ]
+
+-- room in the log changes nothing
+pub ready_room : (tells : Bool) (e : Kept) (views : List (Option View)) (log : Log) (v : Device) → IsHandReady tells (hand e views log) v → IsHandReady tells (hand e views (record log { room = true })) v
+ready_room tells e views log v ready = record { beside = ready.beside; count = ready.count; alike = ready.alike; commands = ready.commands }
+
+pub at_room : (tells : Bool) (e : Kept) (views : List (Option View)) (log : Log) (v : Device) (m : Machine) → IsAtMachine tells (hand e views log) m v → IsAtMachine tells (hand e views (record log { room = true })) m v
+at_room tells e views log v m at = record { at = at.at; log = (true, ap (λ (l : Log). record l { room = true }) at.log.1); views = at.views; sound = at.sound }

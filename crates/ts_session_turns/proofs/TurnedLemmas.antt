@@ -1,6 +1,6 @@
 -- Turns that write nothing on the volume.
 use Rattle.std.specs.declared.alloc.AllocError.{AllocError}
-use Rattle.std.proofs.Common.{◌≡◌, ◌⊎◌, inl, ℕ, ◌+◌, ◌-◌, Bool, IsTrue, Option, Some, None, Result, Ok, Err, IsErrAnd, List, refl, ap, sym, ◌∙◌, subst, arith}
+use Rattle.std.proofs.Common.{◌≡◌, ◌⊎◌, inl, ℕ, ◌+◌, ◌-◌, Bool, IsTrue, Option, Some, None, true, Result, Ok, Err, IsErrAnd, List, refl, ap, sym, ◌∙◌, subst, arith}
 use Rattle.ts_disk.specs.Device.{Device, Lawful, LeavesOnly}
 use Rattle.ts_disk.proofs.Moments.{started}
 use Rattle.ts_store.proofs.CallerLemmas.{reads_none}
@@ -17,6 +17,10 @@ use Rattle.ts_engine.specs.declared.fault.StepFault.{StepFault}
 use Rattle.ts_engine.specs.declared.fault.StepFault.TheVariants.{Disk, Memory, Closed}
 use Rattle.ts_session_turns.specs.Hand.{Hand, hand, IsHandReady, IsAtMachine}
 use Rattle.ts_session_turns.specs.Turned.{BeforeOrBehind, Turned}
+use Rattle.ts_session_turns.proofs.ReadyLemmas.{at_room, ready_room}
+use Rattle.ts_multi.specs.Log.{Log}
+use Rattle.ts_views.specs.declared.view.View.{View}
+use Rattle.ts_engine.specs.Engine.{Kept}
 
 -- where the volume stays, each moment means what was committed last
 still_means : (tells : Bool) (h : Hand) (m next : Machine) (v : Device) → Lawful tells v → IsAtMachine tells h m v → LeavesOnly v v (BeforeOrBehind m next v)
@@ -77,3 +81,38 @@ turned_refused tells who command h v lawful refusal out said ready step =
 -- there is no memory for its reply, or for what it needs first
 pub turned_unsaid : (tells : Bool) (who : ℕ) (request : Request) (r : Result Unit StepFault) (error : AllocError) (out : List ℕ) (h : Hand) (v : Device) → Lawful tells v → IsErrAnd r (λ z. z ≡ Memory error) → IsHandReady tells h v → Turned tells who request r out h h v v
 turned_unsaid tells who request r error out h v lawful is ready = turned_by tells who request r (Memory error) out h h v v is (turned_wanting tells who request h h v lawful error out ready (λ told m at. at))
+
+-- a turn with room in the log is one without
+pub turned_room : (tells : Bool) (who : ℕ) (request : Request) (r : Result Unit StepFault) (out : List ℕ) (e : Kept) (views : List (Option View)) (log : Log) (k : Hand) (v w : Device) → Turned tells who request r out (hand e views (record log { room = true })) k v w
+    → Turned tells who request r out (hand e views log) k v w
+turned_room tells who request (Ok done) out e views log k v w turned = record {
+  ready = turned.ready;
+  answered = λ told m at. turned.answered told m (at_room tells e views log v m at);
+  stays = tt;
+  disk = turned.disk;
+  closed = turned.closed;
+  moments = λ told m at. turned.moments told m (at_room tells e views log v m at);
+  others = turned.others;
+  no_fault = turned.no_fault;
+}
+turned_room tells who request (Err Disk) out e views log k v w turned = record {
+  ready = tt;
+  answered = tt;
+  stays = tt;
+  disk = turned.disk;
+  closed = turned.closed;
+  moments = λ told m at. turned.moments told m (at_room tells e views log v m at);
+  others = turned.others;
+  no_fault = tt;
+}
+turned_room tells who request (Err (Memory error)) out e views log k v w turned = record {
+  ready = turned.ready;
+  answered = tt;
+  stays = λ told m at. turned.stays told m (at_room tells e views log v m at);
+  disk = turned.disk;
+  closed = turned.closed;
+  moments = λ told m at. turned.moments told m (at_room tells e views log v m at);
+  others = turned.others;
+  no_fault = turned.no_fault;
+}
+turned_room tells who request (Err (Closed faults)) out e views log k v w turned = absurd (turned.closed faults refl)

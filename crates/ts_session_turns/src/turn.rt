@@ -9,11 +9,12 @@ use crate::commit::commit;
 use crate::inside::inside;
 use crate::outside::outside;
 use std::thread::Threads;
-use ts_base::Reply;
+use ts_base::{Refusal, Reply};
 use ts_command::{Boundary, Command};
 use ts_disk::Volume;
 use ts_engine::{Engine, StepFault};
 use ts_multi::Sessions;
+use ts_say::say_refusal;
 use ts_views::Views;
 
 /// Carries out a command of a session, counted from 0, and gives its reply: one that begins, commits or rolls back its
@@ -41,6 +42,8 @@ pub fn answer<V: Volume>(
         Some(Boundary::Opens) => begin(engine, vol, views, log, who, command, out),
         Some(Boundary::Commits) => commit(rt, engine, vol, views, log, who, command, out),
         Some(Boundary::RollsBack) => roll_back(engine, vol, views, log, who, command, out),
+        // A rolling routine is no command of sessions.
+        Some(Boundary::Alone) => Ok(say_refusal(out, &Refusal::Syntax { place: 0 })?),
         None => {
             if log.is_open(who) {
                 inside(rt, engine, vol, views, log, who, command, out)
