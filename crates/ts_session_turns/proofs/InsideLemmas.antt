@@ -58,7 +58,7 @@ ends_no cat command out refusal plain said refused =
     ∙ ap (λ (t : Tried (List ℕ × State)). elim t [ Ok answered ↦ true | Err refusal ↦ false ]) (outside_refused command cat refusal refused)
 
 -- a refused command leaves the catalogue
-refused_answer : (cat : Catalogue) (command : Command) (refusal : Refusal) → outcome (Ok command) cat ≡ Err refusal → answer cat (Ok command) ≡ (refusal_line refusal, cat)
+pub refused_answer : (cat : Catalogue) (command : Command) (refusal : Refusal) → outcome (Ok command) cat ≡ Err refusal → answer cat (Ok command) ≡ (refusal_line refusal, cat)
 unfolding answer
 refused_answer cat command refusal is = ap (settled cat) is
 
@@ -82,14 +82,14 @@ pub one_more : (m : Machine) (s : Snapshot) (command : Command) → seen m (with
 one_more m s command = carried_more (begun_at m s) s.commands command
 
 -- what holds of an open view, and of what it turns into
-turns_to : (R : View → View → Type 0) (P Q : View → Type 0) → ((v w : View) → R v w → P v → Q w) → (o next : Option View) → Turns R o next → IfSome o P → IfSome next Q
+pub turns_to : (R : View → View → Type 0) (P Q : View → Type 0) → ((v w : View) → R v w → P v → Q w) → (o next : Option View) → Turns R o next → IfSome o P → IfSome next Q
 turns_to R P Q more None None turned holds = tt
 turns_to R P Q more None (Some w) turned holds = absurd turned
 turns_to R P Q more (Some v) None turned holds = absurd turned
 turns_to R P Q more (Some v) (Some w) turned holds = more v w turned holds
 
 -- a view is open where it was
-open_turned : (R : View → View → Type 0) (o next : Option View) → Turns R o next → is_some next ≡ is_some o
+pub open_turned : (R : View → View → Type 0) (o next : Option View) → Turns R o next → is_some next ≡ is_some o
 open_turned R None None turned = refl
 open_turned R None (Some w) turned = absurd turned
 open_turned R (Some v) None turned = absurd turned

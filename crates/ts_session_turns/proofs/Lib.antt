@@ -1,6 +1,7 @@
 mod BeginLemmas
 mod InsideLemmas
 mod MachineLemmas
+mod OutsideLemmas
 mod ReadyLemmas
 mod StandLemmas
 mod TurnedLemmas

@@ -22,7 +22,7 @@ use Rattle.ts_session_engine.specs.Beside.{newest, Stays, AllStay, OthersStay}
 use Rattle.ts_session_turns.specs.Hand.{Hand, ShowsSnapshot, IsAtMachine}
 
 -- a view that stays shows what it showed
-shows_turned : (tells : Bool) → IsTrue tells → (m : Machine) (before after : Contents) (o next : Option View) (p : Option Snapshot) → Turns (Stays tells before after) o next → ShowsSnapshot m before o p → ShowsSnapshot m after next p
+pub shows_turned : (tells : Bool) → IsTrue tells → (m : Machine) (before after : Contents) (o next : Option View) (p : Option Snapshot) → Turns (Stays tells before after) o next → ShowsSnapshot m before o p → ShowsSnapshot m after next p
 shows_turned tells told m before after None None None turns shows = tt
 shows_turned tells told m before after None None (Some s) turns shows = absurd shows
 shows_turned tells told m before after None (Some w) p turns shows = absurd turns
