@@ -29,14 +29,19 @@ restores() {
   same "$name: it says the same" said whole.script
 }
 # Those that are there, among them windows of rolling sets, and over four thousand series.
+volumes=0
 for volume in *.volume; do
   "$ts" "$volume" check > /dev/null 2>&1 || continue
+  volumes=$((volumes + 1))
   dumps "$volume" "$volume" dumped.script
   restores "$volume" "$volume" dumped.script
   dumps "$volume in transactions" "$volume" grouped.script --transactions
   restores "$volume in transactions" "$volume" grouped.script
   same "$volume in transactions: the same statements" whole.script dumped.script
 done
+holds "volumes were dumped" [ "$volumes" -ge 20 ]
+wants "over four thousand series: dump" 0 "$dump" many_series.volume --definitions
+holds "over four thousand series: each is made" [ "$(grep -c '^TSCreate' said)" -gt 4000 ]
 
 # A volume of the old format comes out as one of the newest.
 wants "the old format: init" 0 "$ts" first.volume init 8
@@ -113,7 +118,7 @@ wants "definitions in transactions" 0 "$dump" care.volume --transactions --defin
   echo "Commit;"
 } > wanted
 same "definitions in transactions: what is said" said wanted
-wants "33 statements: init" 0 "$ts" many.volume init 8
+wants "33 statements: init" 0 "$ts" thirty_three.volume init 8
 {
   echo "CreateRowType(n, t datetime, v smallint);"
   echo "TSContainerCreate(c, n, 8);"
@@ -121,23 +126,23 @@ wants "33 statements: init" 0 "$ts" many.volume init 8
   for n in $(seq 10 39); do
     echo "InsElem('a', '2011-01-01 00:00:00.000$n',$n);"
   done
-} > many.script
-input=many.script wants "33 statements: run" 0 "$ts" many.volume run
-dumps "33 statements" many.volume grouped.script --transactions
+} > thirty_three.script
+input=thirty_three.script wants "33 statements: run" 0 "$ts" thirty_three.volume run
+dumps "33 statements" thirty_three.volume grouped.script --transactions
 {
   echo "Begin;"
-  head -n 32 many.script
+  head -n 32 thirty_three.script
   printf 'Commit;\nBegin;\n'
-  tail -n 1 many.script
+  tail -n 1 thirty_three.script
   echo "Commit;"
 } > wanted
 same "33 statements: what is said" grouped.script wanted
-restores "33 statements" many.volume grouped.script
+restores "33 statements" thirty_three.volume grouped.script
 # A whole transaction has 34 lines: what is cut behind a multiple of them is scripts.
 rm -f piece.*
 split -l 34 grouped.script piece.
-restores "33 statements in two pieces" many.volume piece.*
-rm -f many.volume many.script piece.*
+restores "33 statements in two pieces" thirty_three.volume piece.*
+rm -f thirty_three.volume thirty_three.script piece.*
 
 # One series with what it stands on: a regular one has a calendar, and this the pattern by whose name it was made.
 dumps "a series" care.volume one.script --series days
