@@ -1,13 +1,13 @@
 -- Edits that are carried out one behind the other on copies of what is in memory.
 use Rattle.std.specs.declared.alloc.AllocError.{AllocError}
-use Rattle.std.proofs.Common.{◌≡◌, ℕ, ◌+◌, ◌≤◌, Bool, true, false, IsTrue, IfOk, IfErr, Some, Ok, Err, Result, IsErrAnd, List, refl, ap, sym, ◌∙◌, subst, arith}
+use Rattle.std.proofs.Common.{◌≡◌, ℕ, Bool, true, IsTrue, IfOk, IfErr, Ok, Err, Result, IsErrAnd, List, refl, sym, ◌∙◌, subst, arith}
 use Rattle.ts_base.specs.declared.refusal.Refusal.{Refusal}
 use Rattle.ts_disk.specs.Device.{Rose}
 use Rattle.ts_command.specs.declared.command.Command.{Command}
 use Rattle.ts_command.specs.Writing.{is_writing}
 use Rattle.ts_page.specs.Pages.{Contents}
 use Rattle.ts_space.specs.Directory.{Directory}
-use Rattle.ts_model.specs.Definitions.{Definitions, Tables}
+use Rattle.ts_model.specs.Definitions.{Definitions}
 use Rattle.ts_model.specs.Catalogue.{Catalogue}
 use Rattle.ts_layout.specs.Meaning.{Layout, catalogue_of}
 use Rattle.ts_layout.proofs.CallerLemmas.{kept_alike}
@@ -18,7 +18,7 @@ use Rattle.ts_answer.specs.declared.stop.Stop.{Stop}
 use Rattle.ts_answer.specs.declared.stop.Stop.TheVariants.{Refused, Failed, Memory}
 use Rattle.ts_answer.specs.Answer.{Tried, Answered, outcome}
 use Rattle.ts_answer.specs.View.{View, view, Shows, IsSeen, KeepsRules}
-use Rattle.ts_answer.specs.CarriedOut.{CarriedOut, Comes, IsStopped, Grows, growth_of, has_parts, definitions_after, lists_after}
+use Rattle.ts_answer.specs.CarriedOut.{CarriedOut, IsStopped, Grows, growth_of, has_parts, definitions_after, lists_after}
 use Rattle.ts_answer.proofs.CallerLemmas.{held_same}
 use Rattle.ts_effects.specs.Applied.{CanCharge}
 use Rattle.ts_effects.proofs.CallerLemmas.{can_count}

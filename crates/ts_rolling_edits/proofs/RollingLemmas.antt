@@ -1,11 +1,8 @@
 -- What a put into a set and a drop of one come to, of edits one behind the other.
-use Rattle.std.proofs.Common.{◌≡◌, ℕ, zero, suc, ◌+◌, ◌*◌, ◌≤◌, ◌&&◌, not, nat_le, ◌==◌, IsTrue, IfOk, Bool, true, false, cond, Option, Some, None, Ok, Err, List, [], ◌∷◌, ◌++◌, ◌<◌, length, take, get_or, refl, ap, sym, ◌∙◌, subst, arith, ℤ}
+use Rattle.std.proofs.Common.{◌≡◌, ℕ, suc, ◌+◌, not, Bool, true, false, cond, Option, Some, None, Ok, Err, List, [], ◌∷◌, ◌++◌, ◌<◌, length, take, get_or, refl, ap, sym, ◌∙◌, subst, arith, ℤ}
 use Rattle.std.proofs.Math.Seq.{take-suc}
 use Rattle.std.specs.FinMap.{get, remove, get-remove, same_map}
 use Rattle.std.specs.Ordering.{eq_by_cmp}
-use Rattle.std.specs.List.{list_any}
-use Rattle.std.proofs.lemmas.Bool.Decides.{nat_tests}
-use Rattle.ts_base.specs.Name.{is_key}
 use Rattle.ts_base.specs.declared.refusal.Refusal.{Refusal}
 use Rattle.ts_base.specs.declared.refusal.Refusal.TheVariants as refusals
 use Rattle.ts_command.specs.declared.command.Command.TheVariants.{DropSeries, TSCreateIrr, PutElemNoDups}
@@ -15,10 +12,11 @@ use Rattle.ts_model.specs.Catalogue.{name_cmp, Named, Series, Catalogue}
 use Rattle.ts_model.proofs.OrderLemmas.{total, same_name, ties-same}
 use Rattle.ts_model.specs.declared.kind.Kind.TheVariants as kinds
 use Rattle.ts_model.specs.Kinds.{without}
-use Rattle.ts_rolling.specs.Keys.{is_set, window_key}
+use Rattle.ts_rolling.specs.Keys.{window_key}
 use Rattle.ts_rolling.specs.Plan.{a_plan}
+use Rattle.ts_rolling_sets.specs.Near.{key_if}
 use Rattle.ts_answer.specs.Reply.{ok_line}
-use Rattle.ts_answer.specs.Answer.{Tried, Answered, ◌>>=◌, known, wanted, outcome, carried_out, drop_series, create_irregular, put_no_dups}
+use Rattle.ts_answer.specs.Answer.{Answered, known, wanted, outcome, carried_out, drop_series, create_irregular, put_no_dups}
 use Rattle.ts_answer.specs.Rolling.{with_window, without_windows, put_planned}
 use Rattle.ts_answer.specs.CarriedOut.{CarriedOut}
 use Rattle.ts_answer.proofs.CallerLemmas.{on_ok, on_err, wanted-there}
@@ -114,22 +112,10 @@ module _ (key : List ℕ) (a : Catalogue) where
   unfolding outcome carried_out
   put_not stamp values refusal is = is
 
--- the key of a set is short
-most_of : (m : ℕ) → nat_le m 40 ≡ true → m ≤ 40
-most_of m is = grind (arith, nat_tests)
-
-short_by : (a b c : Bool) → (a && b && c) ≡ true → b ≡ true
-short_by true true c is = refl
-short_by true false c is = absurd (cc)
-short_by false b c is = absurd (cc)
-
-pub short_set : (set : List ℕ) → IsTrue (is_set set) → length set ≤ 40
-short_set set is = most_of (length set) (short_by (is_key set) (nat_le (length set) 40) (not (list_any (λ c. c == 35) set)) is)
-
--- no window goes
-pub none_there : (xs : List ℕ) → (length xs == 0) ≡ true → xs ≡ []
-none_there [] is = refl
-none_there (x ∷ xs) is = absurd (grind (arith, nat_tests))
+-- the key of a window that is there
+pub own_window : (set : List ℕ) (w : ℕ) (attach : Bool) (key : List ℕ) → Some key ≡ key_if set w (not attach) → (attach ≡ false) × (key ≡ window_key set w)
+own_window set w true key is = absurd (cc)
+own_window set w false key is = let same : key ≡ window_key set w = cc in (refl, same)
 
 -- a window that isn't to be made
 pub not_made : (key container : List ℕ) (attach : Bool) (a b : Catalogue) → attach ≡ false → b ≡ a → with_window attach key container a ≡ Ok b

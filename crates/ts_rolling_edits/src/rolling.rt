@@ -21,6 +21,7 @@ use ts_container::Charges;
 use ts_elements::edit_element;
 use ts_model::Defs;
 use ts_page::{Page, Pages};
+use ts_rolling::window_key;
 use ts_rolling_sets::{PlannedDrop, PlannedPut, plan_drop_of, plan_put_into};
 use ts_say::say_count;
 use ts_series::EditKind;
@@ -49,16 +50,31 @@ pub fn rolling_put<P: Pages>(
     ensures undisturbed { P.undisturbed pages.old pages.new }
 {
     let planned = plan_put_into(alloc, pages, defs, space, set, stamp, values)?;
-    if !planned.plan.attach && planned.plan.purge.is_empty() {
-        let key = &planned.key;
+    if let Some(key) = planned.alone() {
         let how = EditKind::PutNoDups;
         return edit_element(
             pages, page, defs, space, charges, how, key, stamp, values, out,
         );
     }
-    put_on_copies(
-        alloc, pages, page, defs, space, set, &planned, stamp, values, out,
-    )
+    let key = window_key(alloc, set, planned.plan.window)?;
+    let put = Put {
+        set,
+        key,
+        planned,
+        stamp,
+        values,
+    };
+    put_on_copies(alloc, pages, page, defs, space, &put, out)
+}
+
+// A put into a set: the set's key, the key of the window, what is planned, and what is put.
+#[derive(Drop)]
+struct Put<'a> {
+    set: &'a Key,
+    key: Key,
+    planned: PlannedPut<'a>,
+    stamp: Stamp,
+    values: &'a Literals,
 }
 
 // Does all that a put asks for on copies, which are what is in memory then.
@@ -68,36 +84,42 @@ fn put_on_copies<P: Pages>(
     page: &mut Page,
     defs: &Defs,
     space: &Space,
-    set: &Key,
-    planned: &PlannedPut,
-    stamp: Stamp,
-    values: &Literals,
+    put: &Put<'_>,
     out: &mut Reply,
 ) -> Result<Effect, Stop>
     requires seen { IsSeen P.tells (view defs.now.definitions space.now (P.contents pages.old)) }
-    requires set { IsTrue (is_set set.now) }
-    requires key { planned.now.key ≡ window_key set.now planned.now.plan.window }
-    requires few { EachIndex planned.now.plan.purge.items
-        (λ k. slice_index planned.now.plan.purge.items k < 1_000_000_000_000) }
+    requires set { IsTrue (is_set put.now.set.now) }
+    requires key { put.now.key ≡ window_key put.now.set.now put.now.planned.plan.window }
+    requires few { EachIndex put.now.planned.plan.purge.items
+        (λ k. slice_index put.now.planned.plan.purge.items k < 1_000_000_000_000) }
     requires empty { out.old ≡ [] }
-    ensures done { IfOk result (λ effect. IsWholeDone P.tells
-        (λ cat after. put_planned set.now planned.now.container
-        (a_plan planned.now.plan.window planned.now.plan.attach planned.now.plan.purge.items) stamp values.now cat
+    ensures done { let planned = put.now.planned in IfOk result (λ effect. IsWholeDone P.tells
+        (λ cat after. put_planned put.now.set.now planned.container.now
+        (a_plan planned.plan.window planned.plan.attach planned.plan.purge.items) put.now.stamp put.now.values.now cat
         ≡ Ok (out.new, after))
         effect (view defs.now.definitions space.now (P.contents pages.old)) (P.contents pages.new)) }
-    ensures stopped { IfErr result (λ stop. IsPartStopped P.tells
-        (λ refusal cat. put_planned set.now planned.now.container
-        (a_plan planned.now.plan.window planned.now.plan.attach planned.now.plan.purge.items) stamp values.now cat
+    ensures stopped { let planned = put.now.planned in IfErr result (λ stop. IsPartStopped P.tells
+        (λ refusal cat. put_planned put.now.set.now planned.container.now
+        (a_plan planned.plan.window planned.plan.attach planned.plan.purge.items) put.now.stamp put.now.values.now cat
         ≡ Err refusal)
         stop (view defs.now.definitions space.now (P.contents pages.old)) (P.contents pages.new)) }
     ensures count { (P.contents pages.new).count ≡ (P.contents pages.old).count }
     ensures undisturbed { P.undisturbed pages.old pages.new }
 {
     let mut copies = Copies::of(alloc, defs, space)?;
-    let (plan, key, container) = (&planned.plan, &planned.key, &planned.container);
-    drop_windows(alloc, pages, &mut copies, set, &plan.purge)?;
+    let (plan, key, container) = (&put.planned.plan, &put.key, put.planned.container);
+    drop_windows(alloc, pages, &mut copies, put.set, &plan.purge)?;
     open_window(alloc, pages, &mut copies, plan.attach, key, container)?;
-    put_in_window(alloc, pages, page, &mut copies, key, stamp, values, out)?;
+    put_in_window(
+        alloc,
+        pages,
+        page,
+        &mut copies,
+        key,
+        put.stamp,
+        put.values,
+        out,
+    )?;
     Ok(copies.whole())
 }
 

@@ -1,6 +1,7 @@
 -- The control of a set in the catalogue of what is held, and what comes of it.
 use Rattle.std.proofs.Common.{◌≡◌, ℕ, ℤ, ◌≤◌, ◌==◌, ◌&&◌, Bool, true, false, not, nat_le, cond, length, Option, Some, None, Result, Ok, Err, IsErrAnd, List, [], ◌∷◌, slice_get, refl, ap, sym, ◌∙◌, subst, arith}
 use Rattle.std.specs.List.{list_any}
+use Rattle.std.specs.Option.{option_map}
 use Rattle.std.proofs.lemmas.Bool.Decides.{nat_tests}
 use Rattle.ts_base.specs.Name.{is_key}
 use Rattle.std.specs.Ordering.{nat_cmp, is_eq, eq_by_cmp}
@@ -20,21 +21,26 @@ use Rattle.ts_offset.specs.declared.shape.Shape.TheVariants as shapes
 use Rattle.ts_model.specs.declared.kind.Kind.TheVariants as kinds
 use Rattle.ts_model.specs.Catalogue.{Series, Catalogue, name_cmp, columns_of, shape_of}
 use Rattle.ts_model.specs.Kinds.{without}
-use Rattle.ts_layout.specs.Meaning.{Layout, catalogue_of}
-use Rattle.ts_layout.proofs.CallerLemmas.{one_of}
+use Rattle.ts_model.specs.Definitions.{SeriesDef, at_slot}
+use Rattle.ts_layout.specs.Meaning.{Layout, catalogue_of, heading_at, shape_at}
+use Rattle.ts_layout.proofs.CallerLemmas.{one_of, series_at}
 use Rattle.ts_rolling.specs.Keys.{most_kept, is_set, control_key, read_control}
 use Rattle.ts_rolling.specs.Plan.{Planned, planned}
 use Rattle.ts_rolling.specs.Sets.{controls, control_of, windows, live}
 use Rattle.ts_rolling.proofs.KeyLemmas.{control_form, controls_cmp}
 use Rattle.ts_rolling.proofs.NumberedLemmas.{tested, find-picked}
-use Rattle.ts_answer.specs.Answer.{Tried, Answered, ◌>>=◌, known, wanted, a_row}
+use Rattle.ts_answer.specs.Answer.{Tried, Answered, ◌>>=◌, known, a_row}
 use Rattle.ts_answer.specs.Rolling.{a_control, grid_in, control_grid, put_planned, roll_put, roll_drop, without_windows}
 use Rattle.ts_answer.specs.Reply.{count_line}
 use Rattle.ts_answer.specs.Tried.{IsTried, IsRefusedAs}
-use Rattle.ts_answer.specs.View.{View, IsViewOf}
-use Rattle.ts_answer.proofs.CallerLemmas.{on_ok, on_err, wanted-there, good-row, bad-row, tried_ok}
-use Rattle.ts_shelf.specs.Shelf.{IsShelfIn}
-use Rattle.ts_rolling_sets.specs.InMemory.{kept_in, gridded}
+use Rattle.ts_answer.specs.Slots.{IsSlotNamed}
+use Rattle.ts_answer.specs.View.{View, KeepsRules, IsViewOf}
+use Rattle.ts_answer.proofs.CallerLemmas.{on_ok, on_err, good-row, bad-row, tried_ok}
+use Rattle.ts_shelf.specs.Shelf.{IsShelf, IsShelfIn}
+use Rattle.ts_shelf.proofs.MemoryLemmas.{bare_of, bare_rules}
+use Rattle.ts_shelf.proofs.SeenLemmas.{shelf_seen}
+use Rattle.ts_rolling_sets.specs.InMemory.{IsKeyIn, kept_in, gridded}
+use Rattle.ts_rolling_sets.proofs.HomeLemmas.{within_table}
 use Rattle.ts_rolling_sets.proofs.OrderLemmas.{control_number, no_control, one_control}
 
 -- a control is the series with its key
@@ -143,17 +149,37 @@ short_by false b c is = absurd (cc)
 pub short_set : (set : List ℕ) → is_set set ≡ true → length set ≤ 40
 short_set set is = nat_small (length set) (short_by (is_key set) (nat_le (length set) 40) (not (list_any (λ c. c == 35) set)) is)
 
--- a series that is there is never unknown
-pub still_there : {A : Type 0} (trouble : Trouble) (key : List ℕ) (cat : Catalogue) (s : Series) (tried : Tried A) → get cat.series key ≡ Some s → IsRefusedAs trouble (wanted key cat.series) → IsRefusedAs trouble tried
-still_there (Refused refusal) key cat s tried there why = absurd (let never = sym (wanted-there key cat.series s there) ∙ why in cc)
-still_there (Memory error) key cat s tried there why = tt
-
 -- the same series under the same key
 pub same_shelf : (l : Layout) (read key : List ℕ) (shape own : Shape) (slot : ℕ) (h : Heading) (s series : Series) → read ≡ key → shape ≡ own → get (catalogue_of l).series key ≡ Some s → IsShelfIn l read shape slot h series
     → IsShelfIn l key own slot h s
 same_shelf l read key shape own slot h s series name lies there shelf =
     let same : series ≡ s = one_of (get (catalogue_of l).series key) series s (ap (λ (k : List ℕ). get (catalogue_of l).series k) (sym name) ∙ shelf.stands.listed) there in
     subst (λ (y : Series). IsShelfIn l key own slot h y) same (subst (λ (f : Shape). IsShelfIn l key f slot h series) lies (subst (λ (k : List ℕ). IsShelfIn l k shape slot h series) name shelf))
+
+-- a series of a key in a slot that is kept in memory
+named_in : (o : Option SeriesDef) (key : List ℕ) → option_map (λ (s : SeriesDef). s.key) o ≡ Some key → (s : SeriesDef) × (o ≡ Some s) × (s.key ≡ key)
+named_in None key is = absurd (cc)
+named_in (Some s) key is = let same : s.key ≡ key = cc in (s, refl, same)
+
+pub key_named : (x : View) → KeepsRules x → (slot : ℕ) (key : List ℕ) → IsKeyIn x.definitions slot key → IsSlotNamed kinds.Series slot key x.definitions
+key_named x kept slot key is =
+    let there = named_in (at_slot slot x.definitions.series) key is in
+    let below = within_table x.definitions.series slot there.0 there.1 in
+    let size = kept.sound.tables.series.size in
+    subst (λ (k : List ℕ). IsSlotNamed kinds.Series slot k x.definitions) there.2
+    (record { within = omega (arith, below, size); is = (series_at (bare_of x) slot there.0 (bare_rules x kept) there.1).named })
+
+-- it is a shelf with what stands there
+pub shelf_is : (x : View) (kept : KeepsRules x) (slot : ℕ) (key : List ℕ) → IsKeyIn x.definitions slot key → (series : ℕ) (shape own : Shape) (h : Heading) → series ≡ slot → heading_at x.definitions slot ≡ Some h → shape_at x.definitions slot ≡ Some shape → shape ≡ own
+    → IsShelf own series h key x.definitions
+shelf_is x kept slot key is series shape own h same columns lies shapes =
+    subst (λ (n : ℕ). IsShelf own n h key x.definitions) (sym same) (record { named = key_named x kept slot key is; columns = columns; lies = lies ∙ ap Some shapes })
+
+-- and a control's is in each layout that is held
+pub control_shelf : (x : View) (l : Layout) (held : IsViewOf x l) (read key : List ℕ) (shape : Shape) (slot : ℕ) (h : Heading) (s : Series) → read ≡ key → IsShelf shape slot h read x.definitions → get (catalogue_of l).series key ≡ Some s → IsShelfIn l key shape slot h s
+control_shelf x l held read key shape slot h s name shelf there =
+    let seen = shelf_seen x l held read shape slot h shelf in
+    same_shelf l read key shape shape slot h s seen.0 name refl there seen.2
 
 -- the answer of a drop
 module _ (set : List ℕ) (cat : Catalogue) (n : ℕ) (s : Series) (g : GridPlan) (is : control_of set cat ≡ Some (n, s)) (grid : control_grid s cat ≡ Ok g) where

@@ -23,7 +23,8 @@ use Rattle.ts_rolling.specs.Sets.{windows, live}
 use Rattle.ts_rolling.proofs.PlanLemmas.{all_going}
 use Rattle.ts_shelf.proofs.SeenLemmas.{SeriesIn}
 use Rattle.ts_shelf.proofs.MemoryLemmas.{bare_of, bare_rules, series_kept}
-use Rattle.ts_rolling_sets.specs.InMemory.{live_in}
+use Rattle.ts_rolling_sets.specs.declared.live.KeptBy.{KeptBy}
+use Rattle.ts_rolling_sets.specs.InMemory.{IsKeyIn, live_in}
 use Rattle.ts_rolling_sets.proofs.OrderLemmas.{live_same, live_in_few, each_few}
 
 -- an error says this, by another call's error
@@ -76,6 +77,18 @@ container_is d slot key holder regular is =
     let def = found.2 in
     let same : found.0.container ≡ holder = cc in
     subst (λ (o : Option SeriesDef). IfSome o (λ s. s.container ≡ holder)) (sym found.1) same
+
+-- and its key
+pub key_is : (d : Definitions) (slot : ℕ) (key : List ℕ) (holder : ℕ) (regular : _) → at_slot slot (slots kinds.Series d) ≡ Some (defs.Series key holder regular) → IsKeyIn d slot key
+key_is d slot key holder regular is =
+    let found = own of_series slot d.series (defs.Series key holder regular) is in
+    let def = found.2 in
+    let same : found.0.key ≡ key = cc in
+    ap (option_map (λ (s : SeriesDef). s.key)) found.1 ∙ ap Some same
+
+pub key_there : (d : Definitions) (slot : ℕ) (key : List ℕ) (found : Option KeptBy) → IfSome found (λ o. (o.slot ≡ slot) × (o.key.now ≡ key)) → IsKeyIn d slot key → IfSome found (λ o. IsKeyIn d o.slot o.key.now)
+key_there d slot key None own is = tt
+key_there d slot key (Some o) own is = ap (λ (n : ℕ). option_map (λ (s : SeriesDef). s.key) (at_slot n d.series)) own.0 ∙ is ∙ ap Some (sym own.1)
 
 pub name_is : (d : Definitions) (slot : ℕ) (name : List ℕ) (row_type quota : ℕ) → at_slot slot (slots kinds.Container d) ≡ Some (defs.Container name row_type quota) → IfSome (at_slot slot d.containers) (λ c. c.name ≡ name)
 name_is d slot name row_type quota is =

@@ -1,3 +1,4 @@
+pub mod CallerLemmas
 mod ClipLemmas
 mod ControlLemmas
 mod HomeLemmas

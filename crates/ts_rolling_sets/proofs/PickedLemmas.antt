@@ -1,5 +1,6 @@
 -- What is picked of some numbers: those of which nothing is picked don't count, and what is picked first and last.
-use Rattle.std.proofs.Common.{◌≡◌, ℕ, zero, suc, ◌+◌, ◌<◌, ◌≤◌, ◌==◌, Bool, true, false, ◌||◌, cond, Option, Some, None, List, [], ◌∷◌, ◌++◌, length, get_or, take, drop, option_to_list, refl, sym, ap, subst, ◌∙◌, arith}
+use Rattle.std.proofs.Common.{◌≡◌, ℕ, zero, suc, ◌+◌, ◌<◌, ◌≤◌, ◌==◌, Bool, true, false, ◌||◌, inl, inr, Option, Some, None, List, [], ◌∷◌, ◌++◌, length, get_or, take, drop, option_to_list, refl, sym, ap, subst, ◌∙◌, arith}
+use Rattle.std.proofs.lemmas.Bool.{cases_lt}
 use Rattle.std.proofs.lemmas.List.{get_or-take}
 use Rattle.std.proofs.lemmas.List.Folds.{list_any-append}
 use Rattle.std.proofs.lemmas.Bool.Decides.{nat_tests}
@@ -90,6 +91,13 @@ module _ (f : ℕ → Option ℕ) where
           → list_any (λ k. k == y) (cons_option o (filter_map f xs)) ≡ true → (i : ℕ) × (i < length (x ∷ xs)) × (f (get_or (x ∷ xs) i 0) ≡ Some y)
       by None is rest more = further (rest more)
       by (Some j) is rest more = at j (j == y) is refl rest more
+
+-- nothing is picked of one more
+pub none_next : (f : ℕ → Option ℕ) (xs : List ℕ) (i : ℕ) → ((k : ℕ) → k < i → k < length xs → f (get_or xs k 0) ≡ None) → f (get_or xs i 0) ≡ None → (k : ℕ) → k < i + 1 → k < length xs → f (get_or xs k 0) ≡ None
+none_next f xs i none here k before within = elim (cases_lt k i) [
+  | inl lt ↦ none k lt within
+  | inr ge ↦ let same : i ≡ k = omega (arith, before, ge) in subst (λ (n : ℕ). f (get_or xs n 0) ≡ None) same here
+]
 
 -- one of an option
 pub one_of : (o : Option ℕ) (y : ℕ) → list_any (λ k. k == y) (option_to_list o) ≡ true → o ≡ Some y

@@ -1,10 +1,9 @@
 -- Series in the order of their keys: those below a text stand in front, and the controls and windows of a set stand
 -- between two texts.
-use Rattle.std.proofs.Common.{◌≡◌, ℕ, zero, suc, ◌+◌, ◌<◌, ◌≤◌, ◌==◌, ◌&&◌, ◌||◌, is_none, Bool, true, false, T, cond, inl, inr, Option, Some, None, List, [], ◌∷◌, ◌++◌, length, get_or, take, drop, codes, bytes_eq, option_to_list, refl, sym, ap, subst, ◌∙◌, arith}
+use Rattle.std.proofs.Common.{◌≡◌, ℕ, zero, suc, ◌+◌, ◌<◌, ◌≤◌, ◌==◌, ◌&&◌, ◌||◌, is_none, Bool, true, false, T, cond, inl, inr, Option, Some, None, List, [], ◌∷◌, ◌++◌, length, get_or, take, drop, codes, slice_get, bytes_eq, option_to_list, refl, sym, ap, subst, ◌∙◌, arith}
 use Rattle.std.proofs.lemmas.Bool.{false≢true, cases_lt}
-use Rattle.std.proofs.lemmas.List.{append-nil, take-append-drop}
+use Rattle.std.proofs.lemmas.List.{append-nil, take-append-drop, get_or-drop, get_or-take, length-drop, length-take-le}
 use Rattle.std.specs.List.{list_any, filter_map}
-use Rattle.std.specs.Option.{option_and_then}
 use Rattle.std.specs.Ordering.{nat_cmp, is_lt, ordering_then}
 use Rattle.std.specs.declared.cmp.Ordering.{Ordering}
 use Rattle.std.specs.declared.cmp.Ordering.TheVariants.{Less, Equal, Greater}
@@ -23,7 +22,8 @@ use Rattle.ts_rolling.proofs.DigitLemmas.{length-digits_of, all_digits-digits_of
 use Rattle.ts_rolling.proofs.KeyLemmas.{window_form, control_form, cmp-front}
 use Rattle.ts_rolling_sets.specs.InMemory.{control_at, control_if, window_at, window_if, in_order, kept_in, live_in}
 use Rattle.ts_rolling_sets.specs.Order.{below_if, is_below, IsPlace}
-use Rattle.ts_rolling_sets.proofs.PickedLemmas.{any_picked, picked_where, one_of}
+use Rattle.ts_rolling_sets.proofs.PickedLemmas.{any_picked, picked_where, one_of, picked_behind, picked_nothing}
+use Rattle.ts_rolling_sets.proofs.OrderLemmas.{picked_first}
 
 is_less : (r : Ordering) → is_lt r ≡ true → r ≡ Less
 is_less Less is = refl
@@ -190,21 +190,53 @@ module _ (d : Definitions) (set : List ℕ) where
           let key = ((control_form s.key set n).0 is).2 in
           false≢true (sym behind ∙ ap (λ (k : List ℕ). is_lt (name_cmp k (set ++ codes "#x"))) key ∙ control_last set n))
 
--- what is picked of the series between two texts with one front
-abbrev pub AreBetween : Definitions → List ℕ → List ℕ → List ℕ → List ℕ → Type 0
-AreBetween d front low high slots =
-    (pick : ℕ → Option ℕ) → ((slot : ℕ) → is_below d (front ++ low) slot ≡ true → pick slot ≡ None) → ((slot : ℕ) → is_below d (front ++ high) slot ≡ false → pick slot ≡ None) → filter_map pick slots ≡ filter_map pick (in_order d)
+-- what is picked of the series in front of a place and not below a text
+abbrev pub AreBefore : Definitions → ℕ → List ℕ → List ℕ → Type 0
+AreBefore d end low slots =
+    (pick : ℕ → Option ℕ) → ((slot : ℕ) → is_below d low slot ≡ true → pick slot ≡ None) → ((k : ℕ) → end ≤ k → k < length (in_order d) → pick (get_or (in_order d) k 0) ≡ None) → filter_map pick slots ≡ filter_map pick (in_order d)
 
-module _ (d : Definitions) (set front : List ℕ) (slots_ : List ℕ) (same : front ≡ set) where
-  pub all_controls : AreBetween d front (codes "#w") (codes "#x") slots_ → filter_map (control_at d set) slots_ ≡ kept_in d set
-  all_controls between =
-      between (control_at d set) (λ slot below. no_control_before d set slot (ap (λ (s : List ℕ). is_below d (s ++ codes "#w") slot) (sym same) ∙ below))
-      (λ slot behind. no_control_behind d set slot (ap (λ (s : List ℕ). is_below d (s ++ codes "#x") slot) (sym same) ∙ behind))
+module _ (d : Definitions) (set : List ℕ) (place : ℕ) (at : IsPlace d (set ++ codes "#w") place) where
+  -- the windows of a set stand in front of its controls
+  pub all_windows : (container : ℕ) (slots_ front : List ℕ) → front ≡ set → AreBefore d place (front ++ codes "#") slots_ → filter_map (window_at d set container) slots_ ≡ live_in d set container
+  all_windows container slots_ front same before =
+      before (window_at d set container) (λ slot below. no_window_before d set container slot (ap (λ (s : List ℕ). is_below d (s ++ codes "#") slot) (sym same) ∙ below))
+      (λ k ge inside. no_window_behind d set container (get_or (in_order d) k 0) (at.behind k ge inside))
 
-  pub all_windows : (container : ℕ) → AreBetween d front (codes "#") (codes "#w") slots_ → filter_map (window_at d set container) slots_ ≡ live_in d set container
-  all_windows container between =
-      between (window_at d set container) (λ slot below. no_window_before d set container slot (ap (λ (s : List ℕ). is_below d (s ++ codes "#") slot) (sym same) ∙ below))
-      (λ slot behind. no_window_behind d set container slot (ap (λ (s : List ℕ). is_below d (s ++ codes "#w") slot) (sym same) ∙ behind))
+  -- and its controls from there on
+  module _ (slots_ : List ℕ) (are : slots_ ≡ drop place (in_order d)) where
+    abbrev control : ℕ → Option ℕ
+    control = control_at d set
+
+    all_controls : filter_map control slots_ ≡ kept_in d set
+    all_controls = ap (filter_map control) are ∙ picked_behind control (in_order d) place (λ k before within. no_control_before d set (get_or (in_order d) k 0) (at.before k before))
+
+    abbrev pub NoneBefore : ℕ → Type 0
+    NoneBefore i = (k : ℕ) → k < i → k < length slots_ → control (get_or slots_ k 0) ≡ None
+
+    pub first_from : (i n : ℕ) → i < length slots_ → NoneBefore i → control (get_or slots_ i 0) ≡ Some n → Some n ≡ slice_get (kept_in d set) 0
+    first_from i n within none is =
+        picked_first control slots_ i n within (picked_nothing control (take i slots_) (λ k inside.
+        let e = length-take-le i slots_ (omega (arith, within)) in let before : k < i = omega (arith, e, inside) in
+        ap control (get_or-take i slots_ k 0 before) ∙ none k before (omega (arith, before, within)))) is
+        ∙ ap (λ (ns : List ℕ). slice_get ns 0) all_controls
+
+    pub no_control_at_all : ((k : ℕ) → k < length slots_ → control (get_or slots_ k 0) ≡ None) → None ≡ slice_get (kept_in d set) 0
+    no_control_at_all none = sym (ap (λ (ns : List ℕ). slice_get ns 0) (sym all_controls ∙ picked_nothing control slots_ none))
+
+    at_slot_of : (k : ℕ) → get_or slots_ k 0 ≡ get_or (in_order d) (place + k) 0
+    at_slot_of k = ap (λ (ss : List ℕ). get_or ss k 0) are ∙ get_or-drop place (in_order d) k 0
+
+    inside_all : (k : ℕ) → k < length slots_ → place + k < length (in_order d)
+    inside_all k within = let e = ap (λ (ss : List ℕ). length ss) are in let f = length-drop place (in_order d) in omega (arith, e, f, within)
+
+    -- none is behind a series that isn't below `#x`
+    pub no_control_on : (i : ℕ) → i < length slots_ → NoneBefore i → is_below d (set ++ codes "#x") (get_or slots_ i 0) ≡ false → None ≡ slice_get (kept_in d set) 0
+    no_control_on i within none behind = no_control_at_all (λ k inside. elim (cases_lt k i) [
+      | inl before ↦ none k before inside
+      | inr ge ↦
+          let here : is_below d (set ++ codes "#x") (get_or (in_order d) (place + i) 0) ≡ false = ap (is_below d (set ++ codes "#x")) (sym (at_slot_of i)) ∙ behind in
+          ap control (at_slot_of k) ∙ no_control_behind d set (get_or (in_order d) (place + k) 0) (behind_later d (set ++ codes "#x") (place + i) (place + k) (omega (arith, ge)) (inside_all k inside) here)
+    ])
 
 -- the window whose key a text is stands at the place of that text, if anywhere
 module _ (d : Definitions) (set : List ℕ) (container window : ℕ) (key : List ℕ) (its : key ≡ window_key set window) (place : ℕ) (at : IsPlace d (key ++ []) place) where

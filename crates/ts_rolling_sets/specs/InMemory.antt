@@ -1,5 +1,5 @@
 -- What is in memory of a rolling set: its control and its windows among the definitions, in the order of their keys.
-use Rattle.std.specs.Prelude.{◌≡◌, ℕ, ◌==◌, ◌&&◌, is_none, if◌then◌else◌, option_and_then, Option, Some, None, List}
+use Rattle.std.specs.Prelude.{◌≡◌, ℕ, ◌==◌, ◌&&◌, is_none, if◌then◌else◌, option_and_then, option_map, Option, Some, None, List}
 use Rattle.std.specs.List.{filter_map}
 use Rattle.std.specs.FinMap.{values}
 use Rattle.ts_row.specs.RowType.{Heading}
@@ -14,6 +14,10 @@ use Rattle.ts_rolling.specs.Sets.{control_of}
 use Rattle.ts_answer.specs.Refusals.{Tried, ◌>>=◌}
 use Rattle.ts_answer.specs.Rolling.{a_control, control_grid}
 use Rattle.ts_shelf.specs.Shelf.{IsShelfIn}
+
+-- a series of this key stands in a slot
+abbrev pub IsKeyIn : Definitions → ℕ → List ℕ → Type 0
+IsKeyIn d slot key = option_map (λ s. s.key) (at_slot slot d.series) ≡ Some key
 
 -- how many windows a set keeps by the series in a slot, where that is a control of it
 abbrev pub control_if : List ℕ → Option SeriesDef → Option ℕ

@@ -48,7 +48,7 @@ pub fn clip_set<P: Pages>(
         (view defs.now.definitions space.now (P.contents pages.old)) (P.contents pages.new) }
     ensures undisturbed { P.undisturbed pages.old pages.new }
 {
-    let control = control_of(alloc, pages, defs, space, set)?;
+    let control = control_of(pages, defs, space, set)?;
     let (container, _) = home_of(defs, control.shelf.series);
     let slots = window_slots(alloc, defs, set, container)?;
     match say_all(pages, page, defs, space, &slots, from, to, out)? {

@@ -1,5 +1,5 @@
 // Searches among the series in the order of their keys.
-ghost use Rattle.std.specs.Prelude.{◌≡◌, ◌<◌, ◌++◌, ℕ, Option, None, true, false, EachIndex, slice_index};
+ghost use Rattle.std.specs.Prelude.{◌≡◌, ◌<◌, ◌≤◌, ◌++◌, ℕ, Option, None, true, EachIndex, drop, length, slice_index};
 ghost use Rattle.std.specs.List.{filter_map};
 ghost use Rattle.std.specs.Ordering.{is_lt};
 ghost use Rattle.ts_model.specs.Catalogue.{name_cmp};
@@ -9,19 +9,30 @@ ghost use Rattle.ts_rolling_sets.specs.Order.{is_below, IsPlace};
 
 use ts_model::{Def, Defs, Kind};
 
-/// The slots of the series whose keys stand between two texts with one front, in the order of their keys. Nothing that
-/// is picked of all series alone by such keys is missed.
-pub(crate) fn series_between<'a>(defs: &'a Defs, front: &[u8], low: &[u8], high: &[u8]) -> &'a [u16]
+/// The slots of the series in front of a place whose keys aren't below two texts, one behind the other, in the order of
+/// their keys. Nothing that is picked of all series alone by such keys is missed.
+pub(crate) fn series_before<'a>(defs: &'a Defs, end: usize, front: &[u8], low: &[u8]) -> &'a [u16]
+    requires { end ≤ length (in_order defs.now.definitions) }
     ensures within { EachIndex result.now (λ k. slice_index result.now k < series_slots) }
     ensures picked { (pick : ℕ → Option ℕ)
         → ((slot : ℕ) → is_below defs.now.definitions (front.now ++ low.now) slot ≡ true → pick slot ≡ None)
-        → ((slot : ℕ) → is_below defs.now.definitions (front.now ++ high.now) slot ≡ false → pick slot ≡ None)
+        → ((k : ℕ) → end ≤ k → k < length (in_order defs.now.definitions)
+        → pick (slice_index (in_order defs.now.definitions) k) ≡ None)
         → filter_map pick result.now ≡ filter_map pick (in_order defs.now.definitions) }
 {
-    let end = place_of(defs, front, high);
     let below = &defs.in_order(Kind::Series)[..end];
     let start = place_of(defs, front, low);
     &below[start.min(end)..]
+}
+
+/// The slots of the series from a place on, in the order of their keys.
+pub(crate) fn series_from(defs: &Defs, place: usize) -> &[u16]
+    requires { place ≤ length (in_order defs.now.definitions) }
+    ensures within { EachIndex result.now (λ k. slice_index result.now k < series_slots) }
+    ensures rest { result.now ≡ drop place (in_order defs.now.definitions) }
+{
+    let order = defs.in_order(Kind::Series);
+    &order[place..]
 }
 
 /// How many series have a key below two texts, one behind the other.
@@ -42,8 +53,8 @@ pub(crate) fn place_of(defs: &Defs, front: &[u8], rest: &[u8]) -> usize
     low
 }
 
-// Whether the series in a slot has a key below two texts, one behind the other.
-fn is_below(defs: &Defs, slot: u16, front: &[u8], rest: &[u8]) -> bool
+/// Whether the series in a slot has a key below two texts, one behind the other.
+pub(crate) fn is_below(defs: &Defs, slot: u16, front: &[u8], rest: &[u8]) -> bool
     requires { slot < series_slots }
     ensures { result ≡ is_below defs.now.definitions (front.now ++ rest.now) slot }
 {

@@ -1,4 +1,4 @@
-use Rattle.std.proofs.Common.{◌≡◌, ℕ, ◌<◌, true, Option, Ok, Err, Result, IfOk, IfSome, refl, subst, sym, arith}
+use Rattle.std.proofs.Common.{◌≡◌, ℕ, ◌<◌, true, Option, Ok, Err, Result, IfOk, IfSome, refl, arith}
 use Rattle.ts_base.specs.declared.fault.Trouble.{Trouble}
 use Rattle.ts_command.specs.declared.command.Command.TheVariants.{TSCreateIrr}
 use Rattle.ts_model.specs.declared.kind.Kind.TheVariants as kinds

@@ -5,7 +5,8 @@ use Rattle.ts_effects.proofs.CallerLemmas.{can_count}
 use Rattle.ts_rolling_edits.specs.Parts.{seen_on, Came, Never}
 use Rattle.ts_rolling_edits.proofs.PartLemmas.{came_copied, seen_then, stopped_then, stops_all}
 use Rattle.ts_rolling_edits.proofs.GrowthLemmas.{grows_then, grown_alone}
-use Rattle.ts_rolling_edits.proofs.RollingLemmas.{short_set, set_gone, control_gone}
+use Rattle.ts_rolling_sets.proofs.CallerLemmas.{short_set}
+use Rattle.ts_rolling_edits.proofs.RollingLemmas.{set_gone, control_gone}
 use Rattle.ts_rolling_edits.proofs.rolling.drop_on_copies.Goals as goal
 
 pub of-requires : goal.of-requires

@@ -2,7 +2,6 @@ use Rattle.std.proofs.Common.{◌≡◌, ℕ, Ok, Err, ◌++◌, refl, sym, ap, 
 use Rattle.ts_command.specs.declared.command.Command.TheVariants.{RollingDrop}
 use Rattle.ts_model.specs.declared.kind.Kind.TheVariants as kinds
 use Rattle.ts_model.specs.Kinds.{without}
-use Rattle.ts_answer.specs.declared.stop.Stop.TheVariants.{Memory}
 use Rattle.ts_model.specs.Catalogue.{Catalogue}
 use Rattle.ts_answer.specs.Answer.{Tried, Answered, outcome, carried_out}
 use Rattle.ts_answer.specs.Reply.{count_line}

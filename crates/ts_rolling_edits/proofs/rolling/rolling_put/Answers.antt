@@ -1,4 +1,4 @@
-use Rattle.std.proofs.Common.{◌≡◌, ℕ, ◌==◌, true, List, length, Ok, Err, refl, sym, ap, ◌∙◌, subst, arith}
+use Rattle.std.proofs.Common.{ℕ, List, refl, sym, ap, ◌∙◌}
 use Rattle.ts_command.specs.declared.command.Command.TheVariants.{RollingPut, PutElemNoDups}
 use Rattle.ts_rolling.specs.Plan.{a_plan}
 use Rattle.ts_layout.specs.Meaning.{catalogue_of}
@@ -7,7 +7,8 @@ use Rattle.ts_answer.specs.Rolling.{put_planned}
 use Rattle.ts_answer.specs.View.{view}
 use Rattle.ts_answer.proofs.CallerLemmas.{stopped_first, tried_stopped}
 use Rattle.ts_rolling_edits.proofs.PartLemmas.{carried_as, carried_whole}
-use Rattle.ts_rolling_edits.proofs.RollingLemmas.{none_there, put_alone}
+use Rattle.ts_rolling_edits.proofs.RollingLemmas.{own_window, put_alone}
+use Rattle.ts_rolling_sets.proofs.CallerLemmas.{short_set}
 use Rattle.ts_rolling_edits.proofs.rolling.rolling_put.Goals as goal
 
 pub returns-in_err-planned-clause-carried : goal.returns-in_err-planned-clause-carried
@@ -19,26 +20,29 @@ returns-in_err-planned-clause-carried g c =
     (tried_stopped g.P.Pages.tells command c.args.out.now x c.in_err-planned.field-0.0 (λ l kept. c.in_err-planned.ensures.err l kept))
 
 -- an edit of the window alone
-pub returns-then-is_empty-clause-carried : goal.returns-then-is_empty-clause-carried
+pub returns-in-Some-clause-carried : goal.returns-in-Some-clause-carried
 unfolding outcome carried_out
-returns-then-is_empty-clause-carried g c =
+returns-in-Some-clause-carried g c =
     let tells = g.P.Pages.tells in
     let set = c.args.set.now in
     let stamp = c.args.stamp in
     let values = c.args.values.now in
     let planned = c.in_ok-planned.planned in
     let plan = planned.plan in
+    let key = c.in-Some.key.now in
     let x = view c.args.defs.now.definitions c.args.space.now (g.P.Pages.contents c.args.pages.now) in
     let w = g.P.Pages.contents c.edit_element.new.pages in
-    let many : plan.purge.len ≡ length plan.purge.items = omega (arith, plan.purge.ok.0) in
-    let none = none_there plan.purge.items (subst (λ (n : ℕ). (n == 0) ≡ true) many (sym c.is_empty.ensures ∙ c.if-is_empty.true)) in
-    carried_as tells (RollingPut set stamp values) c.edit_element.new.out x w refl refl refl (PutElemNoDups planned.key stamp values) c.edit_element.result refl
+    let own = own_window set plan.window plan.attach key (c.in-Some.ensures.own refl ∙ c.in_ok-planned.ensures.own) in
+    carried_as tells (RollingPut set stamp values) c.edit_element.new.out x w refl refl refl (PutElemNoDups key stamp values) c.edit_element.result refl
     (λ told l shows.
     c.in_ok-planned.ensures.ok l shows.kept
-    ∙ put_alone set planned.container plan.window stamp values plan.attach plan.purge.items (catalogue_of l) c.if-not-planned.true none
-    ∙ ap (λ (key : List ℕ). put_no_dups key stamp values (catalogue_of l)) (sym c.in_ok-planned.ensures.key)) c.edit_element.ensures.carried
+    ∙ put_alone set planned.container.now plan.window stamp values plan.attach plan.purge.items (catalogue_of l) own.0 (c.in-Some.ensures.none refl)
+    ∙ ap (λ (k : List ℕ). put_no_dups k stamp values (catalogue_of l)) (sym own.1)) c.edit_element.ensures.carried
 
 -- all on copies
+pub window_key-requires-clause-short : goal.window_key-requires-clause-short
+window_key-requires-clause-short g c = short_set c.args.set.now c.requires.set
+
 pub returns-clause-carried : goal.returns-clause-carried
 unfolding outcome carried_out
 returns-clause-carried g c =
@@ -50,5 +54,5 @@ returns-clause-carried g c =
     let plan = planned.plan in
     let x = view c.args.defs.now.definitions c.args.space.now (g.P.Pages.contents c.args.pages.now) in
     let w = g.P.Pages.contents c.put_on_copies.new.pages in
-    carried_whole tells (RollingPut set stamp values) c.put_on_copies.new.out x w refl refl refl (put_planned set planned.container (a_plan plan.window plan.attach plan.purge.items) stamp values) c.put_on_copies.result
+    carried_whole tells (RollingPut set stamp values) c.put_on_copies.new.out x w refl refl refl (put_planned set planned.container.now (a_plan plan.window plan.attach plan.purge.items) stamp values) c.put_on_copies.result
     (λ told l shows. c.in_ok-planned.ensures.ok l shows.kept) c.put_on_copies.ensures.done c.put_on_copies.ensures.stopped c.put_on_copies.ensures.count

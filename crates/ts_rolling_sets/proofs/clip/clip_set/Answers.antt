@@ -20,7 +20,7 @@ use Rattle.ts_rolling_sets.proofs.clip.clip_set.Goals as goal
 pub home_of-container-requires-clause-filled : goal.home_of-container-requires-clause-filled
 home_of-container-requires-clause-filled g c =
     let x = view c.args.defs.now.definitions c.args.space.now (g.P.Pages.contents c.args.pages.now) in
-    series_filled x c.requires.seen.kept c.in_ok-control.control.shelf.series c.in_ok-control.control.key c.in_ok-control.ensures.found.named
+    series_filled x c.requires.seen.kept c.in_ok-control.control.shelf.series c.in_ok-control.control.key.now c.in_ok-control.ensures.found.named
 
 pub say_all-requires-clause-windows : goal.say_all-requires-clause-windows
 say_all-requires-clause-windows g c =
@@ -61,7 +61,7 @@ returns-in-Ok-clause-read g c =
     let home = c.home_of-container in
     let slots : List ℕ = c.deref.result.now in
     let are = c.deref.ensures.value ∙ c.in_ok-slots.ensures in
-    let is = home_found x kept control.shelf.series control.key found.named home.result.0 home.ensures.container home.result.1.now home.ensures.name in
+    let is = home_found x kept control.shelf.series control.key.now found.named home.result.0 home.ensures.container home.result.1.now home.ensures.name in
     said_out tells (RollingClip set c.args.from c.args.to) c.say_all.new.out x _ c.in_ok-say_all.field-0 c.in_ok-say_all.ensures.call (λ told l shows.
     let cat = catalogue_of l in
     let held = shows.kept in
@@ -69,11 +69,11 @@ returns-in-Ok-clause-read g c =
     let es = seen_in l c.args.from c.args.to slots in
     let columns = control.shelf.kind.now.columns in
     let own : has.series.container ≡ home.result.1.now =
-    container_seen x l held control.key control.shelf.series home.result.0 home.result.1.now has.series home.ensures.container home.ensures.name
+    container_seen x l held control.key.now control.shelf.series home.result.0 home.result.1.now has.series home.ensures.container home.ensures.name
     (subst (λ (k : List ℕ). Stands Series k l control.shelf.series has.series) (sym c.in_ok-control.ensures.key) has.shelf.stands) in
     let said : AreSaid columns es (Ok tt) c.say_all.new.out =
     subst (λ (r : Result (Unit {0}) Refusal). AreSaid columns es r c.say_all.new.out) c.in-Ok.is
-    (c.in_ok-say_all.ensures.said told columns l (home_columns x kept set home.result.0 slots are control.shelf.series control.key found.named home.ensures.container control.shelf.kind.now found.columns) shows) in
+    (c.in_ok-say_all.ensures.said told columns l (home_columns x kept set home.result.0 slots are control.shelf.series control.key.now found.named home.ensures.container control.shelf.kind.now found.columns) shows) in
     clip_said set c.args.from c.args.to cat control.kept has.series control.grid has.is (on_its_grid set cat control.kept has.series has.is control.grid has.shelf.lies) es
     (ap (λ (n : List ℕ). within_range c.args.from c.args.to (window_elements set n cat)) own ∙ seen_held x l held c.args.from c.args.to set home.result.1.now home.result.0 slots is are)
     columns c.say_all.new.out has.shelf.columns said.0 said.1)
@@ -89,7 +89,7 @@ returns-clause-read g c =
     let home = c.home_of-container in
     let slots : List ℕ = c.deref.result.now in
     let are = c.deref.ensures.value ∙ c.in_ok-slots.ensures in
-    let is = home_found x kept control.shelf.series control.key found.named home.result.0 home.ensures.container home.result.1.now home.ensures.name in
+    let is = home_found x kept control.shelf.series control.key.now found.named home.result.0 home.ensures.container home.result.1.now home.ensures.name in
     trouble_out tells (RollingClip set c.args.from c.args.to) _ x _ _ c.in_ok-say_all.field-0 (Refused c.in-Err.refusal) refl c.in_ok-say_all.ensures.call (λ told l shows.
     let cat = catalogue_of l in
     let held = shows.kept in
@@ -97,10 +97,10 @@ returns-clause-read g c =
     let es = seen_in l c.args.from c.args.to slots in
     let columns = control.shelf.kind.now.columns in
     let own : has.series.container ≡ home.result.1.now =
-    container_seen x l held control.key control.shelf.series home.result.0 home.result.1.now has.series home.ensures.container home.ensures.name
+    container_seen x l held control.key.now control.shelf.series home.result.0 home.result.1.now has.series home.ensures.container home.ensures.name
     (subst (λ (k : List ℕ). Stands Series k l control.shelf.series has.series) (sym c.in_ok-control.ensures.key) has.shelf.stands) in
     clip_refused set c.args.from c.args.to cat control.kept has.series control.grid has.is (on_its_grid set cat control.kept has.series has.is control.grid has.shelf.lies) es
     (ap (λ (n : List ℕ). within_range c.args.from c.args.to (window_elements set n cat)) own ∙ seen_held x l held c.args.from c.args.to set home.result.1.now home.result.0 slots is are)
     c.in-Err.refusal
     (subst (λ (r : Result (Unit {0}) Refusal). AreSaid columns es r c.say_all.new.out) c.in-Err.is
-    (c.in_ok-say_all.ensures.said told columns l (home_columns x kept set home.result.0 slots are control.shelf.series control.key found.named home.ensures.container control.shelf.kind.now found.columns) shows)))
+    (c.in_ok-say_all.ensures.said told columns l (home_columns x kept set home.result.0 slots are control.shelf.series control.key.now found.named home.ensures.container control.shelf.kind.now found.columns) shows)))

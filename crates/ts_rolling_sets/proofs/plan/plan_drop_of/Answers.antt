@@ -15,20 +15,20 @@ use Rattle.ts_rolling_sets.proofs.plan.plan_drop_of.Goals as goal
 abbrev Says : View → List ℕ → Trouble → Type 0
 Says x set trouble = (l : Layout) → IsViewOf x l → IsRefusedAs trouble (roll_drop set (catalogue_of l))
 
-pub returns-in_err-control-clause-err : goal.returns-in_err-control-clause-err
-returns-in_err-control-clause-err g c =
+pub returns-in_err-found-clause-err : goal.returns-in_err-found-clause-err
+returns-in_err-found-clause-err g c =
     let x = view c.args.defs.now.definitions c.args.space.now (g.P.Pages.contents c.args.pages.now) in
     let set : List ℕ = c.args.set.now in
-    let trouble = c.in_err-control.field-0.0 in
-    err_says c.from_residual.result trouble (Says x set) c.from_residual.ensures.1 (λ l held. drop_ungridded set (catalogue_of l) trouble (c.in_err-control.ensures.err l held))
+    let trouble = c.in_err-found.field-0.0 in
+    err_says c.from_residual.result trouble (Says x set) c.from_residual.ensures.1 (λ l held. drop_ungridded set (catalogue_of l) trouble (c.in_err-found.ensures.err l held))
 
 pub returns-clause-few : goal.returns-clause-few
 returns-clause-few g c =
     let x = view c.args.defs.now.definitions c.args.space.now (g.P.Pages.contents c.args.pages.now) in
     let kept = c.requires.seen.kept in
     let home = c.home_of-slot in
-    let control = c.in_ok-control.control in
-    let is = home_found x kept control.shelf.series control.key c.in_ok-control.ensures.found.named home.result.0 home.ensures.container home.result.1.now home.ensures.name in
+    let control = c.in_ok-found.found in
+    let is = home_found x kept control.shelf.series control.key.now c.in_ok-found.ensures.found.named home.result.0 home.ensures.container home.result.1.now home.ensures.name in
     few_live x kept c.args.set.now home.result.1.now home.result.0 is c.in_ok-windows.windows.items c.in_ok-windows.ensures
 
 pub returns-clause-ok : goal.returns-clause-ok
@@ -37,13 +37,13 @@ returns-clause-ok g c l held =
     let kept = c.requires.seen.kept in
     let home = c.home_of-slot in
     let set : List ℕ = c.args.set.now in
-    let control = c.in_ok-control.control in
+    let control = c.in_ok-found.found in
     let cat = catalogue_of l in
-    let has = c.in_ok-control.ensures.ok l held in
-    let key = c.in_ok-control.ensures.key in
-    let is = home_found x kept control.shelf.series control.key c.in_ok-control.ensures.found.named home.result.0 home.ensures.container home.result.1.now home.ensures.name in
+    let has = c.in_ok-found.ensures.ok l held in
+    let key = c.in_ok-found.ensures.key in
+    let is = home_found x kept control.shelf.series control.key.now c.in_ok-found.ensures.found.named home.result.0 home.ensures.container home.result.1.now home.ensures.name in
     let own : has.series.container ≡ home.result.1.now =
-    container_seen x l held control.key control.shelf.series home.result.0 home.result.1.now has.series home.ensures.container home.ensures.name
+    container_seen x l held control.key.now control.shelf.series home.result.0 home.result.1.now has.series home.ensures.container home.ensures.name
     (subst (λ (k : List ℕ). Stands Series k l control.shelf.series has.series) (sym key) has.shelf.stands) in
-    drop_comes set cat control.kept has.series control.grid has.is (on_its_grid set cat control.kept has.series has.is control.grid has.shelf.lies) control.key c.in_ok-windows.windows.items key
+    drop_comes set cat control.kept has.series control.grid has.is (on_its_grid set cat control.kept has.series has.is control.grid has.shelf.lies) c.in_ok-control.control c.in_ok-windows.windows.items (c.in_ok-control.ensures ∙ key)
     (c.in_ok-windows.ensures ∙ sym (live_seen x l held set home.result.1.now home.result.0 is) ∙ ap (λ (n : List ℕ). live set n cat) (sym own)) (as_many set has.series.container cat)

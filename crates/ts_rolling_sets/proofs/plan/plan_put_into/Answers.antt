@@ -62,7 +62,7 @@ returns-clause-ok g c l held =
     let fits = c.in_ok-fit.ensures.ok in
     let p = c.in_ok-planned.planned in
     let plan = a_plan p.plan.window p.plan.attach p.plan.purge.items in
-    let home : has.series.container ≡ p.container =
+    let home : has.series.container ≡ p.container.now =
     c.in_ok-planned.ensures.container l has.series held (subst (λ (k : List ℕ). Stands Series k l control.shelf.series has.series) (sym c.in_ok-control.ensures.key) has.shelf.stands) in
     put_as_planned set c.args.stamp c.args.values.now cat control.kept has.series control.grid has.is (on_its_grid set cat control.kept has.series has.is control.grid has.shelf.lies) fits.0
     (ap (λ (cs : List Column). a_row cs c.args.values.now) has.shelf.columns ∙ fits.1) plan

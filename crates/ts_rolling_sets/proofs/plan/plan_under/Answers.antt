@@ -1,9 +1,8 @@
-use Rattle.std.proofs.Common.{◌≡◌, ℕ, ℤ, List, refl, sym, ap, ◌∙◌}
+use Rattle.std.proofs.Common.{ℕ, ℤ, List, refl, sym, ap, ◌∙◌}
 use Rattle.ts_base.specs.declared.fault.Trouble.{Trouble}
 use Rattle.ts_offset.specs.Grid.{GridPlan}
 use Rattle.ts_model.specs.declared.kind.Kind.TheVariants as kinds
 use Rattle.ts_model.specs.Catalogue.{Series}
-use Rattle.ts_model.specs.Definitions.{slots, slot_of}
 use Rattle.ts_layout.specs.Meaning.{Layout, catalogue_of}
 use Rattle.ts_rolling.specs.Plan.{planned}
 use Rattle.ts_rolling.specs.Sets.{live}
@@ -24,34 +23,31 @@ Says x set key slot grid kept stamp trouble =
 pub home_of-slot-requires-clause-filled : goal.home_of-slot-requires-clause-filled
 home_of-slot-requires-clause-filled g c =
     let x = view c.args.defs.now.definitions c.args._space.now (g.P.Pages.contents c.args._pages.now) in
-    series_filled x c.requires.seen.kept c.args.control.now.shelf.series c.args.control.now.key c.requires.there
+    series_filled x c.requires.seen.kept c.args.control.now.shelf.series c.args.control.now.key.now c.requires.there
 
 pub plan_near-requires : goal.plan_near-requires
 plan_near-requires g c =
     let x = view c.args.defs.now.definitions c.args._space.now (g.P.Pages.contents c.args._pages.now) in
     let kept = c.requires.seen.kept in
     let home = c.home_of-slot in
-    let is = home_found x kept c.args.control.now.shelf.series c.args.control.now.key c.requires.there home.result.0 home.ensures.container home.result.1.now home.ensures.name in
-    record { short = short_set c.args.set.now c.requires.set; rising = live_in_rises x kept c.args.set.now home.result.1.now home.result.0 is }
+    let is = home_found x kept c.args.control.now.shelf.series c.args.control.now.key.now c.requires.there home.result.0 home.ensures.container home.result.1.now home.ensures.name in
+    record { short = short_set c.args.set.now c.requires.set; place = c.requires.place; rising = live_in_rises x kept c.args.set.now home.result.1.now home.result.0 is }
 
-pub window_key-requires-clause-short : goal.window_key-requires-clause-short
-window_key-requires-clause-short g c = short_set c.args.set.now c.requires.set
-
-pub returns-in_err-plan-clause-err : goal.returns-in_err-plan-clause-err
-returns-in_err-plan-clause-err g c =
+pub returns-in_err-near-clause-err : goal.returns-in_err-near-clause-err
+returns-in_err-near-clause-err g c =
     let x = view c.args.defs.now.definitions c.args._space.now (g.P.Pages.contents c.args._pages.now) in
     let kept = c.requires.seen.kept in
     let home = c.home_of-slot in
     let set : List ℕ = c.args.set.now in
     let control = c.args.control.now in
-    let trouble = c.in_err-plan.field-0.0 in
-    let is = home_found x kept control.shelf.series control.key c.requires.there home.result.0 home.ensures.container home.result.1.now home.ensures.name in
-    err_says c.from_residual.result trouble (Says x set control.key control.shelf.series control.grid control.kept c.args.stamp) c.from_residual.ensures.1 (λ l series held stands.
-    let own = container_seen x l held control.key control.shelf.series home.result.0 home.result.1.now series home.ensures.container home.ensures.name stands in
+    let trouble = c.in_err-near.field-0.0 in
+    let is = home_found x kept control.shelf.series control.key.now c.requires.there home.result.0 home.ensures.container home.result.1.now home.ensures.name in
+    err_says c.from_residual.result trouble (Says x set control.key.now control.shelf.series control.grid control.kept c.args.stamp) c.from_residual.ensures.1 (λ l series held stands.
+    let own = container_seen x l held control.key.now control.shelf.series home.result.0 home.result.1.now series home.ensures.container home.ensures.name stands in
     fails_as trouble (planned control.grid control.kept (live_in x.definitions set home.result.0) c.args.stamp) (planned control.grid control.kept (live set series.container (catalogue_of l)) c.args.stamp)
     (ap (λ (js : List ℕ). planned control.grid control.kept js c.args.stamp)
     (sym (live_seen x l held set home.result.1.now home.result.0 is) ∙ ap (λ (n : List ℕ). live set n (catalogue_of l)) (sym own)))
-    c.in_err-plan.ensures.cause)
+    c.in_err-near.ensures.cause)
 
 pub returns-clause-few : goal.returns-clause-few
 returns-clause-few g c =
@@ -59,16 +55,16 @@ returns-clause-few g c =
     let kept = c.requires.seen.kept in
     let home = c.home_of-slot in
     let control = c.args.control.now in
-    let plan = c.in_ok-plan.plan in
-    let is = home_found x kept control.shelf.series control.key c.requires.there home.result.0 home.ensures.container home.result.1.now home.ensures.name in
-    few_going x kept c.args.set.now home.result.1.now home.result.0 is control.grid control.kept (live_in x.definitions c.args.set.now home.result.0) c.args.stamp plan.window plan.attach plan.purge.items refl c.in_ok-plan.ensures.ok
+    let plan = c.in_ok-near.near.plan in
+    let is = home_found x kept control.shelf.series control.key.now c.requires.there home.result.0 home.ensures.container home.result.1.now home.ensures.name in
+    few_going x kept c.args.set.now home.result.1.now home.result.0 is control.grid control.kept (live_in x.definitions c.args.set.now home.result.0) c.args.stamp plan.window plan.attach plan.purge.items refl c.in_ok-near.ensures.ok
 
 pub returns-clause-container : goal.returns-clause-container
 returns-clause-container g c l series held stands =
     let x = view c.args.defs.now.definitions c.args._space.now (g.P.Pages.contents c.args._pages.now) in
     let home = c.home_of-slot in
     let control = c.args.control.now in
-    container_seen x l held control.key control.shelf.series home.result.0 home.result.1.now series home.ensures.container home.ensures.name stands ∙ sym c.in_ok-container.ensures
+    container_seen x l held control.key.now control.shelf.series home.result.0 home.result.1.now series home.ensures.container home.ensures.name stands
 
 pub returns-clause-ok : goal.returns-clause-ok
 returns-clause-ok g c l held =
@@ -77,7 +73,6 @@ returns-clause-ok g c l held =
     let home = c.home_of-slot in
     let set : List ℕ = c.args.set.now in
     let control = c.args.control.now in
-    let is = home_found x kept control.shelf.series control.key c.requires.there home.result.0 home.ensures.container home.result.1.now home.ensures.name in
-    ap (λ (n : List ℕ). planned control.grid control.kept (live set n (catalogue_of l)) c.args.stamp) c.in_ok-container.ensures
-    ∙ ap (λ (js : List ℕ). planned control.grid control.kept js c.args.stamp) (live_seen x l held set home.result.1.now home.result.0 is)
-    ∙ c.in_ok-plan.ensures.ok
+    let is = home_found x kept control.shelf.series control.key.now c.requires.there home.result.0 home.ensures.container home.result.1.now home.ensures.name in
+    ap (λ (js : List ℕ). planned control.grid control.kept js c.args.stamp) (live_seen x l held set home.result.1.now home.result.0 is)
+    ∙ c.in_ok-near.ensures.ok

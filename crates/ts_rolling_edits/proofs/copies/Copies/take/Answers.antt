@@ -1,5 +1,4 @@
-use Rattle.std.proofs.Common.{List, ap, sym, ◌∙◌, refl, subst}
-use Rattle.ts_space.specs.declared.place.Place.{Place}
+use Rattle.std.proofs.Common.{ap, sym, ◌∙◌, refl, subst}
 use Rattle.ts_model.specs.Definitions.{Definitions}
 use Rattle.ts_answer.specs.CarriedOut.{CanApply, definitions_after, lists_after}
 use Rattle.ts_effects.proofs.CallerLemmas.{can_charge_then}
