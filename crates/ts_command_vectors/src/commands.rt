@@ -1,5 +1,6 @@
 // Statements about row types, containers and series, and the commands that they are.
 use std::alloc::{AllocError, Global};
+use ts_base::{Refusal, Trouble};
 use ts_command::{Columns, Command, Literals, read_command};
 use ts_row::{Column, ColumnKind, Literal};
 
@@ -7,22 +8,24 @@ use ts_row::{Column, ColumnKind, Literal};
 // the rest.
 pub(crate) type Row = (&'static str, &'static [u8], &'static [u8], Rest);
 
-#[derive(Clone, Copy, Debug)]
+#[derive(Clone, Copy)]
 pub(crate) enum Rest {
     Nothing,
+    Name(&'static [u8]),
+    Text(&'static [u8]),
+    Number(i64),
     Stamp(i64),
     Stamps(i64, i64),
     List(&'static [u8], i64, i64),
     Span(&'static [u8], i64, (i64, i64)),
     StampAndName(i64, &'static [u8]),
-    StampAndCount(i64, i64),
-    Place(i64),
+    StampAndNumber(i64, i64),
+    Set(i64, &'static [u8], i64),
     Values(i64, &'static [Value]),
-    Quota(i64),
     Columns(&'static [(&'static [u8], ColumnKind)]),
 }
 
-#[derive(Clone, Copy, Debug)]
+#[derive(Clone, Copy)]
 pub(crate) enum Value {
     Null,
     Number(i128, u8),
@@ -41,6 +44,17 @@ fn routine_of(command: &Command) -> &'static str {
     match command {
         Command::CreateRowType { .. } => "CreateRowType",
         Command::DropRowType { .. } => "DropRowType",
+        Command::CreatePattern { .. } => "CreatePattern",
+        Command::NotOp { .. } => "NotOp",
+        Command::AndPatterns { .. } => "AndPatterns",
+        Command::OrPatterns { .. } => "OrPatterns",
+        Command::AndCalendars { .. } => "AndCalendars",
+        Command::OrCalendars { .. } => "OrCalendars",
+        Command::ShowPattern { .. } => "ShowPattern",
+        Command::DropPattern { .. } => "DropPattern",
+        Command::CreateCalendar { .. } => "CreateCalendar",
+        Command::ShowCalendar { .. } => "ShowCalendar",
+        Command::DropCalendar { .. } => "DropCalendar",
         Command::TSContainerCreate { .. } => "TSContainerCreate",
         Command::TSContainerDestroy { .. } => "TSContainerDestroy",
         Command::TSContainerUsage { .. } => "TSContainerUsage",
@@ -54,6 +68,9 @@ fn routine_of(command: &Command) -> &'static str {
         Command::UpdElem { .. } => "UpdElem",
         Command::DelElem { .. } => "DelElem",
         Command::DelClip { .. } => "DelClip",
+        Command::CalIndex { .. } => "CalIndex",
+        Command::CalStamp { .. } => "CalStamp",
+        Command::CalRange { .. } => "CalRange",
         Command::HideElem { .. } => "HideElem",
         Command::RevealElem { .. } => "RevealElem",
         Command::GetElem { .. } => "GetElem",
@@ -73,10 +90,13 @@ fn routine_of(command: &Command) -> &'static str {
         Command::TSRunningSum { .. } => "TSRunningSum",
         Command::TSRunningAvg { .. } => "TSRunningAvg",
         Command::Apply { .. } => "Apply",
+        Command::RollingCreate { .. } => "RollingCreate",
+        Command::RollingPut { .. } => "RollingPut",
+        Command::RollingClip { .. } => "RollingClip",
+        Command::RollingDrop { .. } => "RollingDrop",
         Command::Begin => "Begin",
         Command::Commit => "Commit",
         Command::Rollback => "Rollback",
-        _ => "",
     }
 }
 
@@ -84,6 +104,17 @@ fn first_of(command: &Command) -> &[u8] {
     match command {
         Command::CreateRowType { name, .. } => name.as_slice(),
         Command::DropRowType { name } => name.as_slice(),
+        Command::CreatePattern { name, .. } => name.as_slice(),
+        Command::NotOp { name, .. } => name.as_slice(),
+        Command::AndPatterns { name, .. } => name.as_slice(),
+        Command::OrPatterns { name, .. } => name.as_slice(),
+        Command::AndCalendars { name, .. } => name.as_slice(),
+        Command::OrCalendars { name, .. } => name.as_slice(),
+        Command::ShowPattern { name } => name.as_slice(),
+        Command::DropPattern { name } => name.as_slice(),
+        Command::CreateCalendar { name, .. } => name.as_slice(),
+        Command::ShowCalendar { name } => name.as_slice(),
+        Command::DropCalendar { name } => name.as_slice(),
         Command::TSContainerCreate { name, .. } => name.as_slice(),
         Command::TSContainerDestroy { name } => name.as_slice(),
         Command::TSContainerUsage { name } => name.as_slice(),
@@ -97,6 +128,9 @@ fn first_of(command: &Command) -> &[u8] {
         Command::UpdElem { key, .. } => key.as_slice(),
         Command::DelElem { key, .. } => key.as_slice(),
         Command::DelClip { key, .. } => key.as_slice(),
+        Command::CalIndex { calendar, .. } => calendar.as_slice(),
+        Command::CalStamp { calendar, .. } => calendar.as_slice(),
+        Command::CalRange { calendar, .. } => calendar.as_slice(),
         Command::HideElem { key, .. } => key.as_slice(),
         Command::RevealElem { key, .. } => key.as_slice(),
         Command::GetElem { key, .. } => key.as_slice(),
@@ -116,6 +150,10 @@ fn first_of(command: &Command) -> &[u8] {
         Command::TSRunningSum { key, .. } => key.as_slice(),
         Command::TSRunningAvg { key, .. } => key.as_slice(),
         Command::Apply { key, .. } => key.as_slice(),
+        Command::RollingCreate { set, .. } => set.as_slice(),
+        Command::RollingPut { set, .. } => set.as_slice(),
+        Command::RollingClip { set, .. } => set.as_slice(),
+        Command::RollingDrop { set } => set.as_slice(),
         _ => b"",
     }
 }
@@ -123,71 +161,112 @@ fn first_of(command: &Command) -> &[u8] {
 fn second_of(command: &Command) -> &[u8] {
     match command {
         Command::CreateRowType { stamp, .. } => stamp.as_slice(),
+        Command::NotOp { pattern, .. } => pattern.as_slice(),
+        Command::AndPatterns { first, .. } => first.as_slice(),
+        Command::OrPatterns { first, .. } => first.as_slice(),
+        Command::AndCalendars { first, .. } => first.as_slice(),
+        Command::OrCalendars { first, .. } => first.as_slice(),
         Command::TSContainerCreate { row_type, .. } => row_type.as_slice(),
         Command::TSCreate { calendar, .. } => calendar.as_slice(),
         Command::TSCreateIrr { container, .. } => container.as_slice(),
         Command::Union { second, .. } => second.as_slice(),
         Command::Intersect { second, .. } => second.as_slice(),
         Command::AggregateBy { calendar, .. } => calendar.as_slice(),
+        Command::RollingCreate { calendar, .. } => calendar.as_slice(),
+        _ => b"",
+    }
+}
+
+fn third_of(command: &Command) -> &[u8] {
+    match command {
+        Command::AndPatterns { second, .. } => second.as_slice(),
+        Command::OrPatterns { second, .. } => second.as_slice(),
+        Command::AndCalendars { second, .. } => second.as_slice(),
+        Command::OrCalendars { second, .. } => second.as_slice(),
+        Command::TSCreate { container, .. } => container.as_slice(),
+        Command::RollingCreate { container, .. } => container.as_slice(),
         _ => b"",
     }
 }
 
 fn is_rest(command: &Command, rest: Rest) -> bool {
-    match (command, rest) {
-        (Command::HideElem { stamp, .. }, Rest::Stamp(units)) => stamp.units() == units,
-        (Command::RevealElem { stamp, .. }, Rest::Stamp(units)) => stamp.units() == units,
-        (Command::GetElem { stamp, .. }, Rest::Stamp(units)) => stamp.units() == units,
-        (Command::DelElem { stamp, .. }, Rest::Stamp(units)) => stamp.units() == units,
-        (_, Rest::Stamps(first, last)) => has_range(command, first, last),
-        (_, Rest::List(text, first, last)) => {
-            text_of(command) == text && has_range(command, first, last)
+    match rest {
+        Rest::Nothing => true,
+        Rest::Name(name) => third_of(command) == name,
+        Rest::Text(text) => text_of(command) == text,
+        Rest::Number(wanted) => number_of(command) == wanted,
+        Rest::Stamp(units) => stamp_of(command) == Some(units),
+        Rest::Stamps(first, last) => range_of(command) == Some((first, last)),
+        Rest::List(text, first, last) => {
+            text_of(command) == text && range_of(command) == Some((first, last))
         }
-        (_, Rest::Span(text, span, (first, last))) => {
-            text_of(command) == text && span_of(command) == span && has_range(command, first, last)
+        Rest::Span(text, span, range) => {
+            text_of(command) == text
+                && number_of(command) == span
+                && range_of(command) == Some(range)
         }
-        (_, Rest::Place(wanted)) => has_place(command, wanted),
-        (Command::ClipCount { stamp, count, .. }, Rest::StampAndCount(units, wanted)) => {
-            stamp.units() == units && *count == wanted
+        Rest::StampAndName(units, name) => {
+            stamp_of(command) == Some(units) && third_of(command) == name
         }
-        (
-            Command::TSCreate {
-                origin,
-                container,
-                ..
-            },
-            Rest::StampAndName(units, name),
-        ) => origin.units() == units && container.as_slice() == name,
-        (_, Rest::Values(units, wanted)) => has_values(command, units, wanted),
-        (Command::TSContainerCreate { quota, .. }, Rest::Quota(wanted)) => *quota == wanted,
-        (Command::CreateRowType { columns, .. }, Rest::Columns(wanted)) => {
-            are_columns(columns.as_slice(), wanted)
+        Rest::StampAndNumber(units, wanted) => {
+            stamp_of(command) == Some(units) && number_of(command) == wanted
         }
-        (_, Rest::Nothing) => true,
-        _ => false,
+        Rest::Set(units, name, kept) => {
+            stamp_of(command) == Some(units)
+                && third_of(command) == name
+                && number_of(command) == kept
+        }
+        Rest::Values(units, wanted) => {
+            stamp_of(command) == Some(units) && are_values(values_of(command), wanted)
+        }
+        Rest::Columns(wanted) => are_columns(columns_of(command), wanted),
     }
 }
 
-fn has_range(command: &Command, first: i64, last: i64) -> bool {
+fn stamp_of(command: &Command) -> Option<i64> {
     match command {
-        Command::DelClip { from, to, .. }
-        | Command::Clip { from, to, .. }
-        | Command::ClipGetCount { from, to, .. }
-        | Command::Union { from, to, .. }
-        | Command::Intersect { from, to, .. }
-        | Command::AggregateBy { from, to, .. }
-        | Command::AggregateRange { from, to, .. }
-        | Command::AggregateAll { from, to, .. }
-        | Command::TSRunningSum { from, to, .. }
-        | Command::TSRunningAvg { from, to, .. }
-        | Command::Apply { from, to, .. } => from.units() == first && to.units() == last,
-        _ => false,
+        Command::TSCreate { origin, .. } => Some(origin.units()),
+        Command::RollingCreate { origin, .. } => Some(origin.units()),
+        Command::PutElem { stamp, .. } => Some(stamp.units()),
+        Command::PutElemNoDups { stamp, .. } => Some(stamp.units()),
+        Command::InsElem { stamp, .. } => Some(stamp.units()),
+        Command::UpdElem { stamp, .. } => Some(stamp.units()),
+        Command::RollingPut { stamp, .. } => Some(stamp.units()),
+        Command::DelElem { stamp, .. } => Some(stamp.units()),
+        Command::HideElem { stamp, .. } => Some(stamp.units()),
+        Command::RevealElem { stamp, .. } => Some(stamp.units()),
+        Command::GetElem { stamp, .. } => Some(stamp.units()),
+        Command::ClipCount { stamp, .. } => Some(stamp.units()),
+        Command::CalStamp { after, .. } => Some(after.units()),
+        _ => None,
     }
 }
 
-// The list of aggregates or expressions that a command has.
+fn range_of(command: &Command) -> Option<(i64, i64)> {
+    match command {
+        Command::DelClip { from, to, .. } => Some((from.units(), to.units())),
+        Command::CalIndex { from, to, .. } => Some((from.units(), to.units())),
+        Command::CalRange { from, to, .. } => Some((from.units(), to.units())),
+        Command::Clip { from, to, .. } => Some((from.units(), to.units())),
+        Command::ClipGetCount { from, to, .. } => Some((from.units(), to.units())),
+        Command::Union { from, to, .. } => Some((from.units(), to.units())),
+        Command::Intersect { from, to, .. } => Some((from.units(), to.units())),
+        Command::AggregateBy { from, to, .. } => Some((from.units(), to.units())),
+        Command::AggregateRange { from, to, .. } => Some((from.units(), to.units())),
+        Command::AggregateAll { from, to, .. } => Some((from.units(), to.units())),
+        Command::TSRunningSum { from, to, .. } => Some((from.units(), to.units())),
+        Command::TSRunningAvg { from, to, .. } => Some((from.units(), to.units())),
+        Command::Apply { from, to, .. } => Some((from.units(), to.units())),
+        Command::RollingClip { from, to, .. } => Some((from.units(), to.units())),
+        _ => None,
+    }
+}
+
+// The text of a pattern or a calendar, or the list of aggregates or expressions.
 fn text_of(command: &Command) -> &[u8] {
     match command {
+        Command::CreatePattern { text, .. } => text.as_slice(),
+        Command::CreateCalendar { text, .. } => text.as_slice(),
         Command::AggregateBy { text, .. } => text.as_slice(),
         Command::AggregateRange { text, .. } => text.as_slice(),
         Command::AggregateAll { text, .. } => text.as_slice(),
@@ -198,31 +277,36 @@ fn text_of(command: &Command) -> &[u8] {
     }
 }
 
-// Over how many elements a command folds.
-fn span_of(command: &Command) -> i64 {
+// The whole number that a command has: a quota, a place, a count, how many elements or windows.
+fn number_of(command: &Command) -> i64 {
     match command {
-        Command::TSRunningSum { span, .. } | Command::TSRunningAvg { span, .. } => *span,
+        Command::TSContainerCreate { quota, .. } => *quota,
+        Command::CalStamp { count, .. } => *count,
+        Command::GetNthElem { index, .. } => *index,
+        Command::ClipCount { count, .. } => *count,
+        Command::Lag { by, .. } => *by,
+        Command::TSRunningSum { span, .. } => *span,
+        Command::TSRunningAvg { span, .. } => *span,
+        Command::RollingCreate { kept, .. } => *kept,
         _ => 0,
     }
 }
 
-fn has_place(command: &Command, wanted: i64) -> bool {
+fn values_of(command: &Command) -> &[Literal] {
     match command {
-        Command::GetNthElem { index, .. } => *index == wanted,
-        Command::Lag { by, .. } => *by == wanted,
-        _ => false,
+        Command::PutElem { values, .. } => values.as_slice(),
+        Command::PutElemNoDups { values, .. } => values.as_slice(),
+        Command::InsElem { values, .. } => values.as_slice(),
+        Command::UpdElem { values, .. } => values.as_slice(),
+        Command::RollingPut { values, .. } => values.as_slice(),
+        _ => &[],
     }
 }
 
-fn has_values(command: &Command, units: i64, wanted: &[Value]) -> bool {
+fn columns_of(command: &Command) -> &[Column] {
     match command {
-        Command::PutElem { stamp, values, .. }
-        | Command::PutElemNoDups { stamp, values, .. }
-        | Command::InsElem { stamp, values, .. }
-        | Command::UpdElem { stamp, values, .. } => {
-            stamp.units() == units && are_values(values.as_slice(), wanted)
-        }
-        _ => false,
+        Command::CreateRowType { columns, .. } => columns.as_slice(),
+        _ => &[],
     }
 }
 
@@ -249,11 +333,51 @@ fn is_column(found: &Column, wanted: (&[u8], ColumnKind)) -> bool {
     found.name.as_slice() == wanted.0 && found.kind == wanted.1
 }
 
+// The command that a statement is read as, as a list of one: a list lets go of its commands in one place, where a
+// function that owned one would have to let go of each of its variants.
+pub(crate) fn read(alloc: Global, text: &[u8]) -> Result<Vec<Command>, Trouble> {
+    let mut commands = Vec::new(alloc);
+    commands.push(read_command(alloc, &text[..text.len().min(65536)])?)?;
+    Ok(commands)
+}
+
+// A copy of the first of these commands, as a list.
+fn copied(alloc: Global, commands: &[Command]) -> Result<Vec<Command>, AllocError> {
+    let mut copies = Vec::new(alloc);
+    if let Some(command) = commands.first() {
+        copies.push(command.copy()?)?;
+    }
+    Ok(copies)
+}
+
+// Whether the first of these commands is this.
+fn has_row(commands: &[Command], row: Row) -> bool {
+    match commands.first() {
+        Some(command) => is_row(command, row),
+        None => false,
+    }
+}
+
 // Whether a statement is read as this command.
 pub(crate) fn is_read(alloc: Global, text: &[u8], row: Row) -> bool {
-    match read_command(alloc, &text[..text.len().min(65536)]) {
-        Ok(command) => is_row(&command, row),
+    match read(alloc, text) {
+        Ok(commands) => has_row(commands.as_slice(), row),
         Err(_) => false,
+    }
+}
+
+// Whether a copy of what a statement is read as is this command.
+pub(crate) fn is_copied(alloc: Global, text: &[u8], row: Row) -> Result<bool, Trouble> {
+    let commands = read(alloc, text)?;
+    let copies = copied(alloc, commands.as_slice())?;
+    Ok(has_row(copies.as_slice(), row))
+}
+
+// The place at which a statement is refused as none of the grammar, if it is.
+pub(crate) fn place(alloc: Global, text: &[u8]) -> Option<u32> {
+    match read(alloc, text) {
+        Err(Trouble::Refused(Refusal::Syntax { place })) => Some(place),
+        _ => None,
     }
 }
 
@@ -278,11 +402,11 @@ pub(crate) static STATEMENTS: [(&[u8], Row); 24] = [
     ),
     (
         b"TSContainerCreate(c1, rd, 1);",
-        ("TSContainerCreate", b"c1", b"rd", Rest::Quota(1)),
+        ("TSContainerCreate", b"c1", b"rd", Rest::Number(1)),
     ),
     (
         b"TSContainerCreate(c1,rd,0065536);",
-        ("TSContainerCreate", b"c1", b"rd", Rest::Quota(65536)),
+        ("TSContainerCreate", b"c1", b"rd", Rest::Number(65536)),
     ),
     (
         b"TSContainerDestroy(c1);",

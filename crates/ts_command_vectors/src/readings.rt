@@ -9,11 +9,11 @@ pub(crate) static READINGS: [(&[u8], Row); 21] = [
     ),
     (
         b"GetNthElem('it''s', 0);",
-        ("GetNthElem", b"it's", b"", Rest::Place(0)),
+        ("GetNthElem", b"it's", b"", Rest::Number(0)),
     ),
     (
         b"GetNthElem('x',4294967295);",
-        ("GetNthElem", b"x", b"", Rest::Place(4294967295)),
+        ("GetNthElem", b"x", b"", Rest::Number(4294967295)),
     ),
     (
         b"Clip('x','1970-01-01 00:00:00','1969-12-31 23:59:59.99999');",
@@ -25,15 +25,15 @@ pub(crate) static READINGS: [(&[u8], Row); 21] = [
     ),
     (
         b"ClipCount('x','1970-01-01 00:00:00.00001',-1000000);",
-        ("ClipCount", b"x", b"", Rest::StampAndCount(1, -1000000)),
+        ("ClipCount", b"x", b"", Rest::StampAndNumber(1, -1000000)),
     ),
     (
         b"ClipCount('x','1970-01-01 00:00:00',1000000);",
-        ("ClipCount", b"x", b"", Rest::StampAndCount(0, 1000000)),
+        ("ClipCount", b"x", b"", Rest::StampAndNumber(0, 1000000)),
     ),
     (
         b"ClipCount('x','1970-01-01 00:00:00',-0);",
-        ("ClipCount", b"x", b"", Rest::StampAndCount(0, 0)),
+        ("ClipCount", b"x", b"", Rest::StampAndNumber(0, 0)),
     ),
     (
         b"Union('x','y','1970-01-01 00:00:00.00001','1970-01-01 00:00:00');",
@@ -45,13 +45,13 @@ pub(crate) static READINGS: [(&[u8], Row); 21] = [
     ),
     (
         b"Lag('x',-2147483647);",
-        ("Lag", b"x", b"", Rest::Place(-2147483647)),
+        ("Lag", b"x", b"", Rest::Number(-2147483647)),
     ),
     (
         b"Lag('x',2147483647);",
-        ("Lag", b"x", b"", Rest::Place(2147483647)),
+        ("Lag", b"x", b"", Rest::Number(2147483647)),
     ),
-    (b"Lag('x',007);", ("Lag", b"x", b"", Rest::Place(7))),
+    (b"Lag('x',007);", ("Lag", b"x", b"", Rest::Number(7))),
     (
         b"AggregateBy('sum($v)', c, 'x', '1970-01-01 00:00:00', '1970-01-01 00:00:00.00001');",
         ("AggregateBy", b"x", b"c", Rest::List(b"sum($v)", 0, 1)),
