@@ -8,7 +8,9 @@ use Rattle.ts_entry.specs.declared.stamps.Stamps.{Stamps}
 use Rattle.ts_entry.specs.Stamps.{HasStamp}
 use Rattle.ts_entry.specs.Rows.{IsCellWith, AreCellsWith, AreStamped, AreCellsOf, elements_in, row_if_any}
 use Rattle.ts_aggregate.proofs.RowLemmas.{no_cell}
-use Rattle.ts_dump.specs.Elements.{lines_of_elements, one_of, lines_then}
+use Rattle.ts_dump.specs.declared.grouping.Grouping.{Grouping}
+use Rattle.ts_dump.specs.Placed.{ArePut}
+use Rattle.ts_dump.specs.Elements.{texts_of_elements, one_of, TextsPut, none_taken, both_taken}
 
 -- the elements of a cell and of those behind it
 elements_cons : (f : Option Element) (fs : List (Option Element)) → elements_in (f ∷ fs) ≡ one_of f ++ elements_in fs
@@ -17,23 +19,23 @@ elements_cons (Some e) fs = refl
 
 -- Some of the cells were taken, those of these elements, and the others not yet.
 pub record Turn (key : List ℕ) (columns : List Column) (front number : ℕ) (stamps : Stamps) (rest : List ℕ)
-    (found : List (Option Element)) (old now : List ℕ) : Type 0 where
+    (found : List (Option Element)) (g : Grouping) (old : List ℕ) (h : Grouping) (now : List ℕ) : Type 0 where
   pub done : List Element
   pub others : List (Option Element)
   pub parts : elements_in found ≡ done ++ elements_in others
   pub rows : AreCellsWith columns front rest (map row_if_any others)
   pub stamped : AreStamped stamps (front + width_of columns) number rest others
-  pub lines : now ≡ old ++ lines_of_elements key columns done
+  pub put : TextsPut columns key g old done key h now
 
-module _ (key : List ℕ) (columns : List Column) (front : ℕ) (stamps : Stamps) (found : List (Option Element)) (old : List ℕ) where
-  pub turn_first : (cells : List ℕ) → AreCellsOf columns front stamps cells found → Turn key columns front 0 stamps cells found old old
+module _ (key : List ℕ) (columns : List Column) (front : ℕ) (stamps : Stamps) (found : List (Option Element)) (g : Grouping) (old : List ℕ) where
+  pub turn_first : (cells : List ℕ) → AreCellsOf columns front stamps cells found → Turn key columns front 0 stamps cells found g old g old
   turn_first cells are = record {
     done = [];
     others = found;
     parts = refl;
     rows = are.rows;
     stamped = are.stamped;
-    lines = sym (append-nil old);
+    put = none_taken columns key g old;
   }
 
   -- no cell is left of no bytes
@@ -42,20 +44,20 @@ module _ (key : List ℕ) (columns : List Column) (front : ℕ) (stamps : Stamps
   none_left rest (f ∷ fs) none are = absurd (no_cell columns front (take (front + width_of columns) rest) (row_if_any f)
       (omega (arith, none, length-take (front + width_of columns) rest)) are.0)
 
-  pub turn_last : (number : ℕ) (rest now : List ℕ) → length rest ≡ 0 → Turn key columns front number stamps rest found old now
-      → now ≡ old ++ lines_of_elements key columns (elements_in found)
-  turn_last number rest now over t =
-      t.lines ∙ ap (λ (es : List Element). old ++ lines_of_elements key columns es)
-      (sym (t.parts ∙ ap (λ (fs : List (Option Element)). t.done ++ elements_in fs) (none_left rest t.others over t.rows) ∙ append-nil t.done))
+  pub turn_last : (number : ℕ) (rest : List ℕ) (h : Grouping) (now : List ℕ) → length rest ≡ 0 → Turn key columns front number stamps rest found g old h now
+      → TextsPut columns key g old (elements_in found) key h now
+  turn_last number rest h now over t =
+      subst (λ (es : List Element). TextsPut columns key g old es key h now)
+      (sym (t.parts ∙ ap (λ (fs : List (Option Element)). t.done ++ elements_in fs) (none_left rest t.others over t.rows) ∙ append-nil t.done)) t.put
 
-  module _ (number : ℕ) (rest cell behind now next : List ℕ) (cut : cell ≡ take (front + width_of columns) rest) (drops : behind ≡ drop (front + width_of columns) rest)
+  module _ (number : ℕ) (rest cell behind : List ℕ) (h i : Grouping) (now next : List ℕ) (cut : cell ≡ take (front + width_of columns) rest) (drops : behind ≡ drop (front + width_of columns) rest)
       (some : 0 < length rest)
       (takes : (f : Option Element) → IsCellWith columns front cell (row_if_any f) → IfSome f (λ e. HasStamp stamps number cell e.0)
-      → next ≡ now ++ lines_of_elements key columns (one_of f)) where
-    pub turn_next : Turn key columns front number stamps rest found old now → Turn key columns front (number + 1) stamps behind found old next
+      → ArePut h (texts_of_elements key columns (one_of f)) i now next) where
+    pub turn_next : Turn key columns front number stamps rest found g old h now → Turn key columns front (number + 1) stamps behind found g old i next
     turn_next t = by t.others t.parts t.rows t.stamped where
       by : (others : List (Option Element)) → elements_in found ≡ t.done ++ elements_in others → AreCellsWith columns front rest (map row_if_any others)
-          → AreStamped stamps (front + width_of columns) number rest others → Turn key columns front (number + 1) stamps behind found old next
+          → AreStamped stamps (front + width_of columns) number rest others → Turn key columns front (number + 1) stamps behind found g old i next
       by [] parts rows stamped = absurd (let none : length rest ≡ 0 = ap length rows in omega (arith, none, some))
       by (f ∷ fs) parts rows stamped =
           let taken = takes f (subst (λ (l : List ℕ). IsCellWith columns front l (row_if_any f)) (sym cut) rows.0)
@@ -66,5 +68,5 @@ module _ (key : List ℕ) (columns : List Column) (front : ℕ) (stamps : Stamps
             parts = parts ∙ ap (λ (es : List Element). t.done ++ es) (elements_cons f fs) ∙ sym (append_assoc t.done (one_of f) (elements_in fs));
             rows = subst (λ (l : List ℕ). AreCellsWith columns front l (map row_if_any fs)) (sym drops) rows.1;
             stamped = subst (λ (l : List ℕ). AreStamped stamps (front + width_of columns) (number + 1) l fs) (sym drops) stamped.1;
-            lines = lines_then columns key key old now next t.done (one_of f) refl t.lines taken;
+            put = both_taken columns key key key g h i old now next t.done (one_of f) t.put (record { one_key = refl; put = taken });
           }

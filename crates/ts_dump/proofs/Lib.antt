@@ -1,6 +1,10 @@
 pub mod TextLemmas
+pub mod GroupingLemmas
 pub mod SayingLemmas
+pub mod EndingLemmas
 pub mod ListedLemmas
+pub mod AloneLemmas
+pub mod ChosenLemmas
 pub mod CellLemmas
 pub mod PartLemmas
 pub mod OpenLemmas

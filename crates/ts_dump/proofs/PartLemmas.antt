@@ -29,13 +29,14 @@ use Rattle.ts_layout.proofs.CallerLemmas.{all_front, all_back}
 use Rattle.ts_shelf.proofs.StartLemmas.{start_of, stamped_cons}
 use Rattle.ts_page.specs.declared.page.Page.{Page}
 use Rattle.ts_clip.specs.Series.{ArePagesOf, HaveElements, HaveOnPlaces, IsLaidOut}
-use Rattle.ts_dump.specs.Elements.{lines_of_elements, lines_both}
+use Rattle.ts_dump.specs.declared.grouping.Grouping.{Grouping}
+use Rattle.ts_dump.specs.Placed.{ArePut, SaysTexts}
+use Rattle.ts_dump.specs.Elements.{texts_of_elements, texts_both, TextsPut}
 use Rattle.ts_disk.specs.Device.{Device}
 use Rattle.ts_journal.specs.Journal.{pages as volume_pages}
 use Rattle.ts_dump.specs.declared.ended.Fault.{Fault}
-use Rattle.ts_dump.specs.Saying.{SaysText}
 use Rattle.ts_dump.specs.Held.{HaveParts}
-use Rattle.ts_dump.proofs.SayingLemmas.{text_then, text_stop, text_same}
+use Rattle.ts_dump.proofs.SayingLemmas.{texts_then, texts_stop, texts_same}
 
 -- the least and the greatest stamp
 abbrev pub least : ℤ
@@ -97,31 +98,41 @@ page_within Irregular laid slot columns pages place es have = chained have.0 hav
 page_within (Regular grid) laid slot columns pages place es have =
     all_within es (subst AreAtStamps have.3 (stamped_at grid laid (all_at have.0) have.2))
 
--- what was taken of a page that was read, over all stamps, is the lines of its elements
+-- what was taken of a page that was read, over all stamps, is the texts of its elements
 module _ (shape : Shape) (laid : IsLaidOut shape) (slot : ℕ) (columns : List Column) (key : List ℕ) (pages : ℕ → List ℕ) (place : Place) (page : Page)
     (read : page.bytes ≡ pages place.page) (places : List Place) (one : places ≡ place ∷ []) (all : List Page) (alone : all ≡ page ∷ [])
-    (own before said piece : List ℕ) (from to : ℤ) (none : before ≡ []) (same : own ≡ key) (first : from ≡ least) (last : to ≡ greatest) (is : piece ≡ said)
-    (Q : Type 0)
+    (g : Grouping) (own before : List ℕ) (start : Grouping) (same : List ℕ) (h : Grouping) (said piece : List ℕ) (from to : ℤ)
+    (none : before ≡ []) (its : own ≡ key) (begins : start ≡ g) (first : from ≡ least) (ends : to ≡ greatest) (is : piece ≡ said)
     (took : (es : List Element) → ArePagesOf pages places all → HaveOnPlaces shape slot columns pages places es
-    → Q × (said ≡ before ++ lines_of_elements own columns (within_range from to es))) where
-  pub page_lines : (es : List Element) → HaveOnPlaces shape slot columns pages (place ∷ []) es → piece ≡ lines_of_elements key columns es
-  page_lines es have =
+    → TextsPut columns own start before (within_range from to es) same h said) where
+  page_taken : (es : List Element) → HaveOnPlaces shape slot columns pages (place ∷ []) es → TextsPut columns own start before (within_range from to es) same h said
+  page_taken es have =
       let are : ArePagesOf pages places all =
       subst (λ (ps : List Place). ArePagesOf pages ps all) (sym one) (subst (λ (qs : List Page). ArePagesOf pages (place ∷ []) qs) (sym alone) (read, tt)) in
       let on = subst (λ (ps : List Place). HaveOnPlaces shape slot columns pages ps es) (sym one) have in
-      is ∙ (took es are on).1
-      ∙ (λ i. none i ++ lines_of_elements (same i) columns (within_range (first i) (last i) es))
-      ∙ ap (lines_of_elements key columns) (page_within shape laid slot columns pages place es have)
+      took es are on
+
+  pub page_key : (es : List Element) → HaveOnPlaces shape slot columns pages (place ∷ []) es → same ≡ key
+  page_key es have = (page_taken es have).one_key ∙ its
+
+  pub page_texts : (es : List Element) → HaveOnPlaces shape slot columns pages (place ∷ []) es → ArePut g (texts_of_elements key columns es) h [] piece
+  page_texts es have =
+      let put = (page_taken es have).put in
+      let within : within_range from to es ≡ es = (λ i. within_range (first i) (ends i) es) ∙ page_within shape laid slot columns pages place es have in
+      subst (λ (bytes : List ℕ). ArePut g (texts_of_elements key columns es) h [] bytes) (sym is)
+      (subst (λ (old : List ℕ). ArePut g (texts_of_elements key columns es) h old said) none
+      (subst (λ (x : Grouping). ArePut x (texts_of_elements key columns es) h before said) begins
+      (subst (λ (texts : List (List ℕ)). ArePut start texts h before said) (λ i. texts_of_elements (its i) columns (within i)) put)))
 
 -- the pages of a series place by place
 pub record Parts (shape : Shape) (slot : ℕ) (key : List ℕ) (columns : List Column) (pages : ℕ → List ℕ) (places : List Place) (es : List Element) : Type 0 where
   pub parts : List (List Element)
   pub have : HaveParts shape slot columns pages places parts
-  pub lines : flat_map (lines_of_elements key columns) parts ≡ lines_of_elements key columns es
+  pub texts : flat_map (texts_of_elements key columns) parts ≡ texts_of_elements key columns es
 
 module _ (slot : ℕ) (key : List ℕ) (columns : List Column) (pages : ℕ → List ℕ) where
   chain_parts : (places : List Place) (chain : List (List Element)) → AreChained slot columns pages places chain → Parts Irregular slot key columns pages places (all_in chain)
-  chain_parts [] [] on = record { parts = []; have = tt; lines = refl }
+  chain_parts [] [] on = record { parts = []; have = tt; texts = refl }
   chain_parts [] (es ∷ chain) on = absurd on
   chain_parts (place ∷ places) [] on = absurd on
   chain_parts (place ∷ places) (es ∷ chain) on =
@@ -129,12 +140,12 @@ module _ (slot : ℕ) (key : List ℕ) (columns : List Column) (pages : ℕ → 
       record {
         parts = es ∷ rest.parts;
         have = ((es ∷ [], (on.0, tt), append-nil es), rest.have);
-        lines = ap (λ (l : List ℕ). lines_of_elements key columns es ++ l) rest.lines ∙ lines_both key columns es (all_in chain);
+        texts = ap (λ (l : List (List ℕ)). texts_of_elements key columns es ++ l) rest.texts ∙ texts_both key columns es (all_in chain);
       }
 
   grid_parts : (grid : GridPlan) (places : List Place) (cells : List OffsetPage) → AreOn slot columns pages places cells → HaveStarts grid (all_at cells)
       → Parts (Regular grid) slot key columns pages places (stamped grid (all_at cells))
-  grid_parts grid [] [] on starts = record { parts = []; have = tt; lines = refl }
+  grid_parts grid [] [] on starts = record { parts = []; have = tt; texts = refl }
   grid_parts grid [] (p ∷ cells) on starts = absurd on
   grid_parts grid (place ∷ places) [] on starts = absurd on
   grid_parts grid (place ∷ places) (p ∷ cells) on starts =
@@ -146,9 +157,9 @@ module _ (slot : ℕ) (key : List ℕ) (columns : List Column) (pages : ℕ → 
       record {
         parts = stamped grid own ∷ rest.parts;
         have = ((p ∷ [], (on.0, tt), subst (HaveStarts grid) (sym alone) first, ap (stamped grid) alone), rest.have);
-        lines = ap (λ (l : List ℕ). lines_of_elements key columns (stamped grid own) ++ l) rest.lines
-            ∙ lines_both key columns (stamped grid own) (stamped grid (all_at cells))
-            ∙ ap (lines_of_elements key columns) (sym (filter_map-append (stamped_one grid) own (all_at cells)));
+        texts = ap (λ (l : List (List ℕ)). texts_of_elements key columns (stamped grid own) ++ l) rest.texts
+            ∙ texts_both key columns (stamped grid own) (stamped grid (all_at cells))
+            ∙ ap (texts_of_elements key columns) (sym (filter_map-append (stamped_one grid) own (all_at cells)));
       }
 
   pub parts_of : (shape : Shape) (places : List Place) (es : List Element) → HaveElements shape slot columns pages places es → Parts shape slot key columns pages places es
@@ -181,46 +192,48 @@ as_many shape slot columns pages (place ∷ places) (es ∷ parts) have =
     let rest = as_many shape slot columns pages places parts have.1 in
     omega (arith, rest)
 
--- lines of parts so far and of the next one
-pub lines_more : (key : List ℕ) (columns : List Column) (parts : List (List Element)) (i : ℕ) (es : List Element) → take (suc i) parts ≡ take i parts ++ es ∷ []
-    → flat_map (lines_of_elements key columns) (take i parts) ++ lines_of_elements key columns es ≡ flat_map (lines_of_elements key columns) (take (i + 1) parts)
-lines_more key columns parts i es more =
-    let f = lines_of_elements key columns in
-    ap (λ (l : List ℕ). flat_map f (take i parts) ++ l) (sym (append-nil (f es)))
+-- texts of parts so far and of the next one
+pub texts_more : (key : List ℕ) (columns : List Column) (parts : List (List Element)) (i : ℕ) (es : List Element) → take (suc i) parts ≡ take i parts ++ es ∷ []
+    → flat_map (texts_of_elements key columns) (take i parts) ++ texts_of_elements key columns es ≡ flat_map (texts_of_elements key columns) (take (i + 1) parts)
+texts_more key columns parts i es more =
+    let f = texts_of_elements key columns in
+    ap (λ (l : List (List ℕ)). flat_map f (take i parts) ++ l) (sym (append-nil (f es)))
     ∙ sym (flat_map-append f (take i parts) (es ∷ []))
     ∙ ap (flat_map f) (sym more)
     ∙ ap (λ (n : ℕ). flat_map f (take n parts)) (let next : suc i ≡ i + 1 = omega arith in next)
 
 -- and of all
-pub lines_rest : (key : List ℕ) (columns : List Column) (parts : List (List Element)) (n : ℕ)
-    → flat_map (lines_of_elements key columns) (take n parts) ++ flat_map (lines_of_elements key columns) (drop n parts) ≡ flat_map (lines_of_elements key columns) parts
-lines_rest key columns parts n =
-    sym (flat_map-append (lines_of_elements key columns) (take n parts) (drop n parts)) ∙ ap (flat_map (lines_of_elements key columns)) (take-append-drop n parts)
+pub texts_rest : (key : List ℕ) (columns : List Column) (parts : List (List Element)) (n : ℕ)
+    → flat_map (texts_of_elements key columns) (take n parts) ++ flat_map (texts_of_elements key columns) (drop n parts) ≡ flat_map (texts_of_elements key columns) parts
+texts_rest key columns parts n =
+    sym (flat_map-append (texts_of_elements key columns) (take n parts) (drop n parts)) ∙ ap (flat_map (texts_of_elements key columns)) (take-append-drop n parts)
 
 -- the parts so far were said, and then the next one, or a front of it
 module _ (shape : Shape) (slot : ℕ) (columns : List Column) (key : List ℕ) (v : Device) (items : List Place) (parts : List (List Element))
-    (have : HaveParts shape slot columns (volume_pages v.held) items parts) (i : ℕ) where
-  pub parts_next : (x w : Device) (d : Place) (r : Result Unit Fault) → x.held ≡ v.held → i < length items
-      → SaysText (flat_map (lines_of_elements key columns) (take i parts)) (Ok tt) v x
-      → ((es : List Element) → HaveOnPlaces shape slot columns (volume_pages x.held) (get_or items i d ∷ []) es → SaysText (lines_of_elements key columns es) r x w)
-      → SaysText (flat_map (lines_of_elements key columns) (take (i + 1) parts)) r v w
-  parts_next x w d r held within said says =
+    (have : HaveParts shape slot columns (volume_pages v.held) items parts) (i : ℕ) (g : Grouping) where
+  pub parts_next : (h k : Grouping) (x w : Device) (d : Place) (r : Result Unit Fault) (Q : Type 0) → x.held ≡ v.held → i < length items
+      → SaysTexts g (flat_map (texts_of_elements key columns) (take i parts)) h (Ok tt) v x
+      → ((es : List Element) → HaveOnPlaces shape slot columns (volume_pages x.held) (get_or items i d ∷ []) es → SaysTexts h (texts_of_elements key columns es) k r x w × Q)
+      → SaysTexts g (flat_map (texts_of_elements key columns) (take (i + 1) parts)) k r v w × Q
+  parts_next h k x w d r Q held within said says =
       let p = part_at shape slot columns (volume_pages v.held) items parts i d have within in
-      text_same (flat_map (lines_of_elements key columns) (take i parts) ++ lines_of_elements key columns p.es)
-      (flat_map (lines_of_elements key columns) (take (i + 1) parts)) r v w (lines_more key columns parts i p.es p.more)
-      (text_then (flat_map (lines_of_elements key columns) (take i parts)) (lines_of_elements key columns p.es) r v x w said
-      (says p.es (subst (λ (bytes : List ℕ). HaveOnPlaces shape slot columns (volume_pages bytes) (get_or items i d ∷ []) p.es) (sym held) p.have)))
+      let last = says p.es (subst (λ (bytes : List ℕ). HaveOnPlaces shape slot columns (volume_pages bytes) (get_or items i d ∷ []) p.es) (sym held) p.have) in (
+        texts_same g k (flat_map (texts_of_elements key columns) (take i parts) ++ texts_of_elements key columns p.es)
+            (flat_map (texts_of_elements key columns) (take (i + 1) parts)) r v w (texts_more key columns parts i p.es p.more)
+            (texts_then g h k (flat_map (texts_of_elements key columns) (take i parts)) (texts_of_elements key columns p.es) r v x w said last.0),
+        last.1,
+      )
 
-  pub parts_cut : (w : Device) (e : Fault) → SaysText (flat_map (lines_of_elements key columns) (take (i + 1) parts)) (Err e) v w
-      → SaysText (flat_map (lines_of_elements key columns) parts) (Err e) v w
-  parts_cut w e said =
-      text_same (flat_map (lines_of_elements key columns) (take (i + 1) parts) ++ flat_map (lines_of_elements key columns) (drop (i + 1) parts))
-      (flat_map (lines_of_elements key columns) parts) (Err e) v w (lines_rest key columns parts (i + 1))
-      (text_stop (flat_map (lines_of_elements key columns) (take (i + 1) parts)) (flat_map (lines_of_elements key columns) (drop (i + 1) parts)) e v w said)
+  pub parts_cut : (h k : Grouping) (w : Device) (e : Fault) → SaysTexts g (flat_map (texts_of_elements key columns) (take (i + 1) parts)) h (Err e) v w
+      → SaysTexts g (flat_map (texts_of_elements key columns) parts) k (Err e) v w
+  parts_cut h k w e said =
+      texts_same g k (flat_map (texts_of_elements key columns) (take (i + 1) parts) ++ flat_map (texts_of_elements key columns) (drop (i + 1) parts))
+      (flat_map (texts_of_elements key columns) parts) (Err e) v w (texts_rest key columns parts (i + 1))
+      (texts_stop g h k (flat_map (texts_of_elements key columns) (take (i + 1) parts)) (flat_map (texts_of_elements key columns) (drop (i + 1) parts)) e v w said)
 
-  pub parts_end : (x : Device) → length items ≤ i → SaysText (flat_map (lines_of_elements key columns) (take i parts)) (Ok tt) v x
-      → SaysText (flat_map (lines_of_elements key columns) parts) (Ok tt) v x
-  parts_end x past said =
+  pub parts_end : (h : Grouping) (x : Device) → length items ≤ i → SaysTexts g (flat_map (texts_of_elements key columns) (take i parts)) h (Ok tt) v x
+      → SaysTexts g (flat_map (texts_of_elements key columns) parts) h (Ok tt) v x
+  parts_end h x past said =
       let same = as_many shape slot columns (volume_pages v.held) items parts have in
-      text_same (flat_map (lines_of_elements key columns) (take i parts)) (flat_map (lines_of_elements key columns) parts) (Ok tt) v x
-      (ap (flat_map (lines_of_elements key columns)) (take_all i parts (omega (arith, same, past)))) said
+      texts_same g h (flat_map (texts_of_elements key columns) (take i parts)) (flat_map (texts_of_elements key columns) parts) (Ok tt) v x
+      (ap (flat_map (texts_of_elements key columns)) (take_all i parts (omega (arith, same, past)))) said

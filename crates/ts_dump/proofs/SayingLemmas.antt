@@ -1,12 +1,17 @@
 -- What reading and saying leave, one behind the other.
-use Rattle.std.proofs.Common.{◌≡◌, ℕ, suc, zero, ◌<◌, get_or, drop, Bool, IsTrue, Result, Ok, Err, List, [], ◌∷◌, ◌++◌, take, length, refl, ap, sym, ◌∙◌, subst, arith, append_assoc, append-nil}
+use Rattle.std.proofs.Common.{◌≡◌, ℕ, suc, zero, ◌+◌, ◌<◌, get_or, drop, Bool, IsTrue, Result, Ok, Err, List, [], ◌∷◌, ◌++◌, take, length, refl, ap, sym, ◌∙◌, subst, arith, append_assoc, append-nil}
 use Rattle.std.specs.List.{flat_map}
-use Rattle.std.specs.Result.{IsErrAnd}
+use Rattle.std.specs.Result.{IsErrAnd, OnOk}
 use Rattle.ts_disk.specs.Device.{Device, Rose, Says, Saying}
 use Rattle.ts_journal.specs.Moment.{OnlyReads}
 use Rattle.ts_dump.specs.declared.ended.Fault.{Fault}
 use Rattle.ts_dump.specs.declared.ended.Fault.TheVariants.{Output, Volume, Memory}
+use Rattle.std.proofs.lemmas.List.{take-append-drop}
+use Rattle.std.proofs.lemmas.List.Concat.{flat_map-append}
 use Rattle.ts_dump.specs.Saying.{Stays, Caused, SaysText}
+use Rattle.ts_dump.specs.declared.grouping.Grouping.{Grouping}
+use Rattle.ts_dump.specs.Grouping.{behind}
+use Rattle.ts_dump.specs.Placed.{lines_from, lines_both, ArePut, none_put, both_put, SaysTexts}
 
 pub stays_none : (v : Device) → Stays v v
 stays_none v = record {
@@ -173,20 +178,97 @@ pub text_failed : (text : List ℕ) (r : Result Unit Fault) (e : Fault) (v w : D
 text_failed text (Ok done) e v w is said = absurd is
 text_failed text (Err other) e v w is said = subst (λ (x : Fault). SaysText text (Err x) v w) (sym is) said
 
--- texts of slots so far, of the next one, and of all
-flat_split : (f : ℕ → List ℕ) (slots : List ℕ) (i d : ℕ) → i < length slots
-    → flat_map f (take i slots) ++ f (get_or slots i d) ++ flat_map f (drop (suc i) slots) ≡ flat_map f slots
-flat_split f [] i d within = absurd (omega (arith, within))
-flat_split f (slot ∷ slots) zero d within = refl
-flat_split f (slot ∷ slots) (suc i) d within =
-    let rest = flat_split f slots i d (omega (arith, within)) in
-    ap (λ (l : List ℕ). l ++ flat_map f (drop (suc i) slots)) (append_assoc (f slot) (flat_map f (take i slots)) (f (get_or slots i d)))
-    ∙ append_assoc (f slot) (flat_map f (take i slots) ++ f (get_or slots i d)) (flat_map f (drop (suc i) slots))
-    ∙ ap (λ (l : List ℕ). f slot ++ l) rest
+-- The same of texts that stand in transactions.
+pub texts_none : (g : Grouping) (v : Device) → SaysTexts g [] g (Ok tt) v v
+texts_none g v = record { whole = none_put g v.said; part = tt }
 
-pub slots_cut : (f : ℕ → List ℕ) (slots : List ℕ) (i d : ℕ) (e : Fault) (v x w : Device) → i < length slots → SaysText (flat_map f (take i slots)) (Ok tt) v x
-    → SaysText (f (get_or slots i d)) (Err e) x w → SaysText (flat_map f slots) (Err e) v w
-slots_cut f slots i d e v x w within said cut =
-    text_same (flat_map f (take i slots) ++ f (get_or slots i d) ++ flat_map f (drop (suc i) slots)) (flat_map f slots) (Err e) v w (flat_split f slots i d within)
-    (text_stop (flat_map f (take i slots) ++ f (get_or slots i d)) (flat_map f (drop (suc i) slots)) e v w
-    (text_then (flat_map f (take i slots)) (f (get_or slots i d)) (Err e) v x w said cut))
+pub texts_then : (g h k : Grouping) (xs ys : List (List ℕ)) (r : Result Unit Fault) (v x w : Device) → SaysTexts g xs h (Ok tt) v x → SaysTexts h ys k r x w → SaysTexts g (xs ++ ys) k r v w
+texts_then g h k xs ys (Ok done) v x w p q = record { whole = both_put g h k xs ys v.said x.said w.said p.whole q.whole; part = tt }
+texts_then g h k xs ys (Err e) v x w p q =
+    let both : lines_from g xs ++ lines_from h ys ≡ lines_from g (xs ++ ys) = (λ i. lines_from g xs ++ lines_from (p.whole.stands i) ys) ∙ sym (lines_both g xs ys) in
+    let cut : SaysText (lines_from h ys) (Err e) x w = record { whole = tt; part = q.part } in
+    record {
+      whole = tt;
+      part = subst (λ (l : List ℕ). Saying v.said l w.said) both
+          (text_then (lines_from g xs) (lines_from h ys) (Err e) v x w (text_said (lines_from g xs) v x p.whole.text) cut).part;
+    }
+
+pub texts_stop : (g h k : Grouping) (xs ys : List (List ℕ)) (e : Fault) (v w : Device) → SaysTexts g xs h (Err e) v w → SaysTexts g (xs ++ ys) k (Err e) v w
+texts_stop g h k xs ys e v w p =
+    let cut : SaysText (lines_from g xs) (Err e) v w = record { whole = tt; part = p.part } in
+    record {
+      whole = tt;
+      part = subst (λ (l : List ℕ). Saying v.said l w.said) (sym (lines_both g xs ys))
+          (text_stop (lines_from g xs) (lines_from (behind g xs) ys) e v w cut).part;
+    }
+
+pub texts_unsaid : (g k : Grouping) (texts : List (List ℕ)) (e : Fault) (v w : Device) → w.said ≡ v.said → SaysTexts g texts k (Err e) v w
+texts_unsaid g k texts e v w said = record { whole = tt; part = (text_unsaid (lines_from g texts) e v w said).part }
+
+pub texts_same : (g h : Grouping) (xs ys : List (List ℕ)) (r : Result Unit Fault) (v w : Device) → xs ≡ ys → SaysTexts g xs h r v w → SaysTexts g ys h r v w
+texts_same g h xs ys r v w same = subst (λ (texts : List (List ℕ)). SaysTexts g texts h r v w) same
+
+pub texts_failed : (g h k : Grouping) (texts : List (List ℕ)) (r : Result Unit Fault) (e : Fault) (v w : Device) → IsErrAnd r (λ x. x ≡ e) → SaysTexts g texts h (Err e) v w → SaysTexts g texts k r v w
+texts_failed g h k texts (Ok done) e v w is said = absurd is
+texts_failed g h k texts (Err other) e v w is said = record { whole = tt; part = said.part }
+
+-- a piece that is the lines of texts was said behind reads, or not whole
+pub texts_said : {E : Type 0} (tells : Bool) (told : IsTrue tells) (g h : Grouping) (texts : List (List ℕ)) (piece : List ℕ) (v x w : Device) → ArePut g texts h [] piece → x.said ≡ v.said
+    → Says {E = E} tells piece (Ok tt) x w → SaysTexts g texts h (Ok tt) v w
+texts_said tells told g h texts piece v x w put before says = record {
+  whole = record { stands = put.stands; text = (piece_said tells told (lines_from g texts) piece v x w put.text before says).whole };
+  part = tt;
+}
+
+pub texts_cut : {E : Type 0} (tells : Bool) (g h k : Grouping) (texts : List (List ℕ)) (piece : List ℕ) (e : E) (v x w : Device) → ArePut g texts h [] piece → x.said ≡ v.said
+    → Says {E = E} tells piece (Err e) x w → SaysTexts g texts k (Err Output) v w
+texts_cut tells g h k texts piece e v x w put before says = record {
+  whole = tt;
+  part = (piece_cut tells (lines_from g texts) piece e v x w put.text before says).part;
+}
+
+-- after an error nothing is claimed besides
+pub said_page : (g h : Grouping) (texts : List (List ℕ)) (r : Result Unit Fault) (e : Fault) (v w : Device) → IsErrAnd r (λ x. x ≡ e) → (Q : Type 0) → SaysTexts g texts h (Err e) v w
+    → SaysTexts g texts h r v w × OnOk r Q
+said_page g h texts (Ok done) e v w is Q said = absurd is
+said_page g h texts (Err other) e v w is Q said = (record { whole = tt; part = said.part }, tt)
+
+-- a page wasn't said
+pub page_unsaid : (g h : Grouping) (texts : List (List ℕ)) (r : Result Unit Fault) (e : Fault) (v w : Device) → IsErrAnd r (λ x. x ≡ e) → (Q : Type 0) → w.said ≡ v.said
+    → SaysTexts g texts h r v w × OnOk r Q
+page_unsaid g h texts (Ok done) e v w is Q said = absurd is
+page_unsaid g h texts (Err other) e v w is Q said = (texts_unsaid g h texts other v w said, tt)
+
+-- texts of slots so far, of the next one, and of all
+pub flat_next : (f : ℕ → List (List ℕ)) (slots : List ℕ) (i d : ℕ) → i < length slots → flat_map f (take i slots) ++ f (get_or slots i d) ≡ flat_map f (take (suc i) slots)
+flat_next f [] i d within = absurd (omega (arith, within))
+flat_next f (slot ∷ slots) zero d within = sym (append-nil (f slot))
+flat_next f (slot ∷ slots) (suc i) d within =
+    append_assoc (f slot) (flat_map f (take i slots)) (f (get_or slots i d))
+    ∙ ap (λ (l : List (List ℕ)). f slot ++ l) (flat_next f slots i d (omega (arith, within)))
+
+flat_split : (f : ℕ → List (List ℕ)) (slots : List ℕ) (i : ℕ) → flat_map f (take i slots) ++ flat_map f (drop i slots) ≡ flat_map f slots
+flat_split f slots i = sym (flat_map-append f (take i slots) (drop i slots)) ∙ ap (flat_map f) (take-append-drop i slots)
+
+one_more : (i : ℕ) → suc i ≡ i + 1
+one_more i = omega arith
+
+pub slots_put : (f : ℕ → List (List ℕ)) (slots : List ℕ) (i d : ℕ) (g h k : Grouping) (a b c : List ℕ) → i < length slots → ArePut g (flat_map f (take i slots)) h a b
+    → ArePut h (f (get_or slots i d)) k b c → ArePut g (flat_map f (take (i + 1) slots)) k a c
+slots_put f slots i d g h k a b c within p q =
+    subst (λ (texts : List (List ℕ)). ArePut g texts k a c) (flat_next f slots i d within ∙ ap (λ (n : ℕ). flat_map f (take n slots)) (one_more i))
+    (both_put g h k (flat_map f (take i slots)) (f (get_or slots i d)) a b c p q)
+
+pub slots_next : (f : ℕ → List (List ℕ)) (slots : List ℕ) (i d : ℕ) (g h k : Grouping) (r : Result Unit Fault) (v x w : Device) → i < length slots
+    → SaysTexts g (flat_map f (take i slots)) h (Ok tt) v x → SaysTexts h (f (get_or slots i d)) k r x w
+    → SaysTexts g (flat_map f (take (i + 1) slots)) k r v w
+slots_next f slots i d g h k r v x w within p q =
+    texts_same g k (flat_map f (take i slots) ++ f (get_or slots i d)) (flat_map f (take (i + 1) slots)) r v w
+    (flat_next f slots i d within ∙ ap (λ (n : ℕ). flat_map f (take n slots)) (one_more i))
+    (texts_then g h k (flat_map f (take i slots)) (f (get_or slots i d)) r v x w p q)
+
+pub slots_cut : (f : ℕ → List (List ℕ)) (slots : List ℕ) (i d : ℕ) (g h k j : Grouping) (e : Fault) (v x w : Device) → i < length slots
+    → SaysTexts g (flat_map f (take i slots)) h (Ok tt) v x → SaysTexts h (f (get_or slots i d)) k (Err e) x w → SaysTexts g (flat_map f slots) j (Err e) v w
+slots_cut f slots i d g h k j e v x w within p q =
+    texts_same g j (flat_map f (take (i + 1) slots) ++ flat_map f (drop (i + 1) slots)) (flat_map f slots) (Err e) v w (flat_split f slots (i + 1))
+    (texts_stop g k j (flat_map f (take (i + 1) slots)) (flat_map f (drop (i + 1) slots)) e v w (slots_next f slots i d g h k (Err e) v x w within p q))

@@ -18,9 +18,8 @@ use Rattle.ts_layout.proofs.CallerLemmas.{one_of, own, at_slot-map, container_of
 use Rattle.ts_shelf.specs.Shelf.{IsSeries}
 use Rattle.ts_shelf.proofs.LawLemmas.{charges}
 use Rattle.ts_shelf.proofs.SeenLemmas.{heading_there, pages_have, entries_in}
-use Rattle.ts_dump_texts.specs.Script.{script_of}
 use Rattle.ts_dump_texts.specs.OfCatalogue.{texts_of_element}
-use Rattle.ts_dump.specs.Elements.{lines_of_elements, series_if, series_lines}
+use Rattle.ts_dump.specs.Elements.{texts_of_elements, series_if, series_texts}
 use Rattle.ts_dump.specs.Held.{IsLayoutOf, HaveParts}
 use Rattle.ts_dump.proofs.PartLemmas.{parts_of}
 
@@ -66,10 +65,10 @@ module _ (d : Definitions) (space : Directory) (bytes : List ℕ) (l : Layout) (
   pub no_shape : None ≡ shape_at d slot → ⊥
   no_shape none = let is = none ∙ ap (λ (x : Definitions). shape_at x slot) lay.definitions ∙ its.lies in cc
 
-  -- its pages have its elements, place by place, and their lines are those of the series
+  -- its pages have its elements, place by place, and their texts are those of the series
   pub series_parts : (key : List ℕ) (h : Heading) (shape : Shape) → s.key ≡ key → slot < 4096 → heading_at d slot ≡ Some h → shape_at d slot ≡ Some shape → IsLaidOut shape
       → (parts : List (List Element)) × HaveParts shape slot h.columns (pages bytes) (places_of slot space) parts
-      × (flat_map (lines_of_elements key h.columns) parts ≡ series_lines l slot)
+      × (flat_map (texts_of_elements key h.columns) parts ≡ series_texts l slot)
   series_parts key h shape named within heading lies laid =
       let heading_in = ap (λ (x : Definitions). heading_at x slot) (sym lay.definitions) ∙ heading in
       let lies_in = ap (λ (x : Definitions). shape_at x slot) (sym lay.definitions) ∙ lies in
@@ -82,8 +81,8 @@ module _ (d : Definitions) (space : Directory) (bytes : List ℕ) (l : Layout) (
       let listed : es ≡ entries (elements_at slot l.element_pages) = sym (entries_in shape slot h.columns (pages bytes) (places_of slot space) l es has) in (
         parts.parts,
         parts.have,
-        parts.lines
-            ∙ (λ i. script_of (flat_map (texts_of_element (sym named i) (columns i)) (listed i)))
+        parts.texts
+            ∙ (λ i. flat_map (texts_of_element (sym named i) (columns i)) (listed i))
             ∙ ap (series_if l slot) (sym in_layout),
       )
 
@@ -98,7 +97,7 @@ nothing_in : (l : Layout) (slot : ℕ) (o : Option SeriesDef) → None ≡ optio
 nothing_in l slot None none = refl
 nothing_in l slot (Some s) none = absurd (cc)
 
-pub empty_slot : (d : Definitions) (space : Directory) (bytes : List ℕ) (l : Layout) → IsLayoutOf d space bytes l → (slot : ℕ) → None ≡ def_at kinds.Series slot d → [] ≡ series_lines l slot
+pub empty_slot : (d : Definitions) (space : Directory) (bytes : List ℕ) (l : Layout) → IsLayoutOf d space bytes l → (slot : ℕ) → None ≡ def_at kinds.Series slot d → [] ≡ series_texts l slot
 empty_slot d space bytes l lay slot none =
     nothing_in l slot (at_slot slot l.definitions.series)
     (none ∙ ap (λ (x : Definitions). def_at kinds.Series slot x) lay.definitions ∙ at_slot-map of_series slot l.definitions.series)

@@ -3,13 +3,14 @@ use Rattle.std.specs.Prelude.{ℕ, Result, Ok, Err}
 use Rattle.ts_container.specs.declared.fault.SurveyFault.{SurveyFault}
 use Rattle.ts_container.specs.declared.fault.SurveyFault.TheVariants as survey
 use Rattle.ts_dump.specs.declared.ended.Ended.{Ended}
-use Rattle.ts_dump.specs.declared.ended.Ended.TheVariants.{Whole, Bad, OutputFailed, VolumeFailed, NoMemory}
+use Rattle.ts_dump.specs.declared.ended.Ended.TheVariants.{Whole, NoSeries, Bad, OutputFailed, VolumeFailed, NoMemory}
 use Rattle.ts_dump.specs.declared.ended.Fault.{Fault}
 use Rattle.ts_dump.specs.declared.ended.Fault.TheVariants as faults
 
 -- the status of each
 abbrev pub status_of : Ended → ℕ
 status_of Whole = 0
+status_of NoSeries = 1
 status_of (Bad page) = 6
 status_of OutputFailed = 4
 status_of VolumeFailed = 5

@@ -1,6 +1,9 @@
 pub mod Ended
+pub mod Grouping
+pub mod Placed
 pub mod Listed
 pub mod Elements
 pub mod Saying
 pub mod Held
+pub mod Chosen
 pub mod Dumped

@@ -1,12 +1,15 @@
 // The statements of definitions, printed: kind by kind, each in the order of the names.
-ghost use Rattle.std.specs.Prelude.{◌≡◌, ◌<◌, ◌++◌, ℕ, OnOk, IfOk, IfSome, option_copied, option_map};
-ghost use Rattle.std.specs.Prelude.{option_and_then};
+ghost use Rattle.std.specs.Prelude.{◌≡◌, ◌<◌, ◌++◌, OnOk, IfOk, option_copied, option_map, option_and_then};
 ghost use Rattle.ts_model.specs.Definitions.{CalendarDef, IsDefinitions, at_slot, limit, pattern_reference, references};
 ghost use Rattle.ts_layout.specs.Meaning.{AreThere, IsThere, def_at, part_of};
-ghost use Rattle.ts_dump_texts.specs.Script.{line_of};
-ghost use Rattle.ts_dump.specs.Listed.{name_in, calendar_as, text_of_def, line_if, line_at, lines_of};
-ghost use Rattle.ts_dump.specs.Listed.{lines_of_definitions};
+ghost use Rattle.ts_dump.specs.Chosen.{IsWithin, texts_defined};
+ghost use Rattle.ts_dump.specs.Listed.{name_in, calendar_as, text_of_def, text_at, text_in, texts_of_kind};
+ghost use Rattle.ts_dump.specs.Listed.{definition_texts, texts_under, found_by, row_type_of, pattern_of, container_of};
+ghost use Rattle.ts_dump.specs.Listed.{calendar_of, row_type_slot, pattern_slot, container_slot, calendar_slot};
+ghost use Rattle.ts_dump.specs.Placed.{ArePut};
 
+use crate::choice::Choice;
+use crate::grouping::Grouping;
 use crate::texts::{
     print_calendar_statement, print_container, print_irregular, print_pattern_statement,
     print_regular, print_row_type,
@@ -16,31 +19,124 @@ use ts_base::{Bytes, Key, Name, Stamp};
 use ts_calendar::{Calendar, CalendarText, PatternPart};
 use ts_model::{Def, Defs, Kind};
 
-/// Puts the statements of all definitions, each in a line.
-pub(crate) fn print_definitions(
+/// Puts the statements of the definitions that were chosen, each in a line.
+pub(crate) fn print_chosen(
     alloc: Global,
     defs: &Defs,
+    choice: Choice,
+    grouping: &mut Grouping,
+    out: &mut Bytes,
+) -> Result<(), AllocError>
+    requires within { IsWithin choice }
+    requires there { AreThere defs.now.definitions }
+    requires rules { IsDefinitions defs.now.definitions }
+    ensures { OnOk result (ArePut grouping.old (texts_defined defs.now.definitions choice) grouping.new out.old out.new) }
+{
+    match choice {
+        Choice::All | Choice::DefinitionsAlone => print_definitions(alloc, defs, grouping, out),
+        Choice::Series { slot } => print_under(alloc, defs, slot, grouping, out),
+    }
+}
+
+// Puts those of all definitions.
+fn print_definitions(
+    alloc: Global,
+    defs: &Defs,
+    grouping: &mut Grouping,
     out: &mut Bytes,
 ) -> Result<(), AllocError>
     requires there { AreThere defs.now.definitions }
-    ensures { OnOk result (out.new ≡ out.old ++ lines_of_definitions defs.now.definitions) }
+    ensures { OnOk result (ArePut grouping.old (definition_texts defs.now.definitions) grouping.new out.old out.new) }
 {
-    print_all(alloc, defs, Kind::RowType, out)?;
-    print_all(alloc, defs, Kind::Pattern, out)?;
-    print_all(alloc, defs, Kind::Calendar, out)?;
-    print_all(alloc, defs, Kind::Container, out)?;
-    print_all(alloc, defs, Kind::Series, out)
+    print_all(alloc, defs, Kind::RowType, grouping, out)?;
+    print_all(alloc, defs, Kind::Pattern, grouping, out)?;
+    print_all(alloc, defs, Kind::Calendar, grouping, out)?;
+    print_all(alloc, defs, Kind::Container, grouping, out)?;
+    print_all(alloc, defs, Kind::Series, grouping, out)
+}
+
+// Puts those that the series in a slot stands on, and its own.
+fn print_under(
+    alloc: Global,
+    defs: &Defs,
+    series: u16,
+    grouping: &mut Grouping,
+    out: &mut Bytes,
+) -> Result<(), AllocError>
+    requires slot { series < limit Kind.Series }
+    requires there { AreThere defs.now.definitions }
+    requires rules { IsDefinitions defs.now.definitions }
+    ensures { OnOk result (ArePut grouping.old (texts_under defs.now.definitions series) grouping.new out.old out.new) }
+{
+    print_in(
+        alloc,
+        defs,
+        Kind::RowType,
+        row_type_slot(defs, series),
+        grouping,
+        out,
+    )?;
+    print_in(
+        alloc,
+        defs,
+        Kind::Pattern,
+        pattern_slot(defs, series),
+        grouping,
+        out,
+    )?;
+    print_in(
+        alloc,
+        defs,
+        Kind::Calendar,
+        calendar_slot(defs, series),
+        grouping,
+        out,
+    )?;
+    print_in(
+        alloc,
+        defs,
+        Kind::Container,
+        container_slot(defs, series),
+        grouping,
+        out,
+    )?;
+    print_slot(alloc, defs, Kind::Series, series, grouping, out)
 }
 
 // Puts those of a kind, in the order of their names.
-fn print_all(alloc: Global, defs: &Defs, kind: Kind, out: &mut Bytes) -> Result<(), AllocError>
+fn print_all(
+    alloc: Global,
+    defs: &Defs,
+    kind: Kind,
+    grouping: &mut Grouping,
+    out: &mut Bytes,
+) -> Result<(), AllocError>
     requires there { AreThere defs.now.definitions }
-    ensures { OnOk result (out.new ≡ out.old ++ lines_of kind defs.now.definitions) }
+    ensures { OnOk result (ArePut grouping.old (texts_of_kind kind defs.now.definitions) grouping.new out.old out.new) }
 {
     for slot in defs.in_order(kind) {
-        print_slot(alloc, defs, kind, *slot, out)?;
+        print_slot(alloc, defs, kind, *slot, grouping, out)?;
     }
     Ok(())
+}
+
+// Puts the one in a slot, if a slot is given and one stands there.
+fn print_in(
+    alloc: Global,
+    defs: &Defs,
+    kind: Kind,
+    slot: Option<u16>,
+    grouping: &mut Grouping,
+    out: &mut Bytes,
+) -> Result<(), AllocError>
+    requires there { AreThere defs.now.definitions }
+    requires rules { IsDefinitions defs.now.definitions }
+    ensures { OnOk result (ArePut grouping.old (text_in kind defs.now.definitions slot) grouping.new out.old out.new) }
+{
+    match slot {
+        Some(slot) if slot < kind.limit() => print_slot(alloc, defs, kind, slot, grouping, out),
+        _ => Ok(()),
+    }
 }
 
 // Puts the one in a slot, if one stands there.
@@ -49,16 +145,18 @@ fn print_slot(
     defs: &Defs,
     kind: Kind,
     slot: u16,
+    grouping: &mut Grouping,
     out: &mut Bytes,
 ) -> Result<(), AllocError>
     requires slot { slot < limit kind }
     requires there { AreThere defs.now.definitions }
     requires rules { IsDefinitions defs.now.definitions }
-    ensures { OnOk result (out.new ≡ out.old ++ line_at kind defs.now.definitions slot) }
+    ensures { OnOk result (ArePut grouping.old (text_at kind defs.now.definitions slot) grouping.new out.old out.new) }
 {
     let Some(def) = defs.get(kind, slot) else {
         return Ok(());
     };
+    grouping.begin(out)?;
     print_definition(alloc, defs, def, out)?;
     out.push(b'\n')
 }
@@ -168,11 +266,66 @@ fn name_in(defs: &Defs, kind: Kind, slot: u16) -> &[u8]
     requires rules { IsDefinitions defs.now.definitions }
     ensures { result.now ≡ name_in kind slot defs.now.definitions }
 {
-    if slot >= kind.limit() {
-        return &[];
-    }
-    match defs.get(kind, slot) {
+    match def_in(defs, kind, slot) {
         Some(def) => def.name(),
         None => &[],
+    }
+}
+
+// What stands in a slot of a kind, where there is such a slot.
+fn def_in(defs: &Defs, kind: Kind, slot: u16) -> Option<&Def>
+    requires rules { IsDefinitions defs.now.definitions }
+    ensures { option_copied result ≡ def_at kind slot defs.now.definitions }
+{
+    if slot >= kind.limit() {
+        return None;
+    }
+    defs.get(kind, slot)
+}
+
+// The slot of the container of a series.
+fn container_slot(defs: &Defs, series: u16) -> Option<u16>
+    requires rules { IsDefinitions defs.now.definitions }
+    ensures { result ≡ container_slot defs.now.definitions series }
+{
+    match def_in(defs, Kind::Series, series)? {
+        Def::Series { container, .. } => Some(*container as u16),
+        _ => None,
+    }
+}
+
+// That of the row type of its container.
+fn row_type_slot(defs: &Defs, series: u16) -> Option<u16>
+    requires rules { IsDefinitions defs.now.definitions }
+    ensures { result ≡ row_type_slot defs.now.definitions series }
+{
+    match def_in(defs, Kind::Container, container_slot(defs, series)?)? {
+        Def::Container { row_type, .. } => Some(*row_type as u16),
+        _ => None,
+    }
+}
+
+// That of its calendar, where it is regular.
+fn calendar_slot(defs: &Defs, series: u16) -> Option<u16>
+    requires rules { IsDefinitions defs.now.definitions }
+    ensures { result ≡ calendar_slot defs.now.definitions series }
+{
+    match def_in(defs, Kind::Series, series)? {
+        Def::Series {
+            regular: Some((calendar, _)),
+            ..
+        } => Some(*calendar as u16),
+        _ => None,
+    }
+}
+
+// That of the pattern by whose name its calendar was made.
+fn pattern_slot(defs: &Defs, series: u16) -> Option<u16>
+    requires rules { IsDefinitions defs.now.definitions }
+    ensures { result ≡ pattern_slot defs.now.definitions series }
+{
+    match def_in(defs, Kind::Calendar, calendar_slot(defs, series)?)? {
+        Def::Calendar { by: Some(by), .. } => Some(*by as u16),
+        _ => None,
     }
 }

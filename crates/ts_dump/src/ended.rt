@@ -7,15 +7,6 @@ use std::alloc::AllocError;
 use ts_container::SurveyFault;
 use ts_disk::{Failed, SayFailed};
 
-/// What is said of a volume.
-#[derive(Clone, Copy, Debug, PartialEq, Eq)]
-pub enum Wish {
-    /// Its definitions and its elements.
-    All,
-    /// Its definitions alone: its series are made without elements.
-    DefinitionsAlone,
-}
-
 /// How a dump of a volume ended.
 #[derive(Clone, Copy, Debug, PartialEq, Eq)]
 pub enum Ended {
@@ -23,6 +14,8 @@ pub enum Ended {
     Whole,
     /// The volume is no store, and this is its first bad page. Nothing was said.
     Bad { page: u32 },
+    /// No series has the key that was wished. Nothing was said.
+    NoSeries,
     /// A piece of the script wasn't said whole: a front of it was.
     OutputFailed,
     /// A call of the volume failed; a front of the script was said.
@@ -38,6 +31,7 @@ impl Ended {
     {
         match self {
             Ended::Whole => 0,
+            Ended::NoSeries => 1,
             Ended::OutputFailed => 4,
             Ended::VolumeFailed => 5,
             Ended::Bad { .. } => 6,

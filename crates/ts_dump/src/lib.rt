@@ -7,13 +7,17 @@
 //! `dump.rt`, `series.rt`, `element_texts.rt`, `definitions.rt`, `texts.rt`.
 #![tactic(auto)]
 
+mod choice;
 mod definitions;
 mod dump;
 mod element_texts;
 mod ended;
+mod grouping;
 mod opened;
 mod series;
 mod texts;
+mod wish;
 
 pub use dump::dump_volume;
-pub use ended::{Ended, Wish};
+pub use ended::Ended;
+pub use wish::{Part, Wish};

@@ -1,5 +1,5 @@
 // The statements of the elements of all series, said page by page.
-ghost use Rattle.std.specs.Prelude.{◌≡◌, ◌<◌, ◌∷◌, [], pos, negsuc, IsTrue, List, Some};
+ghost use Rattle.std.specs.Prelude.{◌≡◌, ◌<◌, ◌∷◌, [], pos, negsuc, IsTrue, List, OnOk, Some};
 ghost use Rattle.std.specs.List.{flat_map};
 ghost use Rattle.ts_page.specs.Pages.{IsElementPage};
 ghost use Rattle.ts_journal.specs.Journal.{pages};
@@ -8,12 +8,16 @@ ghost use Rattle.ts_space.specs.Directory.{places_of};
 ghost use Rattle.ts_clip.specs.Series.{HaveOnPlaces, IsLaidOut};
 ghost use Rattle.ts_model.specs.Definitions.{SeriesDef, at_slot, series_slots};
 ghost use Rattle.ts_layout.specs.Meaning.{Layout};
-ghost use Rattle.ts_dump.specs.Elements.{all_series_lines, lines_of_elements, series_lines};
+ghost use Rattle.ts_dump.specs.Chosen.{IsWithin, texts_within};
+ghost use Rattle.ts_dump.specs.Elements.{all_series_texts, texts_of_elements, series_texts};
 ghost use Rattle.ts_dump.specs.Held.{HaveParts, IsLayoutOf, IsOpen, IsStoreOf};
-ghost use Rattle.ts_dump.specs.Saying.{Caused, SaysText};
+ghost use Rattle.ts_dump.specs.Placed.{SaysTexts};
+ghost use Rattle.ts_dump.specs.Saying.{Caused};
 
+use crate::choice::Choice;
 use crate::element_texts::ElementTexts;
 use crate::ended::Fault;
+use crate::grouping::Grouping;
 use crate::opened::Opened;
 use std::alloc::Global;
 use std::slice;
@@ -33,21 +37,45 @@ const LEAST: i64 = -6_213_559_680_000_000;
 
 const GREATEST: i64 = 25_340_230_079_999_999;
 
-/// Says the statements of all elements, series after series in the order of their keys.
+/// Says the statements of the elements that were chosen.
 pub(crate) fn say_elements<S: Site>(
     alloc: Global,
+    choice: Choice,
     opened: &Opened,
+    grouping: &mut Grouping,
+    site: &mut S,
+) -> Result<(), Fault>
+    requires within { IsWithin choice }
+    requires open { IsOpen S.tells opened.now (S.device site.old) }
+    ensures caused { Caused result (S.device site.old) (S.device site.new) }
+    ensures said { IsTrue S.tells → (l : Layout)
+        → IsLayoutOf opened.now.found.defs.definitions opened.now.found.space (S.device site.old).held l
+        → SaysTexts grouping.old (texts_within l choice) grouping.new result (S.device site.old) (S.device site.new) }
+{
+    let mut page = Page::zero();
+    match choice {
+        Choice::All => say_all(alloc, opened, &mut page, grouping, site),
+        Choice::DefinitionsAlone => Ok(()),
+        Choice::Series { slot } => say_slot(alloc, opened, slot, &mut page, grouping, site),
+    }
+}
+
+// Says those of all series, one after the other in the order of their keys.
+fn say_all<S: Site>(
+    alloc: Global,
+    opened: &Opened,
+    page: &mut Page,
+    grouping: &mut Grouping,
     site: &mut S,
 ) -> Result<(), Fault>
     requires open { IsOpen S.tells opened.now (S.device site.old) }
     ensures caused { Caused result (S.device site.old) (S.device site.new) }
     ensures said { IsTrue S.tells → (l : Layout)
         → IsLayoutOf opened.now.found.defs.definitions opened.now.found.space (S.device site.old).held l
-        → SaysText (all_series_lines l) result (S.device site.old) (S.device site.new) }
+        → SaysTexts grouping.old (all_series_texts l) grouping.new result (S.device site.old) (S.device site.new) }
 {
-    let mut page = Page::zero();
     for slot in opened.found.defs.in_order(Kind::Series) {
-        say_slot(alloc, opened, *slot, &mut page, site)?;
+        say_slot(alloc, opened, *slot, page, grouping, site)?;
     }
     Ok(())
 }
@@ -58,6 +86,7 @@ fn say_slot<S: Site>(
     opened: &Opened,
     slot: u16,
     page: &mut Page,
+    grouping: &mut Grouping,
     site: &mut S,
 ) -> Result<(), Fault>
     requires slot { slot < series_slots }
@@ -65,10 +94,10 @@ fn say_slot<S: Site>(
     ensures caused { Caused result (S.device site.old) (S.device site.new) }
     ensures said { IsTrue S.tells → (l : Layout)
         → IsLayoutOf opened.now.found.defs.definitions opened.now.found.space (S.device site.old).held l
-        → SaysText (series_lines l slot) result (S.device site.old) (S.device site.new) }
+        → SaysTexts grouping.old (series_texts l slot) grouping.new result (S.device site.old) (S.device site.new) }
 {
     match opened.found.defs.get(Kind::Series, slot) {
-        Some(def) => say_series(alloc, opened, slot, def.name(), page, site),
+        Some(def) => say_series(alloc, opened, slot, def.name(), page, grouping, site),
         None => Ok(()),
     }
 }
@@ -80,6 +109,7 @@ fn say_series<S: Site>(
     slot: u16,
     key: &[u8],
     page: &mut Page,
+    grouping: &mut Grouping,
     site: &mut S,
 ) -> Result<(), Fault>
     requires slot { slot < series_slots }
@@ -89,7 +119,7 @@ fn say_series<S: Site>(
     ensures caused { Caused result (S.device site.old) (S.device site.new) }
     ensures said { IsTrue S.tells → (l : Layout)
         → IsLayoutOf opened.now.found.defs.definitions opened.now.found.space (S.device site.old).held l
-        → SaysText (series_lines l slot) result (S.device site.old) (S.device site.new) }
+        → SaysTexts grouping.old (series_texts l slot) grouping.new result (S.device site.old) (S.device site.new) }
 {
     let defs = &opened.found.defs;
     let Some(kind) = row_type_of(defs, slot) else {
@@ -99,7 +129,7 @@ fn say_series<S: Site>(
         return Ok(());
     };
     let shelf = Shelf { series: slot, kind };
-    say_places(alloc, opened, &shelf, &shape, key, page, site)
+    say_places(alloc, opened, &shelf, &shape, key, page, grouping, site)
 }
 
 // Says those on the pages of a series, one page after the other.
@@ -110,6 +140,7 @@ fn say_places<S: Site>(
     shape: &Shape<'_>,
     key: &[u8],
     page: &mut Page,
+    grouping: &mut Grouping,
     site: &mut S,
 ) -> Result<(), Fault>
     requires slot { shelf.now.series < series_slots }
@@ -120,24 +151,25 @@ fn say_places<S: Site>(
     ensures said { IsTrue S.tells → (parts : List (List Element))
         → HaveParts shape.now shelf.now.series shelf.now.kind.now.columns (pages (S.device site.old).held)
         (places_of shelf.now.series opened.now.found.space) parts
-        → SaysText (flat_map (lines_of_elements key.now shelf.now.kind.now.columns) parts) result
-        (S.device site.old) (S.device site.new) }
+        → SaysTexts grouping.old (flat_map (texts_of_elements key.now shelf.now.kind.now.columns) parts) grouping.new
+        result (S.device site.old) (S.device site.new) }
 {
+    let mut texts = ElementTexts::of(alloc, key, *grouping);
     for place in opened.found.space.places(shelf.series) {
-        say_page(alloc, &opened.store, place, shelf, shape, key, page, site)?;
+        say_page(&opened.store, place, shelf, shape, page, &mut texts, site)?;
     }
+    *grouping = texts.grouping();
     Ok(())
 }
 
 // Says those on a page, in one piece.
 fn say_page<S: Site>(
-    alloc: Global,
     store: &Store,
     place: &Place,
     shelf: &Shelf,
     shape: &Shape<'_>,
-    key: &[u8],
     page: &mut Page,
+    texts: &mut ElementTexts<'_>,
     site: &mut S,
 ) -> Result<(), Fault>
     requires store { IsStoreOf S.tells store.now (S.device site.old) }
@@ -148,11 +180,12 @@ fn say_page<S: Site>(
     ensures said { IsTrue S.tells → (es : List Element)
         → HaveOnPlaces shape.now shelf.now.series shelf.now.kind.now.columns (pages (S.device site.old).held)
         (place.now ∷ []) es
-        → SaysText (lines_of_elements key.now shelf.now.kind.now.columns es) result
-        (S.device site.old) (S.device site.new) }
+        → SaysTexts texts.old.grouping (texts_of_elements texts.old.key.now shelf.now.kind.now.columns es)
+        texts.new.grouping result (S.device site.old) (S.device site.new)
+        × OnOk result (texts.new.key.now ≡ texts.old.key.now) }
 {
     store.committed(site, place.page, page)?;
-    let mut texts = ElementTexts::of(alloc, key);
+    texts.clear();
     let read: &Page = page;
     rows_of_pages(
         slice::from_ref(read),
@@ -161,7 +194,7 @@ fn say_page<S: Site>(
         shape,
         least_stamp(),
         greatest_stamp(),
-        &mut texts,
+        texts,
     )?;
     site.say(texts.as_slice())?;
     Ok(())

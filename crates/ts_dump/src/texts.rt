@@ -1,6 +1,8 @@
 // The texts of statements, each put to the end of what was said.
 ghost use Rattle.std.specs.Prelude.{◌≡◌, [], ◌∷◌, ◌++◌, OnOk};
+ghost use Rattle.std.specs.List.{flat_map};
 ghost use Rattle.ts_base.specs.StampText.{stamp_text};
+ghost use Rattle.ts_row.specs.Printed.{quoted};
 ghost use Rattle.ts_dump_texts.specs.Texts.{quoted_before, kind_before, columns_before, row_type_text};
 ghost use Rattle.ts_dump_texts.specs.Texts.{pattern_text, calendar_text, container_text, irregular_text};
 ghost use Rattle.ts_dump_texts.specs.Texts.{regular_text, element_text, hiding_text};
@@ -192,7 +194,9 @@ fn print_stamp(stamp: Stamp, out: &mut Bytes) -> Result<(), AllocError>
 {
     let mut text = [0u8; 25];
     stamp.write_into(&mut text);
-    print_quoted(&text, out)
+    out.push(b'\'')?;
+    out.extend_from_slice(&text)?;
+    out.push(b'\'')
 }
 
 // Puts a text in quotes, each quote in it twice.
@@ -200,11 +204,29 @@ fn print_quoted(text: &[u8], out: &mut Bytes) -> Result<(), AllocError>
     ensures { OnOk result (out.new ≡ out.old ++ quoted_before text.now []) }
 {
     out.push(b'\'')?;
+    print_doubled(text, out)?;
+    out.push(b'\'')
+}
+
+// Puts a text, each quote in it twice; one without a quote in one piece.
+fn print_doubled(text: &[u8], out: &mut Bytes) -> Result<(), AllocError>
+    ensures { OnOk result (out.new ≡ out.old ++ flat_map quoted text.now) }
+{
+    if text.contains(&b'\'') {
+        return print_each(text, out);
+    }
+    out.extend_from_slice(text)
+}
+
+// Puts a text byte for byte, each quote twice.
+fn print_each(text: &[u8], out: &mut Bytes) -> Result<(), AllocError>
+    ensures { OnOk result (out.new ≡ out.old ++ flat_map quoted text.now) }
+{
     for byte in text {
         if *byte == b'\'' {
             out.push(b'\'')?;
         }
         out.push(*byte)?;
     }
-    out.push(b'\'')
+    Ok(())
 }

@@ -38,7 +38,7 @@ use Rattle.ts_dump_laws.proofs.RuleLemmas.{something}
 
 -- what is left of a map
 module _ {X : Type 0} (names : List (List ℕ)) (m : Named X) where
-  only_entries : entries (only names m) ≡ filter (λ e. is_among names e.0) (entries m)
+  pub only_entries : entries (only names m) ≡ filter (λ e. is_among names e.0) (entries m)
   only_entries = entries_listed (filter (λ e. is_among names e.0) (entries m)) (is_sorted-where_key name_cmp (is_among names) (entries m) (entries_sorted m))
 
   only_get : (name : List ℕ) → get (only names m) name ≡ cond (is_among names name) (get m name) None
@@ -54,7 +54,7 @@ module _ {X : Type 0} (names : List (List ℕ)) (m : Named X) where
     | inr other ↦ absurd (let no : None ≡ Some x = sym (only_get name ∙ ap (λ (b : Bool). cond b (get m name) None) other) ∙ is in cc)
   ]
 
-  only_there : (name : List ℕ) → is_among names name ≡ true → get (only names m) name ≡ get m name
+  pub only_there : (name : List ℕ) → is_among names name ≡ true → get (only names m) name ≡ get m name
   only_there name among = only_get name ∙ ap (λ (b : Bool). cond b (get m name) None) among
 
   filter_fewer : (p : List ℕ × X → Bool) (es : List (List ℕ × X)) → length (filter p es) ≤ length es
@@ -77,7 +77,7 @@ among_one name other is = ties-same name other (sym (eq_ties name other) ∙ fir
     first true is = refl
     first false is = is
 
-one_among : (name : List ℕ) (names : List (List ℕ)) → is_among (name ∷ names) name ≡ true
+pub one_among : (name : List ℕ) (names : List (List ℕ)) → is_among (name ∷ names) name ≡ true
 one_among name names = ap (λ (b : Bool). b || is_among names name) (eq_ties name name ∙ ties-refl name)
 
 -- the quotas of fewer are no more

@@ -8,3 +8,4 @@ pub mod LawLemmas
 pub mod RuleLemmas
 pub mod SaidLemmas
 pub mod AloneLemmas
+pub mod WishLemmas

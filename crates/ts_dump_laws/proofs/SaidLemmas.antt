@@ -34,7 +34,8 @@ use Rattle.ts_dump_texts.specs.Texts.{row_type_text, pattern_text, calendar_text
 use Rattle.ts_dump_texts.specs.Laws.{TextsAreReadAgain, LiteralsGiveRows, TextsAreLines}
 use Rattle.ts_dump_texts.specs.Script.{script_of, IsLine, AreLines, ScriptsAskForLines}
 use Rattle.ts_dump_laws.specs.Statements.{row_type_statement, pattern_statement, calendar_statement, container_statement, made_as, series_statement, hiding, element_statements, elements_of_series, definitions_of, elements_of, statements_of, in_groups, in_transactions}
-use Rattle.ts_dump_laws.specs.Said.{text_made_as, texts_of_definitions, texts_of_hiding, texts_of_element, texts_of_series, texts_of, texts_in_groups, texts_in_transactions, AsksFor, ScriptsMakeCatalogues, ScriptsMakeVolumes}
+use Rattle.ts_dump_laws.specs.Said.{text_made_as, texts_of_definitions, texts_of_hiding, texts_of_element, texts_of_series, texts_of, texts_in_groups, texts_in_transactions, AsksFor, ScriptsMakeCatalogues, ScriptsMakeSeries, ScriptsMakeVolumes}
+use Rattle.ts_dump_laws.specs.Alone.{alone, SeriesStandAlone}
 use Rattle.ts_dump_laws.specs.Laws.{GivesRows, StatementsMakeCatalogues, TransactionsMakeCatalogues}
 use Rattle.ts_catalogue_laws.specs.Laws.{VolumesMeanCatalogues}
 use Rattle.ts_dump_laws.proofs.MapLemmas.{replaced}
@@ -317,3 +318,8 @@ module _ (reads : TextsAreReadAgain) (rows : LiteralsGiveRows) (lines : TextsAre
 -- of volumes
 pub scripts_of_volumes : VolumesMeanCatalogues → ScriptsMakeCatalogues → ScriptsMakeVolumes
 scripts_of_volumes catalogues make bytes cat means = make cat (catalogues.bytes bytes cat means)
+
+-- of series of volumes
+pub scripts_of_series : VolumesMeanCatalogues → ScriptsMakeCatalogues → SeriesStandAlone → ScriptsMakeSeries
+scripts_of_series catalogues make stand bytes cat key s means there =
+    make (alone key s cat) (stand key s cat (catalogues.bytes bytes cat means) there).is

@@ -1,15 +1,17 @@
 -- The texts of the statements of a catalogue as scripts, and what holds of them.
 pub use Rattle.ts_dump_texts.specs.OfCatalogue.{text_made_as, texts_of_definitions, texts_of_hiding, texts_of_element}
 pub use Rattle.ts_dump_texts.specs.OfCatalogue.{texts_of_series, texts_of}
-use Rattle.std.specs.Prelude.{◌≡◌, ℕ, zero, suc, Ok, List, [], ◌∷◌, map, codes}
+use Rattle.std.specs.Prelude.{◌≡◌, ℕ, zero, suc, Ok, Some, List, [], ◌∷◌, map, codes}
+use Rattle.std.specs.FinMap.{get}
 use Rattle.ts_command.specs.declared.command.Command.{Command}
 use Rattle.ts_command.specs.Script.{requests, last_request}
 use Rattle.ts_catalogue_laws.specs.Catalogue.{IsCatalogue}
 use Rattle.ts_volume.specs.Volume.{MeansCatalogue}
-use Rattle.ts_model.specs.Catalogue.{Catalogue, newest_format, empty_catalogue, in_newest_format}
+use Rattle.ts_model.specs.Catalogue.{Series, Catalogue, newest_format, empty_catalogue, in_newest_format}
 use Rattle.ts_dump_texts.specs.Script.{script_of}
 use Rattle.ts_dump_laws.specs.Statements.{without_elements}
 use Rattle.ts_dump_laws.specs.CarriedOut.{Make}
+use Rattle.ts_dump_laws.specs.Alone.{alone}
 
 -- Texts in transactions of 32: those that are left, where so many more have a place in the one that is open.
 abbrev pub texts_in_groups : ℕ → List (List ℕ) → List (List ℕ)
@@ -50,3 +52,9 @@ ScriptsMakeCatalogues = (cat : Catalogue) → IsCatalogue cat → IsMadeByScript
 -- and whatever the bytes of a volume mean
 abbrev pub ScriptsMakeVolumes : Type 0
 ScriptsMakeVolumes = (bytes : List ℕ) (cat : Catalogue) → MeansCatalogue bytes cat → IsMadeByScripts cat
+
+-- and each series of what the bytes of a volume mean, with what it stands on alone
+abbrev pub ScriptsMakeSeries : Type 0
+ScriptsMakeSeries = (bytes : List ℕ) (cat : Catalogue) (key : List ℕ) (s : Series) → MeansCatalogue bytes cat
+    → get cat.series key ≡ Some s
+    → IsMadeByScripts (alone key s cat)

@@ -1,7 +1,7 @@
 // What carrying out the statements of a catalogue comes to.
 ghost use Rattle.ts_dump_laws.specs.Alone.{SeriesStandAlone};
 ghost use Rattle.ts_dump_laws.specs.Laws.{StatementsMakeCatalogues, TransactionsMakeCatalogues};
-ghost use Rattle.ts_dump_laws.specs.Said.{ScriptsMakeCatalogues, ScriptsMakeVolumes};
+ghost use Rattle.ts_dump_laws.specs.Said.{ScriptsMakeCatalogues, ScriptsMakeSeries, ScriptsMakeVolumes};
 ghost use Rattle.ts_dump_laws.specs.Volumes.{StatementsMakeVolumes};
 
 use ts_calendar::printed_calendars_are_read;
@@ -64,3 +64,12 @@ pub fn scripts_make_what_a_volume_means()
 pub fn a_series_stands_alone()
     ensures { SeriesStandAlone }
 {}
+
+/// So it is of each series of what the bytes of a volume mean, with what it stands on alone.
+pub fn scripts_make_series_of_volumes()
+    ensures { ScriptsMakeSeries }
+{
+    a_volume_means_a_catalogue();
+    scripts_make_their_catalogue();
+    a_series_stands_alone();
+}

@@ -10,7 +10,7 @@
 mod laws;
 
 pub use laws::{
-    a_series_stands_alone, scripts_make_their_catalogue, scripts_make_what_a_volume_means,
-    statements_make_their_catalogue, statements_make_what_a_volume_means,
-    transactions_make_the_catalogue,
+    a_series_stands_alone, scripts_make_series_of_volumes, scripts_make_their_catalogue,
+    scripts_make_what_a_volume_means, statements_make_their_catalogue,
+    statements_make_what_a_volume_means, transactions_make_the_catalogue,
 };

@@ -1,10 +1,12 @@
-use Rattle.std.proofs.Common.{◌≡◌, ◌+◌, ◌*◌, ◌/◌, ◌<◌, ◌++◌, ℕ, List, length, take, drop, refl, sym, ap, ◌∙◌, arith}
+use Rattle.std.proofs.Common.{◌≡◌, ◌+◌, ◌*◌, ◌/◌, ◌<◌, ◌++◌, ℕ, List, length, take, drop, refl, sym, ap, subst, ◌∙◌, arith}
 use Rattle.std.proofs.lemmas.Bool.Decides.{nat_tests}
 use Rattle.ts_row.specs.declared.kind.Column.{Column}
 use Rattle.ts_row.specs.RowType.{width_of}
+use Rattle.ts_entry.specs.Rows.{elements_in}
 use Rattle.ts_aggregate.proofs.FoldingLemmas.{one_there, row_cells_of}
 use Rattle.ts_aggregate.proofs.TurnLemmas.{few_cells, less_cells, none_left}
-use Rattle.ts_dump.specs.Elements.{lines_of_elements, one_of}
+use Rattle.ts_dump.specs.Placed.{ArePut}
+use Rattle.ts_dump.specs.Elements.{texts_of_elements, one_of, TextsPut}
 use Rattle.ts_dump.proofs.CellLemmas.{turn_first, turn_next, turn_last}
 use Rattle.ts_dump.proofs.element_texts.ElementTextsRowVisitor.rows.Goals as goal
 
@@ -15,11 +17,9 @@ returns-then-is_empty c =
     let test = c.if-is_empty.true in
     let none : length c.args.cells.now ≡ 0 = grind (arith, nat_tests) in
     record {
-      took = λ found are. (
-        refl,
-        turn_last v.key.now c.args.kind.now.columns c.args.front c.args.stamps.now found v.text 0 c.args.cells.now v.text none
-            (turn_first v.key.now c.args.kind.now.columns c.args.front c.args.stamps.now found v.text c.args.cells.now are),
-      );
+      took = λ found are.
+          turn_last v.key.now c.args.kind.now.columns c.args.front c.args.stamps.now found v.grouping v.text 0 c.args.cells.now v.grouping v.text none
+          (turn_first v.key.now c.args.kind.now.columns c.args.front c.args.stamps.now found v.grouping v.text c.args.cells.now are);
     }
 
 pub overflow_add-size : goal.overflow_add-size
@@ -46,7 +46,7 @@ loop-left-init c =
       whole = all;
       bound = omega (arith, few_cells (len / size) size len some all, c.requires.few);
       key = refl;
-      taken = λ found are. turn_first v.key.now c.args.kind.now.columns c.args.front c.args.stamps.now found v.text c.args.cells.now are;
+      taken = λ found are. turn_first v.key.now c.args.kind.now.columns c.args.front c.args.stamps.now found v.grouping v.text c.args.cells.now are;
     }
 
 pub loop-left-preserved : goal.loop-left-preserved
@@ -60,6 +60,8 @@ loop-left-preserved c =
     let left = c.loop-left.left in
     let cell = c.split_at.result.0.now in
     let behind = c.split_at.result.1.now in
+    let here = c.loop-left.self.grouping in
+    let there = c.take.new.self.grouping in
     let now = c.loop-left.self.text in
     let next = c.take.new.self.text in
     let wide : size ≡ c.args.front + width_of columns = ap (λ (w : ℕ). c.args.front + w) c.width.ensures.value in
@@ -70,10 +72,10 @@ loop-left-preserved c =
       whole = less_cells 1 left size len (length behind) (omega (arith, more)) i.whole (omega (arith, one, c.split_at.ensures.back_len));
       bound = omega (arith, i.bound, more);
       key = c.in_ok-take.ensures.key ∙ i.key;
-      taken = λ found are. turn_next v.key.now columns c.args.front c.args.stamps.now found v.text c.loop-left.number rest cell behind now next
+      taken = λ found are. turn_next v.key.now columns c.args.front c.args.stamps.now found v.grouping v.text c.loop-left.number rest cell behind here there now next
           (c.split_at.ensures.front ∙ ap (λ (n : ℕ). take n rest) wide) (c.split_at.ensures.back ∙ ap (λ (n : ℕ). drop n rest) wide)
           (omega (arith, few_cells left size len some i.whole, more))
-          (λ f is has. c.in_ok-take.ensures.took f is has ∙ ap (λ (key : List ℕ). now ++ lines_of_elements key columns (one_of f)) i.key)
+          (λ f is has. subst (λ (key : List ℕ). ArePut here (texts_of_elements key columns (one_of f)) there now next) i.key (c.in_ok-take.ensures.took f is has))
           (i.taken found are);
     }
 
@@ -85,9 +87,8 @@ returns c =
     let rest = c.loop-left.rest.now in
     let over : c.loop-left.left ≡ 0 = omega (arith, c.loop-left-test.false) in
     record {
-      took = λ found are. (
-        i.key,
-        turn_last v.key.now c.args.kind.now.columns c.args.front c.args.stamps.now found v.text c.loop-left.number rest c.loop-left.self.text
-            (none_left c.loop-left.left size (length rest) over i.whole) (i.taken found are),
-      );
+      took = λ found are.
+          subst (λ (key : List ℕ). TextsPut c.args.kind.now.columns v.key.now v.grouping v.text (elements_in found) key c.loop-left.self.grouping c.loop-left.self.text) (sym i.key)
+          (turn_last v.key.now c.args.kind.now.columns c.args.front c.args.stamps.now found v.grouping v.text c.loop-left.number rest c.loop-left.self.grouping c.loop-left.self.text
+          (none_left c.loop-left.left size (length rest) over i.whole) (i.taken found are));
     }

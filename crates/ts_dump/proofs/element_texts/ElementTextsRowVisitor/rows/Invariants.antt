@@ -11,7 +11,8 @@ invariant-loop-left l = record {
   bound : l.number + l.left ≤ 4064;
   key : l.self.key.now ≡ l.fn.self.key.now;
   taken : (found : List (Option Element)) → AreCellsOf l.kind.columns l.front l.stamps l.cells found
-      → Turn l.fn.self.key.now l.kind.columns l.front l.number l.stamps l.rest found l.fn.self.text l.self.text;
+      → Turn l.fn.self.key.now l.kind.columns l.front l.number l.stamps l.rest found l.fn.self.grouping l.fn.self.text
+      l.self.grouping l.self.text;
 }
 
 abbrev pub decreases-loop-left : goal.decreases-loop-left

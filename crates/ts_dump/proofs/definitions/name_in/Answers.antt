@@ -1,7 +1,0 @@
-use Rattle.std.proofs.Common.{arith}
-use Rattle.ts_dump.proofs.ListedLemmas.{name_past}
-use Rattle.ts_dump.proofs.definitions.name_in.Goals as goal
-
-pub returns-then-slot-limit : goal.returns-then-slot-limit
-returns-then-slot-limit c =
-    name_past c.args.kind c.args.slot c.args.defs.now.definitions c.requires.rules (omega (arith, c.if-slot-limit.true, c.limit.ensures))
