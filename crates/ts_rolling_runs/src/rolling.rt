@@ -197,6 +197,36 @@ fn other_commands_make_controls_too(rt: HostRuntime) -> Result<(), Fail> {
     Ok(())
 }
 
+// Of two that are regular the one of fewer windows counts; once that one is gone the other does.
+#[test]
+fn of_two_controls_the_one_of_fewer_windows_counts(rt: HostRuntime) -> Result<(), Fail> {
+    let alloc = rt.alloc();
+    let mut site = volume(&rt, alloc, "8")?;
+    let all: &[u8] = b"RollingClip('m','2011-01-01 00:00:00','2011-01-31 00:00:00');";
+    let talk: [(&[u8], &[u8]); 6] = [
+        (SET, SET_SAID),
+        (
+            b"TSCreate('m#w0002', dc, '2011-01-03 00:00:00', c1);TSCreate('m#w0001', dc, '2011-01-03 00:00:00', c1);",
+            b"ok 2011-01-03 00:00:00.00000\nok 2011-01-03 00:00:00.00000\n",
+        ),
+        (
+            b"RollingPut('m','2011-01-03 00:00:00',1);RollingPut('m','2011-01-04 00:00:00',2);",
+            b"ok 2011-01-03 00:00:00.00000\nok 2011-01-04 00:00:00.00000\n",
+        ),
+        (all, b"2011-01-04 00:00:00.00000 2\nok 1\n"),
+        (
+            b"DropSeries('m#w0001');RollingPut('m','2011-01-05 00:00:00',3);",
+            b"ok\nok 2011-01-05 00:00:00.00000\n",
+        ),
+        (
+            all,
+            b"2011-01-04 00:00:00.00000 2\n2011-01-05 00:00:00.00000 3\nok 2\n",
+        ),
+    ];
+    assert!(rt; answers(&rt, alloc, &mut site, &talk)?);
+    Ok(())
+}
+
 #[test]
 fn a_transaction_takes_no_rolling_routine(rt: HostRuntime) -> Result<(), Fail> {
     let alloc = rt.alloc();
