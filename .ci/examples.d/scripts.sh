@@ -22,5 +22,5 @@ for words in "$top"/examples/*.words; do
   # shellcheck disable=SC2046
   wants "$name" 0 "$ts" "$name.volume" $(cat "$words")
   same "$name: replies" said "${words%.words}.replies"
-  rm "$name.volume"
+  mv "$name.volume" "of_words_$name.volume"
 done
