@@ -91,7 +91,10 @@ pub(crate) fn has_value(position: ValuePosition, cell: &[u8]) -> bool
     requires size { length cell.now ≡ position.size }
     ensures { result ≡ Column.has_value position cell.now }
 {
-    cell[0] == 1 && cell[position.front] < MARK && cell[position.place] == 1
+    // Of a row's first column one byte tells both: NULL's, whose 1 has no mark.
+    cell[0] == 1
+        && cell[position.place] == 1
+        && (position.place == position.front || cell[position.front] < MARK)
 }
 
 /// The bytes of its value.

@@ -278,7 +278,7 @@ fn with_summand(count: u64, sum: i128, number: i128) -> i128
     ensures room { unsigned_abs result ≤ (count + 1) * 2 ^ 94 }
     ensures sum { unsigned_abs number < 2 ^ 94 → result ≡ sum +ℤ number }
 {
-    if -FAR < number && number < FAR {
+    if -FAR <= number && number < FAR {
         sum + number
     } else {
         sum

@@ -47,18 +47,34 @@ some_values (c ∷ cs) bytes values some is =
     let parts : AreParts c cs (take (column_width c.kind) bytes) (drop (column_width c.kind) bytes) values = cut c cs bytes values is in
     omega (arith, ap length parts.are)
 
--- the first value is said, a comma, and the others
-pub more_said : (columns cs : List Column) (c : Column) (bytes cell rest old first comma new : List ℕ) (values : Values) → columns ≡ c ∷ cs → 1 ≤ length cs
-    → cell ≡ take (column_width c.kind) bytes → rest ≡ drop (column_width c.kind) bytes
-    → ((value : Value) → value_in c.kind cell ≡ Some value → first ≡ old ++ value_text (scale_of c.kind) value) → comma ≡ first ++ 44 ∷ []
-    → ((others : Values) → values_in cs rest ≡ Some others → new ≡ comma ++ values_text cs others)
-    → values_in columns bytes ≡ Some values → new ≡ old ++ values_text columns values
-more_said columns cs c bytes cell rest old first comma new values split some front back one comma_is others is =
+-- the last value is said, and a line feed
+pub last_said : (columns cs : List Column) (c : Column) (bytes cell old new : List ℕ) (values : Values) → columns ≡ c ∷ cs → cs ≡ []
+    → cell ≡ take (column_width c.kind) bytes
+    → ((value : Value) → value_in c.kind cell ≡ Some value → new ≡ old ++ value_text (scale_of c.kind) value ++ 10 ∷ [])
+    → values_in columns bytes ≡ Some values → new ≡ old ++ values_text columns values ++ 10 ∷ []
+last_said columns cs c bytes cell old new values split none front one is =
     let whole : values_in (c ∷ cs) bytes ≡ Some values = ap (λ l. values_in l bytes) (sym split) ∙ is in
     let parts : AreParts c cs (take (column_width c.kind) bytes) (drop (column_width c.kind) bytes) values = cut c cs bytes values whole in
-    let said : first ≡ old ++ value_text (scale_of c.kind) parts.first = one parts.first (ap (value_in c.kind) front ∙ parts.first_in) in
-    let behind : new ≡ comma ++ values_text cs parts.others = others parts.others (ap (values_in cs) back ∙ parts.others_in) in
-    print_more columns cs c values parts.others parts.first old first comma new split parts.are some (some_values cs (drop (column_width c.kind) bytes) parts.others some parts.others_in) said comma_is behind
+    let text : values_text columns values ≡ value_text (scale_of c.kind) parts.first =
+    (λ j. values_text (split j) (parts.are j)) ∙ ap (λ l. values_text (c ∷ l) (parts.first ∷ parts.others)) none in
+    one parts.first (ap (value_in c.kind) front ∙ parts.first_in) ∙ ap (λ l. old ++ l ++ 10 ∷ []) (sym text)
+
+-- the first value is said with a comma, then the others and a line feed
+pub more_said : (columns cs : List Column) (c : Column) (bytes cell rest old first new : List ℕ) (values : Values) → columns ≡ c ∷ cs → 1 ≤ length cs
+    → cell ≡ take (column_width c.kind) bytes → rest ≡ drop (column_width c.kind) bytes
+    → ((value : Value) → value_in c.kind cell ≡ Some value → first ≡ old ++ value_text (scale_of c.kind) value ++ 44 ∷ [])
+    → ((others : Values) → values_in cs rest ≡ Some others → new ≡ first ++ values_text cs others ++ 10 ∷ [])
+    → values_in columns bytes ≡ Some values → new ≡ old ++ values_text columns values ++ 10 ∷ []
+more_said columns cs c bytes cell rest old first new values split some front back one others is =
+    let whole : values_in (c ∷ cs) bytes ≡ Some values = ap (λ l. values_in l bytes) (sym split) ∙ is in
+    let parts : AreParts c cs (take (column_width c.kind) bytes) (drop (column_width c.kind) bytes) values = cut c cs bytes values whole in
+    let value : List ℕ = value_text (scale_of c.kind) parts.first in
+    let said : first ≡ old ++ value ++ 44 ∷ [] = one parts.first (ap (value_in c.kind) front ∙ parts.first_in) in
+    let behind : new ≡ first ++ values_text cs parts.others ++ 10 ∷ [] = others parts.others (ap (values_in cs) back ∙ parts.others_in) in
+    let both : first ++ values_text cs parts.others ≡ old ++ values_text columns values =
+    print_more columns cs c values parts.others parts.first old (old ++ value) first (first ++ values_text cs parts.others) split parts.are some
+    (some_values cs (drop (column_width c.kind) bytes) parts.others some parts.others_in) refl said refl in
+    behind ∙ ap (λ l. l ++ 10 ∷ []) both
 
 -- bytes of a row that isn't hidden are those of its values
 seen_values : (columns : List Column) (bytes : List ℕ) (row : Row) → IsTrue (list_all (λ c. is_kind c.kind) columns) → AreSeenBytes columns bytes row
@@ -70,14 +86,15 @@ seen_values columns bytes row kinds seen =
 
 -- so they are what is said of such bytes
 pub seen_said : (stamp : List ℕ) (columns given : List Column) (bytes : List ℕ) (row : Row) (old new : List ℕ) → IsTrue (is_row_type stamp columns) → given ≡ columns → AreSeenBytes columns bytes row
-    → ((values : Values) → values_in given bytes ≡ Some values → new ≡ old ++ values_text given values) → new ≡ old ++ values_text columns row.values
+    → ((values : Values) → values_in given bytes ≡ Some values → new ≡ old ++ values_text given values ++ 10 ∷ []) → new ≡ old ++ values_text columns row.values ++ 10 ∷ []
 seen_said stamp columns given bytes row old new rules same seen said =
     let kinds : IsTrue (list_all (λ (c : Column). is_kind c.kind) columns) = grind (arith, nat_tests) in
-    said row.values (ap (λ l. values_in l bytes) same ∙ seen_values columns bytes row kinds seen) ∙ ap (λ l. old ++ values_text l row.values) same
+    said row.values (ap (λ l. values_in l bytes) same ∙ seen_values columns bytes row kinds seen)
+    ∙ ap (λ l. old ++ values_text l row.values ++ 10 ∷ []) same
 
 -- a stamp and a blank, the values and a line feed are the line of an element
-pub line_said : (columns : List Column) (stamp : ℤ) (row : Row) (old first values new : List ℕ) → first ≡ old ++ stamp_text stamp ++ 32 ∷ []
-    → values ≡ first ++ values_text columns row.values → new ≡ values ++ 10 ∷ [] → new ≡ old ++ entry_line columns (stamp, Some row)
+pub line_said : (columns : List Column) (stamp : ℤ) (row : Row) (old first new : List ℕ) → first ≡ old ++ stamp_text stamp ++ 32 ∷ []
+    → new ≡ first ++ values_text columns row.values ++ 10 ∷ [] → new ≡ old ++ entry_line columns (stamp, Some row)
 unfolding entry_line
-line_said columns stamp row old first values new one two three =
-    three ∙ ap (λ l. l ++ 10 ∷ []) (two ∙ ap (λ l. l ++ values_text columns row.values) one) ∙ simp append_assoc
+line_said columns stamp row old first new one two =
+    two ∙ ap (λ l. l ++ values_text columns row.values ++ 10 ∷ []) one ∙ simp append_assoc

@@ -1,3 +1,5 @@
+pub mod DigitsLemmas
+pub mod PairsLemmas
 pub mod NumberLemmas
 pub mod BytesLemmas
 pub mod DayLemmas

@@ -1,10 +1,11 @@
 // The text of the day on which stamps lie.
 ghost use Rattle.std.specs.Prelude.{◌≡◌, ◌/◌, ◌%◌, ◌<◌, ◌∷◌, ◌++◌, [], take, OnOk};
 ghost use Rattle.ts_base.specs.Moment.{IsStamp, day_of, clock_of};
-ghost use Rattle.ts_base.specs.StampText.{stamp_text, two_digits};
+ghost use Rattle.ts_base.specs.StampText.{stamp_text};
 ghost use Rattle.ts_base.specs.StampText;
 ghost use Rattle.ts_say.specs.Day.{day_text, time_text, IsMidnight};
 
+use crate::pairs::two_digits;
 use std::alloc::AllocError;
 use ts_base::{Reply, Stamp};
 
@@ -182,12 +183,4 @@ fn five_digits(n: u32) -> [u8; 5]
         tens,
         b'0' + (n % 10) as u8,
     ]
-}
-
-// A number of at most two digits, as text.
-fn two_digits(n: u32) -> [u8; 2]
-    requires { n < 100 }
-    ensures { result ≡ two_digits n }
-{
-    [b'0' + (n / 10) as u8, b'0' + (n % 10) as u8]
 }

@@ -7,6 +7,7 @@
 #![tactic(auto)]
 
 mod day_text;
+mod pairs;
 mod say;
 mod say_bytes;
 mod say_calendars;

@@ -1,6 +1,6 @@
 // Values said straight from the bytes of their columns: each function takes the first column and goes on with the
 // others, at most 32 in all.
-ghost use Rattle.std.specs.Prelude.{◌≡◌, ℕ, ◌≤◌, ◌+◌, ◌++◌, nat_lt, if◌then◌else◌, IsTrue, OnOk, Some, length};
+ghost use Rattle.std.specs.Prelude.{◌≡◌, ℕ, ◌≤◌, ◌+◌, [], ◌∷◌, ◌++◌, nat_lt, if◌then◌else◌, IsTrue, OnOk, Some, length};
 ghost use Rattle.std.specs.List.{list_all};
 ghost use Rattle.std.specs.Int.{cast_signed, from_be_bytes, w64, w128};
 ghost use Rattle.ts_row.specs.declared.value.Value.{Value};
@@ -15,7 +15,8 @@ use std::alloc::AllocError;
 use ts_base::Reply;
 use ts_row::{Column, ColumnKind, MOST_DIGITS, SHORT_DIGITS};
 
-/// Says the values that bytes are, with commas between them. Bytes that are no values are said as any.
+/// Says the values that bytes are, with commas between them and a line feed behind the last. Bytes that are no values
+/// are said as any.
 pub(crate) fn say_values_in(
     out: &mut Reply,
     columns: &[Column],
@@ -24,52 +25,71 @@ pub(crate) fn say_values_in(
     requires kinds { IsTrue (list_all (λ c. is_kind c.kind) columns.now) }
     requires size { length bytes.now ≡ width_of columns.now }
     ensures { OnOk result ((values : Values) → values_in columns.now bytes.now ≡ Some values
-        → out.new ≡ out.old ++ values_text columns.now values) }
+        → out.new ≡ out.old ++ values_text columns.now values ++ 10 ∷ []) }
 {
     let Some((column, columns)) = columns.split_first() else {
-        return Ok(());
+        return out.push(b'\n');
     };
     let (cell, rest) = bytes.split_at(column.kind.width());
-    say_value_in(out, column.kind, cell)?;
     if columns.is_empty() {
-        return Ok(());
+        return say_value_in(out, column.kind, cell, b'\n');
     }
-    out.push(b',')?;
+    say_value_in(out, column.kind, cell, b',')?;
     say_values_in(out, columns, rest)
 }
 
-// Says the value that the bytes of a column are.
-fn say_value_in(out: &mut Reply, kind: ColumnKind, cell: &[u8]) -> Result<(), AllocError>
+// Says the value that the bytes of a column are, and a byte behind it.
+fn say_value_in(
+    out: &mut Reply,
+    kind: ColumnKind,
+    cell: &[u8],
+    behind: u8,
+) -> Result<(), AllocError>
     requires kind { IsTrue (is_kind kind) }
     requires size { length cell.now ≡ column_width kind }
     ensures { OnOk result ((value : Value) → value_in kind cell.now ≡ Some value
-        → out.new ≡ out.old ++ value_text (scale_of kind) value) }
+        → out.new ≡ out.old ++ value_text (scale_of kind) value ++ behind ∷ []) }
 {
     let Some((flag, bytes)) = cell.split_first() else {
         return Ok(());
     };
     if *flag == 0 {
-        return out.extend_from_slice(b"null");
+        out.extend_from_slice(b"null")?;
+        return out.push(behind);
     }
-    say_filled_in(out, kind, bytes)
+    say_filled_in(out, kind, bytes, behind)
 }
 
-// Says the value that bytes are, which aren't NULL's.
-fn say_filled_in(out: &mut Reply, kind: ColumnKind, bytes: &[u8]) -> Result<(), AllocError>
+// Says the value that bytes are, which aren't NULL's, and a byte behind it.
+fn say_filled_in(
+    out: &mut Reply,
+    kind: ColumnKind,
+    bytes: &[u8],
+    behind: u8,
+) -> Result<(), AllocError>
     requires kind { IsTrue (is_kind kind) }
     requires size { length bytes.now + 1 ≡ column_width kind }
     ensures { OnOk result ((value : Value) → filled_in kind bytes.now ≡ Some value
-        → out.new ≡ out.old ++ value_text (scale_of kind) value) }
+        → out.new ≡ out.old ++ value_text (scale_of kind) value ++ behind ∷ []) }
 {
     match kind {
-        ColumnKind::SmallInt => say_whole(out, i16::from_be_bytes([bytes[0], bytes[1]]) as i64),
+        ColumnKind::SmallInt => {
+            let number = i16::from_be_bytes([bytes[0], bytes[1]]);
+            say_whole(out, number as i64, behind)
+        }
         ColumnKind::Integer => {
             let number = i32::from_be_bytes([bytes[0], bytes[1], bytes[2], bytes[3]]);
-            say_whole(out, number as i64)
+            say_whole(out, number as i64, behind)
         }
-        ColumnKind::BigInt => say_whole(out, eight_bytes(bytes)),
-        ColumnKind::Decimal { digits, scale } => say_decimal_in(out, digits, scale, bytes),
-        ColumnKind::VarChar { length } => say_text_in(out, length, bytes),
+        ColumnKind::BigInt => say_whole(out, eight_bytes(bytes), behind),
+        ColumnKind::Decimal { digits, scale } => {
+            say_decimal_in(out, digits, scale, bytes)?;
+            out.push(behind)
+        }
+        ColumnKind::VarChar { length } => {
+            say_text_in(out, length, bytes)?;
+            out.push(behind)
+        }
     }
 }
 

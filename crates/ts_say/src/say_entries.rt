@@ -75,8 +75,7 @@ fn say_seen(
         → out.new ≡ out.old ++ entry_line kind.now.columns (stamp, Some r)) }
 {
     day.say(out, stamp)?;
-    say_values_in(out, kind.columns(), row)?;
-    out.push(b'\n')
+    say_values_in(out, kind.columns(), row)
 }
 
 // Says a stamp at which there is no element.

@@ -1,19 +1,98 @@
 // Numbers with digits after a point.
-ghost use Rattle.std.specs.Prelude.{◌≡◌, ◌≤◌, ◌∷◌, ◌++◌, drop, OnOk};
+ghost use Rattle.std.specs.Prelude.{◌≡◌, ◌≤◌, ◌<◌, ◌∷◌, ◌++◌, [], decimal, drop, OnOk};
 ghost use Rattle.ts_row.specs.Printed.{number_text, size_text};
 ghost use Rattle.ts_expr.specs.Binding.{most_scale};
 
+use crate::pairs::two_digits;
 use itoa::{Buffer, Integer};
 use std::alloc::AllocError;
 use ts_base::Reply;
 use ts_row::SHORT_DIGITS;
 
-/// Says a whole number.
-pub(crate) fn say_whole(out: &mut Reply, number: i64) -> Result<(), AllocError>
-    ensures { OnOk result (out.new ≡ out.old ++ number_text 0 number) }
+/// Says a whole number, and a byte behind it.
+pub(crate) fn say_whole(out: &mut Reply, number: i64, behind: u8) -> Result<(), AllocError>
+    ensures { OnOk result (out.new ≡ out.old ++ number_text 0 number ++ behind ∷ []) }
 {
+    if number >= 0 && number < 100_000_000 {
+        return say_few_digits(out, number as u32, behind);
+    }
     let mut buffer = Buffer::new();
-    out.extend_from_slice(buffer.format(number).as_bytes())
+    out.extend_from_slice(buffer.format(number).as_bytes())?;
+    out.push(behind)
+}
+
+// Says the digits of a number, at most eight, and a byte behind them, in one piece of a length that the compiler knows.
+fn say_few_digits(out: &mut Reply, number: u32, behind: u8) -> Result<(), AllocError>
+    requires { number < 100_000_000 }
+    ensures { OnOk result (out.new ≡ out.old ++ decimal number ++ behind ∷ []) }
+{
+    if number < 100 {
+        return say_two_digits(out, number, behind);
+    }
+    if number < 10_000 {
+        return say_four_digits(out, number, behind);
+    }
+    if number < 1_000_000 {
+        return say_six_digits(out, number, behind);
+    }
+    say_eight_digits(out, number, behind)
+}
+
+// Says a number of one digit or two, and a byte behind it.
+fn say_two_digits(out: &mut Reply, number: u32, behind: u8) -> Result<(), AllocError>
+    requires { number < 100 }
+    ensures { OnOk result (out.new ≡ out.old ++ decimal number ++ behind ∷ []) }
+{
+    let [a, b] = two_digits(number);
+    if number < 10 {
+        return out.extend_from_slice(&[b, behind]);
+    }
+    out.extend_from_slice(&[a, b, behind])
+}
+
+// Says a number of three digits or four, and a byte behind it.
+fn say_four_digits(out: &mut Reply, number: u32, behind: u8) -> Result<(), AllocError>
+    requires least { 100 ≤ number }
+    requires most { number < 10_000 }
+    ensures { OnOk result (out.new ≡ out.old ++ decimal number ++ behind ∷ []) }
+{
+    let [a, b] = two_digits(number / 100);
+    let [c, d] = two_digits(number % 100);
+    if number < 1000 {
+        return out.extend_from_slice(&[b, c, d, behind]);
+    }
+    out.extend_from_slice(&[a, b, c, d, behind])
+}
+
+// Says a number of five digits or six, and a byte behind it.
+fn say_six_digits(out: &mut Reply, number: u32, behind: u8) -> Result<(), AllocError>
+    requires least { 10_000 ≤ number }
+    requires most { number < 1_000_000 }
+    ensures { OnOk result (out.new ≡ out.old ++ decimal number ++ behind ∷ []) }
+{
+    let [a, b] = two_digits(number / 10_000);
+    let [c, d] = two_digits(number / 100 % 100);
+    let [e, f] = two_digits(number % 100);
+    if number < 100_000 {
+        return out.extend_from_slice(&[b, c, d, e, f, behind]);
+    }
+    out.extend_from_slice(&[a, b, c, d, e, f, behind])
+}
+
+// Says a number of seven digits or eight, and a byte behind it.
+fn say_eight_digits(out: &mut Reply, number: u32, behind: u8) -> Result<(), AllocError>
+    requires least { 1_000_000 ≤ number }
+    requires most { number < 100_000_000 }
+    ensures { OnOk result (out.new ≡ out.old ++ decimal number ++ behind ∷ []) }
+{
+    let [a, b] = two_digits(number / 1_000_000);
+    let [c, d] = two_digits(number / 10_000 % 100);
+    let [e, f] = two_digits(number / 100 % 100);
+    let [g, h] = two_digits(number % 100);
+    if number < 10_000_000 {
+        return out.extend_from_slice(&[b, c, d, e, f, g, h, behind]);
+    }
+    out.extend_from_slice(&[a, b, c, d, e, f, g, h, behind])
 }
 
 /// Says a number of 64 bits with so many digits after the point.

@@ -5,8 +5,8 @@ use Rattle.ts_say.proofs.say_entries.say_seen.Goals as goal
 
 pub returns : goal.returns
 returns c =
-    on_ok_weaker c.push.result
-    (λ last row seen. line_said c.args.kind.now.columns c.args.stamp row c.args.out.now c.say.new.out c.say_values_in.new.out c.push.new.self
+    on_ok_weaker c.say_values_in.result
+    (λ said row seen. line_said c.args.kind.now.columns c.args.stamp row c.args.out.now c.say.new.out c.say_values_in.new.out
     c.in_ok-say.ensures
-    (seen_said c.args.kind.now.stamp c.args.kind.now.columns c.columns.result.now c.args.row.now row c.say.new.out c.say_values_in.new.out c.columns.ensures.rules c.columns.ensures.value seen c.in_ok-say_values_in.ensures) last)
-    c.push.ensures.ok
+    (seen_said c.args.kind.now.stamp c.args.kind.now.columns c.columns.result.now c.args.row.now row c.say.new.out c.say_values_in.new.out c.columns.ensures.rules c.columns.ensures.value seen said))
+    c.say_values_in.ensures
