@@ -5,7 +5,7 @@ use std::fmt::Display;
 /// What the words may be.
 pub(crate) const USAGE: &str =
     "say `ts VOLUME init PAGES` with 1 to 65536 pages, `ts VOLUME run < SCRIPT`, `ts VOLUME check`, `ts VOLUME \
-     migrate`, or `ts VOLUME gen COUNT SEED` with 1 to 1000000 edits and a seed";
+     migrate`, `ts VOLUME gen COUNT SEED` with 1 to 1000000 edits and a seed, or `ts VOLUME sessions SEED < SCRIPTS`";
 
 /// Prints a text, and answers with the status.
 pub(crate) fn show(rt: &HostRuntime, text: &str) -> u8 {
@@ -110,6 +110,50 @@ pub(crate) fn advise_gen(rt: &HostRuntime, path: &str, status: u8) -> u8 {
             path,
             "there is no memory for it; some first commands were carried out: free some, then begin again on a new \
              store",
+        ),
+        _ => return advise(rt, path, status),
+    }
+    status
+}
+
+/// Says what a status of `sessions` means for a volume, and answers with it.
+pub(crate) fn advise_sessions(rt: &HostRuntime, path: &str, status: u8) -> u8 {
+    match status {
+        3 => complain(
+            rt,
+            path,
+            "standard input failed; no session was begun and nothing was changed: give the scripts again",
+        ),
+        4 => complain(
+            rt,
+            path,
+            "standard output failed; each statement whose reply was said is stored, a transaction's with its Commit, \
+             and the next one may be: look how far each session is, then give what is left, each from the Begin of an \
+             open transaction on",
+        ),
+        5 => complain(
+            rt,
+            path,
+            "the file failed; each statement whose reply was said is stored, a transaction's with its Commit, and the \
+             next one may be: check the disk and the limit on file sizes, look how far each session is, then give what \
+             is left, each from the Begin of an open transaction on",
+        ),
+        7 => complain(
+            rt,
+            path,
+            "there is no memory for the sessions; nothing was changed: free some, then give the scripts again",
+        ),
+        8 => complain(
+            rt,
+            path,
+            "the scripts have more than 1048576 bytes; no session was begun and nothing was changed: give the first \
+             part of them, then the rest",
+        ),
+        9 => complain(
+            rt,
+            path,
+            "there are more than 16 sections; no session was begun and nothing was changed: give the first sixteen, \
+             then the rest",
         ),
         _ => return advise(rt, path, status),
     }

@@ -1,6 +1,7 @@
 // What comes before the top call, and after it.
 use crate::advice::{
-    USAGE, advise, advise_check, advise_gen, advise_migrate, complain, refuse_option, show,
+    USAGE, advise, advise_check, advise_gen, advise_migrate, advise_sessions, complain,
+    refuse_option, show,
 };
 use crate::limit::file_limit;
 use crate::streams::may_complain;
@@ -18,6 +19,10 @@ usage: ts VOLUME init PAGES      makes an empty store with 1 to 65536 element pa
        ts VOLUME migrate         brings an older store to the newest format; all that it holds stays
        ts VOLUME gen COUNT SEED  makes two series, puts 1 to 1000000 elements into them that a seed from
                                  0 to 4294967295 gives, and says what they come to
+       ts VOLUME sessions SEED < SCRIPTS
+                                 carries out the scripts of up to 16 sessions, which lines `--session` part, one
+                                 reply each behind its session's number; the seed, 0 to 4294967295, decides whose
+                                 turn it is, and a transaction sees the store of its Begin
        ts --help                 says this
        ts --version              says the version
 
@@ -28,6 +33,7 @@ examples:
        ts meters.volume check    says whether every page is sound
        ts meters.volume migrate  makes a store of an earlier version take every statement
        ts trial.volume gen 5000 7
+       ts meters.volume sessions 1 < two_sessions
 
 The status is 0 where all was done; else a line on standard error says what happened and what to do.";
 
@@ -37,7 +43,9 @@ const VERSION: &str = "ts 0.1.0";
 const LONGEST_PATH: usize = 4096;
 
 /// First words that stand where the path is left out.
-const JOBS: [&str; 7] = ["init", "run", "check", "migrate", "gen", "help", "version"];
+const JOBS: [&str; 8] = [
+    "init", "run", "check", "migrate", "gen", "sessions", "help", "version",
+];
 
 /// Whether there is work to do.
 #[derive(Drop)]
@@ -112,9 +120,7 @@ pub(crate) fn prepare<'a>(rt: &HostRuntime, words: &'a [String]) -> Start<'a> {
         Ok((file, len)) => match job {
             None => Start::Ended(advise(rt, path, 2)),
             Some(job) => {
-                if job == Job::Run {
-                    greet(rt, path);
-                }
+                greet(rt, path, job);
                 Start::Opened(Opened {
                     job,
                     path,
@@ -140,14 +146,20 @@ fn refuse_volume(rt: &HostRuntime, path: &str, error: OpenError) -> u8 {
     11
 }
 
-/// Says to somebody at a terminal what a run waits for.
-fn greet(rt: &HostRuntime, path: &str) {
+/// Says to somebody at a terminal what a run waits for, or the sessions.
+fn greet(rt: &HostRuntime, path: &str, job: Job) {
+    let waits = match job {
+        Job::Run => {
+            "reading statements from the terminal, each ended by `;`, until the end of input (Ctrl-D)"
+        }
+        Job::Sessions { .. } => {
+            "reading the scripts of all sessions from the terminal, parted by lines `--session`, until the end of \
+             input (Ctrl-D); they begin then"
+        }
+        _ => return,
+    };
     if rt.stdin().is_terminal() {
-        complain(
-            rt,
-            path,
-            "reading statements from the terminal, each ended by `;`, until the end of input (Ctrl-D)",
-        );
+        complain(rt, path, waits);
     }
 }
 
@@ -159,6 +171,7 @@ pub(crate) fn finish(rt: &HostRuntime, job: Job, path: &str, status: u8) -> u8 {
         Job::Check => advise_check(rt, path, status),
         Job::Migrate => advise_migrate(rt, path, status),
         Job::Gen { .. } => advise_gen(rt, path, status),
+        Job::Sessions { .. } => advise_sessions(rt, path, status),
     }
 }
 

@@ -9,10 +9,11 @@ use Rattle.ts_items.specs.declared.reader.Cut.TheVariants as cuts
 use Rattle.ts_base.specs.declared.refusal.Refusal.TheVariants as refusals
 use Rattle.ts_command.specs.Script.{Request, request_of, requests, last_request}
 use Rattle.ts_engine.specs.Engine.{Kept, IsReady}
-use Rattle.ts_shell.specs.declared.fault.RunFault.{RunFault}
-use Rattle.ts_shell.specs.Run.{script, by_engine, requests_from, requests_at_end, Ran}
+use Rattle.ts_carriers.specs.declared.fault.RunFault.{RunFault}
+use Rattle.ts_shell.specs.Run.{script, by_engine, requests_from, requests_at_end}
 use Rattle.ts_shell.proofs.ItemLemmas.{steady}
-use Rattle.ts_shell.proofs.RanLemmas.{ran_none, ran_as, ran_front, ran_then}
+use Rattle.ts_carriers.specs.Run.{Ran}
+use Rattle.ts_carriers.proofs.CallerLemmas.{ran_none, ran_as, ran_front, ran_then}
 
 -- what a front asks for, and what comes behind it
 pub requests_from-append : (place : Option (List ℕ)) (front rest : List ℕ) → requests_from place (front ++ rest) ≡ requests_from place front ++ requests_from (place_from place front) rest

@@ -10,11 +10,11 @@ use Rattle.ts_answer.specs.State.{resting, replies}
 use Rattle.ts_engine.specs.declared.engine.Engine.{Engine}
 use Rattle.ts_volume.specs.Volume.{MeansCatalogue}
 use Rattle.ts_engine.specs.Start.{Started, StillMeans}
-use Rattle.ts_shell.specs.Opening.{status_of_opening}
+use Rattle.ts_opening.specs.Opening.{status_of_opening}
 use Rattle.ts_shell.specs.Generated.{generated}
 use Rattle.ts_shell.specs.Generating.{summary, IsWithin, OpenedGen, GeneratedFrom, GenRan}
-use Rattle.ts_shell.proofs.SayingLemmas.{rose_on}
-use Rattle.ts_shell.proofs.OpeningLemmas.{first_then, unopened_store, unopened_status, is_unopened, opened_store}
+use Rattle.ts_carriers.proofs.CallerLemmas.{rose_on}
+use Rattle.ts_opening.proofs.CallerLemmas.{first_then, unopened_store, unopened_status, is_unopened, opened_store}
 
 -- before the first command the volume means what it meant
 at_first : (commands : List Command) (cat : Catalogue) (before image said : List ℕ) → MeansCatalogue image cat → said ≡ before → IsWithin (resting cat) commands before image said

@@ -5,7 +5,8 @@ use Rattle.std.proofs.Math.Seq.{take-append-add}
 use Rattle.ts_base.specs.Moment.{civil_of, civil_in_years, civil_in_year}
 use Rattle.ts_base.specs.StampText.{stamp_text}
 use Rattle.ts_command.specs.declared.command.Command.{Command}
-use Rattle.ts_shell.specs.Generated.{beginning, ending, opening, drawn, edit, edits, closing, generated, IsNext}
+use Rattle.ts_multi.specs.Picks.{drawn}
+use Rattle.ts_shell.specs.Generated.{beginning, ending, opening, edit, edits, closing, generated, IsNext}
 
 -- a command of a front of a list is the same of the list
 next_left : (n : ℕ) (xs ys : List Command) (c : Command) → n < length xs → IsNext xs n c → IsNext (xs ++ ys) n c

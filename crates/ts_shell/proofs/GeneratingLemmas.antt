@@ -20,7 +20,7 @@ use Rattle.ts_engine.specs.Step.{Stepped, state_after}
 use Rattle.ts_shell.specs.Generating.{last_two, summary, IsTally, IsAmong, QuietFault, RanQuietly, IsBehind, IsNextStep, IsUnmade, IsWithin, SaysSummary, OpenedGen}
 use Rattle.ts_shell.specs.Generated.{IsNext}
 use Rattle.ts_shell.specs.declared.generate.Generator.{Generator}
-use Rattle.ts_shell.proofs.SayingLemmas.{rose_on}
+use Rattle.ts_carriers.proofs.CallerLemmas.{rose_on}
 use Rattle.ts_shell.proofs.ItemLemmas.{at_same}
 
 -- one reply more is counted where it passes the test

@@ -31,11 +31,12 @@ use Rattle.ts_engine.specs.declared.transaction.Saved.{Saved}
 use Rattle.ts_engine.specs.Engine.{Kept, IsReady, IsAt, IsSmall, rolled_back, seen_by}
 use Rattle.ts_engine.specs.Moves.{IsUntouched}
 use Rattle.ts_engine.specs.Step.{Stepped, state_after}
-use Rattle.ts_shell.specs.declared.fault.RunFault.{RunFault}
-use Rattle.ts_shell.specs.declared.fault.RunFault.TheVariants.{Disk, Output}
+use Rattle.ts_carriers.specs.declared.fault.RunFault.{RunFault}
+use Rattle.ts_carriers.specs.declared.fault.RunFault.TheVariants.{Disk, Output}
 use Rattle.ts_shell.proofs.ApartLemmas.{apart}
-use Rattle.ts_shell.specs.Run.{script, by_engine, IsGoodRun, Ran}
-use Rattle.ts_shell.proofs.SayingLemmas.{IsSteady, Waits, Steps, said_line}
+use Rattle.ts_shell.specs.Run.{script, by_engine}
+use Rattle.ts_carriers.specs.Run.{IsGoodRun, Ran}
+use Rattle.ts_carriers.proofs.CallerLemmas.{IsSteady, Waits, Steps, said_line}
 
 -- where nothing is written, an engine stands where it stood
 module _ (tells : Bool) (v w : Device) (size : w.size ≡ v.size) (held : w.held ≡ v.held) (images : Within v.images w.images) where

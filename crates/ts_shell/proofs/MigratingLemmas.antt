@@ -15,10 +15,10 @@ use Rattle.ts_engine.specs.Engine.{Kept}
 use Rattle.ts_engine.specs.Start.{Started, StillMeans}
 use Rattle.ts_engine.specs.Moves.{Moves}
 use Rattle.ts_engine.specs.Migrate.{state_renewed}
-use Rattle.ts_shell.specs.Opening.{status_of_opening}
+use Rattle.ts_opening.specs.Opening.{status_of_opening}
 use Rattle.ts_shell.specs.Migrating.{InEitherFormat, MigratedFrom, MigrateRan}
-use Rattle.ts_shell.proofs.SayingLemmas.{rose_on}
-use Rattle.ts_shell.proofs.OpeningLemmas.{first_then, unopened_store, unopened_status, is_unopened, opened_store}
+use Rattle.ts_carriers.proofs.CallerLemmas.{rose_on}
+use Rattle.ts_opening.proofs.CallerLemmas.{first_then, unopened_store, unopened_status, is_unopened, opened_store}
 
 -- a volume that means what it meant has it in either format
 still_either : (cat : Catalogue) (v : Device) (image said : List ℕ) → StillMeans cat v image said → InEitherFormat cat v image said

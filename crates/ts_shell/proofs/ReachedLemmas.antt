@@ -5,7 +5,8 @@ use Rattle.ts_command.specs.declared.command.Command.{Command}
 use Rattle.ts_engine.specs.declared.fault.StepFault.{StepFault}
 use Rattle.ts_engine.specs.Engine.{Kept, IsReady}
 use Rattle.ts_shell.specs.declared.generate.Generator.{Generator}
-use Rattle.ts_shell.specs.Generated.{drawn, generated, edits_before}
+use Rattle.ts_multi.specs.Picks.{drawn}
+use Rattle.ts_shell.specs.Generated.{generated, edits_before}
 use Rattle.ts_shell.specs.Generating.{RanQuietly, IsBehind, IsNextStep, IsUnmade}
 use Rattle.ts_shell.proofs.GeneratedLemmas.{length-generated}
 use Rattle.ts_shell.proofs.GeneratingLemmas.{behind_more, behind_stopped}

@@ -6,11 +6,13 @@ use Rattle.ts_disk.specs.Input.{Input}
 use Rattle.ts_command.specs.Script.{Request, requests, last_request}
 use Rattle.ts_answer.specs.State.{State}
 use Rattle.ts_engine.specs.Engine.{Kept, IsAt}
-use Rattle.ts_shell.specs.declared.fault.RunFault.{RunFault}
-use Rattle.ts_shell.specs.declared.fault.RunFault.TheVariants.{Disk, Output}
-use Rattle.ts_shell.specs.Run.{script, by_engine, IsGoodRun, SaysFairly, Answered, Ran}
-use Rattle.ts_shell.proofs.SayingLemmas.{never}
-use Rattle.ts_shell.specs.Top.{status_of, status_of_end, asked_in, asked_of, AllDone, most_script, IsScriptEnd, Took, RanOn, OpenedRan}
+use Rattle.ts_carriers.specs.declared.fault.RunFault.{RunFault}
+use Rattle.ts_carriers.specs.declared.fault.RunFault.TheVariants.{Disk, Output}
+use Rattle.ts_shell.specs.Run.{script, by_engine}
+use Rattle.ts_carriers.proofs.CallerLemmas.{never}
+use Rattle.ts_carriers.specs.Run.{IsGoodRun, SaysFairly, Answered, Ran, status_of, status_of_end, AllDone}
+use Rattle.ts_opening.specs.Taken.{Took}
+use Rattle.ts_shell.specs.Top.{asked_in, asked_of, most_script, IsScriptEnd, RanOn, OpenedRan}
 
 -- what bytes ask for that keep the limit
 in_limit : (taken : List ℕ) → length taken ≤ 268435456 → requests taken ≡ asked_in taken

@@ -1,11 +1,9 @@
 -- A run behind an opening.
 use Rattle.std.proofs.Common.{◌≡◌, ◌⊎◌, inl, inr, ⊎_elim, ℕ, ◌≤◌, Bool, false, IsTrue, List, [], ◌++◌, length, Result, Ok, Err, refl, sym, ◌∙◌, ap, subst, arith, length-append}
-use Rattle.std.proofs.lemmas.List.{append-nil}
 use Rattle.ts_disk.specs.Device.{Device, Lawful, Within, FirstSync, LeavesOnly}
 use Rattle.ts_disk.specs.Input.{Input}
 use Rattle.ts_disk.proofs.Moments.{first_map}
 use Rattle.ts_command.specs.Script.{Request}
-use Rattle.ts_replies.proofs.Steps.{none_good}
 use Rattle.ts_model.specs.Catalogue.{Catalogue}
 use Rattle.ts_answer.specs.State.{resting}
 use Rattle.ts_container.specs.declared.fault.SurveyFault.{SurveyFault}
@@ -13,22 +11,17 @@ use Rattle.ts_engine.specs.declared.engine.Engine.{Engine}
 use Rattle.ts_volume.specs.Volume.{MeansCatalogue}
 use Rattle.ts_engine.specs.Start.{Started, StillMeans}
 use Rattle.ts_shell.proofs.ApartLemmas.{apart}
-use Rattle.ts_shell.specs.Run.{script, IsGoodRun, SaysFairly}
-use Rattle.ts_shell.specs.Opening.{status_of_opening, OpensStore}
-use Rattle.ts_shell.specs.Top.{Untouched, most_script, IsScriptEnd, Took, TookEnough, TookTooMuch, asked_of, OpenedRan, RanFrom, ScriptRan, AllDone}
-use Rattle.ts_shell.proofs.SayingLemmas.{never, rose_on}
-use Rattle.ts_shell.proofs.OpeningLemmas.{first_then, first_now, unopened_now, unopened_store, unopened_status, unopened_unwritten, is_unopened, opened_store}
+use Rattle.ts_shell.specs.Run.{script}
+use Rattle.ts_opening.specs.Opening.{status_of_opening, OpensStore}
+use Rattle.ts_shell.specs.Top.{Untouched, most_script, IsScriptEnd, asked_of, OpenedRan, ScriptFrom, ScriptRan}
+use Rattle.ts_carriers.proofs.CallerLemmas.{never, rose_on}
+use Rattle.ts_carriers.specs.Run.{IsGoodRun, SaysFairly, AllDone}
+use Rattle.ts_opening.specs.Taken.{Took, TookEnough, TookTooMuch}
+use Rattle.ts_opening.proofs.CallerLemmas.{first_then, first_now, good_first, ran_from, silent, unopened_now, unopened_store, unopened_status, unopened_unwritten, is_unopened, opened_store}
 
 -- nothing was done
 pub untouched_now : (v : Device) → Untouched v v
 untouched_now v = record { size = refl; held = refl; no_more = λ image now. now; no_fewer = λ image now. now; clock = refl; syncs = refl; faults = refl; said = refl; say_faults = refl }
-
--- nothing said is fair, and good where the image means the catalogue
-pub silent : (cat : Catalogue) (asked : List Request) (v w : Device) → w.said ≡ v.said → SaysFairly script (resting cat) asked v w
-silent cat asked v w same = ([], same ∙ sym (append-nil v.said), (none_good script apart (λ state. Unit {0}) (resting cat) asked tt).fair)
-
-pub good_first : (cat : Catalogue) (asked : List Request) (before image said : List ℕ) → MeansCatalogue image cat → said ≡ before → IsGoodRun script (resting cat) asked before image said
-good_first cat asked before image said means same = ([], same ∙ sym (append-nil before), none_good script apart (script.means image) (resting cat) asked means)
 
 -- nothing was taken of the source
 abbrev nothing_taken : (status : ℕ) (i : Input) → Took most_script IsScriptEnd status i i
@@ -37,17 +30,9 @@ nothing_taken status i = record { taken = []; ended = false; cut = refl; end = �
 taken_enough : (i : Input) → TookEnough most_script i i
 taken_enough i = record { taken = []; cut = refl; short = omega arith }
 
--- what was said and what a stop leaves; where nothing was pending, each moment is good
-pub ran_from : (cat : Catalogue) (status : ℕ) (v w : Device) (i j : Input) → MeansCatalogue v.held cat → (took : Took most_script IsScriptEnd status i j) → SaysFairly script (resting cat) (asked_of took.ended took.taken) v w → FirstSync v w (IsGoodRun script (resting cat) (asked_of took.ended took.taken) v.said) → RanFrom cat status v w i j
-ran_from cat status v w i j means took fair moments = record {
-  took = took;
-  fair = fair;
-  moments = moments;
-  at_rest = λ only image said left. ⊎_elim
-      (λ before. good_first cat (asked_of took.ended took.taken) v.said image said (subst (λ (l : List ℕ). MeansCatalogue l cat) (sym (only image before.0)) means) before.1)
-      (λ good. good)
-      (moments.each image said left);
-}
+-- what was said and what a stop leaves
+script_from : (cat : Catalogue) (status : ℕ) (v w : Device) (i j : Input) → MeansCatalogue v.held cat → (took : Took most_script IsScriptEnd status i j) → SaysFairly script (resting cat) (asked_of took.ended took.taken) v w → FirstSync v w (IsGoodRun script (resting cat) (asked_of took.ended took.taken) v.said) → ScriptFrom cat status v w i j
+script_from cat status v w i j means took fair moments = ran_from script apart most_script IsScriptEnd asked_of (λ taken. resting cat) status v w i j took means fair moments
 
 -- The run ends before the script is pulled, with nothing said.
 unpulled : (tells told : Bool) (status : ℕ) (v w : Device) (i : Input) → OpensStore tells status v w → (status ≡ 5) ⊎ ((status ≡ 6) ⊎ (status ≡ 7)) → w.said ≡ v.said → w.say_faults ≡ v.say_faults
@@ -55,7 +40,7 @@ unpulled : (tells told : Bool) (status : ℕ) (v w : Device) (i : Input) → Ope
     → (status ≡ 7 → (w.held ≡ v.held) × Within v.images w.images) → ScriptRan tells told status v w i i
 unpulled tells told status v w i store which said say_faults first unwritten = record {
   store = store;
-  fair = λ t s cat means. ran_from cat status v w i i means (nothing_taken status i) (silent cat (asked_of false []) v w said) (first t cat means (asked_of false []));
+  fair = λ t s cat means. script_from cat status v w i i means (nothing_taken status i) (silent script apart (resting cat) (asked_of false []) v w said) (first t cat means (asked_of false []));
   all = λ zero. absurd (is_unopened status 0 which zero (inl (omega arith)));
   so_far = λ three. absurd (⊎_elim (λ is. is_unopened status 3 which is (inl (omega arith))) (λ is. is_unopened status 8 which is (inr (omega arith))) three);
   pull = λ three. absurd (is_unopened status 3 which three (inl (omega arith)));
@@ -88,7 +73,7 @@ unbuffered tells told v i lawful =
 -- the opening, from its first sync on
 opening : (tells : Bool) (r : Result Engine SurveyFault) (v y : Device) → Started tells r v y → IsTrue tells → (cat : Catalogue) → MeansCatalogue v.held cat → (asked : List Request) → FirstSync v y (IsGoodRun script (resting cat) asked v.said)
 opening tells r v y started told cat means asked =
-    first_map v y (StillMeans cat v) (IsGoodRun script (resting cat) asked v.said) (λ image said now. good_first cat asked v.said image said now.0 now.1) (started.moments told cat means)
+    first_map v y (StillMeans cat v) (IsGoodRun script (resting cat) asked v.said) (λ image said now. good_first script apart (resting cat) asked v.said image said now.0 now.1) (started.moments told cat means)
 
 -- the volume was not opened
 pub unopened : (tells told : Bool) (fault : SurveyFault) (v y : Device) (i : Input) → Started tells (Err fault) v y → ScriptRan tells told (status_of_opening fault) v y i i
@@ -100,12 +85,12 @@ module _ (tells told : Bool) (engine : Engine) (v y w : Device) (i j : Input) (s
   said_first : y.said ≡ v.said
   said_first = started.others.said
 
-  fair_from : IsTrue tells → IsTrue told → (cat : Catalogue) → MeansCatalogue v.held cat → RanFrom cat status v w i j
+  fair_from : IsTrue tells → IsTrue told → (cat : Catalogue) → MeansCatalogue v.held cat → ScriptFrom cat status v w i j
   fair_from t s cat means =
       let part = ran.fair t s (resting cat) (started.at t cat means) in
       let asked = asked_of part.took.ended part.took.taken in
       let good : LeavesOnly y w (IsGoodRun script (resting cat) asked v.said) = subst (λ (l : List ℕ). LeavesOnly y w (IsGoodRun script (resting cat) asked l)) said_first part.moments in
-      ran_from cat status v w i j means part.took
+      script_from cat status v w i j means part.took
       (part.fair.0, part.fair.1 ∙ ap (λ (l : List ℕ). l ++ part.fair.0) said_first, part.fair.2)
       (first_then v y w (IsGoodRun script (resting cat) asked v.said) (opening tells (Ok engine) v y started t cat means asked) (started.synced t) good (ran.syncs t))
 

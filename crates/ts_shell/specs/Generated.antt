@@ -2,6 +2,7 @@
 -- elements are put into them in turn, and both are folded.
 use Rattle.std.specs.Prelude.{◌≡◌, ℕ, zero, suc, ◌+◌, ◌-◌, ◌*◌, ◌/◌, ◌%◌, ◌==◌, min, if◌then◌else◌, ℤ, pos, ◌+ℤ◌, List}
 use Rattle.std.specs.Prelude.{[], ◌∷◌, ◌++◌, take, codes}
+use Rattle.ts_multi.specs.Picks.{drawn}
 use Rattle.ts_row.specs.declared.kind.ColumnKind.TheVariants.{Integer}
 use Rattle.ts_row.specs.declared.value.Literal.TheVariants.{Number}
 use Rattle.ts_command.specs.declared.command.Command.{Command}
@@ -34,11 +35,6 @@ opening =
     ∷ TSCreate regular_key (codes "genc") beginning (codes "genk")
     ∷ TSCreateIrr irregular_key (codes "genk")
     ∷ []
-
--- number i of the numbers that are drawn from a seed, each from the one before it
-unfoldable pub drawn : ℕ → ℕ → ℕ
-drawn seed zero = seed % 2_147_483_648
-drawn seed (suc i) = (1_103_515_245 * drawn seed i + 12_345) % 2_147_483_648
 
 -- a value goes into a series, so many units of time behind the beginning
 abbrev pub put_behind : List ℕ → ℕ → ℕ → Command

@@ -15,7 +15,7 @@ use Rattle.ts_volume.specs.Volume.{MeansCatalogue}
 use Rattle.ts_engine.specs.Engine.{Kept, IsReady, IsAt, NothingIsPending}
 use Rattle.ts_engine.specs.Step.{Stepped}
 use Rattle.ts_shell.specs.declared.generate.Generator.{Generator}
-use Rattle.ts_shell.specs.Opening.{OpensStore}
+use Rattle.ts_opening.specs.Opening.{OpensStore}
 use Rattle.ts_shell.specs.Generated.{generated, IsNext}
 
 -- the last two of some replies, one behind the other

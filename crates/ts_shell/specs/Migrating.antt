@@ -5,7 +5,7 @@ use Rattle.ts_model.specs.Catalogue.{Catalogue, in_newest_format}
 use Rattle.ts_volume.specs.Volume.{MeansCatalogue}
 use Rattle.ts_engine.specs.Engine.{NothingIsPending}
 use Rattle.ts_engine.specs.Start.{StillMeans}
-use Rattle.ts_shell.specs.Opening.{OpensStore}
+use Rattle.ts_opening.specs.Opening.{OpensStore}
 
 -- an image that means the catalogue in its own format or in the newest, and nothing said
 abbrev pub InEitherFormat : Catalogue → Device → List ℕ → List ℕ → Type 0

@@ -1,17 +1,13 @@
--- A run over an engine: what is said, and what a stop within it leaves.
-use Rattle.std.specs.Prelude.{◌≡◌, ◌≤◌, ℕ, Bool, IsTrue, if◌then◌else◌, List, [], ◌∷◌, ◌++◌, map, Option, Result, Err}
-use Rattle.std.specs.Prelude.{OnOk, IsErrOf}
+-- A run over an engine: what a script asks for, and how it is answered.
+use Rattle.std.specs.Prelude.{ℕ, Bool, if◌then◌else◌, List, [], ◌∷◌, map, Option, Err}
 use Rattle.ts_base.specs.declared.refusal.Refusal.TheVariants as refusals
-use Rattle.ts_disk.specs.Device.{Device, LeavesOnly, Rose}
 use Rattle.ts_items.specs.Items.{items_from, is_unended_at}
 use Rattle.ts_command.specs.Script.{Request, request_of}
-use Rattle.ts_replies.specs.Acknowledged.{Protocol, IsFair, AllAnswered}
-use Rattle.ts_replies.specs.Good.{IsGoodMoment}
+use Rattle.ts_replies.specs.Acknowledged.{Protocol}
 use Rattle.ts_answer.specs.State.{State, committed, run_answer, stand_in}
 use Rattle.ts_volume.specs.Volume.{MeansCatalogue}
+use Rattle.ts_carriers.specs.Run.{Carrier}
 use Rattle.ts_engine.specs.Engine.{Kept, IsReady, IsAt}
-use Rattle.ts_shell.specs.declared.fault.RunFault.{RunFault}
-use Rattle.ts_shell.specs.declared.fault.RunFault.TheVariants.{Disk, Output}
 
 -- what the items ask for that end within these bytes, which come at this place of a script
 abbrev pub requests_from : Option (List ℕ) → List ℕ → List Request
@@ -31,51 +27,7 @@ script = record {
       λ image state. MeansCatalogue image (committed state);
 }
 
--- what was said is replies to the items in their order, the last of them perhaps in part
-abbrev pub SaysFairly : {C I : Type 0} → Protocol C I → C → List I → Device → Device → Type 0
-SaysFairly p cat asked v w = (gained : List ℕ) × (w.said ≡ v.said ++ gained) × IsFair p cat asked gained
-
--- An image and the bytes said by then: these are replies from `before` on, and the image means what is committed after
--- exactly the acknowledged items, or after these and the next.
-abbrev pub IsGoodRun : {C I : Type 0} → Protocol C I → C → List I → List ℕ → List ℕ → List ℕ → Type 0
-IsGoodRun p cat asked before image said = IsGoodMoment p cat asked before image said
-
--- What carries items out: whether its device tells what it holds, when it can go on, and when it stands at a state. A
--- run is said in these words, whatever its items and its states are.
-pub record Carrier (E C : Type 0) : Type 1 where
-  pub tells : Bool
-  -- on every device, between two items
-  pub ready : E → Device → Type 0
-  pub stands : E → C → Device → Type 0
-
 -- an engine stands at a state, whose base its volume means
 abbrev pub by_engine : Bool → Carrier Kept State
 by_engine tells =
     record { tells = tells; ready = IsReady tells; stands = λ e state d. IsAt tells e state d }
-
--- every item has its whole reply, and what carries them out stands at the state after them
-pub record Answered {E C I : Type 0} (c : Carrier E C) (p : Protocol C I)
-    (state : C) (asked : List I) (f : E) (v w : Device) : Type 0 where
-  pub gained : List ℕ
-  pub last : C
-  pub said : w.said ≡ v.said ++ gained
-  pub all : AllAnswered p state asked gained last
-  pub at : c.stands f last w
-
--- what carrying out items in their order does, by one that is `e` before and `f` behind
-pub record Ran {E C I T : Type 0} (c : Carrier E C) (p : Protocol C I)
-    (asked : List I) (result : Result T RunFault) (e f : E) (v w : Device) : Type 0 where
-  pub ready : OnOk result (c.ready f w)
-  pub answered : OnOk result (IsTrue c.tells → (state : C) → c.stands e state v → Answered c p state asked f v w)
-  pub fair : IsTrue c.tells → (state : C) → c.stands e state v → SaysFairly p state asked v w
-  pub moments : IsTrue c.tells → (state : C) → c.stands e state v → LeavesOnly v w (IsGoodRun p state asked v.said)
-  pub disk : result ≡ Err Disk → Rose v.faults w.faults
-  pub output : result ≡ Err Output → Rose v.say_faults w.say_faults
-  -- only a failed call raises its count
-  pub no_fault : ¬ IsErrOf result Disk → w.faults ≡ v.faults
-  pub no_say_fault : ¬ IsErrOf result Output → w.say_faults ≡ v.say_faults
-  -- the length stays, and no fault and no sync is forgotten
-  pub size : w.size ≡ v.size
-  pub faults : v.faults ≤ w.faults
-  pub say_faults : v.say_faults ≤ w.say_faults
-  pub syncs : IsTrue c.tells → v.syncs ≤ w.syncs

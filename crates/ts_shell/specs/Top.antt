@@ -1,20 +1,20 @@
 -- What the top call does, by its words.
 use Rattle.std.specs.Prelude.{◌≡◌, ◌⊎◌, ℕ, ◌+◌, ◌*◌, ◌<◌, ◌≤◌, Bool, false, IsTrue, if◌then◌else◌, List, [], ◌++◌}
-use Rattle.std.specs.Prelude.{length, take, Result, Ok, Err, ◌≢◌}
-use Rattle.ts_disk.specs.Device.{Device, Within, Rose, FirstSync, LeavesOnly}
+use Rattle.std.specs.Prelude.{length, take, ◌≢◌}
+use Rattle.ts_disk.specs.Device.{Device, Within, Rose, LeavesOnly}
 use Rattle.ts_disk.specs.Input.{Input}
 use Rattle.ts_page.specs.Volume.{page_size, first_element_page}
 use Rattle.ts_command.specs.Script.{Request, requests, last_request}
-use Rattle.ts_replies.specs.Acknowledged.{Protocol, AllAnswered}
+use Rattle.ts_replies.specs.Acknowledged.{Protocol}
 use Rattle.ts_model.specs.Catalogue.{Catalogue, empty_catalogue, newest_format}
 use Rattle.ts_answer.specs.State.{State, resting}
 use Rattle.ts_volume.specs.Volume.{MeansCatalogue}
 use Rattle.ts_engine.specs.Engine.{Kept, IsAt, NothingIsPending}
-use Rattle.ts_shell.specs.declared.fault.RunFault.{RunFault}
-use Rattle.ts_shell.specs.declared.fault.RunFault.TheVariants.{Disk, Output}
+use Rattle.ts_carriers.specs.Run.{IsGoodRun, SaysFairly, AllDone}
+use Rattle.ts_opening.specs.Opening.{OpensStore}
+use Rattle.ts_opening.specs.Taken.{Took, TookTooMuch, TookEnough, RanFrom}
 use Rattle.ts_shell.specs.Making.{EmptyFrom}
-use Rattle.ts_shell.specs.Opening.{OpensStore}
-use Rattle.ts_shell.specs.Run.{script, IsGoodRun, SaysFairly}
+use Rattle.ts_shell.specs.Run.{script}
 
 -- no call was made that does anything
 pub record Untouched (v w : Device) : Type 0 where
@@ -50,16 +50,6 @@ pub record Made (tells : Bool) (pages status : ℕ) (v w : Device) : Type 0 wher
   pub said : w.said ≡ v.said
   pub statuses : (status ≡ 0) ⊎ ((status ≡ 5) ⊎ (status ≡ 10))
 
--- the status of what ended a run over an engine
-abbrev pub status_of : RunFault → ℕ
-status_of Disk = 5
-status_of Output = 4
-
--- the status of a run whose script has ended
-abbrev pub status_of_end : Result Unit RunFault → ℕ
-status_of_end (Ok done) = 0
-status_of_end (Err fault) = status_of fault
-
 -- what those items ask for that end within these bytes, and within the first 268435456 bytes of the script
 abbrev pub asked_in : List ℕ → List Request
 asked_in taken = requests (take 268435456 taken)
@@ -68,30 +58,13 @@ asked_in taken = requests (take 268435456 taken)
 abbrev pub asked_of : Bool → List ℕ → List Request
 asked_of ended taken = asked_in taken ++ (if ended then last_request taken else [])
 
--- every item has its whole reply, and the volume, with nothing pending, means what is committed after them
-pub record AllDone {C I : Type 0} (p : Protocol C I) (cat : C) (asked : List I) (v w : Device) : Type 0 where
-  pub gained : List ℕ
-  pub last : C
-  pub said : w.said ≡ v.said ++ gained
-  pub answered : AllAnswered p cat asked gained last
-  pub means : p.means w.held last
-  pub only : NothingIsPending w
-
 -- the most bytes of a script
 abbrev pub most_script : ℕ
 most_script = 268435456
 
 -- a script that was taken to its end ends so: every request is answered, or only the last reply may be missing
-abbrev pub IsScriptEnd : ℕ → Type 0
-IsScriptEnd status = (status ≡ 0) ⊎ (status ≡ 4)
-
--- The bytes that were taken from the source, and whether it answered its end: then nothing is left, the limit was kept,
--- and the status is one of an end.
-pub record Took (limit : ℕ) (IsEnd : ℕ → Type 0) (status : ℕ) (i j : Input) : Type 0 where
-  pub taken : List ℕ
-  pub ended : Bool
-  pub cut : i.left ≡ taken ++ j.left
-  pub end : IsTrue ended → (j.left ≡ []) × (length taken ≤ limit) × IsEnd status
+abbrev pub IsScriptEnd : List ℕ → ℕ → Type 0
+IsScriptEnd taken status = (status ≡ 0) ⊎ (status ≡ 4)
 
 -- Everything was taken up to the end of the source, and every request of the script is answered. A transaction that is
 -- open behind them is given up.
@@ -105,21 +78,9 @@ pub record DoneSoFar (state : State) (v w : Device) (i j : Input) : Type 0 where
   pub cut : i.left ≡ taken ++ j.left
   pub done : AllDone script state (asked_in taken) v w
 
--- the bytes that were taken are more than the limit
-pub record TookTooMuch (limit : ℕ) (i j : Input) : Type 0 where
-  pub taken : List ℕ
-  pub cut : i.left ≡ taken ++ j.left
-  pub long : limit < length taken
-
--- the bytes that were taken keep the limit
-pub record TookEnough (limit : ℕ) (i j : Input) : Type 0 where
-  pub taken : List ℕ
-  pub cut : i.left ≡ taken ++ j.left
-  pub short : length taken ≤ limit
-
 -- What was said over an engine that stood at this state, and what a stop left. `asked` tells the items of what was
 -- taken.
-pub record RanOn {C I : Type 0} (p : Protocol C I) (limit : ℕ) (IsEnd : ℕ → Type 0) (asked : Bool → List ℕ → List I)
+pub record RanOn {C I : Type 0} (p : Protocol C I) (limit : ℕ) (IsEnd : List ℕ → ℕ → Type 0) (asked : Bool → List ℕ → List I)
     (state : C) (status : ℕ) (v w : Device) (i j : Input) : Type 0 where
   pub took : Took limit IsEnd status i j
   pub fair : SaysFairly p state (asked took.ended took.taken) v w
@@ -152,21 +113,14 @@ pub record OpenedRan (tells told : Bool) (e : Kept) (status : ℕ) (v w : Device
 
 -- What was said and what a stop leaves, over a volume that means this catalogue at the entry: with no transaction, the
 -- run is there.
-pub record RanFrom (cat : Catalogue) (status : ℕ) (v w : Device) (i j : Input) : Type 0 where
-  pub took : Took most_script IsScriptEnd status i j
-  pub fair : SaysFairly script (resting cat) (asked_of took.ended took.taken) v w
-  -- From the end of the first sync on each moment is good; before it, and in the whole call where no sync answered Ok,
-  -- each is an image of the entry with nothing said.
-  pub moments : FirstSync v w (IsGoodRun script (resting cat) (asked_of took.ended took.taken) v.said)
-  -- where nothing was pending at the entry, each moment of the call is good
-  pub at_rest : NothingIsPending v → (image said : List ℕ) → w.since v.clock image said
-      → IsGoodRun script (resting cat) (asked_of took.ended took.taken) v.said image said
+abbrev pub ScriptFrom : Catalogue → ℕ → Device → Device → Input → Input → Type 0
+ScriptFrom cat status v w i j = RanFrom script most_script IsScriptEnd asked_of (λ taken. resting cat) status v w i j
 
 -- What `run` does.
 pub record ScriptRan (tells told : Bool) (status : ℕ) (v w : Device) (i j : Input) : Type 0 where
   pub store : OpensStore tells status v w
   -- what was said is replies to the script taken, and what a stop leaves agrees with them
-  pub fair : IsTrue tells → IsTrue told → (cat : Catalogue) → MeansCatalogue v.held cat → RanFrom cat status v w i j
+  pub fair : IsTrue tells → IsTrue told → (cat : Catalogue) → MeansCatalogue v.held cat → ScriptFrom cat status v w i j
   -- at 0 the script is read to its end and every request has its reply
   pub all : status ≡ 0 → IsTrue tells → IsTrue told → (cat : Catalogue) → MeansCatalogue v.held cat
       → DoneToEnd (resting cat) v w i j

@@ -3,7 +3,7 @@ use Rattle.std.specs.Prelude.{◌≤◌, ℕ, ◌&&◌, nat_le, if◌then◌else
 use Rattle.std.specs.Str.{bytes_eq}
 use Rattle.ts_base.specs.StampText.{number_of, all_digits}
 use Rattle.ts_shell.specs.declared.words.Job.{Job}
-use Rattle.ts_shell.specs.declared.words.Job.TheVariants.{Init, Run, Check, Migrate, Gen}
+use Rattle.ts_shell.specs.declared.words.Job.TheVariants.{Init, Run, Check, Migrate, Gen, Sessions}
 
 -- the number that 1 to 10 digits write
 abbrev pub decimal : List ℕ → Option ℕ
@@ -34,15 +34,19 @@ IsJob Run = Unit {0}
 IsJob Check = Unit {0}
 IsJob Migrate = Unit {0}
 IsJob (Gen count seed) = (1 ≤ count) × (count ≤ 1000000)
+IsJob (Sessions seed) = Unit {0}
 
--- what the words ask for: `run`, `check`, `migrate`, `init` and a number of pages, or `gen`, a count and a seed
+-- what the words ask for: `run`, `check`, `migrate`, `init` and a number of pages, `sessions` and a seed, or `gen`, a
+-- count and a seed
 unfoldable pub job_of : List (List ℕ) → Option Job
 job_of (word ∷ []) =
     if bytes_eq word (codes "run") then Some Run
     else (if bytes_eq word (codes "check") then Some Check else (if bytes_eq word (codes "migrate") then Some Migrate
     else None))
-job_of (word ∷ pages ∷ []) =
-    if bytes_eq word (codes "init") then (elim (pages_in pages) [ None ↦ None | Some n ↦ Some (Init n) ]) else None
+job_of (word ∷ number ∷ []) =
+    if bytes_eq word (codes "init") then (elim (pages_in number) [ None ↦ None | Some n ↦ Some (Init n) ])
+    else (if bytes_eq word (codes "sessions") then (elim (seed_in number) [ None ↦ None | Some n ↦ Some (Sessions n) ])
+    else None)
 job_of (word ∷ count ∷ seed ∷ []) =
     if bytes_eq word (codes "gen") then gen_job (count_in count) (seed_in seed) else None
 job_of words = None

@@ -4,11 +4,11 @@ ghost use Rattle.std.specs.Prelude.{IfErr, ◌⊎◌, IsErr, codes, decimal};
 ghost use Rattle.ts_command.specs.Form.{HasForm};
 ghost use Rattle.ts_engine.specs.Engine.{IsReady};
 ghost use Rattle.ts_engine.specs.Step.{Stepped};
-ghost use Rattle.ts_shell.specs.Generated.{drawn, generated, edits_before};
+ghost use Rattle.ts_multi.specs.Picks.{drawn};
+ghost use Rattle.ts_shell.specs.Generated.{generated, edits_before};
 ghost use Rattle.ts_shell.specs.Generating.{GenRan, OpenedGen, RanQuietly, IsBehind, IsNextStep, IsUnmade, IsTally};
 ghost use Rattle.ts_answer.specs.Outcomes.{ends_with_ok};
 
-use crate::fault::unopened;
 use crate::generated::{command_count, draw, first_drawn, make_command};
 use std::alloc::{AllocError, Global};
 use std::thread::Threads;
@@ -17,6 +17,7 @@ use ts_base::{Bytes, Reply};
 use ts_command::Command;
 use ts_disk::Site;
 use ts_engine::{Engine, StepFault};
+use ts_opening::unopened;
 use ts_text::print_number;
 
 /// Commands that are carried out: the engine of the volume, the last two replies, and how many of all end with an `ok`

@@ -3,7 +3,8 @@ ghost use Rattle.std.specs.Prelude.{◌≡◌, ◌≤◌, ◌<◌, ◌+◌, ℕ,
 ghost use Rattle.ts_base.specs.Name.{is_name, is_key};
 ghost use Rattle.ts_base.specs.Moment.{IsStamp};
 ghost use Rattle.ts_command.specs.Form.{HasForm};
-ghost use Rattle.ts_shell.specs.Generated.{beginning, ending, opening, drawn, edit, put_behind, add_up, closing};
+ghost use Rattle.ts_multi.specs.Picks.{drawn};
+ghost use Rattle.ts_shell.specs.Generated.{beginning, ending, opening, edit, put_behind, add_up, closing};
 ghost use Rattle.ts_shell.specs.Generated.{generated, edits_before, IsNext};
 
 use std::alloc::{AllocError, Global};
@@ -40,7 +41,7 @@ pub(crate) fn command_count(count: u32) -> u32
 }
 
 /// The number drawn first, of a seed.
-#[tactic(auto, unfolding(crate::specs::Generated::drawn))]
+#[tactic(auto, unfolding(ts_multi::specs::Picks::drawn))]
 pub(crate) fn first_drawn(seed: u32) -> u64
     ensures value { result ≡ drawn seed 0 }
     ensures bound { result < 2147483648 }

@@ -1,10 +1,10 @@
 // A store brought to the newest format, with all that it holds.
 ghost use Rattle.ts_shell.specs.Migrating.{MigrateRan};
 
-use crate::fault::unopened;
 use std::alloc::Global;
 use ts_disk::Site;
 use ts_engine::{Engine, StepFault};
+use ts_opening::unopened;
 
 /// Opens the volume, and writes its header in the newest format where it has an older one. The program's status.
 pub(crate) fn migrate<S: Site>(alloc: Global, site: &mut S) -> u8

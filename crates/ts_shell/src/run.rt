@@ -1,48 +1,17 @@
 // A script, pulled in pieces and carried out piece by piece.
-ghost use Rattle.std.specs.Prelude.{◌≡◌, ◌≤◌, ◌<◌, ◌+◌, IfOk, Some, [], length};
-ghost use Rattle.ts_disk.specs.Input.{Pulled};
+ghost use Rattle.std.specs.Prelude.{◌≡◌, Some, [], length};
+ghost use Rattle.ts_carriers.specs.Run.{status_of, status_of_end};
 ghost use Rattle.ts_engine.specs.Engine.{IsReady};
-ghost use Rattle.ts_shell.specs.Top.{OpenedRan, status_of, status_of_end};
+ghost use Rattle.ts_shell.specs.Top.{OpenedRan};
 
-use crate::fault::RunFault;
 use crate::session::Session;
 use std::thread::Threads;
-use ts_disk::{PullFailed, Site, Source};
-
-/// The most bytes of a piece.
-pub(crate) const PIECE: usize = 65536;
+use ts_carriers::RunFault;
+use ts_disk::{Site, Source};
+use ts_opening::{pull_front, room_after};
 
 /// The most bytes of a script.
 const LIMIT: usize = 268_435_456;
-
-// How many bytes are pulled next, where so many were: no piece goes past the limit, but for the one byte that shows
-// that the script does.
-fn room_after(count: usize) -> usize
-    requires { count ≤ 268435456 }
-    ensures some { 0 < result }
-    ensures piece { result ≤ 65536 }
-    ensures limit { count < 268435456 → count + result ≤ 268435456 }
-{
-    if count == LIMIT {
-        return 1;
-    }
-    let left = LIMIT - count;
-    if left < PIECE { left } else { PIECE }
-}
-
-// Pulls into the front of a buffer.
-fn pull_front<R: Source>(
-    source: &mut R,
-    buffer: &mut [u8],
-    room: usize,
-) -> Result<usize, PullFailed>
-    requires some { 0 < room }
-    requires within { room ≤ length buffer.old }
-    ensures pulled { Pulled R.tells buffer.new result (R.input source.old) (R.input source.new) }
-    ensures room { IfOk result (λ n. n ≤ room) }
-{
-    source.pull(&mut buffer[..room])
-}
 
 // The status of a fault.
 fn status(fault: RunFault) -> u8
@@ -80,7 +49,7 @@ pub(crate) fn run_script<S: Site, R: Source>(
 {
     let mut count = 0;
     loop {
-        match pull_front(source, buffer, room_after(count)) {
+        match pull_front(source, buffer, room_after(LIMIT, count)) {
             Err(_) => return 3,
             Ok(0) => return status_at_end(session.carry_out_end(site)),
             Ok(more) => {

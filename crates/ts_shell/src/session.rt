@@ -8,12 +8,13 @@ ghost use Rattle.ts_command.specs.Form.{HasForm};
 ghost use Rattle.ts_command.specs.Grammar.{command_of};
 ghost use Rattle.ts_command.specs.Script.{request_of, or_syntax};
 ghost use Rattle.ts_engine.specs.Engine.{IsReady};
-ghost use Rattle.ts_shell.specs.Run.{script, by_engine, Ran, requests_from, requests_at_end};
+ghost use Rattle.ts_carriers.specs.Run.{Ran};
+ghost use Rattle.ts_shell.specs.Run.{script, by_engine, requests_from, requests_at_end};
 
-use crate::fault::RunFault;
 use std::alloc::Global;
 use std::thread::Threads;
 use ts_base::{Reply, Trouble};
+use ts_carriers::RunFault;
 use ts_command::{Command, Cut, Reader, read_command};
 use ts_disk::Site;
 use ts_engine::{Engine, StepFault};

@@ -16,6 +16,8 @@ pub enum Job {
     Migrate,
     /// Carry out the commands of a seed, with so many edits, 1 to 1000000.
     Gen { count: u32, seed: u32 },
+    /// Carry out the sessions of the source in the order that a seed decides.
+    Sessions { seed: u32 },
 }
 
 /// The job that the words name, if they name one.
@@ -36,10 +38,15 @@ pub fn read_job(words: &[String]) -> Option<Job>
                 None
             }
         }
-        [word, pages] => {
+        [word, number] => {
             if word.as_str() == "init" {
-                match read_pages(pages.as_str()) {
+                match read_pages(number.as_str()) {
                     Some(count) => Some(Job::Init(count)),
+                    None => None,
+                }
+            } else if word.as_str() == "sessions" {
+                match read_seed(number.as_str()) {
+                    Some(seed) => Some(Job::Sessions { seed }),
                     None => None,
                 }
             } else {

@@ -1,6 +1,7 @@
 use Rattle.std.proofs.Common.{◌≡◌, ◌+◌, ◌-◌, ℕ, Result, Ok, Err, IfOk, sym, ◌∙◌, ap, subst, arith}
 use Rattle.ts_command.specs.declared.command.Command.{Command}
-use Rattle.ts_shell.specs.Generated.{drawn, edit, generated, edits_before, IsNext}
+use Rattle.ts_multi.specs.Picks.{drawn}
+use Rattle.ts_shell.specs.Generated.{edit, generated, edits_before, IsNext}
 use Rattle.ts_shell.proofs.GeneratedLemmas.{next_of_opening, next_of_edits, next_of_closing}
 use Rattle.ts_shell.proofs.generated.make_command.Goals as goal
 

@@ -4,11 +4,11 @@ use Rattle.ts_items.specs.Items.{place_from}
 use Rattle.ts_items.proofs.ItemLaws.{place_from-append}
 use Rattle.ts_shell.specs.Top.{OpenedRan}
 use Rattle.ts_shell.specs.Run.{script, by_engine}
-use Rattle.ts_shell.proofs.SayingLemmas.{rose_on}
+use Rattle.ts_carriers.proofs.CallerLemmas.{rose_on}
 use Rattle.ts_shell.proofs.ItemLemmas.{steady}
-use Rattle.ts_shell.proofs.RanLemmas.{ran_none}
+use Rattle.ts_carriers.proofs.CallerLemmas.{ran_none}
 use Rattle.ts_shell.proofs.FeedLemmas.{ran_behind, ran_to_end}
-use Rattle.ts_shell.proofs.PullLemmas.{IsOnce, once_now, once_pulled, once_more, pulls_on, taken_on, taken_all, nothing_left}
+use Rattle.ts_opening.proofs.CallerLemmas.{IsOnce, once_now, once_pulled, once_more, pulls_on, taken_on, taken_all, nothing_left}
 use Rattle.ts_shell.proofs.RunLemmas.{stopped, overlong, failed, ended}
 use Rattle.ts_shell.proofs.run.run_script.Goals as goal
 

@@ -2,8 +2,9 @@ use Rattle.std.proofs.Common.{◌≡◌, ◌+◌, ◌-◌, ◌≤◌, ◌++◌, 
 use Rattle.ts_items.specs.Items.{place_from}
 use Rattle.ts_command.specs.Script.{requests}
 use Rattle.ts_engine.specs.Engine.{IsReady}
-use Rattle.ts_shell.specs.Run.{script, by_engine, Ran}
-use Rattle.ts_shell.proofs.PullLemmas.{IsOnce}
+use Rattle.ts_shell.specs.Run.{script, by_engine}
+use Rattle.ts_opening.proofs.CallerLemmas.{IsOnce}
+use Rattle.ts_carriers.specs.Run.{Ran}
 use Rattle.ts_shell.proofs.run.run_script.Given as goal
 
 abbrev pub invariant-loop-session : goal.invariant-loop-session

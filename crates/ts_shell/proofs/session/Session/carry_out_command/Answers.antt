@@ -2,7 +2,7 @@ use Rattle.std.proofs.Common.{◌≡◌, ℕ, List, Result, Ok, Err, sym, ◌∙
 use Rattle.ts_engine.specs.declared.fault.StepFault.{StepFault}
 use Rattle.ts_engine.specs.declared.fault.StepFault.TheVariants as faults
 use Rattle.ts_replies.specs.Acknowledged.{memory_line}
-use Rattle.ts_shell.proofs.SayingLemmas.{Steps, said_ran}
+use Rattle.ts_carriers.proofs.CallerLemmas.{Steps, said_ran}
 use Rattle.ts_shell.proofs.ItemLemmas.{steady, steps_done, steps_wanting, failed_ran, never_closed}
 use Rattle.ts_shell.specs.Run.{script, by_engine}
 use Rattle.ts_shell.proofs.session.Session.carry_out_command.Goals as goal

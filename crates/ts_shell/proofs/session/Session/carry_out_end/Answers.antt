@@ -3,7 +3,7 @@ use Rattle.ts_base.specs.declared.refusal.Refusal.TheVariants as refusals
 use Rattle.ts_items.specs.Items.{is_unended_at}
 use Rattle.ts_shell.specs.Run.{requests_at_end}
 use Rattle.ts_shell.proofs.ItemLemmas.{steady, line_ran, refused_step, unended_line}
-use Rattle.ts_shell.proofs.RanLemmas.{ran_none}
+use Rattle.ts_carriers.proofs.CallerLemmas.{ran_none}
 use Rattle.ts_shell.proofs.FeedLemmas.{ran_of, end_none, end_some}
 use Rattle.ts_shell.specs.Run.{script, by_engine}
 use Rattle.ts_shell.proofs.session.Session.carry_out_end.Goals as goal

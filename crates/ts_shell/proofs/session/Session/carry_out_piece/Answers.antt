@@ -6,7 +6,7 @@ use Rattle.ts_items.proofs.ItemLaws.{place_from-append}
 use Rattle.ts_items.proofs.RunLemmas.{rest_whole}
 use Rattle.ts_shell.specs.Run.{script, by_engine, requests_from}
 use Rattle.ts_shell.proofs.ItemLemmas.{steady}
-use Rattle.ts_shell.proofs.RanLemmas.{ran_none, ran_as, ran_failed_as}
+use Rattle.ts_carriers.proofs.CallerLemmas.{ran_none, ran_as, ran_failed_as}
 use Rattle.ts_shell.proofs.FeedLemmas.{ran_behind, ran_of}
 use Rattle.ts_shell.proofs.session.Session.carry_out_piece.Goals as goal
 

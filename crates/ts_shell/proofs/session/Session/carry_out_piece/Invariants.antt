@@ -1,7 +1,8 @@
 use Rattle.std.proofs.Common.{◌≡◌, ◌++◌, ℕ, List, length, Ok}
 use Rattle.ts_items.specs.Items.{place_from}
 use Rattle.ts_engine.specs.Engine.{IsReady}
-use Rattle.ts_shell.specs.Run.{script, by_engine, Ran, requests_from}
+use Rattle.ts_shell.specs.Run.{script, by_engine, requests_from}
+use Rattle.ts_carriers.specs.Run.{Ran}
 use Rattle.ts_shell.proofs.session.Session.carry_out_piece.Given as goal
 
 abbrev pub invariant-loop-rest : goal.invariant-loop-rest

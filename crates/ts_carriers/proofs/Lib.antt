@@ -1,0 +1,4 @@
+pub mod CallerLemmas
+mod RanLemmas
+mod ReplyLemmas
+mod SayingLemmas

@@ -1,0 +1,4 @@
+pub mod CallerLemmas
+mod OpeningLemmas
+mod PullLemmas
+mod TakenLemmas

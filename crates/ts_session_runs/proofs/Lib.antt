@@ -1,0 +1,5 @@
+mod CarrierLemmas
+mod HallLemmas
+mod RanLemmas
+mod StartLemmas
+mod TurnLemmas

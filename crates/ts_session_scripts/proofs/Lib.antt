@@ -1,0 +1,4 @@
+pub mod CallerLemmas
+mod OrderLemmas
+mod PieceLemmas
+mod ScheduleLemmas

@@ -1,0 +1,5 @@
+mod CountLemmas
+mod OpenedLemmas
+mod RestLemmas
+mod SourceLemmas
+mod TextLemmas

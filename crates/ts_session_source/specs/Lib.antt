@@ -1,0 +1,4 @@
+pub mod Fault
+pub mod Opened
+pub mod Sessions
+pub mod Text
