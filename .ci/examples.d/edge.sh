@@ -30,7 +30,8 @@ makes_no() {
   echo "FAILED: $1 was made"
 }
 usage="say \`ts VOLUME init PAGES\` with 1 to 65536 pages, \`ts VOLUME run < SCRIPT\`, \`ts VOLUME check\`,"
-usage="$usage \`ts VOLUME migrate\`, or \`ts VOLUME gen COUNT SEED\` with 1 to 1000000 edits and a seed"
+usage="$usage \`ts VOLUME migrate\`, \`ts VOLUME gen COUNT SEED\` with 1 to 1000000 edits and a seed, or"
+usage="$usage \`ts VOLUME sessions SEED < SCRIPTS\`"
 wants "the edge: init" 0 "$ts" a.v init 8
 {
   echo "CreateRowType(r, t datetime, v integer); TSContainerCreate(c, r, 8); TSCreateIrr('x', c);"
@@ -116,7 +117,7 @@ for word in -h -x -- -; do
 done
 types 'ts ./-h init 1' 0
 rm ./-h
-for words in help version run 'run a.v' init 'init 8 a.v' 'gen a.v 1 1' 'migrate a.v' 'check a.v'; do
+for words in help version run 'run a.v' init 'init 8 a.v' 'gen a.v 1 1' 'migrate a.v' 'check a.v' 'sessions a.v 1'; do
   types "ts $words" 11 "${words%% *}: isn't there, and the volume's path comes first; $usage"
   makes_no "${words%% *}"
 done

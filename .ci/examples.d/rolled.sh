@@ -56,6 +56,36 @@ rolls "a set of one page" "CreateRowType(rd, t datetime, v integer);TSContainerC
   RollingClip('k','2011-01-01 00:00:00','2012-12-31 00:00:00');TSContainerUsage(c1);" \
   "ok\nok\nok\n$origin\n$origin\nok 2011-01-04 00:00:00.00000\nok 2012-01-01 00:00:00.00000\n2012-01-01 00:00:00.00000 3\nok 1\nok 1 1\n"
 
+# Of two controls of a set the one of fewer windows counts, and once that one is gone the other does.
+wants "two controls: init" 0 "$ts" controls.volume init 8
+cat > controls.script <<END
+CreateRowType(rd, t datetime, v integer);TSContainerCreate(c1, rd, 4);CreateCalendar(dc, $days);
+TSCreate('m#w0002', dc, '2011-01-03 00:00:00', c1);TSCreate('m#w0001', dc, '2011-01-03 00:00:00', c1);
+RollingPut('m','2011-01-03 00:00:00',1);RollingPut('m','2011-01-04 00:00:00',2);
+RollingClip('m','2011-01-01 00:00:00','2011-01-31 00:00:00');
+DropSeries('m#w0001');RollingPut('m','2011-01-05 00:00:00',3);
+RollingClip('m','2011-01-01 00:00:00','2011-01-31 00:00:00');
+END
+cat > controls.replies <<END
+ok
+ok
+ok
+$origin
+$origin
+$origin
+ok 2011-01-04 00:00:00.00000
+2011-01-04 00:00:00.00000 2
+ok 1
+ok
+ok 2011-01-05 00:00:00.00000
+2011-01-04 00:00:00.00000 2
+2011-01-05 00:00:00.00000 3
+ok 2
+END
+input=controls.script wants "two controls" 0 "$ts" controls.volume run
+same "two controls: replies" said controls.replies
+rm -f controls.volume controls.script controls.replies
+
 # No page is left, where the window that goes has none. It stays then.
 rolls "the window is emptied" "DelElem('k#000000000363','2012-01-01 00:00:00');TSCreateIrr('x', c1);
   InsElem('x','2011-01-03 00:00:00',7);" "ok 1\nok\n$origin\n"
