@@ -1,5 +1,6 @@
 // Elements that are kept of entries that are handed on.
 use std::alloc::Global;
+use std::mem;
 use std::test::Fail;
 use ts_base::{Name, Stamp};
 use ts_entry::{EntryVisitor, KeptElements};
@@ -30,17 +31,24 @@ fn hand(kept: &mut KeptElements, kind: &RowType, units: i64, row: &[u8]) -> Resu
     Ok(())
 }
 
-// Two elements, a stamp without one between them, and bytes that are no row's.
-fn handed(alloc: Global) -> Result<KeptElements, Fail> {
-    let kind = kind(alloc)?;
+// Hands on two elements, a stamp without one between them, and bytes that are no row's.
+fn hand_all(kept: &mut KeptElements, kind: &RowType) -> Result<(), Fail> {
     let Some(between) = Stamp::of(15) else {
         return Err(Fail::from("no stamp"));
     };
+    hand(kept, kind, 10, &[1, 1, 4])?;
+    kept.blank(kind, between)?;
+    hand(kept, kind, 20, &[7, 0, 0])?;
+    hand(kept, kind, 30, &[0, 0, 0])
+}
+
+// What is kept of these.
+fn handed(alloc: Global) -> Result<KeptElements, Fail> {
+    let kind = kind(alloc)?;
     let mut kept = KeptElements::new(alloc);
-    hand(&mut kept, &kind, 10, &[1, 1, 4])?;
-    kept.blank(&kind, between)?;
-    hand(&mut kept, &kind, 20, &[7, 0, 0])?;
-    hand(&mut kept, &kind, 30, &[0, 0, 0])?;
+    let handed = hand_all(&mut kept, &kind);
+    mem::drop(kind);
+    handed?;
     Ok(kept)
 }
 
@@ -54,13 +62,24 @@ fn is(elem: &Elem, units: i64, number: Option<i128>) -> bool {
     found && elem.stamp.units() == units
 }
 
+// Whether these are the two elements.
+fn are_both(kept: &[Elem]) -> bool {
+    match kept {
+        [first, second] => is(first, 10, Some(260)) && is(second, 30, None),
+        _ => false,
+    }
+}
+
+// Whether they are what is kept.
+fn are_kept(alloc: Global) -> Result<bool, Fail> {
+    let kept = handed(alloc)?;
+    let are_both = are_both(kept.as_slice());
+    mem::drop(kept);
+    Ok(are_both)
+}
+
 #[test]
 fn elements_are_kept_in_order(rt: HostRuntime) -> Result<(), Fail> {
-    let kept = handed(rt.alloc())?;
-    let [first, second] = kept.as_slice() else {
-        return Err(Fail::from("not two"));
-    };
-    assert!(rt; is(first, 10, Some(260)));
-    assert!(rt; is(second, 30, None));
+    assert!(rt; are_kept(rt.alloc())?);
     Ok(())
 }

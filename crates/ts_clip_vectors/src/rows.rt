@@ -7,6 +7,7 @@ ghost use Rattle.ts_entry.specs.Stamps.{IsNear};
 
 use crate::series::{DAY, DAY_1, SLOT, Series, day, filled, mislead, shape_of};
 use std::alloc::{AllocError, Global};
+use std::mem;
 use ts_base::StoreFault;
 use ts_clip::rows;
 use ts_entry::{RowVisitor, Stamps};
@@ -73,14 +74,20 @@ fn row_in(cell: &[u8], front: usize) -> &[u8] {
 // What is handed on from one day to another.
 fn handed_on(alloc: Global, regular: bool, from: u8, to: u8) -> Result<Copied, StoreFault> {
     let mut series = filled(alloc, regular)?;
-    copied_of(alloc, &mut series, from, to)
+    let copied = copied_of(alloc, &mut series, from, to);
+    mem::drop(series);
+    copied
 }
 
 // The same where the place of the page tells of one element more than stand there.
 fn misled(alloc: Global, regular: bool, from: u8, to: u8) -> Result<Copied, StoreFault> {
     let mut series = filled(alloc, regular)?;
-    mislead(&mut series)?;
-    copied_of(alloc, &mut series, from, to)
+    let copied = match mislead(&mut series) {
+        Ok(()) => copied_of(alloc, &mut series, from, to),
+        Err(fault) => Err(fault),
+    };
+    mem::drop(series);
+    copied
 }
 
 // The same of any series.
@@ -91,6 +98,7 @@ fn copied_of(alloc: Global, series: &mut Series, from: u8, to: u8) -> Result<Cop
     let kind = &series.kind;
     let shelf = &Shelf { series: SLOT, kind };
     let page = &mut Page::zero();
+    let (from, to) = (day(from)?, day(to)?);
     let shape = &shape_of(&series.counter)?;
     let pages = &mut series.pages;
     let space = &series.space;
@@ -100,8 +108,7 @@ fn copied_of(alloc: Global, series: &mut Series, from: u8, to: u8) -> Result<Cop
         cells: 0,
         fronts: Vec::new(alloc),
     };
-    let into = &mut copied;
-    rows(pages, page, space, shelf, shape, day(from)?, day(to)?, into)?;
+    rows(pages, page, space, shelf, shape, from, to, &mut copied)?;
     Ok(copied)
 }
 
@@ -120,43 +127,83 @@ fn gives(
 ) -> bool {
     match copied {
         Ok(copied) => {
-            copied.rows.as_slice() == rows
+            let gives = copied.rows.as_slice() == rows
                 && copied.days.as_slice() == days
                 && copied.cells == cells
-                && copied.fronts.as_slice() == fronts
+                && copied.fronts.as_slice() == fronts;
+            mem::drop(copied);
+            gives
         }
         Err(_) => false,
     }
 }
 
+/// Whether the series is regular, the first and the last day, and what is handed on: rows, days, how many cells, and the
+/// bytes before a row.
+type Handed = (
+    bool,
+    u8,
+    u8,
+    &'static [u8],
+    &'static [i64],
+    usize,
+    &'static [usize],
+);
+
+fn is_handed_on(alloc: Global, handed: &Handed) -> bool {
+    let (regular, from, to, rows, days, cells, fronts) = *handed;
+    gives(
+        handed_on(alloc, regular, from, to),
+        rows,
+        days,
+        cells,
+        fronts,
+    )
+}
+
+static WHOLE: [Handed; 2] = [
+    (false, 1, 31, ALL, &[3, 5, 6, 10], 4, &[9]),
+    (true, 1, 31, ALL, &[3, 5, 6, 10], 21, &[1]),
+];
+
 #[test]
 fn all_rows_are_handed_on_in_one_call_a_page(rt: HostRuntime) {
-    let alloc = rt.alloc();
-    assert!(rt; gives(handed_on(alloc, false, 1, 31), ALL, &[3, 5, 6, 10], 4, &[9]));
-    assert!(rt; gives(handed_on(alloc, true, 1, 31), ALL, &[3, 5, 6, 10], 21, &[1]));
+    for handed in &WHOLE {
+        assert!(rt; is_handed_on(rt.alloc(), handed));
+    }
 }
+
+static ENDS: [Handed; 4] = [
+    (false, 5, 6, INSIDE, &[5, 6], 2, &[9]),
+    (false, 4, 9, INSIDE, &[5, 6], 2, &[9]),
+    (true, 5, 6, INSIDE, &[5, 6], 2, &[1]),
+    (true, 4, 9, INSIDE, &[5, 6], 4, &[1]),
+];
 
 #[test]
 fn both_ends_of_a_range_belong_to_it(rt: HostRuntime) {
-    let alloc = rt.alloc();
-    assert!(rt; gives(handed_on(alloc, false, 5, 6), INSIDE, &[5, 6], 2, &[9]));
-    assert!(rt; gives(handed_on(alloc, false, 4, 9), INSIDE, &[5, 6], 2, &[9]));
-    assert!(rt; gives(handed_on(alloc, true, 5, 6), INSIDE, &[5, 6], 2, &[1]));
-    assert!(rt; gives(handed_on(alloc, true, 4, 9), INSIDE, &[5, 6], 4, &[1]));
+    for handed in &ENDS {
+        assert!(rt; is_handed_on(rt.alloc(), handed));
+    }
 }
+
+static EMPTY: [Handed; 4] = [
+    (false, 8, 9, &[], &[], 0, &[]),
+    (true, 8, 9, &[], &[], 0, &[]),
+    (false, 10, 3, &[], &[], 0, &[]),
+    (true, 10, 3, &[], &[], 0, &[]),
+];
 
 #[test]
 fn a_range_without_cells_hands_on_nothing(rt: HostRuntime) {
-    let alloc = rt.alloc();
-    assert!(rt; gives(handed_on(alloc, false, 8, 9), &[], &[], 0, &[]));
-    assert!(rt; gives(handed_on(alloc, true, 8, 9), &[], &[], 0, &[]));
-    assert!(rt; gives(handed_on(alloc, false, 10, 3), &[], &[], 0, &[]));
-    assert!(rt; gives(handed_on(alloc, true, 10, 3), &[], &[], 0, &[]));
+    for handed in &EMPTY {
+        assert!(rt; is_handed_on(rt.alloc(), handed));
+    }
 }
 
 #[test]
 fn a_page_that_disagrees_with_its_place_has_no_rows(rt: HostRuntime) {
-    let alloc = rt.alloc();
-    assert!(rt; gives(misled(alloc, false, 1, 31), &[], &[], 0, &[]));
-    assert!(rt; gives(misled(alloc, true, 1, 31), &[], &[], 0, &[]));
+    for regular in [false, true] {
+        assert!(rt; gives(misled(rt.alloc(), regular, 1, 31), &[], &[], 0, &[]));
+    }
 }

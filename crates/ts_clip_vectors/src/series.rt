@@ -67,9 +67,9 @@ fn working_days(alloc: Global) -> Result<Counter, StoreFault> {
         on: false,
         count: 2,
     };
+    let start = day(3)?;
     let runs = vec![in alloc; on, off]?;
     let pattern = Pattern::of_runs(Unit::Day, runs).ok_or(StoreFault::Failed)?;
-    let start = day(3)?;
     let Ok(calendar) = Calendar::make(start, start, pattern) else {
         return Err(StoreFault::Failed);
     };
@@ -203,10 +203,13 @@ fn made(alloc: Global, page: &Page, at: i64) -> Result<Series, StoreFault>
         (memory_contents series.pages) (places_of 7 series.space)) }
     ensures count { IfOk result (λ series. (memory_contents series.pages).count ≡ 931) }
 {
+    let kind = integers(alloc)?;
+    let pages = pages_of(alloc, page)?;
+    let space = space_of(alloc, at)?;
     let series = Series {
-        pages: pages_of(alloc, page)?,
-        space: space_of(alloc, at)?,
-        kind: integers(alloc)?,
+        pages,
+        space,
+        kind,
         counter: None,
     };
     settled(&series)?;

@@ -1,6 +1,8 @@
-// What no clause says: each call once, and the limits.
+// What no clause says: each call once, and the limits. What is made is let go of by a call of `drop`, in one place: where
+// its function ends in several, or without that call, the proof is many times as long.
 use crate::made::def;
 use std::alloc::Global;
+use std::mem;
 use ts_base::StoreFault;
 use ts_model::{Def, Defs, FORMAT, Kind, OLD_FORMAT};
 
@@ -8,15 +10,24 @@ use ts_model::{Def, Defs, FORMAT, Kind, OLD_FORMAT};
 fn put(defs: &mut Defs, slot: u16, def: Def) -> Result<bool, StoreFault> {
     let kind = def.kind();
     if slot >= kind.limit() {
+        mem::drop(def);
         return Ok(false);
     }
     match defs.find(kind, def.name()) {
-        Some(_) => Ok(false),
-        None => {
-            defs.reserve(kind)?;
-            defs.set(kind, slot, Some(def));
-            Ok(true)
+        Some(_) => {
+            mem::drop(def);
+            Ok(false)
         }
+        None => match defs.reserve(kind) {
+            Ok(()) => {
+                defs.set(kind, slot, Some(def));
+                Ok(true)
+            }
+            Err(error) => {
+                mem::drop(def);
+                Err(StoreFault::Memory(error))
+            }
+        },
     }
 }
 
@@ -34,20 +45,31 @@ fn add(alloc: Global, defs: &mut Defs, kind: Kind, text: &[u8]) -> Result<Option
     }
 }
 
+// Adds definitions of a kind with these names.
+fn add_all(alloc: Global, defs: &mut Defs, kind: Kind, texts: &[&[u8]]) -> Result<(), StoreFault> {
+    for text in texts {
+        add(alloc, defs, kind, text)?;
+    }
+    Ok(())
+}
+
 // Definitions of a kind with these names, in the slots from 0 on.
 fn defs_of(alloc: Global, kind: Kind, texts: &[&[u8]]) -> Result<Defs, StoreFault> {
     let mut defs = Defs::new(alloc);
-    for text in texts {
-        add(alloc, &mut defs, kind, text)?;
+    match add_all(alloc, &mut defs, kind, texts) {
+        Ok(()) => Ok(defs),
+        Err(fault) => {
+            mem::drop(defs);
+            Err(fault)
+        }
     }
-    Ok(defs)
 }
 
 /// Containers, of which the third has a name that is taken.
-const CONTAINERS: [&[u8]; 3] = [b"ab", b"a", b"ab"];
+static CONTAINERS: [&[u8]; 3] = [b"ab", b"a", b"ab"];
 
 /// Where names are found among them.
-const FOUND: [(Kind, &[u8], Option<u16>); 5] = [
+static FOUND: [(Kind, &[u8], Option<u16>); 5] = [
     (Kind::Container, b"ab", Some(0)),
     (Kind::Container, b"a", Some(1)),
     (Kind::Container, b"abc", None),
@@ -66,7 +88,11 @@ fn are_found(defs: &Defs) -> bool {
 
 fn containers_are_found(alloc: Global) -> bool {
     match defs_of(alloc, Kind::Container, &CONTAINERS) {
-        Ok(defs) => are_found(&defs),
+        Ok(defs) => {
+            let are_found = are_found(&defs);
+            mem::drop(defs);
+            are_found
+        }
         Err(_) => false,
     }
 }
@@ -76,7 +102,7 @@ fn a_name_is_found_whole(rt: HostRuntime) {
     assert!(rt; containers_are_found(rt.alloc()));
 }
 
-const SERIES: [&[u8]; 4] = [b"b", b"a", b"ab", b"B"];
+static SERIES: [&[u8]; 4] = [b"b", b"a", b"ab", b"B"];
 
 // Whether the series are in this order, and this slot is the lowest empty one.
 fn are_series(defs: &Defs, order: &[u16], vacant: u16) -> bool {
@@ -94,7 +120,9 @@ fn series_keep_their_order(alloc: Global, defs: &mut Defs) -> Result<bool, Store
 
 fn four_series_do(alloc: Global) -> Result<bool, StoreFault> {
     let mut defs = defs_of(alloc, Kind::Series, &SERIES)?;
-    series_keep_their_order(alloc, &mut defs)
+    let keep = series_keep_their_order(alloc, &mut defs);
+    mem::drop(defs);
+    keep
 }
 
 #[test]
@@ -113,16 +141,20 @@ fn is_second(defs: &Defs) -> bool {
         && defs.in_order(Kind::Container) == [0].as_slice()
 }
 
-// Puts the container `second` into slot 0.
+// Puts the container `second` into slot 0, and whether it stands there.
 fn put_second(alloc: Global, defs: &mut Defs) -> Result<bool, StoreFault> {
     let second = def(alloc, Kind::Container, b"second")?;
-    put(defs, 0, second)
+    let is_put = put(defs, 0, second)?;
+    Ok(is_put && is_second(defs))
 }
 
+static FIRST: [&[u8]; 1] = [b"first"];
+
 fn second_stands_there(alloc: Global) -> Result<bool, StoreFault> {
-    let mut defs = defs_of(alloc, Kind::Container, &[b"first"])?;
-    let is_put = put_second(alloc, &mut defs)?;
-    Ok(is_put && is_second(&defs))
+    let mut defs = defs_of(alloc, Kind::Container, &FIRST)?;
+    let stands = put_second(alloc, &mut defs);
+    mem::drop(defs);
+    stands
 }
 
 #[test]
@@ -157,14 +189,27 @@ fn is_full(defs: &Defs, kind: Kind, other: Kind) -> bool {
         && defs.find(kind, b"aabc") == Some(10)
 }
 
+// The same of definitions that are filled by so many.
+fn is_full_by(
+    alloc: Global,
+    defs: &mut Defs,
+    kind: Kind,
+    most: u16,
+    other: Kind,
+) -> Result<bool, StoreFault> {
+    let count = fill(alloc, defs, kind)?;
+    Ok(count == most && is_full(defs, kind, other))
+}
+
 // Whether there may be so many definitions of a kind.
 fn are_most(alloc: Global, kind: Kind, most: u16, other: Kind) -> Result<bool, StoreFault> {
     let mut defs = Defs::new(alloc);
-    let count = fill(alloc, &mut defs, kind)?;
-    Ok(count == most && is_full(&defs, kind, other))
+    let full = is_full_by(alloc, &mut defs, kind, most, other);
+    mem::drop(defs);
+    full
 }
 
-const MOST: [(Kind, u16, Kind); 4] = [
+static MOST: [(Kind, u16, Kind); 4] = [
     (Kind::RowType, 64, Kind::Series),
     (Kind::Pattern, 256, Kind::Calendar),
     (Kind::Calendar, 256, Kind::Pattern),
@@ -178,7 +223,7 @@ fn there_are_so_many_of_a_kind_at_most(rt: HostRuntime) {
     }
 }
 
-const KINDS: [Kind; 5] = [
+static KINDS: [Kind; 5] = [
     Kind::RowType,
     Kind::Pattern,
     Kind::Calendar,
@@ -186,15 +231,22 @@ const KINDS: [Kind; 5] = [
     Kind::Series,
 ];
 
-fn copied(alloc: Global, kind: Kind, text: &[u8]) -> Option<Def> {
-    def(alloc, kind, text).ok()?.copy().ok()
+fn copied(alloc: Global, kind: Kind, text: &[u8]) -> Result<Def, StoreFault> {
+    let def = def(alloc, kind, text)?;
+    let copy = def.copy();
+    mem::drop(def);
+    Ok(copy?)
 }
 
 // Whether a copy of a definition has its kind and its name.
 fn is_copied(alloc: Global, kind: Kind, text: &[u8]) -> bool {
     match copied(alloc, kind, text) {
-        Some(copy) => copy.kind() == kind && copy.name() == text,
-        None => false,
+        Ok(copy) => {
+            let is_copied = copy.kind() == kind && copy.name() == text;
+            mem::drop(copy);
+            is_copied
+        }
+        Err(_) => false,
     }
 }
 
@@ -206,11 +258,19 @@ fn a_copy_has_the_same_name(rt: HostRuntime) {
 }
 
 // Whether a copy of definitions finds what they had, once they lose one.
-fn are_copied(alloc: Global) -> Result<bool, StoreFault> {
-    let mut defs = defs_of(alloc, Kind::Container, &CONTAINERS)?;
+fn copy_is_apart(defs: &mut Defs) -> Result<bool, StoreFault> {
     let copy = defs.copy()?;
     defs.set(Kind::Container, 0, None);
-    Ok(are_found(&copy) && !are_found(&defs))
+    let is_apart = are_found(&copy) && !are_found(defs);
+    mem::drop(copy);
+    Ok(is_apart)
+}
+
+fn are_copied(alloc: Global) -> Result<bool, StoreFault> {
+    let mut defs = defs_of(alloc, Kind::Container, &CONTAINERS)?;
+    let is_apart = copy_is_apart(&mut defs);
+    mem::drop(defs);
+    is_apart
 }
 
 #[test]
@@ -218,15 +278,28 @@ fn a_copy_finds_what_there_was(rt: HostRuntime) {
     assert!(rt; matches!(are_copied(rt.alloc()), Ok(true)));
 }
 
-// Whether a copy has series in these two slots alone, in this order, and takes one more.
+// Whether there are series in these two slots alone, in this order, and one more is taken.
+fn has_gap(alloc: Global, copy: &mut Defs) -> Result<bool, StoreFault> {
+    let same = are_series(copy, &[4095, 3], 0) && copy.get(Kind::Series, 4).is_none();
+    let added = add(alloc, copy, Kind::Series, b"c")?;
+    Ok(same && added == Some(0) && are_series(copy, &[4095, 3, 0], 1))
+}
+
+// Puts series into these two slots, and whether a copy has them alone.
+fn put_with_gap(alloc: Global, defs: &mut Defs) -> Result<bool, StoreFault> {
+    put(defs, 4095, def(alloc, Kind::Series, b"a")?)?;
+    put(defs, 3, def(alloc, Kind::Series, b"b")?)?;
+    let mut copy = defs.copy()?;
+    let has_gap = has_gap(alloc, &mut copy);
+    mem::drop(copy);
+    has_gap
+}
+
 fn gap_is_copied(alloc: Global) -> Result<bool, StoreFault> {
     let mut defs = Defs::new(alloc);
-    put(&mut defs, 4095, def(alloc, Kind::Series, b"a")?)?;
-    put(&mut defs, 3, def(alloc, Kind::Series, b"b")?)?;
-    let mut copy = defs.copy()?;
-    let same = are_series(&copy, &[4095, 3], 0) && copy.get(Kind::Series, 4).is_none();
-    let added = add(alloc, &mut copy, Kind::Series, b"c")?;
-    Ok(same && added == Some(0) && are_series(&copy, &[4095, 3, 0], 1))
+    let is_copied = put_with_gap(alloc, &mut defs);
+    mem::drop(defs);
+    is_copied
 }
 
 #[test]
@@ -234,13 +307,40 @@ fn a_copy_has_the_gap_between_two_slots(rt: HostRuntime) {
     assert!(rt; matches!(gap_is_copied(rt.alloc()), Ok(true)));
 }
 
+// Whether a copy has no definition of a kind.
+fn copy_is_empty(defs: &Defs, kind: Kind) -> Result<bool, StoreFault> {
+    let copy = defs.copy()?;
+    let is_empty = copy.in_order(kind).is_empty();
+    mem::drop(copy);
+    Ok(is_empty)
+}
+
+// Whether a copy is full.
+fn copy_is_full(defs: &Defs, kind: Kind, other: Kind) -> Result<bool, StoreFault> {
+    let copy = defs.copy()?;
+    let is_full = is_full(&copy, kind, other);
+    mem::drop(copy);
+    Ok(is_full)
+}
+
+// Whether a copy has no definition of a kind, and once they are filled one has the most and takes no other.
+fn copies_follow(
+    alloc: Global,
+    defs: &mut Defs,
+    kind: Kind,
+    other: Kind,
+) -> Result<bool, StoreFault> {
+    let is_empty = copy_is_empty(defs, kind)?;
+    fill(alloc, defs, kind)?;
+    Ok(is_empty && copy_is_full(defs, kind, other)?)
+}
+
 // Whether a copy of so many definitions of a kind, the most or none, has as many and takes no other.
 fn most_are_copied(alloc: Global, kind: Kind, other: Kind) -> Result<bool, StoreFault> {
     let mut defs = Defs::new(alloc);
-    let none = defs.copy()?;
-    fill(alloc, &mut defs, kind)?;
-    let copy = defs.copy()?;
-    Ok(none.in_order(kind).is_empty() && is_full(&copy, kind, other))
+    let follow = copies_follow(alloc, &mut defs, kind, other);
+    mem::drop(defs);
+    follow
 }
 
 #[test]
@@ -257,7 +357,9 @@ fn format_is_set(alloc: Global) -> Result<bool, StoreFault> {
     defs.set_format(OLD_FORMAT);
     let old = defs.format() == OLD_FORMAT && are_found(&defs);
     defs.set_format(FORMAT);
-    Ok(new && old && defs.format() == FORMAT && are_found(&defs))
+    let again = defs.format() == FORMAT && are_found(&defs);
+    mem::drop(defs);
+    Ok(new && old && again)
 }
 
 #[test]

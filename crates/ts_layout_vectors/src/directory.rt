@@ -3,6 +3,7 @@ ghost use Rattle.std.specs.Prelude.{◌+◌, ◌^◌, ◌<◌, ◌≤◌, IfOk, 
 ghost use Rattle.ts_space.specs.Directory.{used_of};
 
 use std::alloc::{AllocError, Global};
+use std::mem;
 use ts_space::{Come, Moved, Place, Space, charge_irregular, charge_regular, count_of, search};
 
 /// A change of a directory.
@@ -71,7 +72,7 @@ fn after(alloc: Global, steps: &[Step]) -> Result<Space, AllocError>
 }
 
 /// One takes the place of that which began there, and where none begins nothing is cleared.
-const STEPS: [Step; 7] = [
+static STEPS: [Step; 7] = [
     Step::Set(7, C),
     Step::Set(7, A),
     Step::Set(7, B),
@@ -82,7 +83,7 @@ const STEPS: [Step; 7] = [
 ];
 
 /// The places of a series after so many of the steps, and how many there are of all series.
-const PLACES: [(usize, u16, &[Place], u32); 9] = [
+static PLACES: [(usize, u16, &[Place], u32); 9] = [
     (0, 4095, &[], 0),
     (1, 7, &[C], 1),
     (3, 7, &[A, B, C], 3),
@@ -99,7 +100,11 @@ fn has_places(alloc: Global, steps: &[Step], series: u16, wanted: &[Place], used
         return false;
     }
     match after(alloc, steps) {
-        Ok(space) => space.places(series) == wanted && space.used() == used,
+        Ok(space) => {
+            let has_places = space.places(series) == wanted && space.used() == used;
+            mem::drop(space);
+            has_places
+        }
         Err(_) => false,
     }
 }
@@ -126,13 +131,23 @@ fn saved_places_are_restored(rt: HostRuntime) {
     assert!(rt; matches!(are_restored(rt.alloc()), Ok(true)));
 }
 
+static ENDS: [Step; 2] = [Step::Set(1, D), Step::Set(4095, A)];
+
 // Whether a copy has the places that there were, once the directory changes.
-fn are_copied(alloc: Global) -> Result<bool, AllocError> {
-    let mut space = after(alloc, &[Step::Set(1, D), Step::Set(4095, A)])?;
+fn copy_is_apart(space: &mut Space) -> Result<bool, AllocError> {
     let copy = space.copy()?;
     space.clear(1, 0);
     let gap = copy.places(2).is_empty() && copy.places(4094).is_empty();
-    Ok(gap && copy.places(1) == [D].as_slice() && copy.places(4095) == [A].as_slice())
+    let is_apart = gap && copy.places(1) == [D].as_slice() && copy.places(4095) == [A].as_slice();
+    mem::drop(copy);
+    Ok(is_apart)
+}
+
+fn are_copied(alloc: Global) -> Result<bool, AllocError> {
+    let mut space = after(alloc, &ENDS)?;
+    let is_apart = copy_is_apart(&mut space);
+    mem::drop(space);
+    is_apart
 }
 
 #[test]
@@ -150,16 +165,36 @@ fn first_have_places(space: &Space, count: u16) -> bool {
     true
 }
 
+// Gives the first series of a directory a place each.
+fn place_first(space: &mut Space, count: u16) -> Result<(), AllocError> {
+    for series in 0..count.min(4096) {
+        take(space, Step::Set(series, D))?;
+    }
+    Ok(())
+}
+
+// Whether a directory is one whose first series have a place each, and takes one more place.
+fn takes_one(copy: &mut Space, count: u16) -> Result<bool, AllocError> {
+    let same = first_have_places(copy, count);
+    take(copy, Step::Set(4095, A))?;
+    Ok(same && copy.places(4095).len() == 1 + usize::from(count == 4096))
+}
+
+// Gives the first series a place each, and whether a copy is one that takes one more.
+fn copy_takes_one(space: &mut Space, count: u16) -> Result<bool, AllocError> {
+    place_first(space, count)?;
+    let mut copy = space.copy()?;
+    let takes_one = takes_one(&mut copy, count);
+    mem::drop(copy);
+    takes_one
+}
+
 // Whether a copy of a directory whose first series have a place each is one, and takes one more place.
 fn first_are_copied(alloc: Global, count: u16) -> Result<bool, AllocError> {
     let mut space = Space::new(alloc)?;
-    for series in 0..count.min(4096) {
-        take(&mut space, Step::Set(series, D))?;
-    }
-    let mut copy = space.copy()?;
-    let same = first_have_places(&copy, count);
-    take(&mut copy, Step::Set(4095, A))?;
-    Ok(same && copy.places(4095).len() == 1 + usize::from(count == 4096))
+    let takes_one = copy_takes_one(&mut space, count);
+    mem::drop(space);
+    takes_one
 }
 
 #[test]
@@ -188,7 +223,7 @@ fn changed_places_are_counted(rt: HostRuntime) {
 }
 
 /// Where a place begins among A, B and C; where none does, the first above.
-const FOUND: [(i64, Result<usize, usize>); 7] = [
+static FOUND: [(i64, Result<usize, usize>); 7] = [
     (-8, Err(0)),
     (-7, Ok(0)),
     (-6, Err(1)),
@@ -199,8 +234,14 @@ const FOUND: [(i64, Result<usize, usize>); 7] = [
 ];
 
 fn found(alloc: Global, at: i64) -> Option<Result<usize, usize>> {
-    let space = after(alloc, &STEPS[..3]).ok()?;
-    Some(search(space.places(7), at))
+    match after(alloc, &STEPS[..3]) {
+        Ok(space) => {
+            let found = search(space.places(7), at);
+            mem::drop(space);
+            Some(found)
+        }
+        Err(_) => None,
+    }
 }
 
 #[test]
@@ -229,7 +270,7 @@ fn a_regular_series_is_charged_for_the_pages_of_its_offsets(rt: HostRuntime) {
 const MOST: u64 = 4_611_686_018_427_387_904;
 
 /// How many elements there are, how many a page has room for, and their charge.
-const IRREGULAR: [(u64, u64, u64); 11] = [
+static IRREGULAR: [(u64, u64, u64); 11] = [
     (0, 5, 0),
     (1, 5, 1),
     (5, 5, 1),

@@ -62,11 +62,10 @@ fn week(alloc: Global) -> Result<Pattern, StoreFault> {
 
 // The week from its start on.
 fn calendar(alloc: Global) -> Result<Counter, StoreFault> {
-    let pattern = week(alloc)?;
     let Some(start) = Stamp::of(START) else {
         return Err(StoreFault::Failed);
     };
-    match Calendar::make(start, start, pattern) {
+    match Calendar::make(start, start, week(alloc)?) {
         Ok(calendar) => Ok(Counter::make(alloc, calendar)?),
         Err(_) => Err(StoreFault::Failed),
     }

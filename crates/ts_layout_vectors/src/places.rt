@@ -16,7 +16,7 @@ use ts_layout::{
 use ts_model::Kind;
 
 /// A slot of a kind, its page, and its first byte there.
-const SLOTS: [(Kind, u16, u32, usize); 8] = [
+static SLOTS: [(Kind, u16, u32, usize); 8] = [
     (Kind::RowType, 63, 320, 0),
     (Kind::Pattern, 255, 576, 0),
     (Kind::Calendar, 255, 832, 0),

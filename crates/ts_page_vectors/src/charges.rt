@@ -6,15 +6,16 @@ ghost use Rattle.ts_layout.specs.Meaning.{AreSound};
 ghost use Rattle.ts_layout.specs.Placed.{AreKept};
 
 use crate::grids::DAYS;
-use crate::made::{START, def, stamp};
+use crate::made::{START, integers, stamp};
 use crate::volume::surveyed;
 use std::alloc::{AllocError, Global};
+use std::mem;
 use ts_base::{Stamp, StoreFault};
 use ts_container::{
     Charges, Surveyed, a_charge_changes_with_a_series, charge_of_places,
     charges_are_the_same_in_every_format, is_of_format,
 };
-use ts_model::{Def, FORMAT, Kind, OLD_FORMAT};
+use ts_model::{FORMAT, OLD_FORMAT};
 use ts_space::{Come, Moved, Place, Space};
 
 // The charges of a container, and of another one, whose first changed.
@@ -46,7 +47,11 @@ fn counted(alloc: Global, found: &Surveyed) -> Result<(u64, u64), AllocError>
 // slot 4 is empty.
 fn counted_of_two(alloc: Global) -> Option<(u64, u64)> {
     match surveyed(alloc, &DAYS, &[]) {
-        Ok(found) => counted(alloc, &found).ok(),
+        Ok(found) => {
+            let counted = counted(alloc, &found).ok();
+            mem::drop(found);
+            counted
+        }
         Err(_) => None,
     }
 }
@@ -119,11 +124,9 @@ fn a_series_without_places_is_charged_nothing(rt: HostRuntime) {
 
 // Whether a row type of integers is of both formats.
 fn integers_are_of_all(alloc: Global) -> bool {
-    match def(alloc, Kind::RowType, b"r") {
-        Ok(Def::RowType { kind, .. }) => {
-            is_of_format(OLD_FORMAT, &kind) && is_of_format(FORMAT, &kind)
-        }
-        _ => false,
+    match integers(alloc) {
+        Ok(kind) => is_of_format(OLD_FORMAT, &kind) && is_of_format(FORMAT, &kind),
+        Err(_) => false,
     }
 }
 

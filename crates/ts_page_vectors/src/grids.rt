@@ -1,22 +1,22 @@
-// A regular series: its slot and its pages, what a survey keeps of them, where its elements can stand, and the first
-// bad page.
+// A regular series: its slot and its pages, what a survey keeps of them, and where its elements can stand.
 ghost use Rattle.std.specs.Prelude.{◌≡◌, IfOk};
 ghost use Rattle.ts_model.specs.Definitions.{kind_of};
 ghost use Rattle.ts_page.specs.Memory.{memory_contents};
 ghost use Rattle.ts_layout.specs.Meaning.{AreSound};
 
-use crate::made::{START, key, stamp};
-use crate::volume::{Case, NEWEST, Patch, first_missed, page_of, surveyed, volume, zeros};
+use crate::made::{START, key, put_def, stamp};
+use crate::volume::{Patch, page_in, surveyed, volume, zeros};
 use std::alloc::Global;
+use std::mem;
 use ts_base::StoreFault;
-use ts_container::{Surveyed, shape_of, write_slot};
+use ts_container::{Surveyed, shape_of};
 use ts_model::{Def, Kind};
 use ts_offset::{Grid, Shape};
 use ts_page::MemoryPages;
 use ts_space::Place;
 
 /// In slot 3 the regular series `g` of the container in slot 3, on the calendar in slot 5, from 2011-01-03 00:00:00 on.
-const SERIES: [Patch; 2] = [KEY, REST];
+static SERIES: [Patch; 2] = [KEY, REST];
 
 const KEY: Patch = (834, 282, b"\x01\x01g");
 
@@ -24,7 +24,7 @@ const REST: Patch = (834, 348, b"\x03\x05\x00\x00\x75\xb0\x95\x53\xf0\x00");
 
 /// That series, the calendar, of each day from 2011-01-03 on, and a page of 677 cells from offset 677 on, with the
 /// integer 7 in its first cell and NULL in its last.
-pub(crate) const DAYS: [Patch; 8] = [
+pub(crate) static DAYS: [Patch; 8] = [
     KEY,
     REST,
     (582, 0, b"\x01\x01d"),
@@ -43,12 +43,10 @@ pub(crate) const DAYS: [Patch; 8] = [
     (932, 4088, NULL),
 ];
 
-/// Cells with the integer 7, with NULL, and with no element.
+/// Cells with the integer 7, and with NULL.
 const SEVEN: &[u8] = b"\x01\x01\x00\x00\x00\x07";
 
 const NULL: &[u8] = b"\x01\x00\x00\x00\x00\x00";
-
-const NONE: &[u8] = b"\x00\x00\x00\x00\x00\x00";
 
 // The series.
 fn series(alloc: Global) -> Result<Def, StoreFault>
@@ -66,15 +64,14 @@ fn written(alloc: Global) -> Result<MemoryPages, StoreFault>
     ensures { IfOk result (λ pages. (memory_contents pages).count ≡ 933) }
 {
     let mut pages = zeros(alloc)?;
-    let series = series(alloc)?;
-    write_slot(alloc, &mut pages, Kind::Series, 3, Some(&series))?;
+    put_def(alloc, &mut pages, Kind::Series, 3, series(alloc))?;
     Ok(pages)
 }
 
 // Whether the page of its slot is that of a volume with these bytes.
 fn is_written(alloc: Global) -> Option<bool> {
-    let page = page_of(&mut written(alloc).ok()?, 834)?;
-    let wanted = page_of(&mut volume(alloc, &SERIES, &[]).ok()?, 834)?;
+    let page = page_in(written(alloc), 834)?;
+    let wanted = page_in(volume(alloc, &SERIES, &[]), 834)?;
     Some(page == wanted)
 }
 
@@ -113,7 +110,11 @@ fn is_good(found: &Surveyed) -> bool {
 
 fn is_surveyed(alloc: Global) -> bool {
     match surveyed(alloc, &DAYS, &[]) {
-        Ok(found) => is_good(&found),
+        Ok(found) => {
+            let is_good = is_good(&found);
+            mem::drop(found);
+            is_good
+        }
         Err(_) => false,
     }
 }
@@ -124,11 +125,28 @@ fn a_regular_page_is_surveyed(rt: HostRuntime) {
 }
 
 /// The page alone, with one in front of it by its offsets, and with one behind it.
-const ORDERS: [(&[Patch], &[Place]); 3] = [
+static ORDERS: [(&[Patch], &[Place]); 3] = [
     (&[], &[PLACE]),
     (&[BASE_0, CELL_0, THREE], &[FIRST, PLACE]),
     (&[BASE_1354, CELL_0, THREE], &[PLACE, BEHIND]),
 ];
+
+/// Heads of a page of one element, by their bases, its cell, and a quota of three pages.
+const BASE_0: Patch = (
+    930,
+    0,
+    b"\x01\x00\x03\x00\x01\x00\x00\x00\x00\x00\x00\x00\x00",
+);
+
+const BASE_1354: Patch = (
+    930,
+    0,
+    b"\x01\x00\x03\x00\x01\x00\x00\x00\x00\x00\x00\x05\x4a",
+);
+
+const CELL_0: Patch = (930, 32, SEVEN);
+
+const THREE: Patch = (833, 218, &[3]);
 
 const FIRST: Place = Place {
     at: 0,
@@ -144,7 +162,11 @@ const BEHIND: Place = Place {
 
 fn are_placed(alloc: Global, patches: &[Patch], places: &[Place]) -> bool {
     match surveyed(alloc, &DAYS, patches) {
-        Ok(found) => found.space.places(3) == places,
+        Ok(found) => {
+            let are_placed = found.space.places(3) == places;
+            mem::drop(found);
+            are_placed
+        }
         Err(_) => false,
     }
 }
@@ -196,7 +218,11 @@ fn are_shapes(found: &Surveyed) -> bool
 
 fn shapes_are_found(alloc: Global) -> bool {
     match surveyed(alloc, &DAYS, &[]) {
-        Ok(found) => are_shapes(&found),
+        Ok(found) => {
+            let are_shapes = are_shapes(&found);
+            mem::drop(found);
+            are_shapes
+        }
         Err(_) => false,
     }
 }
@@ -204,133 +230,4 @@ fn shapes_are_found(alloc: Global) -> bool {
 #[test]
 fn a_series_has_the_shape_of_its_definition(rt: HostRuntime) {
     assert!(rt; shapes_are_found(rt.alloc()));
-}
-
-/// Bytes for that volume, and the first page that is bad with them, if one is.
-const SLOTS: [Case; 14] = [
-    // An origin past the year 9999, which comes before too many pages of quotas; a byte behind it.
-    (&[(834, 350, &[0x7f])], Some(834)),
-    (&[(834, 350, &[0x7f]), (833, 218, &[4])], Some(834)),
-    (&[(834, 358, &[1])], Some(834)),
-    // The slot of a calendar in an irregular series, and an origin there.
-    (&[(835, 725, &[5])], Some(835)),
-    (&[(835, 733, &[1])], Some(835)),
-    // An empty slot of a calendar, which comes before a calendar that breaks a rule.
-    (&[(834, 349, &[6])], Some(834)),
-    (&[(834, 349, &[6]), LATE], Some(834)),
-    (&[LATE], Some(582)),
-    // An origin within an interval, behind too many pages of quotas, before a bad page of elements.
-    (&[WITHIN], Some(834)),
-    (&[WITHIN, (833, 218, &[4])], Some(833)),
-    (&[WITHIN, (930, 0, &[9])], Some(834)),
-    // An origin of a day before the calendar's start.
-    (
-        &[(834, 350, b"\x00\x00\x75\xae\x92\x58\x00\x00")],
-        Some(834),
-    ),
-    // The origin starts an interval that is off, and the next day one that is on.
-    (&[OFF_ON], Some(834)),
-    (
-        &[OFF_ON, (834, 350, b"\x00\x00\x75\xb2\x98\x4f\xe0\x00")],
-        None,
-    ),
-];
-
-/// The pattern starts two days after the start, which is more than its length.
-const LATE: Patch = (582, 42, b"\x00\x00\x75\xb4\x9b\x4b\xd0\x00");
-
-/// The origin is 2011-01-03 00:00:00.00001.
-const WITHIN: Patch = (834, 357, &[1]);
-
-/// A day off, a day on.
-const OFF_ON: Patch = (582, 53, b"\x00\x02\x00\x00\x00\x01\x80\x00\x00\x01");
-
-/// The same of pages.
-const PAGES: [Case; 22] = [
-    // The head: too few elements and too many, none, a base that is no multiple of 677, a byte behind the base.
-    (&[(932, 4, &[1])], Some(932)),
-    (&[(932, 4, &[3])], Some(932)),
-    (
-        &[(932, 4, &[0]), (932, 32, NONE), (932, 4088, NONE)],
-        Some(932),
-    ),
-    (&[(932, 12, &[0xa6])], Some(932)),
-    (&[(932, 13, &[1])], Some(932)),
-    // A cell that is none, a row that is none, a byte in the row of no element, a byte behind the cells.
-    (&[(932, 32, &[2])], Some(932)),
-    (&[(932, 33, &[4])], Some(932)),
-    (&[(932, 39, &[1])], Some(932)),
-    (&[(932, 4094, &[1])], Some(932)),
-    // A hidden element: bad in the old format, good in the newest.
-    (&[(932, 33, &[3])], Some(932)),
-    (&[NEWEST, (932, 33, &[3])], None),
-    // A page of the other kind than its series.
-    (&[(932, 2, &[50])], Some(932)),
-    (&[(931, 2, &[3])], Some(931)),
-    // The last day that there is, and one more; offsets without days, and past all numbers.
-    (&[LAST, (932, 4088, NONE), (932, 326, NULL)], None),
-    (&[LAST, (932, 4088, NONE), (932, 332, NULL)], Some(932)),
-    (&[GREATEST, (932, 4, &[1]), (932, 4088, NONE)], Some(932)),
-    (&[GREATEST], Some(932)),
-    // Two pages of one base, which come before a container over its quota; and behind a page that is bad by itself.
-    (&[BASE_677, CELL_0], Some(932)),
-    (&[BASE_677, CELL_0, (931, 4, &[0])], Some(931)),
-    // Three pages of one base.
-    (
-        &[BASE_677, CELL_0, MIDDLE_677, MIDDLE_0, MIDDLE_1],
-        Some(931),
-    ),
-    // A page for each of two bases: the charge of the container is three pages, of its quota of two, and of three.
-    (&[BASE_0, CELL_0], Some(833)),
-    (&[BASE_0, CELL_0, THREE], None),
-];
-
-/// The base is 2917870, so that 9999-12-31 is in cell 49.
-const LAST: Patch = (932, 5, b"\x00\x00\x00\x00\x00\x2c\x85\xee");
-
-/// The base is the greatest multiple of 677 below 2^64.
-const GREATEST: Patch = (932, 5, b"\xff\xff\xff\xff\xff\xff\xff\x86");
-
-/// Heads of a page of one element.
-const BASE_0: Patch = (
-    930,
-    0,
-    b"\x01\x00\x03\x00\x01\x00\x00\x00\x00\x00\x00\x00\x00",
-);
-
-const BASE_677: Patch = (
-    930,
-    0,
-    b"\x01\x00\x03\x00\x01\x00\x00\x00\x00\x00\x00\x02\xa5",
-);
-
-const MIDDLE_677: Patch = (
-    931,
-    0,
-    b"\x01\x00\x03\x00\x01\x00\x00\x00\x00\x00\x00\x02\xa5",
-);
-
-const BASE_1354: Patch = (
-    930,
-    0,
-    b"\x01\x00\x03\x00\x01\x00\x00\x00\x00\x00\x00\x05\x4a",
-);
-
-const CELL_0: Patch = (930, 32, SEVEN);
-
-const MIDDLE_0: Patch = (931, 32, SEVEN);
-
-const MIDDLE_1: Patch = (931, 38, &[0; 8]);
-
-/// The quota is three pages.
-const THREE: Patch = (833, 218, &[3]);
-
-#[test]
-fn a_bad_slot_of_a_regular_series_is_told(rt: HostRuntime) {
-    assert_eq!(rt; first_missed(rt.alloc(), &DAYS, &SLOTS), None);
-}
-
-#[test]
-fn a_bad_regular_page_is_told(rt: HostRuntime) {
-    assert_eq!(rt; first_missed(rt.alloc(), &DAYS, &PAGES), None);
 }

@@ -2,8 +2,9 @@
 ghost use Rattle.std.specs.Prelude.{◌≡◌, IfOk};
 ghost use Rattle.ts_page.specs.Memory.{memory_contents};
 
-use crate::volume::{NEWEST, Patch, page_of, surveyed, volume};
+use crate::volume::{NEWEST, Patch, page_in, surveyed, volume};
 use std::alloc::Global;
+use std::mem;
 use ts_base::StoreFault;
 use ts_container::{SurveyFault, put_header, write_header};
 use ts_model::{FORMAT, OLD_FORMAT};
@@ -28,7 +29,7 @@ fn the_header_has_these_bytes(rt: HostRuntime) {
 }
 
 /// The byte of the format, and what a survey says of it.
-const FORMATS: [(Patch, Option<u8>); 5] = [
+static FORMATS: [(Patch, Option<u8>); 5] = [
     ((0, 8, &[0]), None),
     ((0, 8, &[1]), Some(1)),
     ((0, 8, &[2]), Some(2)),
@@ -39,7 +40,11 @@ const FORMATS: [(Patch, Option<u8>); 5] = [
 // The format of a volume; none where its header is bad.
 fn format_of(alloc: Global, patch: Patch) -> Option<Option<u8>> {
     match surveyed(alloc, &[], &[patch]) {
-        Ok(found) => Some(Some(found.defs.format())),
+        Ok(found) => {
+            let format = found.defs.format();
+            mem::drop(found);
+            Some(Some(format))
+        }
         Err(SurveyFault::NotAStore { page: 0 }) => Some(None),
         Err(_) => None,
     }
@@ -63,8 +68,8 @@ fn renewed(alloc: Global) -> Result<MemoryPages, StoreFault>
 
 // Whether a page of it is that of the good volume with another byte in its header.
 fn is_renewed(alloc: Global, number: u32) -> Option<bool> {
-    let page = page_of(&mut renewed(alloc).ok()?, number)?;
-    let wanted = page_of(&mut volume(alloc, &[], &[NEWEST]).ok()?, number)?;
+    let page = page_in(renewed(alloc), number)?;
+    let wanted = page_in(volume(alloc, &[], &[NEWEST]), number)?;
     Some(page == wanted)
 }
 

@@ -1,12 +1,16 @@
 // Definitions for the tests.
-ghost use Rattle.std.specs.Prelude.{◌≡◌, IfOk};
-ghost use Rattle.ts_model.specs.Definitions.{kind_of};
+ghost use Rattle.std.specs.Prelude.{◌≡◌, ◌<◌, IfOk};
+ghost use Rattle.ts_model.specs.Definitions.{limit, kind_of};
+ghost use Rattle.ts_page.specs.Memory.{memory_contents};
 
 use std::alloc::Global;
+use std::mem;
 use ts_base::{Key, Name, Stamp, StoreFault, Unit};
 use ts_calendar::Calendar;
+use ts_container::write_slot;
 use ts_model::{Def, Kind};
 use ts_offset::Counter;
+use ts_page::MemoryPages;
 use ts_pattern::{Pattern, Run};
 use ts_row::{Column, ColumnKind, RowType};
 
@@ -34,7 +38,7 @@ pub(crate) fn name(alloc: Global, text: &[u8]) -> Result<Name, StoreFault> {
 }
 
 // A row type of one integer.
-fn integers(alloc: Global) -> Result<RowType, StoreFault> {
+pub(crate) fn integers(alloc: Global) -> Result<RowType, StoreFault> {
     let column = Column {
         name: name(alloc, b"v")?,
         kind: ColumnKind::Integer,
@@ -69,9 +73,8 @@ fn week(alloc: Global) -> Result<Pattern, StoreFault> {
 
 // The week from its start on.
 pub(crate) fn calendar(alloc: Global) -> Result<Counter, StoreFault> {
-    let pattern = week(alloc)?;
     let start = stamp(START)?;
-    match Calendar::make(start, start, pattern) {
+    match Calendar::make(start, start, week(alloc)?) {
         Ok(calendar) => Ok(Counter::make(alloc, calendar)?),
         Err(_) => Err(StoreFault::Failed),
     }
@@ -107,5 +110,28 @@ pub(crate) fn def(alloc: Global, kind: Kind, text: &[u8]) -> Result<Def, StoreFa
             container: 3,
             regular: None,
         }),
+    }
+}
+
+// Puts a definition of a kind that was made into a slot of a volume.
+pub(crate) fn put_def(
+    alloc: Global,
+    pages: &mut MemoryPages,
+    kind: Kind,
+    slot: u16,
+    made: Result<Def, StoreFault>,
+) -> Result<(), StoreFault>
+    requires slot { slot < limit kind }
+    requires kind { IfOk made (λ def. kind_of def ≡ kind) }
+    requires within { (memory_contents pages.old).count ≡ 933 }
+    ensures { (memory_contents pages.new).count ≡ 933 }
+{
+    match made {
+        Ok(def) => {
+            let written = write_slot(alloc, pages, kind, slot, Some(&def));
+            mem::drop(def);
+            written
+        }
+        Err(fault) => Err(fault),
     }
 }

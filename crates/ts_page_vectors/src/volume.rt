@@ -5,18 +5,17 @@ ghost use Rattle.ts_layout.specs.Meaning.{AreSound};
 ghost use Rattle.ts_layout.specs.Placed.{AreKept};
 
 use std::alloc::{AllocError, Global};
+use std::mem;
 use ts_base::StoreFault;
 use ts_container::{SurveyFault, Surveyed, survey};
 use ts_page::{MemoryPages, Page, Pages};
 
-/// The integer 5 at 2011-01-03 00:00:00.
-pub(crate) const CELL: &[u8] = &[1, 0, 0, 0x75, 0xb0, 0x95, 0x53, 0xf0, 0, 1, 0, 0, 0, 5];
-
 /// Bytes that are put into a page: its number, their place and they.
 pub(crate) type Patch = (u32, usize, &'static [u8]);
 
-/// A volume of the old format with a row type, a container in slot 3, a series in slot 50 and one element.
-const GOOD: [Patch; 10] = [
+/// A volume of the old format with a row type, a container in slot 3, a series in slot 50 and one element, the integer 5
+/// at 2011-01-03 00:00:00.
+static GOOD: [Patch; 10] = [
     (0, 0, b"TSVOLUME\x01\x00\x00\x00\x03"),
     (257, 0, b"\x01\x01r"),
     (257, 34, b"\x01t"),
@@ -26,7 +25,11 @@ const GOOD: [Patch; 10] = [
     (835, 658, b"\x02\x01k"),
     (835, 724, b"\x03"),
     (931, 0, b"\x02\x00\x32\x00\x01"),
-    (931, 32, CELL),
+    (
+        931,
+        32,
+        b"\x01\x00\x00\x75\xb0\x95\x53\xf0\x00\x01\x00\x00\x00\x05",
+    ),
 ];
 
 /// The byte of the newest format.
@@ -96,7 +99,9 @@ fn survey_of(alloc: Global, made: Result<MemoryPages, StoreFault>) -> Result<Sur
     match made {
         Ok(pages) => {
             let mut pages = pages;
-            survey(alloc, &mut pages, 933)
+            let found = survey(alloc, &mut pages, 933);
+            mem::drop(pages);
+            found
         }
         Err(_) => Err(SurveyFault::Failed),
     }
@@ -114,17 +119,8 @@ pub(crate) fn surveyed(
     survey_of(alloc, volume(alloc, base, patches))
 }
 
-// The bad page that is told, if one is.
-fn page_told(found: Result<Surveyed, SurveyFault>) -> Option<Option<u32>> {
-    match found {
-        Ok(_) => Some(None),
-        Err(SurveyFault::NotAStore { page }) => Some(Some(page)),
-        Err(_) => None,
-    }
-}
-
 // A page of a volume.
-pub(crate) fn page_of(pages: &mut MemoryPages, number: u32) -> Option<Page>
+fn page_of(pages: &mut MemoryPages, number: u32) -> Option<Page>
     requires { (memory_contents pages.old).count ≡ 933 }
 {
     if number >= 933 {
@@ -135,21 +131,18 @@ pub(crate) fn page_of(pages: &mut MemoryPages, number: u32) -> Option<Page>
     Some(page)
 }
 
-/// Bytes for the good volume, and the first page that is bad with them, if one is.
-pub(crate) type Case = (&'static [Patch], Option<u32>);
-
-// The first bad page of the good volume with these bytes, the one behind the other, if one is told.
-fn told(alloc: Global, base: &[Patch], patches: &[Patch]) -> Option<Option<u32>> {
-    page_told(surveyed(alloc, base, patches))
-}
-
-/// Which of these cases is the first whose bytes, put into the good volume behind others, don't have the page that is
-/// wanted.
-pub(crate) fn first_missed(alloc: Global, base: &[Patch], cases: &[Case]) -> Option<usize> {
-    for (number, (patches, wanted)) in cases.iter().enumerate() {
-        if told(alloc, base, patches) != Some(*wanted) {
-            return Some(number);
+// The same of one that was made. What is made is let go of by a call of `drop`, in one place: where its function ends in
+// several, or without that call, the proof is many times as long.
+pub(crate) fn page_in(made: Result<MemoryPages, StoreFault>, number: u32) -> Option<Page>
+    requires { IfOk made (λ pages. (memory_contents pages).count ≡ 933) }
+{
+    match made {
+        Ok(pages) => {
+            let mut pages = pages;
+            let page = page_of(&mut pages, number);
+            mem::drop(pages);
+            page
         }
+        Err(_) => None,
     }
-    None
 }

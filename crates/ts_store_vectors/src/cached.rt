@@ -5,6 +5,7 @@ ghost use Rattle.ts_store.specs.OpenBatch.{IsIdle, IsClosed};
 
 use crate::stores::{blank, committed, freed_on, opened, settled, stored, taken_on, tried};
 use std::alloc::Global;
+use std::mem;
 use std::test::Fail;
 use ts_base::StoreFault;
 use ts_disk::{MemorySite, Volume};
@@ -73,7 +74,26 @@ fn done<V: Volume>(store: &mut Store, vol: &mut V, deed: Deed) -> Result<(), Sto
     }
 }
 
-// Opens the volume, and whether after each deed this is read: the byte that the page begins and ends with, if it does.
+// Whether after each deed this is read: the byte that the page begins and ends with, if it does.
+fn are_read<V: Volume>(
+    store: &mut Store,
+    vol: &mut V,
+    steps: &[(Deed, Option<u8>, u64)],
+) -> Result<bool, Fail>
+    requires idle { IsIdle V.tells store.old (V.device vol.old) }
+    requires closed { IsClosed store.old }
+    requires free { store.old.free ≡ [] }
+{
+    for (deed, wanted, _) in steps {
+        done(store, vol, *deed)?;
+        if tried(store, vol, None)? != *wanted {
+            return Ok(false);
+        }
+    }
+    Ok(true)
+}
+
+// Opens the volume, and whether this is read of it.
 fn read_after<V: Volume>(
     alloc: Global,
     vol: &mut V,
@@ -82,13 +102,9 @@ fn read_after<V: Volume>(
     requires { Only (V.device vol.old).held (V.device vol.old).images }
 {
     let mut store = caching(alloc, vol)?;
-    for (deed, wanted, _) in steps {
-        done(&mut store, vol, *deed)?;
-        if tried(&mut store, vol, None)? != *wanted {
-            return Ok(false);
-        }
-    }
-    Ok(true)
+    let are_read = are_read(&mut store, vol, steps);
+    mem::drop(store);
+    are_read
 }
 
 // Whether a new volume reads so, and has had so many calls by the end of the last step.

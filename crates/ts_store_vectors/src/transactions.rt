@@ -2,13 +2,14 @@
 ghost use Rattle.std.specs.Prelude.{◌≡◌, ◌+◌, ◌≤◌, ◌∷◌, [], OnOk, length};
 ghost use Rattle.ts_disk.specs.Device.{Only};
 ghost use Rattle.ts_page.specs.Volume.{image_entry_size, free_entry_size};
-ghost use Rattle.ts_store.specs.OpenBatch.{contents_over};
+ghost use Rattle.ts_store.specs.OpenBatch.{IsIdle, IsClosed, contents_over};
 ghost use Rattle.ts_store_vectors.specs.Transaction.{IsBetween};
 
 use crate::stores::{
     ELEMENT_PAGE, blank, committed, edited_on, freed_on, opened, stops_leave, taken_on, tried,
 };
 use std::alloc::Global;
+use std::mem;
 use std::test::Fail;
 use ts_base::StoreFault;
 use ts_disk::{MemorySite, Pick, Volume};
@@ -136,21 +137,60 @@ fn done<V: Volume>(store: &mut Store, vol: &mut V, deed: Deed) -> Result<Option<
     }
 }
 
-// Opens the volume, and whether after each deed this is read, and the last of it once all was committed.
-fn deeds_hold<V: Volume>(alloc: Global, vol: &mut V, deeds: &[(Deed, u8)]) -> Result<bool, Fail>
+// Whether after each deed this is read, and the last of it once all was committed.
+fn deeds_hold<V: Volume>(store: &mut Store, vol: &mut V, deeds: &[(Deed, u8)]) -> Result<bool, Fail>
+    requires idle { IsIdle V.tells store.old (V.device vol.old) }
+    requires closed { IsClosed store.old }
+    requires free { store.old.free ≡ [] }
+    requires few { length deeds.now ≤ 255 }
+{
+    let mut last = None;
+    for (deed, wanted) in deeds {
+        last = Some(*wanted);
+        if done(store, vol, *deed)? != last {
+            return Ok(false);
+        }
+    }
+    committed(store, vol)?;
+    Ok(tried(store, vol, None)? == last)
+}
+
+// The same once the volume is opened.
+fn deeds_hold_in<V: Volume>(alloc: Global, vol: &mut V, deeds: &[(Deed, u8)]) -> Result<bool, Fail>
     requires only { Only (V.device vol.old).held (V.device vol.old).images }
     requires few { length deeds.now ≤ 255 }
 {
     let mut store = opened(alloc, vol)?;
-    let mut last = None;
-    for (deed, wanted) in deeds {
-        last = Some(*wanted);
-        if done(&mut store, vol, *deed)? != last {
-            return Ok(false);
-        }
+    let hold = deeds_hold(&mut store, vol, deeds);
+    mem::drop(store);
+    hold
+}
+
+// A volume of zeros after these deeds, if they hold.
+fn site_after(alloc: Global, deeds: &[(Deed, u8)]) -> Result<MemorySite, Fail>
+    requires { length deeds.now ≤ 255 }
+{
+    let mut site = MemorySite::new(blank(alloc)?)?;
+    if deeds_hold_in(alloc, &mut site, deeds)? {
+        Ok(site)
+    } else {
+        Err(Fail::from("a deed doesn't hold"))
     }
-    committed(&mut store, vol)?;
-    Ok(tried(&mut store, vol, None)? == last)
+}
+
+// How many calls were made, and whether stops within these of them leave these bytes.
+fn calls_and_stops(
+    alloc: Global,
+    deeds: &[(Deed, u8)],
+    stops: &[(u64, Pick, u8)],
+) -> Result<(u64, bool), Fail>
+    requires { length deeds.now ≤ 255 }
+{
+    let site = site_after(alloc, deeds)?;
+    let calls = site.calls();
+    let leave = stops_leave(alloc, &site, stops);
+    mem::drop(site);
+    Ok((calls, leave?))
 }
 
 #[test]
@@ -172,11 +212,8 @@ fn a_transaction_is_rolled_back_or_committed_whole(rt: HostRuntime) -> Result<()
         (Deed::Drop(Some(5)), 5),
         (Deed::Keep(Some(6)), 6),
     ];
-    let mut site = MemorySite::new(blank(rt.alloc())?)?;
-    assert!(rt; deeds_hold(rt.alloc(), &mut site, &deeds)?);
-    // The opening's one read, two of the page, and the four of one commit.
-    assert_eq!(rt; site.calls(), 7);
     let stops = [(3, Pick::Half, 0), (5, Pick::Half, 0), (5, Pick::New, 6)];
-    assert!(rt; stops_leave(rt.alloc(), &site, &stops)?);
+    // The opening's one read, two of the page, and the four of one commit.
+    assert!(rt; calls_and_stops(rt.alloc(), &deeds, &stops)? == (7, true));
     Ok(())
 }

@@ -4,9 +4,9 @@ use Rattle.ts_store_vectors.proofs.transactions.deeds_hold.Goals as goal
 
 pub loop-deed-init : goal.loop-deed-init
 loop-deed-init g c =
-    let s = c.in_ok-store.store in
-    let v = g.V.Volume.device c.opened.new.vol in
+    let s = c.args.store.now in
+    let v = g.V.Volume.device c.args.vol.now in
     record {
-      between = between_closed g.V.Volume.tells s v c.in_ok-store.ensures.idle c.in_ok-store.ensures.closed c.in_ok-store.ensures.free;
-      bytes = omega (arith, bytes_closed g.V.Volume.tells s v c.in_ok-store.ensures.idle c.in_ok-store.ensures.closed);
+      between = between_closed g.V.Volume.tells s v c.requires.idle c.requires.closed c.requires.free;
+      bytes = omega (arith, bytes_closed g.V.Volume.tells s v c.requires.idle c.requires.closed);
     }
