@@ -2,7 +2,6 @@ pub mod CompleteLemmas
 pub mod FollowLemmas
 pub mod FilledLemmas
 pub mod HiddenLemmas
-pub mod ShownLemmas
 pub mod SettledLemmas
 pub mod StandsLemmas
 pub mod SlotReadLemmas

@@ -33,6 +33,10 @@ counted_by (commands.GetNthElem key index) = Some key
 counted_by (commands.ClipGetCount key from to) = Some key
 counted_by command = None
 
+-- where this is told, no element of the series whose entries a command counts is hidden
+abbrev pub IsCountShown : Bool → Bool → Command → View → Type 0
+IsCountShown told tells command x = (key : List ℕ) → counted_by command ≡ Some key → IsSeenShown told tells key x
+
 -- No command but HideElem hides an element, and this one only of the series that it names.
 abbrev pub OnlyHideElemHides : Type 0
 OnlyHideElemHides =
