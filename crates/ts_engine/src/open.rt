@@ -133,7 +133,12 @@ fn settle<V: Volume>(
     requires slots { AreOfSlots surveyed.defs.definitions surveyed.hidden.items hidden }
     ensures opened { Opened V.tells result (V.device vol.old) (V.device vol.new) }
 {
-    let Surveyed { defs, space, free, .. } = surveyed;
+    let Surveyed {
+        defs,
+        space,
+        free,
+        ..
+    } = surveyed;
     // The series of a key is the one in the slot that has it.
     names_stand_in_slots();
     // A directory has a list for each slot.
