@@ -33,10 +33,6 @@ marked_before key marks other none =
 pub all_included : (marks : List (List ℕ)) → Include marks marks
 all_included marks key none = none
 
--- what is marked isn't unmarked
-pub not_both : (b : Bool) → b ≡ true → b ≡ false → ⊥
-not_both b yes no = cc
-
 -- the series of a definition in a slot
 series_of_def : (o : Option SeriesDef) (def : Def) → option_map of_series o ≡ Some def → (s : SeriesDef) → o ≡ Some s → def ≡ of_series s
 series_of_def None def is s there = absurd (cc)

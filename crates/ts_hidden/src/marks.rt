@@ -57,7 +57,8 @@ impl Marks {
             return Ok(());
         }
         let key = key.copy()?;
-        self.keys.push(key)
+        self.keys.push(key)?;
+        Ok(())
     }
 
     /// Marks the series of which a command hides an element.
