@@ -44,4 +44,4 @@ marked_layout d spans es marks found marked = λ i slot sheet there none.
     not_both (has_hidden sheet.1) (λ hides. true_false (get_or marks slot true) (mark hides) none)
   where
     true_false : (b : Bool) → b ≡ true → b ≡ false → ⊥
-    true_false b yes no = cc
+    true_false b set clear = cc
