@@ -13,7 +13,7 @@ ghost use Rattle.ts_shelf.specs.Shelf.{IsShelf};
 ghost use Rattle.ts_combined_rows.specs.Combining.{join_of, AreOfSeries, IsReadable, IsThere, side_with};
 
 use crate::rows::{rows_of, say_moved, say_rows};
-use crate::sides::{elements_in, greatest_stamp, side_of};
+use crate::sides::{elements_in, greatest_stamp, no_common_grid, side_of};
 use std::alloc::Global;
 use ts_answer::Stop;
 use ts_base::{Key, Refusal, Reply, Stamp, Trouble};
@@ -29,8 +29,8 @@ use ts_space::Space;
 
 /// Says two series as one, from one stamp to another, both included: rows with the columns of both. Keys that no series
 /// has are refused first; UnitMismatch and NotAligned where both are regular and have no grid in common, TooLarge where
-/// the rows are more than 1000000. `page` is room to read one; the memory is for the elements that are needed and for
-/// the rows.
+/// the rows are more than 1000000; of these TooLarge alone is told by elements, which are read before. `page` is room
+/// to read one; the memory is for the elements that are needed and for the rows.
 pub fn join<P: Pages>(
     alloc: Global,
     pages: &mut P,
@@ -57,7 +57,8 @@ pub fn join<P: Pages>(
     )
 }
 
-// Says them, once both are known: the elements of each that are needed are read, then combined.
+// Says them, once both are known: where they have no grid in common, no element is read; else those of each that are
+// needed are read, then combined.
 fn join_on<P: Pages>(
     alloc: Global,
     pages: &mut P,
@@ -84,6 +85,9 @@ fn join_on<P: Pages>(
         (P.contents pages.new) }
     ensures undisturbed { P.undisturbed pages.old pages.new }
 {
+    if let Some(why) = no_common_grid(defs, first, second) {
+        return Err(Stop::Refused(why));
+    }
     let (shelf, shape) = first;
     let low = first_needed(shape, from);
     let ones = elements_in(alloc, pages, page, space, shelf, shape, low, to)?;
