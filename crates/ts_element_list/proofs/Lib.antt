@@ -1,0 +1,4 @@
+pub mod AddressLemmas
+pub mod CellsLemmas
+pub mod ChainLemmas
+pub mod CommonLemmas
