@@ -39,6 +39,7 @@ impl<'a, P: Pages> Chain<'a, P> {
         requires places { ArePlaces shelf.now.kind.now.columns (P.contents pages.old)
             (places_of shelf.now.series space.now) }
         ensures same { result.pages.ghost_name ≡ pages.entry.ghost_name }
+        ensures room { result.page.ghost_name ≡ page.entry.ghost_name }
         ensures pages { result.pages.now ≡ pages.old }
         ensures space { result.space.now ≡ space.now }
         ensures shelf { result.shelf.now ≡ shelf.now }
@@ -65,7 +66,8 @@ impl<'a, P: Pages> Elements for Chain<'a, P> {
     ghost listed = { λ c. chain_of c.shelf.now.series c.shelf.now.kind.now.columns
         (places_of c.shelf.now.series c.space.now) c.moved (P.contents c.pages.now) };
 
-    ghost undisturbed = { λ a b. (b.pages.ghost_name ≡ a.pages.ghost_name) × P.undisturbed a.pages.now b.pages.now };
+    ghost undisturbed = { λ a b. (b.pages.ghost_name ≡ a.pages.ghost_name) × (b.page.ghost_name ≡ a.page.ghost_name)
+        × P.undisturbed a.pages.now b.pages.now };
 
     fn get(&mut self, stamp: Stamp) -> Result<Option<(Stamp, Row)>, StoreFault> {
         let row = chain_find(self.pages, self.page, self.space, self.shelf, stamp)?;
@@ -78,9 +80,13 @@ impl<'a, P: Pages> Elements for Chain<'a, P> {
         Ok(moved)
     }
 
-    ghost stays = { λ c. (refl, P.stays c.pages.now) };
+    ghost stays = { λ c. (refl, refl, P.stays c.pages.now) };
 
-    ghost then = { λ a b c p q. (q.0 ∙ p.0, P.then a.pages.now b.pages.now c.pages.now p.1 q.1) };
+    ghost then = { λ a b c p q. (
+      q.0 ∙ p.0,
+      q.1 ∙ p.1,
+      P.then a.pages.now b.pages.now c.pages.now p.2 q.2,
+    ) };
 }
 
 // A row with its stamp, where there is one.

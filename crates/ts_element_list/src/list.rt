@@ -41,6 +41,7 @@ impl<'a, P: Pages> ElementList<'a, P> {
         requires places { ArePlaces shape.now shelf.now.kind.now.columns (P.contents pages.old)
             (places_of shelf.now.series space.now) }
         ensures same { result.pages.ghost_name ≡ pages.entry.ghost_name }
+        ensures room { result.page.ghost_name ≡ page.entry.ghost_name }
         ensures pages { result.pages.now ≡ pages.old }
         ensures space { result.space.now ≡ space.now }
         ensures shelf { result.shelf.now ≡ shelf.now }
@@ -69,18 +70,23 @@ impl<'a, P: Pages> Elements for ElementList<'a, P> {
     ghost listed = { λ l. list_of l.shape.now l.shelf.now.series l.shelf.now.kind.now.columns
         (places_of l.shelf.now.series l.space.now) l.moved (P.contents l.pages.now) };
 
-    ghost undisturbed = { λ a b. (b.pages.ghost_name ≡ a.pages.ghost_name) × P.undisturbed a.pages.now b.pages.now };
+    ghost undisturbed = { λ a b. (b.pages.ghost_name ≡ a.pages.ghost_name) × (b.page.ghost_name ≡ a.page.ghost_name)
+        × P.undisturbed a.pages.now b.pages.now };
 
     fn get(&mut self, stamp: Stamp) -> Result<Option<(Stamp, Row)>, StoreFault> {
         match self.shape {
             Shape::Irregular => Chain::of(self.pages, self.page, self.space, self.shelf).get(stamp),
-            Shape::Regular(grid) => Cells::of(self.pages, self.page, self.space, self.shelf, grid).get(stamp),
+            Shape::Regular(grid) => Cells::of(
+                self.pages, self.page, self.space, self.shelf, grid,
+            ).get(stamp),
         }
     }
 
     fn remove(&mut self, stamp: Stamp) -> Result<Option<Moved>, StoreFault> {
         let moved = match self.shape {
-            Shape::Irregular => Chain::of(self.pages, self.page, self.space, self.shelf).remove(stamp)?,
+            Shape::Irregular => Chain::of(self.pages, self.page, self.space, self.shelf).remove(
+                stamp,
+            )?,
             Shape::Regular(grid) => {
                 Cells::of(self.pages, self.page, self.space, self.shelf, grid).remove(stamp)?
             }
@@ -89,7 +95,11 @@ impl<'a, P: Pages> Elements for ElementList<'a, P> {
         Ok(moved)
     }
 
-    ghost stays = { λ c. (refl, P.stays c.pages.now) };
+    ghost stays = { λ c. (refl, refl, P.stays c.pages.now) };
 
-    ghost then = { λ a b c p q. (q.0 ∙ p.0, P.then a.pages.now b.pages.now c.pages.now p.1 q.1) };
+    ghost then = { λ a b c p q. (
+      q.0 ∙ p.0,
+      q.1 ∙ p.1,
+      P.then a.pages.now b.pages.now c.pages.now p.2 q.2,
+    ) };
 }
