@@ -2,7 +2,7 @@
 ghost use Rattle.std.specs.Prelude.{◌≡◌, ◌<◌, None};
 ghost use Rattle.ts_space.specs.Directory.{places_of};
 ghost use Rattle.ts_cells.specs.Cell.{page_room};
-ghost use Rattle.ts_element_list.specs.Listed.{ArePlaces, IsLaidOut};
+ghost use Rattle.ts_element_list.specs.Listed.{ArePlaces, IsLaidOut, IsReady, list_of};
 
 use crate::{Cells, Chain, Elements};
 use ts_base::{Stamp, StoreFault};
@@ -43,10 +43,12 @@ impl<'a, P: Pages> ElementList<'a, P> {
         ensures same { result.pages.ghost_name ≡ pages.entry.ghost_name }
         ensures room { result.page.ghost_name ≡ page.entry.ghost_name }
         ensures pages { result.pages.now ≡ pages.old }
-        ensures space { result.space.now ≡ space.now }
-        ensures shelf { result.shelf.now ≡ shelf.now }
-        ensures shape { result.shape.now ≡ shape.now }
-        ensures fresh { result.moved ≡ None }
+        ensures listed { list_of result.shape.now result.shelf.now.series result.shelf.now.kind.now.columns
+            (places_of result.shelf.now.series result.space.now) result.moved (P.contents result.pages.now)
+            ≡ list_of shape.now shelf.now.series shelf.now.kind.now.columns
+            (places_of shelf.now.series space.now) None (P.contents pages.old) }
+        ensures ready { IsReady (list_of shape.now shelf.now.series shelf.now.kind.now.columns
+            (places_of shelf.now.series space.now) None (P.contents pages.old)) }
     {
         ElementList {
             pages,

@@ -45,13 +45,6 @@ not_held grid why (Some start) is = not_started grid start why (int_lt start gri
 pub no_address : (grid : GridPlan) (stamp : ℤ) (why : Refusal) → offset_of grid stamp ≡ Err why → addressed (Regular grid) stamp ≡ Err why
 no_address grid stamp why is = not_held grid why (held_start grid.calendar stamp) is
 
--- the two don't go together
-pub one_address : (shape : Shape) (stamp at start : ℤ) → addressed shape stamp ≡ Ok start → addressed shape stamp ≡ Ok at → at ≡ start
-one_address shape stamp at start is other = let same : ◌≡◌ {A = Tried ℤ} (Ok at) (Ok start) = sym other ∙ is in cc
-
-pub not_both : (shape : Shape) (stamp at : ℤ) (why : Refusal) → addressed shape stamp ≡ Err why → addressed shape stamp ≡ Ok at → ⊥
-not_both shape stamp at why off there = let same : ◌≡◌ {A = Tried ℤ} (Err why) (Ok at) = sym off ∙ there in cc
-
 -- in an irregular series a row is put at any stamp
 pub aims_at_any : (how : EditKind) (stamp : ℤ) (es : List Element) → target_in Irregular how stamp es ≡ target how stamp es
 aims_at_any how stamp es = on_ok (Ok stamp) stamp (λ at. target_from Irregular how at es) refl

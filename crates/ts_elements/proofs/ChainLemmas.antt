@@ -15,7 +15,7 @@ use Rattle.ts_space.specs.Place.{count_of}
 use Rattle.ts_space.specs.Charge.{irregular_charge}
 use Rattle.ts_space.proofs.ChargeLemmas.{charge_grows}
 use Rattle.ts_cells.specs.Cell.{page_room}
-use Rattle.ts_irregular.specs.Edit.{element_at, with_element, without_element}
+use Rattle.ts_irregular.specs.Edit.{element_at, with_element}
 use Rattle.ts_irregular.specs.OnePage.{IsPlace}
 use Rattle.ts_chain.specs.Chain.{IsChain, all_in}
 use Rattle.ts_chain.specs.Places as chain
@@ -32,9 +32,9 @@ use Rattle.ts_layout.specs.Placed.{AreMoved}
 use Rattle.ts_layout.specs.Chains.{by_stamp}
 use Rattle.ts_model.specs.Catalogue.{Elements}
 use Rattle.ts_elements.specs.Stamps.{IsTold, AreWritten, charge_with_one, target_in}
-use Rattle.ts_elements.specs.Calls.{IsEdited, IsFound, IsMarked, IsRemoved, IsCleared, WouldCost}
+use Rattle.ts_elements.specs.Calls.{IsEdited, IsMarked, IsCleared, WouldCost}
 use Rattle.ts_elements.proofs.LawLemmas.{as_maps}
-use Rattle.ts_elements.proofs.AddressLemmas.{aims_at_any, one_address}
+use Rattle.ts_elements.proofs.AddressLemmas.{aims_at_any}
 use Rattle.ts_elements.proofs.SeriesLemmas.{many}
 
 -- its places can be read
@@ -71,16 +71,6 @@ module _ (tells : Bool) (slot : ℕ) (columns : List Column) (places : List Plac
     others = is.others;
   }
 
-  -- the row at a stamp, with it, and the last element
-  pub found_chain : (stamp : ℤ) (row : Option Row) (answer : Option Element) → call.IsRowIn tells slot columns stamp places v row → answer ≡ option_map (λ r. (stamp, r)) row → IsFound tells Irregular slot columns stamp places v answer
-  found_chain stamp row answer is same tell es have = (
-    λ at address.
-        let here = one_address Irregular stamp at stamp refl address in
-        same ∙ ap (option_map (λ (r : Row). (stamp, r))) (is tell have.chain have.on have.is ∙ ap (element_at stamp) have.all)
-        ∙ ap (λ (s : ℤ). option_map (λ (r : Row). (s, r)) (element_at s es)) (sym here),
-    λ why none. absurd (cc),
-  )
-
   -- a mark
   pub marked_chain : (stamp : ℤ) (hidden there : Bool) (answer : Result ℤ Refusal) → call.IsMarked tells slot columns stamp hidden places v w there → (IsTrue there → answer ≡ Ok stamp) → (there ≡ false → answer ≡ Err Missing)
       → IsMarked tells Irregular slot columns stamp hidden places v w answer
@@ -100,22 +90,6 @@ module _ (tells : Bool) (slot : ℕ) (columns : List Column) (places : List Plac
   module _ (room : 0 < page_room columns) where
     fewer : (n m : ℕ) → n ≤ m → irregular_charge (page_room columns) n ≤ irregular_charge (page_room columns) m
     fewer n m less = charge_grows (page_room columns) n m room less
-
-    -- an element that is taken away
-    pub removed_chain : (stamp : ℤ) (o : Option Moved) → call.IsRemoved tells slot columns stamp places v w o → IsRemoved tells Irregular slot columns stamp places v w o
-    removed_chain stamp (Some m) is = record {
-      at = stamp;
-      address = refl;
-      places = moved columns places _ v w is.places;
-      pays = fewer _ (count_of places) is.count;
-      there = told (λ es. IsSome (element_at stamp es)) is.there;
-      left = told (λ es. AreWritten Irregular slot columns (without_element stamp es) places _ v w) (λ tell chain on of. written _ _ (is.left tell chain on of));
-    }
-    removed_chain stamp None is = (
-      is.same,
-      λ tell es have at address.
-          ap (λ (s : ℤ). element_at s es) (one_address Irregular stamp at stamp refl address) ∙ ap (element_at stamp) (sym have.all) ∙ is.absent tell have.chain have.on have.is,
-    )
 
     -- all elements in a range
     pub cleared_chain : (from to : ℤ) (removed : ℕ) (o : Option Moved) → clip.IsCleared tells slot columns from to places v w removed o → IsCleared tells Irregular slot columns from to places v w removed o

@@ -13,7 +13,7 @@ use Rattle.ts_space.specs.declared.place.Place.{Place}
 use Rattle.ts_space.specs.declared.moved.Moved.{Moved}
 use Rattle.ts_space.specs.Moved.{moved_to}
 use Rattle.ts_space.specs.Place.{IsRising, pages_of, place_at}
-use Rattle.ts_irregular.specs.Edit.{element_at, with_element, without_element}
+use Rattle.ts_irregular.specs.Edit.{element_at, with_element}
 use Rattle.ts_regular.specs.Cell.{regular_room, base_of}
 use Rattle.ts_regular.specs.Offsets as offsets
 use Rattle.ts_regular.specs.Offsets.{OffsetElement}
@@ -27,7 +27,7 @@ use Rattle.ts_regular_edits.specs.Stamped.{stamped, HaveStarts}
 use Rattle.ts_regular_edits.specs.Address.{IsAddressed}
 use Rattle.ts_regular_edits.specs.Edit as edit
 use Rattle.ts_regular_edits.specs.Element as element
-use Rattle.ts_regular_edits.proofs.StampLemmas.{found_stamped, put_stamped, taken_stamped}
+use Rattle.ts_regular_edits.proofs.StampLemmas.{found_stamped, put_stamped}
 use Rattle.ts_regular_edits.specs.Range.{IsClearedAt}
 use Rattle.ts_regular_edits.proofs.RangeLemmas.{within_stamped, within_number, outside_stamped}
 use Rattle.ts_regular_edits.proofs.ChargeLemmas.{charged_with}
@@ -43,8 +43,8 @@ use Rattle.ts_layout.specs.Chains.{by_stamp}
 use Rattle.ts_answer.specs.Answer.{addressed}
 use Rattle.ts_shelf.proofs.LawLemmas.{charges}
 use Rattle.ts_elements.specs.Stamps.{IsTold, AreWritten, HaveElements, charge_with_one, target_in, unless}
-use Rattle.ts_elements.specs.Calls.{IsEdited, IsFound, IsMarked, IsRemoved, IsCleared, WouldCost, IsPut}
-use Rattle.ts_elements.proofs.AddressLemmas.{on_address, no_address, one_address, not_both, aims_at, aims_at_none}
+use Rattle.ts_elements.specs.Calls.{IsEdited, IsMarked, IsCleared, WouldCost, IsPut}
+use Rattle.ts_elements.proofs.AddressLemmas.{on_address, no_address, aims_at, aims_at_none}
 use Rattle.ts_elements.proofs.RisingLemmas.{rising_put}
 use Rattle.ts_elements.proofs.StartLemmas.{starts_put, starts_left}
 
@@ -156,35 +156,6 @@ module _ (tells : Bool) (grid : GridPlan) (laid : IsLaid grid.calendar) (slot : 
       λ tell es have. inr (done.0, start, address, found_here es have ∙ done.1.absent tell have.cells have.on),
     )
 
-    -- an element that is taken away
-    pub removed_at : length v.free ≤ length w.free → (o : Option Moved) → call.IsRemoved tells slot columns offset places v w o → IsRemoved tells (Regular grid) slot columns stamp places v w o
-    removed_at free (Some m) done = record {
-      at = start;
-      address = address;
-      places = moved columns places (moved_to m places) v w done.places;
-      pays = no_more places (moved_to m places) v w done.places.pages free;
-      there = λ tell es have. subst IsSome (sym (found_here es have)) (done.there tell have.cells have.on);
-      left = λ tell es have.
-          let all = all_at have.cells in
-          subst (λ (l : List Element). AreWritten (Regular grid) slot columns l places (moved_to m places) v w)
-          (taken_stamped grid laid offset start is.again all have.starts ∙ ap (without_element start) have.all)
-          (written (offsets.without_element offset all) (moved_to m places) (done.left tell have.cells have.on) (starts_left grid (λ e. not (offset == e.0)) all have.starts));
-    }
-    removed_at free None done = (
-      done.same,
-      λ tell es have at other.
-          ap (λ (s : ℤ). element_at s es) (one_address (Regular grid) stamp at start address other) ∙ found_here es have ∙ done.absent tell have.cells have.on,
-    )
-
-    -- what is found there
-    pub found_from : (found : Option Element) → call.IsTold tells slot columns places v (λ ps. found ≡ option_map (λ row. (start, row)) (offsets.element_at offset (all_at ps))) → IsFound tells (Regular grid) slot columns stamp places v found
-    found_from found done tell es have = (
-      λ at other.
-          done tell have.cells have.on ∙ ap (option_map (λ (row : Row). (start, row))) (sym (found_here es have))
-          ∙ ap (λ (s : ℤ). option_map (λ (row : Row). (s, row)) (element_at s es)) (sym (one_address (Regular grid) stamp at start address other)),
-      λ why none. absurd (not_both (Regular grid) stamp start why none address),
-    )
-
   -- by an address, or without one
   pub edited_cells : IsRising places → (how : EditKind) (stamp : ℤ) (row : Row) (room : ℕ) (done : Edited) → edit.IsEdited tells slot columns grid how stamp row room places v w done → IsEdited tells (Regular grid) slot columns how stamp row room places v w done
   edited_cells rising how stamp row room done (inl on) = edited_at stamp on.offset on.start on.is how row room rising done on.holds
@@ -193,25 +164,11 @@ module _ (tells : Bool) (grid : GridPlan) (laid : IsLaid grid.calendar) (slot : 
     why = λ tell es have. aims_at_none grid how stamp es off.why (no_address grid stamp off.why off.is);
   })
 
-  pub found_cells : (stamp : ℤ) (found : Option Element) → element.IsFoundAt tells slot columns grid stamp places v found → IsFound tells (Regular grid) slot columns stamp places v found
-  found_cells stamp found (inl on) = found_from stamp on.offset on.start on.is found on.holds
-  found_cells stamp found (inr off) = λ tell es have. (
-    λ at address. absurd (not_both (Regular grid) stamp at off.why (no_address grid stamp off.why off.is) address),
-    λ why none. off.holds,
-  )
-
   pub marked_cells : (stamp : ℤ) (hidden : Bool) (answer : Result ℤ Refusal) → element.IsMarkedAt tells slot columns grid stamp hidden places v w answer → IsMarked tells (Regular grid) slot columns stamp hidden places v w answer
   marked_cells stamp hidden answer (inl on) = marked_at stamp on.offset on.start on.is hidden answer on.holds
   marked_cells stamp hidden answer (inr off) = subst (λ (r : Result ℤ Refusal). IsMarked tells (Regular grid) slot columns stamp hidden places v w r) (sym off.holds.0) (
     off.holds.1,
     λ tell es have. inl (no_address grid stamp off.why off.is),
-  )
-
-  pub removed_cells : length v.free ≤ length w.free → (stamp : ℤ) (o : Option Moved) → element.IsRemovedAt tells slot columns grid stamp places v w o → IsRemoved tells (Regular grid) slot columns stamp places v w o
-  removed_cells free stamp o (inl on) = removed_at stamp on.offset on.start on.is free o on.holds
-  removed_cells free stamp o (inr off) = subst (λ (o : Option Moved). IsRemoved tells (Regular grid) slot columns stamp places v w o) (sym off.holds.0) (
-    off.holds.1,
-    λ tell es have at address. absurd (not_both (Regular grid) stamp at off.why (no_address grid stamp off.why off.is) address),
   )
 
   -- all elements from one stamp to another

@@ -6,6 +6,7 @@ pub mod FormatLemmas
 pub mod FoundLemmas
 pub mod GridLemmas
 pub mod LawLemmas
+pub mod ListLemmas
 pub mod MarkLemmas
 pub mod MemoryLemmas
 pub mod PutLemmas

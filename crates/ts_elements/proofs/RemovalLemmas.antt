@@ -1,5 +1,6 @@
 -- Elements that are taken away, on pages.
-use Rattle.std.proofs.Common.{◌≡◌, ℕ, ◌+◌, ◌≤◌, Bool, not, IsTrue, ℤ, Option, Some, None, IsSome, Ok, Err, List, [], ◌++◌, take, drop, length, length-append, length-take, length-drop, refl, sym, ap, ◌∙◌, arith}
+use Rattle.std.proofs.Common.{◌≡◌, ℕ, ◌+◌, ◌≤◌, Bool, not, IsTrue, ℤ, Option, Some, None, IsSome, Ok, Err, List, [], ◌++◌, take, drop, length, length-append, length-take, length-drop, refl, sym, ap, subst, ◌∙◌, arith}
+use Rattle.std.specs.Option.{option_map}
 use Rattle.std.proofs.lemmas.List.{length-map}
 use Rattle.std.proofs.lemmas.List.Sorted.{length_permutation}
 use Rattle.std.specs.Prelude.{IfSome}
@@ -9,6 +10,7 @@ use Rattle.ts_command.specs.declared.command.Command.{Command}
 use Rattle.ts_command.specs.declared.command.Command.TheVariants.{DelElem, DelClip}
 use Rattle.ts_page.specs.Pages.{Contents, IsLawful}
 use Rattle.ts_row.specs.RowType.{Heading}
+use Rattle.ts_row.specs.Row.{Row}
 use Rattle.ts_row.specs.Element.{Element}
 use Rattle.ts_space.specs.declared.place.Place.{Place}
 use Rattle.ts_space.specs.declared.moved.Come.{Come}
@@ -32,10 +34,14 @@ use Rattle.ts_answer.proofs.CallerLemmas.{wanted-there, on_ok, shows_still, kept
 use Rattle.ts_shelf.specs.Shelf.{IsShelf}
 use Rattle.ts_shelf.proofs.SeenLemmas.{SeriesIn, HasSeen, entries_in, series_seen, shape_same, elements_seen}
 use Rattle.ts_elements.specs.Stamps.{IsLaidOut, IsTold}
-use Rattle.ts_elements.specs.Calls.{IsTakenAway, AreCleared}
+use Rattle.ts_elements.specs.Calls.{AreCleared}
+use Rattle.ts_element_list.specs.Address.{element_from}
+use Rattle.ts_element_list.specs.Listed.{list_of as list_on}
+use Rattle.ts_element_list.specs.Calls.{IsTakenAway, IsMissing}
 use Rattle.ts_elements.proofs.LawLemmas.{as_maps}
 use Rattle.ts_elements.proofs.AddressLemmas.{address_is}
 use Rattle.ts_elements.proofs.FoundLemmas.{found_in}
+use Rattle.ts_elements.proofs.ListLemmas.{have_listed, same_address, written, moved_listed, pays_listed}
 use Rattle.ts_elements.proofs.MemoryLemmas.{pays_less}
 use Rattle.ts_elements.proofs.FormatLemmas.{left_visible}
 use Rattle.ts_elements.proofs.RewriteLemmas.{Becomes, rewritten_carried}
@@ -103,13 +109,13 @@ unfolding outcome carried_out delete_range
 clips key from to slot l on = on_ok _ (series_of l slot on.s) _ (wanted-there key (catalogue_of l).series (series_of l slot on.s) on.listed)
 
 -- none is counted where none stands
-none_counted : (o : Option ℤ) (m : Elements) → ((at : ℤ) → o ≡ Some at → get m at ≡ None) → (count_at o m ≡ 0) × IfSome o (λ at. get m at ≡ None)
-none_counted None m none = (refl, tt)
-none_counted (Some at) m none = (ap count_if_any (none at refl), none at refl)
+no_row : (at : ℤ) (o : Option Row) → option_map {B = Element} (λ row. (at, row)) o ≡ None → o ≡ None
+no_row at None none = refl
+no_row at (Some row) none = absurd (cc)
 
-reached_some : (t : Tried ℤ) (at : ℤ) → reached t ≡ Some at → t ≡ Ok at
-reached_some (Ok s) at is = let same : s ≡ at = cc in ap Ok same
-reached_some (Err why) at is = absurd (cc)
+none_counted : (t : Tried ℤ) (m : Elements) (es : List Element) → ((at : ℤ) → get m at ≡ element_at at es) → element_from t es ≡ None → (count_at (reached t) m ≡ 0) × IfSome (reached t) (λ at. get m at ≡ None)
+none_counted (Err why) m es same none = (refl, tt)
+none_counted (Ok at) m es same none = let absent = same at ∙ no_row at (element_at at es) none in (ap count_if_any absent, absent)
 
 module _ (tells : Bool) (key : List ℕ) (shape : Shape) (laid : IsLaidOut shape) (slot : ℕ) (h : Heading) (x : View) (shelf : IsShelf shape slot h key x.definitions) (kept : KeepsRules x) (w : Contents) (count : w.count ≡ x.pages.count)
     (no_fault : w.faults ≡ x.pages.faults) where
@@ -119,18 +125,19 @@ module _ (tells : Bool) (key : List ℕ) (shape : Shape) (laid : IsLaidOut shape
 
   -- one element
   module _ (stamp : ℤ) where
-    module _ (moved : Moved) (taken : IsTakenAway tells shape slot h.columns stamp (places_of slot x.space) (moved_to moved (places_of slot x.space)) x.pages w) where
+    module _ (moved : Moved) (taken : IsTakenAway tells stamp (list_on shape slot h.columns (places_of slot x.space) None x.pages) (list_on shape slot h.columns (places_of slot x.space) (Some moved) w)) where
       becomes_less : IsTrue tells → (l : Layout) → Shows tells x l → (es : List Element) → HasSeen shape slot h.columns x.pages.page (places_of slot x.space) l es
           → Becomes tells (DelElem key stamp) key shape slot h (moved_to moved (places_of slot x.space)) (count_line 1) x w l
       becomes_less told l shows es seen =
           let at = taken.at in
-          let old = some_of (element_at at es) (taken.there told es seen.have) in
+          let have = have_listed shape slot h.columns x.pages.page (places_of slot x.space) es seen.have in
+          let old = some_of (element_at at es) (taken.there told es have) in
           record {
             elements = without_element at es;
-            written = taken.left told es seen.have;
+            written = written shape slot h.columns (places_of slot x.space) moved x.pages w (without_element at es) (taken.left told es have);
             of_format = λ format. left_visible (λ e. not (int_eq at e.0)) es (seen.of_format format);
             says = λ on.
-                let address : reached (an_address (series_of l slot on.s) stamp (catalogue_of l)) ≡ Some at = ap reached (address_in stamp l shows on ∙ taken.address) in
+                let address : reached (an_address (series_of l slot on.s) stamp (catalogue_of l)) ≡ Some at = ap reached (address_in stamp l shows on ∙ sym (same_address shape stamp) ∙ taken.address) in
                 let m = elements_at slot l.element_pages in
                 deletes key stamp slot l on
                 ∙ (λ i. Ok (count_line (count_at (address i) m), with_elements key (series_of l slot on.s) (without_one (address i) m) (catalogue_of l)))
@@ -142,28 +149,29 @@ module _ (tells : Bool) (key : List ℕ) (shape : Shape) (laid : IsLaidOut shape
 
       pub taken_carried : IsLawful tells w → w.change_bytes ≤ x.pages.change_bytes + 4106 → (out : List ℕ) → out ≡ count_line 1 → CarriedOut tells (DelElem key stamp) (Ok (Places slot moved)) out x w
       taken_carried lawful bytes out said =
+          let places = moved_listed shape slot h.columns (places_of slot x.space) moved x.pages w taken.places in
           rewritten_carried tells (DelElem key stamp) key shape slot h (moved_to moved (places_of slot x.space)) (count_line 1) x w
           (record {
             shelf = shelf;
             laid = laid;
-            moved = taken.places;
-            pays = λ s c is. pays_less x kept slot shelf.named.within h shelf.columns shape shelf.lies s c is (moved_to moved (places_of slot x.space)) taken.pays;
+            moved = places;
+            pays = λ s c is. pays_less x kept slot shelf.named.within h shelf.columns shape shelf.lies s c is (moved_to moved (places_of slot x.space)) (pays_listed shape h.columns (places_of slot x.space) (moved_to moved (places_of slot x.space)) taken.pays);
             told = becomes_less;
-          }) kept lawful count (Places slot moved) refl refl shelf.named.within refl refl no_fault (moved_grows _ moved (places_of slot x.space) x.pages w taken.places bytes) out said
+          }) kept lawful count (Places slot moved) refl refl shelf.named.within refl refl no_fault (moved_grows _ moved (places_of slot x.space) x.pages w places bytes) out said
 
     -- none is there
-    pub none_carried : Stays tells x.pages w → IsTold tells shape slot h.columns (places_of slot x.space) x.pages (λ es. (at : ℤ) → addressed shape stamp ≡ Ok at → element_at at es ≡ None) → w.change_bytes ≤ x.pages.change_bytes + 4106
+    pub none_carried : IsMissing tells stamp (list_on shape slot h.columns (places_of slot x.space) None x.pages) (list_on shape slot h.columns (places_of slot x.space) None w) → w.change_bytes ≤ x.pages.change_bytes + 4106
         → (out : List ℕ) → out ≡ count_line 0 → CarriedOut tells (DelElem key stamp) (Ok Nothing) out x w
-    none_carried same none bytes out said =
-        nothing_carried tells (DelElem key stamp) x w same count no_fault (omega (arith, bytes)) out (count_line 0) said (λ told l shows.
+    none_carried missing bytes out said =
+        nothing_carried tells (DelElem key stamp) x w missing.stays count no_fault (omega (arith, bytes)) out (count_line 0) said (λ told l shows.
         let on = series_seen x l shows.kept slot key shelf.named in
         let seen = elements_seen tells x l shape laid slot h told shows shelf.columns shelf.lies shelf.named.within in
         let es = seen.0 in
+        let m = elements_at slot l.element_pages in
+        let absent = none_counted (addressed shape stamp) m es (found_in shape slot h.columns x.pages.page (places_of slot x.space) l es seen.1) (sym (ap (λ (t : Tried ℤ). element_from t es) (same_address shape stamp)) ∙ missing.none told es (have_listed shape slot h.columns x.pages.page (places_of slot x.space) es seen.1.have)) in
         let o = reached (an_address (series_of l slot on.s) stamp (catalogue_of l)) in
-        let absent = none_counted o (elements_at slot l.element_pages) (λ at is.
-        found_in shape slot h.columns x.pages.page (places_of slot x.space) l es seen.1 at
-        ∙ none told es seen.1.have at (reached_some (addressed shape stamp) at (sym (ap reached (address_in stamp l shows on)) ∙ is))) in
-        deletes key stamp slot l on ∙ (λ i. Ok (count_line (absent.0 i), element_not_there key (series_of l slot on.s) o (catalogue_of l) on.listed absent.1 i)))
+        let both = subst (λ (o : Option ℤ). (count_at o m ≡ 0) × IfSome o (λ at. get m at ≡ None)) (sym (ap reached (address_in stamp l shows on))) absent in
+        deletes key stamp slot l on ∙ (λ i. Ok (count_line (both.0 i), element_not_there key (series_of l slot on.s) o (catalogue_of l) on.listed both.1 i)))
 
   -- a range of them
   module _ (from to : ℤ) (removed : ℕ) where

@@ -10,7 +10,7 @@ use Rattle.ts_row.specs.Element.{Element}
 use Rattle.ts_space.specs.declared.place.Place.{Place}
 use Rattle.ts_space.specs.declared.moved.Moved.{Moved}
 use Rattle.ts_space.specs.Moved.{moved_to}
-use Rattle.ts_irregular.specs.Edit.{element_at, with_element, without_element}
+use Rattle.ts_irregular.specs.Edit.{element_at, with_element}
 use Rattle.ts_chain.specs.Range.{within_range, without_range}
 use Rattle.ts_series.specs.declared.edits.EditKind.{EditKind}
 use Rattle.ts_series.specs.declared.edits.Edited.{Edited}
@@ -75,16 +75,6 @@ IsEdited tells shape slot columns how stamp row room places v w (edited.Refused 
 IsEdited tells shape slot columns how stamp row room places v w edited.Full =
     IsFull tells shape slot columns how stamp row room places v w
 
--- this is the element that a stamp addresses among some, hidden or not
-abbrev pub IsAddressed : Shape → ℤ → List Element → Option Element → Type 0
-IsAddressed shape stamp es found =
-    ((at : ℤ) → addressed shape stamp ≡ Ok at → found ≡ option_map (λ row. (at, row)) (element_at at es))
-    × ((why : Refusal) → addressed shape stamp ≡ Err why → found ≡ None)
-
-abbrev pub IsFound : Bool → Shape → ℕ → List Column → ℤ → List Place → Contents → Option Element → Type 0
-IsFound tells shape slot columns stamp places v found = IsTold tells shape slot columns places v
-    (λ es. IsAddressed shape stamp es found)
-
 -- the element that a stamp addresses, at this one, gets a mark; all places stay
 pub record IsMarkSet (tells : Bool) (shape : Shape) (slot : ℕ) (columns : List Column) (stamp : ℤ) (hidden : Bool)
     (at : ℤ) (places : List Place) (v w : Contents) : Type 0 where
@@ -108,25 +98,6 @@ IsMarked tells shape slot columns stamp hidden places v w (Ok at) =
     IsMarkSet tells shape slot columns stamp hidden at places v w
 IsMarked tells shape slot columns stamp hidden places v w (Err refusal) =
     Stays tells v w × IsTold tells shape slot columns places v (λ es. IsUnmarked shape stamp es refusal)
-
--- the element that a stamp addresses is taken away, and the places become these, which cost no more
-pub record IsTakenAway (tells : Bool) (shape : Shape) (slot : ℕ) (columns : List Column) (stamp : ℤ)
-    (old new : List Place) (v w : Contents) : Type 0 where
-  pub at : ℤ
-  pub address : addressed shape stamp ≡ Ok at
-  pub places : AreMoved (room_of shape columns) old new v w
-  pub pays : charge_by shape columns new ≤ charge_by shape columns old
-  pub there : IsTold tells shape slot columns old v (λ es. IsSome (element_at at es))
-  pub left : IsTold tells shape slot columns old v
-      (λ es. AreWritten shape slot columns (without_element at es) old new v w)
-
--- it is, or a stamp addresses none that is there, and everything stays
-abbrev pub IsRemoved : Bool → Shape → ℕ → List Column → ℤ → List Place → Contents → Contents → Option Moved → Type 0
-IsRemoved tells shape slot columns stamp places v w (Some moved) = IsTakenAway tells shape slot columns stamp places
-    (moved_to moved places) v w
-IsRemoved tells shape slot columns stamp places v w None =
-    Stays tells v w × IsTold tells shape slot columns places v (λ es. (at : ℤ) → addressed shape stamp ≡ Ok at
-    → element_at at es ≡ None)
 
 -- so many elements from one stamp to another are taken away, and the places become these, which cost no more
 pub record AreCleared (tells : Bool) (shape : Shape) (slot : ℕ) (columns : List Column) (from to : ℤ) (removed : ℕ)

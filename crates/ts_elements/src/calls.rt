@@ -9,14 +9,14 @@ ghost use Rattle.ts_cells.specs.Cell.{page_room};
 ghost use Rattle.ts_model.specs.Definitions.{series_slots};
 ghost use Rattle.ts_answer.specs.CarriedOut.{Grows};
 ghost use Rattle.ts_elements.specs.Stamps.{ArePlaces, IsLaidOut};
-ghost use Rattle.ts_elements.specs.Calls.{IsEdited, IsMarked, IsRemoved, IsCleared};
+ghost use Rattle.ts_elements.specs.Calls.{IsEdited, IsMarked, IsCleared};
 
 use std::alloc::Global;
 use ts_base::{Refusal, Stamp, StoreFault};
-use ts_chain::{chain_mark, chain_remove};
+use ts_chain::chain_mark;
 use ts_offset::Shape;
 use ts_page::{Page, Pages};
-use ts_regular_edits::{clear_at, delete_at, edit_at, mark_at};
+use ts_regular_edits::{clear_at, edit_at, mark_at};
 use ts_row::{Row, Shelf};
 use ts_series::{EditKind, Edited, del_clip, edit};
 use ts_space::{Moved, Space};
@@ -97,33 +97,6 @@ fn stamp_if(there: bool, stamp: Stamp) -> Result<Stamp, Refusal>
         Ok(stamp)
     } else {
         Err(Refusal::Missing)
-    }
-}
-
-/// Takes away the element that a stamp addresses, and tells which places go and come: none, and no page changes, where
-/// it addresses none that is there. `page` is room to read one.
-pub(crate) fn remove_in<P: Pages>(
-    pages: &mut P,
-    page: &mut Page,
-    space: &Space,
-    shelf: &Shelf,
-    shape: &Shape<'_>,
-    stamp: Stamp,
-) -> Result<Option<Moved>, StoreFault>
-    requires slot { shelf.now.series < series_slots }
-    requires laid { IsLaidOut shape.now }
-    requires some { 0 < page_room shelf.now.kind.now.columns }
-    requires places { ArePlaces shape.now shelf.now.kind.now.columns (P.contents pages.old)
-        (places_of shelf.now.series space.now) }
-    ensures ok { IfOk result (IsRemoved P.tells shape.now shelf.now.series shelf.now.kind.now.columns stamp
-        (places_of shelf.now.series space.now) (P.contents pages.old) (P.contents pages.new)) }
-    ensures call { Answered result (P.contents pages.old) (P.contents pages.new) }
-    ensures change { (P.contents pages.new).change_bytes ≤ (P.contents pages.old).change_bytes + 4106 }
-    ensures undisturbed { P.undisturbed pages.old pages.new }
-{
-    match shape {
-        Shape::Irregular => chain_remove(pages, page, space, shelf, stamp),
-        Shape::Regular(grid) => delete_at(pages, page, space, shelf, grid, stamp),
     }
 }
 

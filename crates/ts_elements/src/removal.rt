@@ -9,10 +9,11 @@ ghost use Rattle.ts_answer.specs.CarriedOut.{CarriedOut};
 ghost use Rattle.ts_shelf.specs.Shelf.{IsShelf};
 ghost use Rattle.ts_elements.specs.Stamps.{ArePlaces, IsLaidOut};
 
-use crate::calls::{clear_in, remove_in};
+use crate::calls::clear_in;
 use std::alloc::Global;
 use ts_answer::{Effect, Stop};
 use ts_base::{Key, Reply, Stamp};
+use ts_element_list::{ElementList, Elements};
 use ts_model::Defs;
 use ts_offset::Shape;
 use ts_page::{Page, Pages};
@@ -39,33 +40,8 @@ pub fn delete_element<P: Pages>(
     ensures undisturbed { P.undisturbed pages.old pages.new }
 {
     let (shelf, shape) = shelf_of(pages, defs, space, key)?;
-    remove_on(pages, page, defs, space, &shelf, &shape, stamp, out)
-}
-
-// Takes it away, once the series is known.
-fn remove_on<P: Pages>(
-    pages: &mut P,
-    page: &mut Page,
-    _defs: &Defs,
-    space: &Space,
-    shelf: &Shelf,
-    shape: &Shape<'_>,
-    stamp: Stamp,
-    out: &mut Reply,
-) -> Result<Effect, Stop>
-    requires seen { IsSeen P.tells (view _defs.now.definitions space.now (P.contents pages.old)) }
-    requires slot { shelf.now.series < series_slots }
-    requires laid { IsLaidOut shape.now }
-    requires some { 0 < page_room shelf.now.kind.now.columns }
-    requires places { ArePlaces shape.now shelf.now.kind.now.columns (P.contents pages.old)
-        (places_of shelf.now.series space.now) }
-    requires empty { out.old ≡ [] }
-    ensures carried { (key : List ℕ) → IsShelf shape.now shelf.now.series shelf.now.kind.now key _defs.now.definitions
-        → CarriedOut P.tells (DelElem key stamp) result out.new
-        (view _defs.now.definitions space.now (P.contents pages.old)) (P.contents pages.new) }
-    ensures undisturbed { P.undisturbed pages.old pages.new }
-{
-    match remove_in(pages, page, space, shelf, shape, stamp)? {
+    let moved = ElementList::of(pages, page, space, &shelf, &shape).remove(stamp)?;
+    match moved {
         Some(moved) => {
             say_count(out, 1)?;
             Ok(Effect::Places {
