@@ -9,8 +9,10 @@ mod cells;
 mod chain;
 mod elements;
 mod list;
+mod taken;
 
 pub use cells::Cells;
 pub use chain::Chain;
 pub use elements::Elements;
 pub use list::ElementList;
+pub use taken::{element_in, take};
