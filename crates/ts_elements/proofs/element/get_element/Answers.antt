@@ -1,4 +1,4 @@
-use Rattle.std.proofs.Common.{Ok, Err, List, Option, ℕ, ap, sym, subst, ◌∙◌}
+use Rattle.std.proofs.Common.{rules, Ok, Err, List, Option, ℕ, ap, sym, subst, ◌∙◌}
 use Rattle.ts_command.specs.declared.command.Command.TheVariants.{GetElem}
 use Rattle.ts_page.specs.Unchanged.{Reads}
 use Rattle.ts_row.specs.Element.{Element}
@@ -6,6 +6,7 @@ use Rattle.ts_space.specs.Directory.{places_of}
 use Rattle.ts_layout.specs.Meaning.{catalogue_of}
 use Rattle.ts_answer.specs.Answer.{Answered, outcome, carried_out, get_element}
 use Rattle.ts_answer.specs.View.{view}
+use Rattle.ts_answer.specs.CarriedOut.{ReadOut}
 use Rattle.ts_answer.proofs.CallerLemmas.{read_stopped_first, tried_stopped, refused_as, on_ok, said_line}
 use Rattle.ts_shelf.proofs.ReadingLemmas.{failed_out}
 use Rattle.ts_shelf.proofs.SeenLemmas.{shelf_seen, read_out}
@@ -39,7 +40,8 @@ returns-in_err-found-clause-read g c =
     let fault = c.in_err-found.field-0.0 in
     let w = g.P.Pages.contents c.get.new.self.pages.now in
     let reads = subst (λ p. Reads {T = Option Element} g.P.Pages.tells (Err fault) (g.P.Pages.contents p) w) c.of.ensures.pages c.in_err-found.ensures.read.reads in
-    failed_out g.P.Pages.tells (GetElem c.args.key.now c.args.stamp) c.args.out.now x _ _ fault c.from_residual-in_err-found.ensures.1 reads
+    subst (λ p. ReadOut g.P.Pages.tells (GetElem c.args.key.now c.args.stamp) c.from_residual-in_err-found.result c.args.out.now x (g.P.Pages.contents p)) (search rules)
+    (failed_out g.P.Pages.tells (GetElem c.args.key.now c.args.stamp) c.args.out.now x w _ fault c.from_residual-in_err-found.ensures.1 reads)
 
 pub returns-clause-read : goal.returns-clause-read
 unfolding outcome carried_out get_element
@@ -53,9 +55,10 @@ returns-clause-read g c =
     let w = g.P.Pages.contents c.get.new.self.pages.now in
     let reads = subst (λ p. Reads {T = Option Element} tells (Ok found) (g.P.Pages.contents p) w) c.of.ensures.pages c.in_ok-found.ensures.read.reads in
     let finds = subst (λ (l : Listed). Finds tells c.args.stamp l found) c.of.ensures.listed c.in_ok-found.ensures.found in
+    subst (λ p. ReadOut tells (GetElem c.args.key.now c.args.stamp) (Ok (tt {0})) c.say_found.new.out x (g.P.Pages.contents p)) (search rules) (
     read_out tells (GetElem c.args.key.now c.args.stamp) x w found _ c.say_found.new.out (said_line _ c.args.out.now c.say_found.new.out c.requires.empty c.in_ok-say_found.ensures)
     reads (λ told l shows.
     let tried = shelf_seen x l shows.kept c.args.key.now shape shelf.series shelf.kind.now of in
     on_ok _ tried.0 _ tried.1 ∙ ap (λ (t : List ℕ). let a : Answered = (t, catalogue_of l) in Ok a)
     (element_text tells x l shape c.in_ok-shelf.ensures.laid shelf.series shelf.kind.now told shows of.columns of.lies of.named.within c.args.key.now tried.0 c.args.stamp found c.if_seen.result tried.2 finds
-    c.if_seen.ensures.seen))
+    c.if_seen.ensures.seen)))
