@@ -33,7 +33,7 @@ found_in shape slot columns pages places l es has stamp = ap (λ (m : Elements).
 -- what a stamp addresses, as a list of one or none
 seen_at : (t : Tried ℤ) (m : Elements) (es : List Element) → ((at : ℤ) → get m at ≡ element_at at es) → element_at_stamp (reached t) m ≡ seen (option_to_list (element_from t es))
 seen_at (Err why) m es same = refl
-seen_at (Ok at) m es same = ap seen (listed (get m at) ∙ ap (λ (o : Option Row). option_to_list (option_map (λ (row : Row). (at, row)) o)) (same at)) where
+seen_at (Ok at) m es same = ap seen (listed (get m at) ∙ ap (λ (o : Option Row). option_to_list (option_map {U = Element} (λ row. (at, row)) o)) (same at)) where
   listed : (o : Option Row) → map {B = Element} (λ r. (at, r)) (option_to_list o) ≡ option_to_list (option_map (λ row. (at, row)) o)
   listed (Some row) = refl
   listed None = refl

@@ -109,7 +109,7 @@ unfolding outcome carried_out delete_range
 clips key from to slot l on = on_ok _ (series_of l slot on.s) _ (wanted-there key (catalogue_of l).series (series_of l slot on.s) on.listed)
 
 -- none is counted where none stands
-no_row : (at : ℤ) (o : Option Row) → option_map (λ (row : Row). (at, row)) o ≡ None → o ≡ None
+no_row : (at : ℤ) (o : Option Row) → option_map {U = Element} (λ row. (at, row)) o ≡ None → o ≡ None
 no_row at None none = refl
 no_row at (Some row) none = absurd (cc)
 
