@@ -1,6 +1,6 @@
 // The first bad page of damaged volumes.
 use crate::volumes::{
-    CONTAINERS, DAY, JOURNAL, PAGE, SERIES, THIRD, empty, is_bad, is_good, page_of, place,
+    CONTAINERS, DAY, JOURNAL, PAGE, SERIES, THIRD, empty, is_bad, is_good, only, page_of, place,
     record_of, with_series, write,
 };
 use std::test::Fail;
@@ -28,9 +28,10 @@ const DAMAGES: [(u64, &[u8], u32); 10] = [
 fn a_damaged_page_is_told(rt: HostRuntime) -> Result<(), Fail> {
     let alloc = rt.alloc();
     for (at, bytes, page) in DAMAGES {
-        let mut site = empty(alloc, 1)?;
-        write(&mut site, at, bytes)?;
-        assert!(rt; is_bad(&rt, alloc, &mut site, page)?, "{page} at {at}");
+        let mut sites = empty(alloc, 1)?;
+        let site = only(&mut sites)?;
+        write(site, at, bytes)?;
+        assert!(rt; is_bad(&rt, alloc, site, page)?, "{page} at {at}");
     }
     Ok(())
 }
@@ -52,9 +53,10 @@ const BROKEN: [(u64, &[u8], u32); 6] = [
 fn a_broken_definition_is_told_by_its_page(rt: HostRuntime) -> Result<(), Fail> {
     let alloc = rt.alloc();
     for (at, bytes, page) in BROKEN {
-        let mut site = with_series(alloc, 8)?;
-        write(&mut site, at, bytes)?;
-        assert!(rt; is_bad(&rt, alloc, &mut site, page)?, "{page} at {at}");
+        let mut sites = with_series(alloc, 8)?;
+        let site = only(&mut sites)?;
+        write(site, at, bytes)?;
+        assert!(rt; is_bad(&rt, alloc, site, page)?, "{page} at {at}");
     }
     Ok(())
 }
@@ -63,8 +65,9 @@ fn a_broken_definition_is_told_by_its_page(rt: HostRuntime) -> Result<(), Fail> 
 fn bytes_that_are_no_volume_have_page_0(rt: HostRuntime) -> Result<(), Fail> {
     let alloc = rt.alloc();
     for len in [0, 1, 4096, 930 * 4096, 931 * 4096 + 1] {
-        let mut site = MemorySite::new(vec![in alloc; 0u8; len]?)?;
-        assert!(rt; is_bad(&rt, alloc, &mut site, 0)?);
+        let mut sites = vec![in alloc; MemorySite::new(vec![in alloc; 0u8; len]?)?]?;
+        let site = only(&mut sites)?;
+        assert!(rt; is_bad(&rt, alloc, site, 0)?);
     }
     Ok(())
 }
@@ -76,10 +79,11 @@ fn of_neighbours_that_fit_one_page_the_first_is_told(rt: HostRuntime) -> Result<
     let third = page_of(alloc, 0, &[THIRD])?;
     let fourth = page_of(alloc, 0, &[THIRD + DAY])?;
     for (low, high, page) in [(&fourth, &third, 931), (&third, &fourth, 930)] {
-        let mut site = with_series(alloc, 8)?;
-        write(&mut site, place(930), low)?;
-        write(&mut site, place(931), high)?;
-        assert!(rt; is_bad(&rt, alloc, &mut site, page)?);
+        let mut sites = with_series(alloc, 8)?;
+        let site = only(&mut sites)?;
+        write(site, place(930), low)?;
+        write(site, place(931), high)?;
+        assert!(rt; is_bad(&rt, alloc, site, page)?);
     }
     Ok(())
 }
@@ -88,23 +92,20 @@ fn of_neighbours_that_fit_one_page_the_first_is_told(rt: HostRuntime) -> Result<
 #[test]
 fn of_pages_that_overlap_the_lowest_upper_one_is_told(rt: HostRuntime) -> Result<(), Fail> {
     let alloc = rt.alloc();
-    let mut site = with_series(alloc, 8)?;
+    let mut sites = with_series(alloc, 8)?;
+    let site = only(&mut sites)?;
     write(
-        &mut site,
+        site,
         place(930),
         &page_of(alloc, 0, &[THIRD + 3 * DAY, THIRD + 5 * DAY])?,
     )?;
     write(
-        &mut site,
+        site,
         place(931),
         &page_of(alloc, 0, &[THIRD, THIRD + 6 * DAY])?,
     )?;
-    write(
-        &mut site,
-        place(932),
-        &page_of(alloc, 0, &[THIRD + 4 * DAY])?,
-    )?;
-    assert!(rt; is_bad(&rt, alloc, &mut site, 931)?);
+    write(site, place(932), &page_of(alloc, 0, &[THIRD + 4 * DAY])?)?;
+    assert!(rt; is_bad(&rt, alloc, site, 931)?);
     Ok(())
 }
 
@@ -112,10 +113,11 @@ fn of_pages_that_overlap_the_lowest_upper_one_is_told(rt: HostRuntime) -> Result
 #[test]
 fn the_first_bad_page_of_a_later_list_is_told(rt: HostRuntime) -> Result<(), Fail> {
     let alloc = rt.alloc();
-    let mut site = empty(alloc, 8192)?;
+    let mut sites = empty(alloc, 8192)?;
+    let site = only(&mut sites)?;
     for page in [9121, 9120, 5027, 5026, 5025, 931] {
-        write(&mut site, place(page), &[3])?;
-        assert!(rt; is_bad(&rt, alloc, &mut site, page)?);
+        write(site, place(page), &[3])?;
+        assert!(rt; is_bad(&rt, alloc, site, page)?);
     }
     Ok(())
 }
@@ -124,14 +126,15 @@ fn the_first_bad_page_of_a_later_list_is_told(rt: HostRuntime) -> Result<(), Fai
 #[test]
 fn a_page_is_judged_as_the_journal_has_it(rt: HostRuntime) -> Result<(), Fail> {
     let alloc = rt.alloc();
-    let mut site = with_series(alloc, 8)?;
+    let mut sites = with_series(alloc, 8)?;
+    let site = only(&mut sites)?;
     let mut image = page_of(alloc, 0, &[THIRD])?;
-    write(&mut site, place(930), &image)?;
+    write(site, place(930), &image)?;
     let line = b"container c1 charge 1 of 8 series 2\nok 1 of 8\n";
-    assert!(rt; is_good(&rt, alloc, &mut site, line)?);
+    assert!(rt; is_good(&rt, alloc, site, line)?);
     image.clear();
     image.resize(4096, 4)?;
-    write(&mut site, JOURNAL, &record_of(alloc, 930, &image)?)?;
-    assert!(rt; is_bad(&rt, alloc, &mut site, 930)?);
+    write(site, JOURNAL, &record_of(alloc, 930, &image)?)?;
+    assert!(rt; is_bad(&rt, alloc, site, 930)?);
     Ok(())
 }

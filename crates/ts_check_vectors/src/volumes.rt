@@ -35,32 +35,43 @@ pub(crate) fn write(site: &mut MemorySite, at: u64, bytes: &[u8]) -> Result<(), 
     Err(Fail::from("no such place"))
 }
 
-/// A volume with so many element pages that holds nothing.
-pub(crate) fn empty(alloc: Global, pages: u32) -> Result<MemorySite, Fail> {
+/// The site of a list of one. What owns a site in these tests is such a list: its drop is proved once, and that of a site
+/// in each place where a function ends.
+pub(crate) fn only(sites: &mut [MemorySite]) -> Result<&mut MemorySite, Fail> {
+    match sites.first_mut() {
+        Some(site) => Ok(site),
+        None => Err(Fail::from("no site")),
+    }
+}
+
+/// A volume with so many element pages that holds nothing, in a list of one.
+pub(crate) fn empty(alloc: Global, pages: u32) -> Result<Vec<MemorySite>, Fail> {
     if pages > 65536 {
         return Err(Fail::from("too many pages"));
     }
-    let mut site = MemorySite::new(Vec::new(alloc))?;
+    let mut sites = vec![in alloc; MemorySite::new(Vec::new(alloc))?]?;
+    let site = only(&mut sites)?;
     if site.len() > 0 || site.resize(PAGE * (930 + u64::from(pages))).is_err() {
         return Err(Fail::from("no room"));
     }
-    write(&mut site, 0, b"TSVOLUME\x02")?;
-    write(&mut site, 9, &pages.to_be_bytes())?;
-    Ok(site)
+    write(site, 0, b"TSVOLUME\x02")?;
+    write(site, 9, &pages.to_be_bytes())?;
+    Ok(sites)
 }
 
 /// The same with a row type of one integer, a container of 8 pages of it, and irregular series `x` and `y` there.
-pub(crate) fn with_series(alloc: Global, pages: u32) -> Result<MemorySite, Fail> {
-    let mut site = empty(alloc, pages)?;
+pub(crate) fn with_series(alloc: Global, pages: u32) -> Result<Vec<MemorySite>, Fail> {
+    let mut sites = empty(alloc, pages)?;
+    let site = only(&mut sites)?;
     let row_type = PAGE * 257;
-    write(&mut site, row_type, b"\x01\x02rd")?;
-    write(&mut site, row_type + 34, b"\x01t")?;
-    write(&mut site, row_type + 67, b"\x01\x02\0\0\x01v")?;
-    write(&mut site, CONTAINERS, b"\x01\x02c1")?;
-    write(&mut site, CONTAINERS + 35, &[0, 0, 0, 8])?;
-    write(&mut site, SERIES, b"\x02\x01x")?;
-    write(&mut site, SERIES + 94, b"\x02\x01y")?;
-    Ok(site)
+    write(site, row_type, b"\x01\x02rd")?;
+    write(site, row_type + 34, b"\x01t")?;
+    write(site, row_type + 67, b"\x01\x02\0\0\x01v")?;
+    write(site, CONTAINERS, b"\x01\x02c1")?;
+    write(site, CONTAINERS + 35, &[0, 0, 0, 8])?;
+    write(site, SERIES, b"\x02\x01x")?;
+    write(site, SERIES + 94, b"\x02\x01y")?;
+    Ok(sites)
 }
 
 /// A page of the series in slot 0 or 1, with an element at each of these stamps; each of them has the value 5.

@@ -1,42 +1,55 @@
 // Entries and rows of series, as a user reads them.
+use crate::said::is_said;
 use std::alloc::Global;
+use std::mem;
 use std::test::Fail;
 use ts_base::{Name, Reply, Stamp};
 use ts_entry::EntryVisitor;
-use ts_row::{Column, ColumnKind, RowType};
+use ts_row::{Column, ColumnKind, Row, RowType};
 use ts_say::{DayText, EntryLines, say_joined, say_line};
 
-// A row type with a column of each kind, and one more integer.
-fn kinds(alloc: Global) -> Result<RowType, Fail> {
-    let Some(stamp) = Name::read(alloc, b"t")? else {
-        return Err(Fail::from("no name"));
-    };
+/// A column of each kind, and one more integer.
+static KINDS: [(&[u8], ColumnKind); 7] = [
+    (b"a", ColumnKind::SmallInt),
+    (b"b", ColumnKind::Integer),
+    (b"c", ColumnKind::BigInt),
+    (
+        b"d",
+        ColumnKind::Decimal {
+            digits: 5,
+            scale: 2,
+        },
+    ),
+    (
+        b"e",
+        ColumnKind::Decimal {
+            digits: 20,
+            scale: 3,
+        },
+    ),
+    (b"f", ColumnKind::VarChar { length: 5 }),
+    (b"g", ColumnKind::Integer),
+];
+
+static INTEGERS: [(&[u8], ColumnKind); 1] = [(b"n", ColumnKind::Integer)];
+
+fn columns(alloc: Global, all: &[(&[u8], ColumnKind)]) -> Result<Vec<Column>, Fail> {
     let mut columns = Vec::new(alloc);
-    let long = ColumnKind::Decimal {
-        digits: 20,
-        scale: 3,
-    };
-    let short = ColumnKind::Decimal {
-        digits: 5,
-        scale: 2,
-    };
-    let text = ColumnKind::VarChar { length: 5 };
-    let all: [(&[u8], ColumnKind); 7] = [
-        (b"a", ColumnKind::SmallInt),
-        (b"b", ColumnKind::Integer),
-        (b"c", ColumnKind::BigInt),
-        (b"d", short),
-        (b"e", long),
-        (b"f", text),
-        (b"g", ColumnKind::Integer),
-    ];
     for (name, kind) in all {
         let Some(name) = Name::read(alloc, name)? else {
             return Err(Fail::from("no name"));
         };
-        columns.push(Column { name, kind })?;
+        columns.push(Column { name, kind: *kind })?;
     }
-    Ok(RowType::make(alloc, stamp, columns)?)
+    Ok(columns)
+}
+
+// A row type of these columns.
+fn row_type(alloc: Global, all: &[(&[u8], ColumnKind)]) -> Result<RowType, Fail> {
+    let Some(stamp) = Name::read(alloc, b"t")? else {
+        return Err(Fail::from("no name"));
+    };
+    Ok(RowType::make(alloc, stamp, columns(alloc, all)?)?)
 }
 
 // The bytes of a row of these kinds: -2, 12345, -1, 1.05, -0.007, 'it''s', null.
@@ -46,9 +59,8 @@ const ROW: [u8; 55] = [
     4, 105, 116, 39, 115, 0, 0, 0, 0, 0, 0,
 ];
 
-// An element and a stamp without one, on two days, and an element of the last moment before 1970.
-fn entries(alloc: Global, out: &mut Reply) -> Result<(), Fail> {
-    let kind = kinds(alloc)?;
+// Says an element and a stamp without one, on two days, and an element of the last moment before 1970.
+fn say_entries(out: &mut Reply, kind: &RowType, row: &[u8]) -> Result<(), Fail> {
     let (Some(first), Some(second), Some(third)) = (
         Stamp::of(1),
         Stamp::of(272_605_567_890),
@@ -56,64 +68,88 @@ fn entries(alloc: Global, out: &mut Reply) -> Result<(), Fail> {
     ) else {
         return Err(Fail::from("no stamp"));
     };
-    if kind.width() != ROW.len() {
+    if kind.width() != row.len() {
         return Err(Fail::from("no row"));
     }
     let mut lines = EntryLines::behind(out);
-    lines.element(&kind, first, &ROW)?;
-    lines.blank(&kind, second)?;
-    lines.element(&kind, third, &ROW)?;
+    lines.element(kind, first, row)?;
+    lines.blank(kind, second)?;
+    lines.element(kind, third, row)?;
     Ok(())
 }
 
-#[test]
-fn entries_are_said_from_their_bytes(rt: HostRuntime) -> Result<(), Fail> {
-    let mut out = Reply::new(rt.alloc());
-    entries(rt.alloc(), &mut out)?;
-    let wanted: &[u8] = b"1970-01-01 00:00:00.00001 -2,12345,-1,1.05,-0.007,'it''s',null
+fn entries(alloc: Global) -> Result<Reply, Fail> {
+    let kind = row_type(alloc, &KINDS)?;
+    let mut out = Reply::new(alloc);
+    let said = say_entries(&mut out, &kind, &ROW);
+    mem::drop(kind);
+    said?;
+    Ok(out)
+}
+
+static ENTRIES: &[u8] = b"1970-01-01 00:00:00.00001 -2,12345,-1,1.05,-0.007,'it''s',null
 1970-02-01 13:14:15.67890 none
 1969-12-31 23:59:59.99999 -2,12345,-1,1.05,-0.007,'it''s',null
 ";
-    assert!(rt; out.as_slice() == wanted);
-    Ok(())
-}
-
-// A row type of one integer.
-fn integers(alloc: Global) -> Result<RowType, Fail> {
-    let (Some(stamp), Some(name)) = (Name::read(alloc, b"t")?, Name::read(alloc, b"n")?) else {
-        return Err(Fail::from("no name"));
-    };
-    let kind = ColumnKind::Integer;
-    let columns = vec![in alloc; Column { name, kind }]?;
-    Ok(RowType::make(alloc, stamp, columns)?)
-}
-
-// A row in a line, and two series at stamps at which one of them has a row.
-fn rows(alloc: Global, out: &mut Reply) -> Result<(), Fail> {
-    let first = kinds(alloc)?;
-    let second = integers(alloc)?;
-    let (Some(row), Some(other), Some(stamp)) = (
-        first.decode(&ROW)?,
-        second.decode(&[1, 255, 255, 255, 255])?,
-        Stamp::of(0),
-    ) else {
-        return Err(Fail::from("no row"));
-    };
-    let mut day = DayText::first();
-    say_line(out, &mut day, &second, stamp, &other)?;
-    say_joined(out, &mut day, &second, &first, stamp, None, Some(&row))?;
-    say_joined(out, &mut day, &first, &second, stamp, None, Some(&other))?;
-    Ok(())
-}
 
 #[test]
-fn rows_of_two_series_are_said_side_by_side(rt: HostRuntime) -> Result<(), Fail> {
-    let mut out = Reply::new(rt.alloc());
-    rows(rt.alloc(), &mut out)?;
-    let wanted: &[u8] = b"1970-01-01 00:00:00.00000 -1
+fn entries_are_said_from_their_bytes(rt: HostRuntime) {
+    assert!(rt; is_said(entries(rt.alloc()), ENTRIES));
+}
+
+/// A row type and a row of it.
+type Typed<'a> = (&'a RowType, &'a Row);
+
+// Says a row in a line, and two series at stamps at which one of them has a row.
+fn say_rows(out: &mut Reply, first: Typed<'_>, second: Typed<'_>) -> Result<(), Fail> {
+    let Some(stamp) = Stamp::of(0) else {
+        return Err(Fail::from("no stamp"));
+    };
+    let ((kind, row), (other_kind, other)) = (first, second);
+    let mut day = DayText::first();
+    say_line(out, &mut day, other_kind, stamp, other)?;
+    say_joined(out, &mut day, other_kind, kind, stamp, None, Some(row))?;
+    say_joined(out, &mut day, kind, other_kind, stamp, None, Some(other))?;
+    Ok(())
+}
+
+// The row with these bytes.
+fn row(kind: &RowType, bytes: &[u8]) -> Result<Row, Fail> {
+    match kind.decode(bytes)? {
+        Some(row) => Ok(row),
+        None => Err(Fail::from("no row")),
+    }
+}
+
+// Says the rows of these row types.
+fn say_rows_of(out: &mut Reply, kind: &RowType, other_kind: &RowType) -> Result<(), Fail> {
+    let first = row(kind, &ROW)?;
+    let second = row(other_kind, &[1, 255, 255, 255, 255])?;
+    let said = say_rows(out, (kind, &first), (other_kind, &second));
+    mem::drop((first, second));
+    said
+}
+
+fn say_both(alloc: Global, out: &mut Reply) -> Result<(), Fail> {
+    let kind = row_type(alloc, &KINDS)?;
+    let other_kind = row_type(alloc, &INTEGERS)?;
+    let said = say_rows_of(out, &kind, &other_kind);
+    mem::drop((kind, other_kind));
+    said
+}
+
+fn rows(alloc: Global) -> Result<Reply, Fail> {
+    let mut out = Reply::new(alloc);
+    say_both(alloc, &mut out)?;
+    Ok(out)
+}
+
+static ROWS: &[u8] = b"1970-01-01 00:00:00.00000 -1
 1970-01-01 00:00:00.00000 null,-2,12345,-1,1.05,-0.007,'it''s',null
 1970-01-01 00:00:00.00000 null,null,null,null,null,null,null,-1
 ";
-    assert!(rt; out.as_slice() == wanted);
-    Ok(())
+
+#[test]
+fn rows_of_two_series_are_said_side_by_side(rt: HostRuntime) {
+    assert!(rt; is_said(rows(rt.alloc()), ROWS));
 }
