@@ -81,10 +81,12 @@ fn has_value(
 fn a_checkpoint_comes_where_the_next_record_has_no_room(rt: HostRuntime) -> Result<(), Fail> {
     let alloc = rt.alloc();
     let bytes = bytes_after(&rt, alloc, ELEMENT)?;
-    let mut full = updated(&rt, alloc, &bytes, 254, NEVER)?;
-    assert_eq!(rt; records(&bytes_of(alloc, &mut full)?), 254);
-    let mut first = updated(&rt, alloc, &bytes, 255, NEVER)?;
-    assert_eq!(rt; records(&bytes_of(alloc, &mut first)?), 1);
+    let mut fulls = updated(&rt, alloc, &bytes, 254, NEVER)?;
+    let full = only(&mut fulls)?;
+    assert_eq!(rt; records(&bytes_of(alloc, full)?), 254);
+    let mut firsts = updated(&rt, alloc, &bytes, 255, NEVER)?;
+    let first = only(&mut firsts)?;
+    assert_eq!(rt; records(&bytes_of(alloc, first)?), 1);
     Ok(())
 }
 
@@ -110,7 +112,7 @@ fn all_have(
 // the update of this number.
 fn stops_around(rt: &(impl Threads + Sync), alloc: Global, last: u32) -> Result<bool, Fail> {
     let bytes = &bytes_after(rt, alloc, ELEMENT)?;
-    let checkpoint = updated(rt, alloc, bytes, last, NEVER)?.calls();
+    let checkpoint = only(&mut updated(rt, alloc, bytes, last, NEVER)?)?.calls();
     for call in checkpoint.saturating_sub(10)..checkpoint.saturating_add(14) {
         let mut sites = updated(rt, alloc, bytes, 260, call)?;
         let site = only(&mut sites)?;
@@ -161,7 +163,7 @@ fn a_stop_in_an_opening_over_a_full_journal_leaves_its_updates(
 ) -> Result<(), Fail> {
     let alloc = rt.alloc();
     let bytes = bytes_after(&rt, alloc, ELEMENT)?;
-    let full = bytes_of(alloc, &mut updated(&rt, alloc, &bytes, 254, NEVER)?)?;
+    let full = bytes_of(alloc, only(&mut updated(&rt, alloc, &bytes, 254, NEVER)?)?)?;
     // The value of the last update, and of none behind it.
     assert!(rt; stops_in_opening(&rt, alloc, &full, 254)?);
     Ok(())

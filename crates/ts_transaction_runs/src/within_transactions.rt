@@ -251,7 +251,7 @@ fn all_hold(
 fn a_stop_in_a_commit_with_a_checkpoint_leaves_all_or_none(rt: HostRuntime) -> Result<(), Fail> {
     let alloc = rt.alloc();
     let bytes = bytes_after(&rt, alloc, SERIES)?;
-    let first = over_records(&rt, alloc, &bytes, INSIDE)?.calls();
+    let first = only(&mut over_records(&rt, alloc, &bytes, INSIDE)?)?.calls();
     let mut sites = over_records(&rt, alloc, &bytes, FOUR.len())?;
     let site = only(&mut sites)?;
     let end = site.calls();
