@@ -1,4 +1,0 @@
-pub mod OrderLemmas
-pub mod DenseLemmas
-pub mod StartLemmas
-pub mod ChargeLemmas
