@@ -3,7 +3,7 @@
 #include "volume.h"
 #include <pthread.h>
 
-enum { CELL = 6, ROOM = 677, METERS = 1000, EACH = 52, MOST_THREADS = 64, LISTS = 2 * MOST_THREADS };
+enum { CELL = 6, ROOM = 677, METERS = 1000, EACH = 52, MOST_THREADS = 64 };
 
 struct fold {
   int64_t sum;
@@ -19,9 +19,9 @@ struct list {
 
 static struct fold folds[METERS];
 
-static struct list lists[LISTS];
+// Two for each thread, so that they stay in the cache; they are taken in the order in which they came.
+static struct list lists[2 * MOST_THREADS];
 
-// Lists are taken in the order in which they came.
 static uint64_t came, taken;
 
 static int threads, has_ended;
@@ -57,7 +57,7 @@ static void *work(void *nothing) {
   for (;;) {
     while (taken == came && !has_ended) pthread_cond_wait(&changed, &lock);
     if (taken == came) break;
-    struct list *list = &lists[taken++ % LISTS];
+    struct list *list = &lists[taken++ % (2 * threads)];
     pthread_mutex_unlock(&lock);
     fold(list);
     pthread_mutex_lock(&lock);
@@ -71,7 +71,7 @@ static void *work(void *nothing) {
 // Reads the pages of all meters, and folds them by itself where it is alone.
 static int read_all(int volume, int folding) {
   for (uint32_t meter = 0; meter < METERS; meter++) {
-    struct list *list = &lists[came % LISTS];
+    struct list *list = &lists[came % (2 * threads)];
     pthread_mutex_lock(&lock);
     while (list->is_full) pthread_cond_wait(&changed, &lock);
     pthread_mutex_unlock(&lock);
