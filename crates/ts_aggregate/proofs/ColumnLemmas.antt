@@ -7,7 +7,6 @@ use Rattle.ts_row.specs.declared.kind.ColumnKind.TheVariants.{SmallInt, Integer,
 use Rattle.ts_row.specs.declared.value.Value.{Value}
 use Rattle.ts_row.specs.declared.value.Value.TheVariants.{Null, Number, Text}
 use Rattle.ts_row.specs.Decoding.{number_in}
-use Rattle.ts_expr.specs.declared.tally.Tally.{Tally}
 use Rattle.ts_expr.specs.declared.tally.Tally.TheVariants as tally
 use Rattle.ts_expr.specs.Binding.{is_text_kind}
 use Rattle.ts_expr.specs.Sums.{Sums}

@@ -1,6 +1,7 @@
 pub mod CellsLemmas
 pub mod ColumnLemmas
 pub mod TotalsLemmas
+pub mod GatheredLemmas
 pub mod KnownLemmas
 pub mod GroupLemmas
 pub mod StartLemmas

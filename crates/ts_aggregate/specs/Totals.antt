@@ -1,5 +1,5 @@
 -- What is known of the numbers of a column in cells, and the tallies that it is enough for.
-use Rattle.std.specs.Prelude.{◌≡◌, ℕ, ◌+◌, ◌*◌, ◌^◌, ◌≤◌, Bool, true, false, is_some, if◌then◌else◌, nat_lt}
+use Rattle.std.specs.Prelude.{◌≡◌, ℕ, ◌*◌, ◌^◌, ◌≤◌, Bool, true, false, is_some, if◌then◌else◌, nat_lt}
 use Rattle.std.specs.Prelude.{ℤ, pos, ◌+ℤ◌, unsigned_abs}
 use Rattle.std.specs.Prelude.{IsTrue, IfSome, List, length, map, fold}
 use Rattle.std.specs.List.{list_all}

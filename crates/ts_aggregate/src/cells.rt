@@ -1,6 +1,6 @@
 // Cells that stand one behind the other, and the values of a column in them: NULLs, those of hidden elements and cells
 // without one are passed over.
-ghost use Rattle.std.specs.Prelude.{◌≡◌, ◌+◌, ◌<◌, [], MatchOption, length};
+ghost use Rattle.std.specs.Prelude.{◌≡◌, ◌+◌, ◌<◌, [], IsTrue, MatchOption, length};
 ghost use Rattle.ts_aggregate.specs.Column;
 ghost use Rattle.ts_aggregate.specs.Column.{found, AreWhole, IsNext, IsLast};
 
@@ -91,10 +91,20 @@ pub(crate) fn has_value(position: ValuePosition, cell: &[u8]) -> bool
     requires size { length cell.now ≡ position.size }
     ensures { result ≡ Column.has_value position cell.now }
 {
-    // Of a row's first column one byte tells both: NULL's, whose 1 has no mark.
-    cell[0] == 1
-        && cell[position.place] == 1
-        && (position.place == position.front || cell[position.front] < MARK)
+    has_value_at(position, cell, position.place == position.front)
+}
+
+/// The same where it is known whether the column is the first of its row: of that one byte tells both, NULL's, whose 1
+/// has no mark.
+#[inline(always)]
+pub(crate) fn has_value_at(position: ValuePosition, cell: &[u8], is_first: bool) -> bool
+    requires front { position.front < position.size }
+    requires place { position.place + position.width < position.size }
+    requires size { length cell.now ≡ position.size }
+    requires first { IsTrue is_first → position.place ≡ position.front }
+    ensures { result ≡ Column.has_value position cell.now }
+{
+    cell[0] == 1 && cell[position.place] == 1 && (is_first || cell[position.front] < MARK)
 }
 
 /// The bytes of its value.

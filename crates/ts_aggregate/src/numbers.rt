@@ -9,7 +9,7 @@ ghost use Rattle.ts_aggregate.specs.Column.{found, AreWhole, read_numbers, long_
 ghost use Rattle.ts_aggregate.specs.Totals.{bytes_in, sized_numbers, AreKnown};
 ghost use Rattle.ts_aggregate.specs.Totals as ThatTotals;
 
-use crate::cells::{Cells, bytes_of, has_value};
+use crate::cells::{Cells, bytes_of, has_value_at};
 use ts_row::{ColumnKind, SHORT_DIGITS};
 
 /// The most values that are counted or summed up.
@@ -56,10 +56,9 @@ struct Gathered {
     greatest: i128,
 }
 
-// The same of numbers of at most four bytes.
+// The same of numbers of at most four bytes, but for how many they are.
 #[derive(Clone, Copy)]
 struct GatheredShort {
-    count: u64,
     sum: i64,
     least: i64,
     greatest: i64,
@@ -101,10 +100,27 @@ fn sized_totals(cells: Cells<'_>, size: NumberSize, sought: bool) -> Totals
     ensures known { AreKnown (sized_numbers size cells.entry) result }
     ensures sought { IsTrue sought → IsSome result.bests }
 {
-    if sought {
-        totals_by_size(cells, size, true)
+    if cells.position.place == cells.position.front {
+        totals_if_sought(cells, size, sought, true)
     } else {
-        totals_by_size(cells, size, false)
+        totals_if_sought(cells, size, sought, false)
+    }
+}
+
+// The same by loops for a column that is the first of its row, and by others for one that isn't.
+#[inline(always)]
+fn totals_if_sought(cells: Cells<'_>, size: NumberSize, sought: bool, is_first: bool) -> Totals
+    requires few { cells.left ≤ 4064 }
+    requires whole { AreWhole cells }
+    requires width { cells.position.width ≡ bytes_in size }
+    requires first { IsTrue is_first → cells.position.place ≡ cells.position.front }
+    ensures known { AreKnown (sized_numbers size cells.entry) result }
+    ensures sought { IsTrue sought → IsSome result.bests }
+{
+    if sought {
+        totals_by_size(cells, size, true, is_first)
+    } else {
+        totals_by_size(cells, size, false, is_first)
     }
 }
 
@@ -121,36 +137,38 @@ fn size_of(kind: ColumnKind) -> NumberSize
 
 // The same by a loop for the size.
 #[inline(always)]
-fn totals_by_size(cells: Cells<'_>, size: NumberSize, sought: bool) -> Totals
+fn totals_by_size(cells: Cells<'_>, size: NumberSize, sought: bool, is_first: bool) -> Totals
     requires few { cells.left ≤ 4064 }
     requires whole { AreWhole cells }
     requires width { cells.position.width ≡ bytes_in size }
+    requires first { IsTrue is_first → cells.position.place ≡ cells.position.front }
     ensures known { AreKnown (sized_numbers size cells.entry) result }
     ensures sought { IsTrue sought → IsSome result.bests }
 {
     match size {
-        NumberSize::Two => short_totals(cells, NumberSize::Two, sought),
-        NumberSize::Four => short_totals(cells, NumberSize::Four, sought),
-        NumberSize::Eight => long_totals(cells, NumberSize::Eight, sought),
-        NumberSize::Sixteen => long_totals(cells, NumberSize::Sixteen, sought),
+        NumberSize::Two => short_totals(cells, NumberSize::Two, sought, is_first),
+        NumberSize::Four => short_totals(cells, NumberSize::Four, sought, is_first),
+        NumberSize::Eight => long_totals(cells, NumberSize::Eight, sought, is_first),
+        NumberSize::Sixteen => long_totals(cells, NumberSize::Sixteen, sought, is_first),
     }
 }
 
-// The same of numbers of at most four bytes, whose sum is one of 64 bits.
+// The same of numbers of at most four bytes, whose sum is one of 64 bits. Cells without one are counted, which are few.
 #[inline(always)]
-fn short_totals(cells: Cells<'_>, size: NumberSize, sought: bool) -> Totals
+fn short_totals(cells: Cells<'_>, size: NumberSize, sought: bool, is_first: bool) -> Totals
     requires few { cells.left ≤ 4064 }
     requires whole { AreWhole cells }
     requires width { cells.position.width ≡ bytes_in size }
     requires short { bytes_in size ≤ 4 }
+    requires first { IsTrue is_first → cells.position.place ≡ cells.position.front }
     ensures known { AreKnown (sized_numbers size cells.entry) result }
     ensures sought { IsTrue sought → IsSome result.bests }
 {
     let position = cells.position;
     let mut left = cells.left;
     let mut bytes = cells.bytes;
+    let mut missing = 0;
     let mut so_far = GatheredShort {
-        count: 0,
         sum: 0,
         least: i64::MAX,
         greatest: i64::MIN,
@@ -159,19 +177,21 @@ fn short_totals(cells: Cells<'_>, size: NumberSize, sought: bool) -> Totals
         let (cell, rest) = bytes.split_at(position.size);
         bytes = rest;
         left -= 1;
-        if has_value(position, cell) {
+        if has_value_at(position, cell, is_first) {
             let number = short_number_of_size(size, bytes_of(position, cell));
             so_far = with_short_number(so_far, number, sought);
+        } else {
+            missing += 1;
         }
     }
-    totals_gathered(widened(so_far), sought)
+    totals_gathered(widened((cells.left - missing) as u64, so_far), sought)
 }
 
-fn widened(short: GatheredShort) -> Gathered
-    ensures { result ≡ ThatTotals.gathered short.count short.sum short.least short.greatest }
+fn widened(count: u64, short: GatheredShort) -> Gathered
+    ensures { result ≡ ThatTotals.gathered count short.sum short.least short.greatest }
 {
     Gathered {
-        count: short.count,
+        count,
         sum: short.sum as i128,
         least: short.least as i128,
         greatest: short.greatest as i128,
@@ -181,17 +201,13 @@ fn widened(short: GatheredShort) -> Gathered
 // With one number more.
 #[inline(always)]
 fn with_short_number(so_far: GatheredShort, number: i64, sought: bool) -> GatheredShort
-    requires few { so_far.count < 4064 }
-    requires room { unsigned_abs so_far.sum ≤ so_far.count * 2 ^ 31 }
+    requires room { unsigned_abs so_far.sum ≤ 4063 * 2 ^ 31 }
     requires short { unsigned_abs number ≤ 2 ^ 31 }
-    ensures count { result.count ≡ so_far.count + 1 }
-    ensures room { unsigned_abs result.sum ≤ result.count * 2 ^ 31 }
     ensures sum { result.sum ≡ so_far.sum +ℤ number }
     ensures least { IsTrue sought → result.least ≡ int_min so_far.least number }
     ensures greatest { IsTrue sought → result.greatest ≡ int_max so_far.greatest number }
 {
     GatheredShort {
-        count: so_far.count + 1,
         sum: so_far.sum + number,
         least: if sought {
             so_far.least.min(number)
@@ -223,10 +239,11 @@ fn short_number_of_size(size: NumberSize, bytes: &[u8]) -> i64
 
 // The same of numbers of more bytes.
 #[inline(always)]
-fn long_totals(cells: Cells<'_>, size: NumberSize, sought: bool) -> Totals
+fn long_totals(cells: Cells<'_>, size: NumberSize, sought: bool, is_first: bool) -> Totals
     requires few { cells.left ≤ 4064 }
     requires whole { AreWhole cells }
     requires width { cells.position.width ≡ bytes_in size }
+    requires first { IsTrue is_first → cells.position.place ≡ cells.position.front }
     ensures known { AreKnown (sized_numbers size cells.entry) result }
     ensures sought { IsTrue sought → IsSome result.bests }
 {
@@ -243,7 +260,7 @@ fn long_totals(cells: Cells<'_>, size: NumberSize, sought: bool) -> Totals
         let (cell, rest) = bytes.split_at(position.size);
         bytes = rest;
         left -= 1;
-        if has_value(position, cell) {
+        if has_value_at(position, cell, is_first) {
             let number = number_of_size(size, bytes_of(position, cell));
             so_far = with_number(so_far, number, sought);
         }

@@ -2,14 +2,17 @@
 use Rattle.std.proofs.Common.{◌≡◌, ℕ, ◌≤◌, true, false, nat_le, if◌then◌else◌, ℤ, Option, Some, None, List, [], ◌∷◌, ◌++◌, length, take, drop, IsTrue, refl, sym, ap, ◌∙◌, append_assoc, arith}
 use Rattle.std.specs.List.{list_all}
 use Rattle.std.proofs.lemmas.Bool.Decides.{nat_tests}
+use Rattle.std.proofs.lemmas.List.{take_all}
 use Rattle.ts_base.specs.StampText.{stamp_text}
 use Rattle.ts_row.specs.declared.kind.Column.{Column}
+use Rattle.ts_row.specs.declared.kind.ColumnKind.{ColumnKind}
 use Rattle.ts_row.specs.declared.value.Value.{Value}
-use Rattle.ts_row.specs.RowType.{column_width, is_kind, is_row_type, scale_of}
+use Rattle.ts_row.specs.declared.value.Value.TheVariants.{Null}
+use Rattle.ts_row.specs.RowType.{column_width, is_kind, is_row_type, scale_of, width_of}
 use Rattle.ts_row.specs.Row.{Values, Row}
 use Rattle.ts_row.specs.Encoding.{values_bytes, with_mark}
 use Rattle.ts_row.specs.Printed.{value_text, values_text}
-use Rattle.ts_row.specs.Decoding.{value_in, put_first, values_in}
+use Rattle.ts_row.specs.Decoding.{all_zero, value_in, put_first, values_in}
 use Rattle.ts_row.proofs.PrintLemmas.{print_more}
 use Rattle.ts_row.proofs.RowBytesLemmas.{values_in-values_bytes, with_mark-none}
 use Rattle.ts_entry.specs.Entry.{AreSeenBytes}
@@ -46,6 +49,14 @@ some_values [] bytes values some is = absurd (omega arith)
 some_values (c ∷ cs) bytes values some is =
     let parts : AreParts c cs (take (column_width c.kind) bytes) (drop (column_width c.kind) bytes) values = cut c cs bytes values is in
     omega (arith, ap length parts.are)
+
+-- the bytes of one column are all that there are
+pub whole_last : (columns cs : List Column) (c : Column) (bytes : List ℕ) → columns ≡ c ∷ cs → cs ≡ [] → length bytes ≡ width_of columns
+    → (length bytes ≡ column_width c.kind) × (bytes ≡ take (column_width c.kind) bytes)
+whole_last columns cs c bytes split none size =
+    let one : width_of columns ≡ width_of (c ∷ []) = ap width_of split ∙ ap (λ l. width_of (c ∷ l)) none in
+    let same : length bytes ≡ column_width c.kind = omega (arith, size, one) in
+    (same, sym (take_all (column_width c.kind) bytes (omega (arith, same))))
 
 -- the last value is said, and a line feed
 pub last_said : (columns cs : List Column) (c : Column) (bytes cell old new : List ℕ) (values : Values) → columns ≡ c ∷ cs → cs ≡ []
@@ -98,3 +109,12 @@ pub line_said : (columns : List Column) (stamp : ℤ) (row : Row) (old first new
 unfolding entry_line
 line_said columns stamp row old first new one two =
     two ∙ ap (λ l. l ++ values_text columns row.values ++ 10 ∷ []) one ∙ simp append_assoc
+
+-- the value of a byte 0 and others is NULL
+pub null_there : (kind : ColumnKind) (cell : List ℕ) (flag : ℕ) (rest : List ℕ) (value : Value) → cell ≡ flag ∷ rest → flag ≡ 0 → value_in kind cell ≡ Some value
+    → Null ≡ value
+null_there kind cell flag rest value split none is =
+    elim (all_zero rest) as (λ b. (if b then Some Null else None) ≡ Some value → Null ≡ value) [
+      | true ↦ λ there. cc
+      | false ↦ λ there. absurd (cc)
+    ] (ap (value_in kind) (sym (split ∙ ap (λ (n : ℕ). n ∷ rest) none)) ∙ is)

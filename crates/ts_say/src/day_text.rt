@@ -55,6 +55,16 @@ impl DayText {
         if since >= 0 && since < DAY {
             return since as u64;
         }
+        self.turn_anew(stamp)
+    }
+
+    // The same of a stamp on another day. It stands by itself, since most stamps are on the same day.
+    #[inline(never)]
+    fn turn_anew(&mut self, stamp: Stamp) -> u64
+        ensures day { day_of self.new.midnight ≡ day_of stamp }
+        ensures clock { result ≡ clock_of stamp }
+        ensures below { result < 8_640_000_000 }
+    {
         *self = DayText::of(stamp);
         clock(stamp)
     }

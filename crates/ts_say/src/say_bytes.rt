@@ -1,9 +1,9 @@
-// Values said straight from the bytes of their columns: each function takes the first column and goes on with the
-// others, at most 32 in all.
-ghost use Rattle.std.specs.Prelude.{◌≡◌, ℕ, ◌≤◌, ◌+◌, [], ◌∷◌, ◌++◌, nat_lt, if◌then◌else◌, IsTrue, OnOk, Some, length};
+// Values said straight from the bytes of their columns, at most 32.
+ghost use Rattle.std.specs.Prelude.{◌≡◌, ◌≤◌, ◌+◌, [], ◌∷◌, ◌++◌, nat_lt, if◌then◌else◌, IsTrue, OnOk, Some, length};
 ghost use Rattle.std.specs.List.{list_all};
 ghost use Rattle.std.specs.Int.{cast_signed, from_be_bytes, w64, w128};
 ghost use Rattle.ts_row.specs.declared.value.Value.{Value};
+ghost use Rattle.ts_row.specs.declared.value.Value.TheVariants.{Null};
 ghost use Rattle.ts_row.specs.RowType.{column_width, is_kind, scale_of, width_of};
 ghost use Rattle.ts_row.specs.Row.{Values};
 ghost use Rattle.ts_row.specs.Decoding.{text_in, filled_in, value_in, values_in};
@@ -27,50 +27,77 @@ pub(crate) fn say_values_in(
     ensures { OnOk result ((values : Values) → values_in columns.now bytes.now ≡ Some values
         → out.new ≡ out.old ++ values_text columns.now values ++ 10 ∷ []) }
 {
+    let Some((column, others)) = columns.split_first() else {
+        return out.push(b'\n');
+    };
+    // Of one column the bytes are all that there are.
+    if others.is_empty() {
+        return say_value_in(out, &column.kind, bytes, b'\n');
+    }
+    say_each_in(out, columns, bytes)
+}
+
+// The same of any number of columns, one by one.
+#[inline(never)]
+fn say_each_in(out: &mut Reply, columns: &[Column], bytes: &[u8]) -> Result<(), AllocError>
+    requires kinds { IsTrue (list_all (λ c. is_kind c.kind) columns.now) }
+    requires size { length bytes.now ≡ width_of columns.now }
+    ensures { OnOk result ((values : Values) → values_in columns.now bytes.now ≡ Some values
+        → out.new ≡ out.old ++ values_text columns.now values ++ 10 ∷ []) }
+{
     let Some((column, columns)) = columns.split_first() else {
         return out.push(b'\n');
     };
     let (cell, rest) = bytes.split_at(column.kind.width());
     if columns.is_empty() {
-        return say_value_in(out, column.kind, cell, b'\n');
+        return say_value_in(out, &column.kind, cell, b'\n');
     }
-    say_value_in(out, column.kind, cell, b',')?;
-    say_values_in(out, columns, rest)
+    say_value_in(out, &column.kind, cell, b',')?;
+    say_each_in(out, columns, rest)
 }
 
 // Says the value that the bytes of a column are, and a byte behind it.
 fn say_value_in(
     out: &mut Reply,
-    kind: ColumnKind,
+    kind: &ColumnKind,
     cell: &[u8],
     behind: u8,
 ) -> Result<(), AllocError>
-    requires kind { IsTrue (is_kind kind) }
-    requires size { length cell.now ≡ column_width kind }
-    ensures { OnOk result ((value : Value) → value_in kind cell.now ≡ Some value
-        → out.new ≡ out.old ++ value_text (scale_of kind) value ++ behind ∷ []) }
+    requires kind { IsTrue (is_kind kind.now) }
+    requires size { length cell.now ≡ column_width kind.now }
+    ensures { OnOk result ((value : Value) → value_in kind.now cell.now ≡ Some value
+        → out.new ≡ out.old ++ value_text (scale_of kind.now) value ++ behind ∷ []) }
 {
     let Some((flag, bytes)) = cell.split_first() else {
         return Ok(());
     };
     if *flag == 0 {
-        out.extend_from_slice(b"null")?;
-        return out.push(behind);
+        return say_null(out, behind);
     }
     say_filled_in(out, kind, bytes, behind)
 }
 
-// Says the value that bytes are, which aren't NULL's, and a byte behind it.
+// Says NULL, and a byte behind it.
+#[inline(never)]
+fn say_null(out: &mut Reply, behind: u8) -> Result<(), AllocError>
+    ensures { OnOk result (out.new ≡ out.old ++ value_text 0 Null ++ behind ∷ []) }
+{
+    out.extend_from_slice(b"null")?;
+    out.push(behind)
+}
+
+// Says the value that bytes are, which aren't NULL's, and a byte behind it. What is said in many steps stands by
+// itself, so that a whole number is said with no register kept.
 fn say_filled_in(
     out: &mut Reply,
-    kind: ColumnKind,
+    kind: &ColumnKind,
     bytes: &[u8],
     behind: u8,
 ) -> Result<(), AllocError>
-    requires kind { IsTrue (is_kind kind) }
-    requires size { length bytes.now + 1 ≡ column_width kind }
-    ensures { OnOk result ((value : Value) → filled_in kind bytes.now ≡ Some value
-        → out.new ≡ out.old ++ value_text (scale_of kind) value ++ behind ∷ []) }
+    requires kind { IsTrue (is_kind kind.now) }
+    requires size { length bytes.now + 1 ≡ column_width kind.now }
+    ensures { OnOk result ((value : Value) → filled_in kind.now bytes.now ≡ Some value
+        → out.new ≡ out.old ++ value_text (scale_of kind.now) value ++ behind ∷ []) }
 {
     match kind {
         ColumnKind::SmallInt => {
@@ -83,14 +110,41 @@ fn say_filled_in(
         }
         ColumnKind::BigInt => say_whole(out, eight_bytes(bytes), behind),
         ColumnKind::Decimal { digits, scale } => {
-            say_decimal_in(out, digits, scale, bytes)?;
-            out.push(behind)
+            say_decimal_before(out, *digits, *scale, bytes, behind)
         }
-        ColumnKind::VarChar { length } => {
-            say_text_in(out, length, bytes)?;
-            out.push(behind)
-        }
+        ColumnKind::VarChar { length } => say_text_before(out, *length, bytes, behind),
     }
+}
+
+// Says the number of a decimal that bytes are, and a byte behind it.
+#[inline(never)]
+fn say_decimal_before(
+    out: &mut Reply,
+    digits: u16,
+    scale: u16,
+    bytes: &[u8],
+    behind: u8,
+) -> Result<(), AllocError>
+    requires digits { digits ≤ MOST_DIGITS }
+    requires scale { scale ≤ digits }
+    requires size { length bytes.now ≡ (if nat_lt SHORT_DIGITS digits then 16 else 8) }
+    ensures { OnOk result (out.new ≡ out.old ++ number_text scale (if nat_lt SHORT_DIGITS digits
+        then cast_signed w128 (from_be_bytes w128 bytes.now) else cast_signed w64 (from_be_bytes w64 bytes.now))
+        ++ behind ∷ []) }
+{
+    say_decimal_in(out, digits, scale, bytes)?;
+    out.push(behind)
+}
+
+// Says the text that a length, bytes and zeros are, and a byte behind it.
+#[inline(never)]
+fn say_text_before(out: &mut Reply, most: u16, bytes: &[u8], behind: u8) -> Result<(), AllocError>
+    requires { length bytes.now ≡ most + 1 }
+    ensures { OnOk result ((value : Value) → text_in most bytes.now ≡ Some value
+        → out.new ≡ out.old ++ value_text 0 value ++ behind ∷ []) }
+{
+    say_text_in(out, most, bytes)?;
+    out.push(behind)
 }
 
 // Says the number of a decimal that bytes are.

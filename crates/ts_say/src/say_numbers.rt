@@ -16,6 +16,14 @@ pub(crate) fn say_whole(out: &mut Reply, number: i64, behind: u8) -> Result<(), 
     if number >= 0 && number < 100_000_000 {
         return say_few_digits(out, number as u32, behind);
     }
+    say_many_digits(out, number, behind)
+}
+
+// Says a whole number of any sign and size, and a byte behind it.
+#[inline(never)]
+fn say_many_digits(out: &mut Reply, number: i64, behind: u8) -> Result<(), AllocError>
+    ensures { OnOk result (out.new ≡ out.old ++ number_text 0 number ++ behind ∷ []) }
+{
     let mut buffer = Buffer::new();
     out.extend_from_slice(buffer.format(number).as_bytes())?;
     out.push(behind)

@@ -25,7 +25,7 @@ with_number-so_far-requires-clause-few c =
     let i = c.loop-left.invariant in
     let split : found_in s left bytes ≡ bytes_of s cell ∷ found_in s (left - 1) rest =
     first_of s left bytes cell rest (omega (arith, c.loop-left-test.true)) c.split_at.ensures.front c.split_at.ensures.back
-    ∙ seen s cell (found_in s (left - 1) rest) (sym c.has_value.ensures ∙ c.if-has_value.true) in
+    ∙ seen s cell (found_in s (left - 1) rest) (sym c.has_value_at.ensures ∙ c.if-has_value_at.true) in
     omega (
       arith,
       i.gathered.count,
@@ -48,8 +48,8 @@ totals_gathered-requires c =
       c.requires.few,
     )
 
-pub loop-left-preserved-then-has_value : goal.loop-left-preserved-then-has_value
-loop-left-preserved-then-has_value c =
+pub loop-left-preserved-then-has_value_at : goal.loop-left-preserved-then-has_value_at
+loop-left-preserved-then-has_value_at c =
     let s = c.args.cells.position in
     let left : ℕ = c.loop-left.left in
     let bytes : List ℕ = c.loop-left.bytes.now in
@@ -59,7 +59,7 @@ loop-left-preserved-then-has_value c =
     let some : 0 < left = omega (arith, c.loop-left-test.true) in
     let split : found_in s left bytes ≡ bytes_of s cell ∷ found_in s (left - 1) rest =
     first_of s left bytes cell rest some c.split_at.ensures.front c.split_at.ensures.back
-    ∙ seen s cell (found_in s (left - 1) rest) (sym c.has_value.ensures ∙ c.if-has_value.true) in
+    ∙ seen s cell (found_in s (left - 1) rest) (sym c.has_value_at.ensures ∙ c.if-has_value_at.true) in
     let z : ℤ = to_z w128 (of_z w128 c.number_of_size-number.result) in
     let fits = c.number_of_size-number.type_inv in
     let same : z ≡ c.number_of_size-number.result = omega (arith, ints, fits) in
@@ -94,7 +94,7 @@ loop-left-preserved c =
     let some : 0 < left = omega (arith, c.loop-left-test.true) in
     let same : found_in s left bytes ≡ found_in s (left - 1) rest =
     first_of s left bytes cell rest some c.split_at.ensures.front c.split_at.ensures.back
-    ∙ unseen s cell (found_in s (left - 1) rest) (sym c.has_value.ensures ∙ c.if-has_value.false) in
+    ∙ unseen s cell (found_in s (left - 1) rest) (sym c.has_value_at.ensures ∙ c.if-has_value_at.false) in
     record {
       whole = record {
         front = i.whole.front;

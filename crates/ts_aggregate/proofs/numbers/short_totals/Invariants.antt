@@ -1,16 +1,12 @@
 -- Those gathered and those that are left are all.
-use Rattle.std.proofs.Common.{◌-◌, ◌*◌, ◌^◌, ◌≤◌, unsigned_abs, map}
-use Rattle.ts_aggregate.specs.Column.{found_in, AreCells}
-use Rattle.ts_aggregate.specs.Totals.{number_of_size, sized_numbers, gathered}
-use Rattle.ts_aggregate.proofs.TotalsLemmas.{SoFar}
+use Rattle.std.proofs.Common.{◌+◌, ◌-◌, ◌≤◌}
+use Rattle.ts_aggregate.proofs.GatheredLemmas.{AreGathered}
 use Rattle.ts_aggregate.proofs.numbers.short_totals.Given as goal
 
 abbrev pub invariant-loop-left : goal.invariant-loop-left
 invariant-loop-left l = record {
-  whole : AreCells l.cells.position l.left l.bytes;
-  room : unsigned_abs l.so_far.sum ≤ l.so_far.count * 2 ^ 31;
-  gathered : SoFar (2 ^ 63 - 1) (sized_numbers l.size l.cells) l.sought (gathered l.so_far.count l.so_far.sum l.so_far.least l.so_far.greatest)
-      (map (number_of_size l.size) (found_in l.cells.position l.left l.bytes));
+  missing : l.missing + l.left ≤ l.cells.left;
+  gathered : AreGathered l.size l.sought l.cells l.left l.bytes (l.cells.left - l.left - l.missing) l.so_far;
 }
 
 abbrev pub decreases-loop-left : goal.decreases-loop-left

@@ -1,4 +1,4 @@
-use Rattle.std.proofs.Common.{◌+◌, ◌∙◌, arith}
+use Rattle.std.proofs.Common.{◌+◌, arith}
 use Rattle.ts_aggregate.proofs.PieceLemmas.{start_before}
 use Rattle.ts_aggregate.proofs.run.offsets_before.Goals as goal
 

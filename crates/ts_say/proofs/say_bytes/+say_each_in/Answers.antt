@@ -3,7 +3,7 @@ use Rattle.std.proofs.Common.{ℕ, take, drop, ap, ◌∙◌, arith}
 use Rattle.std.proofs.lemmas.Grind.{common_steps}
 use Rattle.std.proofs.lemmas.Result.{on_ok_weaker}
 use Rattle.ts_say.proofs.BytesLemmas.{last_said, more_said}
-use Rattle.ts_say.proofs.say_bytes.+say_values_in.Goals as goal
+use Rattle.ts_say.proofs.say_bytes.+say_each_in.Goals as goal
 
 pub returns-then-is_empty : goal.returns-then-is_empty
 returns-then-is_empty t c =
@@ -14,8 +14,8 @@ returns-then-is_empty t c =
 
 pub returns : goal.returns
 returns t c =
-    on_ok_weaker c.say_values_in.result
+    on_ok_weaker c.say_each_in.result
     (λ others values is. more_said c.args.columns.now c.in-Some.columns.now c.in-Some.column.now c.args.bytes.now c.split_at.result.0.now c.split_at.result.1.now
-    c.args.out.now c.say_value_in-2.new.out c.say_values_in.new.out values c.in-Some.ensures.cases.0 (grind (arith, common_steps))
+    c.args.out.now c.say_value_in-2.new.out c.say_each_in.new.out values c.in-Some.ensures.cases.0 (grind (arith, common_steps))
     (c.split_at.ensures.front ∙ ap (λ (w : ℕ). take w c.args.bytes.now) c.width.ensures) (c.split_at.ensures.back ∙ ap (λ (w : ℕ). drop w c.args.bytes.now) c.width.ensures)
-    c.in_ok-say_value_in.ensures others is) c.say_values_in.ensures
+    c.in_ok-say_value_in.ensures others is) c.say_each_in.ensures
