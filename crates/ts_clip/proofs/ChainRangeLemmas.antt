@@ -30,7 +30,7 @@ within_low from to e es low = rw (int_lt_yes e.0 from low) refl
 within_high : (from to : ℤ) (e : Element) (es : List Element) → from ≤ℤ e.0 → to <ℤ e.0 → within_range from to (e ∷ es) ≡ within_range from to es
 within_high from to e es low high = rw (int_lt_no e.0 from low, int_lt_yes to e.0 high) refl
 
-within_here : (from to : ℤ) (e : Element) (es : List Element) → from ≤ℤ e.0 → e.0 ≤ℤ to → within_range from to (e ∷ es) ≡ e ∷ within_range from to es
+pub within_here : (from to : ℤ) (e : Element) (es : List Element) → from ≤ℤ e.0 → e.0 ≤ℤ to → within_range from to (e ∷ es) ≡ e ∷ within_range from to es
 within_here from to e es low high = rw (int_lt_no e.0 from low, int_lt_no to e.0 high) refl
 
 -- none of the earlier ones, and none of the later ones
@@ -147,7 +147,7 @@ range_held from to places first stop r = λ slot columns pages chain on are.
     ∙ ap (λ (l : List (List Element)). within_range from to (all_in l)) (sym mid)
 
 -- a part of the pages, and of their places
-chained_first : (slot : ℕ) (columns : List Column) (pages : ℕ → List ℕ) (n : ℕ) (places : List Place) (chain : List (List Element)) → AreChained slot columns pages places chain → AreChained slot columns pages (take n places) (take n chain)
+pub chained_first : (slot : ℕ) (columns : List Column) (pages : ℕ → List ℕ) (n : ℕ) (places : List Place) (chain : List (List Element)) → AreChained slot columns pages places chain → AreChained slot columns pages (take n places) (take n chain)
 chained_first slot columns pages zero places chain on = tt
 chained_first slot columns pages (suc n) [] [] on = tt
 chained_first slot columns pages (suc n) [] (es ∷ chain) on = absurd on

@@ -5,6 +5,7 @@ pub mod ChainPassedLemmas
 pub mod ChainRangeLemmas
 pub mod ChainReadingLemmas
 pub mod ChainRowLemmas
+pub mod ChainShownLemmas
 pub mod ChainToldLemmas
 pub mod GridAmongLemmas
 pub mod GridElementLemmas

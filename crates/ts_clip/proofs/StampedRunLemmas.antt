@@ -1,5 +1,5 @@
 -- A run of cells behind the head of a page with the stamps of their elements, as it is handed on.
-use Rattle.std.proofs.Common.{◌≡◌, ℕ, zero, suc, ◌+◌, ◌-◌, ◌≤◌, ◌<◌, ℤ, IsSome, Option, Some, None, List, [], ◌∷◌, ◌++◌, length, map, take, drop, refl, sym, ap, subst, ◌∙◌, arith}
+use Rattle.std.proofs.Common.{◌≡◌, ℕ, ◌+◌, ℤ, IsSome, Option, Some, None, List, [], ◌∷◌, ◌++◌, length, map, take, drop, refl, sym, ap, subst, ◌∙◌, arith}
 use Rattle.std.specs.Prelude.{IfSome, option_map}
 use Rattle.std.specs.List.{cons_option}
 use Rattle.std.specs.Borrow.{Bor}
@@ -10,7 +10,7 @@ use Rattle.ts_row.specs.declared.kind.Column.{Column}
 use Rattle.ts_row.specs.Row.{Row}
 use Rattle.ts_row.specs.RowType.{width_of}
 use Rattle.ts_row.specs.Element.{Element}
-use Rattle.ts_cells.specs.Cell.{cell_bytes as element_bytes, cell_size as element_size, stamp_bytes}
+use Rattle.ts_cells.specs.Cell.{cell_bytes as element_bytes, stamp_bytes}
 use Rattle.ts_cells.specs.IrregularPage.{AreElements, cells_bytes as element_cells}
 use Rattle.ts_cells.proofs.PageLemmas.{length-cell_bytes}
 use Rattle.ts_calendar.specs.Intervals.{IsLaid}
@@ -19,7 +19,6 @@ use Rattle.ts_regular.specs.Cell.{Cell}
 use Rattle.ts_regular.specs.Offsets.{OffsetElement, elements_from}
 use Rattle.ts_regular_edits.specs.Stamped.{stamped, stamped_one, HaveStarts}
 use Rattle.ts_regular_edits.proofs.StampLemmas.{some_start}
-use Rattle.ts_entry.specs.declared.stamps.Stamps.{Stamps}
 use Rattle.ts_entry.specs.declared.stamps.Stamps.TheVariants.{InCells, OnGrid}
 use Rattle.ts_entry.specs.Stamps.{HasStamp}
 use Rattle.ts_entry.specs.Rows.{AreStamped, elements_in, row_if_any}

@@ -1,7 +1,7 @@
 -- What the calls read of the pages of a series.
-use Rattle.std.specs.Prelude.{◌≡◌, ℕ, ℤ, Result, Ok, Err, List, []}
+use Rattle.std.specs.Prelude.{◌≡◌, ℕ, ℤ, Bool, false, IsTrue, Result, Ok, Err, List, []}
 use Rattle.ts_base.specs.declared.refusal.Refusal.{Refusal}
-use Rattle.ts_row.specs.Element.{Element, seen}
+use Rattle.ts_row.specs.Element.{Element, seen, has_hidden}
 use Rattle.ts_chain.specs.Range.{within_range}
 use Rattle.ts_entry.specs.Entry.{Entry, elements_of, AreTaken}
 
@@ -11,6 +11,10 @@ IsRead took (Ok entries) (Ok count) = AreTaken took entries count
 IsRead took (Ok entries) (Err refusal) = ⊥
 IsRead took (Err why) (Ok count) = ⊥
 IsRead took (Err why) (Err refusal) = (refusal ≡ why) × took []
+
+-- what is told of some elements is so: `shown` tells that none of them is hidden
+abbrev pub IsShown : Bool → List Element → Type 0
+IsShown shown es = IsTrue shown → has_hidden es ≡ false
 
 -- of some elements those from one stamp to another were taken that aren't hidden, perhaps with entries between them
 -- that have none

@@ -14,6 +14,7 @@ use Rattle.ts_cells.specs.IrregularPage.{AreElements, AreInOrder, behind_head}
 use Rattle.ts_chain.specs.Chain.{all_in, ArePages}
 use Rattle.ts_chain.specs.Places.{AreChained}
 use Rattle.ts_chain.specs.Range.{within_range}
+use Rattle.ts_series.specs.Ends.{EndsAt, OthersAreAbove}
 use Rattle.ts_entry.specs.Entry.{Entry, filled}
 use Rattle.ts_clip.specs.Series.{IsTold}
 use Rattle.ts_clip.specs.declared.chain_cells.Wanted.{Wanted}
@@ -62,6 +63,11 @@ HaveRange from to places first stop =
     → AreChained slot columns pages places chain
     → ArePages columns chain → within_range from to (all_in chain)
     ≡ within_range from to (all_in (take (stop - first) (drop first chain)))
+
+-- all of the places but the first begin above one stamp, and the last doesn't begin above another
+pub record AreBounded (from to : ℤ) (places : List Place) : Type 0 where
+  pub others : OthersAreAbove from places
+  pub ends : EndsAt to places
 
 -- the least of all stamps, and the greatest
 abbrev pub first_moment : ℤ

@@ -6,13 +6,14 @@ ghost use Rattle.ts_irregular.specs.Call.{Reads};
 ghost use Rattle.ts_chain.specs.Places.{ArePlaces};
 ghost use Rattle.ts_entry.specs.Entry.{AreTaken};
 ghost use Rattle.ts_entry.specs.Reading.{reading, clipped, counted, entry_number, within_rows};
-ghost use Rattle.ts_clip.specs.Call.{IsRead, AreElementsTaken};
+ghost use Rattle.ts_clip.specs.Call.{IsRead, IsShown, AreElementsTaken};
 ghost use Rattle.ts_clip.specs.Chain.{HoldsOfChain};
 
 use crate::bounds::{MOST_ROWS, greatest_stamp, least_stamp};
 use crate::chain_cells::Wanted;
 use crate::chain_pages::{count_pages, visit_pages};
 use crate::chain_range::places_between;
+use crate::chain_shown::{count_ends, page_of_number};
 use crate::chain_visit::{rows_over, visit_last, visit_range};
 use ts_base::{Refusal, Stamp, StoreFault};
 use ts_entry::EntryVisitor;
@@ -47,12 +48,14 @@ pub(crate) fn chain_clip<P: Pages, V: EntryVisitor>(
     Ok(Ok(count))
 }
 
-/// `clip_len`. One pass looks at the mark of each cell.
+/// `clip_len`. One pass looks at the mark of each cell; where no element is hidden, only at those of the two pages at
+/// the ends of the range.
 pub(crate) fn chain_clip_len<P: Pages>(
     pages: &mut P,
     page: &mut Page,
     space: &Space,
     shelf: &Shelf,
+    shown: bool,
     from: Stamp,
     to: Stamp,
 ) -> Result<u64, StoreFault>
@@ -60,13 +63,17 @@ pub(crate) fn chain_clip_len<P: Pages>(
     requires places { ArePlaces shelf.now.kind.now.columns (P.contents pages.old)
         (places_of shelf.now.series space.now) }
     ensures read { IfOk result (λ count. HoldsOfChain P.tells shelf.now space.now (P.contents pages.old)
-        (λ es. count ≡ length (clipped from to (reading Irregular es)))) }
+        (λ es. IsShown shown es → count ≡ length (clipped from to (reading Irregular es)))) }
     ensures call { Reads P.tells result (P.contents pages.old) (P.contents pages.new) }
     ensures undisturbed { P.undisturbed pages.old pages.new }
 {
     let places = space.places(shelf.series);
     let (first, stop) = places_between(places, from, to);
-    count_pages(pages, page, shelf, &places[first..stop], from, to)
+    if shown {
+        count_ends(pages, page, shelf, &places[first..stop], from, to)
+    } else {
+        count_pages(pages, page, shelf, &places[first..stop], from, to)
+    }
 }
 
 /// `clip_count`. Where n is negative, the pages from that of the stamp backwards are counted until they have as many
@@ -98,12 +105,14 @@ pub(crate) fn chain_clip_count<P: Pages, V: EntryVisitor>(
     }
 }
 
-/// `nth`. The pages are read from the first one on, up to that of the element.
+/// `nth`. The pages are read from the first one on, up to that of the element; where no element is hidden, that one
+/// alone.
 pub(crate) fn chain_nth<P: Pages, V: EntryVisitor>(
     pages: &mut P,
     page: &mut Page,
     space: &Space,
     shelf: &Shelf,
+    shown: bool,
     n: u64,
     visitor: &mut V,
 ) -> Result<u64, StoreFault>
@@ -111,16 +120,27 @@ pub(crate) fn chain_nth<P: Pages, V: EntryVisitor>(
     requires places { ArePlaces shelf.now.kind.now.columns (P.contents pages.old)
         (places_of shelf.now.series space.now) }
     ensures read { IfOk result (λ count. HoldsOfChain P.tells shelf.now space.now (P.contents pages.old)
-        (λ es. AreTaken (λ entries. V.took shelf.now.kind.now.columns visitor.old entries visitor.new)
+        (λ es. IsShown shown es
+        → AreTaken (λ entries. V.took shelf.now.kind.now.columns visitor.old entries visitor.new)
         (entry_number n (reading Irregular es)) count)) }
     ensures call { Reads P.tells result (P.contents pages.old) (P.contents pages.new) }
     ensures undisturbed { P.undisturbed pages.old pages.new }
 {
     let places = space.places(shelf.series);
-    let want = Wanted { skip: n, most: 1 };
+    let (index, skip) = page_of_number(places, n, shown);
+    let want = Wanted { skip, most: 1 };
     let from = least_stamp();
     let to = greatest_stamp();
-    let left = visit_pages(pages, page, shelf, places, from, to, want, visitor)?;
+    let left = visit_pages(
+        pages,
+        page,
+        shelf,
+        &places[index..],
+        from,
+        to,
+        want,
+        visitor,
+    )?;
     Ok(1 - left.most)
 }
 

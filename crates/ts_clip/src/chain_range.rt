@@ -1,8 +1,8 @@
 // The places of a series that tell of the elements of a range.
-ghost use Rattle.std.specs.Prelude.{◌≡◌, ◌≤◌, ◌<ℤ◌, ◌≤ℤ◌, IsTrue, false, length};
+ghost use Rattle.std.specs.Prelude.{◌≡◌, ◌-◌, ◌≤◌, ◌<ℤ◌, ◌≤ℤ◌, IsTrue, false, length, take, drop};
 ghost use Rattle.ts_space.specs.Place.{IsRising, count_of};
 ghost use Rattle.ts_entry.specs.Reading.{most_rows};
-ghost use Rattle.ts_clip.specs.Chain.{HaveRange};
+ghost use Rattle.ts_clip.specs.Chain.{AreBounded, HaveRange};
 
 use crate::bounds::MOST_ROWS;
 use ts_base::Stamp;
@@ -16,6 +16,7 @@ pub(crate) fn places_between(places: &[Place], from: Stamp, to: Stamp) -> (usize
     ensures order { result.0 ≤ result.1 }
     ensures within { result.1 ≤ length places.now }
     ensures range { HaveRange from to places.now result.0 result.1 }
+    ensures bounded { AreBounded from to (take (result.1 - result.0) (drop result.0 places.now)) }
 {
     if is_earlier(to, from) {
         return (0, 0);

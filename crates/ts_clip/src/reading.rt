@@ -5,7 +5,7 @@ ghost use Rattle.ts_irregular.specs.Call.{Reads};
 ghost use Rattle.ts_entry.specs.Entry.{AreTaken};
 ghost use Rattle.ts_entry.specs.Reading.{reading, clipped, counted, entry_number, within_rows};
 ghost use Rattle.ts_clip.specs.Series.{IsLaidOut, ArePlaces, IsTold};
-ghost use Rattle.ts_clip.specs.Call.{IsRead, AreElementsTaken};
+ghost use Rattle.ts_clip.specs.Call.{IsRead, IsShown, AreElementsTaken};
 
 use crate::chain::{chain_clip, chain_clip_count, chain_clip_len, chain_elements, chain_nth};
 use crate::grid::{grid_clip, grid_clip_count, grid_clip_len, grid_nth};
@@ -70,8 +70,33 @@ pub fn clip_len<P: Pages>(
     ensures call { Reads P.tells result (P.contents pages.old) (P.contents pages.new) }
     ensures undisturbed { P.undisturbed pages.old pages.new }
 {
+    clip_len_shown(pages, page, space, shelf, shape, false, from, to)
+}
+
+/// The same, where `shown` may tell that no element of the series is hidden, and is right: of an irregular series the
+/// two pages at the ends of the range are read then, and no others.
+pub fn clip_len_shown<P: Pages>(
+    pages: &mut P,
+    page: &mut Page,
+    space: &Space,
+    shelf: &Shelf,
+    shape: &Shape<'_>,
+    shown: bool,
+    from: Stamp,
+    to: Stamp,
+) -> Result<u64, StoreFault>
+    requires slot { shelf.now.series < 4096 }
+    requires laid { IsLaidOut shape.now }
+    requires places { ArePlaces shape.now shelf.now.kind.now.columns (P.contents pages.old)
+        (places_of shelf.now.series space.now) }
+    ensures read { IfOk result (λ count. IsTold P.tells shape.now shelf.now.series shelf.now.kind.now.columns
+        (places_of shelf.now.series space.now) (P.contents pages.old)
+        (λ es. IsShown shown es → count ≡ length (clipped from to (reading shape.now es)))) }
+    ensures call { Reads P.tells result (P.contents pages.old) (P.contents pages.new) }
+    ensures undisturbed { P.undisturbed pages.old pages.new }
+{
     match shape {
-        Shape::Irregular => chain_clip_len(pages, page, space, shelf, from, to),
+        Shape::Irregular => chain_clip_len(pages, page, space, shelf, shown, from, to),
         Shape::Regular(grid) => grid_clip_len(pages, page, space, shelf, grid, from, to),
     }
 }
@@ -128,8 +153,35 @@ pub fn nth<P: Pages, V: EntryVisitor>(
     ensures call { Reads P.tells result (P.contents pages.old) (P.contents pages.new) }
     ensures undisturbed { P.undisturbed pages.old pages.new }
 {
+    nth_shown(pages, page, space, shelf, shape, false, n, visitor)
+}
+
+/// The same, where `shown` may tell that no element of the series is hidden, and is right: of an irregular series the
+/// page of the entry is read then, and no other.
+pub fn nth_shown<P: Pages, V: EntryVisitor>(
+    pages: &mut P,
+    page: &mut Page,
+    space: &Space,
+    shelf: &Shelf,
+    shape: &Shape<'_>,
+    shown: bool,
+    n: u64,
+    visitor: &mut V,
+) -> Result<u64, StoreFault>
+    requires slot { shelf.now.series < 4096 }
+    requires laid { IsLaidOut shape.now }
+    requires places { ArePlaces shape.now shelf.now.kind.now.columns (P.contents pages.old)
+        (places_of shelf.now.series space.now) }
+    ensures read { IfOk result (λ count. IsTold P.tells shape.now shelf.now.series shelf.now.kind.now.columns
+        (places_of shelf.now.series space.now) (P.contents pages.old)
+        (λ es. IsShown shown es
+        → AreTaken (λ entries. V.took shelf.now.kind.now.columns visitor.old entries visitor.new)
+        (entry_number n (reading shape.now es)) count)) }
+    ensures call { Reads P.tells result (P.contents pages.old) (P.contents pages.new) }
+    ensures undisturbed { P.undisturbed pages.old pages.new }
+{
     match shape {
-        Shape::Irregular => chain_nth(pages, page, space, shelf, n, visitor),
+        Shape::Irregular => chain_nth(pages, page, space, shelf, shown, n, visitor),
         Shape::Regular(grid) => grid_nth(pages, page, space, shelf, grid, n, visitor),
     }
 }

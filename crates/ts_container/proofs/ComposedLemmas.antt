@@ -1,5 +1,5 @@
 -- The first bad page of a volume, by what its parts say: definitions that pass, element pages, and what spans them.
-use Rattle.std.proofs.Common.{◌≡◌, ℕ, ◌+◌, ◌-◌, ◌<◌, ◌≤◌, Bool, IsTrue, Result, Ok, Err, IfErr, IsErrOf, List, [], ◌∷◌, length, sym, ap, subst, ◌∙◌, arith, inl, inr}
+use Rattle.std.proofs.Common.{◌≡◌, ℕ, ◌+◌, ◌-◌, ◌<◌, ◌≤◌, Bool, IsTrue, Result, Ok, Err, IfOk, IfErr, IsErrOf, List, [], ◌∷◌, length, sym, ap, subst, ◌∙◌, arith, inl, inr}
 use Rattle.ts_page.specs.Pages.{Contents}
 use Rattle.ts_page.specs.Volume.{first_element_page}
 use Rattle.ts_model.specs.Definitions.{Definitions, IsDefinitions}
@@ -12,7 +12,9 @@ use Rattle.ts_container.specs.declared.fault.SurveyFault.TheVariants.{Failed}
 use Rattle.ts_container.specs.declared.span.Span.{Span}
 use Rattle.ts_container.specs.declared.surveyed.Surveyed.{Surveyed}
 use Rattle.ts_container.specs.Elements.{IsReadAs, AllRead, AreListed, IsBadElement, IsFinished, IsLateBad}
-use Rattle.ts_container.specs.Survey.{Reads, IfRefused, PassDefinitions, IsFirstLate, IsFound}
+use Rattle.ts_container.specs.Spans.{AreMarked}
+use Rattle.ts_container.specs.Survey.{Reads, IfRefused, PassDefinitions, IsFirstLate, IsFound, IsMarked}
+use Rattle.ts_container.proofs.HiddenLemmas.{marked_layout}
 use Rattle.ts_container.proofs.SurveyLemmas.{equal_pages, refused_so}
 
 module _ (count : ℕ) (pages : ℕ → List ℕ) (d : Definitions) (pass : PassDefinitions count pages d) where
@@ -158,6 +160,27 @@ module _ (tells : Bool) (count : ℕ) (d : Definitions) (v : Contents) (some : 9
           laid_out count v.page d (pass told) read.elements (its_size read.elements read.size) sound.limits sound.tables (told_pages tells (count - first_element_page) d v read.elements told read.size read.seen) both.1,
         );
       })
+
+  -- and it tells which series have hidden elements
+  marked_in : (spans : List Span) (spare : List ℕ) (s : Surveyed) → AllRead tells (count - first_element_page) d v spans spare → IsFinished count d spans spare s → AreMarked spans s.hidden.items
+      → IsMarked tells count v s.defs.definitions s.space s.free.items s.hidden.items
+  unfolding its_size
+  marked_in spans spare s read finished marked =
+      let listed = all_listed tells (count - first_element_page) d v spans spare read in
+      let both = finished.2 read.elements listed in
+      let l : Layout = record { definitions = d; element_pages = read.elements } in
+      subst (λ (x : Definitions). IsMarked tells count v x s.space s.free.items s.hidden.items) (sym finished.0)
+      (λ told. (
+        l,
+        both.0,
+        laid_out count v.page d (pass told) read.elements (its_size read.elements read.size) sound.limits sound.tables (told_pages tells (count - first_element_page) d v read.elements told read.size read.seen) both.1,
+        marked_layout d spans read.elements s.hidden.items read.listed.found marked,
+      ))
+
+  pub finished_marked : (spans : List Span) (spare : List ℕ) (r : Result Surveyed SurveyFault) → AllRead tells (count - first_element_page) d v spans spare → IfOk r (IsFinished count d spans spare) → IfOk r (λ s. AreMarked spans s.hidden.items)
+      → IfOk r (λ s. IsMarked tells count v s.defs.definitions s.space s.free.items s.hidden.items)
+  finished_marked spans spare (Ok s) read finished marked = marked_in spans spare s read finished marked
+  finished_marked spans spare (Err e) read finished marked = tt
 
   pub late_refused : (spans : List Span) (spare : List ℕ) (e : SurveyFault) → AllRead tells (count - first_element_page) d v spans spare → IfRefused e (IsLateBad count d spans spare) → IfRefused e (λ page. IsTrue tells → IsFirstBad count v.page page)
   unfolding its_size

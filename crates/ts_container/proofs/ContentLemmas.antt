@@ -59,7 +59,7 @@ its_slot shape slot t columns sheet page told holds = two (slot_in (head_of page
 
 -- a page of an irregular series, with this extent
 pub stamps_found : (slot t number format : ℕ) (columns : List Column) (es : List Element) (extent : Extent) (page : List ℕ) (span : Span) → slot_in (head_of page) ≡ Some slot → IsIrregularPage t columns es page → HasExtent es extent
-    → AreOfFormat format es → span ≡ record { slot = slot; count = extent.count; page = number; first = extent.first; last = extent.last } → IsSpanFound Irregular slot columns format number page (Some span)
+    → AreOfFormat format es → span ≡ record { slot = slot; count = extent.count; page = number; first = extent.first; last = extent.last; hidden = extent.hidden } → IsSpanFound Irregular slot columns format number page (Some span)
 stamps_found slot t number format columns es extent page span told is has allowed same =
     let sheet : Sheet = (extent.first, es) in
     let own : t ≡ slot = its_slot Irregular t slot columns sheet page told (is, has.ends.begins) in (
@@ -71,6 +71,7 @@ stamps_found slot t number format columns es extent page span told is has allowe
         page = number;
         first = extent.first;
         last = sym (ap (λ (o : Option ℤ). unwrap_or o extent.first) has.ends.ends) i;
+        hidden = sym has.hides i;
       }),
     )
 
@@ -97,18 +98,19 @@ hidden_stamped grid (e ∷ es) starts =
 -- a page of a regular series, with this extent
 pub grid_found : (grid : GridPlan) (slot t number format base : ℕ) (columns : List Column) (cells : List Cell) (extent : RegularExtent) (page : List ℕ) (span : Span) → slot_in (head_of page) ≡ Some slot → IsRegularPage t columns base cells page
     → regular.HasExtent base cells extent → HaveStarts grid (elements_from base cells) → AreOfFormat format (stamped grid (elements_from base cells))
-    → span ≡ record { slot = slot; count = extent.count; page = number; first = pos extent.base; last = pos extent.base } → IsSpanFound (Regular grid) slot columns format number page (Some span)
+    → span ≡ record { slot = slot; count = extent.count; page = number; first = pos extent.base; last = pos extent.base; hidden = extent.hidden } → IsSpanFound (Regular grid) slot columns format number page (Some span)
 grid_found grid slot t number format base columns cells extent page span told is has starts allowed same =
     let es : List OffsetElement = elements_from base cells in
     let sheet : Sheet = (pos base, stamped grid es) in
     let count : length (stamped grid es) ≡ extent.count = length-stamped grid es starts ∙ count_in base cells ∙ has.count in
+    let hides : has_hidden (stamped grid es) ≡ extent.hidden = hidden_stamped grid es starts ∙ has.hides in
     let own : t ≡ slot = its_slot (Regular grid) t slot columns sheet page told (record { base = base; cells = cells; bytes = is; on = record { begins = refl; starts = starts; elements = refl } }) in (
       sheet,
       record {
         bytes = record { base = base; cells = cells; bytes = subst (λ (n : ℕ). IsRegularPage n columns base cells page) own is; on = record { begins = refl; starts = starts; elements = refl } };
         of_format = allowed;
       },
-      same ∙ (λ i. record { slot = slot; count = sym count i; page = number; first = pos (sym has.begins i); last = pos (sym has.begins i) }),
+      same ∙ (λ i. record { slot = slot; count = sym count i; page = number; first = pos (sym has.begins i); last = pos (sym has.begins i); hidden = sym hides i }),
     )
 
 -- it is none where some element has no on start, or is of no volume of the format

@@ -51,7 +51,7 @@ span_found d first (Cells slot sheet ∷ rest) a (zero, inside, is) = record {
 }
 span_found d first (Cells slot sheet ∷ rest) a (suc k, inside, is) = of_next d first (Cells slot sheet) rest a (span_found d (suc first) rest a (k, omega (arith, inside), is))
 
-span_there : (d : Definitions) (first : ℕ) (es : List ElementPage) (i slot : ℕ) (sheet : Sheet) → element_page i es ≡ Cells slot sheet → Contains (spans_from d first es) (span_of (shape_in d slot) slot (first + i) sheet)
+pub span_there : (d : Definitions) (first : ℕ) (es : List ElementPage) (i slot : ℕ) (sheet : Sheet) → element_page i es ≡ Cells slot sheet → Contains (spans_from d first es) (span_of (shape_in d slot) slot (first + i) sheet)
 span_there d first [] i slot sheet there = absurd (cc)
 span_there d first (Free ∷ rest) zero slot sheet there = absurd (cc)
 span_there d first (Free ∷ rest) (suc i) slot sheet there =

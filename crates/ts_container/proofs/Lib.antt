@@ -1,6 +1,7 @@
 pub mod CompleteLemmas
 pub mod FollowLemmas
 pub mod FilledLemmas
+pub mod HiddenLemmas
 pub mod SettledLemmas
 pub mod StandsLemmas
 pub mod SlotReadLemmas

@@ -1,10 +1,12 @@
 -- The pages of series as they are found: their spans, in the order of the series and of where they begin, and the rules
 -- that they keep.
 use Rattle.std.specs.Prelude.{◌≡◌, ◌≢◌, ℕ, suc, ◌+◌, ◌<◌, ◌≤◌, ◌==◌, ℤ, ◌<ℤ◌, ◌≤ℤ◌, Option, Some, None, unwrap_or, List}
-use Rattle.std.specs.Prelude.{[], ◌∷◌, ◌++◌, length, map, filter, slice_index_or, AllPairs, Contains}
+use Rattle.std.specs.Prelude.{[], ◌∷◌, ◌++◌, length, map, filter, slice_index_or, All, AllPairs, Contains, Bool, true}
+use Rattle.std.specs.Prelude.{IsTrue}
 use Rattle.std.specs.List.{AllAdjacentBelow}
 use Rattle.ts_row.specs.declared.kind.Column.{Column}
 use Rattle.ts_row.specs.RowType.{Heading}
+use Rattle.ts_row.specs.Element.{has_hidden}
 use Rattle.ts_space.specs.declared.place.Place.{Place}
 use Rattle.ts_space.specs.Directory.{Directory, places_of}
 use Rattle.ts_cells.specs.Cell.{page_room}
@@ -31,8 +33,9 @@ span_of shape slot number sheet = record {
   count = length sheet.1;
   page = number;
   first = sheet.0;
-  last =
-      end_of shape sheet;
+  last = end_of shape sheet;
+  hidden =
+      has_hidden sheet.1;
 }
 
 -- a page has a sheet of the series in a slot, such as the format of the volume allows
@@ -150,6 +153,10 @@ IsOverQuota d space = (slot : ℕ) × (slot < container_slots) × (KeepsQuotaAt 
 -- the places of the series in a slot, by the spans of all
 abbrev pub places_in : ℕ → List Span → List Place
 places_in slot spans = map place_in (spans_in slot spans)
+
+-- of each slot whether its series is marked: it is where one of these spans has a hidden element
+abbrev pub AreMarked : List Span → List Bool → Type 0
+AreMarked spans marks = All (λ span. IsTrue span.hidden → slice_index_or marks span.slot true ≡ true) spans
 
 -- the directory lists these places
 pub record Lists (spans : List Span) (space : Directory) : Type 0 where

@@ -1,7 +1,7 @@
 -- The calls that read pages, over what a keeper of pages means.
 pub use Rattle.ts_slots.specs.Writing.{SlotWritten, HeaderWritten}
 use Rattle.std.specs.Prelude.{◌≡◌, ℕ, ◌-◌, ◌<◌, ◌≤◌, ◌⊎◌, Bool, IsTrue, Result, IfOk, IfErr, OnOk, IsErrOf, List, []}
-use Rattle.std.specs.Prelude.{◌∷◌, Any, Vec}
+use Rattle.std.specs.Prelude.{◌∷◌, Any, Vec, true, false, slice_index_or}
 use Rattle.ts_disk.specs.Device.{Rose}
 use Rattle.ts_page.specs.Volume.{first_element_page}
 use Rattle.ts_page.specs.Pages.{Contents, EqualPages}
@@ -12,7 +12,9 @@ use Rattle.ts_space.specs.Directory.{Directory}
 use Rattle.ts_container.specs.declared.fault.SurveyFault.{SurveyFault}
 use Rattle.ts_container.specs.declared.fault.SurveyFault.TheVariants.{NotAStore, Failed, Memory}
 use Rattle.ts_layout.specs.Slot.{first_definition_page, page_of_slot}
-use Rattle.ts_layout.specs.Meaning.{Layout, sum_of_quotas, HaveOrigins, AreSound, IsLaidOut}
+use Rattle.ts_row.specs.Element.{has_hidden}
+use Rattle.ts_layout.specs.Sheets.{Sheet}
+use Rattle.ts_layout.specs.Meaning.{Layout, Cells, element_page, sum_of_quotas, HaveOrigins, AreSound, IsLaidOut}
 use Rattle.ts_layout.specs.Surveyed.{ListsPlaces, free_pages}
 use Rattle.ts_layout.specs.Chains.{AreFilled}
 use Rattle.ts_layout.specs.Placed.{AreKept}
@@ -98,6 +100,17 @@ pub record IsFound (tells : Bool) (count : ℕ) (v : Contents) (d : Definitions)
     (free : List ℕ) : Type 0 where
   pub kept : AreKept d space free count
   pub layout : IsTrue tells → (l : Layout) × IsSurveyOf d space free l × IsLaidOut count v.page l
+
+-- no element of a series whose slot isn't marked is hidden
+abbrev pub TellsHidden : List Bool → Layout → Type 0
+TellsHidden marks l =
+    (i slot : ℕ) (sheet : Sheet) → element_page i l.element_pages ≡ Cells slot sheet
+    → slice_index_or marks slot true ≡ false → has_hidden sheet.1 ≡ false
+
+-- where the pages are told, so it is in a layout that was found of them
+abbrev pub IsMarked : Bool → ℕ → Contents → Definitions → Directory → List ℕ → List Bool → Type 0
+IsMarked tells count v d space free marks =
+    IsTrue tells → (l : Layout) × IsSurveyOf d space free l × IsLaidOut count v.page l × TellsHidden marks l
 
 -- the page of a calendar that breaks a rule
 abbrev pub IsPageOfBroken : List Broken → ℕ → Type 0

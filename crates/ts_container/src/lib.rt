@@ -17,6 +17,7 @@ mod elements;
 mod fault;
 mod format;
 mod found;
+mod hidden;
 mod judge;
 mod kept_charges;
 mod lower;

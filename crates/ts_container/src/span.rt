@@ -26,6 +26,8 @@ pub struct Span {
     pub page: u32,
     pub first: i64,
     pub last: i64,
+    /// Whether an element of the page is hidden.
+    pub hidden: bool,
 }
 
 /// The span of the page of a number, whose head tells a series in a slot, if it is a page of an irregular series of
@@ -52,6 +54,7 @@ pub(crate) fn span_of_stamps(
         page: number,
         first: extent.first.units(),
         last: extent.last.units(),
+        hidden: extent.hidden,
     })
 }
 
@@ -79,6 +82,7 @@ pub(crate) fn span_on_grid(
         page: number,
         first: extent.base as i64,
         last: extent.base as i64,
+        hidden: extent.hidden,
     })
 }
 

@@ -8,7 +8,8 @@ ghost use Rattle.ts_volume.specs.FirstBad.{IsLeast, IsFirstBad};
 ghost use Rattle.ts_container.specs.declared.fault.SurveyFault.TheVariants.{Failed};
 ghost use Rattle.ts_container.specs.Reading.{AreBroken};
 ghost use Rattle.ts_container.specs.Survey.{Reads, IfRefused, IsFound, AreGranted, IsUngranted, AreRight, IsWrong};
-ghost use Rattle.ts_container.specs.Survey.{SoundRead};
+ghost use Rattle.ts_container.specs.Survey.{IsMarked, SoundRead};
+ghost use Rattle.ts_container.specs.Spans.{AreMarked};
 ghost use Rattle.ts_container.specs.Elements.{AreElements, IsFinished, IsLateBad};
 
 use crate::charges::keep_quotas;
@@ -17,6 +18,7 @@ use crate::directory::directory_of;
 use crate::elements::{Elements, read_elements};
 use crate::fault::SurveyFault;
 use crate::found::Broken;
+use crate::hidden::hidden_in;
 use crate::origins::first_astray;
 use crate::read::read;
 use crate::rules::sum_of_quotas;
@@ -35,18 +37,22 @@ pub struct Surveyed {
     pub space: Space,
     /// The free element pages, rising.
     pub free: Vec<u32>,
+    /// Of each slot of a series whether it is marked: no element of one that isn't is hidden.
+    pub hidden: Vec<bool>,
 }
 
 /// Reads all pages of a volume but the journal's, each once: `count` is the number of all. They give the format, the
-/// definitions, the directory and the free pages, or the first bad page. The pages stay as they are, and so does the
-/// list of free ones. Where a definition has the name of a lower slot or refers to an empty one, the definition pages
-/// from there on are read once more.
+/// definitions, the directory, the free pages and which series have hidden elements, or the first bad page. The pages
+/// stay as they are, and so does the list of free ones. Where a definition has the name of a lower slot or refers to an
+/// empty one, the definition pages from there on are read once more.
 pub fn survey<P: Pages>(alloc: Global, pages: &mut P, count: u32) -> Result<Surveyed, SurveyFault>
     requires count { count ≡ (P.contents pages.old).count }
     requires some { first_element_page + 1 ≤ count }
     requires most { count ≤ first_element_page + most_element_pages }
     ensures ok { IfOk result
         (λ s. IsFound P.tells count (P.contents pages.old) s.defs.definitions s.space s.free.items) }
+    ensures marked { IfOk result
+        (λ s. IsMarked P.tells count (P.contents pages.old) s.defs.definitions s.space s.free.items s.hidden.items) }
     ensures refused { IfErr result (λ e. IfRefused e (λ page. IsTrue P.tells
         → IsFirstBad count (P.contents pages.old).page page)) }
     ensures call { Reads P.tells result (P.contents pages.old) (P.contents pages.new) }
@@ -71,11 +77,13 @@ pub fn finish(
     requires sound { AreSound (count - first_element_page) defs.definitions }
     requires read { AreElements (count - first_element_page) defs.definitions elements.spans.items elements.free.items }
     ensures ok { IfOk result (IsFinished count defs.definitions elements.spans.items elements.free.items) }
+    ensures marked { IfOk result (λ s. AreMarked elements.spans.items s.hidden.items) }
     ensures refused { IfErr result
         (λ e. IfRefused e (IsLateBad count defs.definitions elements.spans.items elements.free.items)) }
     ensures done { ¬ IsErrOf result Failed }
 {
     let Elements { mut spans, free } = elements;
+    let hidden = hidden_in(alloc, &spans)?;
     sort(&mut spans);
     if let Some(bad) = overlapping(&spans) {
         return Err(SurveyFault::NotAStore { page: bad });
@@ -88,7 +96,12 @@ pub fn finish(
     if !kept {
         return Err(SurveyFault::NotAStore { page: CONTAINERS });
     }
-    Ok(Surveyed { defs, space, free })
+    Ok(Surveyed {
+        defs,
+        space,
+        free,
+        hidden,
+    })
 }
 
 /// Reads the header and the definitions, of a volume with so many pages in all: they keep their rules, or the first bad

@@ -24,4 +24,5 @@ returns c =
       page = c.args.number;
       first = (to_z-of_z first ∙ c.units.ensures.value) i;
       last = (to_z-of_z last ∙ c.units-2.ensures.value) i;
+      hidden = extent.hidden;
     })

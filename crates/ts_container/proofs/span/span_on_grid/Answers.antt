@@ -31,4 +31,5 @@ returns c =
       page = c.args.number;
       first = to_z_pos w64 extent.base (c.have_starts.ensures.low c.if-not-have_starts.false) i;
       last = to_z_pos w64 extent.base (c.have_starts.ensures.low c.if-not-have_starts.false) i;
+      hidden = extent.hidden;
     })

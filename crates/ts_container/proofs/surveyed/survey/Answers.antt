@@ -2,7 +2,7 @@ use Rattle.std.proofs.Common.{◌-◌, Ok}
 use Rattle.std.proofs.lemmas.Result.{IfOk-weaker}
 use Rattle.ts_page.specs.Volume.{first_element_page}
 use Rattle.ts_container.proofs.SurveyLemmas.{reads_more, reads_ok, err_is}
-use Rattle.ts_container.proofs.ComposedLemmas.{all_before, all_listed, finished_found, elements_refused, refused_all, finish_reads, bad_before}
+use Rattle.ts_container.proofs.ComposedLemmas.{all_before, all_listed, finished_found, finished_marked, elements_refused, refused_all, finish_reads, bad_before}
 use Rattle.ts_container.proofs.surveyed.survey.Goals as goal
 
 pub finish-requires-clause-read : goal.finish-requires-clause-read
@@ -33,6 +33,17 @@ returns-clause-ok g c =
     let x = c.in_ok-elements.elements in
     let all = all_before tells (c.args.count - first_element_page) d u v x.spans.items x.free.items (reads_ok tells c.in_ok-defs.defs (tt {0}) u v sound.call) c.in_ok-elements.ensures.read.read in
     IfOk-weaker c.finish.result _ _ (λ s finished. finished_found tells c.args.count d u c.requires.some sound.known sound.read x.spans.items x.free.items s all finished) c.finish.ensures.ok
+
+pub returns-clause-marked : goal.returns-clause-marked
+returns-clause-marked g c =
+    let tells = g.P.Pages.tells in
+    let u = g.P.Pages.contents c.args.pages.now in
+    let v = g.P.Pages.contents c.survey_definitions.new.pages in
+    let sound = c.in_ok-defs.ensures.read in
+    let d = c.in_ok-defs.defs.definitions in
+    let x = c.in_ok-elements.elements in
+    let all = all_before tells (c.args.count - first_element_page) d u v x.spans.items x.free.items (reads_ok tells c.in_ok-defs.defs (tt {0}) u v sound.call) c.in_ok-elements.ensures.read.read in
+    finished_marked tells c.args.count d u c.requires.some sound.known sound.read x.spans.items x.free.items c.finish.result all c.finish.ensures.ok c.finish.ensures.marked
 
 pub returns-clause-refused : goal.returns-clause-refused
 returns-clause-refused g c =

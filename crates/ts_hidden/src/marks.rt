@@ -1,0 +1,107 @@
+// The keys of series that may have hidden elements.
+ghost use Rattle.std.specs.Prelude.{◌≡◌, ◌<◌, true, Some, IfOk, OnOk, slice_index_or};
+ghost use Rattle.ts_model.specs.Definitions.{SeriesDef, at_slot, series_slots};
+ghost use Rattle.ts_hidden.specs.Marks.{is_marked, Include, IsNoted, IsUnmarked, AreOfSlots};
+
+use std::alloc::{AllocError, Global};
+use std::marker::Model;
+use ts_base::Key;
+use ts_command::Command;
+use ts_model::{Def, Defs, Kind};
+
+/// The keys of series that may have hidden elements.
+#[derive(Drop)]
+pub struct Marks {
+    keys: Vec<Key>,
+}
+
+impl Model for Marks {
+    ghost use Rattle.std.specs.Prelude.{ℕ, List};
+
+    ghost Value = { List (List ℕ) };
+
+    ghost view = { λ m. m.keys.items };
+}
+
+impl Marks {
+    /// The series in the slots that have a mark.
+    pub fn of_slots(alloc: Global, defs: &Defs, slots: &[bool]) -> Result<Marks, AllocError>
+        ensures { IfOk result (AreOfSlots defs.now.definitions slots.now) }
+    {
+        let mut marks = Marks {
+            keys: Vec::new(alloc),
+        };
+        for slot in 0..Kind::Series.limit() {
+            if has_mark(slots, slot) {
+                marks.mark_slot(defs, slot)?;
+            }
+        }
+        Ok(marks)
+    }
+
+    /// Whether a series is marked.
+    pub fn has(&self, key: &Key) -> bool
+        ensures { result ≡ is_marked key.now self.now }
+    {
+        self.keys
+            .iter()
+            .any(|marked| key.as_slice() == marked.as_slice())
+    }
+
+    /// Marks a series.
+    pub fn mark(&mut self, key: &Key) -> Result<(), AllocError>
+        ensures marked { OnOk result (is_marked key.now self.new ≡ true) }
+        ensures more { Include self.new self.old }
+    {
+        if self.has(key) {
+            return Ok(());
+        }
+        let key = key.copy()?;
+        self.keys.push(key)?;
+        Ok(())
+    }
+
+    /// Marks the series of which a command hides an element.
+    pub fn note(&mut self, command: &Command) -> Result<(), AllocError>
+        ensures noted { OnOk result (IsNoted command.now self.new) }
+        ensures more { Include self.new self.old }
+    {
+        match command {
+            Command::HideElem { key, .. } => self.mark(key),
+            _ => Ok(()),
+        }
+    }
+
+    /// Whether a command counts the entries of a series that isn't marked.
+    pub fn has_unmarked(&self, command: &Command) -> bool
+        ensures { IsUnmarked result command.now self.now }
+    {
+        match command {
+            Command::GetNthElem { key, .. } | Command::ClipGetCount { key, .. } => !self.has(key),
+            _ => false,
+        }
+    }
+
+    // Marks the series in a slot.
+    fn mark_slot(&mut self, defs: &Defs, slot: u16) -> Result<(), AllocError>
+        requires slot { slot < series_slots }
+        ensures marked { OnOk result ((s : SeriesDef) → at_slot slot defs.now.definitions.series ≡ Some s
+            → is_marked s.key self.new ≡ true) }
+        ensures more { Include self.new self.old }
+    {
+        let Some(Def::Series { key, .. }) = defs.get(Kind::Series, slot) else {
+            return Ok(());
+        };
+        self.mark(key)
+    }
+}
+
+// Whether a slot has a mark; those behind the last one have.
+fn has_mark(slots: &[bool], slot: u16) -> bool
+    ensures { result ≡ slice_index_or slots.now slot true }
+{
+    match slots.get(slot as usize) {
+        Some(mark) => *mark,
+        None => true,
+    }
+}
